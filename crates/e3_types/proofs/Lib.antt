@@ -1,0 +1,5 @@
+pub mod Grants
+pub mod Orders
+pub mod SameSites
+pub mod SetSteps
+pub mod Weights

@@ -1,0 +1,13 @@
+pub mod Sites
+pub mod SetBits
+pub mod Text
+pub mod Sets
+pub mod Transactions
+pub mod Same
+pub mod Quorums
+pub mod Locks
+pub mod OldestSoFar
+pub mod Verdicts
+pub mod Ranks
+pub mod Spelling
+pub mod SpellingExample

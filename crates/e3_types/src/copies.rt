@@ -1,0 +1,215 @@
+// Copies of values that hold lists.
+ghost use Rattle.std.specs.Prelude.{◌≡◌, IfOk};
+
+use crate::{
+    Act, Entry, Input, Item, KeyRow, List, NoMemory, NumOp, Packet, Record, Row, Scenario, SiteSet,
+    Told,
+};
+use std::alloc::Global;
+
+/// A value of which an equal one can be made, given memory.
+pub trait Copied: Sized {
+    /// An equal value. Want of memory is the only error.
+    fn copied(&self, alloc: Global) -> Result<Self, NoMemory>
+        ensures { IfOk result (λ x. x ≡ self.now) };
+}
+
+impl Copied for u32 {
+    fn copied(&self, _alloc: Global) -> Result<u32, NoMemory> {
+        Ok(*self)
+    }
+}
+
+impl Copied for SiteSet {
+    fn copied(&self, _alloc: Global) -> Result<SiteSet, NoMemory> {
+        Ok(*self)
+    }
+}
+
+impl Copied for Row {
+    fn copied(&self, _alloc: Global) -> Result<Row, NoMemory> {
+        Ok(self.copy())
+    }
+}
+
+impl Copied for NumOp {
+    fn copied(&self, _alloc: Global) -> Result<NumOp, NoMemory> {
+        Ok(self.copy())
+    }
+}
+
+impl Copied for Packet {
+    fn copied(&self, _alloc: Global) -> Result<Packet, NoMemory> {
+        Ok(self.copy())
+    }
+}
+
+impl Copied for Told {
+    fn copied(&self, _alloc: Global) -> Result<Told, NoMemory> {
+        Ok(self.copy())
+    }
+}
+
+impl Copied for Input {
+    fn copied(&self, _alloc: Global) -> Result<Input, NoMemory> {
+        Ok(self.copy())
+    }
+}
+
+impl Copied for KeyRow {
+    fn copied(&self, _alloc: Global) -> Result<KeyRow, NoMemory> {
+        Ok(self.copy())
+    }
+}
+
+impl<T: Copied + Drop> Copied for List<T> {
+    fn copied(&self, alloc: Global) -> Result<List<T>, NoMemory> {
+        let mut out = List::new(alloc);
+        for x in self.as_slice() {
+            out.push(x.copied(alloc)?)?;
+        }
+        Ok(out)
+    }
+}
+
+impl Copied for Record {
+    fn copied(&self, alloc: Global) -> Result<Record, NoMemory> {
+        Ok(match self {
+            Record::Birth {
+                format,
+                site,
+                weights,
+                rows,
+            } => Record::Birth {
+                format: *format,
+                site: *site,
+                weights: weights.copied(alloc)?,
+                rows: rows.copied(alloc)?,
+            },
+            Record::Inc { inc } => Record::Inc { inc: *inc },
+            Record::Vote { txn, ops } => Record::Vote {
+                txn: *txn,
+                ops: ops.copied(alloc)?,
+            },
+            Record::Join { txn, n } => Record::Join { txn: *txn, n: *n },
+            Record::Attempt { txn, n, dir } => Record::Attempt {
+                txn: *txn,
+                n: *n,
+                dir: *dir,
+            },
+            Record::Decision { txn, dir } => Record::Decision {
+                txn: *txn,
+                dir: *dir,
+            },
+        })
+    }
+}
+
+impl Copied for Act {
+    fn copied(&self, alloc: Global) -> Result<Act, NoMemory> {
+        Ok(match self {
+            Act::Step {
+                input,
+                records,
+                outs,
+                told,
+            } => Act::Step {
+                input: input.copy(),
+                records: records.copied(alloc)?,
+                outs: outs.copied(alloc)?,
+                told: told.copied(alloc)?,
+            },
+            Act::Fall {
+                inputs,
+                records,
+                why,
+            } => Act::Fall {
+                inputs: inputs.copied(alloc)?,
+                records: records.copied(alloc)?,
+                why: *why,
+            },
+            Act::Rise { kept, inc } => Act::Rise {
+                kept: *kept,
+                inc: *inc,
+            },
+            Act::RiseFall { kept, inc, why } => Act::RiseFall {
+                kept: *kept,
+                inc: *inc,
+                why: *why,
+            },
+            Act::Miss => Act::Miss,
+            Act::Cut => Act::Cut,
+            Act::Drop { packet } => Act::Drop { packet: *packet },
+            Act::Parts { parts } => Act::Parts {
+                parts: parts.copied(alloc)?,
+            },
+            Act::Line { number } => Act::Line { number: *number },
+        })
+    }
+}
+
+impl Copied for Entry {
+    fn copied(&self, alloc: Global) -> Result<Entry, NoMemory> {
+        Ok(Entry {
+            owner: self.owner,
+            act: self.act.copied(alloc)?,
+        })
+    }
+}
+
+impl Copied for Item {
+    fn copied(&self, alloc: Global) -> Result<Item, NoMemory> {
+        Ok(match self {
+            Item::Begin { name, site, sites } => Item::Begin {
+                name: name.copy(),
+                site: *site,
+                sites: *sites,
+            },
+            Item::Read { name, key } => Item::Read {
+                name: name.copy(),
+                key: key.copy(),
+            },
+            Item::Write { name, key, val } => Item::Write {
+                name: name.copy(),
+                key: key.copy(),
+                val: val.copy(),
+            },
+            Item::Commit { name } => Item::Commit { name: name.copy() },
+            Item::Cancel { name } => Item::Cancel { name: name.copy() },
+            Item::Expire { site, name } => Item::Expire {
+                site: *site,
+                name: name.copy(),
+            },
+            Item::Elect { site, name, sites } => Item::Elect {
+                site: *site,
+                name: name.copy(),
+                sites: *sites,
+            },
+            Item::Recover { sites } => Item::Recover { sites: *sites },
+            Item::Split { parts } => Item::Split {
+                parts: parts.copied(alloc)?,
+            },
+            Item::Merge => Item::Merge,
+            Item::Crash { site } => Item::Crash { site: *site },
+            Item::Restart { site } => Item::Restart { site: *site },
+            Item::Stop { site, count, leave } => Item::Stop {
+                site: *site,
+                count: *count,
+                leave: *leave,
+            },
+        })
+    }
+}
+
+impl Copied for Scenario {
+    fn copied(&self, alloc: Global) -> Result<Scenario, NoMemory> {
+        Ok(Scenario {
+            weights: self.weights.copied(alloc)?,
+            rows: self.rows.copied(alloc)?,
+            loss: self.loss,
+            repeat: self.repeat,
+            luck: self.luck,
+            steps: self.steps.copied(alloc)?,
+        })
+    }
+}

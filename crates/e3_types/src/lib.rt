@@ -1,0 +1,32 @@
+//! The values of which transactions, logs, messages, histories and scenarios are made, and the definitions that all
+//! crates share: sets of sites, order of transactions, weights and quorums, the lock rule, the verdict over reports,
+//! and the spelling of records.
+#![tactic(auto)]
+
+mod copies;
+mod entries;
+mod list;
+mod locks;
+mod messages;
+mod quorums;
+mod records;
+mod scenarios;
+mod sites;
+#[cfg(test)]
+mod tests;
+mod text;
+mod transactions;
+mod verdicts;
+
+pub use copies::Copied;
+pub use entries::{Act, Entry, Input, Refusal, Told, Why};
+pub use list::{List, NoMemory};
+pub use locks::{Grant, Lock, Mode, front, front_length, lock_grant};
+pub use messages::{Message, Packet, rank};
+pub use quorums::{is_quorum, weight_of};
+pub use records::Record;
+pub use scenarios::{Item, KeyRow, Leave, Scenario};
+pub use sites::{SiteIter, SiteSet};
+pub use text::{Name, Val};
+pub use transactions::{Answer, Call, Dir, Key, NumOp, Op, Row, State, Txn, ages_are_ordered};
+pub use verdicts::{SiteReport, Verdict, verdict_of};
