@@ -1,0 +1,23 @@
+//! The streams that a run is given: the source that its scenario comes from and the sink that its report goes to.
+//! Streams in memory, which can be made to fail, serve tests; streams of std serve the program.
+#![tactic(auto)]
+
+mod memory_sink;
+mod memory_source;
+mod sink;
+mod source;
+mod standard_sink;
+mod standard_source;
+#[cfg(test)]
+mod tests;
+
+pub use memory_sink::MemSink;
+pub use memory_source::MemSource;
+pub use sink::{Sink, write_all};
+pub use source::{ReadFault, Source, read_up_to};
+pub use standard_sink::StdSink;
+pub use standard_source::StdSource;
+
+/// A call of a stream has failed, and the stream has counted a fault.
+#[derive(Clone, Copy, Debug, PartialEq, Eq)]
+pub struct Failed;
