@@ -1,0 +1,11 @@
+pub mod Pushes
+pub mod Trails
+pub mod Numbers
+pub mod Rising
+pub mod Sending
+pub mod InTrail
+pub mod Readings
+pub mod Turns
+pub mod Guards
+pub mod Lines
+pub mod Rises

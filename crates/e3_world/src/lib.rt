@@ -1,0 +1,17 @@
+//! What happened in a run and what it means: histories, the log and the table of a site, a site's step, which histories
+//! a scenario allows, and what is promised of them.
+#![tactic(auto)]
+
+mod fate;
+mod gatherings;
+mod history;
+mod lives;
+mod names;
+#[cfg(test)]
+mod tests;
+
+pub use fate::fate_word;
+pub use gatherings::{Election, Elections, Named, Round, Rounds};
+pub use history::History;
+pub use lives::{Asked, At, Expected, Incarnation, Life, Made, Moment, Performed, SiteStep};
+pub use names::{Addressed, Binding, Bound};
