@@ -1,0 +1,16 @@
+ghost use Rattle.std.specs.Prelude.{◌≡◌, [], ◌∷◌};
+ghost use Rattle.e3_world.specs.Logs.{table_of};
+ghost use Rattle.e3_world.specs.Moves.{all_records, log_of, trail_of};
+ghost use Rattle.e3_world.specs.Serial.{commit_order};
+ghost use Rattle.e3_worked.specs.Worked.{IsWorked};
+ghost use Rattle.e3_worked.specs.SplitInHalves.{split_in_halves, split_in_halves_history};
+
+/// A split in halves blocks a commit; after the merge a recovery ends it.
+pub fn is_worked()
+    ensures worked { IsWorked split_in_halves split_in_halves_history }
+    ensures order { commit_order (all_records (trail_of split_in_halves split_in_halves_history)) ≡ [] }
+    ensures table_1 { table_of (log_of split_in_halves split_in_halves_history 1) ≡ [] }
+    ensures table_2 { table_of (log_of split_in_halves split_in_halves_history 2) ≡ [] }
+    ensures table_3 { table_of (log_of split_in_halves split_in_halves_history 3) ≡ [] }
+    ensures table_4 { table_of (log_of split_in_halves split_in_halves_history 4) ≡ [] }
+{}
