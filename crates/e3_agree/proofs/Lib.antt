@@ -1,0 +1,10 @@
+pub mod Each
+pub mod Deciding
+pub mod Places
+pub mod Makers
+pub mod Rules
+pub mod Taking
+pub mod Moving
+pub mod Naming
+pub mod Histories
+pub mod LoneLaws

@@ -1,0 +1,3 @@
+pub mod Lone
+pub mod Alone
+pub mod Claims
