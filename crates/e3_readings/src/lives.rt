@@ -1,0 +1,71 @@
+// What a site knows of itself while it is up: its log at present, and its life since it rose.
+ghost use Rattle.std.specs.Prelude.{◌≡◌, ◌++◌, IfOk};
+ghost use Rattle.e3_world.specs.Lives.{present_log, life_by, life_of};
+
+use crate::logs::logged_inc;
+use e3_types::{Copied, List, NoMemory, Record};
+use e3_world::{Incarnation, Life, Moment, SiteStep};
+use std::alloc::Global;
+
+fn add_records(alloc: Global, records: &[Record], out: &mut List<Record>) -> Result<(), NoMemory>
+    ensures { IfOk result (λ u. out.new ≡ out.old ++ records.now) }
+{
+    for r in records {
+        out.push(r.copied(alloc)?)?;
+    }
+    Ok(())
+}
+
+/// The log at present: the one that the site rose with, and the records of its steps since.
+pub fn present_log(alloc: Global, i: &Incarnation) -> Result<List<Record>, NoMemory>
+    ensures { IfOk result (λ log. log ≡ present_log i.now) }
+{
+    let mut log = i.rose.copied(alloc)?;
+    for s in i.since.as_slice() {
+        add_records(alloc, s.records.as_slice(), &mut log)?;
+    }
+    Ok(log)
+}
+
+fn moment_of(alloc: Global, before: &List<Record>, s: &SiteStep) -> Result<Moment, NoMemory>
+    ensures { IfOk result (λ m. m ≡ record { before = before.now; input = s.now.input; records = s.now.records; outs = s.now.outs; told = s.now.told }) }
+{
+    Ok(Moment {
+        before: before.copied(alloc)?,
+        input: s.input.copy(),
+        records: s.records.copied(alloc)?,
+        outs: s.outs.copied(alloc)?,
+        told: s.told.copied(alloc)?,
+    })
+}
+
+/// The life behind one more step, which is kept with the log before it.
+pub fn life_by(alloc: Global, life: Life, s: &SiteStep) -> Result<Life, NoMemory>
+    ensures { IfOk result (λ more. more ≡ life_by life s.now) }
+{
+    let mut log = life.log;
+    let mut steps = life.steps;
+    let m = moment_of(alloc, &log, s)?;
+    add_records(alloc, s.records.as_slice(), &mut log)?;
+    steps.push(m)?;
+    Ok(Life {
+        log,
+        inc: life.inc,
+        steps,
+    })
+}
+
+/// The life of an incarnation: its log at present, its number, and its steps, each with the log before it.
+pub fn life_of(alloc: Global, i: &Incarnation) -> Result<Life, NoMemory>
+    ensures { IfOk result (λ life. life ≡ life_of i.now) }
+{
+    let mut life = Life {
+        log: i.rose.copied(alloc)?,
+        inc: logged_inc(i.rose.as_slice()),
+        steps: List::new(alloc),
+    };
+    for s in i.since.as_slice() {
+        life = life_by(alloc, life, s)?;
+    }
+    Ok(life)
+}

@@ -1,0 +1,544 @@
+// Operations of transactions at a site, read off its steps of the present incarnation.
+ghost use Rattle.std.specs.Prelude.{◌≡◌, ◌≤◌, ◌++◌, ◌∷◌, [], ◌&&◌, ◌==◌, not, Option, IfOk, OnErr, fold, length, suc, filter, option_copied};
+ghost use Rattle.std.specs.List.{list_any, flat_map};
+ghost use Rattle.e3_types.specs.Same.{same_txn};
+ghost use Rattle.e3_world.specs.Logs.{is_undecided, key_of, lock_on};
+ghost use Rattle.e3_world.specs.Operations.{is_refusal, issued_in, issued, nth_op, taken_up, same_asked, is_fresh, and_arrived, arrived_by, arrivals, answer_told, answer_sent, answers, is_answered, performed_by, done, waiting, done_locks, holders, stronger, holds, queue, tells_op, op_told, unanswered, expected_with, expected_by, expected, reason_in, kept_reason};
+
+use crate::counts::{next, small};
+use crate::logs::{is_undecided, key_of, lock_on, state_of, voted_locks};
+use e3_types::{
+    Answer, Input, List, Lock, Message, Mode, Name, NoMemory, Op, Packet, Record, Refusal, State,
+    Told, Txn,
+};
+use e3_world::{Asked, Expected, Moment, Performed};
+use std::alloc::Global;
+
+fn is_refusal(e: &Told) -> bool
+    ensures { result ≡ is_refusal e.now }
+{
+    matches!(e, Told::Refused { .. })
+}
+
+/// Some event among these is a refusal.
+pub(crate) fn has_refusal(events: &[Told]) -> bool
+    ensures { result ≡ list_any is_refusal events.now }
+{
+    events.iter().any(|e| is_refusal(e))
+}
+
+fn issued_in(t: &Txn, input: &Input, told: &[Told], out: &mut List<Op>) -> Result<(), NoMemory>
+    ensures { IfOk result (λ u. out.new ≡ out.old ++ issued_in t.now input.now told.now) }
+{
+    match input {
+        Input::Do { txn, op } if t.is_same(txn) && !has_refusal(told) => out.push(op.copy()),
+        _ => Ok(()),
+    }
+}
+
+/// The operations of a transaction that these steps of its coordinator issued, in order; the n-th has number n.
+pub fn issued(alloc: Global, t: &Txn, steps: &[Moment]) -> Result<List<Op>, NoMemory>
+    ensures { IfOk result (λ out. out ≡ issued t.now steps.now) }
+{
+    let mut out = List::new(alloc);
+    for m in steps {
+        issued_in(t, &m.input, m.told.as_slice(), &mut out)?;
+    }
+    Ok(out)
+}
+
+/// The operation of this number among those that were issued. Numbers begin with 1.
+pub fn nth_op(n: u32, ops: &[Op]) -> Option<&Op>
+    ensures { option_copied result ≡ nth_op n ops.now }
+{
+    match n {
+        0 => None,
+        _ => ops.get(n as usize - 1),
+    }
+}
+
+/// The operation that a step takes up at its site: that of a Do packet, or of a client's call for a key of the site's
+/// own. The steps are those before it.
+#[tactic(auto, using(crate::proofs::Equal::same_txn_refl))]
+pub fn taken_up(
+    alloc: Global,
+    site: u32,
+    steps: &[Moment],
+    m: &Moment,
+) -> Result<Option<Asked>, NoMemory>
+    ensures { IfOk result (λ o. o ≡ taken_up site steps.now m.now) }
+{
+    match &m.input {
+        Input::Deliver { packet } => match &packet.msg {
+            Message::Do { txn, n, op } => Ok(Some(Asked {
+                txn: *txn,
+                n: *n,
+                op: op.copy(),
+            })),
+            _ => Ok(None),
+        },
+        Input::Do { txn, op } => {
+            if !has_refusal(m.told.as_slice()) && key_of(op).site == site {
+                let earlier = issued(alloc, txn, steps)?;
+                Ok(Some(Asked {
+                    txn: *txn,
+                    n: next(small(earlier.len())?)?,
+                    op: op.copy(),
+                }))
+            } else {
+                Ok(None)
+            }
+        }
+        _ => Ok(None),
+    }
+}
+
+/// The two are the same operation of the same transaction.
+pub fn same_asked(a: &Asked, b: &Asked) -> bool
+    ensures { result ≡ same_asked a.now b.now }
+{
+    a.n == b.n && a.txn.is_same(&b.txn)
+}
+
+/// The operation is one of these.
+pub fn is_among(a: &Asked, asked: &[Asked]) -> bool
+    ensures { result ≡ list_any (same_asked a.now) asked.now }
+{
+    asked.iter().any(|b| same_asked(a, b))
+}
+
+fn is_fresh(asked: &[Asked], m: &Moment, a: &Asked) -> bool
+    ensures { result ≡ is_fresh asked.now m.now a.now }
+{
+    state_of(&a.txn, m.before.as_slice()) == State::Q && !is_among(a, asked)
+}
+
+fn and_arrived(m: &Moment, taken: Option<Asked>, asked: &mut List<Asked>) -> Result<(), NoMemory>
+    ensures { IfOk result (λ u. asked.new ≡ and_arrived asked.old m.now taken) }
+{
+    match taken {
+        Some(a) => {
+            if is_fresh(asked.as_slice(), m, &a) {
+                asked.push(a)
+            } else {
+                Ok(())
+            }
+        }
+        None => Ok(()),
+    }
+}
+
+fn arrived_by(
+    alloc: Global,
+    site: u32,
+    steps: &[Moment],
+    m: &Moment,
+    asked: &mut List<Asked>,
+) -> Result<(), NoMemory>
+    ensures { IfOk result (λ u. record { steps = steps.now ++ m.now ∷ []; asked = asked.new } ≡ arrived_by site (record { steps = steps.now; asked = asked.old }) m.now) }
+{
+    let taken = taken_up(alloc, site, steps, m)?;
+    and_arrived(m, taken, asked)
+}
+
+/// The operations that came to a site while their transactions were in q, each once, in the order of arrival.
+pub fn arrivals(alloc: Global, site: u32, steps: &[Moment]) -> Result<List<Asked>, NoMemory>
+    ensures { IfOk result (λ out. out ≡ arrivals site steps.now) }
+{
+    let mut asked = List::new(alloc);
+    for i in 0..steps.len() {
+        arrived_by(alloc, site, &steps[..i], &steps[i], &mut asked)?;
+    }
+    Ok(asked)
+}
+
+fn answer_told(a: &Asked, e: &Told, out: &mut List<Answer>) -> Result<(), NoMemory>
+    ensures { IfOk result (λ u. out.new ≡ out.old ++ answer_told a.now e.now) }
+{
+    match e {
+        Told::Op { txn, n, answer } if a.n == *n && a.txn.is_same(txn) => {
+            out.push(answer.copy())
+        }
+        _ => Ok(()),
+    }
+}
+
+fn answer_sent(a: &Asked, packet: &Packet, out: &mut List<Answer>) -> Result<(), NoMemory>
+    ensures { IfOk result (λ u. out.new ≡ out.old ++ answer_sent a.now packet.now) }
+{
+    match &packet.msg {
+        Message::Done { txn, n, answer, .. } if a.n == *n && a.txn.is_same(txn) => {
+            out.push(answer.copy())
+        }
+        _ => Ok(()),
+    }
+}
+
+fn add_answers(a: &Asked, m: &Moment, out: &mut List<Answer>) -> Result<(), NoMemory>
+    ensures { IfOk result (λ u. out.new ≡ out.old ++ (flat_map (answer_told a.now) m.now.told ++ flat_map (answer_sent a.now) m.now.outs)) }
+{
+    for e in m.told.as_slice() {
+        answer_told(a, e, out)?;
+    }
+    for packet in m.outs.as_slice() {
+        answer_sent(a, packet, out)?;
+    }
+    Ok(())
+}
+
+/// All answers to an operation that these steps show, told to the client or sent, in order.
+pub fn answers(alloc: Global, a: &Asked, steps: &[Moment]) -> Result<List<Answer>, NoMemory>
+    ensures { IfOk result (λ out. out ≡ answers a.now steps.now) }
+{
+    let mut out = List::new(alloc);
+    for m in steps {
+        add_answers(a, m, &mut out)?;
+    }
+    Ok(out)
+}
+
+/// The operation was answered in these steps.
+pub fn is_answered(alloc: Global, steps: &[Moment], a: &Asked) -> Result<bool, NoMemory>
+    ensures { IfOk result (λ b. b ≡ is_answered steps.now a.now) }
+{
+    let found = answers(alloc, a, steps)?;
+    match found.as_slice() {
+        [] => Ok(false),
+        [_, ..] => Ok(true),
+    }
+}
+
+/// Adds the operation with its first answer, if it was answered.
+pub fn performed_by(
+    alloc: Global,
+    steps: &[Moment],
+    a: &Asked,
+    out: &mut List<Performed>,
+) -> Result<(), NoMemory>
+    ensures ok { IfOk result (λ u. out.new ≡ out.old ++ performed_by steps.now a.now) }
+    ensures err { OnErr result (out.new ≡ out.old) }
+{
+    let found = answers(alloc, a, steps)?;
+    match found.as_slice() {
+        [] => Ok(()),
+        [answer, ..] => out.push(Performed {
+            n: a.n,
+            op: a.op.copy(),
+            answer: answer.copy(),
+        }),
+    }
+}
+
+/// The operations of a transaction that the site answered in its present incarnation, in the order of arrival.
+pub fn done(
+    alloc: Global,
+    site: u32,
+    t: &Txn,
+    steps: &[Moment],
+) -> Result<List<Performed>, NoMemory>
+    ensures { IfOk result (λ out. out ≡ done site t.now steps.now) }
+{
+    let all = arrivals(alloc, site, steps)?;
+    let mut out = List::new(alloc);
+    for a in all.as_slice() {
+        if t.is_same(&a.txn) {
+            performed_by(alloc, steps, a, &mut out)?;
+        }
+    }
+    Ok(out)
+}
+
+fn copy_asked(a: &Asked) -> Asked
+    ensures { result ≡ a.now }
+{
+    Asked {
+        txn: a.txn,
+        n: a.n,
+        op: a.op.copy(),
+    }
+}
+
+fn is_waiting(alloc: Global, log: &[Record], steps: &[Moment], a: &Asked) -> Result<bool, NoMemory>
+    ensures { IfOk result (λ b. b ≡ (is_undecided a.now.txn log.now && not (is_answered steps.now a.now))) }
+{
+    Ok(is_undecided(&a.txn, log) && !is_answered(alloc, steps, a)?)
+}
+
+/// The operations of undecided transactions that are not done, in the order of arrival.
+pub fn waiting(
+    alloc: Global,
+    site: u32,
+    log: &[Record],
+    steps: &[Moment],
+) -> Result<List<Asked>, NoMemory>
+    ensures { IfOk result (λ out. out ≡ waiting site log.now steps.now) }
+{
+    let all = arrivals(alloc, site, steps)?;
+    let mut out = List::new(alloc);
+    for a in all.as_slice() {
+        if is_waiting(alloc, log, steps, a)? {
+            out.push(copy_asked(a))?;
+        }
+    }
+    Ok(out)
+}
+
+fn is_holding(alloc: Global, log: &[Record], steps: &[Moment], a: &Asked) -> Result<bool, NoMemory>
+    ensures { IfOk result (λ b. b ≡ (is_undecided a.now.txn log.now && is_answered steps.now a.now)) }
+{
+    Ok(is_undecided(&a.txn, log) && is_answered(alloc, steps, a)?)
+}
+
+/// The locks on a name of the operations that were done for undecided transactions, in the order of arrival.
+pub fn done_locks(
+    alloc: Global,
+    site: u32,
+    name: &Name,
+    log: &[Record],
+    steps: &[Moment],
+) -> Result<List<Lock>, NoMemory>
+    ensures { IfOk result (λ out. out ≡ done_locks site name.now log.now steps.now) }
+{
+    let all = arrivals(alloc, site, steps)?;
+    let mut out = List::new(alloc);
+    for a in all.as_slice() {
+        if is_holding(alloc, log, steps, a)? {
+            lock_on(name, &a.txn, &a.op, &mut out)?;
+        }
+    }
+    Ok(out)
+}
+
+/// The locks on a name that are held, for operations done and behind them for votes, of undecided transactions.
+pub fn holders(
+    alloc: Global,
+    site: u32,
+    name: &Name,
+    log: &[Record],
+    steps: &[Moment],
+) -> Result<List<Lock>, NoMemory>
+    ensures { IfOk result (λ out. out ≡ holders site name.now log.now steps.now) }
+{
+    let mut out = done_locks(alloc, site, name, log, steps)?;
+    let voted = voted_locks(alloc, name, log)?;
+    out.extend(voted.as_slice())?;
+    Ok(out)
+}
+
+fn stronger(was: Option<Mode>, l: &Lock) -> Option<Mode>
+    ensures { result ≡ stronger was l.now }
+{
+    match was {
+        Some(Mode::Exclusive) => Some(Mode::Exclusive),
+        _ => Some(l.mode),
+    }
+}
+
+/// The mode in which a transaction holds a name, if it does.
+pub fn holds(
+    alloc: Global,
+    site: u32,
+    t: &Txn,
+    name: &Name,
+    log: &[Record],
+    steps: &[Moment],
+) -> Result<Option<Mode>, NoMemory>
+    ensures { IfOk result (λ mode. mode ≡ holds site t.now name.now log.now steps.now) }
+{
+    let locks = holders(alloc, site, name, log, steps)?;
+    let mut mode = None;
+    for l in locks.as_slice() {
+        if t.is_same(&l.txn) {
+            mode = stronger(mode, l);
+        }
+    }
+    Ok(mode)
+}
+
+/// The locks on a name for which these operations wait, in their order.
+pub fn queue(alloc: Global, name: &Name, asked: &[Asked]) -> Result<List<Lock>, NoMemory>
+    ensures { IfOk result (λ out. out ≡ queue name.now asked.now) }
+{
+    let mut out = List::new(alloc);
+    for a in asked {
+        lock_on(name, &a.txn, &a.op, &mut out)?;
+    }
+    Ok(out)
+}
+
+/// The event answers this operation to the client.
+pub fn tells_op(t: &Txn, n: u32, e: &Told) -> bool
+    ensures { result ≡ tells_op t.now n e.now }
+{
+    match e {
+        Told::Op { txn, n: m, .. } => n == *m && t.is_same(txn),
+        _ => false,
+    }
+}
+
+fn tell_op(t: &Txn, n: u32, events: &[Told]) -> bool
+    ensures { result ≡ list_any (tells_op t.now n) events.now }
+{
+    events.iter().any(|e| tells_op(t, n, e))
+}
+
+fn tells(t: &Txn, n: u32, m: &Moment) -> bool
+    ensures { result ≡ list_any (tells_op t.now n) m.now.told }
+{
+    tell_op(t, n, m.told.as_slice())
+}
+
+/// Some step answered the operation to the client.
+pub fn op_told(t: &Txn, n: u32, steps: &[Moment]) -> bool
+    ensures { result ≡ op_told t.now n steps.now }
+{
+    steps.iter().any(|m| tells(t, n, m))
+}
+
+/// The number of the operation that is unanswered: the last issued, where the client was told no answer to it and the
+/// transaction is undecided.
+pub fn unanswered(
+    alloc: Global,
+    t: &Txn,
+    log: &[Record],
+    steps: &[Moment],
+) -> Result<Option<u32>, NoMemory>
+    ensures { IfOk result (λ o. o ≡ unanswered t.now log.now steps.now) }
+{
+    let ops = issued(alloc, t, steps)?;
+    let n = small(ops.len())?;
+    if n != 0 && is_undecided(t, log) && !op_told(t, n, steps) {
+        Ok(Some(n))
+    } else {
+        Ok(None)
+    }
+}
+
+fn tells_own(t: &Txn, u: &Txn, n: u32, events: &[Told]) -> bool
+    ensures { result ≡ (same_txn t.now u.now && list_any (tells_op t.now n) events.now) }
+{
+    t.is_same(u) && tell_op(t, n, events)
+}
+
+fn one_more(was: Expected, inc: u32) -> Result<Expected, NoMemory>
+    ensures ok { IfOk result (λ e. e ≡ record { inc = inc; count = suc was.count }) }
+    ensures err { OnErr result (4294967295 ≤ was.count) }
+{
+    Ok(Expected {
+        inc,
+        count: next(was.count)?,
+    })
+}
+
+fn expected_with(
+    t: &Txn,
+    was: Expected,
+    events: &[Told],
+    msg: &Message,
+) -> Result<Expected, NoMemory>
+    ensures ok { IfOk result (λ e. e ≡ expected_with t.now was events.now msg.now) }
+    ensures err { OnErr result (4294967295 ≤ was.count) }
+{
+    match msg {
+        Message::Done { txn, n, inc, .. } => {
+            if tells_own(t, txn, *n, events) {
+                one_more(was, *inc)
+            } else {
+                Ok(was)
+            }
+        }
+        _ => Ok(was),
+    }
+}
+
+/// What is expected of another site behind one more step: a Done of it counts where its answer was told to the client.
+/// NoMemory comes where the count would pass 32 bits.
+pub fn expected_by(t: &Txn, site: u32, was: Expected, m: &Moment) -> Result<Expected, NoMemory>
+    ensures ok { IfOk result (λ e. e ≡ expected_by t.now site was m.now) }
+    ensures err { OnErr result (4294967295 ≤ was.count) }
+{
+    match &m.input {
+        Input::Deliver { packet } if packet.from == site => {
+            expected_with(t, was, m.told.as_slice(), &packet.msg)
+        }
+        _ => Ok(was),
+    }
+}
+
+fn own_answers(
+    alloc: Global,
+    own: u32,
+    inc: u32,
+    t: &Txn,
+    steps: &[Moment],
+) -> Result<Expected, NoMemory>
+    ensures { IfOk result (λ e. e ≡ expected own inc t.now steps.now own) }
+{
+    let answered = done(alloc, own, t, steps)?;
+    let count = small(answered.len())?;
+    match answered.as_slice() {
+        [] => Ok(Expected { inc: 0, count: 0 }),
+        [_, ..] => Ok(Expected { inc, count }),
+    }
+}
+
+/// Under which incarnation a site answered operations of a transaction, and how many, as far as its coordinator, the
+/// own site, knows. The coordinator's own answers count with its present incarnation.
+pub fn expected(
+    alloc: Global,
+    own: u32,
+    inc: u32,
+    t: &Txn,
+    steps: &[Moment],
+    site: u32,
+) -> Result<Expected, NoMemory>
+    ensures { IfOk result (λ e. e ≡ expected own inc t.now steps.now site) }
+{
+    if own == site {
+        return own_answers(alloc, own, inc, t, steps);
+    }
+    let mut e = Expected { inc: 0, count: 0 };
+    for m in steps {
+        e = expected_by(t, site, e, m)?;
+    }
+    Ok(e)
+}
+
+fn reason_in(t: &Txn, e: &Told, out: &mut List<Refusal>) -> Result<(), NoMemory>
+    ensures { IfOk result (λ u. out.new ≡ out.old ++ reason_in t.now e.now) }
+{
+    match e {
+        Told::Died { txn, older } if t.is_same(txn) => out.push(Refusal::Died { older: *older }),
+        Told::Doomed {
+            txn,
+            site,
+            had,
+            now,
+        } if t.is_same(txn) => out.push(Refusal::Doomed {
+            site: *site,
+            had: *had,
+            now: *now,
+        }),
+        _ => Ok(()),
+    }
+}
+
+fn reasons_in(t: &Txn, events: &[Told], out: &mut List<Refusal>) -> Result<(), NoMemory>
+    ensures { IfOk result (λ u. out.new ≡ out.old ++ flat_map (reason_in t.now) events.now) }
+{
+    for e in events {
+        reason_in(t, e, out)?;
+    }
+    Ok(())
+}
+
+/// The reasons, told in place of an end, for which a transaction was aborted. Where there is one, the first is kept.
+pub fn kept_reason(alloc: Global, t: &Txn, steps: &[Moment]) -> Result<List<Refusal>, NoMemory>
+    ensures { IfOk result (λ out. out ≡ kept_reason t.now steps.now) }
+{
+    let mut out = List::new(alloc);
+    for m in steps {
+        reasons_in(t, m.told.as_slice(), &mut out)?;
+    }
+    Ok(out)
+}
