@@ -1,0 +1,2 @@
+pub mod PlainView
+pub mod Asking
