@@ -1,0 +1,6 @@
+pub mod Answered
+pub mod ByName
+pub mod Counting
+pub mod Splitting
+pub mod Standings
+pub mod StepOn
