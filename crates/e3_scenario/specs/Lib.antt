@@ -1,0 +1,6 @@
+pub mod Words
+pub mod Parts
+pub mod Items
+pub mod Documents
+pub mod Paths
+pub mod Scenarios

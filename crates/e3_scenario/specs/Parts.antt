@@ -1,0 +1,51 @@
+-- The parts of an item: NAME, SITE, SITES, KEY and VALUE.
+use Rattle.std.specs.Prelude.{ℕ, ◌+◌, ◌-◌, ◌*◌, ◌==◌, Bool, false, ◌&&◌, nat_le, List, [], ◌∷◌, length, Option, Some, None, option_map, option_and_then, if◌then◌else◌}
+use Rattle.std.specs.List.{list_all}
+use Rattle.e3_types.specs.Text.{is_letter}
+use Rattle.e3_types.specs.declared.transactions.Key.{Key}
+use Rattle.e3_scenario.specs.Words.{point, before, after}
+
+-- NAME: 1 to 32 bytes of a to z, 0 to 9 and _
+abbrev pub name_of : List ℕ → Option (List ℕ)
+name_of text = if nat_le 1 (length text) && nat_le (length text) 32 && list_all is_letter text then Some text else None
+
+-- VALUE: 0 to 256 bytes
+abbrev pub value_of : List ℕ → Option (List ℕ)
+value_of text = if nat_le (length text) 256 then Some text else None
+
+-- 0 to 9
+abbrev pub is_digit : ℕ → Bool
+is_digit b = nat_le 48 b && nat_le b 57
+
+-- the number that more digits make of a number, as long as it is not above `most`
+abbrev pub digits_from : ℕ → ℕ → List ℕ → Option ℕ
+digits_from most n [] = Some n
+digits_from most n (b ∷ text) =
+    if is_digit b && nat_le (n * 10 + (b - 48)) most then digits_from most (n * 10 + (b - 48)) text else None
+
+-- the text begins with the digit 0
+abbrev pub has_leading_zero : List ℕ → Bool
+has_leading_zero [] = false
+has_leading_zero (b ∷ text) = b == 48
+
+-- a number from 1 to `most`, in digits without leading zeros
+abbrev pub number_of : ℕ → List ℕ → Option ℕ
+number_of most text =
+    if has_leading_zero text then None
+    else option_and_then (λ n. if nat_le 1 n then Some n else None) (digits_from most 0 text)
+
+-- SITE: a number from 1 to 64
+abbrev pub site_of : List ℕ → Option ℕ
+site_of text = number_of 64 text
+
+-- SITES: one SITE
+abbrev pub sites_of : List ℕ → Option (List ℕ)
+sites_of text = option_map (λ site. site ∷ []) (site_of text)
+
+-- KEY: SITE, a point, NAME
+abbrev pub key_of : List ℕ → Option Key
+key_of text = key_with (site_of (before point text)) (option_and_then name_of (after point text))
+  where
+    key_with : Option ℕ → Option (List ℕ) → Option Key
+    key_with (Some site) (Some name) = Some (record { site = site; name = name })
+    key_with _ _ = None

@@ -1,0 +1,59 @@
+// The text of an item, cut into words.
+ghost use Rattle.std.specs.Prelude.{◌≡◌, ◌==◌, ◌<◌, length, position, IfSome, option_copied};
+ghost use Rattle.e3_scenario.specs.Words.{is_printable, before, after, rest, word};
+
+/// The byte between two words.
+pub const SPACE: u8 = b' ';
+
+/// The byte between the site and the name of a key.
+pub const POINT: u8 = b'.';
+
+/// The byte may stand in an item.
+pub fn is_printable(byte: u8) -> bool
+    ensures { result ≡ is_printable byte }
+{
+    (b' '..=b'~').contains(&byte)
+}
+
+fn place_of(text: &[u8], mark: u8) -> Option<usize>
+    ensures value { result ≡ position (λ b. b == mark) text.now }
+    ensures within { IfSome result (λ place. place < length text.now) }
+{
+    text.iter().position(|b| *b == mark)
+}
+
+/// What stands before the first byte of this kind, or all where there is none.
+pub fn before(text: &[u8], mark: u8) -> &[u8]
+    ensures { result.now ≡ before mark text.now }
+{
+    match place_of(text, mark) {
+        Some(place) => &text[..place],
+        None => text,
+    }
+}
+
+/// What stands behind the first byte of this kind.
+pub fn after(text: &[u8], mark: u8) -> Option<&[u8]>
+    ensures { option_copied result ≡ after mark text.now }
+{
+    let place = place_of(text, mark)?;
+    Some(&text[place + 1..])
+}
+
+/// What stands behind the first `count` words and the space after each.
+pub fn rest(text: &[u8], count: usize) -> Option<&[u8]>
+    ensures { option_copied result ≡ rest count text.now }
+{
+    let mut left = text;
+    for _ in 0..count {
+        left = after(left, SPACE)?;
+    }
+    Some(left)
+}
+
+/// The word at a place, counted from 0.
+pub fn word(text: &[u8], place: usize) -> Option<&[u8]>
+    ensures { option_copied result ≡ word place text.now }
+{
+    Some(before(rest(text, place)?, SPACE))
+}
