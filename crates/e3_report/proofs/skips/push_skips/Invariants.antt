@@ -1,0 +1,8 @@
+use Rattle.std.proofs.Common.{◌≡◌, ◌++◌, [], drop}
+use Rattle.e3_report.specs.Skips.{named, skip_lines}
+use Rattle.e3_report.proofs.skips.push_skips.Given as goal
+
+abbrev pub invariant-loop-item : goal.invariant-loop-item
+invariant-loop-item l =
+    l.out ++ skip_lines (named l.bound) l.before l.during l.earlier (drop l.item-index l.items)
+    ≡ l.initial.out ++ skip_lines (named l.bound) l.before l.during [] l.items

@@ -1,0 +1,54 @@
+-- The part of a report that tells of the start and of the steps.
+use Rattle.std.specs.Prelude.{◌++◌, ◌∷◌, [], not, List, ℕ, Option, codes, take_while}
+use Rattle.std.specs.Fmt.{decimal}
+use Rattle.std.specs.List.{flat_map}
+use Rattle.e3_types.specs.declared.entries.Act.{Act}
+use Rattle.e3_types.specs.declared.entries.Act.TheVariants.{Line}
+use Rattle.e3_types.specs.declared.entries.Entry.{Entry}
+use Rattle.e3_types.specs.declared.scenarios.Scenario.{Scenario}
+use Rattle.e3_types.specs.declared.transactions.Txn.{Txn}
+use Rattle.e3_world.specs.Items.{txn_of}
+use Rattle.e3_world.specs.Moves.{own}
+use Rattle.e3_world.specs.Packets.{is_line, step_items, all_sites}
+use Rattle.e3_report.specs.Events.{entry_lines}
+use Rattle.e3_report.specs.Items.{item_line}
+use Rattle.e3_report.specs.Skips.{skip_lines}
+use Rattle.e3_report.specs.Texts.{line_end}
+
+-- the entries up to the next line
+abbrev pub until_line : List Entry → List Entry
+until_line entries = take_while (λ e. not (is_line e)) entries
+
+-- the events of a site among these entries, in its own order
+abbrev pub site_events : List Entry → ℕ → List ℕ
+site_events entries site = flat_map entry_lines (own site entries)
+
+-- the events of entries: site by site in ascending order
+unfoldable pub event_lines : Scenario → List Entry → List ℕ
+event_lines sc entries = flat_map (site_events entries) (all_sites sc)
+
+-- `start`, and the events before the first step: the first rises
+unfoldable pub start_lines : Scenario → List Entry → List ℕ
+start_lines sc history = codes "start" ++ line_end ++ event_lines sc (until_line history)
+
+-- `step K`
+unfoldable pub step_heading : ℕ → List ℕ
+step_heading number = codes "step " ++ decimal number ++ line_end
+
+-- A step: its heading, its items, the lines of the items that are skipped, and its events. `find` is what names stand
+-- for at the step's line, `before` are the entries up to that line, `during` those behind it.
+unfoldable pub step_lines : (List ℕ → Option Txn) → Scenario → List Entry → ℕ → List Entry → List ℕ
+step_lines find sc before number during =
+    step_heading number ++ flat_map item_line (step_items sc number) ++ skip_lines find before during [] (step_items sc number)
+    ++ event_lines sc during
+
+-- what an entry begins: a line begins a step, with the entries up to the next line
+abbrev pub lines_by : (List ℕ → Option Txn) → Scenario → List Entry → Act → List Entry → List ℕ
+lines_by find sc before (Line number) rest = step_lines find sc before number (until_line rest)
+lines_by find sc before _ rest = []
+
+-- the steps whose lines are among the second entries, where the first stand before them
+abbrev pub steps_after : Scenario → List Entry → List Entry → List ℕ
+steps_after sc before [] = []
+steps_after sc before (e ∷ rest) =
+    lines_by (txn_of sc (before ++ e ∷ [])) sc (before ++ e ∷ []) e.act rest ++ steps_after sc (before ++ e ∷ []) rest

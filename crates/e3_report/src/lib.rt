@@ -1,0 +1,20 @@
+//! The report of a scenario and its history: the text that a run writes.
+#![tactic(auto)]
+
+mod counts;
+mod events;
+mod items;
+mod logs;
+mod names;
+mod orders;
+mod records;
+mod sites;
+mod skips;
+mod steps;
+mod takers;
+#[cfg(test)]
+mod tests;
+mod texts;
+mod whole;
+
+pub use whole::report;

@@ -1,0 +1,268 @@
+// The records of all logs, gathered in one walk over a history.
+ghost use Rattle.std.specs.Prelude.{◌≡◌, ◌++◌, ◌∷◌, [], OnOk, IfOk, Option};
+ghost use Rattle.e3_world.specs.Moves.{birth};
+ghost use Rattle.e3_report.specs.Walk.{no_walk, tail_in, placed_at, log_in, has_records, rise_in, kept_part, doubtful, and_records, and_tail, and_kept, and_rise, and_failed, walk_act, walk_of};
+
+use e3_readings::rows_at;
+use e3_types::{Act, Copied, Entry, List, NoMemory, Record, Scenario, Why};
+use std::alloc::Global;
+use std::marker::Model;
+
+/// A record, and the site whose log has it.
+#[derive(Drop)]
+pub(crate) struct SiteRecord {
+    site: u32,
+    entered: Record,
+}
+
+impl Model for SiteRecord {
+    ghost use Rattle.e3_world.specs.Moves.{Placed};
+
+    ghost Value = { Placed };
+
+    ghost view = { λ a. record { site = a.site; entered = a.entered } };
+}
+
+impl SiteRecord {
+    pub(crate) fn site(&self) -> u32
+        ensures { result ≡ self.now.site }
+    {
+        self.site
+    }
+
+    pub(crate) fn entered(&self) -> &Record
+        ensures { result.now ≡ self.now.entered }
+    {
+        &self.entered
+    }
+}
+
+/// The records that are in doubt at a site; none where all is certain.
+#[derive(Drop)]
+pub(crate) struct SiteTail {
+    site: u32,
+    records: List<Record>,
+}
+
+/// The records of all logs in the order of their places, and what is noted of records in doubt. The last note of a site
+/// counts.
+#[derive(Drop)]
+pub(crate) struct Walk {
+    pub(crate) placed: List<SiteRecord>,
+    tails: List<SiteTail>,
+}
+
+fn tail_in(tails: &[SiteTail], site: u32) -> &[Record]
+    ensures { result.now ≡ tail_in site tails.now }
+{
+    let mut found: &[Record] = &[];
+    for t in tails {
+        if t.site == site {
+            found = t.records.as_slice();
+        }
+    }
+    found
+}
+
+fn has_records(site: u32, placed: &[SiteRecord]) -> bool
+    ensures { result ≡ has_records site placed.now }
+{
+    placed.iter().any(|p| p.site() == site)
+}
+
+/// The first record of a site's log.
+fn birth(alloc: Global, scenario: &Scenario, site: u32) -> Result<Record, NoMemory>
+    ensures { IfOk result (λ r. r ≡ birth scenario.now site) }
+{
+    Ok(Record::Birth {
+        format: 1,
+        site,
+        weights: scenario.weights.copied(alloc)?,
+        rows: rows_at(alloc, site, scenario.rows.as_slice())?,
+    })
+}
+
+/// The records of a rise.
+fn rise_in(
+    alloc: Global,
+    scenario: &Scenario,
+    site: u32,
+    inc: u32,
+    placed: &[SiteRecord],
+) -> Result<List<Record>, NoMemory>
+    ensures { IfOk result (λ records. records ≡ rise_in scenario.now site inc placed.now) }
+{
+    let mut out = List::new(alloc);
+    if has_records(site, placed) {
+        out.push(Record::Inc { inc })?;
+        Ok(out)
+    } else {
+        out.push(birth(alloc, scenario, site)?)?;
+        out.push(Record::Inc { inc })?;
+        Ok(out)
+    }
+}
+
+fn add_records(
+    alloc: Global,
+    placed: &mut List<SiteRecord>,
+    site: u32,
+    records: &[Record],
+) -> Result<(), NoMemory>
+    ensures { OnOk result (placed.new ≡ placed.old ++ placed_at site records.now) }
+{
+    for r in records {
+        placed.push(SiteRecord {
+            site,
+            entered: r.copied(alloc)?,
+        })?;
+    }
+    Ok(())
+}
+
+/// What is in doubt behind a fall or a failed rise.
+fn doubtful(alloc: Global, why: Why, records: &[Record]) -> Result<List<Record>, NoMemory>
+    ensures { IfOk result (λ out. out ≡ doubtful why records.now) }
+{
+    let mut out = List::new(alloc);
+    match why {
+        Why::Fault => add_copies(alloc, &mut out, records)?,
+        Why::Full { .. } => {}
+    }
+    Ok(out)
+}
+
+fn add_copies(alloc: Global, out: &mut List<Record>, records: &[Record]) -> Result<(), NoMemory>
+    ensures { OnOk result (out.new ≡ out.old ++ records.now) }
+{
+    for r in records {
+        out.push(r.copied(alloc)?)?;
+    }
+    Ok(())
+}
+
+impl Walk {
+    fn new(alloc: Global) -> Walk
+        ensures { result ≡ no_walk }
+    {
+        Walk {
+            placed: List::new(alloc),
+            tails: List::new(alloc),
+        }
+    }
+
+    fn and_records(&mut self, alloc: Global, site: u32, records: &[Record]) -> Result<(), NoMemory>
+        ensures { OnOk result (self.new ≡ and_records site records.now self.old) }
+    {
+        add_records(alloc, &mut self.placed, site, records)
+    }
+
+    fn and_tail(&mut self, site: u32, records: List<Record>) -> Result<(), NoMemory>
+        ensures { OnOk result (self.new ≡ and_tail site records self.old) }
+    {
+        self.tails.push(SiteTail { site, records })
+    }
+
+    fn and_kept(&mut self, alloc: Global, site: u32, kept: bool) -> Result<(), NoMemory>
+        ensures { OnOk result (self.new ≡ and_kept site kept self.old) }
+    {
+        if kept {
+            add_records(
+                alloc,
+                &mut self.placed,
+                site,
+                tail_in(self.tails.as_slice(), site),
+            )
+        } else {
+            Ok(())
+        }
+    }
+
+    fn and_rise(
+        &mut self,
+        alloc: Global,
+        scenario: &Scenario,
+        site: u32,
+        inc: u32,
+    ) -> Result<(), NoMemory>
+        ensures { OnOk result (self.new ≡ and_rise scenario.now site inc self.old) }
+    {
+        let records = rise_in(alloc, scenario, site, inc, self.placed.as_slice())?;
+        self.and_records(alloc, site, records.as_slice())?;
+        self.and_tail(site, List::new(alloc))
+    }
+
+    fn and_failed(
+        &mut self,
+        alloc: Global,
+        scenario: &Scenario,
+        site: u32,
+        inc: u32,
+        why: Why,
+    ) -> Result<(), NoMemory>
+        ensures { OnOk result (self.new ≡ and_failed scenario.now site inc why self.old) }
+    {
+        let records = rise_in(alloc, scenario, site, inc, self.placed.as_slice())?;
+        self.and_tail(site, doubtful(alloc, why, records.as_slice())?)
+    }
+
+    /// One more act of a site.
+    fn act(
+        &mut self,
+        alloc: Global,
+        scenario: &Scenario,
+        site: u32,
+        act: &Act,
+    ) -> Result<(), NoMemory>
+        ensures { OnOk result (self.new ≡ walk_act scenario.now site self.old act.now) }
+    {
+        match act {
+            Act::Step { records, .. } => self.and_records(alloc, site, records.as_slice()),
+            Act::Fall { records, why, .. } => self.and_tail(
+                site,
+                doubtful(alloc, *why, records.as_slice())?,
+            ),
+            Act::Rise { kept, inc } => {
+                self.and_kept(alloc, site, *kept)?;
+                self.and_rise(alloc, scenario, site, *inc)
+            }
+            Act::RiseFall { kept, inc, why } => {
+                self.and_kept(alloc, site, *kept)?;
+                self.and_failed(alloc, scenario, site, *inc, *why)
+            }
+            _ => Ok(()),
+        }
+    }
+}
+
+/// Walks over a history.
+pub(crate) fn walk_of(
+    alloc: Global,
+    scenario: &Scenario,
+    history: &[Entry],
+) -> Result<Walk, NoMemory>
+    ensures { IfOk result (λ walk. walk ≡ walk_of scenario.now history.now) }
+{
+    let mut walk = Walk::new(alloc);
+    for e in history {
+        walk.act(alloc, scenario, e.owner, &e.act)?;
+    }
+    Ok(walk)
+}
+
+/// The log of a site among the records of all logs.
+pub(crate) fn log_in(
+    alloc: Global,
+    site: u64,
+    placed: &[SiteRecord],
+) -> Result<List<Record>, NoMemory>
+    ensures { IfOk result (λ log. log ≡ log_in site placed.now) }
+{
+    let mut out = List::new(alloc);
+    for p in placed {
+        if p.site() as u64 == site {
+            out.push(p.entered().copied(alloc)?)?;
+        }
+    }
+    Ok(out)
+}

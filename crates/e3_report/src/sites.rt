@@ -1,0 +1,73 @@
+// The part of a report that tells how each site stands.
+ghost use Rattle.std.specs.Prelude.{◌≡◌, ◌++◌, Option, OnOk, fold};
+ghost use Rattle.e3_world.specs.Moves.{own};
+ghost use Rattle.e3_report.specs.Report.{inc_by, present_inc, site_heading, log_lines};
+
+use crate::records::{push_records, push_rows};
+use crate::texts::{push_labelled, push_line_end, push_number, push_text};
+use e3_readings::table_of;
+use e3_types::{Act, Entry, List, NoMemory, Record};
+use std::alloc::Global;
+
+fn inc_by(was: Option<u32>, act: &Act) -> Option<u32>
+    ensures { result ≡ inc_by was act.now }
+{
+    match act {
+        Act::Rise { inc, .. } => Some(*inc),
+        Act::RiseFall { .. } => None,
+        Act::Miss => None,
+        Act::Cut => None,
+        Act::Fall { .. } => None,
+        _ => was,
+    }
+}
+
+/// The incarnation in which a site is up behind these entries, none where it is down.
+pub(crate) fn present_inc(site: u64, entries: &[Entry]) -> Option<u32>
+    ensures { result ≡ present_inc (own site entries.now) }
+{
+    let mut inc = None;
+    for e in entries {
+        if e.owner as u64 == site {
+            inc = inc_by(inc, &e.act);
+        }
+    }
+    inc
+}
+
+/// Adds `site S up I` or `site S down`.
+#[tactic(auto, unfolding(crate::specs::Report::site_heading))]
+pub(crate) fn push_site_heading(
+    out: &mut List<u8>,
+    site: u64,
+    inc: Option<u32>,
+) -> Result<(), NoMemory>
+    ensures { OnOk result (out.new ≡ out.old ++ site_heading site inc) }
+{
+    match inc {
+        Some(inc) => {
+            push_labelled(out, "site ", site)?;
+            push_labelled(out, " up ", inc as u64)?;
+            push_line_end(out)
+        }
+        None => {
+            push_labelled(out, "site ", site)?;
+            push_text(out, " down")?;
+            push_line_end(out)
+        }
+    }
+}
+
+/// Adds a log and its table.
+#[tactic(auto, unfolding(crate::specs::Report::log_lines))]
+pub(crate) fn push_log(alloc: Global, out: &mut List<u8>, log: &[Record]) -> Result<(), NoMemory>
+    ensures { OnOk result (out.new ≡ out.old ++ log_lines log.now) }
+{
+    let table = table_of(alloc, log)?;
+    push_text(out, "log")?;
+    push_line_end(out)?;
+    push_records(out, log)?;
+    push_text(out, "rows")?;
+    push_line_end(out)?;
+    push_rows(out, table.as_slice())
+}

@@ -1,0 +1,164 @@
+// The lines of a step's items that are skipped.
+ghost use Rattle.std.specs.Prelude.{◌≡◌, ◌++◌, ◌==◌, ◌+◌, [], OnOk, IfOk, count_by, not};
+ghost use Rattle.e3_world.specs.Items.{inputs_of, is_delivery};
+ghost use Rattle.e3_world.specs.Moves.{own, is_up};
+ghost use Rattle.e3_report.specs.Skips.{named, taker_of, items_in, items_taken, not_begun_line, input_skip, power_skip, sites_of, skip_lines};
+
+use crate::counts::one_more;
+use crate::events::push_plain;
+use crate::names::count_of;
+use crate::sites::present_inc;
+use crate::takers::{Taker, taker_of};
+use crate::texts::{push_line_end, push_text};
+use e3_types::{Act, Entry, Input, Item, List, NoMemory};
+use e3_world::Bound;
+use std::alloc::Global;
+
+fn is_delivery(input: &Input) -> bool
+    ensures { result ≡ is_delivery input.now }
+{
+    match input {
+        Input::Deliver { .. } => true,
+        _ => false,
+    }
+}
+
+/// As many more as there are inputs that are no deliveries.
+fn count_inputs(inputs: &[Input], before: u64) -> Result<u64, NoMemory>
+    ensures { IfOk result (λ n. n ≡ before + count_by (λ i. not (is_delivery i)) inputs.now) }
+{
+    let mut n = before;
+    for input in inputs {
+        if !is_delivery(input) {
+            n = one_more(n)?;
+        }
+    }
+    Ok(n)
+}
+
+/// As many more as an act has inputs that are no deliveries.
+fn count_items(act: &Act, before: u64) -> Result<u64, NoMemory>
+    ensures { IfOk result (λ n. n ≡ before + items_in act.now) }
+{
+    match act {
+        Act::Step { input, .. } => {
+            if is_delivery(input) {
+                Ok(before)
+            } else {
+                one_more(before)
+            }
+        }
+        Act::Fall { inputs, .. } => count_inputs(inputs.as_slice(), before),
+        _ => Ok(before),
+    }
+}
+
+/// How many items a site took among these entries.
+fn items_taken(site: u32, during: &[Entry]) -> Result<u64, NoMemory>
+    ensures { IfOk result (λ n. n ≡ items_taken site during.now) }
+{
+    let mut n = 0;
+    for e in during {
+        if e.owner == site {
+            n = count_items(&e.act, n)?;
+        }
+    }
+    Ok(n)
+}
+
+#[tactic(auto, unfolding(crate::specs::Skips::not_begun_line))]
+fn push_not_begun(out: &mut List<u8>, name: &[u8]) -> Result<(), NoMemory>
+    ensures { OnOk result (out.new ≡ out.old ++ not_begun_line name.now) }
+{
+    push_text(out, "0: ")?;
+    out.extend(name)?;
+    push_text(out, " not begun")?;
+    push_line_end(out)
+}
+
+/// Adds a line where an input is skipped.
+#[tactic(auto, unfolding(crate::specs::Skips::input_skip))]
+fn push_input_skip(
+    out: &mut List<u8>,
+    during: &[Entry],
+    earlier: &[u32],
+    taker: &Taker,
+) -> Result<(), NoMemory>
+    ensures { OnOk result (out.new ≡ out.old ++ input_skip during.now earlier.now taker.now) }
+{
+    match taker {
+        Taker::Site(site) => {
+            let had = count_of(earlier, *site)?;
+            let took = items_taken(*site, during)?;
+            if had < took {
+                Ok(())
+            } else {
+                push_plain(out, *site, "down")
+            }
+        }
+        Taker::NotBegun(name) => push_not_begun(out, name.bytes()),
+        Taker::Nobody => Ok(()),
+    }
+}
+
+#[tactic(auto, using(crate::proofs::Ups::up_has_inc))]
+fn is_up(site: u32, before: &[Entry]) -> bool
+    ensures { result ≡ is_up (own site before.now) }
+{
+    present_inc(site as u64, before).is_some()
+}
+
+/// Adds a line where a crash or a restart is skipped.
+#[tactic(auto, unfolding(crate::specs::Skips::power_skip))]
+fn push_power_skip(out: &mut List<u8>, before: &[Entry], item: &Item) -> Result<(), NoMemory>
+    ensures { OnOk result (out.new ≡ out.old ++ power_skip before.now item.now) }
+{
+    match item {
+        Item::Crash { site } => {
+            if is_up(*site, before) {
+                Ok(())
+            } else {
+                push_plain(out, *site, "down")
+            }
+        }
+        Item::Restart { site } => {
+            if is_up(*site, before) {
+                push_plain(out, *site, "up")
+            } else {
+                Ok(())
+            }
+        }
+        _ => Ok(()),
+    }
+}
+
+fn add_site(earlier: &mut List<u32>, taker: &Taker) -> Result<(), NoMemory>
+    ensures { OnOk result (earlier.new ≡ earlier.old ++ sites_of taker.now) }
+{
+    match taker {
+        Taker::Site(site) => earlier.push(*site),
+        Taker::NotBegun(_) => Ok(()),
+        Taker::Nobody => Ok(()),
+    }
+}
+
+/// Adds a line for each item that is skipped, where these names are bound.
+pub(crate) fn push_skips(
+    alloc: Global,
+    out: &mut List<u8>,
+    bound: &[Bound],
+    before: &[Entry],
+    during: &[Entry],
+    items: &[Item],
+) -> Result<(), NoMemory>
+    ensures { OnOk result (out.new ≡ out.old ++ skip_lines (named bound.now) before.now during.now [] items.now) }
+{
+    let mut earlier = List::new(alloc);
+    for item in items {
+        let taker = taker_of(bound, item);
+        push_power_skip(out, before, item)?;
+        push_input_skip(out, during, earlier.as_slice(), &taker)?;
+        add_site(&mut earlier, &taker)?;
+    }
+    Ok(())
+}

@@ -1,0 +1,155 @@
+// The part of a report that tells of the start and of the steps.
+ghost use Rattle.std.specs.Prelude.{◌≡◌, ◌++◌, [], ◌∷◌, OnOk};
+ghost use Rattle.std.specs.List.{flat_map};
+ghost use Rattle.e3_world.specs.Packets.{is_line};
+ghost use Rattle.e3_report.specs.Skips.{named};
+ghost use Rattle.e3_report.specs.Steps.{until_line, site_events, event_lines, start_lines, step_heading, step_lines, lines_by, steps_after};
+
+use crate::events::push_entry;
+use crate::items::push_items;
+use crate::names::{enter, no_binding, step_items};
+use crate::skips::push_skips;
+use crate::texts::{push_labelled, push_line_end, push_text};
+use e3_types::{Act, Entry, List, NoMemory, Scenario};
+use e3_world::Bound;
+use std::alloc::Global;
+
+fn is_line(entry: &Entry) -> bool
+    ensures { result ≡ is_line entry.now }
+{
+    match entry.act {
+        Act::Line { .. } => true,
+        _ => false,
+    }
+}
+
+/// The entries up to the next line.
+fn until_line(entries: &[Entry]) -> &[Entry]
+    ensures { result.now ≡ until_line entries.now }
+{
+    for at in 0..entries.len() {
+        if is_line(&entries[at]) {
+            return &entries[..at];
+        }
+    }
+    entries
+}
+
+/// Adds the events of one site.
+fn push_site_events(out: &mut List<u8>, site: u64, entries: &[Entry]) -> Result<(), NoMemory>
+    ensures { OnOk result (out.new ≡ out.old ++ site_events entries.now site) }
+{
+    for e in entries {
+        if e.owner as u64 == site {
+            push_entry(out, e)?;
+        }
+    }
+    Ok(())
+}
+
+/// Adds the events of all sites, site by site.
+#[tactic(auto, unfolding(crate::specs::Steps::event_lines), using(crate::proofs::Ranges::one_site_more))]
+fn push_events(out: &mut List<u8>, scenario: &Scenario, entries: &[Entry]) -> Result<(), NoMemory>
+    ensures { OnOk result (out.new ≡ out.old ++ event_lines scenario.now entries.now) }
+{
+    let sites = scenario.weights.len();
+    for before in 0..sites {
+        push_site_events(out, before + 1, entries)?;
+    }
+    Ok(())
+}
+
+/// Adds the start and what happens before the first step.
+#[tactic(auto, unfolding(crate::specs::Steps::start_lines))]
+pub(crate) fn push_start(
+    out: &mut List<u8>,
+    scenario: &Scenario,
+    history: &[Entry],
+) -> Result<(), NoMemory>
+    ensures { OnOk result (out.new ≡ out.old ++ start_lines scenario.now history.now) }
+{
+    push_text(out, "start")?;
+    push_line_end(out)?;
+    push_events(out, scenario, until_line(history))
+}
+
+#[tactic(auto, unfolding(crate::specs::Steps::step_heading))]
+fn push_step_heading(out: &mut List<u8>, number: u32) -> Result<(), NoMemory>
+    ensures { OnOk result (out.new ≡ out.old ++ step_heading number) }
+{
+    push_labelled(out, "step ", number as u64)?;
+    push_line_end(out)
+}
+
+/// Adds a step, where these names are bound.
+#[tactic(auto, unfolding(crate::specs::Steps::step_lines))]
+fn push_step(
+    alloc: Global,
+    out: &mut List<u8>,
+    scenario: &Scenario,
+    bound: &[Bound],
+    before: &[Entry],
+    number: u32,
+    during: &[Entry],
+) -> Result<(), NoMemory>
+    ensures { OnOk result (out.new ≡ out.old ++ step_lines (named bound.now) scenario.now before.now number during.now) }
+{
+    let items = step_items(scenario, number);
+    push_step_heading(out, number)?;
+    push_items(out, items)?;
+    push_skips(alloc, out, bound, before, during, items)?;
+    push_events(out, scenario, during)
+}
+
+/// Adds the step that an entry begins, if it is a line.
+fn push_by_line(
+    alloc: Global,
+    out: &mut List<u8>,
+    scenario: &Scenario,
+    bound: &[Bound],
+    before: &[Entry],
+    act: &Act,
+    rest: &[Entry],
+) -> Result<(), NoMemory>
+    ensures { OnOk result (out.new ≡ out.old ++ lines_by (named bound.now) scenario.now before.now act.now rest.now) }
+{
+    match act {
+        Act::Line { number } => push_step(
+            alloc,
+            out,
+            scenario,
+            bound,
+            before,
+            *number,
+            until_line(rest),
+        ),
+        _ => Ok(()),
+    }
+}
+
+/// Adds all steps.
+pub(crate) fn push_steps(
+    alloc: Global,
+    out: &mut List<u8>,
+    scenario: &Scenario,
+    history: &[Entry],
+) -> Result<(), NoMemory>
+    ensures { OnOk result (out.new ≡ out.old ++ steps_after scenario.now [] history.now) }
+{
+    let mut binding = no_binding(alloc);
+    for at in 0..history.len() {
+        let entry = &history[at];
+        enter(alloc, scenario, &mut binding, entry)?;
+        let bound = binding.bound.as_slice();
+        push_by_line(
+            alloc,
+            out,
+            scenario,
+            bound,
+            &history[..at + 1],
+            &entry.act,
+            &history[at + 1..],
+        )?;
+    }
+    Ok(())
+}

@@ -1,0 +1,66 @@
+// The whole report.
+ghost use Rattle.std.specs.Prelude.{◌≡◌, ◌++◌, IfOk, OnOk};
+ghost use Rattle.std.specs.List.{flat_map};
+ghost use Rattle.e3_world.specs.Packets.{all_sites};
+ghost use Rattle.e3_report.specs.Report.{report_of};
+ghost use Rattle.e3_report.specs.Walk.{site_by};
+
+use crate::logs::{SiteRecord, log_in, walk_of};
+use crate::orders::push_order;
+use crate::sites::{present_inc, push_log, push_site_heading};
+use crate::steps::{push_start, push_steps};
+use crate::texts::{push_line_end, push_text};
+use e3_types::{Entry, List, NoMemory, Scenario};
+use std::alloc::Global;
+
+/// Adds how a site stands.
+#[tactic(auto, unfolding(crate::specs::Walk::site_by))]
+fn push_site(
+    alloc: Global,
+    out: &mut List<u8>,
+    history: &[Entry],
+    placed: &[SiteRecord],
+    site: u64,
+) -> Result<(), NoMemory>
+    ensures { OnOk result (out.new ≡ out.old ++ site_by history.now placed.now site) }
+{
+    let log = log_in(alloc, site, placed)?;
+    push_site_heading(out, site, present_inc(site, history))?;
+    push_log(alloc, out, log.as_slice())
+}
+
+/// Adds how each site stands, in ascending order.
+#[tactic(auto, using(crate::proofs::Ranges::one_site_more))]
+fn push_all_sites(
+    alloc: Global,
+    out: &mut List<u8>,
+    scenario: &Scenario,
+    history: &[Entry],
+    placed: &[SiteRecord],
+) -> Result<(), NoMemory>
+    ensures { OnOk result (out.new ≡ out.old ++ flat_map (site_by history.now placed.now) (all_sites scenario.now)) }
+{
+    let sites = scenario.weights.len();
+    for before in 0..sites {
+        push_site(alloc, out, history, placed, before + 1)?;
+    }
+    Ok(())
+}
+
+/// The report of a scenario and its history: the start and the first rises; each step with its items and what happened
+/// in it; the committed transactions; and for each site whether it is up, its log and its rows. Each line ends with a
+/// line feed. Want of memory is the only error.
+pub fn report(alloc: Global, scenario: &Scenario, history: &[Entry]) -> Result<List<u8>, NoMemory>
+    ensures { IfOk result (λ text. text ≡ report_of scenario.now history.now) }
+{
+    let walk = walk_of(alloc, scenario, history)?;
+    let placed = walk.placed.as_slice();
+    let mut out = List::new(alloc);
+    push_start(&mut out, scenario, history)?;
+    push_steps(alloc, &mut out, scenario, history)?;
+    push_order(&mut out, placed)?;
+    push_all_sites(alloc, &mut out, scenario, history, placed)?;
+    push_text(&mut out, "end")?;
+    push_line_end(&mut out)?;
+    Ok(out)
+}
