@@ -1,0 +1,62 @@
+-- One write path is a scenario of one site, so its legal histories are safe.
+use Rattle.std.proofs.Common.{◌≡◌, ◌==◌, ◌≤◌, ◌<◌, ℕ, suc, Bool, true, false, List, [], ◌∷◌, length, Option, Some, None, refl, ap, sym, subst, arith, eq-eqb, leb-true, inr, String, Global, ◌⊎◌, ◌∙◌}
+use Rattle.std.specs.Prelude.{nat_le, option_and_then, if◌then◌else◌}
+use Rattle.std.specs.List.{list_all}
+use Rattle.e3_agree.specs.Lone.{IsLone, is_lone_item}
+use Rattle.e3_agree.proofs.LoneLaws.{lone_agrees, lone_told, lone_voted}
+use Rattle.e3_scenario.specs.Documents.{document}
+use Rattle.e3_scenario.specs.Paths.{IsOneWritePath, IsOpen, IsPath}
+use Rattle.e3_scenario.specs.Scenarios.{scenario_in, scenario_of}
+use Rattle.e3_report.specs.Report.{report_of}
+use Rattle.e3_top.specs.Due.{IsDue, IsSafeRun}
+use Rattle.e3_top.specs.Ends.{IsHistoryOf}
+use Rattle.e3_top.specs.Words.{IsRun}
+use Rattle.e3_types.specs.declared.entries.Entry.{Entry}
+use Rattle.e3_types.specs.declared.scenarios.Item.{Item}
+use Rattle.e3_types.specs.declared.scenarios.Item.TheVariants.{Begin, Write, Commit}
+use Rattle.e3_types.specs.declared.scenarios.Scenario.{Scenario}
+use Rattle.e3_world.specs.Legal.{IsLegal, IsWhole}
+
+lone_open : (name : List ℕ) (steps : List (List Item)) → IsOpen name steps → list_all (list_all is_lone_item) steps ≡ true
+lone_open name [] form = refl
+lone_open name ((Write writer key val ∷ []) ∷ steps) form = rw (eq-eqb key.site 1 form.1) (lone_open name steps form.2)
+lone_open name ((Commit committed ∷ []) ∷ steps) form = rw form.1 refl
+lone_open name _ form = absurd form
+
+lone_path : (steps : List (List Item)) → IsPath steps → list_all (list_all is_lone_item) steps ≡ true
+lone_path [] form = refl
+lone_path ((Begin name site sites ∷ []) ∷ steps) form = rw (form.0, form.1) (lone_open name steps form.2)
+lone_path _ form = absurd form
+
+pub lone : (sc : Scenario) → IsOneWritePath sc → IsLone sc
+lone sc form = record { one_site = ap length form.weight.1; items = lone_path sc.steps form.steps }
+
+pub safe_run : (sc : Scenario) (h : List Entry) → IsOneWritePath sc → IsLegal sc h → IsSafeRun sc h
+safe_run sc h form legal = record {
+  legal = legal;
+  agree = lone_agrees sc h (lone sc form) legal;
+  voted = lone_voted sc h (lone sc form) legal;
+  told = lone_told sc h (lone sc form) legal;
+}
+
+-- a legal history of the scenario that the bytes spell
+pub of_scenario : (bytes : List ℕ) (sc : Scenario) (h : List Entry) → IsOneWritePath sc → scenario_of bytes ≡ Some sc → IsLegal sc h →
+    (h ≡ []) ⊎ IsHistoryOf bytes h
+of_scenario bytes sc h form spelled legal = inr (record { scenario = sc; spelled = spelled; safe = safe_run sc h form legal })
+
+-- the report of a history that went through it is due
+pub done_run : (words : List (String Global)) (bytes : List ℕ) (sc : Scenario) (h : List Entry) (text : List ℕ) → IsRun words →
+    IsOneWritePath sc → scenario_of bytes ≡ Some sc → IsWhole sc h → text ≡ report_of sc h → IsDue words bytes 0 h text
+done_run words bytes sc h text run form spelled whole reported = record {
+  known = omega arith;
+  done = λ e. record {
+    run = run;
+    scenario = sc;
+    spelled = spelled;
+    whole = whole;
+    safe = safe_run sc h form whole.legal;
+    reported = reported;
+  };
+  words_refused = λ e. absurd (omega (arith, e));
+  scenario_refused = λ e. absurd (omega (arith, e));
+}

@@ -1,0 +1,66 @@
+-- How a run ends: what it took from its source, what it wrote to its sink, and what its history is.
+use Rattle.std.specs.Prelude.{◌≡◌, ◌≢◌, ◌≤◌, ◌<◌, ◌⊎◌, ℕ, List, [], take, length, Option, Some, String}
+use Rattle.std.specs.Io.KnownBytes.{Appends, Consumes, IsAtEnd}
+use Rattle.std.specs.declared.alloc.Global.{Global}
+use Rattle.e3_outside.specs.Faults.{Rose}
+use Rattle.e3_scenario.specs.Scenarios.{scenario_of}
+use Rattle.e3_top.specs.Due.{IsDue, IsSafeRun}
+use Rattle.e3_top.specs.Words.{IsRun}
+use Rattle.e3_types.specs.declared.entries.Entry.{Entry}
+use Rattle.e3_types.specs.declared.scenarios.Scenario.{Scenario}
+
+-- These bytes were taken from the source, which had `had` left and has `left` left now: 4,194,305 bytes at most, and
+-- fewer only at its end. For other words than `run` none are taken.
+pub record IsRead (words : List (String Global)) (had left : Option (List ℕ)) (bytes : List ℕ) : Type 0 where
+  pub taken : Consumes had left bytes
+  pub few : length bytes ≤ 4194305
+  pub to_end : IsRun words → length bytes < 4194305 → IsAtEnd left
+
+-- The run ended with status 0, 1 or 2: all of the text that is due was written, and nothing else.
+pub record Finishes (words : List (String Global)) (had left written_before written_now : Option (List ℕ)) (status : ℕ) (history : List Entry) : Type 0 where
+  pub bytes : List ℕ
+  pub read : IsRead words had left bytes
+  pub text : List ℕ
+  pub due : IsDue words bytes status history text
+  pub written : Appends written_before written_now text
+
+-- The sink failed in this call: a front of the text of 0, 1 or 2 was written.
+pub record SinkFails (words : List (String Global)) (had left written_before written_now : Option (List ℕ)) (faults_before faults_now : ℕ) (history : List Entry) : Type 0 where
+  pub counted : Rose faults_before faults_now
+  pub bytes : List ℕ
+  pub read : IsRead words had left bytes
+  pub text : List ℕ
+  pub status : ℕ
+  pub due : IsDue words bytes status history text
+  pub count : ℕ
+  pub short : count < length text
+  pub written : Appends written_before written_now (take count text)
+
+-- The source failed in this call. What was taken before is less than the most that a run takes.
+pub record SourceFails (words : List (String Global)) (had left : Option (List ℕ)) (faults_before faults_now : ℕ) (history : List Entry) : Type 0 where
+  pub run : IsRun words
+  pub counted : Rose faults_before faults_now
+  pub bytes : List ℕ
+  pub taken : Consumes had left bytes
+  pub few : length bytes < 4194305
+  pub empty : history ≡ []
+
+-- the history is one of the scenario that these bytes spell
+pub record IsHistoryOf (bytes : List ℕ) (history : List Entry) : Type 0 where
+  pub scenario : Scenario
+  pub spelled : scenario_of bytes ≡ Some scenario
+  pub safe : IsSafeRun scenario history
+
+-- Memory ran out. Nothing had happened yet, or all was read, and as far as it goes the history is one of the scenario
+-- that the bytes read spell.
+pub record IsCutShort (words : List (String Global)) (had left : Option (List ℕ)) (history : List Entry) : Type 0 where
+  pub bytes : List ℕ
+  pub taken : Consumes had left bytes
+  pub few : length bytes ≤ 4194305
+  pub happened : (history ≡ []) ⊎ (IsRead words had left bytes × IsHistoryOf bytes history)
+
+-- All is read and made, and this text is due with this status.
+pub record IsPrepared (words : List (String Global)) (had left : Option (List ℕ)) (status : ℕ) (history : List Entry) (text : List ℕ) : Type 0 where
+  pub bytes : List ℕ
+  pub read : IsRead words had left bytes
+  pub due : IsDue words bytes status history text

@@ -1,0 +1,107 @@
+// All of a run but the writing of its text.
+ghost use Rattle.std.specs.Prelude.{◌≡◌, ◌≢◌, ◌≤◌, ◌⊎◌, [], IfOk};
+ghost use Rattle.e3_top.specs.Due.{IsDue};
+ghost use Rattle.e3_top.specs.Ends.{IsCutShort, IsHistoryOf, IsPrepared, SourceFails};
+ghost use Rattle.e3_top.specs.Words.{IsRun};
+
+use crate::words::{is_run, refused_words};
+use e3_drive::play;
+use e3_outside::{ReadFault, Source, read_up_to};
+use e3_report::report;
+use e3_scenario::{ScenarioFault, read_scenario, refused_line};
+use e3_types::{List, NoMemory};
+use e3_world::History;
+use std::alloc::Global;
+
+/// One byte more than a scenario has at most.
+const MOST: u64 = 4_194_305;
+
+/// A text that is due, and the status that the run ends with when it is written.
+#[derive(Drop)]
+pub struct Prepared {
+    pub status: u8,
+    pub text: List<u8>,
+}
+
+/// Why a run has no text.
+#[derive(Clone, Copy, Debug, PartialEq, Eq)]
+pub enum Stop {
+    SourceFailed,
+    NoMemory,
+}
+
+impl From<NoMemory> for Stop {
+    ghost use Rattle.e3_top.specs.declared.preparing.Stop.TheVariants as stop;
+
+    ghost from_gives = { λ _ s. s ≡ stop.NoMemory };
+
+    fn from(_cause: NoMemory) -> Stop {
+        Stop::NoMemory
+    }
+}
+
+// The run over the bytes that were read.
+fn prepare_bytes(
+    alloc: Global,
+    words: &[String],
+    bytes: &[u8],
+    history: &mut History,
+) -> Result<Prepared, NoMemory>
+    requires run { IsRun words.now }
+    requires empty { history.old.entries ≡ [] }
+    ensures due { IfOk result (λ p. IsDue words.now bytes.now p.status history.new.entries p.text) }
+    ensures not_words { IfOk result (λ p. p.status ≢ 1) }
+    ensures cut_short { (history.new.entries ≡ []) ⊎ IsHistoryOf bytes.now history.new.entries }
+{
+    match read_scenario(alloc, bytes) {
+        Err(ScenarioFault::NotBuilt) => Ok(Prepared {
+            status: 2,
+            text: refused_line(alloc)?,
+        }),
+        Err(ScenarioFault::NoMemory) => Err(NoMemory),
+        Ok(scenario) => {
+            play(alloc, &scenario, history)?;
+            Ok(Prepared {
+                status: 0,
+                text: report(alloc, &scenario, history.as_slice())?,
+            })
+        }
+    }
+}
+
+// The text of a run that is refused its words.
+fn prepare_refusal(alloc: Global, words: &[String]) -> Result<Prepared, NoMemory>
+    requires { ¬ IsRun words.now }
+    ensures { IfOk result (λ p. IsDue words.now [] p.status [] p.text) }
+{
+    Ok(Prepared {
+        status: 1,
+        text: refused_words(alloc)?,
+    })
+}
+
+/// Reads the source and plays the scenario. The history is empty at first.
+pub fn prepare<S: Source>(
+    alloc: Global,
+    words: &[String],
+    source: &mut S,
+    history: &mut History,
+) -> Result<Prepared, Stop>
+    requires { history.old.entries ≡ [] }
+    ensures prepared { IfOk result (λ p. IsPrepared words.now (S.left source.old) (S.left source.new) p.status history.new.entries p.text) }
+    ensures source_failed { result ≡ Err Stop.SourceFailed →
+        SourceFails words.now (S.left source.old) (S.left source.new) (S.faults source.old) (S.faults source.new) history.new.entries }
+    ensures no_memory { result ≡ Err Stop.NoMemory →
+        IsCutShort words.now (S.left source.old) (S.left source.new) history.new.entries }
+    ensures unread { ¬ IsRun words.now → source.new ≡ source.old }
+    ensures never_falls { S.faults source.old ≤ S.faults source.new }
+{
+    if !is_run(words) {
+        return Ok(prepare_refusal(alloc, words)?);
+    }
+    match read_up_to(alloc, source, MOST) {
+        Err(ReadFault::Failed) => Err(Stop::SourceFailed),
+        Err(ReadFault::NoMemory) => Err(Stop::NoMemory),
+        Ok(bytes) => Ok(prepare_bytes(alloc, words, bytes.as_slice(), history)?),
+    }
+}
