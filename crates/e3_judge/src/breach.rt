@@ -1,0 +1,29 @@
+// Where a history breaks the rules, and which rule it breaks.
+
+/// A guard of an entry. `Owner`: the driver enters lines, parts and drops, a site of the scenario all else. `Up`: the site
+/// is up for a step, a fall and a cut, and down for a rise. `Line`, `Parts`, `Drop`: such an entry is due. `Input`: the
+/// inputs of a step or a fall are due at the site. `Step`: a cut or a rise is what the present step asks for. `Tail`: a
+/// tail that is kept is open. `Inc`: the incarnation of a rise is the next. `Records`, `Outs`, `Told`: these are what the
+/// inputs make.
+#[derive(Clone, Copy, PartialEq, Eq)]
+pub enum Guard {
+    Owner,
+    Up,
+    Line,
+    Parts,
+    Drop,
+    Input,
+    Step,
+    Tail,
+    Inc,
+    Records,
+    Outs,
+    Told,
+}
+
+/// The first entry of a history whose guard fails, counted from 0, and the first of its guards that does.
+#[derive(Clone, Copy)]
+pub struct Breach {
+    pub at: u64,
+    pub guard: Guard,
+}
