@@ -1,0 +1,5 @@
+mod Keeping
+mod Handling
+mod Ending
+mod Inputs
+mod Histories
