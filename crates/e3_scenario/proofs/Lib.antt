@@ -1,4 +1,7 @@
 pub mod Forms
-pub mod Steps
-pub mod OnePath
 pub mod Pieces
+pub mod Appends
+pub mod Values
+pub mod OnePath
+pub mod GivenLaws
+pub mod Results

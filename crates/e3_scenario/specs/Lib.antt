@@ -2,5 +2,7 @@ pub mod Words
 pub mod Parts
 pub mod Items
 pub mod Documents
+pub mod Faults
+pub mod Steps
 pub mod Paths
 pub mod Scenarios

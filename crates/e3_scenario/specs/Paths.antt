@@ -41,9 +41,9 @@ is_end name [] = true
 is_end name (step ∷ []) = option_map_or (is_commit name) (only_item step) false
 is_end name _ = false
 
--- up to 64 writes of this transaction, and behind them its commit or nothing
+-- writes of this transaction, and behind them its commit or nothing
 abbrev pub is_open : List ℕ → List (List Item) → Bool
-is_open name steps = nat_le (write_count name steps) 64 && is_end name (drop (write_count name steps) steps)
+is_open name steps = is_end name (drop (write_count name steps) steps)
 
 -- no step, or the begin of a transaction, its writes, and its commit or nothing
 abbrev pub is_path : List (List Item) → Bool
@@ -72,3 +72,14 @@ pub record IsOneWritePath (sc : Scenario) : Type 0 where
   pub no_luck : sc.luck ≡ 0
   pub steps : IsPath sc.steps
   pub few : length sc.steps ≤ 66
+
+-- one weight from 1 to 1,000
+abbrev pub is_one_weight : List ℕ → Bool
+is_one_weight (w ∷ []) = nat_le 1 w && nat_le w 1000
+is_one_weight _ = false
+
+-- the test of this form
+abbrev pub is_one_write_path : Scenario → Bool
+is_one_write_path sc =
+    is_one_weight sc.weights && length sc.rows == 0 && sc.loss == 0 && sc.repeat == 0 && sc.luck == 0
+    && is_path sc.steps && nat_le (length sc.steps) 66

@@ -1,21 +1,50 @@
 // The document of a scenario, and the values at its keys.
-ghost use Rattle.std.specs.Prelude.{◌≡◌, ◌≤◌, Some, None, IfOk, IfSome, option_map, option_and_then};
-ghost use Rattle.toml.specs.Data.{as_str, get_member};
-ghost use Rattle.toml.specs.View.{view, items_view, table_view};
-ghost use Rattle.e3_scenario.specs.Items.{item_of};
-ghost use Rattle.e3_scenario.specs.Documents.{key_count, weight_of, step_of, steps_in, steps_of};
+ghost use Rattle.std.specs.Prelude.{◌≡◌, ◌≤◌, [], Bool, IfOk, IfSome, IsTrue, length, map, option_map, option_and_then, string_bytes};
+ghost use Rattle.std.specs.BTreeMap.{keys};
+ghost use Rattle.std.specs.List.{list_all};
+ghost use Rattle.toml.specs.Data.{as_integer, get_member};
+ghost use Rattle.toml.specs.View.{view, table_view};
+ghost use Rattle.e3_scenario.specs.Documents.{is_known, keys_known, values_of, is_integer, is_text, is_texts, is_step, is_kind, has_kind, kind_fault, number_within, weight_of, more_weights, weights_of, row_of, row_in, more_rows, share_at, luck_at, values_or_none, values_at, step_size, sizes_fit, steps_fit};
 
-use crate::faults::ScenarioFault;
-use crate::items::item;
-use e3_types::{Item, List, NoMemory};
+use crate::faults::Field;
+use crate::parts::{key, value};
+use crate::words::{SPACE, after, before, is_all_printable};
+use e3_types::{KeyRow, List, NoMemory, SiteSet};
 use std::alloc::Global;
 use toml::{Table, Value};
 
-/// The number of keys of a document.
-pub fn key_count(table: &Table) -> usize
-    ensures { result ≡ key_count (table_view table.now) }
+/// The kind of the value at a key.
+#[derive(Clone, Copy)]
+pub enum Kind {
+    Integer,
+    Integers,
+    Texts,
+    Steps,
+}
+
+#[tactic(auto, unfolding(crate::specs::Documents::is_known))]
+fn is_known(key: &str) -> bool
+    ensures { result ≡ is_known key.now }
 {
-    table.len()
+    key == "weights"
+        || key == "rows"
+        || key == "loss"
+        || key == "repeat"
+        || key == "luck"
+        || key == "steps"
+}
+
+fn all_known(table: &Table) -> bool
+    ensures { result ≡ list_all (λ key. is_known (string_bytes key)) (keys table.now) }
+{
+    table.keys().all(|key| is_known(key.as_str()))
+}
+
+/// Each key is one of the six.
+pub fn keys_known(table: &Table) -> bool
+    ensures { result ≡ keys_known (table_view table.now) }
+{
+    all_known(table)
 }
 
 /// The value at a key.
@@ -25,16 +54,131 @@ pub fn value_at<'a>(table: &'a Table, key: &str) -> Option<&'a Value>
     table.get(key)
 }
 
-/// The weight in an array of one weight.
-pub fn weight(value: &Value) -> Option<u32>
-    ensures value { result ≡ weight_of (view value.now) }
-    ensures low { IfSome result (λ weight. 1 ≤ weight) }
-    ensures high { IfSome result (λ weight. weight ≤ 1000) }
+/// The values of an array.
+#[tactic(auto, using(crate::proofs::Values::values_in_view))]
+pub fn values(value: &Value) -> Option<&[Value]>
+    ensures { option_map (λ vs. map view vs.now) result ≡ values_of (view value.now) }
 {
-    if value.get(1usize).is_some() {
-        return None;
+    match value.as_array() {
+        None => None,
+        Some(values) => Some(values.as_slice()),
     }
-    let number = value.get(0usize)?.as_integer()?;
+}
+
+fn is_integer(value: &Value) -> bool
+    ensures { result ≡ is_integer (view value.now) }
+{
+    value.as_integer().is_some()
+}
+
+fn is_text(value: &Value) -> bool
+    ensures { result ≡ is_text (view value.now) }
+{
+    value.as_str().is_some()
+}
+
+#[tactic(auto, using(crate::proofs::Values::next_value))]
+fn are_integers(values: &[Value]) -> bool
+    ensures { result ≡ list_all is_integer (map view values.now) }
+{
+    for value in values {
+        if !is_integer(value) {
+            return false;
+        }
+    }
+    true
+}
+
+#[tactic(auto, using(crate::proofs::Values::next_value))]
+fn are_texts(values: &[Value]) -> bool
+    ensures { result ≡ list_all is_text (map view values.now) }
+{
+    for value in values {
+        if !is_text(value) {
+            return false;
+        }
+    }
+    true
+}
+
+fn is_texts(value: &Value) -> bool
+    ensures { result ≡ is_texts (view value.now) }
+{
+    match values(value) {
+        None => false,
+        Some(values) => are_texts(values),
+    }
+}
+
+fn is_step(value: &Value) -> bool
+    ensures { result ≡ is_step (view value.now) }
+{
+    is_text(value) || is_texts(value)
+}
+
+#[tactic(auto, using(crate::proofs::Values::next_value))]
+fn are_steps(values: &[Value]) -> bool
+    ensures { result ≡ list_all is_step (map view values.now) }
+{
+    for value in values {
+        if !is_step(value) {
+            return false;
+        }
+    }
+    true
+}
+
+fn is_kind(kind: Kind, value: &Value) -> bool
+    ensures { result ≡ is_kind kind (view value.now) }
+{
+    match kind {
+        Kind::Integer => is_integer(value),
+        Kind::Integers => match values(value) {
+            None => false,
+            Some(values) => are_integers(values),
+        },
+        Kind::Texts => is_texts(value),
+        Kind::Steps => match values(value) {
+            None => false,
+            Some(values) => are_steps(values),
+        },
+    }
+}
+
+fn has_kind(table: &Table, key: &str, optional: bool, kind: Kind) -> bool
+    ensures { result ≡ has_kind (table_view table.now) key.now optional kind }
+{
+    match value_at(table, key) {
+        None => optional,
+        Some(value) => is_kind(kind, value),
+    }
+}
+
+/// The first field of another kind than its own.
+pub fn kind_fault(table: &Table) -> Option<Field>
+    ensures { result ≡ kind_fault (table_view table.now) }
+{
+    if !has_kind(table, "weights", false, Kind::Integers) {
+        Some(Field::Weights)
+    } else if !has_kind(table, "rows", true, Kind::Texts) {
+        Some(Field::Rows)
+    } else if !has_kind(table, "loss", true, Kind::Integer) {
+        Some(Field::Loss)
+    } else if !has_kind(table, "repeat", true, Kind::Integer) {
+        Some(Field::Repeat)
+    } else if !has_kind(table, "luck", true, Kind::Integer) {
+        Some(Field::Luck)
+    } else if !has_kind(table, "steps", false, Kind::Steps) {
+        Some(Field::Steps)
+    } else {
+        None
+    }
+}
+
+fn weight(value: &Value) -> Option<u32>
+    ensures { result ≡ weight_of (view value.now) }
+{
+    let number = value.as_integer()?;
     if 1 <= number && number <= 1000 {
         Some(number as u32)
     } else {
@@ -42,49 +186,154 @@ pub fn weight(value: &Value) -> Option<u32>
     }
 }
 
-fn item_in(alloc: Global, value: &Value) -> Result<Option<Item>, NoMemory>
-    ensures { IfOk result (λ o. o ≡ option_and_then item_of (as_str (view value.now))) }
+#[tactic(auto, using(crate::proofs::Values::next_value))]
+fn more_weights(alloc: Global, values: &[Value]) -> Result<Option<List<u32>>, NoMemory>
+    ensures value { IfOk result (λ weights. weights ≡ more_weights [] (map view values.now)) }
+    ensures count { IfOk result (λ weights. IfSome weights (λ ws. length ws ≡ length values.now)) }
 {
-    match value.as_str() {
-        None => Ok(None),
-        Some(text) => item(alloc, text.as_bytes()),
-    }
-}
-
-fn step(alloc: Global, value: &Value) -> Result<List<Item>, ScenarioFault>
-    ensures ok { IfOk result (λ step. step_of (view value.now) ≡ Some step) }
-    ensures not_built { result ≡ Err ScenarioFault.NotBuilt → step_of (view value.now) ≡ None }
-{
-    let Some(item) = item_in(alloc, value)? else {
-        return Err(ScenarioFault::NotBuilt);
-    };
-    let mut step = List::new(alloc);
-    step.push(item)?;
-    Ok(step)
-}
-
-fn steps_in(alloc: Global, values: &[Value]) -> Result<List<List<Item>>, ScenarioFault>
-    ensures ok { IfOk result (λ steps. steps_in (items_view values.now) ≡ Some steps) }
-    ensures not_built { result ≡ Err ScenarioFault.NotBuilt → steps_in (items_view values.now) ≡ None }
-{
-    let mut steps = List::new(alloc);
+    let mut weights = List::new(alloc);
     for value in values {
-        let step = step(alloc, value)?;
-        steps.push(step)?;
+        let Some(weight) = weight(value) else {
+            return Ok(None);
+        };
+        weights.push(weight)?;
     }
-    Ok(steps)
+    Ok(Some(weights))
 }
 
-/// The steps in an array of steps.
-pub fn steps(alloc: Global, value: &Value) -> Result<List<List<Item>>, ScenarioFault>
-    ensures ok { IfOk result (λ steps. steps_of (view value.now) ≡ Some steps) }
-    ensures not_built { result ≡ Err ScenarioFault.NotBuilt → steps_of (view value.now) ≡ None }
+/// 1 to 16 weights.
+#[tactic(auto, using(crate::proofs::Values::length_view))]
+pub fn weights(alloc: Global, values: &[Value]) -> Result<Option<List<u32>>, NoMemory>
+    ensures value { IfOk result (λ weights. weights ≡ weights_of (map view values.now)) }
+    ensures few { IfOk result (λ weights. IfSome weights (λ ws. length ws ≤ 16)) }
 {
-    let Some(values) = value.as_array() else {
-        return Err(ScenarioFault::NotBuilt);
-    };
-    if values.len() > 10000 {
-        return Err(ScenarioFault::NotBuilt);
+    if 1 <= values.len() && values.len() <= 16 {
+        more_weights(alloc, values)
+    } else {
+        Ok(None)
     }
-    steps_in(alloc, values.as_slice())
+}
+
+fn row(all: SiteSet, text: &[u8]) -> Option<KeyRow>
+    ensures { result ≡ row_of all text.now }
+{
+    if !is_all_printable(text) {
+        return None;
+    }
+    let key = key(before(text, SPACE))?;
+    let val = value(after(text, SPACE)?)?;
+    if all.has(key.site) {
+        Some(KeyRow { key, val })
+    } else {
+        None
+    }
+}
+
+fn row_in(all: SiteSet, value: &Value) -> Option<KeyRow>
+    ensures { result ≡ row_in all (view value.now) }
+{
+    row(all, value.as_str()?.as_bytes())
+}
+
+/// Rows at these sites.
+#[tactic(auto, using(crate::proofs::Values::next_value))]
+pub fn rows(
+    alloc: Global,
+    all: SiteSet,
+    values: &[Value],
+) -> Result<Option<List<KeyRow>>, NoMemory>
+    ensures { IfOk result (λ rows. rows ≡ more_rows all [] (map view values.now)) }
+{
+    let mut rows = List::new(alloc);
+    for value in values {
+        let Some(row) = row_in(all, value) else {
+            return Ok(None);
+        };
+        rows.push(row)?;
+    }
+    Ok(Some(rows))
+}
+
+/// A share of a hundred, 0 where it is left out.
+pub fn share_at(table: &Table, key: &str) -> Option<u32>
+    ensures value { result ≡ share_at (table_view table.now) key.now }
+    ensures few { IfSome result (λ share. share ≤ 100) }
+{
+    let Some(value) = value_at(table, key) else {
+        return Some(0);
+    };
+    let number = value.as_integer()?;
+    if 0 <= number && number <= 100 {
+        Some(number as u32)
+    } else {
+        None
+    }
+}
+
+/// The luck, 0 where it is left out.
+pub fn luck_at(table: &Table) -> Option<u64>
+    ensures { result ≡ luck_at (table_view table.now) }
+{
+    let Some(value) = value_at(table, "luck") else {
+        return Some(0);
+    };
+    let number = value.as_integer()?;
+    if 0 <= number && number <= 9223372036854775807 {
+        Some(number as u64)
+    } else {
+        None
+    }
+}
+
+fn values_or_none(value: &Value) -> &[Value]
+    ensures { map view result.now ≡ values_or_none (view value.now) }
+{
+    match values(value) {
+        None => &[],
+        Some(values) => values,
+    }
+}
+
+/// The values of the array at a key; none where there is no array.
+pub fn values_at<'a>(table: &'a Table, key: &str) -> &'a [Value]
+    ensures { map view result.now ≡ values_at (table_view table.now) key.now }
+{
+    match value_at(table, key) {
+        None => &[],
+        Some(value) => values_or_none(value),
+    }
+}
+
+#[tactic(auto, using(crate::proofs::Values::length_view))]
+fn step_size(value: &Value) -> usize
+    ensures { result ≡ step_size (view value.now) }
+{
+    match values(value) {
+        None => 1,
+        Some(values) => values.len(),
+    }
+}
+
+#[tactic(auto, using(crate::proofs::Values::next_value))]
+fn sizes_fit(values: &[Value]) -> bool
+    ensures { result ≡ sizes_fit 10000 (map view values.now) }
+{
+    let mut room = 10000;
+    for value in values {
+        let size = step_size(value);
+        if size < 1 || 16 < size || room < size {
+            return false;
+        }
+        room -= size;
+    }
+    true
+}
+
+/// At most 10,000 steps, with at most 10,000 items.
+#[tactic(auto, using(crate::proofs::Values::length_view))]
+pub fn steps_fit(values: &[Value]) -> bool
+    ensures value { result ≡ steps_fit (map view values.now) }
+    ensures few { IsTrue result → length values.now ≤ 10000 }
+{
+    values.len() <= 10000 && sizes_fit(values)
 }

@@ -1,11 +1,10 @@
 // The items of a scenario.
 ghost use Rattle.std.specs.Prelude.{◌≡◌, bytes_eq, IfOk};
-ghost use Rattle.std.specs.List.{list_all};
-ghost use Rattle.e3_scenario.specs.Words.{is_printable, space, before};
+ghost use Rattle.e3_scenario.specs.Words.{space, before};
 ghost use Rattle.e3_scenario.specs.Items.{begin_of, read_of, write_of, commit_of, cancel_of, expire_of, elect_of, recover_of, split_of, merge_of, crash_of, restart_of, stop_of, transaction_item, site_item, item_by, item_of};
 
 use crate::parts::{count, key, leave, name, parts, site, sites, value};
-use crate::words::{SPACE, before, is_printable, rest, word};
+use crate::words::{SPACE, before, is_all_printable, rest, word};
 use e3_types::{Item, NoMemory};
 use std::alloc::Global;
 
@@ -129,12 +128,6 @@ fn split(alloc: Global, text: &[u8]) -> Result<Option<Item>, NoMemory>
         Some(parts) => Ok(Some(Item::Split { parts })),
         None => Ok(None),
     }
-}
-
-fn is_all_printable(text: &[u8]) -> bool
-    ensures { result ≡ list_all is_printable text.now }
-{
-    text.iter().all(|b| is_printable(*b))
 }
 
 fn is_verb(verb: &[u8], wanted: &str) -> bool

@@ -1,19 +1,24 @@
-//! The scenario that bytes spell: a TOML 1.1 document with the keys `weights` and `steps`. Each step is a string that
-//! spells one item: `begin NAME SITE SITES`, `write NAME KEY VALUE` or `commit NAME`, its words one space apart.
+//! The scenario that bytes spell: a TOML 1.1 document with the keys `weights`, `rows`, `loss`, `repeat`, `luck` and
+//! `steps`. Each step is an item or a group of items, and an item is a text as `write NAME KEY VALUE`.
 //!
-//! So far a scenario is one write path: one site, and no step, or the begin of one transaction there, up to 64 writes,
-//! and at most its commit. Everything else is refused as not built.
+//! Bytes that spell none have a fault, and the first in the order of [`ScenarioFault`] is told.
 #![tactic(auto)]
 
 mod documents;
 mod faults;
 mod items;
+mod judging;
+mod lines;
 mod parts;
 mod paths;
 mod reading;
+mod sayings;
+mod steps;
 #[cfg(test)]
 mod tests;
 mod words;
 
-pub use faults::ScenarioFault;
-pub use reading::{read_scenario, refused_line};
+pub use faults::{Field, ScenarioFault};
+pub use lines::{fault_line, refused_line};
+pub use paths::is_one_write_path;
+pub use reading::read_scenario;

@@ -1,8 +1,8 @@
 // The form of a scenario: one write path.
-ghost use Rattle.std.specs.Prelude.{◌≡◌, ◌≤◌, length, option_copied};
-ghost use Rattle.e3_scenario.specs.Paths.{only_item, is_write, is_commit, begun_name, is_write_step, write_count, is_end, is_open, is_path};
+ghost use Rattle.std.specs.Prelude.{◌≡◌, ◌≤◌, ◌↔◌, IsTrue, length, option_copied};
+ghost use Rattle.e3_scenario.specs.Paths.{only_item, is_write, is_commit, begun_name, is_write_step, write_count, is_end, is_open, is_path, is_one_weight, is_one_write_path, IsOneWritePath};
 
-use e3_types::{Item, List, Name, SiteSet};
+use e3_types::{Item, List, Name, Scenario, SiteSet};
 
 fn only_item(step: &List<Item>) -> Option<&Item>
     ensures { option_copied result ≡ only_item step.now }
@@ -94,11 +94,10 @@ fn is_open(name: &Name, steps: &[List<Item>]) -> bool
     ensures { result ≡ is_open name.now steps.now }
 {
     let count = write_count(name, steps);
-    count <= 64 && is_end(name, &steps[count..])
+    is_end(name, &steps[count..])
 }
 
-/// The steps are none, or those of one write path.
-pub fn is_path(steps: &[List<Item>]) -> bool
+fn is_path(steps: &[List<Item>]) -> bool
     ensures { result ≡ is_path steps.now }
 {
     let Some((step, following)) = steps.split_first() else {
@@ -111,4 +110,33 @@ pub fn is_path(steps: &[List<Item>]) -> bool
         return false;
     };
     is_open(name, following)
+}
+
+fn is_one_weight(weights: &[u32]) -> bool
+    ensures { result ≡ is_one_weight weights.now }
+{
+    match weights {
+        [weight] => 1 <= *weight && *weight <= 1000,
+        _ => false,
+    }
+}
+
+fn has_path_form(scenario: &Scenario) -> bool
+    ensures { result ≡ is_one_write_path scenario.now }
+{
+    let steps = scenario.steps.as_slice();
+    is_one_weight(scenario.weights.as_slice())
+        && scenario.rows.is_empty()
+        && scenario.loss == 0
+        && scenario.repeat == 0
+        && scenario.luck == 0
+        && is_path(steps)
+        && steps.len() <= 66
+}
+
+/// The scenario is one write path.
+pub fn is_one_write_path(scenario: &Scenario) -> bool
+    ensures { IsTrue result ↔ IsOneWritePath scenario.now }
+{
+    has_path_form(scenario)
 }

@@ -1,82 +1,186 @@
 // From bytes to a scenario.
-ghost use Rattle.std.specs.Prelude.{◌≡◌, Some, None, IfOk};
-ghost use Rattle.toml.specs.View.{table_view};
-ghost use Rattle.e3_scenario.specs.Paths.{IsOneWritePath};
-ghost use Rattle.e3_scenario.specs.Scenarios.{scenario_with, scenario_in, scenario_of, refused_text};
+ghost use Rattle.std.specs.Prelude.{◌≡◌, ◌≤◌, ◌⊎◌, IfOk, IfErr, Ok, Err, length, map};
+ghost use Rattle.std.specs.List.{list_any};
+ghost use Rattle.toml.specs.View.{view, table_view};
+ghost use Rattle.e3_types.specs.Same.{same_key};
+ghost use Rattle.e3_world.specs.Given.{IsGiven, rows_differ};
+ghost use Rattle.e3_world.specs.Packets.{sites_to, all_sites};
+ghost use Rattle.e3_scenario.specs.Scenarios.{or_range, repeat_with, numbers_in, base_in, steps_in, fields_in, scenario_in, scenario_of};
 
-use crate::documents::{key_count, steps, value_at, weight};
-use crate::faults::ScenarioFault;
-use crate::paths::is_path;
-use e3_types::{Item, List, NoMemory, Scenario};
+use crate::documents::{keys_known, kind_fault, luck_at, rows, share_at, steps_fit, values_at, weights};
+use crate::faults::{Field, ScenarioFault};
+use crate::sayings::Said;
+use crate::steps::{Read, steps};
+use e3_types::{Key, KeyRow, List, NoMemory, Scenario, SiteSet};
 use std::alloc::Global;
-use toml::Table;
+use toml::{Table, Value};
 
-/// A scenario of one site with this weight and these steps.
-fn path_scenario(alloc: Global, weight: u32, steps: List<List<Item>>) -> Result<Scenario, NoMemory>
-    ensures { IfOk result (λ sc. sc ≡ scenario_with weight steps) }
+#[tactic(auto, using(crate::proofs::Values::next_site))]
+fn sites_to(count: u32) -> SiteSet
+    requires { count ≤ 16 }
+    ensures { result ≡ sites_to count }
 {
-    let mut weights = List::new(alloc);
-    weights.push(weight)?;
+    let mut sites = SiteSet::empty();
+    for site in 0..count {
+        sites = sites.with(site + 1);
+    }
+    sites
+}
+
+fn has_key(rows: &[KeyRow], key: &Key) -> bool
+    ensures { result ≡ list_any (λ row. same_key key.now row.key) rows.now }
+{
+    rows.iter().any(|row| key.is_same(&row.key))
+}
+
+// No two rows have one key.
+#[tactic(auto, using(crate::proofs::Values::next_row))]
+fn rows_differ(rows: &[KeyRow]) -> bool
+    ensures { result ≡ rows_differ rows.now }
+{
+    for i in 0..rows.len() {
+        let row = &rows[i];
+        if has_key(&rows[i + 1..], &row.key) {
+            return false;
+        }
+    }
+    true
+}
+
+fn or_range<T: Drop>(field: Field, value: Option<T>) -> Read<T>
+    ensures { result ≡ or_range field value }
+{
+    match value {
+        None => Err(ScenarioFault::Range { field }),
+        Some(value) => Ok(value),
+    }
+}
+
+fn repeat_with(loss: u32, repeat: Option<u32>) -> Option<u32>
+    requires { loss ≤ 100 }
+    ensures { result ≡ repeat_with loss repeat }
+{
+    let repeat = repeat?;
+    if repeat <= 100 - loss {
+        Some(repeat)
+    } else {
+        None
+    }
+}
+
+// The scenario with these weights and rows, without its steps.
+fn numbers(
+    alloc: Global,
+    table: &Table,
+    weights: List<u32>,
+    rows: List<KeyRow>,
+) -> Read<Scenario>
+    ensures value { result ≡ numbers_in (table_view table.now) weights rows }
+    ensures kept { IfOk result (λ sc. sc.weights ≡ weights) }
+{
+    let loss = or_range(Field::Loss, share_at(table, "loss"))?;
+    let repeat = or_range(
+        Field::Repeat,
+        repeat_with(loss, share_at(table, "repeat")),
+    )?;
+    let luck = or_range(Field::Luck, luck_at(table))?;
     Ok(Scenario {
         weights,
-        rows: List::new(alloc),
-        loss: 0,
-        repeat: 0,
-        luck: 0,
-        steps,
+        rows,
+        loss,
+        repeat,
+        luck,
+        steps: List::new(alloc),
     })
 }
 
-fn table_scenario(alloc: Global, table: &Table) -> Result<Scenario, ScenarioFault>
-    ensures ok { IfOk result (λ sc. scenario_in (table_view table.now) ≡ Some sc) }
-    ensures form { IfOk result IsOneWritePath }
-    ensures not_built { result ≡ Err ScenarioFault.NotBuilt → scenario_in (table_view table.now) ≡ None }
+// The scenario without its steps.
+fn base(alloc: Global, table: &Table) -> Result<Read<Scenario>, NoMemory>
+    ensures value { IfOk result (λ read. read ≡ base_in (table_view table.now)) }
+    ensures few { IfOk result (λ read. IfOk read (λ sc. length sc.weights ≤ 16)) }
 {
-    if key_count(table) != 2 {
-        return Err(ScenarioFault::NotBuilt);
-    }
-    let Some(weights) = value_at(table, "weights") else {
-        return Err(ScenarioFault::NotBuilt);
+    let Some(weights) = weights(alloc, values_at(table, "weights"))? else {
+        return Ok(Err(ScenarioFault::Range {
+            field: Field::Weights,
+        }));
     };
-    let Some(weight) = weight(weights) else {
-        return Err(ScenarioFault::NotBuilt);
+    let all = sites_to(weights.len() as u32);
+    let Some(rows) = rows(alloc, all, values_at(table, "rows"))? else {
+        return Ok(Err(ScenarioFault::Range { field: Field::Rows }));
     };
-    let Some(value) = value_at(table, "steps") else {
-        return Err(ScenarioFault::NotBuilt);
-    };
-    let steps = steps(alloc, value)?;
-    if !is_path(steps.as_slice()) {
-        return Err(ScenarioFault::NotBuilt);
-    }
-    Ok(path_scenario(alloc, weight, steps)?)
+    Ok(numbers(alloc, table, weights, rows))
 }
 
-/// The scenario that the bytes spell. `NotBuilt` comes exactly where they spell none.
-pub fn read_scenario(alloc: Global, bytes: &[u8]) -> Result<Scenario, ScenarioFault>
-    ensures ok { IfOk result (λ sc. scenario_of bytes.now ≡ Some sc) }
-    ensures form { IfOk result IsOneWritePath }
-    ensures not_built { result ≡ Err ScenarioFault.NotBuilt → scenario_of bytes.now ≡ None }
+// The scenario with its steps.
+fn with_steps(
+    alloc: Global,
+    values: &[Value],
+    base: Scenario,
+) -> Result<Read<Scenario>, NoMemory>
+    requires few_sites { length base.weights ≤ 16 }
+    requires few_steps { length values.now ≤ 10000 }
+    ensures { IfOk result (λ read. read ≡ steps_in (map view values.now) base) }
 {
-    if bytes.len() > 4194304 {
-        return Err(ScenarioFault::NotBuilt);
-    }
-    match toml::table_from_slice(alloc, bytes) {
-        Ok(table) => table_scenario(alloc, &table),
-        Err(e) => {
-            if e.is_memory() {
-                Err(ScenarioFault::NoMemory)
-            } else {
-                Err(ScenarioFault::NotBuilt)
-            }
+    let mut scenario = base;
+    let all = sites_to(scenario.weights.len() as u32);
+    let mut said = Said::nothing(alloc, all)?;
+    match steps(alloc, all, &mut said, values)? {
+        Err(fault) => Ok(Err(fault)),
+        Ok(steps) => {
+            scenario.steps = steps;
+            Ok(Ok(scenario))
         }
     }
 }
 
-/// The line that is written for bytes that spell no scenario, in place of a report.
-pub fn refused_line(alloc: Global) -> Result<List<u8>, NoMemory>
-    ensures { IfOk result (λ line. line ≡ refused_text) }
+fn fields(alloc: Global, table: &Table) -> Result<Read<Scenario>, NoMemory>
+    ensures { IfOk result (λ read. read ≡ fields_in (table_view table.now)) }
 {
-    let mut line = List::new(alloc);
-    line.extend(b"refused not-built\n")?;
-    Ok(line)
+    let base = match base(alloc, table)? {
+        Err(fault) => return Ok(Err(fault)),
+        Ok(base) => base,
+    };
+    let values = values_at(table, "steps");
+    if !steps_fit(values) {
+        return Ok(Err(ScenarioFault::Range {
+            field: Field::Steps,
+        }));
+    }
+    if !rows_differ(base.rows.as_slice()) {
+        return Ok(Err(ScenarioFault::RowTwice));
+    }
+    with_steps(alloc, values, base)
+}
+
+fn table_scenario(alloc: Global, table: &Table) -> Result<Read<Scenario>, NoMemory>
+    ensures { IfOk result (λ read. read ≡ scenario_in (table_view table.now)) }
+{
+    if !keys_known(table) {
+        return Ok(Err(ScenarioFault::UnknownKey));
+    }
+    match kind_fault(table) {
+        None => fields(alloc, table),
+        Some(field) => Ok(Err(ScenarioFault::Kind { field })),
+    }
+}
+
+/// The scenario that the bytes spell, or the first fault that they have. Want of memory may come at any time.
+pub fn read_scenario(alloc: Global, bytes: &[u8]) -> Result<Scenario, ScenarioFault>
+    ensures ok { IfOk result (λ sc. scenario_of bytes.now ≡ Ok sc) }
+    ensures given { IfOk result IsGiven }
+    ensures fault { IfErr result (λ fault. (fault ≡ ScenarioFault.NoMemory) ⊎ (scenario_of bytes.now ≡ Err fault)) }
+{
+    if bytes.len() > 4194304 {
+        return Err(ScenarioFault::TooLong);
+    }
+    match toml::table_from_slice(alloc, bytes) {
+        Ok(table) => table_scenario(alloc, &table)?,
+        Err(e) => {
+            if e.is_memory() {
+                Err(ScenarioFault::NoMemory)
+            } else {
+                Err(ScenarioFault::NotToml)
+            }
+        }
+    }
 }

@@ -1,5 +1,6 @@
 // The text of an item, cut into words.
 ghost use Rattle.std.specs.Prelude.{◌≡◌, ◌==◌, ◌<◌, length, position, IfSome, option_copied};
+ghost use Rattle.std.specs.List.{list_all};
 ghost use Rattle.e3_scenario.specs.Words.{is_printable, before, after, rest, word};
 
 /// The byte between two words.
@@ -19,6 +20,13 @@ pub fn is_printable(byte: u8) -> bool
     ensures { result ≡ is_printable byte }
 {
     (b' '..=b'~').contains(&byte)
+}
+
+/// Each byte may stand in an item.
+pub fn is_all_printable(text: &[u8]) -> bool
+    ensures { result ≡ list_all is_printable text.now }
+{
+    text.iter().all(|b| is_printable(*b))
 }
 
 fn place_of(text: &[u8], mark: u8) -> Option<usize>

@@ -1,12 +1,12 @@
 -- One write path is a scenario of one site, so its legal histories are safe.
-use Rattle.std.proofs.Common.{◌≡◌, ◌==◌, ◌≤◌, ◌<◌, ℕ, suc, Bool, true, false, List, [], ◌∷◌, length, Option, Some, None, refl, ap, sym, subst, arith, eq-eqb, leb-true, inr, String, Global, ◌⊎◌, ◌∙◌}
-use Rattle.std.specs.Prelude.{nat_le, option_and_then, if◌then◌else◌}
+use Rattle.std.proofs.Common.{◌≡◌, ◌==◌, ◌≤◌, ◌<◌, ℕ, suc, Bool, true, false, List, [], ◌∷◌, length, Option, Ok, Err, inl, refl, ap, sym, subst, arith, eq-eqb, leb-true, inr, String, Global, ◌⊎◌, ◌∙◌}
 use Rattle.std.specs.List.{list_all}
 use Rattle.e3_agree.specs.Lone.{IsLone, is_lone_item}
 use Rattle.e3_agree.proofs.LoneLaws.{lone_agrees, lone_told, lone_voted}
-use Rattle.e3_scenario.specs.Documents.{document}
 use Rattle.e3_scenario.specs.Paths.{IsOneWritePath, IsOpen, IsPath}
-use Rattle.e3_scenario.specs.Scenarios.{scenario_in, scenario_of}
+use Rattle.e3_scenario.specs.Scenarios.{scenario_of, refused_text}
+use Rattle.e3_scenario.specs.Faults.{fault_text}
+use Rattle.e3_scenario.specs.declared.faults.ScenarioFault.{ScenarioFault}
 use Rattle.e3_report.specs.Report.{report_of}
 use Rattle.e3_top.specs.Due.{IsDue, IsSafeRun}
 use Rattle.e3_top.specs.Ends.{IsHistoryOf}
@@ -40,23 +40,44 @@ safe_run sc h form legal = record {
 }
 
 -- a legal history of the scenario that the bytes spell
-pub of_scenario : (bytes : List ℕ) (sc : Scenario) (h : List Entry) → IsOneWritePath sc → scenario_of bytes ≡ Some sc → IsLegal sc h →
+pub of_scenario : (bytes : List ℕ) (sc : Scenario) (h : List Entry) → IsOneWritePath sc → scenario_of bytes ≡ Ok sc → IsLegal sc h →
     (h ≡ []) ⊎ IsHistoryOf bytes h
 of_scenario bytes sc h form spelled legal = inr (record { scenario = sc; spelled = spelled; safe = safe_run sc h form legal })
 
 -- the report of a history that went through it is due
 pub done_run : (words : List (String Global)) (bytes : List ℕ) (sc : Scenario) (h : List Entry) (text : List ℕ) → IsRun words →
-    IsOneWritePath sc → scenario_of bytes ≡ Some sc → IsWhole sc h → text ≡ report_of sc h → IsDue words bytes 0 h text
+    IsOneWritePath sc → scenario_of bytes ≡ Ok sc → IsWhole sc h → text ≡ report_of sc h → IsDue words bytes 0 h text
 done_run words bytes sc h text run form spelled whole reported = record {
   known = omega arith;
   done = λ e. record {
     run = run;
     scenario = sc;
     spelled = spelled;
+    path = form;
     whole = whole;
     safe = safe_run sc h form whole.legal;
     reported = reported;
   };
   words_refused = λ e. absurd (omega (arith, e));
   scenario_refused = λ e. absurd (omega (arith, e));
+}
+
+-- the line of a fault is due
+pub no_scenario : (words : List (String Global)) (bytes : List ℕ) (fault : ScenarioFault) (h : List Entry) (text : List ℕ) → IsRun words →
+    scenario_of bytes ≡ Err fault → h ≡ [] → text ≡ fault_text fault → IsDue words bytes 2 h text
+no_scenario words bytes fault h text run spelled empty says = record {
+  known = omega arith;
+  done = λ e. absurd (omega (arith, e));
+  words_refused = λ e. absurd (omega (arith, e));
+  scenario_refused = λ e. inl (record { run = run; fault = fault; spelled = spelled; empty = empty; says = says });
+}
+
+-- the line of what is not built is due
+pub not_built : (words : List (String Global)) (bytes : List ℕ) (sc : Scenario) (h : List Entry) (text : List ℕ) → IsRun words →
+    scenario_of bytes ≡ Ok sc → ¬ IsOneWritePath sc → h ≡ [] → text ≡ refused_text → IsDue words bytes 2 h text
+not_built words bytes sc h text run spelled no_path empty says = record {
+  known = omega arith;
+  done = λ e. absurd (omega (arith, e));
+  words_refused = λ e. absurd (omega (arith, e));
+  scenario_refused = λ e. inr (record { run = run; scenario = sc; spelled = spelled; no_path = no_path; empty = empty; says = says });
 }

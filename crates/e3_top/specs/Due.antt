@@ -1,8 +1,11 @@
 -- The text that words, bytes and history give, with the status that a run ends with when it is written.
-use Rattle.std.specs.Prelude.{◌≡◌, ◌≤◌, ℕ, List, [], String, Some, None}
+use Rattle.std.specs.Prelude.{◌≡◌, ◌≤◌, ◌⊎◌, ℕ, List, [], String, Ok, Err}
 use Rattle.std.specs.declared.alloc.Global.{Global}
 use Rattle.e3_report.specs.Report.{report_of}
+use Rattle.e3_scenario.specs.Faults.{fault_text}
+use Rattle.e3_scenario.specs.Paths.{IsOneWritePath}
 use Rattle.e3_scenario.specs.Scenarios.{scenario_of, refused_text}
+use Rattle.e3_scenario.specs.declared.faults.ScenarioFault.{ScenarioFault}
 use Rattle.e3_top.specs.Words.{IsRun, refused_words}
 use Rattle.e3_types.specs.declared.entries.Entry.{Entry}
 use Rattle.e3_types.specs.declared.scenarios.Scenario.{Scenario}
@@ -19,11 +22,13 @@ pub record IsSafeRun (sc : Scenario) (history : List Entry) : Type 0 where
   pub voted : AllVoted (trail_of sc history)
   pub told : ToldStands sc history
 
--- Done: the bytes spell a scenario, the history is one of it and went through all of it, and the text is its report.
+-- Done: the bytes spell a scenario of the form that is built, the history is one of it and went through all of it, and
+-- the text is its report.
 pub record IsDone (words : List (String Global)) (bytes : List ℕ) (history : List Entry) (text : List ℕ) : Type 0 where
   pub run : IsRun words
   pub scenario : Scenario
-  pub spelled : scenario_of bytes ≡ Some scenario
+  pub spelled : scenario_of bytes ≡ Ok scenario
+  pub path : IsOneWritePath scenario
   pub whole : IsWhole scenario history
   pub safe : IsSafeRun scenario history
   pub reported : text ≡ report_of scenario history
@@ -35,10 +40,20 @@ pub record IsRefusedWords (words : List (String Global)) (bytes : List ℕ) (his
   pub empty : history ≡ []
   pub says : text ≡ refused_words
 
--- A refused scenario: the bytes spell none, and nothing happens.
-pub record IsRefusedScenario (words : List (String Global)) (bytes : List ℕ) (history : List Entry) (text : List ℕ) : Type 0 where
+-- No scenario: the bytes have a fault, the text is its line, and nothing happens.
+pub record IsNoScenario (words : List (String Global)) (bytes : List ℕ) (history : List Entry) (text : List ℕ) : Type 0 where
   pub run : IsRun words
-  pub none : scenario_of bytes ≡ None
+  pub fault : ScenarioFault
+  pub spelled : scenario_of bytes ≡ Err fault
+  pub empty : history ≡ []
+  pub says : text ≡ fault_text fault
+
+-- A scenario that is not built yet: the bytes spell one of another form than one write path, and nothing happens.
+pub record IsNotBuilt (words : List (String Global)) (bytes : List ℕ) (history : List Entry) (text : List ℕ) : Type 0 where
+  pub run : IsRun words
+  pub scenario : Scenario
+  pub spelled : scenario_of bytes ≡ Ok scenario
+  pub no_path : ¬ IsOneWritePath scenario
   pub empty : history ≡ []
   pub says : text ≡ refused_text
 
@@ -47,4 +62,4 @@ pub record IsDue (words : List (String Global)) (bytes : List ℕ) (status : ℕ
   pub known : status ≤ 2
   pub done : status ≡ 0 → IsDone words bytes history text
   pub words_refused : status ≡ 1 → IsRefusedWords words bytes history text
-  pub scenario_refused : status ≡ 2 → IsRefusedScenario words bytes history text
+  pub scenario_refused : status ≡ 2 → IsNoScenario words bytes history text ⊎ IsNotBuilt words bytes history text

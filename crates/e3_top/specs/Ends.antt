@@ -1,5 +1,5 @@
 -- How a run ends: what it took from its source, what it wrote to its sink, and what its history is.
-use Rattle.std.specs.Prelude.{◌≡◌, ◌≢◌, ◌≤◌, ◌<◌, ◌⊎◌, ℕ, List, [], take, length, Option, Some, String}
+use Rattle.std.specs.Prelude.{◌≡◌, ◌≢◌, ◌≤◌, ◌<◌, ◌⊎◌, ℕ, List, [], take, length, Option, Ok, String}
 use Rattle.std.specs.Io.KnownBytes.{Appends, Consumes, IsAtEnd}
 use Rattle.std.specs.declared.alloc.Global.{Global}
 use Rattle.e3_outside.specs.Faults.{Rose}
@@ -48,7 +48,7 @@ pub record SourceFails (words : List (String Global)) (had left : Option (List �
 -- the history is one of the scenario that these bytes spell
 pub record IsHistoryOf (bytes : List ℕ) (history : List Entry) : Type 0 where
   pub scenario : Scenario
-  pub spelled : scenario_of bytes ≡ Some scenario
+  pub spelled : scenario_of bytes ≡ Ok scenario
   pub safe : IsSafeRun scenario history
 
 -- Memory ran out. Nothing had happened yet, or all was read, and as far as it goes the history is one of the scenario

@@ -8,7 +8,7 @@ use crate::words::{is_run, refused_words};
 use e3_drive::play;
 use e3_outside::{ReadFault, Source, read_up_to};
 use e3_report::report;
-use e3_scenario::{ScenarioFault, read_scenario, refused_line};
+use e3_scenario::{ScenarioFault, fault_line, is_one_write_path, read_scenario, refused_line};
 use e3_types::{List, NoMemory};
 use e3_world::History;
 use std::alloc::Global;
@@ -54,12 +54,18 @@ fn prepare_bytes(
     ensures cut_short { (history.new.entries ≡ []) ⊎ IsHistoryOf bytes.now history.new.entries }
 {
     match read_scenario(alloc, bytes) {
-        Err(ScenarioFault::NotBuilt) => Ok(Prepared {
-            status: 2,
-            text: refused_line(alloc)?,
-        }),
         Err(ScenarioFault::NoMemory) => Err(NoMemory),
+        Err(fault) => Ok(Prepared {
+            status: 2,
+            text: fault_line(alloc, &fault)?,
+        }),
         Ok(scenario) => {
+            if !is_one_write_path(&scenario) {
+                return Ok(Prepared {
+                    status: 2,
+                    text: refused_line(alloc)?,
+                });
+            }
             play(alloc, &scenario, history)?;
             Ok(Prepared {
                 status: 0,

@@ -1,21 +1,27 @@
-use Rattle.std.proofs.Common.{◌≤◌, length, arith}
-use Rattle.e3_scenario.proofs.Steps.{document-some, document-none, scenario_of-document}
+use Rattle.std.proofs.Common.{◌≡◌, ◌≤◌, length, arith, inr}
+use Rattle.e3_scenario.proofs.Results.{document-some, document-none, spelled_some, spelled_none, read_ok, read_given, read_fault}
 use Rattle.e3_scenario.proofs.reading.read_scenario.Goals as goal
 
-pub returns-in-Ok-clause-ok : goal.returns-in-Ok-clause-ok
-returns-in-Ok-clause-ok c =
+pub returns-in_ok-table_scenario-in-Ok-clause-ok : goal.returns-in_ok-table_scenario-in-Ok-clause-ok
+returns-in_ok-table_scenario-in-Ok-clause-ok c =
     let read = document-some c.args.bytes.now _ c.in-Ok.ensures.ok.0 c.in-Ok.ensures.ok.1 in
     let short : length c.args.bytes.now ≤ 4194304 = omega arith in
-    rw (scenario_of-document c.args.bytes.now _ short read) c.table_scenario.ensures.ok
+    read_ok _ _ (spelled_some c.args.bytes.now _ _ short read c.in_ok-table_scenario-in-Ok.ensures)
 
-pub returns-in-Ok-clause-not_built : goal.returns-in-Ok-clause-not_built
-returns-in-Ok-clause-not_built c =
+pub returns-in_ok-table_scenario-in-Ok-clause-given : goal.returns-in_ok-table_scenario-in-Ok-clause-given
+returns-in_ok-table_scenario-in-Ok-clause-given c =
     let read = document-some c.args.bytes.now _ c.in-Ok.ensures.ok.0 c.in-Ok.ensures.ok.1 in
     let short : length c.args.bytes.now ≤ 4194304 = omega arith in
-    rw (scenario_of-document c.args.bytes.now _ short read) c.table_scenario.ensures.not_built
+    read_given c.args.bytes.now _ (spelled_some c.args.bytes.now _ _ short read c.in_ok-table_scenario-in-Ok.ensures)
 
-pub returns-else-is_memory-clause-not_built : goal.returns-else-is_memory-clause-not_built
-returns-else-is_memory-clause-not_built c = λ e.
+pub returns-in_ok-table_scenario-in-Ok-clause-fault : goal.returns-in_ok-table_scenario-in-Ok-clause-fault
+returns-in_ok-table_scenario-in-Ok-clause-fault c =
+    let read = document-some c.args.bytes.now _ c.in-Ok.ensures.ok.0 c.in-Ok.ensures.ok.1 in
+    let short : length c.args.bytes.now ≤ 4194304 = omega arith in
+    read_fault c.args.bytes.now _ (spelled_some c.args.bytes.now _ _ short read c.in_ok-table_scenario-in-Ok.ensures)
+
+pub returns-else-is_memory-clause-fault : goal.returns-else-is_memory-clause-fault
+returns-else-is_memory-clause-fault c =
     let read = document-none c.args.bytes.now (λ u. c.in-Err.ensures.refused (λ m. let t = c.if-is_memory.ensures.1 m in let f = c.if-is_memory.false in cc) u) in
     let short : length c.args.bytes.now ≤ 4194304 = omega arith in
-    scenario_of-document c.args.bytes.now _ short read
+    inr (spelled_none c.args.bytes.now short read)

@@ -1,0 +1,159 @@
+// What the items so far say.
+ghost use Rattle.std.specs.Prelude.{◌≡◌, ◌++◌, ◌∷◌, ◌+◌, ◌||◌, [], nat_le, length, IfOk, OnOk};
+ghost use Rattle.std.specs.List.{list_any};
+
+ghost use Rattle.e3_types.specs.Sets.{is_within};
+ghost use Rattle.e3_world.specs.Given.{count_ops, close_step};
+ghost use Rattle.e3_scenario.specs.Faults.{has_name, sites_begun, say};
+ghost use Rattle.e3_scenario.specs.Scenarios.{nothing_said};
+
+use e3_types::{Item, List, Name, NoMemory, SiteSet};
+use std::alloc::Global;
+use std::marker::Model;
+use std::mem;
+
+/// A name that was begun, and the sites of its transaction.
+#[derive(Drop)]
+pub struct Begun {
+    name: Name,
+    sites: SiteSet,
+}
+
+impl Model for Begun {
+    ghost use Rattle.e3_world.specs.Given.{BegunName};
+
+    ghost Value = { BegunName };
+
+    ghost view = { λ b. record { name = b.name; sites = b.sites } };
+}
+
+/// What the items so far say: the begins of earlier steps and of this one, a name for each operation, and the present
+/// parts of the network.
+#[derive(Drop)]
+pub struct Said {
+    earlier: List<Begun>,
+    fresh: List<Begun>,
+    ops: List<Name>,
+    parts: List<SiteSet>,
+}
+
+impl Model for Said {
+    ghost use Rattle.e3_world.specs.Given.{SaidSoFar};
+
+    ghost Value = { SaidSoFar };
+
+    ghost view = { λ s. record { earlier = s.earlier; fresh = s.fresh; ops = s.ops; parts = s.parts } };
+}
+
+fn has_name(begun: &[Begun], name: &Name) -> bool
+    ensures { result ≡ has_name begun.now name.now }
+{
+    begun.iter().any(|b| name.is_same(&b.name))
+}
+
+fn sites_begun(begun: &[Begun], name: &Name) -> Option<SiteSet>
+    ensures { result ≡ sites_begun begun.now name.now }
+{
+    let found = begun.iter().find(|b| name.is_same(&b.name))?;
+    Some(found.sites)
+}
+
+impl Said {
+    /// Nothing is said yet: no name is begun, and these sites are one part.
+    pub fn nothing(alloc: Global, all: SiteSet) -> Result<Said, NoMemory>
+        ensures { IfOk result (λ said. said ≡ nothing_said all) }
+    {
+        let mut parts = List::new(alloc);
+        parts.push(all)?;
+        Ok(Said {
+            earlier: List::new(alloc),
+            fresh: List::new(alloc),
+            ops: List::new(alloc),
+            parts,
+        })
+    }
+
+    /// There are 4,000 begins or more.
+    pub fn is_full(&self) -> bool
+        ensures { result ≡ nat_le 4000 (length self.now.earlier + length self.now.fresh) }
+    {
+        let earlier = self.earlier.len();
+        4000 <= earlier || 4000 - earlier <= self.fresh.len()
+    }
+
+    /// The name was begun, in an earlier step or in this one.
+    pub fn is_begun(&self, name: &Name) -> bool
+        ensures { result ≡ (has_name self.now.earlier name.now || has_name self.now.fresh name.now) }
+    {
+        has_name(self.earlier.as_slice(), name) || has_name(self.fresh.as_slice(), name)
+    }
+
+    /// The sites of the transaction that the name was begun for in an earlier step.
+    pub fn sites_of(&self, name: &Name) -> Option<SiteSet>
+        ensures { result ≡ sites_begun self.now.earlier name.now }
+    {
+        sites_begun(self.earlier.as_slice(), name)
+    }
+
+    /// How many operations of the name there are.
+    pub fn operations(&self, name: &Name) -> usize
+        ensures { result ≡ count_ops self.now.ops name.now }
+    {
+        self.ops
+            .as_slice()
+            .iter()
+            .filter(|other| name.is_same(other))
+            .count()
+    }
+
+    /// The sites lie in one part of the network.
+    pub fn is_in_one_part(&self, sites: SiteSet) -> bool
+        ensures { result ≡ list_any (is_within sites) self.now.parts }
+    {
+        self.parts.as_slice().iter().any(|part| sites.within(*part))
+    }
+
+    /// One more item says what it says.
+    pub fn say(&mut self, alloc: Global, all: SiteSet, item: &Item) -> Result<(), NoMemory>
+        ensures { OnOk result (self.new ≡ say all self.old item.now) }
+    {
+        match item {
+            Item::Begin { name, sites, .. } => self.fresh.push(Begun {
+                name: name.copy(),
+                sites: *sites,
+            }),
+            Item::Read { name, .. } => self.ops.push(name.copy()),
+            Item::Write { name, .. } => self.ops.push(name.copy()),
+            Item::Split { parts } => {
+                let mut now = List::new(alloc);
+                now.extend(parts.as_slice())?;
+                self.parts = now;
+                Ok(())
+            }
+            Item::Merge => {
+                let mut now = List::new(alloc);
+                now.push(all)?;
+                self.parts = now;
+                Ok(())
+            }
+            _ => Ok(()),
+        }
+    }
+
+    /// A step ends: its begins are earlier ones from now on.
+    pub fn close(&mut self, alloc: Global) -> Result<(), NoMemory>
+        ensures { OnOk result (self.new ≡ close_step self.old) }
+    {
+        let fresh = mem::replace(&mut self.fresh, List::new(alloc));
+        append(&mut self.earlier, fresh)
+    }
+}
+
+fn append(earlier: &mut List<Begun>, fresh: List<Begun>) -> Result<(), NoMemory>
+    ensures { OnOk result (earlier.new ≡ earlier.old ++ fresh) }
+{
+    for begun in fresh.into_vec() {
+        earlier.push(begun)?;
+    }
+    Ok(())
+}

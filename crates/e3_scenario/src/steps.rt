@@ -1,0 +1,129 @@
+// The steps of a scenario.
+ghost use Rattle.std.specs.Prelude.{◌≡◌, ◌≤◌, [], ◌∷◌, IfOk, length, map};
+ghost use Rattle.toml.specs.View.{view};
+ghost use Rattle.e3_world.specs.Given.{is_groupable};
+ghost use Rattle.e3_scenario.specs.Steps.{or_fault, judged, item_in, with_said, items_read, step_read, steps_read};
+
+use crate::documents::values;
+use crate::faults::ScenarioFault;
+use crate::items::item;
+use crate::judging::item_fault;
+use crate::sayings::Said;
+use e3_types::{Item, List, NoMemory, SiteSet};
+use std::alloc::Global;
+use std::slice;
+use toml::Value;
+
+/// What reading gives where memory does not run out: a value, or the fault of the scenario.
+pub type Read<T> = Result<T, ScenarioFault>;
+
+fn is_groupable(item: &Item) -> bool
+    ensures { result ≡ is_groupable item.now }
+{
+    !matches!(
+        item,
+        Item::Recover { .. }
+            | Item::Split { .. }
+            | Item::Merge
+            | Item::Crash { .. }
+            | Item::Restart { .. }
+            | Item::Stop { .. }
+    )
+}
+
+fn judged(
+    all: SiteSet,
+    step: u32,
+    grouped: bool,
+    said: &Said,
+    spelled: Option<Item>,
+) -> Result<Item, ScenarioFault>
+    ensures { result ≡ judged all step grouped said.now spelled }
+{
+    let Some(item) = spelled else {
+        return Err(ScenarioFault::BadLine { step });
+    };
+    if grouped && !is_groupable(&item) {
+        return Err(ScenarioFault::BadLine { step });
+    }
+    match item_fault(all, step, said, &item) {
+        None => Ok(item),
+        Some(fault) => Err(fault),
+    }
+}
+
+fn item_in(alloc: Global, value: &Value) -> Result<Option<Item>, NoMemory>
+    ensures { IfOk result (λ item. item ≡ item_in (view value.now)) }
+{
+    match value.as_str() {
+        None => Ok(None),
+        Some(text) => item(alloc, text.as_bytes()),
+    }
+}
+
+// The items of a step. Where one has a fault, what is said is of no use any more.
+#[tactic(auto, using(crate::proofs::Values::next_value))]
+fn items(
+    alloc: Global,
+    all: SiteSet,
+    step: u32,
+    grouped: bool,
+    said: &mut Said,
+    values: &[Value],
+) -> Result<Read<List<Item>>, NoMemory>
+    ensures { IfOk result (λ read. with_said said.new read ≡ items_read all step grouped said.old [] (map view values.now)) }
+{
+    let mut items = List::new(alloc);
+    for value in values {
+        let spelled = item_in(alloc, value)?;
+        match judged(all, step, grouped, said, spelled) {
+            Err(fault) => return Ok(Err(fault)),
+            Ok(item) => {
+                said.say(alloc, all, &item)?;
+                items.push(item)?;
+            }
+        }
+    }
+    Ok(Ok(items))
+}
+
+fn step(
+    alloc: Global,
+    all: SiteSet,
+    step: u32,
+    said: &mut Said,
+    value: &Value,
+) -> Result<Read<List<Item>>, NoMemory>
+    ensures { IfOk result (λ read. with_said said.new read ≡ step_read all step said.old (view value.now)) }
+{
+    match values(value) {
+        Some(values) => items(alloc, all, step, true, said, values),
+        None => items(alloc, all, step, false, said, slice::from_ref(value)),
+    }
+}
+
+/// The steps, each behind what those before it say.
+#[tactic(auto, using(crate::proofs::Values::next_value))]
+pub fn steps(
+    alloc: Global,
+    all: SiteSet,
+    said: &mut Said,
+    values: &[Value],
+) -> Result<Read<List<List<Item>>>, NoMemory>
+    requires { length values.now ≤ 10000 }
+    ensures { IfOk result (λ read. read ≡ steps_read all 1 said.old [] (map view values.now)) }
+{
+    let mut steps = List::new(alloc);
+    let mut number = 1;
+    for value in values {
+        match step(alloc, all, number, said, value)? {
+            Err(fault) => return Ok(Err(fault)),
+            Ok(items) => {
+                said.close(alloc)?;
+                steps.push(items)?;
+            }
+        }
+        number += 1;
+    }
+    Ok(Ok(steps))
+}
