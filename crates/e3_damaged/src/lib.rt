@@ -1,0 +1,8 @@
+//! Damaged histories: each is a worked one with one change, and breaks the guard that the change was made for.
+#![tactic(auto)]
+
+pub mod inputs;
+pub mod lines;
+pub mod makings;
+pub mod owners;
+pub mod rises;
