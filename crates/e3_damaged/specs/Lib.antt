@@ -4,3 +4,4 @@ pub mod WrongLines
 pub mod WrongInputs
 pub mod WrongRises
 pub mod WrongMakings
+pub mod Allowed

@@ -10,6 +10,7 @@ use Rattle.e3_damaged.specs.Damage.{left_out, put_in, twice, swapped, owned, act
 use Rattle.e3_worked_more.specs.BusyCancelOver.{busy_cancel_over_history}
 use Rattle.e3_worked.specs.CascadeCommits.{cascade_commits_history}
 use Rattle.e3_worked_more.specs.DroppedPackets.{dropped_packets_history}
+use Rattle.e3_worked_more.specs.FallenGroup.{fallen_group_history}
 use Rattle.e3_worked.specs.OlderWaitsYoungerDies.{older_waits_younger_dies_history}
 use Rattle.e3_worked.specs.OneWrite.{one_write_history}
 use Rattle.e3_worked.specs.SplitInHalves.{split_in_halves_history}
@@ -17,6 +18,7 @@ use Rattle.e3_worked.specs.ThreeSites.{three_sites_history}
 use Rattle.e3_worked_more.specs.TwoSitesAtOnce.{two_sites_at_once_history}
 use Rattle.e3_worked_more.specs.BusyCancelOver as busy
 use Rattle.e3_worked.specs.CascadeCommits as cascade
+use Rattle.e3_worked_more.specs.FallenGroup as fallen
 use Rattle.e3_worked.specs.OlderWaitsYoungerDies as older
 use Rattle.e3_worked.specs.OneWrite as one
 use Rattle.e3_worked.specs.SplitInHalves as halves
@@ -70,6 +72,14 @@ elect_twice = twice 15 split_in_halves_history
 -- the elector begins before the line of the recover step
 abbrev pub elect_before_its_line : List Entry
 elect_before_its_line = swapped 14 split_in_halves_history
+
+-- the first round is one of the second transaction
+abbrev pub elect_of_the_second_transaction : List Entry
+elect_of_the_second_transaction = acted 10 (with_input (input.Elect fallen.t1_1_2 fallen.s1_2_3)) fallen_group_history
+
+-- the second round begins while a packet of the first is pending
+abbrev pub elect_with_a_packet_pending : List Entry
+elect_with_a_packet_pending = swapped 16 fallen_group_history
 
 -- a packet is delivered twice, of which there is one copy
 abbrev pub delivery_twice : List Entry
@@ -126,3 +136,7 @@ fall_over_another_input = acted 21 (with_input (input.Begin cascade.s1_2_3)) cas
 -- in a recover step a packet is delivered before the drop of the least
 abbrev pub delivery_before_the_drop : List Entry
 delivery_before_the_drop = swapped 30 dropped_packets_history
+
+-- in a recover step a site falls over the second packet before another falls over the first
+abbrev pub falls_out_of_order : List Entry
+falls_out_of_order = swapped 15 fallen_group_history

@@ -6,6 +6,7 @@ use Rattle.e3_damaged.specs.Damage.{left_out, put_in, twice, swapped, acted}
 use Rattle.e3_worked_more.specs.BusyCancelOver.{busy_cancel_over_history}
 use Rattle.e3_worked.specs.CascadeCommits.{cascade_commits_history}
 use Rattle.e3_worked_more.specs.DroppedPackets.{dropped_packets_history}
+use Rattle.e3_worked_more.specs.FallenGroup.{fallen_group_history}
 use Rattle.e3_worked.specs.OneWrite.{one_write_history}
 use Rattle.e3_worked.specs.RestartDooms.{restart_dooms_history}
 use Rattle.e3_worked.specs.SplitInHalves.{split_in_halves_history}
@@ -122,3 +123,7 @@ drop_before_it_is_sent = put_in 10 (record { owner = 0; act = Drop 2 }) dropped_
 -- a packet is dropped over which the site fell
 abbrev pub drop_of_a_delivered_packet : List Entry
 drop_of_a_delivered_packet = put_in 22 (record { owner = 0; act = Drop 8 }) cascade_commits_history
+
+-- in a recover step the second packet is dropped before the first
+abbrev pub drop_out_of_order : List Entry
+drop_out_of_order = swapped 18 fallen_group_history

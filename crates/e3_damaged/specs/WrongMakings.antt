@@ -5,6 +5,7 @@ use Rattle.e3_types.specs.declared.transactions.Answer.TheVariants.{Value, Writt
 use Rattle.e3_types.specs.declared.transactions.Dir.TheVariants.{Abort, Commit}
 use Rattle.e3_types.specs.declared.entries.Entry.{Entry}
 use Rattle.e3_types.specs.declared.transactions.Op.TheVariants.{Read, Write}
+use Rattle.e3_types.specs.declared.records.Record.{Record}
 use Rattle.e3_types.specs.declared.messages.Message.TheVariants as msg
 use Rattle.e3_types.specs.declared.records.Record.TheVariants as log
 use Rattle.e3_types.specs.declared.entries.Refusal.TheVariants as refusal
@@ -26,13 +27,17 @@ use Rattle.e3_worked.specs.SplitInHalves as halves
 use Rattle.e3_worked.specs.ThreeSites as three
 use Rattle.e3_worked_more.specs.UpgradeWaits as upgrade
 
+-- the vote of the one write
+abbrev pub one_vote : Record
+one_vote = log.Vote one.t1_1_1 (record { n = 1; op = Write one.key_1_x (97 ∷ []) } ∷ [])
+
 -- the attempt is left out
 abbrev pub record_left_out : List Entry
-record_left_out = acted 6 (with_records (log.Vote one.t1_1_1 (record { n = 1; op = Write one.key_1_x (97 ∷ []) } ∷ []) ∷ log.Decision one.t1_1_1 Commit ∷ [])) one_write_history
+record_left_out = acted 6 (with_records (one_vote ∷ log.Decision one.t1_1_1 Commit ∷ [])) one_write_history
 
 -- the attempt stands before the vote
 abbrev pub records_in_another_order : List Entry
-records_in_another_order = acted 6 (with_records (log.Attempt one.t1_1_1 1 Commit ∷ log.Vote one.t1_1_1 (record { n = 1; op = Write one.key_1_x (97 ∷ []) } ∷ []) ∷ log.Decision one.t1_1_1 Commit ∷ [])) one_write_history
+records_in_another_order = acted 6 (with_records (log.Attempt one.t1_1_1 1 Commit ∷ one_vote ∷ log.Decision one.t1_1_1 Commit ∷ [])) one_write_history
 
 -- the vote leaves out the write
 abbrev pub vote_with_an_operation_less : List Entry

@@ -1,6 +1,6 @@
 -- Cuts and rises that no step asks for, tails that are not open, and wrong incarnations.
 use Rattle.std.specs.Prelude.{◌∷◌, [], true, false, List}
-use Rattle.e3_types.specs.declared.entries.Act.TheVariants.{Fall, Rise, RiseFall, Cut}
+use Rattle.e3_types.specs.declared.entries.Act.TheVariants.{Fall, Rise, RiseFall, Miss, Cut}
 use Rattle.e3_types.specs.declared.transactions.Dir.TheVariants.{Commit}
 use Rattle.e3_types.specs.declared.entries.Entry.{Entry}
 use Rattle.e3_types.specs.declared.entries.Why.TheVariants.{Fault, Full}
@@ -64,6 +64,10 @@ kept_at_a_failed_rise = acted 8 (λ act. RiseFall true 2 Fault) missed_and_faile
 -- the frame did not fit, which leaves no tail, and a tail is kept
 abbrev pub kept_behind_a_full_disk : List Entry
 kept_behind_a_full_disk = acted 21 (λ act. Fall (input.Deliver cascade.p8 ∷ []) (log.Attempt cascade.t1_1_1 1 Commit ∷ []) (Full 120 100)) cascade_commits_history
+
+-- the rise that failed was missed, which leaves no tail, and one is kept
+abbrev pub kept_behind_a_missed_rise : List Entry
+kept_behind_a_missed_rise = acted 8 (λ act. Miss) missed_and_failed_rises_history
 
 -- the first incarnation is 2
 abbrev pub inc_skipped : List Entry

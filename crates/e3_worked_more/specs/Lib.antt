@@ -3,6 +3,7 @@ pub mod CascadeAborts
 pub mod DroppedPackets
 pub mod ElectedSiteStaysSilent
 pub mod EveryPacketLost
+pub mod FallenGroup
 pub mod FullDisk
 pub mod MissedAndFailedRises
 pub mod OneSiteIsAQuorum

@@ -7,6 +7,7 @@ pub mod cascade_aborts;
 pub mod dropped_packets;
 pub mod elected_site_stays_silent;
 pub mod every_packet_lost;
+pub mod fallen_group;
 pub mod full_disk;
 pub mod missed_and_failed_rises;
 pub mod one_site_is_a_quorum;

@@ -17,3 +17,7 @@ returns-clause-fall_over_another_input c = refl
 pub returns-clause-delivery_before_the_drop : goal.returns-clause-delivery_before_the_drop
 unfolding bits_of
 returns-clause-delivery_before_the_drop c = refl
+
+pub returns-clause-falls_out_of_order : goal.returns-clause-falls_out_of_order
+unfolding bits_of
+returns-clause-falls_out_of_order c = refl

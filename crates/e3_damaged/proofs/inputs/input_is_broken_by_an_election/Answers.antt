@@ -17,3 +17,11 @@ returns-clause-elect_twice c = refl
 pub returns-clause-elect_before_its_line : goal.returns-clause-elect_before_its_line
 unfolding bits_of
 returns-clause-elect_before_its_line c = refl
+
+pub returns-clause-elect_of_the_second_transaction : goal.returns-clause-elect_of_the_second_transaction
+unfolding bits_of
+returns-clause-elect_of_the_second_transaction c = refl
+
+pub returns-clause-elect_with_a_packet_pending : goal.returns-clause-elect_with_a_packet_pending
+unfolding bits_of
+returns-clause-elect_with_a_packet_pending c = refl

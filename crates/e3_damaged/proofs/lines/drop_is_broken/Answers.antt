@@ -29,3 +29,7 @@ returns-clause-drop_before_it_is_sent c = refl
 pub returns-clause-drop_of_a_delivered_packet : goal.returns-clause-drop_of_a_delivered_packet
 unfolding bits_of
 returns-clause-drop_of_a_delivered_packet c = refl
+
+pub returns-clause-drop_out_of_order : goal.returns-clause-drop_out_of_order
+unfolding bits_of
+returns-clause-drop_out_of_order c = refl

@@ -17,3 +17,7 @@ returns-clause-kept_at_a_failed_rise c = refl
 pub returns-clause-kept_behind_a_full_disk : goal.returns-clause-kept_behind_a_full_disk
 unfolding bits_of
 returns-clause-kept_behind_a_full_disk c = refl
+
+pub returns-clause-kept_behind_a_missed_rise : goal.returns-clause-kept_behind_a_missed_rise
+unfolding bits_of
+returns-clause-kept_behind_a_missed_rise c = refl
