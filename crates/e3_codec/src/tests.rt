@@ -113,11 +113,11 @@ fn is_read(alloc: Global, bytes: &[u8]) -> Result<u64, RecordFault> {
     Ok(read_records(alloc, 1, bytes)?.len())
 }
 
-// The place where the bytes are bad, counted from 1; 0 where they are records.
-fn bad_place(alloc: Global, bytes: &[u8]) -> Result<u64, NoMemory> {
+// The place where the bytes are bad; none where they are records.
+fn bad_place(alloc: Global, bytes: &[u8]) -> Result<Option<u64>, NoMemory> {
     match is_read(alloc, bytes) {
-        Ok(_) => Ok(0),
-        Err(RecordFault::Bad { at }) => Ok(at + 1),
+        Ok(_) => Ok(None),
+        Err(RecordFault::Bad { at }) => Ok(Some(at)),
         Err(RecordFault::NoMemory) => Err(NoMemory),
     }
 }
@@ -147,5 +147,90 @@ fn each_kind_there_and_back(rt: HostRuntime) -> Result<(), Fail> {
     let alloc = rt.alloc();
     let other = spelled(alloc, other_records(alloc)?.as_slice())?;
     assert!(rt; round(alloc, other.as_slice())?.as_slice() == other.as_slice());
+    Ok(())
+}
+
+// Where the last record of the second body begins that begins in so many bytes, and whether it ends there.
+fn last_place(length: usize) -> u64 {
+    if length < 35 {
+        0
+    } else if length < 61 {
+        35
+    } else {
+        61
+    }
+}
+
+fn is_whole(length: usize) -> bool {
+    length == 0 || length == 35 || length == 61 || length == 83
+}
+
+// A body that is cut is bad where the record begins that is cut.
+fn cut_rightly(alloc: Global, length: usize) -> Result<bool, NoMemory> {
+    let body = second_body();
+    if length > 83 {
+        return Ok(false);
+    }
+    let place = bad_place(alloc, &body[..length])?;
+    if is_whole(length) {
+        Ok(place.is_none())
+    } else {
+        Ok(place == Some(last_place(length)))
+    }
+}
+
+#[test]
+fn a_body_cut_at_each_byte(rt: HostRuntime) -> Result<(), Fail> {
+    let alloc = rt.alloc();
+    for length in 0..84usize {
+        let rightly = cut_rightly(alloc, length)?;
+        assert!(rt; rightly);
+    }
+    Ok(())
+}
+
+// A body of which one byte is changed is bad, or it is the spelling of other records.
+fn changed_rightly(alloc: Global, place: usize) -> Result<bool, NoMemory> {
+    let mut body = second_body();
+    if place >= 83 {
+        return Ok(false);
+    }
+    body[place] = body[place].wrapping_add(1);
+    if bad_place(alloc, body.as_slice())?.is_some() {
+        return Ok(true);
+    }
+    let again = round(alloc, body.as_slice())?;
+    Ok(again.as_slice() == body.as_slice() && again.as_slice() != second_body().as_slice())
+}
+
+#[test]
+fn each_byte_changed_in_turn(rt: HostRuntime) -> Result<(), Fail> {
+    let alloc = rt.alloc();
+    for place in 0..83usize {
+        let rightly = changed_rightly(alloc, place)?;
+        assert!(rt; rightly);
+    }
+    Ok(())
+}
+
+// Bytes behind an incarnation that are no record: a tag of no kind, a vote that promises 4,294,967,295 operations, a
+// direction of no kind, and a transaction without its coordinator.
+#[test]
+fn bytes_that_are_no_record(rt: HostRuntime) -> Result<(), Fail> {
+    let alloc = rt.alloc();
+    assert_eq!(rt; bad_place(alloc, &[2, 0, 0, 0, 1, 7])?, Some(5));
+    assert_eq!(rt; bad_place(alloc, &[2, 0, 0, 0, 1, 0])?, Some(5));
+    let mut body = second_body();
+    body[21] = 255;
+    body[22] = 255;
+    body[23] = 255;
+    body[24] = 255;
+    assert_eq!(rt; bad_place(alloc, body.as_slice())?, Some(0));
+    body = second_body();
+    body[82] = 2;
+    assert_eq!(rt; bad_place(alloc, body.as_slice())?, Some(61));
+    body = second_body();
+    body[20] = 2;
+    assert_eq!(rt; bad_place(alloc, body.as_slice())?, Some(0));
     Ok(())
 }
