@@ -10,7 +10,8 @@ ghost use Rattle.e3_histories.specs.RoundOf.{round_of};
 use crate::items::{is_up_at, since_line, to_line};
 use crate::packets::present_items;
 use crate::sites::incarnation_at;
-use e3_readings::{arrivals, is_undecided, life_of};
+use e3_opens::{add_undecided_in, in_order};
+use e3_readings::life_of;
 use e3_types::{Act, Entry, Input, Item, List, NoMemory, Record, Scenario, SiteSet, Told, Txn};
 use e3_world::{Life, Moment};
 use std::alloc::Global;
@@ -45,90 +46,6 @@ impl RecoveryRound {
     }
 }
 
-// Adds the transaction of a record.
-fn add_recorded(r: &Record, txns: &mut List<Txn>) -> Result<(), NoMemory>
-    ensures { IfOk result (λ u. txns.new ≡ txns.old ++ txn_of_record r.now) }
-{
-    match r {
-        Record::Vote { txn, .. } => txns.push(*txn),
-        Record::Join { txn, .. } => txns.push(*txn),
-        Record::Attempt { txn, .. } => txns.push(*txn),
-        Record::Decision { txn, .. } => txns.push(*txn),
-        _ => Ok(()),
-    }
-}
-
-// Adds the transactions of a log.
-fn add_logged(log: &[Record], txns: &mut List<Txn>) -> Result<(), NoMemory>
-    ensures { IfOk result (λ u. txns.new ≡ txns.old ++ flat_map txn_of_record log.now) }
-{
-    for r in log {
-        add_recorded(r, txns)?;
-    }
-    Ok(())
-}
-
-// Adds the transactions of the operations that came to the site.
-fn add_arrived(
-    alloc: Global,
-    site: u32,
-    steps: &[Moment],
-    txns: &mut List<Txn>,
-) -> Result<(), NoMemory>
-    ensures { IfOk result (λ u. txns.new ≡ txns.old ++ map (λ a. a.txn) (arrivals site steps.now)) }
-{
-    let asked = arrivals(alloc, site, steps)?;
-    for a in asked.as_slice() {
-        txns.push(a.txn)?;
-    }
-    Ok(())
-}
-
-// Adds the transactions that a step told as begun.
-fn add_began(told: &[Told], txns: &mut List<Txn>) -> Result<(), NoMemory>
-    ensures { IfOk result (λ u. txns.new ≡ txns.old ++ flat_map began_in told.now) }
-{
-    for event in told {
-        if let Told::Began { txn } = event {
-            txns.push(*txn)?;
-        }
-    }
-    Ok(())
-}
-
-// Adds the transactions that the site began.
-fn add_begun(steps: &[Moment], txns: &mut List<Txn>) -> Result<(), NoMemory>
-    ensures { IfOk result (λ u. txns.new ≡ txns.old ++ flat_map (λ m. flat_map began_in m.told) steps.now) }
-{
-    for m in steps {
-        add_began(m.told.as_slice(), txns)?;
-    }
-    Ok(())
-}
-
-// All transactions that a site knows, some more than once.
-fn known_txns(alloc: Global, site: u32, life: &Life) -> Result<List<Txn>, NoMemory>
-    ensures { IfOk result (λ txns. txns ≡ known_txns site life.now) }
-{
-    let mut txns = List::new(alloc);
-    add_logged(life.log.as_slice(), &mut txns)?;
-    add_arrived(alloc, site, life.steps.as_slice(), &mut txns)?;
-    add_begun(life.steps.as_slice(), &mut txns)?;
-    Ok(txns)
-}
-
-// Adds the undecided ones of these transactions.
-fn add_undecided(txns: &[Txn], log: &[Record], out: &mut List<Txn>) -> Result<(), NoMemory>
-    ensures { IfOk result (λ u. out.new ≡ out.old ++ filter (λ t. is_undecided t log.now) txns.now) }
-{
-    for t in txns {
-        if is_undecided(t, log) {
-            out.push(*t)?;
-        }
-    }
-    Ok(())
-}
-
 // Adds the undecided transactions that a site knows.
 fn add_open(
     alloc: Global,
@@ -145,8 +62,7 @@ fn add_open(
         incarnation.rose.as_slice(),
         incarnation.since.as_slice(),
     )?;
-    let known = known_txns(alloc, site, &life)?;
-    add_undecided(known.as_slice(), life.log.as_slice(), out)
+    add_undecided_in(alloc, site, &life, out)
 }
 
 /// The undecided transactions that these sites know, some more than once.
@@ -163,38 +79,6 @@ pub(crate) fn open_of(
         add_open(alloc, sc, history, *site, &mut txns)?;
     }
     Ok(txns)
-}
-
-// The transaction among these, which ascend.
-fn add_txn(alloc: Global, txns: &[Txn], new: &Txn) -> Result<List<Txn>, NoMemory>
-    ensures { IfOk result (λ out. out ≡ add_txn txns.now new.now) }
-{
-    let mut out = List::new(alloc);
-    for i in 0..txns.len() {
-        if txns[i].is_same(new) {
-            out.extend(&txns[i..])?;
-            return Ok(out);
-        }
-        if new.is_older(&txns[i]) {
-            out.push(*new)?;
-            out.extend(&txns[i..])?;
-            return Ok(out);
-        }
-        out.push(txns[i])?;
-    }
-    out.push(*new)?;
-    Ok(out)
-}
-
-// These transactions in ascending order, each once.
-fn in_order(alloc: Global, txns: &[Txn]) -> Result<List<Txn>, NoMemory>
-    ensures { IfOk result (λ out. out ≡ fold add_txn [] txns.now) }
-{
-    let mut out: List<Txn> = List::new(alloc);
-    for t in txns {
-        out = add_txn(alloc, out.as_slice(), t)?;
-    }
-    Ok(out)
 }
 
 // Those of the group that are up.

@@ -1,5 +1,5 @@
 -- What a site that stands for a history plans, and that it goes on standing for it.
-use Rattle.std.proofs.Common.{◌≡◌, ◌==◌, ℕ, List, [], ◌∷◌, ◌++◌, refl, ap, sym, subst, ◌∙◌, map, Result, Ok, Err, IfOk}
+use Rattle.std.proofs.Common.{◌≡◌, ℕ, List, [], ◌∷◌, ◌++◌, refl, ap, sym, subst, ◌∙◌, Result, Ok, Err, IfOk}
 use Rattle.e3_types.specs.declared.list.NoMemory.{NoMemory}
 use Rattle.e3_types.specs.declared.entries.Entry.{Entry}
 use Rattle.e3_types.specs.declared.entries.Input.{Input}
@@ -10,16 +10,15 @@ use Rattle.e3_types.specs.declared.transactions.Txn.{Txn}
 use Rattle.e3_world.specs.declared.lives.Incarnation.{Incarnation}
 use Rattle.e3_world.specs.declared.lives.SiteStep.{SiteStep}
 use Rattle.e3_world.specs.Legal.{entry_of, made_by}
-use Rattle.e3_world.specs.Lives.{incarnation_of, incarnation_by}
+use Rattle.e3_world.specs.Lives.{incarnation_of}
 use Rattle.e3_world.specs.Moves.{Move, Past, Rose, past_of, moves_of, own, log_by, plain_input}
-use Rattle.e3_world.specs.Steps.{step_of}
 use Rattle.e3_world.proofs.Numbers.{entered_move}
 use Rattle.e3_world.proofs.Pushes.{past_push, incarnation_push, log_push, present_is_log, step_plain}
 use Rattle.e3_world.proofs.Readings.{own_same}
 use Rattle.e3_world.proofs.Turns.{self}
 use Rattle.e3_site.specs.Opens.{open_txns}
-use Rattle.e3_site.specs.SiteView.{SiteView, IsPlanOf, step_kept, plan_of, with_step, count_on}
-use Rattle.e3_site.specs.StandsFor.{StandsFor, IsRisenWith, StandsRisen, PlansStep, StandsOn, ListsOpen}
+use Rattle.e3_site.specs.SiteView.{SiteView, IsPlanOf, step_kept, plan_of, with_step}
+use Rattle.e3_site.specs.StandsFor.{StandsFor, StandsRisen, PlansStep, StandsOn, ListsOpen}
 
 -- an input that has no number any more keeps none
 plain_twice : (i : Input) → plain_input (plain_input i) ≡ plain_input i

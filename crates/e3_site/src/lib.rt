@@ -2,7 +2,6 @@
 //! is the plain step.
 #![tactic(auto)]
 
-mod opens;
 mod plan;
 mod site;
 #[cfg(test)]

@@ -6,8 +6,8 @@ ghost use Rattle.e3_site.specs.StandsFor.{ListsOpen, PlansStep, StandsOn, Stands
 ghost use Rattle.e3_world.specs.Lives.{present_log};
 ghost use Rattle.e3_world.specs.Logs.{logged_inc, table_of};
 
-use crate::opens::open_in;
 use crate::plan::Plan;
+use e3_opens::open_in;
 use e3_plain::step_of;
 use e3_readings::{life_of, logged_inc, present_log, table_of};
 use e3_types::{Input, List, NoMemory, Record, Row, Txn};

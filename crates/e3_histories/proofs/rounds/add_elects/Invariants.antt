@@ -1,6 +1,6 @@
-use Rattle.std.proofs.Common.{◌≡◌, ◌++◌, take, map, filter, fold, [], drop}
+use Rattle.std.proofs.Common.{◌≡◌, ◌++◌, take}
 use Rattle.std.specs.List.{flat_map}
-use Rattle.e3_world.specs.Items.{add_txn, began_in, elected_txn, inputs_of, is_up_at, open_at, since_line, txn_of_record}
+use Rattle.e3_world.specs.Items.{elected_txn}
 use Rattle.e3_histories.proofs.rounds.add_elects.Given as goal
 
 abbrev pub invariant-loop-i : goal.invariant-loop-i

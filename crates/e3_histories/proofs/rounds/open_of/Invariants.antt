@@ -1,6 +1,6 @@
-use Rattle.std.proofs.Common.{◌≡◌, ◌++◌, take, map, filter, fold, [], drop}
+use Rattle.std.proofs.Common.{◌≡◌, take}
 use Rattle.std.specs.List.{flat_map}
-use Rattle.e3_world.specs.Items.{add_txn, began_in, elected_txn, inputs_of, is_up_at, open_at, since_line, txn_of_record}
+use Rattle.e3_world.specs.Items.{open_at}
 use Rattle.e3_histories.proofs.rounds.open_of.Given as goal
 
 abbrev pub invariant-loop-site : goal.invariant-loop-site

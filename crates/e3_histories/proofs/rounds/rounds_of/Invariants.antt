@@ -1,4 +1,4 @@
-use Rattle.std.proofs.Common.{◌≡◌, ◌++◌, take, map, filter, fold, [], drop}
+use Rattle.std.proofs.Common.{◌≡◌, take, filter}
 use Rattle.std.specs.List.{flat_map}
 use Rattle.e3_types.specs.Sets.{has_site}
 use Rattle.e3_histories.specs.RoundOf.{round_of}

@@ -1,4 +1,4 @@
-use Rattle.std.proofs.Common.{◌≡◌, ◌++◌, take, map, filter, fold, [], drop}
+use Rattle.std.proofs.Common.{◌≡◌, take, filter}
 use Rattle.e3_types.specs.Sets.{has_site}
 use Rattle.e3_histories.proofs.rounds.sites_in.Given as goal
 

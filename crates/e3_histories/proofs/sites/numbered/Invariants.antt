@@ -1,4 +1,4 @@
-use Rattle.std.proofs.Common.{◌≡◌, ◌+◌, take, length}
+use Rattle.std.proofs.Common.{◌≡◌, ◌+◌, take}
 use Rattle.e3_world.specs.Legal.{numbered}
 use Rattle.e3_histories.proofs.sites.numbered.Given as goal
 

@@ -1,5 +1,0 @@
-use Rattle.std.proofs.Common.{◌≡◌, ◌++◌, take, map, filter, fold, [], drop}
-use Rattle.e3_histories.proofs.rounds.add_arrived.Given as goal
-
-abbrev pub invariant-loop-a : goal.invariant-loop-a
-invariant-loop-a l = l.txns ≡ l.initial.txns ++ map (λ a. a.txn) (take l.a-index l.a-items)

@@ -1,7 +1,0 @@
-use Rattle.std.proofs.Common.{◌≡◌, ◌++◌, take, map, filter, fold, [], drop}
-use Rattle.std.specs.List.{flat_map}
-use Rattle.e3_world.specs.Items.{add_txn, began_in, elected_txn, inputs_of, is_up_at, open_at, since_line, txn_of_record}
-use Rattle.e3_histories.proofs.rounds.add_logged.Given as goal
-
-abbrev pub invariant-loop-r : goal.invariant-loop-r
-invariant-loop-r l = l.txns ≡ l.initial.txns ++ flat_map txn_of_record (take l.r-index l.log)

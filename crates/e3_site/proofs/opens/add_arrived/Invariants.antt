@@ -1,5 +1,0 @@
-use Rattle.std.proofs.Common.{◌≡◌, ◌++◌, take, map}
-use Rattle.e3_site.proofs.opens.add_arrived.Given as goal
-
-abbrev pub invariant-loop-a : goal.invariant-loop-a
-invariant-loop-a l = l.out ≡ l.initial.out ++ map (λ a. a.txn) (take l.a-index l.asked)
