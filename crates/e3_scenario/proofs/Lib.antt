@@ -1,3 +1,4 @@
 pub mod Forms
 pub mod Steps
 pub mod OnePath
+pub mod Pieces

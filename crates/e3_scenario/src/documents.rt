@@ -7,7 +7,7 @@ ghost use Rattle.e3_scenario.specs.Documents.{key_count, weight_of, step_of, ste
 
 use crate::faults::ScenarioFault;
 use crate::items::item;
-use e3_types::{Item, List};
+use e3_types::{Item, List, NoMemory};
 use std::alloc::Global;
 use toml::{Table, Value};
 
@@ -42,17 +42,20 @@ pub fn weight(value: &Value) -> Option<u32>
     }
 }
 
-fn item_in(value: &Value) -> Option<Item>
-    ensures { result ≡ option_and_then item_of (as_str (view value.now)) }
+fn item_in(alloc: Global, value: &Value) -> Result<Option<Item>, NoMemory>
+    ensures { IfOk result (λ o. o ≡ option_and_then item_of (as_str (view value.now))) }
 {
-    item(value.as_str()?.as_bytes())
+    match value.as_str() {
+        None => Ok(None),
+        Some(text) => item(alloc, text.as_bytes()),
+    }
 }
 
 fn step(alloc: Global, value: &Value) -> Result<List<Item>, ScenarioFault>
     ensures ok { IfOk result (λ step. step_of (view value.now) ≡ Some step) }
     ensures not_built { result ≡ Err ScenarioFault.NotBuilt → step_of (view value.now) ≡ None }
 {
-    let Some(item) = item_in(value) else {
+    let Some(item) = item_in(alloc, value)? else {
         return Err(ScenarioFault::NotBuilt);
     };
     let mut step = List::new(alloc);

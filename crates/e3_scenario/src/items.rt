@@ -1,12 +1,13 @@
 // The items of a scenario.
-ghost use Rattle.std.specs.Prelude.{◌≡◌, bytes_eq};
+ghost use Rattle.std.specs.Prelude.{◌≡◌, bytes_eq, IfOk};
 ghost use Rattle.std.specs.List.{list_all};
 ghost use Rattle.e3_scenario.specs.Words.{is_printable, space, before};
-ghost use Rattle.e3_scenario.specs.Items.{begin_of, write_of, commit_of, item_by, item_of};
+ghost use Rattle.e3_scenario.specs.Items.{begin_of, read_of, write_of, commit_of, cancel_of, expire_of, elect_of, recover_of, split_of, merge_of, crash_of, restart_of, stop_of, transaction_item, site_item, item_by, item_of};
 
-use crate::parts::{key, name, site, sites, value};
+use crate::parts::{count, key, leave, name, parts, site, sites, value};
 use crate::words::{SPACE, before, is_printable, rest, word};
-use e3_types::Item;
+use e3_types::{Item, NoMemory};
+use std::alloc::Global;
 
 #[tactic(auto, unfolding(crate::specs::Items::begin_of))]
 fn begin(text: &[u8]) -> Option<Item>
@@ -16,6 +17,15 @@ fn begin(text: &[u8]) -> Option<Item>
     let site = site(word(text, 2)?)?;
     let sites = sites(rest(text, 3)?)?;
     Some(Item::Begin { name, site, sites })
+}
+
+#[tactic(auto, unfolding(crate::specs::Items::read_of))]
+fn read(text: &[u8]) -> Option<Item>
+    ensures { result ≡ read_of text.now }
+{
+    let name = name(word(text, 1)?)?;
+    let key = key(rest(text, 2)?)?;
+    Some(Item::Read { name, key })
 }
 
 #[tactic(auto, unfolding(crate::specs::Items::write_of))]
@@ -36,31 +46,166 @@ fn commit(text: &[u8]) -> Option<Item>
     Some(Item::Commit { name })
 }
 
+#[tactic(auto, unfolding(crate::specs::Items::cancel_of))]
+fn cancel(text: &[u8]) -> Option<Item>
+    ensures { result ≡ cancel_of text.now }
+{
+    let name = name(rest(text, 1)?)?;
+    Some(Item::Cancel { name })
+}
+
+#[tactic(auto, unfolding(crate::specs::Items::expire_of))]
+fn expire(text: &[u8]) -> Option<Item>
+    ensures { result ≡ expire_of text.now }
+{
+    let site = site(word(text, 1)?)?;
+    let name = name(rest(text, 2)?)?;
+    Some(Item::Expire { site, name })
+}
+
+#[tactic(auto, unfolding(crate::specs::Items::elect_of))]
+fn elect(text: &[u8]) -> Option<Item>
+    ensures { result ≡ elect_of text.now }
+{
+    let site = site(word(text, 1)?)?;
+    let name = name(word(text, 2)?)?;
+    let sites = sites(rest(text, 3)?)?;
+    Some(Item::Elect { site, name, sites })
+}
+
+#[tactic(auto, unfolding(crate::specs::Items::recover_of))]
+fn recover(text: &[u8]) -> Option<Item>
+    ensures { result ≡ recover_of text.now }
+{
+    let sites = sites(rest(text, 1)?)?;
+    Some(Item::Recover { sites })
+}
+
+#[tactic(auto, unfolding(crate::specs::Items::merge_of))]
+fn merge(text: &[u8]) -> Option<Item>
+    ensures { result ≡ merge_of text.now }
+{
+    if is_verb(text, "merge") {
+        Some(Item::Merge)
+    } else {
+        None
+    }
+}
+
+#[tactic(auto, unfolding(crate::specs::Items::crash_of))]
+fn crash(text: &[u8]) -> Option<Item>
+    ensures { result ≡ crash_of text.now }
+{
+    let site = site(rest(text, 1)?)?;
+    Some(Item::Crash { site })
+}
+
+#[tactic(auto, unfolding(crate::specs::Items::restart_of))]
+fn restart(text: &[u8]) -> Option<Item>
+    ensures { result ≡ restart_of text.now }
+{
+    let site = site(rest(text, 1)?)?;
+    Some(Item::Restart { site })
+}
+
+#[tactic(auto, unfolding(crate::specs::Items::stop_of))]
+fn stop(text: &[u8]) -> Option<Item>
+    ensures { result ≡ stop_of text.now }
+{
+    let site = site(word(text, 1)?)?;
+    let count = count(word(text, 2)?)?;
+    let leave = leave(rest(text, 3)?)?;
+    Some(Item::Stop { site, count, leave })
+}
+
+#[tactic(auto, unfolding(crate::specs::Items::split_of))]
+fn split(alloc: Global, text: &[u8]) -> Result<Option<Item>, NoMemory>
+    ensures { IfOk result (λ item. item ≡ split_of text.now) }
+{
+    let Some(text) = rest(text, 1) else {
+        return Ok(None);
+    };
+    match parts(alloc, text)? {
+        Some(parts) => Ok(Some(Item::Split { parts })),
+        None => Ok(None),
+    }
+}
+
 fn is_all_printable(text: &[u8]) -> bool
     ensures { result ≡ list_all is_printable text.now }
 {
     text.iter().all(|b| is_printable(*b))
 }
 
-fn has_verb(text: &[u8], verb: &str) -> bool
-    ensures { result ≡ bytes_eq (before space text.now) verb.now }
+fn is_verb(verb: &[u8], wanted: &str) -> bool
+    ensures { result ≡ bytes_eq verb.now wanted.now }
 {
-    before(text, SPACE) == verb.as_bytes()
+    verb == wanted.as_bytes()
+}
+
+#[tactic(auto, unfolding(crate::specs::Items::transaction_item))]
+fn transaction_item(verb: &[u8], text: &[u8]) -> Option<Item>
+    ensures { result ≡ transaction_item verb.now text.now }
+{
+    if is_verb(verb, "begin") {
+        begin(text)
+    } else if is_verb(verb, "read") {
+        read(text)
+    } else if is_verb(verb, "write") {
+        write(text)
+    } else if is_verb(verb, "commit") {
+        commit(text)
+    } else if is_verb(verb, "cancel") {
+        cancel(text)
+    } else if is_verb(verb, "expire") {
+        expire(text)
+    } else if is_verb(verb, "elect") {
+        elect(text)
+    } else {
+        None
+    }
+}
+
+#[tactic(auto, unfolding(crate::specs::Items::site_item))]
+fn site_item(verb: &[u8], text: &[u8]) -> Option<Item>
+    ensures { result ≡ site_item verb.now text.now }
+{
+    if is_verb(verb, "recover") {
+        recover(text)
+    } else if is_verb(verb, "merge") {
+        merge(text)
+    } else if is_verb(verb, "crash") {
+        crash(text)
+    } else if is_verb(verb, "restart") {
+        restart(text)
+    } else if is_verb(verb, "stop") {
+        stop(text)
+    } else {
+        None
+    }
+}
+
+#[tactic(auto, unfolding(crate::specs::Items::item_by))]
+fn item_by(alloc: Global, verb: &[u8], text: &[u8]) -> Result<Option<Item>, NoMemory>
+    ensures { IfOk result (λ item. item ≡ item_by verb.now text.now) }
+{
+    if is_verb(verb, "split") {
+        return split(alloc, text);
+    }
+    match transaction_item(verb, text) {
+        Some(item) => Ok(Some(item)),
+        None => Ok(site_item(verb, text)),
+    }
 }
 
 /// The item that a text spells.
-pub fn item(text: &[u8]) -> Option<Item>
-    ensures { result ≡ item_of text.now }
+#[tactic(auto, unfolding(crate::specs::Items::item_of))]
+pub fn item(alloc: Global, text: &[u8]) -> Result<Option<Item>, NoMemory>
+    ensures { IfOk result (λ item. item ≡ item_of text.now) }
 {
-    if !is_all_printable(text) {
-        None
-    } else if has_verb(text, "begin") {
-        begin(text)
-    } else if has_verb(text, "write") {
-        write(text)
-    } else if has_verb(text, "commit") {
-        commit(text)
+    if is_all_printable(text) {
+        item_by(alloc, before(text, SPACE), text)
     } else {
-        None
+        Ok(None)
     }
 }

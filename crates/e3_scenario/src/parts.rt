@@ -1,9 +1,11 @@
-// The parts of an item: names, values, sites and keys.
-ghost use Rattle.std.specs.Prelude.{◌≡◌, ◌≤◌, IfSome};
-ghost use Rattle.e3_scenario.specs.Parts.{name_of, value_of, digits_from, has_leading_zero, number_of, site_of, sites_of, key_of};
+// The parts of an item: names, values, sites, keys, counts and leaves, and the parts of a split.
+ghost use Rattle.std.specs.Prelude.{◌≡◌, ◌≤◌, IfOk, IfSome, bytes_eq};
+ghost use Rattle.e3_scenario.specs.Parts.{name_of, value_of, digits_from, has_leading_zero, number_of, site_of, sites_above, sites_of, key_of, count_of, byte_of, junk_of, leave_of, parts_of};
+ghost use Rattle.e3_scenario.specs.Words.{comma, pieces};
 
-use crate::words::{POINT, after, before};
-use e3_types::{Key, Name, SiteSet, Val};
+use crate::words::{BAR, COMMA, POINT, SPACE, after, before, rest};
+use e3_types::{Key, Leave, List, Name, NoMemory, SiteSet, Val};
+use std::alloc::Global;
 
 /// A NAME.
 pub fn name(text: &[u8]) -> Option<Name>
@@ -66,12 +68,27 @@ pub fn site(text: &[u8]) -> Option<u32>
     number(text, 64)
 }
 
+// More sites of a set. There are no more than 64, so it calls itself no deeper.
+#[tactic(auto, using(crate::proofs::Pieces::no_site, crate::proofs::Pieces::low_site, crate::proofs::Pieces::last_site, crate::proofs::Pieces::next_site))]
+fn sites_above(low: u32, sites: SiteSet, text: &[u8]) -> Option<SiteSet>
+    ensures { result ≡ sites_above low sites (pieces comma text.now) }
+{
+    let site = site(before(text, COMMA))?;
+    if site <= low {
+        return None;
+    }
+    match after(text, COMMA) {
+        None => Some(sites.with(site)),
+        Some(left) => sites_above(site, sites.with(site), left),
+    }
+}
+
 /// SITES: one or more, ascending, with commas.
+#[tactic(auto, unfolding(crate::specs::Parts::sites_of))]
 pub fn sites(text: &[u8]) -> Option<SiteSet>
     ensures { result ≡ sites_of text.now }
 {
-    let site = site(text)?;
-    Some(SiteSet::one(site))
+    sites_above(0, SiteSet::empty(), text)
 }
 
 /// A KEY: a site, a point and a name.
@@ -81,4 +98,72 @@ pub fn key(text: &[u8]) -> Option<Key>
     let site = site(before(text, POINT))?;
     let name = name(after(text, POINT)?)?;
     Some(Key { site, name })
+}
+
+/// A COUNT.
+pub fn count(text: &[u8]) -> Option<u32>
+    ensures { result ≡ count_of text.now }
+{
+    number(text, 1000000)
+}
+
+fn is_text(text: &[u8], wanted: &str) -> bool
+    ensures { result ≡ bytes_eq text.now wanted.now }
+{
+    text == wanted.as_bytes()
+}
+
+fn byte(text: &[u8]) -> Option<u8>
+    ensures { result ≡ byte_of text.now }
+{
+    if is_text(text, "0") {
+        Some(0)
+    } else {
+        let byte = number(text, 255)?;
+        Some(byte as u8)
+    }
+}
+
+fn junk(text: &[u8]) -> Option<Leave>
+    ensures { result ≡ junk_of text.now }
+{
+    let byte = byte(rest(text, 1)?)?;
+    Some(Leave::Junk(byte))
+}
+
+/// A LEAVE.
+#[tactic(auto, unfolding(crate::specs::Parts::leave_of))]
+pub fn leave(text: &[u8]) -> Option<Leave>
+    ensures { result ≡ leave_of text.now }
+{
+    if is_text(text, "none") {
+        Some(Leave::None)
+    } else if is_text(text, "half") {
+        Some(Leave::Half)
+    } else if is_text(text, "all") {
+        Some(Leave::All)
+    } else if is_text(before(text, SPACE), "junk") {
+        junk(text)
+    } else {
+        None
+    }
+}
+
+/// The parts of a split, with bars between them.
+#[tactic(auto, using(crate::proofs::Pieces::pieces_cut, crate::proofs::Pieces::pieces_last, crate::proofs::Pieces::pieces_more), unfolding(crate::specs::Parts::parts_of))]
+pub fn parts(alloc: Global, text: &[u8]) -> Result<Option<List<SiteSet>>, NoMemory>
+    ensures { IfOk result (λ parts. parts ≡ parts_of text.now) }
+{
+    let mut parts = List::new(alloc);
+    let mut left = text;
+    'pieces: loop {
+        let Some(sites) = sites(before(left, BAR)) else {
+            return Ok(None);
+        };
+        parts.push(sites)?;
+        match after(left, BAR) {
+            None => return Ok(Some(parts)),
+            Some(more) => left = more,
+        }
+    }
 }

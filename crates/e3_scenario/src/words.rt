@@ -8,6 +8,12 @@ pub const SPACE: u8 = b' ';
 /// The byte between the site and the name of a key.
 pub const POINT: u8 = b'.';
 
+/// The byte between two sites of a list.
+pub const COMMA: u8 = b',';
+
+/// The byte between two parts of the network.
+pub const BAR: u8 = b'|';
+
 /// The byte may stand in an item.
 pub fn is_printable(byte: u8) -> bool
     ensures { result ≡ is_printable byte }
@@ -34,7 +40,8 @@ pub fn before(text: &[u8], mark: u8) -> &[u8]
 
 /// What stands behind the first byte of this kind.
 pub fn after(text: &[u8], mark: u8) -> Option<&[u8]>
-    ensures { option_copied result ≡ after mark text.now }
+    ensures value { option_copied result ≡ after mark text.now }
+    ensures shorter { IfSome result (λ left. length left.now < length text.now) }
 {
     let place = place_of(text, mark)?;
     Some(&text[place + 1..])
