@@ -19,14 +19,15 @@ pub record IsSafeRun (sc : Scenario) (history : List Entry) : Type 0 where
   pub voted : AllVoted (trail_of sc history)
   pub told : ToldStands sc history
 
--- Done: the bytes spell a scenario, the history is one of it and went through all of it, and the text is its report.
+-- Done: the bytes spell a scenario, the history is one of it and went through all of it, and the text is its report,
+-- with the trace where the words ask for it.
 pub record IsDone (words : List (String Global)) (bytes : List ℕ) (history : List Entry) (text : List ℕ) : Type 0 where
   pub run : IsRun words
   pub scenario : Scenario
   pub spelled : scenario_of bytes ≡ Some scenario
   pub whole : IsWhole scenario history
   pub safe : IsSafeRun scenario history
-  pub reported : text ≡ report_of scenario history
+  pub reported : text ≡ report_of scenario history run.trace
 
 -- Refused words: nothing is read, and nothing happens.
 pub record IsRefusedWords (words : List (String Global)) (bytes : List ℕ) (history : List Entry) (text : List ℕ) : Type 0 where

@@ -1,5 +1,3 @@
-use Rattle.std.proofs.Common.{ap, ◌∙◌}
-use Rattle.e3_report.specs.Report.{report_of}
 use Rattle.e3_top.proofs.Paths.{done_run, lone, of_scenario}
 use Rattle.e3_top.proofs.preparing.prepare_bytes.Goals as goal
 
@@ -16,9 +14,9 @@ returns-in_err-report-in-Ok-clause-cut_short c =
 
 pub returns-in_ok-report-in-Ok-clause-due : goal.returns-in_ok-report-in-Ok-clause-due
 returns-in_ok-report-in-Ok-clause-due c =
-    done_run c.args.words.now c.args.bytes.now c.in-Ok.scenario c.play.new.history.entries c.in_ok-report-in-Ok.field-0 c.requires.run
+    done_run c.args.words.now c.args.trace c.args.bytes.now c.in-Ok.scenario c.play.new.history.entries c.in_ok-report-in-Ok.field-0 c.requires.run
     c.in-Ok.ensures.form c.in-Ok.ensures.ok c.in_ok-play-in-Ok.ensures.whole
-    (c.in_ok-report-in-Ok.ensures ∙ ap (report_of c.in-Ok.scenario) c.as_slice.ensures)
+    c.in_ok-report-in-Ok.ensures
 
 pub returns-in_ok-report-in-Ok-clause-cut_short : goal.returns-in_ok-report-in-Ok-clause-cut_short
 returns-in_ok-report-in-Ok-clause-cut_short c =
