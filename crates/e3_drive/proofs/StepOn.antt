@@ -1,5 +1,5 @@
 -- A step of a scenario over one site: its line may come, its items are its site's, and behind them it is through.
-use Rattle.std.proofs.Common.{◌≡◌, ◌==◌, ◌+◌, ◌≤◌, ℕ, zero, suc, Bool, true, false, List, [], ◌∷◌, ◌++◌, length, Option, Some, None, refl, ap, sym, subst, arith, eqb-true, ◌∙◌, ◌<◌, get_or, add-one, take, drop}
+use Rattle.std.proofs.Common.{◌≡◌, ◌==◌, ◌+◌, ◌≤◌, ℕ, suc, Bool, true, false, List, [], ◌∷◌, ◌++◌, length, Option, Some, None, refl, ap, sym, subst, arith, eqb-true, ◌∙◌, ◌<◌, get_or, add-one, take, drop}
 use Rattle.std.specs.Prelude.{slice_get, option_map}
 use Rattle.std.specs.List.{list_all}
 use Rattle.e3_agree.specs.Lone.{IsLone, is_lone_item}
@@ -18,7 +18,7 @@ use Rattle.e3_types.specs.declared.transactions.Txn.{Txn}
 use Rattle.e3_world.specs.Given.{is_groupable}
 use Rattle.e3_world.specs.Items.{input_of, is_up_at, to_line, txn_of}
 use Rattle.e3_world.specs.Legal.{IsLegal, IsWhole, entry_of}
-use Rattle.e3_world.specs.Packets.{items_or, lines, present_items, step_items}
+use Rattle.e3_world.specs.Packets.{lines, step_items}
 use Rattle.e3_world.specs.Progress.{Delivering, ItemsDone, after_item}
 use Rattle.e3_world.specs.declared.names.Addressed.{Addressed}
 use Rattle.e3_world.proofs.Readings.{to_push}

@@ -2,9 +2,8 @@
 ghost use Rattle.std.specs.Prelude.{◌≡◌, ◌++◌, [], ◌∷◌, OnOk, OnErr, Some, true};
 ghost use Rattle.std.specs.List.{list_all};
 ghost use Rattle.e3_agree.specs.Lone.{IsLone, is_lone_item};
-ghost use Rattle.e3_drive.specs.Making.{entry_made, made_of};
-ghost use Rattle.e3_drive.specs.Standing.{Stands};
-ghost use Rattle.e3_plain.specs.PlainView.{behind_step};
+ghost use Rattle.e3_drive.specs.Making.{entry_made};
+ghost use Rattle.e3_drive.specs.Standing.{GoesOn, Stands};
 ghost use Rattle.e3_world.specs.Items.{input_of, to_line};
 ghost use Rattle.e3_world.specs.Legal.{IsLegal};
 ghost use Rattle.e3_world.specs.Progress.{Delivering, ItemsDone, after_item};
@@ -12,36 +11,30 @@ ghost use Rattle.e3_world.specs.declared.names.Addressed.{Addressed};
 
 use crate::lines::to_line;
 use crate::naming::input_of;
-use crate::numbering::{first_free, numbered};
-use e3_plain::PlainSite;
-use e3_types::{Act, Entry, Input, Item, NoMemory, Scenario};
+use crate::numbering::{first_free, numbered_entry};
+use e3_site::Site;
+use e3_types::{Input, Item, NoMemory, Scenario};
 use e3_world::History;
 use std::alloc::Global;
 
 // The step that a site makes of an input is entered.
 fn enter_step(
     alloc: Global,
-    site: &mut PlainSite,
+    site: &mut Site,
     history: &mut History,
     input: Input,
 ) -> Result<(), NoMemory>
     ensures entered { OnOk result (history.new.entries ≡ history.old.entries ++ entry_made history.old.entries site.old input ∷ []) }
-    ensures stepped { OnOk result (site.new ≡ behind_step site.old input (made_of site.old input)) }
+    ensures stepped { OnOk result (GoesOn site.old input site.new) }
     ensures kept { OnErr result (history.new.entries ≡ history.old.entries) }
 {
     history.reserve(1)?;
     let first = first_free(history.as_slice())?;
-    let made = site.step(alloc, &input)?;
-    let outs = numbered(alloc, first, made.outs.as_slice())?;
-    history.push(Entry {
-        owner: site.site(),
-        act: Act::Step {
-            input,
-            records: made.records,
-            outs,
-            told: made.told,
-        },
-    });
+    let plan = site.plan(&input)?;
+    site.ready(&plan)?;
+    let entry = numbered_entry(alloc, first, plan.entry(site.site(), &input)?)?;
+    history.push(entry);
+    site.apply(plan);
     Ok(())
 }
 
@@ -49,7 +42,7 @@ fn enter_step(
 fn take_item(
     alloc: Global,
     scenario: &Scenario,
-    site: &mut PlainSite,
+    site: &mut Site,
     history: &mut History,
     item: &Item,
 ) -> Result<(), NoMemory>
@@ -69,7 +62,7 @@ fn take_item(
 pub fn play_items(
     alloc: Global,
     scenario: &Scenario,
-    site: &mut PlainSite,
+    site: &mut Site,
     history: &mut History,
     items: &[Item],
 ) -> Result<(), NoMemory>

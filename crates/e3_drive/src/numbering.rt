@@ -1,5 +1,6 @@
 // The numbers of packets: from 1, in the order in which they are sent.
 ghost use Rattle.std.specs.Prelude.{◌≡◌, ◌++◌, ◌+◌, suc, length, take, IfOk, OnOk};
+ghost use Rattle.e3_drive.specs.Making.{numbered_act, numbered_entry};
 ghost use Rattle.e3_world.specs.Legal.{numbered};
 ghost use Rattle.e3_world.specs.Packets.{sent};
 
@@ -46,4 +47,33 @@ pub fn numbered(alloc: Global, first: u64, outs: &[Packet]) -> Result<List<Packe
         number = add(number, 1)?;
     }
     Ok(packets)
+}
+
+fn numbered_act(alloc: Global, first: u64, act: Act) -> Result<Act, NoMemory>
+    ensures { IfOk result (λ numbered. numbered ≡ numbered_act first act) }
+{
+    match act {
+        Act::Step {
+            input,
+            records,
+            outs,
+            told,
+        } => Ok(Act::Step {
+            input,
+            records,
+            outs: numbered(alloc, first, outs.as_slice())?,
+            told,
+        }),
+        other => Ok(other),
+    }
+}
+
+/// The entry, with packets that have numbers from this one on.
+pub fn numbered_entry(alloc: Global, first: u64, entry: Entry) -> Result<Entry, NoMemory>
+    ensures { IfOk result (λ numbered. numbered ≡ numbered_entry first entry) }
+{
+    Ok(Entry {
+        owner: entry.owner,
+        act: numbered_act(alloc, first, entry.act)?,
+    })
 }

@@ -8,7 +8,7 @@ ghost use Rattle.e3_world.specs.Legal.{IsLegal, IsWhole};
 use crate::items::play_items;
 use crate::lines::step_items;
 use crate::rising::rise;
-use e3_plain::PlainSite;
+use e3_site::Site;
 use e3_types::{Act, Entry, NoMemory, Scenario};
 use e3_world::History;
 use std::alloc::Global;
@@ -30,7 +30,7 @@ fn enter_line(history: &mut History, number: u32) -> Result<(), NoMemory>
 fn play_step(
     alloc: Global,
     scenario: &Scenario,
-    site: &mut PlainSite,
+    site: &mut Site,
     history: &mut History,
     done: u32,
 ) -> Result<(), NoMemory>

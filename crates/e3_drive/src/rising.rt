@@ -5,8 +5,8 @@ ghost use Rattle.e3_types.specs.declared.entries.Act.TheVariants as act;
 ghost use Rattle.e3_types.specs.declared.records.Record.TheVariants as log;
 ghost use Rattle.e3_world.specs.Moves.{birth};
 
-use e3_plain::PlainSite;
 use e3_readings::rows_at;
+use e3_site::Site;
 use e3_types::{Act, Copied, Entry, List, NoMemory, Record, Scenario};
 use e3_world::History;
 use std::alloc::Global;
@@ -27,11 +27,7 @@ fn first_log(alloc: Global, scenario: &Scenario) -> Result<List<Record>, NoMemor
 }
 
 /// Site 1 rises for the first time: the first entry of a history.
-pub fn rise(
-    alloc: Global,
-    scenario: &Scenario,
-    history: &mut History,
-) -> Result<PlainSite, NoMemory>
+pub fn rise(alloc: Global, scenario: &Scenario, history: &mut History) -> Result<Site, NoMemory>
     requires { history.old.entries ≡ [] }
     ensures stands { IfOk result (Stands scenario.now history.new.entries 1) }
     ensures rose { OnOk result (history.new.entries ≡ record { owner = 1; act = act.Rise false 1 } ∷ []) }
@@ -47,5 +43,5 @@ pub fn rise(
             inc: 1,
         },
     });
-    Ok(PlainSite::rise(alloc, weights, 1, log))
+    Ok(Site::rise(alloc, weights, 1, log))
 }

@@ -35,7 +35,7 @@ abbrev pub is_empty : {X : Type 0} → List X → Bool
 is_empty [] = true
 is_empty (x ∷ xs) = false
 
--- the owner is the driver, or a site of the scenario
+-- the owner is the driver
 abbrev pub is_driver : ℕ → Bool
 is_driver owner = owner == 0
 

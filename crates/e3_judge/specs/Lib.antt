@@ -1,2 +1,4 @@
 pub mod Equal
 pub mod Checks
+pub mod Claims
+pub mod Words

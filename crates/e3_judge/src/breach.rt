@@ -1,4 +1,6 @@
 // Where a history breaks the rules, and which rule it breaks.
+ghost use Rattle.std.specs.Prelude.{◌≡◌};
+ghost use Rattle.e3_judge.specs.Words.{guard_word};
 
 /// A guard of an entry. `Owner`: the driver enters lines, parts and drops, a site of the scenario all else. `Up`: the site
 /// is up for a step, a fall and a cut, and down for a rise. `Line`, `Parts`, `Drop`: such an entry is due. `Input`: the
@@ -19,6 +21,28 @@ pub enum Guard {
     Records,
     Outs,
     Told,
+}
+
+impl Guard {
+    /// The word by which a line of text names the guard.
+    pub fn word(self) -> &'static str
+        ensures { result.now ≡ guard_word self }
+    {
+        match self {
+            Guard::Owner => "owner",
+            Guard::Up => "up",
+            Guard::Line => "line",
+            Guard::Parts => "parts",
+            Guard::Drop => "drop",
+            Guard::Input => "input",
+            Guard::Step => "step",
+            Guard::Tail => "tail",
+            Guard::Inc => "inc",
+            Guard::Records => "records",
+            Guard::Outs => "outs",
+            Guard::Told => "told",
+        }
+    }
 }
 
 /// The first entry of a history whose guard fails, counted from 0, and the first of its guards that does.

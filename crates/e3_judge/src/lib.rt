@@ -2,5 +2,14 @@
 #![tactic(auto)]
 
 mod breach;
+mod checks;
+mod equal;
+mod inputs;
+mod judging;
+mod laws;
+#[cfg(test)]
+mod tests;
 
 pub use breach::{Breach, Guard};
+pub use judging::{is_whole, judge};
+pub use laws::checks_are_exact;

@@ -1,2 +1,1 @@
-pub mod PlainView
 pub mod Asking

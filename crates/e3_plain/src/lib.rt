@@ -1,5 +1,5 @@
-//! The plain site: the program that computes a site's step as its definition says it, reading all of the site's past
-//! anew at each step. It is slow, and serves to say what a quick site does.
+//! A site's plain step: the program that computes what an input makes a site do as the definition says it, reading all
+//! of the site's past anew. It is slow, and serves to say what a quick step does.
 #![tactic(auto)]
 
 mod attempt_rules;
@@ -8,11 +8,12 @@ mod grants;
 mod making;
 mod messages;
 mod operation_rules;
-mod site;
+mod plain_forms;
 mod steps;
 #[cfg(test)]
 mod tests;
 mod vote_rules;
 mod weights;
 
-pub use site::PlainSite;
+pub use plain_forms::{plain, plain_input};
+pub use steps::step_of;

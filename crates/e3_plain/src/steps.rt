@@ -4,7 +4,7 @@ ghost use Rattle.e3_world.specs.Making.{nothing, and_send};
 ghost use Rattle.e3_types.specs.declared.messages.Message.TheVariants as msg;
 ghost use Rattle.e3_world.specs.Logs.{key_of};
 ghost use Rattle.e3_world.specs.Operations.{issued};
-ghost use Rattle.e3_world.specs.Steps.{refuse_late, refuse, or_refused, is_begin, on_begin, and_ask, on_commit, on_expire, on_elect, on_input, handled, settle, step_at};
+ghost use Rattle.e3_world.specs.Steps.{refuse_late, refuse, or_refused, is_begin, on_begin, and_ask, on_commit, on_expire, on_elect, on_input, handled, settle, step_at, step_of};
 
 use crate::election_rules::and_join;
 use crate::grants::and_grants;
@@ -13,9 +13,12 @@ use crate::making::{
     decision_now, elected_now, is_present, log_now, may_abort, nothing, state_now,
 };
 use crate::messages::on_message;
-use e3_readings::{begun, expected, issued, kept_reason, key_of, next_call, unanswered};
-use e3_types::{Dir, Input, List, Message, NoMemory, Op, Refusal, SiteSet, State, Told, Txn};
-use e3_world::{At, Made, Moment};
+use crate::plain_forms::plain_input;
+use e3_readings::{begun, expected, issued, kept_reason, key_of, life_of, next_call, unanswered};
+use e3_types::{
+    Dir, Input, List, Message, NoMemory, Op, Record, Refusal, SiteSet, State, Told, Txn,
+};
+use e3_world::{At, Made, Moment, SiteStep};
 use std::alloc::Global;
 use std::mem;
 
@@ -268,4 +271,36 @@ pub fn step_at(alloc: Global, a: &At) -> Result<Made, NoMemory>
     settle_once(alloc, a, &mut made)?;
     settle_once(alloc, a, &mut made)?;
     Ok(made)
+}
+
+fn copy_weights(alloc: Global, weights: &[u32]) -> Result<List<u32>, NoMemory>
+    ensures { IfOk result (λ out. out ≡ weights.now) }
+{
+    let mut out = List::new(alloc);
+    for w in weights {
+        out.push(*w)?;
+    }
+    Ok(out)
+}
+
+/// What an input makes a site do that rose with this log, the records of the rise among it, and made these steps since,
+/// the oldest first. The weights are those of all sites, that of site 1 first. The packets of the step have number 0, and
+/// the number of a delivered packet is nothing to it. It reads all of the site's past anew.
+pub fn step_of(
+    alloc: Global,
+    weights: &[u32],
+    site: u32,
+    rose: &[Record],
+    since: &[SiteStep],
+    input: &Input,
+) -> Result<Made, NoMemory>
+    ensures { IfOk result (λ made. made ≡ step_of weights.now site (record { rose = rose.now; since = since.now }) input.now) }
+{
+    let a = At {
+        weights: copy_weights(alloc, weights)?,
+        site,
+        life: life_of(alloc, rose, since)?,
+        input: plain_input(input),
+    };
+    step_at(alloc, &a)
 }

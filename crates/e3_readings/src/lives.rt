@@ -4,7 +4,7 @@ ghost use Rattle.e3_world.specs.Lives.{present_log, life_by, life_of};
 
 use crate::logs::logged_inc;
 use e3_types::{Copied, List, NoMemory, Record};
-use e3_world::{Incarnation, Life, Moment, SiteStep};
+use e3_world::{Life, Moment, SiteStep};
 use std::alloc::Global;
 
 fn add_records(alloc: Global, records: &[Record], out: &mut List<Record>) -> Result<(), NoMemory>
@@ -16,12 +16,17 @@ fn add_records(alloc: Global, records: &[Record], out: &mut List<Record>) -> Res
     Ok(())
 }
 
-/// The log at present: the one that the site rose with, and the records of its steps since.
-pub fn present_log(alloc: Global, i: &Incarnation) -> Result<List<Record>, NoMemory>
-    ensures { IfOk result (λ log. log ≡ present_log i.now) }
+/// The log at present: the one that the site rose with, and the records of its steps since, the oldest first.
+pub fn present_log(
+    alloc: Global,
+    rose: &[Record],
+    since: &[SiteStep],
+) -> Result<List<Record>, NoMemory>
+    ensures { IfOk result (λ log. log ≡ present_log (record { rose = rose.now; since = since.now })) }
 {
-    let mut log = i.rose.copied(alloc)?;
-    for s in i.since.as_slice() {
+    let mut log = List::new(alloc);
+    add_records(alloc, rose, &mut log)?;
+    for s in since {
         add_records(alloc, s.records.as_slice(), &mut log)?;
     }
     Ok(log)
@@ -55,16 +60,19 @@ pub fn life_by(alloc: Global, life: Life, s: &SiteStep) -> Result<Life, NoMemory
     })
 }
 
-/// The life of an incarnation: its log at present, its number, and its steps, each with the log before it.
-pub fn life_of(alloc: Global, i: &Incarnation) -> Result<Life, NoMemory>
-    ensures { IfOk result (λ life. life ≡ life_of i.now) }
+/// The life of a site that rose with this log and made these steps since: its log at present, the number of its
+/// incarnation, and its steps, each with the log before it.
+pub fn life_of(alloc: Global, rose: &[Record], since: &[SiteStep]) -> Result<Life, NoMemory>
+    ensures { IfOk result (λ life. life ≡ life_of (record { rose = rose.now; since = since.now })) }
 {
+    let mut log = List::new(alloc);
+    add_records(alloc, rose, &mut log)?;
     let mut life = Life {
-        log: i.rose.copied(alloc)?,
-        inc: logged_inc(i.rose.as_slice()),
+        log,
+        inc: logged_inc(rose),
         steps: List::new(alloc),
     };
-    for s in i.since.as_slice() {
+    for s in since {
         life = life_by(alloc, life, s)?;
     }
     Ok(life)

@@ -155,7 +155,8 @@ fn incarnation(alloc: Global) -> Result<Incarnation, Fail> {
 fn a_life_of_three_steps(rt: HostRuntime) -> Result<(), Fail> {
     let alloc = rt.alloc();
     let t = txn(1);
-    let life = life_of(alloc, &incarnation(alloc)?)?;
+    let i = incarnation(alloc)?;
+    let life = life_of(alloc, i.rose.as_slice(), i.since.as_slice())?;
     assert!(rt; life.inc == 1 && life.log.len() == 2 && life.steps.len() == 3);
     let log = life.log.as_slice();
     let steps = life.steps.as_slice();
@@ -230,8 +231,11 @@ fn what_a_site_gathers(rt: HostRuntime) -> Result<(), Fail> {
     let alloc = rt.alloc();
     let t = txn(1);
     let i = gatherings(alloc)?;
-    assert_eq!(rt; present_log(alloc, &i)?.len(), 4);
-    let life = life_of(alloc, &i)?;
+    assert_eq!(rt;
+        present_log(alloc, i.rose.as_slice(), i.since.as_slice())?.len(),
+        4
+    );
+    let life = life_of(alloc, i.rose.as_slice(), i.since.as_slice())?;
     let steps = life.steps.as_slice();
     let e = election_in_progress(alloc, 1, 1, &t, steps)?.ok_or("an election")?;
     assert_eq!(rt; e.number, Some(5));

@@ -1,5 +1,4 @@
-pub mod Appends
-pub mod Ups
+pub mod UpLists
 pub mod Ranges
 pub mod Passing
 pub mod Walking

@@ -6,9 +6,9 @@ use Rattle.e3_types.specs.declared.entries.Entry.{Entry}
 use Rattle.e3_types.specs.declared.scenarios.Scenario.{Scenario}
 use Rattle.e3_world.specs.Moves.{Placed, own, trail_of, all_records}
 use Rattle.e3_world.specs.Packets.{all_sites}
-use Rattle.e3_report.specs.Report.{present_inc, site_heading, log_lines, site_lines, order_lines, report_of}
+use Rattle.e3_report.specs.Report.{present_inc, site_heading, log_lines, site_lines, order_lines, plain_report_of}
 use Rattle.e3_report.specs.Steps.{start_lines, steps_after}
-use Rattle.e3_report.specs.Texts.{line_end}
+use Rattle.e3_lines.specs.Texts.{line_end}
 use Rattle.e3_report.specs.Walk.{site_by, walk_of}
 use Rattle.e3_report.proofs.Walking.{trail_log, walk_placed}
 
@@ -32,7 +32,7 @@ pub parts_of_report : (sc : Scenario) (h : List Entry) (placed : List Placed) (n
     placed ≡ (walk_of sc h).placed → none ≡ [] →
     started ≡ none ++ start_lines sc h → stepped ≡ started ++ steps_after sc [] h → ordered ≡ stepped ++ order_lines placed →
     stood ≡ ordered ++ flat_map (site_by h placed) (all_sites sc) → ended ≡ stood ++ codes "end" → whole ≡ ended ++ line_end →
-    whole ≡ report_of sc h
+    whole ≡ plain_report_of sc h
 parts_of_report sc h placed none started stepped ordered stood ended whole p is_none starts steps orders stands ends lines =
     let all = all_records (trail_of sc h) in
     let e1 = starts ∙ ap (λ l. l ++ start_lines sc h) is_none in

@@ -1,7 +1,4 @@
-pub mod Texts
-pub mod Items
-pub mod Records
-pub mod Events
+pub mod Ups
 pub mod Skips
 pub mod Steps
 pub mod Report

@@ -1,5 +1,5 @@
--- The report of a scenario and its history.
-use Rattle.std.specs.Prelude.{◌++◌, [], List, ℕ, Option, Some, None, codes, fold}
+-- The report of a scenario and a history, and the trace behind it.
+use Rattle.std.specs.Prelude.{◌++◌, [], List, ℕ, Bool, true, false, Option, Some, None, codes, fold}
 use Rattle.std.specs.Fmt.{decimal}
 use Rattle.std.specs.List.{flat_map}
 use Rattle.e3_types.specs.declared.entries.Act.{Act}
@@ -12,9 +12,10 @@ use Rattle.e3_world.specs.Logs.{table_of}
 use Rattle.e3_world.specs.Moves.{Placed, own, log_of, trail_of, all_records}
 use Rattle.e3_world.specs.Packets.{all_sites}
 use Rattle.e3_world.specs.Serial.{commit_order}
-use Rattle.e3_report.specs.Records.{record_lines, row_line}
+use Rattle.e3_lines.specs.Records.{record_lines, row_line}
 use Rattle.e3_report.specs.Steps.{start_lines, steps_after}
-use Rattle.e3_report.specs.Texts.{line_end, txn_text}
+use Rattle.e3_lines.specs.Texts.{line_end, txn_text}
+use Rattle.e3_trace_lines.specs.Entries.{trace_of}
 
 -- a transaction's line
 unfoldable pub txn_line : Txn → List ℕ
@@ -46,14 +47,23 @@ site_heading site None = codes "site " ++ decimal site ++ codes " down" ++ line_
 -- `log` and the records of a log, `rows` and the rows of its table in byte order of their names
 unfoldable pub log_lines : List Record → List ℕ
 log_lines records =
-    codes "log" ++ line_end ++ flat_map record_lines records ++ codes "rows" ++ line_end ++ flat_map row_line (table_of records)
+    codes "log" ++ line_end ++ flat_map (record_lines []) records ++ codes "rows" ++ line_end ++ flat_map row_line (table_of records)
 
 -- a site: its heading, its log and its rows
 unfoldable pub site_lines : Scenario → List Entry → ℕ → List ℕ
 site_lines sc history site = site_heading site (present_inc (own site history)) ++ log_lines (log_of sc history site)
 
--- The report: the start, the steps, the order, each site in ascending order, and `end`.
-abbrev pub report_of : Scenario → List Entry → List ℕ
-report_of sc history =
+-- The report without a trace: the start, the steps, the order, each site in ascending order, and `end`.
+abbrev pub plain_report_of : Scenario → List Entry → List ℕ
+plain_report_of sc history =
     start_lines sc history ++ steps_after sc [] history ++ order_lines (all_records (trail_of sc history))
     ++ flat_map (site_lines sc history) (all_sites sc) ++ codes "end" ++ line_end
+
+-- the trace where it is asked for: the history, entry by entry, and a second `end`
+unfoldable pub trace_lines : List Entry → Bool → List ℕ
+trace_lines history true = trace_of history ++ codes "end" ++ line_end
+trace_lines history false = []
+
+-- The report of a scenario and a history; where the trace is asked for it stands behind.
+abbrev pub report_of : Scenario → List Entry → Bool → List ℕ
+report_of sc history trace = plain_report_of sc history ++ trace_lines history trace

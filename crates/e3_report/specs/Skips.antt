@@ -1,5 +1,5 @@
 -- The lines of a step's items that are skipped.
-use Rattle.std.specs.Prelude.{◌++◌, ◌∷◌, [], ◌==◌, if◌then◌else◌, nat_lt, not, List, ℕ, Option, Some, None, codes, count_by, fold}
+use Rattle.std.specs.Prelude.{◌++◌, ◌∷◌, [], ◌==◌, if◌then◌else◌, nat_lt, not, List, ℕ, Bool, Option, Some, None, codes, count_by, fold}
 use Rattle.std.specs.List.{flat_map}
 use Rattle.e3_types.specs.declared.entries.Act.{Act}
 use Rattle.e3_types.specs.declared.entries.Entry.{Entry}
@@ -9,11 +9,11 @@ use Rattle.e3_types.specs.declared.transactions.Txn.{Txn}
 use Rattle.e3_world.specs.declared.names.Binding.{Binding}
 use Rattle.e3_world.specs.declared.names.Bound.{Bound}
 use Rattle.e3_world.specs.Items.{last_bound, inputs_of, is_delivery}
-use Rattle.e3_world.specs.Moves.{own, is_up}
+use Rattle.e3_world.specs.Moves.{own}
 use Rattle.e3_report.specs.declared.takers.Taker.{Taker}
 use Rattle.e3_report.specs.declared.takers.Taker.TheVariants.{Site, NotBegun, Nobody}
-use Rattle.e3_report.specs.Events.{plain_line}
-use Rattle.e3_report.specs.Texts.{line_end}
+use Rattle.e3_lines.specs.Events.{plain_line}
+use Rattle.e3_lines.specs.Texts.{line_end}
 
 -- before the first entry of a history no name is bound
 abbrev pub no_binding : Binding
@@ -66,10 +66,10 @@ input_skip during earlier (NotBegun name) = not_begun_line name
 input_skip during earlier Nobody = []
 
 -- a crash of a site that is down is skipped, `S: down`, and so is a restart of one that is up, `S: up`
-unfoldable pub power_skip : List Entry → Item → List ℕ
-power_skip before (item.Crash site) = if is_up (own site before) then [] else plain_line site (codes "down")
-power_skip before (item.Restart site) = if is_up (own site before) then plain_line site (codes "up") else []
-power_skip before _ = []
+unfoldable pub power_skip : (ℕ → Bool) → Item → List ℕ
+power_skip up (item.Crash site) = if up site then [] else plain_line site (codes "down")
+power_skip up (item.Restart site) = if up site then plain_line site (codes "up") else []
+power_skip up _ = []
 
 -- the site of an item that has one
 abbrev pub sites_of : Taker → List ℕ
@@ -77,10 +77,10 @@ sites_of (Site site) = site ∷ []
 sites_of (NotBegun name) = []
 sites_of Nobody = []
 
--- The lines of the skipped items among these, in their order. `find` is what names stand for at the step's line, `before`
--- are the entries up to that line, `during` those of the step, `earlier` the sites of the items before these.
-abbrev pub skip_lines : (List ℕ → Option Txn) → List Entry → List Entry → List ℕ → List Item → List ℕ
-skip_lines find before during earlier [] = []
-skip_lines find before during earlier (i ∷ items) =
-    power_skip before i ++ input_skip during earlier (taker_of find i)
-    ++ skip_lines find before during (earlier ++ sites_of (taker_of find i)) items
+-- The lines of the skipped items among these, in their order. `find` is what names stand for at the step's line, `up` tells
+-- which sites are up there, `during` are the entries of the step, `earlier` the sites of the items before these.
+abbrev pub skip_lines : (List ℕ → Option Txn) → (ℕ → Bool) → List Entry → List ℕ → List Item → List ℕ
+skip_lines find up during earlier [] = []
+skip_lines find up during earlier (i ∷ items) =
+    power_skip up i ++ input_skip during earlier (taker_of find i)
+    ++ skip_lines find up during (earlier ++ sites_of (taker_of find i)) items

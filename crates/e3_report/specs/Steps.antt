@@ -1,5 +1,5 @@
 -- The part of a report that tells of the start and of the steps.
-use Rattle.std.specs.Prelude.{◌++◌, ◌∷◌, [], not, List, ℕ, Option, codes, take_while}
+use Rattle.std.specs.Prelude.{◌++◌, ◌∷◌, [], not, List, ℕ, Bool, Option, codes, take_while}
 use Rattle.std.specs.Fmt.{decimal}
 use Rattle.std.specs.List.{flat_map}
 use Rattle.e3_types.specs.declared.entries.Act.{Act}
@@ -8,12 +8,12 @@ use Rattle.e3_types.specs.declared.entries.Entry.{Entry}
 use Rattle.e3_types.specs.declared.scenarios.Scenario.{Scenario}
 use Rattle.e3_types.specs.declared.transactions.Txn.{Txn}
 use Rattle.e3_world.specs.Items.{txn_of}
-use Rattle.e3_world.specs.Moves.{own}
+use Rattle.e3_world.specs.Moves.{own, is_up}
 use Rattle.e3_world.specs.Packets.{is_line, step_items, all_sites}
-use Rattle.e3_report.specs.Events.{entry_lines}
-use Rattle.e3_report.specs.Items.{item_line}
+use Rattle.e3_lines.specs.Events.{entry_lines}
+use Rattle.e3_lines.specs.Items.{item_line}
 use Rattle.e3_report.specs.Skips.{skip_lines}
-use Rattle.e3_report.specs.Texts.{line_end}
+use Rattle.e3_lines.specs.Texts.{line_end}
 
 -- the entries up to the next line
 abbrev pub until_line : List Entry → List Entry
@@ -35,20 +35,24 @@ start_lines sc history = codes "start" ++ line_end ++ event_lines sc (until_line
 unfoldable pub step_heading : ℕ → List ℕ
 step_heading number = codes "step " ++ decimal number ++ line_end
 
+-- which sites are up behind these entries
+abbrev pub up_after : List Entry → ℕ → Bool
+up_after entries site = is_up (own site entries)
+
 -- A step: its heading, its items, the lines of the items that are skipped, and its events. `find` is what names stand
--- for at the step's line, `before` are the entries up to that line, `during` those behind it.
-unfoldable pub step_lines : (List ℕ → Option Txn) → Scenario → List Entry → ℕ → List Entry → List ℕ
-step_lines find sc before number during =
-    step_heading number ++ flat_map item_line (step_items sc number) ++ skip_lines find before during [] (step_items sc number)
+-- for at the step's line, `up` tells which sites are up there, `during` are the entries behind it.
+unfoldable pub step_lines : (List ℕ → Option Txn) → (ℕ → Bool) → Scenario → ℕ → List Entry → List ℕ
+step_lines find up sc number during =
+    step_heading number ++ flat_map item_line (step_items sc number) ++ skip_lines find up during [] (step_items sc number)
     ++ event_lines sc during
 
 -- what an entry begins: a line begins a step, with the entries up to the next line
-abbrev pub lines_by : (List ℕ → Option Txn) → Scenario → List Entry → Act → List Entry → List ℕ
-lines_by find sc before (Line number) rest = step_lines find sc before number (until_line rest)
-lines_by find sc before _ rest = []
+abbrev pub lines_by : (List ℕ → Option Txn) → (ℕ → Bool) → Scenario → Act → List Entry → List ℕ
+lines_by find up sc (Line number) rest = step_lines find up sc number (until_line rest)
+lines_by find up sc _ rest = []
 
 -- the steps whose lines are among the second entries, where the first stand before them
 abbrev pub steps_after : Scenario → List Entry → List Entry → List ℕ
 steps_after sc before [] = []
 steps_after sc before (e ∷ rest) =
-    lines_by (txn_of sc (before ++ e ∷ [])) sc (before ++ e ∷ []) e.act rest ++ steps_after sc (before ++ e ∷ []) rest
+    lines_by (txn_of sc (before ++ e ∷ [])) (up_after (before ++ e ∷ [])) sc e.act rest ++ steps_after sc (before ++ e ∷ []) rest

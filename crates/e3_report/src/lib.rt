@@ -2,19 +2,16 @@
 #![tactic(auto)]
 
 mod counts;
-mod events;
-mod items;
 mod logs;
 mod names;
 mod orders;
-mod records;
 mod sites;
 mod skips;
 mod steps;
 mod takers;
 #[cfg(test)]
 mod tests;
-mod texts;
+mod ups;
 mod whole;
 
 pub use whole::report;

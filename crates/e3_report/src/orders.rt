@@ -7,7 +7,7 @@ ghost use Rattle.e3_report.specs.Report.{txn_line, order_lines};
 ghost use Rattle.e3_report.specs.Walk.{last_vote};
 
 use crate::logs::SiteRecord;
-use crate::texts::{push_line_end, push_text, push_txn};
+use e3_lines::{push_line_end, push_text, push_txn};
 use e3_types::{Dir, List, NoMemory, Record, Txn};
 
 fn is_commit(t: &Txn, r: &Record) -> bool

@@ -3,8 +3,7 @@ ghost use Rattle.std.specs.Prelude.{◌≡◌, ◌++◌, Option, OnOk, fold};
 ghost use Rattle.e3_world.specs.Moves.{own};
 ghost use Rattle.e3_report.specs.Report.{inc_by, present_inc, site_heading, log_lines};
 
-use crate::records::{push_records, push_rows};
-use crate::texts::{push_labelled, push_line_end, push_number, push_text};
+use e3_lines::{push_labelled, push_line_end, push_number, push_records, push_rows, push_text};
 use e3_readings::table_of;
 use e3_types::{Act, Entry, List, NoMemory, Record};
 use std::alloc::Global;
@@ -66,7 +65,7 @@ pub(crate) fn push_log(alloc: Global, out: &mut List<u8>, log: &[Record]) -> Res
     let table = table_of(alloc, log)?;
     push_text(out, "log")?;
     push_line_end(out)?;
-    push_records(out, log)?;
+    push_records(out, "", log)?;
     push_text(out, "rows")?;
     push_line_end(out)?;
     push_rows(out, table.as_slice())

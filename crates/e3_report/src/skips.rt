@@ -1,15 +1,14 @@
 // The lines of a step's items that are skipped.
 ghost use Rattle.std.specs.Prelude.{◌≡◌, ◌++◌, ◌==◌, ◌+◌, [], OnOk, IfOk, count_by, not};
 ghost use Rattle.e3_world.specs.Items.{inputs_of, is_delivery};
-ghost use Rattle.e3_world.specs.Moves.{own, is_up};
 ghost use Rattle.e3_report.specs.Skips.{named, taker_of, items_in, items_taken, not_begun_line, input_skip, power_skip, sites_of, skip_lines};
+ghost use Rattle.e3_report.specs.Ups.{is_among};
 
 use crate::counts::one_more;
-use crate::events::push_plain;
 use crate::names::count_of;
-use crate::sites::present_inc;
 use crate::takers::{Taker, taker_of};
-use crate::texts::{push_line_end, push_text};
+use crate::ups::is_among;
+use e3_lines::{push_line_end, push_plain, push_text};
 use e3_types::{Act, Entry, Input, Item, List, NoMemory};
 use e3_world::Bound;
 use std::alloc::Global;
@@ -101,28 +100,21 @@ fn push_input_skip(
     }
 }
 
-#[tactic(auto, using(crate::proofs::Ups::up_has_inc))]
-fn is_up(site: u32, before: &[Entry]) -> bool
-    ensures { result ≡ is_up (own site before.now) }
-{
-    present_inc(site as u64, before).is_some()
-}
-
 /// Adds a line where a crash or a restart is skipped.
 #[tactic(auto, unfolding(crate::specs::Skips::power_skip))]
-fn push_power_skip(out: &mut List<u8>, before: &[Entry], item: &Item) -> Result<(), NoMemory>
-    ensures { OnOk result (out.new ≡ out.old ++ power_skip before.now item.now) }
+fn push_power_skip(out: &mut List<u8>, ups: &[u32], item: &Item) -> Result<(), NoMemory>
+    ensures { OnOk result (out.new ≡ out.old ++ power_skip (is_among ups.now) item.now) }
 {
     match item {
         Item::Crash { site } => {
-            if is_up(*site, before) {
+            if is_among(ups, *site) {
                 Ok(())
             } else {
                 push_plain(out, *site, "down")
             }
         }
         Item::Restart { site } => {
-            if is_up(*site, before) {
+            if is_among(ups, *site) {
                 push_plain(out, *site, "up")
             } else {
                 Ok(())
@@ -142,21 +134,21 @@ fn add_site(earlier: &mut List<u32>, taker: &Taker) -> Result<(), NoMemory>
     }
 }
 
-/// Adds a line for each item that is skipped, where these names are bound.
+/// Adds a line for each item that is skipped, where these names are bound and these sites are up.
 pub(crate) fn push_skips(
     alloc: Global,
     out: &mut List<u8>,
     bound: &[Bound],
-    before: &[Entry],
+    ups: &[u32],
     during: &[Entry],
     items: &[Item],
 ) -> Result<(), NoMemory>
-    ensures { OnOk result (out.new ≡ out.old ++ skip_lines (named bound.now) before.now during.now [] items.now) }
+    ensures { OnOk result (out.new ≡ out.old ++ skip_lines (named bound.now) (is_among ups.now) during.now [] items.now) }
 {
     let mut earlier = List::new(alloc);
     for item in items {
         let taker = taker_of(bound, item);
-        push_power_skip(out, before, item)?;
+        push_power_skip(out, ups, item)?;
         push_input_skip(out, during, earlier.as_slice(), &taker)?;
         add_site(&mut earlier, &taker)?;
     }

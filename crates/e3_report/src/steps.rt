@@ -3,13 +3,13 @@ ghost use Rattle.std.specs.Prelude.{◌≡◌, ◌++◌, [], ◌∷◌, OnOk};
 ghost use Rattle.std.specs.List.{flat_map};
 ghost use Rattle.e3_world.specs.Packets.{is_line};
 ghost use Rattle.e3_report.specs.Skips.{named};
+ghost use Rattle.e3_report.specs.Ups.{is_among};
 ghost use Rattle.e3_report.specs.Steps.{until_line, site_events, event_lines, start_lines, step_heading, step_lines, lines_by, steps_after};
 
-use crate::events::push_entry;
-use crate::items::push_items;
 use crate::names::{enter, no_binding, step_items};
 use crate::skips::push_skips;
-use crate::texts::{push_labelled, push_line_end, push_text};
+use crate::ups::enter_up;
+use e3_lines::{push_entry, push_items, push_labelled, push_line_end, push_text};
 use e3_types::{Act, Entry, List, NoMemory, Scenario};
 use e3_world::Bound;
 use std::alloc::Global;
@@ -81,23 +81,23 @@ fn push_step_heading(out: &mut List<u8>, number: u32) -> Result<(), NoMemory>
     push_line_end(out)
 }
 
-/// Adds a step, where these names are bound.
+/// Adds a step, where these names are bound and these sites are up.
 #[tactic(auto, unfolding(crate::specs::Steps::step_lines))]
 fn push_step(
     alloc: Global,
     out: &mut List<u8>,
     scenario: &Scenario,
     bound: &[Bound],
-    before: &[Entry],
+    ups: &[u32],
     number: u32,
     during: &[Entry],
 ) -> Result<(), NoMemory>
-    ensures { OnOk result (out.new ≡ out.old ++ step_lines (named bound.now) scenario.now before.now number during.now) }
+    ensures { OnOk result (out.new ≡ out.old ++ step_lines (named bound.now) (is_among ups.now) scenario.now number during.now) }
 {
     let items = step_items(scenario, number);
     push_step_heading(out, number)?;
     push_items(out, items)?;
-    push_skips(alloc, out, bound, before, during, items)?;
+    push_skips(alloc, out, bound, ups, during, items)?;
     push_events(out, scenario, during)
 }
 
@@ -107,11 +107,11 @@ fn push_by_line(
     out: &mut List<u8>,
     scenario: &Scenario,
     bound: &[Bound],
-    before: &[Entry],
+    ups: &[u32],
     act: &Act,
     rest: &[Entry],
 ) -> Result<(), NoMemory>
-    ensures { OnOk result (out.new ≡ out.old ++ lines_by (named bound.now) scenario.now before.now act.now rest.now) }
+    ensures { OnOk result (out.new ≡ out.old ++ lines_by (named bound.now) (is_among ups.now) scenario.now act.now rest.now) }
 {
     match act {
         Act::Line { number } => push_step(
@@ -119,7 +119,7 @@ fn push_by_line(
             out,
             scenario,
             bound,
-            before,
+            ups,
             *number,
             until_line(rest),
         ),
@@ -137,16 +137,19 @@ pub(crate) fn push_steps(
     ensures { OnOk result (out.new ≡ out.old ++ steps_after scenario.now [] history.now) }
 {
     let mut binding = no_binding(alloc);
+    let mut ups = List::new(alloc);
     for at in 0..history.len() {
         let entry = &history[at];
         enter(alloc, scenario, &mut binding, entry)?;
+        enter_up(alloc, &mut ups, entry)?;
         let bound = binding.bound.as_slice();
+        let up = ups.as_slice();
         push_by_line(
             alloc,
             out,
             scenario,
             bound,
-            &history[..at + 1],
+            up,
             &entry.act,
             &history[at + 1..],
         )?;

@@ -4,6 +4,7 @@ use e3_types::{
     Act, Answer, Dir, Entry, Input, Item, Key, KeyRow, Leave, List, Name, NoMemory, NumOp, Op,
     Record, Refusal, Scenario, SiteSet, State, Told, Txn, Val, Verdict, Why,
 };
+use e3_world::History;
 use std::alloc::Global;
 use std::test::Fail;
 
@@ -54,21 +55,23 @@ fn alone(alloc: Global, item: Item) -> Result<List<Item>, NoMemory> {
     Ok(items)
 }
 
-fn enter(history: &mut List<Entry>, owner: u32, act: Act) -> Result<(), NoMemory> {
-    history.push(Entry { owner, act })
+fn enter(history: &mut History, owner: u32, act: Act) -> Result<(), NoMemory> {
+    history.reserve(1)?;
+    history.push(Entry { owner, act });
+    Ok(())
 }
 
-fn line(history: &mut List<Entry>, number: u32) -> Result<(), NoMemory> {
+fn line(history: &mut History, number: u32) -> Result<(), NoMemory> {
     enter(history, 0, Act::Line { number })
 }
 
-fn rise(history: &mut List<Entry>, owner: u32, inc: u32) -> Result<(), NoMemory> {
+fn rise(history: &mut History, owner: u32, inc: u32) -> Result<(), NoMemory> {
     enter(history, owner, Act::Rise { kept: false, inc })
 }
 
 fn tell(
     alloc: Global,
-    history: &mut List<Entry>,
+    history: &mut History,
     owner: u32,
     input: Input,
     event: Told,
@@ -80,7 +83,7 @@ fn tell(
 
 fn step(
     alloc: Global,
-    history: &mut List<Entry>,
+    history: &mut History,
     owner: u32,
     input: Input,
     records: List<Record>,
@@ -146,7 +149,7 @@ fn one_write_scenario(alloc: Global) -> Result<Scenario, Fail> {
     Ok(sc)
 }
 
-fn one_write_history(alloc: Global, history: &mut List<Entry>) -> Result<(), Fail> {
+fn one_write_history(alloc: Global, history: &mut History) -> Result<(), Fail> {
     let t = txn(1, &[1])?;
     rise(history, 1, 1)?;
     line(history, 1)?;
@@ -183,16 +186,19 @@ fn one_write_history(alloc: Global, history: &mut List<Entry>) -> Result<(), Fai
 }
 
 #[test]
-fn a_write_that_commits(rt: HostRuntime) -> Result<(), Fail> {
+fn a_write_that_commits_with_its_trace(rt: HostRuntime) -> Result<(), Fail> {
     let alloc = rt.alloc();
     let sc = one_write_scenario(alloc)?;
-    let mut history = List::new(alloc);
+    let mut history = History::new(alloc);
     one_write_history(alloc, &mut history)?;
-    let text = report(alloc, &sc, history.as_slice())?;
+    let text = report(alloc, &sc, &history, true)?;
     let want =
         "start\n1: rose 1\nstep 1\n> begin t 1 1\n1: 1.1.1 began 1\nstep 2\n> write t 1.x a\n\
         1: 1.1.1 op 1 written\nstep 3\n> commit t\n1: 1.1.1 committed\norder\n1.1.1\nsite 1 up 1\nlog\nbirth 1 1\n\
-        inc 1\nvote 1.1.1 1\nwrite 1 x a\nattempt 1.1.1 1 commit\ndecision 1.1.1 commit\nrows\nx a\nend\n";
+        inc 1\nvote 1.1.1 1\nwrite 1 x a\nattempt 1.1.1 1 commit\ndecision 1.1.1 commit\nrows\nx a\nend\n\
+        1 rise 1\n0 line 1\n1 step begin 1\nt 1.1.1 began 1\n0 line 2\n1 step do 1.1.1 write 1.x a\nt 1.1.1 op 1 written\n\
+        0 line 3\n1 step commit 1.1.1\nr vote 1.1.1 1\nr write 1 x a\nr attempt 1.1.1 1 commit\nr decision 1.1.1 commit\n\
+        t 1.1.1 committed\nend\n";
     assert_eq!(rt; text.as_slice(), want.as_bytes());
     Ok(())
 }
@@ -201,9 +207,9 @@ fn a_write_that_commits(rt: HostRuntime) -> Result<(), Fail> {
 fn no_steps(rt: HostRuntime) -> Result<(), Fail> {
     let alloc = rt.alloc();
     let sc = scenario(alloc, &[2])?;
-    let mut history = List::new(alloc);
+    let mut history = History::new(alloc);
     rise(&mut history, 1, 1)?;
-    let text = report(alloc, &sc, history.as_slice())?;
+    let text = report(alloc, &sc, &history, false)?;
     let want = "start\n1: rose 1\norder\nsite 1 up 1\nlog\nbirth 1 2\ninc 1\nrows\nend\n";
     assert_eq!(rt; text.as_slice(), want.as_bytes());
     Ok(())
@@ -328,7 +334,7 @@ fn vote(alloc: Global, t: Txn, n: u32, op: Option<Op>) -> Result<Record, NoMemor
     Ok(Record::Vote { txn: t, ops })
 }
 
-fn answered(alloc: Global, history: &mut List<Entry>) -> Result<(), Fail> {
+fn answered(alloc: Global, history: &mut History) -> Result<(), Fail> {
     let t = txn_of_two(1)?;
     enter(history, 3, Act::Miss)?;
     rise(history, 2, 1)?;
@@ -423,7 +429,7 @@ fn two_votes(alloc: Global, t: Txn) -> Result<List<Record>, Fail> {
     Ok(records)
 }
 
-fn refused(alloc: Global, history: &mut List<Entry>) -> Result<(), Fail> {
+fn refused(alloc: Global, history: &mut History) -> Result<(), Fail> {
     let t = txn_of_two(1)?;
     line(history, 3)?;
     let mut records = List::new(alloc);
@@ -527,7 +533,7 @@ fn all_told(alloc: Global, t: &Txn) -> Result<List<Told>, Fail> {
     Ok(told)
 }
 
-fn fallen(alloc: Global, history: &mut List<Entry>) -> Result<(), Fail> {
+fn fallen(alloc: Global, history: &mut History) -> Result<(), Fail> {
     let t = txn_of_two(1)?;
     let u = txn_of_two(2)?;
     line(history, 4)?;
@@ -576,7 +582,7 @@ fn fallen(alloc: Global, history: &mut List<Entry>) -> Result<(), Fail> {
     Ok(())
 }
 
-fn risen(history: &mut List<Entry>) -> Result<(), NoMemory> {
+fn risen(history: &mut History) -> Result<(), NoMemory> {
     line(history, 5)?;
     enter(
         history,
@@ -615,12 +621,12 @@ fn joined(alloc: Global, lines: &[&str]) -> Result<List<u8>, NoMemory> {
 fn every_event_record_and_item(rt: HostRuntime) -> Result<(), Fail> {
     let alloc = rt.alloc();
     let sc = everything(alloc)?;
-    let mut history = List::new(alloc);
+    let mut history = History::new(alloc);
     answered(alloc, &mut history)?;
     refused(alloc, &mut history)?;
     fallen(alloc, &mut history)?;
     risen(&mut history)?;
-    let text = report(alloc, &sc, history.as_slice())?;
+    let text = report(alloc, &sc, &history, false)?;
     let want = joined(
         alloc,
         &[

@@ -2,15 +2,17 @@
 ghost use Rattle.std.specs.Prelude.{◌≡◌, ◌++◌, IfOk, OnOk};
 ghost use Rattle.std.specs.List.{flat_map};
 ghost use Rattle.e3_world.specs.Packets.{all_sites};
-ghost use Rattle.e3_report.specs.Report.{report_of};
+ghost use Rattle.e3_report.specs.Report.{plain_report_of, trace_lines, report_of};
 ghost use Rattle.e3_report.specs.Walk.{site_by};
 
 use crate::logs::{SiteRecord, log_in, walk_of};
 use crate::orders::push_order;
 use crate::sites::{present_inc, push_log, push_site_heading};
 use crate::steps::{push_start, push_steps};
-use crate::texts::{push_line_end, push_text};
+use e3_lines::{push_line_end, push_text};
+use e3_trace_lines::push_trace;
 use e3_types::{Entry, List, NoMemory, Scenario};
+use e3_world::History;
 use std::alloc::Global;
 
 /// Adds how a site stands.
@@ -47,11 +49,8 @@ fn push_all_sites(
     Ok(())
 }
 
-/// The report of a scenario and its history: the start and the first rises; each step with its items and what happened
-/// in it; the committed transactions; and for each site whether it is up, its log and its rows. Each line ends with a
-/// line feed. Want of memory is the only error.
-pub fn report(alloc: Global, scenario: &Scenario, history: &[Entry]) -> Result<List<u8>, NoMemory>
-    ensures { IfOk result (λ text. text ≡ report_of scenario.now history.now) }
+fn plain_report(alloc: Global, scenario: &Scenario, history: &[Entry]) -> Result<List<u8>, NoMemory>
+    ensures { IfOk result (λ text. text ≡ plain_report_of scenario.now history.now) }
 {
     let walk = walk_of(alloc, scenario, history)?;
     let placed = walk.placed.as_slice();
@@ -62,5 +61,36 @@ pub fn report(alloc: Global, scenario: &Scenario, history: &[Entry]) -> Result<L
     push_all_sites(alloc, &mut out, scenario, history, placed)?;
     push_text(&mut out, "end")?;
     push_line_end(&mut out)?;
+    Ok(out)
+}
+
+/// Adds the trace, where it is asked for.
+#[tactic(auto, unfolding(crate::specs::Report::trace_lines))]
+fn push_trace_lines(out: &mut List<u8>, history: &[Entry], trace: bool) -> Result<(), NoMemory>
+    ensures { OnOk result (out.new ≡ out.old ++ trace_lines history.now trace) }
+{
+    if trace {
+        push_trace(out, history)?;
+        push_text(out, "end")?;
+        push_line_end(out)
+    } else {
+        Ok(())
+    }
+}
+
+/// The report of a scenario and a history: the start and the first rises; each step with its items and what happened in
+/// it; the committed transactions; and for each site whether it is up, its log and its rows. With the trace the history
+/// stands behind it, entry by entry. Each line ends with a line feed. The history need not be legal. Want of memory is
+/// the only error.
+pub fn report(
+    alloc: Global,
+    scenario: &Scenario,
+    history: &History,
+    trace: bool,
+) -> Result<List<u8>, NoMemory>
+    ensures { IfOk result (λ text. text ≡ report_of scenario.now history.now.entries trace) }
+{
+    let mut out = plain_report(alloc, scenario, history.as_slice())?;
+    push_trace_lines(&mut out, history.as_slice(), trace)?;
     Ok(out)
 }

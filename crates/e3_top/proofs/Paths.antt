@@ -1,5 +1,5 @@
 -- One write path is a scenario of one site, so its legal histories are safe.
-use Rattle.std.proofs.Common.{◌≡◌, ◌==◌, ◌≤◌, ◌<◌, ℕ, suc, Bool, true, false, List, [], ◌∷◌, length, Option, Ok, Err, inl, refl, ap, sym, subst, arith, eq-eqb, leb-true, inr, String, Global, ◌⊎◌, ◌∙◌}
+use Rattle.std.proofs.Common.{◌≡◌, ◌==◌, ◌≤◌, ◌<◌, ℕ, suc, Bool, true, false, List, [], ◌∷◌, length, Option, Ok, Err, refl, ap, sym, subst, arith, eq-eqb, leb-true, inl, inr, String, Global, ◌⊎◌, ◌∙◌}
 use Rattle.std.specs.List.{list_all}
 use Rattle.e3_agree.specs.Lone.{IsLone, is_lone_item}
 use Rattle.e3_agree.proofs.LoneLaws.{lone_agrees, lone_told, lone_voted}
@@ -8,9 +8,11 @@ use Rattle.e3_scenario.specs.Scenarios.{scenario_of, refused_text}
 use Rattle.e3_scenario.specs.Faults.{fault_text}
 use Rattle.e3_scenario.specs.declared.faults.ScenarioFault.{ScenarioFault}
 use Rattle.e3_report.specs.Report.{report_of}
-use Rattle.e3_top.specs.Due.{IsDue, IsSafeRun}
-use Rattle.e3_top.specs.Ends.{IsHistoryOf}
+use Rattle.e3_top.specs.Due.{IsDue, IsNoScenario, IsNotBuilt, IsSafeRun}
+use Rattle.e3_top.specs.Ends.{IsHistoryOf, IsPrepared}
 use Rattle.e3_top.specs.Words.{IsRun}
+use Rattle.e3_words.specs.Words.{Spell}
+use Rattle.e3_words.specs.declared.words.Command.TheVariants.{Run}
 use Rattle.e3_types.specs.declared.entries.Entry.{Entry}
 use Rattle.e3_types.specs.declared.scenarios.Item.{Item}
 use Rattle.e3_types.specs.declared.scenarios.Item.TheVariants.{Begin, Write, Commit}
@@ -45,12 +47,13 @@ pub of_scenario : (bytes : List ℕ) (sc : Scenario) (h : List Entry) → IsOneW
 of_scenario bytes sc h form spelled legal = inr (record { scenario = sc; spelled = spelled; safe = safe_run sc h form legal })
 
 -- the report of a history that went through it is due
-pub done_run : (words : List (String Global)) (bytes : List ℕ) (sc : Scenario) (h : List Entry) (text : List ℕ) → IsRun words →
-    IsOneWritePath sc → scenario_of bytes ≡ Ok sc → IsWhole sc h → text ≡ report_of sc h → IsDue words bytes 0 h text
-done_run words bytes sc h text run form spelled whole reported = record {
+pub done_run : (words : List (String Global)) (trace : Bool) (bytes : List ℕ) (sc : Scenario) (h : List Entry) (text : List ℕ) →
+    Spell words (Run trace) → IsOneWritePath sc → scenario_of bytes ≡ Ok sc → IsWhole sc h → text ≡ report_of sc h trace →
+    IsDue words bytes 0 h text
+done_run words trace bytes sc h text run form spelled whole reported = record {
   known = omega arith;
   done = λ e. record {
-    run = run;
+    run = record { trace = trace; spelled = run };
     scenario = sc;
     spelled = spelled;
     path = form;
@@ -81,3 +84,16 @@ not_built words bytes sc h text run spelled no_path empty says = record {
   words_refused = λ e. absurd (omega (arith, e));
   scenario_refused = λ e. inr (record { run = run; scenario = sc; spelled = spelled; no_path = no_path; empty = empty; says = says });
 }
+
+-- a scenario is refused for words that ask for a run alone
+refused_run : {words : List (String Global)} {bytes : List ℕ} {history : List Entry} {text : List ℕ} →
+    IsNoScenario words bytes history text ⊎ IsNotBuilt words bytes history text → IsRun words
+refused_run (inl none) = none.run
+refused_run (inr other) = other.run
+
+-- a text of status 0, 2 or 3 is due for words that ask for a run alone
+pub status_run : {words : List (String Global)} {had left : Option (List ℕ)} {status : ℕ} {history : List Entry} {text : List ℕ} →
+    IsPrepared words had left status history text → (status ≡ 0) ⊎ (status ≡ 2) ⊎ (status ≡ 3) → IsRun words
+status_run prepared (inl e) = (prepared.due.done e).run
+status_run prepared (inr (inl e)) = refused_run (prepared.due.scenario_refused e)
+status_run prepared (inr (inr e)) = let known = prepared.due.known in absurd (omega (arith, e))

@@ -23,7 +23,7 @@ pub record IsSafeRun (sc : Scenario) (history : List Entry) : Type 0 where
   pub told : ToldStands sc history
 
 -- Done: the bytes spell a scenario of the form that is built, the history is one of it and went through all of it, and
--- the text is its report.
+-- the text is its report, with the trace where the words ask for it.
 pub record IsDone (words : List (String Global)) (bytes : List ℕ) (history : List Entry) (text : List ℕ) : Type 0 where
   pub run : IsRun words
   pub scenario : Scenario
@@ -31,7 +31,7 @@ pub record IsDone (words : List (String Global)) (bytes : List ℕ) (history : L
   pub path : IsOneWritePath scenario
   pub whole : IsWhole scenario history
   pub safe : IsSafeRun scenario history
-  pub reported : text ≡ report_of scenario history
+  pub reported : text ≡ report_of scenario history run.trace
 
 -- Refused words: nothing is read, and nothing happens.
 pub record IsRefusedWords (words : List (String Global)) (bytes : List ℕ) (history : List Entry) (text : List ℕ) : Type 0 where

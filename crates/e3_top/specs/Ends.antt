@@ -10,7 +10,7 @@ use Rattle.e3_types.specs.declared.entries.Entry.{Entry}
 use Rattle.e3_types.specs.declared.scenarios.Scenario.{Scenario}
 
 -- These bytes were taken from the source, which had `had` left and has `left` left now: 4,194,305 bytes at most, and
--- fewer only at its end. For other words than `run` none are taken.
+-- fewer only at its end. For words that ask for no run none are taken.
 pub record IsRead (words : List (String Global)) (had left : Option (List ℕ)) (bytes : List ℕ) : Type 0 where
   pub taken : Consumes had left bytes
   pub few : length bytes ≤ 4194305

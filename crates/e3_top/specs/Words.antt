@@ -1,10 +1,13 @@
 -- The words of the command line.
-use Rattle.std.specs.Prelude.{◌≡◌, ℕ, codes, List, [], ◌∷◌, ◌++◌, map, String, string_bytes}
+use Rattle.std.specs.Prelude.{ℕ, Bool, codes, List, String}
 use Rattle.std.specs.declared.alloc.Global.{Global}
+use Rattle.e3_words.specs.Words.{Spell}
+use Rattle.e3_words.specs.declared.words.Command.TheVariants.{Run}
 
--- the words are the one word `run`
-abbrev pub IsRun : List (String Global) → Type 0
-IsRun words = map string_bytes words ≡ codes "run" ∷ []
+-- the words ask for a run: `run`, or `run --trace` where its trace is to stand behind the report
+pub record IsRun (words : List (String Global)) : Type 0 where
+  pub trace : Bool
+  pub spelled : Spell words (Run trace)
 
 -- what is written for other words
 unfoldable pub refused_words : List ℕ

@@ -3,13 +3,16 @@ ghost use Rattle.std.specs.Prelude.{◌≡◌, ◌≢◌, ◌≤◌, ◌⊎◌, 
 ghost use Rattle.e3_top.specs.Due.{IsDue};
 ghost use Rattle.e3_top.specs.Ends.{IsCutShort, IsHistoryOf, IsPrepared, SourceFails};
 ghost use Rattle.e3_top.specs.Words.{IsRun};
+ghost use Rattle.e3_words.specs.Words.{Spell};
+ghost use Rattle.e3_words.specs.declared.words.Command.TheVariants.{Run};
 
-use crate::words::{is_run, refused_words};
+use crate::words::refused_words;
 use e3_drive::play;
 use e3_outside::{ReadFault, Source, read_up_to};
 use e3_report::report;
 use e3_scenario::{ScenarioFault, fault_line, is_one_write_path, read_scenario, refused_line};
 use e3_types::{List, NoMemory};
+use e3_words::{Command, read_words};
 use e3_world::History;
 use std::alloc::Global;
 
@@ -44,10 +47,11 @@ impl From<NoMemory> for Stop {
 fn prepare_bytes(
     alloc: Global,
     words: &[String],
+    trace: bool,
     bytes: &[u8],
     history: &mut History,
 ) -> Result<Prepared, NoMemory>
-    requires run { IsRun words.now }
+    requires run { Spell words.now (Run trace) }
     requires empty { history.old.entries ≡ [] }
     ensures due { IfOk result (λ p. IsDue words.now bytes.now p.status history.new.entries p.text) }
     ensures not_words { IfOk result (λ p. p.status ≢ 1) }
@@ -69,7 +73,7 @@ fn prepare_bytes(
             play(alloc, &scenario, history)?;
             Ok(Prepared {
                 status: 0,
-                text: report(alloc, &scenario, history.as_slice())?,
+                text: report(alloc, &scenario, history, trace)?,
             })
         }
     }
@@ -102,12 +106,13 @@ pub fn prepare<S: Source>(
     ensures unread { ¬ IsRun words.now → source.new ≡ source.old }
     ensures never_falls { S.faults source.old ≤ S.faults source.new }
 {
-    if !is_run(words) {
-        return Ok(prepare_refusal(alloc, words)?);
-    }
+    let trace = match read_words(words) {
+        None => return Ok(prepare_refusal(alloc, words)?),
+        Some(Command::Run { trace }) => trace,
+    };
     match read_up_to(alloc, source, MOST) {
         Err(ReadFault::Failed) => Err(Stop::SourceFailed),
         Err(ReadFault::NoMemory) => Err(Stop::NoMemory),
-        Ok(bytes) => Ok(prepare_bytes(alloc, words, bytes.as_slice(), history)?),
+        Ok(bytes) => Ok(prepare_bytes(alloc, words, trace, bytes.as_slice(), history)?),
     }
 }

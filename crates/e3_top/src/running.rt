@@ -47,12 +47,12 @@ pub fn run<R: Wait, S: Source, K: Sink>(
     ensures no_memory { result.status ≡ 5 →
         IsCutShort words.now (S.left source.old) (S.left source.new) result.history.entries × (sink.new ≡ sink.old) }
 
-    // There is no other status. 0, 2 and 3 come only for the one word `run`, and 1 only for other words.
+    // There is no other status. 0, 2 and 3 come only for words that ask for a run, and 1 only for other words.
     ensures statuses { result.status ≤ 5 }
     ensures run_words { (result.status ≡ 0) ⊎ (result.status ≡ 2) ⊎ (result.status ≡ 3) → IsRun words.now }
     ensures other_words { result.status ≡ 1 → ¬ IsRun words.now }
 
-    // For other words the source is not touched; with 0 nothing of it is left.
+    // For words that ask for no run the source is not touched; with 0 nothing of it is left.
     ensures unread { ¬ IsRun words.now → source.new ≡ source.old }
     ensures drained { result.status ≡ 0 → IsAtEnd (S.left source.new) }
 

@@ -12,6 +12,9 @@ const ONE_WRITE: &str =
 const ONE_WRITE_REPORT: &str =
     "start\n1: rose 1\nstep 1\n> begin t 1 1\n1: 1.1.1 began 1\nstep 2\n> write t 1.x a\n1: 1.1.1 op 1 written\nstep 3\n> commit t\n1: 1.1.1 committed\norder\n1.1.1\nsite 1 up 1\nlog\nbirth 1 1\ninc 1\nvote 1.1.1 1\nwrite 1 x a\nattempt 1.1.1 1 commit\ndecision 1.1.1 commit\nrows\nx a\nend\n";
 
+const ONE_WRITE_TRACE: &str =
+    "1 rise 1\n0 line 1\n1 step begin 1\nt 1.1.1 began 1\n0 line 2\n1 step do 1.1.1 write 1.x a\nt 1.1.1 op 1 written\n0 line 3\n1 step commit 1.1.1\nr vote 1.1.1 1\nr write 1 x a\nr attempt 1.1.1 1 commit\nr decision 1.1.1 commit\nt 1.1.1 committed\nend\n";
+
 const NO_STEPS: &str = "weights = [2]\nsteps = []\n";
 
 const NO_STEPS_REPORT: &str =
@@ -66,6 +69,18 @@ fn worked_rows(rt: HostRuntime) -> Result<(), Fail> {
         assert_eq!(rt; sink.written(), report.as_bytes());
         assert_eq!(rt; source.left(), b"".as_slice());
     }
+    Ok(())
+}
+
+#[test]
+fn a_worked_row_with_its_trace(rt: HostRuntime) -> Result<(), Fail> {
+    let mut source = source_of(rt.alloc(), ONE_WRITE, 7, &[])?;
+    let mut sink = sink_of(rt.alloc(), 11, &[])?;
+    let ended = run_on(&rt, rt.alloc(), &["run", "--trace"], &mut source, &mut sink)?;
+    let mut want = list_of(rt.alloc(), ONE_WRITE_REPORT.as_bytes())?;
+    want.extend(ONE_WRITE_TRACE.as_bytes())?;
+    assert_eq!(rt; ended.status, 0);
+    assert_eq!(rt; sink.written(), want.as_slice());
     Ok(())
 }
 
@@ -215,7 +230,13 @@ fn the_history_of_one_write(rt: HostRuntime) -> Result<(), Fail> {
 
 #[test]
 fn refused_words(rt: HostRuntime) -> Result<(), Fail> {
-    let lists: [&[&str]; 4] = [&[], &["run", "x"], &["run", "--trace"], &["runs"]];
+    let lists: [&[&str]; 5] = [
+        &[],
+        &["run", "x"],
+        &["run", "--trace", "--trace"],
+        &["--trace"],
+        &["runs"],
+    ];
     for words in lists {
         let mut source = source_of(rt.alloc(), ONE_WRITE, 7, &[])?;
         let mut sink = sink_of(rt.alloc(), 4, &[])?;

@@ -1,4 +1,4 @@
-use Rattle.std.proofs.Common.{◌≡◌, ◌+◌, take, length}
+use Rattle.std.proofs.Common.{◌≡◌, ◌+◌, take}
 use Rattle.e3_world.specs.Legal.{numbered}
 use Rattle.e3_drive.proofs.numbering.numbered.Given as goal
 

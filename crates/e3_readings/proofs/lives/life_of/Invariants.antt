@@ -4,4 +4,4 @@ use Rattle.e3_world.specs.Logs.{logged_inc}
 use Rattle.e3_readings.proofs.lives.life_of.Given as goal
 
 abbrev pub invariant-loop-s : goal.invariant-loop-s
-invariant-loop-s l = l.life ≡ fold life_by (record { log = l.i.rose; inc = logged_inc l.i.rose; steps = [] }) (take l.s-index l.s-items)
+invariant-loop-s l = l.life ≡ fold life_by (record { log = l.rose; inc = logged_inc l.rose; steps = [] }) (take l.s-index l.since)

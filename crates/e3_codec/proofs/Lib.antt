@@ -1,0 +1,4 @@
+pub mod Times
+pub mod Formats
+pub mod Records
+pub mod Pieces

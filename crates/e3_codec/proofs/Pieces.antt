@@ -1,0 +1,25 @@
+-- Writing one field behind the other writes them all.
+use Rattle.std.proofs.Common.{◌≡◌, ◌<◌, ◌/◌, ◌%◌, ◌++◌, ◌∷◌, [], ℕ, List, arith, ap, ◌∙◌, append_assoc}
+use Rattle.e3_types.specs.Spelling.{u8}
+
+-- a byte is spelled by itself
+pub one_byte : (n : ℕ) → n < 256 → u8 n ≡ n ∷ []
+one_byte n few = let same : n / 1 % 256 ≡ n = omega (arith, few) in (λ i. same i ∷ [])
+
+-- three pieces, one behind the other
+pub appended_3 : (out a b c p q r : List ℕ) → p ≡ out ++ a → q ≡ p ++ b → r ≡ q ++ c → r ≡ out ++ (a ++ (b ++ c))
+appended_3 out a b c p q r ep eq er =
+    let all : r ≡ ((out ++ a) ++ b) ++ c = er ∙ ap (λ (l : List ℕ). l ++ c) (eq ∙ ap (λ (l : List ℕ). l ++ b) ep) in
+    all ∙ simp append_assoc
+
+-- four pieces, one behind the other
+pub appended_4 : (out a b c d p q r s : List ℕ) → p ≡ out ++ a → q ≡ p ++ b → r ≡ q ++ c → s ≡ r ++ d → s ≡ out ++ (a ++ (b ++ (c ++ d)))
+appended_4 out a b c d p q r s ep eq er es =
+    let all : s ≡ ((out ++ a) ++ b) ++ c ++ d = es ∙ ap (λ (l : List ℕ). l ++ d) (er ∙ ap (λ (l : List ℕ). l ++ c) (eq ∙ ap (λ (l : List ℕ). l ++ b) ep)) in
+    all ∙ simp append_assoc
+
+-- five pieces, one behind the other
+pub appended_5 : (out a b c d e p q r s t : List ℕ) → p ≡ out ++ a → q ≡ p ++ b → r ≡ q ++ c → s ≡ r ++ d → t ≡ s ++ e →
+    t ≡ out ++ (a ++ (b ++ (c ++ (d ++ e))))
+appended_5 out a b c d e p q r s t ep eq er es et =
+    et ∙ ap (λ (l : List ℕ). l ++ e) (appended_4 out a b c d p q r s ep eq er es) ∙ simp append_assoc

@@ -1,0 +1,60 @@
+-- Which records have a spelling in the log of a site.
+use Rattle.std.specs.Prelude.{◌≡◌, ◌<◌, ◌^◌, true, ℕ, List, length}
+use Rattle.std.specs.List.{AllByRecursion}
+use Rattle.e3_types.specs.declared.transactions.NumOp.{NumOp}
+use Rattle.e3_types.specs.declared.transactions.Op.{Op}
+use Rattle.e3_types.specs.declared.transactions.Op.TheVariants.{Read, Write}
+use Rattle.e3_types.specs.declared.records.Record.{Record}
+use Rattle.e3_types.specs.declared.transactions.Row.{Row}
+use Rattle.e3_types.specs.declared.transactions.Txn.{Txn}
+use Rattle.e3_types.specs.declared.records.Record.TheVariants as log
+use Rattle.e3_types.specs.Sites.{sites_of}
+use Rattle.e3_types.specs.Text.{IsName, IsValue}
+use Rattle.e3_types.specs.Transactions.{is_txn}
+
+-- the number fits into four bytes
+abbrev pub IsShort : ℕ → Type 0
+IsShort n = n < 2 ^ 32
+
+-- the list has fewer than 2^32 members, each of which fits
+abbrev pub ListFits : {X : Type 0} → (X → Type 0) → List X → Type 0
+ListFits fits xs = IsShort (length xs) × AllByRecursion fits xs
+
+-- the sites are those of some 64 bits
+abbrev pub SetFits : List ℕ → Type 0
+SetFits sites = (bits : ℕ) × (bits < 2 ^ 64) × (sites ≡ sites_of bits)
+
+-- the transaction is one, and its numbers fit
+pub record TxnFits (t : Txn) : Type 0 where
+  pub site : IsShort t.site
+  pub inc : IsShort t.inc
+  pub seq : IsShort t.seq
+  pub sites : SetFits t.sites
+  pub is_one : is_txn t ≡ true
+
+-- the row has a name and a value
+abbrev pub RowFits : Row → Type 0
+RowFits row = IsName row.name × IsValue row.val
+
+-- the operation is on a record of the site
+abbrev pub OpFits : ℕ → Op → Type 0
+OpFits site (Read key) = (key.site ≡ site) × IsName key.name
+OpFits site (Write key val) = (key.site ≡ site) × (IsName key.name × IsValue val)
+
+-- and its number fits
+abbrev pub NumOpFits : ℕ → NumOp → Type 0
+NumOpFits site o = IsShort o.n × OpFits site o.op
+
+-- the record has a spelling, and its operations have keys of the site
+abbrev pub Fits : ℕ → Record → Type 0
+Fits site (log.Birth format own weights rows) =
+    IsShort format × (IsShort own × (ListFits IsShort weights × ListFits RowFits rows))
+Fits site (log.Inc inc) = IsShort inc
+Fits site (log.Vote t ops) = TxnFits t × ListFits (NumOpFits site) ops
+Fits site (log.Join t n) = TxnFits t × IsShort n
+Fits site (log.Attempt t n dir) = TxnFits t × (IsShort n × Unit {0})
+Fits site (log.Decision t dir) = TxnFits t × Unit {0}
+
+-- each of these records fits
+abbrev pub AllFit : ℕ → List Record → Type 0
+AllFit site records = AllByRecursion (Fits site) records

@@ -1,0 +1,6 @@
+pub mod Images
+pub mod Leaves
+pub mod Meters
+pub mod Panel
+pub mod Stored
+pub mod Memory

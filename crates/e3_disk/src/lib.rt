@@ -1,0 +1,17 @@
+//! Disks by what a read gives and what a crash may leave, and one in memory that can be made to fail and to stop.
+#![tactic(auto)]
+
+mod disk;
+mod fault;
+mod law;
+mod memory;
+mod panel;
+mod schedule;
+mod store;
+#[cfg(test)]
+mod tests;
+
+pub use disk::{Disk, Drill};
+pub use fault::DiskFault;
+pub use law::torn_writes_keep_the_rest;
+pub use memory::MemDisk;

@@ -1,0 +1,4 @@
+pub mod Inputs
+pub mod LeftOf
+pub mod RoundOf
+pub mod Standing

@@ -1,0 +1,159 @@
+// What the present step of a scenario asks for, and whether it is through.
+ghost use Rattle.std.specs.Prelude.{◌≡◌, ◌&&◌, ◌||◌, not, nat_lt, IfOk};
+ghost use Rattle.std.specs.List.{list_all};
+ghost use Rattle.e3_types.specs.Sets.{has_site};
+ghost use Rattle.e3_world.specs.Legal.{begins_with_parts, has_rising, is_made, is_rising, is_through, may_rise, parts_due};
+ghost use Rattle.e3_world.specs.Packets.{all_sites};
+
+use crate::items::{is_up_at, items_through, since_line};
+use crate::packets::{lines, pending, present_items};
+use crate::rounds::due_round;
+use e3_types::{Act, Copied, Entry, Item, List, NoMemory, Scenario, SiteSet};
+use std::alloc::Global;
+
+/// The owner is a site of the scenario.
+#[tactic(auto, using(crate::proofs::AllSites::has_from_one))]
+pub fn is_site(sc: &Scenario, owner: u32) -> bool
+    ensures { result ≡ has_site (all_sites sc.now) owner }
+{
+    1 <= owner && owner as u64 <= sc.weights.len()
+}
+
+// All sites of the scenario. More than 64 are no set of sites, and no memory is enough for them.
+fn all_sites(alloc: Global, sc: &Scenario) -> Result<SiteSet, NoMemory>
+    ensures { IfOk result (λ sites. sites ≡ all_sites sc.now) }
+{
+    let count = sc.weights.len();
+    if count > 64 {
+        return Err(NoMemory);
+    }
+    let mut sites = List::new(alloc);
+    for s in 0..count {
+        sites.push(s as u32 + 1)?;
+    }
+    SiteSet::of(sites.as_slice()).ok_or(NoMemory)
+}
+
+/// The parts that a split or a merge asks for. A merge of more than 64 sites, which no set of sites can name, is said to
+/// want memory.
+pub fn parts_due(
+    alloc: Global,
+    sc: &Scenario,
+    items: &[Item],
+) -> Result<Option<List<SiteSet>>, NoMemory>
+    ensures { IfOk result (λ due. due ≡ parts_due sc.now items.now) }
+{
+    match items {
+        [Item::Split { parts }, ..] => Ok(Some(parts.copied(alloc)?)),
+        [Item::Merge, ..] => {
+            let mut parts = List::new(alloc);
+            parts.push(all_sites(alloc, sc)?)?;
+            Ok(Some(parts))
+        }
+        _ => Ok(None),
+    }
+}
+
+// A rise, a failed one or a missed one.
+fn is_rising(e: &Entry) -> bool
+    ensures { result ≡ is_rising e.now }
+{
+    match e.act {
+        Act::Rise { .. } | Act::RiseFall { .. } | Act::Miss => true,
+        _ => false,
+    }
+}
+
+// The site has such an entry among these.
+fn has_rising(entries: &[Entry], site: u64) -> bool
+    ensures { result ≡ has_rising entries.now site }
+{
+    let mut has = false;
+    for e in entries {
+        if e.owner as u64 == site && is_rising(e) {
+            has = true;
+        }
+    }
+    has
+}
+
+// All sites of a lower number have such an entry.
+#[tactic(auto, using(crate::proofs::AllSites::all_next))]
+fn lower_rose(sc: &Scenario, history: &[Entry], site: u64) -> bool
+    ensures { result ≡ list_all (λ s. not (nat_lt s site) || has_rising history.now s) (all_sites sc.now) }
+{
+    let mut all = true;
+    for s in 0..sc.weights.len() {
+        let rose = s + 1 >= site || has_rising(history, s + 1);
+        all = all && rose;
+    }
+    all
+}
+
+// All sites have such an entry.
+#[tactic(auto, using(crate::proofs::AllSites::all_next))]
+fn all_rose(sc: &Scenario, history: &[Entry]) -> bool
+    ensures { result ≡ list_all (has_rising history.now) (all_sites sc.now) }
+{
+    let mut all = true;
+    for s in 0..sc.weights.len() {
+        let rose = has_rising(history, s + 1);
+        all = all && rose;
+    }
+    all
+}
+
+/// The site has its turn to rise: before the first line by ascending number, later in its restart step.
+pub fn may_rise(sc: &Scenario, history: &[Entry], site: u32) -> bool
+    ensures { result ≡ may_rise sc.now history.now site }
+{
+    if lines(history) == 0 {
+        return !has_rising(history, site as u64) && lower_rose(sc, history, site as u64);
+    }
+    match present_items(sc, history) {
+        [Item::Restart { site: s }, ..] => {
+            *s == site && !has_rising(since_line(history), site as u64)
+        }
+        _ => false,
+    }
+}
+
+// The first of these entries is one of parts.
+fn begins_with_parts(entries: &[Entry]) -> bool
+    ensures { result ≡ begins_with_parts entries.now }
+{
+    match entries {
+        [] => false,
+        [e, ..] => matches!(e.act, Act::Parts { .. }),
+    }
+}
+
+// The one item of the present step had its entry, or is skipped; in a group or a recover step: all of it.
+fn is_made(alloc: Global, sc: &Scenario, history: &[Entry]) -> Result<bool, NoMemory>
+    ensures { IfOk result (λ b. b ≡ is_made sc.now history.now) }
+{
+    match present_items(sc, history) {
+        [Item::Recover { .. }, ..] => Ok(due_round(alloc, sc, history)?.is_none()),
+        [Item::Split { .. }, ..] => Ok(begins_with_parts(since_line(history))),
+        [Item::Merge, ..] => Ok(begins_with_parts(since_line(history))),
+        [Item::Crash { site }, ..] => Ok(!is_up_at(history, *site)),
+        [Item::Restart { site }, ..] => {
+            let rose = has_rising(since_line(history), *site as u64);
+            Ok(is_up_at(history, *site) || rose)
+        }
+        [Item::Stop { .. }, ..] => Ok(true),
+        _ => items_through(alloc, sc, history),
+    }
+}
+
+/// All before the next line is through.
+pub fn is_through(alloc: Global, sc: &Scenario, history: &[Entry]) -> Result<bool, NoMemory>
+    ensures { IfOk result (λ b. b ≡ is_through sc.now history.now) }
+{
+    if lines(history) == 0 {
+        return Ok(all_rose(sc, history));
+    }
+    let left = pending(alloc, sc, history)?;
+    let made = is_made(alloc, sc, history)?;
+    Ok(left.is_empty() && made)
+}

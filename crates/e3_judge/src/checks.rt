@@ -1,0 +1,432 @@
+// The guards of an entry, tried in order: nothing is computed behind the first that fails.
+ghost use Rattle.std.specs.Prelude.{◌≡◌, ◌==◌, ◌+◌, ◌++◌, ◌∷◌, [], IfOk, suc, length};
+ghost use Rattle.e3_types.specs.Same.{same_numbers};
+ghost use Rattle.e3_types.specs.declared.entries.Act.TheVariants as act;
+ghost use Rattle.e3_world.specs.Items.{is_up_at};
+ghost use Rattle.e3_world.specs.Legal.{numbered};
+ghost use Rattle.e3_world.specs.Moves.{log_by, kept_moves, open_tail};
+ghost use Rattle.e3_world.specs.Packets.{pending, sent};
+ghost use Rattle.e3_judge.specs.declared.breach.Guard.TheVariants as guard;
+ghost use Rattle.e3_judge.specs.Checks.{Check, is_site, line_is_due, parts_are_due, may_drop, drop_is_due, is_crash, is_next_inc, step_checks, fall_checks, rising_checks, rise_checks, checks, first_failing};
+ghost use Rattle.e3_judge.specs.Equal.{is_some, same_list, same_packet, same_record, same_told};
+
+use crate::Guard;
+use crate::equal::{Same, same_list};
+use crate::inputs::{add_copies, input_is_due, inputs_are_due, is_empty, is_in_order, records_by};
+use e3_histories::{
+    Tail, is_site, is_through, is_up_at, lines, log_at, made_by, may_rise, parts_due, pending,
+    present_items, sent_count, since_line, tail_at,
+};
+use e3_readings::logged_inc;
+use e3_types::{Act, Entry, Input, Item, List, NoMemory, Packet, Record, Scenario, SiteSet, Told};
+use e3_world::Made;
+use std::alloc::Global;
+
+// The number is one more than so many.
+fn is_next(number: u32, count: u64) -> bool
+    ensures { result ≡ (number == suc count) }
+{
+    number >= 1 && (number - 1) as u64 == count
+}
+
+// The next line, once all before is through.
+fn line_is_due(
+    alloc: Global,
+    scenario: &Scenario,
+    before: &[Entry],
+    number: u32,
+) -> Result<bool, NoMemory>
+    ensures { IfOk result (λ b. b ≡ line_is_due scenario.now before.now number) }
+{
+    if !is_next(number, lines(before)) || number as u64 > scenario.steps.len() {
+        return Ok(false);
+    }
+    is_through(alloc, scenario, before)
+}
+
+// These parts are due.
+fn are_parts(due: &Option<List<SiteSet>>, parts: &[SiteSet]) -> bool
+    ensures { result ≡ is_some (same_list same_numbers) due.now parts.now }
+{
+    match due {
+        Some(due) => same_list(due.as_slice(), parts),
+        None => false,
+    }
+}
+
+// Directly behind the line of a split or a merge, with its parts.
+fn parts_are_due(
+    alloc: Global,
+    scenario: &Scenario,
+    before: &[Entry],
+    parts: &[SiteSet],
+) -> Result<bool, NoMemory>
+    ensures { IfOk result (λ b. b ≡ parts_are_due scenario.now before.now parts.now) }
+{
+    if !is_empty(since_line(before)) {
+        return Ok(false);
+    }
+    let due = parts_due(alloc, scenario, present_items(scenario, before))?;
+    Ok(are_parts(&due, parts))
+}
+
+// The packet has this number, its receiver is down, and in a recover step it is the least pending one.
+fn may_drop(
+    scenario: &Scenario,
+    before: &[Entry],
+    waiting: &[Packet],
+    number: u64,
+    packet: &Packet,
+) -> bool
+    requires { waiting.now ≡ pending scenario.now before.now }
+    ensures { result ≡ may_drop scenario.now before.now number packet.now }
+{
+    packet.number == number
+        && !is_up_at(before, packet.to)
+        && is_in_order(scenario, before, waiting, packet)
+}
+
+// Some packet of this number is pending, and may be dropped.
+fn drop_is_due(
+    alloc: Global,
+    scenario: &Scenario,
+    before: &[Entry],
+    number: u64,
+) -> Result<bool, NoMemory>
+    ensures { IfOk result (λ b. b ≡ drop_is_due scenario.now before.now number) }
+{
+    let waiting = pending(alloc, scenario, before)?;
+    for packet in waiting.as_slice() {
+        if may_drop(scenario, before, waiting.as_slice(), number, packet) {
+            return Ok(true);
+        }
+    }
+    Ok(false)
+}
+
+// The packet is this one, numbered behind so many that were sent and so many beside it.
+fn is_numbered(packet: &Packet, sent: u64, at: u64, made: &Packet) -> bool
+    ensures { result ≡ same_packet packet.now (record made.now { number = suc (sent + at) }) }
+{
+    packet.number > sent
+        && packet.number - sent - 1 == at
+        && packet.from == made.from
+        && packet.to == made.to
+        && packet.msg.is_same(&made.msg)
+}
+
+// The packets are those that were made, numbered behind so many that were sent before.
+fn are_numbered(packets: &[Packet], sent: u64, made: &[Packet]) -> bool
+    ensures { result ≡ same_list same_packet packets.now (numbered (suc sent) made.now) }
+{
+    if packets.len() != made.len() {
+        return false;
+    }
+    for i in 0..packets.len() {
+        if !is_numbered(&packets[i], sent, i as u64, &made[i]) {
+            return false;
+        }
+    }
+    true
+}
+
+// What a step has is what its input makes.
+fn made_breach(
+    before: &[Entry],
+    made: &Made,
+    records: &[Record],
+    outs: &[Packet],
+    told: &[Told],
+) -> Result<Option<Guard>, NoMemory>
+    ensures { IfOk result (λ g. g ≡ first_failing (
+        record { guard = guard.Records; holds = same_list same_record records.now made.now.records } ∷
+        record { guard = guard.Outs; holds = same_list same_packet outs.now (numbered (suc (length (sent before.now))) made.now.outs) } ∷
+        record { guard = guard.Told; holds = same_list same_told told.now made.now.told } ∷
+        [])) }
+{
+    if !same_list(records, made.records.as_slice()) {
+        return Ok(Some(Guard::Records));
+    }
+    let sent = sent_count(before)?;
+    if !are_numbered(outs, sent, made.outs.as_slice()) {
+        return Ok(Some(Guard::Outs));
+    }
+    if !same_list(told, made.told.as_slice()) {
+        return Ok(Some(Guard::Told));
+    }
+    Ok(None)
+}
+
+// The first guard that an entry of a site fails which has to be up.
+fn absent_breach(scenario: &Scenario, before: &[Entry], site: u32) -> Option<Guard>
+    ensures { result ≡ first_failing (
+        record { guard = guard.Owner; holds = is_site scenario.now site } ∷
+        record { guard = guard.Up; holds = is_up_at before.now site } ∷
+        []) }
+{
+    if !is_site(scenario, site) {
+        return Some(Guard::Owner);
+    }
+    if !is_up_at(before, site) {
+        return Some(Guard::Up);
+    }
+    None
+}
+
+// The first guard that a step fails.
+fn step_breach(
+    alloc: Global,
+    scenario: &Scenario,
+    before: &[Entry],
+    site: u32,
+    input: &Input,
+    records: &[Record],
+    outs: &[Packet],
+    told: &[Told],
+) -> Result<Option<Guard>, NoMemory>
+    ensures { IfOk result (λ g. g ≡ first_failing (step_checks scenario.now before.now site input.now records.now outs.now told.now)) }
+{
+    let absent = absent_breach(scenario, before, site);
+    if absent.is_some() {
+        return Ok(absent);
+    }
+    if !input_is_due(alloc, scenario, before, site, input)? {
+        return Ok(Some(Guard::Input));
+    }
+    let made = made_by(alloc, scenario, before, site, input)?;
+    made_breach(before, &made, records, outs, told)
+}
+
+// The first guard that a fall fails.
+fn fall_breach(
+    alloc: Global,
+    scenario: &Scenario,
+    before: &[Entry],
+    site: u32,
+    inputs: &[Input],
+    records: &[Record],
+) -> Result<Option<Guard>, NoMemory>
+    ensures { IfOk result (λ g. g ≡ first_failing (fall_checks scenario.now before.now site inputs.now records.now)) }
+{
+    let absent = absent_breach(scenario, before, site);
+    if absent.is_some() {
+        return Ok(absent);
+    }
+    if !inputs_are_due(alloc, scenario, before, site, inputs)? {
+        return Ok(Some(Guard::Input));
+    }
+    if is_empty(records) {
+        return Ok(Some(Guard::Records));
+    }
+    let made = records_by(alloc, scenario, before, site, inputs)?;
+    if !same_list(records, made.as_slice()) {
+        return Ok(Some(Guard::Records));
+    }
+    Ok(None)
+}
+
+// The present step is the site's crash.
+fn is_crash(items: &[Item], site: u32) -> bool
+    ensures { result ≡ is_crash items.now site }
+{
+    match items {
+        [Item::Crash { site: s }] => *s == site,
+        _ => false,
+    }
+}
+
+// The first guard that a cut fails.
+fn cut_breach(scenario: &Scenario, before: &[Entry], site: u32) -> Option<Guard>
+    ensures { result ≡ first_failing (checks scenario.now before.now (record { owner = site; act = act.Cut })) }
+{
+    let absent = absent_breach(scenario, before, site);
+    if absent.is_some() {
+        return absent;
+    }
+    if !is_crash(present_items(scenario, before), site) {
+        return Some(Guard::Step);
+    }
+    None
+}
+
+// The first guard that a rise fails, also one that failed or that never read the log.
+fn rising_breach(scenario: &Scenario, before: &[Entry], site: u32) -> Option<Guard>
+    ensures { result ≡ first_failing (rising_checks scenario.now before.now site) }
+{
+    if !is_site(scenario, site) {
+        return Some(Guard::Owner);
+    }
+    if is_up_at(before, site) {
+        return Some(Guard::Up);
+    }
+    if !may_rise(scenario, before, site) {
+        return Some(Guard::Step);
+    }
+    None
+}
+
+// Adds the records of the tail that is kept.
+fn add_kept(
+    alloc: Global,
+    site: u32,
+    kept: bool,
+    tail: &Option<Tail>,
+    log: &mut List<Record>,
+) -> Result<(), NoMemory>
+    ensures { IfOk result (λ u. log.new ≡ log.old ++ log_by (kept_moves site kept tail.now)) }
+{
+    match tail {
+        Some(tail) if kept => add_copies(alloc, tail.records.as_slice(), log),
+        _ => Ok(()),
+    }
+}
+
+// The incarnation is one more than the last, the open tail counted where it is kept.
+fn is_next_inc(
+    alloc: Global,
+    scenario: &Scenario,
+    before: &[Entry],
+    site: u32,
+    kept: bool,
+    tail: &Option<Tail>,
+    inc: u32,
+) -> Result<bool, NoMemory>
+    requires { tail.now ≡ open_tail scenario.now before.now site }
+    ensures { IfOk result (λ b. b ≡ is_next_inc scenario.now before.now site kept inc) }
+{
+    let mut log = log_at(alloc, scenario, before, site)?;
+    add_kept(alloc, site, kept, tail, &mut log)?;
+    Ok(is_next(inc, logged_inc(log.as_slice()) as u64))
+}
+
+// The first guard that a rise which read the log fails.
+fn rise_breach(
+    alloc: Global,
+    scenario: &Scenario,
+    before: &[Entry],
+    site: u32,
+    kept: bool,
+    inc: u32,
+) -> Result<Option<Guard>, NoMemory>
+    ensures { IfOk result (λ g. g ≡ first_failing (rise_checks scenario.now before.now site kept inc)) }
+{
+    let rising = rising_breach(scenario, before, site);
+    if rising.is_some() {
+        return Ok(rising);
+    }
+    let tail = tail_at(alloc, scenario, before, site)?;
+    if kept && tail.is_none() {
+        return Ok(Some(Guard::Tail));
+    }
+    if !is_next_inc(alloc, scenario, before, site, kept, &tail, inc)? {
+        return Ok(Some(Guard::Inc));
+    }
+    Ok(None)
+}
+
+// The first guard that a line fails.
+fn line_breach(
+    alloc: Global,
+    scenario: &Scenario,
+    before: &[Entry],
+    owner: u32,
+    number: u32,
+) -> Result<Option<Guard>, NoMemory>
+    ensures { IfOk result (λ g. g ≡ first_failing (checks scenario.now before.now (record { owner = owner; act = act.Line number }))) }
+{
+    if owner != 0 {
+        return Ok(Some(Guard::Owner));
+    }
+    if !line_is_due(alloc, scenario, before, number)? {
+        return Ok(Some(Guard::Line));
+    }
+    Ok(None)
+}
+
+// The first guard that new parts fails.
+fn parts_breach(
+    alloc: Global,
+    scenario: &Scenario,
+    before: &[Entry],
+    owner: u32,
+    parts: &[SiteSet],
+) -> Result<Option<Guard>, NoMemory>
+    ensures { IfOk result (λ g. g ≡ first_failing (checks scenario.now before.now (record { owner = owner; act = act.Parts parts.now }))) }
+{
+    if owner != 0 {
+        return Ok(Some(Guard::Owner));
+    }
+    if !parts_are_due(alloc, scenario, before, parts)? {
+        return Ok(Some(Guard::Parts));
+    }
+    Ok(None)
+}
+
+// The first guard that a drop fails.
+fn drop_breach(
+    alloc: Global,
+    scenario: &Scenario,
+    before: &[Entry],
+    owner: u32,
+    number: u64,
+) -> Result<Option<Guard>, NoMemory>
+    ensures { IfOk result (λ g. g ≡ first_failing (checks scenario.now before.now (record { owner = owner; act = act.Drop number }))) }
+{
+    if owner != 0 {
+        return Ok(Some(Guard::Owner));
+    }
+    if !drop_is_due(alloc, scenario, before, number)? {
+        return Ok(Some(Guard::Drop));
+    }
+    Ok(None)
+}
+
+/// The first guard that an entry fails behind these entries.
+pub(crate) fn entry_breach(
+    alloc: Global,
+    scenario: &Scenario,
+    before: &[Entry],
+    entry: &Entry,
+) -> Result<Option<Guard>, NoMemory>
+    ensures { IfOk result (λ g. g ≡ first_failing (checks scenario.now before.now entry.now)) }
+{
+    let owner = entry.owner;
+    match &entry.act {
+        Act::Line { number } => line_breach(alloc, scenario, before, owner, *number),
+        Act::Parts { parts } => parts_breach(alloc, scenario, before, owner, parts.as_slice()),
+        Act::Drop { packet } => drop_breach(alloc, scenario, before, owner, *packet),
+        Act::Step {
+            input,
+            records,
+            outs,
+            told,
+        } => step_breach(
+            alloc,
+            scenario,
+            before,
+            owner,
+            input,
+            records.as_slice(),
+            outs.as_slice(),
+            told.as_slice(),
+        ),
+        Act::Fall {
+            inputs,
+            records,
+            ..
+        } => fall_breach(
+            alloc,
+            scenario,
+            before,
+            owner,
+            inputs.as_slice(),
+            records.as_slice(),
+        ),
+        Act::Cut => Ok(cut_breach(scenario, before, owner)),
+        Act::Rise { kept, inc } => rise_breach(alloc, scenario, before, owner, *kept, *inc),
+        Act::RiseFall { kept, inc, .. } => {
+            rise_breach(alloc, scenario, before, owner, *kept, *inc)
+        }
+        Act::Miss => Ok(rising_breach(scenario, before, owner)),
+    }
+}

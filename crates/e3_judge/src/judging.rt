@@ -1,0 +1,68 @@
+// The judge: the first entry of a history that breaks the rules, and whether a history went through its scenario.
+ghost use Rattle.std.specs.Prelude.{◌≡◌, ◌↔◌, IfOk, IfSome, None, IsTrue};
+ghost use Rattle.e3_world.specs.Legal.{IsLegal, IsWhole};
+ghost use Rattle.e3_judge.specs.Checks.{first_breach, is_whole};
+ghost use Rattle.e3_judge.specs.Claims.{IsBreach};
+
+use crate::Breach;
+use crate::checks::entry_breach;
+use e3_histories::{is_through, lines};
+use e3_types::{Entry, NoMemory, Scenario};
+use e3_world::History;
+use std::alloc::Global;
+
+// The first of these entries that breaks the rules.
+fn breach_of(
+    alloc: Global,
+    scenario: &Scenario,
+    history: &[Entry],
+) -> Result<Option<Breach>, NoMemory>
+    ensures { IfOk result (λ b. b ≡ first_breach scenario.now history.now) }
+{
+    for i in 0..history.len() {
+        if let Some(guard) = entry_breach(alloc, scenario, &history[..i], &history[i])? {
+            return Ok(Some(Breach {
+                at: i as u64,
+                guard,
+            }));
+        }
+    }
+    Ok(None)
+}
+
+/// The first entry of a history that breaks the rules, and the first of its guards that fails; none where the history is
+/// legal. Every reading is made anew for every entry, so this takes about the cube of the history's length. A faster body
+/// may come under the same contract. Want of memory is the only error.
+#[tactic(auto, using(crate::proofs::Breaches::no_breach_is_legal, crate::proofs::Breaches::breach_is_broken))]
+pub fn judge(
+    alloc: Global,
+    scenario: &Scenario,
+    history: &History,
+) -> Result<Option<Breach>, NoMemory>
+    ensures found { IfOk result (λ b. b ≡ first_breach scenario.now history.now.entries) }
+    ensures legal { IfOk result (λ b. (b ≡ None) ↔ IsLegal scenario.now history.now.entries) }
+    ensures broken { IfOk result (λ b. IfSome b (λ x. IsBreach scenario.now history.now.entries x)) }
+{
+    breach_of(alloc, scenario, history.as_slice())
+}
+
+// The entries are legal and went through the whole scenario.
+fn are_whole(alloc: Global, scenario: &Scenario, history: &[Entry]) -> Result<bool, NoMemory>
+    ensures { IfOk result (λ b. b ≡ is_whole scenario.now history.now) }
+{
+    let breach = breach_of(alloc, scenario, history)?;
+    if breach.is_some() || lines(history) != scenario.steps.len() {
+        return Ok(false);
+    }
+    is_through(alloc, scenario, history)
+}
+
+/// The history is legal and went through the whole scenario. It costs as much as `judge`. Want of memory is the only
+/// error.
+#[tactic(auto, using(crate::proofs::Breaches::whole_is_whole))]
+pub fn is_whole(alloc: Global, scenario: &Scenario, history: &History) -> Result<bool, NoMemory>
+    ensures found { IfOk result (λ b. b ≡ is_whole scenario.now history.now.entries) }
+    ensures whole { IfOk result (λ b. IsTrue b ↔ IsWhole scenario.now history.now.entries) }
+{
+    are_whole(alloc, scenario, history.as_slice())
+}

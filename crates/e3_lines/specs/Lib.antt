@@ -1,0 +1,4 @@
+pub mod Texts
+pub mod Items
+pub mod Records
+pub mod Events

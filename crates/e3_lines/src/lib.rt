@@ -1,0 +1,16 @@
+//! The lines of which a report is made: the words in them, the items of a step, the records of a log, and what happens at
+//! a site. Each function adds to the end of a text.
+#![tactic(auto)]
+
+mod events;
+mod items;
+mod records;
+mod texts;
+
+pub use events::{push_answer, push_entry, push_plain, push_told_text, push_why};
+pub use items::push_items;
+pub use records::{push_records, push_rows};
+pub use texts::{
+    push_dir, push_kept, push_key, push_labelled, push_line_end, push_number, push_parts,
+    push_sites, push_state, push_text, push_txn,
+};

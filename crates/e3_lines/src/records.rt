@@ -1,0 +1,194 @@
+// The lines of a log's records, and of a table's rows.
+ghost use Rattle.std.specs.Prelude.{◌≡◌, ◌++◌, ℕ, List as Items, OnOk, codes, length};
+ghost use Rattle.std.specs.Fmt.{decimal};
+ghost use Rattle.std.specs.List.{flat_map};
+ghost use Rattle.e3_lines.specs.Records.{row_line, birth_row_line, birth_lines, read_line, write_line, op_line, vote_lines, inc_line, join_line, attempt_line, decision_line, record_lines};
+
+use crate::texts::{push_commas, push_dir, push_line_end, push_number, push_text, push_txn};
+use e3_types::{Dir, List, NoMemory, NumOp, Op, Record, Row, Txn};
+
+#[tactic(auto, unfolding(crate::specs::Records::row_line))]
+fn push_row(out: &mut List<u8>, row: &Row) -> Result<(), NoMemory>
+    ensures { OnOk result (out.new ≡ out.old ++ row_line row.now) }
+{
+    out.extend(row.name.bytes())?;
+    push_text(out, " ")?;
+    out.extend(row.val.bytes())?;
+    push_line_end(out)
+}
+
+/// Adds a line for each row of a table.
+pub fn push_rows(out: &mut List<u8>, rows: &[Row]) -> Result<(), NoMemory>
+    ensures { OnOk result (out.new ≡ out.old ++ flat_map row_line rows.now) }
+{
+    for row in rows {
+        push_row(out, row)?;
+    }
+    Ok(())
+}
+
+#[tactic(auto, unfolding(crate::specs::Records::birth_row_line))]
+fn push_birth_row(out: &mut List<u8>, mark: &str, row: &Row) -> Result<(), NoMemory>
+    ensures { OnOk result (out.new ≡ out.old ++ birth_row_line mark.now row.now) }
+{
+    push_text(out, mark)?;
+    push_text(out, "row ")?;
+    push_row(out, row)
+}
+
+#[tactic(auto, unfolding(crate::specs::Records::birth_lines))]
+fn push_birth(
+    out: &mut List<u8>,
+    mark: &str,
+    format: u32,
+    weights: &[u32],
+    rows: &[Row],
+) -> Result<(), NoMemory>
+    ensures { OnOk result (out.new ≡ out.old ++ birth_lines mark.now format weights.now rows.now) }
+{
+    push_text(out, mark)?;
+    push_text(out, "birth ")?;
+    push_number(out, format as u64)?;
+    push_text(out, " ")?;
+    push_commas(out, weights)?;
+    push_line_end(out)?;
+    for row in rows {
+        push_birth_row(out, mark, row)?;
+    }
+    Ok(())
+}
+
+#[tactic(auto, unfolding(crate::specs::Records::read_line))]
+fn push_read(out: &mut List<u8>, mark: &str, n: u32, name: &[u8]) -> Result<(), NoMemory>
+    ensures { OnOk result (out.new ≡ out.old ++ read_line mark.now n name.now) }
+{
+    push_text(out, mark)?;
+    push_text(out, "read ")?;
+    push_number(out, n as u64)?;
+    push_text(out, " ")?;
+    out.extend(name)?;
+    push_line_end(out)
+}
+
+#[tactic(auto, unfolding(crate::specs::Records::write_line))]
+fn push_write(
+    out: &mut List<u8>,
+    mark: &str,
+    n: u32,
+    name: &[u8],
+    val: &[u8],
+) -> Result<(), NoMemory>
+    ensures { OnOk result (out.new ≡ out.old ++ write_line mark.now n name.now val.now) }
+{
+    push_text(out, mark)?;
+    push_text(out, "write ")?;
+    push_number(out, n as u64)?;
+    push_text(out, " ")?;
+    out.extend(name)?;
+    push_text(out, " ")?;
+    out.extend(val)?;
+    push_line_end(out)
+}
+
+#[tactic(auto, unfolding(crate::specs::Records::op_line))]
+fn push_op(out: &mut List<u8>, mark: &str, op: &NumOp) -> Result<(), NoMemory>
+    ensures { OnOk result (out.new ≡ out.old ++ op_line mark.now op.now) }
+{
+    match &op.op {
+        Op::Read(key) => push_read(out, mark, op.n, key.name.bytes()),
+        Op::Write(key, val) => push_write(out, mark, op.n, key.name.bytes(), val.bytes()),
+    }
+}
+
+#[tactic(auto, unfolding(crate::specs::Records::vote_lines))]
+fn push_vote(out: &mut List<u8>, mark: &str, txn: &Txn, ops: &[NumOp]) -> Result<(), NoMemory>
+    ensures { OnOk result (out.new ≡ out.old ++ vote_lines mark.now txn.now ops.now) }
+{
+    push_text(out, mark)?;
+    push_text(out, "vote ")?;
+    push_txn(out, txn)?;
+    push_text(out, " ")?;
+    push_number(out, ops.len() as u64)?;
+    push_line_end(out)?;
+    for op in ops {
+        push_op(out, mark, op)?;
+    }
+    Ok(())
+}
+
+#[tactic(auto, unfolding(crate::specs::Records::inc_line))]
+fn push_inc(out: &mut List<u8>, mark: &str, inc: u32) -> Result<(), NoMemory>
+    ensures { OnOk result (out.new ≡ out.old ++ inc_line mark.now inc) }
+{
+    push_text(out, mark)?;
+    push_text(out, "inc ")?;
+    push_number(out, inc as u64)?;
+    push_line_end(out)
+}
+
+#[tactic(auto, unfolding(crate::specs::Records::join_line))]
+fn push_join(out: &mut List<u8>, mark: &str, txn: &Txn, n: u32) -> Result<(), NoMemory>
+    ensures { OnOk result (out.new ≡ out.old ++ join_line mark.now txn.now n) }
+{
+    push_text(out, mark)?;
+    push_text(out, "join ")?;
+    push_txn(out, txn)?;
+    push_text(out, " ")?;
+    push_number(out, n as u64)?;
+    push_line_end(out)
+}
+
+#[tactic(auto, unfolding(crate::specs::Records::attempt_line))]
+fn push_attempt(out: &mut List<u8>, mark: &str, txn: &Txn, n: u32, dir: Dir) -> Result<(), NoMemory>
+    ensures { OnOk result (out.new ≡ out.old ++ attempt_line mark.now txn.now n dir) }
+{
+    push_text(out, mark)?;
+    push_text(out, "attempt ")?;
+    push_txn(out, txn)?;
+    push_text(out, " ")?;
+    push_number(out, n as u64)?;
+    push_text(out, " ")?;
+    push_dir(out, dir)?;
+    push_line_end(out)
+}
+
+#[tactic(auto, unfolding(crate::specs::Records::decision_line))]
+fn push_decision(out: &mut List<u8>, mark: &str, txn: &Txn, dir: Dir) -> Result<(), NoMemory>
+    ensures { OnOk result (out.new ≡ out.old ++ decision_line mark.now txn.now dir) }
+{
+    push_text(out, mark)?;
+    push_text(out, "decision ")?;
+    push_txn(out, txn)?;
+    push_text(out, " ")?;
+    push_dir(out, dir)?;
+    push_line_end(out)
+}
+
+#[tactic(auto, unfolding(crate::specs::Records::record_lines))]
+fn push_record(out: &mut List<u8>, mark: &str, r: &Record) -> Result<(), NoMemory>
+    ensures { OnOk result (out.new ≡ out.old ++ record_lines mark.now r.now) }
+{
+    match r {
+        Record::Birth {
+            format,
+            weights,
+            rows,
+            ..
+        } => push_birth(out, mark, *format, weights.as_slice(), rows.as_slice()),
+        Record::Inc { inc } => push_inc(out, mark, *inc),
+        Record::Vote { txn, ops } => push_vote(out, mark, txn, ops.as_slice()),
+        Record::Join { txn, n } => push_join(out, mark, txn, *n),
+        Record::Attempt { txn, n, dir } => push_attempt(out, mark, txn, *n, *dir),
+        Record::Decision { txn, dir } => push_decision(out, mark, txn, *dir),
+    }
+}
+
+/// Adds the lines of each record of a log, with the mark before each line.
+pub fn push_records(out: &mut List<u8>, mark: &str, log: &[Record]) -> Result<(), NoMemory>
+    ensures { OnOk result (out.new ≡ out.old ++ flat_map (record_lines mark.now) log.now) }
+{
+    for r in log {
+        push_record(out, mark, r)?;
+    }
+    Ok(())
+}

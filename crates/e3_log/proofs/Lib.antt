@@ -1,0 +1,4 @@
+pub mod Append
+pub mod Reading
+pub mod One
+pub mod Numbers

@@ -1,0 +1,51 @@
+// Why a log was not opened, and why a frame was not added.
+ghost use Rattle.std.specs.Prelude.{◌≡◌};
+ghost use Rattle.e3_log.specs.declared.fault.OpenCause.TheVariants.{Failed, NoMemory as WantsMemory};
+
+use e3_disk::DiskFault;
+use e3_types::NoMemory;
+use std::alloc::AllocError;
+
+/// Why a frame was not added, or may not have been.
+#[derive(Clone, Copy, Debug, PartialEq, Eq)]
+pub enum AppendFault {
+    /// The disk failed, in this call or in an earlier one of this log.
+    Failed,
+    /// The frame needs `need` bytes of capacity, and the disk has `room`.
+    Full { need: u64, room: u64 },
+}
+
+/// Why a log could not be opened.
+#[derive(Clone, Copy, Debug, PartialEq, Eq)]
+pub enum OpenCause {
+    /// The disk failed.
+    Failed,
+    /// No frame and no closed gate begins there.
+    Damaged { at: u64 },
+    /// There was no memory for the frames.
+    NoMemory,
+}
+
+impl From<DiskFault> for OpenCause {
+    ghost from_gives = { λ _ e. e ≡ Failed };
+
+    fn from(_: DiskFault) -> OpenCause {
+        OpenCause::Failed
+    }
+}
+
+impl From<AllocError> for OpenCause {
+    ghost from_gives = { λ _ e. e ≡ WantsMemory };
+
+    fn from(_: AllocError) -> OpenCause {
+        OpenCause::NoMemory
+    }
+}
+
+impl From<NoMemory> for OpenCause {
+    ghost from_gives = { λ _ e. e ≡ WantsMemory };
+
+    fn from(_: NoMemory) -> OpenCause {
+        OpenCause::NoMemory
+    }
+}

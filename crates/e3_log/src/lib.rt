@@ -1,0 +1,15 @@
+//! A log of frames on a disk, each of which is there whole or not at all.
+#![tactic(auto)]
+
+mod commit;
+mod fault;
+mod law;
+mod log;
+mod open;
+#[cfg(test)]
+mod tests;
+
+pub use fault::{AppendFault, OpenCause};
+pub use law::frames_have_one_reading;
+pub use log::{Log, OpenRefused};
+pub use open::Frame;

@@ -1,0 +1,16 @@
+-- The report of the worked history `two_sites_at_once`, by computation.
+use Rattle.std.specs.Prelude.{◌≡◌, false, refl}
+use Rattle.std.specs.Fmt.{digits}
+use Rattle.e3_lines.specs.Texts.{line_end, after_comma, sites_text, after_bar, txn_text, key_text, dir_text, state_text, leave_text, kept_text}
+use Rattle.e3_lines.specs.Items.{begin_text, read_text, write_text, expire_text, elect_text, stop_text, recover_text, split_text, item_text, item_line}
+use Rattle.e3_lines.specs.Records.{row_line, birth_row_line, birth_lines, read_line, write_line, op_line, vote_lines, inc_line, join_line, attempt_line, decision_line, record_lines}
+use Rattle.e3_lines.specs.Events.{answer_text, ended_text, doom_text, refusal_text, block_text, verdict_text, op_text, election_text, began_text, died_text, refused_text, kept_state_text, told_of, why_text, at_site, plain_line, told_text, told_line, rise_line, failure_text, failed_rise_line, fall_line, act_lines}
+use Rattle.e3_report.specs.Skips.{not_begun_line, input_skip, power_skip}
+use Rattle.e3_report.specs.Steps.{event_lines, start_lines, step_heading, step_lines}
+use Rattle.e3_report.specs.Report.{report_of, txn_line, order_lines, site_heading, log_lines, site_lines, trace_lines}
+use Rattle.e3_worked_more.specs.TwoSitesAtOnce.{two_sites_at_once, two_sites_at_once_history}
+use Rattle.e3_reported.specs.TwoSitesAtOnce.{two_sites_at_once_report}
+
+pub is_report : report_of two_sites_at_once two_sites_at_once_history false ≡ two_sites_at_once_report
+unfolding digits line_end after_comma sites_text after_bar txn_text key_text dir_text state_text leave_text kept_text begin_text read_text write_text expire_text elect_text stop_text recover_text split_text item_text item_line row_line birth_row_line birth_lines read_line write_line op_line vote_lines inc_line join_line attempt_line decision_line record_lines answer_text ended_text doom_text refusal_text block_text verdict_text op_text election_text began_text died_text refused_text kept_state_text told_of why_text at_site plain_line told_text told_line rise_line failure_text failed_rise_line fall_line act_lines not_begun_line input_skip power_skip event_lines start_lines step_heading step_lines txn_line order_lines site_heading log_lines site_lines trace_lines
+is_report = refl

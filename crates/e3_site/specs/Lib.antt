@@ -1,0 +1,3 @@
+pub mod SiteView
+pub mod Opens
+pub mod StandsFor

@@ -1,0 +1,96 @@
+// A step that a site has planned and not done.
+ghost use Rattle.std.specs.Prelude.{◌≡◌, IfOk, map};
+ghost use Rattle.e3_site.specs.SiteView.{entry_of_plan, step_kept};
+ghost use Rattle.e3_world.specs.Moves.{plain};
+
+use e3_plain::{plain, plain_input};
+use e3_types::{Act, Copied, Entry, Input, List, NoMemory, Packet, Record, Told};
+use e3_world::{Made, SiteStep};
+use std::alloc::Global;
+use std::marker::Model;
+
+/// A step that a site has planned: its input, its records, packets and events. The packets have number 0. It keeps the
+/// allocator that its lists came from.
+#[derive(Drop)]
+pub struct Plan {
+    alloc: Global,
+    step: SiteStep,
+}
+
+impl Model for Plan {
+    ghost use Rattle.e3_world.specs.declared.lives.SiteStep.{SiteStep as KeptStep};
+
+    ghost Value = { KeptStep };
+
+    ghost view = { λ p. p.step };
+}
+
+fn plain_outs(alloc: Global, outs: &[Packet]) -> Result<List<Packet>, NoMemory>
+    ensures { IfOk result (λ out. out ≡ map plain outs.now) }
+{
+    let mut out = List::new(alloc);
+    for p in outs {
+        out.push(plain(p))?;
+    }
+    Ok(out)
+}
+
+impl Plan {
+    /// The plan to do what an input made.
+    pub(crate) fn new(alloc: Global, input: &Input, made: Made) -> Result<Plan, NoMemory>
+        ensures { IfOk result (λ plan. plan ≡ step_kept input.now made) }
+    {
+        Ok(Plan {
+            alloc,
+            step: SiteStep {
+                input: plain_input(input),
+                outs: plain_outs(alloc, made.outs.as_slice())?,
+                records: made.records,
+                told: made.told,
+            },
+        })
+    }
+
+    /// The records that the step adds to the log, in their order.
+    pub fn records(&self) -> &[Record]
+        ensures { result.now ≡ self.now.records }
+    {
+        self.step.records.as_slice()
+    }
+
+    /// The packets that the step sends, in their order.
+    pub fn outs(&self) -> &[Packet]
+        ensures { result.now ≡ self.now.outs }
+    {
+        self.step.outs.as_slice()
+    }
+
+    /// The events that the step tells, in their order.
+    pub fn told(&self) -> &[Told]
+        ensures { result.now ≡ self.now.told }
+    {
+        self.step.told.as_slice()
+    }
+
+    /// The Step entry of this owner with this input and copies of the plan's records, packets and events.
+    pub fn entry(&self, owner: u32, input: &Input) -> Result<Entry, NoMemory>
+        ensures { IfOk result (λ entry. entry ≡ entry_of_plan owner input.now self.now) }
+    {
+        Ok(Entry {
+            owner,
+            act: Act::Step {
+                input: input.copy(),
+                records: self.step.records.copied(self.alloc)?,
+                outs: self.step.outs.copied(self.alloc)?,
+                told: self.step.told.copied(self.alloc)?,
+            },
+        })
+    }
+
+    /// The step itself.
+    pub(crate) fn into_step(self) -> SiteStep
+        ensures { result ≡ self }
+    {
+        self.step
+    }
+}

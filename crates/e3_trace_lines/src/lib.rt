@@ -1,0 +1,10 @@
+//! The lines of a trace: a history, entry by entry. Each function adds to the end of a text.
+#![tactic(auto)]
+
+mod entries;
+mod inputs;
+mod messages;
+#[cfg(test)]
+mod tests;
+
+pub use entries::push_trace;

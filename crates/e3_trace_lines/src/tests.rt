@@ -1,0 +1,312 @@
+// The trace of a list of entries that has each form, input and message once.
+use crate::push_trace;
+use e3_types::{
+    Act, Answer, Call, Dir, Entry, Input, Key, List, Message, Name, NoMemory, NumOp, Op, Packet,
+    Record, Row, SiteSet, State, Told, Txn, Val, Why,
+};
+use std::alloc::Global;
+use std::test::Fail;
+
+fn name(text: &str) -> Result<Name, Fail> {
+    Ok(Name::new(text.as_bytes()).ok_or("a name")?)
+}
+
+fn val(text: &str) -> Result<Val, Fail> {
+    Ok(Val::new(text.as_bytes()).ok_or("a value")?)
+}
+
+fn read(of: &str) -> Result<Op, Fail> {
+    Ok(Op::Read(Key {
+        site: 2,
+        name: name(of)?,
+    }))
+}
+
+fn write(of: &str, text: &str) -> Result<Op, Fail> {
+    let key = Key {
+        site: 1,
+        name: name(of)?,
+    };
+    Ok(Op::Write(key, val(text)?))
+}
+
+fn sites(of: &[u32]) -> Result<SiteSet, Fail> {
+    Ok(SiteSet::of(of).ok_or("sites")?)
+}
+
+fn txn(seq: u32) -> Result<Txn, Fail> {
+    Ok(Txn {
+        site: 1,
+        inc: 1,
+        seq,
+        sites: sites(&[1, 2])?,
+    })
+}
+
+fn enter(history: &mut List<Entry>, owner: u32, act: Act) -> Result<(), NoMemory> {
+    history.push(Entry { owner, act })
+}
+
+fn take(alloc: Global, history: &mut List<Entry>, input: Input) -> Result<(), NoMemory> {
+    let act = Act::Step {
+        input,
+        records: List::new(alloc),
+        outs: List::new(alloc),
+        told: List::new(alloc),
+    };
+    enter(history, 1, act)
+}
+
+fn packet(number: u64, msg: Message) -> Packet {
+    Packet {
+        number,
+        from: 1,
+        to: 2,
+        msg,
+    }
+}
+
+fn each_input(alloc: Global, history: &mut List<Entry>) -> Result<(), Fail> {
+    let txn = txn(1)?;
+    take(alloc, history, Input::Begin { sites: txn.sites })?;
+    take(
+        alloc,
+        history,
+        Input::Do {
+            txn,
+            op: read("y")?,
+        },
+    )?;
+    let op = write("x", "two  words ")?;
+    take(alloc, history, Input::Do { txn, op })?;
+    take(alloc, history, Input::Commit { txn })?;
+    take(alloc, history, Input::Cancel { txn })?;
+    take(alloc, history, Input::Expire { txn })?;
+    let group = sites(&[1])?;
+    take(alloc, history, Input::Elect { txn, group })?;
+    let packet = packet(7, Message::Elected { txn, n: 2 });
+    take(alloc, history, Input::Deliver { packet })?;
+    Ok(())
+}
+
+fn add_operations(outs: &mut List<Packet>, txn: Txn) -> Result<(), Fail> {
+    let op = read("y")?;
+    outs.push(packet(1, Message::Do { txn, n: 1, op }))?;
+    let op = write("x", "")?;
+    outs.push(packet(2, Message::Do { txn, n: 2, op }))?;
+    let mut number = 3;
+    for answer in [
+        Answer::Written,
+        Answer::Absent,
+        Answer::Value(val("")?),
+        Answer::Value(val("a b")?),
+    ] {
+        outs.push(packet(
+            number,
+            Message::Done {
+                txn,
+                n: 1,
+                inc: 5,
+                answer,
+            },
+        ))?;
+        if number < 9 {
+            number += 1;
+        }
+    }
+    Ok(())
+}
+
+fn add_election(outs: &mut List<Packet>, txn: Txn) -> Result<(), Fail> {
+    let call = Call { inc: 3, seq: 4 };
+    outs.push(packet(8, Message::Ask { txn, call }))?;
+    let elected = 6;
+    outs.push(packet(9, Message::LastElected { txn, call, elected }))?;
+    outs.push(packet(10, Message::Elected { txn, n: 7 }))?;
+    outs.push(packet(
+        11,
+        Message::Report {
+            txn,
+            n: 7,
+            state: State::Pc,
+            attempt: 1,
+        },
+    ))?;
+    Ok(())
+}
+
+fn add_commit(outs: &mut List<Packet>, txn: Txn, older: Txn) -> Result<(), Fail> {
+    let n = 2;
+    let dir = Dir::Commit;
+    outs.push(packet(12, Message::Died { txn, n, older }))?;
+    outs.push(packet(
+        13,
+        Message::VoteReq {
+            txn,
+            inc: 3,
+            count: 4,
+        },
+    ))?;
+    outs.push(packet(14, Message::Vote { txn, yes: true }))?;
+    outs.push(packet(15, Message::Vote { txn, yes: false }))?;
+    outs.push(packet(16, Message::Pre { txn, n, dir }))?;
+    outs.push(packet(17, Message::Ack { txn, n, dir }))?;
+    outs.push(packet(
+        18,
+        Message::Decide {
+            txn,
+            dir: Dir::Abort,
+        },
+    ))?;
+    Ok(())
+}
+
+fn records(alloc: Global, txn: Txn) -> Result<List<Record>, Fail> {
+    let mut weights = List::new(alloc);
+    weights.push(1)?;
+    weights.push(20)?;
+    let mut rows = List::new(alloc);
+    rows.push(Row {
+        name: name("z")?,
+        val: val("")?,
+    })?;
+    let mut ops = List::new(alloc);
+    ops.push(NumOp {
+        n: 3,
+        op: write("x", "a b")?,
+    })?;
+    let mut out = List::new(alloc);
+    out.push(Record::Birth {
+        format: 1,
+        site: 1,
+        weights,
+        rows,
+    })?;
+    out.push(Record::Inc { inc: 1 })?;
+    out.push(Record::Vote { txn, ops })?;
+    Ok(out)
+}
+
+fn whole_step(alloc: Global, history: &mut List<Entry>) -> Result<(), Fail> {
+    let t = txn(1)?;
+    let mut outs = List::new(alloc);
+    add_operations(&mut outs, t)?;
+    add_election(&mut outs, t)?;
+    add_commit(&mut outs, t, txn(2)?)?;
+    let mut told = List::new(alloc);
+    told.push(Told::Began { txn: t })?;
+    told.push(Told::Kept {
+        txn: t,
+        state: State::W,
+    })?;
+    let records = records(alloc, t)?;
+    let act = Act::Step {
+        input: Input::Commit { txn: t },
+        records,
+        outs,
+        told,
+    };
+    enter(history, 1, act)?;
+    Ok(())
+}
+
+fn falls(alloc: Global, history: &mut List<Entry>) -> Result<(), Fail> {
+    let txn = txn(1)?;
+    let mut inputs = List::new(alloc);
+    inputs.push(Input::Expire { txn })?;
+    inputs.push(Input::Cancel { txn })?;
+    let mut records = List::new(alloc);
+    records.push(Record::Join { txn, n: 2 })?;
+    let why = Why::Full {
+        need: 120,
+        room: 100,
+    };
+    let act = Act::Fall {
+        inputs,
+        records,
+        why,
+    };
+    enter(history, 2, act)?;
+    let act = Act::Fall {
+        inputs: List::new(alloc),
+        records: List::new(alloc),
+        why: Why::Fault,
+    };
+    enter(history, 2, act)?;
+    Ok(())
+}
+
+fn rises(history: &mut List<Entry>) -> Result<(), NoMemory> {
+    enter(history, 2, Act::Rise { kept: true, inc: 2 })?;
+    enter(
+        history,
+        2,
+        Act::Rise {
+            kept: false,
+            inc: 3,
+        },
+    )?;
+    let why = Why::Full { need: 31, room: 10 };
+    enter(
+        history,
+        3,
+        Act::RiseFall {
+            kept: true,
+            inc: 4,
+            why,
+        },
+    )?;
+    enter(history, 3, Act::Miss)?;
+    enter(history, 3, Act::Cut)
+}
+
+fn drivers(alloc: Global, history: &mut List<Entry>) -> Result<(), Fail> {
+    enter(history, 0, Act::Line { number: 12 })?;
+    let mut parts = List::new(alloc);
+    parts.push(sites(&[1, 3])?)?;
+    parts.push(sites(&[2])?)?;
+    enter(history, 0, Act::Parts { parts })?;
+    enter(history, 0, Act::Drop { packet: 18 })?;
+    Ok(())
+}
+
+fn joined(alloc: Global, lines: &[&str]) -> Result<List<u8>, NoMemory> {
+    let mut out = List::new(alloc);
+    for l in lines {
+        out.extend(l.as_bytes())?;
+    }
+    Ok(out)
+}
+
+#[test]
+fn each_form_input_and_message(rt: HostRuntime) -> Result<(), Fail> {
+    let alloc = rt.alloc();
+    let mut history = List::new(alloc);
+    drivers(alloc, &mut history)?;
+    each_input(alloc, &mut history)?;
+    whole_step(alloc, &mut history)?;
+    falls(alloc, &mut history)?;
+    rises(&mut history)?;
+    let mut text = List::new(alloc);
+    push_trace(&mut text, history.as_slice())?;
+    let want = joined(
+        alloc,
+        &[
+            "0 line 12\n0 parts 1,3|2\n0 drop 18\n",
+            "1 step begin 1,2\n1 step do 1.1.1 read 2.y\n1 step do 1.1.1 write 1.x two  words \n",
+            "1 step commit 1.1.1\n1 step cancel 1.1.1\n1 step expire 1.1.1\n1 step elect 1.1.1 1\n1 step deliver 7\n",
+            "1 step commit 1.1.1\nr birth 1 1,20\nr row z \nr inc 1\nr vote 1.1.1 1\nr write 3 x a b\n",
+            "o 1 2 do 1.1.1 1 read 2.y\no 2 2 do 1.1.1 2 write 1.x \n",
+            "o 3 2 done 1.1.1 1 5 written\no 4 2 done 1.1.1 1 5 absent\n",
+            "o 5 2 done 1.1.1 1 5 value \no 6 2 done 1.1.1 1 5 value a b\n",
+            "o 8 2 ask 1.1.1 3 4\no 9 2 last 1.1.1 3 4 6\no 10 2 elected 1.1.1 7\no 11 2 report 1.1.1 7 pc 1\n",
+            "o 12 2 died 1.1.1 2 1.1.2\no 13 2 votereq 1.1.1 3 4\no 14 2 vote 1.1.1 yes\no 15 2 vote 1.1.1 no\n",
+            "o 16 2 pre 1.1.1 2 commit\no 17 2 ack 1.1.1 2 commit\no 18 2 decide 1.1.1 abort\n",
+            "t 1.1.1 began 1,2\nt 1.1.1 kept w\n",
+            "2 fall full 120 of 100 2\ni expire 1.1.1\ni cancel 1.1.1\nr join 1.1.1 2\n2 fall fault 0\n",
+            "2 rise 2 kept\n2 rise 3\n3 risefall 4 full 31 of 10 kept\n3 miss\n3 cut\n",
+        ],
+    )?;
+    assert_eq!(rt; text.as_slice(), want.as_slice());
+    Ok(())
+}

@@ -1,0 +1,17 @@
+pub mod BusyCancelOver
+pub mod CascadeAborts
+pub mod DroppedPackets
+pub mod ElectedSiteStaysSilent
+pub mod EveryPacketLost
+pub mod FallenGroup
+pub mod FullDisk
+pub mod MissedAndFailedRises
+pub mod OneSiteIsAQuorum
+pub mod RestartBeforeTheVote
+pub mod SixtyFourOperations
+pub mod ThreeSitesEveryPacketTwice
+pub mod TooLateKeptDown
+pub mod TwoElectors
+pub mod TwoSitesAtOnce
+pub mod UpgradeWaits
+pub mod VoteStopped
