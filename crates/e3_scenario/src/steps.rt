@@ -117,7 +117,7 @@ pub fn steps(
     let mut number = 1;
     for value in values {
         match step(alloc, all, number, said, value)? {
-            Err(fault) => return Ok(Err(fault)),
+            Err(first) => return Ok(Err(first)),
             Ok(items) => {
                 said.close(alloc)?;
                 steps.push(items)?;
