@@ -251,12 +251,24 @@ fn refused_words(rt: HostRuntime) -> Result<(), Fail> {
 
 #[test]
 fn refused_scenarios(rt: HostRuntime) -> Result<(), Fail> {
-    for text in ["", "weights = [0]\nsteps = []\n", "weights = [1]"] {
+    let table = [
+        ("", "refused kind weights\n"),
+        ("weights = [0]\nsteps = []\n", "refused range weights\n"),
+        (
+            "weights = [1]\nsteps = [\"merge\", \"fly t\"]\n",
+            "refused bad-line 2\n",
+        ),
+        (
+            "weights = [1]\nsteps = [\"merge\"]\n",
+            "refused not-built\n",
+        ),
+    ];
+    for (text, line) in table {
         let mut source = source_of(rt.alloc(), text, 7, &[])?;
         let mut sink = sink_of(rt.alloc(), 4, &[])?;
         let ended = run_on(&rt, rt.alloc(), &["run"], &mut source, &mut sink)?;
         assert_eq!(rt; ended.status, 2);
-        assert_eq!(rt; sink.written(), b"refused not-built\n".as_slice());
+        assert_eq!(rt; sink.written(), line.as_bytes());
         assert!(rt; ended.history.as_slice().is_empty());
     }
     Ok(())
