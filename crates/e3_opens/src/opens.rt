@@ -97,7 +97,7 @@ fn add_undecided(txns: &[Txn], log: &[Record], out: &mut List<Txn>) -> Result<()
 
 /// Adds the undecided transactions that a site with this life knows, some more than once, in the order in which it is
 /// asked: those of its log first, then those of operations that came to it, then those that it began. Want of memory is
-/// the only error.
+/// the only error; some of them may have been added then.
 pub fn add_undecided_in(
     alloc: Global,
     site: u32,

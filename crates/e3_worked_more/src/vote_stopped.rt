@@ -7,8 +7,10 @@ ghost use Rattle.e3_worked_more.specs.VoteStopped.{vote_stopped, vote_lost_histo
 
 use e3_types::Leave;
 
-/// The vote is lost. So ends a stop in the first two calls of the frame, which write it and sync it, whatever it leaves;
-/// and one in the last two, which open the gate and sync it, that leaves nothing, half, or the byte 7.
+/// The vote is lost. It is legal for a stop of any count and leave, since a history does not tell what a disk keeps. So
+/// ends a run, once sites have disks, with a stop in the first two calls of the frame, which write it and sync it,
+/// whatever it leaves; and with one in the last two, which open the gate and sync it, that leaves nothing, half, or the
+/// byte 7.
 pub fn loses_the_vote(count: u32, leave: Leave)
     ensures legal { first_breach (vote_stopped count leave) vote_lost_history ≡ None }
     ensures whole { is_whole (vote_stopped count leave) vote_lost_history ≡ true }
@@ -17,8 +19,8 @@ pub fn loses_the_vote(count: u32, leave: Leave)
     ensures table_2 { table_of (log_of (vote_stopped count leave) vote_lost_history 2) ≡ [] }
 {}
 
-/// The vote is kept. So ends a stop in the last two calls of the frame that leaves all, or the byte 165, which is an
-/// open gate.
+/// The vote is kept. It is legal for a stop of any count and leave. So ends a run, once sites have disks, with a stop in
+/// the last two calls of the frame that leaves all, or the byte 165, which is an open gate.
 pub fn keeps_the_vote(count: u32, leave: Leave)
     ensures legal { first_breach (vote_stopped count leave) vote_kept_history ≡ None }
     ensures whole { is_whole (vote_stopped count leave) vote_kept_history ≡ true }
