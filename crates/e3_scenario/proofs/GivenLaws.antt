@@ -81,7 +81,7 @@ keeps_begin sc step k name site sites h =
     let (new, c) = no_fault _ _ _ b in
     let stands' : (exist sc sites && has_site sites site) ≡ true = not_false _ stands in
     let begun : is_begun (k.earlier ++ k.fresh) name [] ≡ false =
-        begun_name (k.earlier ++ k.fresh) name ∙ list_any-append (λ x. same_numbers name x.name) k.earlier k.fresh ∙ new in
+    begun_name (k.earlier ++ k.fresh) name ∙ list_any-append (λ x. same_numbers name x.name) k.earlier k.fresh ∙ new in
     rw (stands', begun) refl
 
 keeps_operation : (sc : Scenario) (step : ℕ) (k : SaidSoFar) (name : List ℕ) (site : ℕ)
@@ -319,7 +319,7 @@ weights_given weights (value ∷ values) out h all =
     let (z, number, fits) = and_then_some (as_integer value) (number_within 1 1000) w is in
     let one : (nat_le 1 w && nat_le w 1000) ≡ true = within_some z w fits in
     let longer : list_all (λ x. nat_le 1 x && nat_le x 1000) (weights ++ w ∷ []) ≡ true =
-        rw (list_all-append (λ x. nat_le 1 x && nat_le x 1000) weights (w ∷ []), all, one) refl in
+    rw (list_all-append (λ x. nat_le 1 x && nat_le x 1000) weights (w ∷ []), all, one) refl in
     let given = weights_given (weights ++ w ∷ []) values out more longer in
     record { all = given.all; counted = (let n = length-append weights (w ∷ []) in let m = given.counted in omega (arith, n, m)) }
 
@@ -355,7 +355,7 @@ rows_given all rows (value ∷ values) out h at =
     let (row, is, more) = and_then_some (row_in all value) _ out h in
     let one : has_site all row.key.site ≡ true = row_in_at all value row is in
     rows_given all (rows ++ row ∷ []) values out more
-        (rw (list_all-append (λ r. has_site all r.key.site) rows (row ∷ []), at, one) refl)
+    (rw (list_all-append (λ r. has_site all r.key.site) rows (row ∷ []), at, one) refl)
 
 -- the shares
 shares : (loss : ℕ) (o : Option ℕ) (repeat : ℕ) → repeat_with loss o ≡ Some repeat → loss + repeat ≤ 100
@@ -403,7 +403,7 @@ base_given ms base h =
     let at = rows_given (sites_to (length weights)) [] (values_at ms (codes "rows")) rows (range_some field.Rows (more_rows (sites_to (length weights)) [] (values_at ms (codes "rows"))) rows is_rows) refl in
     let odds = shares loss (share_at ms (codes "repeat")) repeat (range_some field.Repeat (repeat_with loss (share_at ms (codes "repeat"))) repeat is_repeat) in
     let made : IsBase (record { weights = weights; rows = rows; loss = loss; repeat = repeat; luck = luck; steps = [] }) =
-        record { some = some; few = few; weighed = weighed; rows = at; odds = odds } in
+    record { some = some; few = few; weighed = weighed; rows = at; odds = odds } in
     subst IsBase (ok_same (Ok (record { weights = weights; rows = rows; loss = loss; repeat = repeat; luck = luck; steps = [] })) (record { weights = weights; rows = rows; loss = loss; repeat = repeat; luck = luck; steps = [] }) base refl h5) made
 
 -- what is read where a test holds

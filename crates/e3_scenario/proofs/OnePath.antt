@@ -107,5 +107,14 @@ path_form sc = (there, back)
 
     back : IsOneWritePath sc → is_one_write_path sc ≡ true
     back form =
-        rw (form.weight.1, form.no_rows, form.no_loss, form.no_repeat, form.no_luck, is_path-of sc.steps form.steps,
-            le-leb 1 form.weight.0 form.weight.2, le-leb form.weight.0 1000 form.weight.3, le-leb (length sc.steps) 66 form.few) refl
+        rw (
+          form.weight.1,
+          form.no_rows,
+          form.no_loss,
+          form.no_repeat,
+          form.no_luck,
+          is_path-of sc.steps form.steps,
+          le-leb 1 form.weight.0 form.weight.2,
+          le-leb form.weight.0 1000 form.weight.3,
+          le-leb (length sc.steps) 66 form.few,
+        ) refl

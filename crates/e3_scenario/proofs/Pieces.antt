@@ -15,9 +15,9 @@ more_pieces mark (Some left) = pieces mark left
 -- one byte more in front, which is no mark
 before_mark : (mark b : ℕ) (text : List ℕ) (n : ℕ) (c : Bool)
     → in_front b (unwrap_or (option_map (λ k. take k text) (cond c (Some n) None)) text
-        ∷ more_pieces mark (option_map (λ k. drop (k + 1) text) (cond c (Some n) None)))
+    ∷ more_pieces mark (option_map (λ k. drop (k + 1) text) (cond c (Some n) None)))
     ≡ unwrap_or (option_map (λ k. take k (b ∷ text)) (cond c (Some (1 + n)) None)) (b ∷ text)
-        ∷ more_pieces mark (option_map (λ k. drop (k + 1) (b ∷ text)) (cond c (Some (1 + n)) None))
+    ∷ more_pieces mark (option_map (λ k. drop (k + 1) (b ∷ text)) (cond c (Some (1 + n)) None))
 before_mark mark b text n true =
     let e : (1 + n) + 1 ≡ suc (n + 1) = omega arith in
     let f : 1 + n ≡ suc n = omega arith in

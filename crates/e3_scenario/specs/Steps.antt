@@ -44,7 +44,7 @@ abbrev pub items_read : List ℕ → ℕ → Bool → SaidSoFar → List Item �
 items_read all step grouped said items [] = Ok (record { said = said; items = items })
 items_read all step grouped said items (value ∷ values) =
     and_read (judged all step grouped said (item_in value))
-        (λ item. items_read all step grouped (say all said item) (items ++ item ∷ []) values)
+    (λ item. items_read all step grouped (say all said item) (items ++ item ∷ []) values)
 
 -- a group of these values, or the one item of this value
 abbrev pub read_of : List ℕ → ℕ → SaidSoFar → Data → Option (List Data) → Result StepSoFar ScenarioFault
@@ -60,4 +60,4 @@ abbrev pub steps_read : List ℕ → ℕ → SaidSoFar → List (List Item) → 
 steps_read all step said steps [] = Ok steps
 steps_read all step said steps (value ∷ values) =
     and_read (step_read all step said value)
-        (λ read. steps_read all (suc step) (close_step read.said) (steps ++ read.items ∷ []) values)
+    (λ read. steps_read all (suc step) (close_step read.said) (steps ++ read.items ∷ []) values)

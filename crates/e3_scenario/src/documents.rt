@@ -237,11 +237,7 @@ fn row_in(all: SiteSet, value: &Value) -> Option<KeyRow>
 
 /// Rows at these sites.
 #[tactic(auto, using(crate::proofs::Values::next_value))]
-pub fn rows(
-    alloc: Global,
-    all: SiteSet,
-    values: &[Value],
-) -> Result<Option<List<KeyRow>>, NoMemory>
+pub fn rows(alloc: Global, all: SiteSet, values: &[Value]) -> Result<Option<List<KeyRow>>, NoMemory>
     ensures { IfOk result (λ rows. rows ≡ more_rows all [] (map view values.now)) }
 {
     let mut rows = List::new(alloc);

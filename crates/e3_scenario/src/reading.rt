@@ -7,7 +7,9 @@ ghost use Rattle.e3_world.specs.Given.{IsGiven, rows_differ};
 ghost use Rattle.e3_world.specs.Packets.{sites_to, all_sites};
 ghost use Rattle.e3_scenario.specs.Scenarios.{or_range, repeat_with, numbers_in, base_in, steps_in, fields_in, scenario_in, scenario_of};
 
-use crate::documents::{keys_known, kind_fault, luck_at, rows, share_at, steps_fit, values_at, weights};
+use crate::documents::{
+    keys_known, kind_fault, luck_at, rows, share_at, steps_fit, values_at, weights,
+};
 use crate::faults::{Field, ScenarioFault};
 use crate::sayings::Said;
 use crate::steps::{Read, steps};
@@ -69,20 +71,12 @@ fn repeat_with(loss: u32, repeat: Option<u32>) -> Option<u32>
 }
 
 // The scenario with these weights and rows, without its steps.
-fn numbers(
-    alloc: Global,
-    table: &Table,
-    weights: List<u32>,
-    rows: List<KeyRow>,
-) -> Read<Scenario>
+fn numbers(alloc: Global, table: &Table, weights: List<u32>, rows: List<KeyRow>) -> Read<Scenario>
     ensures value { result ≡ numbers_in (table_view table.now) weights rows }
     ensures kept { IfOk result (λ sc. sc.weights ≡ weights) }
 {
     let loss = or_range(Field::Loss, share_at(table, "loss"))?;
-    let repeat = or_range(
-        Field::Repeat,
-        repeat_with(loss, share_at(table, "repeat")),
-    )?;
+    let repeat = or_range(Field::Repeat, repeat_with(loss, share_at(table, "repeat")))?;
     let luck = or_range(Field::Luck, luck_at(table))?;
     Ok(Scenario {
         weights,
@@ -112,11 +106,7 @@ fn base(alloc: Global, table: &Table) -> Result<Read<Scenario>, NoMemory>
 }
 
 // The scenario with its steps.
-fn with_steps(
-    alloc: Global,
-    values: &[Value],
-    base: Scenario,
-) -> Result<Read<Scenario>, NoMemory>
+fn with_steps(alloc: Global, values: &[Value], base: Scenario) -> Result<Read<Scenario>, NoMemory>
     requires few_sites { length base.weights ≤ 16 }
     requires few_steps { length values.now ≤ 10000 }
     ensures { IfOk result (λ read. read ≡ steps_in (map view values.now) base) }

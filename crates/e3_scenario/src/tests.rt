@@ -187,10 +187,7 @@ fn items_of_transactions(rt: HostRuntime) -> Result<(), Fail> {
         ("\"begin t 1 1\\t\"", "refused bad-line 1\n"),
         ("\"begin t 1 2\"", "refused no-site 1\n"),
         ("\"begin t 1 1,4\"", "refused no-site 1\n"),
-        (
-            "\"begin t 1 1\", [\"begin t 4 4\"]",
-            "refused no-site 2\n",
-        ),
+        ("\"begin t 1 1\", [\"begin t 4 4\"]", "refused no-site 2\n"),
         (
             "[\"begin t 1 1\", \"begin t 1 1\"]",
             "refused name-twice 1\n",
@@ -199,10 +196,16 @@ fn items_of_transactions(rt: HostRuntime) -> Result<(), Fail> {
             "\"begin t 1 1\", [\"read t 1.x\", \"write t 1.y  a \"]",
             VALID,
         ),
-        ("[\"begin t 1 1\", \"read t 1.x\"]", "refused no-transaction 1\n"),
+        (
+            "[\"begin t 1 1\", \"read t 1.x\"]",
+            "refused no-transaction 1\n",
+        ),
         ("\"begin t 1 1\", \"read t 2.x\"", "refused no-site 2\n"),
         ("\"begin t 1 1\", \"read u 4.x\"", "refused no-site 2\n"),
-        ("\"begin t 1 1\", \"read u 2.x\"", "refused no-transaction 2\n"),
+        (
+            "\"begin t 1 1\", \"read u 2.x\"",
+            "refused no-transaction 2\n",
+        ),
         ("\"begin t 1 1\", \"read t 1.X\"", "refused bad-line 2\n"),
         ("\"begin t 1 1\", \"write t 1.x\"", "refused bad-line 2\n"),
         ("\"begin t 1 1\", \"write t 3.x a\"", "refused no-site 2\n"),
@@ -217,7 +220,10 @@ fn items_of_transactions(rt: HostRuntime) -> Result<(), Fail> {
         ("\"begin t 1 1,2\", \"elect 2 t 1,2\"", VALID),
         ("\"begin t 1 1,2\", \"elect 2 t\"", "refused bad-line 2\n"),
         ("\"begin t 1 1,2\", \"elect 2 t 1\"", "refused no-site 2\n"),
-        ("\"begin t 1 1,2\", \"elect 2 t 2,3\"", "refused no-site 2\n"),
+        (
+            "\"begin t 1 1,2\", \"elect 2 t 2,3\"",
+            "refused no-site 2\n",
+        ),
         ("\"elect 2 t 1\"", "refused no-site 1\n"),
         ("\"elect 2 t 1,2\"", "refused no-transaction 1\n"),
     ];
@@ -282,10 +288,34 @@ fn items_of_sites(rt: HostRuntime) -> Result<(), Fail> {
 #[test]
 fn limits(rt: HostRuntime) -> Result<(), Fail> {
     let table = [
-        ("weights = [1]\nsteps = []\n#", "x", 4194278, "", "refused too-long\n"),
-        ("weights = [1", ", 1", 15, "]\nsteps = []", "refused range weights\n"),
-        ("weights = [1]\nsteps = [\"merge\"", ", \"merge\"", 9999, "]", "refused range steps\n"),
-        ("weights = [1]\nsteps = [\"begin ", "n", 32, " 1 1\"]", "refused bad-line 1\n"),
+        (
+            "weights = [1]\nsteps = []\n#",
+            "x",
+            4194278,
+            "",
+            "refused too-long\n",
+        ),
+        (
+            "weights = [1",
+            ", 1",
+            15,
+            "]\nsteps = []",
+            "refused range weights\n",
+        ),
+        (
+            "weights = [1]\nsteps = [\"merge\"",
+            ", \"merge\"",
+            9999,
+            "]",
+            "refused range steps\n",
+        ),
+        (
+            "weights = [1]\nsteps = [\"begin ",
+            "n",
+            32,
+            " 1 1\"]",
+            "refused bad-line 1\n",
+        ),
         (
             "weights = [1]\nsteps = [\"begin t 1 1\", \"write t 1.x ",
             "v",
@@ -344,7 +374,8 @@ fn four_thousand_begins(rt: HostRuntime) -> Result<(), Fail> {
     Ok(())
 }
 
-const THREE_SITES: &str = "weights = [1, 1, 1]\nrows = [\"1.ann 100\", \"2.bob 50\", \"3.cid 7\"]\nsteps = [\"begin a 1 1,2\", \"read a 1.ann\", \"read a 2.bob\", \"write a 1.ann 90\", \"write a 2.bob 60\", \"commit a\", \"begin b 3 2,3\", \"write b 3.cid 17\", \"read b 2.bob\", \"commit b\", \"begin c 2 1,2\", \"read c 1.ann\", \"commit c\"]";
+const THREE_SITES: &str =
+    "weights = [1, 1, 1]\nrows = [\"1.ann 100\", \"2.bob 50\", \"3.cid 7\"]\nsteps = [\"begin a 1 1,2\", \"read a 1.ann\", \"read a 2.bob\", \"write a 1.ann 90\", \"write a 2.bob 60\", \"commit a\", \"begin b 3 2,3\", \"write b 3.cid 17\", \"read b 2.bob\", \"commit b\", \"begin c 2 1,2\", \"read c 1.ann\", \"commit c\"]";
 
 fn is_valid(alloc: Global, bytes: &[u8]) -> bool {
     read_scenario(alloc, bytes).is_ok()
@@ -388,9 +419,20 @@ fn is_split(step: &List<Item>) -> bool {
 
 #[test]
 fn what_is_read(rt: HostRuntime) -> Result<(), Fail> {
-    assert!(rt; is_path(rt.alloc(), "weights = [1]\nsteps = [\"begin t 1 1\", \"write t 1.x a\", \"commit t\"]"));
-    assert!(rt; !is_path(rt.alloc(), "weights = [1]\nsteps = [\"begin t 1 1\", \"read t 1.x\"]"));
-    let text = "weights = [1, 2, 3]\nrows = [\"3.cid 7\"]\nloss = 4\nrepeat = 5\nluck = 6\nsteps = [\"split 1|2,3\", \"stop 2 30 junk 7\"]";
+    assert!(rt;
+        is_path(
+            rt.alloc(),
+            "weights = [1]\nsteps = [\"begin t 1 1\", \"write t 1.x a\", \"commit t\"]"
+        )
+    );
+    assert!(rt;
+        !is_path(
+            rt.alloc(),
+            "weights = [1]\nsteps = [\"begin t 1 1\", \"read t 1.x\"]"
+        )
+    );
+    let text =
+        "weights = [1, 2, 3]\nrows = [\"3.cid 7\"]\nloss = 4\nrepeat = 5\nluck = 6\nsteps = [\"split 1|2,3\", \"stop 2 30 junk 7\"]";
     let scenario = read_scenario(rt.alloc(), text.as_bytes())?;
     assert_eq!(rt; scenario.weights.as_slice(), [1, 2, 3].as_slice());
     assert_eq!(rt; scenario.rows.as_slice()[0].val.bytes(), b"7".as_slice());
