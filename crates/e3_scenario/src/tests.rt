@@ -1,5 +1,5 @@
 use crate::{fault_line, is_one_write_path, read_scenario, refused_line};
-use e3_types::{Item, List, NoMemory, SiteSet};
+use e3_types::{Item, KeyRow, List, NoMemory, SiteSet};
 use std::alloc::{AllocError, Global};
 use std::test::Fail;
 
@@ -417,6 +417,20 @@ fn is_split(step: &List<Item>) -> bool {
     }
 }
 
+fn is_row_of_cid(rows: &[KeyRow]) -> bool {
+    match rows {
+        [row] => row.key.site == 3 && row.val.bytes() == b"7".as_slice(),
+        _ => false,
+    }
+}
+
+fn are_split_and_stop(steps: &[List<Item>]) -> bool {
+    match steps {
+        [first, second] => is_split(first) && is_stop(second),
+        _ => false,
+    }
+}
+
 #[test]
 fn what_is_read(rt: HostRuntime) -> Result<(), Fail> {
     assert!(rt;
@@ -435,11 +449,10 @@ fn what_is_read(rt: HostRuntime) -> Result<(), Fail> {
         "weights = [1, 2, 3]\nrows = [\"3.cid 7\"]\nloss = 4\nrepeat = 5\nluck = 6\nsteps = [\"split 1|2,3\", \"stop 2 30 junk 7\"]";
     let scenario = read_scenario(rt.alloc(), text.as_bytes())?;
     assert_eq!(rt; scenario.weights.as_slice(), [1, 2, 3].as_slice());
-    assert_eq!(rt; scenario.rows.as_slice()[0].val.bytes(), b"7".as_slice());
+    assert!(rt; is_row_of_cid(scenario.rows.as_slice()));
     assert_eq!(rt; scenario.loss, 4);
     assert_eq!(rt; scenario.repeat, 5);
     assert_eq!(rt; scenario.luck, 6);
-    assert!(rt; is_split(&scenario.steps.as_slice()[0]));
-    assert!(rt; is_stop(&scenario.steps.as_slice()[1]));
+    assert!(rt; are_split_and_stop(scenario.steps.as_slice()));
     Ok(())
 }

@@ -64,16 +64,16 @@ fn prepare_bytes(
             text: fault_line(alloc, &fault)?,
         }),
         Ok(scenario) => {
-            if !is_one_write_path(&scenario) {
+            if is_one_write_path(&scenario) {
+                play(alloc, &scenario, history)?;
                 return Ok(Prepared {
-                    status: 2,
-                    text: refused_line(alloc)?,
+                    status: 0,
+                    text: report(alloc, &scenario, history, trace)?,
                 });
             }
-            play(alloc, &scenario, history)?;
             Ok(Prepared {
-                status: 0,
-                text: report(alloc, &scenario, history, trace)?,
+                status: 2,
+                text: refused_line(alloc)?,
             })
         }
     }
