@@ -117,16 +117,23 @@ fn add_operations(outs: &mut List<Packet>, txn: Txn) -> Result<(), Fail> {
     Ok(())
 }
 
-fn add_election(outs: &mut List<Packet>, txn: Txn) -> Result<(), Fail> {
+fn add_election(outs: &mut List<Packet>, txn: &Txn) -> Result<(), Fail> {
     let call = Call { inc: 3, seq: 4 };
-    outs.push(packet(8, Message::Ask { txn, call }))?;
+    outs.push(packet(8, Message::Ask { txn: *txn, call }))?;
     let elected = 6;
-    outs.push(packet(9, Message::LastElected { txn, call, elected }))?;
-    outs.push(packet(10, Message::Elected { txn, n: 7 }))?;
+    outs.push(packet(
+        9,
+        Message::LastElected {
+            txn: *txn,
+            call,
+            elected,
+        },
+    ))?;
+    outs.push(packet(10, Message::Elected { txn: *txn, n: 7 }))?;
     outs.push(packet(
         11,
         Message::Report {
-            txn,
+            txn: *txn,
             n: 7,
             state: State::Pc,
             attempt: 1,
@@ -135,26 +142,45 @@ fn add_election(outs: &mut List<Packet>, txn: Txn) -> Result<(), Fail> {
     Ok(())
 }
 
-fn add_commit(outs: &mut List<Packet>, txn: Txn, older: Txn) -> Result<(), Fail> {
+fn add_commit(outs: &mut List<Packet>, txn: &Txn, older: &Txn) -> Result<(), Fail> {
     let n = 2;
     let dir = Dir::Commit;
-    outs.push(packet(12, Message::Died { txn, n, older }))?;
+    outs.push(packet(
+        12,
+        Message::Died {
+            txn: *txn,
+            n,
+            older: *older,
+        },
+    ))?;
     outs.push(packet(
         13,
         Message::VoteReq {
-            txn,
+            txn: *txn,
             inc: 3,
             count: 4,
         },
     ))?;
-    outs.push(packet(14, Message::Vote { txn, yes: true }))?;
-    outs.push(packet(15, Message::Vote { txn, yes: false }))?;
-    outs.push(packet(16, Message::Pre { txn, n, dir }))?;
-    outs.push(packet(17, Message::Ack { txn, n, dir }))?;
+    outs.push(packet(
+        14,
+        Message::Vote {
+            txn: *txn,
+            yes: true,
+        },
+    ))?;
+    outs.push(packet(
+        15,
+        Message::Vote {
+            txn: *txn,
+            yes: false,
+        },
+    ))?;
+    outs.push(packet(16, Message::Pre { txn: *txn, n, dir }))?;
+    outs.push(packet(17, Message::Ack { txn: *txn, n, dir }))?;
     outs.push(packet(
         18,
         Message::Decide {
-            txn,
+            txn: *txn,
             dir: Dir::Abort,
         },
     ))?;
@@ -191,8 +217,9 @@ fn whole_step(alloc: Global, history: &mut List<Entry>) -> Result<(), Fail> {
     let t = txn(1)?;
     let mut outs = List::new(alloc);
     add_operations(&mut outs, t)?;
-    add_election(&mut outs, t)?;
-    add_commit(&mut outs, t, txn(2)?)?;
+    add_election(&mut outs, &t)?;
+    let older = txn(2)?;
+    add_commit(&mut outs, &t, &older)?;
     let mut told = List::new(alloc);
     told.push(Told::Began { txn: t })?;
     told.push(Told::Kept {
@@ -211,12 +238,11 @@ fn whole_step(alloc: Global, history: &mut List<Entry>) -> Result<(), Fail> {
 }
 
 fn falls(alloc: Global, history: &mut List<Entry>) -> Result<(), Fail> {
-    let txn = txn(1)?;
     let mut inputs = List::new(alloc);
-    inputs.push(Input::Expire { txn })?;
-    inputs.push(Input::Cancel { txn })?;
+    inputs.push(Input::Expire { txn: txn(1)? })?;
+    inputs.push(Input::Cancel { txn: txn(1)? })?;
     let mut records = List::new(alloc);
-    records.push(Record::Join { txn, n: 2 })?;
+    records.push(Record::Join { txn: txn(1)?, n: 2 })?;
     let why = Why::Full {
         need: 120,
         room: 100,
