@@ -1,5 +1,5 @@
 -- One write path is a scenario of one site, so its legal histories are safe.
-use Rattle.std.proofs.Common.{◌≡◌, ◌==◌, ◌≤◌, ◌<◌, ℕ, suc, Bool, true, false, List, [], ◌∷◌, length, Option, Ok, Err, refl, ap, sym, subst, arith, eq-eqb, leb-true, inl, inr, String, Global, ◌⊎◌, ◌∙◌}
+use Rattle.std.proofs.Common.{◌≡◌, ℕ, Bool, true, List, [], ◌∷◌, length, Option, Ok, Err, refl, ap, arith, eq-eqb, inl, inr, String, Global, ◌⊎◌}
 use Rattle.std.specs.List.{list_all}
 use Rattle.e3_agree.specs.Lone.{IsLone, is_lone_item}
 use Rattle.e3_agree.proofs.LoneLaws.{lone_agrees, lone_told, lone_voted}

@@ -1,5 +1,5 @@
 -- How a run ends: what it took from its source, what it wrote to its sink, and what its history is.
-use Rattle.std.specs.Prelude.{◌≡◌, ◌≢◌, ◌≤◌, ◌<◌, ◌⊎◌, ℕ, List, [], take, length, Option, Ok, String}
+use Rattle.std.specs.Prelude.{◌≡◌, ◌≤◌, ◌<◌, ◌⊎◌, ℕ, List, [], take, length, Option, Ok, String}
 use Rattle.std.specs.Io.KnownBytes.{Appends, Consumes, IsAtEnd}
 use Rattle.std.specs.declared.alloc.Global.{Global}
 use Rattle.e3_outside.specs.Faults.{Rose}

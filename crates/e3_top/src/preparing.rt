@@ -1,5 +1,7 @@
 // All of a run but the writing of its text.
-ghost use Rattle.std.specs.Prelude.{◌≡◌, ◌≢◌, ◌≤◌, ◌⊎◌, [], IfOk};
+ghost use Rattle.e3_scenario.specs.Paths.{IsOneWritePath};
+ghost use Rattle.e3_scenario.specs.Scenarios.{scenario_of};
+ghost use Rattle.std.specs.Prelude.{Ok, ◌≡◌, ◌≢◌, ◌≤◌, ◌⊎◌, [], IfOk};
 ghost use Rattle.e3_top.specs.Due.{IsDue};
 ghost use Rattle.e3_top.specs.Ends.{IsCutShort, IsHistoryOf, IsPrepared, SourceFails};
 ghost use Rattle.e3_top.specs.Words.{IsRun};
@@ -11,7 +13,7 @@ use e3_drive::play;
 use e3_outside::{ReadFault, Source, read_up_to};
 use e3_report::report;
 use e3_scenario::{ScenarioFault, fault_line, is_one_write_path, read_scenario, refused_line};
-use e3_types::{List, NoMemory};
+use e3_types::{List, NoMemory, Scenario};
 use e3_words::{Command, read_words};
 use e3_world::History;
 use std::alloc::Global;
@@ -43,6 +45,50 @@ impl From<NoMemory> for Stop {
     }
 }
 
+// The refusal of a scenario of another form than the one that is built.
+fn prepare_not_built(
+    alloc: Global,
+    words: &[String],
+    bytes: &[u8],
+    scenario: &Scenario,
+) -> Result<Prepared, NoMemory>
+    requires run { IsRun words.now }
+    requires spelled { scenario_of bytes.now ≡ Ok scenario.now }
+    requires no_path { ¬ IsOneWritePath scenario.now }
+    ensures due { IfOk result (λ p. IsDue words.now bytes.now p.status [] p.text) }
+    ensures status { IfOk result (λ p. p.status ≡ 2) }
+{
+    let _other = scenario;
+    Ok(Prepared {
+        status: 2,
+        text: refused_line(alloc)?,
+    })
+}
+
+// The run of a scenario of the form that is built.
+fn prepare_path(
+    alloc: Global,
+    words: &[String],
+    trace: bool,
+    bytes: &[u8],
+    scenario: &Scenario,
+    history: &mut History,
+) -> Result<Prepared, NoMemory>
+    requires run { Spell words.now (Run trace) }
+    requires spelled { scenario_of bytes.now ≡ Ok scenario.now }
+    requires path { IsOneWritePath scenario.now }
+    requires empty { history.old.entries ≡ [] }
+    ensures due { IfOk result (λ p. IsDue words.now bytes.now p.status history.new.entries p.text) }
+    ensures status { IfOk result (λ p. p.status ≡ 0) }
+    ensures cut_short { (history.new.entries ≡ []) ⊎ IsHistoryOf bytes.now history.new.entries }
+{
+    play(alloc, scenario, history)?;
+    Ok(Prepared {
+        status: 0,
+        text: report(alloc, scenario, history, trace)?,
+    })
+}
+
 // The run over the bytes that were read.
 fn prepare_bytes(
     alloc: Global,
@@ -65,16 +111,10 @@ fn prepare_bytes(
         }),
         Ok(scenario) => {
             if is_one_write_path(&scenario) {
-                play(alloc, &scenario, history)?;
-                return Ok(Prepared {
-                    status: 0,
-                    text: report(alloc, &scenario, history, trace)?,
-                });
+                prepare_path(alloc, words, trace, bytes, &scenario, history)
+            } else {
+                prepare_not_built(alloc, words, bytes, &scenario)
             }
-            Ok(Prepared {
-                status: 2,
-                text: refused_line(alloc)?,
-            })
         }
     }
 }
