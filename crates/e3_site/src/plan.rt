@@ -1,5 +1,5 @@
 // A step that a site has planned and not done.
-ghost use Rattle.std.specs.Prelude.{◌≡◌, IfOk, map};
+ghost use Rattle.std.specs.Prelude.{◌≡◌, ◌<◌, ◌^◌, IfOk, length, map};
 ghost use Rattle.e3_site.specs.SiteView.{entry_of_plan, step_kept};
 ghost use Rattle.e3_world.specs.Moves.{plain};
 
@@ -36,15 +36,20 @@ fn plain_outs(alloc: Global, outs: &[Packet]) -> Result<List<Packet>, NoMemory>
 }
 
 impl Plan {
-    /// The plan to do what an input made.
+    /// The plan to do what an input made. No memory has 2^32 packets.
     pub(crate) fn new(alloc: Global, input: &Input, made: Made) -> Result<Plan, NoMemory>
-        ensures { IfOk result (λ plan. plan ≡ step_kept input.now made) }
+        ensures kept { IfOk result (λ plan. plan ≡ step_kept input.now made) }
+        ensures few { IfOk result (λ plan. length plan.outs < 2 ^ 32) }
     {
+        let outs = plain_outs(alloc, made.outs.as_slice())?;
+        if outs.len() > 4294967295 {
+            return Err(NoMemory);
+        }
         Ok(Plan {
             alloc,
             step: SiteStep {
                 input: plain_input(input),
-                outs: plain_outs(alloc, made.outs.as_slice())?,
+                outs,
                 records: made.records,
                 told: made.told,
             },

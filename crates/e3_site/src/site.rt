@@ -1,5 +1,5 @@
 // A site while it is up.
-ghost use Rattle.std.specs.Prelude.{◌≡◌, ◌≤◌, [], IfOk, OnOk};
+ghost use Rattle.std.specs.Prelude.{◌≡◌, ◌≤◌, ◌<◌, ◌^◌, [], IfOk, OnOk, length};
 ghost use Rattle.e3_site.specs.Opens.{open_txns};
 ghost use Rattle.e3_site.specs.SiteView.{IsPlanOf, count_on, plan_of, with_step};
 ghost use Rattle.e3_site.specs.StandsFor.{ListsOpen, PlansStep, StandsOn, StandsRisen};
@@ -67,7 +67,8 @@ impl Site {
     }
 
     fn planned(&self, input: &Input) -> Result<Plan, NoMemory>
-        ensures { IfOk result (λ plan. plan ≡ plan_of self.now input.now) }
+        ensures made { IfOk result (λ plan. plan ≡ plan_of self.now input.now) }
+        ensures few { IfOk result (λ plan. length plan.outs < 2 ^ 32) }
     {
         let made = step_of(
             self.alloc,
@@ -86,6 +87,7 @@ impl Site {
         ensures made { IfOk result (λ plan. plan ≡ plan_of self.now input.now) }
         ensures own { IfOk result (λ plan. IsPlanOf plan self.now) }
         ensures stands { IfOk result (PlansStep self.now input.now) }
+        ensures few { IfOk result (λ plan. length plan.outs < 2 ^ 32) }
     {
         self.planned(input)
     }
