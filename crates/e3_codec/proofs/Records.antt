@@ -24,7 +24,7 @@ use Rattle.e3_types.specs.Sites.{sites_of, bits_of}
 use Rattle.e3_types.specs.Spelling.{high_first, u8, u16, u32, spell_name, spell_val, spell_txn, spell_dir, spell_op, spell_row, spell_list, spell_record, spelling}
 use Rattle.e3_types.specs.Text.{IsName, IsValue, is_letter}
 use Rattle.e3_types.specs.Transactions.{is_txn}
-use Rattle.e3_codec.specs.Fields.{IsShort, ListFits, SetFits, TxnFits, RowFits, OpFits, NumOpFits, Fits}
+use Rattle.e3_codec.specs.Fields.{IsShort, ListFits, SetFits, TxnFits, RowFits, OpFits, NumOpFits, CanBeReadBack}
 use Rattle.e3_codec.specs.Reader.{Reader, Gives, pair_at, mapped_at, number_at, byte_at}
 use Rattle.e3_codec.specs.Reading.{u32_at, txn_from, txn_at, dir_of, dir_at, is_name, name_at, is_value, val_at, row_from, row_at, read_from, write_from, kind_at, op_at, num_op_from, num_op_at, birth_at, vote_at, join_at, attempt_at, decision_at, body_at, record_at}
 use Rattle.e3_codec.specs.Format.{IsBytes, Takes, IsFormat}
@@ -187,16 +187,16 @@ decision_format = pair_format _ _ _ _ _ _ txn_format dir_format
 
 -- a body behind its tag
 module _ {A : Type 0} (to : A → Record) (tag : ℕ) (s : A → List ℕ) (f : A → Type 0) (r : Reader A) (site : ℕ) (one : IsFormat s f r)
-    (spelled : (a : A) → spell_record (to a) ≡ tag ∷ s a) (fitting : (a : A) → f a → Fits site (to a)) where
-  kind_takes : (bytes : List ℕ) (x : Record) (rest : List ℕ) → IsBytes (tag ∷ bytes) → mapped_at to r bytes ≡ Some (x, rest) → Takes (tag ∷ bytes) (spell_record x) rest × Fits site x
+    (spelled : (a : A) → spell_record (to a) ≡ tag ∷ s a) (fitting : (a : A) → f a → CanBeReadBack site (to a)) where
+  kind_takes : (bytes : List ℕ) (x : Record) (rest : List ℕ) → IsBytes (tag ∷ bytes) → mapped_at to r bytes ≡ Some (x, rest) → Takes (tag ∷ bytes) (spell_record x) rest × CanBeReadBack site x
   kind_takes bytes x rest fits e =
       let a = bind_some (r bytes) (λ v. Some (to v.0, v.1)) (x, rest) e in
       let t = one.takes bytes a.0.0 a.0.1 (IsBytes-rest tag bytes fits) a.1 in
       let made : Record × List ℕ = (to a.0.0, a.0.1) in
-      subst (λ (y : Record × List ℕ). Takes (tag ∷ bytes) (spell_record y.0) y.1 × Fits site y.0) (some_is made (x, rest) a.2)
+      subst (λ (y : Record × List ℕ). Takes (tag ∷ bytes) (spell_record y.0) y.1 × CanBeReadBack site y.0) (some_is made (x, rest) a.2)
       (record { parts = ap (λ (l : List ℕ). tag ∷ l) t.0.parts ∙ ap (λ (l : List ℕ). l ++ a.0.1) (sym (spelled a.0.0)); rest_fits = t.0.rest_fits }, fitting a.0.0 t.1)
 
-record_takes : (site : ℕ) (bytes : List ℕ) (x : Record) (rest : List ℕ) → IsBytes bytes → record_at site bytes ≡ Some (x, rest) → Takes bytes (spell_record x) rest × Fits site x
+record_takes : (site : ℕ) (bytes : List ℕ) (x : Record) (rest : List ℕ) → IsBytes bytes → record_at site bytes ≡ Some (x, rest) → Takes bytes (spell_record x) rest × CanBeReadBack site x
 unfolding record_at body_at byte_at
 record_takes site [] x rest fits e = absurd cc
 record_takes site (zero ∷ bytes) x rest fits e = absurd cc
@@ -208,7 +208,7 @@ record_takes site (suc (suc (suc (suc (suc zero)))) ∷ bytes) x rest fits e = k
 record_takes site (suc (suc (suc (suc (suc (suc zero))))) ∷ bytes) x rest fits e = kind_takes (λ p. log.Decision p.0 p.1) 6 _ _ _ site decision_format (λ a. refl) (λ a h. h) bytes x rest fits e
 record_takes site (suc (suc (suc (suc (suc (suc (suc b)))))) ∷ bytes) x rest fits e = absurd cc
 
-record_again : (site : ℕ) (x : Record) (rest : List ℕ) → Fits site x → record_at site (spell_record x ++ rest) ≡ Some (x, rest)
+record_again : (site : ℕ) (x : Record) (rest : List ℕ) → CanBeReadBack site x → record_at site (spell_record x ++ rest) ≡ Some (x, rest)
 unfolding record_at body_at byte_at
 record_again site (log.Birth format own weights rows) rest fits = rw (birth_format.again (format, (own, (weights, rows))) rest fits) refl
 record_again site (log.Inc inc) rest fits = rw (u32_format.again inc rest fits) refl
@@ -217,7 +217,7 @@ record_again site (log.Join t n) rest fits = rw (join_format.again (t, n) rest f
 record_again site (log.Attempt t n dir) rest fits = rw (attempt_format.again (t, (n, dir)) rest fits) refl
 record_again site (log.Decision t dir) rest fits = rw (decision_format.again (t, dir) rest fits) refl
 
-pub record_format : (site : ℕ) → IsFormat spell_record (Fits site) (record_at site)
+pub record_format : (site : ℕ) → IsFormat spell_record (CanBeReadBack site) (record_at site)
 record_format site = record { takes = λ bytes x rest fits e. record_takes site bytes x rest fits e; again = λ x rest fits. record_again site x rest fits }
 
 -- what reading gives, in the words of the spelling
@@ -237,7 +237,7 @@ module _ {B : Type 0} (tail : B → List ℕ) (site : ℕ) (bytes : List ℕ) (i
   abbrev seen : Record × B → Record × List ℕ
   seen x = (x.0, tail x.1)
 
-  pub is_found : (r : Result (Record × B) Fault) → Gives seen r (record_at site bytes) → IfOk r (λ x. (bytes ≡ spell_record x.0 ++ tail x.1) × Fits site x.0)
+  pub is_found : (r : Result (Record × B) Fault) → Gives seen r (record_at site bytes) → IfOk r (λ x. (bytes ≡ spell_record x.0 ++ tail x.1) × CanBeReadBack site x.0)
   is_found (Ok x) given = let t = (record_format site).takes bytes x.0 (tail x.1) is_bytes given in (t.0.parts, t.1)
   is_found (Err e) given = tt
 
@@ -252,26 +252,26 @@ module _ {B : Type 0} (tail : B → List ℕ) (site : ℕ) (bytes : List ℕ) (i
   is_none (Err Bad) given is_bad = no_record site bytes given
   is_none (Err NoMemory) given is_bad = absurd cc
 
-nothing_begins : (site : ℕ) (x : Record) (after : List ℕ) → Fits site x → [] ≡ spell_record x ++ after → ⊥
+nothing_begins : (site : ℕ) (x : Record) (after : List ℕ) → CanBeReadBack site x → [] ≡ spell_record x ++ after → ⊥
 nothing_begins site x after fits e = omega (arith, ap length e, length-append (spell_record x) after, spelled x)
 
 -- no record's spelling begins another's
 pub free : PrefixFree
-free site x y a b fx fy e = prefix_free spell_record (Fits site) (record_at site) (record_format site) x y a b fx fy e
+free site x y a b fx fy e = prefix_free spell_record (CanBeReadBack site) (record_at site) (record_format site) x y a b fx fy e
 
 -- no two lists have one spelling
 pub one_list : OneSpelling
-one_list site xs ys fx fy e = (list_free spell_record (Fits site) (record_at site) (record_format site) xs ys [] [] fx fy (nothing_begins site) (nothing_begins site)
+one_list site xs ys fx fy e = (list_free spell_record (CanBeReadBack site) (record_at site) (record_format site) xs ys [] [] fx fy (nothing_begins site) (nothing_begins site)
     (append-nil (spelling xs) ∙ e ∙ sym (append-nil (spelling ys)))).0
 
 -- and in the spelling of a list a record begins at each place
 pub never_bad : SpellingsAreRead
 never_bad site xs at fits bad =
-    let same = list_free spell_record (Fits site) (record_at site) (record_format site) xs bad.front [] bad.rest fits bad.fits (nothing_begins site) bad.none (append-nil (spelling xs) ∙ bad.parts) in
+    let same = list_free spell_record (CanBeReadBack site) (record_at site) (record_format site) xs bad.front [] bad.rest fits bad.fits (nothing_begins site) bad.none (append-nil (spelling xs) ∙ bad.parts) in
     omega (arith, ap length same.1, bad.some)
 
 -- there is one first place where no record begins
 pub one_place : OnePlace
 one_place site bytes at place one two =
-    let same = list_free spell_record (Fits site) (record_at site) (record_format site) one.front two.front one.rest two.rest one.fits two.fits one.none two.none (sym one.parts ∙ two.parts) in
+    let same = list_free spell_record (CanBeReadBack site) (record_at site) (record_format site) one.front two.front one.rest two.rest one.fits two.fits one.none two.none (sym one.parts ∙ two.parts) in
     one.place ∙ ap (λ rs. length (spelling rs)) same.0 ∙ sym two.place

@@ -1,4 +1,4 @@
--- Which records have a spelling in the log of a site.
+-- Which records have a spelling, and which can be read back from the log of a site.
 use Rattle.std.specs.Prelude.{◌≡◌, ◌<◌, ◌^◌, true, ℕ, List, length}
 use Rattle.std.specs.List.{AllByRecursion}
 use Rattle.e3_types.specs.declared.transactions.NumOp.{NumOp}
@@ -45,16 +45,27 @@ OpFits site (Write key val) = (key.site ≡ site) × (IsName key.name × IsValue
 abbrev pub NumOpFits : ℕ → NumOp → Type 0
 NumOpFits site o = IsShort o.n × OpFits site o.op
 
--- the record has a spelling, and its operations have keys of the site
-abbrev pub Fits : ℕ → Record → Type 0
-Fits site (log.Birth format own weights rows) =
-    IsShort format × (IsShort own × (ListFits IsShort weights × ListFits RowFits rows))
-Fits site (log.Inc inc) = IsShort inc
-Fits site (log.Vote t ops) = TxnFits t × ListFits (NumOpFits site) ops
-Fits site (log.Join t n) = TxnFits t × IsShort n
-Fits site (log.Attempt t n dir) = TxnFits t × (IsShort n × Unit {0})
-Fits site (log.Decision t dir) = TxnFits t × Unit {0}
+-- each list of the record has fewer than 2^32 members, which the four bytes of its count can tell: only then does the
+-- record have a spelling
+abbrev pub HasSpelling : Record → Type 0
+HasSpelling (log.Birth format own weights rows) = IsShort (length weights) × IsShort (length rows)
+HasSpelling (log.Inc inc) = Unit {0}
+HasSpelling (log.Vote t ops) = IsShort (length ops)
+HasSpelling (log.Join t n) = Unit {0}
+HasSpelling (log.Attempt t n dir) = Unit {0}
+HasSpelling (log.Decision t dir) = Unit {0}
 
--- each of these records fits
-abbrev pub AllFit : ℕ → List Record → Type 0
-AllFit site records = AllByRecursion (Fits site) records
+-- the record can be read back from its spelling in the log of the site: it has a spelling, each field is one that its
+-- bytes can tell, and the operations of a vote have keys of the site, which the spelling leaves out
+abbrev pub CanBeReadBack : ℕ → Record → Type 0
+CanBeReadBack site (log.Birth format own weights rows) =
+    IsShort format × (IsShort own × (ListFits IsShort weights × ListFits RowFits rows))
+CanBeReadBack site (log.Inc inc) = IsShort inc
+CanBeReadBack site (log.Vote t ops) = TxnFits t × ListFits (NumOpFits site) ops
+CanBeReadBack site (log.Join t n) = TxnFits t × IsShort n
+CanBeReadBack site (log.Attempt t n dir) = TxnFits t × (IsShort n × Unit {0})
+CanBeReadBack site (log.Decision t dir) = TxnFits t × Unit {0}
+
+-- each of these records can be read back from the log of the site
+abbrev pub AllCanBeReadBack : ℕ → List Record → Type 0
+AllCanBeReadBack site records = AllByRecursion (CanBeReadBack site) records

@@ -1,5 +1,6 @@
-// The fields of records: how each is read from the front of bytes, and how it is written behind others.
-ghost use Rattle.std.specs.Prelude.{◌≡◌, ◌++◌, length, if◌then◌else◌, Some, None, OnOk};
+// The fields of records: how each is read from the front of bytes, and how it is written behind others. Reading one takes
+// no memory.
+ghost use Rattle.std.specs.Prelude.{◌≡◌, ◌++◌, length, if◌then◌else◌, Some, None, OnOk, IfErr};
 ghost use Rattle.std.specs.Int.{w16, w32, w64};
 ghost use Rattle.e3_types.specs.Sites.{bits_of};
 ghost use Rattle.e3_types.specs.Spelling.{high_first, u8, u16, u32, spell_name, spell_val, spell_txn, spell_dir};
@@ -12,7 +13,8 @@ use e3_types::{Dir, List, Name, NoMemory, SiteSet, Txn, Val};
 /// A number of four bytes.
 #[tactic(auto, unfolding(crate::specs::Reader::number_at))]
 pub fn u32_at(bytes: &[u8]) -> Result<(u32, &[u8]), Fault>
-    ensures { Gives (λ x. (x.0, x.1.now)) result (u32_at bytes.now) }
+    ensures gives { Gives (λ x. (x.0, x.1.now)) result (u32_at bytes.now) }
+    ensures sure { IfErr result (λ e. e ≡ Fault.Bad) }
 {
     if bytes.len() < 4 {
         return Err(Fault::Bad);
@@ -24,7 +26,8 @@ pub fn u32_at(bytes: &[u8]) -> Result<(u32, &[u8]), Fault>
 
 #[tactic(auto, unfolding(crate::specs::Reader::number_at))]
 fn u16_at(bytes: &[u8]) -> Result<(u16, &[u8]), Fault>
-    ensures { Gives (λ x. (x.0, x.1.now)) result (number_at w16 bytes.now) }
+    ensures gives { Gives (λ x. (x.0, x.1.now)) result (number_at w16 bytes.now) }
+    ensures sure { IfErr result (λ e. e ≡ Fault.Bad) }
 {
     if bytes.len() < 2 {
         return Err(Fault::Bad);
@@ -36,7 +39,8 @@ fn u16_at(bytes: &[u8]) -> Result<(u16, &[u8]), Fault>
 
 #[tactic(auto, unfolding(crate::specs::Reader::number_at))]
 fn u64_at(bytes: &[u8]) -> Result<(u64, &[u8]), Fault>
-    ensures { Gives (λ x. (x.0, x.1.now)) result (number_at w64 bytes.now) }
+    ensures gives { Gives (λ x. (x.0, x.1.now)) result (number_at w64 bytes.now) }
+    ensures sure { IfErr result (λ e. e ≡ Fault.Bad) }
 {
     if bytes.len() < 8 {
         return Err(Fault::Bad);
@@ -51,7 +55,8 @@ fn u64_at(bytes: &[u8]) -> Result<(u64, &[u8]), Fault>
 /// One byte.
 #[tactic(auto, unfolding(crate::specs::Reader::byte_at))]
 pub fn u8_at(bytes: &[u8]) -> Result<(u8, &[u8]), Fault>
-    ensures { Gives (λ x. (x.0, x.1.now)) result (byte_at bytes.now) }
+    ensures gives { Gives (λ x. (x.0, x.1.now)) result (byte_at bytes.now) }
+    ensures sure { IfErr result (λ e. e ≡ Fault.Bad) }
 {
     match bytes {
         [] => Err(Fault::Bad),
@@ -62,7 +67,8 @@ pub fn u8_at(bytes: &[u8]) -> Result<(u8, &[u8]), Fault>
 /// A transaction.
 #[tactic(auto, unfolding(crate::specs::Reading::txn_at))]
 pub fn txn_at(bytes: &[u8]) -> Result<(Txn, &[u8]), Fault>
-    ensures { Gives (λ x. (x.0, x.1.now)) result (txn_at bytes.now) }
+    ensures gives { Gives (λ x. (x.0, x.1.now)) result (txn_at bytes.now) }
+    ensures sure { IfErr result (λ e. e ≡ Fault.Bad) }
 {
     let (site, rest) = u32_at(bytes)?;
     let (inc, rest) = u32_at(rest)?;
@@ -77,7 +83,8 @@ pub fn txn_at(bytes: &[u8]) -> Result<(Txn, &[u8]), Fault>
 /// A direction.
 #[tactic(auto, unfolding(crate::specs::Reading::dir_at, crate::specs::Reading::dir_of))]
 pub fn dir_at(bytes: &[u8]) -> Result<(Dir, &[u8]), Fault>
-    ensures { Gives (λ x. (x.0, x.1.now)) result (dir_at bytes.now) }
+    ensures gives { Gives (λ x. (x.0, x.1.now)) result (dir_at bytes.now) }
+    ensures sure { IfErr result (λ e. e ≡ Fault.Bad) }
 {
     let (code, rest) = u8_at(bytes)?;
     match code {
@@ -97,7 +104,8 @@ fn name_of(text: &[u8]) -> Option<Name>
 /// A name.
 #[tactic(auto, unfolding(crate::specs::Reading::name_at, crate::specs::Reader::text_at))]
 pub fn name_at(bytes: &[u8]) -> Result<(Name, &[u8]), Fault>
-    ensures { Gives (λ x. (x.0, x.1.now)) result (name_at bytes.now) }
+    ensures gives { Gives (λ x. (x.0, x.1.now)) result (name_at bytes.now) }
+    ensures sure { IfErr result (λ e. e ≡ Fault.Bad) }
 {
     let (len, rest) = u8_at(bytes)?;
     let len = len as usize;
@@ -114,7 +122,8 @@ pub fn name_at(bytes: &[u8]) -> Result<(Name, &[u8]), Fault>
 /// A value.
 #[tactic(auto, unfolding(crate::specs::Reading::val_at, crate::specs::Reader::text_at))]
 pub fn val_at(bytes: &[u8]) -> Result<(Val, &[u8]), Fault>
-    ensures { Gives (λ x. (x.0, x.1.now)) result (val_at bytes.now) }
+    ensures gives { Gives (λ x. (x.0, x.1.now)) result (val_at bytes.now) }
+    ensures sure { IfErr result (λ e. e ≡ Fault.Bad) }
 {
     let (len, rest) = u16_at(bytes)?;
     let len = len as usize;

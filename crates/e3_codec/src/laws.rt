@@ -2,16 +2,19 @@
 ghost use Rattle.std.specs.Prelude.{ℕ};
 ghost use Rattle.e3_types.specs.Spelling.{spell_record};
 ghost use Rattle.e3_codec.specs.Claims.{OnePlace, OneSpelling, PrefixFree, SpellingsAreRead};
-ghost use Rattle.e3_codec.specs.Fields.{Fits};
+ghost use Rattle.e3_codec.specs.Fields.{CanBeReadBack};
 ghost use Rattle.e3_codec.specs.Format.{IsFormat};
 ghost use Rattle.e3_codec.specs.Reading.{record_at};
 
-/// What is read is spelled so, and what is spelled so is read, whatever follows.
+/// The reader of a record and its spelling fit: a record that is read from the front of bytes can be read back and is
+/// spelled by the bytes that were taken, and one that can be read back is read from its spelling, whatever follows.
 pub fn records_are_a_format()
-    ensures { (site : ℕ) → IsFormat spell_record (Fits site) (record_at site) }
+    ensures { (site : ℕ) → IsFormat spell_record (CanBeReadBack site) (record_at site) }
 {}
 
-/// Each list of records of a site has one spelling, and no record's spelling begins another's.
+/// Of records that can be read back from the log of one site: no record's spelling begins another's, no two lists have
+/// one spelling, and in the spelling of a list a record begins at each place that is not its end. Bytes have one first
+/// place at most where no record begins.
 pub fn each_list_has_one_spelling()
     ensures free { PrefixFree }
     ensures one { OneSpelling }

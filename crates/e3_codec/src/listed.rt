@@ -1,5 +1,5 @@
 // A kind of field that stands in lists, and the list of them behind its count.
-ghost use Rattle.std.specs.Prelude.{◌≡◌, ◌++◌, ℕ, List as Items, Option, OnOk};
+ghost use Rattle.std.specs.Prelude.{◌≡◌, ◌++◌, ◌<◌, ◌^◌, ℕ, List as Items, Option, OnOk, IfErr, length};
 ghost use Rattle.e3_types.specs.Spelling.{spell_list};
 ghost use Rattle.e3_codec.specs.Reader.{Gives, listed_at, times_at};
 
@@ -18,7 +18,8 @@ pub trait Field {
 
     /// Reads the field at the front of these bytes. `Bad` comes exactly where none begins.
     fn read(site: u32, bytes: &[u8]) -> Result<(Self, &[u8]), Fault>
-        ensures { Gives (λ x. (x.0, x.1.now)) result (reading site bytes.now) };
+        ensures gives { Gives (λ x. (x.0, x.1.now)) result (reading site bytes.now) }
+        ensures sure { IfErr result (λ e. e ≡ Fault.Bad) };
 
     /// Writes the field behind the others. Want of memory is the only error.
     fn put(&self, out: &mut List<u8>) -> Result<(), NoMemory>
@@ -57,7 +58,8 @@ pub fn list_at<T: Field + Drop>(
 
 /// Writes a list: its count, and its fields. There is no such list of 2^32 fields or more.
 pub fn put_list<T: Field>(out: &mut List<u8>, fields: &[T]) -> Result<(), NoMemory>
-    ensures { OnOk result (out.new ≡ out.old ++ spell_list T.spelled fields.now) }
+    ensures bytes { OnOk result (out.new ≡ out.old ++ spell_list T.spelled fields.now) }
+    ensures few { OnOk result (length fields.now < 2 ^ 32) }
 {
     let Ok(count) = u32::try_from(fields.len()) else {
         return Err(NoMemory);

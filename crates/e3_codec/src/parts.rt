@@ -1,5 +1,5 @@
 // What stands in lists: weights, rows and operations.
-ghost use Rattle.std.specs.Prelude.{◌≡◌, ◌++◌, OnOk};
+ghost use Rattle.std.specs.Prelude.{◌≡◌, ◌++◌, OnOk, IfErr};
 ghost use Rattle.e3_types.specs.Spelling.{u32, spell_op, spell_row};
 ghost use Rattle.e3_codec.specs.Reader.{Gives};
 ghost use Rattle.e3_codec.specs.Reading.{u32_at, op_at, num_op_at, row_at};
@@ -44,7 +44,8 @@ impl Field for Row {
 
 #[tactic(auto, unfolding(crate::specs::Reading::op_at, crate::specs::Reading::kind_at))]
 fn op_at(site: u32, bytes: &[u8]) -> Result<(Op, &[u8]), Fault>
-    ensures { Gives (λ x. (x.0, x.1.now)) result (op_at site bytes.now) }
+    ensures gives { Gives (λ x. (x.0, x.1.now)) result (op_at site bytes.now) }
+    ensures sure { IfErr result (λ e. e ≡ Fault.Bad) }
 {
     let (kind, rest) = u8_at(bytes)?;
     match kind {

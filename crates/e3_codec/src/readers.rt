@@ -1,9 +1,9 @@
 // From bytes to records.
-ghost use Rattle.std.specs.Prelude.{ℕ, ◌≡◌, ◌++◌, ◌<◌, List as Items, length, IfOk, IsErrOf, Err, MatchResult};
+ghost use Rattle.std.specs.Prelude.{ℕ, ◌≡◌, ◌⊎◌, ◌++◌, ◌<◌, List as Items, length, IfOk, IsErrOf, Err, MatchResult};
 ghost use Rattle.e3_types.specs.declared.records.Record.{Record};
 ghost use Rattle.e3_types.specs.declared.records.Record.TheVariants as log;
 ghost use Rattle.e3_types.specs.Spelling.{spell_record, spelling};
-ghost use Rattle.e3_codec.specs.Fields.{Fits, AllFit};
+ghost use Rattle.e3_codec.specs.Fields.{CanBeReadBack, AllCanBeReadBack};
 ghost use Rattle.e3_codec.specs.Places.{NoRecord, FirstBad};
 ghost use Rattle.e3_codec.specs.Reader.{Gives, mapped_at};
 ghost use Rattle.e3_codec.specs.Reading.{birth_at, vote_at, join_at, attempt_at, decision_at, record_at};
@@ -100,7 +100,7 @@ fn record_at(alloc: Global, site: u32, bytes: &[u8]) -> Result<(Record, &[u8]), 
 
 // The record at the front, in the words of the spelling.
 fn next_record(alloc: Global, site: u32, bytes: &[u8]) -> Result<(Record, &[u8]), Fault>
-    ensures found { IfOk result (λ x. (bytes.now ≡ spell_record x.0 ++ x.1.now) × Fits site x.0) }
+    ensures found { IfOk result (λ x. (bytes.now ≡ spell_record x.0 ++ x.1.now) × CanBeReadBack site x.0) }
     ensures shorter { IfOk result (λ x. length x.1.now < length bytes.now) }
     ensures none { IsErrOf result Fault.Bad → NoRecord site bytes.now }
 {
@@ -108,7 +108,7 @@ fn next_record(alloc: Global, site: u32, bytes: &[u8]) -> Result<(Record, &[u8])
 }
 
 fn all_records(alloc: Global, site: u32, bytes: &[u8]) -> Result<List<Record>, RecordFault>
-    ensures found { IfOk result (λ rs. AllFit site rs × (bytes.now ≡ spelling rs)) }
+    ensures found { IfOk result (λ rs. AllCanBeReadBack site rs × (bytes.now ≡ spelling rs)) }
     ensures bad { (at : ℕ) → result ≡ Err (RecordFault.Bad at) → FirstBad site bytes.now at }
 {
     let mut records = List::new(alloc);
@@ -133,15 +133,17 @@ fn all_records(alloc: Global, site: u32, bytes: &[u8]) -> Result<List<Record>, R
 /// has a key of this site, since the bytes leave the site out. `Bad` names the first place where no record begins; no
 /// bytes at all are no records.
 pub fn read_records(alloc: Global, site: u32, bytes: &[u8]) -> Result<List<Record>, RecordFault>
-    // What is read is spelled so, and its operations have keys of the site.
-    ensures found { IfOk result (λ rs. AllFit site rs × (bytes.now ≡ spelling rs)) }
+    // What is read is spelled so, and its operations have keys of the site. Where the bytes spell such records, they are
+    // read, if memory suffices.
+    ensures found { IfOk result (λ rs. AllCanBeReadBack site rs × (bytes.now ≡ spelling rs)) }
 
-    // A fault names the first place where no record begins.
-    ensures bad { (at : ℕ) → result ≡ Err (RecordFault.Bad at) → FirstBad site bytes.now at }
-
-    // A spelling of records that fit is read as these records, if memory suffices.
-    ensures exact { (records : Items Record) → AllFit site records → bytes.now ≡ spelling records →
+    ensures exact { (records : Items Record) → AllCanBeReadBack site records → bytes.now ≡ spelling records →
         MatchResult result (λ rs. rs ≡ records) (λ e. e ≡ RecordFault.NoMemory) }
+
+    // `Bad` names the first place where no record begins. Where there is such a place, it is named, if memory suffices.
+    ensures bad { (at : ℕ) → result ≡ Err (RecordFault.Bad at) → FirstBad site bytes.now at }
+    ensures only_bad { (at : ℕ) → FirstBad site bytes.now at →
+        MatchResult result (λ rs. ⊥) (λ e. (e ≡ RecordFault.Bad at) ⊎ (e ≡ RecordFault.NoMemory)) }
 {
     all_records(alloc, site, bytes)
 }

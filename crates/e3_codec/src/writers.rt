@@ -1,7 +1,9 @@
 // From records to bytes.
 ghost use Rattle.std.specs.Prelude.{◌≡◌, ◌++◌, IfOk, OnOk};
+ghost use Rattle.std.specs.List.{AllByRecursion};
 ghost use Rattle.e3_types.specs.Spelling.{spell_record, spelling};
 ghost use Rattle.e3_types.specs.declared.records.Record.TheVariants as log;
+ghost use Rattle.e3_codec.specs.Fields.{HasSpelling};
 
 use crate::fields::{put_dir, put_txn, put_u8, put_u32};
 use crate::listed::put_list;
@@ -15,7 +17,8 @@ fn put_birth(
     weights: &[u32],
     rows: &[Row],
 ) -> Result<(), NoMemory>
-    ensures { OnOk result (out.new ≡ out.old ++ spell_record (log.Birth format site weights.now rows.now)) }
+    ensures bytes { OnOk result (out.new ≡ out.old ++ spell_record (log.Birth format site weights.now rows.now)) }
+    ensures few { OnOk result (HasSpelling (log.Birth format site weights.now rows.now)) }
 {
     put_u8(out, 1)?;
     put_u32(out, format)?;
@@ -26,7 +29,8 @@ fn put_birth(
 }
 
 fn put_vote(out: &mut List<u8>, txn: &Txn, ops: &[NumOp]) -> Result<(), NoMemory>
-    ensures { OnOk result (out.new ≡ out.old ++ spell_record (log.Vote txn.now ops.now)) }
+    ensures bytes { OnOk result (out.new ≡ out.old ++ spell_record (log.Vote txn.now ops.now)) }
+    ensures few { OnOk result (HasSpelling (log.Vote txn.now ops.now)) }
 {
     put_u8(out, 3)?;
     put_txn(out, txn)?;
@@ -63,7 +67,8 @@ fn put_decision(out: &mut List<u8>, txn: &Txn, dir: Dir) -> Result<(), NoMemory>
 }
 
 fn put_record(out: &mut List<u8>, r: &Record) -> Result<(), NoMemory>
-    ensures { OnOk result (out.new ≡ out.old ++ spell_record r.now) }
+    ensures bytes { OnOk result (out.new ≡ out.old ++ spell_record r.now) }
+    ensures few { OnOk result (HasSpelling r.now) }
 {
     match r {
         Record::Birth {
@@ -87,7 +92,10 @@ fn put_record(out: &mut List<u8>, r: &Record) -> Result<(), NoMemory>
 /// The one spelling of these records, one after the other. A record in which a list has 2^32 members or more has no
 /// spelling; `NoMemory` comes for it, and for want of memory.
 pub fn put_records(alloc: Global, records: &[Record]) -> Result<List<u8>, NoMemory>
-    ensures { IfOk result (λ bytes. bytes ≡ spelling records.now) }
+    ensures bytes { IfOk result (λ bytes. bytes ≡ spelling records.now) }
+
+    // Ok never comes for a record that has no spelling.
+    ensures few { OnOk result (AllByRecursion HasSpelling records.now) }
 {
     let mut out = List::new(alloc);
     for r in records {

@@ -1,2 +1,3 @@
 pub mod Tearing
 pub mod Torn
+pub mod Pieces

@@ -2,7 +2,7 @@
 use Rattle.std.proofs.Common.{◌≡◌, ℕ, ◌+◌, ◌-◌, ◌<◌, ◌≤◌, max, min, List, [], ◌∷◌, ◌++◌, length, get_or, take, drop, refl, sym, ◌∙◌, ap, subst, arith, length-append, length-take, length-drop, inl, inr}
 use Rattle.std.proofs.lemmas.Bool.{cases_lt}
 use Rattle.std.proofs.lemmas.List.{get_or_append_left, get_or-append_right, get_or-take, get_or-drop, ext_get_or}
-use Rattle.e3_disk.specs.Images.{Holds, Torn, TornBy, Outside, greatest}
+use Rattle.e3_disk.specs.Images.{Holds, Torn, Tears, TornBy, TearsBy, Only, Outside, greatest}
 
 pub torn_refl : (p : ℕ) (xs : List ℕ) → Torn p 0 xs xs
 torn_refl p xs = record { before = λ i lt l. refl; behind = λ i lt l. refl; no_shorter = omega arith; no_longer = omega arith }
@@ -141,3 +141,37 @@ at_most (w ∷ ws) old new torn =
     let later = at_most ws torn.0 new torn.2 in
     let wider = greatest-le ws (length torn.0) (max (length old) (w.0 + w.1)) torn.1.no_longer in
     omega (arith, later, wider)
+
+-- a write may leave all as it was
+torn_same : (p n : ℕ) (xs : List ℕ) → Torn p n xs xs
+torn_same p n xs = record { before = λ i lt l. refl; behind = λ i lt l. refl; no_shorter = omega arith; no_longer = omega arith }
+
+all_same : (ws : List (ℕ × ℕ)) (xs : List ℕ) → TornBy ws xs xs
+all_same [] xs = refl
+all_same (w ∷ ws) xs = (xs, torn_same w.0 w.1 xs, all_same ws xs)
+
+-- one write more, and writes that were not made
+torn_push : (ws : List (ℕ × ℕ)) (p n : ℕ) (old new c : List ℕ) → TornBy ws old new → Torn p n new c → TornBy (ws ++ (p, n) ∷ []) old c
+torn_push [] p n old new c torn last = (c, subst (λ (d : List ℕ). Torn p n d c) torn last, refl)
+torn_push (w ∷ ws) p n old new c torn last = (torn.0, torn.1, torn_push ws p n torn.0 new c torn.2 last)
+
+torn_rest : (ws vs : List (ℕ × ℕ)) (old new : List ℕ) → TornBy ws old new → TornBy (ws ++ vs) old new
+torn_rest [] vs old new torn = subst (λ (d : List ℕ). TornBy vs old d) (sym torn) (all_same vs old)
+torn_rest (w ∷ ws) vs old new torn = (torn.0, torn.1, torn_rest ws vs torn.0 new torn.2)
+
+pub tears_push : (ws : List (ℕ × ℕ)) (p n : ℕ) (a b c : List ℕ → Type 0) → TearsBy ws a b → Tears p n b c → TearsBy (ws ++ (p, n) ∷ []) a c
+tears_push ws p n a b c before last image at =
+    let late = last image at in
+    let early = before late.0 late.1 in
+    (early.0, early.1, torn_push ws p n early.0 late.0 image early.2 late.2)
+
+pub tears_rest : (ws vs : List (ℕ × ℕ)) (a b : List ℕ → Type 0) → TearsBy ws a b → TearsBy (ws ++ vs) a b
+tears_rest ws vs a b before image at = let from = before image at in (from.0, from.1, torn_rest ws vs from.0 image from.2)
+
+-- from one image on
+pub from_only : (ws : List (ℕ × ℕ)) (content : List ℕ) (a b : List ℕ → Type 0) → Only content a → TearsBy ws a b → (image : List ℕ) → b image → TornBy ws content image
+from_only ws content a b only tears image at = let from = tears image at in subst (λ (d : List ℕ). TornBy ws d image) (only from.0 from.1) from.2
+
+-- a write leaves no fewer bytes
+pub no_fewer : (p : ℕ) (old bytes new : List ℕ) → p ≤ length old → Holds old p bytes new → length old ≤ length new
+no_fewer p old bytes new le holds = (holds_torn p old bytes new le holds).no_shorter

@@ -47,6 +47,10 @@ abbrev pub TornBy : List (ℕ × ℕ) → List ℕ → List ℕ → Type 0
 TornBy [] old new = new ≡ old
 TornBy (w ∷ ws) old new = (d : List ℕ) × Torn w.0 w.1 old d × TornBy ws d new
 
+-- Each new image is an old one of which these writes were torn.
+abbrev pub TearsBy : List (ℕ × ℕ) → (List ℕ → Type 0) → (List ℕ → Type 0) → Type 0
+TearsBy ws old new = (c : List ℕ) → new c → (d : List ℕ) × old d × TornBy ws d c
+
 -- A place lies outside each of these ranges.
 abbrev pub Outside : ℕ → List (ℕ × ℕ) → Type 0
 Outside i [] = Unit {0}

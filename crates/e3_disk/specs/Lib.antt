@@ -4,3 +4,4 @@ pub mod Meters
 pub mod Panel
 pub mod Stored
 pub mod Memory
+pub mod Pieces

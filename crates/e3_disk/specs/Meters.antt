@@ -3,7 +3,8 @@ use Rattle.std.specs.Prelude.{◌≡◌, ℕ, ◌+◌, ◌-◌, ◌^◌, ◌<◌
 use Rattle.e3_disk.specs.declared.fault.DiskFault.{DiskFault}
 use Rattle.e3_disk.specs.declared.fault.DiskFault.TheVariants.{Failed}
 
--- The numbers of a disk. The calls left are 0 where it is not armed.
+-- The numbers of a disk. The calls left are those writes and syncs, the stop among them, until an arm runs out: 0 where
+-- the disk is not armed. A write that is Full is not counted among them, since it changes nothing.
 pub record Meters : Type 0 where
   pub capacity : ℕ
   pub powered : Bool
@@ -67,7 +68,8 @@ pub record Reads {T : Type 0} (old new : Meters) (result : Result T DiskFault) :
   pub ok : OnOk result (Passing old new × (new.calls_left ≡ old.calls_left))
 
 -- What a write or a sync does to the numbers. With Ok on an armed disk it finds at least two calls left and takes one.
--- One that finds a single call left, while the power is on, is the stop: the arm is cleared and the power is off.
+-- One that finds a single call left, while the power is on, is the stop: the arm is cleared and the power is off. A write
+-- that is Full is no such call: it leaves the numbers as they are, whatever is left.
 pub record Writes {T : Type 0} (old new : Meters) (result : Result T DiskFault) : Type 0 where
   pub keeps : Keeps old new
   pub failed : IsErrOf result Failed → Failing old new

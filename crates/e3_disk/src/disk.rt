@@ -17,7 +17,7 @@ pub trait Disk {
     /// The images that a crash now may leave.
     ghost image: { Self → List ℕ → Type 0 };
 
-    /// The capacity, the power, the arm, and the counts of faults and drills.
+    /// The capacity, the power, the calls left of the arm, and the counts of faults and drills.
     ghost meters: { Self → Meters };
 
     /// How many bytes it can hold.
@@ -74,7 +74,8 @@ pub trait Disk {
 
 /// A disk that can be stopped inside a call, cut from its power, and powered again.
 pub trait Drill: Disk {
-    /// From now on the `calls`-th write or sync while powered fails, and the power is off then.
+    /// From now on the `calls`-th write or sync while powered fails, and the power is off then. A write that is `Full` is
+    /// not counted.
     fn arm(&mut self, calls: u32, leave: Leave)
         requires { 1 ≤ calls }
         ensures same { Self.content self.new ≡ Self.content self.old }

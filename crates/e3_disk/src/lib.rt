@@ -13,5 +13,5 @@ mod tests;
 
 pub use disk::{Disk, Drill};
 pub use fault::DiskFault;
-pub use law::torn_writes_keep_the_rest;
+pub use law::{Piece, torn_writes_keep_the_rest, write_pieces};
 pub use memory::MemDisk;

@@ -1,5 +1,5 @@
 // Worked examples of disks in memory, by calls through the bounds.
-use crate::{Disk, DiskFault, Drill, MemDisk};
+use crate::{Disk, DiskFault, Drill, MemDisk, Piece, torn_writes_keep_the_rest, write_pieces};
 use e3_types::{Leave, List};
 use std::alloc::Global;
 use std::test::Fail;
@@ -37,10 +37,14 @@ fn stop_in<D: Drill>(
     place: u64,
     bytes: &[u8],
 ) -> Result<(), DiskFault> {
-    disk.arm(1, leave);
+    arm(disk, 1, leave);
     let end = put(disk, place, bytes);
     disk.power_on();
     end
+}
+
+fn arm<D: Drill>(disk: &mut D, calls: u32, leave: Leave) {
+    disk.arm(calls.max(1), leave);
 }
 
 fn cut<D: Drill>(disk: &mut D) {
@@ -100,5 +104,46 @@ fn calls_fail_by_their_numbers_and_without_power(rt: HostRuntime) -> Result<(), 
     assert_eq!(rt; flush(&mut disk), Err(DiskFault::Failed));
     light(&mut disk);
     assert_eq!(rt; bytes_of(alloc, &mut disk)?.as_slice(), b"\0".as_slice());
+    Ok(())
+}
+
+// Writes these pieces, each of which begins within the one byte of a blank disk or right behind it.
+fn put_each<D: Disk>(disk: &mut D, pieces: &[Piece]) -> Result<(), DiskFault> {
+    let len = disk.len()?;
+    if len < 1 || pieces.iter().any(|p| p.place > 1) {
+        return Err(DiskFault::Failed);
+    }
+    write_pieces(disk, pieces)
+}
+
+fn piece(alloc: Global, place: u64, bytes: &[u8]) -> Result<Piece, Fail> {
+    let mut list = List::new(alloc);
+    list.extend(bytes)?;
+    Ok(Piece { place, bytes: list })
+}
+
+#[test]
+fn a_stop_in_the_second_write_keeps_what_is_outside(rt: HostRuntime) -> Result<(), Fail> {
+    torn_writes_keep_the_rest();
+    let alloc = rt.alloc();
+    for (leave, left) in [
+        (Leave::None, b"\0abcdef".as_slice()),
+        (Leave::Half, b"vwbcdef".as_slice()),
+        (Leave::All, b"vwxyzef".as_slice()),
+        (Leave::Junk(b'j'), b"jjjjjef".as_slice()),
+    ] {
+        let mut disk = MemDisk::blank(alloc, 16)?;
+        assert_eq!(rt; put(&mut disk, 1, b"abcdef"), Ok(()));
+        assert_eq!(rt; flush(&mut disk), Ok(()));
+        let mut pieces = List::new(alloc);
+        pieces.push(piece(alloc, 0, b"v")?)?;
+        pieces.push(piece(alloc, 1, b"wxyz")?)?;
+        pieces.push(piece(alloc, 0, b"never")?)?;
+        arm(&mut disk, 2, leave);
+        let end = put_each(&mut disk, pieces.as_slice());
+        assert_eq!(rt; end, Err(DiskFault::Failed));
+        light(&mut disk);
+        assert_eq!(rt; bytes_of(alloc, &mut disk)?.as_slice(), left);
+    }
     Ok(())
 }

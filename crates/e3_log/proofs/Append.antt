@@ -1,16 +1,24 @@
 -- What the calls of an append leave.
-use Rattle.std.proofs.Common.{◌≡◌, ◌⊎◌, inl, inr, ℕ, suc, ◌+◌, List, [], ◌∷◌, ◌++◌, length, take, drop, refl, sym, ◌∙◌, ap, subst, arith, append_assoc, length-append, take-append-drop, drop-drop}
+use Rattle.std.proofs.Common.{◌≡◌, ◌≢◌, ◌⊎◌, inl, inr, ℕ, suc, ◌+◌, List, [], ◌∷◌, ◌++◌, length, take, drop, refl, sym, ◌∙◌, ap, subst, arith, append_assoc, length-append, take-append-drop, drop-drop}
 use Rattle.std.proofs.lemmas.Bool.{cases_eq}
 use Rattle.std.proofs.lemmas.List.{take_at, drop_at, append-nil}
 use Rattle.std.specs.Int.{w32, to_be_bytes}
 use Rattle.std.specs.List.{AllByRecursion}
 use Rattle.e3_disk.specs.Images.{Holds, Torn, Tears, Only}
 use Rattle.e3_log.specs.Frames.{OPEN, frame, frames, IsClosed, Fits, Reads}
-use Rattle.e3_log.specs.Stands.{staged, Staged}
+use Rattle.e3_log.specs.Stands.{staged}
 use Rattle.e3_log.specs.declared.open.Frame.{Frame}
 use Rattle.e3_log.specs.Found.{frames_from}
 use Rattle.e3_log.specs.Opening.{FrameAt}
 use Rattle.e3_disk.proofs.Torn.{torn_front, torn_back}
+
+-- a whole frame stands behind a gate that is still closed.
+pub record Staged (bodies : List (List ℕ)) (body content : List ℕ) : Type 0 where
+  pub gate : ℕ
+  pub tail : List ℕ
+  pub parts : content ≡ frames bodies ++ gate ∷ (staged body ++ tail)
+  pub closed : gate ≢ OPEN
+  pub fits : AllByRecursion Fits bodies
 
 pub frames_push : (bodies : List (List ℕ)) (body : List ℕ) → frames (bodies ++ body ∷ []) ≡ frames bodies ++ frame body
 frames_push [] body = append-nil (frame body)

@@ -1,10 +1,9 @@
 -- What a log stands for.
-use Rattle.std.specs.Prelude.{◌≡◌, ◌≢◌, ◌⊎◌, ℕ, ◌-◌, ◌<◌, Bool, true, false, Result, OnOk, OnErr, List, [], ◌∷◌, ◌++◌, length}
+use Rattle.std.specs.Prelude.{◌≡◌, ◌⊎◌, ℕ, ◌-◌, ◌<◌, Bool, true, false, Result, OnOk, OnErr, List, [], ◌∷◌, ◌++◌, length}
 use Rattle.std.specs.Int.{w32, to_be_bytes}
-use Rattle.std.specs.List.{AllByRecursion}
 use Rattle.e3_disk.specs.Images.{Only}
 use Rattle.e3_disk.specs.Meters.{Meters, Rose, Keeps}
-use Rattle.e3_log.specs.Frames.{OPEN, frames, Fits, Reads}
+use Rattle.e3_log.specs.Frames.{frames, Reads}
 
 -- A log: its disk, the place of the closed gate at which the next frame begins, and whether it keeps a failure of one
 -- of its own calls.
@@ -25,10 +24,6 @@ pub record Stands {D : Type 0} (content : D → List ℕ) (image : D → List �
   pub sound : log.failed ≡ false
   pub disk : DiskStands content image bodies log.end log.disk
 
--- Each image reads as these bodies.
-abbrev pub ReadsBefore : List (List ℕ) → (List ℕ → Type 0) → Type 0
-ReadsBefore bodies image = (c : List ℕ) → image c → Reads bodies c
-
 -- Each image reads as these bodies, or as those with the whole new one.
 abbrev pub ReadsBeforeOrAfter : List (List ℕ) → List ℕ → (List ℕ → Type 0) → Type 0
 ReadsBeforeOrAfter bodies body image = (c : List ℕ) → image c → Reads bodies c ⊎ Reads (bodies ++ body ∷ []) c
@@ -36,14 +31,6 @@ ReadsBeforeOrAfter bodies body image = (c : List ℕ) → image c → Reads bodi
 -- What is written behind the closed gate: the length, the body, and the closed gate of the next frame.
 abbrev pub staged : List ℕ → List ℕ
 staged body = to_be_bytes w32 (length body) ++ body ++ 0 ∷ []
-
--- A whole frame stands behind a gate that is still closed.
-pub record Staged (bodies : List (List ℕ)) (body content : List ℕ) : Type 0 where
-  pub gate : ℕ
-  pub tail : List ℕ
-  pub parts : content ≡ frames bodies ++ gate ∷ (staged body ++ tail)
-  pub closed : gate ≢ OPEN
-  pub fits : AllByRecursion Fits bodies
 
 -- What writes and syncs, so many of them, do to the numbers of a disk: with Ok each of them takes a call from the arm.
 pub record Spends {T E : Type 0} (count : ℕ) (old new : Meters) (result : Result T E) : Type 0 where

@@ -1,9 +1,9 @@
 // The four calls of a disk that add a frame.
 ghost use Rattle.std.specs.Prelude.{◌≡◌, ◌+◌, ◌≤◌, ◌<◌, ◌^◌, ◌++◌, ◌∷◌, [], List, ℕ, length, vec_capacity, OnOk, IfErr};
-ghost use Rattle.e3_disk.specs.Images.{Only};
+ghost use Rattle.e3_disk.specs.Images.{Holds, Only, Tears};
 ghost use Rattle.e3_disk.specs.declared.fault.DiskFault.TheVariants.{Failed};
-ghost use Rattle.e3_log.specs.Frames.{frames, Fits};
-ghost use Rattle.e3_log.specs.Stands.{DiskStands, ReadsBefore, ReadsBeforeOrAfter, Spends, Staged, staged};
+ghost use Rattle.e3_log.specs.Frames.{OPEN as OPEN_GATE, Fits};
+ghost use Rattle.e3_log.specs.Stands.{DiskStands, ReadsBeforeOrAfter, Spends, staged};
 
 use e3_disk::{Disk, DiskFault};
 
@@ -23,16 +23,14 @@ pub fn put_staged(buffer: &mut Vec<u8>, body: &[u8])
     let _ = buffer.extend_from_slice(&[0]);
 }
 
-// Writes a frame behind the closed gate, and makes it durable.
+// Writes what stands behind the closed gate, and makes it durable.
 fn write_frame<D: Disk>(disk: &mut D, end: u64, bytes: &[u8]) -> Result<(), DiskFault>
     requires gate { end < length (D.content disk.old) }
     requires room { end + 1 + length bytes.now ≤ (D.meters disk.old).capacity }
     requires bound { (D.meters disk.old).capacity ≤ 2 ^ 30 }
-    ensures staged { (bodies : List (List ℕ)) (body : List ℕ) → bytes.now ≡ staged body →
-        DiskStands D.content D.image bodies end disk.old → OnOk result (Staged bodies body (D.content disk.new)) }
-    ensures only { OnOk result (Only (D.content disk.new) (D.image disk.new)) }
-    ensures images { (bodies : List (List ℕ)) → DiskStands D.content D.image bodies end disk.old →
-        ReadsBefore bodies (D.image disk.new) }
+    ensures written { OnOk result (Holds (D.content disk.old) (end + 1) bytes.now (D.content disk.new)) }
+    ensures durable { OnOk result (Only (D.content disk.new) (D.image disk.new)) }
+    ensures images { Tears (end + 1) (length bytes.now) (D.image disk.old) (D.image disk.new) }
     ensures failed { IfErr result (λ e. e ≡ Failed) }
     ensures meters { Spends 2 (D.meters disk.old) (D.meters disk.new) result }
     ensures long { OnOk result (end + 1 + length bytes.now ≤ length (D.content disk.new)) }
@@ -46,12 +44,9 @@ fn write_frame<D: Disk>(disk: &mut D, end: u64, bytes: &[u8]) -> Result<(), Disk
 fn open_gate<D: Disk>(disk: &mut D, end: u64) -> Result<(), DiskFault>
     requires gate { end < length (D.content disk.old) }
     requires room { end + 1 ≤ (D.meters disk.old).capacity }
-    ensures stands { (bodies : List (List ℕ)) (body : List ℕ) → Staged bodies body (D.content disk.old) → Fits body →
-        end ≡ length (frames bodies) → Only (D.content disk.old) (D.image disk.old) →
-        OnOk result (DiskStands D.content D.image (bodies ++ body ∷ []) (end + 5 + length body) disk.new) }
-    ensures images { (bodies : List (List ℕ)) (body : List ℕ) → Staged bodies body (D.content disk.old) → Fits body →
-        end ≡ length (frames bodies) → Only (D.content disk.old) (D.image disk.old) →
-        ReadsBeforeOrAfter bodies body (D.image disk.new) }
+    ensures written { OnOk result (Holds (D.content disk.old) end (OPEN_GATE ∷ []) (D.content disk.new)) }
+    ensures durable { OnOk result (Only (D.content disk.new) (D.image disk.new)) }
+    ensures images { Tears end 1 (D.image disk.old) (D.image disk.new) }
     ensures failed { IfErr result (λ e. e ≡ Failed) }
     ensures meters { Spends 2 (D.meters disk.old) (D.meters disk.new) result }
     ensures long { OnOk result (length (D.content disk.old) ≤ length (D.content disk.new)) }

@@ -18,7 +18,7 @@ pub enum AppendFault {
 /// Why a log could not be opened.
 #[derive(Clone, Copy, Debug, PartialEq, Eq)]
 pub enum OpenCause {
-    /// The disk failed.
+    /// The disk failed, or it had no power.
     Failed,
     /// No frame and no closed gate begins there.
     Damaged { at: u64 },

@@ -10,6 +10,6 @@ mod open;
 mod tests;
 
 pub use fault::{AppendFault, OpenCause};
-pub use law::frames_have_one_reading;
+pub use law::{a_frame_is_whole_or_not_at_all, frames_have_one_reading};
 pub use log::{Log, OpenRefused};
 pub use open::Frame;

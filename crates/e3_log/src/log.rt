@@ -1,11 +1,12 @@
 // A log of frames on a disk.
-ghost use Rattle.std.specs.Prelude.{◌≡◌, ◌+◌, ◌-◌, ◌≤◌, ◌<◌, ◌^◌, ◌++◌, ◌∷◌, [], ◌⊎◌, ◌↔◌, true, false, Err, List as Items, ℕ, length, OnOk, IfOk, IfErr, IsErrOf, MatchResult};
-ghost use Rattle.e3_disk.specs.Images.{Within, SameImages};
+ghost use Rattle.std.specs.Prelude.{◌≡◌, ◌≢◌, ◌+◌, ◌-◌, ◌≤◌, ◌<◌, ◌^◌, ◌++◌, ◌∷◌, [], ◌⊎◌, ◌↔◌, true, false, Err, List as Items, ℕ, length, OnOk, IfOk, IfErr, IsErrOf, MatchResult};
+ghost use Rattle.e3_disk.specs.Images.{Within, SameImages, Only};
 ghost use Rattle.e3_disk.specs.Leaves.{code_of};
 ghost use Rattle.e3_disk.specs.Meters.{Rose, Keeps, armed};
 ghost use Rattle.e3_log.specs.Frames.{Reads, DamagedAt};
 ghost use Rattle.e3_log.specs.Found.{bodies_of, frames_from};
-ghost use Rattle.e3_log.specs.Stands.{Stands, ReadsBeforeOrAfter, Spends};
+ghost use Rattle.e3_log.specs.Opening.{TakesOne, StaysOff, StaysOn};
+ghost use Rattle.e3_log.specs.Stands.{Stands, ReadsBeforeOrAfter};
 
 use crate::commit::{commit, put_staged};
 use crate::open::{Frame, prepare};
@@ -51,12 +52,17 @@ impl<D: Disk> Log<D> {
     pub fn open(alloc: Global, mut disk: D) -> Result<(Log<D>, List<Frame>), OpenRefused<D>>
         ensures stands { IfOk result (λ r. Stands D.content D.image (bodies_of r.1) r.0) }
         ensures places { IfOk result (λ r. r.1 ≡ frames_from 0 (bodies_of r.1)) }
-        ensures same { IfOk result (λ r. D.content r.0.disk ≡ D.content disk) }
         ensures again { (bodies : Items (Items ℕ)) → Reads bodies (D.content disk) → IfOk result (λ r. bodies_of r.1 ≡ bodies) }
 
-        // however it ends, each image was one before the call
+        // however it ends, each image was one before the call; what is read stays, and is durable, unless the disk failed
         ensures images { MatchResult result (λ r. Within (D.image disk) (D.image r.0.disk)) (λ e. Within (D.image disk) (D.image e.disk)) }
+        ensures same { MatchResult result (λ r. D.content r.0.disk ≡ D.content disk) (λ e. e.cause ≢ OpenCause.Failed → D.content e.disk ≡ D.content disk) }
+        ensures durable { IfErr result (λ e. e.cause ≢ OpenCause.Failed → Only (D.content disk) (D.image e.disk)) }
+
+        // it fails only where the disk's count rose or its power was off, and with the power off it fails and counts nothing
         ensures failed { IfErr result (λ e. e.cause ≡ OpenCause.Failed → (D.meters disk).powered ≡ true → Rose (D.meters disk).faults (D.meters e.disk).faults) }
+        ensures unpowered { (D.meters disk).powered ≡ false → MatchResult result (λ _. ⊥)
+            (λ e. (e.cause ≡ OpenCause.Failed) × StaysOff (D.meters disk) (D.meters e.disk)) }
 
         // it is damaged exactly where the bytes are, and never where they read as frames
         ensures damaged { (at : ℕ) → IfErr result (λ e. e.cause ≡ OpenCause.Damaged at → DamagedAt (D.content disk) at) }
@@ -64,11 +70,12 @@ impl<D: Disk> Log<D> {
             (e.cause ≡ OpenCause.Damaged at) ⊎ (e.cause ≡ OpenCause.Failed) ⊎ (e.cause ≡ OpenCause.NoMemory)) }
         ensures whole { (bodies : Items (Items ℕ)) → Reads bodies (D.content disk) → (at : ℕ) → IfErr result (λ e. e.cause ≡ OpenCause.Damaged at → ⊥) }
 
-        // it takes one call from an armed disk, and neither arms nor cuts it
+        // it neither arms nor cuts the disk, and unless that failed it takes one call from an arm, and the power stays on
         ensures keeps { MatchResult result (λ r. Keeps (D.meters disk) (D.meters r.0.disk)) (λ e. Keeps (D.meters disk) (D.meters e.disk)) }
-        ensures calls { IfOk result (λ r. ((D.meters r.0.disk).calls_left ≡ (D.meters disk).calls_left - 1)
-            × (0 < (D.meters disk).calls_left → 1 < (D.meters disk).calls_left)) }
-        ensures power { IfOk result (λ r. ((D.meters r.0.disk).powered ≡ true) × ((D.meters r.0.disk).stops ≡ (D.meters disk).stops)) }
+        ensures calls { MatchResult result (λ r. TakesOne (D.meters disk) (D.meters r.0.disk))
+            (λ e. e.cause ≢ OpenCause.Failed → TakesOne (D.meters disk) (D.meters e.disk)) }
+        ensures power { MatchResult result (λ r. StaysOn (D.meters disk) (D.meters r.0.disk))
+            (λ e. e.cause ≢ OpenCause.Failed → StaysOn (D.meters disk) (D.meters e.disk)) }
     {
         match prepare(alloc, &mut disk) {
             Ok((frames, end, stage)) => Ok((
@@ -91,7 +98,8 @@ impl<D: Disk> Log<D> {
         self.disk
     }
 
-    /// Adds a frame by four calls of the disk. It is there whole or not at all, however the call ends.
+    /// Adds a frame by four calls of the disk. It is there whole or not at all, however the call ends: a stop inside one of
+    /// the four is a call that fails, and any of them may.
     pub fn append(&mut self, body: &[u8]) -> Result<(), AppendFault>
         requires { 0 < length body.now }
         // with Ok the log stands for one body more

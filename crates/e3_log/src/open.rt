@@ -2,10 +2,10 @@
 ghost use Rattle.std.specs.Prelude.{◌≡◌, ◌+◌, ◌-◌, ◌≤◌, ◌<◌, ◌^◌, ◌↔◌, ◌⊎◌, true, Err, ℕ, List as Items, length, take, drop, slice_index, vec_capacity, IsTrue, IfOk, OnOk, IfErr, IsErrOf};
 ghost use Rattle.std.specs.Int.{w32, to_be_bytes};
 ghost use Rattle.e3_disk.specs.Images.{Within, Only};
-ghost use Rattle.e3_disk.specs.Meters.{Rose, Keeps};
+ghost use Rattle.e3_disk.specs.Meters.{Rose, Keeps, Failing, Passing};
 ghost use Rattle.e3_log.specs.Frames.{OPEN as OPEN_GATE, NoFrame, DamagedAt};
 ghost use Rattle.e3_log.specs.Stands.{DiskStands, Spends};
-ghost use Rattle.e3_log.specs.Opening.{NextIs, Looks};
+ghost use Rattle.e3_log.specs.Opening.{NextIs, Looks, TakesOne};
 ghost use Rattle.e3_log.specs.Found.{bodies_of, frames_from, ReadsTo};
 
 use crate::OpenCause;
@@ -149,11 +149,11 @@ pub fn prepare<D: Disk>(
     ensures same { (IsErrOf result OpenCause.Failed → ⊥) → D.content disk.new ≡ D.content disk.old }
     ensures damaged { (at : ℕ) → result ≡ Err (OpenCause.Damaged at) → DamagedAt (D.content disk.old) at }
     ensures images { Within (D.image disk.old) (D.image disk.new) }
-    ensures failed { IsErrOf result OpenCause.Failed → (D.meters disk.old).powered ≡ true → Rose (D.meters disk.old).faults (D.meters disk.new).faults }
+    ensures failed { IsErrOf result OpenCause.Failed → Failing (D.meters disk.old) (D.meters disk.new) }
     ensures keeps { Keeps (D.meters disk.old) (D.meters disk.new) }
-    ensures ok { OnOk result (((D.meters disk.new).powered ≡ true) × ((D.meters disk.new).stops ≡ (D.meters disk.old).stops)
-        × ((D.meters disk.new).calls_left ≡ (D.meters disk.old).calls_left - 1)
-        × (0 < (D.meters disk.old).calls_left → 1 < (D.meters disk.old).calls_left)) }
+    ensures calls { (IsErrOf result OpenCause.Failed → ⊥) → TakesOne (D.meters disk.old) (D.meters disk.new) }
+    ensures power { (IsErrOf result OpenCause.Failed → ⊥) → Passing (D.meters disk.old) (D.meters disk.new) }
+    ensures durable { (IsErrOf result OpenCause.Failed → ⊥) → Only (D.content disk.old) (D.image disk.new) }
 {
     disk.sync()?;
     let len = disk.len()?;

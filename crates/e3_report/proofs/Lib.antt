@@ -1,4 +1,8 @@
-pub mod UpLists
+pub mod Maps
+pub mod Naming
+pub mod Ordering
+pub mod Tabling
+pub mod UpSets
 pub mod Ranges
 pub mod Passing
 pub mod Walking

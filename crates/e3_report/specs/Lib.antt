@@ -1,5 +1,9 @@
+pub mod Keys
+pub mod Names
+pub mod Orders
 pub mod Ups
 pub mod Skips
 pub mod Steps
 pub mod Report
 pub mod Walk
+pub mod Tables

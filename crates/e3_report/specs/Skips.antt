@@ -1,27 +1,17 @@
 -- The lines of a step's items that are skipped.
-use Rattle.std.specs.Prelude.{◌++◌, ◌∷◌, [], ◌==◌, if◌then◌else◌, nat_lt, not, List, ℕ, Bool, Option, Some, None, codes, count_by, fold}
+use Rattle.std.specs.Prelude.{◌++◌, ◌∷◌, [], ◌==◌, if◌then◌else◌, nat_lt, not, List, ℕ, Bool, Option, Some, None, codes, count_by}
 use Rattle.std.specs.List.{flat_map}
 use Rattle.e3_types.specs.declared.entries.Act.{Act}
 use Rattle.e3_types.specs.declared.entries.Entry.{Entry}
 use Rattle.e3_types.specs.declared.scenarios.Item.{Item}
 use Rattle.e3_types.specs.declared.scenarios.Item.TheVariants as item
 use Rattle.e3_types.specs.declared.transactions.Txn.{Txn}
-use Rattle.e3_world.specs.declared.names.Binding.{Binding}
-use Rattle.e3_world.specs.declared.names.Bound.{Bound}
-use Rattle.e3_world.specs.Items.{last_bound, inputs_of, is_delivery}
+use Rattle.e3_world.specs.Items.{inputs_of, is_delivery}
 use Rattle.e3_world.specs.Moves.{own}
 use Rattle.e3_report.specs.declared.takers.Taker.{Taker}
 use Rattle.e3_report.specs.declared.takers.Taker.TheVariants.{Site, NotBegun, Nobody}
 use Rattle.e3_lines.specs.Events.{plain_line}
 use Rattle.e3_lines.specs.Texts.{line_end}
-
--- before the first entry of a history no name is bound
-abbrev pub no_binding : Binding
-no_binding = record { number = 0; begun_at = []; bound = [] }
-
--- the transaction that a name is bound to: the last of that name
-abbrev pub named : List Bound → List ℕ → Option Txn
-named bound name = fold (last_bound name) None bound
 
 -- an item for the coordinator of the transaction, where its name is bound
 abbrev pub to_coordinator : List ℕ → Option Txn → Taker

@@ -2,12 +2,14 @@
 #![tactic(auto)]
 
 mod counts;
+mod keys;
 mod logs;
 mod names;
 mod orders;
 mod sites;
 mod skips;
 mod steps;
+mod tables;
 mod takers;
 #[cfg(test)]
 mod tests;

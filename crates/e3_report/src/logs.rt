@@ -1,11 +1,12 @@
 // The records of all logs, gathered in one walk over a history.
 ghost use Rattle.std.specs.Prelude.{◌≡◌, ◌++◌, ◌∷◌, [], OnOk, IfOk, Option};
 ghost use Rattle.e3_world.specs.Moves.{birth};
-ghost use Rattle.e3_report.specs.Walk.{no_walk, tail_in, placed_at, log_in, has_records, rise_in, kept_part, doubtful, and_records, and_tail, and_kept, and_rise, and_failed, walk_act, walk_of};
+ghost use Rattle.e3_report.specs.Walk.{no_walk, tail_in, placed_at, log_in, rise_in, kept_part, doubtful, with_born, and_records, and_tail, and_kept, and_rise, and_failed, walk_act, walk_of};
 
-use e3_readings::rows_at;
+use crate::tables::rows_at;
 use e3_types::{Act, Copied, Entry, List, NoMemory, Record, Scenario, Why};
 use std::alloc::Global;
+use std::collections::{BTreeMap, BTreeSet};
 use std::marker::Model;
 
 /// A record, and the site whose log has it.
@@ -37,37 +38,21 @@ impl SiteRecord {
     }
 }
 
-/// The records that are in doubt at a site; none where all is certain.
-#[derive(Drop)]
-pub(crate) struct SiteTail {
-    site: u32,
-    records: List<Record>,
-}
-
-/// The records of all logs in the order of their places, and what is noted of records in doubt. The last note of a site
-/// counts.
+/// The records of all logs in the order of their places, the records that are in doubt at the sites, and the sites whose
+/// logs have records.
 #[derive(Drop)]
 pub(crate) struct Walk {
-    pub(crate) placed: List<SiteRecord>,
-    tails: List<SiteTail>,
+    placed: List<SiteRecord>,
+    tails: BTreeMap<u32, List<Record>>,
+    born: BTreeSet<u32>,
 }
 
-fn tail_in(tails: &[SiteTail], site: u32) -> &[Record]
-    ensures { result.now ≡ tail_in site tails.now }
-{
-    let mut found: &[Record] = &[];
-    for t in tails {
-        if t.site == site {
-            found = t.records.as_slice();
-        }
-    }
-    found
-}
+impl Model for Walk {
+    ghost use Rattle.e3_report.specs.Walk.{Walked};
 
-fn has_records(site: u32, placed: &[SiteRecord]) -> bool
-    ensures { result ≡ has_records site placed.now }
-{
-    placed.iter().any(|p| p.site() == site)
+    ghost Value = { Walked };
+
+    ghost view = { λ a. record { placed = a.placed; tails = a.tails.entries; born = a.born.keys } };
 }
 
 /// The first record of a site's log.
@@ -82,28 +67,25 @@ fn birth(alloc: Global, scenario: &Scenario, site: u32) -> Result<Record, NoMemo
     })
 }
 
-/// The records of a rise.
+/// The records of a rise, where the site's log has records or none.
 fn rise_in(
     alloc: Global,
     scenario: &Scenario,
     site: u32,
     inc: u32,
-    placed: &[SiteRecord],
+    born: bool,
 ) -> Result<List<Record>, NoMemory>
-    ensures { IfOk result (λ records. records ≡ rise_in scenario.now site inc placed.now) }
+    ensures { IfOk result (λ records. records ≡ rise_in scenario.now site inc born) }
 {
     let mut out = List::new(alloc);
-    if has_records(site, placed) {
-        out.push(Record::Inc { inc })?;
-        Ok(out)
-    } else {
+    if !born {
         out.push(birth(alloc, scenario, site)?)?;
-        out.push(Record::Inc { inc })?;
-        Ok(out)
     }
+    out.push(Record::Inc { inc })?;
+    Ok(out)
 }
 
-fn add_records(
+fn add_placed(
     alloc: Global,
     placed: &mut List<SiteRecord>,
     site: u32,
@@ -118,6 +100,18 @@ fn add_records(
         })?;
     }
     Ok(())
+}
+
+fn add_born(born: &mut BTreeSet<u32>, site: u32, records: &[Record]) -> Result<(), NoMemory>
+    ensures { OnOk result (born.new.keys ≡ with_born site records.now born.old.keys) }
+{
+    if records.is_empty() {
+        return Ok(());
+    }
+    match born.insert(site) {
+        Ok(_) => Ok(()),
+        Err(_) => Err(NoMemory),
+    }
 }
 
 /// What is in doubt behind a fall or a failed rise.
@@ -147,35 +141,51 @@ impl Walk {
     {
         Walk {
             placed: List::new(alloc),
-            tails: List::new(alloc),
+            tails: BTreeMap::new(alloc),
+            born: BTreeSet::new(alloc),
+        }
+    }
+
+    /// The records of all logs, in the order of their places.
+    pub(crate) fn placed(&self) -> &[SiteRecord]
+        ensures { result.now ≡ self.now.placed }
+    {
+        self.placed.as_slice()
+    }
+
+    fn tail(&self, site: u32) -> &[Record]
+        ensures { result.now ≡ tail_in site self.now.tails }
+    {
+        match self.tails.get(&site) {
+            Some(records) => records.as_slice(),
+            None => &[],
         }
     }
 
     fn and_records(&mut self, alloc: Global, site: u32, records: &[Record]) -> Result<(), NoMemory>
         ensures { OnOk result (self.new ≡ and_records site records.now self.old) }
     {
-        add_records(alloc, &mut self.placed, site, records)
+        add_placed(alloc, &mut self.placed, site, records)?;
+        add_born(&mut self.born, site, records)
     }
 
     fn and_tail(&mut self, site: u32, records: List<Record>) -> Result<(), NoMemory>
         ensures { OnOk result (self.new ≡ and_tail site records self.old) }
     {
-        self.tails.push(SiteTail { site, records })
+        match self.tails.insert(site, records) {
+            Ok(_) => Ok(()),
+            Err(_) => Err(NoMemory),
+        }
     }
 
     fn and_kept(&mut self, alloc: Global, site: u32, kept: bool) -> Result<(), NoMemory>
         ensures { OnOk result (self.new ≡ and_kept site kept self.old) }
     {
+        let mut records = List::new(alloc);
         if kept {
-            add_records(
-                alloc,
-                &mut self.placed,
-                site,
-                tail_in(self.tails.as_slice(), site),
-            )
-        } else {
-            Ok(())
+            add_copies(alloc, &mut records, self.tail(site))?;
         }
+        self.and_records(alloc, site, records.as_slice())
     }
 
     fn and_rise(
@@ -187,7 +197,8 @@ impl Walk {
     ) -> Result<(), NoMemory>
         ensures { OnOk result (self.new ≡ and_rise scenario.now site inc self.old) }
     {
-        let records = rise_in(alloc, scenario, site, inc, self.placed.as_slice())?;
+        let born = self.born.contains(&site);
+        let records = rise_in(alloc, scenario, site, inc, born)?;
         self.and_records(alloc, site, records.as_slice())?;
         self.and_tail(site, List::new(alloc))
     }
@@ -202,7 +213,8 @@ impl Walk {
     ) -> Result<(), NoMemory>
         ensures { OnOk result (self.new ≡ and_failed scenario.now site inc why self.old) }
     {
-        let records = rise_in(alloc, scenario, site, inc, self.placed.as_slice())?;
+        let born = self.born.contains(&site);
+        let records = rise_in(alloc, scenario, site, inc, born)?;
         self.and_tail(site, doubtful(alloc, why, records.as_slice())?)
     }
 

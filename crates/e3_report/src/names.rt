@@ -1,13 +1,15 @@
 // The names that the begins of a scenario bind to transactions.
-ghost use Rattle.std.specs.Prelude.{◌≡◌, ◌++◌, ◌∷◌, [], ◌==◌, Option, IfOk, OnOk, count_by, slice_get, fold, suc, ◌+◌};
-ghost use Rattle.e3_world.specs.Items.{begin_names, binds, binding_by};
+ghost use Rattle.std.specs.Prelude.{◌≡◌, [], ◌+◌, Option, OnOk, slice_get, suc, option_to_list};
+ghost use Rattle.e3_world.specs.Items.{begin_names, binds};
 ghost use Rattle.e3_world.specs.Packets.{step_items};
-ghost use Rattle.e3_report.specs.Skips.{no_binding};
+ghost use Rattle.e3_report.specs.Names.{no_naming, meant, begins, and_bound, and_begin, naming_by};
 
 use crate::counts::one_more;
-use e3_types::{Act, Entry, Input, Item, List, Name, NoMemory, Scenario, Told};
-use e3_world::{Binding, Bound};
+use e3_types::{Act, Entry, Input, Item, Name, NoMemory, Scenario, Told, Txn};
+use e3_world::Bound;
 use std::alloc::Global;
+use std::collections::BTreeMap;
+use std::marker::Model;
 
 /// The items of the step with this number, counted from 1; none where there is no such step.
 pub(crate) fn step_items(scenario: &Scenario, number: u32) -> &[Item]
@@ -40,65 +42,108 @@ fn begin_name(items: &[Item], site: u32, before: u64) -> Option<Name>
     None
 }
 
-/// The first event of a begin's step binds its name.
-fn add_bound(bound: &mut List<Bound>, name: Option<Name>, events: &[Told]) -> Result<(), NoMemory>
-    ensures { OnOk result (bound.new ≡ bound.old ++ binds name events.now) }
+/// The first event of a begin's step tells what its name is bound to.
+fn bound_by(name: Option<Name>, events: &[Told]) -> Option<Bound>
+    ensures { option_to_list result ≡ binds name events.now }
 {
     match (name, events) {
-        (Some(name), [Told::Began { txn }, ..]) => bound.push(Bound { name, txn: *txn }),
-        _ => Ok(()),
+        (Some(name), [Told::Began { txn }, ..]) => Some(Bound { name, txn: *txn }),
+        _ => None,
     }
 }
 
-/// Before the first entry nothing is bound.
-pub(crate) fn no_binding(alloc: Global) -> Binding
-    ensures { result ≡ no_binding }
-{
-    Binding {
-        number: 0,
-        begun_at: List::new(alloc),
-        bound: List::new(alloc),
-    }
+/// The number of the step that the entries are in, how many of its begins each site took, and the transactions of the
+/// names that are bound so far.
+#[derive(Drop)]
+pub(crate) struct Names {
+    number: u32,
+    begun: BTreeMap<u32, u64>,
+    bound: BTreeMap<Name, Txn>,
 }
 
-/// One more entry of the history: a line begins a step, and a step with a begin may bind a name.
-pub(crate) fn enter(
-    alloc: Global,
-    scenario: &Scenario,
-    binding: &mut Binding,
-    entry: &Entry,
-) -> Result<(), NoMemory>
-    ensures { OnOk result (binding.new ≡ binding_by scenario.now binding.old entry.now) }
-{
-    match &entry.act {
-        Act::Line { number } => {
-            binding.number = *number;
-            binding.begun_at = List::new(alloc);
-            Ok(())
-        }
-        Act::Step {
-            input: Input::Begin { .. },
-            told,
-            ..
-        } => {
-            let before = count_of(binding.begun_at.as_slice(), entry.owner)?;
-            let name = begin_name(step_items(scenario, binding.number), entry.owner, before);
-            add_bound(&mut binding.bound, name, told.as_slice())?;
-            binding.begun_at.push(entry.owner)
-        }
-        _ => Ok(()),
-    }
+impl Model for Names {
+    ghost use Rattle.e3_report.specs.Names.{Naming};
+
+    ghost Value = { Naming };
+
+    ghost view = { λ a. record { number = a.number; begun = a.begun.entries; bound = a.bound.entries } };
 }
 
-/// How many of the sites are this one.
-pub(crate) fn count_of(sites: &[u32], site: u32) -> Result<u64, NoMemory>
-    ensures { IfOk result (λ n. n ≡ count_by (λ s. s == site) sites.now) }
-{
-    let mut n = 0;
-    for s in sites {
-        if *s == site {
-            n = one_more(n)?;
+impl Names {
+    /// Before the first entry nothing is bound.
+    pub(crate) fn new(alloc: Global) -> Names
+        ensures { result ≡ no_naming }
+    {
+        Names {
+            number: 0,
+            begun: BTreeMap::new(alloc),
+            bound: BTreeMap::new(alloc),
         }
     }
-    Ok(n)
+
+    /// The transaction of a name.
+    pub(crate) fn meant(&self, name: &Name) -> Option<Txn>
+        ensures { result ≡ meant self.now name.now }
+    {
+        self.bound.get(name).copied()
+    }
+
+    /// How many begins of the step a site took.
+    fn begins(&self, site: u32) -> u64
+        ensures { result ≡ begins site self.now.begun }
+    {
+        self.begun.get(&site).copied().unwrap_or(0)
+    }
+
+    fn bind(&mut self, new: Option<Bound>) -> Result<(), NoMemory>
+        ensures { OnOk result (self.new ≡ record self.old { bound = and_bound self.old.bound (option_to_list new) }) }
+    {
+        match new {
+            Some(b) => match self.bound.insert(b.name, b.txn) {
+                Ok(_) => Ok(()),
+                Err(_) => Err(NoMemory),
+            },
+            None => Ok(()),
+        }
+    }
+
+    /// A begin of a site, among the items of the step.
+    fn begin(&mut self, site: u32, items: &[Item], events: &[Told]) -> Result<(), NoMemory>
+        ensures { OnOk result (self.new ≡ and_begin site items.now events.now self.old) }
+    {
+        let before = self.begins(site);
+        self.bind(bound_by(begin_name(items, site, before), events))?;
+        match self.begun.insert(site, one_more(before)?) {
+            Ok(_) => Ok(()),
+            Err(_) => Err(NoMemory),
+        }
+    }
+
+    /// One more entry of the history: a line begins a step, and a step with a begin may bind a name.
+    pub(crate) fn enter(
+        &mut self,
+        alloc: Global,
+        scenario: &Scenario,
+        entry: &Entry,
+    ) -> Result<(), NoMemory>
+        ensures { OnOk result (self.new ≡ naming_by scenario.now self.old entry.now) }
+    {
+        match &entry.act {
+            Act::Line { number } => {
+                self.number = *number;
+                self.begun = BTreeMap::new(alloc);
+                Ok(())
+            }
+            Act::Step {
+                input: Input::Begin { .. },
+                told,
+                ..
+            } => self.begin(
+                entry.owner,
+                step_items(scenario, self.number),
+                told.as_slice(),
+            ),
+            _ => Ok(()),
+        }
+    }
 }

@@ -1,46 +1,90 @@
 // The committed transactions, in the order of their last votes.
-ghost use Rattle.std.specs.Prelude.{◌≡◌, ◌++◌, OnOk};
+ghost use Rattle.std.specs.Prelude.{◌≡◌, ◌++◌, IfOk, OnOk};
 ghost use Rattle.std.specs.List.{flat_map};
-ghost use Rattle.e3_world.specs.Logs.{is_vote};
-ghost use Rattle.e3_world.specs.Serial.{is_commit, is_committed, votes_among, order_in, commit_order};
+ghost use Rattle.e3_world.specs.Serial.{commit_order};
+ghost use Rattle.e3_report.specs.Orders.{with_commit, commits_of, with_vote, last_vote, backward};
 ghost use Rattle.e3_report.specs.Report.{txn_line, order_lines};
-ghost use Rattle.e3_report.specs.Walk.{last_vote};
 
+use crate::keys::TxnSet;
 use crate::logs::SiteRecord;
 use e3_lines::{push_line_end, push_text, push_txn};
 use e3_types::{Dir, List, NoMemory, Record, Txn};
+use std::alloc::Global;
 
-fn is_commit(t: &Txn, r: &Record) -> bool
-    ensures { result ≡ is_commit t.now r.now }
+/// One more record, which may be a commit.
+fn note_commit(alloc: Global, committed: &mut TxnSet, r: &Record) -> Result<(), NoMemory>
+    ensures { OnOk result (committed.new ≡ with_commit committed.old r.now) }
 {
     match r {
         Record::Decision {
             txn,
             dir: Dir::Commit,
-        } => t.is_same(txn),
-        _ => false,
+        } => committed.add(alloc, txn),
+        _ => Ok(()),
     }
 }
 
-fn is_vote(t: &Txn, r: &Record) -> bool
-    ensures { result ≡ is_vote t.now r.now }
+/// The transactions that some log commits.
+fn commits_of(alloc: Global, placed: &[SiteRecord]) -> Result<TxnSet, NoMemory>
+    ensures { IfOk result (λ committed. committed ≡ commits_of placed.now) }
+{
+    let mut committed = TxnSet::new(alloc);
+    for p in placed {
+        note_commit(alloc, &mut committed, p.entered())?;
+    }
+    Ok(committed)
+}
+
+/// One more record before those that were seen. The transaction of a vote is found where it is committed and this is its
+/// last vote.
+fn note_vote(
+    alloc: Global,
+    committed: &TxnSet,
+    later: &mut TxnSet,
+    found: &mut List<Txn>,
+    r: &Record,
+) -> Result<(), NoMemory>
+    ensures found { OnOk result (found.new ≡ found.old ++ last_vote committed.now later.old r.now) }
+    ensures later { OnOk result (later.new ≡ with_vote r.now later.old) }
 {
     match r {
-        Record::Vote { txn, .. } => t.is_same(txn),
-        _ => false,
+        Record::Vote { txn, .. } => {
+            if committed.has(alloc, txn)? && !later.has(alloc, txn)? {
+                found.push(*txn)?;
+            }
+            later.add(alloc, txn)
+        }
+        _ => Ok(()),
     }
 }
 
-fn is_committed(t: &Txn, placed: &[SiteRecord]) -> bool
-    ensures { result ≡ is_committed t.now placed.now }
+/// The committed transactions by their last votes, from the last to the first.
+fn backward(alloc: Global, committed: &TxnSet, placed: &[SiteRecord]) -> Result<List<Txn>, NoMemory>
+    ensures { IfOk result (λ found. found ≡ backward committed.now placed.now) }
 {
-    placed.iter().any(|p| is_commit(t, p.entered()))
+    let mut later = TxnSet::new(alloc);
+    let mut found = List::new(alloc);
+    for at in (0..placed.len()).rev() {
+        note_vote(
+            alloc,
+            committed,
+            &mut later,
+            &mut found,
+            placed[at].entered(),
+        )?;
+    }
+    Ok(found)
 }
 
-fn votes_among(t: &Txn, placed: &[SiteRecord]) -> bool
-    ensures { result ≡ votes_among t.now placed.now }
+/// The committed transactions in the order of their last votes.
+#[tactic(auto, using(crate::proofs::Ordering::order_is_reversed))]
+fn commit_order(alloc: Global, placed: &[SiteRecord]) -> Result<List<Txn>, NoMemory>
+    ensures { IfOk result (λ txns. txns ≡ commit_order placed.now) }
 {
-    placed.iter().any(|p| is_vote(t, p.entered()))
+    let committed = commits_of(alloc, placed)?;
+    let mut found = backward(alloc, &committed, placed)?.into_vec();
+    found.reverse();
+    Ok(List::from_vec(found))
 }
 
 #[tactic(auto, unfolding(crate::specs::Report::txn_line))]
@@ -51,42 +95,26 @@ fn push_txn_line(out: &mut List<u8>, txn: &Txn) -> Result<(), NoMemory>
     push_line_end(out)
 }
 
-/// Adds the transaction of a vote, where it is committed and the vote is its last.
-fn push_last_vote(
-    out: &mut List<u8>,
-    all: &[SiteRecord],
-    rest: &[SiteRecord],
-    r: &Record,
-) -> Result<(), NoMemory>
-    ensures { OnOk result (out.new ≡ out.old ++ flat_map txn_line (last_vote all.now rest.now r.now)) }
+fn push_txns(out: &mut List<u8>, txns: &[Txn]) -> Result<(), NoMemory>
+    ensures { OnOk result (out.new ≡ out.old ++ flat_map txn_line txns.now) }
 {
-    match r {
-        Record::Vote { txn, .. } => {
-            if is_committed(txn, all) && !votes_among(txn, rest) {
-                push_txn_line(out, txn)
-            } else {
-                Ok(())
-            }
-        }
-        _ => Ok(()),
-    }
-}
-
-fn push_committed(out: &mut List<u8>, placed: &[SiteRecord]) -> Result<(), NoMemory>
-    ensures { OnOk result (out.new ≡ out.old ++ flat_map txn_line (commit_order placed.now)) }
-{
-    for at in 0..placed.len() {
-        push_last_vote(out, placed, &placed[at + 1..], placed[at].entered())?;
+    for txn in txns {
+        push_txn_line(out, txn)?;
     }
     Ok(())
 }
 
 /// Adds the committed transactions.
 #[tactic(auto, unfolding(crate::specs::Report::order_lines))]
-pub(crate) fn push_order(out: &mut List<u8>, placed: &[SiteRecord]) -> Result<(), NoMemory>
+pub(crate) fn push_order(
+    alloc: Global,
+    out: &mut List<u8>,
+    placed: &[SiteRecord],
+) -> Result<(), NoMemory>
     ensures { OnOk result (out.new ≡ out.old ++ order_lines placed.now) }
 {
+    let txns = commit_order(alloc, placed)?;
     push_text(out, "order")?;
     push_line_end(out)?;
-    push_committed(out, placed)
+    push_txns(out, txns.as_slice())
 }

@@ -3,8 +3,8 @@ ghost use Rattle.std.specs.Prelude.{◌≡◌, ◌++◌, Option, OnOk, fold};
 ghost use Rattle.e3_world.specs.Moves.{own};
 ghost use Rattle.e3_report.specs.Report.{inc_by, present_inc, site_heading, log_lines};
 
+use crate::tables::table_of;
 use e3_lines::{push_labelled, push_line_end, push_number, push_records, push_rows, push_text};
-use e3_readings::table_of;
 use e3_types::{Act, Entry, List, NoMemory, Record};
 use std::alloc::Global;
 

@@ -1,17 +1,17 @@
 // The lines of a step's items that are skipped.
 ghost use Rattle.std.specs.Prelude.{◌≡◌, ◌++◌, ◌==◌, ◌+◌, [], OnOk, IfOk, count_by, not};
 ghost use Rattle.e3_world.specs.Items.{inputs_of, is_delivery};
-ghost use Rattle.e3_report.specs.Skips.{named, taker_of, items_in, items_taken, not_begun_line, input_skip, power_skip, sites_of, skip_lines};
-ghost use Rattle.e3_report.specs.Ups.{is_among};
+ghost use Rattle.e3_report.specs.Names.{meant};
+ghost use Rattle.e3_report.specs.Skips.{taker_of, items_in, items_taken, not_begun_line, input_skip, power_skip, sites_of, skip_lines};
+ghost use Rattle.e3_report.specs.Ups.{up_in};
 
 use crate::counts::one_more;
-use crate::names::count_of;
+use crate::names::Names;
 use crate::takers::{Taker, taker_of};
-use crate::ups::is_among;
 use e3_lines::{push_line_end, push_plain, push_text};
 use e3_types::{Act, Entry, Input, Item, List, NoMemory};
-use e3_world::Bound;
 use std::alloc::Global;
+use std::collections::BTreeSet;
 
 fn is_delivery(input: &Input) -> bool
     ensures { result ≡ is_delivery input.now }
@@ -65,6 +65,19 @@ fn items_taken(site: u32, during: &[Entry]) -> Result<u64, NoMemory>
     Ok(n)
 }
 
+/// How many of the sites are this one.
+fn count_of(sites: &[u32], site: u32) -> Result<u64, NoMemory>
+    ensures { IfOk result (λ n. n ≡ count_by (λ s. s == site) sites.now) }
+{
+    let mut n = 0;
+    for s in sites {
+        if *s == site {
+            n = one_more(n)?;
+        }
+    }
+    Ok(n)
+}
+
 #[tactic(auto, unfolding(crate::specs::Skips::not_begun_line))]
 fn push_not_begun(out: &mut List<u8>, name: &[u8]) -> Result<(), NoMemory>
     ensures { OnOk result (out.new ≡ out.old ++ not_begun_line name.now) }
@@ -102,19 +115,19 @@ fn push_input_skip(
 
 /// Adds a line where a crash or a restart is skipped.
 #[tactic(auto, unfolding(crate::specs::Skips::power_skip))]
-fn push_power_skip(out: &mut List<u8>, ups: &[u32], item: &Item) -> Result<(), NoMemory>
-    ensures { OnOk result (out.new ≡ out.old ++ power_skip (is_among ups.now) item.now) }
+fn push_power_skip(out: &mut List<u8>, ups: &BTreeSet<u32>, item: &Item) -> Result<(), NoMemory>
+    ensures { OnOk result (out.new ≡ out.old ++ power_skip (up_in ups.now.keys) item.now) }
 {
     match item {
         Item::Crash { site } => {
-            if is_among(ups, *site) {
+            if ups.contains(site) {
                 Ok(())
             } else {
                 push_plain(out, *site, "down")
             }
         }
         Item::Restart { site } => {
-            if is_among(ups, *site) {
+            if ups.contains(site) {
                 push_plain(out, *site, "up")
             } else {
                 Ok(())
@@ -138,16 +151,16 @@ fn add_site(earlier: &mut List<u32>, taker: &Taker) -> Result<(), NoMemory>
 pub(crate) fn push_skips(
     alloc: Global,
     out: &mut List<u8>,
-    bound: &[Bound],
-    ups: &[u32],
+    names: &Names,
+    ups: &BTreeSet<u32>,
     during: &[Entry],
     items: &[Item],
 ) -> Result<(), NoMemory>
-    ensures { OnOk result (out.new ≡ out.old ++ skip_lines (named bound.now) (is_among ups.now) during.now [] items.now) }
+    ensures { OnOk result (out.new ≡ out.old ++ skip_lines (meant names.now) (up_in ups.now.keys) during.now [] items.now) }
 {
     let mut earlier = List::new(alloc);
     for item in items {
-        let taker = taker_of(bound, item);
+        let taker = taker_of(names, item);
         push_power_skip(out, ups, item)?;
         push_input_skip(out, during, earlier.as_slice(), &taker)?;
         add_site(&mut earlier, &taker)?;

@@ -2,17 +2,17 @@
 ghost use Rattle.std.specs.Prelude.{◌≡◌, ◌++◌, [], ◌∷◌, OnOk};
 ghost use Rattle.std.specs.List.{flat_map};
 ghost use Rattle.e3_world.specs.Packets.{is_line};
-ghost use Rattle.e3_report.specs.Skips.{named};
-ghost use Rattle.e3_report.specs.Ups.{is_among};
+ghost use Rattle.e3_report.specs.Names.{meant};
+ghost use Rattle.e3_report.specs.Ups.{up_in};
 ghost use Rattle.e3_report.specs.Steps.{until_line, site_events, event_lines, start_lines, step_heading, step_lines, lines_by, steps_after};
 
-use crate::names::{enter, no_binding, step_items};
+use crate::names::{Names, step_items};
 use crate::skips::push_skips;
 use crate::ups::enter_up;
 use e3_lines::{push_entry, push_items, push_labelled, push_line_end, push_text};
 use e3_types::{Act, Entry, List, NoMemory, Scenario};
-use e3_world::Bound;
 use std::alloc::Global;
+use std::collections::BTreeSet;
 
 fn is_line(entry: &Entry) -> bool
     ensures { result ≡ is_line entry.now }
@@ -87,17 +87,17 @@ fn push_step(
     alloc: Global,
     out: &mut List<u8>,
     scenario: &Scenario,
-    bound: &[Bound],
-    ups: &[u32],
+    names: &Names,
+    ups: &BTreeSet<u32>,
     number: u32,
     during: &[Entry],
 ) -> Result<(), NoMemory>
-    ensures { OnOk result (out.new ≡ out.old ++ step_lines (named bound.now) (is_among ups.now) scenario.now number during.now) }
+    ensures { OnOk result (out.new ≡ out.old ++ step_lines (meant names.now) (up_in ups.now.keys) scenario.now number during.now) }
 {
     let items = step_items(scenario, number);
     push_step_heading(out, number)?;
     push_items(out, items)?;
-    push_skips(alloc, out, bound, ups, during, items)?;
+    push_skips(alloc, out, names, ups, during, items)?;
     push_events(out, scenario, during)
 }
 
@@ -106,19 +106,19 @@ fn push_by_line(
     alloc: Global,
     out: &mut List<u8>,
     scenario: &Scenario,
-    bound: &[Bound],
-    ups: &[u32],
+    names: &Names,
+    ups: &BTreeSet<u32>,
     act: &Act,
     rest: &[Entry],
 ) -> Result<(), NoMemory>
-    ensures { OnOk result (out.new ≡ out.old ++ lines_by (named bound.now) (is_among ups.now) scenario.now act.now rest.now) }
+    ensures { OnOk result (out.new ≡ out.old ++ lines_by (meant names.now) (up_in ups.now.keys) scenario.now act.now rest.now) }
 {
     match act {
         Act::Line { number } => push_step(
             alloc,
             out,
             scenario,
-            bound,
+            names,
             ups,
             *number,
             until_line(rest),
@@ -136,20 +136,18 @@ pub(crate) fn push_steps(
 ) -> Result<(), NoMemory>
     ensures { OnOk result (out.new ≡ out.old ++ steps_after scenario.now [] history.now) }
 {
-    let mut binding = no_binding(alloc);
-    let mut ups = List::new(alloc);
+    let mut names = Names::new(alloc);
+    let mut ups = BTreeSet::new(alloc);
     for at in 0..history.len() {
         let entry = &history[at];
-        enter(alloc, scenario, &mut binding, entry)?;
-        enter_up(alloc, &mut ups, entry)?;
-        let bound = binding.bound.as_slice();
-        let up = ups.as_slice();
+        names.enter(alloc, scenario, entry)?;
+        enter_up(&mut ups, entry)?;
         push_by_line(
             alloc,
             out,
             scenario,
-            bound,
-            up,
+            &names,
+            &ups,
             &entry.act,
             &history[at + 1..],
         )?;

@@ -53,11 +53,11 @@ fn plain_report(alloc: Global, scenario: &Scenario, history: &[Entry]) -> Result
     ensures { IfOk result (λ text. text ≡ plain_report_of scenario.now history.now) }
 {
     let walk = walk_of(alloc, scenario, history)?;
-    let placed = walk.placed.as_slice();
+    let placed = walk.placed();
     let mut out = List::new(alloc);
     push_start(&mut out, scenario, history)?;
     push_steps(alloc, &mut out, scenario, history)?;
-    push_order(&mut out, placed)?;
+    push_order(alloc, &mut out, placed)?;
     push_all_sites(alloc, &mut out, scenario, history, placed)?;
     push_text(&mut out, "end")?;
     push_line_end(&mut out)?;

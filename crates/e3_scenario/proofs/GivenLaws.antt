@@ -1,19 +1,19 @@
 -- A scenario that was read keeps the rules that the laws on histories ask of it.
-use Rattle.std.proofs.Common.{◌≡◌, ℕ, ℤ, pos, negsuc, zero, suc, ◌+◌, ◌-◌, ◌<◌, ◌≤◌, ◌==◌, Bool, true, false, not, ◌&&◌, ◌||◌, nat_le, nat_lt, List, [], ◌∷◌, ◌++◌, length, map, fold, count_by, Option, Some, None, Result, Ok, Err, if◌then◌else◌, codes, refl, ap, sym, ◌∙◌, arith, subst, append_assoc, append-nil, length-append, le-leb}
+use Rattle.std.proofs.Common.{◌≡◌, ℕ, ℤ, pos, negsuc, suc, ◌+◌, ◌-◌, ◌≤◌, ◌==◌, Bool, true, false, not, ◌&&◌, ◌||◌, nat_le, nat_lt, List, [], ◌∷◌, ◌++◌, length, fold, count_by, Option, Some, None, Result, Ok, Err, if◌then◌else◌, codes, refl, ap, sym, ◌∙◌, arith, subst, append_assoc, append-nil, length-append, le-leb}
 use Rattle.std.specs.Prelude.{option_and_then, option_map}
 use Rattle.std.specs.List.{list_any, list_all, find}
-use Rattle.std.proofs.lemmas.Bool.{and_parts, false≢true, leb-true}
+use Rattle.std.proofs.lemmas.Bool.{and_parts, leb-true}
 use Rattle.std.proofs.lemmas.Bool.Decides.{nat_tests}
 use Rattle.std.proofs.lemmas.List.Folds.{list_any-append, list_all-append, list_all-map}
 use Rattle.toml.specs.Data.{Data, Members, as_integer, as_str}
 use Rattle.e3_types.specs.Same.{same_numbers}
-use Rattle.e3_types.specs.Sets.{has_site, is_within}
+use Rattle.e3_types.specs.Sets.{is_set, has_site, is_within}
 use Rattle.e3_types.specs.declared.scenarios.Item.{Item}
 use Rattle.e3_types.specs.declared.scenarios.Item.TheVariants as item
 use Rattle.e3_types.specs.declared.scenarios.KeyRow.{KeyRow}
 use Rattle.e3_types.specs.declared.scenarios.Scenario.{Scenario}
 use Rattle.e3_types.specs.declared.transactions.Key.{Key}
-use Rattle.e3_world.specs.Given.{IsGiven, BegunName, SaidSoFar, exist, is_begun, count_ops, is_partition, is_groupable, keeps_rules, say_item, items_keep, is_step_form, close_step, steps_keep, rows_differ}
+use Rattle.e3_world.specs.Given.{IsGiven, BegunName, SaidSoFar, exist, is_group, is_begun, count_ops, is_partition, is_groupable, keeps_rules, say_item, items_keep, is_step_form, close_step, steps_keep, rows_differ}
 use Rattle.e3_world.specs.Packets.{all_sites, sites_to}
 use Rattle.e3_scenario.specs.declared.faults.ScenarioFault.{ScenarioFault}
 use Rattle.e3_scenario.specs.declared.faults.ScenarioFault.TheVariants as fault
@@ -26,6 +26,8 @@ use Rattle.e3_scenario.specs.declared.faults.Field.{Field}
 use Rattle.e3_scenario.specs.declared.faults.Field.TheVariants as field
 use Rattle.e3_scenario.specs.Scenarios.{or_range, repeat_with, base_in, nothing_said, fields_in, by_kind, by_document, scenario_of}
 use Rattle.e3_scenario.specs.Steps.{and_read, or_fault, judged, item_in, StepSoFar, items_read, read_of, step_read, steps_read}
+use Rattle.e3_scenario.specs.Items.{item_of}
+use Rattle.e3_scenario.proofs.SpelledSets.{is_some_set, has_sets, item_sets}
 
 -- where a test gives no fault
 no_fault : (c : Bool) (f : ScenarioFault) (more : Option ScenarioFault) → (if c then Some f else more) ≡ None → (c ≡ false) × (more ≡ None)
@@ -71,18 +73,34 @@ named step k name sites h = by (sites_begun k.earlier name) refl h
     by (Some own) is none =
         begun_over k.earlier name own sites is (none_or (is_within sites own) (fault.NoSite step) none)
 
--- an item without a fault keeps the rules
-keeps_begin : (sc : Scenario) (step : ℕ) (k : SaidSoFar) (name : List ℕ) (site : ℕ) (sites : List ℕ)
+-- a set of sites that exist is a group
+group_of : (sc : Scenario) (sites : List ℕ) → is_some_set sites ≡ true → exist sc sites ≡ true → is_group sc sites ≡ true
+group_of sc [] set there = set
+group_of sc (site ∷ sites) set there = rw (set, there) refl
+
+groups_of : (sc : Scenario) (parts : List (List ℕ)) → list_all is_some_set parts ≡ true → list_all (exist sc) parts ≡ true → list_all (is_group sc) parts ≡ true
+groups_of sc [] sets there = refl
+groups_of sc (part ∷ parts) sets there =
+    let (set, more) = and_parts (is_some_set part) (list_all is_some_set parts) sets in
+    let (stands, rest) = and_parts (exist sc part) (list_all (exist sc) parts) there in
+    rw (group_of sc part set stands, groups_of sc parts more rest) refl
+
+set_of : (sites : List ℕ) → is_some_set sites ≡ true → is_set sites ≡ true
+set_of [] set = refl
+set_of (site ∷ sites) set = set
+
+-- an item without a fault, whose sets are sets, keeps the rules
+keeps_begin : (sc : Scenario) (step : ℕ) (k : SaidSoFar) (name : List ℕ) (site : ℕ) (sites : List ℕ) → is_some_set sites ≡ true
     → begin_fault (all_sites sc) step k name site sites ≡ None → keeps_rules sc k (item.Begin name site sites) ≡ true
 unfolding begin_fault
-keeps_begin sc step k name site sites h =
+keeps_begin sc step k name site sites set h =
     let (few, a) = no_fault _ _ _ h in
     let (stands, b) = no_fault _ _ _ a in
     let (new, c) = no_fault _ _ _ b in
-    let stands' : (exist sc sites && has_site sites site) ≡ true = not_false _ stands in
+    let (within, has) = and_parts (exist sc sites) (has_site sites site) (not_false _ stands) in
     let begun : is_begun (k.earlier ++ k.fresh) name [] ≡ false =
     begun_name (k.earlier ++ k.fresh) name ∙ list_any-append (λ x. same_numbers name x.name) k.earlier k.fresh ∙ new in
-    rw (stands', begun) refl
+    rw (group_of sc sites set within, has, begun) refl
 
 keeps_operation : (sc : Scenario) (step : ℕ) (k : SaidSoFar) (name : List ℕ) (site : ℕ)
     → operation_fault (all_sites sc) step k name site ≡ None → (is_begun k.earlier name (site ∷ []) && nat_lt (count_ops k.ops name) 64) ≡ true
@@ -101,30 +119,30 @@ keeps_expire : (sc : Scenario) (step : ℕ) (k : SaidSoFar) (site : ℕ) (name :
 unfolding expire_fault
 keeps_expire sc step k site name h = named step k name (site ∷ []) (no_fault _ _ _ h).1
 
-keeps_elect : (sc : Scenario) (step : ℕ) (k : SaidSoFar) (site : ℕ) (name sites : List ℕ)
-    → elect_fault (all_sites sc) step k site name sites ≡ None → (is_begun k.earlier name sites && has_site sites site) ≡ true
+keeps_elect : (sc : Scenario) (step : ℕ) (k : SaidSoFar) (site : ℕ) (name sites : List ℕ) → is_some_set sites ≡ true
+    → elect_fault (all_sites sc) step k site name sites ≡ None → (is_begun k.earlier name sites && is_set sites && has_site sites site) ≡ true
 unfolding elect_fault
-keeps_elect sc step k site name sites h =
+keeps_elect sc step k site name sites set h =
     let (stands, a) = no_fault _ _ _ h in
     let (within, has) = and_parts (is_within sites (all_sites sc)) (has_site sites site) (not_false _ stands) in
-    rw (named step k name sites a, has) refl
+    rw (named step k name sites a, set_of sites set, has) refl
 
-keeps_recover : (sc : Scenario) (step : ℕ) (k : SaidSoFar) (sites : List ℕ)
-    → recover_fault (all_sites sc) step k sites ≡ None → (exist sc sites && list_any (is_within sites) k.parts) ≡ true
+keeps_recover : (sc : Scenario) (step : ℕ) (k : SaidSoFar) (sites : List ℕ) → is_some_set sites ≡ true
+    → recover_fault (all_sites sc) step k sites ≡ None → (is_group sc sites && list_any (is_within sites) k.parts) ≡ true
 unfolding recover_fault
-keeps_recover sc step k sites h =
+keeps_recover sc step k sites set h =
     let (stands, a) = no_fault _ _ _ h in
     let within : is_within sites (all_sites sc) ≡ true = not_false _ stands in
     let part : list_any (is_within sites) k.parts ≡ true = none_or _ _ a in
-    rw (within, part) refl
+    rw (group_of sc sites set within, part) refl
 
-keeps_split : (sc : Scenario) (step : ℕ) (parts : List (List ℕ)) → split_fault (all_sites sc) step parts ≡ None → is_partition sc parts ≡ true
+keeps_split : (sc : Scenario) (step : ℕ) (parts : List (List ℕ)) → list_all is_some_set parts ≡ true → split_fault (all_sites sc) step parts ≡ None → is_partition sc parts ≡ true
 unfolding split_fault
-keeps_split sc step parts h =
+keeps_split sc step parts sets h =
     let (stands, a) = no_fault _ _ _ h in
     let within : list_all (exist sc) parts ≡ true = not_false _ stands in
     let once : list_all (λ s. count_by (λ part. has_site part s) parts == 1) (all_sites sc) ≡ true = none_or _ _ a in
-    rw (within, once) refl
+    rw (groups_of sc parts sets within, once) refl
 
 keeps_site : (sc : Scenario) (step site : ℕ) → site_fault (all_sites sc) step site ≡ None → exist sc (site ∷ []) ≡ true
 unfolding site_fault
@@ -136,20 +154,20 @@ keeps_stop sc step site count h =
     let (some, a) = some_or (nat_le 1 count) (fault.BadLine step) (site_fault (all_sites sc) step site) h in
     rw (keeps_site sc step site a, some) refl
 
-keeps : (sc : Scenario) (step : ℕ) (k : SaidSoFar) (i : Item) → item_fault (all_sites sc) step k i ≡ None → keeps_rules sc k i ≡ true
-keeps sc step k (item.Begin name site sites) h = keeps_begin sc step k name site sites h
-keeps sc step k (item.Read name key) h = keeps_operation sc step k name key.site h
-keeps sc step k (item.Write name key val) h = keeps_operation sc step k name key.site h
-keeps sc step k (item.Commit name) h = named step k name [] h
-keeps sc step k (item.Cancel name) h = named step k name [] h
-keeps sc step k (item.Expire site name) h = keeps_expire sc step k site name h
-keeps sc step k (item.Elect site name sites) h = keeps_elect sc step k site name sites h
-keeps sc step k (item.Recover sites) h = keeps_recover sc step k sites h
-keeps sc step k (item.Split parts) h = keeps_split sc step parts h
-keeps sc step k item.Merge h = refl
-keeps sc step k (item.Crash site) h = keeps_site sc step site h
-keeps sc step k (item.Restart site) h = keeps_site sc step site h
-keeps sc step k (item.Stop site count leave) h = keeps_stop sc step site count h
+keeps : (sc : Scenario) (step : ℕ) (k : SaidSoFar) (i : Item) → has_sets i ≡ true → item_fault (all_sites sc) step k i ≡ None → keeps_rules sc k i ≡ true
+keeps sc step k (item.Begin name site sites) set h = keeps_begin sc step k name site sites set h
+keeps sc step k (item.Read name key) set h = keeps_operation sc step k name key.site h
+keeps sc step k (item.Write name key val) set h = keeps_operation sc step k name key.site h
+keeps sc step k (item.Commit name) set h = named step k name [] h
+keeps sc step k (item.Cancel name) set h = named step k name [] h
+keeps sc step k (item.Expire site name) set h = keeps_expire sc step k site name h
+keeps sc step k (item.Elect site name sites) set h = keeps_elect sc step k site name sites set h
+keeps sc step k (item.Recover sites) set h = keeps_recover sc step k sites set h
+keeps sc step k (item.Split parts) set h = keeps_split sc step parts set h
+keeps sc step k item.Merge set h = refl
+keeps sc step k (item.Crash site) set h = keeps_site sc step site h
+keeps sc step k (item.Restart site) set h = keeps_site sc step site h
+keeps sc step k (item.Stop site count leave) set h = keeps_stop sc step site count h
 
 says : (sc : Scenario) (k : SaidSoFar) (i : Item) → say (all_sites sc) k i ≡ say_item sc k i
 says sc k (item.Begin name site sites) = refl
@@ -169,21 +187,31 @@ or_fault_ok : (i j : Item) (o : Option ScenarioFault) → or_fault i o ≡ Ok j 
 or_fault_ok i j None h = (cc, refl)
 or_fault_ok i j (Some f) h = cc
 
--- an item that was read is without a fault, and may stand in the group where it stands in one
+-- an item that was read is without a fault, and may stand in the group where it stands in one; its sets are sets
 record IsFine (all : List ℕ) (step : ℕ) (grouped : Bool) (k : SaidSoFar) (i : Item) : Type 0 where
+  sets : has_sets i ≡ true
   none : item_fault all step k i ≡ None
   fits : (grouped && not (is_groupable i)) ≡ false
 
-judged_ok : (all : List ℕ) (step : ℕ) (grouped : Bool) (k : SaidSoFar) (o : Option Item) (j : Item) → judged all step grouped k o ≡ Ok j → IsFine all step grouped k j
-judged_ok all step grouped k None j h = cc
-judged_ok all step grouped k (Some i) j h = by (grouped && not (is_groupable i)) refl h
+judged_ok : (all : List ℕ) (step : ℕ) (grouped : Bool) (k : SaidSoFar) (o : Option Item) (j : Item) → ((i : Item) → o ≡ Some i → has_sets i ≡ true)
+    → judged all step grouped k o ≡ Ok j → IsFine all step grouped k j
+judged_ok all step grouped k None j sets h = cc
+judged_ok all step grouped k (Some i) j sets h = by (grouped && not (is_groupable i)) refl h
   where
     by : (c : Bool) → (grouped && not (is_groupable i)) ≡ c → (if c then Err (fault.BadLine step) else or_fault i (item_fault all step k i)) ≡ Ok j → IsFine all step grouped k j
     by true is wrong = cc
     by false is right =
         let (same, none) = or_fault_ok i j (item_fault all step k i) right in
         let Fine : Item → Type 0 = λ x. IsFine all step grouped k x in
-        subst Fine same (record { none = none; fits = is })
+        subst Fine same (record { sets = sets i refl; none = none; fits = is })
+
+-- the sets of an item that a string spells
+spelled_sets : (value : Data) (i : Item) → item_in value ≡ Some i → has_sets i ≡ true
+spelled_sets value i h = by (as_str value) h
+  where
+    by : (o : Option (List ℕ)) → option_and_then item_of o ≡ Some i → has_sets i ≡ true
+    by None none = cc
+    by (Some text) some = item_sets text i some
 
 -- items that were read keep the rules
 record AreGiven (sc : Scenario) (grouped : Bool) (k : SaidSoFar) (before after : List Item) (said : SaidSoFar) (count : ℕ) : Type 0 where
@@ -207,9 +235,9 @@ items_given sc step grouped k before [] read h =
     subst Given e (record { more = []; items = sym (append-nil before); keep = refl; says = refl; counted = refl; fit = λ g. refl })
 items_given sc step grouped k before (value ∷ values) read h =
     let (i, is, more) = and_read_ok (judged (all_sites sc) step grouped k (item_in value)) _ read h in
-    let fine = judged_ok (all_sites sc) step grouped k (item_in value) i is in
+    let fine = judged_ok (all_sites sc) step grouped k (item_in value) i (spelled_sets value) is in
     let given = items_given sc step grouped (say (all_sites sc) k i) (before ++ i ∷ []) values read more in
-    let kept : keeps_rules sc k i ≡ true = keeps sc step k i fine.none in
+    let kept : keeps_rules sc k i ≡ true = keeps sc step k i fine.sets fine.none in
     let rest : items_keep sc (say_item sc k i) given.more ≡ true = let Keep : SaidSoFar → Type 0 = λ q. items_keep sc q given.more ≡ true in subst Keep (says sc k i) given.keep in
     let told : read.said ≡ fold (say_item sc) (say_item sc k i) given.more = let Told : SaidSoFar → Type 0 = λ q. read.said ≡ fold (say_item sc) q given.more in subst Told (says sc k i) given.says in
     record {

@@ -2,6 +2,9 @@ pub mod Forms
 pub mod Pieces
 pub mod Appends
 pub mod Values
+pub mod Indexes
+pub mod RowKeys
 pub mod OnePath
+pub mod SpelledSets
 pub mod GivenLaws
 pub mod Results

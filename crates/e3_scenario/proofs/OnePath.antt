@@ -1,5 +1,5 @@
 -- What the test of the form of one write path says.
-use Rattle.std.proofs.Common.{◌↔◌, eq-eqb, le-leb, ◌≡◌, ℕ, suc, ◌≤◌, ◌==◌, Bool, true, false, ◌&&◌, nat_le, List, [], ◌∷◌, length, drop, Some, None, bytes_eq, if◌then◌else◌, refl, ap, sym, subst, lit≤, eqb-true, length-drop, arith}
+use Rattle.std.proofs.Common.{◌↔◌, eq-eqb, le-leb, ◌≡◌, ℕ, suc, ◌≤◌, ◌==◌, Bool, true, false, ◌&&◌, nat_le, List, [], ◌∷◌, length, drop, Some, None, bytes_eq, if◌then◌else◌, refl, ap, eqb-true, arith}
 use Rattle.std.specs.Option.{option_map_or}
 use Rattle.std.proofs.lemmas.Bool.{and_parts, false≢true, leb-true}
 use Rattle.std.proofs.lemmas.Slice.Eq.{bytes_eq-Decides}

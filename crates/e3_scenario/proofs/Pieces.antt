@@ -1,8 +1,8 @@
 -- A text, cut at its first mark.
 use Rattle.std.proofs.lemmas.Bool.Decides.{nat_tests}
 use Rattle.std.specs.List.{position_or_len}
-use Rattle.std.proofs.Common.{◌≤◌, cond, not, nat_lt, arith, ◌≡◌, ◌==◌, ◌<◌, ◌+◌, ℕ, suc, Bool, true, false, List, [], ◌∷◌, length, take, drop, Option, Some, None, refl, ap, sym, ◌∙◌, if◌then◌else◌}
-use Rattle.std.specs.Prelude.{option_map, unwrap_or, position}
+use Rattle.std.proofs.Common.{◌≤◌, cond, not, nat_lt, arith, ◌≡◌, ◌==◌, ◌<◌, ◌+◌, ℕ, suc, Bool, true, false, List, [], ◌∷◌, length, take, drop, Option, Some, None, refl, ap, ◌∙◌, if◌then◌else◌}
+use Rattle.std.specs.Prelude.{option_map, unwrap_or}
 use Rattle.e3_types.specs.Sets.{with_site}
 use Rattle.e3_scenario.specs.Words.{comma, before, after, in_front, pieces}
 use Rattle.e3_scenario.specs.Parts.{site_of, sites_above}

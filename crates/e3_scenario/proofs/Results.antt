@@ -1,6 +1,5 @@
 -- What the bytes spell, by what is read.
-use Rattle.std.proofs.Common.{◌≡◌, ℕ, ◌≤◌, Bool, true, false, List, length, Option, Some, None, Result, Ok, Err, IfOk, IfErr, ◌⊎◌, inr, if◌then◌else◌, nat_le, le-leb, refl, sym, ◌∙◌}
-use Rattle.std.proofs.lemmas.Bool.{lt-leb}
+use Rattle.std.proofs.Common.{◌≡◌, ℕ, ◌≤◌, Bool, true, false, List, length, Some, None, Result, Ok, Err, IfOk, IfErr, ◌⊎◌, inr, if◌then◌else◌, le-leb, refl, sym}
 use Rattle.std.specs.Str.{IsUtf8, is_utf8}
 use Rattle.std.proofs.lemmas.Str.{is_utf8-from_IsUtf8, IsUtf8-from_is_utf8}
 use Rattle.toml.specs.Data.{Members}

@@ -1,16 +1,13 @@
 -- The values of an array, as the document has them and as the code goes over them.
-use Rattle.std.proofs.Common.{add-one, not, ◌≡◌, ℕ, zero, suc, ◌+◌, ◌<◌, ◌≤◌, Bool, true, false, ◌&&◌, List, [], ◌∷◌, ◌++◌, length, map, filter, drop, get_or, String, Global, string_bytes, nat_lt, nat_le, refl, ap, ◌∙◌, sym, rules, arith, le-leb}
+use Rattle.std.proofs.Common.{add-one, ◌≡◌, ℕ, zero, suc, ◌+◌, ◌<◌, true, false, ◌&&◌, List, [], ◌∷◌, length, map, filter, drop, get_or, String, Global, string_bytes, nat_lt, refl, ap, arith}
 use Rattle.std.proofs.lemmas.List.{drop_more}
 use Rattle.std.proofs.lemmas.List.Elements.{filter-append}
 use Rattle.std.proofs.lemmas.Bool.Decides.{nat_tests}
-use Rattle.std.specs.List.{list_any, list_all}
+use Rattle.std.specs.List.{list_all}
 use Rattle.toml.specs.declared.value.Value.{Value}
 use Rattle.toml.specs.View.{view, items_of, members_view}
 use Rattle.toml.specs.Data.{Data}
 use Rattle.e3_types.specs.Sets.{with_site}
-use Rattle.e3_types.specs.Same.{same_key}
-use Rattle.e3_types.specs.declared.scenarios.KeyRow.{KeyRow}
-use Rattle.e3_world.specs.Given.{rows_differ}
 use Rattle.e3_world.specs.Packets.{sites_to}
 use Rattle.e3_scenario.specs.Documents.{is_known, keys_known, values_in}
 
@@ -33,11 +30,6 @@ length_view (value ∷ values) = ap suc (length_view values)
 pub keys_known_keys : (entries : List (String Global × Value)) → keys_known (members_view entries) ≡ list_all (λ (k : String Global). is_known (string_bytes k)) (map (λ e. e.0) entries)
 keys_known_keys [] = refl
 keys_known_keys (e ∷ entries) = ap (λ b. is_known (string_bytes e.0) && b) (keys_known_keys entries)
-
--- the next row
-pub next_row : (rows : List KeyRow) (i : ℕ) (row : KeyRow) → i < length rows → row ≡ get_or rows i row
-    → rows_differ (drop i rows) ≡ (not (list_any (λ other. same_key row.key other.key) (drop (i + 1) rows)) && rows_differ (drop (i + 1) rows))
-next_row rows i row within is = rw (drop_more rows i row within, ← is) refl
 
 -- all sites up to one, and the next
 below_all : (k s : ℕ) → k < s → filter (λ x. nat_lt x s) (sites_to k) ≡ sites_to k

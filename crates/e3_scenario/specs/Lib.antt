@@ -6,3 +6,4 @@ pub mod Faults
 pub mod Steps
 pub mod Paths
 pub mod Scenarios
+pub mod Indexes

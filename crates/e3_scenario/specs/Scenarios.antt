@@ -1,5 +1,5 @@
 -- The scenario that bytes spell, or the first fault that they have.
-use Rattle.std.specs.Prelude.{ℕ, ◌+◌, nat_lt, nat_le, Bool, true, false, not, List, [], ◌∷◌, length, codes, Option, Some, None, Result, Ok, Err, if◌then◌else◌}
+use Rattle.std.specs.Prelude.{ℕ, ◌+◌, nat_le, not, List, [], ◌∷◌, length, codes, Option, Some, None, Result, Ok, Err, if◌then◌else◌}
 use Rattle.toml.specs.Data.{Data, Members}
 use Rattle.e3_types.specs.declared.scenarios.KeyRow.{KeyRow}
 use Rattle.e3_types.specs.declared.scenarios.Scenario.{Scenario}

@@ -241,6 +241,7 @@ pub fn rows(alloc: Global, all: SiteSet, values: &[Value]) -> Result<Option<List
     ensures { IfOk result (λ rows. rows ≡ more_rows all [] (map view values.now)) }
 {
     let mut rows = List::new(alloc);
+    rows.reserve(values.len() as u64)?;
     for value in values {
         let Some(row) = row_in(all, value) else {
             return Ok(None);

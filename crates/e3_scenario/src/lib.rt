@@ -4,11 +4,13 @@
 //! Bytes that spell none have a fault, and the first in the order of [`ScenarioFault`] is told.
 #![tactic(auto)]
 
+mod distinct;
 mod documents;
 mod faults;
 mod items;
 mod judging;
 mod lines;
+mod names;
 mod parts;
 mod paths;
 mod reading;

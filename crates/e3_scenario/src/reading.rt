@@ -1,19 +1,18 @@
 // From bytes to a scenario.
 ghost use Rattle.std.specs.Prelude.{◌≡◌, ◌≤◌, ◌⊎◌, IfOk, IfErr, Ok, Err, length, map};
-ghost use Rattle.std.specs.List.{list_any};
 ghost use Rattle.toml.specs.View.{view, table_view};
-ghost use Rattle.e3_types.specs.Same.{same_key};
-ghost use Rattle.e3_world.specs.Given.{IsGiven, rows_differ};
+ghost use Rattle.e3_world.specs.Given.{IsGiven};
 ghost use Rattle.e3_world.specs.Packets.{sites_to, all_sites};
 ghost use Rattle.e3_scenario.specs.Scenarios.{or_range, repeat_with, numbers_in, base_in, steps_in, fields_in, scenario_in, scenario_of};
 
+use crate::distinct::rows_differ;
 use crate::documents::{
     keys_known, kind_fault, luck_at, rows, share_at, steps_fit, values_at, weights,
 };
 use crate::faults::{Field, ScenarioFault};
 use crate::sayings::Said;
 use crate::steps::{Read, steps};
-use e3_types::{Key, KeyRow, List, NoMemory, Scenario, SiteSet};
+use e3_types::{KeyRow, List, NoMemory, Scenario, SiteSet};
 use std::alloc::Global;
 use toml::{Table, Value};
 
@@ -27,26 +26,6 @@ fn sites_to(count: u32) -> SiteSet
         sites = sites.with(site + 1);
     }
     sites
-}
-
-fn has_key(rows: &[KeyRow], key: &Key) -> bool
-    ensures { result ≡ list_any (λ row. same_key key.now row.key) rows.now }
-{
-    rows.iter().any(|row| key.is_same(&row.key))
-}
-
-// No two rows have one key.
-#[tactic(auto, using(crate::proofs::Values::next_row))]
-fn rows_differ(rows: &[KeyRow]) -> bool
-    ensures { result ≡ rows_differ rows.now }
-{
-    for i in 0..rows.len() {
-        let row = &rows[i];
-        if has_key(&rows[i + 1..], &row.key) {
-            return false;
-        }
-    }
-    true
 }
 
 fn or_range<T: Drop>(field: Field, value: Option<T>) -> Read<T>
@@ -136,7 +115,7 @@ fn fields(alloc: Global, table: &Table) -> Result<Read<Scenario>, NoMemory>
             field: Field::Steps,
         }));
     }
-    if !rows_differ(base.rows.as_slice()) {
+    if !rows_differ(alloc, base.rows.as_slice())? {
         return Ok(Err(ScenarioFault::RowTwice));
     }
     with_steps(alloc, values, base)

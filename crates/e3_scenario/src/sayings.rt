@@ -6,33 +6,19 @@ ghost use Rattle.e3_world.specs.Given.{count_ops, close_step};
 ghost use Rattle.e3_scenario.specs.Faults.{has_name, sites_begun, say};
 ghost use Rattle.e3_scenario.specs.Scenarios.{nothing_said};
 
+use crate::names::{Begins, Begun, Operations};
 use e3_types::{Item, List, Name, NoMemory, SiteSet};
 use std::alloc::Global;
 use std::marker::Model;
 use std::mem;
 
-/// A name that was begun, and the sites of its transaction.
-#[derive(Drop)]
-pub struct Begun {
-    name: Name,
-    sites: SiteSet,
-}
-
-impl Model for Begun {
-    ghost use Rattle.e3_world.specs.Given.{BegunName};
-
-    ghost Value = { BegunName };
-
-    ghost view = { λ b. record { name = b.name; sites = b.sites } };
-}
-
 /// What the items so far say: the begins of earlier steps and of this one, a name for each operation, and the present
 /// parts of the network.
 #[derive(Drop)]
 pub struct Said {
-    earlier: List<Begun>,
+    earlier: Begins,
     fresh: List<Begun>,
-    ops: List<Name>,
+    ops: Operations,
     parts: List<SiteSet>,
 }
 
@@ -50,13 +36,6 @@ fn has_name(begun: &[Begun], name: &Name) -> bool
     begun.iter().any(|b| name.is_same(&b.name))
 }
 
-fn sites_begun(begun: &[Begun], name: &Name) -> Option<SiteSet>
-    ensures { result ≡ sites_begun begun.now name.now }
-{
-    let found = begun.iter().find(|b| name.is_same(&b.name))?;
-    Some(found.sites)
-}
-
 impl Said {
     /// Nothing is said yet: no name is begun, and these sites are one part.
     pub fn nothing(alloc: Global, all: SiteSet) -> Result<Said, NoMemory>
@@ -65,9 +44,9 @@ impl Said {
         let mut parts = List::new(alloc);
         parts.push(all)?;
         Ok(Said {
-            earlier: List::new(alloc),
+            earlier: Begins::none(alloc),
             fresh: List::new(alloc),
-            ops: List::new(alloc),
+            ops: Operations::none(alloc),
             parts,
         })
     }
@@ -81,28 +60,25 @@ impl Said {
     }
 
     /// The name was begun, in an earlier step or in this one.
+    #[tactic(auto, using(crate::proofs::Indexes::begun_there))]
     pub fn is_begun(&self, name: &Name) -> bool
         ensures { result ≡ (has_name self.now.earlier name.now || has_name self.now.fresh name.now) }
     {
-        has_name(self.earlier.as_slice(), name) || has_name(self.fresh.as_slice(), name)
+        self.earlier.sites_of(name).is_some() || has_name(self.fresh.as_slice(), name)
     }
 
     /// The sites of the transaction that the name was begun for in an earlier step.
     pub fn sites_of(&self, name: &Name) -> Option<SiteSet>
         ensures { result ≡ sites_begun self.now.earlier name.now }
     {
-        sites_begun(self.earlier.as_slice(), name)
+        self.earlier.sites_of(name)
     }
 
     /// How many operations of the name there are.
-    pub fn operations(&self, name: &Name) -> usize
+    pub fn operations(&self, name: &Name) -> u64
         ensures { result ≡ count_ops self.now.ops name.now }
     {
-        self.ops
-            .as_slice()
-            .iter()
-            .filter(|other| name.is_same(other))
-            .count()
+        self.ops.count(name)
     }
 
     /// The sites lie in one part of the network.
@@ -121,8 +97,8 @@ impl Said {
                 name: name.copy(),
                 sites: *sites,
             }),
-            Item::Read { name, .. } => self.ops.push(name.copy()),
-            Item::Write { name, .. } => self.ops.push(name.copy()),
+            Item::Read { name, .. } => self.ops.push(name),
+            Item::Write { name, .. } => self.ops.push(name),
             Item::Split { parts } => {
                 let mut now = List::new(alloc);
                 now.extend(parts.as_slice())?;
@@ -148,7 +124,7 @@ impl Said {
     }
 }
 
-fn append(earlier: &mut List<Begun>, fresh: List<Begun>) -> Result<(), NoMemory>
+fn append(earlier: &mut Begins, fresh: List<Begun>) -> Result<(), NoMemory>
     ensures { OnOk result (earlier.new ≡ earlier.old ++ fresh) }
 {
     for begun in fresh.into_vec() {

@@ -1,8 +1,8 @@
-// The trace of a list of entries that has each form, input and message once.
+// The trace of a list of entries that has each form, input, record, message and event, each once or in each of its kinds.
 use crate::push_trace;
 use e3_types::{
     Act, Answer, Call, Dir, Entry, Input, Key, List, Message, Name, NoMemory, NumOp, Op, Packet,
-    Record, Row, SiteSet, State, Told, Txn, Val, Why,
+    Record, Refusal, Row, SiteSet, State, Told, Txn, Val, Verdict, Why,
 };
 use std::alloc::Global;
 use std::test::Fail;
@@ -34,7 +34,7 @@ fn sites(of: &[u32]) -> Result<SiteSet, Fail> {
     Ok(SiteSet::of(of).ok_or("sites")?)
 }
 
-fn txn(seq: u32) -> Result<Txn, Fail> {
+fn txn_of(seq: u32) -> Result<Txn, Fail> {
     Ok(Txn {
         site: 1,
         inc: 1,
@@ -67,7 +67,7 @@ fn packet(number: u64, msg: Message) -> Packet {
 }
 
 fn each_input(alloc: Global, history: &mut List<Entry>) -> Result<(), Fail> {
-    let txn = txn(1)?;
+    let txn = txn_of(1)?;
     take(alloc, history, Input::Begin { sites: txn.sites })?;
     take(
         alloc,
@@ -198,6 +198,10 @@ fn records(alloc: Global, txn: Txn) -> Result<List<Record>, Fail> {
     })?;
     let mut ops = List::new(alloc);
     ops.push(NumOp {
+        n: 1,
+        op: read("y")?,
+    })?;
+    ops.push(NumOp {
         n: 3,
         op: write("x", "a b")?,
     })?;
@@ -210,22 +214,88 @@ fn records(alloc: Global, txn: Txn) -> Result<List<Record>, Fail> {
     })?;
     out.push(Record::Inc { inc: 1 })?;
     out.push(Record::Vote { txn, ops })?;
+    out.push(Record::Join { txn, n: 2 })?;
+    for dir in [Dir::Commit, Dir::Abort] {
+        out.push(Record::Attempt { txn, n: 2, dir })?;
+        out.push(Record::Decision { txn, dir })?;
+    }
     Ok(out)
 }
 
+fn add_ends(told: &mut List<Told>, txn: Txn) -> Result<(), Fail> {
+    told.push(Told::Began { txn })?;
+    for dir in [Dir::Commit, Dir::Abort] {
+        told.push(Told::Ended { txn, dir })?;
+    }
+    let older = txn_of(2)?;
+    told.push(Told::Died { txn, older })?;
+    told.push(Told::Doomed {
+        txn,
+        site: 2,
+        had: 1,
+        now: 3,
+    })?;
+    for answer in [
+        Answer::Written,
+        Answer::Absent,
+        Answer::Value(val("")?),
+        Answer::Value(val(" two  words ")?),
+    ] {
+        told.push(Told::Op { txn, n: 1, answer })?;
+    }
+    Ok(())
+}
+
+fn add_refusals(told: &mut List<Told>, txn: &Txn) -> Result<(), Fail> {
+    for refusal in [
+        Refusal::NoTxn,
+        Refusal::Busy { op: 2 },
+        Refusal::Over { dir: Dir::Commit },
+        Refusal::Over { dir: Dir::Abort },
+        Refusal::Died { older: txn_of(2)? },
+        Refusal::Doomed {
+            site: 2,
+            had: 1,
+            now: 3,
+        },
+        Refusal::TooLate { attempt: 4 },
+    ] {
+        told.push(Told::Refused { txn: *txn, refusal })?;
+    }
+    Ok(())
+}
+
+fn add_verdicts(told: &mut List<Told>, txn: &Txn) -> Result<(), Fail> {
+    for state in [State::Q, State::W, State::Pc, State::Pa, State::C, State::A] {
+        told.push(Told::Kept { txn: *txn, state })?;
+    }
+    for verdict in [
+        Verdict::Abort,
+        Verdict::Commit,
+        Verdict::PreCommit,
+        Verdict::PreAbort,
+        Verdict::Block { have: 2, total: 24 },
+    ] {
+        told.push(Told::Verdict {
+            txn: *txn,
+            n: 5,
+            verdict,
+        })?;
+    }
+    Ok(())
+}
+
 fn whole_step(alloc: Global, history: &mut List<Entry>) -> Result<(), Fail> {
-    let t = txn(1)?;
+    let t = txn_of(1)?;
     let mut outs = List::new(alloc);
     add_operations(&mut outs, t)?;
     add_election(&mut outs, &t)?;
-    let older = txn(2)?;
+    let older = txn_of(2)?;
     add_commit(&mut outs, &t, &older)?;
     let mut told = List::new(alloc);
-    told.push(Told::Began { txn: t })?;
-    told.push(Told::Kept {
-        txn: t,
-        state: State::W,
-    })?;
+    add_ends(&mut told, t)?;
+    add_refusals(&mut told, &t)?;
+    add_verdicts(&mut told, &t)?;
     let records = records(alloc, t)?;
     let act = Act::Step {
         input: Input::Commit { txn: t },
@@ -239,10 +309,13 @@ fn whole_step(alloc: Global, history: &mut List<Entry>) -> Result<(), Fail> {
 
 fn falls(alloc: Global, history: &mut List<Entry>) -> Result<(), Fail> {
     let mut inputs = List::new(alloc);
-    inputs.push(Input::Expire { txn: txn(1)? })?;
-    inputs.push(Input::Cancel { txn: txn(1)? })?;
+    inputs.push(Input::Expire { txn: txn_of(1)? })?;
+    inputs.push(Input::Cancel { txn: txn_of(1)? })?;
     let mut records = List::new(alloc);
-    records.push(Record::Join { txn: txn(1)?, n: 2 })?;
+    records.push(Record::Join {
+        txn: txn_of(1)?,
+        n: 2,
+    })?;
     let why = Why::Full {
         need: 120,
         room: 100,
@@ -305,7 +378,7 @@ fn joined(alloc: Global, lines: &[&str]) -> Result<List<u8>, NoMemory> {
 }
 
 #[test]
-fn each_form_input_and_message(rt: HostRuntime) -> Result<(), Fail> {
+fn each_form_input_record_message_and_event(rt: HostRuntime) -> Result<(), Fail> {
     let alloc = rt.alloc();
     let mut history = List::new(alloc);
     drivers(alloc, &mut history)?;
@@ -321,14 +394,21 @@ fn each_form_input_and_message(rt: HostRuntime) -> Result<(), Fail> {
             "0 line 12\n0 parts 1,3|2\n0 drop 18\n",
             "1 step begin 1,2\n1 step do 1.1.1 read 2.y\n1 step do 1.1.1 write 1.x two  words \n",
             "1 step commit 1.1.1\n1 step cancel 1.1.1\n1 step expire 1.1.1\n1 step elect 1.1.1 1\n1 step deliver 7\n",
-            "1 step commit 1.1.1\nr birth 1 1,20\nr row z \nr inc 1\nr vote 1.1.1 1\nr write 3 x a b\n",
+            "1 step commit 1.1.1\nr birth 1 1,20\nr row z \nr inc 1\nr vote 1.1.1 2\nr read 1 y\nr write 3 x a b\n",
+            "r join 1.1.1 2\nr attempt 1.1.1 2 commit\nr decision 1.1.1 commit\nr attempt 1.1.1 2 abort\nr decision 1.1.1 abort\n",
             "o 1 2 do 1.1.1 1 read 2.y\no 2 2 do 1.1.1 2 write 1.x \n",
             "o 3 2 done 1.1.1 1 5 written\no 4 2 done 1.1.1 1 5 absent\n",
             "o 5 2 done 1.1.1 1 5 value \no 6 2 done 1.1.1 1 5 value a b\n",
             "o 8 2 ask 1.1.1 3 4\no 9 2 last 1.1.1 3 4 6\no 10 2 elected 1.1.1 7\no 11 2 report 1.1.1 7 pc 1\n",
             "o 12 2 died 1.1.1 2 1.1.2\no 13 2 votereq 1.1.1 3 4\no 14 2 vote 1.1.1 yes\no 15 2 vote 1.1.1 no\n",
             "o 16 2 pre 1.1.1 2 commit\no 17 2 ack 1.1.1 2 commit\no 18 2 decide 1.1.1 abort\n",
-            "t 1.1.1 began 1,2\nt 1.1.1 kept w\n",
+            "t 1.1.1 began 1,2\nt 1.1.1 committed\nt 1.1.1 aborted\nt 1.1.1 died for 1.1.2\nt 1.1.1 doomed 2 1 3\n",
+            "t 1.1.1 op 1 written\nt 1.1.1 op 1 absent\nt 1.1.1 op 1 value \nt 1.1.1 op 1 value  two  words \n",
+            "t 1.1.1 refused no-transaction\nt 1.1.1 refused busy 2\nt 1.1.1 refused over commit\n",
+            "t 1.1.1 refused over abort\nt 1.1.1 refused died 1.1.2\nt 1.1.1 refused doomed 2 1 3\n",
+            "t 1.1.1 refused too-late 4\nt 1.1.1 kept q\nt 1.1.1 kept w\nt 1.1.1 kept pc\nt 1.1.1 kept pa\n",
+            "t 1.1.1 kept c\nt 1.1.1 kept a\nt 1.1.1 election 5 abort\nt 1.1.1 election 5 commit\n",
+            "t 1.1.1 election 5 pre-commit\nt 1.1.1 election 5 pre-abort\nt 1.1.1 election 5 block 2 of 24\n",
             "2 fall full 120 of 100 2\ni expire 1.1.1\ni cancel 1.1.1\nr join 1.1.1 2\n2 fall fault 0\n",
             "2 rise 2 kept\n2 rise 3\n3 risefall 4 full 31 of 10 kept\n3 miss\n3 cut\n",
         ],

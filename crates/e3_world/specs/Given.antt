@@ -6,12 +6,17 @@ use Rattle.e3_types.specs.declared.scenarios.KeyRow.{KeyRow}
 use Rattle.e3_types.specs.declared.scenarios.Scenario.{Scenario}
 use Rattle.e3_types.specs.declared.scenarios.Item.TheVariants as item
 use Rattle.e3_types.specs.Same.{same_numbers, same_key}
-use Rattle.e3_types.specs.Sets.{has_site, is_within}
+use Rattle.e3_types.specs.Sets.{is_set, has_site, is_within}
 use Rattle.e3_world.specs.Packets.{all_sites}
 
 -- the sites exist
 abbrev pub exist : Scenario → List ℕ → Bool
 exist sc sites = is_within sites (all_sites sc)
+
+-- a group of the scenario's sites: a set that is not empty
+abbrev pub is_group : Scenario → List ℕ → Bool
+is_group sc [] = false
+is_group sc (site ∷ sites) = is_set (site ∷ sites) && exist sc (site ∷ sites)
 
 -- a name that was begun, and the sites of its transaction
 pub record BegunName : Type 0 where
@@ -34,10 +39,10 @@ is_begun begun name sites = list_any (λ b. same_numbers name b.name && is_withi
 abbrev pub count_ops : List (List ℕ) → List ℕ → ℕ
 count_ops ops name = count_by (same_numbers name) ops
 
--- the parts name each site once
+-- each part is a group, and they name each site once
 abbrev pub is_partition : Scenario → List (List ℕ) → Bool
 is_partition sc parts =
-    list_all (exist sc) parts && list_all (λ s. count_by (λ part. has_site part s) parts == 1) (all_sites sc)
+    list_all (is_group sc) parts && list_all (λ s. count_by (λ part. has_site part s) parts == 1) (all_sites sc)
 
 -- an item of the group kind
 abbrev pub is_groupable : Item → Bool
@@ -52,14 +57,14 @@ is_groupable _ = true
 -- an item keeps the rules over the items before it
 abbrev pub keeps_rules : Scenario → SaidSoFar → Item → Bool
 keeps_rules sc k (item.Begin name site sites) =
-    exist sc sites && has_site sites site && not (is_begun (k.earlier ++ k.fresh) name [])
+    is_group sc sites && has_site sites site && not (is_begun (k.earlier ++ k.fresh) name [])
 keeps_rules sc k (item.Read name key) = is_begun k.earlier name (key.site ∷ []) && nat_lt (count_ops k.ops name) 64
 keeps_rules sc k (item.Write name key val) = is_begun k.earlier name (key.site ∷ []) && nat_lt (count_ops k.ops name) 64
 keeps_rules sc k (item.Commit name) = is_begun k.earlier name []
 keeps_rules sc k (item.Cancel name) = is_begun k.earlier name []
 keeps_rules sc k (item.Expire site name) = is_begun k.earlier name (site ∷ [])
-keeps_rules sc k (item.Elect site name sites) = is_begun k.earlier name sites && has_site sites site
-keeps_rules sc k (item.Recover sites) = exist sc sites && list_any (is_within sites) k.parts
+keeps_rules sc k (item.Elect site name sites) = is_begun k.earlier name sites && is_set sites && has_site sites site
+keeps_rules sc k (item.Recover sites) = is_group sc sites && list_any (is_within sites) k.parts
 keeps_rules sc k (item.Split parts) = is_partition sc parts
 keeps_rules sc k item.Merge = true
 keeps_rules sc k (item.Crash site) = exist sc (site ∷ [])

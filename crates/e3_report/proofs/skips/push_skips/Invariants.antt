@@ -1,9 +1,10 @@
 use Rattle.std.proofs.Common.{◌≡◌, ◌++◌, [], drop}
-use Rattle.e3_report.specs.Skips.{named, skip_lines}
-use Rattle.e3_report.specs.Ups.{is_among}
+use Rattle.e3_report.specs.Names.{meant}
+use Rattle.e3_report.specs.Skips.{skip_lines}
+use Rattle.e3_report.specs.Ups.{up_in}
 use Rattle.e3_report.proofs.skips.push_skips.Given as goal
 
 abbrev pub invariant-loop-item : goal.invariant-loop-item
 invariant-loop-item l =
-    l.out ++ skip_lines (named l.bound) (is_among l.ups) l.during l.earlier (drop l.item-index l.items)
-    ≡ l.initial.out ++ skip_lines (named l.bound) (is_among l.ups) l.during [] l.items
+    l.out ++ skip_lines (meant l.names) (up_in l.ups.keys) l.during l.earlier (drop l.item-index l.items)
+    ≡ l.initial.out ++ skip_lines (meant l.names) (up_in l.ups.keys) l.during [] l.items

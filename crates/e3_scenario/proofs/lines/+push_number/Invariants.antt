@@ -1,5 +1,4 @@
 -- the number that is left
-use Rattle.std.proofs.Common.{ℕ}
 use Rattle.e3_scenario.proofs.lines.+push_number.Given as goal
 
 abbrev pub decreases-push_number : goal.decreases-push_number

@@ -1,4 +1,4 @@
-use Rattle.std.proofs.Common.{◌≡◌, ◌≤◌, length, arith, inr}
+use Rattle.std.proofs.Common.{◌≤◌, length, arith, inr}
 use Rattle.e3_scenario.proofs.Results.{document-some, document-none, spelled_some, spelled_none, read_ok, read_given, read_fault}
 use Rattle.e3_scenario.proofs.reading.read_scenario.Goals as goal
 

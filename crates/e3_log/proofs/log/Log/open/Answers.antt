@@ -1,4 +1,6 @@
-use Rattle.std.proofs.Common.{◌≡◌, ◌⊎◌, refl, ap, subst, ℕ, List, Err, rules}
+use Rattle.std.proofs.Common.{◌≡◌, ◌⊎◌, refl, ap, subst, true, false, ℕ, List, Err, rules}
+use Rattle.e3_disk.specs.Meters.{Meters, Failing, Passing}
+use Rattle.e3_log.specs.Opening.{StaysOff}
 use Rattle.e3_log.specs.declared.fault.OpenCause.{OpenCause}
 use Rattle.e3_log.specs.declared.fault.OpenCause.TheVariants.{Failed, Damaged, NoMemory}
 use Rattle.e3_log.specs.Frames.{Reads, DamagedAt}
@@ -14,6 +16,25 @@ cause_of (Damaged place) bytes at tells damaged =
     let same : Damaged place ≡ Damaged at = ap (λ (n : ℕ). Damaged n) (one_damage bytes place at (tells place refl) damaged) in
     search rules
 cause_of NoMemory bytes at tells damaged = search rules
+
+-- with the power off the cause is that the disk failed
+off_cause : (cause : OpenCause) (old new : Meters) → old.powered ≡ false → ((cause ≡ Failed → ⊥) → Passing old new) → (cause ≡ Failed → Failing old new)
+    → (cause ≡ Failed) × StaysOff old new
+off_cause Failed old new off passing failing =
+    let s = (failing refl).silent off in
+    (refl, (s.1, s.0, s.2, s.3))
+off_cause (Damaged at) old new off passing failing = let p = passing (λ e. absurd cc) in let on : old.powered ≡ true = p.was_on in absurd cc
+off_cause NoMemory old new off passing failing = let p = passing (λ e. absurd cc) in let on : old.powered ≡ true = p.was_on in absurd cc
+
+pub returns-in-Ok-clause-unpowered : goal.returns-in-Ok-clause-unpowered
+returns-in-Ok-clause-unpowered g c = λ off.
+    let on = (c.in-Ok.ensures.power (λ e. absurd cc)).was_on in absurd cc
+
+pub returns-in-Err-clause-unpowered : goal.returns-in-Err-clause-unpowered
+returns-in-Err-clause-unpowered g c = λ off.
+    off_cause c.in-Err.cause _ _ off
+    (λ other. c.in-Err.ensures.power (λ e. let is : c.in-Err.cause ≡ Failed = cc in other is))
+    (λ is. c.in-Err.ensures.failed (ap (λ (e : OpenCause). Err e) is))
 
 pub returns-in-Ok-clause-only_damaged : goal.returns-in-Ok-clause-only_damaged
 returns-in-Ok-clause-only_damaged g c = λ at damaged.

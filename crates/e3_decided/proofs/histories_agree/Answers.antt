@@ -1,0 +1,15 @@
+use Rattle.e3_decided.proofs.Fitting.{given_fit}
+use Rattle.e3_decided.proofs.Histories.{given_agrees, given_told, given_voted}
+use Rattle.e3_decided.proofs.histories_agree.Goals as goal
+
+pub returns-clause-fit : goal.returns-clause-fit
+returns-clause-fit c = given_fit
+
+pub returns-clause-agree : goal.returns-clause-agree
+returns-clause-agree c = given_agrees
+
+pub returns-clause-voted : goal.returns-clause-voted
+returns-clause-voted c = given_voted
+
+pub returns-clause-told : goal.returns-clause-told
+returns-clause-told c = given_told

@@ -1,0 +1,10 @@
+pub mod Copies
+pub mod Climbing
+pub mod Pushing
+pub mod Taking
+pub mod Keeping
+pub mod Showing
+pub mod AllSites
+pub mod Places
+pub mod Sending
+pub mod Entering

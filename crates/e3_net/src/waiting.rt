@@ -1,0 +1,9 @@
+// A packet that is pending.
+use e3_types::Packet;
+
+/// A packet that is pending, and how many copies of it are left: 1 or 2.
+#[derive(Drop)]
+pub struct Waiting {
+    pub packet: Packet,
+    pub copies: u8,
+}

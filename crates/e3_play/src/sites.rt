@@ -1,0 +1,130 @@
+// The sites of a run, as the driver sees them.
+ghost use Rattle.std.specs.Prelude.{◌≡◌, ◌≤◌, ◌++◌, ◌∷◌, [], ℕ, List, Some, true, false, length, OnOk, OnErr, Err};
+ghost use Rattle.e3_play.specs.Entering.{AfterInput, AfterRise, IsFirst};
+ghost use Rattle.e3_play.specs.declared.sites.RunFault.TheVariants.{HistoryFull};
+ghost use Rattle.e3_types.specs.declared.entries.Act.TheVariants as act;
+ghost use Rattle.e3_types.specs.declared.entries.Entry.{Entry};
+ghost use Rattle.e3_types.specs.declared.scenarios.Scenario.{Scenario};
+ghost use Rattle.e3_world.specs.Items.{is_up_at};
+ghost use Rattle.e3_world.specs.Legal.{IsDue, IsLegal, IsLine, IsParts, IsRising, first_pending};
+ghost use Rattle.e3_world.specs.Moves.{own};
+
+use e3_types::{Entry, Input, List, NoMemory, Packet, SiteSet};
+
+/// Why a run goes no further.
+#[derive(Clone, Copy, Debug, PartialEq, Eq)]
+pub enum RunFault {
+    /// The history has as many entries as it may have, and a further one is due.
+    HistoryFull,
+    /// There was no memory. It may come at any time.
+    NoMemory,
+}
+
+impl From<NoMemory> for RunFault {
+    ghost use Rattle.e3_play.specs.declared.sites.RunFault.TheVariants as fault;
+
+    ghost from_gives = { λ _ f. f ≡ fault.NoMemory };
+
+    fn from(_cause: NoMemory) -> RunFault {
+        RunFault::NoMemory
+    }
+}
+
+/// The sites of a run with their disks, the network and the history. Each call that enters something enters one entry;
+/// where it answers a fault, it enters none.
+pub trait Sites {
+    /// The scenario that is played.
+    ghost scenario: { Self → Scenario };
+
+    /// The history so far.
+    ghost entries: { Self → List Entry };
+
+    /// How many entries the history may have.
+    ghost most: { Self → ℕ };
+
+    /// All parts stand for the history.
+    ghost stands: { Self → Type 0 };
+
+    /// The second is what the first came to be: what is told of a time in between, as how often a disk failed.
+    ghost since: { Self → Self → Type 0 };
+
+    /// The history, in the order of its entries.
+    fn history(&self) -> &[Entry]
+        ensures { result.now ≡ entries self.now };
+
+    /// Whether a site is up.
+    fn is_up(&self, site: u32) -> bool
+        requires { stands self.now }
+        ensures { result ≡ is_up_at (entries self.now) site };
+
+    /// The pending packet of least number, if one is pending.
+    fn first(&self) -> Option<Packet>
+        requires { stands self.now }
+        ensures { result ≡ first_pending (scenario self.now) (entries self.now) };
+
+    /// The first rise of a site: with `Ok` it is up, or its rise failed or was missed.
+    fn rise(&mut self, site: u32) -> Result<(), RunFault>
+        requires standing { stands self.old }
+        requires turn { IsRising (scenario self.old) (entries self.old) site }
+        requires first { own site (entries self.old) ≡ [] }
+        ensures stands { stands self.new }
+        ensures since { (start : Self) → since start self.old → since start self.new }
+        ensures same { (scenario self.new ≡ scenario self.old) × (most self.new ≡ most self.old) }
+        ensures rose { OnOk result (AfterRise (entries self.old) site (entries self.new)) }
+        ensures kept { OnErr result (entries self.new ≡ entries self.old) }
+        ensures full { result ≡ Err HistoryFull → most self.old ≤ length (entries self.old) };
+
+    /// An input for a site that is up: with `Ok` its step is entered, or the site fell over it. A packet that is delivered
+    /// is the first of all that are pending.
+    fn input(&mut self, site: u32, input: Input) -> Result<(), RunFault>
+        requires standing { stands self.old }
+        requires up { is_up_at (entries self.old) site ≡ true }
+        requires due { IsDue (scenario self.old) (entries self.old) site input }
+        requires first { IsFirst (scenario self.old) (entries self.old) input }
+        ensures stands { stands self.new }
+        ensures since { (start : Self) → since start self.old → since start self.new }
+        ensures same { (scenario self.new ≡ scenario self.old) × (most self.new ≡ most self.old) }
+        ensures entered { OnOk result (AfterInput (scenario self.old) (entries self.old) site input (entries self.new)) }
+        ensures kept { OnErr result (entries self.new ≡ entries self.old) }
+        ensures full { result ≡ Err HistoryFull → most self.old ≤ length (entries self.old) };
+
+    /// The first pending packet is dropped, since its site is down.
+    fn drop_first(&mut self, packet: &Packet) -> Result<(), RunFault>
+        requires standing { stands self.old }
+        requires first { first_pending (scenario self.old) (entries self.old) ≡ Some packet.now }
+        requires down { is_up_at (entries self.old) packet.now.to ≡ false }
+        ensures stands { stands self.new }
+        ensures since { (start : Self) → since start self.old → since start self.new }
+        ensures same { (scenario self.new ≡ scenario self.old) × (most self.new ≡ most self.old) }
+        ensures entered { OnOk result (entries self.new ≡ entries self.old ++ record { owner = 0; act = act.Drop packet.now.number } ∷ []) }
+        ensures kept { OnErr result (entries self.new ≡ entries self.old) }
+        ensures full { result ≡ Err HistoryFull → most self.old ≤ length (entries self.old) };
+
+    /// The line of the next step.
+    fn line(&mut self, number: u32) -> Result<(), RunFault>
+        requires standing { stands self.old }
+        requires due { IsLine (scenario self.old) (entries self.old) number }
+        ensures stands { stands self.new }
+        ensures since { (start : Self) → since start self.old → since start self.new }
+        ensures same { (scenario self.new ≡ scenario self.old) × (most self.new ≡ most self.old) }
+        ensures entered { OnOk result (entries self.new ≡ entries self.old ++ record { owner = 0; act = act.Line number } ∷ []) }
+        ensures kept { OnErr result (entries self.new ≡ entries self.old) }
+        ensures full { result ≡ Err HistoryFull → most self.old ≤ length (entries self.old) };
+
+    /// The parts of the network, directly behind the line of a split or a merge.
+    fn parts(&mut self, parts: List<SiteSet>) -> Result<(), RunFault>
+        requires standing { stands self.old }
+        requires due { IsParts (scenario self.old) (entries self.old) parts }
+        ensures stands { stands self.new }
+        ensures since { (start : Self) → since start self.old → since start self.new }
+        ensures same { (scenario self.new ≡ scenario self.old) × (most self.new ≡ most self.old) }
+        ensures entered { OnOk result (entries self.new ≡ entries self.old ++ record { owner = 0; act = act.Parts parts } ∷ []) }
+        ensures kept { OnErr result (entries self.new ≡ entries self.old) }
+        ensures full { result ≡ Err HistoryFull → most self.old ≤ length (entries self.old) };
+
+    /// What stands has a legal history.
+    ghost is_legal: { (sites : Self) → stands sites → IsLegal (scenario sites) (entries sites) };
+
+    /// It is no longer than it may be.
+    ghost within: { (sites : Self) → stands sites → length (entries sites) ≤ most sites };
+}

@@ -1,0 +1,4 @@
+pub mod Views
+pub mod Trails
+pub mod Rows
+pub mod Claims

@@ -1,0 +1,46 @@
+-- The laws of legal histories.
+use Rattle.std.proofs.Common.{◌≡◌, ◌++◌, [], ℕ, List, Option, Some, None, subst, sym}
+use Rattle.std.specs.List.{AllByRecursion as Each}
+use Rattle.e3_types.specs.declared.entries.Entry.{Entry}
+use Rattle.e3_types.specs.declared.records.Record.{Record}
+use Rattle.e3_types.specs.declared.records.Record.TheVariants as log
+use Rattle.e3_types.specs.declared.scenarios.Scenario.{Scenario}
+use Rattle.e3_world.specs.Given.{IsGiven}
+use Rattle.e3_world.specs.Legal.{IsLegal}
+use Rattle.e3_world.specs.Moves.{Tail, moves_of, log_of, open_tail}
+use Rattle.e3_world.specs.Packets.{sent}
+use Rattle.e3_world.proofs.InTrail.{pending_sent}
+use Rattle.e3_world.proofs.Pushes.{life_log_at}
+use Rattle.e3_trails.specs.Bounds.{GoesBetween, SuitsLog}
+use Rattle.e3_trails.specs.Claims.{PacketsGoBetween, PendingWasSent, RecordsSuitTheirSite, VotesAtTheirSite, InputsSuit, tail_records, records_at}
+use Rattle.e3_trails.proofs.Arriving.{IfAny}
+use Rattle.e3_trails.proofs.Each.{each-at, each-append}
+use Rattle.e3_trails.proofs.Holding.{Holds, legal_holds}
+use Rattle.e3_trails.proofs.Suiting.{due_input_suits}
+
+pub go_between : PacketsGoBetween
+go_between sc h packet given legal has = each-at (GoesBetween sc.weights) (sent h) packet (legal_holds sc h given legal).now.sent has
+
+pub was_sent : PendingWasSent
+was_sent = pending_sent
+
+tail_suits : (P : Record → Type 0) (o : Option Tail) → IfAny (λ tail. Each P tail.records) o → Each P (tail_records o)
+tail_suits P None is = tt
+tail_suits P (Some tail) is = is
+
+pub records_suit : RecordsSuitTheirSite
+records_suit sc h site r given legal has =
+    let P : Record → Type 0 = SuitsLog sc.weights site in
+    let Q : List Record → Type 0 = Each P in
+    let all : _ = (legal_holds sc h given legal).now.sites site in
+    each-at P (records_at sc h site) r
+    (each-append P (log_of sc h site) (tail_records (open_tail sc h site)) (subst Q (life_log_at (moves_of sc h site)) all.life.log)
+    (tail_suits P (open_tail sc h site) all.tail)) has
+
+pub votes_suit : VotesAtTheirSite
+votes_suit sc h site t ops given legal has = (records_suit sc h site (log.Vote t ops) given legal has).1
+
+pub inputs_suit : InputsSuit
+inputs_suit sc h site i given legal due =
+    let all : Holds sc h = legal_holds sc h given legal in
+    due_input_suits sc h site i given all.line.binds all.now.sent (λ s. (all.line.sites s).life) due

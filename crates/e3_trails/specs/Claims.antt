@@ -1,0 +1,49 @@
+-- What every legal history of a given scenario keeps.
+use Rattle.std.specs.Prelude.{◌++◌, [], ℕ, List, Option, Some, None, Contains}
+use Rattle.std.specs.List.{AllByRecursion as Each}
+use Rattle.e3_types.specs.declared.entries.Entry.{Entry}
+use Rattle.e3_types.specs.declared.entries.Input.{Input}
+use Rattle.e3_types.specs.declared.messages.Packet.{Packet}
+use Rattle.e3_types.specs.declared.records.Record.{Record}
+use Rattle.e3_types.specs.declared.records.Record.TheVariants as log
+use Rattle.e3_types.specs.declared.scenarios.Scenario.{Scenario}
+use Rattle.e3_types.specs.declared.transactions.NumOp.{NumOp}
+use Rattle.e3_types.specs.declared.transactions.Txn.{Txn}
+use Rattle.e3_world.specs.Given.{IsGiven}
+use Rattle.e3_world.specs.Legal.{IsLegal, IsDue}
+use Rattle.e3_world.specs.Moves.{Tail, log_of, open_tail}
+use Rattle.e3_world.specs.Packets.{sent, pending}
+use Rattle.e3_trails.specs.Bounds.{GoesBetween, Suits, SuitsLog, IsHere}
+
+-- Each packet that was sent goes from a site of its transaction to another of them, all of which are sites of the
+-- scenario; a Do goes from the coordinator to the site of its key.
+abbrev pub PacketsGoBetween : Type 0
+PacketsGoBetween = (sc : Scenario) (h : List Entry) (packet : Packet) → IsGiven sc → IsLegal sc h → Contains (sent h) packet →
+    GoesBetween sc.weights packet
+
+-- What is pending was sent.
+abbrev pub PendingWasSent : Type 0
+PendingWasSent = (sc : Scenario) (h : List Entry) (packet : Packet) → Contains (pending sc h) packet → Contains (sent h) packet
+
+-- the records of a tail that may be on the disk
+abbrev pub tail_records : Option Tail → List Record
+tail_records None = []
+tail_records (Some tail) = tail.records
+
+-- the records of a site's log, and those that may be on its disk
+abbrev pub records_at : Scenario → List Entry → ℕ → List Record
+records_at sc h site = log_of sc h site ++ tail_records (open_tail sc h site)
+
+-- Each record of a site's log, and each that may be on its disk, is of a transaction of that site.
+abbrev pub RecordsSuitTheirSite : Type 0
+RecordsSuitTheirSite = (sc : Scenario) (h : List Entry) (site : ℕ) (r : Record) → IsGiven sc → IsLegal sc h → Contains (records_at sc h site) r →
+    SuitsLog sc.weights site r
+
+-- Each operation in a vote of a site's log, or in one that may be on its disk, is on a key of that site.
+abbrev pub VotesAtTheirSite : Type 0
+VotesAtTheirSite = (sc : Scenario) (h : List Entry) (site : ℕ) (t : Txn) (ops : List NumOp) → IsGiven sc → IsLegal sc h →
+    Contains (records_at sc h site) (log.Vote t ops) → Each (IsHere site) ops
+
+-- What is due at a site suits it.
+abbrev pub InputsSuit : Type 0
+InputsSuit = (sc : Scenario) (h : List Entry) (site : ℕ) (i : Input) → IsGiven sc → IsLegal sc h → IsDue sc h site i → Suits sc.weights site i

@@ -1,0 +1,23 @@
+//! Laws of what legal histories send, record and take.
+#![tactic(auto)]
+
+ghost use Rattle.e3_trails.specs.Claims.{InputsSuit, PacketsGoBetween, PendingWasSent, RecordsSuitTheirSite, VotesAtTheirSite};
+
+/// Each packet of a legal history goes from one site of its transaction to another, and a Do from the coordinator to the
+/// site of its key; and what is pending was sent.
+pub fn packets_go_between_sites()
+    ensures between { PacketsGoBetween }
+    ensures pending { PendingWasSent }
+{}
+
+/// Each record of a site's log, also one that may or may not be on its disk, is of a transaction of that site, and the
+/// operations of a vote are on keys of that site.
+pub fn records_suit_their_site()
+    ensures records { RecordsSuitTheirSite }
+    ensures votes { VotesAtTheirSite }
+{}
+
+/// What a legal history may give to a site is of a transaction of that site.
+pub fn inputs_suit_their_site()
+    ensures { InputsSuit }
+{}
