@@ -1,27 +1,39 @@
-//! The program: `e3pc run` runs the scenario on standard input, writes its report to standard output, and ends with the
-//! status of the run.
+//! The program: `e3pc run` runs the scenario on standard input over disks in memory, writes its report to standard output,
+//! and ends with the status of the run.
 #![tactic(auto)]
 
+use e3_fleet::memory_disks;
 use e3_outside::{StdSink, StdSource};
+use std::alloc::Global;
 use std::process::ExitCode;
 use std::{env, io};
 
 // The status of a run that wants for memory.
 const NO_MEMORY: u8 = 5;
 
-fn main(rt: HostRuntime) -> ExitCode {
-    let alloc = rt.alloc();
-    let Ok(args) = env::args(&rt) else {
-        return ExitCode::from(NO_MEMORY);
-    };
+/// The capacity of the disk of a site, in bytes.
+const CAPACITY: u64 = 33_554_432;
+
+// The words behind the program's name.
+fn words_of(rt: &HostRuntime, alloc: Global) -> Option<Vec<String>> {
+    let args = env::args(rt).ok()?;
     let mut words = Vec::new(alloc);
     for word in args.skip(1) {
-        if words.push(word).is_err() {
-            return ExitCode::from(NO_MEMORY);
-        }
+        words.push(word).ok()?;
     }
+    Some(words)
+}
+
+fn main(rt: HostRuntime) -> ExitCode {
+    let alloc = rt.alloc();
+    let Some(words) = words_of(&rt, alloc) else {
+        return ExitCode::from(NO_MEMORY);
+    };
+    let Ok(disks) = memory_disks(alloc, CAPACITY) else {
+        return ExitCode::from(NO_MEMORY);
+    };
     let mut source = StdSource::new(rt.reader());
     let mut sink = StdSink::new(io::writer(&rt));
-    let ended = e3_top::run(&rt, alloc, &words, &mut source, &mut sink);
+    let ended = e3_top::run(&rt, alloc, &words, &mut source, &mut sink, disks);
     ExitCode::from(ended.status)
 }

@@ -12,3 +12,7 @@ pub record IsRun (words : List (String Global)) : Type 0 where
 -- what is written for other words
 unfoldable pub refused_words : List ℕ
 refused_words = codes "refused words\n"
+
+-- what is written where the history may have no more entries
+unfoldable pub refused_history_full : List ℕ
+refused_history_full = codes "refused history-full\n"

@@ -7,4 +7,4 @@ mod running;
 mod tests;
 mod words;
 
-pub use running::{Ended, run};
+pub use running::{Ended, run, run_within};

@@ -1,18 +1,23 @@
 // All of a run but the writing of its text.
-ghost use Rattle.e3_scenario.specs.Paths.{IsOneWritePath};
+ghost use Rattle.std.specs.Prelude.{Ok, Err, ◌≡◌, ◌≢◌, ◌≤◌, ◌<◌, ◌^◌, ◌⊎◌, [], IfOk, length};
+ghost use Rattle.e3_fleet.specs.Over.{AreBlank, AreOver};
+ghost use Rattle.e3_play.specs.Played.{IsFull, IsPlayed};
 ghost use Rattle.e3_scenario.specs.Scenarios.{scenario_of};
-ghost use Rattle.std.specs.Prelude.{Ok, ◌≡◌, ◌≢◌, ◌≤◌, ◌⊎◌, [], IfOk};
-ghost use Rattle.e3_top.specs.Due.{IsDue};
-ghost use Rattle.e3_top.specs.Ends.{IsCutShort, IsHistoryOf, IsPrepared, SourceFails};
+ghost use Rattle.e3_top.specs.Due.{IsDue, IsRunOf};
+ghost use Rattle.e3_top.specs.Ends.{AreDisksOf, AreOverOf, IsCutShort, IsHistoryOf, IsPrepared, SourceFails};
 ghost use Rattle.e3_top.specs.Words.{IsRun};
 ghost use Rattle.e3_words.specs.Words.{Spell};
 ghost use Rattle.e3_words.specs.declared.words.Command.TheVariants.{Run};
+ghost use Rattle.e3_world.specs.Given.{IsGiven};
+ghost use Rattle.e3_world.specs.Legal.{IsWhole};
 
-use crate::words::refused_words;
-use e3_drive::play;
+use crate::words::{refused_history_full, refused_words};
+use e3_disk::Disk;
+use e3_fleet::{Played, play_over};
 use e3_outside::{ReadFault, Source, read_up_to};
+use e3_play::{RunFault, is_played};
 use e3_report::report;
-use e3_scenario::{ScenarioFault, fault_line, is_one_write_path, read_scenario, refused_line};
+use e3_scenario::{ScenarioFault, fault_line, read_scenario, refused_line};
 use e3_types::{List, NoMemory, Scenario};
 use e3_words::{Command, read_words};
 use e3_world::History;
@@ -23,7 +28,7 @@ const MOST: u64 = 4_194_305;
 
 /// A text that is due, and the status that the run ends with when it is written.
 #[derive(Drop)]
-pub struct Prepared {
+pub struct Due {
     pub status: u8,
     pub text: List<u8>,
 }
@@ -45,114 +50,173 @@ impl From<NoMemory> for Stop {
     }
 }
 
-// The refusal of a scenario of another form than the one that is built.
-fn prepare_not_built(
+/// What words, source and disks came to: the text that is due, or why there is none; the history; and the disks.
+#[derive(Drop)]
+pub struct Prepared<D: Drop> {
+    pub due: Result<Due, Stop>,
+    pub history: History,
+    pub disks: Vec<D>,
+}
+
+// The text of a run that was played.
+fn text_of(
     alloc: Global,
     words: &[String],
+    trace: bool,
     bytes: &[u8],
     scenario: &Scenario,
-) -> Result<Prepared, NoMemory>
-    requires run { IsRun words.now }
+    ended: Result<(), RunFault>,
+    history: &History,
+    most: u32,
+) -> Result<Due, Stop>
+    requires run { Spell words.now (Run trace) }
     requires spelled { scenario_of bytes.now ≡ Ok scenario.now }
-    requires no_path { ¬ IsOneWritePath scenario.now }
-    ensures due { IfOk result (λ p. IsDue words.now bytes.now p.status [] p.text) }
-    ensures status { IfOk result (λ p. p.status ≡ 2) }
+    requires form { IsPlayed scenario.now }
+    requires safe { IsRunOf scenario.now most history.now.entries }
+    requires whole { OnOk ended (IsWhole scenario.now history.now.entries) }
+    requires full { ended ≡ Err RunFault.HistoryFull → IsFull scenario.now history.now.entries most }
+    ensures due { IfOk result (λ due. IsDue words.now bytes.now most due.status history.now.entries due.text) }
+    ensures status { IfOk result (λ due. (due.status ≡ 0) ⊎ (due.status ≡ 6)) }
+    ensures only_memory { IfErr result (λ e. e ≡ Stop.NoMemory) }
 {
-    let _other = scenario;
-    Ok(Prepared {
-        status: 2,
-        text: refused_line(alloc)?,
-    })
+    match ended {
+        Ok(()) => Ok(Due {
+            status: 0,
+            text: report(alloc, scenario, history, trace)?,
+        }),
+        Err(fault) => match fault {
+            RunFault::HistoryFull => Ok(Due {
+                status: 6,
+                text: refused_history_full(alloc)?,
+            }),
+            RunFault::NoMemory => Err(Stop::NoMemory),
+        },
+    }
 }
 
 // The run of a scenario of the form that is built.
-fn prepare_path(
+fn prepare_run<D: Disk + Drop>(
     alloc: Global,
     words: &[String],
     trace: bool,
     bytes: &[u8],
     scenario: &Scenario,
-    history: &mut History,
-) -> Result<Prepared, NoMemory>
+    disks: Vec<D>,
+    most: u32,
+) -> Prepared<D>
     requires run { Spell words.now (Run trace) }
     requires spelled { scenario_of bytes.now ≡ Ok scenario.now }
-    requires path { IsOneWritePath scenario.now }
-    requires empty { history.old.entries ≡ [] }
-    ensures due { IfOk result (λ p. IsDue words.now bytes.now p.status history.new.entries p.text) }
-    ensures status { IfOk result (λ p. p.status ≡ 0) }
-    ensures cut_short { (history.new.entries ≡ []) ⊎ IsHistoryOf bytes.now history.new.entries }
+    requires given { IsGiven scenario.now }
+    requires form { IsPlayed scenario.now }
+    requires enough { length scenario.now.weights ≤ length disks.items }
+    requires blank { AreBlank D.content D.image D.meters disks.items }
+    ensures due { IfOk result.due (λ due. IsDue words.now bytes.now most due.status result.history.entries due.text) }
+    ensures status { IfOk result.due (λ due. (due.status ≡ 0) ⊎ (due.status ≡ 6)) }
+    ensures only_memory { IfErr result.due (λ e. e ≡ Stop.NoMemory) }
+    ensures history { IsRunOf scenario.now most result.history.entries }
+    ensures disks { AreOver D.image D.meters scenario.now result.history.entries disks.items result.disks.items }
 {
-    play(alloc, scenario, history)?;
-    Ok(Prepared {
-        status: 0,
-        text: report(alloc, scenario, history, trace)?,
-    })
+    let Played {
+        ended,
+        history,
+        disks,
+    } = play_over(alloc, scenario, disks, most);
+    Prepared {
+        due: text_of(alloc, words, trace, bytes, scenario, ended, &history, most),
+        history,
+        disks,
+    }
+}
+
+// A text that is due without a run, or want of memory; nothing happens.
+fn unplayed<D: Drop>(
+    alloc: Global,
+    status: u8,
+    text: Result<List<u8>, NoMemory>,
+    disks: Vec<D>,
+) -> Prepared<D>
+    ensures due { IfOk result.due (λ due. (due.status ≡ status) × (text ≡ Ok due.text)) }
+    ensures only_memory { IfErr result.due (λ e. e ≡ Stop.NoMemory) }
+    ensures history { result.history.entries ≡ [] }
+    ensures disks { result.disks.items ≡ disks.items }
+{
+    Prepared {
+        due: match text {
+            Ok(text) => Ok(Due { status, text }),
+            Err(NoMemory) => Err(Stop::NoMemory),
+        },
+        history: History::new(alloc),
+        disks,
+    }
 }
 
 // The run over the bytes that were read.
-fn prepare_bytes(
+fn prepare_bytes<D: Disk + Drop>(
     alloc: Global,
     words: &[String],
     trace: bool,
     bytes: &[u8],
-    history: &mut History,
-) -> Result<Prepared, NoMemory>
+    disks: Vec<D>,
+    most: u32,
+) -> Prepared<D>
     requires run { Spell words.now (Run trace) }
-    requires empty { history.old.entries ≡ [] }
-    ensures due { IfOk result (λ p. IsDue words.now bytes.now p.status history.new.entries p.text) }
-    ensures not_words { IfOk result (λ p. p.status ≢ 1) }
-    ensures cut_short { (history.new.entries ≡ []) ⊎ IsHistoryOf bytes.now history.new.entries }
+    requires sixteen { length disks.items ≡ 16 }
+    requires blank { AreBlank D.content D.image D.meters disks.items }
+    ensures due { IfOk result.due (λ due. IsDue words.now bytes.now most due.status result.history.entries due.text) }
+    ensures not_words { IfOk result.due (λ due. due.status ≢ 1) }
+    ensures only_memory { IfErr result.due (λ e. e ≡ Stop.NoMemory) }
+    ensures cut_short { (result.history.entries ≡ []) ⊎ IsHistoryOf bytes.now most result.history.entries }
+    ensures disks { (result.disks.items ≡ disks.items) ⊎ AreOverOf D.image D.meters bytes.now result.history.entries disks.items result.disks.items }
+    ensures untouched { IfOk result.due (λ due. due.status ≡ 2 → result.disks.items ≡ disks.items) }
 {
     match read_scenario(alloc, bytes) {
-        Err(ScenarioFault::NoMemory) => Err(NoMemory),
-        Err(fault) => Ok(Prepared {
-            status: 2,
-            text: fault_line(alloc, &fault)?,
-        }),
+        Err(fault) => match fault {
+            ScenarioFault::NoMemory => unplayed(alloc, 2, Err(NoMemory), disks),
+            fault => unplayed(alloc, 2, fault_line(alloc, &fault), disks),
+        },
         Ok(scenario) => {
-            if is_one_write_path(&scenario) {
-                prepare_path(alloc, words, trace, bytes, &scenario, history)
+            if is_played(&scenario) {
+                prepare_run(alloc, words, trace, bytes, &scenario, disks, most)
             } else {
-                prepare_not_built(alloc, words, bytes, &scenario)
+                unplayed(alloc, 2, refused_line(alloc), disks)
             }
         }
     }
 }
 
-// The text of a run that is refused its words.
-fn prepare_refusal(alloc: Global, words: &[String]) -> Result<Prepared, NoMemory>
-    requires { ¬ IsRun words.now }
-    ensures { IfOk result (λ p. IsDue words.now [] p.status [] p.text) }
-{
-    Ok(Prepared {
-        status: 1,
-        text: refused_words(alloc)?,
-    })
-}
-
-/// Reads the source and plays the scenario. The history is empty at first.
-pub fn prepare<S: Source>(
+/// Reads the source and plays the scenario over the disks.
+pub fn prepare<S: Source, D: Disk + Drop>(
     alloc: Global,
     words: &[String],
     source: &mut S,
-    history: &mut History,
-) -> Result<Prepared, Stop>
-    requires { history.old.entries ≡ [] }
-    ensures prepared { IfOk result (λ p. IsPrepared words.now (S.left source.old) (S.left source.new) p.status history.new.entries p.text) }
-    ensures source_failed { result ≡ Err Stop.SourceFailed →
-        SourceFails words.now (S.left source.old) (S.left source.new) (S.faults source.old) (S.faults source.new) history.new.entries }
-    ensures no_memory { result ≡ Err Stop.NoMemory →
-        IsCutShort words.now (S.left source.old) (S.left source.new) history.new.entries }
+    disks: Vec<D>,
+    most: u32,
+) -> Prepared<D>
+    requires sixteen { length disks.items ≡ 16 }
+    requires blank { AreBlank D.content D.image D.meters disks.items }
+    ensures prepared { IfOk result.due (λ due. IsPrepared words.now (S.left source.old) (S.left source.new) most due.status result.history.entries due.text) }
+    ensures source_failed { result.due ≡ Err Stop.SourceFailed →
+        SourceFails words.now (S.left source.old) (S.left source.new) (S.faults source.old) (S.faults source.new) result.history.entries
+        × (result.disks.items ≡ disks.items) }
+    ensures no_memory { result.due ≡ Err Stop.NoMemory →
+        IsCutShort words.now (S.left source.old) (S.left source.new) most result.history.entries }
+    ensures disks { (result.disks.items ≡ disks.items)
+        ⊎ AreDisksOf D.image D.meters words.now (S.left source.old) (S.left source.new) result.history.entries disks.items result.disks.items }
+    ensures untouched { IfOk result.due (λ due. (due.status ≡ 1) ⊎ (due.status ≡ 2) → result.disks.items ≡ disks.items) }
     ensures unread { ¬ IsRun words.now → source.new ≡ source.old }
     ensures never_falls { S.faults source.old ≤ S.faults source.new }
 {
     let trace = match read_words(words) {
-        None => return Ok(prepare_refusal(alloc, words)?),
+        None => return unplayed(alloc, 1, refused_words(alloc), disks),
         Some(Command::Run { trace }) => trace,
     };
     match read_up_to(alloc, source, MOST) {
-        Err(ReadFault::Failed) => Err(Stop::SourceFailed),
-        Err(ReadFault::NoMemory) => Err(Stop::NoMemory),
-        Ok(bytes) => Ok(prepare_bytes(alloc, words, trace, bytes.as_slice(), history)?),
+        Err(ReadFault::Failed) => Prepared {
+            due: Err(Stop::SourceFailed),
+            history: History::new(alloc),
+            disks,
+        },
+        Err(ReadFault::NoMemory) => unplayed(alloc, 2, Err(NoMemory), disks),
+        Ok(bytes) => prepare_bytes(alloc, words, trace, bytes.as_slice(), disks, most),
     }
 }

@@ -1,76 +1,190 @@
 // The run.
-ghost use Rattle.std.specs.Prelude.{◌≡◌, ◌≤◌, ◌⊎◌};
-ghost use Rattle.std.specs.Io.KnownBytes.{IsAtEnd};
-ghost use Rattle.e3_top.specs.Ends.{Finishes, IsCutShort, SinkFails, SourceFails};
+ghost use Rattle.std.specs.Prelude.{◌≡◌, ◌≢◌, ◌≤◌, ◌<◌, ◌⊎◌, ℕ, length, take};
+ghost use Rattle.std.specs.Io.KnownBytes.{Appends, IsAtEnd};
+ghost use Rattle.e3_fleet.specs.Over.{AreBlank};
+ghost use Rattle.e3_outside.specs.Faults.{Rose};
+ghost use Rattle.e3_top.specs.Ends.{AreDisksOf, Finishes, IsCutShort, SinkFails, SourceFails};
+ghost use Rattle.e3_top.specs.Due.{HasText};
 ghost use Rattle.e3_top.specs.Words.{IsRun};
 
-use crate::preparing::{Stop, prepare};
+use crate::preparing::{Due, Prepared, Stop, prepare};
+use e3_disk::Disk;
 use e3_outside::{Failed, Sink, Source, write_all};
 use e3_world::History;
 use std::alloc::Global;
 use std::sync::Wait;
 
-/// How a run ended: its status, and what happened in it. 0: done. 1: refused words. 2: a refused scenario. 3: the
-/// source failed. 4: the sink failed. 5: memory ran out.
+/// The most entries that the history of a run has.
+const MOST_ENTRIES: u32 = 2_000_000;
+
+/// How a run ended: its status, what happened in it, and its disks, that of site 1 first. 0: done. 1: refused words.
+/// 2: a refused scenario. 3: the source failed. 4: the sink failed. 5: memory ran out. 6: the history is full.
 #[derive(Drop)]
-pub struct Ended {
+pub struct Ended<D: Drop> {
     pub status: u8,
     pub history: History,
+    pub disks: Vec<D>,
 }
 
-/// Runs the scenario that the source has, and writes its report to the sink.
+// Writes the text that is due.
+fn finish<K: Sink, D: Drop>(due: Due, history: History, disks: Vec<D>, sink: &mut K) -> Ended<D>
+    requires { HasText due.status }
+    ensures history { result.history.entries ≡ history.entries }
+    ensures disks { result.disks.items ≡ disks.items }
+    ensures written { result.status ≢ 4 → (result.status ≡ due.status) × Appends (K.written sink.old) (K.written sink.new) due.text }
+    ensures failed { result.status ≡ 4 → Rose (K.faults sink.old) (K.faults sink.new) × ((count : ℕ) × (count < length due.text)
+        × Appends (K.written sink.old) (K.written sink.new) (take count due.text)) }
+    ensures known { HasText result.status ⊎ (result.status ≡ 4) }
+    ensures counts { K.faults sink.old ≤ K.faults sink.new }
+{
+    match write_all(sink, due.text.as_slice()) {
+        Ok(()) => Ended {
+            status: due.status,
+            history,
+            disks,
+        },
+        Err(Failed) => Ended {
+            status: 4,
+            history,
+            disks,
+        },
+    }
+}
+
+/// Runs the scenario that the source has over these disks, and writes its report to the sink. Its history has at most so
+/// many entries.
 ///
 /// The words are those of the command line behind the program's name. The order is: words, source, scenario, the run,
 /// the sink. Each text is whole before its first byte is written. Want of memory, status 5, may come at any time before.
-pub fn run<R: Wait, S: Source, K: Sink>(
+/// Site k has the k-th disk; there are sixteen, each blank, powered and not armed, and they come back in their order.
+pub fn run_within<R: Wait, S: Source, K: Sink, D: Disk + Drop>(
     _rt: &R,
     alloc: Global,
     words: &[String],
     source: &mut S,
     sink: &mut K,
-) -> Ended
-    // 0, 1 and 2: the text that words, bytes and history give was written, all of it and nothing else.
-    ensures finished { result.status ≤ 2 →
-        Finishes words.now (S.left source.old) (S.left source.new) (K.written sink.old) (K.written sink.new) result.status result.history.entries }
+    disks: Vec<D>,
+    most: u32,
+) -> Ended<D>
+    requires sixteen { length disks.items ≡ 16 }
+    requires blank { AreBlank D.content D.image D.meters disks.items }
+    requires least { 1 ≤ most }
+    requires most { most ≤ 2000000 }
+    // 0, 1, 2 and 6: the text that words, bytes and history give was written, all of it and nothing else.
+    ensures finished { HasText result.status →
+        Finishes words.now (S.left source.old) (S.left source.new) (K.written sink.old) (K.written sink.new) most result.status result.history.entries }
 
     // 3 only where the source's count of faults rose; nothing is written.
     ensures source_failed { result.status ≡ 3 →
         SourceFails words.now (S.left source.old) (S.left source.new) (S.faults source.old) (S.faults source.new) result.history.entries
         × (sink.new ≡ sink.old) }
 
-    // 4 only where the sink's count of faults rose; a front of the text of 0, 1 or 2 was written.
+    // 4 only where the sink's count of faults rose; a front of the text of 0, 1, 2 or 6 was written.
     ensures sink_failed { result.status ≡ 4 →
         SinkFails words.now (S.left source.old) (S.left source.new) (K.written sink.old) (K.written sink.new)
-        (K.faults sink.old) (K.faults sink.new) result.history.entries }
+        (K.faults sink.old) (K.faults sink.new) most result.history.entries }
 
-    // 5 is free; the history is legal as far as it goes, and nothing is written.
+    // 5 is free; the history is legal and safe as far as it goes, and nothing is written.
     ensures no_memory { result.status ≡ 5 →
-        IsCutShort words.now (S.left source.old) (S.left source.new) result.history.entries × (sink.new ≡ sink.old) }
+        IsCutShort words.now (S.left source.old) (S.left source.new) most result.history.entries × (sink.new ≡ sink.old) }
 
-    // There is no other status. 0, 2 and 3 come only for words that ask for a run, and 1 only for other words.
-    ensures statuses { result.status ≤ 5 }
-    ensures run_words { (result.status ≡ 0) ⊎ (result.status ≡ 2) ⊎ (result.status ≡ 3) → IsRun words.now }
+    // Words that ask for a run, and no fault of source or sink: the run is done, or memory ran out, unless the bytes spell no
+    // scenario of the form that is built, or the history is full.
+    ensures complete { IsRun words.now → ¬ Rose (S.faults source.old) (S.faults source.new) → ¬ Rose (K.faults sink.old) (K.faults sink.new) →
+        (result.status ≡ 0) ⊎ (result.status ≡ 5) ⊎ (result.status ≡ 2) ⊎ (result.status ≡ 6) }
+
+    // Each disk of a site stands for the site's log and may have failed as often as the site fell by it; the others are as they
+    // were, and for 1, 2 and 3 all.
+    ensures disks { (result.disks.items ≡ disks.items)
+        ⊎ AreDisksOf D.image D.meters words.now (S.left source.old) (S.left source.new) result.history.entries disks.items result.disks.items }
+    ensures untouched { (result.status ≡ 1) ⊎ (result.status ≡ 2) ⊎ (result.status ≡ 3) → result.disks.items ≡ disks.items }
+
+    // There is no other status. 0, 2, 3 and 6 come only for words that ask for a run, and 1 only for other words.
+    ensures statuses { result.status ≤ 6 }
+    ensures run_words { (result.status ≡ 0) ⊎ (result.status ≡ 2) ⊎ (result.status ≡ 3) ⊎ (result.status ≡ 6) → IsRun words.now }
     ensures other_words { result.status ≡ 1 → ¬ IsRun words.now }
 
-    // For words that ask for no run the source is not touched; with 0 nothing of it is left.
+    // For words that ask for no run the source is not touched; with 0 and 6 nothing of it is left.
     ensures unread { ¬ IsRun words.now → source.new ≡ source.old }
-    ensures drained { result.status ≡ 0 → IsAtEnd (S.left source.new) }
+    ensures drained { (result.status ≡ 0) ⊎ (result.status ≡ 6) → IsAtEnd (S.left source.new) }
 
     // The counts of faults never fall.
     ensures source_counts { S.faults source.old ≤ S.faults source.new }
     ensures sink_counts { K.faults sink.old ≤ K.faults sink.new }
 {
-    let mut history = History::new(alloc);
-    let prepared = match prepare(alloc, words, source, &mut history) {
-        Err(Stop::SourceFailed) => return Ended { status: 3, history },
-        Err(Stop::NoMemory) => return Ended { status: 5, history },
-        Ok(prepared) => prepared,
-    };
-    match write_all(sink, prepared.text.as_slice()) {
-        Ok(()) => Ended {
-            status: prepared.status,
+    let Prepared {
+        due,
+        history,
+        disks,
+    } = prepare(alloc, words, source, disks, most);
+    match due {
+        Ok(due) => finish(due, history, disks, sink),
+        Err(Stop::SourceFailed) => Ended {
+            status: 3,
             history,
+            disks,
         },
-        Err(Failed) => Ended { status: 4, history },
+        Err(Stop::NoMemory) => Ended {
+            status: 5,
+            history,
+            disks,
+        },
     }
+}
+
+/// Runs the scenario that the source has over these disks, and writes its report to the sink: `run_within` with the most
+/// entries that a history has, 2,000,000.
+pub fn run<R: Wait, S: Source, K: Sink, D: Disk + Drop>(
+    rt: &R,
+    alloc: Global,
+    words: &[String],
+    source: &mut S,
+    sink: &mut K,
+    disks: Vec<D>,
+) -> Ended<D>
+    requires sixteen { length disks.items ≡ 16 }
+    requires blank { AreBlank D.content D.image D.meters disks.items }
+    // 0, 1, 2 and 6: the text that words, bytes and history give was written, all of it and nothing else.
+    ensures finished { HasText result.status →
+        Finishes words.now (S.left source.old) (S.left source.new) (K.written sink.old) (K.written sink.new) 2000000 result.status result.history.entries }
+
+    // 3 only where the source's count of faults rose; nothing is written.
+    ensures source_failed { result.status ≡ 3 →
+        SourceFails words.now (S.left source.old) (S.left source.new) (S.faults source.old) (S.faults source.new) result.history.entries
+        × (sink.new ≡ sink.old) }
+
+    // 4 only where the sink's count of faults rose; a front of the text of 0, 1, 2 or 6 was written.
+    ensures sink_failed { result.status ≡ 4 →
+        SinkFails words.now (S.left source.old) (S.left source.new) (K.written sink.old) (K.written sink.new)
+        (K.faults sink.old) (K.faults sink.new) 2000000 result.history.entries }
+
+    // 5 is free; the history is legal and safe as far as it goes, and nothing is written.
+    ensures no_memory { result.status ≡ 5 →
+        IsCutShort words.now (S.left source.old) (S.left source.new) 2000000 result.history.entries × (sink.new ≡ sink.old) }
+
+    // Words that ask for a run, and no fault of source or sink: the run is done, or memory ran out, unless the bytes spell no
+    // scenario of the form that is built, or the history is full.
+    ensures complete { IsRun words.now → ¬ Rose (S.faults source.old) (S.faults source.new) → ¬ Rose (K.faults sink.old) (K.faults sink.new) →
+        (result.status ≡ 0) ⊎ (result.status ≡ 5) ⊎ (result.status ≡ 2) ⊎ (result.status ≡ 6) }
+
+    // Each disk of a site stands for the site's log and may have failed as often as the site fell by it; the others are as they
+    // were, and for 1, 2 and 3 all.
+    ensures disks { (result.disks.items ≡ disks.items)
+        ⊎ AreDisksOf D.image D.meters words.now (S.left source.old) (S.left source.new) result.history.entries disks.items result.disks.items }
+    ensures untouched { (result.status ≡ 1) ⊎ (result.status ≡ 2) ⊎ (result.status ≡ 3) → result.disks.items ≡ disks.items }
+
+    // There is no other status. 0, 2, 3 and 6 come only for words that ask for a run, and 1 only for other words.
+    ensures statuses { result.status ≤ 6 }
+    ensures run_words { (result.status ≡ 0) ⊎ (result.status ≡ 2) ⊎ (result.status ≡ 3) ⊎ (result.status ≡ 6) → IsRun words.now }
+    ensures other_words { result.status ≡ 1 → ¬ IsRun words.now }
+
+    // For words that ask for no run the source is not touched; with 0 and 6 nothing of it is left.
+    ensures unread { ¬ IsRun words.now → source.new ≡ source.old }
+    ensures drained { (result.status ≡ 0) ⊎ (result.status ≡ 6) → IsAtEnd (S.left source.new) }
+
+    // The counts of faults never fall.
+    ensures source_counts { S.faults source.old ≤ S.faults source.new }
+    ensures sink_counts { K.faults sink.old ≤ K.faults sink.new }
+{
+    run_within(rt, alloc, words, source, sink, disks, MOST_ENTRIES)
 }

@@ -1,6 +1,6 @@
-// The words of the command line.
+// The texts that a run itself writes.
 ghost use Rattle.std.specs.Prelude.{◌≡◌, IfOk};
-ghost use Rattle.e3_top.specs.Words.{refused_words};
+ghost use Rattle.e3_top.specs.Words.{refused_history_full, refused_words};
 
 use e3_types::{List, NoMemory};
 use std::alloc::Global;
@@ -12,5 +12,15 @@ pub fn refused_words(alloc: Global) -> Result<List<u8>, NoMemory>
 {
     let mut line = List::new(alloc);
     line.extend(b"refused words\n")?;
+    Ok(line)
+}
+
+/// The line that is written where the history may have no more entries.
+#[tactic(auto, unfolding(crate::specs::Words::refused_history_full))]
+pub fn refused_history_full(alloc: Global) -> Result<List<u8>, NoMemory>
+    ensures { IfOk result (λ line. line ≡ refused_history_full) }
+{
+    let mut line = List::new(alloc);
+    line.extend(b"refused history-full\n")?;
     Ok(line)
 }

@@ -1,0 +1,45 @@
+-- The nodes of all sites, and what is always true of them.
+use Rattle.std.specs.Prelude.{◌≡◌, ◌⊎◌, ◌+◌, ◌≤◌, ℕ, suc, List, length, map, slice_get, Some}
+use Rattle.e3_disk.specs.Meters.{Meters, LAST}
+use Rattle.e3_fleet.specs.Over.{HadNoRooms, faults_at}
+use Rattle.e3_node.specs.NodeStands.{NodeStands}
+use Rattle.e3_node.specs.NodeView.{NodeView, disk_of}
+use Rattle.e3_node.specs.SharedStands.{SharedStands, SharedView}
+use Rattle.e3_types.specs.declared.entries.Entry.{Entry}
+use Rattle.e3_types.specs.declared.scenarios.Scenario.{Scenario}
+
+-- the node at this place, counted from 0, is that of the next site, and stands for it
+pub record Seated {D : Type 0} (content : D → List ℕ) (image : D → List ℕ → Type 0) (meters : D → Meters)
+    (sc : Scenario) (history : List Entry) (at : ℕ) (node : NodeView D) : Type 0 where
+  pub site : node.site ≡ suc at
+  pub stands : NodeStands content image meters sc history node
+  pub rooms : HadNoRooms sc history (suc at) (meters (disk_of node.state)).capacity
+
+-- these are the nodes of the first sites
+abbrev pub AreSeated : {D : Type 0} → (D → List ℕ) → (D → List ℕ → Type 0) → (D → Meters) → Scenario → List Entry → List (NodeView D) → Type 0
+AreSeated content image meters sc history nodes =
+    (at : ℕ) (node : NodeView _) → slice_get nodes at ≡ Some node → Seated content image meters sc history at node
+
+-- what the sites share stands, and there is a node for each of them
+pub record FleetStands {D : Type 0} (content : D → List ℕ) (image : D → List ℕ → Type 0) (meters : D → Meters)
+    (shared : SharedView) (nodes : List (NodeView D)) : Type 0 where
+  pub shared_stands : SharedStands shared
+  pub count : length nodes ≡ length shared.scenario.weights
+  pub seated : AreSeated content image meters shared.scenario shared.entries nodes
+
+-- What the numbers of a site's disk came to while its history grew: the disk failed as often as the site fell by it, at
+-- least, and it was neither armed nor cut.
+pub record HasKept (site : ℕ) (before now : List Entry) (old new : Meters) : Type 0 where
+  pub faults : (old.faults + faults_at now site ≤ new.faults + faults_at before site) ⊎ (new.faults ≡ LAST)
+  pub grows : old.faults ≤ new.faults
+  pub capacity : new.capacity ≡ old.capacity
+  pub arms : new.arms ≡ old.arms
+  pub calls : new.calls ≡ old.calls
+  pub codes : new.codes ≡ old.codes
+  pub cuts : new.cuts ≡ old.cuts
+
+-- so did the disks of all these nodes
+pub record HaveKept {D : Type 0} (meters : D → Meters) (before now : List Entry) (olds news : List (NodeView D)) : Type 0 where
+  pub count : length news ≡ length olds
+  pub each : (at : ℕ) (old new : NodeView D) → slice_get olds at ≡ Some old → slice_get news at ≡ Some new →
+      HasKept (suc at) before now (meters (disk_of old.state)) (meters (disk_of new.state))

@@ -1,0 +1,79 @@
+-- What a run makes of the disks that it was given.
+use Rattle.std.specs.Prelude.{◌≡◌, ◌⊎◌, ◌+◌, ◌<◌, ◌≤◌, ◌++◌, ◌∷◌, ℕ, suc, Bool, true, false, List, length, count_by, slice_get, Some, Contains}
+use Rattle.e3_disk.specs.Images.{IsBlank}
+use Rattle.e3_disk.specs.Meters.{Meters, LAST}
+use Rattle.e3_node.specs.Bodies.{DiskStands}
+use Rattle.e3_types.specs.Spelling.{spelling}
+use Rattle.e3_types.specs.declared.entries.Act.{Act}
+use Rattle.e3_types.specs.declared.entries.Act.TheVariants.{Fall, RiseFall, Miss}
+use Rattle.e3_types.specs.declared.entries.Entry.{Entry}
+use Rattle.e3_types.specs.declared.entries.Why.TheVariants.{Fault, Full}
+use Rattle.e3_types.specs.declared.records.Record.{Record}
+use Rattle.e3_types.specs.declared.scenarios.Scenario.{Scenario}
+use Rattle.e3_world.specs.Moves.{kept_moves, log_by, log_size, moves_of, open_tail, own, rise_records, Move}
+
+-- each disk is blank, has power and is not armed
+abbrev pub AreBlank : {D : Type 0} → (D → List ℕ) → (D → List ℕ → Type 0) → (D → Meters) → List D → Type 0
+AreBlank content image meters disks = {d : _} → Contains disks d →
+    IsBlank content image d × ((meters d).powered ≡ true) × ((meters d).calls_left ≡ 0)
+
+-- the disk failed: a fall, a failed rise or a missed one, but none for want of room
+abbrev pub is_fault : Entry → Bool
+is_fault e = by e.act
+  where
+    by : Act → Bool
+    by (Fall inputs records Fault) = true
+    by (RiseFall kept inc Fault) = true
+    by Miss = true
+    by _ = false
+
+-- how often its disk failed a site
+abbrev pub faults_at : List Entry → ℕ → ℕ
+faults_at history site = count_by is_fault (own site history)
+
+-- the count rose so often at least, or stands at its last value
+abbrev pub RoseBy : ℕ → ℕ → ℕ → Type 0
+RoseBy times before now = (before + times ≤ now) ⊎ (now ≡ LAST)
+
+-- A frame of these records had not room behind these moves: `room` is all that the disk can hold, and what is needed is
+-- more, yet no more than the frames so far, the new one and a closed gate take.
+abbrev pub IsFull : ℕ → ℕ → ℕ → List Move → List Record → Type 0
+IsFull capacity need room moves records =
+    (room ≡ capacity) × (capacity < need) × (need ≤ log_size moves + 6 + length (spelling records))
+
+-- where the entry is one for want of room, its numbers are such
+abbrev pub HadNoRoom : Scenario → List Entry → ℕ → ℕ → Act → Type 0
+HadNoRoom sc before site capacity (Fall inputs records (Full need room)) = IsFull capacity need room (moves_of sc before site) records
+HadNoRoom sc before site capacity (RiseFall kept inc (Full need room)) = by (moves_of sc before site ++ kept_moves site kept (open_tail sc before site))
+  where
+    by : List Move → Type 0
+    by moves = IsFull capacity need room moves (rise_records sc site inc (log_by moves))
+HadNoRoom sc before site capacity act = Unit {0}
+
+-- all entries of the site for want of room have such numbers
+abbrev pub HadNoRooms : Scenario → List Entry → ℕ → ℕ → Type 0
+HadNoRooms sc history site capacity = (before after : List Entry) (e : Entry) → history ≡ before ++ e ∷ after → e.owner ≡ site →
+    HadNoRoom sc before site capacity e.act
+
+-- What the numbers of a disk came to: it failed as often as its site fell by it, at least, and it was neither armed nor cut.
+pub record HasServed (sc : Scenario) (history : List Entry) (site : ℕ) (old new : Meters) : Type 0 where
+  pub faults : RoseBy (faults_at history site) old.faults new.faults
+  pub capacity : new.capacity ≡ old.capacity
+  pub arms : new.arms ≡ old.arms
+  pub calls : new.calls ≡ old.calls
+  pub codes : new.codes ≡ old.codes
+  pub cuts : new.cuts ≡ old.cuts
+
+-- what the disk of a site came to: it stands for the site's log, and so it served
+pub record IsOver {D : Type 0} (image : D → List ℕ → Type 0) (meters : D → Meters) (sc : Scenario) (history : List Entry) (site : ℕ) (old new : D) : Type 0 where
+  pub stands : DiskStands sc history site (image new)
+  pub served : HasServed sc history site (meters old) (meters new)
+  pub rooms : HadNoRooms sc history site (meters old).capacity
+
+-- What the disks came to, that of site 1 first: each of a site so, and those past the sites of the scenario are as they
+-- were.
+pub record AreOver {D : Type 0} (image : D → List ℕ → Type 0) (meters : D → Meters) (sc : Scenario) (history : List Entry) (olds news : List D) : Type 0 where
+  pub count : length news ≡ length olds
+  pub sites : (at : ℕ) (old new : D) → at < length sc.weights → slice_get olds at ≡ Some old → slice_get news at ≡ Some new →
+      IsOver image meters sc history (suc at) old new
+  pub others : (at : ℕ) (old new : D) → length sc.weights ≤ at → slice_get olds at ≡ Some old → slice_get news at ≡ Some new → new ≡ old
