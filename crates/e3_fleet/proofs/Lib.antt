@@ -1,3 +1,6 @@
 pub mod Places
 pub mod Rooms
 pub mod Kept
+pub mod Going
+pub mod Owned
+pub mod Ending

@@ -41,3 +41,9 @@ get_back [] (z ∷ zs) ys i same far = absurd (omega (arith, same))
 get_back (x ∷ xs) [] ys i same far = absurd (omega (arith, same))
 get_back (x ∷ xs) (z ∷ zs) ys zero same far = absurd (omega (arith, far))
 get_back (x ∷ xs) (z ∷ zs) ys (suc i) same far = get_back xs zs ys i (omega (arith, same)) (omega (arith, far))
+
+-- and the length is as before
+pub set_length : {X : Type 0} (xs : List X) (i : ℕ) (x : X) → length (set xs i x) ≡ length xs
+set_length [] i x = refl
+set_length (y ∷ ys) zero x = refl
+set_length (y ∷ ys) (suc i) x = ap suc (set_length ys i x)

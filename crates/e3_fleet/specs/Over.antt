@@ -1,5 +1,5 @@
 -- What a run makes of the disks that it was given.
-use Rattle.std.specs.Prelude.{◌≡◌, ◌⊎◌, ◌+◌, ◌<◌, ◌≤◌, ◌++◌, ◌∷◌, ℕ, suc, Bool, true, false, List, length, count_by, slice_get, Some, Contains}
+use Rattle.std.specs.Prelude.{◌≡◌, ◌⊎◌, ◌+◌, ◌<◌, ◌≤◌, ◌++◌, ◌∷◌, ℕ, suc, Bool, true, false, List, length, count_by, slice_get, Some}
 use Rattle.e3_disk.specs.Images.{IsBlank}
 use Rattle.e3_disk.specs.Meters.{Meters, LAST}
 use Rattle.e3_node.specs.Bodies.{DiskStands}
@@ -12,10 +12,15 @@ use Rattle.e3_types.specs.declared.records.Record.{Record}
 use Rattle.e3_types.specs.declared.scenarios.Scenario.{Scenario}
 use Rattle.e3_world.specs.Moves.{kept_moves, log_by, log_size, moves_of, open_tail, own, rise_records, Move}
 
--- each disk is blank, has power and is not armed
+-- a disk is blank, has power and is not armed
+pub record IsFresh {D : Type 0} (content : D → List ℕ) (image : D → List ℕ → Type 0) (meters : D → Meters) (disk : D) : Type 0 where
+  pub blank : IsBlank content image disk
+  pub lit : (meters disk).powered ≡ true
+  pub unarmed : (meters disk).calls_left ≡ 0
+
+-- each of these disks is so
 abbrev pub AreBlank : {D : Type 0} → (D → List ℕ) → (D → List ℕ → Type 0) → (D → Meters) → List D → Type 0
-AreBlank content image meters disks = {d : _} → Contains disks d →
-    IsBlank content image d × ((meters d).powered ≡ true) × ((meters d).calls_left ≡ 0)
+AreBlank {D} content image meters disks = (at : ℕ) (disk : D) → slice_get disks at ≡ Some disk → IsFresh content image meters disk
 
 -- the disk failed: a fall, a failed rise or a missed one, but none for want of room
 abbrev pub is_fault : Entry → Bool

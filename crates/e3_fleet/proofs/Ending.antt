@@ -1,0 +1,118 @@
+-- What the disks of a run came to.
+use Rattle.std.proofs.Common.{◌≡◌, ◌≢◌, inl, inr, ◌⊎◌, ◌≤◌, ◌<◌, ◌+◌, ◌++◌, ◌∷◌, [], ℕ, suc, true, false, List, length, map, Some, None, refl, sym, ap, subst, ◌∙◌, arith}
+use Rattle.std.specs.Prelude.{slice_get, option_map}
+use Rattle.std.proofs.lemmas.Option.{slice_get-map}
+use Rattle.e3_disk.specs.Images.{IsBlank}
+use Rattle.e3_disk.specs.Meters.{Meters, LAST}
+use Rattle.e3_fleet.specs.Over.{AreBlank, AreOver, HadNoRooms, HasServed, IsFresh, IsOver, RoseBy, faults_at}
+use Rattle.e3_fleet.specs.Fleets.{AreSeated, HasKept, HaveKept, disks_of}
+use Rattle.e3_fleet.proofs.Places.{get_back, get_front, get_low, get_some}
+use Rattle.e3_fleet.proofs.Rooms.{rooms_empty}
+use Rattle.e3_log.specs.Frames.{Reads}
+use Rattle.e3_node.specs.Bodies.{DiskStands}
+use Rattle.e3_node.specs.Claims.{NodesDisks}
+use Rattle.e3_node.specs.NodeView.{NodeView, disk_of}
+use Rattle.e3_types.specs.declared.entries.Entry.{Entry}
+use Rattle.e3_types.specs.declared.scenarios.Scenario.{Scenario}
+
+-- a blank disk stands for a site without entries
+blank_stands : {D : Type 0} (content : D → List ℕ) (image : D → List ℕ → Type 0) (sc : Scenario) (site : ℕ) (d : D) →
+    IsBlank content image d → DiskStands sc [] site (image d)
+blank_stands content image sc site d blank bytes left = subst (λ (b : List ℕ). Reads [] b) (sym (blank.1 bytes left))
+    (record { rest = 0 ∷ []; parts = refl; closed = λ e. omega (arith, e); fits = tt })
+
+served_still : (sc : Scenario) (site : ℕ) (m : Meters) → HasServed sc [] site m m
+served_still sc site m = record { faults = inl (omega arith); capacity = refl; arms = refl; calls = refl; codes = refl; cuts = refl }
+
+-- a run that never began
+pub never_began : {D : Type 0} (content : D → List ℕ) (image : D → List ℕ → Type 0) (meters : D → Meters) (sc : Scenario) (disks : List D) →
+    AreBlank content image meters disks → AreOver image meters sc [] disks disks
+never_began {D} content image meters sc disks blank = record {
+  count = refl;
+  sites = λ at old new low is was. (let one : old ≡ new = cc in subst (λ (d : D). IsOver image meters sc [] (suc at) old d) one (over at old (blank at old is)));
+  others = λ at old new far is was. (let one : new ≡ old = cc in one);
+}
+  where
+    over : (at : ℕ) (d : D) → IsFresh content image meters d → IsOver image meters sc [] (suc at) d d
+    over at d fresh = record {
+      stands = blank_stands content image sc (suc at) d fresh.blank;
+      served = served_still sc (suc at) (meters d);
+      rooms = rooms_empty sc (suc at) (meters d).capacity;
+    }
+
+disks_length : {D : Type 0} (nodes : List (NodeView D)) → length (disks_of nodes) ≡ length nodes
+disks_length [] = refl
+disks_length (n ∷ nodes) = ap suc (disks_length nodes)
+
+served : (sc : Scenario) (h : List Entry) (site : ℕ) (old new : Meters) → HasKept site [] h old new → HasServed sc h site old new
+served sc h site old new kept = record {
+  faults = by kept.faults;
+  capacity = kept.capacity; arms = kept.arms; calls = kept.calls; codes = kept.codes; cuts = kept.cuts;
+}
+  where
+    by : (old.faults + faults_at h site ≤ new.faults + 0) ⊎ (new.faults ≡ LAST) → RoseBy (faults_at h site) old.faults new.faults
+    by (inl k) = inl (omega (arith, k))
+    by (inr k) = inr k
+
+-- a run that ended with these nodes, whose disks came back before the others
+pub came_back : {D : Type 0} (content : D → List ℕ) (image : D → List ℕ → Type 0) (meters : D → Meters) → NodesDisks content image meters →
+    (sc : Scenario) (h : List Entry) (olds news : List (NodeView D)) (rest before now : List D) → length olds ≡ length sc.weights →
+    AreSeated content image meters sc h news → HaveKept meters [] h olds news →
+    disks_of olds ++ rest ≡ before → now ≡ disks_of news ++ rest → AreOver image meters sc h before now
+came_back {D} content image meters law sc h olds news rest before now all seated kept was is = record {
+  count = lengths;
+  sites = λ at old new low there here. site at old new low there here;
+  others = λ at old new far there here. other at old new far there here;
+}
+  where
+    same : length (disks_of olds) ≡ length (disks_of news)
+    same = disks_length olds ∙ sym kept.count ∙ sym (disks_length news)
+
+    lengths : length now ≡ length before
+    lengths = ap length is ∙ by (disks_of olds) (disks_of news) same ∙ ap length was
+      where
+        by : (xs ys : List D) → length xs ≡ length ys → length (ys ++ rest) ≡ length (xs ++ rest)
+        by [] [] e = refl
+        by [] (y ∷ ys) e = absurd (omega (arith, e))
+        by (x ∷ xs) [] e = absurd (omega (arith, e))
+        by (x ∷ xs) (y ∷ ys) e = ap suc (by xs ys (omega (arith, e)))
+
+    disk : NodeView D → D
+    disk n = disk_of n.state
+
+    -- the disk of a node at its place
+    place : (nodes : List (NodeView D)) (at : ℕ) (n : NodeView D) (d : D) → at < length nodes → slice_get nodes at ≡ Some n →
+        slice_get (disks_of nodes ++ rest) at ≡ Some d → d ≡ disk_of n.state
+    place nodes at n d low there here =
+        let front : slice_get (disks_of nodes ++ rest) at ≡ slice_get (disks_of nodes) at =
+            (let count = disks_length nodes in get_front (disks_of nodes) rest at (omega (arith, low, count))) in
+        let mapped : slice_get (disks_of nodes) at ≡ option_map (λ (x : NodeView D). disk_of x.state) (slice_get nodes at) =
+            slice_get-map (λ (x : NodeView D). disk_of x.state) nodes at in
+        let some : slice_get (disks_of nodes) at ≡ Some (disk_of n.state) = mapped ∙ ap (option_map (λ (x : NodeView D). disk_of x.state)) there in
+        let both : Some d ≡ Some (disk_of n.state) = sym here ∙ front ∙ some in cc
+
+    one_site : (at : ℕ) (x y : NodeView D) (old new : D) → slice_get olds at ≡ Some x → slice_get news at ≡ Some y →
+        old ≡ disk_of x.state → new ≡ disk_of y.state → IsOver image meters sc h (suc at) old new
+    one_site at x y old new there here one two =
+        subst (λ (d : D). IsOver image meters sc h (suc at) d new) (sym one)
+        (subst (λ (d : D). IsOver image meters sc h (suc at) (disk_of x.state) d) (sym two) (record {
+          stands = subst (λ (s : ℕ). DiskStands sc h s (image (disk_of y.state))) (seated at y here).site (law sc h y (seated at y here).stands);
+          served = served sc h (suc at) (meters (disk_of x.state)) (meters (disk_of y.state)) (kept.each at x y there here);
+          rooms = subst (λ (n : ℕ). HadNoRooms sc h (suc at) n) (kept.each at x y there here).capacity (seated at y here).rooms;
+        }))
+
+    site : (at : ℕ) (old new : D) → at < length sc.weights → slice_get before at ≡ Some old → slice_get now at ≡ Some new →
+        IsOver image meters sc h (suc at) old new
+    site at old new low there here =
+        by (get_some olds at (omega (arith, low, all))) (let count = kept.count in get_some news at (omega (arith, low, all, count)))
+      where
+        by : (x : NodeView D) × (slice_get olds at ≡ Some x) → (y : NodeView D) × (slice_get news at ≡ Some y) → IsOver image meters sc h (suc at) old new
+        by (x, x_at) (y, y_at) = one_site at x y old new x_at y_at
+            (place olds at x old (omega (arith, low, all)) x_at (ap (λ (ds : List D). slice_get ds at) was ∙ there))
+            (place news at y new (let count = kept.count in omega (arith, low, all, count)) y_at (ap (λ (ds : List D). slice_get ds at) (sym is) ∙ here))
+
+    other : (at : ℕ) (old new : D) → length sc.weights ≤ at → slice_get before at ≡ Some old → slice_get now at ≡ Some new → new ≡ old
+    other at old new far there here =
+        let back : slice_get (disks_of olds ++ rest) at ≡ slice_get (disks_of news ++ rest) at =
+            (let count = disks_length olds in get_back (disks_of olds) (disks_of news) rest at same (omega (arith, far, all, count))) in
+        let both : Some old ≡ Some new = sym there ∙ sym (ap (λ (ds : List D). slice_get ds at) was) ∙ back ∙ sym (ap (λ (ds : List D). slice_get ds at) is) ∙ here in cc
