@@ -20,3 +20,4 @@ mod Pending
 mod Issuing
 mod Talks
 mod Silence
+mod Stepping

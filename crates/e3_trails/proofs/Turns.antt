@@ -313,7 +313,7 @@ module _ (sc : Scenario) (h : List Entry) (site : ℕ) (i : Input) (took : TookI
           (each-push IsElect (items_taken h s) i (took.rounds s group recover) elects)
 
 -- a round is due in a recover step alone
-due_recovers : (sc : Scenario) (h : List Entry) (r : RecoveryRound) → due_round sc h ≡ Some r → (group : List ℕ) × (recover_group (present_items sc h) ≡ Some group)
+pub due_recovers : (sc : Scenario) (h : List Entry) (r : RecoveryRound) → due_round sc h ≡ Some r → (group : List ℕ) × (recover_group (present_items sc h) ≡ Some group)
 due_recovers sc h r due = by (recover_group (present_items sc h)) refl
   where
     by : (o : Option (List ℕ)) → recover_group (present_items sc h) ≡ o → (group : List ℕ) × (recover_group (present_items sc h) ≡ Some group)
