@@ -21,3 +21,4 @@ mod Issuing
 mod Talks
 mod Silence
 mod Stepping
+mod Speaking

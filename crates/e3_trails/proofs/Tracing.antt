@@ -136,12 +136,12 @@ or_false true = refl
 or_false false = refl
 
 -- no refusal was told
-none_refused : (a : At) (l : List Told) → Each (Tells a) l → list_any is_refusal l ≡ false
+pub none_refused : (a : At) (l : List Told) → Each (Tells a) l → list_any is_refusal l ≡ false
 none_refused a [] all = refl
 none_refused a (told.Refused t why ∷ l) all = absurd all.0
 none_refused a (e ∷ l) all = none_refused a l all.1
 
-same_issued : (t : Txn) (i : Input) (events : List Told) → list_any is_refusal events ≡ false → issued_in t i events ≡ issued_in t i []
+pub same_issued : (t : Txn) (i : Input) (events : List Told) → list_any is_refusal events ≡ false → issued_in t i events ≡ issued_in t i []
 same_issued t (input.Do u op) events none = rw none refl
 same_issued t i events none = refl
 
