@@ -268,7 +268,7 @@ due_known sc h site (input.Do t op) due = next_known sc h site (input.Do t op) d
 due_known sc h site i due = tt
 
 -- where nothing is done the counts stay
-still_more : (b : Bool) (xs : List Moment) → xs ≡ [] → (if b then xs else []) ≡ []
+pub still_more : (b : Bool) (xs : List Moment) → xs ≡ [] → (if b then xs else []) ≡ []
 still_more true xs none = none
 still_more false xs none = refl
 

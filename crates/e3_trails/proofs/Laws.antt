@@ -12,11 +12,13 @@ use Rattle.e3_world.specs.Packets.{sent}
 use Rattle.e3_world.proofs.InTrail.{pending_sent}
 use Rattle.e3_world.proofs.Pushes.{life_log_at}
 use Rattle.e3_trails.specs.Bounds.{GoesBetween, SuitsLog}
-use Rattle.e3_trails.specs.Claims.{PacketsGoBetween, PendingWasSent, RecordsSuitTheirSite, VotesAtTheirSite, InputsSuit, tail_records, records_at}
+use Rattle.e3_trails.specs.Claims.{PacketsGoBetween, PendingWasSent, RecordsSuitTheirSite, VotesAtTheirSite, InputsSuit, DueInputsFit, tail_records, records_at}
 use Rattle.e3_trails.proofs.Arriving.{IfAny}
 use Rattle.e3_trails.proofs.Each.{each-at, each-append}
 use Rattle.e3_trails.proofs.Holding.{Holds, legal_holds}
 use Rattle.e3_trails.proofs.Suiting.{due_input_suits}
+use Rattle.e3_trails.proofs.Lasting.{legal_lasts}
+use Rattle.e3_trails.proofs.Fitting.{due_fits}
 
 pub go_between : PacketsGoBetween
 go_between sc h packet given legal has = each-at (GoesBetween sc.weights) (sent h) packet (legal_holds sc h given legal).now.sent has
@@ -44,3 +46,6 @@ pub inputs_suit : InputsSuit
 inputs_suit sc h site i given legal due =
     let all : Holds sc h = legal_holds sc h given legal in
     due_input_suits sc h site i given all.line.binds all.now.sent (λ s. (all.line.sites s).life) due
+
+pub inputs_fit : DueInputsFit
+inputs_fit sc h site i given legal up due = due_fits sc h site i given (legal_lasts sc h given legal) up due

@@ -22,3 +22,5 @@ mod Talks
 mod Silence
 mod Stepping
 mod Speaking
+mod Quiet
+mod Fitting

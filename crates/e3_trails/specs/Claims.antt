@@ -1,5 +1,5 @@
 -- What every legal history of a given scenario keeps.
-use Rattle.std.specs.Prelude.{◌++◌, [], ℕ, List, Option, Some, None, Contains}
+use Rattle.std.specs.Prelude.{◌≡◌, ◌++◌, [], ℕ, true, List, Option, Some, None, Contains}
 use Rattle.std.specs.List.{AllByRecursion as Each}
 use Rattle.e3_types.specs.declared.entries.Entry.{Entry}
 use Rattle.e3_types.specs.declared.entries.Input.{Input}
@@ -10,9 +10,12 @@ use Rattle.e3_types.specs.declared.scenarios.Scenario.{Scenario}
 use Rattle.e3_types.specs.declared.transactions.NumOp.{NumOp}
 use Rattle.e3_types.specs.declared.transactions.Txn.{Txn}
 use Rattle.e3_world.specs.Given.{IsGiven}
+use Rattle.e3_world.specs.Items.{is_up_at}
 use Rattle.e3_world.specs.Legal.{IsLegal, IsDue}
-use Rattle.e3_world.specs.Moves.{Tail, log_of, open_tail}
+use Rattle.e3_world.specs.Lives.{life_at}
+use Rattle.e3_world.specs.Moves.{Tail, moves_of, log_of, open_tail}
 use Rattle.e3_world.specs.Packets.{sent, pending}
+use Rattle.e3_world.specs.Sound.{Fits}
 use Rattle.e3_trails.specs.Bounds.{GoesBetween, Suits, SuitsLog, IsHere}
 
 -- Each packet that was sent goes from a site of its transaction to another of them, all of which are sites of the
@@ -47,3 +50,8 @@ VotesAtTheirSite = (sc : Scenario) (h : List Entry) (site : ℕ) (t : Txn) (ops 
 -- What is due at a site suits it.
 abbrev pub InputsSuit : Type 0
 InputsSuit = (sc : Scenario) (h : List Entry) (site : ℕ) (i : Input) → IsGiven sc → IsLegal sc h → IsDue sc h site i → Suits sc.weights site i
+
+-- An input that is due at a site that is up fits the site: it is one that a site may be given after what it did.
+abbrev pub DueInputsFit : Type 0
+DueInputsFit = (sc : Scenario) (h : List Entry) (site : ℕ) (i : Input) → IsGiven sc → IsLegal sc h → is_up_at h site ≡ true → IsDue sc h site i →
+    Fits sc.weights site (life_at (moves_of sc h site)) i

@@ -1,7 +1,7 @@
 //! Laws of what legal histories send, record and take.
 #![tactic(auto)]
 
-ghost use Rattle.e3_trails.specs.Claims.{InputsSuit, PacketsGoBetween, PendingWasSent, RecordsSuitTheirSite, VotesAtTheirSite};
+ghost use Rattle.e3_trails.specs.Claims.{DueInputsFit, InputsSuit, PacketsGoBetween, PendingWasSent, RecordsSuitTheirSite, VotesAtTheirSite};
 
 /// Each packet of a legal history goes from one site of its transaction to another, and a Do from the coordinator to the
 /// site of its key; and what is pending was sent.
@@ -20,4 +20,10 @@ pub fn records_suit_their_site()
 /// What a legal history may give to a site is of a transaction of that site.
 pub fn inputs_suit_their_site()
     ensures { InputsSuit }
+{}
+
+/// What is due at a site that is up fits the life of the site: an operation at its coordinator is not the 65th, and one
+/// that is delivered comes in turn.
+pub fn due_inputs_fit()
+    ensures { DueInputsFit }
 {}
