@@ -84,7 +84,7 @@ guard_lasts sc h e given was guard = record {
 none_sent : {P : Type 0} (x : Packet) → Contains [] x → P
 none_sent x has = absurd (omega (arith, has.1))
 
-first_lasts : (sc : Scenario) → Lasts sc []
+pub first_lasts : (sc : Scenario) → Lasts sc []
 first_lasts sc = record {
   holds = first_holds sc;
   fresh = record {

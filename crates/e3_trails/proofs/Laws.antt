@@ -1,5 +1,5 @@
 -- The laws of legal histories.
-use Rattle.std.proofs.Common.{◌≡◌, ◌++◌, [], ℕ, List, Option, Some, None, subst, sym}
+use Rattle.std.proofs.Common.{◌≡◌, ◌++◌, [], ℕ, List, Option, Some, None, ap, subst, sym}
 use Rattle.std.specs.List.{AllByRecursion as Each}
 use Rattle.e3_types.specs.declared.entries.Entry.{Entry}
 use Rattle.e3_types.specs.declared.records.Record.{Record}
@@ -7,18 +7,21 @@ use Rattle.e3_types.specs.declared.records.Record.TheVariants as log
 use Rattle.e3_types.specs.declared.scenarios.Scenario.{Scenario}
 use Rattle.e3_world.specs.Given.{IsGiven}
 use Rattle.e3_world.specs.Legal.{IsLegal}
-use Rattle.e3_world.specs.Moves.{Tail, moves_of, log_of, open_tail}
+use Rattle.e3_world.specs.Moves.{Tail, moves_of, log_by, log_of, open_tail, trail_of}
 use Rattle.e3_world.specs.Packets.{sent}
 use Rattle.e3_world.proofs.InTrail.{pending_sent}
 use Rattle.e3_world.proofs.Pushes.{life_log_at}
+use Rattle.e3_world.proofs.Trails.{trail_moves}
 use Rattle.e3_trails.specs.Bounds.{GoesBetween, SuitsLog}
-use Rattle.e3_trails.specs.Claims.{PacketsGoBetween, PendingWasSent, RecordsSuitTheirSite, VotesAtTheirSite, InputsSuit, DueInputsFit, tail_records, records_at}
+use Rattle.e3_trails.specs.Claims.{PacketsGoBetween, PendingWasSent, RecordsSuitTheirSite, VotesAtTheirSite, InputsSuit, DueInputsFit, TrailsAreSound, LogsAreOfTrails, SilentMovesEnd, tail_records, records_at}
 use Rattle.e3_trails.proofs.Arriving.{IfAny}
 use Rattle.e3_trails.proofs.Each.{each-at, each-append}
 use Rattle.e3_trails.proofs.Holding.{Holds, legal_holds}
 use Rattle.e3_trails.proofs.Suiting.{due_input_suits}
 use Rattle.e3_trails.proofs.Lasting.{legal_lasts}
 use Rattle.e3_trails.proofs.Fitting.{due_fits}
+use Rattle.e3_trails.proofs.Sounding.{legal_trail}
+use Rattle.e3_trails.proofs.Parting.{no_step}
 
 pub go_between : PacketsGoBetween
 go_between sc h packet given legal has = each-at (GoesBetween sc.weights) (sent h) packet (legal_holds sc h given legal).now.sent has
@@ -49,3 +52,12 @@ inputs_suit sc h site i given legal due =
 
 pub inputs_fit : DueInputsFit
 inputs_fit sc h site i given legal up due = due_fits sc h site i given (legal_lasts sc h given legal) up due
+
+pub trails_sound : TrailsAreSound
+trails_sound sc h given legal = (legal_trail sc h given legal).sound
+
+pub logs_of_trails : LogsAreOfTrails
+logs_of_trails sc h site = ap log_by (trail_moves sc site h)
+
+pub silent_end : SilentMovesEnd
+silent_end sc h site before rest m inputs records given legal is = no_step sc site (trail_of sc h) before rest m inputs records (legal_trail sc h given legal).sound is

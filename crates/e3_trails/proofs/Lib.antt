@@ -24,3 +24,5 @@ mod Stepping
 mod Speaking
 mod Quiet
 mod Fitting
+mod Sounding
+mod Parting

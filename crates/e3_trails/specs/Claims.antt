@@ -1,5 +1,5 @@
 -- What every legal history of a given scenario keeps.
-use Rattle.std.specs.Prelude.{◌≡◌, ◌++◌, [], ℕ, true, List, Option, Some, None, Contains}
+use Rattle.std.specs.Prelude.{◌≡◌, ◌++◌, ◌∷◌, [], ℕ, true, List, Option, Some, None, Contains}
 use Rattle.std.specs.List.{AllByRecursion as Each}
 use Rattle.e3_types.specs.declared.entries.Entry.{Entry}
 use Rattle.e3_types.specs.declared.entries.Input.{Input}
@@ -13,9 +13,9 @@ use Rattle.e3_world.specs.Given.{IsGiven}
 use Rattle.e3_world.specs.Items.{is_up_at}
 use Rattle.e3_world.specs.Legal.{IsLegal, IsDue}
 use Rattle.e3_world.specs.Lives.{life_at}
-use Rattle.e3_world.specs.Moves.{Tail, moves_of, log_of, open_tail}
+use Rattle.e3_world.specs.Moves.{Move, Did, Stepped, Silent, Rose, Tail, moves_at, moves_of, log_by, log_of, open_tail, trail_of}
 use Rattle.e3_world.specs.Packets.{sent, pending}
-use Rattle.e3_world.specs.Sound.{Fits}
+use Rattle.e3_world.specs.Sound.{Fits, IsSound}
 use Rattle.e3_trails.specs.Bounds.{GoesBetween, Suits, SuitsLog, IsHere}
 
 -- Each packet that was sent goes from a site of its transaction to another of them, all of which are sites of the
@@ -55,3 +55,22 @@ InputsSuit = (sc : Scenario) (h : List Entry) (site : ℕ) (i : Input) → IsGiv
 abbrev pub DueInputsFit : Type 0
 DueInputsFit = (sc : Scenario) (h : List Entry) (site : ℕ) (i : Input) → IsGiven sc → IsLegal sc h → is_up_at h site ≡ true → IsDue sc h site i →
     Fits sc.weights site (life_at (moves_of sc h site)) i
+
+-- The trail of a legal history is sound: each of its moves is one that its site may make behind the moves before it.
+abbrev pub TrailsAreSound : Type 0
+TrailsAreSound = (sc : Scenario) (h : List Entry) → IsGiven sc → IsLegal sc h → IsSound sc (trail_of sc h)
+
+-- The log that a site's moves in the trail make is its log in the history.
+abbrev pub LogsAreOfTrails : Type 0
+LogsAreOfTrails = (sc : Scenario) (h : List Entry) (site : ℕ) → log_by (moves_at site (trail_of sc h)) ≡ log_of sc h site
+
+-- the move is no step
+abbrev pub IsNoStep : Did → Type 0
+IsNoStep (Stepped s) = ⊥
+IsNoStep (Silent inputs records) = Unit {0}
+IsNoStep (Rose inc records) = Unit {0}
+
+-- A silent move of a site is followed, among its moves, by a silent move or a rise.
+abbrev pub SilentMovesEnd : Type 0
+SilentMovesEnd = (sc : Scenario) (h : List Entry) (site : ℕ) (before rest : List Move) (m : Move) (inputs : List Input) (records : List Record) →
+    IsGiven sc → IsLegal sc h → moves_at site (trail_of sc h) ≡ before ++ record { site = site; did = Silent inputs records } ∷ m ∷ rest → IsNoStep m.did

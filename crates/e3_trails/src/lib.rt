@@ -1,7 +1,7 @@
 //! Laws of what legal histories send, record and take.
 #![tactic(auto)]
 
-ghost use Rattle.e3_trails.specs.Claims.{DueInputsFit, InputsSuit, PacketsGoBetween, PendingWasSent, RecordsSuitTheirSite, VotesAtTheirSite};
+ghost use Rattle.e3_trails.specs.Claims.{DueInputsFit, InputsSuit, LogsAreOfTrails, PacketsGoBetween, PendingWasSent, RecordsSuitTheirSite, SilentMovesEnd, TrailsAreSound, VotesAtTheirSite};
 
 /// Each packet of a legal history goes from one site of its transaction to another, and a Do from the coordinator to the
 /// site of its key; and what is pending was sent.
@@ -26,4 +26,12 @@ pub fn inputs_suit_their_site()
 /// that is delivered comes in turn.
 pub fn due_inputs_fit()
     ensures { DueInputsFit }
+{}
+
+/// The trail of a legal history is sound, and its logs are those of the history. A silent move of a site comes before a
+/// silent move or a rise of that site, never before a step.
+pub fn trails_are_sound()
+    ensures sound { TrailsAreSound }
+    ensures logs { LogsAreOfTrails }
+    ensures silent { SilentMovesEnd }
 {}
