@@ -13,7 +13,7 @@ use Rattle.e3_world.proofs.InTrail.{pending_sent}
 use Rattle.e3_world.proofs.Pushes.{life_log_at}
 use Rattle.e3_world.proofs.Trails.{trail_moves}
 use Rattle.e3_trails.specs.Bounds.{GoesBetween, SuitsLog}
-use Rattle.e3_trails.specs.Claims.{PacketsGoBetween, PendingWasSent, RecordsSuitTheirSite, VotesAtTheirSite, InputsSuit, DueInputsFit, TrailsAreSound, LogsAreOfTrails, SilentMovesEnd, tail_records, records_at}
+use Rattle.e3_trails.specs.Claims.{PacketsGoBetween, PendingWasSent, RecordsSuitTheirSite, VotesAtTheirSite, InputsSuit, DueInputsFit, TrailsAreSound, LogsAreOfTrails, SilentMovesEnd, NamesDiffer, tail_records, records_at}
 use Rattle.e3_trails.proofs.Arriving.{IfAny}
 use Rattle.e3_trails.proofs.Each.{each-at, each-append}
 use Rattle.e3_trails.proofs.Holding.{Holds, legal_holds}
@@ -22,6 +22,7 @@ use Rattle.e3_trails.proofs.Lasting.{legal_lasts}
 use Rattle.e3_trails.proofs.Fitting.{due_fits}
 use Rattle.e3_trails.proofs.Sounding.{legal_trail}
 use Rattle.e3_trails.proofs.Parting.{no_step}
+use Rattle.e3_trails.proofs.Naming.{legal_named}
 
 pub go_between : PacketsGoBetween
 go_between sc h packet given legal has = each-at (GoesBetween sc.weights) (sent h) packet (legal_holds sc h given legal).now.sent has
@@ -61,3 +62,6 @@ logs_of_trails sc h site = ap log_by (trail_moves sc site h)
 
 pub silent_end : SilentMovesEnd
 silent_end sc h site before rest m inputs records given legal is = no_step sc site (trail_of sc h) before rest m inputs records (legal_trail sc h given legal).sound is
+
+pub names_apart : NamesDiffer
+names_apart sc h given legal = (legal_named sc h given legal).differ

@@ -26,3 +26,4 @@ mod Quiet
 mod Fitting
 mod Sounding
 mod Parting
+mod Naming

@@ -115,10 +115,11 @@ pub record Answers (a : At) (t : Txn) (n : ℕ) : Type 0 where
   pub nth : nth_op n (issued t (steps_now a nothing)) ≡ Some op
   pub there : (key_of op).site ≡ site
 
--- what is told: answers, and no refusal
+-- what is told: answers, no refusal, and a begin where the step takes one
 abbrev pub Tells : At → Told → Type 0
 Tells a (told.Op t n answer) = Answers a t n
 Tells a (told.Refused t why) = ⊥
+Tells a (told.Began t) = (sites : List ℕ) × (a.input ≡ input.Begin sites)
 Tells a e = Unit {0}
 
 -- all that a step made so far
@@ -660,7 +661,7 @@ delivered_traces a p (msg.Done t n inc answer) is same = inr (p, is, refl, (inc,
 delivered_traces a p x is same = tt
 
 input_says : (a : At) (i : Input) → a.input ≡ i → Ready a → Says a (settle 3 a (and_grants a 0 (on_input a i nothing)))
-input_says a (input.Begin sites) is ready = settles a (on_begin a sites nothing) ready (record { own = tt; outs = tt; records = tt; told = (tt, tt) })
+input_says a (input.Begin sites) is ready = settles a (on_begin a sites nothing) ready (record { own = tt; outs = tt; records = tt; told = ((sites, is), tt) })
 input_says a (input.Do t op) is ready = or_says a t (refuse a t false nothing) _ ready (λ allowed.
     keep_send a (key_of op).site (msg.Do t (suc (length (issued t a.life.steps))) op) nothing (record { takes = is; next = refl; allowed = allowed; there = refl }) (start a))
 input_says a (input.Commit t) is ready = or_says a t (refuse a t false nothing) _ ready (λ allowed. keep_commit a t nothing (start a))

@@ -1,6 +1,6 @@
 -- What every legal history of a given scenario keeps.
 use Rattle.std.specs.Prelude.{◌≡◌, ◌++◌, ◌∷◌, [], ℕ, true, List, Option, Some, None, Contains}
-use Rattle.std.specs.List.{AllByRecursion as Each}
+use Rattle.std.specs.List.{flat_map, AllByRecursion as Each}
 use Rattle.e3_types.specs.declared.entries.Entry.{Entry}
 use Rattle.e3_types.specs.declared.entries.Input.{Input}
 use Rattle.e3_types.specs.declared.messages.Packet.{Packet}
@@ -10,12 +10,12 @@ use Rattle.e3_types.specs.declared.scenarios.Scenario.{Scenario}
 use Rattle.e3_types.specs.declared.transactions.NumOp.{NumOp}
 use Rattle.e3_types.specs.declared.transactions.Txn.{Txn}
 use Rattle.e3_world.specs.Given.{IsGiven}
-use Rattle.e3_world.specs.Items.{is_up_at}
+use Rattle.e3_world.specs.Items.{is_up_at, began_in}
 use Rattle.e3_world.specs.Legal.{IsLegal, IsDue}
 use Rattle.e3_world.specs.Lives.{life_at}
 use Rattle.e3_world.specs.Moves.{Move, Did, Stepped, Silent, Rose, Tail, moves_at, moves_of, log_by, log_of, open_tail, trail_of}
 use Rattle.e3_world.specs.Packets.{sent, pending}
-use Rattle.e3_world.specs.Sound.{Fits, IsSound}
+use Rattle.e3_world.specs.Sound.{Fits, tells, IsSound}
 use Rattle.e3_trails.specs.Bounds.{GoesBetween, Suits, SuitsLog, IsHere}
 
 -- Each packet that was sent goes from a site of its transaction to another of them, all of which are sites of the
@@ -74,3 +74,20 @@ IsNoStep (Rose inc records) = Unit {0}
 abbrev pub SilentMovesEnd : Type 0
 SilentMovesEnd = (sc : Scenario) (h : List Entry) (site : ℕ) (before rest : List Move) (m : Move) (inputs : List Input) (records : List Record) →
     IsGiven sc → IsLegal sc h → moves_at site (trail_of sc h) ≡ before ++ record { site = site; did = Silent inputs records } ∷ m ∷ rest → IsNoStep m.did
+
+-- the transactions that moves tell as begun
+abbrev pub begun_by : List Move → List Txn
+begun_by moves = flat_map (λ m. flat_map began_in (tells m)) moves
+
+-- the two have not one name: they differ in site, incarnation or number
+abbrev pub DifferInName : Txn → Txn → Type 0
+DifferInName t u = t.site ≡ u.site → t.inc ≡ u.inc → t.seq ≡ u.seq → ⊥
+
+-- no two of these transactions have one name
+abbrev pub AllDiffer : List Txn → Type 0
+AllDiffer [] = Unit {0}
+AllDiffer (t ∷ ts) = Each (DifferInName t) ts × AllDiffer ts
+
+-- No two transactions that are begun in a legal history have one name.
+abbrev pub NamesDiffer : Type 0
+NamesDiffer = (sc : Scenario) (h : List Entry) → IsGiven sc → IsLegal sc h → AllDiffer (begun_by (trail_of sc h))

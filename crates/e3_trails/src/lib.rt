@@ -1,7 +1,7 @@
 //! Laws of what legal histories send, record and take.
 #![tactic(auto)]
 
-ghost use Rattle.e3_trails.specs.Claims.{DueInputsFit, InputsSuit, LogsAreOfTrails, PacketsGoBetween, PendingWasSent, RecordsSuitTheirSite, SilentMovesEnd, TrailsAreSound, VotesAtTheirSite};
+ghost use Rattle.e3_trails.specs.Claims.{DueInputsFit, InputsSuit, LogsAreOfTrails, NamesDiffer, PacketsGoBetween, PendingWasSent, RecordsSuitTheirSite, SilentMovesEnd, TrailsAreSound, VotesAtTheirSite};
 
 /// Each packet of a legal history goes from one site of its transaction to another, and a Do from the coordinator to the
 /// site of its key; and what is pending was sent.
@@ -34,4 +34,10 @@ pub fn trails_are_sound()
     ensures sound { TrailsAreSound }
     ensures logs { LogsAreOfTrails }
     ensures silent { SilentMovesEnd }
+{}
+
+/// The transactions that a legal history tells as begun have different names: no two have the same site, incarnation and
+/// number, whatever fell or was lost between them.
+pub fn names_differ()
+    ensures { NamesDiffer }
 {}
