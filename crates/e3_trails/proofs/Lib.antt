@@ -27,3 +27,5 @@ mod Fitting
 mod Sounding
 mod Parting
 mod Naming
+mod Ordering
+mod Numbering

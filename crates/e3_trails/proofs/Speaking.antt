@@ -89,7 +89,7 @@ do_packet t n (input.Deliver p) is = by p.msg refl is
     by x same some = absurd cc
 do_packet t n i is = absurd cc
 
-both_each : {X : Type 0} (P Q : X → Type 0) (xs : List X) → Each P xs → Each Q xs → Each (λ x. P x × Q x) xs
+pub both_each : {X : Type 0} (P Q : X → Type 0) (xs : List X) → Each P xs → Each Q xs → Each (λ x. P x × Q x) xs
 both_each P Q [] first second = tt
 both_each P Q (x ∷ xs) first second = ((first.0, second.0), both_each P Q xs first.1 second.1)
 

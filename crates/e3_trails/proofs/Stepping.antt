@@ -245,7 +245,7 @@ module _ (sc : Scenario) (h k : List Entry) (site : ℕ) (i : Input) (m : Moment
           subst P (eqb-true site s is) (subst Q (sym step.steps) mine) told
 
   -- an operation that the step delivers was on its way
-  now_pends : (t : Txn) (n : ℕ) → is_do t n m.input ≡ true → (p : Pends sc h t n) × (p.packet.to ≡ site)
+  pub now_pends : (t : Txn) (n : ℕ) → is_do t n m.input ≡ true → (p : Pends sc h t n) × (p.packet.to ≡ site)
   now_pends t n now =
       let this : _ = step.takes t n now in
       let P : Input → Type 0 = IsDue sc h site in

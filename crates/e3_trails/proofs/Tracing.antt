@@ -311,7 +311,7 @@ fold_came weights site was (m ∷ steps) all suit = fold_came weights site (arri
       (if_now site was.steps m (taken_up site was.steps m) (came_up weights site was.steps m suit.0));
 }) suit.1
 
-fold_steps : (site : ℕ) (was : Arrived) (steps : List Moment) → (fold (arrived_by site) was steps).steps ≡ was.steps ++ steps
+pub fold_steps : (site : ℕ) (was : Arrived) (steps : List Moment) → (fold (arrived_by site) was steps).steps ≡ was.steps ++ steps
 fold_steps site was [] = sym (append-nil was.steps)
 fold_steps site was (m ∷ steps) = fold_steps site (arrived_by site was m) steps ∙ append_assoc was.steps (m ∷ []) steps
 

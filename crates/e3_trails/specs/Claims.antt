@@ -1,21 +1,28 @@
 -- What every legal history of a given scenario keeps.
-use Rattle.std.specs.Prelude.{◌≡◌, ◌++◌, ◌∷◌, [], ℕ, true, List, Option, Some, None, Contains}
-use Rattle.std.specs.List.{flat_map, AllByRecursion as Each}
+use Rattle.std.specs.Prelude.{◌≡◌, ◌≤◌, ◌++◌, ◌∷◌, [], ℕ, nat_le, true, List, length, filter, map, Option, Some, None, Contains}
+use Rattle.std.specs.List.{flat_map, list_all, AllByRecursion as Each}
 use Rattle.e3_types.specs.declared.entries.Entry.{Entry}
 use Rattle.e3_types.specs.declared.entries.Input.{Input}
+use Rattle.e3_types.specs.declared.messages.Message.TheVariants as msg
 use Rattle.e3_types.specs.declared.messages.Packet.{Packet}
 use Rattle.e3_types.specs.declared.records.Record.{Record}
 use Rattle.e3_types.specs.declared.records.Record.TheVariants as log
 use Rattle.e3_types.specs.declared.scenarios.Scenario.{Scenario}
 use Rattle.e3_types.specs.declared.transactions.NumOp.{NumOp}
+use Rattle.e3_types.specs.declared.transactions.Op.{Op}
 use Rattle.e3_types.specs.declared.transactions.Txn.{Txn}
+use Rattle.e3_types.specs.Same.{same_txn}
+use Rattle.e3_world.specs.declared.lives.Asked.{Asked}
+use Rattle.e3_world.specs.declared.lives.Life.{Life}
 use Rattle.e3_world.specs.Given.{IsGiven}
 use Rattle.e3_world.specs.Items.{is_up_at, began_in}
 use Rattle.e3_world.specs.Legal.{IsLegal, IsDue}
 use Rattle.e3_world.specs.Lives.{life_at}
 use Rattle.e3_world.specs.Moves.{Move, Did, Stepped, Silent, Rose, Tail, moves_at, moves_of, log_by, log_of, open_tail, trail_of}
+use Rattle.e3_world.specs.Operations.{done, waiting}
+use Rattle.e3_world.specs.Orderly.{ops_ascend}
 use Rattle.e3_world.specs.Packets.{sent, pending}
-use Rattle.e3_world.specs.Sound.{Fits, tells, IsSound}
+use Rattle.e3_world.specs.Sound.{Fits, is_in_turn, tells, IsSound}
 use Rattle.e3_trails.specs.Bounds.{GoesBetween, Suits, SuitsLog, IsHere}
 
 -- Each packet that was sent goes from a site of its transaction to another of them, all of which are sites of the
@@ -91,3 +98,29 @@ AllDiffer (t ∷ ts) = Each (DifferInName t) ts × AllDiffer ts
 -- No two transactions that are begun in a legal history have one name.
 abbrev pub NamesDiffer : Type 0
 NamesDiffer = (sc : Scenario) (h : List Entry) → IsGiven sc → IsLegal sc h → AllDiffer (begun_by (trail_of sc h))
+
+-- An operation that is on its way to a site that is up comes in turn: it waits there or was answered there, or none of
+-- its transaction waits there and all that were answered have lower numbers.
+abbrev pub OperationsComeInTurn : Type 0
+OperationsComeInTurn = (sc : Scenario) (h : List Entry) (packet : Packet) (t : Txn) (n : ℕ) (op : Op) → IsGiven sc → IsLegal sc h →
+    Contains (pending sc h) packet → packet.msg ≡ msg.Do t n op → is_up_at h packet.to ≡ true →
+    is_in_turn packet.to t n (life_at (moves_of sc h packet.to)) ≡ true
+
+-- the operations of a transaction that a site has done, as a vote lists them
+abbrev pub done_ops : ℕ → Txn → Life → List NumOp
+done_ops site t life = map (λ p. record { n = p.n; op = p.op }) (done site t life.steps)
+
+-- The numbers of the operations that a site that is up has done of a transaction ascend strictly, from 1 to 64.
+abbrev pub DoneNumbersAscend : Type 0
+DoneNumbersAscend = (sc : Scenario) (h : List Entry) (site : ℕ) (t : Txn) → IsGiven sc → IsLegal sc h → is_up_at h site ≡ true →
+    (ops_ascend 0 (done_ops site t (life_at (moves_of sc h site))) ≡ true)
+    × (list_all (λ o. nat_le o.n 64) (done_ops site t (life_at (moves_of sc h site))) ≡ true)
+
+-- the operations of a transaction that wait at a site
+abbrev pub waiting_of : ℕ → Txn → Life → List Asked
+waiting_of site t life = filter (λ q. same_txn t q.txn) (waiting site life.log life.steps)
+
+-- At most one operation of a transaction waits at a site that is up.
+abbrev pub OneWaits : Type 0
+OneWaits = (sc : Scenario) (h : List Entry) (site : ℕ) (t : Txn) → IsGiven sc → IsLegal sc h → is_up_at h site ≡ true →
+    length (waiting_of site t (life_at (moves_of sc h site))) ≤ 1

@@ -1,7 +1,7 @@
 //! Laws of what legal histories send, record and take.
 #![tactic(auto)]
 
-ghost use Rattle.e3_trails.specs.Claims.{DueInputsFit, InputsSuit, LogsAreOfTrails, NamesDiffer, PacketsGoBetween, PendingWasSent, RecordsSuitTheirSite, SilentMovesEnd, TrailsAreSound, VotesAtTheirSite};
+ghost use Rattle.e3_trails.specs.Claims.{DoneNumbersAscend, DueInputsFit, InputsSuit, LogsAreOfTrails, NamesDiffer, OneWaits, OperationsComeInTurn, PacketsGoBetween, PendingWasSent, RecordsSuitTheirSite, SilentMovesEnd, TrailsAreSound, VotesAtTheirSite};
 
 /// Each packet of a legal history goes from one site of its transaction to another, and a Do from the coordinator to the
 /// site of its key; and what is pending was sent.
@@ -40,4 +40,12 @@ pub fn trails_are_sound()
 /// number, whatever fell or was lost between them.
 pub fn names_differ()
     ensures { NamesDiffer }
+{}
+
+/// The operations of a transaction go one by one at a site that is up: what is on its way to it comes in turn, what it has
+/// done has ascending numbers, and one waits at most.
+pub fn operations_go_one_by_one()
+    ensures turns { OperationsComeInTurn }
+    ensures ascending { DoneNumbersAscend }
+    ensures waiting { OneWaits }
 {}
