@@ -1,6 +1,5 @@
 -- What is due at a site that is up fits it.
-use Rattle.std.proofs.Common.{◌≡◌, ◌==◌, ◌||◌, ◌∷◌, [], ℕ, Bool, true, false, not, List, refl, sym, subst, ap, ◌∙◌, inl, inr, ◌⊎◌, filter, eqb-true, if◌then◌else◌}
-use Rattle.std.specs.Prelude.{Contains}
+use Rattle.std.proofs.Common.{◌≡◌, ◌==◌, ◌∷◌, [], ℕ, Bool, true, false, not, List, refl, sym, ◌∙◌, inl, inr, ◌⊎◌, eqb-true, if◌then◌else◌}
 use Rattle.std.proofs.lemmas.Bool.{eqb-false, or_cases, or_left, or_right}
 use Rattle.e3_types.specs.declared.entries.Entry.{Entry}
 use Rattle.e3_types.specs.declared.entries.Input.{Input}
@@ -9,8 +8,6 @@ use Rattle.e3_types.specs.declared.messages.Message.{Message}
 use Rattle.e3_types.specs.declared.messages.Message.TheVariants as msg
 use Rattle.e3_types.specs.declared.messages.Packet.{Packet}
 use Rattle.e3_types.specs.declared.scenarios.Scenario.{Scenario}
-use Rattle.e3_types.specs.declared.transactions.Op.{Op}
-use Rattle.e3_types.specs.declared.transactions.Txn.{Txn}
 use Rattle.e3_types.specs.Sets.{has_site, others}
 use Rattle.e3_world.specs.Given.{IsGiven}
 use Rattle.e3_world.specs.Items.{is_up_at}

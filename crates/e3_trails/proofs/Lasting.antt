@@ -1,5 +1,5 @@
 -- In every legal history of a given scenario transactions are new, and operations are issued and answered one by one.
-use Rattle.std.proofs.Common.{◌≡◌, ◌==◌, ◌++◌, ◌∷◌, [], ℕ, zero, suc, List, refl, sym, subst, ap, ◌∙◌, append-nil, append_assoc, true, false, arith}
+use Rattle.std.proofs.Common.{◌≡◌, ◌++◌, ◌∷◌, [], ℕ, zero, suc, List, refl, sym, subst, ap, ◌∙◌, append-nil, append_assoc, true, false, arith}
 use Rattle.std.specs.Prelude.{Contains}
 use Rattle.e3_types.specs.declared.entries.Act.{Act}
 use Rattle.e3_types.specs.declared.entries.Act.TheVariants.{Step, Fall, Rise, RiseFall, Miss, Cut, Drop, Parts, Line}
@@ -13,7 +13,7 @@ use Rattle.e3_world.specs.Legal.{Guard, IsLegal, LegalAfter, IsDue, entry_of}
 use Rattle.e3_trails.proofs.Holding.{Holds, first_holds, step_holds, guard_holds}
 use Rattle.e3_trails.proofs.Clocks.{AdvanceAt, step_advance, guard_advance}
 use Rattle.e3_trails.proofs.Binding.{binding_push}
-use Rattle.e3_trails.proofs.Freshness.{Fresh, bound_in, quiet_fresh, line_fresh, step_fresh}
+use Rattle.e3_trails.proofs.Freshness.{Fresh, quiet_fresh, line_fresh, step_fresh}
 use Rattle.e3_trails.proofs.Talks.{Talks}
 use Rattle.e3_trails.proofs.Stepping.{stepped_talks}
 use Rattle.e3_trails.proofs.Speaking.{moment_of, step_facts}

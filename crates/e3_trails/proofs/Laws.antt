@@ -1,12 +1,8 @@
 -- The laws of legal histories.
-use Rattle.std.proofs.Common.{◌≡◌, ◌++◌, [], ℕ, List, Option, Some, None, refl, ap, subst, sym}
+use Rattle.std.proofs.Common.{List, Option, Some, None, refl, ap, subst}
 use Rattle.std.specs.List.{AllByRecursion as Each}
-use Rattle.e3_types.specs.declared.entries.Entry.{Entry}
 use Rattle.e3_types.specs.declared.records.Record.{Record}
 use Rattle.e3_types.specs.declared.records.Record.TheVariants as log
-use Rattle.e3_types.specs.declared.scenarios.Scenario.{Scenario}
-use Rattle.e3_world.specs.Given.{IsGiven}
-use Rattle.e3_world.specs.Legal.{IsLegal}
 use Rattle.e3_world.specs.Lives.{life_at}
 use Rattle.e3_world.specs.Moves.{Tail, moves_of, log_by, log_of, open_tail, trail_of}
 use Rattle.e3_world.specs.Packets.{sent}

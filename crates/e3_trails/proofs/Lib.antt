@@ -10,7 +10,7 @@ mod Turns
 mod Binding
 mod Suiting
 mod Holding
-mod Laws
+pub mod Laws
 mod Tracing
 mod Clocks
 mod Counting
@@ -25,7 +25,7 @@ mod Speaking
 mod Quiet
 mod Fitting
 mod Sounding
-mod Parting
+pub mod Parting
 mod Naming
 mod Ordering
 mod Numbering

@@ -1,5 +1,5 @@
 -- No two transactions that are begun in a legal history of a given scenario have one name.
-use Rattle.std.proofs.Common.{◌≡◌, ◌==◌, ◌+◌, ◌++◌, ◌∷◌, [], ℕ, zero, suc, ◌≤◌, ◌<◌, Bool, true, false, List, Option, Some, None, refl, sym, subst, ap, ◌∙◌, inl, inr, ◌⊎◌, count_by, arith, append-nil, append_assoc, eqb-true, eq-eqb}
+use Rattle.std.proofs.Common.{◌≡◌, ◌+◌, ◌++◌, ◌∷◌, [], ℕ, zero, suc, ◌≤◌, ◌<◌, Bool, true, false, List, Option, Some, None, refl, sym, subst, ap, ◌∙◌, inl, inr, count_by, arith, append-nil, append_assoc}
 use Rattle.std.specs.List.{flat_map, AllByRecursion as Each}
 use Rattle.std.proofs.lemmas.Grind.{flat_map-append}
 use Rattle.std.proofs.lemmas.List.Sums.{sum_by-append}
@@ -12,15 +12,13 @@ use Rattle.e3_types.specs.declared.entries.Told.{Told}
 use Rattle.e3_types.specs.declared.entries.Told.TheVariants as told
 use Rattle.e3_types.specs.declared.scenarios.Scenario.{Scenario}
 use Rattle.e3_types.specs.declared.transactions.Txn.{Txn}
-use Rattle.e3_world.specs.declared.lives.Moment.{Moment}
 use Rattle.e3_world.specs.Given.{IsGiven}
 use Rattle.e3_world.specs.Items.{is_up_at, began_in}
 use Rattle.e3_world.specs.Legal.{Guard, IsLegal, LegalAfter, IsDue, made_by, entry_of}
 use Rattle.e3_world.specs.Logs.{logged_inc}
-use Rattle.e3_world.specs.Moves.{Move, Tail, own, past_of, moves_of_act, kept_moves, log_of, open_tail, plain_input, trail_of}
+use Rattle.e3_world.specs.Moves.{Tail, own, past_of, moves_of_act, kept_moves, log_of, open_tail, plain_input, trail_of}
 use Rattle.e3_world.specs.Sound.{tells}
 use Rattle.e3_world.specs.Steps.{is_begin}
-use Rattle.e3_world.proofs.Readings.{up_same}
 use Rattle.e3_trails.specs.Claims.{begun_by, DifferInName, AllDiffer}
 use Rattle.e3_trails.proofs.Each.{each-append, each-weaker}
 use Rattle.e3_trails.proofs.Clocks.{AdvanceAt, due_says, step_advance, guard_advance}

@@ -1,7 +1,7 @@
 -- The operations that a site has done of a transaction have ascending numbers, and at most one waits.
-use Rattle.std.proofs.Common.{◌≡◌, ◌==◌, ◌&&◌, ◌||◌, ◌++◌, ◌∷◌, [], ℕ, zero, suc, ◌≤◌, ◌<◌, Bool, true, false, not, List, refl, sym, subst, ap, ◌∙◌, inl, inr, ◌⊎◌, map, filter, arith, length, nat_lt, nat_le, lt-ltb, le-leb, if◌then◌else◌}
+use Rattle.std.proofs.Common.{◌≡◌, ◌==◌, ◌&&◌, ◌||◌, ◌++◌, ◌∷◌, [], ℕ, ◌≤◌, ◌<◌, Bool, true, false, not, List, refl, sym, subst, ap, ◌∙◌, inl, inr, map, filter, arith, length, nat_lt, nat_le, lt-ltb, le-leb, if◌then◌else◌}
 use Rattle.std.specs.List.{list_any, list_all, flat_map, AllByRecursion as Each}
-use Rattle.std.proofs.lemmas.Bool.{eqb-false, and_parts, and_from, or_cases, not-true}
+use Rattle.std.proofs.lemmas.Bool.{and_parts, and_from, or_cases, not-true}
 use Rattle.e3_types.specs.declared.entries.Entry.{Entry}
 use Rattle.e3_types.specs.declared.entries.Told.{Told}
 use Rattle.e3_types.specs.declared.entries.Told.TheVariants as told
@@ -16,7 +16,7 @@ use Rattle.e3_world.specs.declared.lives.Moment.{Moment}
 use Rattle.e3_world.specs.declared.lives.Performed.{Performed}
 use Rattle.e3_world.specs.Items.{is_up_at}
 use Rattle.e3_world.specs.Logs.{is_undecided}
-use Rattle.e3_world.specs.Operations.{issued, arrivals, answers, answer_told, answer_sent, is_answered, op_told, tells_op, performed_by, done, waiting}
+use Rattle.e3_world.specs.Operations.{issued, arrivals, answers, answer_told, answer_sent, is_answered, op_told, tells_op, performed_by, waiting}
 use Rattle.e3_world.specs.Orderly.{ops_ascend}
 use Rattle.e3_trails.specs.Claims.{done_ops, waiting_of}
 use Rattle.e3_trails.proofs.Among.{txn_eq}
@@ -26,7 +26,7 @@ use Rattle.e3_trails.proofs.Lasting.{Lasts}
 use Rattle.e3_trails.proofs.Ordering.{InOrder, Ordered}
 use Rattle.e3_trails.proofs.Speaking.{both_each}
 use Rattle.e3_trails.proofs.Stepping.{any_answer, any_left, any_right}
-use Rattle.e3_trails.proofs.Talks.{SentDo, SentDone, from_home}
+use Rattle.e3_trails.proofs.Talks.{SentDo, SentDone}
 use Rattle.e3_trails.proofs.Tracing.{was_delivered, CameIn, arrivals_came}
 
 -- the numbers ascend strictly
@@ -48,9 +48,12 @@ rising_of t (q ∷ qs) order = by (same_txn t q.txn) refl (rising_of t qs order.
   where
     by : (b : Bool) → same_txn t q.txn ≡ b → Rising (filter (λ q. same_txn t q.txn) qs) →
         Rising (if b then q ∷ filter (λ q. same_txn t q.txn) qs else filter (λ q. same_txn t q.txn) qs)
-    by true is more = (each-weaker (λ r. (same_txn q.txn r.txn ≡ true → q.n < r.n) × (same_txn t r.txn ≡ true)) (λ r. q.n < r.n)
-        (λ r both. both.0 (let P : Txn → Type 0 = λ u. same_txn u r.txn ≡ true in subst P (txn_eq t q.txn is) both.1)) (filter (λ q. same_txn t q.txn) qs)
-        (each-kept (λ r. same_txn q.txn r.txn ≡ true → q.n < r.n) (λ q. same_txn t q.txn) qs order.0), more)
+    by true is more = (
+      each-weaker (λ r. (same_txn q.txn r.txn ≡ true → q.n < r.n) × (same_txn t r.txn ≡ true)) (λ r. q.n < r.n)
+          (λ r both. both.0 (let P : Txn → Type 0 = λ u. same_txn u r.txn ≡ true in subst P (txn_eq t q.txn is) both.1)) (filter (λ q. same_txn t q.txn) qs)
+          (each-kept (λ r. same_txn q.txn r.txn ≡ true → q.n < r.n) (λ q. same_txn t q.txn) qs order.0),
+      more,
+    )
     by false is more = more
 
 -- operations as a vote lists them
@@ -81,14 +84,14 @@ done_few steps (q ∷ qs) few = by (answers q steps) refl (done_few steps qs few
 pub done_ascend : (site : ℕ) (t : Txn) (life : Life) → Ordered site life.steps →
     (ops_ascend 0 (done_ops site t life) ≡ true) × (list_all (λ o. nat_le o.n 64) (done_ops site t life) ≡ true)
 done_ascend site t life order =
-    let qs : List Asked = filter (λ q. same_txn t q.txn) (arrivals site life.steps) in
     let all : Each (λ q. (1 ≤ q.n) × (q.n ≤ 64)) (filter (λ q. same_txn t q.txn) (arrivals site life.steps)) =
-        each-filter (λ q. (1 ≤ q.n) × (q.n ≤ 64)) (λ q. same_txn t q.txn) (arrivals site life.steps) order.numbered in
-    (done_rise life.steps 0 (filter (λ q. same_txn t q.txn) (arrivals site life.steps))
-    (each-weaker (λ q. (1 ≤ q.n) × (q.n ≤ 64)) (λ q. 0 < q.n) (λ q is. let low : 1 ≤ q.n = is.0 in omega (arith, low)) (filter (λ q. same_txn t q.txn) (arrivals site life.steps)) all)
-    (rising_of t (arrivals site life.steps) order.ascends),
-    done_few life.steps (filter (λ q. same_txn t q.txn) (arrivals site life.steps))
-    (each-weaker (λ q. (1 ≤ q.n) × (q.n ≤ 64)) (λ q. q.n ≤ 64) (λ q is. is.1) (filter (λ q. same_txn t q.txn) (arrivals site life.steps)) all))
+    each-filter (λ q. (1 ≤ q.n) × (q.n ≤ 64)) (λ q. same_txn t q.txn) (arrivals site life.steps) order.numbered in (
+      done_rise life.steps 0 (filter (λ q. same_txn t q.txn) (arrivals site life.steps))
+          (each-weaker (λ q. (1 ≤ q.n) × (q.n ≤ 64)) (λ q. 0 < q.n) (λ q is. let low : 1 ≤ q.n = is.0 in omega (arith, low)) (filter (λ q. same_txn t q.txn) (arrivals site life.steps)) all)
+          (rising_of t (arrivals site life.steps) order.ascends),
+      done_few life.steps (filter (λ q. same_txn t q.txn) (arrivals site life.steps))
+          (each-weaker (λ q. (1 ≤ q.n) × (q.n ≤ 64)) (λ q. q.n ≤ 64) (λ q is. is.1) (filter (λ q. same_txn t q.txn) (arrivals site life.steps)) all),
+    )
 
 -- an operation whose answer was told was answered
 told_any : (q : Asked) (l : List Told) → list_any (tells_op q.txn q.n) l ≡ true → any_answer (flat_map (answer_told q) l) ≡ true
@@ -154,14 +157,13 @@ waits_few sc h site t (q ∷ r ∷ qs) lasts up known rise =
 pub one_waits : (sc : Scenario) (h : List Entry) (site : ℕ) (t : Txn) → Lasts sc h → is_up_at h site ≡ true → Ordered site (life_in sc h site).steps →
     length (waiting_of site t (life_in sc h site)) ≤ 1
 one_waits sc h site t lasts up order =
-    let life : Life = life_in sc h site in
     let W : Asked → Bool = λ q. is_undecided q.txn (life_in sc h site).log && not (is_answered (life_in sc h site).steps q) in
     let P : Asked → Type 0 = λ q. CameIn site (life_in sc h site).steps q × ((1 ≤ q.n) × (q.n ≤ 64)) in
     let R : Asked → Type 0 = λ q. P q × (q.txn.site ≡ site → q.n ≤ length (issued q.txn (life_in sc h site).steps)) in
     let all : Each R (arrivals site (life_in sc h site).steps) =
-        both_each P (λ q. q.txn.site ≡ site → q.n ≤ length (issued q.txn (life_in sc h site).steps)) (arrivals site (life_in sc h site).steps)
-        (both_each (CameIn site (life_in sc h site).steps) (λ q. (1 ≤ q.n) × (q.n ≤ 64)) (arrivals site (life_in sc h site).steps)
-        (arrivals_came sc.weights site (life_in sc h site).steps (lasts.holds.now.sites site).life.steps) order.numbered) order.issued in
+    both_each P (λ q. q.txn.site ≡ site → q.n ≤ length (issued q.txn (life_in sc h site).steps)) (arrivals site (life_in sc h site).steps)
+    (both_each (CameIn site (life_in sc h site).steps) (λ q. (1 ≤ q.n) × (q.n ≤ 64)) (arrivals site (life_in sc h site).steps)
+    (arrivals_came sc.weights site (life_in sc h site).steps (lasts.holds.now.sites site).life.steps) order.numbered) order.issued in
     waits_few sc h site t (waiting_of site t (life_in sc h site)) lasts up
     (each-weaker (λ q. (R q × (W q ≡ true)) × (same_txn t q.txn ≡ true)) (Known sc h site t) (λ q is. record {
       came = is.0.0.0.0;

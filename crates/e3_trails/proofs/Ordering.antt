@@ -1,9 +1,8 @@
 -- The operations of a transaction come to a site in the order of their numbers, and all but the last were answered.
-use Rattle.std.proofs.Common.{◌≡◌, ◌==◌, ◌&&◌, ◌||◌, ◌+◌, ◌++◌, ◌∷◌, [], ℕ, zero, suc, ◌≤◌, ◌<◌, Bool, true, false, not, List, Option, Some, None, refl, sym, subst, ap, ◌∙◌, inl, inr, ◌⊎◌, fold, map, filter, arith, append-nil, append_assoc, length, eqb-true, eq-eqb, nat_lt, nat_le, lt-ltb, le-leb, if◌then◌else◌}
-use Rattle.std.specs.Prelude.{Contains}
-use Rattle.std.specs.List.{list_any, list_all, flat_map, AllByRecursion as Each}
-use Rattle.std.proofs.lemmas.Bool.{eqb-false, and_parts, and_from, or_parts, or_cases, cases_lt, not-true}
-use Rattle.std.proofs.lemmas.Grind.{fold-append, flat_map-append}
+use Rattle.std.proofs.Common.{◌≡◌, ◌==◌, ◌+◌, ◌++◌, ◌∷◌, [], ℕ, zero, suc, ◌≤◌, ◌<◌, Bool, true, false, not, List, Option, Some, None, refl, sym, subst, ap, ◌∙◌, inl, inr, ◌⊎◌, arith, append-nil, append_assoc, length, eqb-true, eq-eqb, if◌then◌else◌}
+use Rattle.std.specs.List.{list_any, AllByRecursion as Each}
+use Rattle.std.proofs.lemmas.Bool.{eqb-false, and_parts, and_from, or_parts, cases_lt, not-true}
+use Rattle.std.proofs.lemmas.Grind.{fold-append}
 use Rattle.std.proofs.lemmas.List.{length-append}
 use Rattle.e3_types.specs.declared.entries.Act.{Act}
 use Rattle.e3_types.specs.declared.entries.Act.TheVariants.{Step, Fall, Rise, RiseFall, Miss, Cut, Drop, Parts, Line}
@@ -11,13 +10,10 @@ use Rattle.e3_types.specs.declared.entries.Entry.{Entry}
 use Rattle.e3_types.specs.declared.entries.Input.{Input}
 use Rattle.e3_types.specs.declared.entries.Input.TheVariants as input
 use Rattle.e3_types.specs.declared.entries.Told.{Told}
-use Rattle.e3_types.specs.declared.entries.Told.TheVariants as told
 use Rattle.e3_types.specs.declared.messages.Message.{Message}
 use Rattle.e3_types.specs.declared.messages.Message.TheVariants as msg
 use Rattle.e3_types.specs.declared.messages.Packet.{Packet}
 use Rattle.e3_types.specs.declared.scenarios.Scenario.{Scenario}
-use Rattle.e3_types.specs.declared.transactions.Answer.{Answer}
-use Rattle.e3_types.specs.declared.transactions.NumOp.{NumOp}
 use Rattle.e3_types.specs.declared.transactions.Op.{Op}
 use Rattle.e3_types.specs.declared.transactions.State.TheVariants.{Q}
 use Rattle.e3_types.specs.declared.transactions.Txn.{Txn}
@@ -25,27 +21,24 @@ use Rattle.e3_types.specs.Same.{same_txn, same_state}
 use Rattle.e3_world.specs.declared.lives.Asked.{Asked}
 use Rattle.e3_world.specs.declared.lives.Life.{Life}
 use Rattle.e3_world.specs.declared.lives.Moment.{Moment}
-use Rattle.e3_world.specs.declared.lives.Performed.{Performed}
 use Rattle.e3_world.specs.Given.{IsGiven}
 use Rattle.e3_world.specs.Items.{is_up_at}
 use Rattle.e3_world.specs.Legal.{Guard, IsLegal, LegalAfter, IsDue, entry_of}
-use Rattle.e3_world.specs.Logs.{key_of, state_of, is_undecided}
+use Rattle.e3_world.specs.Logs.{key_of, state_of}
 use Rattle.e3_world.specs.Moves.{Past, own, past_of}
-use Rattle.e3_world.specs.Operations.{issued, issued_in, Arrived, taken_up, arrived_by, and_arrived, is_fresh, same_asked, arrivals, answers, answer_told, answer_sent, is_answered, op_told, tells_op, performed_by, done, waiting}
-use Rattle.e3_world.specs.Orderly.{ops_ascend}
+use Rattle.e3_world.specs.Operations.{issued, issued_in, taken_up, arrived_by, and_arrived, is_fresh, same_asked, arrivals}
 use Rattle.e3_world.proofs.InTrail.{pending_sent}
 use Rattle.e3_trails.proofs.Among.{txn_eq}
 use Rattle.e3_trails.proofs.Arriving.{IfAny}
-use Rattle.e3_trails.proofs.Each.{each-push, each-kept, each-weaker, each-filter}
-use Rattle.e3_trails.proofs.Clocks.{AdvanceAt, moments_of, more_at, guard_advance}
+use Rattle.e3_trails.proofs.Each.{each-push, each-weaker}
+use Rattle.e3_trails.proofs.Clocks.{AdvanceAt, moments_of, guard_advance}
 use Rattle.e3_trails.proofs.Freshness.{life_in, still_more}
-use Rattle.e3_trails.proofs.Holding.{Holds}
 use Rattle.e3_trails.proofs.Issuing.{issued_push}
 use Rattle.e3_trails.proofs.Lasting.{Lasts, first_lasts, guard_lasts}
 use Rattle.e3_trails.proofs.Speaking.{moment_of, step_facts, both_each}
-use Rattle.e3_trails.proofs.Stepping.{Issue, Stepping, now_pends, any_answer, any_left, any_right}
-use Rattle.e3_trails.proofs.Talks.{SentDo, SentDone, Pends, FromHome, Talks, from_home, pends_sent}
-use Rattle.e3_trails.proofs.Tracing.{IsAnswer, was_delivered, is_do, CameIn, arrivals_came, fold_steps, same_self}
+use Rattle.e3_trails.proofs.Stepping.{Issue, Stepping, now_pends}
+use Rattle.e3_trails.proofs.Talks.{SentDo, Pends, FromHome, from_home, pends_sent}
+use Rattle.e3_trails.proofs.Tracing.{is_do, CameIn, arrivals_came, fold_steps, same_self}
 
 -- of one transaction the earlier has the lower number
 abbrev pub InOrder : List Asked → Type 0
@@ -76,7 +69,7 @@ arrivals_push site steps m =
 issued_more : (t : Txn) (steps : List Moment) (m : Moment) → length (issued t steps) ≤ length (issued t (steps ++ m ∷ []))
 issued_more t steps m =
     let both : length (issued t (steps ++ m ∷ [])) ≡ length (issued t steps) + length (issued_in t m.input m.told) =
-        ap length (issued_push t steps m) ∙ length-append (issued t steps) (issued_in t m.input m.told) in omega (arith, both)
+    ap length (issued_push t steps m) ∙ length-append (issued t steps) (issued_in t m.input m.told) in omega (arith, both)
 
 none_any : (p : Asked → Bool) (qs : List Asked) → list_any p qs ≡ false → Each (λ q. p q ≡ false) qs
 none_any p [] none = tt
@@ -110,12 +103,13 @@ arrived_well site steps m o was this = by o this
     fresh a false is well = (was.numbered, later, was.ascends)
     fresh a true is well =
         let parts : _ = and_parts (same_state (state_of a.txn m.before) Q) (not (list_any (same_asked a) (arrivals site steps))) is in
-        let new : Each (λ q. same_asked a q ≡ false) (arrivals site steps) = none_any (same_asked a) (arrivals site steps) (not-true (list_any (same_asked a) (arrivals site steps)) parts.1) in
-        (each-push (λ q. (1 ≤ q.n) × (q.n ≤ 64)) (arrivals site steps) a was.numbered well.numbered,
-        each-push (λ q. q.txn.site ≡ site → q.n ≤ length (issued q.txn (steps ++ m ∷ []))) (arrivals site steps) a later well.issued,
-        order_push (arrivals site steps) a was.ascends
-        (each-weaker (λ q. (same_asked a q ≡ false) × (same_txn q.txn a.txn ≡ true → q.n ≤ a.n)) (λ q. same_txn q.txn a.txn ≡ true → q.n < a.n) (λ q is same. above a q is.0 is.1 same) (arrivals site steps)
-        (both_each (λ q. same_asked a q ≡ false) (λ q. same_txn q.txn a.txn ≡ true → q.n ≤ a.n) (arrivals site steps) new well.most)))
+        let new : Each (λ q. same_asked a q ≡ false) (arrivals site steps) = none_any (same_asked a) (arrivals site steps) (not-true (list_any (same_asked a) (arrivals site steps)) parts.1) in (
+          each-push (λ q. (1 ≤ q.n) × (q.n ≤ 64)) (arrivals site steps) a was.numbered well.numbered,
+          each-push (λ q. q.txn.site ≡ site → q.n ≤ length (issued q.txn (steps ++ m ∷ []))) (arrivals site steps) a later well.issued,
+          order_push (arrivals site steps) a was.ascends
+              (each-weaker (λ q. (same_asked a q ≡ false) × (same_txn q.txn a.txn ≡ true → q.n ≤ a.n)) (λ q. same_txn q.txn a.txn ≡ true → q.n < a.n) (λ q is same. above a q is.0 is.1 same) (arrivals site steps)
+              (both_each (λ q. same_asked a q ≡ false) (λ q. same_txn q.txn a.txn ≡ true → q.n ≤ a.n) (arrivals site steps) new well.most)),
+        )
 
     by : (o : Option Asked) → IfAny (TakenWell site steps m) o →
         Each (λ q. (1 ≤ q.n) × (q.n ≤ 64)) (and_arrived (arrivals site steps) m o)
@@ -194,8 +188,8 @@ module _ (sc : Scenario) (h k : List Entry) (site : ℕ) (i : Input) (m : Moment
         omega (arith, next, one));
     most = each-weaker (λ q. q.txn.site ≡ site → q.n ≤ length (issued q.txn (life_in sc h site).steps)) (λ q. same_txn q.txn a.txn ≡ true → q.n ≤ a.n)
         (λ q few same. (let is : q.txn ≡ a.txn = txn_eq q.txn a.txn same in
-            let low : q.n ≤ length (issued q.txn (life_in sc h site).steps) = few (ap (λ t. t.site) is ∙ new.home) in
-            let equal : _ = ap (λ t. length (issued t (life_in sc h site).steps)) is in omega (arith, low, equal, next)))
+        let low : q.n ≤ length (issued q.txn (life_in sc h site).steps) = few (ap (λ t. t.site) is ∙ new.home) in
+        let equal : _ = ap (λ t. length (issued t (life_in sc h site).steps)) is in omega (arith, low, equal, next)))
         (arrivals site (life_in sc h site).steps) was.issued;
   }
 

@@ -1,12 +1,10 @@
 -- A move of a site in a sound trail is sound behind the moves of the trail before it.
-use Rattle.std.proofs.Common.{◌≡◌, ◌==◌, ◌++◌, ◌∷◌, [], ℕ, Bool, true, false, List, refl, sym, subst, ap, ◌∙◌, append-nil, append_assoc, eqb-true, filter, if◌then◌else◌}
+use Rattle.std.proofs.Common.{◌≡◌, ◌==◌, ◌++◌, ◌∷◌, [], ℕ, Bool, true, false, List, refl, sym, subst, ap, ◌∙◌, append-nil, append_assoc, eqb-true, if◌then◌else◌}
 use Rattle.std.proofs.lemmas.Grind.{fold-append}
-use Rattle.e3_types.specs.declared.entries.Entry.{Entry}
 use Rattle.e3_types.specs.declared.entries.Input.{Input}
 use Rattle.e3_types.specs.declared.records.Record.{Record}
 use Rattle.e3_types.specs.declared.scenarios.Scenario.{Scenario}
-use Rattle.e3_world.specs.declared.lives.SiteStep.{SiteStep}
-use Rattle.e3_world.specs.Moves.{Move, Did, Stepped, Silent, Rose, moves_at, trail_of}
+use Rattle.e3_world.specs.Moves.{Move, Did, Stepped, Silent, Rose, moves_at}
 use Rattle.e3_world.specs.Sound.{has_risen, IsSoundStep, IsSoundMove, SoundAfter}
 use Rattle.e3_trails.specs.Claims.{IsNoStep}
 
@@ -78,7 +76,7 @@ no_step sc site trail before rest m inputs records sound is = by m.did refl
         let P : Did → Type 0 = λ d. IsSoundMove sc part.first (record { site = m.site; did = d }) in
         let step : IsSoundStep sc part.first (record { site = m.site; did = Stepped s }) s.input = subst P stepped here in
         let up : has_risen (before ++ record { site = site; did = Silent inputs records } ∷ []) ≡ true =
-            ap has_risen (sym part.mine ∙ ap (λ x. moves_at x part.first) (sym part.own)) ∙ step.risen in
+        ap has_risen (sym part.mine ∙ ap (λ x. moves_at x part.first) (sym part.own)) ∙ step.risen in
         absurd (let both : true ≡ false = sym up ∙ silent_down before site inputs records in cc)
     by (Silent i r) quiet = tt
     by (Rose inc r) rose = tt

@@ -1,30 +1,28 @@
 -- What sites said of operations stands behind each entry that is no step.
-use Rattle.std.proofs.Common.{◌≡◌, ◌==◌, ◌&&◌, ◌||◌, ◌++◌, ◌∷◌, [], ℕ, zero, suc, Bool, true, false, List, Option, None, refl, sym, subst, ap, ◌∙◌, inl, inr, arith, append-nil}
+use Rattle.std.proofs.Common.{◌≡◌, ◌==◌, ◌&&◌, ◌++◌, ◌∷◌, [], ℕ, zero, suc, Bool, true, false, List, None, refl, sym, subst, ap, ◌∙◌, inl, inr, arith, append-nil}
 use Rattle.std.specs.Prelude.{Contains}
 use Rattle.std.specs.List.{list_any, list_all}
 use Rattle.std.proofs.lemmas.Bool.{and_parts, or_parts}
 use Rattle.std.proofs.lemmas.List.Folds.{list_any-append}
-use Rattle.e3_types.specs.declared.entries.Act.{Act}
-use Rattle.e3_types.specs.declared.entries.Act.TheVariants.{Step, Fall, Rise, RiseFall, Miss, Cut, Drop, Parts, Line}
+use Rattle.e3_types.specs.declared.entries.Act.TheVariants.{Line}
 use Rattle.e3_types.specs.declared.entries.Entry.{Entry}
 use Rattle.e3_types.specs.declared.messages.Packet.{Packet}
 use Rattle.e3_types.specs.declared.scenarios.Item.{Item}
 use Rattle.e3_types.specs.declared.scenarios.Item.TheVariants as item
 use Rattle.e3_types.specs.declared.scenarios.Scenario.{Scenario}
-use Rattle.e3_types.specs.declared.transactions.Txn.{Txn}
 use Rattle.e3_world.specs.Given.{IsGiven}
-use Rattle.e3_world.specs.Items.{is_delivery, taken_at, inputs_of, is_up_at, since_line, recover_group}
-use Rattle.e3_world.specs.Legal.{IsLine, has_rising, may_rise, is_through, is_made}
+use Rattle.e3_world.specs.Items.{is_delivery, taken_at, inputs_of, is_up_at, recover_group}
+use Rattle.e3_world.specs.Legal.{has_rising, may_rise, is_through, is_made}
 use Rattle.e3_world.specs.Moves.{Past, own, past_of}
 use Rattle.e3_world.specs.Packets.{sent, outs_of, pending, lines, is_line, present_items, step_items, all_sites}
 use Rattle.e3_world.specs.Progress.{up_behind}
 use Rattle.e3_world.proofs.Readings.{taken_same, taken_other, up_same, up_other}
 use Rattle.e3_trails.proofs.Turns.{AsksNone, present_push, rises, rising_none}
 use Rattle.e3_trails.proofs.Holding.{sent_push}
-use Rattle.e3_trails.proofs.Clocks.{AdvanceAt, moments_of, more_at}
+use Rattle.e3_trails.proofs.Clocks.{AdvanceAt, moments_of}
 use Rattle.e3_trails.proofs.Freshness.{Fresh, bound_in, still_more}
 use Rattle.e3_trails.proofs.Pending.{pending_push, none_in}
-use Rattle.e3_trails.proofs.Talks.{Pends, Talks}
+use Rattle.e3_trails.proofs.Talks.{Talks}
 use Rattle.e3_trails.proofs.Silence.{quiet_talks}
 
 -- where nothing is pending and nothing is sent nothing is pending
@@ -55,8 +53,8 @@ quiet_on sc h e fresh was adv stays out bound still calm = quiet_talks sc h e fr
     (λ s down up. calm_at s (e.owner == s) refl down up)
     (λ t n p none up. no_delivery h e t.site stays none)
     (λ asks recovers. none_pending sc h e out (was.rest
-        (let P : List Item → Type 0 = AsksNone in subst P (present_push sc h e stays) asks)
-        (ap recover_group (sym (present_push sc h e stays)) ∙ recovers)))
+    (let P : List Item → Type 0 = AsksNone in subst P (present_push sc h e stays) asks)
+    (ap recover_group (sym (present_push sc h e stays)) ∙ recovers)))
   where
     calm_at : (s : ℕ) (b : Bool) → (e.owner == s) ≡ b → is_up_at h s ≡ false → is_up_at (h ++ e ∷ []) s ≡ true → pending sc h ≡ []
     calm_at s true is down up = calm (is_up_at h s) down (sym (up_same h e s is) ∙ up)
@@ -108,7 +106,7 @@ pub line_on : (sc : Scenario) (h : List Entry) (number : ℕ) → Fresh sc h →
 line_on sc h number fresh was adv through bound = quiet_talks sc h e fresh was adv
     (sent_push h e ∙ append-nil (sent h)) bound (λ s. still_more (0 == s) [] refl) refl
     (λ s down up. calm) (λ t n p none up. absurd (let P : List Packet → Type 0 = λ l. Contains l p.packet in
-        let no : Contains [] p.packet = subst P (none_pending sc h e refl calm) p.has in omega (arith, no.1)))
+    let no : Contains [] p.packet = subst P (none_pending sc h e refl calm) p.has in omega (arith, no.1)))
     (λ asks recovers. none_pending sc h e refl calm)
   where
     e : Entry

@@ -1,5 +1,5 @@
 -- The trail of a legal history of a given scenario is sound.
-use Rattle.std.proofs.Common.{◌≡◌, ◌==◌, ◌+◌, ◌++◌, ◌∷◌, [], ℕ, zero, suc, Bool, true, false, List, Option, Some, None, refl, sym, subst, ap, ◌∙◌, inl, inr, ◌⊎◌, map, arith, append-nil, append_assoc, eqb-true, eq-eqb}
+use Rattle.std.proofs.Common.{◌≡◌, ◌==◌, ◌++◌, ◌∷◌, [], ℕ, zero, suc, Bool, true, false, List, Option, Some, None, refl, sym, subst, ap, ◌∙◌, inl, inr, ◌⊎◌, map, arith, append-nil, append_assoc, eqb-true, eq-eqb}
 use Rattle.std.specs.Prelude.{Contains}
 use Rattle.std.specs.List.{flat_map}
 use Rattle.std.proofs.lemmas.Bool.{eqb-false}
@@ -21,13 +21,13 @@ use Rattle.e3_world.specs.Items.{is_up_at}
 use Rattle.e3_world.specs.Legal.{Guard, IsLegal, LegalAfter, IsDue, AreDue, IsRise, made_by, entry_of, records_by}
 use Rattle.e3_world.specs.Lives.{life_at}
 use Rattle.e3_world.specs.Logs.{logged_inc}
-use Rattle.e3_world.specs.Moves.{Move, Did, Stepped, Silent, Rose, Past, Tail, own, moves_at, past_of, past_by, moves_of, moves_of_act, tail_of_act, kept_moves, left_by, log_by, log_of, open_tail, recorded, rise_records, plain, plain_input, trail_after, trail_of}
+use Rattle.e3_world.specs.Moves.{Move, Silent, Tail, own, moves_at, past_of, moves_of, moves_of_act, tail_of_act, kept_moves, left_by, log_by, open_tail, recorded, rise_records, plain, plain_input, trail_after, trail_of}
 use Rattle.e3_world.specs.Packets.{sent}
-use Rattle.e3_world.specs.Sound.{Fits, WasSent, sends, step_move, has_risen, FitInTurn, records_in_turn, IsSoundStep, IsSoundTail, IsSoundRise, IsSoundMove, SoundAfter, IsSound}
+use Rattle.e3_world.specs.Sound.{Fits, WasSent, sends, step_move, has_risen, FitInTurn, records_in_turn, IsSoundRise, IsSoundMove, SoundAfter, IsSound}
 use Rattle.e3_world.proofs.InTrail.{pending_sent, due_was_sent}
 use Rattle.e3_world.proofs.Numbers.{entered_move, step_move_plain}
 use Rattle.e3_world.proofs.Pushes.{past_push}
-use Rattle.e3_world.proofs.Readings.{own_same, own_other, up_same}
+use Rattle.e3_world.proofs.Readings.{own_same, own_other}
 use Rattle.e3_world.proofs.Rising.{up_risen}
 use Rattle.e3_world.proofs.Sending.{trail_sends}
 use Rattle.e3_world.proofs.Trails.{trail_moves}
@@ -63,8 +63,11 @@ trail_push sc h e = after_trail sc [] h (e ∷ []) ∙ ap (λ l. trail_of sc h +
 
 sound_append : (sc : Scenario) (before xs ys : List Move) → SoundAfter sc before xs → SoundAfter sc (before ++ xs) ys → SoundAfter sc before (xs ++ ys)
 sound_append sc before [] ys first more = let P : List Move → Type 0 = λ l. SoundAfter sc l ys in subst P (append-nil before) more
-sound_append sc before (m ∷ xs) ys first more = (first.0, sound_append sc (before ++ m ∷ []) xs ys first.1
-    (let P : List Move → Type 0 = λ l. SoundAfter sc l ys in subst P (sym (append_assoc before (m ∷ []) xs)) more))
+sound_append sc before (m ∷ xs) ys first more = (
+  first.0,
+  sound_append sc (before ++ m ∷ []) xs ys first.1
+      (let P : List Move → Type 0 = λ l. SoundAfter sc l ys in subst P (sym (append_assoc before (m ∷ []) xs)) more),
+)
 
 -- a tail stays sound where its site makes no move
 fits_later : (sc : Scenario) (before later : List Move) (s : ℕ) (mine : List Move) (inputs : List Input) → ((i : Input) → WasSent before i → WasSent later i) →
@@ -75,10 +78,12 @@ fits_later sc before later s mine (i ∷ inputs) more all = (all.0, more i all.1
 silent_later : (sc : Scenario) (before later : List Move) (s : ℕ) (inputs : List Input) (records : List Record) → moves_at s before ≡ moves_at s later →
     ((i : Input) → WasSent before i → WasSent later i) → IsSoundMove sc before (record { site = s; did = Silent inputs records }) →
     IsSoundMove sc later (record { site = s; did = Silent inputs records })
-silent_later sc before later s [] records same more is = (is.0,
-    (let P : List Move → Type 0 = λ l. is.0 ≡ suc (logged_inc (log_by l)) in
-    let Q : List Move → Type 0 = λ l. records ≡ rise_records sc s is.0 (log_by l) in
-    record { next = subst P same is.1.next; made = subst Q same is.1.made }))
+silent_later sc before later s [] records same more is = (
+  is.0,
+  (let P : List Move → Type 0 = λ l. is.0 ≡ suc (logged_inc (log_by l)) in
+      let Q : List Move → Type 0 = λ l. records ≡ rise_records sc s is.0 (log_by l) in
+      record { next = subst P same is.1.next; made = subst Q same is.1.made }),
+)
 silent_later sc before later s (i ∷ inputs) records same more is =
     let P : List Move → Type 0 = λ l. has_risen l ≡ true in
     let Q : List Move → Type 0 = λ l. FitInTurn sc later s l (i ∷ inputs) in
@@ -154,18 +159,16 @@ fall_well : (sc : Scenario) (inputs : List Input) (h k : List Entry) (site : ℕ
     FallsWell sc h site (moves_of sc k site) inputs (records_by sc k site inputs)
 fall_well sc [] h k site given was old up due = record { fits = tt; made = refl }
 fall_well sc (i ∷ inputs) h k site given was old up due =
-    let next : List Entry = k ++ entry_of sc k site i ∷ [] in
     let fit : Suits sc.weights site i = due_input_suits sc k site i given was.holds.line.binds was.holds.now.sent (λ s. (was.holds.line.sites s).life) due.0 in
     let facts : Stepping sc k (k ++ entry_of sc k site i ∷ []) site i (moment_of sc k site i) = step_facts sc k site i given was.holds was.fresh up due.0 in
     let more : FallsWell sc h site (moves_of sc (k ++ entry_of sc k site i ∷ []) site) inputs (records_by sc (k ++ entry_of sc k site i ∷ []) site inputs) =
-        fall_well sc inputs h (k ++ entry_of sc k site i ∷ []) site given (step_lasts sc k site i given up due.0 was)
-        (λ p has. elim (facts.sends p has) [
-          | inl before ↦ old p before
-          | inr new ↦ inr new.own
-        ]) (facts.ups site ∙ up) due.1 in
-    let mine : List Move = moves_of sc k site in
+    fall_well sc inputs h (k ++ entry_of sc k site i ∷ []) site given (step_lasts sc k site i given up due.0 was)
+    (λ p has. elim (facts.sends p has) [
+      | inl before ↦ old p before
+      | inr new ↦ inr new.own
+    ]) (facts.ups site ∙ up) due.1 in
     let same : moves_of sc (k ++ entry_of sc k site i ∷ []) site ≡ moves_of sc k site ++ step_move sc site (moves_of sc k site) (plain_input i) ∷ [] =
-        moves_step sc k site i ∙ ap (λ m. moves_of sc k site ++ m ∷ []) (sym (step_move_plain sc site (moves_of sc k site) i)) in
+    moves_step sc k site i ∙ ap (λ m. moves_of sc k site ++ m ∷ []) (sym (step_move_plain sc site (moves_of sc k site) i)) in
     let P : List Move → Type 0 = λ l. FitInTurn sc (trail_of sc h) site l (map plain_input inputs) in
     record {
       fits = (fits_plain sc.weights site (life_at (moves_of sc k site)) i (due_fits sc k site i given was up due.0), fall_sent sc h k site i old fit due.0, subst P same more.fits);
@@ -215,7 +218,7 @@ rise_moves sc h site kept =
 
 rise_sound : (sc : Scenario) (h : List Entry) (site : ℕ) (kept : Bool) (inc : ℕ) → IsRise sc h site kept inc →
     IsSoundRise sc (trail_of sc h ++ kept_moves site kept (open_tail sc h site)) site inc
-        (rise_records sc site inc (log_by (moves_of sc h site ++ kept_moves site kept (open_tail sc h site))))
+    (rise_records sc site inc (log_by (moves_of sc h site ++ kept_moves site kept (open_tail sc h site))))
 rise_sound sc h site kept inc guard = record {
   next = guard.next ∙ ap (λ l. suc (logged_inc l)) (sym (log_append (moves_of sc h site) (kept_moves site kept (open_tail sc h site)))
       ∙ ap (λ l. log_by l) (sym (rise_moves sc h site kept)));

@@ -1,5 +1,5 @@
 -- What a step of a legal history issues, answers and tells.
-use Rattle.std.proofs.Common.{◌≡◌, ◌==◌, ◌&&◌, ◌||◌, ◌+◌, ◌++◌, ◌∷◌, [], ℕ, zero, suc, ◌≤◌, ◌<◌, Bool, true, false, not, List, Option, Some, None, refl, sym, subst, ap, ◌∙◌, inl, inr, ◌⊎◌, arith, append-nil, length, map, eqb-true, eq-eqb, if◌then◌else◌}
+use Rattle.std.proofs.Common.{◌≡◌, ◌==◌, ◌&&◌, ◌++◌, ◌∷◌, [], ℕ, zero, suc, Bool, true, false, List, Option, Some, None, refl, sym, subst, ap, ◌∙◌, inl, inr, ◌⊎◌, arith, length, map, eqb-true, eq-eqb, if◌then◌else◌}
 use Rattle.std.specs.Prelude.{Contains}
 use Rattle.std.specs.List.{list_any, flat_map, AllByRecursion as Each}
 use Rattle.std.proofs.lemmas.Bool.{eqb-false, and_parts}
@@ -28,10 +28,10 @@ use Rattle.e3_world.specs.Items.{is_delivery, is_up_at}
 use Rattle.e3_world.specs.Legal.{IsDue, IsDelivery, numbered, made_by, entry_of}
 use Rattle.e3_world.specs.Lives.{incarnation_of, life_at}
 use Rattle.e3_world.specs.Logs.{key_of}
-use Rattle.e3_world.specs.Making.{nothing, and_send, and_grants, steps_now}
-use Rattle.e3_world.specs.Moves.{own, past_of, moves_of, plain, plain_input}
-use Rattle.e3_world.specs.Operations.{issued, issued_in, is_refusal, nth_op, tells_op, is_answered, answers, answer_told, answer_sent}
-use Rattle.e3_world.specs.Packets.{sent, outs_of, pending}
+use Rattle.e3_world.specs.Making.{nothing, and_send, and_grants}
+use Rattle.e3_world.specs.Moves.{past_of, moves_of, plain, plain_input}
+use Rattle.e3_world.specs.Operations.{issued, issued_in, nth_op, tells_op, is_answered, answers, answer_told, answer_sent}
+use Rattle.e3_world.specs.Packets.{sent, outs_of}
 use Rattle.e3_world.specs.Steps.{refuse, or_refused, settle}
 use Rattle.e3_world.proofs.InTrail.{pending_sent}
 use Rattle.e3_world.proofs.Readings.{own_other, taken_same, taken_other, up_same, up_other}
@@ -44,12 +44,11 @@ use Rattle.e3_trails.proofs.Inputs.{place, step_keeps}
 use Rattle.e3_trails.proofs.Turns.{present_push}
 use Rattle.e3_trails.proofs.Suiting.{due_input_suits}
 use Rattle.e3_trails.proofs.Holding.{Holds, sent_push, step_holds}
-use Rattle.e3_trails.proofs.Tracing.{IsAnswer, was_delivered, is_do, Said, Issues, Answers, Came, Traces, Refuses, Says, same_self, none_refused, same_issued, issued_now}
+use Rattle.e3_trails.proofs.Tracing.{IsAnswer, is_do, Said, Issues, Answers, Traces, Says, same_self, none_refused, same_issued, issued_now}
 use Rattle.e3_trails.proofs.Clocks.{AdvanceAt, due_says, step_advance, stepped_inc, more_at}
 use Rattle.e3_trails.proofs.Freshness.{Fresh, bound_in, life_in, IsKnown, binds_more, due_known, few_due}
 use Rattle.e3_trails.proofs.Pending.{pending_push}
 use Rattle.e3_trails.proofs.Issuing.{issued_push, Allows, allows, told_answers}
-use Rattle.e3_trails.proofs.Talks.{SentDone}
 use Rattle.e3_trails.proofs.Stepping.{Issue, News, Telling, Stepping, any_answer, any_left, any_right}
 
 -- the step of a site, as its life keeps it
@@ -160,8 +159,8 @@ news_of sc h site i p fit keeps (inl refuses) has =
 news_of sc h site i p fit keeps (inr traces) has =
     let P : Packet → Type 0 = λ x. Goes sc.weights site x × Said (place_in sc h site i) x.to x.msg in
     let is : P p = each-at P (numbered (suc (length (sent h))) (made_by sc h site i).outs) p
-        (numbered_each P (λ x n y. (record { own = y.0.own; between = record { heard = y.0.between.heard; other = y.0.between.other } }, y.1)) (suc (length (sent h))) (made_by sc h site i).outs
-        (both_each (Goes sc.weights site) (λ x. Said (place_in sc h site i) x.to x.msg) (made_by sc h site i).outs keeps.outs traces.outs)) has in
+    (numbered_each P (λ x n y. (record { own = y.0.own; between = record { heard = y.0.between.heard; other = y.0.between.other } }, y.1)) (suc (length (sent h))) (made_by sc h site i).outs
+    (both_each (Goes sc.weights site) (λ x. Said (place_in sc h site i) x.to x.msg) (made_by sc h site i).outs keeps.outs traces.outs)) has in
     packet_news sc h site i p fit traces is.0 is.1 has
 
 refused_none : (t : Txn) (i : Input) (events : List Told) (u : Txn) (why : Refusal) → events ≡ told.Refused u why ∷ [] → issued_in t i events ≡ []
@@ -184,8 +183,11 @@ do_issues sc h site u op fit traces = by (refuse a u false nothing) refl
         (issued_in u (input.Do u op) (made_by sc h site (input.Do u op)).told ≡ []) ⊎ ((n : ℕ) × (o : Op) × Issue sc h site (input.Do u op) (moment_of sc h site (input.Do u op)) u n o)
     by (Some why) is = inl (refused_none u (input.Do u op) (made_by sc h site (input.Do u op)).told u why
         (ap (λ o. (settle 3 a (and_grants a 0 (or_refused u o (and_send a (key_of op).site (msg.Do u (suc (length (issued u a.life.steps))) op) nothing)))).told) is))
-    by None is = inr (suc (length (issued u (life_in sc h site).steps)), op,
-        sent_issue sc h site (input.Do u op) (key_of op).site u (suc (length (issued u (life_in sc h site).steps))) op fit traces (record { takes = refl; next = refl; allowed = is; there = refl }))
+    by None is = inr (
+      suc (length (issued u (life_in sc h site).steps)),
+      op,
+      sent_issue sc h site (input.Do u op) (key_of op).site u (suc (length (issued u (life_in sc h site).steps))) op fit traces (record { takes = refl; next = refl; allowed = is; there = refl }),
+    )
 
 issues_of : (sc : Scenario) (h : List Entry) (site : ℕ) (i : Input) (t : Txn) → Suits sc.weights site i → Says (place_in sc h site i) (made_by sc h site i) →
     (issued_in t (plain_input i) (made_by sc h site i).told ≡ []) ⊎ ((n : ℕ) × (op : Op) × Issue sc h site i (moment_of sc h site i) t n op)
@@ -219,12 +221,15 @@ tells_of sc h site i t n due (inr traces) told = record {
         let P : Input → Type 0 = IsDue sc h site in
         let is_due : IsDelivery sc h site p.0 = subst P p.1 due in
         let Q : Packet → Type 0 = IsAnswer t n in
-        inr (ap is_delivery p.1, record {
-          packet = p.0;
-          has = pending_sent sc h p.0 is_due.is_pending;
-          answer = subst Q (sym p.2) far.3;
-          own = ap (λ x. x.«from») p.2 ∙ far.2 ∙ sym this.there;
-        }))
+        inr (
+          ap is_delivery p.1,
+          record {
+            packet = p.0;
+            has = pending_sent sc h p.0 is_due.is_pending;
+            answer = subst Q (sym p.2) far.3;
+            own = ap (λ x. x.«from») p.2 ∙ far.2 ∙ sym this.there;
+          },
+        ))
   ];
 }
   where

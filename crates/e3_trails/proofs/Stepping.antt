@@ -1,8 +1,8 @@
 -- What sites said of operations stands behind a step, by what a step may issue, answer and tell.
-use Rattle.std.proofs.Common.{◌≡◌, ◌==◌, ◌||◌, ◌+◌, ◌++◌, ◌∷◌, [], ℕ, zero, suc, ◌≤◌, ◌<◌, Bool, true, false, List, Option, Some, None, refl, sym, subst, ap, ◌∙◌, inl, inr, ◌⊎◌, arith, append-nil, length, eqb-true}
+use Rattle.std.proofs.Common.{◌≡◌, ◌==◌, ◌||◌, ◌+◌, ◌++◌, ◌∷◌, [], ℕ, suc, ◌≤◌, ◌<◌, Bool, true, false, List, Some, None, refl, sym, subst, ap, ◌∙◌, inl, inr, ◌⊎◌, arith, append-nil, length, eqb-true}
 use Rattle.std.specs.Prelude.{slice_get, Contains}
 use Rattle.std.specs.List.{list_any, flat_map, AllByRecursion as Each}
-use Rattle.std.proofs.lemmas.Bool.{eqb-false, or_cases, or_left, or_right, or_parts, or_from, cases_lt, false_from_ne_true}
+use Rattle.std.proofs.lemmas.Bool.{eqb-false, or_cases, or_left, or_parts, or_from, cases_lt, false_from_ne_true}
 use Rattle.std.proofs.lemmas.Grind.{flat_map-append}
 use Rattle.std.proofs.lemmas.Option.{same_Some}
 use Rattle.std.proofs.lemmas.List.{length-append}
@@ -176,8 +176,12 @@ module _ (sc : Scenario) (h k : List Entry) (site : ℕ) (i : Input) (m : Moment
         | inl old ↦ (let P : ℕ → Type 0 = λ s. is_up_at h s ≡ true → t.inc ≡ (life_in sc h s).inc → HasOp (issued t (life_in sc h s).steps) n y in
             let has : HasOp (issued t (life_in sc h site).steps) n y = subst P home (was.nth t n y old) step.up same in
             (has.0, nth_more n (issued t (life_in sc h site).steps) (issued_in t m.input m.told) has.0 has.1, has.2))
-        | inr new ↦ (new.0, ap (λ l. nth_op n (issued t (life_in sc h site).steps ++ l)) new.1.grows
-            ∙ ap (λ x. nth_op x (issued t (life_in sc h site).steps ++ new.0 ∷ [])) new.1.next ∙ nth_next (issued t (life_in sc h site).steps) new.0, new.2)
+        | inr new ↦ (
+          new.0,
+          ap (λ l. nth_op n (issued t (life_in sc h site).steps ++ l)) new.1.grows
+              ∙ ap (λ x. nth_op x (issued t (life_in sc h site).steps ++ new.0 ∷ [])) new.1.next ∙ nth_next (issued t (life_in sc h site).steps) new.0,
+          new.2,
+        )
       ])
 
   nth_on : (t : Txn) (n y : ℕ) → SentDo k t n y → is_up_at k t.site ≡ true → t.inc ≡ (life_in sc k t.site).inc → HasOp (issued t (life_in sc k t.site).steps) n y
@@ -202,11 +206,11 @@ module _ (sc : Scenario) (h k : List Entry) (site : ℕ) (i : Input) (m : Moment
       mine few = told_push t c (life_in sc h site).steps m ∙ or_left _ _ (elim (step.issues t) [
         | inl none ↦ was.told t site c step.up low (
             let same : length (issued t ((life_in sc h site).steps ++ m ∷ [])) ≡ length (issued t (life_in sc h site).steps) =
-                ap length (issued_push t (life_in sc h site).steps m ∙ ap (λ l. issued t (life_in sc h site).steps ++ l) none ∙ append-nil (issued t (life_in sc h site).steps)) in
+            ap length (issued_push t (life_in sc h site).steps m ∙ ap (λ l. issued t (life_in sc h site).steps ++ l) none ∙ append-nil (issued t (life_in sc h site).steps)) in
             omega (arith, few, same))
         | inr new ↦ all_told t new.0 new.1 new.2 c low (
             let one : length (issued t ((life_in sc h site).steps ++ m ∷ [])) ≡ length (issued t (life_in sc h site).steps) + length (new.1 ∷ []) =
-                ap length (issued_push t (life_in sc h site).steps m ∙ ap (λ l. issued t (life_in sc h site).steps ++ l) new.2.grows) ∙ length-append (issued t (life_in sc h site).steps) (new.1 ∷ []) in
+            ap length (issued_push t (life_in sc h site).steps m ∙ ap (λ l. issued t (life_in sc h site).steps ++ l) new.2.grows) ∙ length-append (issued t (life_in sc h site).steps) (new.1 ∷ []) in
             omega (arith, few, one))
       ])
 
@@ -218,10 +222,14 @@ module _ (sc : Scenario) (h k : List Entry) (site : ℕ) (i : Input) (m : Moment
           subst P (eqb-true site s is) (subst Q (sym step.steps) mine) less
 
   lift_heard : (t : Txn) (c s : ℕ) (ops : List Op) → WasHeard h t c s ops → WasHeard k t c s ops
-  lift_heard t c s ops w = (w.0, w.1, elim w.2 [
-    | inl own ↦ inl own
-    | inr done ↦ inr (done_on t c (key_of w.0).site done)
-  ])
+  lift_heard t c s ops w = (
+    w.0,
+    w.1,
+    elim w.2 [
+      | inl own ↦ inl own
+      | inr done ↦ inr (done_on t c (key_of w.0).site done)
+    ],
+  )
 
   heard_on : (t : Txn) (c s : ℕ) → is_up_at k s ≡ true → op_told t c (life_in sc k s).steps ≡ true → WasHeard k t c s (issued t (life_in sc k s).steps)
   heard_on t c s up told = by (site == s) refl
@@ -231,10 +239,14 @@ module _ (sc : Scenario) (h k : List Entry) (site : ℕ) (i : Input) (m : Moment
         | inl old ↦ (let w : WasHeard k t c site (issued t (life_in sc h site).steps) = lift_heard t c site (issued t (life_in sc h site).steps) (was.heard t c site step.up old) in
             let Q : List Op → Type 0 = λ l. WasHeard k t c site l in
             subst Q (sym (issued_push t (life_in sc h site).steps m)) (w.0, nth_more c (issued t (life_in sc h site).steps) (issued_in t m.input m.told) w.0 w.1, w.2))
-        | inr new ↦ (let this : Telling sc h site i m t c = step.tells t c new in (this.op, this.nth, elim this.heard [
+        | inr new ↦ (let this : Telling sc h site i m t c = step.tells t c new in (
+          this.op,
+          this.nth,
+          elim this.heard [
             | inl own ↦ inl own
             | inr far ↦ inr (done_on t c (key_of this.op).site far.1)
-          ]))
+          ],
+        ))
       ]
 
       by : (b : Bool) → (site == s) ≡ b → WasHeard k t c s (issued t (life_in sc k s).steps)
@@ -284,12 +296,15 @@ module _ (sc : Scenario) (h k : List Entry) (site : ℕ) (i : Input) (m : Moment
           subst P (eqb-true site y is) (λ before. subst Q (sym step.steps) (answered_more (life_in sc h site).steps m q (before step.up))) answered
 
   gone_on : (q : Asked) (y : ℕ) → SentDone h q.txn q.n y → IsGone sc h y q → IsGone sc k y q
-  gone_on q y d gone = ((λ up. by (site == y) refl up), (λ p. elim (pend_cases q.txn q.n p) [
+  gone_on q y d gone = (
+    (λ up. by (site == y) refl up),
+    (λ p. elim (pend_cases q.txn q.n p) [
       | inl old ↦ gone.1 old
       | inr new ↦ (let has : HasOp (issued q.txn (life_in sc h site).steps) q.n y = low_number q.txn q.n y q.n new.0 new.1 (was.asked q.txn q.n y d) in
           let low : q.n ≤ length (issued q.txn (life_in sc h site).steps) = nth_low q.n (issued q.txn (life_in sc h site).steps) has.0 has.1 in
           let next : q.n ≡ suc (length (issued q.txn (life_in sc h site).steps)) = new.1.next in omega (arith, low, next))
-    ]))
+    ]),
+  )
     where
       by : (b : Bool) → (site == y) ≡ b → is_up_at k y ≡ true → was_delivered q.txn q.n (life_in sc k y).steps ≡ false
       by false is up = let P : Life → Type 0 = λ l. was_delivered q.txn q.n l.steps ≡ false in subst P (sym (step.others y is)) (gone.0 (sym (step.ups y) ∙ up))
@@ -302,9 +317,9 @@ module _ (sc : Scenario) (h k : List Entry) (site : ℕ) (i : Input) (m : Moment
   done_cases : (q : Asked) (y : ℕ) → SentDone k q.txn q.n y → HasAnswered sc k y q ⊎ IsGone sc k y q
   done_cases q y d = elim (step.sends d.packet d.has) [
     | inl old ↦ (let before : SentDone h q.txn q.n y = record { packet = d.packet; has = old; answer = d.answer; own = d.own } in elim (was.done q y before) [
-        | inl answered ↦ inl (answered_on q y answered)
-        | inr gone ↦ inr (gone_on q y before gone)
-      ])
+      | inl answered ↦ inl (answered_on q y answered)
+      | inr gone ↦ inr (gone_on q y before gone)
+    ])
     | inr new ↦ inl (λ up. let P : ℕ → Type 0 = λ x. is_answered (life_in sc k x).steps q ≡ true in
         let Q : List Moment → Type 0 = λ l. is_answered l q ≡ true in
         subst P (sym new.own ∙ d.own) (subst Q (sym step.steps) (new.shows q d.answer)))
@@ -313,16 +328,16 @@ module _ (sc : Scenario) (h k : List Entry) (site : ℕ) (i : Input) (m : Moment
   last_on : (t : Txn) (n c y : ℕ) → Pends sc k t n → SentDo k t c y → c ≤ n
   last_on t n c y p d = elim (pend_cases t n p) [
     | inl old ↦ elim (do_cases t c y d) [
-        | inl older ↦ was.last t n c y old older
-        | inr new ↦ absurd (none_pends t n c new.0 new.1 old)
-      ]
+      | inl older ↦ was.last t n c y old older
+      | inr new ↦ absurd (none_pends t n c new.0 new.1 old)
+    ]
     | inr new ↦ elim (do_cases t c y d) [
-        | inl older ↦ (let has : HasOp (issued t (life_in sc h site).steps) c y = low_number t c y n new.0 new.1 older in
-            let low : c ≤ length (issued t (life_in sc h site).steps) = nth_low c (issued t (life_in sc h site).steps) has.0 has.1 in
-            let next : n ≡ suc (length (issued t (life_in sc h site).steps)) = new.1.next in omega (arith, low, next))
-        | inr other ↦ (let next : n ≡ suc (length (issued t (life_in sc h site).steps)) = new.1.next in
-            let same : c ≡ suc (length (issued t (life_in sc h site).steps)) = other.1.next in omega (arith, next, same))
-      ]
+      | inl older ↦ (let has : HasOp (issued t (life_in sc h site).steps) c y = low_number t c y n new.0 new.1 older in
+          let low : c ≤ length (issued t (life_in sc h site).steps) = nth_low c (issued t (life_in sc h site).steps) has.0 has.1 in
+          let next : n ≡ suc (length (issued t (life_in sc h site).steps)) = new.1.next in omega (arith, low, next))
+      | inr other ↦ (let next : n ≡ suc (length (issued t (life_in sc h site).steps)) = new.1.next in
+          let same : c ≡ suc (length (issued t (life_in sc h site).steps)) = other.1.next in omega (arith, next, same))
+    ]
   ]
 
   -- what the step tells is no answer to an operation that is on its way
@@ -355,7 +370,7 @@ module _ (sc : Scenario) (h k : List Entry) (site : ℕ) (i : Input) (m : Moment
       mine : t.site ≡ site → t.inc ≡ (life_in sc h site).inc → list_any is_delivery (taken_at k site) ≡ false → op_told t n ((life_in sc h site).steps ++ m ∷ []) ≡ false
       mine home now free =
           let parts : _ = or_parts (list_any is_delivery (taken_at h site)) (is_delivery i)
-              (sym (ap (list_any is_delivery) step.taken ∙ list_any-append is_delivery (taken_at h site) (i ∷ []) ∙ ap (λ b. list_any is_delivery (taken_at h site) || b) (or_false (is_delivery i))) ∙ free) in
+          (sym (ap (list_any is_delivery) step.taken ∙ list_any-append is_delivery (taken_at h site) (i ∷ []) ∙ ap (λ b. list_any is_delivery (taken_at h site) || b) (or_false (is_delivery i))) ∙ free) in
           told_push t n (life_in sc h site).steps m
           ∙ or_from (op_told t n (life_in sc h site).steps) (list_any (tells_op t n) m.told) (before home now parts.0) (tells_none t n p home now parts.1)
 
@@ -388,16 +403,16 @@ module _ (sc : Scenario) (h k : List Entry) (site : ℕ) (i : Input) (m : Moment
   before_on : (t : Txn) (n c y z : ℕ) → SentDo k t n y → SentDo k t c z → c < n → SentDone k t c z
   before_on t n c y z first second less = elim (do_cases t n y first) [
     | inl old ↦ elim (do_cases t c z second) [
-        | inl older ↦ done_on t c z (was.before t n c y z old older less)
-        | inr new ↦ absurd (let has : HasOp (issued t (life_in sc h site).steps) n y = low_number t n y c new.0 new.1 old in
-            let low : n ≤ length (issued t (life_in sc h site).steps) = nth_low n (issued t (life_in sc h site).steps) has.0 has.1 in
-            let next : c ≡ suc (length (issued t (life_in sc h site).steps)) = new.1.next in omega (arith, low, next, less))
-      ]
+      | inl older ↦ done_on t c z (was.before t n c y z old older less)
+      | inr new ↦ absurd (let has : HasOp (issued t (life_in sc h site).steps) n y = low_number t n y c new.0 new.1 old in
+          let low : n ≤ length (issued t (life_in sc h site).steps) = nth_low n (issued t (life_in sc h site).steps) has.0 has.1 in
+          let next : c ≡ suc (length (issued t (life_in sc h site).steps)) = new.1.next in omega (arith, low, next, less))
+    ]
     | inr new ↦ elim (do_cases t c z second) [
-        | inl older ↦ settled t n c z new.0 new.1 older
-        | inr other ↦ absurd (let next : n ≡ suc (length (issued t (life_in sc h site).steps)) = new.1.next in
-            let same : c ≡ suc (length (issued t (life_in sc h site).steps)) = other.1.next in omega (arith, next, same, less))
-      ]
+      | inl older ↦ settled t n c z new.0 new.1 older
+      | inr other ↦ absurd (let next : n ≡ suc (length (issued t (life_in sc h site).steps)) = new.1.next in
+          let same : c ≡ suc (length (issued t (life_in sc h site).steps)) = other.1.next in omega (arith, next, same, less))
+    ]
   ]
 
   rest_on : AsksNone (present_items sc k) → recover_group (present_items sc k) ≡ None → pending sc k ≡ []

@@ -1,7 +1,7 @@
 -- What the operations, answers and refusals are that a step sends and tells, and that it records no incarnation.
-use Rattle.std.proofs.Common.{append_assoc, ◌≡◌, ◌==◌, ◌&&◌, ◌++◌, ◌∷◌, [], ℕ, Bool, true, false, List, refl, sym, subst, eqb-true, eq-eqb, if◌then◌else◌, fold, drop, ◌||◌, zero, suc, Option, Some, None, length, nat_lt, nat_le, map, filter, take, ◌≤◌, arith, ◌⊎◌, inl, inr, ap, ◌∙◌, append-nil, not}
-use Rattle.std.specs.List.{list_any, AllByRecursion as Each, flat_map}
-use Rattle.std.proofs.lemmas.Bool.{and_parts, false_from_ne_true, and_from, or_left, or_right, or_from, or_parts}
+use Rattle.std.proofs.Common.{append_assoc, ◌≡◌, ◌==◌, ◌&&◌, ◌++◌, ◌∷◌, [], ℕ, Bool, true, false, List, refl, sym, subst, eqb-true, eq-eqb, if◌then◌else◌, fold, drop, ◌||◌, zero, suc, Option, Some, None, length, nat_lt, nat_le, ◌⊎◌, inl, inr, ap, ◌∙◌, append-nil}
+use Rattle.std.specs.List.{list_any, AllByRecursion as Each}
+use Rattle.std.proofs.lemmas.Bool.{and_parts, and_from, or_left, or_right}
 use Rattle.e3_types.specs.declared.entries.Told.{Told}
 use Rattle.e3_types.specs.declared.entries.Told.TheVariants as told
 use Rattle.e3_types.specs.declared.messages.Message.{Message}
@@ -14,13 +14,12 @@ use Rattle.e3_types.specs.declared.transactions.Dir.TheVariants.{Abort, Commit}
 use Rattle.e3_types.specs.declared.transactions.Op.{Op}
 use Rattle.e3_types.specs.declared.transactions.Txn.{Txn}
 use Rattle.e3_types.specs.Quorums.{is_quorum}
-use Rattle.e3_types.specs.Sets.{has_site, is_within, others}
+use Rattle.e3_types.specs.Sets.{others}
 use Rattle.e3_world.specs.declared.lives.Asked.{Asked}
 use Rattle.e3_world.specs.declared.lives.At.{At}
 use Rattle.e3_world.specs.declared.lives.Made.{Made}
-use Rattle.e3_world.specs.Making.{is_coordinator, is_present, may_attempt, and_record, and_tell, and_send, and_cast, and_decide, and_abort, and_abort_for, go_on, and_attempt, and_do, answer_now, and_grant, log_now, steps_now, state_now, open_now, elected_now, attempt_now, may_abort, may_decide, and_vote, grants_after, granted, granted_on, asked_on, names_of, decides, and_grants, nothing}
+use Rattle.e3_world.specs.Making.{is_coordinator, is_present, may_attempt, and_record, and_tell, and_send, and_cast, and_decide, and_abort, and_abort_for, go_on, and_attempt, and_do, answer_now, and_grant, log_now, steps_now, state_now, open_now, elected_now, attempt_now, may_abort, may_decide, and_vote, grants_after, granted_on, asked_on, names_of, decides, and_grants, nothing}
 use Rattle.e3_world.specs.Logs.{key_of, mode_of}
-use Rattle.e3_world.specs.Orderly.{is_among}
 use Rattle.e3_types.specs.declared.locks.Grant.{Grant}
 use Rattle.e3_types.specs.declared.locks.Grant.TheVariants.{Held, Waits, Dies}
 use Rattle.e3_types.specs.declared.transactions.Answer.{Answer}
@@ -47,19 +46,17 @@ use Rattle.e3_world.specs.VoteRules.{vote_rule, on_vote_req, on_yes}
 use Rattle.e3_world.specs.Votes.{yes_votes}
 use Rattle.e3_world.specs.Messages.{on_message}
 use Rattle.e3_world.specs.Steps.{on_begin, handled, settle, refuse, or_refused, and_ask, on_commit, on_expire, on_input, step_of}
-use Rattle.e3_world.specs.Sound.{txn_in}
 use Rattle.e3_types.specs.declared.entries.Input.{Input}
 use Rattle.e3_types.specs.declared.entries.Input.TheVariants as input
 use Rattle.e3_types.specs.declared.entries.Refusal.{Refusal}
 use Rattle.e3_world.specs.declared.lives.Incarnation.{Incarnation}
 use Rattle.e3_world.specs.Lives.{life_of}
-use Rattle.e3_world.specs.Moves.{plain_input}
 use Rattle.std.proofs.lemmas.Grind.{flat_map-append}
 use Rattle.std.proofs.lemmas.List.Folds.{list_any-append}
 use Rattle.e3_world.specs.declared.lives.Moment.{Moment}
 use Rattle.e3_trails.specs.Bounds.{Suits}
 use Rattle.e3_trails.proofs.Arriving.{AllSuit, IfAny}
-use Rattle.e3_trails.proofs.Each.{each-push, each-append, each-filter, each-take, each-flat, each-of, each-weaker}
+use Rattle.e3_trails.proofs.Each.{each-push, each-filter, each-take, each-flat, each-of, each-weaker}
 use Rattle.e3_trails.proofs.Handling.{Ready}
 use Rattle.e3_trails.proofs.Inputs.{place, suits_plain}
 
@@ -324,8 +321,8 @@ arrivals_came weights site steps suit =
 came_at : (a : At) (m : Moment) (q : Asked) → m.input ≡ a.input → CameIn a.site (a.life.steps ++ m ∷ []) q → Came a q.txn q.n
 came_at a m q same (inl own) = inl own
 came_at a m q same (inr came) = inr (
-  (let P : Input → Type 0 = λ i. (was_delivered q.txn q.n a.life.steps || is_do q.txn q.n i) ≡ true in
-   subst P same (ap (λ b. was_delivered q.txn q.n a.life.steps || b) (sym (or_false (is_do q.txn q.n m.input))) ∙ sym (list_any-append (λ x. is_do q.txn q.n x.input) a.life.steps (m ∷ [])) ∙ came)))
+    (let P : Input → Type 0 = λ i. (was_delivered q.txn q.n a.life.steps || is_do q.txn q.n i) ≡ true in
+    subst P same (ap (λ b. was_delivered q.txn q.n a.life.steps || b) (sym (or_false (is_do q.txn q.n m.input))) ∙ sym (list_any-append (λ x. is_do q.txn q.n x.input) a.life.steps (m ∷ [])) ∙ came)))
 
 granted_came : (a : At) (made : Made) → Ready a → Each (λ q. Came a q.txn q.n) (grants_after a made)
 granted_came a made ready =
@@ -334,7 +331,7 @@ granted_came a made ready =
     let suit : AllSuit a.weights a.site (steps_now a made) = each-push (λ m. Suits a.weights a.site m.input) a.life.steps m ready.steps ready.input in
     let waits : List Asked = waiting a.site (log_now a made) (steps_now a made) in
     let all : Each P waits = each-filter P _ (arrivals a.site (steps_now a made))
-        (each-weaker (CameIn a.site (steps_now a made)) P (λ q. came_at a m q refl) (arrivals a.site (steps_now a made)) (arrivals_came a.weights a.site (steps_now a made) suit)) in
+    (each-weaker (CameIn a.site (steps_now a made)) P (λ q. came_at a m q refl) (arrivals a.site (steps_now a made)) (arrivals_came a.weights a.site (steps_now a made) suit)) in
     each-flat (λ (name : List ℕ). Unit {0}) P (granted_on a made waits)
     (λ name is. each-take P _ (asked_on name waits) (each-filter P _ waits all))
     (names_of waits) (each-of (λ (name : List ℕ). Unit {0}) (λ name. tt) (names_of waits))

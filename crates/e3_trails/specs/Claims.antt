@@ -77,7 +77,7 @@ IsNoStep (Stepped s) = ⊥
 IsNoStep (Silent inputs records) = Unit {0}
 IsNoStep (Rose inc records) = Unit {0}
 
--- A silent move of a site is followed, among its moves, by a silent move or a rise.
+-- What follows a silent move of a site, among its moves, is a silent move or a rise.
 abbrev pub SilentMovesEnd : Type 0
 SilentMovesEnd = (sc : Scenario) (h : List Entry) (site : ℕ) (before rest : List Move) (m : Move) (inputs : List Input) (records : List Record) →
     IsGiven sc → IsLegal sc h → moves_at site (trail_of sc h) ≡ before ++ record { site = site; did = Silent inputs records } ∷ m ∷ rest → IsNoStep m.did
