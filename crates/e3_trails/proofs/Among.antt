@@ -1,6 +1,6 @@
 -- Sites of a transaction, and equal transactions.
-use Rattle.std.proofs.Common.{◌≡◌, ◌==◌, ◌&&◌, ◌||◌, ◌∷◌, [], ℕ, Bool, true, false, not, List, refl, ap, subst, sym, ◌∙◌, eqb-true, eq-eqb, filter, if◌then◌else◌}
-use Rattle.std.specs.List.{list_any, list_all, AllByRecursion as Each}
+use Rattle.std.proofs.Common.{◌≡◌, ◌==◌, ◌&&◌, ◌||◌, ◌∷◌, [], ℕ, Bool, true, false, not, List, refl, ap, subst, ◌∙◌, eqb-true, eq-eqb, filter, if◌then◌else◌}
+use Rattle.std.specs.List.{AllByRecursion as Each}
 use Rattle.std.proofs.lemmas.Bool.{and_parts, and_from, or_left, or_right}
 use Rattle.e3_types.specs.declared.messages.Message.{Message}
 use Rattle.e3_types.specs.declared.transactions.Txn.{Txn}

@@ -1,38 +1,23 @@
 -- What came to a site, what it did, and what it gathers, where all its inputs suit it.
-use Rattle.std.proofs.Common.{◌≡◌, ◌==◌, ◌&&◌, ◌||◌, ◌++◌, ◌∷◌, [], ℕ, suc, Bool, true, false, not, List, filter, Option, Some, None, refl, sym, subst, ap, ◌∙◌, eqb-true, if◌then◌else◌, fold, drop, length, map}
-use Rattle.std.specs.Prelude.{option_map}
-use Rattle.std.specs.List.{list_any, flat_map, AllByRecursion as Each}
+use Rattle.std.proofs.Common.{◌≡◌, ◌==◌, ◌++◌, ◌∷◌, [], ℕ, suc, Bool, true, false, List, filter, Option, Some, None, refl, sym, subst, eqb-true, if◌then◌else◌, fold, length, map}
+use Rattle.std.specs.List.{AllByRecursion as Each}
 use Rattle.e3_types.specs.declared.entries.Input.{Input}
 use Rattle.e3_types.specs.declared.entries.Input.TheVariants as input
 use Rattle.e3_types.specs.declared.messages.Message.{Message}
 use Rattle.e3_types.specs.declared.messages.Message.TheVariants as msg
 use Rattle.e3_types.specs.declared.messages.Packet.{Packet}
-use Rattle.e3_types.specs.declared.records.Record.{Record}
-use Rattle.e3_types.specs.declared.records.Record.TheVariants as log
 use Rattle.e3_types.specs.declared.transactions.Answer.{Answer}
-use Rattle.e3_types.specs.declared.transactions.Call.{Call}
-use Rattle.e3_types.specs.declared.transactions.Dir.{Dir}
-use Rattle.e3_types.specs.declared.transactions.NumOp.{NumOp}
 use Rattle.e3_types.specs.declared.transactions.Op.{Op}
 use Rattle.e3_types.specs.declared.transactions.Txn.{Txn}
-use Rattle.e3_types.specs.declared.verdicts.SiteReport.{SiteReport}
 use Rattle.e3_types.specs.Same.{same_txn}
-use Rattle.e3_types.specs.Sets.{has_site, is_within, others}
-use Rattle.e3_world.specs.declared.gatherings.Election.{Election}
-use Rattle.e3_world.specs.declared.gatherings.Elections.{Elections}
-use Rattle.e3_world.specs.declared.gatherings.Round.{Round}
-use Rattle.e3_world.specs.declared.gatherings.Rounds.{Rounds}
+use Rattle.e3_types.specs.Sets.{has_site}
 use Rattle.e3_world.specs.declared.lives.Asked.{Asked}
 use Rattle.e3_world.specs.declared.lives.Moment.{Moment}
-use Rattle.e3_world.specs.declared.lives.Performed.{Performed}
-use Rattle.e3_world.specs.Elections.{begun, hear, take_report, or_same, heard_more, after_heard, all_heard, joined_in, ends_election, election_with, election_by, election_in_progress, is_join, heard_in}
-use Rattle.e3_world.specs.Logs.{key_of, last_elected}
+use Rattle.e3_world.specs.Logs.{key_of}
 use Rattle.e3_world.specs.Operations.{Arrived, taken_up, and_arrived, is_fresh, arrived_by, arrivals, issued, issued_in, answers, performed_by, done}
-use Rattle.e3_world.specs.Orderly.{is_among}
-use Rattle.e3_world.specs.Rounds.{count_ack, receivers, round_by_record, round_by, round_in_progress}
 use Rattle.e3_trails.specs.Bounds.{MayHear, Suits, IsHere}
-use Rattle.e3_trails.proofs.Among.{among_self, txn_eq, within_self, within_filter, others_within}
-use Rattle.e3_trails.proofs.Each.{each-push, each-append, each-filter, each-flat, each-map}
+use Rattle.e3_trails.proofs.Among.{among_self}
+use Rattle.e3_trails.proofs.Each.{each-push, each-filter, each-flat, each-map}
 use Rattle.e3_trails.proofs.Keeping.{AskedHere}
 
 -- all these steps took inputs that suit the site

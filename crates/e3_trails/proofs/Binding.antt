@@ -1,39 +1,34 @@
 -- A name that is bound is that of a begin of the scenario, and its transaction has the sites of that begin.
-use Rattle.std.proofs.Common.{◌≡◌, ◌==◌, ◌+◌, ◌++◌, ◌∷◌, [], ℕ, zero, suc, Bool, true, false, not, List, Option, Some, None, refl, sym, subst, ap, ◌∙◌, fold, map, filter, take, length, count_by, arith, append-nil, eqb-true, if◌then◌else◌}
+use Rattle.std.proofs.Common.{◌≡◌, ◌==◌, ◌++◌, ◌∷◌, [], ℕ, zero, suc, Bool, true, false, not, List, Option, Some, None, refl, sym, subst, ap, ◌∙◌, fold, filter, take, count_by, arith, eqb-true}
 use Rattle.std.specs.Prelude.{slice_get, filter_map, option_map, Contains}
-use Rattle.std.specs.List.{flat_map, cons_option, AllByRecursion as Each}
-use Rattle.std.proofs.lemmas.Grind.{fold-append, flat_map-append}
+use Rattle.std.specs.List.{cons_option, AllByRecursion as Each}
+use Rattle.std.proofs.lemmas.Grind.{fold-append}
 use Rattle.std.proofs.lemmas.Option.{same_Some}
 use Rattle.std.proofs.lemmas.List.Sums.{sum_by-append}
-use Rattle.e3_types.specs.declared.entries.Act.{Act}
-use Rattle.e3_types.specs.declared.entries.Act.TheVariants.{Step, Fall, Rise, RiseFall, Miss, Cut, Drop, Parts, Line}
 use Rattle.e3_types.specs.declared.entries.Entry.{Entry}
 use Rattle.e3_types.specs.declared.entries.Input.{Input}
 use Rattle.e3_types.specs.declared.entries.Input.TheVariants as input
-use Rattle.e3_types.specs.declared.entries.Told.{Told}
 use Rattle.e3_types.specs.declared.entries.Told.TheVariants as told
 use Rattle.e3_types.specs.declared.scenarios.Item.{Item}
 use Rattle.e3_types.specs.declared.scenarios.Item.TheVariants as item
 use Rattle.e3_types.specs.declared.scenarios.Scenario.{Scenario}
 use Rattle.e3_types.specs.declared.transactions.Txn.{Txn}
-use Rattle.e3_types.specs.Same.{same_numbers}
 use Rattle.e3_types.specs.Sets.{has_site}
-use Rattle.e3_types.proofs.SameSites.{same_numbers_eq}
 use Rattle.e3_world.specs.declared.names.Addressed.{Addressed}
 use Rattle.e3_world.specs.declared.names.Binding.{Binding}
 use Rattle.e3_world.specs.declared.names.Bound.{Bound}
 use Rattle.e3_world.specs.Given.{IsGiven, BegunName, is_group}
-use Rattle.e3_world.specs.Items.{begin_name, begin_names, binds, binding_by, last_bound, txn_of, input_of, plan_of, inputs_to, inputs_at, since_line, to_line, turn_of, is_up_at, is_delivery, recover_group}
-use Rattle.e3_world.specs.Legal.{IsDue, IsNextItem, entry_of, made_by}
+use Rattle.e3_world.specs.Items.{begin_names, binds, binding_by, txn_of, input_of, inputs_to, inputs_at, to_line, turn_of, is_up_at, is_delivery, recover_group}
+use Rattle.e3_world.specs.Legal.{IsDue, IsNextItem, entry_of}
 use Rattle.e3_world.specs.Lives.{incarnation_of, life_of}
 use Rattle.e3_world.specs.Moves.{moves_of}
 use Rattle.e3_world.specs.Steps.{is_begin}
 use Rattle.e3_world.specs.Orderly.{is_among}
 use Rattle.e3_world.specs.Packets.{is_line, lines, present_items, step_items}
 use Rattle.e3_world.proofs.Guards.{lines_push}
-use Rattle.e3_trails.proofs.Each.{each-push, each-append}
+use Rattle.e3_trails.proofs.Each.{each-append}
 use Rattle.e3_trails.proofs.Scenarios.{HasRules, begins, items_given, form_given, group_among}
-use Rattle.e3_trails.proofs.Turns.{TookInTurn, step_input, none_at, recover_none, steps_taken, steps_same, steps_other, since_at_line, present_to, count_yes, count_not, count_one, count_none}
+use Rattle.e3_trails.proofs.Turns.{TookInTurn, step_input, none_at, recover_none, steps_taken, steps_same, steps_other, present_to, count_yes, count_not, count_one, count_none}
 
 -- the input begins a transaction
 abbrev pub takes_begin : Input → Bool

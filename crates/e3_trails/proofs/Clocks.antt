@@ -1,5 +1,5 @@
 -- Incarnations of a site rise: each is above all that its log had before.
-use Rattle.std.proofs.Common.{◌≡◌, ◌==◌, ◌+◌, ◌++◌, ◌∷◌, [], ℕ, zero, suc, ◌≤◌, ◌<◌, Bool, true, false, List, Option, Some, None, refl, sym, subst, ap, ◌∙◌, inl, inr, ◌⊎◌, fold, map, arith, append-nil, append_assoc, eqb-true, eq-eqb, length, if◌then◌else◌}
+use Rattle.std.proofs.Common.{◌≡◌, ◌==◌, ◌++◌, ◌∷◌, [], ℕ, zero, suc, ◌≤◌, ◌<◌, Bool, true, false, List, Option, Some, None, refl, sym, subst, ap, ◌∙◌, inl, inr, ◌⊎◌, fold, map, arith, append-nil, append_assoc, eqb-true, eq-eqb, length, if◌then◌else◌}
 use Rattle.std.specs.List.{AllByRecursion as Each}
 use Rattle.std.proofs.lemmas.Grind.{fold-append, flat_map-append}
 use Rattle.e3_types.specs.declared.entries.Act.{Act}
@@ -12,20 +12,18 @@ use Rattle.e3_types.specs.declared.records.Record.{Record}
 use Rattle.e3_types.specs.declared.records.Record.TheVariants as log
 use Rattle.e3_types.specs.declared.scenarios.Scenario.{Scenario}
 use Rattle.e3_world.specs.declared.lives.At.{At}
-use Rattle.e3_world.specs.declared.lives.Incarnation.{Incarnation}
-use Rattle.e3_world.specs.declared.lives.Life.{Life}
 use Rattle.e3_world.specs.declared.lives.Made.{Made}
 use Rattle.e3_world.specs.declared.lives.Moment.{Moment}
 use Rattle.e3_world.specs.declared.lives.SiteStep.{SiteStep}
 use Rattle.e3_world.specs.Given.{IsGiven}
-use Rattle.e3_world.specs.Items.{to_line, is_up_at}
+use Rattle.e3_world.specs.Items.{is_up_at}
 use Rattle.e3_world.specs.Legal.{Guard, IsDue, AreDue, numbered, made_by, entry_of, records_by}
 use Rattle.e3_world.specs.Lives.{present_log, incarnation_of, life_of, life_at, life_by}
 use Rattle.e3_world.specs.Logs.{logged_inc, logged_inc_by}
-use Rattle.e3_world.specs.Moves.{Move, Did, Stepped, Silent, Rose, Past, Tail, own, past_of, past_by, moves_of, moves_of_act, tail_of_act, kept_moves, left_by, log_by, recorded, rise_records, log_of, open_tail, plain, plain_input}
+use Rattle.e3_world.specs.Moves.{Move, Stepped, Silent, Rose, Past, Tail, own, past_of, past_by, moves_of, moves_of_act, tail_of_act, kept_moves, left_by, log_by, recorded, rise_records, open_tail, plain, plain_input}
 use Rattle.e3_world.specs.Packets.{sent}
 use Rattle.e3_world.specs.Progress.{up_behind}
-use Rattle.e3_world.proofs.Pushes.{past_push, incarnation_push, life_push, log_push, present_is_log, life_log_at}
+use Rattle.e3_world.proofs.Pushes.{past_push, incarnation_push, life_push, log_push}
 use Rattle.e3_world.proofs.Readings.{own_same, own_other, up_same, up_other}
 use Rattle.e3_trails.specs.Bounds.{Suits}
 use Rattle.e3_trails.proofs.Arriving.{IfAny}
@@ -33,7 +31,7 @@ use Rattle.e3_trails.proofs.Each.{each-append}
 use Rattle.e3_trails.proofs.Inputs.{place}
 use Rattle.e3_trails.proofs.Suiting.{due_input_suits}
 use Rattle.e3_trails.proofs.Holding.{Holds, step_holds}
-use Rattle.e3_trails.proofs.Tracing.{OfTxn, Says, Refuses, Traces, step_says}
+use Rattle.e3_trails.proofs.Tracing.{OfTxn, Says, step_says}
 
 -- the last incarnation of a log
 inc_from : (n : ℕ) (rs : List Record) → Each OfTxn rs → fold logged_inc_by n rs ≡ n
@@ -49,7 +47,7 @@ inc_rise : (sc : Scenario) (site inc : ℕ) (was log : List Record) → logged_i
 inc_rise sc site inc was [] = fold-append logged_inc_by 0 was (rise_records sc site inc [])
 inc_rise sc site inc was (r ∷ rs) = fold-append logged_inc_by 0 was (rise_records sc site inc (r ∷ rs))
 
-log_append : (xs ys : List Move) → log_by (xs ++ ys) ≡ log_by xs ++ log_by ys
+pub log_append : (xs ys : List Move) → log_by (xs ++ ys) ≡ log_by xs ++ log_by ys
 log_append xs ys = flat_map-append recorded xs ys
 
 -- what a step records is of transactions
@@ -95,7 +93,7 @@ stays w up was = record {
 -- a step
 stepped : (sc : Scenario) (site : ℕ) (w : Past) (st : SiteStep) → Clocked w true → Each OfTxn st.records →
     Turns w true (record { moves = w.moves ++ record { site = site; did = Stepped st } ∷ []; tail = w.tail }) true
-        (record { before = (life_at w.moves).log; input = st.input; records = st.records; outs = st.outs; told = st.told } ∷ [])
+    (record { before = (life_at w.moves).log; input = st.input; records = st.records; outs = st.outs; told = st.told } ∷ [])
 stepped sc site w st was all = record {
   clocked = record {
     same = λ up. ap (λ l. l.inc) life ∙ was.same refl ∙ sym same;

@@ -1,13 +1,13 @@
 -- Each transaction that is begun is new, so it has one name, and no more operations than the scenario has of that name.
-use Rattle.std.proofs.Common.{◌≡◌, ◌==◌, ◌+◌, ◌++◌, ◌∷◌, [], ℕ, zero, suc, ◌≤◌, ◌<◌, Bool, true, false, not, List, Option, Some, None, refl, sym, subst, ap, ◌∙◌, inl, inr, ◌⊎◌, fold, map, filter, take, drop, count_by, arith, append-nil, append_assoc, eqb-true, eq-eqb, length, if◌then◌else◌}
-use Rattle.std.specs.Prelude.{slice_get, filter_map, option_map, Contains}
-use Rattle.std.specs.List.{cons_option, AllByRecursion as Each}
+use Rattle.std.proofs.Common.{◌≡◌, ◌==◌, ◌+◌, ◌++◌, ◌∷◌, [], ℕ, suc, ◌≤◌, ◌<◌, Bool, true, false, not, List, Option, Some, None, refl, sym, subst, ap, ◌∙◌, inl, inr, ◌⊎◌, fold, map, filter, take, drop, count_by, arith, append-nil, append_assoc, eq-eqb, length, if◌then◌else◌}
+use Rattle.std.specs.Prelude.{slice_get, filter_map, Contains}
+use Rattle.std.specs.List.{AllByRecursion as Each}
 use Rattle.std.proofs.lemmas.Grind.{fold-append}
 use Rattle.std.proofs.lemmas.List.{take-append-drop}
 use Rattle.std.proofs.lemmas.List.Sums.{sum_by-append}
-use Rattle.std.proofs.lemmas.List.Elements.{Contains-append_left, Contains-append_right, Contains-append_cases, Contains-push, Contains-push_cases, recursion_from_All, All-contains_itself}
+use Rattle.std.proofs.lemmas.List.Elements.{Contains-append_left, Contains-push_cases, recursion_from_All, All-contains_itself}
 use Rattle.e3_types.specs.declared.entries.Act.{Act}
-use Rattle.e3_types.specs.declared.entries.Act.TheVariants.{Step, Fall, Rise, RiseFall, Miss, Cut, Drop, Parts, Line}
+use Rattle.e3_types.specs.declared.entries.Act.TheVariants.{Step, Line}
 use Rattle.e3_types.specs.declared.entries.Entry.{Entry}
 use Rattle.e3_types.specs.declared.entries.Input.{Input}
 use Rattle.e3_types.specs.declared.entries.Input.TheVariants as input
@@ -21,11 +21,10 @@ use Rattle.e3_types.specs.Same.{same_numbers, same_txn}
 use Rattle.e3_types.proofs.SameSites.{same_numbers_eq}
 use Rattle.e3_world.specs.declared.lives.Life.{Life}
 use Rattle.e3_world.specs.declared.lives.Moment.{Moment}
-use Rattle.e3_world.specs.declared.names.Addressed.{Addressed}
 use Rattle.e3_world.specs.declared.names.Binding.{Binding}
 use Rattle.e3_world.specs.declared.names.Bound.{Bound}
 use Rattle.e3_world.specs.Given.{IsGiven}
-use Rattle.e3_world.specs.Items.{begin_names, binds, binding_by, last_bound, txn_of, input_of, plan_of, inputs_to, inputs_at, since_line, to_line, turn_of, is_up_at, is_delivery, recover_group}
+use Rattle.e3_world.specs.Items.{begin_names, binds, binding_by, last_bound, txn_of, input_of, plan_of, inputs_at, since_line, to_line, turn_of, is_up_at, is_delivery, recover_group}
 use Rattle.e3_world.specs.Legal.{IsDue, IsNextItem, entry_of, made_by, numbered}
 use Rattle.e3_world.specs.Lives.{life_at}
 use Rattle.e3_world.specs.Logs.{logged_inc}
@@ -37,12 +36,12 @@ use Rattle.e3_world.proofs.Guards.{lines_push}
 use Rattle.e3_world.proofs.Readings.{up_same}
 use Rattle.e3_trails.proofs.Among.{txn_eq}
 use Rattle.e3_trails.proofs.Arriving.{IfAny}
-use Rattle.e3_trails.proofs.Each.{each-append, each-left, each-push, each-weaker, each-map, each-filter}
+use Rattle.e3_trails.proofs.Each.{each-append, each-weaker, each-map, each-filter}
 use Rattle.e3_trails.proofs.Binding.{takes_begin, binding_of, binding_push, no_recovery, step_no_begin}
-use Rattle.e3_trails.proofs.Turns.{TookInTurn, IsElect, step_input, items_taken, items_same, items_other, inputs_push, present_push, count_yes, count_not, count_one, take_next, since_at_line, present_to}
+use Rattle.e3_trails.proofs.Turns.{TookInTurn, IsElect, step_input, items_taken, items_same, items_other, count_yes, count_not, count_one, take_next, present_to}
 use Rattle.e3_trails.proofs.Suiting.{each-get, mapped, consed}
-use Rattle.e3_trails.proofs.Holding.{Bounded, Holds, split_from}
-use Rattle.e3_trails.proofs.Clocks.{Clocked, Turns, ClockAt, AdvanceAt, more_at, moments_of, stepped_inc}
+use Rattle.e3_trails.proofs.Holding.{split_from}
+use Rattle.e3_trails.proofs.Clocks.{ClockAt, AdvanceAt, more_at, moments_of, stepped_inc}
 use Rattle.e3_trails.proofs.Tracing.{same_self}
 use Rattle.e3_trails.proofs.Counting.{does, ops_named, ops_before, ops_few, next_ops, OnlyName, asked_few, issued_few}
 
@@ -115,7 +114,7 @@ module _ (sc : Scenario) (h : List Entry) (e : Entry) (was : Fresh sc h) (adv : 
   old_seqs b has up same = elim ((adv b.txn.site).advances.lives up) [
     | inl on ↦ (let few : b.txn.seq ≤ count_by is_begin (life_in sc h b.txn.site).steps = was.seqs b has on.0 (same ∙ on.1) in
         let more : count_by is_begin (life_in sc (h ++ e ∷ []) b.txn.site).steps ≡ count_by is_begin (life_in sc h b.txn.site).steps + count_by is_begin (more_at sc h e b.txn.site) =
-            ap (count_by is_begin) on.2 ∙ sum_by-append _ (life_in sc h b.txn.site).steps (more_at sc h e b.txn.site) in
+        ap (count_by is_begin) on.2 ∙ sum_by-append _ (life_in sc h b.txn.site).steps (more_at sc h e b.txn.site) in
         omega (arith, few, more))
     | inr new ↦ (let low : b.txn.inc ≤ logged_inc (log_of sc h b.txn.site) = was.incs b has in
         let above : logged_inc (log_of sc h b.txn.site) < (life_in sc (h ++ e ∷ []) b.txn.site).inc = new.0 in absurd (omega (arith, low, above, same)))
@@ -129,7 +128,7 @@ module _ (sc : Scenario) (h : List Entry) (e : Entry) (was : Fresh sc h) (adv : 
   fresh_same : bound_in sc (h ++ e ∷ []) ≡ bound_in sc h →
       ((s : ℕ) → Each (λ m. KnownInput (bound_in sc h) m.input) (more_at sc h e s)) →
       ((s : ℕ) → is_up_at (h ++ e ∷ []) s ≡ true → (b : Bound) → Contains (bound_in sc h) b →
-          count_by (λ m. does b.txn m.input) (life_in sc (h ++ e ∷ []) s).steps ≤ ops_before sc (lines (h ++ e ∷ [])) b.name + count_by (does b.txn) (items_taken (h ++ e ∷ []) s)) →
+      count_by (λ m. does b.txn m.input) (life_in sc (h ++ e ∷ []) s).steps ≤ ops_before sc (lines (h ++ e ∷ [])) b.name + count_by (does b.txn) (items_taken (h ++ e ∷ []) s)) →
       Fresh sc (h ++ e ∷ [])
   fresh_same same more counts = record {
     clocks = λ s. (adv s).clocked;
@@ -147,7 +146,7 @@ module _ (sc : Scenario) (h : List Entry) (e : Entry) (was : Fresh sc h) (adv : 
   fresh_new : (b : Bound) → bound_in sc (h ++ e ∷ []) ≡ bound_in sc h ++ b ∷ [] → IsNew sc h e b →
       ((s : ℕ) → Each (λ m. KnownInput (bound_in sc h) m.input) (more_at sc h e s)) →
       ((s : ℕ) → is_up_at (h ++ e ∷ []) s ≡ true → (c : Bound) → Contains (bound_in sc h) c →
-          count_by (λ m. does c.txn m.input) (life_in sc (h ++ e ∷ []) s).steps ≤ ops_before sc (lines (h ++ e ∷ [])) c.name + count_by (does c.txn) (items_taken (h ++ e ∷ []) s)) →
+      count_by (λ m. does c.txn m.input) (life_in sc (h ++ e ∷ []) s).steps ≤ ops_before sc (lines (h ++ e ∷ [])) c.name + count_by (does c.txn) (items_taken (h ++ e ∷ []) s)) →
       Fresh sc (h ++ e ∷ [])
   fresh_new b same new more counts = record {
     clocks = λ s. (adv s).clocked;
@@ -165,13 +164,13 @@ module _ (sc : Scenario) (h : List Entry) (e : Entry) (was : Fresh sc h) (adv : 
     ];
     once = λ c d first second alike. elim (either c first) [
       | inl old ↦ elim (either d second) [
-          | inl older ↦ was.once c d old older alike
-          | inr is ↦ absurd (differs c old (alike ∙ ap (λ x. x.txn) (sym is)))
-        ]
+        | inl older ↦ was.once c d old older alike
+        | inr is ↦ absurd (differs c old (alike ∙ ap (λ x. x.txn) (sym is)))
+      ]
       | inr this ↦ elim (either d second) [
-          | inl older ↦ absurd (differs d older (sym alike ∙ ap (λ x. x.txn) (sym this)))
-          | inr is ↦ ap (λ x. x.name) (sym this ∙ is)
-        ]
+        | inl older ↦ absurd (differs d older (sym alike ∙ ap (λ x. x.txn) (sym this)))
+        | inr is ↦ ap (λ x. x.name) (sym this ∙ is)
+      ]
     ];
     known = λ s up. let P : List Bound → Type 0 = λ l. Each (λ m. KnownInput l m.input) (life_in sc (h ++ e ∷ []) s).steps in
         subst P (sym same) (each-weaker (λ m. KnownInput (bound_in sc h) m.input) (λ m. KnownInput (bound_in sc h ++ b ∷ []) m.input)
@@ -180,8 +179,8 @@ module _ (sc : Scenario) (h : List Entry) (e : Entry) (was : Fresh sc h) (adv : 
       | inl old ↦ counts s up c old
       | inr is ↦ (let P : Bound → Type 0 = λ d. count_by (λ m. does d.txn m.input) (life_in sc (h ++ e ∷ []) s).steps ≤ ops_before sc (lines (h ++ e ∷ [])) d.name + count_by (does d.txn) (items_taken (h ++ e ∷ []) s) in
           subst P is (let none : count_by (λ m. does b.txn m.input) (life_in sc (h ++ e ∷ []) s).steps ≡ 0 = none_done b.txn (life_in sc (h ++ e ∷ []) s).steps
-              (each-weaker (λ m. KnownInput (bound_in sc h) m.input) (λ m. does b.txn m.input ≡ false) (λ m known. other_does (bound_in sc h) b.txn m.input differs known)
-              (life_in sc (h ++ e ∷ []) s).steps (old_known more s up)) in omega (arith, none)))
+          (each-weaker (λ m. KnownInput (bound_in sc h) m.input) (λ m. does b.txn m.input ≡ false) (λ m known. other_does (bound_in sc h) b.txn m.input differs known)
+          (life_in sc (h ++ e ∷ []) s).steps (old_known more s up)) in omega (arith, none)))
     ];
   }
     where
@@ -198,7 +197,7 @@ module _ (sc : Scenario) (h : List Entry) (e : Entry) (was : Fresh sc h) (adv : 
           omega (arith, few, more)
 
 -- what was bound at the last line is bound now
-binds_more : (sc : Scenario) (w : Binding) (act : Act) (owner : ℕ) → (extra : List Bound) × ((binding_by sc w (record { owner = owner; act = act })).bound ≡ w.bound ++ extra)
+pub binds_more : (sc : Scenario) (w : Binding) (act : Act) (owner : ℕ) → (extra : List Bound) × ((binding_by sc w (record { owner = owner; act = act })).bound ≡ w.bound ++ extra)
 binds_more sc w (Step (input.Begin sites) records outs events) owner = (_, refl)
 binds_more sc w (Step i records outs events) owner = ([], sym (append-nil w.bound))
 binds_more sc w act owner = ([], sym (append-nil w.bound))
@@ -268,7 +267,7 @@ due_known sc h site (input.Do t op) due = next_known sc h site (input.Do t op) d
 due_known sc h site i due = tt
 
 -- where nothing is done the counts stay
-still_more : (b : Bool) (xs : List Moment) → xs ≡ [] → (if b then xs else []) ≡ []
+pub still_more : (b : Bool) (xs : List Moment) → xs ≡ [] → (if b then xs else []) ≡ []
 still_more true xs none = none
 still_more false xs none = refl
 
@@ -315,7 +314,7 @@ pub present_few : (sc : Scenario) (h : List Entry) (b : Bound) (s : ℕ) → Fre
     count_by (does b.txn) (inputs_at sc h s) ≤ ops_named b.name (present_items sc h)
 present_few sc h b s was has =
     let few : count_by (does b.txn) (inputs_at sc h s) ≤ ops_named b.name (present_items sc (to_line h)) =
-        asked_few sc (to_line h) b.txn b.name s (present_items sc (to_line h)) (only_name sc h b was has) in
+    asked_few sc (to_line h) b.txn b.name s (present_items sc (to_line h)) (only_name sc h b was has) in
     let same : _ = ap (ops_named b.name) (present_to sc h) in omega (arith, few, same)
 
 count_take : (t : Txn) (n : ℕ) (xs : List Input) → count_by (does t) (take n xs) ≤ count_by (does t) xs
@@ -397,10 +396,10 @@ module _ (sc : Scenario) (h : List Entry) (site : ℕ) (i : Input) (was : Fresh 
   step_counts s up b has = elim ((adv s).advances.lives up) [
     | inl on ↦ (let few : count_by (λ m. does b.txn m.input) (life_in sc h s).steps ≤ ops_before sc (lines h) b.name + count_by (does b.txn) (items_taken h s) = was.counts s on.0 b has in
         let now : count_by (λ m. does b.txn m.input) (life_in sc (h ++ entry_of sc h site i ∷ []) s).steps
-            ≡ count_by (λ m. does b.txn m.input) (life_in sc h s).steps + count_by (λ m. does b.txn m.input) (more_at sc h (entry_of sc h site i) s) =
-            ap (count_by (λ m. does b.txn m.input)) on.2 ∙ sum_by-append _ (life_in sc h s).steps (more_at sc h (entry_of sc h site i) s) in
+        ≡ count_by (λ m. does b.txn m.input) (life_in sc h s).steps + count_by (λ m. does b.txn m.input) (more_at sc h (entry_of sc h site i) s) =
+        ap (count_by (λ m. does b.txn m.input)) on.2 ∙ sum_by-append _ (life_in sc h s).steps (more_at sc h (entry_of sc h site i) s) in
         let taken : count_by (λ m. does b.txn m.input) (more_at sc h (entry_of sc h site i) s) + count_by (does b.txn) (items_taken h s)
-            ≤ count_by (does b.txn) (items_taken (h ++ entry_of sc h site i ∷ []) s) = by (site == s) refl in
+        ≤ count_by (does b.txn) (items_taken (h ++ entry_of sc h site i ∷ []) s) = by (site == s) refl in
         let line : lines (h ++ entry_of sc h site i ∷ []) ≡ lines h = lines_push h (entry_of sc h site i) ∙ omega arith in
         let before : _ = ap (λ n. ops_before sc n b.name) line in
         omega (arith, few, now, taken, before))
@@ -416,7 +415,7 @@ module _ (sc : Scenario) (h : List Entry) (site : ℕ) (i : Input) (was : Fresh 
           let count : _ = ap (count_by (λ x. does b.txn x.input)) now in
           let one : _ = step_one b.txn m i refl in
           let more : count_by (does b.txn) (items_taken (h ++ entry_of sc h site i ∷ []) s) ≡ count_by (does b.txn) (items_taken h s) + count_by (does b.txn) (filter (λ j. not (is_delivery j)) (i ∷ [])) =
-              ap (count_by (does b.txn)) (items_same h (entry_of sc h site i) s refl is) ∙ sum_by-append _ (items_taken h s) (filter (λ j. not (is_delivery j)) (i ∷ [])) in
+          ap (count_by (does b.txn)) (items_same h (entry_of sc h site i) s refl is) ∙ sum_by-append _ (items_taken h s) (filter (λ j. not (is_delivery j)) (i ∷ [])) in
           omega (arith, count, one, more)
       by false is =
           let now : more_at sc h (entry_of sc h site i) s ≡ [] = rw is refl in
@@ -483,7 +482,7 @@ few_due sc h site t op given was took up next =
         let few : count_by (λ m. does b.txn m.input) (life_in sc h site).steps ≤ ops_before sc (lines h) b.name + count_by (does b.txn) (items_taken h site) = was.counts site up b has in
         let taken : _ = ap (count_by (does b.txn)) (took.items site up (no_recovery sc h site (input.Do t op) given next)) in
         let more : _ = ap (count_by (does b.txn)) (take_next (inputs_at sc h site) (turn_of h site) (input.Do t op) next.next)
-            ∙ count_one (does b.txn) (take (turn_of h site) (inputs_at sc h site)) (input.Do t op) (ap (λ u. same_txn b.txn u) (sym same) ∙ same_self b.txn) in
+        ∙ count_one (does b.txn) (take (turn_of h site) (inputs_at sc h site)) (input.Do t op) (ap (λ u. same_txn b.txn u) (sym same) ∙ same_self b.txn) in
         let least : _ = count_take b.txn (suc (turn_of h site)) (inputs_at sc h site) in
         let all : _ = present_few sc h b site was has in
         let before : _ = next_ops sc (lines h) b.name in

@@ -1,5 +1,5 @@
 -- The groups of elections and the receivers of rounds are sites of the transaction, where all inputs suit the site.
-use Rattle.std.proofs.Common.{◌≡◌, ◌==◌, ◌&&◌, ◌||◌, ◌++◌, ◌∷◌, [], ℕ, suc, Bool, true, false, not, List, Option, Some, None, refl, sym, subst, ap, if◌then◌else◌, fold}
+use Rattle.std.proofs.Common.{◌≡◌, ◌==◌, ◌&&◌, ◌++◌, ◌∷◌, [], ℕ, suc, Bool, true, false, not, List, Option, Some, None, refl, sym, subst, if◌then◌else◌, fold}
 use Rattle.std.specs.Prelude.{option_map}
 use Rattle.std.specs.List.{list_any}
 use Rattle.e3_types.specs.declared.entries.Input.{Input}
@@ -21,7 +21,7 @@ use Rattle.e3_world.specs.declared.gatherings.Round.{Round}
 use Rattle.e3_world.specs.declared.gatherings.Rounds.{Rounds}
 use Rattle.e3_world.specs.declared.lives.Moment.{Moment}
 use Rattle.e3_world.specs.Elections.{Heard, begun, hear, take_report, or_same, heard_more, after_heard, all_heard, joined_in, ends_election, election_with, election_by, election_in_progress, is_join, heard_in}
-use Rattle.e3_world.specs.Logs.{last_elected, state_of, last_attempt}
+use Rattle.e3_world.specs.Logs.{last_elected}
 use Rattle.e3_world.specs.Rounds.{count_ack, receivers, round_by_record, round_by, round_in_progress}
 use Rattle.e3_trails.specs.Bounds.{Suits}
 use Rattle.e3_trails.proofs.Among.{txn_eq, within_self, others_within}

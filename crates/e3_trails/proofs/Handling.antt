@@ -37,19 +37,18 @@ use Rattle.e3_world.specs.Operations.{same_asked, answers, waiting, holders, que
 use Rattle.e3_world.specs.Rounds.{round_in_progress, count_ack}
 use Rattle.e3_world.specs.VoteRules.{vote_rule, on_vote_req, on_yes}
 use Rattle.e3_world.specs.Votes.{yes_votes}
-
-use Rattle.std.proofs.Common.{map, filter, take, drop, fold, sym, subst, ◌++◌}
-use Rattle.std.specs.List.{flat_map, AllByRecursion as Each}
+use Rattle.std.proofs.Common.{drop, fold, subst}
+use Rattle.std.specs.List.{AllByRecursion as Each}
 use Rattle.e3_types.specs.Sets.{has_site, is_within}
 use Rattle.e3_world.specs.declared.lives.Asked.{Asked}
-use Rattle.e3_world.specs.Making.{grants_after, granted, granted_on, asked_on, names_of, decides, and_grants, and_grant}
+use Rattle.e3_world.specs.Making.{grants_after, granted_on, asked_on, names_of, decides, and_grants}
 use Rattle.e3_world.specs.Messages.{on_message}
 use Rattle.e3_world.specs.Steps.{handled, settle}
 use Rattle.e3_world.specs.Operations.{arrivals}
 use Rattle.e3_world.specs.Sound.{txn_in}
-use Rattle.e3_trails.specs.Bounds.{MayHear, AsksWell, Suits, SuitsLog}
+use Rattle.e3_trails.specs.Bounds.{MayHear, AsksWell, Suits}
 use Rattle.e3_trails.proofs.Each.{each-push, each-filter, each-take, each-flat, each-of}
-use Rattle.e3_trails.proofs.Among.{hear, hear_all, within_self, among_other}
+use Rattle.e3_trails.proofs.Among.{hear, hear_all, within_self}
 use Rattle.e3_trails.proofs.Arriving.{AllSuit, IfAny, arrivals_here, done_here}
 use Rattle.e3_trails.proofs.Gathering.{IsGroup, GoesTo, heard_group, report_group, election_group, round_goes, count_goes}
 use Rattle.e3_trails.proofs.Keeping.{Keeps, Knows, AskedHere, keep_choice, keep_record, keep_tell, keep_send, keep_cast, keep_told, keep_decide, keep_abort, keep_abort_for, keep_attempt, keep_do, keep_granted}

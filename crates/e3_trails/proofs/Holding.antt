@@ -1,17 +1,15 @@
 -- All that is sent, recorded, told and bound in a legal history of a given scenario meets its bounds.
-use Rattle.std.proofs.Common.{◌≡◌, ◌==◌, ◌+◌, ◌++◌, ◌∷◌, [], ℕ, zero, suc, ◌≤◌, Bool, true, false, not, List, Option, Some, None, refl, sym, subst, ap, ◌∙◌, inl, inr, ◌⊎◌, fold, map, count_by, arith, append-nil, append_assoc, eqb-true, eq-eqb, length, take, if◌then◌else◌}
+use Rattle.std.proofs.Common.{◌≡◌, ◌==◌, ◌+◌, ◌++◌, ◌∷◌, [], ℕ, zero, suc, Bool, true, false, List, Option, Some, None, refl, sym, subst, ap, ◌∙◌, inl, inr, ◌⊎◌, fold, map, count_by, arith, append-nil, append_assoc, eqb-true, eq-eqb, length, take}
 use Rattle.std.specs.List.{flat_map, AllByRecursion as Each}
 use Rattle.std.proofs.lemmas.Grind.{flat_map-append}
 use Rattle.e3_types.specs.declared.entries.Act.{Act}
 use Rattle.e3_types.specs.declared.entries.Act.TheVariants.{Step, Fall, Rise, RiseFall, Miss, Cut, Drop, Parts, Line}
 use Rattle.e3_types.specs.declared.entries.Entry.{Entry}
 use Rattle.e3_types.specs.declared.entries.Input.{Input}
-use Rattle.e3_types.specs.declared.entries.Told.{Told}
 use Rattle.e3_types.specs.declared.entries.Why.{Why}
 use Rattle.e3_types.specs.declared.entries.Why.TheVariants.{Fault}
 use Rattle.e3_types.specs.declared.messages.Packet.{Packet}
 use Rattle.e3_types.specs.declared.records.Record.{Record}
-use Rattle.e3_types.specs.declared.records.Record.TheVariants as log
 use Rattle.e3_types.specs.declared.scenarios.Scenario.{Scenario}
 use Rattle.e3_world.specs.declared.lives.Incarnation.{Incarnation}
 use Rattle.e3_world.specs.declared.lives.Life.{Life}
@@ -20,18 +18,18 @@ use Rattle.e3_world.specs.declared.lives.Moment.{Moment}
 use Rattle.e3_world.specs.declared.lives.SiteStep.{SiteStep}
 use Rattle.e3_world.specs.declared.names.Binding.{Binding}
 use Rattle.e3_world.specs.Given.{IsGiven}
-use Rattle.e3_world.specs.Items.{Split, split_by, split_of, since_line, to_line, inputs_of, inputs_at, is_up_at, binding_by}
-use Rattle.e3_world.specs.Legal.{Guard, IsLegal, LegalAfter, IsDue, AreDue, IsStep, IsFall, IsRise, IsRising, may_rise, numbered, made_by, entry_of, records_by}
+use Rattle.e3_world.specs.Items.{Split, split_by, to_line, inputs_of, inputs_at, is_up_at, binding_by}
+use Rattle.e3_world.specs.Legal.{Guard, IsLegal, LegalAfter, IsDue, AreDue, numbered, made_by, entry_of, records_by}
 use Rattle.e3_world.specs.Lives.{present_log, incarnation_of, life_of, life_at, life_by}
-use Rattle.e3_world.specs.Moves.{Move, Did, Stepped, Silent, Rose, Past, Tail, own, past_of, past_by, moves_of, moves_of_act, tail_of_act, kept_moves, left_by, log_by, rise_records, birth, plain, plain_input}
+use Rattle.e3_world.specs.Moves.{Move, Did, Stepped, Silent, Rose, Past, Tail, own, past_of, past_by, moves_of, moves_of_act, tail_of_act, kept_moves, left_by, log_by, rise_records, plain, plain_input}
 use Rattle.e3_world.specs.Packets.{sent, outs_of, is_line, lines, present_items}
 use Rattle.e3_world.specs.Progress.{up_behind}
 use Rattle.e3_world.proofs.Guards.{lines_push}
 use Rattle.e3_world.proofs.Pushes.{past_push, incarnation_push, life_push, life_log}
-use Rattle.e3_world.proofs.Readings.{split_push, to_push, own_same, own_other, up_same}
+use Rattle.e3_world.proofs.Readings.{to_push, own_same, own_other, up_same}
 use Rattle.e3_trails.specs.Bounds.{Suits, SuitsLog, BeginsOwn, GoesBetween}
-use Rattle.e3_trails.proofs.Arriving.{AllSuit, IfAny}
-use Rattle.e3_trails.proofs.Each.{each-append, each-push, each-map}
+use Rattle.e3_trails.proofs.Arriving.{IfAny}
+use Rattle.e3_trails.proofs.Each.{each-append, each-push}
 use Rattle.e3_trails.proofs.Keeping.{Goes, Keeps}
 use Rattle.e3_trails.proofs.Inputs.{place, step_keeps, suits_plain}
 use Rattle.e3_trails.proofs.Turns.{TookInTurn, AsksNone, at_line, quiet_turn, step_turn, rising_none, step_input, since_at_line}
@@ -60,7 +58,7 @@ life_stepped : (weights : List ℕ) (site : ℕ) (mine : List Move) (st : SiteSt
 life_stepped weights site mine st was fit told records =
     let P : Life → Type 0 = LifeSuits weights site in
     let same : life_at (mine ++ record { site = site; did = Stepped st } ∷ []) ≡ life_by (life_at mine) st =
-        ap life_of (incarnation_push mine (record { site = site; did = Stepped st })) ∙ life_push (incarnation_of mine) st in
+    ap life_of (incarnation_push mine (record { site = site; did = Stepped st })) ∙ life_push (incarnation_of mine) st in
     let m : Moment = record { before = (life_at mine).log; input = st.input; records = st.records; outs = st.outs; told = st.told } in
     subst P (sym same) (record {
       steps = each-push (λ m. Suits weights site m.input) (life_at mine).steps m was.steps fit;
@@ -154,7 +152,7 @@ numbered_go : (weights : List ℕ) (site n : ℕ) (ps : List Packet) → Each (G
 numbered_go weights site n [] all = tt
 numbered_go weights site n (p ∷ ps) all = (record { heard = all.0.between.heard; other = all.0.between.other }, numbered_go weights site (suc n) ps all.1)
 
-sent_push : (h : List Entry) (e : Entry) → sent (h ++ e ∷ []) ≡ sent h ++ outs_of e.act
+pub sent_push : (h : List Entry) (e : Entry) → sent (h ++ e ∷ []) ≡ sent h ++ outs_of e.act
 sent_push h e = flat_map-append (λ x. outs_of x.act) h (e ∷ []) ∙ ap (λ l. sent h ++ l) (append-nil (outs_of e.act))
 
 -- an input that is due at a site that is up, and its step

@@ -1,6 +1,5 @@
 -- What a step of a site sends, records and tells meets its bounds, where its inputs suit the site.
-use Rattle.std.proofs.Common.{◌≡◌, ◌==◌, ◌&&◌, ◌∷◌, [], ℕ, suc, ◌≤◌, Bool, true, false, List, Option, Some, None, refl, sym, subst, if◌then◌else◌, fold, length, arith, eq-eqb}
-use Rattle.std.specs.List.{AllByRecursion as Each}
+use Rattle.std.proofs.Common.{◌≡◌, ◌==◌, ◌&&◌, ◌∷◌, [], ℕ, suc, Bool, true, false, List, Option, Some, None, refl, sym, subst, fold, length, arith}
 use Rattle.std.proofs.lemmas.Bool.{and_parts}
 use Rattle.e3_types.specs.declared.entries.Input.{Input}
 use Rattle.e3_types.specs.declared.entries.Input.TheVariants as input
@@ -8,7 +7,6 @@ use Rattle.e3_types.specs.declared.entries.Refusal.{Refusal}
 use Rattle.e3_types.specs.declared.entries.Told.TheVariants as told
 use Rattle.e3_types.specs.declared.messages.Message.TheVariants as msg
 use Rattle.e3_types.specs.declared.transactions.Dir.TheVariants.{Abort, Commit}
-use Rattle.e3_types.specs.declared.transactions.Op.{Op}
 use Rattle.e3_types.specs.declared.transactions.State.{State}
 use Rattle.e3_types.specs.declared.transactions.State.TheVariants.{Q, W, Pc, Pa, C, A}
 use Rattle.e3_types.specs.declared.transactions.Txn.{Txn}
@@ -21,11 +19,11 @@ use Rattle.e3_world.specs.declared.gatherings.Election.{Election}
 use Rattle.e3_world.specs.Elections.{begun, next_call}
 use Rattle.e3_world.specs.Lives.{life_of}
 use Rattle.e3_world.specs.Logs.{key_of}
-use Rattle.e3_world.specs.Making.{nothing, state_now, elected_now, may_abort, and_grants, and_vote, and_cast, and_send}
+use Rattle.e3_world.specs.Making.{nothing, state_now, elected_now, may_abort, and_vote}
 use Rattle.e3_world.specs.Moves.{plain_input}
 use Rattle.e3_world.specs.Operations.{expected, issued}
 use Rattle.e3_world.specs.Steps.{refuse, or_refused, and_ask, on_commit, on_expire, on_input, step_of}
-use Rattle.e3_trails.specs.Bounds.{MayHear, Suits}
+use Rattle.e3_trails.specs.Bounds.{Suits}
 use Rattle.e3_trails.proofs.Among.{hear, hear_all, within_self, others_within}
 use Rattle.e3_trails.proofs.Arriving.{AllSuit}
 use Rattle.e3_trails.proofs.Keeping.{Keeps, Knows, keep_tell, keep_send, keep_cast, keep_decide, keep_abort, keep_attempt}

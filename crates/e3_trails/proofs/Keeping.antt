@@ -1,7 +1,7 @@
 -- What is added to a step keeps what its messages, packets, records and events meet.
-use Rattle.std.proofs.Common.{◌≡◌, ◌==◌, ◌&&◌, ◌++◌, ◌∷◌, [], ℕ, Bool, true, false, List, refl, sym, subst, eqb-true, eq-eqb, if◌then◌else◌, fold, drop}
-use Rattle.std.specs.List.{list_any, AllByRecursion as Each}
-use Rattle.std.proofs.lemmas.Bool.{and_parts, false_from_ne_true}
+use Rattle.std.proofs.Common.{◌≡◌, ◌==◌, ◌&&◌, ◌∷◌, [], ℕ, Bool, true, false, List, refl, sym, subst, eqb-true, eq-eqb, if◌then◌else◌, fold}
+use Rattle.std.specs.List.{AllByRecursion as Each}
+use Rattle.std.proofs.lemmas.Bool.{false_from_ne_true}
 use Rattle.e3_types.specs.declared.entries.Told.{Told}
 use Rattle.e3_types.specs.declared.entries.Told.TheVariants as told
 use Rattle.e3_types.specs.declared.messages.Message.{Message}
@@ -23,7 +23,7 @@ use Rattle.e3_world.specs.Logs.{key_of}
 use Rattle.e3_world.specs.Orderly.{is_among}
 use Rattle.e3_trails.specs.Bounds.{MayHear, GoesBetween, SuitsLog, BeginsOwn}
 use Rattle.e3_trails.proofs.Each.{each-push}
-use Rattle.e3_trails.proofs.Among.{among_self, hear, hear_all, within_self}
+use Rattle.e3_trails.proofs.Among.{hear, hear_all, within_self}
 
 -- the packet is this site's, and goes between sites of its transaction
 pub record Goes (weights : List ℕ) (site : ℕ) (packet : Packet) : Type 0 where

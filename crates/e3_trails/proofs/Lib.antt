@@ -10,7 +10,7 @@ mod Turns
 mod Binding
 mod Suiting
 mod Holding
-mod Laws
+pub mod Laws
 mod Tracing
 mod Clocks
 mod Counting
@@ -20,3 +20,12 @@ mod Pending
 mod Issuing
 mod Talks
 mod Silence
+mod Stepping
+mod Speaking
+mod Quiet
+mod Fitting
+mod Sounding
+pub mod Parting
+mod Naming
+mod Ordering
+mod Numbering

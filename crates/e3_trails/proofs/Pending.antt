@@ -1,5 +1,5 @@
 -- What is pending behind one more entry was pending before it, or is sent by it.
-use Rattle.std.proofs.Common.{◌≡◌, ◌==◌, ◌+◌, ◌++◌, ◌∷◌, [], ℕ, zero, suc, ◌≤◌, ◌<◌, Bool, true, false, List, refl, sym, subst, ap, ◌∙◌, inl, inr, ◌⊎◌, filter, map, arith, append-nil, append_assoc, nat_lt, ltb-true, lt-ltb, if◌then◌else◌, sum}
+use Rattle.std.proofs.Common.{◌≡◌, ◌+◌, ◌++◌, ◌∷◌, [], ℕ, zero, suc, ◌<◌, Bool, true, false, List, refl, sym, subst, ap, ◌∙◌, inl, inr, ◌⊎◌, filter, map, arith, append-nil, append_assoc, nat_lt, ltb-true, lt-ltb, if◌then◌else◌, sum}
 use Rattle.std.specs.Prelude.{Contains}
 use Rattle.std.proofs.lemmas.List.{map-append}
 use Rattle.std.proofs.lemmas.List.Elements.{Contains-append_left, Contains-append_right, Contains-append_cases}
@@ -82,9 +82,9 @@ pending_push sc h e p has =
     elim (Contains-append_cases (left_after sc all [] h) (left_after sc all h (e ∷ [])) p (subst P (left_append sc all [] h (e ∷ [])) has)) [
       | inl old ↦ inl (left_less sc h e [] h p old)
       | inr new ↦ elim (Contains-append_cases (filter q (outs_of e.act)) [] p new) [
-          | inl this ↦ inr (contains p (outs_of e.act) (all_in p q (outs_of e.act) (in_list p (filter q (outs_of e.act)) this)))
-          | inr none ↦ absurd (omega (arith, none.1))
-        ]
+        | inl this ↦ inr (contains p (outs_of e.act) (all_in p q (outs_of e.act) (in_list p (filter q (outs_of e.act)) this)))
+        | inr none ↦ absurd (omega (arith, none.1))
+      ]
     ]
 
 pub none_in : (xs : List Packet) → ((p : Packet) → Contains xs p → ⊥) → xs ≡ []

@@ -1,5 +1,5 @@
 -- What the items of a given scenario have, whatever the history: a name is of one begin, whose sites are in the scenario.
-use Rattle.std.proofs.Common.{◌≡◌, ◌==◌, ◌&&◌, ◌||◌, ◌++◌, ◌∷◌, [], ℕ, zero, suc, ◌≤◌, ◌<◌, Bool, true, false, not, List, Option, Some, None, refl, sym, subst, ap, ◌∙◌, inl, inr, if◌then◌else◌, fold, length, arith, eq-eqb, eqb-true, le-leb, lt-ltb, append_assoc, append-nil, nat_le, nat_lt, map}
+use Rattle.std.proofs.Common.{◌≡◌, ◌==◌, ◌&&◌, ◌++◌, ◌∷◌, [], ℕ, zero, suc, ◌≤◌, Bool, true, false, not, List, refl, sym, subst, ap, ◌∙◌, inl, inr, fold, length, arith, eqb-true, le-leb, append_assoc, append-nil, nat_le, nat_lt}
 use Rattle.std.proofs.Common.{◌⊎◌}
 use Rattle.std.specs.Prelude.{Contains, slice_get}
 use Rattle.std.specs.List.{list_any, list_all, flat_map, AllByRecursion as Each}
@@ -15,8 +15,6 @@ use Rattle.e3_types.proofs.SameSites.{same_numbers_refl, same_numbers_eq}
 use Rattle.e3_world.specs.Given.{exist, is_group, BegunName, SaidSoFar, is_begun, count_ops, keeps_rules, say_item, items_keep, is_step_form, close_step, steps_keep, IsGiven}
 use Rattle.e3_world.specs.Orderly.{is_among}
 use Rattle.e3_world.specs.Packets.{sites_to, all_sites, step_items, items_or}
-use Rattle.e3_trails.proofs.Among.{within_has}
-use Rattle.e3_trails.proofs.Each.{each-append}
 
 -- the begins of an item, of a step, and of all steps
 abbrev pub begun_in : Item → List BegunName
@@ -106,20 +104,20 @@ once_more : (all : List BegunName) (b : BegunName) → NamesOnce all → is_begu
 once_more all b once new x y first second same =
     elim (Contains-push_cases all b x first) [
       | inl old ↦ elim (Contains-push_cases all b y second) [
-          | inl older ↦ once x y old older same
-          | inr is ↦ absurd (clash x old (same ∙ ap (λ z. z.name) (sym is)))
-        ]
+        | inl older ↦ once x y old older same
+        | inr is ↦ absurd (clash x old (same ∙ ap (λ z. z.name) (sym is)))
+      ]
       | inr this ↦ elim (Contains-push_cases all b y second) [
-          | inl older ↦ absurd (clash y older (sym same ∙ ap (λ z. z.name) (sym this)))
-          | inr is ↦ ap (λ z. z.sites) (sym this ∙ is)
-        ]
+        | inl older ↦ absurd (clash y older (sym same ∙ ap (λ z. z.name) (sym this)))
+        | inr is ↦ ap (λ z. z.sites) (sym this ∙ is)
+      ]
     ]
   where
     clash : (z : BegunName) → Contains all z → z.name ≡ b.name → ⊥
     clash z has same =
         let P : List ℕ → Type 0 = λ l. same_numbers l z.name ≡ true in
         let is : is_begun all b.name [] ≡ true = any_of all (λ c. same_numbers b.name c.name && is_within [] c.sites) z has
-            (and_from _ _ (subst P same (same_numbers_refl z.name)) refl) in
+        (and_from _ _ (subst P same (same_numbers_refl z.name)) refl) in
         cc
 
 item_once : (sc : Scenario) (k : SaidSoFar) (it : Item) → keeps_rules sc k it ≡ true → NamesOnce (said k) → NamesOnce (said k ++ begun_in it)
@@ -149,7 +147,7 @@ steps_once sc k (items ∷ steps) keep once =
     let more : SaidSoFar = close_step (fold (say_item sc) k items) in
     let P : List BegunName → Type 0 = NamesOnce in
     let same : said more ++ begun_of steps ≡ said k ++ begun_of (items ∷ steps) =
-        ap (λ l. l ++ begun_of steps) (close_said (fold (say_item sc) k items) ∙ step_said sc k items) ∙ append_assoc (said k) (flat_map begun_in items) (begun_of steps) in
+    ap (λ l. l ++ begun_of steps) (close_said (fold (say_item sc) k items) ∙ step_said sc k items) ∙ append_assoc (said k) (flat_map begun_in items) (begun_of steps) in
     subst P same (steps_once sc more steps parts.2 (subst P (sym (close_said (fold (say_item sc) k items))) (items_once sc k items parts.1 once)))
 
 -- the begins of some are among those of all
@@ -187,9 +185,10 @@ items_have sc all k [] keep sub = tt
 items_have sc all k (it ∷ items) keep sub =
     let parts : _ = and_parts (keeps_rules sc k it) (items_keep sc (say_item sc k it) items) keep in
     let P : List BegunName → Type 0 = λ l. Among l all in
-    let whole : Among ((said k ++ begun_in it) ++ flat_map begun_in items) all = subst P (sym (append_assoc (said k) (begun_in it) (flat_map begun_in items))) sub in
-    (item_has sc all k it parts.0 (among_left (said k ++ begun_in it) (flat_map begun_in items) all whole),
-     items_have sc all (say_item sc k it) items parts.1 (let R : List BegunName → Type 0 = λ l. Among (l ++ flat_map begun_in items) all in subst R (sym (say_said sc k it)) whole))
+    let whole : Among ((said k ++ begun_in it) ++ flat_map begun_in items) all = subst P (sym (append_assoc (said k) (begun_in it) (flat_map begun_in items))) sub in (
+      item_has sc all k it parts.0 (among_left (said k ++ begun_in it) (flat_map begun_in items) all whole),
+      items_have sc all (say_item sc k it) items parts.1 (let R : List BegunName → Type 0 = λ l. Among (l ++ flat_map begun_in items) all in subst R (sym (say_said sc k it)) whole),
+    )
 
 -- the step has the form, and its items the rules
 record StepHas (sc : Scenario) (all : List BegunName) (items : List Item) : Type 0 where
@@ -203,10 +202,11 @@ steps_have sc all k (items ∷ steps) keep sub =
     let parts : _ = parts_of_step sc k items steps keep in
     let P : List BegunName → Type 0 = λ l. Among l all in
     let whole : Among ((said k ++ flat_map begun_in items) ++ begun_of steps) all = subst P (sym (append_assoc (said k) (flat_map begun_in items) (begun_of steps))) sub in
-    let R : List BegunName → Type 0 = λ l. Among (l ++ begun_of steps) all in
-    (record { form = parts.0; rules = items_have sc all k items parts.1 (among_left (said k ++ flat_map begun_in items) (begun_of steps) all whole) },
-     steps_have sc all (close_step (fold (say_item sc) k items)) steps parts.2
-     (subst R (sym (close_said (fold (say_item sc) k items) ∙ step_said sc k items)) whole))
+    let R : List BegunName → Type 0 = λ l. Among (l ++ begun_of steps) all in (
+      record { form = parts.0; rules = items_have sc all k items parts.1 (among_left (said k ++ flat_map begun_in items) (begun_of steps) all whole) },
+      steps_have sc all (close_step (fold (say_item sc) k items)) steps parts.2
+          (subst R (sym (close_said (fold (say_item sc) k items) ∙ step_said sc k items)) whole),
+    )
 
 -- all the begins of a scenario
 abbrev pub begins : Scenario → List BegunName

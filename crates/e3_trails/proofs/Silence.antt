@@ -1,10 +1,7 @@
 -- What sites said of operations stands behind an entry that is no step.
-use Rattle.std.proofs.Common.{◌≡◌, ◌==◌, ◌||◌, ◌+◌, ◌++◌, ◌∷◌, [], ℕ, zero, suc, ◌≤◌, ◌<◌, Bool, true, false, List, Option, Some, None, refl, sym, subst, ap, ◌∙◌, inl, inr, ◌⊎◌, arith, append-nil, length, eqb-true, if◌then◌else◌}
+use Rattle.std.proofs.Common.{◌≡◌, ◌++◌, ◌∷◌, [], ℕ, ◌≤◌, ◌<◌, Bool, true, false, List, None, refl, sym, subst, ap, ◌∙◌, inl, inr, ◌⊎◌, arith, append-nil, length}
 use Rattle.std.specs.Prelude.{Contains}
 use Rattle.std.specs.List.{list_any}
-use Rattle.std.proofs.lemmas.Bool.{or_parts}
-use Rattle.std.proofs.lemmas.List.Folds.{list_any-append}
-use Rattle.e3_types.specs.declared.entries.Act.{Act}
 use Rattle.e3_types.specs.declared.entries.Entry.{Entry}
 use Rattle.e3_types.specs.declared.messages.Packet.{Packet}
 use Rattle.e3_types.specs.declared.scenarios.Scenario.{Scenario}
@@ -19,7 +16,7 @@ use Rattle.e3_world.specs.Operations.{issued, op_told, is_answered}
 use Rattle.e3_world.specs.Packets.{sent, outs_of, pending, present_items}
 use Rattle.e3_trails.proofs.Turns.{AsksNone}
 use Rattle.e3_trails.proofs.Tracing.{was_delivered}
-use Rattle.e3_trails.proofs.Clocks.{GoesOn, Begins, AdvanceAt, more_at}
+use Rattle.e3_trails.proofs.Clocks.{AdvanceAt, more_at}
 use Rattle.e3_trails.proofs.Freshness.{Fresh, bound_in, life_in, IsKnown}
 use Rattle.e3_trails.proofs.Pending.{pending_push}
 use Rattle.e3_trails.proofs.Talks.{SentDo, Pends, SentDone, HasOp, WasHeard, HasAnswered, IsGone, Talks}
@@ -74,10 +71,14 @@ module _ (sc : Scenario) (h : List Entry) (e : Entry) (fresh : Fresh sc h) (was 
     | inl on ↦ (let P : List Moment → Type 0 = λ l. op_told t m l ≡ true in
         let Q : List Moment → Type 0 = λ l. WasHeard (h ++ e ∷ []) t m s (issued t l) in
         let w : WasHeard h t m s (issued t (life_in sc h s).steps) = was.heard t m s on.0 (subst P (on_steps s on.2) told) in
-        subst Q (sym (on_steps s on.2)) (w.0, w.1, elim w.2 [
-          | inl own ↦ inl own
-          | inr done ↦ inr (done_on t m (key_of w.0).site done)
-        ]))
+        subst Q (sym (on_steps s on.2)) (
+          w.0,
+          w.1,
+          elim w.2 [
+            | inl own ↦ inl own
+            | inr done ↦ inr (done_on t m (key_of w.0).site done)
+          ],
+        ))
     | inr new ↦ (let P : List Moment → Type 0 = λ l. op_told t m l ≡ true in let none : op_told t m [] ≡ true = subst P new.1 told in absurd cc)
   ]
 
@@ -95,14 +96,18 @@ module _ (sc : Scenario) (h : List Entry) (e : Entry) (fresh : Fresh sc h) (was 
       by false down = inl (λ up. absurd (let both : true ≡ false = sym up ∙ down in cc))
       by true up = elim ((adv y).advances.lives up) [
         | inl on ↦ elim (was.done q y (done_back q.txn q.n y d)) [
-            | inl answered ↦ inl (λ is. let P : List Moment → Type 0 = λ l. is_answered l q ≡ true in subst P (sym (on_steps y on.2)) (answered on.0))
-            | inr gone ↦ inr ((λ is. let P : List Moment → Type 0 = λ l. was_delivered q.txn q.n l ≡ false in subst P (sym (on_steps y on.2)) (gone.0 on.0)),
-                (λ p. gone.1 (pends_back q.txn q.n p)))
-          ]
-        | inr new ↦ inr ((λ is. let P : List Moment → Type 0 = λ l. was_delivered q.txn q.n l ≡ false in subst P (sym new.1) refl),
-            (λ p. let old : Pends sc h q.txn q.n = pends_back q.txn q.n p in
-                let P : List Packet → Type 0 = λ l. Contains l old.packet in
-                let none : Contains [] old.packet = subst P (calm y new.2 up) old.has in omega (arith, none.1)))
+          | inl answered ↦ inl (λ is. let P : List Moment → Type 0 = λ l. is_answered l q ≡ true in subst P (sym (on_steps y on.2)) (answered on.0))
+          | inr gone ↦ inr (
+            (λ is. let P : List Moment → Type 0 = λ l. was_delivered q.txn q.n l ≡ false in subst P (sym (on_steps y on.2)) (gone.0 on.0)),
+            (λ p. gone.1 (pends_back q.txn q.n p)),
+          )
+        ]
+        | inr new ↦ inr (
+          (λ is. let P : List Moment → Type 0 = λ l. was_delivered q.txn q.n l ≡ false in subst P (sym new.1) refl),
+          (λ p. let old : Pends sc h q.txn q.n = pends_back q.txn q.n p in
+              let P : List Packet → Type 0 = λ l. Contains l old.packet in
+              let none : Contains [] old.packet = subst P (calm y new.2 up) old.has in omega (arith, none.1)),
+        )
       ]
 
   quiet_unheard : ((t : Txn) (n : ℕ) → Pends sc (h ++ e ∷ []) t n → list_any is_delivery (taken_at (h ++ e ∷ []) t.site) ≡ false → is_up_at (h ++ e ∷ []) t.site ≡ true →
@@ -116,7 +121,7 @@ module _ (sc : Scenario) (h : List Entry) (e : Entry) (fresh : Fresh sc h) (was 
 
   pub quiet_talks : ((s : ℕ) → is_up_at h s ≡ false → is_up_at (h ++ e ∷ []) s ≡ true → pending sc h ≡ []) →
       ((t : Txn) (n : ℕ) → Pends sc (h ++ e ∷ []) t n → list_any is_delivery (taken_at (h ++ e ∷ []) t.site) ≡ false → is_up_at (h ++ e ∷ []) t.site ≡ true →
-          list_any is_delivery (taken_at h t.site) ≡ false) →
+      list_any is_delivery (taken_at h t.site) ≡ false) →
       (AsksNone (present_items sc (h ++ e ∷ [])) → recover_group (present_items sc (h ++ e ∷ [])) ≡ None → pending sc (h ++ e ∷ []) ≡ []) → Talks sc (h ++ e ∷ [])
   quiet_talks calm none rest = record {
     known = λ t n y d. (let P : List Bound → Type 0 = λ l. IsKnown l t in subst P (sym same_bound) (was.known t n y (do_back t n y d)));
@@ -129,5 +134,6 @@ module _ (sc : Scenario) (h : List Entry) (e : Entry) (fresh : Fresh sc h) (was 
     last = λ t n m y p d. was.last t n m y (pends_back t n p) (do_back t m y d);
     unheard = quiet_unheard none;
     before = λ t n m y z first second less. done_on t m z (was.before t n m y z (do_back t n y first) (do_back t m z second) less);
+    high = λ t n y d. was.high t n y (do_back t n y d);
     rest = rest;
   }

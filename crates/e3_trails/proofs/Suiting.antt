@@ -1,6 +1,6 @@
 -- What is due at a site suits it.
-use Rattle.std.proofs.Common.{◌≡◌, ◌==◌, ◌+◌, ◌++◌, ◌∷◌, [], ℕ, zero, suc, Bool, true, false, not, List, Option, Some, None, refl, sym, subst, ap, ◌∙◌, inl, inr, ◌⊎◌, fold, map, filter, eqb-true, eq-eqb, if◌then◌else◌, ◌&&◌, nat_le, length}
-use Rattle.std.specs.Prelude.{slice_get, filter_map, option_map, Contains, find}
+use Rattle.std.proofs.Common.{◌≡◌, ◌==◌, ◌∷◌, [], ℕ, zero, suc, Bool, true, false, List, Option, Some, None, refl, sym, subst, inl, inr, fold, map, filter, eqb-true, eq-eqb, if◌then◌else◌, ◌&&◌, nat_le, length}
+use Rattle.std.specs.Prelude.{slice_get, filter_map, option_map, find}
 use Rattle.std.specs.List.{flat_map, cons_option, list_all, AllByRecursion as Each}
 use Rattle.std.proofs.lemmas.Bool.{and_parts, and_from, or_left}
 use Rattle.std.proofs.lemmas.Option.{same_Some}
@@ -20,10 +20,9 @@ use Rattle.e3_types.specs.Same.{same_numbers, same_txn, is_older}
 use Rattle.e3_types.specs.Sets.{has_site, is_within}
 use Rattle.e3_types.proofs.SameSites.{same_numbers_eq}
 use Rattle.e3_world.specs.declared.lives.Life.{Life}
-use Rattle.e3_world.specs.declared.lives.Moment.{Moment}
 use Rattle.e3_world.specs.declared.names.Addressed.{Addressed}
 use Rattle.e3_world.specs.declared.names.Bound.{Bound}
-use Rattle.e3_world.specs.Given.{IsGiven, BegunName}
+use Rattle.e3_world.specs.Given.{IsGiven}
 use Rattle.e3_world.specs.Items.{RecoveryRound, last_bound, txn_of, input_of, plan_of, inputs_to, inputs_at, to_line, turn_of, is_up_at, txn_of_record, began_in, known_txns, add_txn, open_at, listed, recover_group, elected_txn, rounds_left, due_round, since_line, inputs_of}
 use Rattle.e3_world.specs.Legal.{IsDue, IsNextItem, IsDelivery, IsRound}
 use Rattle.e3_world.specs.Lives.{life_at}
@@ -34,7 +33,7 @@ use Rattle.e3_world.specs.Orderly.{is_among}
 use Rattle.e3_world.specs.Packets.{lines, sent, present_items}
 use Rattle.e3_world.proofs.InTrail.{pending_sent}
 use Rattle.e3_trails.specs.Bounds.{Suits, SuitsLog, BeginsOwn, MayHear, GoesBetween}
-use Rattle.e3_trails.proofs.Among.{among_other, among_self, within_self, within_has}
+use Rattle.e3_trails.proofs.Among.{among_other, within_has}
 use Rattle.e3_trails.proofs.Arriving.{AllSuit, IfAny, arrivals_here}
 use Rattle.e3_trails.proofs.Each.{each-append, each-filter, each-flat, each-map, each-at, each-weaker, each-of}
 use Rattle.e3_trails.proofs.Keeping.{AskedHere}
@@ -89,7 +88,7 @@ item_suits sc k (item.Expire site name) once binds has =
 item_suits sc k (item.Elect site name sites) once binds has =
     mapped (λ t. IsBound sc (record { name = name; txn = t })) (λ a. Suits sc.weights a.site a.input) _ (txn_of sc k name)
     (λ t bound. let within : is_within sites t.sites ≡ true = names_sites sc name sites t once has.0 bound in
-        (among_other sc.weights t.site site t.sites bound.home (within_has sites t.sites site within has.1), has.1, within)) (txn_bound sc k name binds)
+    (among_other sc.weights t.site site t.sites bound.home (within_has sites t.sites site within has.1), has.1, within)) (txn_bound sc k name binds)
 item_suits sc k it once binds has = tt
 
 pub consed : {X : Type 0} (P : X → Type 0) (o : Option X) (xs : List X) → IfAny P o → Each P xs → Each P (cons_option o xs)

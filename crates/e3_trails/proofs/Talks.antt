@@ -1,13 +1,9 @@
 -- What sites said to one another of operations: each number goes out once, when all before it were answered.
-use Rattle.std.proofs.Common.{◌≡◌, ◌==◌, ◌&&◌, ◌||◌, ◌+◌, ◌++◌, ◌∷◌, [], ℕ, zero, suc, ◌≤◌, ◌<◌, Bool, true, false, not, List, Option, Some, None, refl, sym, subst, ap, ◌∙◌, inl, inr, ◌⊎◌, filter, map, arith, append-nil, length, eqb-true, eq-eqb, nat_lt, lt-ltb, is_none, if◌then◌else◌}
+use Rattle.std.proofs.Common.{◌≡◌, ◌==◌, ◌&&◌, ◌||◌, ◌∷◌, [], ℕ, ◌≤◌, ◌<◌, true, false, not, List, Some, None, refl, sym, subst, ap, ◌∙◌, inl, inr, ◌⊎◌, filter, arith, length, eq-eqb, nat_lt, lt-ltb, is_none}
 use Rattle.std.specs.Prelude.{slice_get, Contains}
-use Rattle.std.specs.List.{list_any, list_all, flat_map, AllByRecursion as Each}
-use Rattle.std.proofs.lemmas.Bool.{eqb-false, and_parts, and_from, or_cases, or_left, or_right, or_parts, not-true, cases_lt}
-use Rattle.std.proofs.lemmas.List.Folds.{list_any-append}
-use Rattle.e3_types.specs.declared.entries.Act.{Act}
+use Rattle.std.specs.List.{list_any, list_all, AllByRecursion as Each}
+use Rattle.std.proofs.lemmas.Bool.{eqb-false, and_parts, and_from, or_left, or_right, not-true, cases_lt}
 use Rattle.e3_types.specs.declared.entries.Entry.{Entry}
-use Rattle.e3_types.specs.declared.entries.Input.{Input}
-use Rattle.e3_types.specs.declared.entries.Input.TheVariants as input
 use Rattle.e3_types.specs.declared.messages.Message.{Message}
 use Rattle.e3_types.specs.declared.messages.Message.TheVariants as msg
 use Rattle.e3_types.specs.declared.messages.Packet.{Packet}
@@ -20,24 +16,19 @@ use Rattle.e3_world.specs.declared.lives.Asked.{Asked}
 use Rattle.e3_world.specs.declared.lives.Life.{Life}
 use Rattle.e3_world.specs.declared.lives.Moment.{Moment}
 use Rattle.e3_world.specs.declared.lives.Performed.{Performed}
-use Rattle.e3_world.specs.declared.names.Bound.{Bound}
-use Rattle.e3_world.specs.Given.{IsGiven}
 use Rattle.e3_world.specs.Items.{is_delivery, taken_at, is_up_at, recover_group}
-use Rattle.e3_world.specs.Logs.{is_undecided, key_of, logged_inc}
-use Rattle.e3_world.specs.Moves.{log_of}
+use Rattle.e3_world.specs.Logs.{is_undecided, key_of}
 use Rattle.e3_world.specs.Operations.{issued, nth_op, op_told, arrivals, is_answered, answers, performed_by, done, waiting}
-use Rattle.e3_world.specs.Packets.{sent, outs_of, pending, present_items}
+use Rattle.e3_world.specs.Packets.{sent, pending, present_items}
 use Rattle.e3_world.specs.Sound.{is_in_turn}
 use Rattle.e3_world.proofs.InTrail.{pending_sent}
 use Rattle.e3_trails.specs.Bounds.{GoesBetween, AsksWell}
 use Rattle.e3_trails.proofs.Among.{txn_eq}
-use Rattle.e3_trails.proofs.Each.{each-at, each-filter, each-flat, each-kept, each-weaker}
+use Rattle.e3_trails.proofs.Each.{each-at, each-flat, each-kept, each-weaker}
 use Rattle.e3_trails.proofs.Turns.{AsksNone}
-use Rattle.e3_trails.proofs.Holding.{Bounded, Holds}
+use Rattle.e3_trails.proofs.Holding.{Holds}
 use Rattle.e3_trails.proofs.Tracing.{IsAnswer, was_delivered, CameIn, arrivals_came}
-use Rattle.e3_trails.proofs.Clocks.{Turns, AdvanceAt, more_at}
-use Rattle.e3_trails.proofs.Freshness.{Fresh, bound_in, life_in, IsKnown}
-use Rattle.e3_trails.proofs.Pending.{none_in}
+use Rattle.e3_trails.proofs.Freshness.{bound_in, life_in, IsKnown}
 
 -- the operation went to the site
 pub record SentDo (h : List Entry) (t : Txn) (n site : ℕ) : Type 0 where
@@ -90,6 +81,7 @@ pub record Talks (sc : Scenario) (h : List Entry) : Type 0 where
   pub unheard : (t : Txn) (n : ℕ) → Pends sc h t n → is_up_at h t.site ≡ true → t.inc ≡ (life_in sc h t.site).inc →
       list_any is_delivery (taken_at h t.site) ≡ false → op_told t n (life_in sc h t.site).steps ≡ false
   pub before : (t : Txn) (n m y z : ℕ) → SentDo h t n y → SentDo h t m z → m < n → SentDone h t m z
+  pub high : (t : Txn) (n y : ℕ) → SentDo h t n y → n ≤ 64
   pub rest : AsksNone (present_items sc h) → recover_group (present_items sc h) ≡ None → pending sc h ≡ []
 
 -- a packet of an operation comes from its coordinator, and has a number
@@ -117,9 +109,9 @@ any_or_all n [] all = inr refl
 any_or_all n (p ∷ ps) all = elim (any_or_all n ps all.1) [
   | inl some ↦ inl (or_right (p.n == n) _ some)
   | inr rest ↦ elim (cases_lt p.n n) [
-      | inl less ↦ inr (and_from (nat_lt p.n n) _ (lt-ltb p.n n less) rest)
-      | inr most ↦ inl (or_left (p.n == n) _ (eq-eqb p.n n (let high : p.n ≤ n = all.0 in omega (arith, high, most))))
-    ]
+    | inl less ↦ inr (and_from (nat_lt p.n n) _ (lt-ltb p.n n less) rest)
+    | inr most ↦ inl (or_left (p.n == n) _ (eq-eqb p.n n (let high : p.n ≤ n = all.0 in omega (arith, high, most))))
+  ]
 ]
 
 in_turn : (n : ℕ) (ps : List Performed) (ws : List Asked) → Each (λ p. p.n ≤ n) ps → Each (λ q. q.n ≡ n) ws →

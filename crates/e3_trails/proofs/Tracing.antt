@@ -1,7 +1,7 @@
 -- What the operations, answers and refusals are that a step sends and tells, and that it records no incarnation.
-use Rattle.std.proofs.Common.{append_assoc, ◌≡◌, ◌==◌, ◌&&◌, ◌++◌, ◌∷◌, [], ℕ, Bool, true, false, List, refl, sym, subst, eqb-true, eq-eqb, if◌then◌else◌, fold, drop, ◌||◌, zero, suc, Option, Some, None, length, nat_lt, nat_le, map, filter, take, ◌≤◌, arith, ◌⊎◌, inl, inr, ap, ◌∙◌, append-nil, not}
-use Rattle.std.specs.List.{list_any, AllByRecursion as Each, flat_map}
-use Rattle.std.proofs.lemmas.Bool.{and_parts, false_from_ne_true, and_from, or_left, or_right, or_from, or_parts}
+use Rattle.std.proofs.Common.{append_assoc, ◌≡◌, ◌==◌, ◌&&◌, ◌++◌, ◌∷◌, [], ℕ, Bool, true, false, List, refl, sym, subst, eqb-true, eq-eqb, if◌then◌else◌, fold, drop, ◌||◌, zero, suc, Option, Some, None, length, nat_lt, nat_le, ◌⊎◌, inl, inr, ap, ◌∙◌, append-nil}
+use Rattle.std.specs.List.{list_any, AllByRecursion as Each}
+use Rattle.std.proofs.lemmas.Bool.{and_parts, and_from, or_left, or_right}
 use Rattle.e3_types.specs.declared.entries.Told.{Told}
 use Rattle.e3_types.specs.declared.entries.Told.TheVariants as told
 use Rattle.e3_types.specs.declared.messages.Message.{Message}
@@ -14,13 +14,12 @@ use Rattle.e3_types.specs.declared.transactions.Dir.TheVariants.{Abort, Commit}
 use Rattle.e3_types.specs.declared.transactions.Op.{Op}
 use Rattle.e3_types.specs.declared.transactions.Txn.{Txn}
 use Rattle.e3_types.specs.Quorums.{is_quorum}
-use Rattle.e3_types.specs.Sets.{has_site, is_within, others}
+use Rattle.e3_types.specs.Sets.{others}
 use Rattle.e3_world.specs.declared.lives.Asked.{Asked}
 use Rattle.e3_world.specs.declared.lives.At.{At}
 use Rattle.e3_world.specs.declared.lives.Made.{Made}
-use Rattle.e3_world.specs.Making.{is_coordinator, is_present, may_attempt, and_record, and_tell, and_send, and_cast, and_decide, and_abort, and_abort_for, go_on, and_attempt, and_do, answer_now, and_grant, log_now, steps_now, state_now, open_now, elected_now, attempt_now, may_abort, may_decide, and_vote, grants_after, granted, granted_on, asked_on, names_of, decides, and_grants, nothing}
+use Rattle.e3_world.specs.Making.{is_coordinator, is_present, may_attempt, and_record, and_tell, and_send, and_cast, and_decide, and_abort, and_abort_for, go_on, and_attempt, and_do, answer_now, and_grant, log_now, steps_now, state_now, open_now, elected_now, attempt_now, may_abort, may_decide, and_vote, grants_after, granted_on, asked_on, names_of, decides, and_grants, nothing}
 use Rattle.e3_world.specs.Logs.{key_of, mode_of}
-use Rattle.e3_world.specs.Orderly.{is_among}
 use Rattle.e3_types.specs.declared.locks.Grant.{Grant}
 use Rattle.e3_types.specs.declared.locks.Grant.TheVariants.{Held, Waits, Dies}
 use Rattle.e3_types.specs.declared.transactions.Answer.{Answer}
@@ -47,19 +46,17 @@ use Rattle.e3_world.specs.VoteRules.{vote_rule, on_vote_req, on_yes}
 use Rattle.e3_world.specs.Votes.{yes_votes}
 use Rattle.e3_world.specs.Messages.{on_message}
 use Rattle.e3_world.specs.Steps.{on_begin, handled, settle, refuse, or_refused, and_ask, on_commit, on_expire, on_input, step_of}
-use Rattle.e3_world.specs.Sound.{txn_in}
 use Rattle.e3_types.specs.declared.entries.Input.{Input}
 use Rattle.e3_types.specs.declared.entries.Input.TheVariants as input
 use Rattle.e3_types.specs.declared.entries.Refusal.{Refusal}
 use Rattle.e3_world.specs.declared.lives.Incarnation.{Incarnation}
 use Rattle.e3_world.specs.Lives.{life_of}
-use Rattle.e3_world.specs.Moves.{plain_input}
 use Rattle.std.proofs.lemmas.Grind.{flat_map-append}
 use Rattle.std.proofs.lemmas.List.Folds.{list_any-append}
 use Rattle.e3_world.specs.declared.lives.Moment.{Moment}
 use Rattle.e3_trails.specs.Bounds.{Suits}
 use Rattle.e3_trails.proofs.Arriving.{AllSuit, IfAny}
-use Rattle.e3_trails.proofs.Each.{each-push, each-append, each-filter, each-take, each-flat, each-of, each-weaker}
+use Rattle.e3_trails.proofs.Each.{each-push, each-filter, each-take, each-flat, each-of, each-weaker}
 use Rattle.e3_trails.proofs.Handling.{Ready}
 use Rattle.e3_trails.proofs.Inputs.{place, suits_plain}
 
@@ -115,10 +112,11 @@ pub record Answers (a : At) (t : Txn) (n : ℕ) : Type 0 where
   pub nth : nth_op n (issued t (steps_now a nothing)) ≡ Some op
   pub there : (key_of op).site ≡ site
 
--- what is told: answers, and no refusal
+-- what is told: answers, no refusal, and a begin where the step takes one
 abbrev pub Tells : At → Told → Type 0
 Tells a (told.Op t n answer) = Answers a t n
 Tells a (told.Refused t why) = ⊥
+Tells a (told.Began t) = (sites : List ℕ) × (a.input ≡ input.Begin sites)
 Tells a e = Unit {0}
 
 -- all that a step made so far
@@ -136,12 +134,12 @@ or_false true = refl
 or_false false = refl
 
 -- no refusal was told
-none_refused : (a : At) (l : List Told) → Each (Tells a) l → list_any is_refusal l ≡ false
+pub none_refused : (a : At) (l : List Told) → Each (Tells a) l → list_any is_refusal l ≡ false
 none_refused a [] all = refl
 none_refused a (told.Refused t why ∷ l) all = absurd all.0
 none_refused a (e ∷ l) all = none_refused a l all.1
 
-same_issued : (t : Txn) (i : Input) (events : List Told) → list_any is_refusal events ≡ false → issued_in t i events ≡ issued_in t i []
+pub same_issued : (t : Txn) (i : Input) (events : List Told) → list_any is_refusal events ≡ false → issued_in t i events ≡ issued_in t i []
 same_issued t (input.Do u op) events none = rw none refl
 same_issued t i events none = refl
 
@@ -310,7 +308,7 @@ fold_came weights site was (m ∷ steps) all suit = fold_came weights site (arri
       (if_now site was.steps m (taken_up site was.steps m) (came_up weights site was.steps m suit.0));
 }) suit.1
 
-fold_steps : (site : ℕ) (was : Arrived) (steps : List Moment) → (fold (arrived_by site) was steps).steps ≡ was.steps ++ steps
+pub fold_steps : (site : ℕ) (was : Arrived) (steps : List Moment) → (fold (arrived_by site) was steps).steps ≡ was.steps ++ steps
 fold_steps site was [] = sym (append-nil was.steps)
 fold_steps site was (m ∷ steps) = fold_steps site (arrived_by site was m) steps ∙ append_assoc was.steps (m ∷ []) steps
 
@@ -323,8 +321,8 @@ arrivals_came weights site steps suit =
 came_at : (a : At) (m : Moment) (q : Asked) → m.input ≡ a.input → CameIn a.site (a.life.steps ++ m ∷ []) q → Came a q.txn q.n
 came_at a m q same (inl own) = inl own
 came_at a m q same (inr came) = inr (
-  (let P : Input → Type 0 = λ i. (was_delivered q.txn q.n a.life.steps || is_do q.txn q.n i) ≡ true in
-   subst P same (ap (λ b. was_delivered q.txn q.n a.life.steps || b) (sym (or_false (is_do q.txn q.n m.input))) ∙ sym (list_any-append (λ x. is_do q.txn q.n x.input) a.life.steps (m ∷ [])) ∙ came)))
+    (let P : Input → Type 0 = λ i. (was_delivered q.txn q.n a.life.steps || is_do q.txn q.n i) ≡ true in
+    subst P same (ap (λ b. was_delivered q.txn q.n a.life.steps || b) (sym (or_false (is_do q.txn q.n m.input))) ∙ sym (list_any-append (λ x. is_do q.txn q.n x.input) a.life.steps (m ∷ [])) ∙ came)))
 
 granted_came : (a : At) (made : Made) → Ready a → Each (λ q. Came a q.txn q.n) (grants_after a made)
 granted_came a made ready =
@@ -333,7 +331,7 @@ granted_came a made ready =
     let suit : AllSuit a.weights a.site (steps_now a made) = each-push (λ m. Suits a.weights a.site m.input) a.life.steps m ready.steps ready.input in
     let waits : List Asked = waiting a.site (log_now a made) (steps_now a made) in
     let all : Each P waits = each-filter P _ (arrivals a.site (steps_now a made))
-        (each-weaker (CameIn a.site (steps_now a made)) P (λ q. came_at a m q refl) (arrivals a.site (steps_now a made)) (arrivals_came a.weights a.site (steps_now a made) suit)) in
+    (each-weaker (CameIn a.site (steps_now a made)) P (λ q. came_at a m q refl) (arrivals a.site (steps_now a made)) (arrivals_came a.weights a.site (steps_now a made) suit)) in
     each-flat (λ (name : List ℕ). Unit {0}) P (granted_on a made waits)
     (λ name is. each-take P _ (asked_on name waits) (each-filter P _ waits all))
     (names_of waits) (each-of (λ (name : List ℕ). Unit {0}) (λ name. tt) (names_of waits))
@@ -660,7 +658,7 @@ delivered_traces a p (msg.Done t n inc answer) is same = inr (p, is, refl, (inc,
 delivered_traces a p x is same = tt
 
 input_says : (a : At) (i : Input) → a.input ≡ i → Ready a → Says a (settle 3 a (and_grants a 0 (on_input a i nothing)))
-input_says a (input.Begin sites) is ready = settles a (on_begin a sites nothing) ready (record { own = tt; outs = tt; records = tt; told = (tt, tt) })
+input_says a (input.Begin sites) is ready = settles a (on_begin a sites nothing) ready (record { own = tt; outs = tt; records = tt; told = ((sites, is), tt) })
 input_says a (input.Do t op) is ready = or_says a t (refuse a t false nothing) _ ready (λ allowed.
     keep_send a (key_of op).site (msg.Do t (suc (length (issued t a.life.steps))) op) nothing (record { takes = is; next = refl; allowed = allowed; there = refl }) (start a))
 input_says a (input.Commit t) is ready = or_says a t (refuse a t false nothing) _ ready (λ allowed. keep_commit a t nothing (start a))

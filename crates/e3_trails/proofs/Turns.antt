@@ -1,31 +1,26 @@
 -- The items that a site took in the present step are the first of those that go to it.
-use Rattle.std.proofs.Common.{◌≡◌, ◌==◌, ◌+◌, ◌++◌, ◌∷◌, [], ℕ, zero, suc, ◌≤◌, Bool, true, false, not, List, Option, Some, None, refl, sym, subst, ap, ◌∙◌, inl, inr, ◌⊎◌, filter, take, length, count_by, arith, append-nil, eqb-true, if◌then◌else◌, nat_lt, ◌&&◌, ◌||◌}
+use Rattle.std.proofs.Common.{◌≡◌, ◌==◌, ◌++◌, ◌∷◌, [], ℕ, zero, suc, Bool, true, false, not, List, Option, Some, None, refl, sym, subst, ap, ◌∙◌, inl, inr, ◌⊎◌, filter, take, count_by, arith, append-nil, eqb-true, nat_lt, ◌&&◌, ◌||◌}
 use Rattle.std.specs.Prelude.{slice_get, filter_map}
 use Rattle.std.specs.List.{flat_map, list_all, AllByRecursion as Each}
-use Rattle.std.proofs.lemmas.Bool.{and_parts}
 use Rattle.std.proofs.lemmas.Grind.{flat_map-append}
 use Rattle.std.proofs.lemmas.Option.{same_Some}
 use Rattle.std.proofs.lemmas.List.Elements.{filter-append}
 use Rattle.std.proofs.lemmas.List.Sums.{sum_by-append}
 use Rattle.e3_types.specs.declared.entries.Act.{Act}
-use Rattle.e3_types.specs.declared.entries.Act.TheVariants.{Step, Fall, Rise, RiseFall, Miss, Cut, Drop, Parts, Line}
+use Rattle.e3_types.specs.declared.entries.Act.TheVariants.{Step}
 use Rattle.e3_types.specs.declared.entries.Entry.{Entry}
 use Rattle.e3_types.specs.declared.entries.Input.{Input}
 use Rattle.e3_types.specs.declared.entries.Input.TheVariants as input
-use Rattle.e3_types.specs.declared.messages.Packet.{Packet}
-use Rattle.e3_types.specs.declared.records.Record.{Record}
-use Rattle.e3_types.specs.declared.entries.Told.{Told}
 use Rattle.e3_types.specs.declared.scenarios.Item.{Item}
 use Rattle.e3_types.specs.declared.scenarios.Item.TheVariants as item
 use Rattle.e3_types.specs.declared.scenarios.Scenario.{Scenario}
-use Rattle.e3_world.specs.declared.names.Addressed.{Addressed}
-use Rattle.e3_world.specs.Given.{IsGiven, is_step_form, is_groupable}
-use Rattle.e3_world.specs.Items.{split_by, since_line, to_line, input_of, plan_of, inputs_to, inputs_at, inputs_of, is_delivery, taken_at, turn_of, is_up_at, recover_group, due_round, RecoveryRound}
-use Rattle.e3_world.specs.Legal.{Guard, IsDue, IsNextItem, IsRising, may_rise, has_rising, entry_of}
+use Rattle.e3_world.specs.Given.{IsGiven}
+use Rattle.e3_world.specs.Items.{since_line, to_line, input_of, inputs_to, inputs_at, inputs_of, is_delivery, taken_at, turn_of, is_up_at, recover_group, due_round, RecoveryRound}
+use Rattle.e3_world.specs.Legal.{IsDue, IsNextItem, may_rise, has_rising, entry_of}
 use Rattle.e3_world.specs.Moves.{own}
 use Rattle.e3_world.specs.Packets.{is_line, lines, present_items, step_items, all_sites}
 use Rattle.e3_world.specs.Progress.{up_behind}
-use Rattle.e3_world.proofs.Readings.{split_push, since_push, to_push, own_same, own_other, taken_same, taken_other, up_same, up_other}
+use Rattle.e3_world.proofs.Readings.{split_push, since_push, own_same, own_other, taken_same, taken_other, up_same, up_other}
 use Rattle.e3_world.proofs.Turns.{plan_push}
 use Rattle.e3_world.proofs.Guards.{lines_push}
 use Rattle.e3_world.proofs.Lines.{lines_to}
@@ -99,7 +94,7 @@ restart_none [] site form = λ sc h. refl
 restart_none (it ∷ items) site form = absurd cc
 
 -- whether a site may rise where there are so many lines and these items
-abbrev rises : Scenario → List Entry → ℕ → ℕ → List Item → Bool
+abbrev pub rises : Scenario → List Entry → ℕ → ℕ → List Item → Bool
 rises sc h site zero items = not (has_rising h site) && list_all (λ s. not (nat_lt s site) || has_rising h s) (all_sites sc)
 rises sc h site (suc n) (item.Restart s ∷ items) = s == site && not (has_rising (since_line h) site)
 rises sc h site (suc n) items = false
@@ -313,7 +308,7 @@ module _ (sc : Scenario) (h : List Entry) (site : ℕ) (i : Input) (took : TookI
           (each-push IsElect (items_taken h s) i (took.rounds s group recover) elects)
 
 -- a round is due in a recover step alone
-due_recovers : (sc : Scenario) (h : List Entry) (r : RecoveryRound) → due_round sc h ≡ Some r → (group : List ℕ) × (recover_group (present_items sc h) ≡ Some group)
+pub due_recovers : (sc : Scenario) (h : List Entry) (r : RecoveryRound) → due_round sc h ≡ Some r → (group : List ℕ) × (recover_group (present_items sc h) ≡ Some group)
 due_recovers sc h r due = by (recover_group (present_items sc h)) refl
   where
     by : (o : Option (List ℕ)) → recover_group (present_items sc h) ≡ o → (group : List ℕ) × (recover_group (present_items sc h) ≡ Some group)
