@@ -3,10 +3,10 @@
 
 mod fleet;
 mod flying;
-mod memory_disks;
+mod in_memory;
 mod seating;
 #[cfg(test)]
 mod tests;
 
 pub use flying::{Played, play_over};
-pub use memory_disks::memory_disks;
+pub use in_memory::memory_disks;
