@@ -1,12 +1,12 @@
 -- What the disks of a run came to.
-use Rattle.std.proofs.Common.{◌≡◌, ◌≢◌, inl, inr, ◌⊎◌, ◌≤◌, ◌<◌, ◌+◌, ◌++◌, ◌∷◌, [], ℕ, suc, true, false, List, length, map, Some, None, refl, sym, ap, subst, ◌∙◌, arith}
+use Rattle.std.proofs.Common.{◌≡◌, inl, inr, ◌⊎◌, ◌≤◌, ◌<◌, ◌+◌, ◌++◌, ◌∷◌, [], ℕ, suc, List, length, Some, refl, sym, ap, subst, ◌∙◌, arith}
 use Rattle.std.specs.Prelude.{slice_get, option_map}
 use Rattle.std.proofs.lemmas.Option.{slice_get-map}
 use Rattle.e3_disk.specs.Images.{IsBlank}
 use Rattle.e3_disk.specs.Meters.{Meters, LAST}
 use Rattle.e3_fleet.specs.Over.{AreBlank, AreOver, HadNoRooms, HasServed, IsFresh, IsOver, RoseBy, faults_at}
 use Rattle.e3_fleet.specs.Fleets.{AreSeated, HasKept, HaveKept, disks_of}
-use Rattle.e3_fleet.proofs.Places.{get_back, get_front, get_low, get_some}
+use Rattle.e3_fleet.proofs.Places.{get_back, get_front, get_some}
 use Rattle.e3_fleet.proofs.Rooms.{rooms_empty}
 use Rattle.e3_log.specs.Frames.{Reads}
 use Rattle.e3_node.specs.Bodies.{DiskStands}

@@ -1,7 +1,8 @@
 -- What the numbers of disks came to, over one more entry.
-use Rattle.std.proofs.Common.{◌≡◌, ◌≢◌, ◌==◌, inl, inr, ◌⊎◌, ◌≤◌, ◌+◌, ◌++◌, ◌∷◌, [], ℕ, suc, Bool, true, false, List, length, refl, sym, ap, subst, ◌∙◌, arith, eqb-true, eq-eqb}
-use Rattle.std.specs.Prelude.{count_by}
-use Rattle.e3_disk.specs.Meters.{Meters, LAST, Keeps, Rose, raised}
+use Rattle.std.proofs.Common.{◌≡◌, ◌≢◌, ◌==◌, inl, inr, ◌⊎◌, ◌≤◌, ◌+◌, ◌++◌, ◌∷◌, [], ℕ, suc, Bool, true, false, List, refl, sym, ap, ◌∙◌, arith, eqb-true, eq-eqb}
+use Rattle.std.specs.Prelude.{count_by, if◌then◌else◌}
+use Rattle.std.proofs.lemmas.List.Sums.{sum_by-append}
+use Rattle.e3_disk.specs.Meters.{Meters, LAST, Keeps, Rose}
 use Rattle.e3_fleet.specs.Over.{faults_at, is_fault}
 use Rattle.e3_fleet.specs.Fleets.{HasKept}
 use Rattle.e3_types.specs.declared.entries.Entry.{Entry}
@@ -13,17 +14,13 @@ abbrev one_if : Bool → ℕ
 one_if true = 1
 one_if false = 0
 
+one_count : (b : Bool) → (if b then 1 else 0) ≡ one_if b
+one_count true = refl
+one_count false = refl
+
 count_push : (p : Entry → Bool) (xs : List Entry) (x : Entry) → count_by p (xs ++ x ∷ []) ≡ count_by p xs + one_if (p x)
-count_push p [] x = by (p x) refl
-  where
-    by : (b : Bool) → p x ≡ b → count_by p (x ∷ []) ≡ 0 + one_if b
-    by true is = rw is refl
-    by false is = rw is refl
-count_push p (y ∷ xs) x = by (p y) refl (count_push p xs x)
-  where
-    by : (b : Bool) → p y ≡ b → count_by p (xs ++ x ∷ []) ≡ count_by p xs + one_if (p x) → count_by p ((y ∷ xs) ++ x ∷ []) ≡ count_by p (y ∷ xs) + one_if (p x)
-    by true is rest = rw is (omega (arith, rest))
-    by false is rest = rw is rest
+count_push p xs x = let both : count_by p (xs ++ x ∷ []) ≡ count_by p xs + (0 + (if p x then 1 else 0)) = sum_by-append _ xs (x ∷ []) in
+    let one = one_count (p x) in omega (arith, both, one)
 
 -- an entry of another owner is none of the site's faults
 pub faults_other : (h : List Entry) (e : Entry) (site : ℕ) → e.owner ≢ site → faults_at (h ++ e ∷ []) site ≡ faults_at h site

@@ -4,3 +4,5 @@ pub mod Kept
 pub mod Going
 pub mod Owned
 pub mod Ending
+pub mod Unmanned
+pub mod Seats

@@ -1,5 +1,5 @@
 -- What a call of a node entered.
-use Rattle.std.proofs.Common.{◌≡◌, ◌≢◌, inl, inr, ◌⊎◌, ◌≤◌, ◌<◌, ◌+◌, ◌++◌, ◌∷◌, [], ℕ, true, false, List, length, Ok, Err, Result, Option, refl, sym, ap, subst, ◌∙◌, arith}
+use Rattle.std.proofs.Common.{◌≡◌, inl, inr, ◌⊎◌, ◌<◌, ◌++◌, ◌∷◌, [], ℕ, false, List, Ok, Err, Result, Option, refl, sym, ap, subst, ◌∙◌, arith}
 use Rattle.std.specs.Prelude.{OnOk, OnErr}
 use Rattle.e3_disk.specs.Meters.{Meters, Rose}
 use Rattle.e3_fleet.specs.Over.{HadNoRoom, IsFull}
@@ -12,7 +12,6 @@ use Rattle.e3_node.specs.declared.fault.RiseFault.{RiseFault}
 use Rattle.e3_node.specs.declared.fault.RiseFault.TheVariants as rise_fault
 use Rattle.e3_play.specs.Entering.{AfterInput, AfterRise, fall_of}
 use Rattle.e3_play.specs.declared.sites.RunFault.TheVariants as run_fault
-use Rattle.e3_types.specs.Spelling.{spelling}
 use Rattle.e3_types.specs.declared.entries.Act.TheVariants.{Rise, RiseFall, Miss}
 use Rattle.e3_types.specs.declared.entries.Entry.{Entry}
 use Rattle.e3_types.specs.declared.entries.Input.{Input}

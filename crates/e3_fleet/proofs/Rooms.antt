@@ -1,5 +1,5 @@
 -- Entries for want of room, in a history with one more entry.
-use Rattle.std.proofs.Common.{◌≡◌, ◌≢◌, inl, inr, ◌⊎◌, ◌++◌, ◌∷◌, [], ℕ, List, refl, sym, subst, ap}
+use Rattle.std.proofs.Common.{◌≡◌, inl, inr, ◌⊎◌, ◌++◌, ◌∷◌, [], ℕ, List, refl, sym, subst, ap}
 use Rattle.e3_fleet.specs.Over.{HadNoRoom, HadNoRooms}
 use Rattle.e3_types.specs.declared.entries.Entry.{Entry}
 use Rattle.e3_types.specs.declared.scenarios.Scenario.{Scenario}

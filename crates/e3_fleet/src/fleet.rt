@@ -1,6 +1,6 @@
 // The sites of a run over their disks, as the driver sees them.
 ghost use Rattle.std.specs.Prelude.{◌≡◌, ◌≤◌, ◌<◌, ◌++◌, ◌∷◌, [], ℕ, suc, List as Items, Some, true, false, length, slice_get, OnOk, OnErr, Err};
-ghost use Rattle.e3_fleet.specs.Fleets.{FleetStands, HaveKept, IsFleetOn};
+ghost use Rattle.e3_fleet.specs.Fleets.{FleetStands, HaveKept, IsFleetOn, input_answer, rise_answer};
 ghost use Rattle.e3_node.specs.SharedStands.{SharedView};
 ghost use Rattle.e3_play.specs.Entering.{AfterInput, AfterRise, IsFirst};
 ghost use Rattle.e3_play.specs.declared.sites.RunFault.TheVariants.{HistoryFull};
@@ -12,7 +12,7 @@ ghost use Rattle.e3_world.specs.Legal.{IsDue, IsLine, IsParts, IsRising, first_p
 ghost use Rattle.e3_world.specs.Moves.{own};
 
 use e3_disk::Disk;
-use e3_node::{InputFault, Node, RiseFault, Shared};
+use e3_node::{InputFault, Node, RiseFault, Shared, other_entries_keep_nodes};
 use e3_play::{RunFault, Sites};
 use e3_types::{Entry, Input, List, Packet, SiteSet};
 
@@ -72,6 +72,7 @@ impl<D: Disk + Drop> Fleet<D> {
         ensures kept { OnErr result (self.new.shared.entries ≡ self.old.shared.entries) }
         ensures full { result ≡ Err HistoryFull → self.old.shared.most ≤ length self.old.shared.entries }
     {
+        other_entries_keep_nodes::<D>();
         let answer = self.nodes[at].rise(&mut self.shared);
         rise_answer(answer)
     }
@@ -88,6 +89,7 @@ impl<D: Disk + Drop> Fleet<D> {
         ensures kept { OnErr result (self.new.shared.entries ≡ self.old.shared.entries) }
         ensures full { result ≡ Err HistoryFull → self.old.shared.most ≤ length self.old.shared.entries }
     {
+        other_entries_keep_nodes::<D>();
         let answer = self.nodes[at].input(&mut self.shared, input);
         input_answer(answer)
     }
@@ -113,11 +115,15 @@ impl<D: Disk + Drop> Sites for Fleet<D> {
     }
 
     // A site past the nodes, or site 0, is never up.
+    #[tactic(auto, using(crate::proofs::Unmanned::site_zero))]
     fn is_up(&self, site: u32) -> bool {
-        let Some(at) = (site as usize).checked_sub(1) else {
+        if site == 0 {
             return false;
-        };
-        at < self.nodes.len() && self.is_up_at(at)
+        }
+        if site as usize > self.nodes.len() {
+            return false;
+        }
+        self.is_up_at(site as usize - 1)
     }
 
     fn first(&self) -> Option<Packet> {
@@ -125,34 +131,31 @@ impl<D: Disk + Drop> Sites for Fleet<D> {
     }
 
     fn rise(&mut self, site: u32) -> Result<(), RunFault> {
-        let Some(at) = (site as usize).checked_sub(1) else {
-            return Err(RunFault::NoMemory);
-        };
-        if at >= self.nodes.len() {
+        if site == 0 || site as usize > self.nodes.len() {
             return Err(RunFault::NoMemory);
         }
-        self.rise_at(at)
+        self.rise_at(site as usize - 1)
     }
 
     fn input(&mut self, site: u32, input: Input) -> Result<(), RunFault> {
-        let Some(at) = (site as usize).checked_sub(1) else {
-            return Err(RunFault::NoMemory);
-        };
-        if at >= self.nodes.len() {
+        if site == 0 || site as usize > self.nodes.len() {
             return Err(RunFault::NoMemory);
         }
-        self.input_at(at, input)
+        self.input_at(site as usize - 1, input)
     }
 
     fn drop_first(&mut self, packet: &Packet) -> Result<(), RunFault> {
+        other_entries_keep_nodes::<D>();
         self.shared.drop_first(packet)
     }
 
     fn line(&mut self, number: u32) -> Result<(), RunFault> {
+        other_entries_keep_nodes::<D>();
         self.shared.line(number)
     }
 
     fn parts(&mut self, parts: List<SiteSet>) -> Result<(), RunFault> {
+        other_entries_keep_nodes::<D>();
         self.shared.parts(parts)
     }
 }

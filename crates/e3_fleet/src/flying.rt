@@ -11,7 +11,7 @@ ghost use Rattle.e3_world.specs.Legal.{IsLegal, IsWhole};
 use crate::fleet::Fleet;
 use crate::seating::{seat_all, unseat_all};
 use e3_disk::Disk;
-use e3_node::{Node, Shared};
+use e3_node::{Node, Shared, a_node_tells_of_its_disk};
 use e3_play::{RunFault, play};
 use e3_types::{Copied, NoMemory, Scenario};
 use e3_world::History;
@@ -102,6 +102,7 @@ pub fn play_over<D: Disk + Drop>(
     ensures full { result.ended ≡ Err HistoryFull → IsFull scenario.now result.history.entries most }
     ensures disks { AreOver D.image D.meters scenario.now result.history.entries disks.items result.disks.items }
 {
+    a_node_tells_of_its_disk::<D>();
     let mut disks = disks;
     let mut nodes = Vec::new(alloc);
     match open(alloc, scenario, most, &mut nodes, &mut disks) {

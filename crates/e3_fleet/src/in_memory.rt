@@ -28,15 +28,12 @@ pub fn memory_disks(
     ensures sixteen { IfOk result (λ disks. length disks.items ≡ 16) }
     ensures blank { IfOk result (λ disks. AreBlank ⟦<MemDisk as Disk>⟧.content ⟦<MemDisk as Disk>⟧.image ⟦<MemDisk as Disk>⟧.meters disks.items) }
 {
-    let mut disks = Vec::new(alloc);
+    let mut disks = List::new(alloc);
     let mut fails = Some(fails);
     for at in 0..16u32 {
         let listed = if at + 1 == site { fails.take() } else { None };
         let listed = listed.unwrap_or(List::new(alloc));
-        let disk = blank_disk(alloc, capacity, listed)?;
-        if disks.push(disk).is_err() {
-            return Err(NoMemory);
-        }
+        disks.push(blank_disk(alloc, capacity, listed)?)?;
     }
-    Ok(disks)
+    Ok(disks.into_vec())
 }

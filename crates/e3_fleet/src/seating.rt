@@ -1,5 +1,5 @@
 // Nodes over the disks of a run, and the disks again.
-ghost use Rattle.std.specs.Prelude.{◌≡◌, ◌≤◌, ◌<◌, ◌+◌, ◌++◌, [], ℕ, List as Items, length, map, OnOk, vec_len, vec_capacity};
+ghost use Rattle.std.specs.Prelude.{◌≡◌, ◌≤◌, ◌<◌, ◌+◌, ◌++◌, ◌∷◌, [], ℕ, List as Items, length, map, OnOk, vec_len, vec_capacity};
 ghost use Rattle.e3_fleet.specs.Fleets.{AreSeated, disks_of};
 ghost use Rattle.e3_fleet.specs.Over.{AreBlank};
 
@@ -8,6 +8,24 @@ use e3_node::Node;
 use e3_readings::rows_at;
 use e3_types::{Copied, NoMemory, Scenario};
 use std::alloc::Global;
+
+// Adds an item where there is room.
+fn push_within<T: Drop>(items: &mut Vec<T>, item: T)
+    requires { vec_len items.old < vec_capacity items.old }
+    ensures items { items.new.items ≡ items.old.items ++ item ∷ [] }
+    ensures room { vec_capacity items.old ≤ vec_capacity items.new }
+{
+    let _ = items.push(item);
+}
+
+// Puts an item to the front where there is room.
+fn put_first<T: Drop>(items: &mut Vec<T>, item: T)
+    requires { vec_len items.old < vec_capacity items.old }
+    ensures items { items.new.items ≡ item ∷ items.old.items }
+    ensures room { vec_capacity items.old ≤ vec_capacity items.new }
+{
+    let _ = items.insert(0, item);
+}
 
 // The node of the next site takes the first of the disks.
 fn seat_next<D: Disk + Drop>(
@@ -26,14 +44,14 @@ fn seat_next<D: Disk + Drop>(
     ensures disks { disks_of nodes.new.items ++ disks.new.items ≡ disks_of nodes.old.items ++ disks.old.items }
     ensures more { OnOk result (length nodes.new.items ≡ length nodes.old.items + 1) }
     ensures blank { AreBlank D.content D.image D.meters disks.new.items }
-    ensures nodes_room { vec_capacity nodes.new ≡ vec_capacity nodes.old }
+    ensures nodes_room { vec_capacity nodes.old ≤ vec_capacity nodes.new }
     ensures disks_room { vec_capacity disks.new ≡ vec_capacity disks.old }
 {
     let site = nodes.len() as u32 + 1;
     let weights = scenario.weights.copied(alloc)?;
     let rows = rows_at(alloc, site, scenario.rows.as_slice())?;
     let disk = disks.remove(0);
-    let _ = nodes.push(Node::down(site, weights, rows, disk));
+    push_within(nodes, Node::down(site, weights, rows, disk));
     Ok(())
 }
 
@@ -57,7 +75,7 @@ pub fn seat_all<D: Disk + Drop>(
     if nodes.try_reserve(count).is_err() {
         return Err(NoMemory);
     }
-    for _ in 0..count {
+    for seated in 0..count {
         seat_next(alloc, scenario, nodes, disks)?;
     }
     Ok(())
@@ -69,6 +87,6 @@ pub fn unseat_all<D: Disk + Drop>(mut nodes: Vec<Node<D>>, disks: &mut Vec<D>)
     ensures { disks.new.items ≡ disks_of nodes.items ++ disks.old.items }
 {
     while let Some(node) = nodes.pop() {
-        let _ = disks.insert(0, node.into_disk());
+        put_first(disks, node.into_disk());
     }
 }

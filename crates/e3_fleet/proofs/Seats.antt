@@ -1,0 +1,87 @@
+-- Nodes take their disks from the front, and give them back there.
+use Rattle.std.proofs.Common.{◌≡◌, ◌⊎◌, inl, inr, ◌+◌, ◌++◌, ◌∷◌, [], ℕ, zero, suc, List, length, Some, refl, sym, ap, subst, ◌∙◌, append_assoc, arith}
+use Rattle.std.specs.Prelude.{slice_get, remove}
+use Rattle.e3_disk.specs.Meters.{Meters}
+use Rattle.e3_fleet.specs.Fleets.{AreSeated, HasKept, HaveKept, Seated, disks_of}
+use Rattle.e3_fleet.specs.Over.{AreBlank, IsFresh}
+use Rattle.e3_fleet.proofs.Kept.{kept_still}
+use Rattle.e3_fleet.proofs.Rooms.{rooms_empty}
+use Rattle.e3_node.specs.NodeStands.{NodeStands}
+use Rattle.e3_node.specs.NodeView.{NodeView, disk_of}
+use Rattle.e3_types.specs.declared.entries.Entry.{Entry}
+use Rattle.e3_types.specs.declared.scenarios.Scenario.{Scenario}
+
+-- a place of a list with one more at its end
+get_last : {X : Type 0} (xs : List X) (x y : X) (i : ℕ) → slice_get (xs ++ x ∷ []) i ≡ Some y →
+    (slice_get xs i ≡ Some y) ⊎ ((i ≡ length xs) × (x ≡ y))
+get_last [] x y zero is = inr (refl, cc)
+get_last [] x y (suc i) is = absurd cc
+get_last (z ∷ xs) x y zero is = inl is
+get_last (z ∷ xs) x y (suc i) is = by (get_last xs x y i is)
+  where
+    by : (slice_get xs i ≡ Some y) ⊎ ((i ≡ length xs) × (x ≡ y)) → (slice_get (z ∷ xs) (suc i) ≡ Some y) ⊎ ((suc i ≡ length (z ∷ xs)) × (x ≡ y))
+    by (inl k) = inl k
+    by (inr k) = inr (ap suc k.0, k.1)
+
+-- one more node is seated
+pub seat_more : {D : Type 0} (content : D → List ℕ) (image : D → List ℕ → Type 0) (meters : D → Meters) (sc : Scenario) (nodes : List (NodeView D)) (n : NodeView D) →
+    AreSeated content image meters sc [] nodes → n.site ≡ length nodes + 1 → NodeStands content image meters sc [] n →
+    AreSeated content image meters sc [] (nodes ++ n ∷ [])
+seat_more {D} content image meters sc nodes n seated site stands at node there = by (get_last nodes n node at there)
+  where
+    by : (slice_get nodes at ≡ Some node) ⊎ ((at ≡ length nodes) × (n ≡ node)) → Seated content image meters sc [] at node
+    by (inl k) = seated at node k
+    by (inr k) = subst (λ (m : NodeView D). Seated content image meters sc [] at m) k.1 (record {
+      site = let place = k.0 in omega (arith, site, place);
+      stands = stands;
+      rooms = rooms_empty sc (suc at) (meters (disk_of n.state)).capacity;
+    })
+
+-- the disks behind the first are blank too
+pub rest_blank : {D : Type 0} (content : D → List ℕ) (image : D → List ℕ → Type 0) (meters : D → Meters) (disks : List D) →
+    AreBlank content image meters disks → AreBlank content image meters (remove disks 0)
+rest_blank content image meters [] blank at d there = blank at d there
+rest_blank content image meters (x ∷ disks) blank at d there = blank (suc at) d there
+
+-- the first of a list, and what is behind it
+pub first_of : {X : Type 0} (xs : List X) (x : X) → slice_get xs 0 ≡ Some x → xs ≡ x ∷ remove xs 0
+first_of [] x is = absurd cc
+first_of (y ∷ xs) x is = let same : y ≡ x = cc in ap (λ z. z ∷ xs) same
+
+disks_more : {D : Type 0} (nodes : List (NodeView D)) (n : NodeView D) → disks_of (nodes ++ n ∷ []) ≡ disks_of nodes ++ disk_of n.state ∷ []
+disks_more [] n = refl
+disks_more (m ∷ nodes) n = ap (λ ds. disk_of m.state ∷ ds) (disks_more nodes n)
+
+-- one disk goes from the front of the others to the end of those that are taken
+pub take_first : {D : Type 0} (nodes : List (NodeView D)) (n : NodeView D) (disks : List D) (d : D) → slice_get disks 0 ≡ Some d → disk_of n.state ≡ d →
+    disks_of (nodes ++ n ∷ []) ++ remove disks 0 ≡ disks_of nodes ++ disks
+take_first {D} nodes n disks d first same =
+    ap (λ (ds : List D). ds ++ remove disks 0) (disks_more nodes n ∙ ap (λ (x : D). disks_of nodes ++ x ∷ []) same)
+    ∙ append_assoc (disks_of nodes) (d ∷ []) (remove disks 0)
+    ∙ ap (λ (ds : List D). disks_of nodes ++ ds) (sym (first_of disks d first))
+
+-- and back
+pub give_back : {D : Type 0} (nodes rest : List (NodeView D)) (n : NodeView D) (disks more : List D) (d : D) → nodes ≡ rest ++ n ∷ [] → d ≡ disk_of n.state →
+    more ≡ d ∷ disks → disks_of rest ++ more ≡ disks_of nodes ++ disks
+give_back {D} nodes rest n disks more d last same is =
+    ap (λ (ds : List D). disks_of rest ++ ds) (is ∙ ap (λ (x : D). x ∷ disks) same)
+    ∙ sym (append_assoc (disks_of rest) (disk_of n.state ∷ []) disks)
+    ∙ ap (λ (ds : List D). ds ++ disks) (sym (disks_more rest n))
+    ∙ ap (λ (ns : List (NodeView D)). disks_of ns ++ disks) (sym last)
+
+-- disks that nothing happened to
+pub have_kept_still : {D : Type 0} (meters : D → Meters) (h : List Entry) (nodes : List (NodeView D)) → HaveKept meters h h nodes nodes
+have_kept_still {D} meters h nodes = record {
+  count = refl;
+  each = λ at x y is there. subst (λ (z : NodeView D). HasKept (suc at) h h (meters (disk_of x.state)) (meters (disk_of z.state))) (let one : x ≡ y = cc in one)
+      (kept_still (suc at) h (meters (disk_of x.state)));
+}
+
+-- one more blank disk
+pub blank_more : {D : Type 0} (content : D → List ℕ) (image : D → List ℕ → Type 0) (meters : D → Meters) (disks : List D) (d : D) →
+    AreBlank content image meters disks → IsFresh content image meters d → AreBlank content image meters (disks ++ d ∷ [])
+blank_more {D} content image meters disks d blank fresh at disk there = by (get_last disks d disk at there)
+  where
+    by : (slice_get disks at ≡ Some disk) ⊎ ((at ≡ length disks) × (d ≡ disk)) → IsFresh content image meters disk
+    by (inl k) = blank at disk k
+    by (inr k) = subst (IsFresh content image meters) k.1 fresh

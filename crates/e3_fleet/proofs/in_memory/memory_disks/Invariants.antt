@@ -1,0 +1,10 @@
+use Rattle.std.proofs.Common.{◌≡◌, length}
+use Rattle.e3_disk.specs.Memory.{images_of, state_of}
+use Rattle.e3_fleet.specs.Over.{AreBlank}
+use Rattle.e3_fleet.proofs.in_memory.memory_disks.Given as goal
+
+abbrev pub invariant-loop-at : goal.invariant-loop-at
+invariant-loop-at l = record {
+  number : length l.disks ≡ l.at;
+  blank : AreBlank (λ d. (state_of d).bytes.content) (λ d. images_of (state_of d)) (λ d. (state_of d).meters) l.disks;
+}
