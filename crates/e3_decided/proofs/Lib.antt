@@ -9,3 +9,7 @@ pub mod Ruling
 pub mod Stepping
 pub mod Telling
 pub mod Standing
+pub mod Erasing
+pub mod Facing
+pub mod Reporting
+pub mod Binding
