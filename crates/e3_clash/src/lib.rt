@@ -3,5 +3,7 @@
 
 mod clashing;
 mod logs;
+#[cfg(test)]
+mod tests;
 
 pub use clashing::clash;
