@@ -52,16 +52,16 @@ after_push sc before (x ∷ h) e =
     ∙ sym (append_assoc first (trail_after sc (before ++ x ∷ []) h) (moves_of_act sc e.owner (past_of sc e.owner (own e.owner ((before ++ x ∷ []) ++ h))) e.act))
     ∙ ap (λ z. (first ++ trail_after sc (before ++ x ∷ []) h) ++ moves_of_act sc e.owner (past_of sc e.owner (own e.owner z)) e.act) (append_assoc before (x ∷ []) h)
 
-trail_push : (sc : Scenario) (h : List Entry) (e : Entry) → trail_of sc (h ++ e ∷ []) ≡ trail_of sc h ++ moves_of_act sc e.owner (past_of sc e.owner (own e.owner h)) e.act
+pub trail_push : (sc : Scenario) (h : List Entry) (e : Entry) → trail_of sc (h ++ e ∷ []) ≡ trail_of sc h ++ moves_of_act sc e.owner (past_of sc e.owner (own e.owner h)) e.act
 trail_push sc h e = after_push sc [] h e
 
-made_append : (sc : Scenario) (before xs ys : List Move) → MadeAfter sc before xs → MadeAfter sc (before ++ xs) ys → MadeAfter sc before (xs ++ ys)
+pub made_append : (sc : Scenario) (before xs ys : List Move) → MadeAfter sc before xs → MadeAfter sc (before ++ xs) ys → MadeAfter sc before (xs ++ ys)
 made_append sc before [] ys a b = subst (λ z. MadeAfter sc z ys) (append-nil before) b
 made_append sc before (m ∷ xs) ys a b =
     (a.0, made_append sc (before ++ m ∷ []) xs ys a.1 (subst (λ z. MadeAfter sc z ys) (sym (append_assoc before (m ∷ []) xs)) b))
 
 -- an input that is due may be taken, and was sent
-due_taken : (sc : Scenario) (h : List Entry) (site : ℕ) (i : Input) → IsDue sc h site i → (is_delivery i ≡ false → MayTake site i)
+pub due_taken : (sc : Scenario) (h : List Entry) (site : ℕ) (i : Input) → IsDue sc h site i → (is_delivery i ≡ false → MayTake site i)
     → MayTake site (plain_input i) × WasSent (trail_of sc h) (plain_input i)
 due_taken sc h site (input.Deliver packet) due fits = (due.to, due_was_sent sc h site packet due)
 due_taken sc h site (input.Begin sites) due fits = (tt, tt)
@@ -237,7 +237,7 @@ entry_made sc h (suc s) (Parts parts) guard fits c = tt
 entry_made sc h (suc s) (Line number) guard fits c = tt
 
 -- the own past behind an entry
-past_here : (sc : Scenario) (h : List Entry) (e : Entry) → past_of sc e.owner (own e.owner (h ++ e ∷ [])) ≡ past_by sc e.owner (past_of sc e.owner (own e.owner h)) e
+pub past_here : (sc : Scenario) (h : List Entry) (e : Entry) → past_of sc e.owner (own e.owner (h ++ e ∷ [])) ≡ past_by sc e.owner (past_of sc e.owner (own e.owner h)) e
 past_here sc h e = ap (past_of sc e.owner) (own_same e.owner h e (eq-eqb e.owner e.owner refl)) ∙ past_push sc e.owner (own e.owner h) e
 
 -- what is sent goes on to be sent behind an entry

@@ -3,3 +3,13 @@ pub mod Positions
 pub mod Counting
 pub mod Fitting
 pub mod Histories
+pub mod Saying
+pub mod Finding
+pub mod Ruling
+pub mod Stepping
+pub mod Telling
+pub mod Standing
+pub mod Erasing
+pub mod Facing
+pub mod Reporting
+pub mod Binding

@@ -8,7 +8,7 @@ use Rattle.e3_world.specs.Given.{IsGiven}
 use Rattle.e3_world.specs.Legal.{IsLegal}
 use Rattle.e3_world.specs.Moves.{log_of, trail_of}
 use Rattle.e3_world.specs.Packets.{sent}
-use Rattle.e3_world.specs.Safe.{Agrees, AllVoted, Said, said_msg}
+use Rattle.e3_world.specs.Safe.{Agrees, AllVoted, ToldStands, Said, said_msg}
 use Rattle.e3_decided.specs.Histories.{AllFit}
 
 -- whatever such a history asks of a site fits it
@@ -28,3 +28,8 @@ HistoriesVote = (sc : Scenario) (h : List Entry) → IsGiven sc → IsLegal sc h
 abbrev pub HistoriesTell : Type 0
 HistoriesTell = (sc : Scenario) (h : List Entry) → IsGiven sc → IsLegal sc h →
     (p : Packet) (s : Said) → Contains (sent h) p → Contains (said_msg p.msg) s → Contains (log_of sc h p.«from») (log.Decision s.txn s.dir)
+
+-- what a step says as decided, by events or packets, is in its site's log with that step, and in every legal history that
+-- goes on
+abbrev pub HistoriesToldStand : Type 0
+HistoriesToldStand = (sc : Scenario) (h : List Entry) → IsGiven sc → IsLegal sc h → ToldStands sc h

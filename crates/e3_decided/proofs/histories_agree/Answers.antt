@@ -1,5 +1,6 @@
 use Rattle.e3_decided.proofs.Fitting.{given_fit}
 use Rattle.e3_decided.proofs.Histories.{given_agrees, given_told, given_voted}
+use Rattle.e3_decided.proofs.Standing.{given_stands}
 use Rattle.e3_decided.proofs.histories_agree.Goals as goal
 
 pub returns-clause-fit : goal.returns-clause-fit
@@ -11,5 +12,8 @@ returns-clause-agree c = given_agrees
 pub returns-clause-voted : goal.returns-clause-voted
 returns-clause-voted c = given_voted
 
+pub returns-clause-packets : goal.returns-clause-packets
+returns-clause-packets c = given_told
+
 pub returns-clause-told : goal.returns-clause-told
-returns-clause-told c = given_told
+returns-clause-told c = given_stands
