@@ -1,0 +1,6 @@
+pub mod Bodies
+pub mod NodeView
+pub mod NodeStands
+pub mod SharedStands
+pub mod Ends
+pub mod Claims

@@ -1,0 +1,51 @@
+// Why a site did not rise, and why it did not take an input.
+ghost use Rattle.std.specs.Prelude.{◌≡◌};
+
+use e3_types::{NoMemory, Why};
+
+/// Why a site did not rise.
+#[derive(Clone, Copy)]
+pub enum RiseFault {
+    /// The history has as many entries as it may have.
+    HistoryFull,
+    /// There was no memory. It may come at any time before the frame is written.
+    NoMemory,
+    /// The disk failed before its log was read.
+    Missed,
+    /// The frame of the rise was not written, or may not have been.
+    Failed { why: Why },
+}
+
+impl From<NoMemory> for RiseFault {
+    ghost use Rattle.e3_node.specs.declared.fault.RiseFault.TheVariants as fault;
+
+    ghost from_gives = { λ _ f. f ≡ fault.NoMemory };
+
+    fn from(_cause: NoMemory) -> RiseFault {
+        RiseFault::NoMemory
+    }
+}
+
+/// Why a site did not take an input.
+#[derive(Clone, Copy)]
+pub enum InputFault {
+    /// The site is down.
+    Down,
+    /// The history has as many entries as it may have.
+    HistoryFull,
+    /// There was no memory, or the packets would no longer be counted by 64 bits. It may come at any time before the frame
+    /// is written.
+    NoMemory,
+    /// The frame of the step was not written, or may not have been: the site is down now.
+    Fell { why: Why },
+}
+
+impl From<NoMemory> for InputFault {
+    ghost use Rattle.e3_node.specs.declared.fault.InputFault.TheVariants as fault;
+
+    ghost from_gives = { λ _ f. f ≡ fault.NoMemory };
+
+    fn from(_cause: NoMemory) -> InputFault {
+        InputFault::NoMemory
+    }
+}

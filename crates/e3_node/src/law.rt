@@ -1,0 +1,22 @@
+// Laws of nodes.
+ghost use Rattle.e3_node.specs.Claims.{BodiesSpellTheLog, DisksKept, NodesDisks, NodesKept, NodesUp};
+
+use e3_disk::Disk;
+
+/// A node that stands for a history, and a disk that stands for a site of it, stand for the history with an entry of
+/// another owner: of another site, or of the driver.
+pub fn other_entries_keep_nodes<D: Disk>()
+    ensures nodes { NodesKept D.content D.image D.meters }
+    ensures disks { DisksKept }
+{}
+
+/// While a node stands for a history its disk does, and it is up exactly where the history has its site up.
+pub fn a_node_tells_of_its_disk<D: Disk>()
+    ensures disks { NodesDisks D.content D.image D.meters }
+    ensures up { NodesUp D.content D.image D.meters }
+{}
+
+/// The frames of a site's disk have its records, each once and in the order of the log.
+pub fn bodies_spell_the_log()
+    ensures { BodiesSpellTheLog }
+{}

@@ -1,0 +1,17 @@
+//! A site of a run over its disk: what its steps record is a frame of its log before the step is entered, and whatever ends
+//! a call, the disk stands for the history.
+#![tactic(auto)]
+
+mod fault;
+mod law;
+mod node;
+mod shared;
+mod state;
+#[cfg(test)]
+mod tests;
+
+pub use fault::{InputFault, RiseFault};
+pub use law::{a_node_tells_of_its_disk, bodies_spell_the_log, other_entries_keep_nodes};
+pub use node::Node;
+pub use shared::Shared;
+pub use state::State;
