@@ -1,11 +1,13 @@
 -- How the calls of a node end.
-use Rattle.std.specs.Prelude.{◌≡◌, ◌≢◌, ◌+◌, ◌<◌, ◌++◌, ◌∷◌, [], ℕ, Bool, true, false, List, length}
+use Rattle.std.specs.Prelude.{◌≡◌, ◌≢◌, ◌+◌, ◌<◌, ◌++◌, ◌∷◌, [], ℕ, Bool, true, false, List, length, Result, Ok, Err}
 use Rattle.e3_disk.specs.Meters.{Meters, Rose}
 use Rattle.e3_node.specs.declared.fault.InputFault.{InputFault}
 use Rattle.e3_node.specs.declared.fault.InputFault.TheVariants as input_fault
+use Rattle.e3_node.specs.declared.fault.RiseFault.{RiseFault}
+use Rattle.e3_node.specs.declared.fault.RiseFault.TheVariants as rise_fault
 use Rattle.e3_play.specs.Entering.{fall_of}
 use Rattle.e3_types.specs.Spelling.{spelling}
-use Rattle.e3_types.specs.declared.entries.Act.TheVariants.{RiseFall}
+use Rattle.e3_types.specs.declared.entries.Act.TheVariants.{Rise, RiseFall, Miss}
 use Rattle.e3_types.specs.declared.entries.Entry.{Entry}
 use Rattle.e3_types.specs.declared.entries.Input.{Input}
 use Rattle.e3_types.specs.declared.entries.Why.{Why}
@@ -34,3 +36,11 @@ FailedFirst history site why more = more ≡ history ++ record { owner = site; a
 abbrev pub is_fall : InputFault → Bool
 is_fall (input_fault.Fell why) = true
 is_fall _ = false
+
+-- the entry that comes of a first rise
+abbrev pub entries_of : ℕ → Result (Unit {0}) RiseFault → List Entry
+entries_of site (Ok done) = record { owner = site; act = Rise false 1 } ∷ []
+entries_of site (Err rise_fault.HistoryFull) = []
+entries_of site (Err rise_fault.NoMemory) = []
+entries_of site (Err rise_fault.Missed) = record { owner = site; act = Miss } ∷ []
+entries_of site (Err (rise_fault.Failed why)) = record { owner = site; act = RiseFall false 1 why } ∷ []

@@ -4,3 +4,5 @@ pub mod NodeStands
 pub mod SharedStands
 pub mod Ends
 pub mod Claims
+pub mod Rising
+pub mod Drafts

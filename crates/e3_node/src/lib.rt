@@ -2,13 +2,18 @@
 //! a call, the disk stands for the history.
 #![tactic(auto)]
 
+mod copying;
+mod drafts;
 mod fault;
 mod law;
 mod node;
+mod rising;
 mod shared;
 mod state;
+mod stepping;
 #[cfg(test)]
 mod tests;
+mod writing;
 
 pub use fault::{InputFault, RiseFault};
 pub use law::{a_node_tells_of_its_disk, bodies_spell_the_log, other_entries_keep_nodes};
