@@ -158,3 +158,18 @@ rise_fall_guard sc h (suc s) why one turn none = first_rise sc h (suc s) turn no
 pub miss_guard : (sc : Scenario) (h : List Entry) (site : ℕ) → 1 ≤ site → IsRising sc h site → Guard sc h (record { owner = site; act = Miss })
 miss_guard sc h zero one turn = absurd (omega (arith, one))
 miss_guard sc h (suc s) one turn = turn
+
+-- a delivery that leaves the network does not change how many packets were sent
+sent_same : (net : Traffic) (i : Input) → (behind_input net i).sent ≡ net.sent
+sent_same net (input.Deliver packet) = refl
+sent_same net (input.Begin sites) = refl
+sent_same net (input.Do t op) = refl
+sent_same net (input.Commit t) = refl
+sent_same net (input.Cancel t) = refl
+sent_same net (input.Expire t) = refl
+sent_same net (input.Elect t group) = refl
+
+pub numbers_are : (sc : Scenario) (h : List Entry) (net behind : Traffic) (i : Input) (outs : List Packet) → NetStands sc h net → behind ≡ behind_input net i →
+    numbered (suc behind.sent) outs ≡ numbered (suc (length (sent h))) outs
+numbers_are sc h net behind i outs was left =
+    ap (λ (n : ℕ). numbered (suc n) outs) (ap (λ (n : Traffic). n.sent) left ∙ sent_same net i ∙ was.count)

@@ -28,14 +28,12 @@ frame_length body =
 -- the place behind the frames is the size of the log
 pub size_is : (moves : List Move) → length (frames (bodies_of_moves moves)) ≡ log_size moves
 size_is [] = refl
-size_is (m ∷ moves) = by (recorded m)
+size_is (m ∷ moves) = by (recorded m) (size_is moves)
   where
-    rest : length (frames (bodies_of_moves moves)) ≡ log_size moves
-    rest = size_is moves
-
-    by : (records : List Record) → length (frames (body_of records ++ bodies_of_moves moves)) ≡ frame_size records + log_size moves
-    by [] = omega (arith, rest)
-    by (r ∷ rs) =
+    by : (records : List Record) → length (frames (bodies_of_moves moves)) ≡ log_size moves →
+        length (frames (body_of records ++ bodies_of_moves moves)) ≡ frame_size records + log_size moves
+    by [] rest = omega (arith, rest)
+    by (r ∷ rs) rest =
         let all : length (frame (spelling (r ∷ rs)) ++ frames (bodies_of_moves moves)) ≡ length (frame (spelling (r ∷ rs))) + length (frames (bodies_of_moves moves)) =
         length-append (frame (spelling (r ∷ rs))) (frames (bodies_of_moves moves)) in
         let one : length (frame (spelling (r ∷ rs))) ≡ 5 + length (spelling (r ∷ rs)) = frame_length (spelling (r ∷ rs)) in
@@ -60,14 +58,12 @@ some_spelled (r ∷ rs) body is some =
 
 pub spells : BodiesSpellTheLog
 spells [] = refl
-spells (m ∷ moves) = by (recorded m)
+spells (m ∷ moves) = by (recorded m) (spells moves)
   where
-    rest : flat_map (λ body. body) (bodies_of_moves moves) ≡ spelling (log_by moves)
-    rest = spells moves
-
-    by : (records : List Record) → flat_map (λ body. body) (body_of records ++ bodies_of_moves moves) ≡ spelling (records ++ log_by moves)
-    by [] = rest
-    by (r ∷ rs) = ap (λ (l : List ℕ). spelling (r ∷ rs) ++ l) rest ∙ sym (flat_map-append spell_record (r ∷ rs) (log_by moves))
+    by : (records : List Record) → flat_map (λ body. body) (bodies_of_moves moves) ≡ spelling (log_by moves) →
+        flat_map (λ body. body) (body_of records ++ bodies_of_moves moves) ≡ spelling (records ++ log_by moves)
+    by [] rest = rest
+    by (r ∷ rs) rest = ap (λ (l : List ℕ). spelling (r ∷ rs) ++ l) rest ∙ sym (flat_map-append spell_record (r ∷ rs) (log_by moves))
 
 -- the bodies with that of some records
 pub with_body : (bodies : List (List ℕ)) (records : List Record) (body : List ℕ) → body ≡ spelling records → records ≢ [] →

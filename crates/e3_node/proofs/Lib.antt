@@ -4,3 +4,4 @@ pub mod Metering
 pub mod Entering
 pub mod Rises
 pub mod Steps
+pub mod Appends
