@@ -1,7 +1,8 @@
 -- The frames of moves: one more move, their size, and what they spell.
-use Rattle.std.proofs.Common.{◌≡◌, ◌≢◌, ◌+◌, ◌<◌, ◌++◌, ◌∷◌, [], inl, inr, ℕ, List, Option, Some, None, length, refl, sym, subst, ap, ◌∙◌, append_assoc, append-nil, length-append, arith}
+use Rattle.std.proofs.Common.{◌≡◌, ◌≢◌, ◌==◌, ◌+◌, ◌<◌, true, false, ◌++◌, ◌∷◌, [], inl, inr, ℕ, List, Option, Some, None, length, refl, sym, subst, ap, ◌∙◌, append_assoc, append-nil, length-append, arith}
 use Rattle.std.specs.List.{flat_map}
 use Rattle.std.proofs.lemmas.Grind.{flat_map-append}
+use Rattle.std.proofs.lemmas.List.Sums.{sum-map, sum_by-cons}
 use Rattle.e3_disk.specs.Meters.{Meters, Rose}
 use Rattle.e3_log.specs.Frames.{Reads, frame, frames}
 use Rattle.e3_log.specs.Stands.{LogState, Stands, ReadsBeforeOrAfter}
@@ -28,8 +29,13 @@ frame_length body =
 -- the place behind the frames is the size of the log
 pub size_is : (moves : List Move) → length (frames (bodies_of_moves moves)) ≡ log_size moves
 size_is [] = refl
-size_is (m ∷ moves) = by (recorded m) (size_is moves)
+size_is (m ∷ moves) = by (recorded m) (size_is moves) ∙ sym one_more
   where
+    one_more : log_size (m ∷ moves) ≡ frame_size (recorded m) + log_size moves
+    one_more =
+        sum-map (λ x. frame_size (recorded x)) (m ∷ moves) ∙ sum_by-cons (λ x. frame_size (recorded x)) m moves
+        ∙ ap (λ (n : ℕ). frame_size (recorded m) + n) (sym (sum-map (λ x. frame_size (recorded x)) moves))
+
     by : (records : List Record) → length (frames (bodies_of_moves moves)) ≡ log_size moves →
         length (frames (body_of records ++ bodies_of_moves moves)) ≡ frame_size records + log_size moves
     by [] rest = omega (arith, rest)
@@ -73,3 +79,8 @@ with_body bodies (r ∷ rs) body is some = ap (λ (b : List ℕ). bodies ++ b �
 
 pub without_body : (bodies : List (List ℕ)) (records : List Record) → records ≡ [] → bodies ≡ bodies ++ body_of records
 without_body bodies records none = sym (ap (λ (rs : List Record). bodies ++ body_of rs) none ∙ append-nil bodies)
+
+-- a list that is not of length 0 is not empty
+pub some_of : (records : List Record) → (length records == 0) ≡ false → records ≢ []
+some_of [] is = λ none. absurd (let no : true ≡ false = is in cc)
+some_of (r ∷ rs) is = λ none. cc

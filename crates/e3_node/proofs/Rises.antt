@@ -1,13 +1,16 @@
 -- A node behind its first rise, however that ended.
-use Rattle.std.proofs.Common.{◌≡◌, ◌≢◌, ◌==◌, ◌++◌, ◌∷◌, [], ◌≤◌, inl, inr, ℕ, Bool, true, false, List, Option, Some, None, Result, Ok, Err, refl, sym, subst, ap, ◌∙◌, eq-eqb, append-nil}
-use Rattle.e3_disk.specs.Images.{IsBlank, Only}
-use Rattle.e3_disk.specs.Meters.{Meters}
+use Rattle.std.proofs.Common.{◌≡◌, ◌≢◌, ◌==◌, ◌++◌, ◌∷◌, [], ◌≤◌, inl, inr, ℕ, Bool, true, false, List, Option, Some, None, Result, Ok, Err, refl, sym, subst, ap, ◌∙◌, eq-eqb, append-nil, ◌<◌, arith}
+use Rattle.e3_disk.specs.Images.{IsBlank, Only, Within}
+use Rattle.e3_disk.specs.Meters.{Keeps, Meters, Rose}
 use Rattle.e3_log.specs.Frames.{Reads}
+use Rattle.e3_log.specs.Opening.{StaysOn}
 use Rattle.e3_log.specs.Stands.{LogState, Stands}
+use Rattle.e3_log.specs.declared.fault.OpenCause.{OpenCause}
+use Rattle.e3_log.specs.declared.fault.OpenCause.TheVariants as causes
 use Rattle.e3_node.specs.Bodies.{DiskStands, ReadsWith, bodies_of_moves, body_of}
 use Rattle.e3_node.specs.Ends.{entries_of}
 use Rattle.e3_node.specs.NodeStands.{IsDown, IsIn, IsUp}
-use Rattle.e3_node.specs.Rising.{HasNotRisen, HasRisen, RiseMakes, first_records}
+use Rattle.e3_node.specs.Rising.{HasNotRisen, HasRisen, RiseMakes, fault_of, first_records}
 use Rattle.e3_node.specs.declared.fault.RiseFault.{RiseFault}
 use Rattle.e3_node.specs.declared.fault.RiseFault.TheVariants.{HistoryFull, NoMemory, Missed, Failed}
 use Rattle.e3_node.specs.declared.rising.Birth.{Birth}
@@ -18,13 +21,15 @@ use Rattle.e3_site.specs.StandsFor.{IsRisenWith, StandsFor}
 use Rattle.e3_types.specs.declared.entries.Act.TheVariants.{Rise, RiseFall, Miss}
 use Rattle.e3_types.specs.declared.entries.Entry.{Entry}
 use Rattle.e3_types.specs.declared.entries.Why.{Why}
+use Rattle.e3_types.specs.declared.entries.Why.TheVariants.{Fault, Full}
 use Rattle.e3_types.specs.declared.records.Record.{Record}
 use Rattle.e3_types.specs.declared.scenarios.Scenario.{Scenario}
 use Rattle.e3_types.specs.declared.transactions.Row.{Row}
 use Rattle.e3_world.specs.Items.{is_up_at}
-use Rattle.e3_world.specs.Moves.{Move, Rose, is_up, left_by, log_by, moves_of, own, past_of, rise_records, rows_at}
+use Rattle.e3_world.specs.Moves.{Move, Rose as DidRise, is_up, left_by, log_by, moves_of, own, past_of, rise_records, rows_at}
 use Rattle.e3_world.proofs.Readings.{own_same}
 use Rattle.e3_node.proofs.Keeping.{reads_with}
+use Rattle.e3_node.proofs.Metering.{rose_since}
 
 -- the first entry of a site is all that it has
 pub own_first : (site : ℕ) (h : List Entry) (e : Entry) → e.owner ≡ site → own site h ≡ [] → own site (h ++ e ∷ []) ≡ e ∷ []
@@ -72,7 +77,7 @@ down_first content image meters sc h site e disk is none down reads = record {
 
 -- the moves of a first rise
 risen_moves : (sc : Scenario) (h : List Entry) (site : ℕ) → own site h ≡ [] →
-    moves_of sc (h ++ record { owner = site; act = Rise false 1 } ∷ []) site ≡ record { site = site; did = Rose 1 (rise_records sc site 1 []) } ∷ []
+    moves_of sc (h ++ record { owner = site; act = Rise false 1 } ∷ []) site ≡ record { site = site; did = DidRise 1 (rise_records sc site 1 []) } ∷ []
 risen_moves sc h site none =
     ap (λ (mine : List Entry). (past_of sc site mine).moves) (own_first site h (record { owner = site; act = Rise false 1 }) refl none)
 
@@ -129,3 +134,37 @@ rise_in content image meters sc h site birth old (Down disk) (Err Missed) none s
 rise_in content image meters sc h site birth old (Down disk) (Err (Failed why)) none site_is weights_are records_are makes =
     down_first content image meters sc h site (record { owner = site; act = RiseFall false 1 why }) disk refl none refl
     (λ bytes at. let P : List Record → Type 0 = λ rs. ReadsWith [] (left_by why [] rs) bytes in subst P records_are (makes.0 bytes at))
+
+-- a log that could not be opened leaves a blank disk as it was, or the disk failed
+pub refused : {D : Type 0} (content : D → List ℕ) (image : D → List ℕ → Type 0) (meters : D → Meters) (birth : Birth) (old new : D) (cause : OpenCause) →
+    IsBlank content image old → (meters old).powered ≡ true → Within (image old) (image new) →
+    (cause ≢ causes.Failed → content new ≡ content old) → (cause ≢ causes.Failed → Only (content old) (image new)) →
+    (cause ≡ causes.Failed → (meters old).powered ≡ true → Rose (meters old).faults (meters new).faults) →
+    ((bodies : List (List ℕ)) → Reads bodies (content old) → (at : ℕ) → cause ≡ causes.Damaged at → ⊥) →
+    (cause ≢ causes.Failed → StaysOn (meters old) (meters new)) →
+    HasNotRisen content image meters birth old new (fault_of cause)
+refused content image meters birth old new causes.Failed blank lit within same durable failed whole power =
+    ((λ bytes at. blank.1 bytes (within bytes at)), failed refl lit)
+refused content image meters birth old new (causes.Damaged at) blank lit within same durable failed whole power =
+    absurd (whole [] (subst (λ (b : List ℕ). Reads [] b) (sym blank.0) blank_reads) at refl)
+refused content image meters birth old new causes.NoMemory blank lit within same durable failed whole power =
+    ((same (λ e. cc) ∙ blank.0, (λ bytes at. durable (λ e. cc) bytes at ∙ blank.0)), (power (λ e. cc)).0)
+
+-- what comes of the log is what comes of the disk that it was opened on
+pub since_open : {D : Type 0} (content : D → List ℕ) (image : D → List ℕ → Type 0) (meters : D → Meters) (birth : Birth) (old mid : D)
+    (state : State D) (end : Result (Unit {0}) RiseFault) → Keeps (meters old) (meters mid) →
+    RiseMakes content image meters birth mid state end → RiseMakes content image meters birth old state end
+since_open content image meters birth old mid (Up s l) (Ok done) keeps makes = makes
+since_open content image meters birth old mid (Up s l) (Err fault) keeps makes = makes
+since_open content image meters birth old mid (Down disk) (Ok done) keeps makes = makes
+since_open content image meters birth old mid (Down disk) (Err HistoryFull) keeps makes = makes
+since_open content image meters birth old mid (Down disk) (Err NoMemory) keeps makes = makes
+since_open content image meters birth old mid (Down disk) (Err Missed) keeps makes =
+    (makes.0, rose_since (meters old).faults (meters mid).faults (meters disk).faults keeps.faults makes.1)
+since_open content image meters birth old mid (Down disk) (Err (Failed Fault)) keeps makes =
+    (makes.0, rose_since (meters old).faults (meters mid).faults (meters disk).faults keeps.faults makes.1)
+since_open content image meters birth old mid (Down disk) (Err (Failed (Full need room))) keeps makes =
+    let reason = makes.1 in
+    let less : (meters mid).capacity < need = reason.0 in
+    let same : (meters mid).capacity ≡ (meters old).capacity = keeps.capacity in
+    (makes.0, (omega (arith, less, same), reason.1, reason.2 ∙ same))
