@@ -9,8 +9,9 @@ use Rattle.e3_log.specs.declared.fault.OpenCause.{OpenCause}
 use Rattle.e3_log.specs.declared.fault.OpenCause.TheVariants as causes
 use Rattle.e3_node.specs.Bodies.{DiskStands, ReadsWith, bodies_of_moves, body_of}
 use Rattle.e3_node.specs.Ends.{entries_of}
-use Rattle.e3_node.specs.NodeStands.{IsDown, IsIn, IsUp}
-use Rattle.e3_node.specs.Rising.{HasNotRisen, HasRisen, RiseMakes, fault_of, first_records}
+use Rattle.e3_node.specs.NodeStands.{IsDown, IsIn, IsUp, NodeStands}
+use Rattle.e3_node.specs.NodeView.{NodeView, disk_of}
+use Rattle.e3_node.specs.Rising.{HasNotRisen, HasRisen, IsBirth, RiseMakes, fault_of, first_records}
 use Rattle.e3_node.specs.declared.fault.RiseFault.{RiseFault}
 use Rattle.e3_node.specs.declared.fault.RiseFault.TheVariants.{HistoryFull, NoMemory, Missed, Failed}
 use Rattle.e3_node.specs.declared.rising.Birth.{Birth}
@@ -168,3 +169,21 @@ since_open content image meters birth old mid (Down disk) (Err (Failed (Full nee
     let less : (meters mid).capacity < need = reason.0 in
     let same : (meters mid).capacity ≡ (meters old).capacity = keeps.capacity in
     (makes.0, (omega (arith, less, same), reason.1, reason.2 ∙ same))
+
+-- so the whole node stands for the history with what comes of its rise
+pub node_risen : {D : Type 0} (content : D → List ℕ) (image : D → List ℕ → Type 0) (meters : D → Meters) (sc now : Scenario) (h more : List Entry)
+    (old new : NodeView D) (birth : Birth) (state : State D) (end : Result (Unit {0}) RiseFault) → NodeStands content image meters sc h old →
+    own old.site h ≡ [] → IsBirth old.site old.weights old.rows birth → RiseMakes content image meters birth (disk_of old.state) state end →
+    now ≡ sc → more ≡ h ++ entries_of old.site end →
+    new ≡ record { site = old.site; weights = old.weights; rows = old.rows; state = state } → NodeStands content image meters now more new
+node_risen content image meters sc now h more old new birth state end was none born makes same entered is =
+    subst (λ (s : Scenario). NodeStands content image meters s more new) (sym same)
+    (subst (λ (l : List Entry). NodeStands content image meters sc l new) (sym entered)
+    (subst (λ (n : NodeView _). NodeStands content image meters sc (h ++ entries_of old.site end) n) (sym is) (record {
+      some = was.some;
+      exists = was.exists;
+      weights_are = was.weights_are;
+      rows_are = was.rows_are;
+      state = rise_in content image meters sc h old.site birth (disk_of old.state) state end none born.site_is (born.weights_are ∙ was.weights_are)
+          (born.records_are ∙ records_are sc old.site old.weights old.rows was.weights_are was.rows_are) makes;
+    })))
