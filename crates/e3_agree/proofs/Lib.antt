@@ -1,10 +1,2 @@
-pub mod Each
-pub mod Deciding
-pub mod Places
-pub mod Makers
-pub mod Rules
-pub mod Taking
-pub mod Moving
-pub mod Naming
-pub mod Histories
-pub mod LoneLaws
+pub mod Placing
+pub mod Finding

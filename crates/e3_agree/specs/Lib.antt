@@ -1,3 +1,1 @@
-pub mod Lone
-pub mod Alone
-pub mod Claims
+pub mod Clashes

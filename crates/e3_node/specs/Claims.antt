@@ -18,10 +18,10 @@ NodesKept {D} content image meters =
     e.owner ≢ node.site → NodeStands content image meters sc (h ++ e ∷ []) node
 
 -- so does a disk
-abbrev pub DisksKept : Type 0
-DisksKept =
-    (sc : Scenario) (h : List Entry) (e : Entry) (site : ℕ) (image : List ℕ → Type 0) → DiskStands sc h site image →
-    e.owner ≢ site → DiskStands sc (h ++ e ∷ []) site image
+abbrev pub DisksKept : {D : Type 0} → (D → List ℕ → Type 0) → Type 0
+DisksKept {D} image =
+    (sc : Scenario) (h : List Entry) (e : Entry) (site : ℕ) (disk : D) → DiskStands sc h site (image disk) →
+    e.owner ≢ site → DiskStands sc (h ++ e ∷ []) site (image disk)
 
 -- the disk of a node that stands for a history stands for its site there
 abbrev pub NodesDisks : {D : Type 0} → (D → List ℕ) → (D → List ℕ → Type 0) → (D → Meters) → Type 0

@@ -1,6 +1,8 @@
 -- How the calls of a node end.
 use Rattle.std.specs.Prelude.{◌≡◌, ◌≢◌, ◌+◌, ◌<◌, ◌++◌, ◌∷◌, [], ℕ, Bool, true, false, List, length, Result, Ok, Err}
 use Rattle.e3_disk.specs.Meters.{Meters, Rose}
+use Rattle.e3_log.specs.declared.fault.AppendFault.{AppendFault}
+use Rattle.e3_log.specs.declared.fault.AppendFault.TheVariants as append_fault
 use Rattle.e3_node.specs.declared.fault.InputFault.{InputFault}
 use Rattle.e3_node.specs.declared.fault.InputFault.TheVariants as input_fault
 use Rattle.e3_node.specs.declared.fault.RiseFault.{RiseFault}
@@ -22,6 +24,11 @@ abbrev pub IsReason : Why → ℕ → List Record → Meters → Meters → Type
 IsReason Fault size records old new = Rose old.faults new.faults
 IsReason (Full need room) size records old new =
     (old.capacity < need) × (need ≡ size + 6 + length (spelling records)) × (room ≡ old.capacity)
+
+-- what a frame that was not added is the reason of
+abbrev pub why_of : AppendFault → Why
+why_of append_fault.Failed = Fault
+why_of (append_fault.Full need room) = Full need room
 
 -- the site fell over an input for this reason: its step records something, and the fall is entered in its place
 pub record FellOver (sc : Scenario) (history : List Entry) (site : ℕ) (i : Input) (why : Why) (more : List Entry) : Type 0 where

@@ -3,6 +3,8 @@ use Rattle.std.specs.Prelude.{◌≡◌, ◌∷◌, [], ℕ, true, false, List, 
 use Rattle.e3_disk.specs.Images.{IsBlank, Only}
 use Rattle.e3_disk.specs.Meters.{Meters, Rose}
 use Rattle.e3_log.specs.Stands.{LogState, Stands}
+use Rattle.e3_log.specs.declared.fault.OpenCause.{OpenCause}
+use Rattle.e3_log.specs.declared.fault.OpenCause.TheVariants as causes
 use Rattle.e3_node.specs.Bodies.{ReadsWith, body_of}
 use Rattle.e3_node.specs.Ends.{IsReason}
 use Rattle.e3_node.specs.declared.fault.RiseFault.{RiseFault}
@@ -47,6 +49,12 @@ HasNotRisen content image meters birth old new Missed = Only (0 ∷ []) (image n
 HasNotRisen content image meters birth old new (Failed why) =
     ((bytes : List ℕ) → image new bytes → ReadsWith [] (left_by why [] birth.records) bytes)
     × IsReason why 0 birth.records (meters old) (meters new)
+
+-- what a log that could not be opened makes of the rise
+abbrev pub fault_of : OpenCause → RiseFault
+fault_of causes.Failed = Missed
+fault_of (causes.Damaged at) = NoMemory
+fault_of causes.NoMemory = NoMemory
 
 -- what comes of a rise over a disk
 abbrev pub RiseMakes : {D : Type 0} → (D → List ℕ) → (D → List ℕ → Type 0) → (D → Meters) → Birth → D → State D → Result (Unit {0}) RiseFault → Type 0

@@ -7,7 +7,7 @@ use e3_disk::Disk;
 /// another owner: of another site, or of the driver.
 pub fn other_entries_keep_nodes<D: Disk>()
     ensures nodes { NodesKept D.content D.image D.meters }
-    ensures disks { DisksKept }
+    ensures disks { DisksKept D.image }
 {}
 
 /// While a node stands for a history its disk does, and it is up exactly where the history has its site up.

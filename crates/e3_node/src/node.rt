@@ -25,7 +25,7 @@ use crate::{InputFault, RiseFault, Shared, State};
 use e3_disk::Disk;
 use e3_types::{Act, Entry, Input, List, Row};
 use std::marker::Model;
-use std::mem;
+use core::mem::replace_with;
 
 /// A site over its disk: its number, the weights of all sites, that of site 1 first, and its first rows in byte order of
 /// their names.
@@ -89,7 +89,8 @@ impl<D: Disk + Drop> Node<D> {
         ensures stands { (sc : Scenario) (h : Items Entries) → NodeStands D.content D.image D.meters sc h self →
             DiskStands sc h self.site (D.image result) }
     {
-        match self.state {
+        let Node { state, .. } = self;
+        match state {
             State::Down(disk) => disk,
             State::Up(_site, log) => log.into_disk(),
         }
@@ -124,8 +125,8 @@ impl<D: Disk + Drop> Node<D> {
         }
         let birth = birth_of(shared.alloc(), self.site, &self.weights, &self.rows)?;
         shared.make_room(0)?;
-        let result = mem::replace_with(&mut self.state, birth, risen::<D>);
-        enter_rise(shared, self.site, result);
+        let result = replace_with(&mut self.state, birth, risen::<D>);
+        enter_rise(shared, self.site, &result);
         result
     }
 
@@ -167,7 +168,7 @@ impl<D: Disk + Drop> Node<D> {
 }
 
 // What comes of a first rise is entered.
-fn enter_rise(shared: &mut Shared, site: u32, result: Result<(), RiseFault>)
+fn enter_rise(shared: &mut Shared, site: u32, end: &Result<(), RiseFault>)
     requires shared { SharedStands shared.old }
     requires some { 1 ≤ site }
     requires turn { IsRising shared.old.scenario shared.old.entries site }
@@ -176,9 +177,9 @@ fn enter_rise(shared: &mut Shared, site: u32, result: Result<(), RiseFault>)
     requires room { 1 ≤ shared.old.room }
     ensures shared { SharedStands shared.new }
     ensures same { (shared.new.scenario ≡ shared.old.scenario) × (shared.new.most ≡ shared.old.most) }
-    ensures entered { shared.new.entries ≡ shared.old.entries ++ entries_of site result }
+    ensures entered { shared.new.entries ≡ shared.old.entries ++ entries_of site end.now }
 {
-    match result {
+    match end {
         Ok(()) => shared.enter_quiet(Entry {
             owner: site,
             act: Act::Rise {
@@ -195,7 +196,7 @@ fn enter_rise(shared: &mut Shared, site: u32, result: Result<(), RiseFault>)
             act: Act::RiseFall {
                 kept: false,
                 inc: 1,
-                why,
+                why: *why,
             },
         }),
         Err(_) => {}

@@ -1,10 +1,10 @@
 // The first rise of a site.
-ghost use Rattle.std.specs.Prelude.{◌≡◌, false, true, [], ℕ, IfOk};
+ghost use Rattle.std.specs.Prelude.{◌≡◌, false, true, [], ℕ, Err, IfOk};
 ghost use Rattle.e3_disk.specs.Images.{IsBlank};
 ghost use Rattle.e3_disk.specs.Meters.{Keeps};
 ghost use Rattle.e3_log.specs.Stands.{Stands};
 ghost use Rattle.e3_node.specs.NodeView.{disk_of, is_up_in};
-ghost use Rattle.e3_node.specs.Rising.{IsBirth, RiseMakes};
+ghost use Rattle.e3_node.specs.Rising.{IsBirth, RiseMakes, fault_of};
 ghost use Rattle.e3_types.specs.Spelling.{spelling};
 
 use crate::writing::write;
@@ -54,7 +54,9 @@ pub(crate) fn birth_of(
 }
 
 // The log could not be opened.
-fn refuse<D: Disk + Drop>(refused: OpenRefused<D>) -> (State<D>, Result<(), RiseFault>) {
+fn refuse<D: Disk + Drop>(refused: OpenRefused<D>) -> (State<D>, Result<(), RiseFault>)
+    ensures { result ≡ (State.Down refused.disk, Err (fault_of refused.cause)) }
+{
     let fault = match refused.cause {
         OpenCause::Failed => RiseFault::Missed,
         _ => RiseFault::NoMemory,

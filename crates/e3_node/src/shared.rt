@@ -277,21 +277,21 @@ impl Shared {
     }
 
     /// Enters the parts into which the network falls, directly behind the line of a split or a merge.
-    pub fn parts(&mut self, parts: List<SiteSet>) -> Result<(), RunFault>
+    pub fn parts(&mut self, parted: List<SiteSet>) -> Result<(), RunFault>
         requires standing { SharedStands self.old }
-        requires due { IsParts self.old.scenario self.old.entries parts }
+        requires due { IsParts self.old.scenario self.old.entries parted }
         ensures stands { SharedStands self.new }
         ensures same { (self.new.scenario ≡ self.old.scenario) × (self.new.most ≡ self.old.most) }
-        ensures entered { OnOk result (self.new.entries ≡ self.old.entries ++ record { owner = 0; act = act.Parts parts } ∷ []) }
+        ensures entered { OnOk result (self.new.entries ≡ self.old.entries ++ record { owner = 0; act = act.Parts parted } ∷ []) }
         ensures kept { OnErr result (self.new.entries ≡ self.old.entries) }
         ensures full { (result ≡ Err HistoryFull) ↔ (self.old.most ≤ length self.old.entries) }
     {
         self.claim()?;
-        let kept = parts.copied(self.alloc)?;
+        let kept = parted.copied(self.alloc)?;
         self.net.parts(kept);
         self.history.push(Entry {
             owner: 0,
-            act: Act::Parts { parts },
+            act: Act::Parts { parts: parted },
         });
         Ok(())
     }

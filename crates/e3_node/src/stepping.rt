@@ -21,7 +21,7 @@ use e3_disk::Disk;
 use e3_log::Log;
 use e3_site::Site;
 use e3_types::Input;
-use std::mem;
+use core::mem::replace_with;
 
 // A site that is up takes an input: its step is planned, its frame is written, and it is entered; or it falls.
 fn step<D: Disk>(
@@ -121,7 +121,7 @@ pub(crate) fn settle<D: Disk + Drop>(state: &mut State<D>, fault: InputFault)
     ensures kept { is_fall fault ≡ false → state.new ≡ state.old }
 {
     match fault {
-        InputFault::Fell { .. } => mem::replace_with(state, (), laid_down::<D>),
+        InputFault::Fell { .. } => replace_with(state, (), laid_down::<D>),
         _ => {}
     }
 }

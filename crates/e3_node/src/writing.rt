@@ -3,7 +3,7 @@ ghost use Rattle.std.specs.Prelude.{◌≡◌, ◌≢◌, ◌++◌, [], true, �
 ghost use Rattle.e3_disk.specs.Meters.{Keeps};
 ghost use Rattle.e3_log.specs.Stands.{Stands};
 ghost use Rattle.e3_node.specs.Bodies.{ReadsWith, bodies_of_moves, body_of};
-ghost use Rattle.e3_node.specs.Ends.{IsReason};
+ghost use Rattle.e3_node.specs.Ends.{IsReason, why_of};
 ghost use Rattle.e3_types.specs.Spelling.{spelling};
 ghost use Rattle.e3_types.specs.declared.entries.Input.{Input};
 ghost use Rattle.e3_world.specs.Moves.{Move, left_by, log_size};
@@ -12,7 +12,9 @@ use e3_disk::Disk;
 use e3_log::{AppendFault, Log};
 use e3_types::{Record, Why};
 
-fn why_of(fault: AppendFault) -> Why {
+fn why_of(fault: AppendFault) -> Why
+    ensures { result ≡ why_of fault }
+{
     match fault {
         AppendFault::Failed => Why::Fault,
         AppendFault::Full { need, room } => Why::Full { need, room },

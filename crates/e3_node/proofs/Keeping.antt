@@ -1,0 +1,110 @@
+-- An entry of another owner changes nothing of a site, and what a node that stands tells of its disk.
+use Rattle.std.proofs.Common.{◌≡◌, ◌≢◌, ◌==◌, ◌++◌, ◌∷◌, [], inl, ℕ, Bool, true, false, List, Option, Some, None, refl, sym, subst, ap, ◌∙◌, eqb-true}
+use Rattle.e3_disk.specs.Meters.{Meters}
+use Rattle.e3_log.specs.Frames.{Reads}
+use Rattle.e3_log.specs.Stands.{LogState, Stands}
+use Rattle.e3_node.specs.Bodies.{DiskStands, ReadsWith, bodies_of_moves, bodies_at}
+use Rattle.e3_node.specs.Claims.{DisksKept, NodesDisks, NodesKept, NodesUp}
+use Rattle.e3_node.specs.NodeStands.{IsDown, IsIn, IsUp, NodeStands}
+use Rattle.e3_node.specs.NodeView.{NodeView, disk_of, is_up_in}
+use Rattle.e3_node.specs.declared.state.State.{State}
+use Rattle.e3_node.specs.declared.state.State.TheVariants.{Down, Up}
+use Rattle.e3_site.specs.SiteView.{SiteView}
+use Rattle.e3_site.specs.StandsFor.{StandsFor}
+use Rattle.e3_types.specs.declared.entries.Entry.{Entry}
+use Rattle.e3_types.specs.declared.scenarios.Scenario.{Scenario}
+use Rattle.e3_world.specs.Items.{is_up_at}
+use Rattle.e3_world.specs.Lives.{incarnation_of}
+use Rattle.e3_world.specs.Moves.{Move, Tail, is_up, moves_of, open_tail, own, past_of}
+use Rattle.e3_world.proofs.Readings.{own_other}
+
+apart : (a b : ℕ) → a ≢ b → (a == b) ≡ false
+apart a b other = by (a == b) refl
+  where
+    by : (t : Bool) → (a == b) ≡ t → (a == b) ≡ false
+    by true is = absurd (other (eqb-true a b is))
+    by false is = is
+
+pub own_kept : (site : ℕ) (h : List Entry) (e : Entry) → e.owner ≢ site → own site (h ++ e ∷ []) ≡ own site h
+own_kept site h e other = own_other site h e (apart e.owner site other)
+
+pub moves_kept : (sc : Scenario) (h : List Entry) (e : Entry) (site : ℕ) → e.owner ≢ site → moves_of sc (h ++ e ∷ []) site ≡ moves_of sc h site
+moves_kept sc h e site other = ap (λ (mine : List Entry). (past_of sc site mine).moves) (own_kept site h e other)
+
+pub disk_kept : (sc : Scenario) (h : List Entry) (e : Entry) (site : ℕ) (image : List ℕ → Type 0) → DiskStands sc h site image →
+    e.owner ≢ site → DiskStands sc (h ++ e ∷ []) site image
+disk_kept sc h e site image stands other = λ bytes at.
+    let P : List Entry → Type 0 = λ mine. ReadsWith (bodies_of_moves (past_of sc site mine).moves) (past_of sc site mine).tail bytes in
+    subst P (sym (own_kept site h e other)) (stands bytes at)
+
+pub up_kept : (h : List Entry) (e : Entry) (site : ℕ) → e.owner ≢ site → is_up_at (h ++ e ∷ []) site ≡ is_up_at h site
+up_kept h e site other = ap is_up (own_kept site h e other)
+
+site_kept : (sc : Scenario) (h : List Entry) (e : Entry) (site : ℕ) (s : SiteView) → StandsFor sc h site s → e.owner ≢ site →
+    StandsFor sc (h ++ e ∷ []) site s
+site_kept sc h e site s was other = record {
+  weights_are = was.weights_are;
+  site_is = was.site_is;
+  incarnation_is = was.incarnation_is ∙ ap incarnation_of (sym (moves_kept sc h e site other));
+}
+
+in_kept : {D : Type 0} (content : D → List ℕ) (image : D → List ℕ → Type 0) (meters : D → Meters)
+    (sc : Scenario) (h : List Entry) (e : Entry) (site : ℕ) (state : State D) → IsIn content image meters sc h site state → e.owner ≢ site →
+    IsIn content image meters sc (h ++ e ∷ []) site state
+in_kept content image meters sc h e site (Down disk) was other = record {
+  down = up_kept h e site other ∙ was.down;
+  stands = disk_kept sc h e site (image disk) was.stands other;
+  blank = λ none. was.blank (sym (own_kept site h e other) ∙ none);
+  lit = λ none. was.lit (sym (own_kept site h e other) ∙ none);
+}
+in_kept content image meters sc h e site (Up s log) was other = record {
+  up = up_kept h e site other ∙ was.up;
+  stands = site_kept sc h e site s was.stands other;
+  logged =
+      let P : List Move → Type 0 = λ moves. Stands content image (bodies_of_moves moves) log in
+      subst P (sym (moves_kept sc h e site other)) was.logged;
+  lit = was.lit;
+}
+
+pub node_kept : {D : Type 0} (content : D → List ℕ) (image : D → List ℕ → Type 0) (meters : D → Meters) → NodesKept content image meters
+node_kept content image meters sc h e node was other = record {
+  some = was.some;
+  exists = was.exists;
+  weights_are = was.weights_are;
+  rows_are = was.rows_are;
+  state = in_kept content image meters sc h e node.site node.state was.state other;
+}
+
+-- what reads as the log reads so whatever tail is open
+pub reads_with : (bodies : List (List ℕ)) (tail : Option Tail) (bytes : List ℕ) → Reads bodies bytes → ReadsWith bodies tail bytes
+reads_with bodies None bytes reads = reads
+reads_with bodies (Some tail) bytes reads = inl reads
+
+-- each image of a log that stands reads as its bodies
+pub image_reads : {D : Type 0} (content : D → List ℕ) (image : D → List ℕ → Type 0) (bodies : List (List ℕ)) (log : LogState D) →
+    Stands content image bodies log → (bytes : List ℕ) → image log.disk bytes → Reads bodies bytes
+image_reads content image bodies log was bytes at =
+    let P : List ℕ → Type 0 = λ b. Reads bodies b in
+    subst P (sym (was.disk.only bytes at)) was.disk.reads
+
+pub disk_in : {D : Type 0} (content : D → List ℕ) (image : D → List ℕ → Type 0) (meters : D → Meters)
+    (sc : Scenario) (h : List Entry) (site : ℕ) (state : State D) → IsIn content image meters sc h site state →
+    DiskStands sc h site (image (disk_of state))
+disk_in content image meters sc h site (Down disk) was = was.stands
+disk_in content image meters sc h site (Up s log) was = λ bytes at.
+    reads_with (bodies_at sc h site) (open_tail sc h site) bytes (image_reads content image (bodies_at sc h site) log was.logged bytes at)
+
+pub node_disk : {D : Type 0} (content : D → List ℕ) (image : D → List ℕ → Type 0) (meters : D → Meters) → NodesDisks content image meters
+node_disk content image meters sc h node was = disk_in content image meters sc h node.site node.state was.state
+
+pub up_in : {D : Type 0} (content : D → List ℕ) (image : D → List ℕ → Type 0) (meters : D → Meters)
+    (sc : Scenario) (h : List Entry) (site : ℕ) (state : State D) → IsIn content image meters sc h site state →
+    is_up_in state ≡ is_up_at h site
+up_in content image meters sc h site (Down disk) was = sym was.down
+up_in content image meters sc h site (Up s log) was = sym was.up
+
+pub node_up : {D : Type 0} (content : D → List ℕ) (image : D → List ℕ → Type 0) (meters : D → Meters) → NodesUp content image meters
+node_up content image meters sc h node was = up_in content image meters sc h node.site node.state was.state
+
+pub disks_kept : {D : Type 0} (image : D → List ℕ → Type 0) → DisksKept image
+disks_kept image sc h e site disk stands other = disk_kept sc h e site (image disk) stands other

@@ -1,0 +1,7 @@
+pub mod Keeping
+pub mod Frames
+pub mod Metering
+pub mod Entering
+pub mod Rises
+pub mod Steps
+pub mod Appends

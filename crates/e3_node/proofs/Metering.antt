@@ -1,0 +1,46 @@
+-- The numbers of a disk over calls, one behind the other.
+use Rattle.std.proofs.Common.{◌≡◌, ◌⊎◌, ◌+◌, ◌-◌, ◌<◌, ◌≤◌, inl, inr, ℕ, refl, sym, subst, ap, ◌∙◌, arith}
+use Rattle.std.proofs.Math.Nat.{min-le_left, min-le_right, le-min}
+use Rattle.std.specs.Prelude.{min}
+use Rattle.e3_disk.specs.Meters.{LAST, Keeps, Meters, Rose, raised}
+
+pub keeps_same : (m : Meters) → Keeps m m
+keeps_same m = record {
+  capacity = refl;
+  arms = refl;
+  calls = refl;
+  codes = refl;
+  cuts = refl;
+  faults = omega arith;
+  own_faults = λ few. omega arith;
+  stops = inl refl;
+}
+
+-- calls of which the first did not stop the disk
+pub keeps_both : (a b c : Meters) → Keeps a b → b.stops ≡ a.stops → b.calls_left ≡ a.calls_left - 1 → Keeps b c → Keeps a c
+keeps_both a b c first none left second = record {
+  capacity = second.capacity ∙ first.capacity;
+  arms = second.arms ∙ first.arms;
+  calls = second.calls ∙ first.calls;
+  codes = second.codes ∙ first.codes;
+  cuts = second.cuts ∙ first.cuts;
+  faults = let one : a.faults ≤ b.faults = first.faults in let two : b.faults ≤ c.faults = second.faults in omega (arith, one, two);
+  own_faults = λ few.
+      let one : a.faults ≤ b.faults = first.faults in
+      let two : b.faults + c.stops ≤ c.faults + b.stops = second.own_faults few in
+      omega (arith, one, two, none);
+  stops = by second.stops;
+}
+  where
+    by : (c.stops ≡ b.stops) ⊎ ((c.stops ≡ raised b.stops 1) × (0 < b.calls_left) × (c.calls_left ≡ 0)) →
+        (c.stops ≡ a.stops) ⊎ ((c.stops ≡ raised a.stops 1) × (0 < a.calls_left) × (c.calls_left ≡ 0))
+    by (inl same) = inl (same ∙ none)
+    by (inr stopped) = inr (stopped.0 ∙ ap (λ (n : ℕ). raised n 1) none, (let some : 0 < b.calls_left = stopped.1 in omega (arith, some, left)), stopped.2)
+
+pub rose_since : (a b c : ℕ) → a ≤ b → Rose b c → Rose a c
+rose_since a b c below rose =
+    let low : min (a + 1) LAST ≤ a + 1 = min-le_left (a + 1) LAST in
+    let last : min (a + 1) LAST ≤ LAST = min-le_right (a + 1) LAST in
+    let both : min (a + 1) LAST ≤ min (b + 1) LAST = le-min (omega (arith, low, below)) last in
+    let up : min (b + 1) LAST ≤ c = rose in
+    omega (arith, both, up)

@@ -1,0 +1,219 @@
+-- A node behind an input.
+use Rattle.std.proofs.Common.{◌≡◌, ◌≢◌, ◌==◌, ◌++◌, ◌∷◌, [], ◌≤◌, ℕ, suc, Bool, true, false, List, length, Option, refl, sym, subst, ap, ◌∙◌, append-nil, map}
+use Rattle.e3_disk.specs.Meters.{Meters}
+use Rattle.e3_log.specs.Stands.{LogState, Stands}
+use Rattle.e3_node.specs.Bodies.{DiskStands, ReadsWith, bodies_at, bodies_of_moves, body_of}
+use Rattle.e3_node.specs.Drafts.{IsDraft}
+use Rattle.e3_node.specs.Ends.{FellOver, is_fall}
+use Rattle.e3_node.specs.NodeStands.{IsDown, IsIn, IsUp, NodeStands}
+use Rattle.e3_node.specs.NodeView.{NodeView, disk_of}
+use Rattle.e3_node.specs.SharedStands.{SharedView}
+use Rattle.e3_node.specs.declared.drafts.Draft.{Draft}
+use Rattle.e3_node.specs.declared.fault.InputFault.{InputFault}
+use Rattle.e3_node.specs.declared.fault.InputFault.TheVariants as input_fault
+use Rattle.e3_node.specs.declared.state.State.{State}
+use Rattle.e3_node.specs.declared.state.State.TheVariants.{Down, Up}
+use Rattle.e3_play.specs.Entering.{fall_of}
+use Rattle.e3_site.specs.SiteView.{SiteView, plan_of, step_kept}
+use Rattle.e3_site.specs.StandsFor.{StandsFor, StandsOn}
+use Rattle.e3_types.specs.declared.entries.Act.TheVariants.{Step, Fall}
+use Rattle.e3_types.specs.declared.entries.Entry.{Entry}
+use Rattle.e3_types.specs.declared.entries.Input.{Input}
+use Rattle.e3_types.specs.declared.entries.Why.{Why}
+use Rattle.e3_types.specs.declared.records.Record.{Record}
+use Rattle.e3_types.specs.declared.scenarios.Scenario.{Scenario}
+use Rattle.e3_world.specs.Items.{is_up_at}
+use Rattle.e3_world.specs.Legal.{Guard, IsDue, entry_of, made_by, numbered}
+use Rattle.e3_world.specs.Packets.{sent}
+use Rattle.e3_world.specs.declared.lives.SiteStep.{SiteStep}
+use Rattle.e3_world.specs.Moves.{Move, Past, left_by, moves_of, open_tail, own, past_by, past_of, plain, plain_input}
+use Rattle.e3_world.specs.Sound.{step_move}
+use Rattle.e3_world.proofs.Guards.{guard_step}
+use Rattle.e3_world.proofs.Numbers.{entered_move}
+use Rattle.e3_world.proofs.Pushes.{past_push}
+use Rattle.e3_world.proofs.Readings.{own_same, up_same}
+use Rattle.e3_world.proofs.Turns.{self}
+use Rattle.e3_node.proofs.Entering.{fall_guard, step_entry}
+use Rattle.e3_node.proofs.Frames.{bodies_push}
+
+-- the plan of a site that stands for a history is the step that the history makes
+pub plan_made : (sc : Scenario) (h : List Entry) (site : ℕ) (s : SiteView) (i : Input) → StandsFor sc h site s →
+    plan_of s i ≡ step_kept i (made_by sc h site i)
+plan_made sc h site s i stands = rw (stands.weights_are, stands.site_is, stands.incarnation_is) refl
+
+-- the past of a site behind one more entry of its own
+past_on : (sc : Scenario) (h : List Entry) (site : ℕ) (e : Entry) → e.owner ≡ site →
+    past_of sc site (own site (h ++ e ∷ [])) ≡ past_by sc site (past_of sc site (own site h)) e
+past_on sc h site e is =
+    let mine : own site (h ++ e ∷ []) ≡ own site h ++ e ∷ [] = own_same site h e (ap (λ (n : ℕ). n == site) is ∙ self site) in
+    ap (past_of sc site) mine ∙ past_push sc site (own site h) e
+
+pub step_moves : (sc : Scenario) (h : List Entry) (site : ℕ) (i : Input) →
+    moves_of sc (h ++ entry_of sc h site i ∷ []) site ≡ moves_of sc h site ++ step_move sc site (moves_of sc h site) i ∷ []
+step_moves sc h site i =
+    ap (λ (p : Past). p.moves) (past_on sc h site (entry_of sc h site i) refl)
+    ∙ ap (λ (ms : List Move). moves_of sc h site ++ ms) (entered_move sc h site i)
+
+pub step_bodies : (sc : Scenario) (h : List Entry) (site : ℕ) (i : Input) →
+    bodies_at sc (h ++ entry_of sc h site i ∷ []) site ≡ bodies_at sc h site ++ body_of (made_by sc h site i).records
+step_bodies sc h site i =
+    ap bodies_of_moves (step_moves sc h site i) ∙ bodies_push (moves_of sc h site) (step_move sc site (moves_of sc h site) i)
+
+-- a site that made the planned step
+pub stepped_up : {D : Type 0} (content : D → List ℕ) (image : D → List ℕ → Type 0) (meters : D → Meters)
+    (sc : Scenario) (h : List Entry) (site : ℕ) (i : Input) (s : SiteView) (l : LogState D) → is_up_at h site ≡ true →
+    StandsFor sc (h ++ entry_of sc h site i ∷ []) site s →
+    Stands content image (bodies_at sc h site ++ body_of (made_by sc h site i).records) l → (meters l.disk).powered ≡ true →
+    IsUp content image meters sc (h ++ entry_of sc h site i ∷ []) site s l
+stepped_up content image meters sc h site i s l up stands logged lit = record {
+  up = up_same h (entry_of sc h site i) site (self site) ∙ up;
+  stands = stands;
+  logged =
+      let P : List (List ℕ) → Type 0 = λ bodies. Stands content image bodies l in
+      subst P (sym (step_bodies sc h site i)) logged;
+  lit = lit;
+}
+
+-- a site that did the plan of its step stands for the history with it
+pub site_on : (sc : Scenario) (h : List Entry) (site : ℕ) (i : Input) (old new : SiteView) (plan : SiteStep) → StandsFor sc h site old →
+    plan ≡ plan_of old i → StandsOn old plan new → StandsFor sc (h ++ entry_of sc h site i ∷ []) site new
+site_on sc h site i old new plan stands is on =
+    let P : ℕ → Type 0 = λ n. StandsFor sc h n old in
+    let Q : ℕ → Type 0 = λ n. StandsFor sc (h ++ entry_of sc h n i ∷ []) n new in
+    subst Q stands.site_is (on sc h i (subst P (sym stands.site_is) stands) is)
+
+-- what a draft has is what the history makes
+pub record IsMade (sc : Scenario) (h : List Entry) (site : ℕ) (i : Input) (d : Draft) : Type 0 where
+  pub records_are : d.records ≡ (made_by sc h site i).records
+  pub outs_are : d.outs ≡ map plain (made_by sc h site i).outs
+  pub told_is : d.told ≡ (made_by sc h site i).told
+  pub inputs_are : d.inputs ≡ i ∷ []
+  pub fallen_are : d.fallen ≡ (made_by sc h site i).records
+
+pub draft_made : (sc : Scenario) (h : List Entry) (site : ℕ) (s : SiteView) (i : Input) (d : Draft) → StandsFor sc h site s → IsDraft (plan_of s i) i d →
+    IsMade sc h site i d
+draft_made sc h site s i d stands is = record {
+  records_are = is.records_are ∙ ap (λ (p : SiteStep). p.records) (plan_made sc h site s i stands);
+  outs_are = is.outs_are ∙ ap (λ (p : SiteStep). p.outs) (plan_made sc h site s i stands);
+  told_is = is.told_is ∙ ap (λ (p : SiteStep). p.told) (plan_made sc h site s i stands);
+  inputs_are = is.inputs_are;
+  fallen_are = is.fallen_are ∙ ap (λ (p : SiteStep). p.records) (plan_made sc h site s i stands);
+}
+
+-- the entries of a draft
+pub draft_step : (sc : Scenario) (h : List Entry) (site : ℕ) (i : Input) (d : Draft) → IsMade sc h site i d →
+    record { owner = site; act = Step i d.records (numbered (suc (length (sent h))) d.outs) d.told } ≡ entry_of sc h site i
+draft_step sc h site i d made = step_entry sc h site i d.records d.outs d.told made.records_are made.outs_are made.told_is
+
+pub draft_fall : (sc : Scenario) (h : List Entry) (site : ℕ) (i : Input) (d : Draft) (why : Why) → IsMade sc h site i d →
+    record { owner = site; act = Fall d.inputs d.fallen why } ≡ fall_of sc h site i why
+draft_fall sc h site i d why made =
+    ap (λ (l : List Input). record { owner = site; act = Fall l d.fallen why }) made.inputs_are
+    ∙ ap (λ (l : List Record). record { owner = site; act = Fall (i ∷ []) l why }) made.fallen_are
+
+pub step_allowed : (v w : SharedView) (site : ℕ) (i : Input) (d : Draft) (room net_room : ℕ) → IsMade v.scenario v.entries site i d →
+    1 ≤ site → is_up_at v.entries site ≡ true → IsDue v.scenario v.entries site i → w ≡ record v { room = room; net_room = net_room } →
+    Guard w.scenario w.entries (record { owner = site; act = Step i d.records (numbered (suc (length (sent w.entries))) d.outs) d.told })
+step_allowed v w site i d room net_room made one up due same =
+    let P : SharedView → Type 0 = λ x. Guard x.scenario x.entries (record { owner = site; act = Step i d.records (numbered (suc (length (sent x.entries))) d.outs) d.told }) in
+    let Q : Entry → Type 0 = λ e. Guard v.scenario v.entries e in
+    subst P (sym same) (subst Q (sym (draft_step v.scenario v.entries site i d made)) (guard_step v.scenario v.entries site i one up due))
+
+pub fall_allowed : (v w : SharedView) (site : ℕ) (i : Input) (d : Draft) (why : Why) (room net_room : ℕ) → IsMade v.scenario v.entries site i d →
+    1 ≤ site → is_up_at v.entries site ≡ true → IsDue v.scenario v.entries site i → d.records ≢ [] → w ≡ record v { room = room; net_room = net_room } →
+    Guard w.scenario w.entries (record { owner = site; act = Fall d.inputs d.fallen why })
+fall_allowed v w site i d why room net_room made one up due some same =
+    let P : SharedView → Type 0 = λ x. Guard x.scenario x.entries (record { owner = site; act = Fall d.inputs d.fallen why }) in
+    let Q : Entry → Type 0 = λ e. Guard v.scenario v.entries e in
+    subst P (sym same) (subst Q (sym (draft_fall v.scenario v.entries site i d why made))
+    (fall_guard v.scenario v.entries site i why one up due (λ none. some (made.records_are ∙ none))))
+
+-- what is entered is the step, or the fall
+pub step_entered : (v w : SharedView) (more : List Entry) (site : ℕ) (i : Input) (d : Draft) (room net_room : ℕ) → IsMade v.scenario v.entries site i d →
+    w ≡ record v { room = room; net_room = net_room } →
+    more ≡ w.entries ++ record { owner = site; act = Step i d.records (numbered (suc (length (sent w.entries))) d.outs) d.told } ∷ [] →
+    more ≡ v.entries ++ entry_of v.scenario v.entries site i ∷ []
+step_entered v w more site i d room net_room made same is =
+    is ∙ ap (λ (x : SharedView). x.entries ++ record { owner = site; act = Step i d.records (numbered (suc (length (sent x.entries))) d.outs) d.told } ∷ []) same
+    ∙ ap (λ (e : Entry). v.entries ++ e ∷ []) (draft_step v.scenario v.entries site i d made)
+
+pub fall_entered : (v w : SharedView) (more : List Entry) (site : ℕ) (i : Input) (d : Draft) (why : Why) (room net_room : ℕ) →
+    IsMade v.scenario v.entries site i d → w ≡ record v { room = room; net_room = net_room } →
+    more ≡ w.entries ++ record { owner = site; act = Fall d.inputs d.fallen why } ∷ [] →
+    more ≡ v.entries ++ fall_of v.scenario v.entries site i why ∷ []
+fall_entered v w more site i d why room net_room made same is =
+    is ∙ ap (λ (x : SharedView). x.entries ++ record { owner = site; act = Fall d.inputs d.fallen why } ∷ []) same
+    ∙ ap (λ (e : Entry). v.entries ++ e ∷ []) (draft_fall v.scenario v.entries site i d why made)
+
+-- the disk of a site that fell
+pub fallen_disk : (sc : Scenario) (h : List Entry) (site : ℕ) (i : Input) (why : Why) (image : List ℕ → Type 0) →
+    ((bytes : List ℕ) → image bytes → ReadsWith (bodies_at sc h site) (left_by why (map plain_input (i ∷ [])) (made_by sc h site i).records) bytes) →
+    DiskStands sc (h ++ fall_of sc h site i why ∷ []) site image
+fallen_disk sc h site i why image reads = λ bytes at.
+    let P : Past → Type 0 = λ p. ReadsWith (bodies_of_moves p.moves) p.tail bytes in
+    let Q : List Move → Type 0 = λ ms. ReadsWith (bodies_of_moves ms) (left_by why (map plain_input (i ∷ [])) (made_by sc h site i).records) bytes in
+    subst P (sym (past_on sc h site (fall_of sc h site i why) refl)) (subst Q (sym (append-nil (moves_of sc h site))) (reads bytes at))
+
+append_some : (mine : List Entry) (e : Entry) → mine ++ e ∷ [] ≡ [] → ⊥
+append_some [] e is = cc
+append_some (x ∷ mine) e is = cc
+
+pub fallen_down : {D : Type 0} (content : D → List ℕ) (image : D → List ℕ → Type 0) (meters : D → Meters)
+    (sc : Scenario) (h : List Entry) (site : ℕ) (i : Input) (why : Why) (disk : D) →
+    DiskStands sc (h ++ fall_of sc h site i why ∷ []) site (image disk) →
+    IsDown content image meters sc (h ++ fall_of sc h site i why ∷ []) site disk
+fallen_down content image meters sc h site i why disk stands = record {
+  down = up_same h (fall_of sc h site i why) site (self site);
+  stands = stands;
+  blank = λ none. absurd (append_some (own site h) e (sym mine ∙ none));
+  lit = λ none. absurd (append_some (own site h) e (sym mine ∙ none));
+}
+  where
+    e : Entry
+    e = fall_of sc h site i why
+
+    mine : own site (h ++ e ∷ []) ≡ own site h ++ e ∷ []
+    mine = own_same site h e (self site)
+
+-- room is nothing to what a site stands for
+pub room_same : (sc : Scenario) (h : List Entry) (site room : ℕ) (s new : SiteView) → StandsFor sc h site s → new ≡ record s { room = room } →
+    StandsFor sc h site new
+room_same sc h site room s new was is =
+    let P : SiteView → Type 0 = λ v. StandsFor sc h site v in
+    subst P (sym is) (record { weights_are = was.weights_are; site_is = was.site_is; incarnation_is = was.incarnation_is })
+
+still : {D : Type 0} (content : D → List ℕ) (image : D → List ℕ → Type 0) (meters : D → Meters)
+    (sc : Scenario) (h more : List Entry) (site : ℕ) (mid new : State D) → (more ≡ h) × IsIn content image meters sc h site mid → new ≡ mid →
+    IsIn content image meters sc more site new
+still content image meters sc h more site mid new kept same =
+    subst (λ (s : State _). IsIn content image meters sc more site s) (sym same)
+    (subst (λ (l : List Entry). IsIn content image meters sc l site mid) (sym kept.0) kept.1)
+
+-- a node behind an input that it did not take: it fell, or it is as before
+pub input_in : {D : Type 0} (content : D → List ℕ) (image : D → List ℕ → Type 0) (meters : D → Meters)
+    (sc : Scenario) (h more : List Entry) (site : ℕ) (i : Input) (fault : InputFault) (mid new : State D) →
+    (is_fall fault ≡ false → (more ≡ h) × IsIn content image meters sc h site mid) →
+    ((why : Why) → fault ≡ input_fault.Fell why → FellOver sc h site i why more × DiskStands sc more site (image (disk_of mid))) →
+    (is_fall fault ≡ true → new ≡ Down (disk_of mid)) → (is_fall fault ≡ false → new ≡ mid) → IsIn content image meters sc more site new
+input_in content image meters sc h more site i (input_fault.Fell why) mid new kept fell down same =
+    let f = fell why refl in
+    let P : List Entry → Type 0 = λ l. DiskStands sc l site (image (disk_of mid)) in
+    subst (λ (s : State _). IsIn content image meters sc more site s) (sym (down refl))
+    (subst (λ (l : List Entry). IsIn content image meters sc l site (Down (disk_of mid))) (sym f.0.entered)
+    (fallen_down content image meters sc h site i why (disk_of mid) (subst P f.0.entered f.1)))
+input_in content image meters sc h more site i input_fault.Down mid new kept fell down same = still content image meters sc h more site mid new (kept refl) (same refl)
+input_in content image meters sc h more site i input_fault.HistoryFull mid new kept fell down same = still content image meters sc h more site mid new (kept refl) (same refl)
+input_in content image meters sc h more site i input_fault.NoMemory mid new kept fell down same = still content image meters sc h more site mid new (kept refl) (same refl)
+
+pub node_with : {D : Type 0} (content : D → List ℕ) (image : D → List ℕ → Type 0) (meters : D → Meters) (sc now : Scenario) (h more : List Entry)
+    (old new : NodeView D) (state : State D) → NodeStands content image meters sc h old → now ≡ sc → IsIn content image meters sc more old.site state →
+    new ≡ record { site = old.site; weights = old.weights; rows = old.rows; state = state } → NodeStands content image meters now more new
+node_with content image meters sc now h more old new state was same is now_is =
+    subst (λ (s : Scenario). NodeStands content image meters s more new) (sym same)
+    (subst (λ (n : NodeView _). NodeStands content image meters sc more n) (sym now_is) (record {
+      some = was.some;
+      exists = was.exists;
+      weights_are = was.weights_are;
+      rows_are = was.rows_are;
+      state = is;
+    }))
