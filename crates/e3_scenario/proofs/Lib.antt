@@ -4,7 +4,6 @@ pub mod Appends
 pub mod Values
 pub mod Indexes
 pub mod RowKeys
-pub mod OnePath
 pub mod SpelledSets
 pub mod GivenLaws
 pub mod Results

@@ -4,6 +4,5 @@ pub mod Items
 pub mod Documents
 pub mod Faults
 pub mod Steps
-pub mod Paths
 pub mod Scenarios
 pub mod Indexes

@@ -12,7 +12,6 @@ mod judging;
 mod lines;
 mod names;
 mod parts;
-mod paths;
 mod reading;
 mod sayings;
 mod steps;
@@ -22,5 +21,4 @@ mod words;
 
 pub use faults::{Field, ScenarioFault};
 pub use lines::{fault_line, refused_line};
-pub use paths::is_one_write_path;
 pub use reading::read_scenario;

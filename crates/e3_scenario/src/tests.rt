@@ -1,4 +1,4 @@
-use crate::{fault_line, is_one_write_path, read_scenario, refused_line};
+use crate::{fault_line, read_scenario, refused_line};
 use e3_types::{Item, KeyRow, List, NoMemory, SiteSet};
 use std::alloc::{AllocError, Global};
 use std::test::Fail;
@@ -417,13 +417,6 @@ fn three_sites_cut_after_each_byte(rt: HostRuntime) -> Result<(), Fail> {
     Ok(())
 }
 
-fn is_path(alloc: Global, text: &str) -> bool {
-    match read_scenario(alloc, text.as_bytes()) {
-        Ok(scenario) => is_one_write_path(&scenario),
-        Err(_) => false,
-    }
-}
-
 fn is_stop(step: &List<Item>) -> bool {
     match step.as_slice() {
         [Item::Stop { site, count, .. }] => *site == 2 && *count == 30,
@@ -459,18 +452,6 @@ fn are_split_and_stop(steps: &[List<Item>]) -> bool {
 
 #[test]
 fn what_is_read(rt: HostRuntime) -> Result<(), Fail> {
-    assert!(rt;
-        is_path(
-            rt.alloc(),
-            "weights = [1]\nsteps = [\"begin t 1 1\", \"write t 1.x a\", \"commit t\"]"
-        )
-    );
-    assert!(rt;
-        !is_path(
-            rt.alloc(),
-            "weights = [1]\nsteps = [\"begin t 1 1\", \"read t 1.x\"]"
-        )
-    );
     let text =
         "weights = [1, 2, 3]\nrows = [\"3.cid 7\"]\nloss = 4\nrepeat = 5\nluck = 6\nsteps = [\"split 1|2,3\", \"stop 2 30 junk 7\"]";
     let scenario = read_scenario(rt.alloc(), text.as_bytes())?;
