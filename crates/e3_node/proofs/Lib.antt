@@ -5,3 +5,4 @@ pub mod Entering
 pub mod Rises
 pub mod Steps
 pub mod Appends
+pub mod Lone

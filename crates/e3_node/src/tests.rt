@@ -27,6 +27,7 @@ fn lone(alloc: Global) -> Result<Scenario, NoMemory>
 
 // The first rise of the one site over a blank disk of this capacity, of which some calls fail, and then an input for it
 // where it is down. It tells both answers and the number of entries.
+#[tactic(auto, using(crate::proofs::Lone::lone_rising))]
 fn raised(
     alloc: Global,
     most: u32,
@@ -77,9 +78,11 @@ fn a_full_history_has_no_rise(rt: HostRuntime) -> Result<(), Fail> {
 fn a_rise_fails_for_want_of_room_or_over_a_call_that_fails(rt: HostRuntime) -> Result<(), Fail> {
     // the birth's spelling takes 21 bytes and that of the incarnation 5
     let (result, _refused, entries) = raised(rt.alloc(), 8, 31, &[])?;
-    let Err(RiseFault::Failed {
-        why: Why::Full { need, room },
-    }) = result
+    let Err(
+        RiseFault::Failed {
+            why: Why::Full { need, room },
+        },
+    ) = result
     else {
         return Err("it has no room".into());
     };
