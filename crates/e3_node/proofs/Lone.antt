@@ -9,7 +9,7 @@ use Rattle.e3_world.specs.Packets.{sites_to}
 
 pub lone_rising : (sc : Scenario) (h : List Entry) → sc.weights ≡ 1 ∷ [] → h ≡ [] → IsRising sc h 1
 lone_rising sc h ws none =
-    let one : length (1 ∷ []) ≡ 1 = refl in
+    let one : length {A = ℕ} (1 ∷ []) ≡ 1 = refl in
     subst (λ (l : List Entry). IsRising sc l 1) (sym none) (record {
       exists = subst (λ (l : List ℕ). 1 ≤ length l) (sym ws) (omega (arith, one));
       down = refl;
