@@ -5,4 +5,3 @@ pub mod Entering
 pub mod Rises
 pub mod Steps
 pub mod Appends
-pub mod Lone

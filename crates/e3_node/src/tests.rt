@@ -27,7 +27,6 @@ fn lone(alloc: Global) -> Result<Scenario, NoMemory>
 
 // The first rise of the one site over a blank disk of this capacity, of which some calls fail, and then an input for it
 // where it is down. It tells both answers and the number of entries.
-#[tactic(auto, using(crate::proofs::Lone::lone_rising))]
 fn raised(
     alloc: Global,
     most: u32,
