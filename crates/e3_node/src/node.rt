@@ -22,10 +22,10 @@ ghost use Rattle.e3_world.specs.Moves.{log_size, moves_of, own, rise_records, ro
 use crate::rising::{birth_of, risen};
 use crate::stepping::{settle, take_input};
 use crate::{InputFault, RiseFault, Shared, State};
+use core::mem::replace_with;
 use e3_disk::Disk;
 use e3_types::{Act, Entry, Input, List, Row};
 use std::marker::Model;
-use core::mem::replace_with;
 
 /// A site over its disk: its number, the weights of all sites, that of site 1 first, and its first rows in byte order of
 /// their names.

@@ -17,11 +17,11 @@ ghost use Rattle.e3_world.specs.Moves.{log_size, moves_of};
 use crate::drafts::prepare;
 use crate::writing::write;
 use crate::{InputFault, Shared, State};
+use core::mem::replace_with;
 use e3_disk::Disk;
 use e3_log::Log;
 use e3_site::Site;
 use e3_types::Input;
-use core::mem::replace_with;
 
 // A site that is up takes an input: its step is planned, its frame is written, and it is entered; or it falls.
 fn step<D: Disk>(

@@ -77,9 +77,11 @@ fn a_full_history_has_no_rise(rt: HostRuntime) -> Result<(), Fail> {
 fn a_rise_fails_for_want_of_room_or_over_a_call_that_fails(rt: HostRuntime) -> Result<(), Fail> {
     // the birth's spelling takes 21 bytes and that of the incarnation 5
     let (result, _refused, entries) = raised(rt.alloc(), 8, 31, &[])?;
-    let Err(RiseFault::Failed {
-        why: Why::Full { need, room },
-    }) = result
+    let Err(
+        RiseFault::Failed {
+            why: Why::Full { need, room },
+        },
+    ) = result
     else {
         return Err("it has no room".into());
     };

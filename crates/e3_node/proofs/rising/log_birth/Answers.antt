@@ -21,10 +21,10 @@ returns-in-Ok-clause-makes g c = record {
 pub returns-in-Err-clause-makes : goal.returns-in-Err-clause-makes
 returns-in-Err-clause-makes g c =
     let images : (bytes : List _) → g.D.Disk.image c.write.new.log.disk bytes → ReadsWith [] (left_by c.in-Err.why [] c.args.birth.records) bytes =
-        (λ bytes at. subst (λ (rs : List Record). ReadsWith [] (left_by c.in-Err.why [] rs) bytes) c.as_slice.ensures
-            (c.in-Err.ensures.images [] [] c.requires.empty bytes at)) in
+    (λ bytes at. subst (λ (rs : List Record). ReadsWith [] (left_by c.in-Err.why [] rs) bytes) c.as_slice.ensures
+    (c.in-Err.ensures.images [] [] c.requires.empty bytes at)) in
     let reason : IsReason c.in-Err.why 0 c.args.birth.records (g.D.Disk.meters c.args.log.disk) (g.D.Disk.meters c.write.new.log.disk) =
-        subst (λ (rs : List Record). IsReason c.in-Err.why 0 rs (g.D.Disk.meters c.args.log.disk) (g.D.Disk.meters c.write.new.log.disk)) c.as_slice.ensures
-        (c.in-Err.ensures.reason [] c.requires.empty) in
+    subst (λ (rs : List Record). IsReason c.in-Err.why 0 rs (g.D.Disk.meters c.args.log.disk) (g.D.Disk.meters c.write.new.log.disk)) c.as_slice.ensures
+    (c.in-Err.ensures.reason [] c.requires.empty) in
     subst (λ (d : _). ((bytes : List _) → g.D.Disk.image d bytes → ReadsWith [] (left_by c.in-Err.why [] c.args.birth.records) bytes)
-        × IsReason c.in-Err.why 0 c.args.birth.records (g.D.Disk.meters c.args.log.disk) (g.D.Disk.meters d)) (sym c.into_disk.ensures) (images, reason)
+    × IsReason c.in-Err.why 0 c.args.birth.records (g.D.Disk.meters c.args.log.disk) (g.D.Disk.meters d)) (sym c.into_disk.ensures) (images, reason)

@@ -23,8 +23,8 @@ returns-in-Err-clause-makes g c =
     subst (λ (r : State _ × Result (Unit {0}) RiseFault). RiseMakes g.D.Disk.content g.D.Disk.image g.D.Disk.meters c.args.birth c.args.disk r.0 r.1)
     (sym c.refuse.ensures)
     (refused g.D.Disk.content g.D.Disk.image g.D.Disk.meters c.args.birth c.args.disk c.in-Err.refused.disk c.in-Err.refused.cause
-        c.requires.blank c.requires.lit c.in-Err.ensures.images c.in-Err.ensures.same c.in-Err.ensures.durable c.in-Err.ensures.failed
-        (λ bodies reads at is. c.in-Err.ensures.whole bodies reads at is) c.in-Err.ensures.power)
+    c.requires.blank c.requires.lit c.in-Err.ensures.images c.in-Err.ensures.same c.in-Err.ensures.durable c.in-Err.ensures.failed
+    (λ bodies reads at is. c.in-Err.ensures.whole bodies reads at is) c.in-Err.ensures.power)
 
 pub returns-in-Err-clause-keeps : goal.returns-in-Err-clause-keeps
 returns-in-Err-clause-keeps g c =

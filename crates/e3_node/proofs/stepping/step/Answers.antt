@@ -36,17 +36,17 @@ returns-in-Ok-clause-up g c =
     let h = c.args.shared.now.entries in
     let made = draft_made sc h c.args.number c.args.site.now c.args.input c.in_ok-draft.draft c.requires.up.stands c.in_ok-draft.ensures.draft in
     let entered = step_entered c.args.shared.now c.prepare.new.shared c.enter_step.new.self.entries c.args.number c.args.input c.in_ok-draft.draft _ _ made
-        c.in_ok-draft.ensures.shared c.enter_step.ensures.entered in
+    c.in_ok-draft.ensures.shared c.enter_step.ensures.entered in
     let ready = room_same sc h c.args.number _ c.args.site.now c.prepare.new.site c.requires.up.stands c.in_ok-draft.ensures.site in
     let planned : c.in_ok-draft.draft.plan ≡ plan_of c.prepare.new.site c.args.input =
-        c.in_ok-draft.ensures.draft.plan_is ∙ sym (ap (λ (s : SiteView). plan_of s c.args.input) c.in_ok-draft.ensures.site) in
+    c.in_ok-draft.ensures.draft.plan_is ∙ sym (ap (λ (s : SiteView). plan_of s c.args.input) c.in_ok-draft.ensures.site) in
     let logged : Stands g.D.Disk.content g.D.Disk.image (bodies_at sc h c.args.number ++ body_of (made_by sc h c.args.number c.args.input).records) c.write.new.log =
-        subst (λ (rs : List Record). Stands g.D.Disk.content g.D.Disk.image (bodies_at sc h c.args.number ++ body_of rs) c.write.new.log)
-        (c.as_slice.ensures ∙ made.records_are) (c.in-Ok.ensures.stands (moves_of sc h c.args.number) c.requires.up.logged) in
+    subst (λ (rs : List Record). Stands g.D.Disk.content g.D.Disk.image (bodies_at sc h c.args.number ++ body_of rs) c.write.new.log)
+    (c.as_slice.ensures ∙ made.records_are) (c.in-Ok.ensures.stands (moves_of sc h c.args.number) c.requires.up.logged) in
     subst (λ (l : List Entry). IsUp g.D.Disk.content g.D.Disk.image g.D.Disk.meters sc l c.args.number c.apply.new.self c.write.new.log) (sym entered)
     (stepped_up g.D.Disk.content g.D.Disk.image g.D.Disk.meters sc h c.args.number c.args.input c.apply.new.self c.write.new.log c.requires.up.up
-        (site_on sc h c.args.number c.args.input c.prepare.new.site c.apply.new.self c.in_ok-draft.draft.plan ready planned c.apply.ensures.stands)
-        logged c.in-Ok.ensures.lit)
+    (site_on sc h c.args.number c.args.input c.prepare.new.site c.apply.new.self c.in_ok-draft.draft.plan ready planned c.apply.ensures.stands)
+    logged c.in-Ok.ensures.lit)
 
 pub returns-in-Err-clause-fell : goal.returns-in-Err-clause-fell
 returns-in-Err-clause-fell g c = λ why is.
@@ -56,14 +56,14 @@ returns-in-Err-clause-fell g c = λ why is.
     let image = g.D.Disk.image c.write.new.log.disk in
     let made = draft_made sc h c.args.number c.args.site.now c.args.input c.in_ok-draft.draft c.requires.up.stands c.in_ok-draft.ensures.draft in
     let entered = fall_entered c.args.shared.now c.prepare.new.shared more c.args.number c.args.input c.in_ok-draft.draft c.in-Err.why _ _ made
-        c.in_ok-draft.ensures.shared c.enter_fall.ensures.entered in
+    c.in_ok-draft.ensures.shared c.enter_fall.ensures.entered in
     let some : (made_by sc h c.args.number c.args.input).records ≢ [] = (λ none. c.in-Err.ensures.some (c.as_slice.ensures ∙ made.records_are ∙ none)) in
     let over : FellOver sc h c.args.number c.args.input c.in-Err.why more = record { some = some; entered = entered } in
     let stands : DiskStands sc more c.args.number image =
-        subst (λ (l : List Entry). DiskStands sc l c.args.number image) (sym entered)
-        (fallen_disk sc h c.args.number c.args.input c.in-Err.why image (λ bytes at.
-            subst (λ (rs : List Record). ReadsWith (bodies_at sc h c.args.number) (left_by c.in-Err.why (map plain_input (c.args.input ∷ [])) rs) bytes)
-            (c.as_slice.ensures ∙ made.records_are)
-            (c.in-Err.ensures.images (moves_of sc h c.args.number) (map plain_input (c.args.input ∷ [])) c.requires.up.logged bytes at))) in
+    subst (λ (l : List Entry). DiskStands sc l c.args.number image) (sym entered)
+    (fallen_disk sc h c.args.number c.args.input c.in-Err.why image (λ bytes at.
+    subst (λ (rs : List Record). ReadsWith (bodies_at sc h c.args.number) (left_by c.in-Err.why (map plain_input (c.args.input ∷ [])) rs) bytes)
+    (c.as_slice.ensures ∙ made.records_are)
+    (c.in-Err.ensures.images (moves_of sc h c.args.number) (map plain_input (c.args.input ∷ [])) c.requires.up.logged bytes at))) in
     let same : c.in-Err.why ≡ why = cc in
     subst (λ (w : Why). FellOver sc h c.args.number c.args.input w more × DiskStands sc more c.args.number image) same (over, stands)

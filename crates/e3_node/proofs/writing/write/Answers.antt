@@ -23,13 +23,13 @@ returns-in-Err-clause-reason g c = λ moves stands.
     let new = g.D.Disk.meters c.append.new.self.disk in
     subst (λ (w : Why). IsReason w (log_size moves) c.args.records.now old new) (sym c.why_of.ensures)
     (reason_of moves c.args.records.now c.args.body.now c.args.log.now.end old new c.in-Err.fault c.requires.spelled stands.disk.end_is
-        (λ is. c.in-Err.ensures.cause (ap (λ (f : AppendFault). Err f) is) stands.sound)
-        (λ need room is. let only = c.in-Err.ensures.only_full need room (ap (λ (f : AppendFault). Err f) is) in (only.0, only.1, only.2)))
+    (λ is. c.in-Err.ensures.cause (ap (λ (f : AppendFault). Err f) is) stands.sound)
+    (λ need room is. let only = c.in-Err.ensures.only_full need room (ap (λ (f : AppendFault). Err f) is) in (only.0, only.1, only.2)))
 
 pub returns-in-Err-clause-images : goal.returns-in-Err-clause-images
 returns-in-Err-clause-images g c = λ moves inputs stands bytes at.
     subst (λ (w : Why). ReadsWith (bodies_of_moves moves) (left_by w inputs c.args.records.now) bytes) (sym c.why_of.ensures)
     (doubted g.D.Disk.content g.D.Disk.image (bodies_of_moves moves) inputs c.args.records.now c.args.body.now c.args.log.now c.append.new.self
-        c.in-Err.fault c.requires.spelled (some_of c.args.records.now (sym c.is_empty.ensures ∙ c.if-is_empty.false)) stands
-        (c.in-Err.ensures.images (bodies_of_moves moves) stands)
-        (λ need room is. (c.in-Err.ensures.only_full need room (ap (λ (f : AppendFault). Err f) is)).3) bytes at)
+    c.in-Err.fault c.requires.spelled (some_of c.args.records.now (sym c.is_empty.ensures ∙ c.if-is_empty.false)) stands
+    (c.in-Err.ensures.images (bodies_of_moves moves) stands)
+    (λ need room is. (c.in-Err.ensures.only_full need room (ap (λ (f : AppendFault). Err f) is)).3) bytes at)

@@ -18,10 +18,10 @@ returns-in-Err-clause-stands g c =
     let h = c.args.shared.now.entries in
     let more = c.take_input.new.shared.entries in
     let now : IsIn g.D.Disk.content g.D.Disk.image g.D.Disk.meters sc more c.self.inside.site c.settle.new.state =
-        input_in g.D.Disk.content g.D.Disk.image g.D.Disk.meters sc h more c.self.inside.site c.args.input c.in-Err.fault c.take_input.new.state c.settle.new.state
-        (λ none. let k = c.in-Err.ensures.kept c.in-Err.fault refl none in (k.0, k.2))
-        (λ why is. c.in-Err.ensures.fell why (ap (λ (f : InputFault). Err f) is))
-        c.settle.ensures.fell c.settle.ensures.kept in
+    input_in g.D.Disk.content g.D.Disk.image g.D.Disk.meters sc h more c.self.inside.site c.args.input c.in-Err.fault c.take_input.new.state c.settle.new.state
+    (λ none. let k = c.in-Err.ensures.kept c.in-Err.fault refl none in (k.0, k.2))
+    (λ why is. c.in-Err.ensures.fell why (ap (λ (f : InputFault). Err f) is))
+    c.settle.ensures.fell c.settle.ensures.kept in
     node_with g.D.Disk.content g.D.Disk.image g.D.Disk.meters sc c.take_input.new.shared.scenario h more c.args.self.now _ c.settle.new.state c.requires.standing
     c.take_input.ensures.same.0
     (subst (λ (x : NodeView _). IsIn g.D.Disk.content g.D.Disk.image g.D.Disk.meters sc more x.site c.settle.new.state) c.self.view_is now)

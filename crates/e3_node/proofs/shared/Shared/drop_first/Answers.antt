@@ -21,4 +21,4 @@ returns-clause-stands c =
     (ap (λ (x : SharedView). x.scenario) same) (ap (λ (x : SharedView). x.most) same)
     (c.push.ensures.entries ∙ ap (λ (x : SharedView). x.entries ++ record { owner = 0; act = Drop c.args.packet.now.number } ∷ []) same)
     (net_drop c.args.self.now.scenario c.args.self.now.entries c.args.self.now.traffic c.take-taken.new.self.traffic c.args.packet.now c.requires.standing.net c.requires.first
-        (c.take-taken.ensures.traffic ∙ ap (λ (x : SharedView). takes c.args.packet.now.to x.traffic) same))
+    (c.take-taken.ensures.traffic ∙ ap (λ (x : SharedView). takes c.args.packet.now.to x.traffic) same))

@@ -18,5 +18,5 @@ returns-clause-stands c =
     (ap (λ (x : SharedView). x.scenario) c.self.view_is) (ap (λ (x : SharedView). x.most) c.self.view_is)
     (c.push.ensures.entries ∙ ap (λ (x : SharedView). x.entries ++ c.args.entry ∷ []) c.self.view_is)
     (subst (λ (n : Traffic). NetStands c.args.self.now.scenario (c.args.self.now.entries ++ c.args.entry ∷ []) n)
-        (sym (ap (λ (x : SharedView). x.traffic) c.self.view_is))
-        (quiet_keeps c.args.self.now.scenario c.args.self.now.entries c.args.self.now.traffic c.args.entry c.requires.standing.net c.requires.quiet))
+    (sym (ap (λ (x : SharedView). x.traffic) c.self.view_is))
+    (quiet_keeps c.args.self.now.scenario c.args.self.now.entries c.args.self.now.traffic c.args.entry c.requires.standing.net c.requires.quiet))

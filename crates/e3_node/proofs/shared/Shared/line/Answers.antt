@@ -19,6 +19,6 @@ returns-clause-stands c =
     (ap (λ (x : SharedView). x.scenario) same) (ap (λ (x : SharedView). x.most) same)
     (c.push.ensures.entries ∙ ap (λ (x : SharedView). x.entries ++ record { owner = 0; act = Line c.args.number } ∷ []) same)
     (net_line c.args.self.now.scenario c.args.self.now.entries c.args.self.now.traffic c.calm.new.self.traffic c.args.number c.is_calm_at-calm.result
-        c.requires.standing.net c.requires.due.next
-        (c.is_calm_at-calm.ensures ∙ ap (λ (x : SharedView). is_calm (step_items x.scenario c.args.number)) same)
-        (c.calm.ensures.traffic ∙ ap (λ (x : SharedView). let n : Traffic = record x.traffic { calm = c.is_calm_at-calm.result } in n) same))
+    c.requires.standing.net c.requires.due.next
+    (c.is_calm_at-calm.ensures ∙ ap (λ (x : SharedView). is_calm (step_items x.scenario c.args.number)) same)
+    (c.calm.ensures.traffic ∙ ap (λ (x : SharedView). let n : Traffic = record x.traffic { calm = c.is_calm_at-calm.result } in n) same))
