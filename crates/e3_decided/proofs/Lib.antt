@@ -13,3 +13,4 @@ pub mod Erasing
 pub mod Facing
 pub mod Reporting
 pub mod Binding
+pub mod Single

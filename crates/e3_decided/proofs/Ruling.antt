@@ -1,5 +1,6 @@
 -- Each rule of a step tells only what stands in the site's log with the step.
-use Rattle.std.proofs.Common.{◌≡◌, inl, inr, ◌∷◌, [], ◌++◌, ◌==◌, ◌&&◌, ◌||◌, ℕ, suc, Bool, true, false, List, map, Option, Some, None, refl, sym, ap, subst, ◌∙◌, if◌then◌else◌, nat_lt}
+use Rattle.std.proofs.Common.{arith, eqb-true, ◌≡◌, inl, inr, ◌∷◌, [], ◌++◌, ◌==◌, ◌&&◌, ◌||◌, ℕ, suc, Bool, true, false, List, map, Option, Some, None, refl, sym, ap, subst, ◌∙◌, if◌then◌else◌, nat_lt}
+use Rattle.std.proofs.lemmas.Bool.{and_parts}
 use Rattle.std.specs.Prelude.{nat_le}
 use Rattle.std.specs.List.{list_any}
 use Rattle.e3_types.specs.declared.entries.Told.TheVariants as told
@@ -7,6 +8,7 @@ use Rattle.e3_types.specs.declared.locks.Grant.{Grant}
 use Rattle.e3_types.specs.declared.locks.Grant.TheVariants.{Held, Waits, Dies}
 use Rattle.e3_types.specs.declared.messages.Message.{Message}
 use Rattle.e3_types.specs.declared.messages.Message.TheVariants as msg
+use Rattle.e3_types.specs.declared.messages.Packet.{Packet}
 use Rattle.e3_types.specs.declared.records.Record.TheVariants as log
 use Rattle.e3_types.specs.declared.transactions.Answer.{Answer}
 use Rattle.e3_types.specs.declared.transactions.Call.{Call}
@@ -21,7 +23,7 @@ use Rattle.e3_types.specs.declared.verdicts.Verdict.{Verdict}
 use Rattle.e3_types.specs.declared.verdicts.Verdict.TheVariants as verdict
 use Rattle.e3_types.specs.Locks.{lock_grant}
 use Rattle.e3_types.specs.Quorums.{is_quorum}
-use Rattle.e3_types.specs.Same.{same_dir, same_state}
+use Rattle.e3_types.specs.Same.{same_dir, same_state, same_txn}
 use Rattle.e3_types.specs.Sets.{has_site, is_within, others}
 use Rattle.e3_types.specs.Verdicts.{verdict_of}
 use Rattle.e3_world.specs.declared.gatherings.Election.{Election}
@@ -46,8 +48,9 @@ use Rattle.e3_protocol.specs.Rules.{Report, Reply, Came}
 use Rattle.e3_protocol.specs.Verdicts.{status_in, reply_of, FinalIn, Rules}
 use Rattle.e3_refine.specs.Rows.{Here, Stands}
 use Rattle.e3_refine.proofs.Elections.{cast_records}
+use Rattle.e3_refine.proofs.Lists.{same_is}
 use Rattle.e3_refine.proofs.Gathered.{NumberedOk, ElectionOk, take_ok, election_stands}
-use Rattle.e3_decided.proofs.Saying.{is_quiet, Tells, tells_nothing, stood_more, tells_record, tells_tell, tells_send, tells_cast, one_said, tells_decide, tells_decided, tells_abort, tells_abort_for, tells_attempt, tells_vote, tells_do}
+use Rattle.e3_decided.proofs.Saying.{one_if, ReportsOnce, is_quiet, Tells, tells_nothing, stood_more, tells_record, tells_tell, tells_send, tells_cast, one_said, tells_decide, tells_decided, tells_abort, tells_abort_for, tells_attempt, tells_vote, tells_do}
 use Rattle.e3_decided.proofs.Finding.{final_found, verdict_stands, rules_of}
 
 abbrev dies : At → Txn → ℕ → Made → Txn → Bool → Made
@@ -61,7 +64,7 @@ by_grant a u n op made (Dies older) = dies a u n made older (is_coordinator a u)
 
 tells_dies : (a : At) (made : Made) (u : Txn) (n : ℕ) (older : Txn) (b : Bool) → Tells a made → Tells a (dies a u n made older b)
 tells_dies a made u n older true t = tells_abort_for a made u (told.Died u older) t refl
-tells_dies a made u n older false t = tells_send a (and_decide a u Abort made) u.site (msg.Died u n older) (tells_decide a made u Abort t) (λ q. refl)
+tells_dies a made u n older false t = tells_send a (and_decide a u Abort made) u.site (msg.Died u n older) (tells_decide a made u Abort t) (λ q. refl) (λ v k. refl)
 
 tells_grant : (a : At) (made : Made) (u : Txn) (n : ℕ) (op : Op) (g : Grant) → Tells a made → Tells a (by_grant a u n op made g)
 tells_grant a made u n op Held t = tells_do a made u n op t
@@ -81,10 +84,10 @@ tells_asked a made f u n op t = by (state_now a u made) refl
         (list_any (same_asked (record { txn = u; n = n; op = op })) (waiting a.site (log_now a made) a.life.steps))
         (lock_grant (record { txn = u; mode = mode_of op }) (holders a.site (key_of op).name (log_now a made) a.life.steps)
         (queue (key_of op).name (waiting a.site (log_now a made) a.life.steps))))
-    answered (answer ∷ more) state is = rw (state, is) (tells_send a made u.site (msg.Done u n a.life.inc answer) t (λ q. refl))
+    answered (answer ∷ more) state is = rw (state, is) (tells_send a made u.site (msg.Done u n a.life.inc answer) t (λ q. refl) (λ v k. refl))
 
     by : (st : State) → state_now a u made ≡ st → Tells a (on_do a f u n op made)
-    by A state = rw state (tells_send a made f (msg.Vote u false) t (λ q. refl))
+    by A state = rw state (tells_send a made f (msg.Vote u false) t (λ q. refl) (λ v k. refl))
     by Q state = answered (answers (record { txn = u; n = n; op = op }) a.life.steps) state refl
     by W state = rw state t
     by Pc state = rw state t
@@ -137,12 +140,12 @@ tells_vote_req : (a : At) (made : Made) (f : ℕ) (u : Txn) (inc count : ℕ) �
 tells_vote_req a made f u inc count t = by (state_now a u made) (elected_now a u made == 1) refl refl
   where
     say : (b : Bool) → state_now a u made ≡ Q → (elected_now a u made == 1) ≡ true → vote_rule a u inc count made ≡ b → Tells a (on_vote_req a f u inc count made)
-    say true is one rule = rw (is, one, rule) (tells_send a (and_vote a u made) f (msg.Vote u true) (tells_vote a made u t) (λ q. refl))
-    say false is one rule = rw (is, one, rule) (tells_send a (and_decide a u Abort made) f (msg.Vote u false) (tells_decide a made u Abort t) (λ q. refl))
+    say true is one rule = rw (is, one, rule) (tells_send a (and_vote a u made) f (msg.Vote u true) (tells_vote a made u t) (λ q. refl) (λ v k. refl))
+    say false is one rule = rw (is, one, rule) (tells_send a (and_decide a u Abort made) f (msg.Vote u false) (tells_decide a made u Abort t) (λ q. refl) (λ v k. refl))
 
     by : (st : State) (b : Bool) → state_now a u made ≡ st → (elected_now a u made == 1) ≡ b → Tells a (on_vote_req a f u inc count made)
-    by A b is one = rw is (tells_send a made f (msg.Vote u false) t (λ q. refl))
-    by W true is one = rw (is, one) (tells_send a made f (msg.Vote u true) t (λ q. refl))
+    by A b is one = rw is (tells_send a made f (msg.Vote u false) t (λ q. refl) (λ v k. refl))
+    by W true is one = rw (is, one) (tells_send a made f (msg.Vote u true) t (λ q. refl) (λ v k. refl))
     by Q true is one = say (vote_rule a u inc count made) is one refl
     by W false is one = rw (is, one) t
     by Q false is one = rw (is, one) t
@@ -171,8 +174,8 @@ tells_pre : (a : At) (made : Made) (f : ℕ) (u : Txn) (n : ℕ) (d : Dir) → T
 tells_pre a made f u n d t = by (open_now a u made && elected_now a u made == n) refl
   where
     tries : (c : Bool) → Tells a (and_send a f (msg.Ack u n d) (if c then made else and_record (log.Attempt u n d) made))
-    tries true = tells_send a made f (msg.Ack u n d) t (λ q. refl)
-    tries false = tells_send a (and_record (log.Attempt u n d) made) f (msg.Ack u n d) (tells_record a made (log.Attempt u n d) t) (λ q. refl)
+    tries true = tells_send a made f (msg.Ack u n d) t (λ q. refl) (λ v k. refl)
+    tries false = tells_send a (and_record (log.Attempt u n d) made) f (msg.Ack u n d) (tells_record a made (log.Attempt u n d) t) (λ q. refl) (λ v k. refl)
 
     by : (b : Bool) → (open_now a u made && elected_now a u made == n) ≡ b → Tells a (on_pre a f u n d made)
     by true is = rw is (tries (attempt_now a u made == n))
@@ -183,7 +186,7 @@ tells_ack : (a : At) (made : Made) (f : ℕ) (u : Txn) (n : ℕ) (d : Dir) → T
 tells_ack a made f u n d t = by (round_in_progress a.site u a.life.steps) refl
   where
     decides : (r : Round) (b : Bool) → Tells a (if b then and_cast a r.to (msg.Decide u d) (and_decide a u d made) else made)
-    decides r true = tells_cast a r.to (msg.Decide u d) (and_decide a u d made) (tells_decide a made u d t)
+    decides r true = tells_cast a r.to (msg.Decide u d) (and_decide a u d made) (λ v k. refl) (tells_decide a made u d t)
     decides r false = t
 
     by : (o : Option Round) → round_in_progress a.site u a.life.steps ≡ o → Tells a (on_ack a f u n d made)
@@ -221,9 +224,9 @@ tells_verdict a made u n group reports t stands = by (verdict_of a.weights u.sit
 
     decided : (d : Dir) (v : Verdict) → said_told (told.Verdict u n v) ≡ says u d → FinalIn (map reply_of reports) d → (b : Bool) → may_decide a u d (more v) ≡ b
         → Tells a (and_cast a group (msg.Decide u d) (if b then and_decide a u d (more v) else more v))
-    decided d v one final true may = tells_cast a group (msg.Decide u d) (and_decide a u d (more v)) (tells_decided a made u d (told.Verdict u n v) t one)
+    decided d v one final true may = tells_cast a group (msg.Decide u d) (and_decide a u d (more v)) (λ w k. refl) (tells_decided a made u d (told.Verdict u n v) t one)
     decided d v one final false may =
-        tells_cast a group (msg.Decide u d) (more v) (tells_tell a made (told.Verdict u n v) t
+        tells_cast a group (msg.Decide u d) (more v) (λ w k. refl) (tells_tell a made (told.Verdict u n v) t
         (λ s k. one_said (log_now a made) u d (stands d final (sym (same_may v d) ∙ may)) s (subst (λ z. IsIn s z) one k)))
 
     by : (v : Verdict) → verdict_of a.weights u.sites reports ≡ v → Rules a.weights u.sites reports (verdict_of a.weights u.sites reports) → Tells a (and_verdict a u n group reports made)
@@ -258,7 +261,7 @@ tells_join a made u e t = by (all_heard e && nat_lt (greatest_heard e) 429496729
     said = and_cast a e.group (msg.Elected u n) joined
 
     said_tells : Tells a said
-    said_tells = tells_cast a e.group (msg.Elected u n) joined (tells_record a made (log.Join u n) t)
+    said_tells = tells_cast a e.group (msg.Elected u n) joined (λ v k. refl) (tells_record a made (log.Join u n) t)
 
     final : (d : Dir) → FinalIn (map reply_of (report ∷ [])) d → IsIn (log.Decision u d) (log_now a said)
     final d (r, inl same, is) =
@@ -287,13 +290,26 @@ tells_last a made f u call number t = by (election_in_progress a.site a.life.inc
     by None is = rw is t
     by (Some e) is = hears e is (hear e f call number) refl
 
--- a greater number of another site's election
-pub tells_elected : (a : At) (made : Made) (f : ℕ) (u : Txn) (n : ℕ) → (f == a.site) ≡ false → Tells a made → Tells a (on_elected a f u n made)
-tells_elected a made f u n away t = by (nat_lt (elected_now a u made) n) refl
+-- a greater number of another site's election: the site joins it and reports, which nothing did before it in the step
+pub tells_elected : (a : At) (f : ℕ) (u : Txn) (n : ℕ) → (f == a.site) ≡ false → Tells a (on_elected a f u n nothing)
+tells_elected a f u n away = by (nat_lt (elected_now a u nothing) n) refl
   where
-    by : (b : Bool) → nat_lt (elected_now a u made) n ≡ b → Tells a (on_elected a f u n made)
-    by true is = rw is (tells_send a (and_record (log.Join u n) made) f (msg.Report u n (state_now a u made) (attempt_now a u made)) (tells_record a made (log.Join u n) t) (λ q. cc))
-    by false is = rw is t
+    report : Packet
+    report = record { number = 0; «from» = a.site; to = f; msg = msg.Report u n (state_now a u nothing) (attempt_now a u nothing) }
+
+    once : (t : Txn) (k : ℕ) → ReportsOnce t k (report ∷ []) (log.Join u n ∷ [])
+    once t k = go (k == n && same_txn t u) refl
+      where
+        go : (b : Bool) → (k == n && same_txn t u) ≡ b → ReportsOnce t k (report ∷ []) (log.Join u n ∷ [])
+        go false is = inl (let none : one_if (k == n && same_txn t u) ≡ 0 = ap (λ b. one_if b) is in omega (arith, none))
+        go true is =
+            let p = and_parts (k == n) (same_txn t u) is in
+            let one : one_if (k == n && same_txn t u) ≡ 1 = ap (λ b. one_if b) is in
+            inr (omega (arith, one), inl (ap (λ z. log.Join t z) (eqb-true k n p.0) ∙ ap (λ v. log.Join v n) (same_is t u p.1)))
+
+    by : (b : Bool) → nat_lt (elected_now a u nothing) n ≡ b → Tells a (on_elected a f u n nothing)
+    by true is = rw (is, away) (record { told = λ e k. absurd k; own = refl; once = once })
+    by false is = rw is (tells_nothing a)
 
 -- a report to the elector
 pub tells_report : (h : Here) (n : ℕ) (r : SiteReport) → Stands h → has_site h.txn.sites h.at.site ≡ true → Came h.before.sent r.site h.at.site (Report n (status_in r.state) r.attempt)

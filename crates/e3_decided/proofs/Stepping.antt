@@ -57,9 +57,9 @@ tells_delivery a before packet all is z says = by z says
     took t = subst (λ i. WasHeard (seen a before t) i) is (all t).taken
 
     by : (z : Message) → packet.msg ≡ z → Tells a (on_message a f z nothing)
-    by (msg.Ask u call) says = tells_send a nothing f (msg.LastElected u call (elected_now a u nothing)) (tells_nothing a) (λ q. (let apart : (f == a.site) ≡ false = away u in cc))
+    by (msg.Ask u call) says = tells_send a nothing f (msg.LastElected u call (elected_now a u nothing)) (tells_nothing a) (λ q. (let apart : (f == a.site) ≡ false = away u in cc)) (λ v k. refl)
     by (msg.LastElected u call number) says = tells_last a nothing f u call number (tells_nothing a)
-    by (msg.Elected u n) says = tells_elected a nothing f u n (away u) (tells_nothing a)
+    by (msg.Elected u n) says = tells_elected a f u n (away u)
     by (msg.Report u n st attempt) says =
         let word : Word = Report n (status_in st) attempt in
         let came : Came (before u).sent f a.site word =
@@ -85,7 +85,7 @@ tells_asks : (a : At) (u : Txn) (sites : List ℕ) (made : Made) → Tells a mad
 tells_asks a u [] made t = t
 tells_asks a u (s ∷ sites) made t =
     let e : Expected = expected a.site a.life.inc u a.life.steps s in
-    tells_asks a u sites (and_ask a u made s) (tells_send a made s (msg.VoteReq u e.inc e.count) t (λ q. refl))
+    tells_asks a u sites (and_ask a u made s) (tells_send a made s (msg.VoteReq u e.inc e.count) t (λ q. refl) (λ v k. refl))
 
 tells_commit : (a : At) (u : Txn) → Tells a (on_commit a u nothing)
 tells_commit a u = by (elected_now a u nothing == 1) refl
@@ -116,7 +116,7 @@ tells_expire a u = by (may_abort a u nothing) (state_now a u nothing) refl refl
 tells_elect : (a : At) (u : Txn) (group : List ℕ) → Tells a (on_elect a u group nothing)
 tells_elect a u group =
     let e : Election = begun a.site (next_call a.life.inc a.life.steps) group (elected_now a u nothing) in
-    tells_join a (and_cast a group (msg.Ask u e.call) nothing) u e (tells_cast a group (msg.Ask u e.call) nothing (tells_nothing a))
+    tells_join a (and_cast a group (msg.Ask u e.call) nothing) u e (tells_cast a group (msg.Ask u e.call) nothing (λ v k. refl) (tells_nothing a))
 
 -- each input
 tells_input : (a : At) (before : Txn → Situation) → ((t : Txn) → Stands (seen a before t)) → Keeps a → (i : Input) → a.input ≡ i → Tells a (on_input a i nothing)
@@ -124,7 +124,7 @@ tells_input a before all keeps (input.Begin sites) is =
     tells_tell a nothing (told.Began (record { site = a.site; inc = a.life.inc; seq = suc (count_by is_begin a.life.steps); sites = sites })) (tells_nothing a) (λ s k. absurd k)
 tells_input a before all keeps (input.Do u op) is =
     tells_refused a u false (and_send a (key_of op).site (msg.Do u (suc (length (issued u a.life.steps))) op) nothing) keeps
-    (tells_send a nothing (key_of op).site (msg.Do u (suc (length (issued u a.life.steps))) op) (tells_nothing a) (λ q. refl))
+    (tells_send a nothing (key_of op).site (msg.Do u (suc (length (issued u a.life.steps))) op) (tells_nothing a) (λ q. refl) (λ v k. refl))
 tells_input a before all keeps (input.Commit u) is = tells_refused a u false (on_commit a u nothing) keeps (tells_commit a u)
 tells_input a before all keeps (input.Cancel u) is = tells_refused a u true _ keeps (tells_abort a nothing u (tells_nothing a))
 tells_input a before all keeps (input.Expire u) is = tells_expire a u
@@ -141,7 +141,7 @@ tells_settle : (a : At) (k : ℕ) (made : Made) → Tells a made → Tells a (se
 tells_settle a zero made t = t
 tells_settle a (suc k) made t =
     tells_settle a k (fold (handled a) (record made { own = [] }) made.own)
-    (tells_each a made.own (record made { own = [] }) (record { told = t.told; own = refl }) t.own)
+    (tells_each a made.own (record made { own = [] }) (record { told = t.told; own = refl; once = t.once }) t.own)
 
 -- the whole step
 pub tells_step : (a : At) (before : Txn → Situation) → ((t : Txn) → Stands (seen a before t)) → Keeps a → Tells a (step_at a)

@@ -1,5 +1,5 @@
 -- What the elections, the attempts and the decisions of every legal history keep: what makes agreement survive recovery.
-use Rattle.std.specs.Prelude.{◌≡◌, ◌<◌, ◌≤◌, ◌⊎◌, ◌++◌, ◌∷◌, ℕ, true, List, Contains}
+use Rattle.std.specs.Prelude.{◌≡◌, ◌<◌, ◌≤◌, ◌==◌, ◌&&◌, ◌⊎◌, ◌++◌, ◌∷◌, ℕ, Bool, true, false, List, count_by, Contains}
 use Rattle.e3_types.specs.declared.entries.Entry.{Entry}
 use Rattle.e3_types.specs.declared.messages.Message.{Message}
 use Rattle.e3_types.specs.declared.messages.Message.TheVariants as msg
@@ -12,6 +12,7 @@ use Rattle.e3_types.specs.declared.transactions.Dir.TheVariants.{Abort, Commit}
 use Rattle.e3_types.specs.declared.transactions.NumOp.{NumOp}
 use Rattle.e3_types.specs.declared.transactions.State.{State}
 use Rattle.e3_types.specs.declared.transactions.Txn.{Txn}
+use Rattle.e3_types.specs.Same.{same_txn}
 use Rattle.e3_world.specs.Given.{IsGiven}
 use Rattle.e3_world.specs.Legal.{IsLegal}
 use Rattle.e3_world.specs.Logs.{last_elected, last_attempt, has_voted, state_of}
@@ -31,6 +32,19 @@ StandsBehind sc h s before r = (after : List Record) × (log_of sc h s ≡ befor
 -- the site sent this message
 abbrev pub HasSent : List Entry → ℕ → Message → Type 0
 HasSent h s m = (packet : Packet) × Contains (sent h) packet × (packet.«from» ≡ s) × (packet.msg ≡ m)
+
+-- the message is a report for this number of the transaction
+abbrev pub is_report_for : Txn → ℕ → Message → Bool
+is_report_for t n (msg.Report u m st attempt) = n == m && same_txn t u
+is_report_for t n _ = false
+
+-- the packet has one
+abbrev pub reports_in : Txn → ℕ → Packet → Bool
+reports_in t n packet = is_report_for t n packet.msg
+
+-- the packet has one, and is of this site
+abbrev pub reports_of : ℕ → Txn → ℕ → Packet → Bool
+reports_of s t n packet = packet.«from» == s && reports_in t n packet
 
 -- the number was tried with this direction: a log has the attempt, or a site asked for it or acknowledged it
 pub data IsTried (sc : Scenario) (h : List Entry) (t : Txn) (n : ℕ) (d : Dir) : Type 0 where
@@ -66,6 +80,10 @@ NumbersRise = (sc : Scenario) (h : List Entry) (t : Txn) (s n : ℕ) (before : L
 abbrev pub ElectorsReportNothing : Type 0
 ElectorsReportNothing = (sc : Scenario) (h : List Entry) (t : Txn) (s n : ℕ) (st : State) (a : ℕ) → IsGiven sc → IsLegal sc h →
     HasSent h s (msg.Elected t n) → HasSent h s (msg.Report t n st a) → ⊥
+
+-- A site reports at most once for a number.
+abbrev pub ReportsAreOnce : Type 0
+ReportsAreOnce = (sc : Scenario) (h : List Entry) (t : Txn) (s n : ℕ) → IsGiven sc → IsLegal sc h → count_by (reports_of s t n) (sent h) ≤ 1
 
 -- A site attempts the number that it joined last, or 1, and each number once.
 abbrev pub AttemptsFollowJoins : Type 0

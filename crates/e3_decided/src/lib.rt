@@ -2,7 +2,7 @@
 //! and what was told stands.
 #![tactic(auto)]
 
-ghost use Rattle.e3_decided.specs.Facts.{NumbersRise, ElectorsReportNothing, AttemptsFollowJoins, AttemptsStayBelow, OneDirectionPerNumber, ReportsTellThePast, ReportsHold, QuorumBindsLater, PreCommitHasVotes, PreCommitBarsRefusals, CommitHasQuorum, AbortHasReason};
+ghost use Rattle.e3_decided.specs.Facts.{NumbersRise, ElectorsReportNothing, ReportsAreOnce, AttemptsFollowJoins, AttemptsStayBelow, OneDirectionPerNumber, ReportsTellThePast, ReportsHold, QuorumBindsLater, PreCommitHasVotes, PreCommitBarsRefusals, CommitHasQuorum, AbortHasReason};
 ghost use Rattle.e3_decided.specs.Claims.{HistoriesAgree, HistoriesTell, HistoriesToldStand, HistoriesVote, ItemsAreFit};
 
 /// No two decisions of one transaction differ, and each commit has every vote before it, in any legal history of a
@@ -19,11 +19,11 @@ pub fn histories_agree()
 
 /// What makes a decision survive any recovery, in any legal history of a scenario that keeps its rules: a number is tried in
 /// one direction, what a quorum tried binds each greater number, and a decision has a quorum that tried it, or, if it is an
-/// abort, a site that refused or a coordinator that called off. It speaks of the logs and of the packets that were sent;
-/// that a site reports once for a number is not said.
+/// abort, a site that refused or a coordinator that called off. It speaks of the logs and of the packets that were sent.
 pub fn elections_bind()
     ensures numbers_rise { NumbersRise }
     ensures electors_report_nothing { ElectorsReportNothing }
+    ensures reports_are_once { ReportsAreOnce }
     ensures attempts_follow_joins { AttemptsFollowJoins }
     ensures attempts_stay_below { AttemptsStayBelow }
     ensures one_direction { OneDirectionPerNumber }

@@ -4,6 +4,7 @@ use Rattle.e3_refine.proofs.Voting.{contains_from_in}
 use Rattle.e3_types.specs.declared.records.Record.TheVariants as log
 use Rattle.e3_decided.proofs.Facing.{join_fits, attempt_fits, attempts_below}
 use Rattle.e3_decided.proofs.Binding.{lifted, ordered, elector_silent, tried_one, quorum_binds, report_tells, report_holds, commit_voted, commit_bars, commit_quorum, abort_reason}
+use Rattle.e3_decided.proofs.Single.{reports_once}
 use Rattle.e3_decided.proofs.elections_bind.Goals as goal
 
 pub returns-clause-numbers_rise : goal.returns-clause-numbers_rise
@@ -12,6 +13,9 @@ returns-clause-numbers_rise c = λ sc h t s n before given legal stands.
 
 pub returns-clause-electors_report_nothing : goal.returns-clause-electors_report_nothing
 returns-clause-electors_report_nothing c = λ sc h t s n st a given legal called reported. elector_silent sc h t s n st a (lifted sc h t given legal) called reported
+
+pub returns-clause-reports_are_once : goal.returns-clause-reports_are_once
+returns-clause-reports_are_once c = reports_once
 
 pub returns-clause-attempts_follow_joins : goal.returns-clause-attempts_follow_joins
 returns-clause-attempts_follow_joins c = λ sc h t s n d before given legal stands.
