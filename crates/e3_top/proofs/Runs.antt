@@ -1,5 +1,11 @@
 -- What a run over a legal history keeps, and which text is due.
-use Rattle.std.proofs.Common.{◌≡◌, ◌≢◌, ◌≤◌, ◌<◌, ◌⊎◌, inl, inr, ℕ, Bool, List, [], length, Option, Ok, Err, refl, arith, String, Global}
+use Rattle.std.proofs.Common.{◌≡◌, ◌≢◌, ◌≤◌, ◌<◌, ◌⊎◌, inl, inr, ℕ, Bool, true, false, List, [], length, Option, Ok, Err, refl, sym, subst, ◌∙◌, arith, nat_le, String, Global}
+use Rattle.std.specs.Io.KnownBytes.{IsAtEnd}
+use Rattle.std.specs.Prelude.{IfOk, Result}
+use Rattle.e3_types.specs.declared.list.NoMemory.{NoMemory}
+use Rattle.e3_top.specs.declared.preparing.Due.{Due}
+use Rattle.e3_top.specs.declared.preparing.Stop.{Stop}
+use Rattle.std.proofs.lemmas.Bool.{leb-true}
 use Rattle.e3_decided.proofs.Histories.{given_agrees, given_voted}
 use Rattle.e3_decided.proofs.Standing.{given_stands}
 use Rattle.e3_play.specs.Played.{IsPlayed, IsFull}
@@ -7,10 +13,12 @@ use Rattle.e3_report.specs.Report.{report_of}
 use Rattle.e3_scenario.specs.Faults.{fault_text}
 use Rattle.e3_scenario.specs.Scenarios.{scenario_of, refused_text}
 use Rattle.e3_scenario.specs.declared.faults.ScenarioFault.{ScenarioFault}
+use Rattle.e3_scenario.specs.declared.faults.ScenarioFault.TheVariants as fault
 use Rattle.e3_top.specs.Due.{IsDue, IsNoScenario, IsNotBuilt, IsRunOf}
-use Rattle.e3_top.specs.Ends.{IsHistoryOf, IsPrepared}
+use Rattle.e3_top.specs.Ends.{IsPrepared}
 use Rattle.e3_top.specs.Words.{IsRun, refused_words, refused_history_full}
 use Rattle.e3_words.specs.Words.{Spell}
+use Rattle.e3_words.specs.declared.words.Command.{Command}
 use Rattle.e3_words.specs.declared.words.Command.TheVariants.{Run}
 use Rattle.e3_types.specs.declared.entries.Entry.{Entry}
 use Rattle.e3_types.specs.declared.scenarios.Scenario.{Scenario}
@@ -118,3 +126,50 @@ status_run prepared (inr (inr (inl e))) = absurd (known prepared.due.known e)
     known (inl low) e = omega (arith, low, e)
     known (inr six) e = omega (arith, six, e)
 status_run prepared (inr (inr (inr e))) = (prepared.due.history_full e).run
+
+-- bytes that spell a scenario are fewer than a run takes at most
+few_bytes : (bytes : List ℕ) (sc : Scenario) → scenario_of bytes ≡ Ok sc → length bytes < 4194305
+few_bytes bytes sc spelled = by (nat_le (length bytes) 4194304) refl
+  where
+    by : (b : Bool) → nat_le (length bytes) 4194304 ≡ b → length bytes < 4194305
+    by true is = let low = leb-true (length bytes) 4194304 is in omega (arith, low)
+    by false is = absurd (let long : scenario_of bytes ≡ Err fault.TooLong = rw is refl in cc)
+
+-- where the text was written the status is that of the text
+same_status : {P : Type 0} {status due : ℕ} → (status ≢ 4 → (status ≡ due) × P) → status ≢ 4 → due ≡ status
+same_status written other = sym (written other).0
+
+-- 0, 2, 3 and 6 come for words that ask for a run alone
+pub finished_run : {P : Type 0} {words : List (String Global)} {had left : Option (List ℕ)} {most due : ℕ} {history : List Entry} {text : List ℕ} (status : ℕ) →
+    IsPrepared words had left most due history text → (status ≢ 4 → (status ≡ due) × P) →
+    (status ≡ 0) ⊎ (status ≡ 2) ⊎ (status ≡ 3) ⊎ (status ≡ 6) → IsRun words
+finished_run status prepared written (inl e) = status_run prepared (inl (same_status written (λ four. omega (arith, e, four)) ∙ e))
+finished_run status prepared written (inr (inl e)) = status_run prepared (inr (inl (same_status written (λ four. omega (arith, e, four)) ∙ e)))
+finished_run status prepared written (inr (inr (inl e))) = status_run prepared (inr (inr (inl (same_status written (λ four. omega (arith, e, four)) ∙ e))))
+finished_run status prepared written (inr (inr (inr e))) = status_run prepared (inr (inr (inr (same_status written (λ four. omega (arith, e, four)) ∙ e))))
+
+-- with 0 and 6 nothing of the source is left
+pub drained_run : {P : Type 0} {words : List (String Global)} {had left : Option (List ℕ)} {most due : ℕ} {history : List Entry} {text : List ℕ} (status : ℕ) →
+    IsPrepared words had left most due history text → (status ≢ 4 → (status ≡ due) × P) → (status ≡ 0) ⊎ (status ≡ 6) → IsAtEnd left
+drained_run status prepared written (inl e) =
+    let done = prepared.due.done (same_status written (λ four. omega (arith, e, four)) ∙ e) in
+    prepared.read.to_end done.run (few_bytes prepared.bytes done.scenario done.spelled)
+drained_run status prepared written (inr e) =
+    let full = prepared.due.history_full (same_status written (λ four. omega (arith, e, four)) ∙ e) in
+    prepared.read.to_end full.run (few_bytes prepared.bytes full.scenario full.spelled)
+
+-- what holds of a value that came with Ok
+pub of_ok : {T E : Type 0} {x : T} (P : T → Type 0) (r : Result T E) → r ≡ Ok x → IfOk r P → P x
+of_ok {T} {E} P r is holds = subst (λ (q : Result T E). IfOk q P) is holds
+
+-- the line for other words, where it was made
+pub refused_due : (words : List (String Global)) (most : ℕ) (h : List Entry) (r : Result Due Stop) (text : Result (List ℕ) NoMemory) → ¬ IsRun words → h ≡ [] →
+    IfOk text (λ line. line ≡ refused_words) → IfOk r (λ due. (due.status ≡ 1) × (text ≡ Ok due.text)) →
+    IfOk r (λ due. IsDue words [] most due.status h due.text)
+refused_due words most h (Err fault) text other empty says made = tt
+refused_due words most h (Ok due) text other empty says made =
+    subst (λ (n : ℕ). IsDue words [] most n h due.text) (sym made.0) (refused_run words most h due.text other empty (of_ok (λ line. line ≡ refused_words) text made.1 says))
+
+-- words that spell a command ask for a run
+pub command_runs : (words : List (String Global)) (command : Command) → Spell words command → IsRun words
+command_runs words (Run trace) spelled = record { trace = trace; spelled = spelled }

@@ -1,5 +1,5 @@
 // All of a run but the writing of its text.
-ghost use Rattle.std.specs.Prelude.{Ok, Err, ◌≡◌, ◌≢◌, ◌≤◌, ◌<◌, ◌^◌, ◌⊎◌, [], IfOk, length};
+ghost use Rattle.std.specs.Prelude.{Ok, Err, ◌≡◌, ◌≢◌, ◌≤◌, ◌⊎◌, [], IfErr, IfOk, OnOk, length};
 ghost use Rattle.e3_fleet.specs.Over.{AreBlank, AreOver};
 ghost use Rattle.e3_play.specs.Played.{IsFull, IsPlayed};
 ghost use Rattle.e3_scenario.specs.Scenarios.{scenario_of};
@@ -150,6 +150,24 @@ fn unplayed<D: Drop>(
     }
 }
 
+// The text for words that ask for no run.
+fn refuse_words<D: Drop>(
+    alloc: Global,
+    words: &[String],
+    disks: Vec<D>,
+    most: u32,
+) -> Prepared<D>
+    requires { ¬ IsRun words.now }
+    ensures due { IfOk result.due (λ due. IsDue words.now [] most due.status result.history.entries due.text) }
+    ensures status { IfOk result.due (λ due. due.status ≡ 1) }
+    ensures only_memory { IfErr result.due (λ e. e ≡ Stop.NoMemory) }
+    ensures history { result.history.entries ≡ [] }
+    ensures disks { result.disks.items ≡ disks.items }
+{
+    let (_words, _most) = (words, most);
+    unplayed(alloc, 1, refused_words(alloc), disks)
+}
+
 // The run over the bytes that were read.
 fn prepare_bytes<D: Disk + Drop>(
     alloc: Global,
@@ -207,7 +225,7 @@ pub fn prepare<S: Source, D: Disk + Drop>(
     ensures never_falls { S.faults source.old ≤ S.faults source.new }
 {
     let trace = match read_words(words) {
-        None => return unplayed(alloc, 1, refused_words(alloc), disks),
+        None => return refuse_words(alloc, words, disks, most),
         Some(Command::Run { trace }) => trace,
     };
     match read_up_to(alloc, source, MOST) {

@@ -1,0 +1,10 @@
+use Rattle.e3_top.proofs.Runs.{run_of}
+use Rattle.e3_top.proofs.preparing.prepare_run.Goals as goal
+
+pub text_of-requires-clause-safe : goal.text_of-requires-clause-safe
+text_of-requires-clause-safe g c =
+    run_of c.args.scenario.now c.args.most c.play_over-ended.result.history.entries c.requires.given c.play_over-ended.ensures.legal c.play_over-ended.ensures.within
+
+pub returns-clause-history : goal.returns-clause-history
+returns-clause-history g c =
+    run_of c.args.scenario.now c.args.most c.play_over-ended.result.history.entries c.requires.given c.play_over-ended.ensures.legal c.play_over-ended.ensures.within
