@@ -1,5 +1,5 @@
 -- What an append leaves, by the records of its frame.
-use Rattle.std.proofs.Common.{◌≡◌, ◌≢◌, ◌⊎◌, ◌+◌, ◌<◌, ◌++◌, ◌∷◌, [], inl, inr, ℕ, List, length, refl, sym, subst, ap, ◌∙◌, arith}
+use Rattle.std.proofs.Common.{◌≡◌, ◌≢◌, ◌⊎◌, ◌+◌, ◌<◌, ◌++◌, ◌∷◌, [], inl, inr, ℕ, List, length, refl, subst, ap, ◌∙◌, arith}
 use Rattle.e3_disk.specs.Meters.{Meters, Rose}
 use Rattle.e3_log.specs.Frames.{Reads, frames}
 use Rattle.e3_log.specs.Stands.{LogState, Stands, ReadsBeforeOrAfter}

@@ -1,15 +1,14 @@
 -- What is entered keeps the history legal, and the network as the history has it.
-use Rattle.std.proofs.Common.{◌≡◌, ◌≢◌, ◌+◌, ◌≤◌, ◌<◌, ◌++◌, ◌∷◌, [], ℕ, zero, suc, Bool, true, false, List, Option, Some, None, length, map, refl, sym, subst, ap, ◌∙◌, append-nil, length-append, arith}
-use Rattle.std.specs.Prelude.{Contains, slice_get, option_map}
-use Rattle.e3_net.specs.Stands.{NetStands, IsNext, behind_input, is_quiet}
-use Rattle.e3_net.specs.Traffic.{Traffic, packet_to, sends_all, takes}
+use Rattle.std.proofs.Common.{◌≡◌, ◌≢◌, ◌+◌, ◌≤◌, ◌<◌, ◌++◌, ◌∷◌, [], ℕ, zero, suc, Bool, true, false, List, Some, length, map, refl, sym, subst, ap, ◌∙◌, append-nil, length-append, arith}
+use Rattle.std.specs.Prelude.{slice_get, option_map}
+use Rattle.e3_net.specs.Stands.{NetStands, IsNext, behind_input}
+use Rattle.e3_net.specs.Traffic.{Traffic, sends_all, takes}
 use Rattle.e3_net.specs.declared.waiting.Waiting.{Waiting}
-use Rattle.e3_net.proofs.Keeping.{drop_keeps, fall_keeps, line_keeps, parts_keep, quiet_keeps, step_keeps}
+use Rattle.e3_net.proofs.Keeping.{drop_keeps, fall_keeps, line_keeps, step_keeps}
 use Rattle.e3_net.proofs.Showing.{first_is_taken, pending_are, taken_is_pending}
 use Rattle.e3_node.specs.SharedStands.{SharedStands, SharedView}
 use Rattle.e3_play.specs.Entering.{IsFirst, fall_of}
-use Rattle.e3_types.specs.declared.entries.Act.{Act}
-use Rattle.e3_types.specs.declared.entries.Act.TheVariants.{Step, Fall, Rise, RiseFall, Miss, Drop, Line, Parts}
+use Rattle.e3_types.specs.declared.entries.Act.TheVariants.{Step, Fall, Rise, RiseFall, Miss, Drop, Line}
 use Rattle.e3_types.specs.declared.entries.Entry.{Entry}
 use Rattle.e3_types.specs.declared.entries.Input.{Input}
 use Rattle.e3_types.specs.declared.entries.Input.TheVariants as input
@@ -19,10 +18,10 @@ use Rattle.e3_types.specs.declared.messages.Packet.{Packet}
 use Rattle.e3_types.specs.declared.records.Record.{Record}
 use Rattle.e3_types.specs.declared.scenarios.Scenario.{Scenario}
 use Rattle.e3_world.specs.Items.{is_up_at}
-use Rattle.e3_world.specs.Legal.{Guard, IsDrop, IsDue, IsLegal, IsRise, IsRising, entry_of, first_pending, made_by, numbered}
+use Rattle.e3_world.specs.Legal.{Guard, IsDue, IsLegal, IsRise, IsRising, entry_of, first_pending, made_by, numbered}
 use Rattle.e3_world.specs.Logs.{logged_inc}
 use Rattle.e3_world.specs.Moves.{kept_moves, log_by, own, past_of, plain}
-use Rattle.e3_world.specs.Packets.{is_calm, lines, pending, sent, step_items}
+use Rattle.e3_world.specs.Packets.{is_calm, lines, sent, step_items}
 use Rattle.e3_world.proofs.Pushes.{legal_push}
 
 -- what stands goes on standing with one more entry that is allowed

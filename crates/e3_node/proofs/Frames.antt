@@ -1,15 +1,11 @@
 -- The frames of moves: one more move, their size, and what they spell.
-use Rattle.std.proofs.Common.{◌≡◌, ◌≢◌, ◌==◌, ◌+◌, ◌<◌, true, false, ◌++◌, ◌∷◌, [], inl, inr, ℕ, List, Option, Some, None, length, refl, sym, subst, ap, ◌∙◌, append_assoc, append-nil, length-append, arith}
+use Rattle.std.proofs.Common.{◌≡◌, ◌≢◌, ◌==◌, ◌+◌, ◌<◌, true, false, ◌++◌, ◌∷◌, [], ℕ, List, length, refl, sym, ap, ◌∙◌, append-nil, length-append, arith}
 use Rattle.std.specs.List.{flat_map}
 use Rattle.std.proofs.lemmas.Grind.{flat_map-append}
 use Rattle.std.proofs.lemmas.List.Sums.{sum-map, sum_by-cons}
-use Rattle.e3_disk.specs.Meters.{Meters, Rose}
-use Rattle.e3_log.specs.Frames.{Reads, frame, frames}
-use Rattle.e3_log.specs.Stands.{LogState, Stands, ReadsBeforeOrAfter}
-use Rattle.e3_log.specs.declared.fault.AppendFault.{AppendFault}
-use Rattle.e3_log.specs.declared.fault.AppendFault.TheVariants.{Failed, Full}
+use Rattle.e3_log.specs.Frames.{frame, frames}
 use Rattle.e3_log.proofs.Append.{new_end}
-use Rattle.e3_node.specs.Bodies.{ReadsWith, bodies_of_moves, body_of}
+use Rattle.e3_node.specs.Bodies.{bodies_of_moves, body_of}
 use Rattle.e3_node.specs.Claims.{BodiesSpellTheLog}
 use Rattle.e3_types.specs.Spelling.{spell_record, spelling}
 use Rattle.e3_types.specs.declared.records.Record.{Record}

@@ -5,8 +5,8 @@ use Rattle.e3_log.specs.Frames.{Reads}
 use Rattle.e3_log.specs.Stands.{LogState, Stands}
 use Rattle.e3_node.specs.Bodies.{DiskStands, ReadsWith, bodies_of_moves, bodies_at}
 use Rattle.e3_node.specs.Claims.{DisksKept, NodesDisks, NodesKept, NodesUp}
-use Rattle.e3_node.specs.NodeStands.{IsDown, IsIn, IsUp, NodeStands}
-use Rattle.e3_node.specs.NodeView.{NodeView, disk_of, is_up_in}
+use Rattle.e3_node.specs.NodeStands.{IsIn}
+use Rattle.e3_node.specs.NodeView.{disk_of, is_up_in}
 use Rattle.e3_node.specs.declared.state.State.{State}
 use Rattle.e3_node.specs.declared.state.State.TheVariants.{Down, Up}
 use Rattle.e3_site.specs.SiteView.{SiteView}

@@ -1,5 +1,5 @@
 -- The numbers of a disk over calls, one behind the other.
-use Rattle.std.proofs.Common.{◌≡◌, ◌⊎◌, ◌+◌, ◌-◌, ◌<◌, ◌≤◌, inl, inr, ℕ, refl, sym, subst, ap, ◌∙◌, arith}
+use Rattle.std.proofs.Common.{◌≡◌, ◌⊎◌, ◌+◌, ◌-◌, ◌<◌, ◌≤◌, inl, inr, ℕ, refl, ap, ◌∙◌, arith}
 use Rattle.std.proofs.Math.Nat.{min-le_left, min-le_right, le-min}
 use Rattle.std.specs.Prelude.{min}
 use Rattle.e3_disk.specs.Meters.{LAST, Keeps, Meters, Rose, raised}

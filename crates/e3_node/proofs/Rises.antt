@@ -1,5 +1,5 @@
 -- A node behind its first rise, however that ended.
-use Rattle.std.proofs.Common.{◌≡◌, ◌≢◌, ◌==◌, ◌++◌, ◌∷◌, [], ◌≤◌, inl, inr, ℕ, Bool, true, false, List, Option, Some, None, Result, Ok, Err, refl, sym, subst, ap, ◌∙◌, eq-eqb, append-nil, ◌<◌, arith}
+use Rattle.std.proofs.Common.{◌≡◌, ◌≢◌, ◌++◌, ◌∷◌, [], ℕ, true, false, List, Result, Ok, Err, refl, sym, subst, ap, ◌∙◌, eq-eqb, append-nil, ◌<◌, arith}
 use Rattle.e3_disk.specs.Images.{IsBlank, Only, Within}
 use Rattle.e3_disk.specs.Meters.{Keeps, Meters, Rose}
 use Rattle.e3_log.specs.Frames.{Reads}
@@ -21,15 +21,12 @@ use Rattle.e3_site.specs.SiteView.{SiteView}
 use Rattle.e3_site.specs.StandsFor.{IsRisenWith, StandsFor}
 use Rattle.e3_types.specs.declared.entries.Act.TheVariants.{Rise, RiseFall, Miss}
 use Rattle.e3_types.specs.declared.entries.Entry.{Entry}
-use Rattle.e3_types.specs.declared.entries.Why.{Why}
 use Rattle.e3_types.specs.declared.entries.Why.TheVariants.{Fault, Full}
 use Rattle.e3_types.specs.declared.records.Record.{Record}
 use Rattle.e3_types.specs.declared.scenarios.Scenario.{Scenario}
 use Rattle.e3_types.specs.declared.transactions.Row.{Row}
-use Rattle.e3_world.specs.Items.{is_up_at}
 use Rattle.e3_world.specs.Moves.{Move, Rose as DidRise, is_up, left_by, log_by, moves_of, own, past_of, rise_records, rows_at}
 use Rattle.e3_world.proofs.Readings.{own_same}
-use Rattle.e3_node.proofs.Keeping.{reads_with}
 use Rattle.e3_node.proofs.Metering.{rose_since}
 
 -- the first entry of a site is all that it has

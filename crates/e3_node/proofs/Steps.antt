@@ -1,5 +1,5 @@
 -- A node behind an input.
-use Rattle.std.proofs.Common.{◌≡◌, ◌≢◌, ◌==◌, ◌++◌, ◌∷◌, [], ◌≤◌, ℕ, suc, Bool, true, false, List, length, Option, refl, sym, subst, ap, ◌∙◌, append-nil, map}
+use Rattle.std.proofs.Common.{◌≡◌, ◌≢◌, ◌==◌, ◌++◌, ◌∷◌, [], ◌≤◌, ℕ, suc, true, false, List, length, refl, sym, subst, ap, ◌∙◌, append-nil, map}
 use Rattle.e3_disk.specs.Meters.{Meters}
 use Rattle.e3_log.specs.Stands.{LogState, Stands}
 use Rattle.e3_node.specs.Bodies.{DiskStands, ReadsWith, bodies_at, bodies_of_moves, body_of}
@@ -12,7 +12,7 @@ use Rattle.e3_node.specs.declared.drafts.Draft.{Draft}
 use Rattle.e3_node.specs.declared.fault.InputFault.{InputFault}
 use Rattle.e3_node.specs.declared.fault.InputFault.TheVariants as input_fault
 use Rattle.e3_node.specs.declared.state.State.{State}
-use Rattle.e3_node.specs.declared.state.State.TheVariants.{Down, Up}
+use Rattle.e3_node.specs.declared.state.State.TheVariants.{Down}
 use Rattle.e3_play.specs.Entering.{fall_of}
 use Rattle.e3_site.specs.SiteView.{SiteView, plan_of, step_kept}
 use Rattle.e3_site.specs.StandsFor.{StandsFor, StandsOn}
@@ -26,7 +26,7 @@ use Rattle.e3_world.specs.Items.{is_up_at}
 use Rattle.e3_world.specs.Legal.{Guard, IsDue, entry_of, made_by, numbered}
 use Rattle.e3_world.specs.Packets.{sent}
 use Rattle.e3_world.specs.declared.lives.SiteStep.{SiteStep}
-use Rattle.e3_world.specs.Moves.{Move, Past, left_by, moves_of, open_tail, own, past_by, past_of, plain, plain_input}
+use Rattle.e3_world.specs.Moves.{Move, Past, left_by, moves_of, own, past_by, past_of, plain, plain_input}
 use Rattle.e3_world.specs.Sound.{step_move}
 use Rattle.e3_world.proofs.Guards.{guard_step}
 use Rattle.e3_world.proofs.Numbers.{entered_move}

@@ -1,5 +1,5 @@
 -- A step that is ready to be made.
-use Rattle.std.specs.Prelude.{◌≡◌, ◌∷◌, [], ℕ, List}
+use Rattle.std.specs.Prelude.{◌≡◌, ◌∷◌, []}
 use Rattle.e3_node.specs.declared.drafts.Draft.{Draft}
 use Rattle.e3_types.specs.Spelling.{spelling}
 use Rattle.e3_types.specs.declared.entries.Input.{Input}

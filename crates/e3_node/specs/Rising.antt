@@ -1,5 +1,5 @@
 -- The first rise of a site over a blank disk.
-use Rattle.std.specs.Prelude.{◌≡◌, ◌∷◌, [], ℕ, true, false, List, Result, Ok, Err}
+use Rattle.std.specs.Prelude.{◌≡◌, ◌∷◌, [], ℕ, true, List, Result, Ok, Err}
 use Rattle.e3_disk.specs.Images.{IsBlank, Only}
 use Rattle.e3_disk.specs.Meters.{Meters, Rose}
 use Rattle.e3_log.specs.Stands.{LogState, Stands}

@@ -1,4 +1,4 @@
-use Rattle.std.proofs.Common.{◌≡◌, [], List, ap, sym, subst}
+use Rattle.std.proofs.Common.{[], List, ap, sym, subst}
 use Rattle.e3_log.specs.Stands.{Stands}
 use Rattle.e3_node.specs.Bodies.{ReadsWith, body_of}
 use Rattle.e3_node.specs.Ends.{IsReason}

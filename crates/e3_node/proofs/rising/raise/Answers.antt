@@ -1,4 +1,4 @@
-use Rattle.std.proofs.Common.{◌≡◌, sym, subst, Result}
+use Rattle.std.proofs.Common.{sym, subst, Result}
 use Rattle.e3_disk.specs.Meters.{Keeps}
 use Rattle.e3_node.specs.NodeView.{disk_of}
 use Rattle.e3_node.specs.Rising.{RiseMakes}

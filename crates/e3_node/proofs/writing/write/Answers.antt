@@ -1,4 +1,4 @@
-use Rattle.std.proofs.Common.{◌≡◌, ◌≢◌, ◌∙◌, [], ap, sym, subst, Err, Result}
+use Rattle.std.proofs.Common.{◌∙◌, ap, sym, subst, Err}
 use Rattle.e3_log.specs.declared.fault.AppendFault.{AppendFault}
 use Rattle.e3_node.specs.Bodies.{ReadsWith, bodies_of_moves}
 use Rattle.e3_node.specs.Ends.{IsReason}

@@ -1,9 +1,8 @@
-use Rattle.std.proofs.Common.{◌≡◌, ◌++◌, ◌∷◌, [], ◌∙◌, ap, sym, subst, refl, Err, true, false}
+use Rattle.std.proofs.Common.{ap, subst, refl, Err}
 use Rattle.e3_node.specs.Ends.{FellOver}
 use Rattle.e3_node.specs.NodeStands.{IsIn}
-use Rattle.e3_node.specs.NodeView.{NodeView, disk_of}
+use Rattle.e3_node.specs.NodeView.{NodeView}
 use Rattle.e3_node.specs.declared.fault.InputFault.{InputFault}
-use Rattle.e3_types.specs.declared.entries.Why.{Why}
 use Rattle.e3_node.proofs.Steps.{input_in, node_with}
 use Rattle.e3_node.proofs.node.Node.input.Goals as goal
 

@@ -1,4 +1,4 @@
-use Rattle.std.proofs.Common.{◌≡◌, ◌∙◌, ap, sym, Some, Option}
+use Rattle.std.proofs.Common.{◌∙◌, ap, sym, Some}
 use Rattle.std.specs.Prelude.{option_copied, option_map, slice_get}
 use Rattle.e3_node.specs.SharedStands.{SharedView}
 use Rattle.e3_types.specs.declared.messages.Packet.{Packet}

@@ -1,15 +1,10 @@
-use Rattle.std.proofs.Common.{◌≡◌, ◌++◌, ◌∷◌, [], ◌∙◌, ap, sym, subst, suc, length, List}
-use Rattle.e3_net.specs.Stands.{NetStands, behind_input}
+use Rattle.std.proofs.Common.{◌≡◌, ◌++◌, ◌∷◌, [], ◌∙◌, ap, sym, subst, List}
+use Rattle.e3_net.specs.Stands.{NetStands}
 use Rattle.e3_net.specs.Traffic.{Traffic}
-use Rattle.e3_net.proofs.Keeping.{parts_keep, quiet_keeps}
+use Rattle.e3_net.proofs.Keeping.{parts_keep}
 use Rattle.e3_node.specs.SharedStands.{SharedView}
-use Rattle.e3_types.specs.declared.entries.Act.TheVariants.{Step, Fall, Line, Parts, Drop}
-use Rattle.e3_types.specs.declared.entries.Entry.{Entry}
-use Rattle.e3_types.specs.declared.messages.Packet.{Packet}
-use Rattle.e3_types.specs.declared.scenarios.Scenario.{Scenario}
-use Rattle.e3_world.specs.Legal.{numbered}
-use Rattle.e3_world.specs.Packets.{is_calm, sent, step_items}
-use Rattle.e3_node.proofs.Entering.{drop_guard, first_waits, net_drop, net_fall, net_line, net_step, numbers_are, shared_on}
+use Rattle.e3_types.specs.declared.entries.Act.TheVariants.{Parts}
+use Rattle.e3_node.proofs.Entering.{shared_on}
 use Rattle.e3_node.proofs.shared.Shared.parts.Goals as goal
 
 pub returns-clause-stands : goal.returns-clause-stands
