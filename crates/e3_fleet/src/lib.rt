@@ -5,8 +5,6 @@ mod fleet;
 mod flying;
 mod in_memory;
 mod seating;
-#[cfg(test)]
-mod tests;
 
 pub use flying::{Played, play_over};
 pub use in_memory::memory_disks;

@@ -4,6 +4,7 @@
 
 use e3_fleet::memory_disks;
 use e3_outside::{StdSink, StdSource};
+use e3_types::List;
 use std::alloc::Global;
 use std::process::ExitCode;
 use std::{env, io};
@@ -29,7 +30,7 @@ fn main(rt: HostRuntime) -> ExitCode {
     let Some(words) = words_of(&rt, alloc) else {
         return ExitCode::from(NO_MEMORY);
     };
-    let Ok(disks) = memory_disks(alloc, CAPACITY) else {
+    let Ok(disks) = memory_disks(alloc, CAPACITY, 0, List::new(alloc)) else {
         return ExitCode::from(NO_MEMORY);
     };
     let mut source = StdSource::new(rt.reader());

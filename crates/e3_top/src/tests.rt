@@ -1,7 +1,9 @@
-// Runs from bytes to bytes.
-use crate::{Ended, run};
+// Runs from bytes to bytes, over disks in memory.
+use crate::{Ended, run, run_within};
+use e3_disk::{Disk, MemDisk};
+use e3_fleet::memory_disks;
 use e3_outside::{MemSink, MemSource};
-use e3_types::{Act, Answer, Dir, Entry, Input, List, Op, Record, Told, Txn};
+use e3_types::List;
 use std::alloc::Global;
 use std::sync::Wait;
 use std::test::Fail;
@@ -19,6 +21,22 @@ const NO_STEPS: &str = "weights = [2]\nsteps = []\n";
 
 const NO_STEPS_REPORT: &str =
     "start\n1: rose 1\norder\nsite 1 up 1\nlog\nbirth 1 2\ninc 1\nrows\nend\n";
+
+// The bytes of disk 1 at the end of one write: two frames and a closed gate, of which the last frame needs 120 bytes.
+const DISK: &[u8] = &[
+    0xA5, 0, 0, 0, 0x1A, // the frame of the birth
+    1, 0, 0, 0, 1, 0, 0, 0, 1, 0, 0, 0, 1, 0, 0, 0, 1, 0, 0, 0, 0, // birth
+    2, 0, 0, 0, 1, // incarnation
+    0xA5, 0, 0, 0, 0x53, // the frame of the commit
+    3, 0, 0, 0, 1, 0, 0, 0, 1, 0, 0, 0, 1, 0, 0, 0, 0, 0, 0, 0, 1, // vote
+    0, 0, 0, 1, 0, 0, 0, 1, 1, 1, 0x78, 0, 1, 0x61, // its write
+    5, 0, 0, 0, 1, 0, 0, 0, 1, 0, 0, 0, 1, 0, 0, 0, 0, 0, 0, 0, 1, 0, 0, 0, 1, 1, // attempt
+    6, 0, 0, 0, 1, 0, 0, 0, 1, 0, 0, 0, 1, 0, 0, 0, 0, 0, 0, 0, 1, 1, // decision
+    0,
+];
+
+const FULL_DISK_REPORT: &str =
+    "start\n1: rose 1\nstep 1\n> begin t 1 1\n1: 1.1.1 began 1\nstep 2\n> write t 1.x a\n1: 1.1.1 op 1 written\nstep 3\n> commit t\n1: fell full 120 of 100\norder\nsite 1 down\nlog\nbirth 1 1\ninc 1\nrows\nend\n";
 
 fn list_of<T: Copy>(alloc: Global, items: &[T]) -> Result<List<T>, Fail> {
     let mut list = List::new(alloc);
@@ -48,15 +66,68 @@ fn sink_of(alloc: Global, most: u64, fails: &[u64]) -> Result<MemSink, Fail> {
     Ok(MemSink::new(alloc, 10000, most.max(1), list_of(alloc, fails)?)?)
 }
 
+// A run of these words over sixteen disks of this capacity, where so many calls of the disk of site 1 fail.
+fn run_over(
+    rt: &impl Wait,
+    alloc: Global,
+    words: &[&str],
+    source: &mut MemSource,
+    sink: &mut MemSink,
+    capacity: u64,
+    fails: &[u64],
+) -> Result<Ended<MemDisk>, Fail> {
+    let words = words_of(alloc, words)?;
+    let disks = memory_disks(
+        alloc,
+        capacity.max(2).min(65536),
+        1,
+        list_of(alloc, fails)?,
+    )?;
+    Ok(run(rt, alloc, words.as_slice(), source, sink, disks))
+}
+
 fn run_on(
     rt: &impl Wait,
     alloc: Global,
     words: &[&str],
     source: &mut MemSource,
     sink: &mut MemSink,
-) -> Result<Ended, Fail> {
-    let words = words_of(alloc, words)?;
-    Ok(run(rt, alloc, words.as_slice(), source, sink))
+) -> Result<Ended<MemDisk>, Fail> {
+    run_over(rt, alloc, words, source, sink, 65536, &[])
+}
+
+// One write in a history of so many entries at most: the status, and how many entries there are.
+fn one_write_within(
+    rt: &impl Wait,
+    alloc: Global,
+    most: u32,
+    sink: &mut MemSink,
+) -> Result<(u8, u64), Fail> {
+    let words = words_of(alloc, &["run"])?;
+    let mut source = source_of(alloc, ONE_WRITE, 7, &[])?;
+    let disks = memory_disks(alloc, 65536, 0, List::new(alloc))?;
+    let most = most.max(1).min(2_000_000);
+    let ended = run_within(rt, alloc, words.as_slice(), &mut source, sink, disks, most);
+    Ok((ended.status, ended.history.len()))
+}
+
+// All bytes of a disk.
+fn bytes_of(alloc: Global, disk: &mut MemDisk) -> Result<Vec<u8>, Fail> {
+    let Ok(len) = disk.len() else {
+        return Err("no length".into());
+    };
+    let mut bytes = vec![in alloc; 0u8; len as usize]?;
+    match disk.read_at(0, &mut bytes) {
+        Ok(()) => Ok(bytes),
+        Err(_) => Err("no bytes".into()),
+    }
+}
+
+// How often a line stands in a text.
+fn count_line(text: &[u8], line: &str) -> usize {
+    text.split(|b| *b == b'\n')
+        .filter(|part| *part == line.as_bytes())
+        .count()
 }
 
 #[test]
@@ -84,146 +155,60 @@ fn a_worked_row_with_its_trace(rt: HostRuntime) -> Result<(), Fail> {
     Ok(())
 }
 
-// The step of an entry of site 1 that records and sends nothing.
-fn quiet_step(entry: &Entry) -> Option<(&Input, &[Told])> {
-    match &entry.act {
-        Act::Step {
-            input,
-            records,
-            outs,
-            told,
-        } if entry.owner == 1 && records.is_empty() && outs.is_empty() => {
-            Some((input, told.as_slice()))
-        }
-        _ => None,
-    }
-}
-
-fn is_line(entry: &Entry, expected: u32) -> bool {
-    matches!(entry, Entry { owner: 0, act: Act::Line { number } } if *number == expected)
-}
-
-fn is_first(txn: &Txn) -> bool {
-    txn.site == 1 && txn.inc == 1 && txn.seq == 1 && txn.sites.count() == 1 && txn.sites.has(1)
-}
-
-fn is_begin(entry: &Entry) -> bool {
-    match quiet_step(entry) {
-        Some((Input::Begin { sites }, [Told::Began { txn }])) => {
-            sites.count() == 1 && sites.has(1) && is_first(txn)
-        }
-        _ => false,
-    }
-}
-
-fn is_write(entry: &Entry) -> bool {
-    match quiet_step(entry) {
-        Some(
-            (
-                Input::Do {
-                    txn,
-                    op: Op::Write(key, val),
-                },
-                [
-                    Told::Op {
-                        txn: answered,
-                        n: 1,
-                        answer: Answer::Written,
-                    },
-                ],
-            ),
-        ) => {
-            is_first(txn)
-                && is_first(answered)
-                && key.site == 1
-                && key.name.bytes() == b"x".as_slice()
-                && val.bytes() == b"a".as_slice()
-        }
-        _ => false,
-    }
-}
-
-fn is_commit(entry: &Entry) -> bool {
-    match &entry.act {
-        Act::Step {
-            input: Input::Commit { txn },
-            records,
-            outs,
-            told,
-        } => {
-            let votes = match records.as_slice() {
-                [
-                    Record::Vote { txn: voted, ops },
-                    Record::Attempt {
-                        txn: attempted,
-                        n: 1,
-                        dir: Dir::Commit,
-                    },
-                    Record::Decision {
-                        txn: decided,
-                        dir: Dir::Commit,
-                    },
-                ] => {
-                    ops.len() == 1 && is_first(voted) && is_first(attempted) && is_first(decided)
-                }
-                _ => false,
-            };
-            let ends = match told.as_slice() {
-                [
-                    Told::Ended {
-                        txn: ended,
-                        dir: Dir::Commit,
-                    },
-                ] => is_first(ended),
-                _ => false,
-            };
-            entry.owner == 1 && is_first(txn) && outs.is_empty() && votes && ends
-        }
-        _ => false,
-    }
-}
-
-fn is_first_rise(entry: &Entry) -> bool {
-    matches!(
-        entry,
-        Entry {
-            owner: 1,
-            act: Act::Rise {
-                kept: false,
-                inc: 1
-            }
-        }
-    )
+#[test]
+fn the_disk_of_one_write(rt: HostRuntime) -> Result<(), Fail> {
+    let mut source = source_of(rt.alloc(), ONE_WRITE, 4096, &[])?;
+    let mut sink = sink_of(rt.alloc(), 4096, &[])?;
+    let mut ended = run_on(&rt, rt.alloc(), &["run"], &mut source, &mut sink)?;
+    let Some(disk) = ended.disks.first_mut() else {
+        return Err("no disk".into());
+    };
+    let bytes = bytes_of(rt.alloc(), disk)?;
+    assert_eq!(rt; bytes.as_slice(), DISK);
+    Ok(())
 }
 
 #[test]
-fn the_history_of_no_steps(rt: HostRuntime) -> Result<(), Fail> {
-    let mut source = source_of(rt.alloc(), NO_STEPS, 4096, &[])?;
+fn a_disk_of_a_hundred_bytes(rt: HostRuntime) -> Result<(), Fail> {
+    let mut source = source_of(rt.alloc(), ONE_WRITE, 4096, &[])?;
     let mut sink = sink_of(rt.alloc(), 4096, &[])?;
-    let ended = run_on(&rt, rt.alloc(), &["run"], &mut source, &mut sink)?;
-    match ended.history.as_slice() {
-        [rise] => assert!(rt; is_first_rise(rise)),
-        _ => assert!(rt; false, "it has not one entry"),
+    let ended = run_over(&rt, rt.alloc(), &["run"], &mut source, &mut sink, 100, &[])?;
+    assert_eq!(rt; ended.status, 0);
+    assert_eq!(rt; sink.written(), FULL_DISK_REPORT.as_bytes());
+    Ok(())
+}
+
+// The first two calls that can fail are those of opening the log, then come the four of the rise's frame and the four of
+// the commit's; of the reads between none is made of a blank disk but that of its gate.
+#[test]
+fn a_disk_that_fails_at_each_call(rt: HostRuntime) -> Result<(), Fail> {
+    for call in 1..=13u64 {
+        let mut source = source_of(rt.alloc(), ONE_WRITE, 4096, &[])?;
+        let mut sink = sink_of(rt.alloc(), 4096, &[])?;
+        let ended =
+            run_over(&rt, rt.alloc(), &["run"], &mut source, &mut sink, 65536, &[call])?;
+        let text = sink.written();
+        assert_eq!(rt; ended.status, 0);
+        assert_eq!(rt; count_line(text, "1: missed"), usize::from(call <= 3), "{call}");
+        assert_eq!(rt; count_line(text, "1: rise failed 1 fault"), usize::from(call > 3 && call <= 7), "{call}");
+        assert_eq!(rt; count_line(text, "1: fell fault"), usize::from(call > 7 && call <= 11), "{call}");
+        assert_eq!(rt; count_line(text, "1: 1.1.1 committed"), usize::from(call > 11), "{call}");
     }
     Ok(())
 }
 
 #[test]
-fn the_history_of_one_write(rt: HostRuntime) -> Result<(), Fail> {
-    let mut source = source_of(rt.alloc(), ONE_WRITE, 4096, &[])?;
-    let mut sink = sink_of(rt.alloc(), 4096, &[])?;
-    let ended = run_on(&rt, rt.alloc(), &["run"], &mut source, &mut sink)?;
-    match ended.history.as_slice() {
-        [rise, line_1, begin, line_2, write, line_3, commit] => {
-            assert!(rt; is_first_rise(rise));
-            assert!(rt; is_line(line_1, 1));
-            assert!(rt; is_begin(begin));
-            assert!(rt; is_line(line_2, 2));
-            assert!(rt; is_write(write));
-            assert!(rt; is_line(line_3, 3));
-            assert!(rt; is_commit(commit));
-        }
-        _ => assert!(rt; false, "it has not seven entries"),
+fn a_full_history(rt: HostRuntime) -> Result<(), Fail> {
+    for (most, status, entries, text) in [
+        (7, 0, 7, ONE_WRITE_REPORT),
+        (6, 6, 6, "refused history-full\n"),
+        (3, 6, 3, "refused history-full\n"),
+    ] {
+        let mut sink = sink_of(rt.alloc(), 11, &[])?;
+        let ended = one_write_within(&rt, rt.alloc(), most, &mut sink)?;
+        assert_eq!(rt; ended.0, status);
+        assert_eq!(rt; ended.1, entries);
+        assert_eq!(rt; sink.written(), text.as_bytes());
     }
     Ok(())
 }
@@ -259,7 +244,7 @@ fn refused_scenarios(rt: HostRuntime) -> Result<(), Fail> {
             "refused bad-line 2\n",
         ),
         (
-            "weights = [1]\nsteps = [\"merge\"]\n",
+            "weights = [1]\nsteps = [\"crash 1\"]\n",
             "refused not-built\n",
         ),
     ];
