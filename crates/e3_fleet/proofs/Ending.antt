@@ -47,7 +47,11 @@ disks_length (n ∷ nodes) = ap suc (disks_length nodes)
 served : (sc : Scenario) (h : List Entry) (site : ℕ) (old new : Meters) → HasKept site [] h old new → HasServed sc h site old new
 served sc h site old new kept = record {
   faults = by kept.faults;
-  capacity = kept.capacity; arms = kept.arms; calls = kept.calls; codes = kept.codes; cuts = kept.cuts;
+  capacity = kept.capacity;
+  arms = kept.arms;
+  calls = kept.calls;
+  codes = kept.codes;
+  cuts = kept.cuts;
 }
   where
     by : (old.faults + faults_at h site ≤ new.faults + 0) ⊎ (new.faults ≡ LAST) → RoseBy (faults_at h site) old.faults new.faults
@@ -85,9 +89,9 @@ came_back {D} content image meters law sc h olds news rest before now all seated
         slice_get (disks_of nodes ++ rest) at ≡ Some d → d ≡ disk_of n.state
     place nodes at n d low there here =
         let front : slice_get (disks_of nodes ++ rest) at ≡ slice_get (disks_of nodes) at =
-            (let count = disks_length nodes in get_front (disks_of nodes) rest at (omega (arith, low, count))) in
+        (let count = disks_length nodes in get_front (disks_of nodes) rest at (omega (arith, low, count))) in
         let mapped : slice_get (disks_of nodes) at ≡ option_map (λ (x : NodeView D). disk_of x.state) (slice_get nodes at) =
-            slice_get-map (λ (x : NodeView D). disk_of x.state) nodes at in
+        slice_get-map (λ (x : NodeView D). disk_of x.state) nodes at in
         let some : slice_get (disks_of nodes) at ≡ Some (disk_of n.state) = mapped ∙ ap (option_map (λ (x : NodeView D). disk_of x.state)) there in
         let both : Some d ≡ Some (disk_of n.state) = sym here ∙ front ∙ some in cc
 
@@ -114,5 +118,5 @@ came_back {D} content image meters law sc h olds news rest before now all seated
     other : (at : ℕ) (old new : D) → length sc.weights ≤ at → slice_get before at ≡ Some old → slice_get now at ≡ Some new → new ≡ old
     other at old new far there here =
         let back : slice_get (disks_of olds ++ rest) at ≡ slice_get (disks_of news ++ rest) at =
-            (let count = disks_length olds in get_back (disks_of olds) (disks_of news) rest at same (omega (arith, far, all, count))) in
+        (let count = disks_length olds in get_back (disks_of olds) (disks_of news) rest at same (omega (arith, far, all, count))) in
         let both : Some old ≡ Some new = sym there ∙ sym (ap (λ (ds : List D). slice_get ds at) was) ∙ back ∙ sym (ap (λ (ds : List D). slice_get ds at) is) ∙ here in cc

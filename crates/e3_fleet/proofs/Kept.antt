@@ -62,7 +62,11 @@ pub kept_other : (site : ℕ) (h : List Entry) (e : Entry) (m : Meters) → e.ow
 kept_other site h e m other = record {
   faults = inl (let same = faults_other h e site other in omega (arith, same));
   grows = omega arith;
-  capacity = refl; arms = refl; calls = refl; codes = refl; cuts = refl;
+  capacity = refl;
+  arms = refl;
+  calls = refl;
+  codes = refl;
+  cuts = refl;
 }
 
 -- a call that entered nothing
@@ -70,7 +74,11 @@ pub kept_quiet : (site : ℕ) (h : List Entry) (x y : Meters) → Keeps x y → 
 kept_quiet site h x y kept = record {
   faults = inl (let up : x.faults ≤ y.faults = kept.faults in omega (arith, up));
   grows = kept.faults;
-  capacity = kept.capacity; arms = kept.arms; calls = kept.calls; codes = kept.codes; cuts = kept.cuts;
+  capacity = kept.capacity;
+  arms = kept.arms;
+  calls = kept.calls;
+  codes = kept.codes;
+  cuts = kept.cuts;
 }
 
 -- a call that entered one of the site's own, which is a fault only where the count rose
@@ -79,7 +87,11 @@ pub kept_own : (site : ℕ) (h : List Entry) (e : Entry) (x y : Meters) → e.ow
 kept_own site h e x y same counted kept rose = record {
   faults = by (is_fault e) refl;
   grows = kept.faults;
-  capacity = kept.capacity; arms = kept.arms; calls = kept.calls; codes = kept.codes; cuts = kept.cuts;
+  capacity = kept.capacity;
+  arms = kept.arms;
+  calls = kept.calls;
+  codes = kept.codes;
+  cuts = kept.cuts;
 }
   where
     count : faults_at (h ++ e ∷ []) site ≡ faults_at h site + one_if (is_fault e)

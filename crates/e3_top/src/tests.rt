@@ -77,12 +77,7 @@ fn run_over(
     fails: &[u64],
 ) -> Result<Ended<MemDisk>, Fail> {
     let words = words_of(alloc, words)?;
-    let disks = memory_disks(
-        alloc,
-        capacity.max(2).min(65536),
-        1,
-        list_of(alloc, fails)?,
-    )?;
+    let disks = memory_disks(alloc, capacity.max(2).min(65536), 1, list_of(alloc, fails)?)?;
     Ok(run(rt, alloc, words.as_slice(), source, sink, disks))
 }
 
@@ -185,14 +180,37 @@ fn a_disk_that_fails_at_each_call(rt: HostRuntime) -> Result<(), Fail> {
     for call in 1..=13u64 {
         let mut source = source_of(rt.alloc(), ONE_WRITE, 4096, &[])?;
         let mut sink = sink_of(rt.alloc(), 4096, &[])?;
-        let ended =
-            run_over(&rt, rt.alloc(), &["run"], &mut source, &mut sink, 65536, &[call])?;
+        let ended = run_over(
+            &rt,
+            rt.alloc(),
+            &["run"],
+            &mut source,
+            &mut sink,
+            65536,
+            &[call],
+        )?;
         let text = sink.written();
         assert_eq!(rt; ended.status, 0);
-        assert_eq!(rt; count_line(text, "1: missed"), usize::from(call <= 3), "{call}");
-        assert_eq!(rt; count_line(text, "1: rise failed 1 fault"), usize::from(call > 3 && call <= 7), "{call}");
-        assert_eq!(rt; count_line(text, "1: fell fault"), usize::from(call > 7 && call <= 11), "{call}");
-        assert_eq!(rt; count_line(text, "1: 1.1.1 committed"), usize::from(call > 11), "{call}");
+        assert_eq!(rt;
+            count_line(text, "1: missed"),
+            usize::from(call <= 3),
+            "{call}"
+        );
+        assert_eq!(rt;
+            count_line(text, "1: rise failed 1 fault"),
+            usize::from(call > 3 && call <= 7),
+            "{call}"
+        );
+        assert_eq!(rt;
+            count_line(text, "1: fell fault"),
+            usize::from(call > 7 && call <= 11),
+            "{call}"
+        );
+        assert_eq!(rt;
+            count_line(text, "1: 1.1.1 committed"),
+            usize::from(call > 11),
+            "{call}"
+        );
     }
     Ok(())
 }

@@ -24,7 +24,7 @@ input-answer-requires-clause-due g c = λ up.
 pub returns-clause-on : goal.returns-clause-on
 returns-clause-on g c =
     let there : slice_get c.args.self.now.nodes.items c.args.at ≡ Some c.index_mut.result.now =
-        slice_get_read c.args.self.now.nodes.items (length c.args.self.now.nodes.items) c.args.at c.index_mut.result.now refl c.requires.within c.index_mut.ensures.value in
+    slice_get_read c.args.self.now.nodes.items (length c.args.self.now.nodes.items) c.args.at c.index_mut.result.now refl c.requires.within c.index_mut.ensures.value in
     let site : c.index_mut.result.now.site ≡ suc c.args.at = (c.requires.standing.seated c.args.at c.index_mut.result.now there).site in
     node_on g.D.Disk.content g.D.Disk.image g.D.Disk.meters c.other_entries_keep_nodes.ensures.nodes (λ d. (g.met.D.Disk.counted d).faults)
     c.args.self.now.shared c.input-answer.new.shared c.args.self.now.nodes.items c.args.at c.index_mut.result.now c.input-answer.new.self there
@@ -39,7 +39,7 @@ returns-clause-on g c =
 pub returns-clause-entered : goal.returns-clause-entered
 returns-clause-entered g c =
     let there : slice_get c.args.self.now.nodes.items c.args.at ≡ Some c.index_mut.result.now =
-        slice_get_read c.args.self.now.nodes.items (length c.args.self.now.nodes.items) c.args.at c.index_mut.result.now refl c.requires.within c.index_mut.ensures.value in
+    slice_get_read c.args.self.now.nodes.items (length c.args.self.now.nodes.items) c.args.at c.index_mut.result.now refl c.requires.within c.index_mut.ensures.value in
     let site : c.index_mut.result.now.site ≡ suc c.args.at = (c.requires.standing.seated c.args.at c.index_mut.result.now there).site in
     rw c.input_answer.ensures (subst (λ (s : ℕ). OnOk (input_answer c.input-answer.result)
     (AfterInput c.args.self.now.shared.scenario c.args.self.now.shared.entries s c.args.input c.input-answer.new.shared.entries)) site

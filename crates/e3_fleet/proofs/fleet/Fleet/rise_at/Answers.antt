@@ -31,7 +31,7 @@ rise-answer-requires-clause-first g c =
 pub returns-clause-on : goal.returns-clause-on
 returns-clause-on g c =
     let there : slice_get c.args.self.now.nodes.items c.args.at ≡ Some c.index_mut.result.now =
-        slice_get_read c.args.self.now.nodes.items (length c.args.self.now.nodes.items) c.args.at c.index_mut.result.now refl c.requires.within c.index_mut.ensures.value in
+    slice_get_read c.args.self.now.nodes.items (length c.args.self.now.nodes.items) c.args.at c.index_mut.result.now refl c.requires.within c.index_mut.ensures.value in
     let site : c.index_mut.result.now.site ≡ suc c.args.at = (c.requires.standing.seated c.args.at c.index_mut.result.now there).site in
     node_on g.D.Disk.content g.D.Disk.image g.D.Disk.meters c.other_entries_keep_nodes.ensures.nodes (λ d. (g.met.D.Disk.counted d).faults)
     c.args.self.now.shared c.rise-answer.new.shared c.args.self.now.nodes.items c.args.at c.index_mut.result.now c.rise-answer.new.self there
@@ -48,7 +48,7 @@ returns-clause-on g c =
 pub returns-clause-rose : goal.returns-clause-rose
 returns-clause-rose g c =
     let there : slice_get c.args.self.now.nodes.items c.args.at ≡ Some c.index_mut.result.now =
-        slice_get_read c.args.self.now.nodes.items (length c.args.self.now.nodes.items) c.args.at c.index_mut.result.now refl c.requires.within c.index_mut.ensures.value in
+    slice_get_read c.args.self.now.nodes.items (length c.args.self.now.nodes.items) c.args.at c.index_mut.result.now refl c.requires.within c.index_mut.ensures.value in
     let site : c.index_mut.result.now.site ≡ suc c.args.at = (c.requires.standing.seated c.args.at c.index_mut.result.now there).site in
     rw c.rise_answer.ensures (subst (λ (s : ℕ). OnOk (rise_answer c.rise-answer.result) (AfterRise c.args.self.now.shared.entries s c.rise-answer.new.shared.entries)) site
     (rise_rose c.args.self.now.shared.entries c.rise-answer.new.shared.entries c.index_mut.result.now.site c.rise-answer.result
