@@ -268,24 +268,24 @@ list_format {A} s f r one = record {
 }
 
 -- no spelling begins another
-pub prefix_free : {A : Type 0} (s : A → List ℕ) (f : A → Type 0) (r : Reader A) → IsFormat s f r
+pub prefix_free : {A : Type 0} (s : A → List ℕ) (f : A → Type 0) (r : Reader A) → ((x : A) (rest : List ℕ) → f x → r (s x ++ rest) ≡ Some (x, rest))
     → (x y : A) (a b : List ℕ) → f x → f y → s x ++ a ≡ s y ++ b → (x ≡ y) × (a ≡ b)
-prefix_free {A} s f r one x y a b fx fy e =
-    let both : done {A = A × List ℕ} (x, a) ≡ done (y, b) = sym (one.again x a fx) ∙ ap r e ∙ one.again y b fy in
+prefix_free {A} s f r again x y a b fx fy e =
+    let both : done {A = A × List ℕ} (x, a) ≡ done (y, b) = sym (again x a fx) ∙ ap r e ∙ again y b fy in
     let pair = some_is {A = A × List ℕ} (x, a) (y, b) both in
     (ap (λ (p : A × List ℕ). p.0) pair, ap (λ (p : A × List ℕ). p.1) pair)
 
 -- Lists of spellings are read in one way.
-pub list_free : {A : Type 0} (s : A → List ℕ) (f : A → Type 0) (r : Reader A) → IsFormat s f r
+pub list_free : {A : Type 0} (s : A → List ℕ) (f : A → Type 0) (r : Reader A) → ((x : A) (rest : List ℕ) → f x → r (s x ++ rest) ≡ Some (x, rest))
     → (xs ys : List A) (a b : List ℕ) → AllByRecursion f xs → AllByRecursion f ys
     → ((x : A) (after : List ℕ) → f x → a ≡ s x ++ after → ⊥) → ((x : A) (after : List ℕ) → f x → b ≡ s x ++ after → ⊥)
     → flat_map s xs ++ a ≡ flat_map s ys ++ b → (xs ≡ ys) × (a ≡ b)
-list_free s f r one [] [] a b fx fy ea eb e = (refl, e)
-list_free s f r one [] (y ∷ ys) a b fx fy ea eb e = absurd (ea y (flat_map s ys ++ b) fy.0 (e ∙ ap (λ (l : List ℕ). l ++ b) (flat_map-cons s y ys) ∙ append_assoc (s y) (flat_map s ys) b))
-list_free s f r one (x ∷ xs) [] a b fx fy ea eb e = absurd (eb x (flat_map s xs ++ a) fx.0 (sym e ∙ ap (λ (l : List ℕ). l ++ a) (flat_map-cons s x xs) ∙ append_assoc (s x) (flat_map s xs) a))
-list_free s f r one (x ∷ xs) (y ∷ ys) a b fx fy ea eb e =
+list_free s f r again [] [] a b fx fy ea eb e = (refl, e)
+list_free s f r again [] (y ∷ ys) a b fx fy ea eb e = absurd (ea y (flat_map s ys ++ b) fy.0 (e ∙ ap (λ (l : List ℕ). l ++ b) (flat_map-cons s y ys) ∙ append_assoc (s y) (flat_map s ys) b))
+list_free s f r again (x ∷ xs) [] a b fx fy ea eb e = absurd (eb x (flat_map s xs ++ a) fx.0 (sym e ∙ ap (λ (l : List ℕ). l ++ a) (flat_map-cons s x xs) ∙ append_assoc (s x) (flat_map s xs) a))
+list_free s f r again (x ∷ xs) (y ∷ ys) a b fx fy ea eb e =
     let left : flat_map s (x ∷ xs) ++ a ≡ s x ++ (flat_map s xs ++ a) = ap (λ (l : List ℕ). l ++ a) (flat_map-cons s x xs) ∙ append_assoc (s x) (flat_map s xs) a in
     let right : flat_map s (y ∷ ys) ++ b ≡ s y ++ (flat_map s ys ++ b) = ap (λ (l : List ℕ). l ++ b) (flat_map-cons s y ys) ∙ append_assoc (s y) (flat_map s ys) b in
-    let first = prefix_free s f r one x y (flat_map s xs ++ a) (flat_map s ys ++ b) fx.0 fy.0 (sym left ∙ e ∙ right) in
-    let others = list_free s f r one xs ys a b fx.1 fy.1 ea eb first.1 in
+    let first = prefix_free s f r again x y (flat_map s xs ++ a) (flat_map s ys ++ b) fx.0 fy.0 (sym left ∙ e ∙ right) in
+    let others = list_free s f r again xs ys a b fx.1 fy.1 ea eb first.1 in
     ((λ i. first.0 i ∷ others.0 i), others.1)

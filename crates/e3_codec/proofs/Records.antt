@@ -6,7 +6,7 @@ use Rattle.std.specs.Prelude.{Result, Ok, Err, IfOk, IsErrOf}
 use Rattle.std.proofs.lemmas.List.{length-append, append-nil}
 use Rattle.e3_codec.specs.declared.faults.Fault.{Fault}
 use Rattle.e3_codec.specs.declared.faults.Fault.TheVariants.{Bad, NoMemory}
-use Rattle.e3_codec.specs.Claims.{PrefixFree, OneSpelling, SpellingsAreRead, OnePlace}
+use Rattle.e3_codec.specs.Claims.{SpellingsAreRead, OnePlace}
 use Rattle.e3_codec.specs.Places.{NoRecord}
 use Rattle.std.proofs.lemmas.Bool.{and_parts, leb-true}
 use Rattle.std.proofs.lemmas.List.Sums.{AllPass-from_list_all, list_all-from_AllPass}
@@ -24,11 +24,11 @@ use Rattle.e3_types.specs.Sites.{sites_of, bits_of}
 use Rattle.e3_types.specs.Spelling.{high_first, u8, u16, u32, spell_name, spell_val, spell_txn, spell_dir, spell_op, spell_row, spell_list, spell_record, spelling}
 use Rattle.e3_types.specs.Text.{IsName, IsValue, is_letter}
 use Rattle.e3_types.specs.Transactions.{is_txn}
-use Rattle.e3_codec.specs.Fields.{IsShort, ListFits, SetFits, TxnFits, RowFits, OpFits, NumOpFits, CanBeReadBack}
+use Rattle.e3_codec.specs.Fields.{IsShort, ListFits, SetFits, TxnNumbersFit, TxnFits, RowFits, OpFits, NumOpFits, CanBeReadBack, AllCanBeReadBack}
 use Rattle.e3_codec.specs.Reader.{Reader, Gives, pair_at, mapped_at, number_at, byte_at}
 use Rattle.e3_codec.specs.Reading.{u32_at, txn_from, txn_at, dir_of, dir_at, is_name, name_at, is_value, val_at, row_from, row_at, read_from, write_from, kind_at, op_at, num_op_from, num_op_at, birth_at, vote_at, join_at, attempt_at, decision_at, body_at, record_at}
 use Rattle.e3_codec.specs.Format.{IsBytes, Takes, IsFormat}
-use Rattle.e3_codec.proofs.Formats.{prefix_free, list_free, IsBytes-rest, pair_format, mapped_format, refit, respell, tested_format, counted_format, list_format, u16_format, u32_format, u64_format, byte_format, bind_some, some_is}
+use Rattle.e3_codec.proofs.Formats.{list_free, IsBytes-rest, pair_format, mapped_format, refit, respell, tested_format, counted_format, list_format, u16_format, u32_format, u64_format, byte_format, bind_some, some_is}
 
 -- sets of sites, as eight bytes
 sites_there : (sites : List ℕ) → SetFits sites → sites_of (bits_of sites) ≡ sites
@@ -44,18 +44,11 @@ txn_to t = (t.site, (t.inc, (t.seq, bits_of t.sites)))
 abbrev Numbers : ℕ × (ℕ × (ℕ × ℕ)) → Type 0
 Numbers p = IsShort p.0 × (IsShort p.1.0 × (IsShort p.1.1.0 × (p.1.1.1 < 2 ^ 64)))
 
--- the numbers of a transaction fit
-record Numbered (t : Txn) : Type 0 where
-  site : IsShort t.site
-  inc : IsShort t.inc
-  seq : IsShort t.seq
-  sites : SetFits t.sites
-
 numbers_format : IsFormat (λ (p : ℕ × (ℕ × (ℕ × ℕ))). u32 p.0 ++ (u32 p.1.0 ++ (u32 p.1.1.0 ++ high_first 8 p.1.1.1))) Numbers (pair_at u32_at (pair_at u32_at (pair_at u32_at (number_at w64))))
 numbers_format = pair_format _ _ _ _ _ _ u32_format (pair_format _ _ _ _ _ _ u32_format (pair_format _ _ _ _ _ _ u32_format u64_format))
 
-numbered_format : IsFormat spell_txn Numbered (mapped_at txn_from (pair_at u32_at (pair_at u32_at (pair_at u32_at (number_at w64)))))
-numbered_format = mapped_format txn_from txn_to _ Numbers Numbered _
+pub numbered_format : IsFormat spell_txn TxnNumbersFit (mapped_at txn_from (pair_at u32_at (pair_at u32_at (pair_at u32_at (number_at w64)))))
+numbered_format = mapped_format txn_from txn_to _ Numbers TxnNumbersFit _
     (λ p few. ap (λ (bits : ℕ). (p.0, (p.1.0, (p.1.1.0, bits)))) (bits_back p.1.1.1 few.1.1.1))
     (λ t fits. ap (λ (sites : List ℕ). record t { sites = sites }) (sites_there t.sites fits.sites))
     (λ p few. record { site = few.0; inc = few.1.0; seq = few.1.1.0; sites = (p.1.1.1, few.1.1.1, refl) })
@@ -63,10 +56,10 @@ numbered_format = mapped_format txn_from txn_to _ Numbers Numbered _
 
 pub txn_format : IsFormat spell_txn TxnFits txn_at
 unfolding txn_at
-txn_format = refit spell_txn (λ t. Numbered t × (is_txn t ≡ true)) TxnFits _
+txn_format = refit spell_txn (λ t. TxnNumbersFit t × (is_txn t ≡ true)) TxnFits _
     (λ t fits. record { site = fits.0.site; inc = fits.0.inc; seq = fits.0.seq; sites = fits.0.sites; is_one = fits.1 })
     (λ t fits. (record { site = fits.site; inc = fits.inc; seq = fits.seq; sites = fits.sites }, fits.is_one))
-    (tested_format is_txn spell_txn Numbered _ numbered_format)
+    (tested_format is_txn spell_txn TxnNumbersFit _ numbered_format)
 
 -- directions
 dir_takes : (bytes : List ℕ) (d : Dir) (rest : List ℕ) → IsBytes bytes → dir_at bytes ≡ Some (d, rest) → Takes bytes (spell_dir d) rest × Unit {0}
@@ -83,7 +76,7 @@ unfolding dir_at dir_of byte_at
 dir_again Abort rest fits = refl
 dir_again Commit rest fits = refl
 
-dir_format : IsFormat spell_dir (λ d. Unit {0}) dir_at
+pub dir_format : IsFormat spell_dir (λ d. Unit {0}) dir_at
 dir_format = record { takes = λ bytes d rest fits e. dir_takes bytes d rest fits e; again = λ d rest fits. dir_again d rest fits }
 
 -- names and values
@@ -160,7 +153,7 @@ num_op_spelled o = by o.op
     by (Read key) = refl
     by (Write key val) = refl
 
-num_op_format : (site : ℕ) → IsFormat spell_op (NumOpFits site) (num_op_at site)
+pub num_op_format : (site : ℕ) → IsFormat spell_op (NumOpFits site) (num_op_at site)
 unfolding num_op_at
 num_op_format site = respell (λ (o : NumOp). u32 o.n ++ spell_kind o.op) spell_op (NumOpFits site) _ (λ o fits. num_op_spelled o)
     (mapped_format num_op_from (λ (o : NumOp). (o.n, o.op)) _ (λ (p : ℕ × Op). IsShort p.0 × OpFits site p.1) (NumOpFits site) _
@@ -168,7 +161,7 @@ num_op_format site = respell (λ (o : NumOp). u32 o.n ++ spell_kind o.op) spell_
     (pair_format _ _ _ _ _ _ u32_format (op_format site)))
 
 -- the fields of each kind of record
-birth_format : IsFormat (λ (p : ℕ × (ℕ × (List ℕ × List Row))). u32 p.0 ++ (u32 p.1.0 ++ (spell_list u32 p.1.1.0 ++ spell_list spell_row p.1.1.1)))
+pub birth_format : IsFormat (λ (p : ℕ × (ℕ × (List ℕ × List Row))). u32 p.0 ++ (u32 p.1.0 ++ (spell_list u32 p.1.1.0 ++ spell_list spell_row p.1.1.1)))
     (λ p. IsShort p.0 × (IsShort p.1.0 × (ListFits IsShort p.1.1.0 × ListFits RowFits p.1.1.1))) birth_at
 birth_format = pair_format _ _ _ _ _ _ u32_format (pair_format _ _ _ _ _ _ u32_format
     (pair_format _ _ _ _ _ _ (list_format u32 IsShort u32_at u32_format) (list_format spell_row RowFits row_at row_format)))
@@ -252,26 +245,23 @@ module _ {B : Type 0} (tail : B → List ℕ) (site : ℕ) (bytes : List ℕ) (i
   is_none (Err Bad) given is_bad = no_record site bytes given
   is_none (Err NoMemory) given is_bad = absurd cc
 
-nothing_begins : (site : ℕ) (x : Record) (after : List ℕ) → CanBeReadBack site x → [] ≡ spell_record x ++ after → ⊥
-nothing_begins site x after fits e = omega (arith, ap length e, length-append (spell_record x) after, spelled x)
+pub nothing_begins : (x : Record) (after : List ℕ) → [] ≡ spell_record x ++ after → ⊥
+nothing_begins x after e = omega (arith, ap length e, length-append (spell_record x) after, spelled x)
 
--- no record's spelling begins another's
-pub free : PrefixFree
-free site x y a b fx fy e = prefix_free spell_record (CanBeReadBack site) (record_at site) (record_format site) x y a b fx fy e
-
--- no two lists have one spelling
-pub one_list : OneSpelling
-one_list site xs ys fx fy e = (list_free spell_record (CanBeReadBack site) (record_at site) (record_format site) xs ys [] [] fx fy (nothing_begins site) (nothing_begins site)
+-- no two lists that can be read back have one spelling
+pub one_list : (site : ℕ) (xs ys : List Record) → AllCanBeReadBack site xs → AllCanBeReadBack site ys → spelling xs ≡ spelling ys → xs ≡ ys
+one_list site xs ys fx fy e = (list_free spell_record (CanBeReadBack site) (record_at site) (record_again site) xs ys [] [] fx fy
+    (λ x after fits is. nothing_begins x after is) (λ x after fits is. nothing_begins x after is)
     (append-nil (spelling xs) ∙ e ∙ sym (append-nil (spelling ys)))).0
 
 -- and in the spelling of a list a record begins at each place
 pub never_bad : SpellingsAreRead
 never_bad site xs at fits bad =
-    let same = list_free spell_record (CanBeReadBack site) (record_at site) (record_format site) xs bad.front [] bad.rest fits bad.fits (nothing_begins site) bad.none (append-nil (spelling xs) ∙ bad.parts) in
+    let same = list_free spell_record (CanBeReadBack site) (record_at site) (record_again site) xs bad.front [] bad.rest fits bad.fits (λ x after fits is. nothing_begins x after is) bad.none (append-nil (spelling xs) ∙ bad.parts) in
     omega (arith, ap length same.1, bad.some)
 
 -- there is one first place where no record begins
 pub one_place : OnePlace
 one_place site bytes at place one two =
-    let same = list_free spell_record (CanBeReadBack site) (record_at site) (record_format site) one.front two.front one.rest two.rest one.fits two.fits one.none two.none (sym one.parts ∙ two.parts) in
+    let same = list_free spell_record (CanBeReadBack site) (record_at site) (record_again site) one.front two.front one.rest two.rest one.fits two.fits one.none two.none (sym one.parts ∙ two.parts) in
     one.place ∙ ap (λ rs. length (spelling rs)) same.0 ∙ sym two.place

@@ -2,17 +2,17 @@
 use Rattle.std.specs.Prelude.{◌≡◌, ◌++◌, ℕ, List}
 use Rattle.e3_types.specs.declared.records.Record.{Record}
 use Rattle.e3_types.specs.Spelling.{spell_record, spelling}
-use Rattle.e3_codec.specs.Fields.{CanBeReadBack, AllCanBeReadBack}
+use Rattle.e3_codec.specs.Fields.{CanBeTold, AllCanBeTold, AllCanBeReadBack}
 use Rattle.e3_codec.specs.Places.{FirstBad}
 
--- Of two different records of a site neither's spelling is a prefix of the other's: where two spellings with something
--- behind each are the same bytes, the records are one, and so is what is behind them.
+-- Of two different records of a site neither's spelling is a prefix of the other's, also where a transaction is none: where
+-- two spellings with something behind each are the same bytes, the records are one, and so is what is behind them.
 abbrev pub PrefixFree : Type 0
-PrefixFree = (site : ℕ) (x y : Record) (a b : List ℕ) → CanBeReadBack site x → CanBeReadBack site y → spell_record x ++ a ≡ spell_record y ++ b → (x ≡ y) × (a ≡ b)
+PrefixFree = (site : ℕ) (x y : Record) (a b : List ℕ) → CanBeTold site x → CanBeTold site y → spell_record x ++ a ≡ spell_record y ++ b → (x ≡ y) × (a ≡ b)
 
--- No two lists of records of a site have one spelling.
+-- No two lists of records of a site have one spelling, also where a transaction is none.
 abbrev pub OneSpelling : Type 0
-OneSpelling = (site : ℕ) (xs ys : List Record) → AllCanBeReadBack site xs → AllCanBeReadBack site ys → spelling xs ≡ spelling ys → xs ≡ ys
+OneSpelling = (site : ℕ) (xs ys : List Record) → AllCanBeTold site xs → AllCanBeTold site ys → spelling xs ≡ spelling ys → xs ≡ ys
 
 -- The spelling of a list has no place where no record begins.
 abbrev pub SpellingsAreRead : Type 0

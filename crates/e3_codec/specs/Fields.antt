@@ -24,6 +24,13 @@ ListFits fits xs = IsShort (length xs) × AllByRecursion fits xs
 abbrev pub SetFits : List ℕ → Type 0
 SetFits sites = (bits : ℕ) × (bits < 2 ^ 64) × (sites ≡ sites_of bits)
 
+-- the numbers of the transaction fit, whether or not it is one
+pub record TxnNumbersFit (t : Txn) : Type 0 where
+  pub site : IsShort t.site
+  pub inc : IsShort t.inc
+  pub seq : IsShort t.seq
+  pub sites : SetFits t.sites
+
 -- the transaction is one, and its numbers fit
 pub record TxnFits (t : Txn) : Type 0 where
   pub site : IsShort t.site
@@ -55,8 +62,23 @@ HasSpelling (log.Join t n) = Unit {0}
 HasSpelling (log.Attempt t n dir) = Unit {0}
 HasSpelling (log.Decision t dir) = Unit {0}
 
--- the record can be read back from its spelling in the log of the site: it has a spelling, each field is one that its
--- bytes can tell, and the operations of a vote have keys of the site, which the spelling leaves out
+-- the record can be told by its spelling in the log of the site: it has a spelling, each field is one that its bytes can
+-- tell, and the operations of a vote have keys of the site, which the spelling leaves out; a transaction may be none
+abbrev pub CanBeTold : ℕ → Record → Type 0
+CanBeTold site (log.Birth format own weights rows) =
+    IsShort format × (IsShort own × (ListFits IsShort weights × ListFits RowFits rows))
+CanBeTold site (log.Inc inc) = IsShort inc
+CanBeTold site (log.Vote t ops) = TxnNumbersFit t × ListFits (NumOpFits site) ops
+CanBeTold site (log.Join t n) = TxnNumbersFit t × IsShort n
+CanBeTold site (log.Attempt t n dir) = TxnNumbersFit t × (IsShort n × Unit {0})
+CanBeTold site (log.Decision t dir) = TxnNumbersFit t × Unit {0}
+
+-- each of these records can be told by its spelling in the log of the site
+abbrev pub AllCanBeTold : ℕ → List Record → Type 0
+AllCanBeTold site records = AllByRecursion (CanBeTold site) records
+
+-- the record can be read back from its spelling in the log of the site: it can be told by it, and its transaction
+-- is one
 abbrev pub CanBeReadBack : ℕ → Record → Type 0
 CanBeReadBack site (log.Birth format own weights rows) =
     IsShort format × (IsShort own × (ListFits IsShort weights × ListFits RowFits rows))

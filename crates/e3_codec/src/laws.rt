@@ -12,9 +12,9 @@ pub fn records_are_a_format()
     ensures { (site : ℕ) → IsFormat spell_record (CanBeReadBack site) (record_at site) }
 {}
 
-/// Of records that can be read back from the log of one site: no record's spelling begins another's, no two lists have
-/// one spelling, and in the spelling of a list a record begins at each place that is not its end. Bytes have one first
-/// place at most where no record begins.
+/// Of records that have a spelling and whose operations all have keys of one site: no record's spelling begins another's,
+/// and no two lists have one spelling, also where a transaction is none. In the spelling of a list that can be read back a
+/// record begins at each place that is not its end. Bytes have one first place at most where no record begins.
 pub fn each_list_has_one_spelling()
     ensures free { PrefixFree }
     ensures one { OneSpelling }

@@ -1,6 +1,6 @@
 // The four calls of a disk that add a frame.
 ghost use Rattle.std.specs.Prelude.{◌≡◌, ◌+◌, ◌≤◌, ◌<◌, ◌^◌, ◌++◌, ◌∷◌, [], List, ℕ, length, vec_capacity, OnOk, IfErr};
-ghost use Rattle.e3_disk.specs.Images.{Holds, Only, Tears};
+ghost use Rattle.e3_disk.specs.Images.{Holds, Only, Tears, overwritten};
 ghost use Rattle.e3_disk.specs.declared.fault.DiskFault.TheVariants.{Failed};
 ghost use Rattle.e3_log.specs.Frames.{OPEN as OPEN_GATE, Fits};
 ghost use Rattle.e3_log.specs.Stands.{DiskStands, ReadsBeforeOrAfter, Spends, staged};
@@ -64,6 +64,7 @@ pub fn commit<D: Disk>(disk: &mut D, end: u64, bytes: &[u8]) -> Result<(), DiskF
     ensures stands { (bodies : List (List ℕ)) (body : List ℕ) → bytes.now ≡ staged body → Fits body →
         DiskStands D.content D.image bodies end disk.old →
         OnOk result (DiskStands D.content D.image (bodies ++ body ∷ []) (end + 5 + length body) disk.new) }
+    ensures written { OnOk result (D.content disk.new ≡ overwritten (overwritten (D.content disk.old) (end + 1) bytes.now) end (OPEN_GATE ∷ [])) }
     ensures images { (bodies : List (List ℕ)) (body : List ℕ) → bytes.now ≡ staged body → Fits body →
         DiskStands D.content D.image bodies end disk.old →
         ReadsBeforeOrAfter bodies body (D.image disk.new) }

@@ -1,12 +1,12 @@
 // A log of frames on a disk.
 ghost use Rattle.std.specs.Prelude.{◌≡◌, ◌≢◌, ◌+◌, ◌-◌, ◌≤◌, ◌<◌, ◌^◌, ◌++◌, ◌∷◌, [], ◌⊎◌, ◌↔◌, true, false, Err, List as Items, ℕ, length, OnOk, IfOk, IfErr, IsErrOf, MatchResult};
-ghost use Rattle.e3_disk.specs.Images.{Within, SameImages, Only};
+ghost use Rattle.e3_disk.specs.Images.{Within, SameImages, Only, overwritten};
 ghost use Rattle.e3_disk.specs.Leaves.{code_of};
 ghost use Rattle.e3_disk.specs.Meters.{Rose, Keeps, armed};
-ghost use Rattle.e3_log.specs.Frames.{Reads, DamagedAt};
+ghost use Rattle.e3_log.specs.Frames.{OPEN, Reads, DamagedAt};
 ghost use Rattle.e3_log.specs.Found.{bodies_of, frames_from};
 ghost use Rattle.e3_log.specs.Opening.{TakesOne, StaysOff, StaysOn};
-ghost use Rattle.e3_log.specs.Stands.{Stands, ReadsBeforeOrAfter};
+ghost use Rattle.e3_log.specs.Stands.{Stands, ReadsBeforeOrAfter, staged};
 
 use crate::commit::{commit, put_staged};
 use crate::open::{Frame, prepare};
@@ -105,6 +105,10 @@ impl<D: Disk> Log<D> {
         // with Ok the log stands for one body more
         ensures stands { (bodies : Items (Items ℕ)) → Stands D.content D.image bodies self.old →
             OnOk result (Stands D.content D.image (bodies ++ body.now ∷ []) self.new) }
+
+        // with Ok the length, the body and a closed gate 00 stand behind the old gate, which is open
+        ensures written { OnOk result (D.content self.new.disk ≡
+            overwritten (overwritten (D.content self.old.disk) (self.old.end + 1) (staged body.now)) self.old.end (OPEN ∷ [])) }
 
         // however it ends, each image reads as before or with the whole new frame
         ensures images { (bodies : Items (Items ℕ)) → Stands D.content D.image bodies self.old →

@@ -1,4 +1,5 @@
-use Rattle.e3_codec.proofs.Records.{free, one_list, never_bad, one_place}
+use Rattle.e3_codec.proofs.Apart.{free, one_list}
+use Rattle.e3_codec.proofs.Records.{never_bad, one_place}
 use Rattle.e3_codec.proofs.laws.each_list_has_one_spelling.Goals as goal
 
 pub returns-clause-free : goal.returns-clause-free
