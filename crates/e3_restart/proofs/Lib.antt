@@ -1,0 +1,3 @@
+mod Freedom
+mod Follows
+mod Disorder
