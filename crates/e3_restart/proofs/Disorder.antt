@@ -1,5 +1,5 @@
 -- The first place that the test finds is the first place where the records are out of order.
-use Rattle.std.proofs.Common.{◌≡◌, ◌<◌, ◌++◌, ◌∷◌, [], ℕ, suc, ◌+◌, Bool, true, false, List, length, take, Option, Some, None, MatchOption, refl, sym, ap, subst, ◌∙◌, arith, length-append}
+use Rattle.std.proofs.Common.{◌≡◌, ◌<◌, ◌++◌, ◌∷◌, [], ℕ, suc, ◌+◌, Bool, true, false, List, length, take, Option, Some, None, MatchOption, refl, sym, subst, ◌∙◌, arith, length-append}
 use Rattle.std.proofs.lemmas.Bool.{false≢true}
 use Rattle.e3_types.specs.declared.records.Record.{Record}
 use Rattle.e3_world.specs.Orderly.{IsOrderly, OrderlyAfter}

@@ -1,7 +1,6 @@
 -- The test of a record over those before it is what a log asks of it.
-use Rattle.std.proofs.Common.{◌≡◌, ◌≢◌, ◌<◌, ◌≤◌, ◌==◌, ◌&&◌, ◌||◌, ◌∷◌, [], ℕ, suc, Bool, true, false, not, List, length, nat_lt, nat_le, refl, sym, ap, subst, ◌∙◌, arith, eq-eqb}
-use Rattle.std.specs.List.{list_all}
-use Rattle.std.proofs.lemmas.Bool.{and_parts, and_from, true≢false, false≢true, eqb-true, ne_eqb, ltb-true, lt-ltb, leb-true, le-leb}
+use Rattle.std.proofs.Common.{◌≡◌, ◌≢◌, ◌<◌, ◌≤◌, ◌==◌, ◌||◌, ◌∷◌, [], ℕ, suc, Bool, true, false, not, List, length, nat_lt, nat_le, refl, sym, ap, ◌∙◌, arith, eq-eqb}
+use Rattle.std.proofs.lemmas.Bool.{and_parts, and_from, false≢true, eqb-true, ne_eqb, ltb-true, lt-ltb, leb-true, le-leb}
 use Rattle.e3_types.specs.declared.records.Record.{Record}
 use Rattle.e3_types.specs.declared.records.Record.TheVariants as log
 use Rattle.e3_types.specs.declared.transactions.Dir.{Dir}
@@ -13,9 +12,9 @@ use Rattle.e3_types.specs.declared.transactions.State.TheVariants.{Q, W, Pc, Pa,
 use Rattle.e3_types.specs.declared.transactions.Txn.{Txn}
 use Rattle.e3_types.specs.Same.{same_dir, same_state}
 use Rattle.e3_types.specs.Sets.{has_site}
-use Rattle.e3_world.specs.Logs.{last_elected, last_attempt, has_voted, state_of, is_undecided, logged_inc}
-use Rattle.e3_world.specs.Orderly.{MayFollow, IsBirth, IsInc, IsVote, IsJoin, IsAttempt, IsDecision, names_ascend, ops_ascend, is_known, is_free, is_among}
-use Rattle.e3_restart.specs.Orderly.{is_weighed, are_weights, is_birth, is_next_inc, are_numbered, is_first_vote, is_next_join, is_backed, is_next_attempt, is_first_decision, is_orderly_next}
+use Rattle.e3_world.specs.Logs.{last_elected, state_of, logged_inc}
+use Rattle.e3_world.specs.Orderly.{MayFollow, IsBirth, IsInc, IsVote, IsJoin, IsAttempt, IsDecision, is_among}
+use Rattle.e3_restart.specs.Orderly.{is_weighed, is_birth, is_next_inc, is_first_vote, is_next_join, is_next_attempt, is_first_decision, is_orderly_next}
 
 -- a list is empty where its length is 0
 empty-length : (xs : List Record) → (length xs == 0) ≡ true → xs ≡ []
@@ -162,8 +161,8 @@ follows-attempt : (site : ℕ) (before : List Record) (t : Txn) (n : ℕ) (d : D
 follows-attempt site before t n d a =
     and_from _ _ (and_from _ _ (and_from _ _ (and_from _ _ a.known a.undecided) (eq-eqb n (last_elected t before) a.elected)) (lt-to _ _ a.rises))
     (so-if (n == 1) _ (λ one.
-      let both = a.first (eqb-true n 1 one) in
-      and_from _ _ both.0 (ap (λ (x : Dir). same_dir x Commit) both.1)))
+    let both = a.first (eqb-true n 1 one) in
+    and_from _ _ both.0 (ap (λ (x : Dir). same_dir x Commit) both.1)))
 
 decision-follows : (site : ℕ) (before : List Record) (t : Txn) (d : Dir) → is_first_decision site before t d ≡ true → IsDecision site before t d
 decision-follows site before t d h =

@@ -1,5 +1,5 @@
 -- A lock is free exactly where none of the votes of undecided transactions has one that opposes it.
-use Rattle.std.proofs.Common.{◌≡◌, ◌∷◌, ◌++◌, ◌||◌, ◌&&◌, ℕ, [], List, Bool, true, false, not, map, filter, refl, ap, sym, ◌∙◌}
+use Rattle.std.proofs.Common.{◌≡◌, ◌∷◌, ◌||◌, ◌&&◌, ℕ, [], List, Bool, true, false, not, refl, ap, ◌∙◌}
 use Rattle.std.specs.List.{list_any, flat_map}
 use Rattle.std.proofs.lemmas.List.Folds.{list_any-append}
 use Rattle.e3_types.specs.declared.locks.Lock.{Lock}

@@ -1,5 +1,5 @@
 -- Tests of whether records are the log of a site, and the first place where they are not.
-use Rattle.std.specs.Prelude.{◌≡◌, ◌<◌, ◌==◌, ◌&&◌, ◌||◌, ◌++◌, ◌∷◌, [], if◌then◌else◌, ℕ, suc, nat_lt, nat_le, Bool, not, List, length, take, Option, Some, None}
+use Rattle.std.specs.Prelude.{◌<◌, ◌==◌, ◌&&◌, ◌||◌, ◌++◌, ◌∷◌, [], if◌then◌else◌, ℕ, suc, nat_lt, nat_le, Bool, not, List, length, take, Option, Some, None}
 use Rattle.std.specs.List.{list_all}
 use Rattle.e3_types.specs.declared.records.Record.{Record}
 use Rattle.e3_types.specs.declared.records.Record.TheVariants as log

@@ -5,17 +5,16 @@ use Rattle.e3_types.specs.declared.records.Record.{Record}
 use Rattle.e3_types.specs.declared.scenarios.Scenario.{Scenario}
 use Rattle.e3_site.specs.SiteView.{SiteView}
 use Rattle.e3_site.specs.StandsFor.{StandsFor, IsRisenWith}
-use Rattle.e3_world.specs.Given.{IsGiven}
 use Rattle.e3_world.specs.Legal.{IsLegal}
-use Rattle.e3_world.specs.Orderly.{weights_in}
+use Rattle.e3_world.specs.Orderly.{IsOrderly, weights_in}
 use Rattle.e3_restart.specs.declared.rebuilding.RebuildFault.{RebuildFault}
 use Rattle.e3_restart.specs.declared.rebuilding.RebuildFault.TheVariants.{Order, NoMemory}
 use Rattle.e3_restart.specs.Orderly.{IsFirstDisorder}
 
--- a fault of order names the first place that is out of order; want of memory may always come
+-- a fault of order names the first place that is out of order; memory is wanted only where there is none
 abbrev pub IsFaultOf : ℕ → List Record → RebuildFault → Type 0
 IsFaultOf site records (Order at) = IsFirstDisorder site records at
-IsFaultOf site records NoMemory = Unit {0}
+IsFaultOf site records NoMemory = IsOrderly site records
 
 -- the site has the weights of the log's birth, rose with this log, and did nothing since
 abbrev pub IsRebuilt : ℕ → List Record → SiteView → Type 0

@@ -41,7 +41,14 @@ fn names_ascend(rows: &[Row]) -> bool
     true
 }
 
-fn is_birth(before: &[Record], site: u32, format: u32, number: u32, weights: &[u32], rows: &[Row]) -> bool
+fn is_birth(
+    before: &[Record],
+    site: u32,
+    format: u32,
+    number: u32,
+    weights: &[u32],
+    rows: &[Row],
+) -> bool
     ensures { result ≡ is_birth site before.now format number weights.now rows.now }
 {
     before.is_empty()
@@ -222,7 +229,14 @@ fn is_orderly_next(site: u32, before: &[Record], r: &Record) -> bool
             site: number,
             weights,
             rows,
-        } => is_birth(before, site, *format, *number, weights.as_slice(), rows.as_slice()),
+        } => is_birth(
+            before,
+            site,
+            *format,
+            *number,
+            weights.as_slice(),
+            rows.as_slice(),
+        ),
         Record::Inc { inc } => is_next_inc(before, *inc),
         Record::Vote { txn, ops } => is_first_vote(site, before, txn, ops.as_slice()),
         Record::Join { txn, n } => is_next_join(site, before, txn, *n),

@@ -1,7 +1,7 @@
 // The site that rose with a log.
 ghost use Rattle.std.specs.Prelude.{◌≡◌, ◌<◌, IfOk, IfErr, length};
 ghost use Rattle.e3_world.specs.Orderly.{IsOrderly, weights_in};
-ghost use Rattle.e3_restart.specs.Rebuilt.{IsFaultOf, IsRebuilt};
+ghost use Rattle.e3_restart.specs.Rebuilt.{IsFaultOf, IsRebuilt, StandsForEach};
 
 use crate::order::{first_disorder, weights_in};
 use e3_readings::present_log;
@@ -36,12 +36,13 @@ pub fn rebuild(alloc: Global, site: u32, records: &[Record]) -> Result<Site, Reb
     ensures orderly { IfOk result (λ s. IsOrderly site records.now) }
     ensures fault { IfErr result (IsFaultOf site records.now) }
     ensures risen { IfOk result (IsRebuilt site records.now) }
+    ensures stands { IfOk result (StandsForEach records.now) }
 {
-    if let Some(at) = first_disorder(site, records) {
-        return Err(RebuildFault::Order { at });
-    }
-    match copies(alloc, records) {
-        Ok((weights, log)) => Ok(Site::rise(alloc, weights, site, log)),
-        Err(_) => Err(RebuildFault::NoMemory),
+    match first_disorder(site, records) {
+        Some(at) => Err(RebuildFault::Order { at }),
+        None => match copies(alloc, records) {
+            Ok((weights, log)) => Ok(Site::rise(alloc, weights, site, log)),
+            Err(_) => Err(RebuildFault::NoMemory),
+        },
     }
 }
