@@ -1,2 +1,5 @@
 mod Notes
 mod Logs
+mod Rows
+mod Shape
+mod Combining
