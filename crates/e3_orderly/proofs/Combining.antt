@@ -1,21 +1,16 @@
 -- A log whose records stand in place, come in turn, suit their site and whose votes fit is orderly.
-use Rattle.std.proofs.Common.{◌≡◌, ◌≢◌, ◌≤◌, ◌==◌, ◌&&◌, ◌++◌, ◌∷◌, [], ℕ, suc, Bool, true, false, List, length, nat_le, nat_lt, refl, sym, subst, ap, ◌∙◌, fold, arith, eq-eqb}
-use Rattle.std.specs.Prelude.{Contains}
-use Rattle.std.specs.List.{list_all, AllByRecursion as Each}
+use Rattle.std.proofs.Common.{◌≡◌, ◌≢◌, ◌≤◌, ◌++◌, ◌∷◌, [], ℕ, true, List, length, refl, sym, subst, ap, ◌∙◌, arith, eq-eqb}
+use Rattle.std.specs.List.{AllByRecursion as Each}
 use Rattle.std.proofs.lemmas.Bool.{and_from, le-leb}
 use Rattle.std.proofs.lemmas.Grind.{fold-append}
-use Rattle.e3_types.specs.declared.entries.Entry.{Entry}
 use Rattle.e3_types.specs.declared.records.Record.{Record}
 use Rattle.e3_types.specs.declared.records.Record.TheVariants as log
 use Rattle.e3_types.specs.declared.scenarios.Scenario.{Scenario}
 use Rattle.e3_types.specs.declared.transactions.Txn.{Txn}
-use Rattle.e3_types.specs.Sets.{has_site}
 use Rattle.e3_world.specs.Given.{IsGiven}
-use Rattle.e3_world.specs.Legal.{IsLegal}
 use Rattle.e3_world.specs.Logs.{logged_inc}
-use Rattle.e3_world.specs.Moves.{birth, log_of, moves_of, rows_at}
-use Rattle.e3_world.specs.Lives.{life_at}
-use Rattle.e3_world.specs.Orderly.{IsOrderly, OrderlyAfter, MayFollow, IsBirth, weights_by, weights_in, is_among, is_known}
+use Rattle.e3_world.specs.Moves.{birth, log_of, moves_of}
+use Rattle.e3_world.specs.Orderly.{OrderlyAfter, MayFollow, weights_by, weights_in, is_among, is_known}
 use Rattle.e3_world.proofs.Pushes.{life_log_at}
 use Rattle.e3_trails.specs.Bounds.{SuitsLog}
 use Rattle.e3_trails.proofs.Holding.{Holds, legal_holds}
@@ -23,11 +18,7 @@ use Rattle.e3_orderly.specs.Orderly.{VotesFit, Fits, LogsAreOrderly}
 use Rattle.e3_orderly.specs.Turns.{ComesInTurn, InTurnAfter}
 use Rattle.e3_orderly.proofs.Logs.{come_in_turn}
 use Rattle.e3_orderly.proofs.Rows.{rows_ascend}
-use Rattle.e3_orderly.proofs.Shape.{Stands, StandAfter, legal_shaped}
-
--- the site is one of the scenario's
-abbrev pub IsSite : Scenario → ℕ → Type 0
-IsSite sc site = (1 ≤ site) × (site ≤ length sc.weights)
+use Rattle.e3_orderly.proofs.Shape.{IsSite, Stands, StandAfter, legal_shaped}
 
 -- the weights of a log that is not empty are the scenario's
 abbrev HasWeights : Scenario → List Record → Type 0
@@ -58,14 +49,14 @@ known sc site before t has some among =
     let P : List ℕ → Type 0 = λ w. is_among site w t.sites ≡ true in
     and_from _ _ (le-leb 1 (logged_inc before) some) (subst P (sym same) among)
 
-may_follow : (sc : Scenario) (site : ℕ) (before : List Record) (r : Record) → IsGiven sc → (Stands sc site before r → r ≡ birth sc site → IsSite sc site) → HasWeights sc before →
+may_follow : (sc : Scenario) (site : ℕ) (before : List Record) (r : Record) → IsGiven sc → HasWeights sc before →
     Stands sc site before r → SuitsLog sc.weights site r → ComesInTurn before r → Fits before r → MayFollow site before r
-may_follow sc site before (log.Birth format number weights rows) given here has stands suits turn fits =
+may_follow sc site before (log.Birth format number weights rows) given has stands suits turn fits =
     let P : List Record → Type 0 = λ l. MayFollow site l (log.Birth format number weights rows) in
     let Q : Record → Type 0 = λ r. MayFollow site [] r in
-    subst P (sym stands.0) (subst Q (sym stands.1) (birth_follows sc site given (here stands stands.1)))
-may_follow sc site before (log.Inc n) given here has stands suits turn fits = record { born = stands.0; next = stands.1 }
-may_follow sc site before (log.Vote t ops) given here has stands suits turn fits = record {
+    subst P (sym stands.0) (subst Q (sym stands.1) (birth_follows sc site given stands.2))
+may_follow sc site before (log.Inc n) given has stands suits turn fits = record { born = stands.0; next = stands.1 }
+may_follow sc site before (log.Vote t ops) given has stands suits turn fits = record {
   known = known sc site before t has stands suits.0;
   fresh = turn.fresh;
   not_joined = turn.not_joined;
@@ -73,15 +64,15 @@ may_follow sc site before (log.Vote t ops) given here has stands suits turn fits
   few = fits.few;
   free = fits.free;
 }
-may_follow sc site before (log.Join t n) given here has stands suits turn fits = record { known = known sc site before t has stands suits; rises = turn }
-may_follow sc site before (log.Attempt t n dir) given here has stands suits turn fits = record {
+may_follow sc site before (log.Join t n) given has stands suits turn fits = record { known = known sc site before t has stands suits; rises = turn }
+may_follow sc site before (log.Attempt t n dir) given has stands suits turn fits = record {
   known = known sc site before t has stands suits;
   undecided = turn.undecided;
   elected = turn.elected;
   rises = turn.rises;
   first = turn.first;
 }
-may_follow sc site before (log.Decision t dir) given here has stands suits turn fits = record {
+may_follow sc site before (log.Decision t dir) given has stands suits turn fits = record {
   known = known sc site before t has stands suits;
   undecided = turn.undecided;
   voted = turn.voted;
@@ -110,22 +101,17 @@ has_more sc site (b ∷ before) r has stands = λ some.
     let there : (b ∷ before) ≢ [] = λ e. absurd cc in
     fold-append weights_by [] (b ∷ before) (r ∷ []) ∙ keeps_weights sc site (b ∷ before) r (weights_in (b ∷ before)) there stands ∙ has there
 
-combine : (sc : Scenario) (site : ℕ) (before rest : List Record) → IsGiven sc → (before ++ rest ≢ [] → IsSite sc site) → HasWeights sc before →
+combine : (sc : Scenario) (site : ℕ) (before rest : List Record) → IsGiven sc → HasWeights sc before →
     StandAfter sc site before rest → Each (SuitsLog sc.weights site) rest → InTurnAfter before rest → VotesFit before rest → OrderlyAfter site before rest
-combine sc site before [] given here has stand suits turn fits = tt
-combine sc site before (r ∷ rest) given here has stand suits turn fits = (
-  may_follow sc site before r given (λ s b. here (some before)) has stand.0 suits.0 turn.0 fits.0,
-  combine sc site (before ++ r ∷ []) rest given (λ s. here (some before)) (has_more sc site before r has stand.0) stand.1 suits.1 turn.1 fits.1,
+combine sc site before [] given has stand suits turn fits = tt
+combine sc site before (r ∷ rest) given has stand suits turn fits = (
+  may_follow sc site before r given has stand.0 suits.0 turn.0 fits.0,
+  combine sc site (before ++ r ∷ []) rest given (has_more sc site before r has stand.0) stand.1 suits.1 turn.1 fits.1,
 )
-  where
-    some : (l : List Record) → l ++ r ∷ rest ≢ []
-    some [] = λ e. absurd cc
-    some (x ∷ xs) = λ e. absurd cc
 
-pub logs_are_orderly_at : (sc : Scenario) (h : List Entry) (site : ℕ) → IsGiven sc → IsLegal sc h → (log_of sc h site ≢ [] → IsSite sc site) → VotesFit [] (log_of sc h site) →
-    IsOrderly site (log_of sc h site)
-logs_are_orderly_at sc h site given legal here fits =
+pub logs_are_orderly : LogsAreOrderly
+logs_are_orderly sc h site given legal fits =
     let Q : List Record → Type 0 = Each (SuitsLog sc.weights site) in
     let holds : Holds sc h = legal_holds sc h given legal in
-    combine sc site [] (log_of sc h site) given here (λ e. absurd (e refl)) (legal_shaped sc h site given legal).log
+    combine sc site [] (log_of sc h site) given (λ e. absurd (e refl)) (legal_shaped sc h site given legal).log
     (subst Q (life_log_at (moves_of sc h site)) (holds.now.sites site).life.log) (come_in_turn sc h site given legal) fits

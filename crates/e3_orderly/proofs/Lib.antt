@@ -3,3 +3,4 @@ mod Logs
 mod Rows
 mod Shape
 mod Combining
+mod Tails

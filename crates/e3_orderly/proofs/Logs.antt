@@ -1,5 +1,5 @@
 -- The records of each transaction come in turn in the log of each site.
-use Rattle.std.proofs.Common.{◌≡◌, ◌⊎◌, inl, inr, ◌==◌, ◌++◌, ◌∷◌, [], ℕ, Bool, true, false, List, refl, sym, ap, subst, ◌∙◌, append_assoc, append-nil, fold, eqb-true, eq-eqb, if◌then◌else◌}
+use Rattle.std.proofs.Common.{◌≡◌, ◌==◌, ◌++◌, ◌∷◌, [], ℕ, Bool, true, false, List, refl, sym, ap, subst, ◌∙◌, append-nil, fold, eqb-true, eq-eqb, if◌then◌else◌}
 use Rattle.std.proofs.lemmas.Bool.{cond-true, cond-false}
 use Rattle.std.proofs.lemmas.List.Sums.{fold-append}
 use Rattle.e3_types.specs.declared.entries.Entry.{Entry}
@@ -19,7 +19,7 @@ use Rattle.e3_protocol.specs.Weights.{party_of}
 use Rattle.e3_protocol.proofs.Keep.{law}
 use Rattle.e3_protocol.proofs.Shares.{majorities_overlap}
 use Rattle.e3_refine.specs.Rows.{Reads}
-use Rattle.e3_refine.specs.Trails.{marks_in, marks_after, silent_marks, IsMade, IsMadeMove, IsMadeRise, MadeAfter}
+use Rattle.e3_refine.specs.Trails.{marks_in, silent_marks, IsMade, IsMadeMove, MadeAfter}
 use Rattle.e3_refine.specs.Views.{notes_of, leader_of, letters_of}
 use Rattle.e3_refine.proofs.Following.{TrailOk, trail_ok, start_ok, moves_here, moves_there}
 use Rattle.e3_refine.proofs.Readings.{reads_more}

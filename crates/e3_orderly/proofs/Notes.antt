@@ -3,12 +3,10 @@ use Rattle.std.proofs.Common.{◌≡◌, ◌<◌, ◌++◌, ◌∷◌, [], ℕ, 
 use Rattle.e3_types.specs.declared.records.Record.{Record}
 use Rattle.e3_types.specs.declared.records.Record.TheVariants as log
 use Rattle.e3_types.specs.declared.transactions.Dir.{Dir}
-use Rattle.e3_types.specs.declared.transactions.Dir.TheVariants.{Commit}
-use Rattle.e3_types.specs.declared.transactions.State.TheVariants.{Q}
 use Rattle.e3_types.specs.declared.transactions.Txn.{Txn}
 use Rattle.e3_types.specs.Same.{same_txn}
-use Rattle.e3_world.specs.Logs.{last_elected, last_attempt, has_voted, state_of, is_undecided, decision, attempted}
-use Rattle.e3_protocol.specs.Logs.{IsIn, Note, Vote, Join, Attempt, Decision, elected, attempt, status, Final, Undecided, FitsAttempt, FitsDecision, Fits, Orderly}
+use Rattle.e3_world.specs.Logs.{last_elected, is_undecided}
+use Rattle.e3_protocol.specs.Logs.{Note, Vote, Join, Attempt, Decision, Undecided, FitsAttempt, FitsDecision, Fits, Orderly}
 use Rattle.e3_protocol.specs.Marks.{behind}
 use Rattle.e3_protocol.proofs.Logs.{final_is}
 use Rattle.e3_refine.specs.Rows.{Reads}

@@ -1,5 +1,5 @@
 -- Where births and incarnations stand in the log of a site, also behind its open tail.
-use Rattle.std.proofs.Common.{◌≡◌, ◌≢◌, ◌≤◌, ◌==◌, ◌++◌, ◌∷◌, [], ℕ, zero, suc, Bool, true, false, List, Option, Some, None, refl, sym, subst, ap, ◌∙◌, append-nil, append_assoc, eqb-true, fold, arith}
+use Rattle.std.proofs.Common.{◌≡◌, ◌≢◌, ◌≤◌, ◌==◌, ◌++◌, ◌∷◌, [], ℕ, zero, suc, Bool, true, false, List, Option, Some, None, refl, sym, subst, ap, ◌∙◌, append-nil, append_assoc, eqb-true, fold, length, arith}
 use Rattle.std.specs.List.{AllByRecursion as Each}
 use Rattle.std.proofs.lemmas.Grind.{fold-append, flat_map-append}
 use Rattle.std.proofs.lemmas.Option.{same_Some}
@@ -14,9 +14,9 @@ use Rattle.e3_types.specs.declared.records.Record.TheVariants as log
 use Rattle.e3_types.specs.declared.scenarios.Scenario.{Scenario}
 use Rattle.e3_world.specs.Given.{IsGiven}
 use Rattle.e3_world.specs.Items.{is_up_at}
-use Rattle.e3_world.specs.Legal.{Guard, IsLegal, LegalAfter, made_by, entry_of}
+use Rattle.e3_world.specs.Legal.{Guard, IsLegal, LegalAfter, made_by}
 use Rattle.e3_world.specs.Logs.{logged_inc, logged_inc_by}
-use Rattle.e3_world.specs.Moves.{Move, Rose, Past, Tail, own, past_of, past_by, kept_moves, left_by, log_by, recorded, rise_records, birth, log_of, open_tail, moves_of, plain_input}
+use Rattle.e3_world.specs.Moves.{Move, Rose, Past, Tail, own, past_of, past_by, kept_moves, left_by, log_by, recorded, rise_records, birth, open_tail, moves_of}
 use Rattle.e3_world.specs.Progress.{up_behind}
 use Rattle.e3_world.proofs.Pushes.{past_push, legal_push}
 use Rattle.e3_world.proofs.Readings.{own_same, own_other, up_same, up_other}
@@ -24,9 +24,13 @@ use Rattle.e3_trails.proofs.Holding.{Holds, legal_holds}
 use Rattle.e3_trails.proofs.Tracing.{OfTxn}
 use Rattle.e3_trails.proofs.Clocks.{due_says, says_records, fall_of_txn}
 
+-- the site is one of the scenario's
+abbrev pub IsSite : Scenario → ℕ → Type 0
+IsSite sc site = (1 ≤ site) × (site ≤ length sc.weights)
+
 -- the birth stands first, each incarnation is one more than the last, and the rest stands behind one
 abbrev pub Stands : Scenario → ℕ → List Record → Record → Type 0
-Stands sc site before (log.Birth format number weights rows) = (before ≡ []) × (log.Birth format number weights rows ≡ birth sc site)
+Stands sc site before (log.Birth format number weights rows) = (before ≡ []) × (log.Birth format number weights rows ≡ birth sc site) × IsSite sc site
 Stands sc site before (log.Inc n) = (before ≢ []) × (n ≡ suc (logged_inc before))
 Stands sc site before r = 1 ≤ logged_inc before
 
@@ -70,11 +74,11 @@ stand_txns sc site before (r ∷ rs) some all =
     (stand_one sc site before r all.0 some, stand_txns sc site (before ++ r ∷ []) rs (omega (arith, some, same)) all.1)
 
 -- so do those of a rise with the next incarnation
-stand_rise : (sc : Scenario) (site inc : ℕ) (rs : List Record) → inc ≡ suc (logged_inc rs) → StandAfter sc site rs (rise_records sc site inc rs)
-stand_rise sc site inc [] next = ((refl, refl), (((λ e. absurd cc), next), tt))
-stand_rise sc site inc (r ∷ rs) next = (((λ e. absurd cc), next), tt)
+stand_rise : (sc : Scenario) (site inc : ℕ) (rs : List Record) → IsSite sc site → inc ≡ suc (logged_inc rs) → StandAfter sc site rs (rise_records sc site inc rs)
+stand_rise sc site inc [] here next = ((refl, refl, here), (((λ e. absurd cc), next), tt))
+stand_rise sc site inc (r ∷ rs) here next = (((λ e. absurd cc), next), tt)
 
-log_append : (xs ys : List Move) → log_by (xs ++ ys) ≡ log_by xs ++ log_by ys
+pub log_append : (xs ys : List Move) → log_by (xs ++ ys) ≡ log_by xs ++ log_by ys
 log_append xs ys = flat_map-append recorded xs ys
 
 -- what holds of a site so far
@@ -103,9 +107,9 @@ kept_stands sc site w up kept was = by kept w.tail refl
     by true None is = none
     by false o is = none
 
-risen : (sc : Scenario) (site : ℕ) (w : Past) (up kept : Bool) (inc : ℕ) → inc ≡ suc (logged_inc (log_by (w.moves ++ kept_moves site kept w.tail))) → Shaped sc site w up →
+risen : (sc : Scenario) (site : ℕ) (w : Past) (up kept : Bool) (inc : ℕ) → IsSite sc site → inc ≡ suc (logged_inc (log_by (w.moves ++ kept_moves site kept w.tail))) → Shaped sc site w up →
     Shaped sc site (past_by sc site w (record { owner = site; act = Rise kept inc })) true
-risen sc site w up kept inc next was =
+risen sc site w up kept inc here next was =
     let mine : List Move = w.moves ++ kept_moves site kept w.tail in
     let records : List Record = rise_records sc site inc (log_by mine) in
     let m : Move = record { site = site; did = Rose inc records } in
@@ -114,7 +118,7 @@ risen sc site w up kept inc next was =
     let P : List Record → Type 0 = λ l. StandAfter sc site [] l in
     let incs : logged_inc (log_by (w.moves ++ (kept_moves site kept w.tail ++ m ∷ []))) ≡ inc = ap logged_inc logs ∙ inc_rise sc site inc (log_by mine) (log_by mine) in
     record {
-      log = subst P (sym logs) (stand_append sc site [] (log_by mine) records (kept_stands sc site w up kept was) (stand_rise sc site inc (log_by mine) next));
+      log = subst P (sym logs) (stand_append sc site [] (log_by mine) records (kept_stands sc site w up kept was) (stand_rise sc site inc (log_by mine) here next));
       some = λ is. omega (arith, incs, next);
       shut = λ is. refl;
       tail = λ tl is. absurd cc;
@@ -128,15 +132,15 @@ left_stands sc site l Fault inputs records all tl is =
     let P : Tail → Type 0 = λ t. StandAfter sc site l t.records in subst P same all
 left_stands sc site l why inputs records all tl is = absurd cc
 
-rise_failed : (sc : Scenario) (site : ℕ) (w : Past) (up kept : Bool) (inc : ℕ) (why : Why) → inc ≡ suc (logged_inc (log_by (w.moves ++ kept_moves site kept w.tail))) →
+rise_failed : (sc : Scenario) (site : ℕ) (w : Past) (up kept : Bool) (inc : ℕ) (why : Why) → IsSite sc site → inc ≡ suc (logged_inc (log_by (w.moves ++ kept_moves site kept w.tail))) →
     Shaped sc site w up → Shaped sc site (past_by sc site w (record { owner = site; act = RiseFall kept inc why })) false
-rise_failed sc site w up kept inc why next was =
+rise_failed sc site w up kept inc why here next was =
     let mine : List Move = w.moves ++ kept_moves site kept w.tail in
     record {
       log = kept_stands sc site w up kept was;
       some = λ is. absurd cc;
       shut = λ is. absurd cc;
-      tail = left_stands sc site (log_by mine) why [] (rise_records sc site inc (log_by mine)) (stand_rise sc site inc (log_by mine) next);
+      tail = left_stands sc site (log_by mine) why [] (rise_records sc site inc (log_by mine)) (stand_rise sc site inc (log_by mine) here next);
     }
 
 -- an act that makes no move, behind which the site is up where it was, or down
@@ -173,22 +177,22 @@ fallen sc site w inputs records why all was =
     })
 
 -- what an act needs: a step and a fall a site that is up, and records of transactions; a rise the next incarnation
-abbrev Needs : ℕ → Past → Bool → Act → Type 0
-Needs site w up (Step i records outs events) = (up ≡ true) × Each OfTxn records
-Needs site w up (Fall inputs records why) = (up ≡ true) × Each OfTxn records
-Needs site w up (Rise kept inc) = inc ≡ suc (logged_inc (log_by (w.moves ++ kept_moves site kept w.tail)))
-Needs site w up (RiseFall kept inc why) = inc ≡ suc (logged_inc (log_by (w.moves ++ kept_moves site kept w.tail)))
-Needs site w up act = Unit {0}
+abbrev Needs : Scenario → ℕ → Past → Bool → Act → Type 0
+Needs sc site w up (Step i records outs events) = (up ≡ true) × Each OfTxn records
+Needs sc site w up (Fall inputs records why) = (up ≡ true) × Each OfTxn records
+Needs sc site w up (Rise kept inc) = IsSite sc site × (inc ≡ suc (logged_inc (log_by (w.moves ++ kept_moves site kept w.tail))))
+Needs sc site w up (RiseFall kept inc why) = IsSite sc site × (inc ≡ suc (logged_inc (log_by (w.moves ++ kept_moves site kept w.tail))))
+Needs sc site w up act = Unit {0}
 
-acted : (sc : Scenario) (site owner : ℕ) (w : Past) (up : Bool) (act : Act) → Needs site w up act → Shaped sc site w up →
+acted : (sc : Scenario) (site owner : ℕ) (w : Past) (up : Bool) (act : Act) → Needs sc site w up act → Shaped sc site w up →
     Shaped sc site (past_by sc site w (record { owner = owner; act = act })) (up_behind up act)
 acted sc site owner w up (Step i records outs events) needs was =
     let P : Bool → Type 0 = λ b. Shaped sc site w b → Shaped sc site (past_by sc site w (record { owner = owner; act = Step i records outs events })) b in
     subst P (sym needs.0) (stepped sc site w _ records (append-nil records) needs.1) was
 acted sc site owner w up (Fall inputs records why) needs was =
     let P : Bool → Type 0 = λ b. Shaped sc site w b in fallen sc site w _ records why needs.1 (subst P needs.0 was)
-acted sc site owner w up (Rise kept inc) needs was = risen sc site w up kept inc needs was
-acted sc site owner w up (RiseFall kept inc why) needs was = rise_failed sc site w up kept inc why needs was
+acted sc site owner w up (Rise kept inc) needs was = risen sc site w up kept inc needs.0 needs.1 was
+acted sc site owner w up (RiseFall kept inc why) needs was = rise_failed sc site w up kept inc why needs.0 needs.1 was
 acted sc site owner w up Miss needs was = quiet sc site w up false (λ is. absurd cc) was
 acted sc site owner w up Cut needs was = quiet sc site w up false (λ is. absurd cc) was
 acted sc site owner w up (Drop number) needs was = quiet sc site w up up (λ is. is) was
@@ -197,7 +201,7 @@ acted sc site owner w up (Line number) needs was = quiet sc site w up up (λ is.
 
 -- each guard gives what its act needs
 guard_needs : (sc : Scenario) (h : List Entry) (owner : ℕ) (act : Act) → IsGiven sc → Holds sc h → Guard sc h (record { owner = owner; act = act }) →
-    Needs owner (past_of sc owner (own owner h)) (is_up_at h owner) act
+    Needs sc owner (past_of sc owner (own owner h)) (is_up_at h owner) act
 guard_needs sc h zero (Step i records outs events) given was guard = absurd guard
 guard_needs sc h zero (Fall inputs records why) given was guard = absurd guard
 guard_needs sc h zero (Rise kept inc) given was guard = absurd guard
@@ -213,9 +217,9 @@ guard_needs sc h (suc o) (Fall inputs records why) given was guard =
     let P : List Record → Type 0 = Each OfTxn in
     (guard.up, subst P (sym guard.made) (fall_of_txn sc inputs h (suc o) given guard.up guard.due was))
 guard_needs sc h (suc o) (Rise kept inc) given was guard =
-    guard.next ∙ ap (λ l. suc (logged_inc l)) (sym (log_append (moves_of sc h (suc o)) (kept_moves (suc o) kept (open_tail sc h (suc o)))))
+    ((omega arith, guard.rising.exists), guard.next ∙ ap (λ l. suc (logged_inc l)) (sym (log_append (moves_of sc h (suc o)) (kept_moves (suc o) kept (open_tail sc h (suc o))))))
 guard_needs sc h (suc o) (RiseFall kept inc why) given was guard =
-    guard.next ∙ ap (λ l. suc (logged_inc l)) (sym (log_append (moves_of sc h (suc o)) (kept_moves (suc o) kept (open_tail sc h (suc o)))))
+    ((omega arith, guard.rising.exists), guard.next ∙ ap (λ l. suc (logged_inc l)) (sym (log_append (moves_of sc h (suc o)) (kept_moves (suc o) kept (open_tail sc h (suc o))))))
 guard_needs sc h owner act given was guard = tt
 
 abbrev ShapedAt : Scenario → List Entry → ℕ → Type 0
@@ -227,8 +231,8 @@ shaped_push sc h e s given legal guard was = by (e.owner == s) refl
     by : (b : Bool) → (e.owner == s) ≡ b → ShapedAt sc (h ++ e ∷ []) s
     by true is =
         let w : Past = past_of sc s (own s h) in
-        let N : ℕ → Type 0 = λ x. Needs x (past_of sc x (own x h)) (is_up_at h x) e.act in
-        let needs : Needs s w (is_up_at h s) e.act = subst N (eqb-true e.owner s is) (guard_needs sc h e.owner e.act given (legal_holds sc h given legal) guard) in
+        let N : ℕ → Type 0 = λ x. Needs sc x (past_of sc x (own x h)) (is_up_at h x) e.act in
+        let needs : Needs sc s w (is_up_at h s) e.act = subst N (eqb-true e.owner s is) (guard_needs sc h e.owner e.act given (legal_holds sc h given legal) guard) in
         let P : Past → Type 0 = λ v. Shaped sc s v (is_up_at (h ++ e ∷ []) s) in
         let Q : Bool → Type 0 = λ b. Shaped sc s (past_by sc s w e) b in
         subst P (sym (ap (past_of sc s) (own_same s h e is) ∙ past_push sc s (own s h) e)) (subst Q (sym (up_same h e s is)) (acted sc s e.owner w (is_up_at h s) e.act needs was))

@@ -9,9 +9,9 @@ use Rattle.e3_types.specs.declared.transactions.NumOp.{NumOp}
 use Rattle.e3_types.specs.declared.transactions.Txn.{Txn}
 use Rattle.e3_world.specs.Given.{IsGiven}
 use Rattle.e3_world.specs.Legal.{IsLegal}
-use Rattle.e3_world.specs.Moves.{Tail, log_of, open_tail}
+use Rattle.e3_world.specs.Moves.{log_of}
 use Rattle.e3_world.specs.Orderly.{IsOrderly, is_free, ops_ascend}
-use Rattle.std.specs.Prelude.{Option, Some, None}
+use Rattle.e3_trails.specs.Claims.{records_at}
 
 -- a vote's operations have ascending numbers from 1 to 64, and free locks
 pub record VoteFits (before : List Record) (t : Txn) (ops : List NumOp) : Type 0 where
@@ -33,3 +33,13 @@ VotesFit before (r ∷ rest) = Fits before r × VotesFit (before ++ r ∷ []) re
 abbrev pub LogsAreOrderly : Type 0
 LogsAreOrderly = (sc : Scenario) (h : List Entry) (site : ℕ) → IsGiven sc → IsLegal sc h → VotesFit [] (log_of sc h site) →
     IsOrderly site (log_of sc h site)
+
+-- A tail that is open behind the log of a site in a legal history stands in the log of that site in another one.
+abbrev pub TailsAreLogs : Type 0
+TailsAreLogs = (sc : Scenario) (h : List Entry) (site : ℕ) → IsLegal sc h →
+    (other : List Entry) × IsLegal sc other × (log_of sc other site ≡ records_at sc h site)
+
+-- So the log with its open tail is orderly, where its votes fit.
+abbrev pub TailsAreOrderly : Type 0
+TailsAreOrderly = (sc : Scenario) (h : List Entry) (site : ℕ) → IsGiven sc → IsLegal sc h → VotesFit [] (records_at sc h site) →
+    IsOrderly site (records_at sc h site)
