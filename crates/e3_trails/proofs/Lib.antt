@@ -1,4 +1,4 @@
-mod Each
+pub mod Each
 mod Among
 mod Keeping
 mod Arriving
@@ -9,10 +9,10 @@ mod Scenarios
 mod Turns
 mod Binding
 mod Suiting
-mod Holding
+pub mod Holding
 pub mod Laws
-mod Tracing
-mod Clocks
+pub mod Tracing
+pub mod Clocks
 mod Counting
 mod Freshness
 mod Lasting

@@ -1,0 +1,6 @@
+mod Notes
+mod Logs
+mod Rows
+mod Shape
+mod Combining
+mod Tails

@@ -1,0 +1,5 @@
+mod Freedom
+mod Follows
+mod Disorder
+mod Births
+mod Standing
