@@ -6,6 +6,7 @@ use Rattle.e3_types.specs.declared.list.NoMemory.{NoMemory}
 use Rattle.e3_top.specs.declared.preparing.Due.{Due}
 use Rattle.e3_top.specs.declared.preparing.Stop.{Stop}
 use Rattle.std.proofs.lemmas.Bool.{leb-true}
+use Rattle.e3_disk.specs.Meters.{Meters}
 use Rattle.e3_decided.proofs.Histories.{given_agrees, given_voted}
 use Rattle.e3_decided.proofs.Standing.{given_stands}
 use Rattle.e3_play.specs.Played.{IsPlayed, IsFull}
@@ -15,7 +16,7 @@ use Rattle.e3_scenario.specs.Scenarios.{scenario_of, refused_text}
 use Rattle.e3_scenario.specs.declared.faults.ScenarioFault.{ScenarioFault}
 use Rattle.e3_scenario.specs.declared.faults.ScenarioFault.TheVariants as fault
 use Rattle.e3_top.specs.Due.{IsDue, IsNoScenario, IsNotBuilt, IsRunOf}
-use Rattle.e3_top.specs.Ends.{IsPrepared}
+use Rattle.e3_top.specs.Ends.{AreDisksOf, IsPrepared}
 use Rattle.e3_top.specs.Words.{IsRun, refused_words, refused_history_full}
 use Rattle.e3_words.specs.Words.{Spell}
 use Rattle.e3_words.specs.declared.words.Command.{Command}
@@ -173,3 +174,16 @@ refused_due words most h (Ok due) text other empty says made =
 -- words that spell a command ask for a run
 pub command_runs : (words : List (String Global)) (command : Command) → Spell words command → IsRun words
 command_runs words (Run trace) spelled = record { trace = trace; spelled = spelled }
+
+-- the disks came to something, or nothing happened
+abbrev pub CameTo : {D : Type 0} → (D → List ℕ → Type 0) → (D → Meters) → List (String Global) → Option (List ℕ) → Option (List ℕ) → List D → List Entry → List D → Type 0
+CameTo image meters words had left before history now =
+    ((history ≡ []) × (now ≡ before)) ⊎ AreDisksOf image meters words had left history before now
+
+-- so it is of the same history and the same disks under other names
+pub carry_disks : {D : Type 0} (image : D → List ℕ → Type 0) (meters : D → Meters) (words : List (String Global)) (had left : Option (List ℕ)) (before : List D)
+    (h same_h : List Entry) (now same_now : List D) → same_h ≡ h → same_now ≡ now → CameTo image meters words had left before h now →
+    CameTo image meters words had left before same_h same_now
+carry_disks {D} image meters words had left before h same_h now same_now is_h is_now came =
+    subst (λ (g : List Entry). CameTo image meters words had left before g same_now) (sym is_h)
+    (subst (λ (ds : List D). CameTo image meters words had left before h ds) (sym is_now) came)

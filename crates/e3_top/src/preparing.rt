@@ -179,7 +179,7 @@ fn prepare_bytes<D: Disk + Drop>(
     ensures not_words { IfOk result.due (λ due. due.status ≢ 1) }
     ensures only_memory { IfErr result.due (λ e. e ≡ Stop.NoMemory) }
     ensures cut_short { (result.history.entries ≡ []) ⊎ IsHistoryOf bytes.now most result.history.entries }
-    ensures disks { (result.disks.items ≡ disks.items) ⊎ AreOverOf D.image D.meters bytes.now result.history.entries disks.items result.disks.items }
+    ensures disks { ((result.history.entries ≡ []) × (result.disks.items ≡ disks.items)) ⊎ AreOverOf D.image D.meters bytes.now result.history.entries disks.items result.disks.items }
     ensures untouched { IfOk result.due (λ due. due.status ≡ 2 → result.disks.items ≡ disks.items) }
 {
     match read_scenario(alloc, bytes) {
@@ -213,7 +213,7 @@ pub fn prepare<S: Source, D: Disk + Drop>(
         × (result.disks.items ≡ disks.items) }
     ensures no_memory { result.due ≡ Err Stop.NoMemory →
         IsCutShort words.now (S.left source.old) (S.left source.new) most result.history.entries }
-    ensures disks { (result.disks.items ≡ disks.items)
+    ensures disks { ((result.history.entries ≡ []) × (result.disks.items ≡ disks.items))
         ⊎ AreDisksOf D.image D.meters words.now (S.left source.old) (S.left source.new) result.history.entries disks.items result.disks.items }
     ensures untouched { IfOk result.due (λ due. (due.status ≡ 1) ⊎ (due.status ≡ 2) → result.disks.items ≡ disks.items) }
     ensures unread { ¬ IsRun words.now → source.new ≡ source.old }

@@ -1,5 +1,5 @@
 // The run.
-ghost use Rattle.std.specs.Prelude.{◌≡◌, ◌≢◌, ◌≤◌, ◌<◌, ◌⊎◌, ℕ, length, take};
+ghost use Rattle.std.specs.Prelude.{◌≡◌, ◌≢◌, ◌≤◌, ◌<◌, ◌⊎◌, [], ℕ, length, take};
 ghost use Rattle.std.specs.Io.KnownBytes.{Appends, IsAtEnd};
 ghost use Rattle.e3_fleet.specs.Over.{AreBlank};
 ghost use Rattle.e3_outside.specs.Faults.{Rose};
@@ -93,9 +93,9 @@ pub fn run_within<R: Wait, S: Source, K: Sink, D: Disk + Drop>(
     ensures complete { IsRun words.now → ¬ Rose (S.faults source.old) (S.faults source.new) → ¬ Rose (K.faults sink.old) (K.faults sink.new) →
         (result.status ≡ 0) ⊎ (result.status ≡ 5) ⊎ (result.status ≡ 2) ⊎ (result.status ≡ 6) }
 
-    // Each disk of a site stands for the site's log and may have failed as often as the site fell by it; the others are as they
-    // were, and for 1, 2 and 3 all.
-    ensures disks { (result.disks.items ≡ disks.items)
+    // Where anything happened each disk of a site stands for the site's log, and it failed as often as the site fell by it, at
+    // least; the others are as they were. For 1, 2 and 3 all disks are.
+    ensures disks { ((result.history.entries ≡ []) × (result.disks.items ≡ disks.items))
         ⊎ AreDisksOf D.image D.meters words.now (S.left source.old) (S.left source.new) result.history.entries disks.items result.disks.items }
     ensures untouched { (result.status ≡ 1) ⊎ (result.status ≡ 2) ⊎ (result.status ≡ 3) → result.disks.items ≡ disks.items }
 
@@ -167,9 +167,9 @@ pub fn run<R: Wait, S: Source, K: Sink, D: Disk + Drop>(
     ensures complete { IsRun words.now → ¬ Rose (S.faults source.old) (S.faults source.new) → ¬ Rose (K.faults sink.old) (K.faults sink.new) →
         (result.status ≡ 0) ⊎ (result.status ≡ 5) ⊎ (result.status ≡ 2) ⊎ (result.status ≡ 6) }
 
-    // Each disk of a site stands for the site's log and may have failed as often as the site fell by it; the others are as they
-    // were, and for 1, 2 and 3 all.
-    ensures disks { (result.disks.items ≡ disks.items)
+    // Where anything happened each disk of a site stands for the site's log, and it failed as often as the site fell by it, at
+    // least; the others are as they were. For 1, 2 and 3 all disks are.
+    ensures disks { ((result.history.entries ≡ []) × (result.disks.items ≡ disks.items))
         ⊎ AreDisksOf D.image D.meters words.now (S.left source.old) (S.left source.new) result.history.entries disks.items result.disks.items }
     ensures untouched { (result.status ≡ 1) ⊎ (result.status ≡ 2) ⊎ (result.status ≡ 3) → result.disks.items ≡ disks.items }
 
