@@ -28,7 +28,9 @@ fn history_of(rt: &impl Wait, alloc: Global, text: &str) -> Option<History> {
     bytes.extend(text.as_bytes()).ok()?;
     let mut source = MemSource::new(bytes, 4096, List::new(alloc));
     let mut sink = MemSink::new(alloc, 65536, 65536, List::new(alloc)).ok()?;
-    let disks = memory_disks(alloc, 65536, 0, List::new(alloc)).ok()?;
+    let Ok(disks) = memory_disks(alloc, 65536, 0, List::new(alloc)) else {
+        return None;
+    };
     Some(run(rt, alloc, &words, &mut source, &mut sink, disks).history)
 }
 
