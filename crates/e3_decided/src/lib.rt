@@ -19,7 +19,8 @@ pub fn histories_agree()
 
 /// What makes a decision survive any recovery, in any legal history of a scenario that keeps its rules: a number is tried in
 /// one direction, what a quorum tried binds each greater number, and a decision has a quorum that tried it, or, if it is an
-/// abort, a site that refused or a coordinator that called off. It speaks of the logs and of the packets that were sent.
+/// abort, a site that refused or a coordinator that called off. It speaks of the logs, of the packets that were sent, and of
+/// the decisions that steps said.
 pub fn elections_bind()
     ensures numbers_rise { NumbersRise }
     ensures electors_report_nothing { ElectorsReportNothing }

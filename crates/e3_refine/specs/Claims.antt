@@ -32,7 +32,8 @@ TrailsAgree = (sc : Scenario) (trail : List Move) → IsMade sc trail → Agrees
 abbrev pub TrailsVote : Type 0
 TrailsVote = (sc : Scenario) (trail : List Move) → IsMade sc trail → AllVoted trail
 
--- a decision that a packet says is in the log of the site that sent it, in such a trail: as it is sent, and ever after
+-- a decision that a packet says is in the log of the site that sent it, in such a trail: as it is sent, and ever after,
+-- since each front of such a trail is one
 abbrev pub TrailsTell : Type 0
 TrailsTell = (sc : Scenario) (trail : List Move) → IsMade sc trail →
     (p : Packet) (s : Said) → Contains (flat_map sends trail) p → Contains (said_msg p.msg) s →
