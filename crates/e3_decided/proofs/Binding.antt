@@ -27,7 +27,7 @@ use Rattle.e3_world.proofs.Sending.{trail_sends}
 use Rattle.e3_world.proofs.Trails.{trail_moves}
 use Rattle.e3_protocol.specs.Invariant.{Invariant, Majority, Reason, ByMajority, ByRefusal, ByCallingOff, Voted}
 use Rattle.e3_protocol.specs.Logs.{IsIn, Note, Vote, Join, Attempt, Decision, Status, elected, attempt, below, status, before_join, Orderly}
-use Rattle.e3_protocol.specs.Marks.{Mark, situation_of}
+use Rattle.e3_protocol.specs.Marks.{Mark, situation_of, log_of as notes_at}
 use Rattle.e3_protocol.specs.Rules.{Situation, Letter, letter, Word, Elected, Report, Pre, Ack, MayReport}
 use Rattle.e3_protocol.specs.Verdicts.{status_in}
 use Rattle.e3_protocol.specs.Weights.{party_of}
@@ -42,7 +42,7 @@ use Rattle.e3_refine.proofs.Gatherings.{in_word}
 use Rattle.e3_refine.proofs.Lists.{in_map, same_from}
 use Rattle.e3_refine.proofs.Tests.{stands_as}
 use Rattle.e3_refine.proofs.Voting.{contains_from_in}
-use Rattle.e3_decided.specs.Facts.{Has, StandsBehind, HasSent, IsTried, Logged, Asked, Acknowledged, QuorumTried, IsDecided, Entered, WasSaid, SomeRefused, CalledOff}
+use Rattle.e3_decided.specs.Facts.{Has, StandsBehind, HasSent, HasReportedTo, HasQuorumOfReports, JoinedAsElector, IsTried, Logged, Asked, Acknowledged, QuorumTried, IsDecided, Entered, WasSaid, SomeRefused, CalledOff}
 use Rattle.e3_decided.proofs.Erasing.{erase, face, faces, elected_erased, attempt_erased, status_erased, before_erased, in_erased, orderly_erased}
 use Rattle.e3_decided.proofs.Facing.{vote_to, attempt_to, decision_to, vote_from, join_from, attempt_from, decision_from, reads_face, fits_at, note_is, vote_before, attempt_before, before_is, split_at}
 use Rattle.e3_decided.proofs.Fitting.{given_fit}
@@ -57,6 +57,8 @@ pub record Lifted (sc : Scenario) (h : List Entry) (t : Txn) : Type 0 where
   pub kept : Invariant (party_of sc.weights t) now
   pub same : (x : ℕ) → map erase (now.log x) ≡ face t (log_of sc h x)
   pub heard : (x : ℕ) (m : Message) (w : Word) → HasSent h x m → IsIn w (words_of t m) → (y : ℕ) × IsIn (letter x y w) now.sent × ((y == x) ≡ false)
+  pub noted : (x : ℕ) → now.log x ≡ notes_at x (marks_of sc t (trail_of sc h))
+  pub carried : (p : Packet) (w : Word) → Contains (sent h) p → IsIn w (words_of t p.msg) → IsIn (letter p.«from» p.to w) now.sent
   pub reports : (p : Letter) (n : ℕ) (st : Status) (a : ℕ) → IsIn p now.sent → p.word ≡ Report n st a → MayReport (now.log p.source) p.target n st a
 
 pub lifted : (sc : Scenario) (h : List Entry) (t : Txn) → IsGiven sc → IsLegal sc h → Lifted sc h t
@@ -65,6 +67,8 @@ lifted sc h t given legal = record {
   kept = law (party_of sc.weights t) (situation_of marks) (majorities_overlap sc.weights t) ok.reach;
   same = λ x. faces sc t x (trail_of sc h) made ∙ ap (λ ms. face t (log_by ms)) (trail_moves sc x h);
   heard = heard;
+  noted = λ x. refl;
+  carried = carried;
   reports = reports_ok (party_of sc.weights t) marks (majorities_overlap sc.weights t) (made_allowed sc t (trail_of sc h) made);
 }
   where
@@ -77,14 +81,17 @@ lifted sc h t given legal = record {
     ok : TrailOk sc t (trail_of sc h) marks
     ok = made_ok sc t (trail_of sc h) made
 
+    out : (p : Packet) → Contains (sent h) p → IsIn (plain p) (flat_map sends (trail_of sc h))
+    out p k = subst (λ z. IsIn (plain p) z) (sym (trail_sends sc h)) (in_map_to plain p (sent h) (in_from_contains (sent h) p k))
+
+    carried : (p : Packet) (w : Word) → Contains (sent h) p → IsIn w (words_of t p.msg) → IsIn (letter p.«from» p.to w) (situation_of marks).sent
+    carried p w k j = ok.sent (plain p) (out p k) (letter p.«from» p.to w) (in_map_to (letter p.«from» p.to) w (words_of t p.msg) j)
+
     heard : (x : ℕ) (m : Message) (w : Word) → HasSent h x m → IsIn w (words_of t m) → (y : ℕ) × IsIn (letter x y w) (situation_of marks).sent × ((y == x) ≡ false)
     heard x m w said k =
         let p : Packet = said.0 in
-        let out : IsIn (plain p) (flat_map sends (trail_of sc h)) =
-        subst (λ z. IsIn (plain p) z) (sym (trail_sends sc h)) (in_map_to plain p (sent h) (in_from_contains (sent h) p said.1)) in
-        let word : IsIn w (words_of t p.msg) = subst (λ (z : Message). IsIn w (words_of t z)) (sym said.3) k in
-        let there : IsIn (letter p.«from» p.to w) (situation_of marks).sent = ok.sent (plain p) out (letter p.«from» p.to w) (in_map_to (letter p.«from» p.to) w (words_of t p.msg) word) in
-        let apart : (p.to == p.«from») ≡ false = ok.outs (plain p) out in
+        let there : IsIn (letter p.«from» p.to w) (situation_of marks).sent = carried p w said.1 (subst (λ (z : Message). IsIn w (words_of t z)) (sym said.3) k) in
+        let apart : (p.to == p.«from») ≡ false = ok.outs (plain p) (out p said.1) in
         (p.to, subst (λ z. IsIn (letter z p.to w) (situation_of marks).sent) said.2 there, subst (λ z. (p.to == z) ≡ false) said.2 apart)
 
 -- notes that have no leader stand behind those of records
@@ -164,6 +171,37 @@ elector_silent sc h t s n st a k called reported =
     let one = k.heard s (msg.Elected t n) (Elected n) called (word_in t (Elected n)) in
     let two = k.heard s (msg.Report t n st a) (Report n (status_in st) a) reported (word_in t (Report n (status_in st) a)) in
     let own : IsIn (Join n s) (k.now.log s) = k.kept.letters (letter s one.0 (Elected n)) one.1 in
+    let led : IsIn (Join n two.0) (k.now.log s) = (k.kept.letters (letter s two.0 (Report n (status_in st) a)) two.1).0 in
+    let same : (two.0 == s) ≡ true = eq-eqb two.0 s (same_leader n two.0 s (k.now.log s) (k.kept.orderly s) led own) in
+    let apart : (two.0 == s) ≡ false = two.2 in
+    cc
+
+-- who reported to a site for a number joined it for that site
+reporter_joined : (sc : Scenario) (h : List Entry) (t : Txn) (n x s : ℕ) (k : Lifted sc h t) → HasReportedTo h t n x s → IsIn (Join n s) (k.now.log x)
+reporter_joined sc h t n x s k said =
+    let p : Packet = said.0 in
+    let w : Word = Report n (status_in said.4) said.5 in
+    let word : IsIn w (words_of t p.msg) = subst (λ (z : Message). IsIn w (words_of t z)) (sym said.6) (word_in t w) in
+    let there : IsIn (Join n p.to) (k.now.log p.«from») = (k.kept.letters (letter p.«from» p.to w) (k.carried p w said.1 word)).0 in
+    subst (λ y. IsIn (Join n s) (k.now.log y)) said.2 (subst (λ z. IsIn (Join n z) (k.now.log p.«from»)) said.3 there)
+
+joined_for : (sc : Scenario) (h : List Entry) (t : Txn) (n s x : ℕ) (k : Lifted sc h t) → JoinedAsElector sc h t s n → (x ≡ s) ⊎ HasReportedTo h t n x s → IsIn (Join n s) (k.now.log x)
+joined_for sc h t n s x k led (inl same) = subst (λ y. IsIn (Join n s) (k.now.log y)) (sym same) (subst (λ l. IsIn (Join n s) l) (sym (k.noted s)) led)
+joined_for sc h t n s x k led (inr said) = reporter_joined sc h t n x s k said
+
+-- two electors of one number, each with the reports of a quorum, are one
+pub electors_one : (sc : Scenario) (h : List Entry) (t : Txn) (n s u : ℕ) → Lifted sc h t → HasQuorumOfReports sc h t n s → HasQuorumOfReports sc h t n u → s ≡ u
+electors_one sc h t n s u k a b =
+    let y = k.kept.shared a.group b.group a.enough b.enough in
+    same_leader n s u (k.now.log y.0) (k.kept.orderly y.0)
+    (joined_for sc h t n s y.0 k a.led (a.reports y.0 (contains_from_in a.group y.0 y.1)))
+    (joined_for sc h t n u y.0 k b.led (b.reports y.0 (contains_from_in b.group y.0 y.2)))
+
+-- a site that joined a number as its elector reports in no election of that number
+pub own_silent : (sc : Scenario) (h : List Entry) (t : Txn) (s n : ℕ) (st : State) (a : ℕ) → Lifted sc h t → JoinedAsElector sc h t s n → HasSent h s (msg.Report t n st a) → ⊥
+own_silent sc h t s n st a k joined reported =
+    let two = k.heard s (msg.Report t n st a) (Report n (status_in st) a) reported (word_in t (Report n (status_in st) a)) in
+    let own : IsIn (Join n s) (k.now.log s) = subst (λ l. IsIn (Join n s) l) (sym (k.noted s)) joined in
     let led : IsIn (Join n two.0) (k.now.log s) = (k.kept.letters (letter s two.0 (Report n (status_in st) a)) two.1).0 in
     let same : (two.0 == s) ≡ true = eq-eqb two.0 s (same_leader n two.0 s (k.now.log s) (k.kept.orderly s) led own) in
     let apart : (two.0 == s) ≡ false = two.2 in

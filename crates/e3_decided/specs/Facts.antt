@@ -16,10 +16,13 @@ use Rattle.e3_types.specs.Same.{same_txn}
 use Rattle.e3_world.specs.Given.{IsGiven}
 use Rattle.e3_world.specs.Legal.{IsLegal}
 use Rattle.e3_world.specs.Logs.{last_elected, last_attempt, has_voted, state_of}
-use Rattle.e3_world.specs.Moves.{log_of}
+use Rattle.e3_world.specs.Moves.{log_of, trail_of}
 use Rattle.e3_world.specs.Packets.{sent}
 use Rattle.e3_world.specs.Safe.{said_act}
+use Rattle.e3_protocol.specs.Logs.{IsIn, Join}
+use Rattle.e3_protocol.specs.Marks.{log_of as notes_at}
 use Rattle.e3_protocol.specs.Weights.{is_majority}
+use Rattle.e3_refine.specs.Trails.{marks_of}
 
 -- the site's log has the record
 abbrev pub Has : Scenario → List Entry → ℕ → Record → Type 0
@@ -45,6 +48,22 @@ reports_in t n packet = is_report_for t n packet.msg
 -- the packet has one, and is of this site
 abbrev pub reports_of : ℕ → Txn → ℕ → Packet → Bool
 reports_of s t n packet = packet.«from» == s && reports_in t n packet
+
+-- the first site reported to the second one for this number
+abbrev pub HasReportedTo : List Entry → Txn → ℕ → ℕ → ℕ → Type 0
+HasReportedTo h t n x s =
+    (packet : Packet) × Contains (sent h) packet × (packet.«from» ≡ x) × (packet.to ≡ s) × (st : State) × (a : ℕ) × (packet.msg ≡ msg.Report t n st a)
+
+-- the site joined the number as its elector: by the last answer to its call, or alone in its group
+abbrev pub JoinedAsElector : Scenario → List Entry → Txn → ℕ → ℕ → Type 0
+JoinedAsElector sc h t s n = IsIn (Join n s) (notes_at s (marks_of sc t (trail_of sc h)))
+
+-- the site is an elector of this number, and sites with more than half of the weight reported to it, itself counted
+pub record HasQuorumOfReports (sc : Scenario) (h : List Entry) (t : Txn) (n s : ℕ) : Type 0 where
+  pub led : JoinedAsElector sc h t s n
+  pub group : List ℕ
+  pub enough : is_majority sc.weights t.sites group ≡ true
+  pub reports : (x : ℕ) → Contains group x → (x ≡ s) ⊎ HasReportedTo h t n x s
 
 -- the number was tried with this direction: a log has the attempt, or a site asked for it or acknowledged it
 pub data IsTried (sc : Scenario) (h : List Entry) (t : Txn) (n : ℕ) (d : Dir) : Type 0 where
@@ -81,9 +100,19 @@ abbrev pub ElectorsReportNothing : Type 0
 ElectorsReportNothing = (sc : Scenario) (h : List Entry) (t : Txn) (s n : ℕ) (st : State) (a : ℕ) → IsGiven sc → IsLegal sc h →
     HasSent h s (msg.Elected t n) → HasSent h s (msg.Report t n st a) → ⊥
 
+-- A site that joined a number as its elector reports in no election of that number, also where it called no other site.
+abbrev pub ElectorsOfOwnReportNothing : Type 0
+ElectorsOfOwnReportNothing = (sc : Scenario) (h : List Entry) (t : Txn) (s n : ℕ) (st : State) (a : ℕ) → IsGiven sc → IsLegal sc h →
+    JoinedAsElector sc h t s n → HasSent h s (msg.Report t n st a) → ⊥
+
 -- A site reports at most once for a number.
 abbrev pub ReportsAreOnce : Type 0
 ReportsAreOnce = (sc : Scenario) (h : List Entry) (t : Txn) (s n : ℕ) → IsGiven sc → IsLegal sc h → count_by (reports_of s t n) (sent h) ≤ 1
+
+-- Two electors of one number cannot both have the reports of a quorum.
+abbrev pub ElectorsAreOne : Type 0
+ElectorsAreOne = (sc : Scenario) (h : List Entry) (t : Txn) (n s u : ℕ) → IsGiven sc → IsLegal sc h →
+    HasQuorumOfReports sc h t n s → HasQuorumOfReports sc h t n u → s ≡ u
 
 -- A site attempts the number that it joined last, or 1, and each number once.
 abbrev pub AttemptsFollowJoins : Type 0

@@ -2,7 +2,7 @@
 //! and what was told stands.
 #![tactic(auto)]
 
-ghost use Rattle.e3_decided.specs.Facts.{NumbersRise, ElectorsReportNothing, ReportsAreOnce, AttemptsFollowJoins, AttemptsStayBelow, OneDirectionPerNumber, ReportsTellThePast, ReportsHold, QuorumBindsLater, PreCommitHasVotes, PreCommitBarsRefusals, CommitHasQuorum, AbortHasReason};
+ghost use Rattle.e3_decided.specs.Facts.{NumbersRise, ElectorsAreOne, ElectorsOfOwnReportNothing, ElectorsReportNothing, ReportsAreOnce, AttemptsFollowJoins, AttemptsStayBelow, OneDirectionPerNumber, ReportsTellThePast, ReportsHold, QuorumBindsLater, PreCommitHasVotes, PreCommitBarsRefusals, CommitHasQuorum, AbortHasReason};
 ghost use Rattle.e3_decided.specs.Claims.{HistoriesAgree, HistoriesTell, HistoriesToldStand, HistoriesVote, ItemsAreFit};
 
 /// No two decisions of one transaction differ, and each commit has every vote before it, in any legal history of a
@@ -24,7 +24,9 @@ pub fn histories_agree()
 pub fn elections_bind()
     ensures numbers_rise { NumbersRise }
     ensures electors_report_nothing { ElectorsReportNothing }
+    ensures electors_of_own_report_nothing { ElectorsOfOwnReportNothing }
     ensures reports_are_once { ReportsAreOnce }
+    ensures electors_are_one { ElectorsAreOne }
     ensures attempts_follow_joins { AttemptsFollowJoins }
     ensures attempts_stay_below { AttemptsStayBelow }
     ensures one_direction { OneDirectionPerNumber }

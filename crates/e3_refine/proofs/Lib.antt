@@ -19,3 +19,4 @@ pub mod Following
 pub mod Agreeing
 pub mod Voting
 pub mod Telling
+pub mod Sounding

@@ -7,7 +7,7 @@ use Rattle.e3_types.specs.declared.scenarios.Scenario.{Scenario}
 use Rattle.e3_types.specs.declared.transactions.Txn.{Txn}
 use Rattle.e3_world.specs.Moves.{Move, moves_at, log_by}
 use Rattle.e3_world.specs.Safe.{Agrees, AllVoted, Said, said_msg}
-use Rattle.e3_world.specs.Sound.{sends}
+use Rattle.e3_world.specs.Sound.{sends, IsSound}
 use Rattle.e3_world.specs.Steps.{step_at}
 use Rattle.e3_protocol.specs.Marks.{Allowed}
 use Rattle.e3_protocol.specs.Weights.{party_of}
@@ -38,3 +38,15 @@ abbrev pub TrailsTell : Type 0
 TrailsTell = (sc : Scenario) (trail : List Move) → IsMade sc trail →
     (p : Packet) (s : Said) → Contains (flat_map sends trail) p → Contains (said_msg p.msg) s →
     Contains (log_by (moves_at p.«from» trail)) (log.Decision s.txn s.dir)
+
+-- the moves of a sound trail are what their inputs make
+abbrev pub SoundTrailsAreMade : Type 0
+SoundTrailsAreMade = (sc : Scenario) (trail : List Move) → IsSound sc trail → IsMade sc trail
+
+-- no two decisions of one transaction differ in a sound trail
+abbrev pub SoundTrailsAgree : Type 0
+SoundTrailsAgree = (sc : Scenario) (trail : List Move) → IsSound sc trail → Agrees trail
+
+-- where a commit stands in a sound trail, every site of the transaction has its vote before it
+abbrev pub SoundTrailsVote : Type 0
+SoundTrailsVote = (sc : Scenario) (trail : List Move) → IsSound sc trail → AllVoted trail

@@ -1,7 +1,7 @@
 //! The steps of a site keep the rules of the protocol of each transaction, so that no two decisions of one differ.
 #![tactic(auto)]
 
-ghost use Rattle.e3_refine.specs.Claims.{StepsKeepRules, TrailsAgree, TrailsKeepRules, TrailsTell, TrailsVote};
+ghost use Rattle.e3_refine.specs.Claims.{SoundTrailsAgree, SoundTrailsAreMade, SoundTrailsVote, StepsKeepRules, TrailsAgree, TrailsKeepRules, TrailsTell, TrailsVote};
 
 /// A whole step, with the messages that it has for its own site, writes and sends for each transaction only what the
 /// rules of the protocol allow.
@@ -21,4 +21,11 @@ pub fn trails_agree()
     ensures agree { TrailsAgree }
     ensures voted { TrailsVote }
     ensures told { TrailsTell }
+{}
+
+/// A sound trail is such a trail, so it agrees too, and its commits have every vote before them.
+pub fn sound_trails_agree()
+    ensures made { SoundTrailsAreMade }
+    ensures agree { SoundTrailsAgree }
+    ensures voted { SoundTrailsVote }
 {}

@@ -53,13 +53,13 @@ pub record IsHistoryOf (bytes : List ℕ) (most : ℕ) (history : List Entry) : 
   pub spelled : scenario_of bytes ≡ Ok scenario
   pub safe : IsRunOf scenario most history
 
--- Memory ran out. Nothing had happened yet, or all was read, and as far as it goes the history is one of the scenario
--- that the bytes read spell.
+-- Memory ran out. Nothing had happened yet, or the words ask for a run, all was read, and as far as it goes the history is
+-- one of the scenario that the bytes read spell.
 pub record IsCutShort (words : List (String Global)) (had left : Option (List ℕ)) (most : ℕ) (history : List Entry) : Type 0 where
   pub bytes : List ℕ
   pub taken : Consumes had left bytes
   pub few : length bytes ≤ 4194305
-  pub happened : (history ≡ []) ⊎ (IsRead words had left bytes × IsHistoryOf bytes most history)
+  pub happened : (history ≡ []) ⊎ (IsRun words × IsRead words had left bytes × IsHistoryOf bytes most history)
 
 -- All is read and made, and this text is due with this status.
 pub record IsPrepared (words : List (String Global)) (had left : Option (List ℕ)) (most status : ℕ) (history : List Entry) (text : List ℕ) : Type 0 where

@@ -3,7 +3,7 @@ use Rattle.e3_world.specs.Moves.{log_of}
 use Rattle.e3_refine.proofs.Voting.{contains_from_in}
 use Rattle.e3_types.specs.declared.records.Record.TheVariants as log
 use Rattle.e3_decided.proofs.Facing.{join_fits, attempt_fits, attempts_below}
-use Rattle.e3_decided.proofs.Binding.{lifted, ordered, elector_silent, tried_one, quorum_binds, report_tells, report_holds, commit_voted, commit_bars, commit_quorum, abort_reason}
+use Rattle.e3_decided.proofs.Binding.{lifted, ordered, elector_silent, electors_one, own_silent, tried_one, quorum_binds, report_tells, report_holds, commit_voted, commit_bars, commit_quorum, abort_reason}
 use Rattle.e3_decided.proofs.Single.{reports_once}
 use Rattle.e3_decided.proofs.elections_bind.Goals as goal
 
@@ -16,6 +16,12 @@ returns-clause-electors_report_nothing c = λ sc h t s n st a given legal called
 
 pub returns-clause-reports_are_once : goal.returns-clause-reports_are_once
 returns-clause-reports_are_once c = reports_once
+
+pub returns-clause-electors_are_one : goal.returns-clause-electors_are_one
+returns-clause-electors_are_one c = λ sc h t n s u given legal a b. electors_one sc h t n s u (lifted sc h t given legal) a b
+
+pub returns-clause-electors_of_own_report_nothing : goal.returns-clause-electors_of_own_report_nothing
+returns-clause-electors_of_own_report_nothing c = λ sc h t s n st a given legal joined reported. own_silent sc h t s n st a (lifted sc h t given legal) joined reported
 
 pub returns-clause-attempts_follow_joins : goal.returns-clause-attempts_follow_joins
 returns-clause-attempts_follow_joins c = λ sc h t s n d before given legal stands.
