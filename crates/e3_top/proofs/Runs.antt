@@ -11,6 +11,7 @@ use Rattle.e3_decided.proofs.Histories.{given_agrees, given_voted}
 use Rattle.e3_decided.proofs.Standing.{given_stands}
 use Rattle.e3_play.specs.Played.{IsPlayed, IsFull}
 use Rattle.e3_report.specs.Report.{report_of}
+use Rattle.e3_serial.specs.Claims.{LegalSerial}
 use Rattle.e3_scenario.specs.Faults.{fault_text}
 use Rattle.e3_scenario.specs.Scenarios.{scenario_of, refused_text}
 use Rattle.e3_scenario.specs.declared.faults.ScenarioFault.{ScenarioFault}
@@ -27,13 +28,14 @@ use Rattle.e3_world.specs.Given.{IsGiven}
 use Rattle.e3_world.specs.Legal.{IsLegal, IsWhole}
 
 -- a legal history of a given scenario is safe
-pub run_of : (sc : Scenario) (most : ℕ) (h : List Entry) → IsGiven sc → IsLegal sc h → length h ≤ most → IsRunOf sc most h
-run_of sc most h given legal few = record {
+pub run_of : LegalSerial → (sc : Scenario) (most : ℕ) (h : List Entry) → IsGiven sc → IsLegal sc h → length h ≤ most → IsRunOf sc most h
+run_of one sc most h given legal few = record {
   legal = legal;
   few = few;
   agree = given_agrees sc h given legal;
   voted = given_voted sc h given legal;
   told = given_stands sc h given legal;
+  serial = one sc h given legal;
 }
 
 -- the report of a history that went through its scenario is due

@@ -12,16 +12,20 @@ use Rattle.e3_types.specs.declared.scenarios.Scenario.{Scenario}
 use Rattle.e3_world.specs.Legal.{IsLegal, IsWhole}
 use Rattle.e3_world.specs.Moves.{trail_of}
 use Rattle.e3_world.specs.Safe.{Agrees, AllVoted, ToldStands}
+use Rattle.e3_world.specs.Serial.{IsSerial}
 
 -- A history of this scenario: legal, and with so many entries at most; no two decisions of a transaction differ; where a
--- commit stands every site of the transaction has its vote before it; and a decision that was told stands in its site's
--- log, and in that of each legal history that goes on.
+-- commit stands every site of the transaction has its vote before it; a decision that was told stands in its site's log, and
+-- in that of each legal history that goes on; and there is one order of the committed transactions, by their last votes: run
+-- one after the other they give each site's table, over those that its own log commits, and each committed read that was
+-- told.
 pub record IsRunOf (sc : Scenario) (most : ℕ) (history : List Entry) : Type 0 where
   pub legal : IsLegal sc history
   pub few : length history ≤ most
   pub agree : Agrees (trail_of sc history)
   pub voted : AllVoted (trail_of sc history)
   pub told : ToldStands sc history
+  pub serial : IsSerial sc (trail_of sc history)
 
 -- Done: the bytes spell a scenario of the form that is built, the history is one of it and went through all of it, and
 -- the text is its report, with the trace where the words ask for it.

@@ -18,6 +18,7 @@ use e3_outside::{ReadFault, Source, read_up_to};
 use e3_play::{RunFault, is_played};
 use e3_report::report;
 use e3_scenario::{ScenarioFault, fault_line, read_scenario, refused_line};
+use e3_serial::one_order;
 use e3_types::{List, NoMemory, Scenario};
 use e3_words::{Command, read_words};
 use e3_world::History;
@@ -116,6 +117,7 @@ fn prepare_run<D: Disk + Drop>(
     ensures history { IsRunOf scenario.now most result.history.entries }
     ensures disks { AreOver D.image D.meters scenario.now result.history.entries disks.items result.disks.items }
 {
+    one_order();
     let Played {
         ended,
         history,
