@@ -49,7 +49,7 @@ inc_rise : (sc : Scenario) (site inc : ℕ) (was log : List Record) → logged_i
 inc_rise sc site inc was [] = fold-append logged_inc_by 0 was (rise_records sc site inc [])
 inc_rise sc site inc was (r ∷ rs) = fold-append logged_inc_by 0 was (rise_records sc site inc (r ∷ rs))
 
-log_append : (xs ys : List Move) → log_by (xs ++ ys) ≡ log_by xs ++ log_by ys
+pub log_append : (xs ys : List Move) → log_by (xs ++ ys) ≡ log_by xs ++ log_by ys
 log_append xs ys = flat_map-append recorded xs ys
 
 -- what a step records is of transactions

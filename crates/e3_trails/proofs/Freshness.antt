@@ -198,7 +198,7 @@ module _ (sc : Scenario) (h : List Entry) (e : Entry) (was : Fresh sc h) (adv : 
           omega (arith, few, more)
 
 -- what was bound at the last line is bound now
-binds_more : (sc : Scenario) (w : Binding) (act : Act) (owner : ℕ) → (extra : List Bound) × ((binding_by sc w (record { owner = owner; act = act })).bound ≡ w.bound ++ extra)
+pub binds_more : (sc : Scenario) (w : Binding) (act : Act) (owner : ℕ) → (extra : List Bound) × ((binding_by sc w (record { owner = owner; act = act })).bound ≡ w.bound ++ extra)
 binds_more sc w (Step (input.Begin sites) records outs events) owner = (_, refl)
 binds_more sc w (Step i records outs events) owner = ([], sym (append-nil w.bound))
 binds_more sc w act owner = ([], sym (append-nil w.bound))
@@ -268,7 +268,7 @@ due_known sc h site (input.Do t op) due = next_known sc h site (input.Do t op) d
 due_known sc h site i due = tt
 
 -- where nothing is done the counts stay
-still_more : (b : Bool) (xs : List Moment) → xs ≡ [] → (if b then xs else []) ≡ []
+pub still_more : (b : Bool) (xs : List Moment) → xs ≡ [] → (if b then xs else []) ≡ []
 still_more true xs none = none
 still_more false xs none = refl
 

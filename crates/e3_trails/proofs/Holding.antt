@@ -154,7 +154,7 @@ numbered_go : (weights : List ℕ) (site n : ℕ) (ps : List Packet) → Each (G
 numbered_go weights site n [] all = tt
 numbered_go weights site n (p ∷ ps) all = (record { heard = all.0.between.heard; other = all.0.between.other }, numbered_go weights site (suc n) ps all.1)
 
-sent_push : (h : List Entry) (e : Entry) → sent (h ++ e ∷ []) ≡ sent h ++ outs_of e.act
+pub sent_push : (h : List Entry) (e : Entry) → sent (h ++ e ∷ []) ≡ sent h ++ outs_of e.act
 sent_push h e = flat_map-append (λ x. outs_of x.act) h (e ∷ []) ∙ ap (λ l. sent h ++ l) (append-nil (outs_of e.act))
 
 -- an input that is due at a site that is up, and its step

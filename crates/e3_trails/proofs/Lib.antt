@@ -20,3 +20,12 @@ mod Pending
 mod Issuing
 mod Talks
 mod Silence
+mod Stepping
+mod Speaking
+mod Quiet
+mod Fitting
+mod Sounding
+mod Parting
+mod Naming
+mod Ordering
+mod Numbering

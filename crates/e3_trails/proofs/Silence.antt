@@ -129,5 +129,6 @@ module _ (sc : Scenario) (h : List Entry) (e : Entry) (fresh : Fresh sc h) (was 
     last = λ t n m y p d. was.last t n m y (pends_back t n p) (do_back t m y d);
     unheard = quiet_unheard none;
     before = λ t n m y z first second less. done_on t m z (was.before t n m y z (do_back t n y first) (do_back t m z second) less);
+    high = λ t n y d. was.high t n y (do_back t n y d);
     rest = rest;
   }

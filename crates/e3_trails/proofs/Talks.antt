@@ -90,6 +90,7 @@ pub record Talks (sc : Scenario) (h : List Entry) : Type 0 where
   pub unheard : (t : Txn) (n : ℕ) → Pends sc h t n → is_up_at h t.site ≡ true → t.inc ≡ (life_in sc h t.site).inc →
       list_any is_delivery (taken_at h t.site) ≡ false → op_told t n (life_in sc h t.site).steps ≡ false
   pub before : (t : Txn) (n m y z : ℕ) → SentDo h t n y → SentDo h t m z → m < n → SentDone h t m z
+  pub high : (t : Txn) (n y : ℕ) → SentDo h t n y → n ≤ 64
   pub rest : AsksNone (present_items sc h) → recover_group (present_items sc h) ≡ None → pending sc h ≡ []
 
 -- a packet of an operation comes from its coordinator, and has a number

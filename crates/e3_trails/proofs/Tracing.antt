@@ -115,10 +115,11 @@ pub record Answers (a : At) (t : Txn) (n : ℕ) : Type 0 where
   pub nth : nth_op n (issued t (steps_now a nothing)) ≡ Some op
   pub there : (key_of op).site ≡ site
 
--- what is told: answers, and no refusal
+-- what is told: answers, no refusal, and a begin where the step takes one
 abbrev pub Tells : At → Told → Type 0
 Tells a (told.Op t n answer) = Answers a t n
 Tells a (told.Refused t why) = ⊥
+Tells a (told.Began t) = (sites : List ℕ) × (a.input ≡ input.Begin sites)
 Tells a e = Unit {0}
 
 -- all that a step made so far
@@ -136,12 +137,12 @@ or_false true = refl
 or_false false = refl
 
 -- no refusal was told
-none_refused : (a : At) (l : List Told) → Each (Tells a) l → list_any is_refusal l ≡ false
+pub none_refused : (a : At) (l : List Told) → Each (Tells a) l → list_any is_refusal l ≡ false
 none_refused a [] all = refl
 none_refused a (told.Refused t why ∷ l) all = absurd all.0
 none_refused a (e ∷ l) all = none_refused a l all.1
 
-same_issued : (t : Txn) (i : Input) (events : List Told) → list_any is_refusal events ≡ false → issued_in t i events ≡ issued_in t i []
+pub same_issued : (t : Txn) (i : Input) (events : List Told) → list_any is_refusal events ≡ false → issued_in t i events ≡ issued_in t i []
 same_issued t (input.Do u op) events none = rw none refl
 same_issued t i events none = refl
 
@@ -310,7 +311,7 @@ fold_came weights site was (m ∷ steps) all suit = fold_came weights site (arri
       (if_now site was.steps m (taken_up site was.steps m) (came_up weights site was.steps m suit.0));
 }) suit.1
 
-fold_steps : (site : ℕ) (was : Arrived) (steps : List Moment) → (fold (arrived_by site) was steps).steps ≡ was.steps ++ steps
+pub fold_steps : (site : ℕ) (was : Arrived) (steps : List Moment) → (fold (arrived_by site) was steps).steps ≡ was.steps ++ steps
 fold_steps site was [] = sym (append-nil was.steps)
 fold_steps site was (m ∷ steps) = fold_steps site (arrived_by site was m) steps ∙ append_assoc was.steps (m ∷ []) steps
 
@@ -660,7 +661,7 @@ delivered_traces a p (msg.Done t n inc answer) is same = inr (p, is, refl, (inc,
 delivered_traces a p x is same = tt
 
 input_says : (a : At) (i : Input) → a.input ≡ i → Ready a → Says a (settle 3 a (and_grants a 0 (on_input a i nothing)))
-input_says a (input.Begin sites) is ready = settles a (on_begin a sites nothing) ready (record { own = tt; outs = tt; records = tt; told = (tt, tt) })
+input_says a (input.Begin sites) is ready = settles a (on_begin a sites nothing) ready (record { own = tt; outs = tt; records = tt; told = ((sites, is), tt) })
 input_says a (input.Do t op) is ready = or_says a t (refuse a t false nothing) _ ready (λ allowed.
     keep_send a (key_of op).site (msg.Do t (suc (length (issued t a.life.steps))) op) nothing (record { takes = is; next = refl; allowed = allowed; there = refl }) (start a))
 input_says a (input.Commit t) is ready = or_says a t (refuse a t false nothing) _ ready (λ allowed. keep_commit a t nothing (start a))

@@ -99,7 +99,7 @@ restart_none [] site form = λ sc h. refl
 restart_none (it ∷ items) site form = absurd cc
 
 -- whether a site may rise where there are so many lines and these items
-abbrev rises : Scenario → List Entry → ℕ → ℕ → List Item → Bool
+abbrev pub rises : Scenario → List Entry → ℕ → ℕ → List Item → Bool
 rises sc h site zero items = not (has_rising h site) && list_all (λ s. not (nat_lt s site) || has_rising h s) (all_sites sc)
 rises sc h site (suc n) (item.Restart s ∷ items) = s == site && not (has_rising (since_line h) site)
 rises sc h site (suc n) items = false
@@ -313,7 +313,7 @@ module _ (sc : Scenario) (h : List Entry) (site : ℕ) (i : Input) (took : TookI
           (each-push IsElect (items_taken h s) i (took.rounds s group recover) elects)
 
 -- a round is due in a recover step alone
-due_recovers : (sc : Scenario) (h : List Entry) (r : RecoveryRound) → due_round sc h ≡ Some r → (group : List ℕ) × (recover_group (present_items sc h) ≡ Some group)
+pub due_recovers : (sc : Scenario) (h : List Entry) (r : RecoveryRound) → due_round sc h ≡ Some r → (group : List ℕ) × (recover_group (present_items sc h) ≡ Some group)
 due_recovers sc h r due = by (recover_group (present_items sc h)) refl
   where
     by : (o : Option (List ℕ)) → recover_group (present_items sc h) ≡ o → (group : List ℕ) × (recover_group (present_items sc h) ≡ Some group)
