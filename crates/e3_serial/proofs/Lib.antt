@@ -11,3 +11,6 @@ pub mod Replaying
 pub mod Worlds
 pub mod Tables
 pub mod Laws
+pub mod Rules
+pub mod Walk
+pub mod Shapes
