@@ -14,3 +14,5 @@ pub mod Laws
 pub mod Rules
 pub mod Walk
 pub mod Shapes
+pub mod Arrivals
+pub mod Steadying

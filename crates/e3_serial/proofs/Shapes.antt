@@ -32,11 +32,11 @@ use Rattle.e3_serial.proofs.Walk.{keep_on_do, keep_delivery, keep_commit, keep_e
 abbrev pub IsOwnAnswer : At → Message → Type 0
 IsOwnAnswer a m = (t : Txn) × (n : ℕ) × (answer : Answer) × (m ≡ msg.Done t n a.life.inc answer)
 
-each_push : {X : Type 0} (P : X → Type 0) (xs : List X) (x : X) → Each P xs → P x → Each P (xs ++ x ∷ [])
+pub each_push : {X : Type 0} (P : X → Type 0) (xs : List X) (x : X) → Each P xs → P x → Each P (xs ++ x ∷ [])
 each_push P [] x all this = (this, tt)
 each_push P (y ∷ xs) x all this = (all.0, each_push P xs x all.1 this)
 
-send_own : (a : At) (to : ℕ) (m : Message) (made : Made) → Each (IsOwnAnswer a) made.own → ((to == a.site) ≡ true → IsOwnAnswer a m) → Each (IsOwnAnswer a) (and_send a to m made).own
+pub send_own : (a : At) (to : ℕ) (m : Message) (made : Made) → Each (IsOwnAnswer a) made.own → ((to == a.site) ≡ true → IsOwnAnswer a m) → Each (IsOwnAnswer a) (and_send a to m made).own
 send_own a to m made all this = by (to == a.site) refl
   where
     by : (b : Bool) → (to == a.site) ≡ b → Each (IsOwnAnswer a) (and_send a to m made).own
@@ -56,11 +56,11 @@ ruled_own a _ (Asks to t made away commits k) = send_own a to _ made (ruled_own 
 ruled_own a _ (Locks t n op l) = send_own a t.site _ nothing tt (λ is. (t, n, answer_now a t op nothing, refl))
 ruled_own a _ (Repeats t n answer r) = send_own a t.site _ nothing tt (λ is. (t, n, answer, refl))
 
-granted_own : (a : At) (qs : List Asked) (made : Made) → Each (IsOwnAnswer a) made.own → Each (IsOwnAnswer a) (fold (and_grant a) made qs).own
+pub granted_own : (a : At) (qs : List Asked) (made : Made) → Each (IsOwnAnswer a) made.own → Each (IsOwnAnswer a) (fold (and_grant a) made qs).own
 granted_own a [] made all = all
 granted_own a (q ∷ qs) made all = granted_own a qs (and_grant a made q) (send_own a q.txn.site _ made all (λ is. (q.txn, q.n, answer_now a q.txn q.op made, refl)))
 
-grants_own : (a : At) (made : Made) → Each (IsOwnAnswer a) made.own → Each (IsOwnAnswer a) (and_grants a 0 made).own
+pub grants_own : (a : At) (made : Made) → Each (IsOwnAnswer a) made.own → Each (IsOwnAnswer a) (and_grants a 0 made).own
 grants_own a made all = by (list_any decides (drop 0 made.records)) refl
   where
     by : (b : Bool) → list_any decides (drop 0 made.records) ≡ b → Each (IsOwnAnswer a) (and_grants a 0 made).own
