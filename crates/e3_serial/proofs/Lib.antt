@@ -16,3 +16,4 @@ pub mod Walk
 pub mod Shapes
 pub mod Arrivals
 pub mod Steadying
+pub mod Answering

@@ -94,18 +94,22 @@ pub record Repeating (a : At) (t : Txn) (n : ℕ) (answer : Answer) : Type 0 whe
   pub more : List Answer
   pub answered : answers (record { txn = t; n = n; op = op }) a.life.steps ≡ answer ∷ more
 
--- what a rule may make of an input that is not refused, or of an own operation
+-- what a rule may make of an input that is not refused, apart from answers
 pub data Ruled (a : At) : Made → Type 0 where
   Start : Ruled a nothing
   Notes : (r : Record) (made : Made) → IsNote r → Ruled a made → Ruled a (and_record r made)
   Decides : (t : Txn) (dir : Dir) (made : Made) → open_now a t made ≡ true → Ruled a made → Ruled a (and_record (log.Decision t dir) made)
   Votes : (t : Txn) (made : Made) → state_now a t made ≡ Q → Commits a t ⊎ IsAsked a t → Ruled a made → Ruled a (and_vote a t made)
   Tells : (e : Told) (made : Made) → IsNews e → Ruled a made → Ruled a (and_tell e made)
-  Hears : (t : Txn) (n : ℕ) (answer : Answer) → Hearing a t n answer → Ruled a (and_tell (told.Op t n answer) nothing)
   Says : (to : ℕ) (m : Message) (made : Made) → (to == a.site) ≡ false → IsWord m → Ruled a made → Ruled a (and_send a to m made)
   Asks : (to : ℕ) (t : Txn) (made : Made) → (to == a.site) ≡ false → Commits a t → Ruled a made → Ruled a (and_ask a t made to)
-  Locks : (t : Txn) (n : ℕ) (op : Op) → Locking a t n op → Ruled a (and_do a t n op nothing)
-  Repeats : (t : Txn) (n : ℕ) (answer : Answer) → Repeating a t n answer → Ruled a (and_send a t.site (msg.Done t n a.life.inc answer) nothing)
+
+-- what a rule makes: an operation that gets its lock, one that is answered again, an answer that is told, or none of these
+pub data Rule (a : At) : Made → Type 0 where
+  Plain : (made : Made) → Ruled a made → Rule a made
+  Hears : (t : Txn) (n : ℕ) (answer : Answer) → Hearing a t n answer → Rule a (and_tell (told.Op t n answer) nothing)
+  Locks : (t : Txn) (n : ℕ) (op : Op) → Locking a t n op → Rule a (and_do a t n op nothing)
+  Repeats : (t : Txn) (n : ℕ) (answer : Answer) → Repeating a t n answer → Rule a (and_send a t.site (msg.Done t n a.life.inc answer) nothing)
 
 -- the event tells an answer that the step has for its own site
 abbrev pub TellsOwn : List Message → Told → Type 0
@@ -114,7 +118,7 @@ TellsOwn own e = (t : Txn) × (n inc : ℕ) × (answer : Answer) × (e ≡ told.
 -- what a step comes to: what a rule makes, the requests that its decision grants, and own answers that are told
 pub record Shaped (a : At) (made : Made) : Type 0 where
   pub rule : Made
-  pub ruled : Ruled a rule
+  pub ruled : Rule a rule
   pub events : List Told
   pub from_own : Each (TellsOwn (and_grants a 0 rule).own) events
   pub records : made.records ≡ (and_grants a 0 rule).records

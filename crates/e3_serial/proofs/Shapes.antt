@@ -1,7 +1,7 @@
 -- Each step of a site that is not refused has its shape.
-use Rattle.std.proofs.Common.{◌≡◌, ◌⊎◌, inl, inr, ◌==◌, ◌&&◌, ◌||◌, ◌++◌, ◌∷◌, [], ℕ, zero, suc, Bool, true, false, List, Option, Some, None, length, fold, drop, refl, sym, ap, ◌∙◌, append-nil, append_assoc, eqb-true, eq-eqb}
+use Rattle.std.proofs.Common.{subst, ◌≡◌, ◌⊎◌, inl, inr, ◌==◌, ◌&&◌, ◌||◌, ◌++◌, ◌∷◌, [], ℕ, zero, suc, Bool, true, false, List, Option, Some, None, length, fold, drop, refl, sym, ap, ◌∙◌, append-nil, append_assoc, eqb-true, eq-eqb}
 use Rattle.std.specs.List.{list_any, AllByRecursion as Each}
-use Rattle.std.proofs.lemmas.Bool.{or_right, true≢false}
+use Rattle.std.proofs.lemmas.Bool.{or_right}
 use Rattle.e3_types.specs.declared.entries.Input.{Input}
 use Rattle.e3_types.specs.declared.entries.Input.TheVariants as input
 use Rattle.e3_types.specs.declared.entries.Refusal.{Refusal}
@@ -25,7 +25,7 @@ use Rattle.e3_world.specs.Making.{nothing, log_now, steps_now, open_now, elected
 use Rattle.e3_world.specs.OperationRules.{on_do, on_done}
 use Rattle.e3_world.specs.Operations.{done, expected, issued, nth_op, unanswered}
 use Rattle.e3_world.specs.Steps.{refuse, or_refused, on_begin, on_input, handled, settle, step_at}
-use Rattle.e3_serial.proofs.Rules.{Ruled, Start, Notes, Decides, Votes, Tells, Hears, Says, Asks, Locks, Repeats, TellsOwn, Shaped, Refuses}
+use Rattle.e3_serial.proofs.Rules.{Ruled, Start, Notes, Decides, Votes, Tells, Says, Asks, Rule, Plain, Hears, Locks, Repeats, TellsOwn, Shaped, Refuses}
 use Rattle.e3_serial.proofs.Walk.{keep_on_do, keep_delivery, keep_commit, keep_expire, keep_join, keep_cast, keep_abort, allowed_open, allowed_parts}
 
 -- the message is an answer of this incarnation
@@ -44,15 +44,18 @@ send_own a to m made all this = by (to == a.site) refl
     by false is = rw is all
 
 -- what a rule has for its own site are answers
-pub ruled_own : (a : At) (made : Made) → Ruled a made → Each (IsOwnAnswer a) made.own
-ruled_own a _ Start = tt
-ruled_own a _ (Notes r made note k) = ruled_own a made k
-ruled_own a _ (Decides t dir made still k) = ruled_own a made k
-ruled_own a _ (Votes t made idle cause k) = ruled_own a made k
-ruled_own a _ (Tells e made news k) = ruled_own a made k
+ruled_none : (a : At) (made : Made) → Ruled a made → made.own ≡ []
+ruled_none a _ Start = refl
+ruled_none a _ (Notes r made note k) = ruled_none a made k
+ruled_none a _ (Decides t dir made still k) = ruled_none a made k
+ruled_none a _ (Votes t made idle cause k) = ruled_none a made k
+ruled_none a _ (Tells e made news k) = ruled_none a made k
+ruled_none a _ (Says to m made away word k) = rw away (ruled_none a made k)
+ruled_none a _ (Asks to t made away commits k) = rw away (ruled_none a made k)
+
+pub ruled_own : (a : At) (made : Made) → Rule a made → Each (IsOwnAnswer a) made.own
+ruled_own a _ (Plain made k) = subst (λ z. Each (IsOwnAnswer a) z) (sym (ruled_none a made k)) tt
 ruled_own a _ (Hears t n answer h) = tt
-ruled_own a _ (Says to m made away word k) = send_own a to m made (ruled_own a made k) (λ is. absurd (true≢false (sym is ∙ away)))
-ruled_own a _ (Asks to t made away commits k) = send_own a to _ made (ruled_own a made k) (λ is. absurd (true≢false (sym is ∙ away)))
 ruled_own a _ (Locks t n op l) = send_own a t.site _ nothing tt (λ is. (t, n, answer_now a t op nothing, refl))
 ruled_own a _ (Repeats t n answer r) = send_own a t.site _ nothing tt (λ is. (t, n, answer, refl))
 
@@ -149,7 +152,7 @@ settle_none (suc k) a made none =
     ∙ ap (λ z. record made { own = z }) (sym none)
 
 -- behind a rule: the grants, and the own answers
-pub shape_from : (k : ℕ) (a : At) (rule : Made) → Ruled a rule → Shaped a (settle (suc k) a (and_grants a 0 rule))
+pub shape_from : (k : ℕ) (a : At) (rule : Made) → Rule a rule → Shaped a (settle (suc k) a (and_grants a 0 rule))
 shape_from k a rule ruled = by (told_own a (and_grants a 0 rule).own (record (and_grants a 0 rule) { own = [] }) (grants_own a rule (ruled_own a rule ruled)))
   where
     by : Told_own a (and_grants a 0 rule).own (record (and_grants a 0 rule) { own = [] }) → Shaped a (settle (suc k) a (and_grants a 0 rule))
@@ -175,7 +178,7 @@ FromAway site i = Unit {0}
 abbrev pub Comes_to : At → Made → Type 0
 Comes_to a made = Refuses made ⊎ Shaped a made
 
-or_shape : (a : At) (t : Txn) (o : Option Refusal) (made : Made) → (o ≡ None → Ruled a made) → Comes_to a (settle 3 a (and_grants a 0 (or_refused t o made)))
+or_shape : (a : At) (t : Txn) (o : Option Refusal) (made : Made) → (o ≡ None → Rule a made) → Comes_to a (settle 3 a (and_grants a 0 (or_refused t o made)))
 or_shape a t None made k = inr (shape_from 2 a made (k refl))
 or_shape a t (Some why) made k = inl (record { outs = refl; records = refl; told = (t, why, refl) })
 
@@ -192,17 +195,17 @@ issue_shape a t op None takes is = by ((key_of op).site == a.site) refl
     by true here = rw here (inr (shape_from 1 a (on_do a a.site t (suc (length (issued t a.life.steps))) op nothing)
         (keep_on_do a a.site t (suc (length (issued t a.life.steps))) op (record { how = inr (takes, is, refl, eqb-true (key_of op).site a.site here) })
             (λ state. absurd (let both : Q ≡ A = sym (allowed_parts a t is).2 ∙ state in cc)))))
-    by false away = inr (shape_from 2 a (and_send a (key_of op).site m nothing) (Says (key_of op).site m nothing away tt Start))
+    by false away = inr (shape_from 2 a (and_send a (key_of op).site m nothing) (Plain _ (Says (key_of op).site m nothing away tt Start)))
 
 input_shape : (a : At) (i : Input) → a.input ≡ i → FromAway a.site i → Comes_to a (settle 3 a (and_grants a 0 (on_input a i nothing)))
-input_shape a (input.Begin sites) is away = inr (shape_from 2 a (on_begin a sites nothing) (Tells _ nothing tt Start))
+input_shape a (input.Begin sites) is away = inr (shape_from 2 a (on_begin a sites nothing) (Plain _ (Tells _ nothing tt Start)))
 input_shape a (input.Do t op) is away = issue_shape a t op (refuse a t false nothing) is refl
-input_shape a (input.Commit t) is away = or_shape a t (refuse a t false nothing) _ (λ allowed. keep_commit a t (record { takes = is; allowed = allowed }))
-input_shape a (input.Cancel t) is away = or_shape a t (refuse a t true nothing) _ (λ allowed. keep_abort a t nothing (allowed_open a t true allowed) Start)
-input_shape a (input.Expire t) is away = inr (shape_from 2 a _ (keep_expire a t))
+input_shape a (input.Commit t) is away = or_shape a t (refuse a t false nothing) _ (λ allowed. Plain _ (keep_commit a t (record { takes = is; allowed = allowed })))
+input_shape a (input.Cancel t) is away = or_shape a t (refuse a t true nothing) _ (λ allowed. Plain _ (keep_abort a t nothing (allowed_open a t true allowed) Start))
+input_shape a (input.Expire t) is away = inr (shape_from 2 a _ (Plain _ (keep_expire a t)))
 input_shape a (input.Elect t group) is away =
     let e : Election = begun a.site (next_call a.life.inc a.life.steps) group (elected_now a t nothing) in
-    inr (shape_from 2 a _ (keep_join a t e _ (keep_cast a group (msg.Ask t e.call) nothing tt Start)))
+    inr (shape_from 2 a _ (Plain _ (keep_join a t e _ (keep_cast a group (msg.Ask t e.call) nothing tt Start))))
 input_shape a (input.Deliver p) is away = inr (shape_from 2 a _ (keep_delivery a p p.msg is refl away))
 
 pub step_shape : (a : At) → FromAway a.site a.input → Comes_to a (step_at a)

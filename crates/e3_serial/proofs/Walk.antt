@@ -52,7 +52,7 @@ use Rattle.e3_types.specs.declared.entries.Refusal.TheVariants as refusal
 use Rattle.std.specs.Prelude.{is_none}
 use Rattle.e3_world.specs.Logs.{decision, decision_by, state_of, is_undecided}
 use Rattle.e3_world.specs.Operations.{nth_op, kept_reason}
-use Rattle.e3_serial.proofs.Rules.{IsNote, IsNews, IsWord, Commits, Comes, Ruled, Start, Notes, Decides, Votes, Tells, Hears, Says, Asks, Locks, Repeats}
+use Rattle.e3_serial.proofs.Rules.{IsNote, IsNews, IsWord, Commits, Comes, Ruled, Start, Notes, Decides, Votes, Tells, Says, Asks, Rule, Plain, Hears, Locks, Repeats}
 
 same_self : (t : Txn) → same_txn t t ≡ true
 same_self t = and_from _ _ (and_from _ _ (and_from _ _ (eq-eqb t.site t.site refl) (eq-eqb t.inc t.inc refl)) (eq-eqb t.seq t.seq refl)) (same_numbers_refl t.sites)
@@ -176,7 +176,7 @@ by_grant a t n op made Held = and_do a t n op made
 by_grant a t n op made Waits = made
 by_grant a t n op made (Dies older) = dies a t n made older (is_coordinator a t)
 
-pub keep_on_do : (a : At) (f : ℕ) (t : Txn) (n : ℕ) (op : Op) → Comes a t n op → (state_now a t nothing ≡ A → (f == a.site) ≡ false) → Ruled a (on_do a f t n op nothing)
+pub keep_on_do : (a : At) (f : ℕ) (t : Txn) (n : ℕ) (op : Op) → Comes a t n op → (state_now a t nothing ≡ A → (f == a.site) ≡ false) → Rule a (on_do a f t n op nothing)
 keep_on_do a f t n op comes away = by (state_now a t nothing) refl
   where
     asked : Asked
@@ -185,33 +185,33 @@ keep_on_do a f t n op comes away = by (state_now a t nothing) refl
     granted_by : (g : Grant) → state_now a t nothing ≡ Q → answers (record { txn = t; n = n; op = op }) a.life.steps ≡ [] →
         list_any (same_asked (record { txn = t; n = n; op = op })) (waiting a.site (log_now a nothing) a.life.steps) ≡ false →
         lock_grant (record { txn = t; mode = mode_of op }) (holders a.site (key_of op).name (log_now a nothing) a.life.steps)
-            (queue (key_of op).name (waiting a.site (log_now a nothing) a.life.steps)) ≡ g → Ruled a (by_grant a t n op nothing g)
+            (queue (key_of op).name (waiting a.site (log_now a nothing) a.life.steps)) ≡ g → Rule a (by_grant a t n op nothing g)
     granted_by Held state none absent is = Locks t n op (record { comes = comes; idle = state; unanswered = none; absent = absent; held = is })
-    granted_by Waits state none absent is = Start
-    granted_by (Dies older) state none absent is = keep_dies a t n nothing older (idle_open t (log_now a nothing) state) Start (is_coordinator a t) refl
+    granted_by Waits state none absent is = Plain nothing Start
+    granted_by (Dies older) state none absent is = Plain _ (keep_dies a t n nothing older (idle_open t (log_now a nothing) state) Start (is_coordinator a t) refl)
 
     new : (b : Bool) → state_now a t nothing ≡ Q → answers (record { txn = t; n = n; op = op }) a.life.steps ≡ [] →
-        list_any (same_asked (record { txn = t; n = n; op = op })) (waiting a.site (log_now a nothing) a.life.steps) ≡ b → Ruled a (on_do a f t n op nothing)
-    new true state none is = rw (state, none, is) Start
+        list_any (same_asked (record { txn = t; n = n; op = op })) (waiting a.site (log_now a nothing) a.life.steps) ≡ b → Rule a (on_do a f t n op nothing)
+    new true state none is = rw (state, none, is) (Plain nothing Start)
     new false state none is = rw (state, none, is) (granted_by
         (lock_grant (record { txn = t; mode = mode_of op }) (holders a.site (key_of op).name (log_now a nothing) a.life.steps)
             (queue (key_of op).name (waiting a.site (log_now a nothing) a.life.steps))) state none is refl)
 
-    answered : (l : List Answer) → state_now a t nothing ≡ Q → answers (record { txn = t; n = n; op = op }) a.life.steps ≡ l → Ruled a (on_do a f t n op nothing)
+    answered : (l : List Answer) → state_now a t nothing ≡ Q → answers (record { txn = t; n = n; op = op }) a.life.steps ≡ l → Rule a (on_do a f t n op nothing)
     answered [] state is = new (list_any (same_asked (record { txn = t; n = n; op = op })) (waiting a.site (log_now a nothing) a.life.steps)) state is refl
     answered (answer ∷ more) state is = rw (state, is) (Repeats t n answer (record { op = op; comes = comes; more = more; answered = is }))
 
-    by : (st : State) → state_now a t nothing ≡ st → Ruled a (on_do a f t n op nothing)
-    by A state = rw state (Says f (msg.Vote t false) nothing (away state) tt Start)
+    by : (st : State) → state_now a t nothing ≡ st → Rule a (on_do a f t n op nothing)
+    by A state = rw state (Plain _ (Says f (msg.Vote t false) nothing (away state) tt Start))
     by Q state = answered (answers (record { txn = t; n = n; op = op }) a.life.steps) state refl
-    by W state = rw state Start
-    by Pc state = rw state Start
-    by Pa state = rw state Start
-    by C state = rw state Start
+    by W state = rw state (Plain nothing Start)
+    by Pc state = rw state (Plain nothing Start)
+    by Pa state = rw state (Plain nothing Start)
+    by C state = rw state (Plain nothing Start)
 
 -- an answer of another site
 keep_on_done : (a : At) (packet : Packet) (t : Txn) (n inc : ℕ) (answer : Answer) → a.input ≡ input.Deliver packet → packet.msg ≡ msg.Done t n inc answer →
-    Ruled a (on_done a packet.«from» t n inc answer nothing)
+    Rule a (on_done a packet.«from» t n inc answer nothing)
 keep_on_done a packet t n inc answer takes says = by (is_coordinator a t && is_present a t && open_now a t nothing) refl
   where
     f : ℕ
@@ -238,7 +238,7 @@ keep_on_done a packet t n inc answer takes says = by (is_coordinator a t && is_p
         unanswered t (log_now a nothing) (steps_now a nothing) ≡ Some n →
         (op : Op) × (nth_op n (issued t (steps_now a nothing)) ≡ Some op) × (((key_of op).site == packet.«from») ≡ true) →
         ((expected a.site a.life.inc t a.life.steps packet.«from»).count == 0 || (expected a.site a.life.inc t a.life.steps packet.«from»).inc == inc) ≡ b →
-        Ruled a (if b then and_tell (told.Op t n answer) nothing
+        Rule a (if b then and_tell (told.Op t n answer) nothing
             else if may_abort a t nothing then and_abort_for a t (told.Doomed t packet.«from» (expected a.site a.life.inc t a.life.steps packet.«from»).inc inc) nothing else nothing)
     counts true home present still last o is = Hears t n answer (record {
       packet = packet;
@@ -253,20 +253,20 @@ keep_on_done a packet t n inc answer takes says = by (is_coordinator a t && is_p
       there = o.2;
       same = is;
     })
-    counts false home present still last o is = keep_choice a (may_abort a t nothing) _ nothing (keep_abort_for a t _ nothing tt still Start) Start
+    counts false home present still last o is = Plain _ (keep_choice a (may_abort a t nothing) _ nothing (keep_abort_for a t _ nothing tt still Start) Start)
 
     passes : (b : Bool) → (is_unanswered (unanswered t (log_now a nothing) (steps_now a nothing)) && is_from (nth_op n (issued t (steps_now a nothing)))) ≡ b →
-        (is_coordinator a t && is_present a t && open_now a t nothing) ≡ true → Ruled a (on_done a packet.«from» t n inc answer nothing)
+        (is_coordinator a t && is_present a t && open_now a t nothing) ≡ true → Rule a (on_done a packet.«from» t n inc answer nothing)
     passes true both is =
         let p : _ = and_parts _ _ both in
         let q : _ = and_parts _ _ is in
         let r : _ = and_parts _ _ q.0 in
         rw (is, both) (counts _ r.0 r.1 q.1 (the_n (unanswered t (log_now a nothing) (steps_now a nothing)) refl p.0) (the_op (nth_op n (issued t (steps_now a nothing))) refl p.1) refl)
-    passes false both is = rw (is, both) Start
+    passes false both is = rw (is, both) (Plain nothing Start)
 
-    by : (b : Bool) → (is_coordinator a t && is_present a t && open_now a t nothing) ≡ b → Ruled a (on_done a packet.«from» t n inc answer nothing)
+    by : (b : Bool) → (is_coordinator a t && is_present a t && open_now a t nothing) ≡ b → Rule a (on_done a packet.«from» t n inc answer nothing)
     by true is = passes (is_unanswered (unanswered t (log_now a nothing) (steps_now a nothing)) && is_from (nth_op n (issued t (steps_now a nothing)))) refl is
-    by false is = rw is Start
+    by false is = rw is (Plain nothing Start)
 
 -- the news that a request died sends an abort at most
 keep_on_died : (a : At) (t older : Txn) (made : Made) → Ruled a made → Ruled a (on_died a t older made)
@@ -411,24 +411,24 @@ keep_on_ack a f t n dir made k = by (round_in_progress a.site t a.life.steps) re
     by (Some r) is = rw is (acked (count_ack r f n dir) _ refl)
 
 -- a packet that the step takes
-pub keep_delivery : (a : At) (packet : Packet) (x : Message) → a.input ≡ input.Deliver packet → packet.msg ≡ x → (packet.«from» == a.site) ≡ false → Ruled a (on_message a packet.«from» x nothing)
+pub keep_delivery : (a : At) (packet : Packet) (x : Message) → a.input ≡ input.Deliver packet → packet.msg ≡ x → (packet.«from» == a.site) ≡ false → Rule a (on_message a packet.«from» x nothing)
 keep_delivery a packet (msg.Do t n op) takes says away = keep_on_do a packet.«from» t n op (record { how = inl (packet, takes, says) }) (λ is. away)
 keep_delivery a packet (msg.Done t n inc answer) takes says away = keep_on_done a packet t n inc answer takes says
-keep_delivery a packet (msg.Died t n older) takes says away = keep_on_died a t older nothing Start
-keep_delivery a packet (msg.Ask t call) takes says away = Says packet.«from» (msg.LastElected t call (elected_now a t nothing)) nothing away tt Start
-keep_delivery a packet (msg.LastElected t call elected) takes says away = keep_on_last a packet.«from» t call elected nothing Start
-keep_delivery a packet (msg.Elected t n) takes says away = keep_on_elected a packet.«from» t n nothing away Start
-keep_delivery a packet (msg.Report t n st attempt) takes says away = keep_on_report a t n (record { site = packet.«from»; state = st; attempt = attempt }) nothing Start
-keep_delivery a packet (msg.VoteReq t inc count) takes says away = keep_on_vote_req a packet t inc count takes says away
-keep_delivery a packet (msg.Vote t true) takes says away = keep_on_yes a t nothing Start
-keep_delivery a packet (msg.Vote t false) takes says away = by (may_abort a t nothing) refl
+keep_delivery a packet (msg.Died t n older) takes says away = Plain _ (keep_on_died a t older nothing Start)
+keep_delivery a packet (msg.Ask t call) takes says away = Plain _ (Says packet.«from» (msg.LastElected t call (elected_now a t nothing)) nothing away tt Start)
+keep_delivery a packet (msg.LastElected t call elected) takes says away = Plain _ (keep_on_last a packet.«from» t call elected nothing Start)
+keep_delivery a packet (msg.Elected t n) takes says away = Plain _ (keep_on_elected a packet.«from» t n nothing away Start)
+keep_delivery a packet (msg.Report t n st attempt) takes says away = Plain _ (keep_on_report a t n (record { site = packet.«from»; state = st; attempt = attempt }) nothing Start)
+keep_delivery a packet (msg.VoteReq t inc count) takes says away = Plain _ (keep_on_vote_req a packet t inc count takes says away)
+keep_delivery a packet (msg.Vote t true) takes says away = Plain _ (keep_on_yes a t nothing Start)
+keep_delivery a packet (msg.Vote t false) takes says away = Plain _ (by (may_abort a t nothing) refl)
   where
     by : (b : Bool) → may_abort a t nothing ≡ b → Ruled a (if b then and_abort a t nothing else nothing)
     by true is = keep_abort a t nothing (abort_open a t nothing is) Start
     by false is = Start
-keep_delivery a packet (msg.Pre t n dir) takes says away = keep_on_pre a packet.«from» t n dir nothing away Start
-keep_delivery a packet (msg.Ack t n dir) takes says away = keep_on_ack a packet.«from» t n dir nothing Start
-keep_delivery a packet (msg.Decide t dir) takes says away = may_keep a t dir nothing Start
+keep_delivery a packet (msg.Pre t n dir) takes says away = Plain _ (keep_on_pre a packet.«from» t n dir nothing away Start)
+keep_delivery a packet (msg.Ack t n dir) takes says away = Plain _ (keep_on_ack a packet.«from» t n dir nothing Start)
+keep_delivery a packet (msg.Decide t dir) takes says away = Plain _ (may_keep a t dir nothing Start)
 
 -- inputs of the coordinator
 keep_asked : (a : At) (t : Txn) (sites : List ℕ) (made : Made) → Commits a t → Each (λ s. (s == a.site) ≡ false) sites → Ruled a made → Ruled a (fold (and_ask a t) made sites)
