@@ -182,7 +182,7 @@ grants_shows a rule t n v k h = by (list_any decides (drop 0 rule.records)) refl
     by true is = granted_case is (subst (λ z. Shows z t n v) (let e : and_grants a 0 rule ≡ fold (and_grant a) rule (grants_after a rule) = rw is refl in e) h)
     by false is = rule_shows a rule t n v k (subst (λ z. Shows z t n v) (let e : and_grants a 0 rule ≡ rule = rw is refl in e) h)
 
-in_each : {X : Type 0} (P : X → Type 0) (xs : List X) (x : X) → Each P xs → In x xs → P x
+pub in_each : {X : Type 0} (P : X → Type 0) (xs : List X) (x : X) → Each P xs → In x xs → P x
 in_each P [] x all h = absurd h
 in_each P (y ∷ xs) x all (inl e) = subst P e all.0
 in_each P (y ∷ xs) x all (inr k) = in_each P xs x all.1 k

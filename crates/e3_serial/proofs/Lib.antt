@@ -17,3 +17,4 @@ pub mod Shapes
 pub mod Arrivals
 pub mod Steadying
 pub mod Answering
+pub mod Stepping
