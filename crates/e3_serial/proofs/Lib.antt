@@ -18,3 +18,4 @@ pub mod Arrivals
 pub mod Steadying
 pub mod Answering
 pub mod Stepping
+pub mod Knowing

@@ -32,6 +32,9 @@ use Rattle.e3_serial.proofs.Replaying.{filter-append}
 use Rattle.e3_serial.proofs.Walk.{allowed_parts, idle_open}
 use Rattle.e3_serial.proofs.Arrivals.{arrivals_push, issued_push, told_push, answered_first, op_told_answered, InTurn, turn_push, turn_more, of_txn, Steady}
 
+pub some_inj : {X : Type 0} (x y : X) → Some x ≡ Some y → x ≡ y
+some_inj x y e = cc
+
 pub any_in : {X : Type 0} (p : X → Bool) (xs : List X) → list_any p xs ≡ true → (x : X) × In x xs × (p x ≡ true)
 any_in p [] h = absurd (true≢false (sym h))
 any_in p (x ∷ xs) h = by (p x) refl h (any_in p xs)

@@ -31,7 +31,7 @@ use Rattle.e3_serial.proofs.Members.{in_append, in_back, in_filter, filter_in}
 use Rattle.e3_serial.proofs.Walk.{idle_open}
 use Rattle.e3_serial.proofs.Shapes.{FromAway}
 use Rattle.e3_serial.proofs.Arrivals.{arrivals_push, answers_push, issued_push, answered_from, answered_first, unanswered_none, turn_same, of_txn, Steady}
-use Rattle.e3_serial.proofs.Steadying.{in_any, IsMoment, turns_before, steady_push}
+use Rattle.e3_serial.proofs.Steadying.{some_inj, in_any, IsMoment, turns_before, steady_push}
 use Rattle.e3_serial.proofs.Answering.{Cause, Heard, Locked, Repeated, Granted, told_cause, sent_cause}
 use Rattle.e3_world.specs.Moves.{plain}
 
@@ -320,7 +320,7 @@ granted_waits a made q h =
     (in_filter (λ q. same_numbers r.0 (key_of q.op).name) waits q (in_take _ (asked_on r.0 waits) q r.2)).0
 
 -- an operation that comes is taken up
-comes_taken : (a : At) (t : Txn) (n : ℕ) (op : Op) → list_any is_refusal (step_at a).told ≡ false → Comes a t n op →
+pub comes_taken : (a : At) (t : Txn) (n : ℕ) (op : Op) → list_any is_refusal (step_at a).told ≡ false → Comes a t n op →
     taken_up a.site a.life.steps (moment a) ≡ Some (record { txn = t; n = n; op = op })
 comes_taken a t n op calm comes = by comes.how
   where
@@ -343,7 +343,7 @@ comes_taken a t n op calm comes = by comes.how
     by (inr k) = taken_calm a.site a.life.steps (moment a) calm ∙ own_case k.0 k.2 k.3
 
 -- an operation that gets its lock did not come before
-lock_absent : (a : At) (t : Txn) (n : ℕ) (op : Op) → Locking a t n op → (r : Asked) → In r (arrivals a.site a.life.steps) → r.txn ≡ t → r.n ≡ n → ⊥
+pub lock_absent : (a : At) (t : Txn) (n : ℕ) (op : Op) → Locking a t n op → (r : Asked) → In r (arrivals a.site a.life.steps) → r.txn ≡ t → r.n ≡ n → ⊥
 lock_absent a t n op l r h same num = true≢false (sym (in_any (same_asked (record { txn = t; n = n; op = op })) (waiting a.site (log_now a nothing) a.life.steps) r waits test) ∙ l.absent)
   where
     test : (n == r.n && same_txn t r.txn) ≡ true
@@ -361,7 +361,7 @@ lock_absent a t n op l r h same num = true≢false (sym (in_any (same_asked (rec
             (subst (λ u. is_undecided u (log_now a nothing) ≡ true) (sym same) (idle_open t (log_now a nothing) l.idle)) (ap not open_yet))
 
 -- what is among the arrivals of a step and was not before is what the step takes up
-new_taken : (a : At) (q : Asked) → In q (arrivals a.site (a.life.steps ++ moment a ∷ [])) → (In q (arrivals a.site a.life.steps) → ⊥) → taken_up a.site a.life.steps (moment a) ≡ Some q
+pub new_taken : (a : At) (q : Asked) → In q (arrivals a.site (a.life.steps ++ moment a ∷ [])) → (In q (arrivals a.site a.life.steps) → ⊥) → taken_up a.site a.life.steps (moment a) ≡ Some q
 new_taken a q h fresh = by (taken_up a.site a.life.steps (moment a)) (subst (λ l. In q l) (arrivals_push a.site a.life.steps (moment a)) h)
   where
     by : (o : Option Asked) → In q (and_arrived (arrivals a.site a.life.steps) (moment a) o) → o ≡ Some q
@@ -388,19 +388,19 @@ module _ (weights : List ℕ) (a : At) (steady : Steady a.site a.life.steps) (fi
   calm = shaped_calm a (step_at a) s
 
   -- two operations of the step's arrivals with one transaction and number are one
-  same_arrival : (q r : Asked) → In q (arrivals a.site (a.life.steps ++ moment a ∷ [])) → In r (arrivals a.site (a.life.steps ++ moment a ∷ [])) → q.txn ≡ r.txn → q.n ≡ r.n → q ≡ r
+  pub same_arrival : (q r : Asked) → In q (arrivals a.site (a.life.steps ++ moment a ∷ [])) → In r (arrivals a.site (a.life.steps ++ moment a ∷ [])) → q.txn ≡ r.txn → q.n ≡ r.n → q ≡ r
   same_arrival q r h k same num =
       turn_same a.life.steps (of_txn q.txn (arrivals a.site (a.life.steps ++ moment a ∷ []))) q r (turns_before weights a (moment a) (is_moment a) steady fits q.txn)
       (filter_in (λ x. same_txn q.txn x.txn) (arrivals a.site (a.life.steps ++ moment a ∷ [])) q h (same_from q.txn q.txn refl))
       (filter_in (λ x. same_txn q.txn x.txn) (arrivals a.site (a.life.steps ++ moment a ∷ [])) r k (same_from q.txn r.txn same)) num
 
-  granted_arrived : (g : Asked) → In g (grants_after a s.rule) → In g (arrivals a.site (a.life.steps ++ moment a ∷ []))
+  pub granted_arrived : (g : Asked) → In g (grants_after a s.rule) → In g (arrivals a.site (a.life.steps ++ moment a ∷ []))
   granted_arrived g h =
       subst (λ l. In g l) (sym (arrivals_calm a s.rule s.ruled (shaped_calm a (step_at a) s)))
       (waits_parts a.site (log_now a s.rule) (steps_now a s.rule) g (granted_waits a s.rule g h)).0
 
   -- an answer that is heard is to an operation on another site's key
-  heard_elsewhere : (t : Txn) (n : ℕ) (v : Answer) → Hearing a t n v → (t.site ≡ a.site) × (op : Op) × (nth_op n (issued t (a.life.steps ++ moment a ∷ [])) ≡ Some op) × ((key_of op).site ≡ a.site → ⊥)
+  pub heard_elsewhere : (t : Txn) (n : ℕ) (v : Answer) → Hearing a t n v → (t.site ≡ a.site) × (op : Op) × (nth_op n (issued t (a.life.steps ++ moment a ∷ [])) ≡ Some op) × ((key_of op).site ≡ a.site → ⊥)
   heard_elsewhere t n v h = (
     eqb-true t.site a.site h.coordinator,
     h.op,
@@ -416,12 +416,11 @@ module _ (weights : List ℕ) (a : At) (steady : Steady a.site a.life.steps) (fi
       by (Heard k e) =
           let z = heard_elsewhere q.txn q.n v k in
           let nth = (steady_push weights a (moment a) (is_moment a) steady fits).nth q h z.0 in
-          let same : z.1 ≡ q.op = (let both : Some z.1 ≡ Some q.op = sym z.2 ∙ nth in cc) in
+          let same : z.1 ≡ q.op = some_inj z.1 q.op (sym z.2 ∙ nth) in
           absurd (z.3 (ap (λ o. (key_of o).site) same ∙ ((steady_push weights a (moment a) (is_moment a) steady fits).here q h).0))
       by (Locked op l x e) =
           let taken = new_taken a q h (λ old. lock_absent a q.txn q.n op l q old refl refl) in
-          let both : Some (record { txn = q.txn; n = q.n; op = op }) ≡ Some q = sym (comes_taken a q.txn q.n op (shaped_calm a (step_at a) s) l.comes) ∙ taken in
-          let one : record { txn = q.txn; n = q.n; op = op } ≡ q = cc in
+          let one : record { txn = q.txn; n = q.n; op = op } ≡ q = some_inj (record { txn = q.txn; n = q.n; op = op }) q (sym (comes_taken a q.txn q.n op (shaped_calm a (step_at a) s) l.comes) ∙ taken) in
           let same : op ≡ q.op = ap (λ (z : Asked). z.op) one in
           ByLock (subst (λ o. Locking a q.txn q.n o) same l) (x ∙ ap (λ o. answer_now a q.txn o nothing) same) (e ∙ ap (λ o. and_do a q.txn q.n o nothing) same)
       by (Repeated k e) = absurd (let y = answered_from a.life.steps (record { txn = q.txn; n = q.n; op = k.op }) v k.more k.answered in
