@@ -70,7 +70,7 @@ known_more : (a : At) (m : Moment) → Known a.site a.life.steps → (q : Asked)
 known_more a m known q h = elim (known q h) [ inl c ↦ inl (came_more a.site a.life.steps m q c) | inr e ↦ inr (elsewhere_more a.site a.life.steps m q e) ]
 
 -- an operation that gets its lock is among the arrivals
-lock_arrives : (a : At) (t : Txn) (n : ℕ) (op : Op) → list_any is_refusal (step_at a).told ≡ false → Locking a t n op → In (record { txn = t; n = n; op = op }) (arrivals a.site (a.life.steps ++ moment a ∷ []))
+pub lock_arrives : (a : At) (t : Txn) (n : ℕ) (op : Op) → list_any is_refusal (step_at a).told ≡ false → Locking a t n op → In (record { txn = t; n = n; op = op }) (arrivals a.site (a.life.steps ++ moment a ∷ []))
 lock_arrives a t n op calm l =
     subst (λ z. In (record { txn = t; n = n; op = op }) z)
     (sym (arrivals_push a.site a.life.steps (moment a) ∙ ap (λ o. and_arrived (arrivals a.site a.life.steps) (moment a) o) (comes_taken a t n op calm l.comes)))

@@ -19,3 +19,6 @@ pub mod Steadying
 pub mod Answering
 pub mod Stepping
 pub mod Knowing
+pub mod Holding
+pub mod Recording
+pub mod Parting
