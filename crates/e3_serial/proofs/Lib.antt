@@ -22,3 +22,4 @@ pub mod Knowing
 pub mod Holding
 pub mod Recording
 pub mod Parting
+pub mod Answers

@@ -66,7 +66,7 @@ no_split : {X : Type 0} (before : List X) (y : X) (after : List X) → [] ≡ be
 no_split [] y after e = cc
 no_split (z ∷ before) y after e = cc
 
-sent_same_records : (a : At) (to : ℕ) (m : Message) (made : Made) → (and_send a to m made).records ≡ made.records
+pub sent_same_records : (a : At) (to : ℕ) (m : Message) (made : Made) → (and_send a to m made).records ≡ made.records
 sent_same_records a to m made = by (to == a.site) refl
   where
     by : (b : Bool) → (to == a.site) ≡ b → (and_send a to m made).records ≡ made.records
