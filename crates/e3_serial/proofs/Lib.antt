@@ -23,3 +23,4 @@ pub mod Holding
 pub mod Recording
 pub mod Parting
 pub mod Answers
+pub mod Rightness

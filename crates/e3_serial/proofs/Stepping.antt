@@ -178,6 +178,13 @@ arrivals_calm a rule k calm =
     ∙ ap (λ o. and_arrived (arrivals a.site a.life.steps) (moment a) o) (taken_calm a.site a.life.steps (moment a) calm ∙ sym (taken_calm a.site a.life.steps (so_far a rule) (so_far_calm a rule k)))
     ∙ sym (arrivals_push a.site a.life.steps (so_far a rule))
 
+pub arrivals_so_far : (a : At) (made : Made) → list_any is_refusal made.told ≡ false → list_any is_refusal (step_at a).told ≡ false →
+    arrivals a.site (a.life.steps ++ moment a ∷ []) ≡ arrivals a.site (steps_now a made)
+arrivals_so_far a made still calm =
+    arrivals_push a.site a.life.steps (moment a)
+    ∙ ap (λ o. and_arrived (arrivals a.site a.life.steps) (moment a) o) (taken_calm a.site a.life.steps (moment a) calm ∙ sym (taken_calm a.site a.life.steps (so_far a made) still))
+    ∙ sym (arrivals_push a.site a.life.steps (so_far a made))
+
 -- answers are by number and transaction
 told_same : (q r : Asked) → q.txn ≡ r.txn → q.n ≡ r.n → (l : List Told) → flat_map (answer_told q) l ≡ flat_map (answer_told r) l
 told_same q r same num [] = refl
