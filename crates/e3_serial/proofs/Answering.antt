@@ -81,7 +81,7 @@ ruled_shows : (a : At) (made : Made) (t : Txn) (n : ℕ) (v : Answer) → Ruled 
 ruled_shows a _ t n v Start h = shows_nothing t n v h
 ruled_shows a _ t n v (Notes r made note k) h = ruled_shows a made t n v k (shows_record r made t n v h)
 ruled_shows a _ t n v (Decides u dir made still k) h = ruled_shows a made t n v k (shows_record (log.Decision u dir) made t n v h)
-ruled_shows a _ t n v (Votes u made idle cause k) h = ruled_shows a made t n v k (shows_record (log.Vote u (map (λ p. record { n = p.n; op = p.op }) (done a.site u a.life.steps))) made t n v h)
+ruled_shows a _ t n v (Votes u idle cause) h = shows_nothing t n v (shows_record (log.Vote u (map (λ p. record { n = p.n; op = p.op }) (done a.site u a.life.steps))) nothing t n v h)
 ruled_shows a _ t n v (Tells e made news k) h = elim (shows_tell e made t n v h) [
   | inl old ↦ ruled_shows a made t n v k old
   | inr is ↦ absurd (subst (λ z. IsNews z) is news)

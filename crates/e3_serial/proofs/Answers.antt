@@ -19,23 +19,21 @@ use Rattle.e3_world.specs.declared.lives.At.{At}
 use Rattle.e3_world.specs.declared.lives.Made.{Made}
 use Rattle.e3_world.specs.declared.lives.Moment.{Moment}
 use Rattle.e3_world.specs.declared.lives.Performed.{Performed}
-use Rattle.e3_world.specs.Logs.{is_undecided, voted_ops, table_of, table_by, install_op, row_value}
-use Rattle.e3_world.specs.Making.{log_now, own_write}
+use Rattle.e3_world.specs.Logs.{is_undecided, voted_ops, ops_of_vote, table_of, table_by, install_op, row_value}
+use Rattle.e3_world.specs.Making.{nothing, log_now, own_write}
 use Rattle.e3_world.specs.Operations.{arrivals, answers, is_answered, performed_by}
 use Rattle.e3_serial.proofs.Rules.{IsNote, Ruled, Start, Notes, Decides, Votes, Tells, Says, Asks}
-use Rattle.e3_serial.proofs.Entries.{In, name_of, changes}
+use Rattle.e3_serial.proofs.Entries.{through, writes, In, name_of, changes}
 use Rattle.e3_serial.proofs.Members.{in_append, in_back}
 use Rattle.e3_serial.proofs.Walk.{idle_open, log_record}
 use Rattle.e3_serial.proofs.Arrivals.{performed_more, InTurn, of_txn}
 use Rattle.e3_serial.proofs.Stepping.{in_flat}
 use Rattle.e3_serial.proofs.Facts.{decided_not}
 use Rattle.e3_serial.proofs.Holding.{Holds, ByDone, ByVote}
-use Rattle.e3_serial.proofs.Recording.{ops_done, VoteMade, RecordMade, push_split, ruled_made, rule_made, shaped_records, lock_records, vote_done, undecided_before}
+use Rattle.e3_serial.proofs.Recording.{sent_same_records, ops_done, VoteMade, RecordMade, push_split, ruled_made, rule_made, shaped_records, lock_records, vote_done, undecided_before}
 use Rattle.e3_serial.proofs.Members.{in_split}
-use Rattle.e3_serial.proofs.Entries.{through, writes}
 use Rattle.e3_serial.proofs.Values.{untouched, writes_in}
 use Rattle.e3_serial.proofs.Tables.{installed_ops}
-use Rattle.e3_world.specs.Logs.{ops_of_vote}
 
 -- the value of a name in a log's table
 abbrev pub rows_in : List Record → List ℕ → Answer
@@ -146,11 +144,9 @@ ruled_table a t name free _ (Notes r made note k) still =
     let still' = subst (λ l. is_undecided t l ≡ true) (log_record a r made) still in
     ap (λ l. rows_in l name) (log_record a r made) ∙ ap (row_value name) (table_note (log_now a made) r note)
     ∙ ruled_table a t name free made k (undecided_before t (log_now a made) (r ∷ []) still')
-ruled_table a t name free _ (Votes u made idle cause k) still =
-    let r : Record = log.Vote u (ops_done a u) in
-    let still' = subst (λ l. is_undecided t l ≡ true) (log_record a r made) still in
-    ap (λ l. rows_in l name) (log_record a r made) ∙ ap (row_value name) (table_vote (log_now a made) u (ops_done a u) (idle_open u (log_now a made) idle))
-    ∙ ruled_table a t name free made k (undecided_before t (log_now a made) (r ∷ []) still')
+ruled_table a t name free _ (Votes u idle cause) still =
+    ap (λ l. rows_in l name) (log_record a (log.Vote u (ops_done a u)) nothing) ∙ ap (row_value name) (table_vote (log_now a nothing) u (ops_done a u) (idle_open u (log_now a nothing) idle))
+    ∙ ap (λ l. rows_in l name) (append-nil a.life.log)
 ruled_table a t name free _ (Decides u Abort made open_yet k) still =
     let r : Record = log.Decision u Abort in
     let still' = subst (λ l. is_undecided t l ≡ true) (log_record a r made) still in

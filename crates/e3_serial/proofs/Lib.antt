@@ -24,3 +24,4 @@ pub mod Recording
 pub mod Parting
 pub mod Answers
 pub mod Rightness
+pub mod Voting

@@ -14,8 +14,8 @@ use Rattle.e3_world.specs.declared.lives.Asked.{Asked}
 use Rattle.e3_world.specs.declared.lives.At.{At}
 use Rattle.e3_world.specs.declared.lives.Made.{Made}
 use Rattle.e3_world.specs.declared.lives.Performed.{Performed}
-use Rattle.e3_world.specs.Logs.{state_of, is_undecided}
-use Rattle.e3_world.specs.Making.{nothing, and_send, and_do}
+use Rattle.e3_world.specs.Logs.{is_undecided}
+use Rattle.e3_world.specs.Making.{nothing, state_now, and_send, and_do}
 use Rattle.e3_world.specs.Operations.{arrivals, is_answered, done}
 use Rattle.e3_serial.proofs.Rules.{IsNote, Commits, IsAsked, Ruled, Start, Notes, Decides, Votes, Tells, Says, Asks, Rule, Plain, Hears, Locks, Repeats, Shaped}
 use Rattle.e3_serial.proofs.Entries.{In}
@@ -32,7 +32,8 @@ ops_done a t = map (λ p. record { n = p.n; op = p.op }) (done a.site t a.life.s
 -- a vote has what was done, stands behind no record of its transaction, and was asked for
 pub record VoteMade (a : At) (before : List Record) (t : Txn) (ops : List NumOp) : Type 0 where
   pub ops_are : ops ≡ ops_done a t
-  pub idle : state_of t (a.life.log ++ before) ≡ Q
+  pub first : before ≡ []
+  pub idle : state_now a t nothing ≡ Q
   pub cause : Commits a t ⊎ IsAsked a t
 
 -- what a record of a step is over those before it
@@ -91,9 +92,9 @@ ruled_made a _ (Decides t dir made still k) before after r e = elim (push_split 
   | inl last ↦ subst (λ z. RecordMade a before z) (sym last.1) (subst (λ l. is_undecided t (a.life.log ++ l) ≡ true) (sym last.0) still)
   | inr old ↦ ruled_made a made k before old.0 r old.1
 ]
-ruled_made a _ (Votes t made idle cause k) before after r e = elim (push_split made.records (log.Vote t (ops_done a t)) before r after e) [
-  | inl last ↦ subst (λ z. RecordMade a before z) (sym last.1) (record { ops_are = refl; idle = subst (λ l. state_of t (a.life.log ++ l) ≡ Q) (sym last.0) idle; cause = cause })
-  | inr old ↦ ruled_made a made k before old.0 r old.1
+ruled_made a _ (Votes t idle cause) before after r e = elim (push_split [] (log.Vote t (ops_done a t)) before r after e) [
+  | inl last ↦ subst (λ z. RecordMade a before z) (sym last.1) (record { ops_are = refl; first = last.0; idle = idle; cause = cause })
+  | inr old ↦ absurd (no_split before r old.0 old.1)
 ]
 ruled_made a _ (Tells x made news k) before after r e = ruled_made a made k before after r e
 ruled_made a _ (Says to m made away word k) before after r e = ruled_made a made k before after r (sym (sent_same_records a to m made) ∙ e)

@@ -99,7 +99,7 @@ pub data Ruled (a : At) : Made → Type 0 where
   Start : Ruled a nothing
   Notes : (r : Record) (made : Made) → IsNote r → Ruled a made → Ruled a (and_record r made)
   Decides : (t : Txn) (dir : Dir) (made : Made) → open_now a t made ≡ true → Ruled a made → Ruled a (and_record (log.Decision t dir) made)
-  Votes : (t : Txn) (made : Made) → state_now a t made ≡ Q → Commits a t ⊎ IsAsked a t → Ruled a made → Ruled a (and_vote a t made)
+  Votes : (t : Txn) → state_now a t nothing ≡ Q → Commits a t ⊎ IsAsked a t → Ruled a (and_vote a t nothing)
   Tells : (e : Told) (made : Made) → IsNews e → Ruled a made → Ruled a (and_tell e made)
   Says : (to : ℕ) (m : Message) (made : Made) → (to == a.site) ≡ false → IsWord m → Ruled a made → Ruled a (and_send a to m made)
   Asks : (to : ℕ) (t : Txn) (made : Made) → (to == a.site) ≡ false → Commits a t → Ruled a made → Ruled a (and_ask a t made to)

@@ -1,5 +1,5 @@
 -- Each step of a site that is not refused has its shape.
-use Rattle.std.proofs.Common.{subst, ◌≡◌, ◌⊎◌, inl, inr, ◌==◌, ◌&&◌, ◌||◌, ◌++◌, ◌∷◌, [], ℕ, zero, suc, Bool, true, false, List, Option, Some, None, length, fold, drop, refl, sym, ap, ◌∙◌, append-nil, append_assoc, eqb-true, eq-eqb}
+use Rattle.std.proofs.Common.{◌≡◌, ◌⊎◌, inl, inr, ◌==◌, ◌&&◌, ◌||◌, ◌++◌, ◌∷◌, [], ℕ, zero, suc, Bool, true, false, List, Option, Some, None, length, fold, drop, refl, sym, subst, ap, ◌∙◌, append-nil, append_assoc, eqb-true, eq-eqb}
 use Rattle.std.specs.List.{list_any, AllByRecursion as Each}
 use Rattle.std.proofs.lemmas.Bool.{or_right}
 use Rattle.e3_types.specs.declared.entries.Input.{Input}
@@ -13,20 +13,21 @@ use Rattle.e3_types.specs.declared.transactions.Answer.{Answer}
 use Rattle.e3_types.specs.declared.transactions.Op.{Op}
 use Rattle.e3_types.specs.declared.transactions.State.TheVariants.{Q, A}
 use Rattle.e3_types.specs.declared.transactions.Txn.{Txn}
-use Rattle.e3_world.specs.declared.gatherings.Election.{Election}
 use Rattle.e3_world.specs.declared.lives.Asked.{Asked}
 use Rattle.e3_world.specs.declared.lives.At.{At}
 use Rattle.e3_world.specs.declared.lives.Expected.{Expected}
 use Rattle.e3_world.specs.declared.lives.Made.{Made}
 use Rattle.e3_world.specs.declared.lives.Performed.{Performed}
-use Rattle.e3_world.specs.Elections.{begun, next_call}
 use Rattle.e3_world.specs.Logs.{key_of}
-use Rattle.e3_world.specs.Making.{nothing, log_now, steps_now, open_now, elected_now, and_tell, and_send, and_grant, and_grants, grants_after, decides, is_coordinator, is_present, answer_now}
-use Rattle.e3_world.specs.OperationRules.{on_do, on_done}
-use Rattle.e3_world.specs.Operations.{done, expected, issued, nth_op, unanswered}
+use Rattle.e3_world.specs.Making.{nothing, log_now, steps_now, open_now, is_coordinator, is_present, and_tell, and_send, answer_now, grants_after, decides, and_grant, and_grants}
+use Rattle.e3_world.specs.Operations.{issued, nth_op, done, unanswered, expected}
 use Rattle.e3_world.specs.Steps.{refuse, or_refused, on_begin, on_input, handled, settle, step_at}
 use Rattle.e3_serial.proofs.Rules.{Ruled, Start, Notes, Decides, Votes, Tells, Says, Asks, Rule, Plain, Hears, Locks, Repeats, TellsOwn, Shaped, Refuses}
-use Rattle.e3_serial.proofs.Walk.{keep_on_do, keep_delivery, keep_commit, keep_expire, keep_join, keep_cast, keep_abort, allowed_open, allowed_parts}
+use Rattle.e3_serial.proofs.Walk.{keep_on_do, keep_delivery, keep_commit, keep_expire, keep_join, keep_cast, keep_abort, allowed_parts, allowed_open}
+use Rattle.e3_world.specs.OperationRules.{on_do, on_done}
+use Rattle.e3_world.specs.declared.gatherings.Election.{Election}
+use Rattle.e3_world.specs.Elections.{begun, next_call}
+use Rattle.e3_world.specs.Making.{elected_now}
 
 -- the message is an answer of this incarnation
 abbrev pub IsOwnAnswer : At → Message → Type 0
@@ -48,7 +49,7 @@ ruled_none : (a : At) (made : Made) → Ruled a made → made.own ≡ []
 ruled_none a _ Start = refl
 ruled_none a _ (Notes r made note k) = ruled_none a made k
 ruled_none a _ (Decides t dir made still k) = ruled_none a made k
-ruled_none a _ (Votes t made idle cause k) = ruled_none a made k
+ruled_none a _ (Votes t idle cause) = refl
 ruled_none a _ (Tells e made news k) = ruled_none a made k
 ruled_none a _ (Says to m made away word k) = rw away (ruled_none a made k)
 ruled_none a _ (Asks to t made away commits k) = rw away (ruled_none a made k)

@@ -103,7 +103,7 @@ ruled_calm : (a : At) (made : Made) → Ruled a made → Each Calm made.told
 ruled_calm a _ Start = tt
 ruled_calm a _ (Notes r made note k) = ruled_calm a made k
 ruled_calm a _ (Decides t dir made still k) = ruled_calm a made k
-ruled_calm a _ (Votes t made idle cause k) = ruled_calm a made k
+ruled_calm a _ (Votes t idle cause) = tt
 ruled_calm a _ (Tells e made news k) = each_last Calm made.told e (ruled_calm a made k) (news_calm e news)
 ruled_calm a _ (Says to m made away word k) = subst (λ l. Each Calm l) (sym (sent_told a to m made)) (ruled_calm a made k)
 ruled_calm a _ (Asks to t made away commits k) = subst (λ l. Each Calm l) (sym (sent_told a to _ made)) (ruled_calm a made k)

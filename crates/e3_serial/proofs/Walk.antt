@@ -288,7 +288,7 @@ keep_on_vote_req a packet t inc count takes says away = by (state_now a t nothin
     judged : (b : Bool) → vote_rule a t inc count nothing ≡ b → state_now a t nothing ≡ Q → (elected_now a t nothing == 1) ≡ true →
         Ruled a (on_vote_req a packet.«from» t inc count nothing)
     judged true rule state first = rw (state, first, rule) (sent true (and_vote a t nothing)
-        (Votes t nothing state (inr (record { packet = packet; takes = takes; inc = inc; count = count; says = says; rule = rule })) Start))
+        (Votes t state (inr (record { packet = packet; takes = takes; inc = inc; count = count; says = says; rule = rule }))))
     judged false rule state first = rw (state, first, rule) (sent false (and_decide a t Abort nothing) (keep_decide a t Abort nothing (idle_open t (log_now a nothing) state) Start))
 
     by : (st : State) (b : Bool) → state_now a t nothing ≡ st → (elected_now a t nothing == 1) ≡ b → Ruled a (on_vote_req a packet.«from» t inc count nothing)
@@ -489,7 +489,7 @@ keep_commit a t commits = by (elected_now a t nothing == 1) refl
     still = allowed_open a t false commits.allowed
 
     voted : Ruled a (and_vote a t nothing)
-    voted = Votes t nothing (allowed_parts a t commits.allowed).2 (inl commits) Start
+    voted = Votes t (allowed_parts a t commits.allowed).2 (inl commits)
 
     alone : (ss : List ℕ) → others a.site t.sites ≡ ss → (elected_now a t nothing == 1) ≡ true → Each (λ s. (s == a.site) ≡ false) ss → Ruled a (on_commit a t nothing)
     alone [] none is away = rw (is, none) (keep_attempt a t 1 Commit t.sites (and_vote a t nothing) voted)
