@@ -25,3 +25,4 @@ pub mod Parting
 pub mod Answers
 pub mod Rightness
 pub mod Voting
+pub mod Keeping
