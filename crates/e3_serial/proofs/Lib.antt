@@ -26,3 +26,4 @@ pub mod Answers
 pub mod Rightness
 pub mod Voting
 pub mod Keeping
+pub mod Sites
