@@ -112,8 +112,8 @@ table_abort rs t = fold_last (table_by (rs ++ log.Decision t Abort ∷ [])) [] r
 pub table_commit : (rs : List Record) (t : Txn) (name : List ℕ) → rows_in (rs ++ log.Decision t Commit ∷ []) name ≡ through (voted_ops t rs) name (rows_in rs name)
 table_commit rs t name =
     ap (row_value name) (fold_last (table_by more) [] rs (log.Decision t Commit)
-        ∙ ap (λ rows. fold install_op rows (voted_ops t more)) (table_with rs more rs [] (λ v k. ops_same v rs (log.Decision t Commit) refl))
-        ∙ ap (λ ops. fold install_op (table_of rs) ops) (ops_same t rs (log.Decision t Commit) refl))
+    ∙ ap (λ rows. fold install_op rows (voted_ops t more)) (table_with rs more rs [] (λ v k. ops_same v rs (log.Decision t Commit) refl))
+    ∙ ap (λ ops. fold install_op (table_of rs) ops) (ops_same t rs (log.Decision t Commit) refl))
     ∙ installed_ops name (voted_ops t rs) (table_of rs)
   where
     more : List Record
@@ -171,8 +171,8 @@ ruled_table a t name free _ (Decides u Commit made open_yet k) still =
     none : writes name (voted_ops u (log_now a made)) ≡ false
     none = false_from_ne_true _ (λ y.
         (let w = writes_in name (voted_ops u (log_now a made)) y in
-         let v = voted_in u (log_now a made) w.one w.one_in in
-         free u w.one.op (undecided_before u a.life.log made.records open_yet) (held v.0 w.one (in_append a.life.log made.records (log.Vote u v.0) v.1) v.2) differ w.name w.change))
+        let v = voted_in u (log_now a made) w.one w.one_in in
+        free u w.one.op (undecided_before u a.life.log made.records open_yet) (held v.0 w.one (in_append a.life.log made.records (log.Vote u v.0) v.1) v.2) differ w.name w.change))
 ruled_table a t name free _ (Tells e made news k) still = ruled_table a t name free made k still
 ruled_table a t name free _ (Says to m made away word k) still =
     let e = Rattle.e3_serial.proofs.Recording.sent_same_records a to m made in
@@ -205,7 +205,7 @@ performed_one steps q = by (answers q steps) refl
 pub right_walk : (rows other : List ℕ → Answer) (steps : List Moment) (m : Moment) (all init qs : List Asked) → all ≡ init ++ qs → InTurn steps qs →
     ((q : Asked) → In q qs → is_answered steps q ≡ true → other (name_of q.op) ≡ rows (name_of q.op)) →
     ((before : List Asked) (q : Asked) (v : Answer) (more : List Answer) → all ≡ before ++ q ∷ [] → is_answered steps q ≡ false → answers q (steps ++ m ∷ []) ≡ v ∷ more →
-        AnswerFits other (flat_map (performed_by steps) before) (record { n = q.n; op = q.op; answer = v })) →
+    AnswerFits other (flat_map (performed_by steps) before) (record { n = q.n; op = q.op; answer = v })) →
     RightAt rows steps (flat_map (performed_by steps) init) qs → RightAt other (steps ++ m ∷ []) (flat_map (performed_by steps) init) qs
 right_walk rows other steps m all init [] split turn same new h = tt
 right_walk rows other steps m all init (q ∷ qs) split turn same new h =
@@ -245,8 +245,9 @@ right_walk rows other steps m all init (q ∷ qs) split turn same new h =
         (RightAt rows steps (flat_map (performed_by steps) (init ++ q ∷ [])) qs → RightAt other (steps ++ m ∷ []) (flat_map (performed_by steps) (init ++ q ∷ [])) qs) →
         RightAt other (steps ++ m ∷ []) (flat_map (performed_by steps) init) (q ∷ qs)
     by true y go =
-        let e : performed_by (steps ++ m ∷ []) q ≡ performed_by steps q = performed_more steps m q y in
-        (subst (λ l. Each (AnswerFits other (flat_map (performed_by steps) init)) l) (sym e) (old y h.0),
-            subst (λ l. RightAt other (steps ++ m ∷ []) l qs) (grown ∙ ap (λ l. flat_map (performed_by steps) init ++ l) (sym e))
-            (go (subst (λ l. RightAt rows steps l qs) (sym grown) h.1)))
+        let e : performed_by (steps ++ m ∷ []) q ≡ performed_by steps q = performed_more steps m q y in (
+          subst (λ l. Each (AnswerFits other (flat_map (performed_by steps) init)) l) (sym e) (old y h.0),
+          subst (λ l. RightAt other (steps ++ m ∷ []) l qs) (grown ∙ ap (λ l. flat_map (performed_by steps) init ++ l) (sym e))
+              (go (subst (λ l. RightAt rows steps l qs) (sym grown) h.1)),
+        )
     by false none go = (fresh none, subst (λ l. RightAt other (steps ++ m ∷ []) (flat_map (performed_by steps) init ++ performed_by (steps ++ m ∷ []) q) l) (sym (last none)) tt)

@@ -73,7 +73,7 @@ pub performed_more : (steps : List Moment) (m : Moment) (q : Asked) → is_answe
 performed_more steps m q h =
     let f = answered_first steps q h in
     let g : answers q (steps ++ m ∷ []) ≡ f.0 ∷ (f.1 ++ (flat_map (answer_told q) m.told ++ flat_map (answer_sent q) m.outs)) =
-        answers_push q steps m ∙ ap (λ l. l ++ (flat_map (answer_told q) m.told ++ flat_map (answer_sent q) m.outs)) f.2 in
+    answers_push q steps m ∙ ap (λ l. l ++ (flat_map (answer_told q) m.told ++ flat_map (answer_sent q) m.outs)) f.2 in
     rw (g, f.2) refl
 
 -- an operation that was told is answered

@@ -52,9 +52,9 @@ pub held_lock : (site : ℕ) (records : List Record) (steps : List Moment) (t : 
 held_lock site records steps t op open_yet (ByDone q h y same is) =
     in_front (done_locks site (name_of op) records steps) (voted_locks (name_of op) records) (lock_of t op)
     (in_flat_from (λ a. lock_on (name_of op) a.txn a.op) (filter (λ a. is_undecided a.txn records && is_answered steps a) (arrivals site steps)) q (lock_of t op)
-        (filter_in (λ a. is_undecided a.txn records && is_answered steps a) (arrivals site steps) q h
-            (and_from (is_undecided q.txn records) (is_answered steps q) (subst (λ u. is_undecided u records ≡ true) (sym same) open_yet) y))
-        (subst (λ z. In (lock_of t op) z) (sym (lock_on_one (name_of op) q.txn q.op (ap name_of is))) (inl (λ i. lock_of (same i) (is i)))))
+    (filter_in (λ a. is_undecided a.txn records && is_answered steps a) (arrivals site steps) q h
+    (and_from (is_undecided q.txn records) (is_answered steps q) (subst (λ u. is_undecided u records ≡ true) (sym same) open_yet) y))
+    (subst (λ z. In (lock_of t op) z) (sym (lock_on_one (name_of op) q.txn q.op (ap name_of is))) (inl (λ i. lock_of (same i) (is i)))))
 held_lock site records steps t op open_yet (ByVote ops o h k is) =
     in_back (done_locks site (name_of op) records steps) (voted_locks (name_of op) records) (lock_of t op)
     (subst (λ z. In (lock_of t z) (voted_locks (name_of op) records)) is (vote_lock (name_of op) t ops records o open_yet h k (ap name_of is)))
@@ -178,9 +178,9 @@ lock_free site records steps waits t op apart still held u other open_yet holds 
         (cover_clash op f.op other f.name_is (subst (λ m. covers m (mode_of op) ≡ true) (sym f.mode_is) q.1) c)
     by false is =
         let now : grant_against t (against (lock_of t op) (holders site (name_of op) records steps ++ waits)) ≡ Held =
-            ap (λ b. if b then Held else grant_against t (against (lock_of t op) (holders site (name_of op) records steps ++ waits))) (sym is) ∙ held in
+        ap (λ b. if b then Held else grant_against t (against (lock_of t op) (holders site (name_of op) records steps ++ waits))) (sym is) ∙ held in
         let none = none_against (lock_of t op) (lock_of u other) (holders site (name_of op) records steps ++ waits) (nobody _ refl now)
-            (in_front (holders site (name_of op) records steps) waits (lock_of u other) other_in) in
+        (in_front (holders site (name_of op) records steps) waits (lock_of u other) other_in) in
         true≢false (sym (opposed t u op other differ c) ∙ none)
 
 -- The longest front of a queue: each of its requests is free of the holders, and of those before it.
@@ -223,7 +223,7 @@ front_apart name hs (x ∷ qs) on q r h k differ =
         In q (take (length (if b then [] else lock_of x.txn x.op ∷ front (hs ++ lock_of x.txn x.op ∷ []) (queue name qs))) (x ∷ qs)) →
         In r (take (length (if b then [] else lock_of x.txn x.op ∷ front (hs ++ lock_of x.txn x.op ∷ []) (queue name qs))) (x ∷ qs)) →
         (In q (front_of (hs ++ lock_of x.txn x.op ∷ []) name qs) → In r (front_of (hs ++ lock_of x.txn x.op ∷ []) name qs) →
-            (opposes (lock_of q.txn q.op) (lock_of r.txn r.op) ≡ false) ⊎ (opposes (lock_of r.txn r.op) (lock_of q.txn q.op) ≡ false)) →
+        (opposes (lock_of q.txn q.op) (lock_of r.txn r.op) ≡ false) ⊎ (opposes (lock_of r.txn r.op) (lock_of q.txn q.op) ≡ false)) →
         (opposes (lock_of q.txn q.op) (lock_of r.txn r.op) ≡ false) ⊎ (opposes (lock_of r.txn r.op) (lock_of q.txn q.op) ≡ false)
     go true m n ih = absurd m
     go false (inl e) (inl f) ih = absurd (differ (ap (λ (z : Asked). z.txn) (sym e ∙ f)))
@@ -266,7 +266,7 @@ pub granted_apart : (a : At) (made : Made) (q r : Asked) → In q (grants_after 
 granted_apart a made q r h k differ c =
     let waits : List Asked = waiting a.site (log_now a made) (steps_now a made) in
     elim (front_apart (name_of q.op) (holders a.site (name_of q.op) (log_now a made) (steps_now a made)) (asked_on (name_of q.op) waits) (on_name (name_of q.op) waits) q r (granted_front a made q h)
-        (subst (λ n. In r (granted_on a made waits n)) (sym c.same_name) (granted_front a made r k)) differ) [
+    (subst (λ n. In r (granted_on a made waits n)) (sym c.same_name) (granted_front a made r k)) differ) [
       | inl none ↦ true≢false (sym (opposed q.txn r.txn q.op r.op differ c) ∙ none)
       | inr none ↦ true≢false (sym (opposed r.txn q.txn r.op q.op (λ e. differ (sym e)) (turn_clash q.op r.op c)) ∙ none)
     ]

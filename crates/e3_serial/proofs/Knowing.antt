@@ -75,13 +75,13 @@ lock_arrives a t n op calm l =
     subst (λ z. In (record { txn = t; n = n; op = op }) z)
     (sym (arrivals_push a.site a.life.steps (moment a) ∙ ap (λ o. and_arrived (arrivals a.site a.life.steps) (moment a) o) (comes_taken a t n op calm l.comes)))
     (subst (λ b. In (record { txn = t; n = n; op = op }) (if b then arrivals a.site a.life.steps ++ record { txn = t; n = n; op = op } ∷ [] else arrivals a.site a.life.steps)) (sym fresh)
-        (in_back (arrivals a.site a.life.steps) (record { txn = t; n = n; op = op } ∷ []) (record { txn = t; n = n; op = op }) (inl refl)))
+    (in_back (arrivals a.site a.life.steps) (record { txn = t; n = n; op = op } ∷ []) (record { txn = t; n = n; op = op }) (inl refl)))
   where
     new : list_any (same_asked (record { txn = t; n = n; op = op })) (arrivals a.site a.life.steps) ≡ false
     new = false_from_ne_true _ (λ y.
         (let r = any_in (same_asked (record { txn = t; n = n; op = op })) (arrivals a.site a.life.steps) y in
-         let p = and_parts (n == r.0.n) (same_txn t r.0.txn) r.2 in
-         lock_absent a t n op l r.0 r.1 (sym (same_is t r.0.txn p.1)) (sym (eqb-true n r.0.n p.0))))
+        let p = and_parts (n == r.0.n) (same_txn t r.0.txn) r.2 in
+        lock_absent a t n op l r.0 r.1 (sym (same_is t r.0.txn p.1)) (sym (eqb-true n r.0.n p.0))))
 
     idle : state_of t a.life.log ≡ Q
     idle = ap (state_of t) (sym (append-nil a.life.log)) ∙ l.idle
@@ -121,7 +121,7 @@ module _ (weights : List ℕ) (a : At) (steady : Steady a.site a.life.steps) (fi
         | inr e ↦ (
             let steady' = steady_push weights a (moment a) (is_moment a) steady fits in
             let nth : nth_op q.n (issued q.txn (a.life.steps ++ moment a ∷ [])) ≡ Some e.op =
-                subst (λ l. nth_op q.n l ≡ Some e.op) (sym (issued_push q.txn a.life.steps (moment a))) (nth_more q.n (issued q.txn a.life.steps) _ e.op e.nth) in
+            subst (λ l. nth_op q.n l ≡ Some e.op) (sym (issued_push q.txn a.life.steps (moment a))) (nth_more q.n (issued q.txn a.life.steps) _ e.op e.nth) in
             let same : e.op ≡ q.op = some_inj e.op q.op (sym nth ∙ steady'.nth q h e.own) in
             e.away (ap (λ o. (key_of o).site) same ∙ (steady'.here q h).0))
       ]

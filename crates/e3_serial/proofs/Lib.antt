@@ -27,3 +27,4 @@ pub mod Rightness
 pub mod Voting
 pub mod Keeping
 pub mod Sites
+pub mod Serial

@@ -85,7 +85,7 @@ module _ (weights : List ℕ) (a : At) (steady : Steady a.site a.life.steps) (fi
   same_lock q r l k =
       let calm = shaped_calm a (step_at a) s in
       ap (λ (z : Asked). z.txn) (some_inj (record { txn = q.txn; n = q.n; op = q.op }) (record { txn = r.txn; n = r.n; op = r.op })
-          (sym (comes_taken a q.txn q.n q.op calm l.comes) ∙ comes_taken a r.txn r.n r.op calm k.comes))
+      (sym (comes_taken a q.txn q.n q.op calm l.comes) ∙ comes_taken a r.txn r.n r.op calm k.comes))
 
   no_decision : s.rule.records ≡ [] → list_any decides s.rule.records ≡ true → ⊥
   no_decision none some = true≢false (sym some ∙ ap (λ l. list_any decides l) none)

@@ -132,11 +132,11 @@ module _ (weights : List ℕ) (a : At) (steady : Steady a.site a.life.steps) (fi
     reading made still now before q key is split =
         ap (λ l. fold (own_write key.name) (row_value key.name (table_of l)) (done a.site q.txn (steps_now a made))) now
         ∙ ap (λ l. fold (own_write key.name) (rows_in (a.life.log ++ (step_at a).records) key.name) (flat_map (performed_by (steps_now a made)) l))
-            (ap (λ l. of_txn q.txn l) (sym (arrivals_so_far a made still (shaped_calm a (step_at a) s))) ∙ split)
+        (ap (λ l. of_txn q.txn l) (sym (arrivals_so_far a made still (shaped_calm a (step_at a) s))) ∙ split)
         ∙ ap (λ l. fold (own_write key.name) (rows_in (a.life.log ++ (step_at a).records) key.name) l)
-            (flat_map-append (performed_by (steps_now a made)) before (q ∷ [])
-                ∙ ap (λ l. l ++ flat_map (performed_by (steps_now a made)) (q ∷ [])) (performed_front a.life.steps (so_far a made) before turn)
-                ∙ ap (λ l. flat_map (performed_by a.life.steps) before ++ l) (append-nil (performed_by (steps_now a made) q)))
+        (flat_map-append (performed_by (steps_now a made)) before (q ∷ [])
+        ∙ ap (λ l. l ++ flat_map (performed_by (steps_now a made)) (q ∷ [])) (performed_front a.life.steps (so_far a made) before turn)
+        ∙ ap (λ l. flat_map (performed_by a.life.steps) before ++ l) (append-nil (performed_by (steps_now a made) q)))
         ∙ fold_both (own_write key.name) (rows_in (a.life.log ++ (step_at a).records) key.name) (flat_map (performed_by a.life.steps) before) (performed_by (steps_now a made) q)
         ∙ own_read (steps_now a made) q key key.name (fold (own_write key.name) (rows_in (a.life.log ++ (step_at a).records) key.name) (flat_map (performed_by a.life.steps) before)) is
       where
@@ -162,7 +162,7 @@ module _ (weights : List ℕ) (a : At) (steady : Steady a.site a.life.steps) (fi
             let kept = grants_keep a front s.rule in
             x ∙ ap (λ o. answer_now a q.txn o (fold (and_grant a) s.rule front)) e
             ∙ reading (fold (and_grant a) s.rule front) (ap (λ l. list_any is_refusal l) kept.1 ∙ so_far_calm a s.rule s.ruled)
-                (ap (λ l. a.life.log ++ l) kept.0 ∙ sym now_log) before q key e split'
+            (ap (λ l. a.life.log ++ l) kept.0 ∙ sym now_log) before q key e split'
 
         by : (op : Op) → q.op ≡ op → AnswerFits (rows_in (a.life.log ++ (step_at a).records)) (flat_map (performed_by a.life.steps) before) (record { n = q.n; op = q.op; answer = v })
         by (Read key) e = subst (λ o. AnswerFits (rows_in (a.life.log ++ (step_at a).records)) (flat_map (performed_by a.life.steps) before) (record { n = q.n; op = o; answer = v })) (sym e)
@@ -174,9 +174,9 @@ module _ (weights : List ℕ) (a : At) (steady : Steady a.site a.life.steps) (fi
         right_walk (rows_in a.life.log) (rows_in (a.life.log ++ (step_at a).records)) a.life.steps (moment a) (of_txn t (arrivals a.site (a.life.steps ++ moment a ∷ []))) []
         (of_txn t (arrivals a.site (a.life.steps ++ moment a ∷ []))) refl (turns_before weights a (moment a) (is_moment a) steady fits t)
         (λ q h y. (let m = in_filter (λ x. same_txn t x.txn) (arrivals a.site (a.life.steps ++ moment a ∷ [])) q h in
-            elim (fresh_unanswered weights a steady fits away known q m.0) [
-              | inl old ↦ old_rows t still q old y (sym (same_is t q.txn m.1))
-              | inr none ↦ absurd (true≢false (sym y ∙ none))
-            ]))
+        elim (fresh_unanswered weights a steady fits away known q m.0) [
+          | inl old ↦ old_rows t still q old y (sym (same_is t q.txn m.1))
+          | inr none ↦ absurd (true≢false (sym y ∙ none))
+        ]))
         (λ before q v more split none is. new_fits t before q v more split none is)
         (right_arrivals t (undecided_before t a.life.log (step_at a).records still))

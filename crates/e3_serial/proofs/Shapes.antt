@@ -159,7 +159,7 @@ shape_from k a rule ruled = by (told_own a (and_grants a 0 rule).own (record (an
     by : Told_own a (and_grants a 0 rule).own (record (and_grants a 0 rule) { own = [] }) → Shaped a (settle (suc k) a (and_grants a 0 rule))
     by t =
         let is : settle (suc k) a (and_grants a 0 rule) ≡ record (and_grants a 0 rule) { own = []; told = (and_grants a 0 rule).told ++ t.events } =
-            ap (λ z. settle k a z) t.is ∙ settle_none k a _ refl in
+        ap (λ z. settle k a z) t.is ∙ settle_none k a _ refl in
         record {
           rule = rule;
           ruled = ruled;
@@ -195,7 +195,7 @@ issue_shape a t op None takes is = by ((key_of op).site == a.site) refl
     by : (b : Bool) → ((key_of op).site == a.site) ≡ b → Comes_to a (settle 3 a (and_grants a 0 (and_send a (key_of op).site (msg.Do t (suc (length (issued t a.life.steps))) op) nothing)))
     by true here = rw here (inr (shape_from 1 a (on_do a a.site t (suc (length (issued t a.life.steps))) op nothing)
         (keep_on_do a a.site t (suc (length (issued t a.life.steps))) op (record { how = inr (takes, is, refl, eqb-true (key_of op).site a.site here) })
-            (λ state. absurd (let both : Q ≡ A = sym (allowed_parts a t is).2 ∙ state in cc)))))
+        (λ state. absurd (let both : Q ≡ A = sym (allowed_parts a t is).2 ∙ state in cc)))))
     by false away = inr (shape_from 2 a (and_send a (key_of op).site m nothing) (Plain _ (Says (key_of op).site m nothing away tt Start)))
 
 input_shape : (a : At) (i : Input) → a.input ≡ i → FromAway a.site i → Comes_to a (settle 3 a (and_grants a 0 (on_input a i nothing)))

@@ -230,7 +230,7 @@ tail_site : (sc : Scenario) (before : List Move) (site : ℕ) (mine : List Move)
 tail_site sc before site mine inputs rs up fits is k = record {
   keeps = subst (λ l. Keeps site l) (sym (life_silent site mine inputs rs))
       (subst (λ l. Keeps site (rested l)) (append-nil (log_by (run_in_turn sc site mine inputs)) ∙ log)
-          (rest_keeps site (run_in_turn sc site mine inputs) [] tt (run_site sc before site inputs mine up fits k).keeps));
+      (rest_keeps site (run_in_turn sc site mine inputs) [] tt (run_site sc before site inputs mine up fits k).keeps));
   born = λ prior after r e. (run_site sc before site inputs mine up fits k).born prior after r (log ∙ sym (log_push mine (record { site = site; did = Silent inputs rs })) ∙ e);
   risen = λ u. absurd (true≢false (sym u ∙ silent_down site mine inputs rs));
 }

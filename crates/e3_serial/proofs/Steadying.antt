@@ -115,8 +115,8 @@ fresh_turn site life t n op idle turn fresh r h = last (or_cases _ _ turn)
         let p = in_filter (λ a. same_txn t a.txn) (arrivals site life.steps) q k in
         filter_in (λ q. same_txn t q.txn) (waiting site life.log life.steps) q
         (filter_in (λ a. is_undecided a.txn life.log && not (is_answered life.steps a)) (arrivals site life.steps) q p.0
-            (and_from (is_undecided q.txn life.log) (not (is_answered life.steps q))
-                (subst (λ u. is_undecided u life.log ≡ true) (same_is t q.txn p.1) (idle_open t life.log idle)) (ap not none)))
+        (and_from (is_undecided q.txn life.log) (not (is_answered life.steps q))
+        (subst (λ u. is_undecided u life.log ≡ true) (same_is t q.txn p.1) (idle_open t life.log idle)) (ap not none)))
         p.1
 
     ahead : is_none (slice_get (filter (λ q. same_txn t q.txn) (waiting site life.log life.steps)) 0) ≡ true → list_all (λ p. nat_lt p.n n) (done site t life.steps) ≡ true →

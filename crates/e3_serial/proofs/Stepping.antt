@@ -359,13 +359,13 @@ lock_absent a t n op l r h same num = true≢false (sym (in_any (same_asked (rec
     open_yet : is_answered a.life.steps r ≡ false
     open_yet = false_from_ne_true (is_answered a.life.steps r) (λ y.
         (let f = answered_first a.life.steps r y in
-         let e : answers r a.life.steps ≡ [] = same_answers r (record { txn = t; n = n; op = op }) same num a.life.steps ∙ l.unanswered in
-         let both : [] ≡ f.0 ∷ f.1 = sym e ∙ f.2 in cc))
+        let e : answers r a.life.steps ≡ [] = same_answers r (record { txn = t; n = n; op = op }) same num a.life.steps ∙ l.unanswered in
+        let both : [] ≡ f.0 ∷ f.1 = sym e ∙ f.2 in cc))
 
     waits : In r (waiting a.site (log_now a nothing) a.life.steps)
     waits = filter_in (λ a'. is_undecided a'.txn (log_now a nothing) && not (is_answered a.life.steps a')) (arrivals a.site a.life.steps) r h
         (and_from (is_undecided r.txn (log_now a nothing)) (not (is_answered a.life.steps r))
-            (subst (λ u. is_undecided u (log_now a nothing) ≡ true) (sym same) (idle_open t (log_now a nothing) l.idle)) (ap not open_yet))
+        (subst (λ u. is_undecided u (log_now a nothing) ≡ true) (sym same) (idle_open t (log_now a nothing) l.idle)) (ap not open_yet))
 
 -- what is among the arrivals of a step and was not before is what the step takes up
 pub new_taken : (a : At) (q : Asked) → In q (arrivals a.site (a.life.steps ++ moment a ∷ [])) → (In q (arrivals a.site a.life.steps) → ⊥) → taken_up a.site a.life.steps (moment a) ≡ Some q

@@ -104,11 +104,11 @@ done_free site records steps t o apart still holds =
     unopposed : (l : Lock) → In l (voted_locks (key_of o.op).name records) → opposes (lock_of t o.op) l ≡ false
     unopposed l h = false_from_ne_true _ (λ y.
         (let p = and_parts (not (same_txn l.txn t)) (conflicts l.mode (mode_of o.op)) y in
-         let f = held_for site (key_of o.op).name records steps l (in_back (Rattle.e3_world.specs.Operations.done_locks site (key_of o.op).name records steps) (voted_locks (key_of o.op).name records) l h) in
-         let c = conflicting f.op o.op (subst (λ m. conflicts m (mode_of o.op) ≡ true) (sym f.mode_is) p.1) in
-         apart t l.txn o.op f.op still f.undecided holds f.holds
-         (λ e. true≢false (sym p.0 ∙ ap not (same_from l.txn t (sym e))))
-         (record { same_name = sym f.name_is; one_changes = ⊎_elim (λ k. inr k) (λ k. inl k) c })))
+        let f = held_for site (key_of o.op).name records steps l (in_back (Rattle.e3_world.specs.Operations.done_locks site (key_of o.op).name records steps) (voted_locks (key_of o.op).name records) l h) in
+        let c = conflicting f.op o.op (subst (λ m. conflicts m (mode_of o.op) ≡ true) (sym f.mode_is) p.1) in
+        apart t l.txn o.op f.op still f.undecided holds f.holds
+        (λ e. true≢false (sym p.0 ∙ ap not (same_from l.txn t (sym e))))
+        (record { same_name = sym f.name_is; one_changes = ⊎_elim (λ k. inr k) (λ k. inl k) c })))
 
 -- what was done before a step, as a vote of the step sees it
 module _ (weights : List ℕ) (a : At) (steady : Steady a.site a.life.steps) (fits : Fits weights a.site a.life a.input) (apart : Apart a.site a.life.log a.life.steps) where

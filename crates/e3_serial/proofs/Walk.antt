@@ -48,7 +48,6 @@ use Rattle.e3_world.specs.Steps.{refuse, and_ask, on_commit, on_expire}
 use Rattle.e3_types.specs.declared.entries.Input.TheVariants as input
 use Rattle.e3_types.specs.declared.entries.Refusal.{Refusal}
 use Rattle.e3_types.specs.declared.entries.Refusal.TheVariants as refusal
-
 use Rattle.std.specs.Prelude.{is_none}
 use Rattle.e3_world.specs.Logs.{decision, decision_by, state_of, is_undecided}
 use Rattle.e3_world.specs.Operations.{nth_op, kept_reason}
@@ -185,7 +184,7 @@ keep_on_do a f t n op comes away = by (state_now a t nothing) refl
     granted_by : (g : Grant) → state_now a t nothing ≡ Q → answers (record { txn = t; n = n; op = op }) a.life.steps ≡ [] →
         list_any (same_asked (record { txn = t; n = n; op = op })) (waiting a.site (log_now a nothing) a.life.steps) ≡ false →
         lock_grant (record { txn = t; mode = mode_of op }) (holders a.site (key_of op).name (log_now a nothing) a.life.steps)
-            (queue (key_of op).name (waiting a.site (log_now a nothing) a.life.steps)) ≡ g → Rule a (by_grant a t n op nothing g)
+        (queue (key_of op).name (waiting a.site (log_now a nothing) a.life.steps)) ≡ g → Rule a (by_grant a t n op nothing g)
     granted_by Held state none absent is = Locks t n op (record { comes = comes; idle = state; unanswered = none; absent = absent; held = is })
     granted_by Waits state none absent is = Plain nothing Start
     granted_by (Dies older) state none absent is = Plain _ (keep_dies a t n nothing older (idle_open t (log_now a nothing) state) Start (is_coordinator a t) refl)
@@ -195,7 +194,7 @@ keep_on_do a f t n op comes away = by (state_now a t nothing) refl
     new true state none is = rw (state, none, is) (Plain nothing Start)
     new false state none is = rw (state, none, is) (granted_by
         (lock_grant (record { txn = t; mode = mode_of op }) (holders a.site (key_of op).name (log_now a nothing) a.life.steps)
-            (queue (key_of op).name (waiting a.site (log_now a nothing) a.life.steps))) state none is refl)
+        (queue (key_of op).name (waiting a.site (log_now a nothing) a.life.steps))) state none is refl)
 
     answered : (l : List Answer) → state_now a t nothing ≡ Q → answers (record { txn = t; n = n; op = op }) a.life.steps ≡ l → Rule a (on_do a f t n op nothing)
     answered [] state is = new (list_any (same_asked (record { txn = t; n = n; op = op })) (waiting a.site (log_now a nothing) a.life.steps)) state is refl
@@ -239,7 +238,7 @@ keep_on_done a packet t n inc answer takes says = by (is_coordinator a t && is_p
         (op : Op) × (nth_op n (issued t (steps_now a nothing)) ≡ Some op) × (((key_of op).site == packet.«from») ≡ true) →
         ((expected a.site a.life.inc t a.life.steps packet.«from»).count == 0 || (expected a.site a.life.inc t a.life.steps packet.«from»).inc == inc) ≡ b →
         Rule a (if b then and_tell (told.Op t n answer) nothing
-            else if may_abort a t nothing then and_abort_for a t (told.Doomed t packet.«from» (expected a.site a.life.inc t a.life.steps packet.«from»).inc inc) nothing else nothing)
+        else if may_abort a t nothing then and_abort_for a t (told.Doomed t packet.«from» (expected a.site a.life.inc t a.life.steps packet.«from»).inc inc) nothing else nothing)
     counts true home present still last o is = Hears t n answer (record {
       packet = packet;
       takes = takes;
