@@ -28,3 +28,5 @@ pub mod Voting
 pub mod Keeping
 pub mod Sites
 pub mod Serial
+pub mod Sending
+pub mod Telling

@@ -143,6 +143,18 @@ module _ (weights : List ℕ) (a : At) (steady : Steady a.site a.life.steps) (fi
         turn : (r : Asked) → In r before → is_answered a.life.steps r ≡ true
         turn = turn_front a.life.steps before q (subst (λ l. InTurn a.life.steps l) split (turns_before weights a (moment a) (is_moment a) steady fits q.txn))
 
+    -- an answer that the step gives first to a read is the one that the read finds
+    pub why_value : (before : List Asked) (q : Asked) (v : Answer) → of_txn q.txn (arrivals a.site (a.life.steps ++ moment a ∷ [])) ≡ before ++ q ∷ [] → (key : Key) → q.op ≡ Read key → Why a s.rule q v →
+        v ≡ fold (own_write key.name) (rows_in (a.life.log ++ (step_at a).records) key.name) (flat_map (performed_by a.life.steps) before)
+    why_value before q v split key e (ByLock l x rule) =
+        x ∙ ap (λ o. answer_now a q.txn o nothing) e
+        ∙ reading nothing refl (ap (λ l. a.life.log ++ l) (sym (shaped_records a (step_at a) s ∙ ap (λ (z : Made). z.records) rule ∙ lock_records a q.txn q.n q.op))) before q key e split
+    why_value before q v split key e (ByGrant front after part x some ruled) =
+        let kept = grants_keep a front s.rule in
+        x ∙ ap (λ o. answer_now a q.txn o (fold (and_grant a) s.rule front)) e
+        ∙ reading (fold (and_grant a) s.rule front) (ap (λ l. list_any is_refusal l) kept.1 ∙ so_far_calm a s.rule s.ruled)
+            (ap (λ l. a.life.log ++ l) kept.0 ∙ sym now_log) before q key e split
+
     new_fits : (t : Txn) (before : List Asked) (q : Asked) (v : Answer) (more : List Answer) → of_txn t (arrivals a.site (a.life.steps ++ moment a ∷ [])) ≡ before ++ q ∷ [] → is_answered a.life.steps q ≡ false →
         answers q (a.life.steps ++ moment a ∷ []) ≡ v ∷ more → AnswerFits (rows_in (a.life.log ++ (step_at a).records)) (flat_map (performed_by a.life.steps) before) (record { n = q.n; op = q.op; answer = v })
     new_fits t before q v more split none is = by q.op refl
@@ -153,20 +165,9 @@ module _ (weights : List ℕ) (a : At) (steady : Steady a.site a.life.steps) (fi
         split' : of_txn q.txn (arrivals a.site (a.life.steps ++ moment a ∷ [])) ≡ before ++ q ∷ []
         split' = ap (λ u. of_txn u (arrivals a.site (a.life.steps ++ moment a ∷ []))) (sym (same_is t q.txn member.1)) ∙ split
 
-        why : (key : Key) → q.op ≡ Read key → Why a s.rule q v →
-            v ≡ fold (own_write key.name) (rows_in (a.life.log ++ (step_at a).records) key.name) (flat_map (performed_by a.life.steps) before)
-        why key e (ByLock l x rule) =
-            x ∙ ap (λ o. answer_now a q.txn o nothing) e
-            ∙ reading nothing refl (ap (λ l. a.life.log ++ l) (sym (shaped_records a (step_at a) s ∙ ap (λ (z : Made). z.records) rule ∙ lock_records a q.txn q.n q.op))) before q key e split'
-        why key e (ByGrant front after part x some ruled) =
-            let kept = grants_keep a front s.rule in
-            x ∙ ap (λ o. answer_now a q.txn o (fold (and_grant a) s.rule front)) e
-            ∙ reading (fold (and_grant a) s.rule front) (ap (λ l. list_any is_refusal l) kept.1 ∙ so_far_calm a s.rule s.ruled)
-            (ap (λ l. a.life.log ++ l) kept.0 ∙ sym now_log) before q key e split'
-
         by : (op : Op) → q.op ≡ op → AnswerFits (rows_in (a.life.log ++ (step_at a).records)) (flat_map (performed_by a.life.steps) before) (record { n = q.n; op = q.op; answer = v })
         by (Read key) e = subst (λ o. AnswerFits (rows_in (a.life.log ++ (step_at a).records)) (flat_map (performed_by a.life.steps) before) (record { n = q.n; op = o; answer = v })) (sym e)
-            (why key e (new_why weights a steady fits away s q v more member.0 none is))
+            (why_value before q v split' key e (new_why weights a steady fits away s q v more member.0 none is))
         by (Write key val) e = subst (λ o. AnswerFits (rows_in (a.life.log ++ (step_at a).records)) (flat_map (performed_by a.life.steps) before) (record { n = q.n; op = o; answer = v })) (sym e) tt
 
     pub right_shaped : Right a.site (a.life.log ++ (step_at a).records) (a.life.steps ++ moment a ∷ [])

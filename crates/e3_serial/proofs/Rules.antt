@@ -20,7 +20,7 @@ use Rattle.e3_types.specs.Locks.{lock_grant}
 use Rattle.e3_protocol.specs.Logs.{IsIn}
 use Rattle.e3_world.specs.declared.lives.At.{At}
 use Rattle.e3_world.specs.declared.lives.Made.{Made}
-use Rattle.e3_world.specs.Logs.{key_of, mode_of}
+use Rattle.e3_world.specs.Logs.{has_voted, key_of, mode_of}
 use Rattle.e3_world.specs.Making.{nothing, steps_now, log_now, state_now, open_now, and_record, and_tell, and_send, and_vote, and_do, and_grants, is_coordinator, is_present}
 use Rattle.e3_world.specs.Operations.{same_asked, answers, waiting, holders, queue, expected, issued, nth_op, unanswered}
 use Rattle.e3_world.specs.Steps.{refuse, and_ask}
@@ -38,10 +38,11 @@ IsNews (told.Op t n answer) = ⊥
 IsNews (told.Refused t why) = ⊥
 IsNews e = Unit {0}
 
--- a message that is no answer and asks for no vote
+-- a message that is no answer, asks for no vote, and is no operation
 abbrev pub IsWord : Message → Type 0
 IsWord (msg.Done t n inc answer) = ⊥
 IsWord (msg.VoteReq t inc count) = ⊥
+IsWord (msg.Do t n op) = ⊥
 IsWord m = Unit {0}
 
 -- the step takes a commit that is not refused
@@ -91,6 +92,7 @@ pub record Locking (a : At) (t : Txn) (n : ℕ) (op : Op) : Type 0 where
 pub record Repeating (a : At) (t : Txn) (n : ℕ) (answer : Answer) : Type 0 where
   pub op : Op
   pub comes : Comes a t n op
+  pub idle : state_now a t nothing ≡ Q
   pub more : List Answer
   pub answered : answers (record { txn = t; n = n; op = op }) a.life.steps ≡ answer ∷ more
 
@@ -102,7 +104,9 @@ pub data Ruled (a : At) : Made → Type 0 where
   Votes : (t : Txn) → state_now a t nothing ≡ Q → Commits a t ⊎ IsAsked a t → Ruled a (and_vote a t nothing)
   Tells : (e : Told) (made : Made) → IsNews e → Ruled a made → Ruled a (and_tell e made)
   Says : (to : ℕ) (m : Message) (made : Made) → (to == a.site) ≡ false → IsWord m → Ruled a made → Ruled a (and_send a to m made)
-  Asks : (to : ℕ) (t : Txn) (made : Made) → (to == a.site) ≡ false → Commits a t → Ruled a made → Ruled a (and_ask a t made to)
+  Asks : (to : ℕ) (t : Txn) (made : Made) → (to == a.site) ≡ false → Commits a t → has_voted t made.records ≡ true → Ruled a made → Ruled a (and_ask a t made to)
+  Issues : (to : ℕ) (t : Txn) (op : Op) → (to == a.site) ≡ false → a.input ≡ input.Do t op → refuse a t false nothing ≡ None →
+      Ruled a (and_send a to (msg.Do t (suc (length (issued t a.life.steps))) op) nothing)
 
 -- what a rule makes: an operation that gets its lock, one that is answered again, an answer that is told, or none of these
 pub data Rule (a : At) : Made → Type 0 where

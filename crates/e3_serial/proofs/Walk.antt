@@ -51,7 +51,7 @@ use Rattle.e3_types.specs.declared.entries.Refusal.TheVariants as refusal
 use Rattle.std.specs.Prelude.{is_none}
 use Rattle.e3_world.specs.Logs.{decision, decision_by, state_of, is_undecided}
 use Rattle.e3_world.specs.Operations.{nth_op, kept_reason}
-use Rattle.e3_serial.proofs.Rules.{IsNote, IsNews, IsWord, Commits, Comes, Ruled, Start, Notes, Decides, Votes, Tells, Says, Asks, Rule, Plain, Hears, Locks, Repeats}
+use Rattle.e3_serial.proofs.Rules.{IsNote, IsNews, IsWord, Commits, Comes, Ruled, Start, Notes, Decides, Votes, Tells, Says, Asks, Issues, Rule, Plain, Hears, Locks, Repeats}
 
 same_self : (t : Txn) → same_txn t t ≡ true
 same_self t = and_from _ _ (and_from _ _ (and_from _ _ (eq-eqb t.site t.site refl) (eq-eqb t.inc t.inc refl)) (eq-eqb t.seq t.seq refl)) (same_numbers_refl t.sites)
@@ -198,7 +198,7 @@ keep_on_do a f t n op comes away = by (state_now a t nothing) refl
 
     answered : (l : List Answer) → state_now a t nothing ≡ Q → answers (record { txn = t; n = n; op = op }) a.life.steps ≡ l → Rule a (on_do a f t n op nothing)
     answered [] state is = new (list_any (same_asked (record { txn = t; n = n; op = op })) (waiting a.site (log_now a nothing) a.life.steps)) state is refl
-    answered (answer ∷ more) state is = rw (state, is) (Repeats t n answer (record { op = op; comes = comes; more = more; answered = is }))
+    answered (answer ∷ more) state is = rw (state, is) (Repeats t n answer (record { op = op; comes = comes; idle = state; more = more; answered = is }))
 
     by : (st : State) → state_now a t nothing ≡ st → Rule a (on_do a f t n op nothing)
     by A state = rw state (Plain _ (Says f (msg.Vote t false) nothing (away state) tt Start))
@@ -430,9 +430,13 @@ keep_delivery a packet (msg.Ack t n dir) takes says away = Plain _ (keep_on_ack 
 keep_delivery a packet (msg.Decide t dir) takes says away = Plain _ (may_keep a t dir nothing Start)
 
 -- inputs of the coordinator
-keep_asked : (a : At) (t : Txn) (sites : List ℕ) (made : Made) → Commits a t → Each (λ s. (s == a.site) ≡ false) sites → Ruled a made → Ruled a (fold (and_ask a t) made sites)
-keep_asked a t [] made commits all kept = kept
-keep_asked a t (s ∷ sites) made commits all kept = keep_asked a t sites (and_ask a t made s) commits all.1 (Asks s t made all.0 commits kept)
+asked_records : (a : At) (t : Txn) (made : Made) (s : ℕ) → (s == a.site) ≡ false → (and_ask a t made s).records ≡ made.records
+asked_records a t made s away = rw away refl
+
+keep_asked : (a : At) (t : Txn) (sites : List ℕ) (made : Made) → Commits a t → Each (λ s. (s == a.site) ≡ false) sites → has_voted t made.records ≡ true → Ruled a made → Ruled a (fold (and_ask a t) made sites)
+keep_asked a t [] made commits all voted kept = kept
+keep_asked a t (s ∷ sites) made commits all voted kept =
+    keep_asked a t sites (and_ask a t made s) commits all.1 (ap (has_voted t) (asked_records a t made s all.0) ∙ voted) (Asks s t made all.0 commits voted kept)
 
 others_away : (site : ℕ) (sites : List ℕ) → Each (λ s. (s == site) ≡ false) (others site sites)
 others_away site [] = tt
@@ -492,7 +496,7 @@ keep_commit a t commits = by (elected_now a t nothing == 1) refl
 
     alone : (ss : List ℕ) → others a.site t.sites ≡ ss → (elected_now a t nothing == 1) ≡ true → Each (λ s. (s == a.site) ≡ false) ss → Ruled a (on_commit a t nothing)
     alone [] none is away = rw (is, none) (keep_attempt a t 1 Commit t.sites (and_vote a t nothing) voted)
-    alone (s ∷ ss) some is away = rw (is, some) (keep_asked a t (s ∷ ss) (and_vote a t nothing) commits away voted)
+    alone (s ∷ ss) some is away = rw (is, some) (keep_asked a t (s ∷ ss) (and_vote a t nothing) commits away (or_left (same_txn t t) false (same_self t)) voted)
 
     by : (b : Bool) → (elected_now a t nothing == 1) ≡ b → Ruled a (on_commit a t nothing)
     by true is = alone (others a.site t.sites) refl is (others_away a.site t.sites)
