@@ -1,87 +1,26 @@
 -- Why a step shows an answer.
-use Rattle.std.proofs.Common.{◌≡◌, ◌≢◌, ◌⊎◌, inl, inr, ⊎_elim, ◌==◌, ◌&&◌, ◌||◌, ◌++◌, ◌∷◌, [], ℕ, zero, suc, ◌+◌, ◌<◌, ◌≤◌, Bool, true, false, not, cond, List, Option, Some, None, is_none, length, fold, map, filter, take, drop, refl, sym, subst, ap, ◌∙◌, if◌then◌else◌, append-nil, append_assoc, eqb-true, eq-eqb, nat_lt, nat_le, arith, ltb-false, le-ltb, lt-ltb, Contains, length-append}
-use Rattle.std.specs.Prelude.{slice_get}
-use Rattle.std.specs.List.{list_any, list_all, flat_map, AllByRecursion as Each}
-use Rattle.std.proofs.lemmas.Bool.{and_parts, and_from, or_left, or_right, or_cases, or_from, true≢false, ltb-true, false_from_ne_true, eqb-false, cases_Bool, cases_lt}
-use Rattle.std.proofs.lemmas.Grind.{flat_map-append}
-use Rattle.std.proofs.lemmas.List.Folds.{list_any-append}
-use Rattle.e3_types.specs.declared.entries.Input.{Input}
-use Rattle.e3_types.specs.declared.entries.Input.TheVariants as input
-use Rattle.e3_types.specs.declared.entries.Refusal.{Refusal}
-use Rattle.e3_types.specs.declared.entries.Refusal.TheVariants as refusal
+use Rattle.std.proofs.Common.{◌≡◌, ◌⊎◌, inl, inr, ◌==◌, ◌++◌, ◌∷◌, [], ℕ, Bool, true, false, List, fold, map, drop, refl, sym, subst, ap, ◌∙◌, if◌then◌else◌}
+use Rattle.std.specs.List.{list_any, AllByRecursion as Each}
+use Rattle.std.proofs.lemmas.Bool.{true≢false}
 use Rattle.e3_types.specs.declared.entries.Told.{Told}
 use Rattle.e3_types.specs.declared.entries.Told.TheVariants as told
-use Rattle.e3_types.specs.declared.locks.Grant.{Grant}
-use Rattle.e3_types.specs.declared.locks.Grant.TheVariants.{Held, Waits, Dies}
-use Rattle.e3_types.specs.declared.locks.Lock.{Lock}
-use Rattle.e3_types.specs.declared.locks.Mode.{Mode}
-use Rattle.e3_types.specs.declared.locks.Mode.TheVariants.{Shared, Exclusive}
 use Rattle.e3_types.specs.declared.messages.Message.{Message}
 use Rattle.e3_types.specs.declared.messages.Message.TheVariants as msg
 use Rattle.e3_types.specs.declared.messages.Packet.{Packet}
 use Rattle.e3_types.specs.declared.records.Record.{Record}
 use Rattle.e3_types.specs.declared.records.Record.TheVariants as log
-use Rattle.e3_types.specs.declared.scenarios.Scenario.{Scenario}
 use Rattle.e3_types.specs.declared.transactions.Answer.{Answer}
-use Rattle.e3_types.specs.declared.transactions.Answer.TheVariants.{Value, Absent, Written}
-use Rattle.e3_types.specs.declared.transactions.Dir.{Dir}
-use Rattle.e3_types.specs.declared.transactions.Dir.TheVariants.{Abort, Commit}
-use Rattle.e3_types.specs.declared.transactions.Key.{Key}
-use Rattle.e3_types.specs.declared.transactions.NumOp.{NumOp}
 use Rattle.e3_types.specs.declared.transactions.Op.{Op}
-use Rattle.e3_types.specs.declared.transactions.Op.TheVariants.{Read, Write}
-use Rattle.e3_types.specs.declared.transactions.State.{State}
-use Rattle.e3_types.specs.declared.transactions.State.TheVariants.{Q, W, Pc, Pa, C, A}
 use Rattle.e3_types.specs.declared.transactions.Txn.{Txn}
-use Rattle.e3_types.specs.Locks.{conflicts, covers, is_covered, opposes, against, grant_against, lock_grant, front}
-use Rattle.e3_types.specs.Same.{same_txn, same_state, same_numbers, same_key, is_older}
-use Rattle.e3_types.specs.Sets.{has_site, others}
-use Rattle.e3_types.proofs.SameSites.{same_numbers_refl}
 use Rattle.e3_protocol.specs.Logs.{IsIn}
-use Rattle.e3_refine.proofs.Lists.{same_is, same_from, same_state_is, same_numbers_are}
-use Rattle.e3_trails.specs.Bounds.{IsHere}
 use Rattle.e3_world.specs.declared.lives.Asked.{Asked}
 use Rattle.e3_world.specs.declared.lives.At.{At}
-use Rattle.e3_world.specs.declared.lives.Expected.{Expected}
-use Rattle.e3_world.specs.declared.lives.Life.{Life}
 use Rattle.e3_world.specs.declared.lives.Made.{Made}
-use Rattle.e3_world.specs.declared.lives.Moment.{Moment}
-use Rattle.e3_world.specs.declared.lives.Performed.{Performed}
-use Rattle.e3_world.specs.Logs.{has_voted, decision, decision_by, attempted, state_of, is_undecided, logged_inc, voted_ops, ops_of_vote, table_of, table_by, install_op, row_value, key_of, mode_of, lock_on, vote_locks, voted_locks}
-use Rattle.e3_world.specs.Making.{nothing, log_now, steps_now, state_now, open_now, is_coordinator, is_present, and_record, and_tell, and_send, and_vote, own_write, answer_now, and_do, names_of, asked_on, granted_on, granted, grants_after, decides, and_grant, and_grants}
-use Rattle.e3_world.specs.Operations.{is_refusal, issued, issued_in, nth_op, taken_up, same_asked, Arrived, is_fresh, and_arrived, arrived_by, arrivals, answer_told, answer_sent, answers, is_answered, performed_by, done, waiting, done_locks, holders, queue, tells_op, op_told, unanswered, expected}
-use Rattle.e3_world.specs.Sound.{is_in_turn, Fits, FitsDo, FitsMessage, FitsPacket, FitsIssue}
-use Rattle.e3_world.specs.Steps.{refuse, or_refused, and_ask, on_begin, on_input, handled, settle, step_at, step_of}
-use Rattle.e3_serial.proofs.Rules.{IsNote, IsNews, IsWord, Commits, IsAsked, Hearing, Comes, Locking, Repeating, Ruled, Start, Notes, Decides, Votes, Tells, Says, Asks, Issues, Rule, Plain, Hears, Locks, Repeats, TellsOwn, Shaped, Refuses}
-use Rattle.e3_serial.proofs.Entries.{through, writes, In, Clash, name_of, changes}
-use Rattle.e3_serial.proofs.Members.{in_append, in_front, in_back, in_filter, filter_in}
-use Rattle.e3_serial.proofs.Replaying.{filter-append}
-use Rattle.e3_serial.proofs.Walk.{keep_on_do, keep_delivery, keep_commit, keep_expire, keep_join, keep_cast, keep_abort, allowed_parts, allowed_open, idle_open, log_record}
-use Rattle.e3_serial.proofs.Shapes.{FromAway, Comes_to, step_shape, IsOwnAnswer, ruled_own, grants_own}
-use Rattle.e3_serial.proofs.Arrivals.{arrivals_push, answers_push, issued_push, told_push, answered_from, answered_first, unanswered_none, answered_more, performed_more, op_told_answered, InTurn, turn_push, turn_more, turn_same, of_txn, Steady}
-use Rattle.e3_serial.proofs.Steadying.{some_inj, any_in, in_any, all_at, PerformedOf, performed_of, performs, nth_more, nth_low, last_told, others_lack, issued_one, IsMoment, New, turns_before, arrived_push, arrivals_stay, steady_push, steady_start}
-use Rattle.e3_world.specs.Moves.{plain}
-use Rattle.e3_serial.proofs.Facts.{vote_has, decided_not, decided_in, vote_lock, none_against, clash_conflicts}
-use Rattle.e3_serial.proofs.Names.{eq-same_name}
-use Rattle.e3_serial.proofs.Members.{in_split}
-use Rattle.e3_world.specs.OperationRules.{on_do, on_done}
-use Rattle.e3_world.specs.Messages.{on_message}
-use Rattle.e3_world.specs.declared.gatherings.Election.{Election}
-use Rattle.e3_world.specs.Elections.{begun, next_call}
-use Rattle.e3_world.specs.Making.{elected_now, and_cast, may_abort, and_abort_for}
-use Rattle.e3_world.specs.Orderly.{is_among, ops_ascend, is_free}
-use Rattle.e3_world.specs.Serial.{World, run_op}
-use Rattle.e3_serial.specs.Ordered.{world_of, seen_by}
-use Rattle.e3_world.specs.declared.lives.Incarnation.{Incarnation}
-use Rattle.e3_world.specs.declared.lives.SiteStep.{SiteStep}
-use Rattle.e3_world.specs.Lives.{present_log, incarnation_by, incarnation_of, life_by, life_of, life_at}
-use Rattle.e3_world.specs.Moves.{Did, Stepped, Silent, Rose, Move, moves_at, recorded, log_by, rows_at, birth, rise_records, plain_input, Placed, all_records}
-use Rattle.e3_world.specs.Sound.{sends, tells, WasSent, step_move, has_risen, IsSoundStep, FitInTurn, records_in_turn, IsSoundTail, IsSoundRise, IsSoundMove, SoundAfter, IsSound}
-use Rattle.e3_world.proofs.Pushes.{incarnation_push, life_push, log_push, present_is_log, life_log, life_log_at}
-use Rattle.e3_refine.proofs.Following.{moves_here, moves_there, in_from_contains}
-use Rattle.e3_serial.proofs.Placing.{put, logged, at_split, logged_place, logged_all}
-use Rattle.e3_world.specs.Safe.{Agrees, AllVoted}
-use Rattle.e3_serial.specs.Ordered.{VoteFollows, DecisionFollows, Follows, LogFollows, IsOrdered}
+use Rattle.e3_world.specs.Making.{nothing, and_record, and_tell, and_send, answer_now, and_do, grants_after, decides, and_grant, and_grants}
+use Rattle.e3_world.specs.Operations.{done}
+use Rattle.e3_serial.proofs.Rules.{IsNews, IsWord, Hearing, Locking, Repeating, Ruled, Start, Notes, Decides, Votes, Tells, Says, Asks, Issues, Rule, Plain, Hears, Locks, Repeats, TellsOwn, Shaped}
+use Rattle.e3_serial.proofs.Entries.{In}
+use Rattle.e3_serial.proofs.Members.{in_append}
 
 -- an answer that a step shows so far: told, sent, or for its own site
 pub data Shows (made : Made) (t : Txn) (n : ℕ) (v : Answer) : Type 0 where

@@ -1,7 +1,7 @@
 -- Each step of a site comes to what a rule makes, the requests that a decision grants, and the own answers that are told.
 use Rattle.std.proofs.Common.{append_assoc, ◌≡◌, ◌==◌, ◌&&◌, ◌++◌, ◌∷◌, [], ℕ, Bool, true, false, List, refl, sym, eqb-true, eq-eqb, if◌then◌else◌, fold, ◌||◌, suc, Option, Some, None, nat_lt, nat_le, inl, inr, ap, ◌∙◌, not}
 use Rattle.std.specs.List.{list_any, AllByRecursion as Each}
-use Rattle.std.proofs.lemmas.Bool.{and_parts, and_from}
+use Rattle.std.proofs.lemmas.Bool.{or_left, and_parts, and_from}
 use Rattle.e3_types.specs.declared.entries.Told.{Told}
 use Rattle.e3_types.specs.declared.entries.Told.TheVariants as told
 use Rattle.e3_types.specs.declared.messages.Message.{Message}
@@ -19,7 +19,7 @@ use Rattle.e3_world.specs.declared.lives.Asked.{Asked}
 use Rattle.e3_world.specs.declared.lives.At.{At}
 use Rattle.e3_world.specs.declared.lives.Made.{Made}
 use Rattle.e3_world.specs.Making.{is_coordinator, is_present, may_attempt, and_record, and_tell, and_send, and_cast, and_decide, and_abort, and_abort_for, go_on, and_attempt, and_do, log_now, steps_now, state_now, open_now, elected_now, attempt_now, may_abort, may_decide, and_vote, nothing}
-use Rattle.e3_world.specs.Logs.{key_of, mode_of}
+use Rattle.e3_world.specs.Logs.{has_voted, key_of, mode_of}
 use Rattle.e3_types.specs.declared.locks.Grant.{Grant}
 use Rattle.e3_types.specs.declared.locks.Grant.TheVariants.{Held, Waits, Dies}
 use Rattle.e3_types.specs.declared.transactions.Answer.{Answer}
@@ -49,9 +49,9 @@ use Rattle.e3_types.specs.declared.entries.Input.TheVariants as input
 use Rattle.e3_types.specs.declared.entries.Refusal.{Refusal}
 use Rattle.e3_types.specs.declared.entries.Refusal.TheVariants as refusal
 use Rattle.std.specs.Prelude.{is_none}
-use Rattle.e3_world.specs.Logs.{decision, decision_by, state_of, is_undecided}
+use Rattle.e3_world.specs.Logs.{has_voted, decision, decision_by, state_of, is_undecided}
 use Rattle.e3_world.specs.Operations.{nth_op, kept_reason}
-use Rattle.e3_serial.proofs.Rules.{IsNote, IsNews, IsWord, Commits, Comes, Ruled, Start, Notes, Decides, Votes, Tells, Says, Asks, Issues, Rule, Plain, Hears, Locks, Repeats}
+use Rattle.e3_serial.proofs.Rules.{IsNote, IsNews, IsWord, Commits, Comes, Ruled, Start, Notes, Decides, Votes, Tells, Says, Asks, Rule, Plain, Hears, Locks, Repeats}
 
 same_self : (t : Txn) → same_txn t t ≡ true
 same_self t = and_from _ _ (and_from _ _ (and_from _ _ (eq-eqb t.site t.site refl) (eq-eqb t.inc t.inc refl)) (eq-eqb t.seq t.seq refl)) (same_numbers_refl t.sites)
