@@ -30,3 +30,6 @@ pub mod Sites
 pub mod Serial
 pub mod Sending
 pub mod Telling
+pub mod Stories
+pub mod Running
+pub mod Rested

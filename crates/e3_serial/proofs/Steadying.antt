@@ -279,7 +279,7 @@ taken_new weights a m is steady fits = by a.input refl fits
     by i takes fit = rw (is.same_input, takes) tt
 
 -- one more arrival
-arrived_in : (asked : List Asked) (m : Moment) (o : Option Asked) (q : Asked) → In q (and_arrived asked m o) →
+pub arrived_in : (asked : List Asked) (m : Moment) (o : Option Asked) (q : Asked) → In q (and_arrived asked m o) →
     In q asked ⊎ ((o ≡ Some q) × (is_fresh asked m q ≡ true) × (and_arrived asked m o ≡ asked ++ q ∷ []))
 arrived_in asked m None q h = inl h
 arrived_in asked m (Some x) q h = by (is_fresh asked m x) refl h

@@ -139,7 +139,7 @@ abbrev pub VotersAnswered : ℕ → List Record → List Moment → Type 0
 VotersAnswered site records steps = (t : Txn) → has_voted t records ≡ true → (q : Asked) → In q (arrivals site steps) → q.txn ≡ t → is_answered steps q ≡ true
 
 -- the last of a list that stands in turn, where it was not answered
-last_of : (steps : List Moment) (qs : List Asked) (q : Asked) → InTurn steps qs → In q qs → is_answered steps q ≡ false → (before : List Asked) × (qs ≡ before ++ q ∷ [])
+pub last_of : (steps : List Moment) (qs : List Asked) (q : Asked) → InTurn steps qs → In q qs → is_answered steps q ≡ false → (before : List Asked) × (qs ≡ before ++ q ∷ [])
 last_of steps [] q turn h none = absurd h
 last_of steps (x ∷ qs) q turn (inl e) none = ([], ap (λ l. x ∷ l) (empty qs (λ r k. true≢false (sym (turn.0 r k).0 ∙ ap (is_answered steps) e ∙ none))) ∙ ap (λ z. z ∷ []) e)
   where

@@ -47,7 +47,7 @@ pub record VoteStands (site : ℕ) (before : List Record) (t : Txn) (ops : List 
   pub member : has_site t.sites site ≡ true
 
 -- a transaction without a record has no vote
-idle_unvoted : (t : Txn) (records : List Record) → state_of t records ≡ Q → has_voted t records ≡ false
+pub idle_unvoted : (t : Txn) (records : List Record) → state_of t records ≡ Q → has_voted t records ≡ false
 idle_unvoted t records idle = go (decision t records) refl (attempted t records) refl (has_voted t records) refl
   where
     go : (d : Option Dir) → decision t records ≡ d → (x : Option Dir) → attempted t records ≡ x → (b : Bool) → has_voted t records ≡ b → has_voted t records ≡ false
