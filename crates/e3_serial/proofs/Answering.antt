@@ -191,7 +191,7 @@ in_each P [] x all h = absurd h
 in_each P (y ∷ xs) x all (inl e) = subst P e all.0
 in_each P (y ∷ xs) x all (inr k) = in_each P xs x all.1 k
 
-is_in_in : {X : Type 0} (x : X) (xs : List X) → IsIn x xs → In x xs
+pub is_in_in : {X : Type 0} (x : X) (xs : List X) → IsIn x xs → In x xs
 is_in_in x [] h = absurd h
 is_in_in x (y ∷ xs) (inl e) = inl (sym e)
 is_in_in x (y ∷ xs) (inr k) = inr (is_in_in x xs k)

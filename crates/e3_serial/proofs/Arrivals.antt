@@ -77,7 +77,7 @@ performed_more steps m q h =
     rw (g, f.2) refl
 
 -- an operation that was told is answered
-told_answers : (q : Asked) (l : List Told) → list_any (tells_op q.txn q.n) l ≡ true → (answer : Answer) × (more : List Answer) × (flat_map (answer_told q) l ≡ answer ∷ more)
+pub told_answers : (q : Asked) (l : List Told) → list_any (tells_op q.txn q.n) l ≡ true → (answer : Answer) × (more : List Answer) × (flat_map (answer_told q) l ≡ answer ∷ more)
 told_answers q [] h = absurd (true≢false (sym h))
 told_answers q (told.Op t n answer ∷ l) h = by (q.n == n && same_txn q.txn t) refl h (told_answers q l)
   where

@@ -33,3 +33,5 @@ pub mod Telling
 pub mod Stories
 pub mod Running
 pub mod Rested
+pub mod Helping
+pub mod Stepped

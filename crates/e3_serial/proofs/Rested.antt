@@ -134,6 +134,7 @@ module _ (sent : List Packet) (iss : Txn → List Op) (site : ℕ) (mine : List 
     hears = λ t n v op h nth away up now. absurd (nothing_told t n v op (k.tolds t n v (told_back (told.Op t n v) h)).0 nth up now);
     asks = λ p t inc count h says. (let r = k.asks p t inc count (sent_back p h) says in record {
       own = r.own;
+      other = r.other;
       voted = voted_more t r.voted;
       all_told = λ up now n low high. absurd (none_issued (iss t) n low high (issued_past t r.own up now));
       heard = λ n v op x nth to. r.heard n v op (told_back (told.Op t n v) x) nth to;

@@ -45,7 +45,7 @@ send_own a to m made all this = by (to == a.site) refl
     by false is = rw is all
 
 -- what a rule has for its own site are answers
-ruled_none : (a : At) (made : Made) → Ruled a made → made.own ≡ []
+pub ruled_none : (a : At) (made : Made) → Ruled a made → made.own ≡ []
 ruled_none a _ Start = refl
 ruled_none a _ (Notes r made note k) = ruled_none a made k
 ruled_none a _ (Decides t dir made still k) = ruled_none a made k

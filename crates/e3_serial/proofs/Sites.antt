@@ -66,7 +66,7 @@ life_step sc site mine i =
     })
 
 -- what fits a site fits it without the packet's number
-fits_plain : (weights : List ℕ) (site : ℕ) (life : Life) (i : Input) → Fits weights site life i → Fits weights site life (plain_input i)
+pub fits_plain : (weights : List ℕ) (site : ℕ) (life : Life) (i : Input) → Fits weights site life i → Fits weights site life (plain_input i)
 fits_plain weights site life (input.Deliver packet) f = record { among = f.among; to = f.to; sender = f.sender; message = f.message }
 fits_plain weights site life (input.Begin sites) f = f
 fits_plain weights site life (input.Do t op) f = f
@@ -75,7 +75,7 @@ fits_plain weights site life (input.Cancel t) f = f
 fits_plain weights site life (input.Expire t) f = f
 fits_plain weights site life (input.Elect t group) f = f
 
-fits_away : (weights : List ℕ) (site : ℕ) (life : Life) (i : Input) → Fits weights site life i → FromAway site (plain_input i)
+pub fits_away : (weights : List ℕ) (site : ℕ) (life : Life) (i : Input) → Fits weights site life i → FromAway site (plain_input i)
 fits_away weights site life (input.Deliver packet) f = false_from_ne_true _ (λ y. others_lack site packet.«from» (Rattle.e3_world.specs.Sound.txn_in packet.msg).sites f.sender (eqb-true packet.«from» site y))
 fits_away weights site life (input.Begin sites) f = tt
 fits_away weights site life (input.Do t op) f = tt
@@ -111,7 +111,7 @@ no_rising a before (log.Join t n) m h = h
 no_rising a before (log.Attempt t n d) m h = h
 
 -- the records of a step, over those before it
-step_record : (a : At) → FromAway a.site a.input → (before after : List Record) (r : Record) → (step_at a).records ≡ before ++ r ∷ after → IsRising r → ⊥
+pub step_record : (a : At) → FromAway a.site a.input → (before after : List Record) (r : Record) → (step_at a).records ≡ before ++ r ∷ after → IsRising r → ⊥
 step_record a away before after r e h = elim (step_shape a away) [
   | inl refused ↦ none before (sym refused.records ∙ e)
   | inr s ↦ no_rising a before r (rule_made a s.rule s.ruled before after r (sym (shaped_records a (step_at a) s) ∙ e)) h
@@ -122,7 +122,7 @@ step_record a away before after r e h = elim (step_shape a away) [
     none (x ∷ l) q = cc
 
 -- a step
-step_site : (sc : Scenario) (site : ℕ) (mine : List Move) (i : Input) → SiteKeeps sc site mine → has_risen mine ≡ true → Fits sc.weights site (life_at mine) i → SiteKeeps sc site (mine ++ step_move sc site mine i ∷ [])
+pub step_site : (sc : Scenario) (site : ℕ) (mine : List Move) (i : Input) → SiteKeeps sc site mine → has_risen mine ≡ true → Fits sc.weights site (life_at mine) i → SiteKeeps sc site (mine ++ step_move sc site mine i ∷ [])
 step_site sc site mine i k up fits = record {
   keeps = subst (λ l. Keeps site l) (sym (life_step sc site mine i)) (step_keeps sc.weights a k.keeps (fits_plain sc.weights site (life_at mine) i fits) away);
   born = λ before after r e. born before after r (append_split (log_by mine) (recorded (step_move sc site mine i)) before r after (sym (log_push mine (step_move sc site mine i)) ∙ e));
@@ -164,7 +164,7 @@ rise_born sc site inc (x ∷ records) born before after r e = by (append_split (
     by (inl old) = born before old.0 r old.1
     by (inr z) = born_later sc site before r (λ q. more_some (x ∷ records) z.0 (λ w. cc) (sym z.1 ∙ q)) (inr (inc, one z.0 z.2))
 
-rise_some : (sc : Scenario) (site inc : ℕ) (records : List Record) → records ++ rise_records sc site inc records ≢ []
+pub rise_some : (sc : Scenario) (site inc : ℕ) (records : List Record) → records ++ rise_records sc site inc records ≢ []
 rise_some sc site inc [] e = cc
 rise_some sc site inc (r ∷ rs) e = cc
 
@@ -182,7 +182,7 @@ fold_end f y (z ∷ xs) x = fold_end f (f y z) xs x
 silent_down : (site : ℕ) (mine : List Move) (inputs : List Input) (rs : List Record) → has_risen (mine ++ record { site = site; did = Silent inputs rs } ∷ []) ≡ false
 silent_down site mine inputs rs = fold_end _ false mine (record { site = site; did = Silent inputs rs })
 
-step_up : (sc : Scenario) (site : ℕ) (mine : List Move) (i : Input) → has_risen mine ≡ true → has_risen (mine ++ step_move sc site mine i ∷ []) ≡ true
+pub step_up : (sc : Scenario) (site : ℕ) (mine : List Move) (i : Input) → has_risen mine ≡ true → has_risen (mine ++ step_move sc site mine i ∷ []) ≡ true
 step_up sc site mine i up = fold_end _ false mine (step_move sc site mine i) ∙ up
 
 -- a tail without inputs, and a rise

@@ -158,7 +158,7 @@ get_low [] n x is = absurd cc
 get_low (y ∷ xs) zero x is = omega arith
 get_low (y ∷ xs) (suc n) x is = let low : _ = get_low xs n x is in omega (arith, low)
 
-get_end : {X : Type 0} (xs : List X) (x : X) → slice_get (xs ++ x ∷ []) (length xs) ≡ Some x
+pub get_end : {X : Type 0} (xs : List X) (x : X) → slice_get (xs ++ x ∷ []) (length xs) ≡ Some x
 get_end [] x = refl
 get_end (y ∷ xs) x = get_end xs x
 
@@ -221,7 +221,7 @@ abbrev pub IfNew : At → Moment → Option Asked → Type 0
 IfNew a m None = Unit {0}
 IfNew a m (Some q) = New a m q
 
-taken_own : (site : ℕ) (steps : List Moment) (m : Moment) (t : Txn) (op o : Op) (os : List Op) → m.input ≡ input.Do t op → issued_in t (input.Do t op) m.told ≡ o ∷ os →
+pub taken_own : (site : ℕ) (steps : List Moment) (m : Moment) (t : Txn) (op o : Op) (os : List Op) → m.input ≡ input.Do t op → issued_in t (input.Do t op) m.told ≡ o ∷ os →
     taken_up site steps m ≡ (if (key_of op).site == site then Some (record { txn = t; n = suc (length (issued t steps)); op = op }) else None)
 taken_own site steps m t op o os takes some = rw (takes, some) refl
 

@@ -85,7 +85,7 @@ each_both : {X : Type 0} (P : X → Type 0) (xs ys : List X) → Each P xs → E
 each_both P [] ys all more = more
 each_both P (x ∷ xs) ys all more = (all.0, each_both P xs ys all.1 more)
 
-sent_told : (a : At) (to : ℕ) (m : Message) (made : Made) → (and_send a to m made).told ≡ made.told
+pub sent_told : (a : At) (to : ℕ) (m : Message) (made : Made) → (and_send a to m made).told ≡ made.told
 sent_told a to m made = by (to == a.site) refl
   where
     by : (b : Bool) → (to == a.site) ≡ b → (and_send a to m made).told ≡ made.told

@@ -1,5 +1,5 @@
 -- What each site told, sent and voted along a sound trail.
-use Rattle.std.proofs.Common.{◌≡◌, ◌≢◌, ◌⊎◌, inl, inr, ◌++◌, ◌∷◌, [], ℕ, zero, suc, ◌≤◌, Bool, true, List, Some, length, refl, sym, subst, ap, ◌∙◌}
+use Rattle.std.proofs.Common.{◌≡◌, ◌≢◌, ◌⊎◌, inl, inr, ◌==◌, ◌++◌, ◌∷◌, [], ℕ, zero, suc, ◌≤◌, Bool, true, false, List, Some, length, refl, sym, subst, ap, ◌∙◌}
 use Rattle.std.specs.List.{flat_map}
 use Rattle.e3_types.specs.declared.entries.Told.TheVariants as told
 use Rattle.e3_types.specs.declared.messages.Message.TheVariants as msg
@@ -26,6 +26,7 @@ use Rattle.e3_world.specs.Lives.{life_at}
 use Rattle.e3_world.specs.Moves.{Move, log_by}
 use Rattle.e3_world.specs.Sound.{sends, tells, has_risen}
 use Rattle.e3_serial.proofs.Telling.{VotersAnswered}
+use Rattle.e3_serial.specs.Ordered.{seen_by}
 
 -- a life answered the operation, to a read with this answer first
 pub record First (site : ℕ) (steps : List Moment) (t : Txn) (n : ℕ) (op : Op) (v : Answer) : Type 0 where
@@ -87,6 +88,7 @@ pub record Heard_of (sent : List Packet) (site : ℕ) (t : Txn) (n inc : ℕ) (v
 -- answered there under this incarnation
 pub record Request (sent : List Packet) (iss : Txn → List Op) (site : ℕ) (mine : List Move) (p : Packet) (t : Txn) (inc count : ℕ) : Type 0 where
   pub own : t.site ≡ site
+  pub other : (p.to == site) ≡ false
   pub voted : has_voted t (log_by mine) ≡ true
   pub all_told : has_risen mine ≡ true → t.inc ≡ (life_at mine).inc → (m : ℕ) → 1 ≤ m → m ≤ length (iss t) → op_told t m (life_at mine).steps ≡ true
   pub heard : (n : ℕ) (v : Answer) (op : Op) → In (told.Op t n v) (flat_map tells mine) → nth_op n (iss t) ≡ Some op → (key_of op).site ≡ p.to →
@@ -164,6 +166,7 @@ module _ (sent sent' : List Packet) (iss iss' : Txn → List Op) (site : ℕ) (m
         (heard_on (key_of op).site t n _ v r.0, r.1));
     asks = λ p t inc count h says. (let r = k.asks p t inc count h says in record {
       own = r.own;
+      other = r.other;
       voted = r.voted;
       all_told = λ up now m low high. r.all_told up now m low (subst (λ l. m ≤ length l) (same t r.own) high);
       heard = λ n v op told nth to. (let z = r.heard n v op told (nth_back t n op r.own nth) to in (heard_on p.to t n inc v z.0, z.1));
