@@ -35,3 +35,4 @@ pub mod Running
 pub mod Rested
 pub mod Helping
 pub mod Stepped
+pub mod Stepping_on

@@ -48,7 +48,7 @@ pub record SentWell (sent : List Packet) (iss : Txn → List Op) : Type 0 where
   pub does : (p : Packet) (t : Txn) (n : ℕ) (op : Op) → In p sent → p.msg ≡ msg.Do t n op → nth_op n (iss t) ≡ Some op
   pub dones : (p : Packet) (t : Txn) (n inc : ℕ) (v : Answer) → In p sent → p.msg ≡ msg.Done t n inc v → (op : Op) × (nth_op n (iss t) ≡ Some op) × ((key_of op).site ≡ p.«from»)
 
-plain_in : (ps : List Packet) (p : Packet) → In p (map plain ps) → (x : Packet) × In x ps × (plain x ≡ p)
+pub plain_in : (ps : List Packet) (p : Packet) → In p (map plain ps) → (x : Packet) × In x ps × (plain x ≡ p)
 plain_in [] p h = absurd h
 plain_in (x ∷ ps) p (inl e) = (x, inl refl, e)
 plain_in (x ∷ ps) p (inr k) = let r = plain_in ps p k in (r.0, inr r.1, r.2)
@@ -65,24 +65,24 @@ module _ (weights : List ℕ) (a : At) (k : Keeps a.site a.life) (fits : Fits we
     (was_sent : (p : Packet) → a.input ≡ input.Deliver p → In p sent) (well : SentWell sent iss)
     (own_iss : (t : Txn) → t.site ≡ a.site → iss' t ≡ iss t ++ issued_in t a.input (step_at a).told) (on : GoesOn iss iss') where
   -- what was issued is what the life issued, under its incarnation
-  now_issued : (t : Txn) → t.site ≡ a.site → t.inc ≡ a.life.inc → iss t ≡ issued t a.life.steps
+  pub now_issued : (t : Txn) → t.site ≡ a.site → t.inc ≡ a.life.inc → iss t ≡ issued t a.life.steps
   now_issued t own inc = subst (λ (l : Life). t.inc ≡ l.inc → iss t ≡ issued t l.steps) life_is (story.now t own up) inc
 
   pub now' : (t : Txn) → t.site ≡ a.site → t.inc ≡ a.life.inc → iss' t ≡ issued t (a.life.steps ++ moment a ∷ [])
   now' t own inc = own_iss t own ∙ ap (λ l. l ++ issued_in t a.input (step_at a).told) (now_issued t own inc) ∙ sym (issued_push t a.life.steps (moment a))
 
   -- an operation that is issued in the step
-  fresh_issue : (t : Txn) (op : Op) → In op (issued_in t a.input (step_at a).told) → (a.input ≡ input.Do t op) × (refuse a t false nothing ≡ None)
+  pub fresh_issue : (t : Txn) (op : Op) → In op (issued_in t a.input (step_at a).told) → (a.input ≡ input.Do t op) × (refuse a t false nothing ≡ None)
   fresh_issue t op h = let w = issued_what t a.input (step_at a).told op h in (w.0, calm_allowed a t op w.0 w.1)
 
-  present : (t : Txn) → refuse a t false nothing ≡ None → t.inc ≡ a.life.inc
+  pub present : (t : Txn) → refuse a t false nothing ≡ None → t.inc ≡ a.life.inc
   present t allowed = eqb-true t.inc a.life.inc (allowed_parts a t allowed).0
 
-  issue_fits : (t : Txn) (op : Op) → a.input ≡ input.Do t op → FitsIssue weights a.site a.life t (key_of op)
+  pub issue_fits : (t : Txn) (op : Op) → a.input ≡ input.Do t op → FitsIssue weights a.site a.life t (key_of op)
   issue_fits t op takes = subst (λ i. Fits weights a.site a.life i) takes fits
 
   -- an operation that was issued has its place
-  issue_place : (t : Txn) (op : Op) → a.input ≡ input.Do t op → refuse a t false nothing ≡ None → list_any is_refusal (step_at a).told ≡ false → nth_op (suc (length (issued t a.life.steps))) (iss' t) ≡ Some op
+  pub issue_place : (t : Txn) (op : Op) → a.input ≡ input.Do t op → refuse a t false nothing ≡ None → list_any is_refusal (step_at a).told ≡ false → nth_op (suc (length (issued t a.life.steps))) (iss' t) ≡ Some op
   issue_place t op takes allowed calm =
       let own = (issue_fits t op takes).coordinator in
       ap (nth_op (suc (length (issued t a.life.steps)))) (own_iss t own ∙ ap (λ l. l ++ issued_in t a.input (step_at a).told) (now_issued t own (present t allowed))
@@ -154,7 +154,7 @@ module _ (weights : List ℕ) (a : At) (k : Keeps a.site a.life) (fits : Fits we
           by (input.Elect t g) e = other (λ m f. rw (f ∙ e) refl)
 
   -- an answer that was given before
-  given_old : (t : Txn) (n inc : ℕ) (v : Answer) → Given iss a.site (has_risen mine) (life_at mine) t n inc v → (now_up : Bool) → Given iss' a.site now_up (next a) t n inc v
+  pub given_old : (t : Txn) (n inc : ℕ) (v : Answer) → Given iss a.site (has_risen mine) (life_at mine) t n inc v → (now_up : Bool) → Given iss' a.site now_up (next a) t n inc v
   given_old t n inc v g now_up = record {
     old = subst (λ (l : Life). inc ≤ l.inc) life_is g.old;
     op = g.op;
@@ -186,10 +186,10 @@ module _ (weights : List ℕ) (a : At) (k : Keeps a.site a.life) (fits : Fits we
         | inr g ↦ g
       ]), cause)
 
-  shaped_sent : (p : Packet) → In p (map plain (step_at a).outs) → Shaped a (step_at a)
+  pub shaped_sent : (p : Packet) → In p (map plain (step_at a).outs) → Shaped a (step_at a)
   shaped_sent p h = elim (step_shape a away) [ inl r ↦ absurd (subst (λ l. In p (map plain l)) r.outs h) | inr s ↦ s ]
 
-  shaped_told : (t : Txn) (n : ℕ) (v : Answer) → In (told.Op t n v) (step_at a).told → Shaped a (step_at a)
+  pub shaped_told : (t : Txn) (n : ℕ) (v : Answer) → In (told.Op t n v) (step_at a).told → Shaped a (step_at a)
   shaped_told t n v h = elim (step_shape a away) [ inl r ↦ absurd (not_op (step_at a).told t r.told.0 n v r.told.1 r.told.2 h) | inr s ↦ s ]
 
   pub dones_new : (p : Packet) (t : Txn) (n inc : ℕ) (v : Answer) → In p (map plain (step_at a).outs) → p.msg ≡ msg.Done t n inc v → (now_up : Bool) → Given iss' a.site now_up (next a) t n inc v
@@ -204,7 +204,7 @@ module _ (weights : List ℕ) (a : At) (k : Keeps a.site a.life) (fits : Fits we
       let s = shaped_told t n v h in
       (told_home a s t n v h, gave weights a k fits away s t n v (told_cause a (step_at a) s t n v h) (told_shown a t n v h))
 
-  heard_place : (t : Txn) (n : ℕ) (v : Answer) → In (told.Op t n v) (step_at a).told → Hearing a t n v → (t.inc ≡ a.life.inc) × (op : Op) × (nth_op n (iss' t) ≡ Some op) × ((key_of op).site ≡ a.site → ⊥)
+  pub heard_place : (t : Txn) (n : ℕ) (v : Answer) → In (told.Op t n v) (step_at a).told → Hearing a t n v → (t.inc ≡ a.life.inc) × (op : Op) × (nth_op n (iss' t) ≡ Some op) × ((key_of op).site ≡ a.site → ⊥)
   heard_place t n v h g =
       let s = shaped_told t n v h in
       let z = heard_elsewhere weights a k.steady fits away s t n v g in
