@@ -139,12 +139,12 @@ rising_stands site before (log.Decision t dir) h = absurd h
 rising_stands site before (log.Join t n) h = tt
 rising_stands site before (log.Attempt t n dir) h = tt
 
-no_vote : (rs : List Record) (t : Txn) (ops : List NumOp) → Each IsRising rs → In (log.Vote t ops) rs → ⊥
+pub no_vote : (rs : List Record) (t : Txn) (ops : List NumOp) → Each IsRising rs → In (log.Vote t ops) rs → ⊥
 no_vote [] t ops all h = h
 no_vote (r ∷ rs) t ops all (inl e) = subst (λ z. IsRising z) e all.0
 no_vote (r ∷ rs) t ops all (inr k) = no_vote rs t ops all.1 k
 
-rising_in : (rs before : List Record) (r : Record) (after : List Record) → Each IsRising rs → rs ≡ before ++ r ∷ after → IsRising r
+pub rising_in : (rs before : List Record) (r : Record) (after : List Record) → Each IsRising rs → rs ≡ before ++ r ∷ after → IsRising r
 rising_in rs before r after all e = in_each IsRising rs r all (subst (λ l. In r l) (sym e) (in_back before (r ∷ after) r (inl refl)))
 
 -- a site that starts anew, with a log that went on by the records of a rise

@@ -36,3 +36,5 @@ pub mod Rested
 pub mod Helping
 pub mod Stepped
 pub mod Stepping_on
+pub mod Whole
+pub mod ToldReads

@@ -153,7 +153,7 @@ module _ (weights : List ℕ) (a : At) (steady : Steady a.site a.life.steps) (fi
         let kept = grants_keep a front s.rule in
         x ∙ ap (λ o. answer_now a q.txn o (fold (and_grant a) s.rule front)) e
         ∙ reading (fold (and_grant a) s.rule front) (ap (λ l. list_any is_refusal l) kept.1 ∙ so_far_calm a s.rule s.ruled)
-            (ap (λ l. a.life.log ++ l) kept.0 ∙ sym now_log) before q key e split
+        (ap (λ l. a.life.log ++ l) kept.0 ∙ sym now_log) before q key e split
 
     new_fits : (t : Txn) (before : List Asked) (q : Asked) (v : Answer) (more : List Answer) → of_txn t (arrivals a.site (a.life.steps ++ moment a ∷ [])) ≡ before ++ q ∷ [] → is_answered a.life.steps q ≡ false →
         answers q (a.life.steps ++ moment a ∷ []) ≡ v ∷ more → AnswerFits (rows_in (a.life.log ++ (step_at a).records)) (flat_map (performed_by a.life.steps) before) (record { n = q.n; op = q.op; answer = v })

@@ -106,8 +106,8 @@ module _ (weights : List ℕ) (a : At) (k : Keeps a.site a.life) (fits : Fits we
           by' true is = is
           by' false is = absurd (true≢false (sym (in_any (λ x. same_txn t x.txn) (waiting a.site (log_now a nothing) a.life.steps) q
               (filter_in (λ x. is_undecided x.txn (log_now a nothing) && not (is_answered a.life.steps x)) (arrivals a.site a.life.steps) q old
-                  (and_from (is_undecided q.txn (log_now a nothing)) (not (is_answered a.life.steps q))
-                      (subst (λ u. is_undecided u (log_now a nothing) ≡ true) (sym same) (idle_open t (log_now a nothing) v.idle)) (ap not is)))
+              (and_from (is_undecided q.txn (log_now a nothing)) (not (is_answered a.life.steps q))
+              (subst (λ u. is_undecided u (log_now a nothing) ≡ true) (sym same) (idle_open t (log_now a nothing) v.idle)) (ap not is)))
               (same_from t q.txn (sym same))) ∙ rule))
 
       by : Commits a t ⊎ IsAsked a t → is_answered a.life.steps q ≡ true
@@ -135,10 +135,10 @@ module _ (weights : List ℕ) (a : At) (k : Keeps a.site a.life) (fits : Fits we
   pub voters_push : VotersAnswered a.site (a.life.log ++ (step_at a).records) (a.life.steps ++ moment a ∷ [])
   voters_push t voted q h same = elim (step_shape a away) [
     | inl r ↦ (elim (old_or_fresh q h) [
-        | inl old ↦ answered_more a.life.steps (moment a) q (voters t (ap (has_voted t) (sym (append-nil a.life.log) ∙ ap (λ l. a.life.log ++ l) (sym r.records)) ∙ voted) q old same)
-        | inr new ↦ absurd (true≢false (sym voted ∙ ap (has_voted t) (ap (λ l. a.life.log ++ l) r.records ∙ append-nil a.life.log)
-            ∙ idle_unvoted t a.life.log (subst (λ u. state_of u a.life.log ≡ Q) same (fresh_idle q new.1))))
-      ])
+      | inl old ↦ answered_more a.life.steps (moment a) q (voters t (ap (has_voted t) (sym (append-nil a.life.log) ∙ ap (λ l. a.life.log ++ l) (sym r.records)) ∙ voted) q old same)
+      | inr new ↦ absurd (true≢false (sym voted ∙ ap (has_voted t) (ap (λ l. a.life.log ++ l) r.records ∙ append-nil a.life.log)
+          ∙ idle_unvoted t a.life.log (subst (λ u. state_of u a.life.log ≡ Q) same (fresh_idle q new.1))))
+    ])
     | inr s ↦ answered_more a.life.steps (moment a) q (voted_before s t voted q h same)
   ]
 
@@ -170,16 +170,20 @@ module _ (weights : List ℕ) (a : At) (k : Keeps a.site a.life) (fits : Fits we
       let q = f.2 in
       let idle : state_of t a.life.log ≡ Q = ap (state_of t) (sym (append-nil a.life.log)) ∙ v.idle in
       let p = performs a.life.steps (of_txn t (arrivals a.site a.life.steps)) q.asked q.first q.more
-          (filter_in (λ z. same_txn t z.txn) (arrivals a.site a.life.steps) q.asked q.asked_in (same_from t q.asked.txn (sym q.txn))) q.answers_are in
+      (filter_in (λ z. same_txn t z.txn) (arrivals a.site a.life.steps) q.asked q.asked_in (same_from t q.asked.txn (sym q.txn))) q.answers_are in
       let one : NumOp = record { n = n; op = f.0 } in
       let had : NumOp = record { n = q.asked.n; op = q.asked.op } in
       let o : In one ops = subst (λ l. In one l) (sym v.ops_are)
-          (subst (λ (z : NumOp). In z (ops_done a t)) (same_num had one q.n_is q.op_is) (in_listed (done a.site t a.life.steps) (record { n = q.asked.n; op = q.asked.op; answer = q.first }) p)) in
-      (f.0, f.1, o, (λ key e.
-          q.value key e
-          ∙ right_seen a.site a.life k t (idle_open t a.life.log idle) q.asked q.asked_in q.txn q.first q.more q.answers_are key (q.op_is ∙ e)
-          ∙ ap (λ z. seen_by a.life.log (listed (done a.site t a.life.steps)) z key) q.n_is
-          ∙ (λ i. seen_by (sym (ap (λ l. a.life.log ++ l) v.first ∙ append-nil a.life.log) i) (sym v.ops_are i) n key)))
+      (subst (λ (z : NumOp). In z (ops_done a t)) (same_num had one q.n_is q.op_is) (in_listed (done a.site t a.life.steps) (record { n = q.asked.n; op = q.asked.op; answer = q.first }) p)) in (
+        f.0,
+        f.1,
+        o,
+        (λ key e.
+            q.value key e
+            ∙ right_seen a.site a.life k t (idle_open t a.life.log idle) q.asked q.asked_in q.txn q.first q.more q.answers_are key (q.op_is ∙ e)
+            ∙ ap (λ z. seen_by a.life.log (listed (done a.site t a.life.steps)) z key) q.n_is
+            ∙ (λ i. seen_by (sym (ap (λ l. a.life.log ++ l) v.first ∙ append-nil a.life.log) i) (sym v.ops_are i) n key)),
+      )
     where
       in_listed : (ps : List Performed) (p : Performed) → In p ps → In {A = NumOp} (record { n = p.n; op = p.op }) (map (λ p. record { n = p.n; op = p.op }) ps)
       in_listed [] p h = absurd h
@@ -196,7 +200,7 @@ module _ (weights : List ℕ) (a : At) (k : Keeps a.site a.life) (fits : Fits we
           AskedVote c.packet c.inc c.count h c.says f.to
           (λ own. others_lack a.site c.packet.«from» (Rattle.e3_world.specs.Sound.txn_in c.packet.msg).sites f.sender (home c.packet t c.inc c.count h c.says ∙ sym own))
           (elim (or_cases (c.count == 0) (c.inc == a.life.inc) (and_parts (c.count == length (done a.site t a.life.steps)) (c.count == 0 || c.inc == a.life.inc)
-              (and_parts (c.count == length (done a.site t a.life.steps) && (c.count == 0 || c.inc == a.life.inc)) _ c.rule).0).1) [
+          (and_parts (c.count == length (done a.site t a.life.steps) && (c.count == 0 || c.inc == a.life.inc)) _ c.rule).0).1) [
             | inl none ↦ inl (eqb-true c.count 0 none)
             | inr now ↦ inr (values before t ops v c.inc (eqb-true c.inc a.life.inc now))
           ])

@@ -45,10 +45,10 @@ life_rest mine rs = record { log = log_by mine ++ rs; inc = logged_inc (log_by m
 abbrev rested : List Record → Life
 rested records = record { log = records; inc = logged_inc records; steps = [] }
 
-life_silent : (site : ℕ) (mine : List Move) (inputs : List Input) (rs : List Record) → life_at (mine ++ record { site = site; did = Silent inputs rs } ∷ []) ≡ rested (log_by mine ++ rs)
+pub life_silent : (site : ℕ) (mine : List Move) (inputs : List Input) (rs : List Record) → life_at (mine ++ record { site = site; did = Silent inputs rs } ∷ []) ≡ rested (log_by mine ++ rs)
 life_silent site mine inputs rs = ap life_of (incarnation_push mine (record { site = site; did = Silent inputs rs })) ∙ ap (λ l. rested (l ++ rs)) (present_is_log mine)
 
-life_rose : (site : ℕ) (mine : List Move) (inc : ℕ) (rs : List Record) → life_at (mine ++ record { site = site; did = Rose inc rs } ∷ []) ≡ rested (log_by mine ++ rs)
+pub life_rose : (site : ℕ) (mine : List Move) (inc : ℕ) (rs : List Record) → life_at (mine ++ record { site = site; did = Rose inc rs } ∷ []) ≡ rested (log_by mine ++ rs)
 life_rose site mine inc rs = ap life_of (incarnation_push mine (record { site = site; did = Rose inc rs })) ∙ ap (λ l. rested (l ++ rs)) (present_is_log mine)
 
 -- the place of a step
@@ -141,7 +141,7 @@ step_site sc site mine i k up fits = record {
         (inl (step_record (place sc.weights site (life_at mine) i) away x.0 after r x.2))
 
 -- the records of a rise
-rise_rising : (sc : Scenario) (site inc : ℕ) (records : List Record) → Each IsRising (rise_records sc site inc records)
+pub rise_rising : (sc : Scenario) (site inc : ℕ) (records : List Record) → Each IsRising (rise_records sc site inc records)
 rise_rising sc site inc [] = (tt, (tt, tt))
 rise_rising sc site inc (r ∷ rs) = (tt, tt)
 
@@ -179,7 +179,7 @@ fold_end : {X Y : Type 0} (f : Y → X → Y) (y : Y) (xs : List X) (x : X) → 
 fold_end f y [] x = refl
 fold_end f y (z ∷ xs) x = fold_end f (f y z) xs x
 
-silent_down : (site : ℕ) (mine : List Move) (inputs : List Input) (rs : List Record) → has_risen (mine ++ record { site = site; did = Silent inputs rs } ∷ []) ≡ false
+pub silent_down : (site : ℕ) (mine : List Move) (inputs : List Input) (rs : List Record) → has_risen (mine ++ record { site = site; did = Silent inputs rs } ∷ []) ≡ false
 silent_down site mine inputs rs = fold_end _ false mine (record { site = site; did = Silent inputs rs })
 
 pub step_up : (sc : Scenario) (site : ℕ) (mine : List Move) (i : Input) → has_risen mine ≡ true → has_risen (mine ++ step_move sc site mine i ∷ []) ≡ true
@@ -207,17 +207,17 @@ rose_site sc site mine inc rs is k = record {
 }
 
 -- the inputs of a tail, one after the other
-abbrev run_in_turn : Scenario → ℕ → List Move → List Input → List Move
+abbrev pub run_in_turn : Scenario → ℕ → List Move → List Input → List Move
 run_in_turn sc site mine [] = mine
 run_in_turn sc site mine (i ∷ inputs) = run_in_turn sc site (mine ++ step_move sc site mine i ∷ []) inputs
 
-run_site : (sc : Scenario) (before : List Move) (site : ℕ) (inputs : List Input) (mine : List Move) → has_risen mine ≡ true → FitInTurn sc before site mine inputs → SiteKeeps sc site mine →
+pub run_site : (sc : Scenario) (before : List Move) (site : ℕ) (inputs : List Input) (mine : List Move) → has_risen mine ≡ true → FitInTurn sc before site mine inputs → SiteKeeps sc site mine →
     SiteKeeps sc site (run_in_turn sc site mine inputs)
 run_site sc before site [] mine up fits k = k
 run_site sc before site (i ∷ inputs) mine up fits k =
     run_site sc before site inputs (mine ++ step_move sc site mine i ∷ []) (step_up sc site mine i up) fits.2 (step_site sc site mine i k up fits.0)
 
-run_log : (sc : Scenario) (site : ℕ) (inputs : List Input) (mine : List Move) → log_by (run_in_turn sc site mine inputs) ≡ log_by mine ++ records_in_turn sc site mine inputs
+pub run_log : (sc : Scenario) (site : ℕ) (inputs : List Input) (mine : List Move) → log_by (run_in_turn sc site mine inputs) ≡ log_by mine ++ records_in_turn sc site mine inputs
 run_log sc site [] mine = sym (append-nil (log_by mine))
 run_log sc site (i ∷ inputs) mine =
     run_log sc site inputs (mine ++ step_move sc site mine i ∷ [])

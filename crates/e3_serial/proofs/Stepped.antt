@@ -86,7 +86,7 @@ module _ (weights : List ℕ) (a : At) (k : Keeps a.site a.life) (fits : Fits we
   issue_place t op takes allowed calm =
       let own = (issue_fits t op takes).coordinator in
       ap (nth_op (suc (length (issued t a.life.steps)))) (own_iss t own ∙ ap (λ l. l ++ issued_in t a.input (step_at a).told) (now_issued t own (present t allowed))
-          ∙ ap (λ i. issued t a.life.steps ++ issued_in t i (step_at a).told) takes ∙ ap (λ l. issued t a.life.steps ++ l) one)
+      ∙ ap (λ i. issued t a.life.steps ++ issued_in t i (step_at a).told) takes ∙ ap (λ l. issued t a.life.steps ++ l) one)
       ∙ get_end (issued t a.life.steps) op
     where
       one : issued_in t (input.Do t op) (step_at a).told ≡ op ∷ []
@@ -180,11 +180,15 @@ module _ (weights : List ℕ) (a : At) (k : Keeps a.site a.life) (fits : Fits we
       let x = plain_in (step_at a).outs p h in
       let says' : x.0.msg ≡ msg.Done t n inc v = ap (λ (z : Packet). z.msg) x.2 ∙ says in
       let is : MessageIs a (step_at a).records x.0.to (msg.Done t n inc v) = subst (λ m. MessageIs a (step_at a).records x.0.to m) says' (step_sent a away x.0 x.1).1 in
-      let cause = sent_cause a (step_at a) s t n inc v x.0 x.1 says' in
-      (is.0, is.1, (elim (gave weights a k fits away s t n v cause (sent_shown a t n inc v x.0 x.1 says')) [
-        | inl hearing ↦ absurd (true≢false (sym hearing.coordinator ∙ is.1))
-        | inr g ↦ g
-      ]), cause)
+      let cause = sent_cause a (step_at a) s t n inc v x.0 x.1 says' in (
+        is.0,
+        is.1,
+        (elim (gave weights a k fits away s t n v cause (sent_shown a t n inc v x.0 x.1 says')) [
+          | inl hearing ↦ absurd (true≢false (sym hearing.coordinator ∙ is.1))
+          | inr g ↦ g
+        ]),
+        cause,
+      )
 
   pub shaped_sent : (p : Packet) → In p (map plain (step_at a).outs) → Shaped a (step_at a)
   shaped_sent p h = elim (step_shape a away) [ inl r ↦ absurd (subst (λ l. In p (map plain l)) r.outs h) | inr s ↦ s ]

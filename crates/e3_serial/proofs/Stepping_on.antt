@@ -90,8 +90,10 @@ expected_cases t y e m = by m.input refl
         (expected_by t y e m ≡ e) ⊎ ((c : Counts t y m) × (expected_by t y e m ≡ record { inc = c.inc; count = suc e.count }))
     done p u n inc v takes source says true is =
         let q = and_parts (same_txn t u) (list_any (tells_op t n) m.told) is in
-        inr (record { packet = p; takes = takes; source = eqb-true p.«from» y source; n = n; inc = inc; answer = v; says = says ∙ ap (λ z. msg.Done z n inc v) (sym (same_is t u q.0)); tells = q.1 },
-            (rw (takes, source, says, is) refl))
+        inr (
+          record { packet = p; takes = takes; source = eqb-true p.«from» y source; n = n; inc = inc; answer = v; says = says ∙ ap (λ z. msg.Done z n inc v) (sym (same_is t u q.0)); tells = q.1 },
+          (rw (takes, source, says, is) refl),
+        )
     done p u n inc v takes source says false is = inl (rw (takes, source, says, is) refl)
 
     said : (p : Packet) (x : Message) → m.input ≡ input.Deliver p → (p.«from» == y) ≡ true → p.msg ≡ x → (expected_by t y e m ≡ e) ⊎ ((c : Counts t y m) × (expected_by t y e m ≡ record { inc = c.inc; count = suc e.count }))
@@ -210,7 +212,7 @@ module _ (weights : List ℕ) (a : At) (k : Keeps a.site a.life) (fits : Fits we
     | inl hearing ↦ hearing
     | inr g ↦ absurd (
         let place : nth_op n (iss' t) ≡ Some g.asked.op = subst (λ u. nth_op n (iss' u) ≡ Some g.asked.op) g.txn
-            (subst (λ x. nth_op x (iss' g.asked.txn) ≡ Some g.asked.op) g.n_is (came' weights a k fits away sent iss iss' mine up life_is story was_sent well own_iss on g.asked g.asked_in)) in
+        (subst (λ x. nth_op x (iss' g.asked.txn) ≡ Some g.asked.op) g.n_is (came' weights a k fits away sent iss iss' mine up life_is story was_sent well own_iss on g.asked g.asked_in)) in
         let same : g.asked.op ≡ op = some_inj g.asked.op op (sym place ∙ nth) in
         differ (ap (λ o. (key_of o).site) (sym same) ∙ ((steady_push weights a (moment a) (is_moment a) k.steady fits).here g.asked g.asked_in).0))
   ]
@@ -239,7 +241,7 @@ module _ (weights : List ℕ) (a : At) (k : Keeps a.site a.life) (fits : Fits we
           let s = shaped_told weights a k fits away sent iss iss' mine up life_is story was_sent well own_iss on t n v new in
           let own = eqb-true t.site a.site g.coordinator in
           let place : nth_op n (iss' t) ≡ Some g.op = ap (nth_op n) (now' weights a k fits away sent iss iss' mine up life_is story was_sent well own_iss on t own inc
-              ∙ issued_calm t a.life.steps (moment a) (so_far a nothing) refl (shaped_calm a (step_at a) s) refl) ∙ g.nth in
+          ∙ issued_calm t a.life.steps (moment a) (so_far a nothing) refl (shaped_calm a (step_at a) s) refl) ∙ g.nth in
           let same : g.op ≡ op = some_inj g.op op (sym place ∙ nth) in
           sym (eqb-true (key_of g.op).site g.packet.«from» g.there) ∙ ap (λ o. (key_of o).site) same
 
@@ -253,7 +255,7 @@ module _ (weights : List ℕ) (a : At) (k : Keeps a.site a.life) (fits : Fits we
           let msgs = one_message c.packet hearing.packet t c.n c.n c.inc hearing.inc c.answer _ one c.says hearing.says in
           let source : hearing.packet.«from» ≡ (key_of op).site = ap (λ (z : Packet). z.«from») (sym one) ∙ c.source in
           let test : ((e.count == 0) || (e.inc == hearing.inc)) ≡ true = subst (λ (z : Expected). ((z.count == 0) || (z.inc == hearing.inc)) ≡ true) (sym same)
-              (subst (λ y. ((expected a.site a.life.inc t a.life.steps y).count == 0 || (expected a.site a.life.inc t a.life.steps y).inc == hearing.inc) ≡ true) source hearing.same) in
+          (subst (λ y. ((expected a.site a.life.inc t a.life.steps y).count == 0 || (expected a.site a.life.inc t a.life.steps y).inc == hearing.inc) ≡ true) source hearing.same) in
           elim (or_cases (e.count == 0) (e.inc == hearing.inc) test) [
             | inl none ↦ absurd (let z = eqb-true e.count 0 none in omega (arith, z, some))
             | inr now ↦ eqb-true e.inc hearing.inc now ∙ sym msgs.1
@@ -333,7 +335,7 @@ module _ (weights : List ℕ) (a : At) (k : Keeps a.site a.life) (fits : Fits we
           heard : (n : ℕ) (v : Answer) (op : Op) → nth_op n (iss' t) ≡ Some op → (key_of op).site ≡ p.to → In (told.Op t n v) (flat_map tells mine) ⊎ In (told.Op t n v) (step_at a).told → Heard_of sent' p.to t n inc v × (1 ≤ count)
           heard n v op nth to (inl old) =
               let r = subst (λ (l : Life). t.inc ≡ l.inc → Heard_of sent (key_of op).site t n (expected a.site l.inc t l.steps (key_of op).site).inc v × (1 ≤ (expected a.site l.inc t l.steps (key_of op).site).count)) life_is
-                  (story.hears t n v op old (told_op t n v op old nth) (differ op to) up) here in
+              (story.hears t n v op old (told_op t n v op old nth) (differ op to) up) here in
               let z = subst (λ y. Heard_of sent y t n (expected a.site a.life.inc t a.life.steps y).inc v × (1 ≤ (expected a.site a.life.inc t a.life.steps y).count)) to r in
               (subst (λ i. Heard_of sent' p.to t n i v) (sym w.2) (heard_on' p.to t n _ v z.0), subst (λ c. 1 ≤ c) (sym w.3) z.1)
           heard n v op nth to (inr new) = absurd (let g = told_heard t n v op new nth (differ op to) in no_commit g.packet t (sym w.0.takes ∙ g.takes))
@@ -414,9 +416,13 @@ module _ (weights : List ℕ) (a : At) (k : Keeps a.site a.life) (fits : Fits we
       tolds : (t : Txn) (n : ℕ) (v : Answer) → In (told.Op t n v) (flat_map tells mine) ⊎ In (told.Op t n v) (step_at a).told →
           (t.site ≡ a.site) × (op : Op) × (nth_op n (iss' t) ≡ Some op) × ((key_of op).site ≡ a.site → Given iss' a.site (has_risen (mine ++ m ∷ [])) (life_at (mine ++ m ∷ [])) t n t.inc v)
       tolds t n v (inl old) =
-          let r = story.tolds t n v old in
-          (r.0, r.1, nth_on iss iss' on t n r.1 r.2, (λ here. subst (λ l. Given iss' a.site (has_risen (mine ++ m ∷ [])) l t n t.inc v) (sym is.life)
-              (given_old weights a k fits away sent iss iss' mine up life_is story was_sent well own_iss on t n t.inc v (r.3 here) (has_risen (mine ++ m ∷ [])))))
+          let r = story.tolds t n v old in (
+            r.0,
+            r.1,
+            nth_on iss iss' on t n r.1 r.2,
+            (λ here. subst (λ l. Given iss' a.site (has_risen (mine ++ m ∷ [])) l t n t.inc v) (sym is.life)
+                (given_old weights a k fits away sent iss iss' mine up life_is story was_sent well own_iss on t n t.inc v (r.3 here) (has_risen (mine ++ m ∷ [])))),
+          )
       tolds t n v (inr new) =
           let r = tolds_new weights a k fits away sent iss iss' mine up life_is story was_sent well own_iss on t n v new (has_risen (mine ++ m ∷ [])) in
           (r.0, r.1, r.2, (λ here. subst (λ l. Given iss' a.site (has_risen (mine ++ m ∷ [])) l t n t.inc v) (sym is.life) (r.3 here)))

@@ -115,7 +115,7 @@ right_seen site life k t still q h same w more is key e = by (in_split (of_txn t
         value =
             let one : performed_by life.steps q ≡ record { n = q.n; op = q.op; answer = w } ∷ [] = rw is refl in
             let f : AnswerFits (rows_in life.log) (flat_map (performed_by life.steps) s.0) (record { n = q.n; op = q.op; answer = w }) =
-                (subst (λ l. Each (AnswerFits (rows_in life.log) (flat_map (performed_by life.steps) s.0)) l) one fits).0 in
+            (subst (λ l. Each (AnswerFits (rows_in life.log) (flat_map (performed_by life.steps) s.0)) l) one fits).0 in
             subst (λ o. AnswerFits (rows_in life.log) (flat_map (performed_by life.steps) s.0) (record { n = q.n; op = o; answer = w })) e f
 
         keys : (p : Performed) → In p (flat_map (performed_by life.steps) s.0) → (key_of p.op).site ≡ key.site
@@ -129,9 +129,9 @@ right_seen site life k t still q h same w more is key e = by (in_split (of_txn t
             ∙ ap (λ l. filter (λ o. nat_lt o.n q.n) l) (ap listed (flat_map-append (performed_by life.steps) s.0 (q ∷ s.1)) ∙ listed_both (flat_map (performed_by life.steps) s.0) (flat_map (performed_by life.steps) (q ∷ s.1)))
             ∙ filter-append (λ o. nat_lt o.n q.n) (listed (flat_map (performed_by life.steps) s.0)) (listed (flat_map (performed_by life.steps) (q ∷ s.1)))
             ∙ ap (λ l. l ++ filter (λ o. nat_lt o.n q.n) (listed (flat_map (performed_by life.steps) (q ∷ s.1))))
-                (filter_low q.n (flat_map (performed_by life.steps) s.0) (λ p m. (let r = performed_n life.steps s.0 p m in subst (λ z. z < q.n) (sym r.2) (turn_before life.steps s.0 q s.1 turn r.0 r.1))))
+            (filter_low q.n (flat_map (performed_by life.steps) s.0) (λ p m. (let r = performed_n life.steps s.0 p m in subst (λ z. z < q.n) (sym r.2) (turn_before life.steps s.0 q s.1 turn r.0 r.1))))
             ∙ ap (λ l. listed (flat_map (performed_by life.steps) s.0) ++ l)
-                (filter_high q.n (flat_map (performed_by life.steps) (q ∷ s.1)) (λ p m. (let r = performed_n life.steps (q ∷ s.1) p m in subst (λ z. q.n ≤ z) (sym r.2) (turn_behind life.steps s.0 q s.1 turn r.0 r.1))))
+            (filter_high q.n (flat_map (performed_by life.steps) (q ∷ s.1)) (λ p m. (let r = performed_n life.steps (q ∷ s.1) p m in subst (λ z. q.n ≤ z) (sym r.2) (turn_behind life.steps s.0 q s.1 turn r.0 r.1))))
             ∙ append-nil (listed (flat_map (performed_by life.steps) s.0))
 
 -- all operations of a transaction that voted were answered
@@ -162,7 +162,7 @@ pub record Gave (a : At) (t : Txn) (n : ℕ) (v : Answer) : Type 0 where
 module _ (weights : List ℕ) (a : At) (k : Keeps a.site a.life) (fits : Fits weights a.site a.life a.input) (away : FromAway a.site a.input) (s : Shaped a (step_at a)) where
   -- an answer to an operation among the arrivals, by its cause
   gave_one : (q : Asked) (v : Answer) → In q (arrivals a.site (a.life.steps ++ moment a ∷ [])) → is_answered (a.life.steps ++ moment a ∷ []) q ≡ true → Cause a s.rule q.txn q.n v →
-      ((Hearing a q.txn q.n v → ⊥) ) → Gave a q.txn q.n v
+      ((Hearing a q.txn q.n v → ⊥)) → Gave a q.txn q.n v
   gave_one q v h y cause unheard = by (is_answered a.life.steps q) refl
     where
       f : (w : Answer) × (more : List Answer) × (answers q (a.life.steps ++ moment a ∷ []) ≡ w ∷ more)
@@ -182,8 +182,10 @@ module _ (weights : List ℕ) (a : At) (k : Keeps a.site a.life) (fits : Fits we
           true≢false (sym yes ∙ waits.2))
 
       behind : (w : Answer) (more : List Answer) → answers q a.life.steps ≡ w ∷ more → (more' : List Answer) × (answers q (a.life.steps ++ moment a ∷ []) ≡ w ∷ more')
-      behind w more is = (more ++ (flat_map (answer_told q) (step_at a).told ++ flat_map (answer_sent q) (map plain (step_at a).outs)),
-          answers_push q a.life.steps (moment a) ∙ ap (λ l. l ++ (flat_map (answer_told q) (step_at a).told ++ flat_map (answer_sent q) (map plain (step_at a).outs))) is)
+      behind w more is = (
+        more ++ (flat_map (answer_told q) (step_at a).told ++ flat_map (answer_sent q) (map plain (step_at a).outs)),
+        answers_push q a.life.steps (moment a) ∙ ap (λ l. l ++ (flat_map (answer_told q) (step_at a).told ++ flat_map (answer_sent q) (map plain (step_at a).outs))) is,
+      )
 
       by : (b : Bool) → is_answered a.life.steps q ≡ b → Gave a q.txn q.n v
       by true is =
@@ -192,10 +194,10 @@ module _ (weights : List ℕ) (a : At) (k : Keeps a.site a.life) (fits : Fits we
           made g.0 z.0 z.1 (λ key e. old g.0 g.1 g.2 cause)
       by false none =
           let last = last_of a.life.steps (of_txn q.txn (arrivals a.site (a.life.steps ++ moment a ∷ []))) q (turns_before weights a (moment a) (is_moment a) k.steady fits q.txn)
-              (filter_in (λ x. same_txn q.txn x.txn) (arrivals a.site (a.life.steps ++ moment a ∷ [])) q h (same_from q.txn q.txn refl)) none in
+          (filter_in (λ x. same_txn q.txn x.txn) (arrivals a.site (a.life.steps ++ moment a ∷ [])) q h (same_from q.txn q.txn refl)) none in
           made f.0 f.1 f.2 (λ key e.
-              why_value weights a k.steady fits away k.known k.apart k.right s last.0 q v last.1 key e (cause_why weights a k.steady fits away s q v h none cause)
-              ∙ sym (why_value weights a k.steady fits away k.known k.apart k.right s last.0 q f.0 last.1 key e (new_why weights a k.steady fits away s q f.0 f.1 h none f.2)))
+          why_value weights a k.steady fits away k.known k.apart k.right s last.0 q v last.1 key e (cause_why weights a k.steady fits away s q v h none cause)
+          ∙ sym (why_value weights a k.steady fits away k.known k.apart k.right s last.0 q f.0 last.1 key e (new_why weights a k.steady fits away s q f.0 f.1 h none f.2)))
 
   -- an operation that comes in this step and was answered before is among the arrivals before it
   repeated_came : (t : Txn) (n : ℕ) (v : Answer) → Repeating a t n v → (r : Asked) × In r (arrivals a.site a.life.steps) × (r.txn ≡ t) × (r.n ≡ n)
@@ -221,7 +223,7 @@ module _ (weights : List ℕ) (a : At) (k : Keeps a.site a.life) (fits : Fits we
       to q h same num unheard =
           subst (λ z. Gave a z n v) same (subst (λ z. Gave a q.txn z v) num
           (gave_one q v h (answered q same num) (subst (λ z. Cause a s.rule q.txn z v) (sym num) (subst (λ z. Cause a s.rule z n v) (sym same) cause))
-              (λ x. unheard (subst (λ z. Hearing a t z v) num (subst (λ z. Hearing a z q.n v) same x)))))
+          (λ x. unheard (subst (λ z. Hearing a t z v) num (subst (λ z. Hearing a z q.n v) same x)))))
 
       by : Cause a s.rule t n v → Hearing a t n v ⊎ Gave a t n v
       by (Heard x e) = inl x
@@ -252,7 +254,7 @@ module _ (weights : List ℕ) (a : At) (k : Keeps a.site a.life) (fits : Fits we
       by (Granted g before after split same num x some ruled) =
           let h = granted_arrived weights a k.steady fits away s g (subst (λ l. In g l) (sym split) (in_back before (g ∷ after) g (inl refl))) in
           inr (to g h same num (λ hearing. (let z = heard_elsewhere weights a k.steady fits away s t n v hearing in
-              let st = steady_push weights a (moment a) (is_moment a) k.steady fits in
-              let nth : nth_op n (issued t (a.life.steps ++ moment a ∷ [])) ≡ Some g.op = subst (λ u. nth_op n (issued u (a.life.steps ++ moment a ∷ [])) ≡ Some g.op) same
-                  (subst (λ m. nth_op m (issued g.txn (a.life.steps ++ moment a ∷ [])) ≡ Some g.op) num (st.nth g h (ap (λ (u : Txn). u.site) same ∙ z.0))) in
-              z.3 (ap (λ o. (key_of o).site) (some_inj z.1 g.op (sym z.2 ∙ nth)) ∙ (st.here g h).0))))
+          let st = steady_push weights a (moment a) (is_moment a) k.steady fits in
+          let nth : nth_op n (issued t (a.life.steps ++ moment a ∷ [])) ≡ Some g.op = subst (λ u. nth_op n (issued u (a.life.steps ++ moment a ∷ [])) ≡ Some g.op) same
+          (subst (λ m. nth_op m (issued g.txn (a.life.steps ++ moment a ∷ [])) ≡ Some g.op) num (st.nth g h (ap (λ (u : Txn). u.site) same ∙ z.0))) in
+          z.3 (ap (λ o. (key_of o).site) (some_inj z.1 g.op (sym z.2 ∙ nth)) ∙ (st.here g h).0))))

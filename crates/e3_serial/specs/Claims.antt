@@ -5,6 +5,7 @@ use Rattle.e3_types.specs.declared.scenarios.Scenario.{Scenario}
 use Rattle.e3_world.specs.Given.{IsGiven}
 use Rattle.e3_world.specs.Legal.{IsLegal}
 use Rattle.e3_world.specs.Moves.{Move, trail_of}
+use Rattle.e3_world.specs.Serial.{IsSerial}
 use Rattle.e3_serial.specs.Ordered.{IsOrdered, TablesReplay, VotesReplay}
 
 -- where the logs are ordered, each site's table is the replay of what its log commits
@@ -26,3 +27,8 @@ LegalTables = (sc : Scenario) (h : List Entry) → IsGiven sc → IsLegal sc h �
 -- in a legal history what the votes of committed transactions found is what they find in the replay
 abbrev pub LegalVotes : Type 0
 LegalVotes = (sc : Scenario) (h : List Entry) → IsGiven sc → IsLegal sc h → VotesReplay sc (trail_of sc h)
+
+-- in a legal history there is one order: each site's table is the replay of what its log commits, and each read of a
+-- committed transaction that was told is the replay's
+abbrev pub LegalSerial : Type 0
+LegalSerial = (sc : Scenario) (h : List Entry) → IsGiven sc → IsLegal sc h → IsSerial sc (trail_of sc h)

@@ -1,7 +1,7 @@
 //! One order over every legal history.
 #![tactic(auto)]
 
-ghost use Rattle.e3_serial.specs.Claims.{LegalTables, LegalVotes, LogsAreOrdered, OrderedTables, OrderedVotes};
+ghost use Rattle.e3_serial.specs.Claims.{LegalSerial, LegalTables, LegalVotes, LogsAreOrdered, OrderedTables, OrderedVotes};
 
 use e3_decided::histories_agree;
 use e3_trails::{records_suit_their_site, trails_are_sound};
@@ -32,4 +32,15 @@ pub fn legal_histories_replay()
 {
     logs_are_ordered();
     ordered_logs_replay();
+}
+
+/// In every legal history of a given scenario there is one order of the committed transactions, that of their last votes:
+/// run one after the other they give each site's table, over those that its own log commits, and the answer to each of their
+/// reads that was told to a client, however sites fall and rise and whatever is lost or comes twice.
+pub fn one_order()
+    ensures { LegalSerial }
+{
+    trails_are_sound();
+    histories_agree();
+    legal_histories_replay();
 }
