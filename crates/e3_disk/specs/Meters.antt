@@ -37,8 +37,8 @@ raised before more = min (before + more) LAST
 abbrev pub Rose : ℕ → ℕ → Type 0
 Rose before now = raised before 1 ≤ now
 
--- What every call of a disk keeps. The stops rise only by one, in a call that clears the arm; the faults never fall,
--- and neither do the faults less the stops.
+-- What every call of a disk keeps. An arm has never more calls left than before. The stops rise only by one, in a call that
+-- clears the arm; the faults never fall, and neither do the faults less the stops.
 pub record Keeps (old new : Meters) : Type 0 where
   pub capacity : new.capacity ≡ old.capacity
   pub arms : new.arms ≡ old.arms
@@ -47,6 +47,7 @@ pub record Keeps (old new : Meters) : Type 0 where
   pub cuts : new.cuts ≡ old.cuts
   pub faults : old.faults ≤ new.faults
   pub own_faults : new.faults < LAST → old.faults + new.stops ≤ new.faults + old.stops
+  pub left : new.calls_left ≤ old.calls_left
   pub stops : (new.stops ≡ old.stops) ⊎ ((new.stops ≡ raised old.stops 1) × (0 < old.calls_left) × (new.calls_left ≡ 0))
 
 -- Why a call failed: the faults rose, or the power was off when it began. Then no fault is counted, and it stays off.

@@ -12,6 +12,7 @@ keeps_chain a b c p stops calls q = record {
   cuts = q.cuts ∙ p.cuts;
   faults = omega (arith, p.faults, q.faults);
   own_faults = λ few. omega (arith, p.own_faults (omega (arith, q.faults)), q.own_faults few);
+  left = omega (arith, q.left, calls);
   stops = elim q.stops [
     | inl same ↦ inl (same ∙ stops)
     | inr more ↦ inr (more.0 ∙ ap (λ n. raised n 1) stops, omega (arith, more.1, calls), more.2)
