@@ -1,0 +1,8 @@
+//! Recovery rounds: after a split, a crash or a coordinator that is silent, a group ends what is open at its sites, one
+//! transaction after the other.
+#![tactic(auto)]
+
+mod listing;
+mod recovering;
+
+pub use recovering::{RoundReport, recover};

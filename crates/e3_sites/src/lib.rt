@@ -1,0 +1,8 @@
+//! The sites of a run, as a driver sees them, and the delivery of what they send.
+#![tactic(auto)]
+
+mod delivering;
+mod sites;
+
+pub use delivering::deliver_all;
+pub use sites::{RunFault, Sites};
