@@ -74,7 +74,8 @@ lock_against wanted l ls h o = in_map (λ (l : Lock). l.txn) (filter (opposes wa
 pub waits_older : (wanted : Lock) (hs ws : List Lock) → lock_grant wanted hs ws ≡ Waits → (l : Lock) → In l (hs ++ ws) → opposes wanted l ≡ true → is_older wanted.txn l.txn ≡ true
 waits_older wanted hs ws grant l h o = by (is_covered wanted hs) grant
   where
-    each : (u : Txn) (us : List Txn) → In l.txn (u ∷ us) → (b : Bool) → list_all (is_older wanted.txn) (u ∷ us) ≡ b → (if b then Waits else Dies (oldest u us)) ≡ Waits → is_older wanted.txn l.txn ≡ true
+    each : (u : Txn) (us : List Txn) → In l.txn (u ∷ us) → (b : Bool) → list_all (is_older wanted.txn) (u ∷ us) ≡ b →
+        (if b then Waits else Dies (oldest u us)) ≡ Waits → is_older wanted.txn l.txn ≡ true
     each u us k true is g = all_at (is_older wanted.txn) (u ∷ us) l.txn is k
     each u us k false is g = absurd cc
 

@@ -19,7 +19,7 @@ use Rattle.e3_world.specs.declared.lives.Moment.{Moment}
 use Rattle.e3_world.specs.Logs.{state_of, is_undecided, mode_of}
 use Rattle.e3_world.specs.Making.{nothing, log_now, steps_now, grants_after}
 use Rattle.e3_world.specs.Moves.{plain}
-use Rattle.e3_world.specs.Operations.{taken_up, same_asked, is_fresh, and_arrived, arrivals, answer_told, answer_sent, answers, is_answered, waiting, holders, queue}
+use Rattle.e3_world.specs.Operations.{taken_up, same_asked, is_fresh, and_arrived, arrivals, answer_told, answer_sent, answers, is_answered, waiting, holders}
 use Rattle.e3_world.specs.Sound.{Fits}
 use Rattle.e3_world.specs.Steps.{step_at}
 use Rattle.e3_serial.proofs.Rules.{Locking, Shaped}
@@ -34,7 +34,7 @@ use Rattle.e3_serial.proofs.Holding.{Holds, lock_of, held_lock, held_for, turn_c
 use Rattle.e3_serial.proofs.Recording.{shaped_records, undecided_before}
 use Rattle.e3_serial.proofs.Keeping.{Keeps, next}
 use Rattle.e3_waits.proofs.Clashing.{clash_opposes, cover_clash, waits_older, held_free, in_queue}
-use Rattle.e3_waits.proofs.Taking.{IsNew, takes, grant_of, waits_granted, waits_quiet}
+use Rattle.e3_waits.proofs.Taking.{IsNew, takes, holders_of, waiting_now, queue_of, grant_of, waits_granted, waits_quiet}
 use Rattle.e3_waits.proofs.Holders.{HoldsNow, Old, NewLock, NewGrant, quiet_holds, classify, answered_so_far}
 use Rattle.e3_waits.proofs.Granting.{granted_or_behind}
 
@@ -63,9 +63,16 @@ turned : (b : Bool) → not b ≡ true → b ≡ false
 turned true e = absurd (true≢false (sym e))
 turned false e = refl
 
+-- the log and the steps behind the step at a place
+abbrev pub log_behind : At → List Record
+log_behind a = a.life.log ++ (step_at a).records
+
+abbrev pub steps_behind : At → List Moment
+steps_behind a = a.life.steps ++ moment a ∷ []
+
 module _ (weights : List ℕ) (a : At) (k : Keeps a.site a.life) (fits : Fits weights a.site a.life a.input) (away : FromAway a.site a.input) where
   -- what waits behind a step waited before it, if it had come
-  open_before : (q : Asked) → Open (a.life.log ++ (step_at a).records) (a.life.steps ++ moment a ∷ []) q → Open a.life.log a.life.steps q
+  open_before : (q : Asked) → Open (log_behind a) (steps_behind a) q → Open a.life.log a.life.steps q
   open_before q o = (
     undecided_before q.txn a.life.log (step_at a).records o.0,
     false_from_ne_true (is_answered a.life.steps q) (λ y. true≢false (sym (answered_more a.life.steps (moment a) q y) ∙ o.1)),
@@ -75,7 +82,7 @@ module _ (weights : List ℕ) (a : At) (k : Keeps a.site a.life) (fits : Fits we
   abbrev Taken : Asked → Type 0
   Taken q = (taken_up a.site a.life.steps (moment a) ≡ Some q) × (is_fresh (arrivals a.site a.life.steps) (moment a) q ≡ true)
 
-  arrived : (q : Asked) → In q (arrivals a.site (a.life.steps ++ moment a ∷ [])) → In q (arrivals a.site a.life.steps) ⊎ Taken q
+  arrived : (q : Asked) → In q (arrivals a.site (steps_behind a)) → In q (arrivals a.site a.life.steps) ⊎ Taken q
   arrived q h = elim (arrived_in (arrivals a.site a.life.steps) (moment a) (taken_up a.site a.life.steps (moment a)) q (subst (λ l. In q l) (arrivals_push a.site a.life.steps (moment a)) h)) [
     | inl old ↦ inl old
     | inr new ↦ inr (new.0, new.1)
@@ -94,38 +101,38 @@ module _ (weights : List ℕ) (a : At) (k : Keeps a.site a.life) (fits : Fits we
     idle = ap (state_of q.txn) (append-nil a.life.log)
         ∙ same_state_is (state_of q.txn a.life.log) Q (and_parts (same_state (state_of q.txn a.life.log) Q) (not (list_any (same_asked q) (arrivals a.site a.life.steps))) new.1).0;
     unanswered = unanswered_none a.life.steps q (elim (fresh_unanswered weights a k.steady fits away k.known q here) [ inl old ↦ absurd (absent q new old) | inr none ↦ none ]);
-    absent = false_from_ne_true (list_any (same_asked q) (waiting a.site (log_now a nothing) a.life.steps)) (λ y.
-        (let x = any_in (same_asked q) (waiting a.site (log_now a nothing) a.life.steps) y in
+    absent = false_from_ne_true (list_any (same_asked q) (waiting_now a)) (λ y.
+        (let x = any_in (same_asked q) (waiting_now a) y in
         unlike q new x.0 (waits_parts a.site (log_now a nothing) a.life.steps x.0 x.1).0 x.2));
   }
     where
-      here : In q (arrivals a.site (a.life.steps ++ moment a ∷ []))
+      here : In q (arrivals a.site (steps_behind a))
       here = subst (λ l. In q l)
           (sym (arrivals_push a.site a.life.steps (moment a) ∙ ap (λ o. and_arrived (arrivals a.site a.life.steps) (moment a) o) new.0 ∙ (rw new.1 refl)))
           (in_back (arrivals a.site a.life.steps) (q ∷ []) q (inl refl))
 
   -- an operation that is taken up and waits is one that the lock rule lets wait
-  new_waits : (q : Asked) → Taken q → Open (a.life.log ++ (step_at a).records) (a.life.steps ++ moment a ∷ []) q → grant_of a q ≡ Waits
+  new_waits : (q : Asked) → Taken q → Open (log_behind a) (steps_behind a) q → grant_of a q ≡ Waits
   new_waits q new o = waits_granted weights a fits q (takes a away (moment a) (is_moment a) q new.0) (is_new q new) o.0 o.1
 
   new_quiet : (q : Asked) → Taken q → grant_of a q ≡ Waits → step_at a ≡ nothing
   new_quiet q new grant = waits_quiet weights a fits q (takes a away (moment a) (is_moment a) q new.0) (is_new q new) grant
 
   older_by : (q : Asked) → grant_of a q ≡ Waits → (u : Txn) (other : Op) → (q.txn ≡ u → ⊥) → Clash q.op other →
-      In (lock_of u other) (holders a.site (name_of q.op) (log_now a nothing) a.life.steps ++ queue (name_of q.op) (waiting a.site (log_now a nothing) a.life.steps)) → is_older q.txn u ≡ true
+      In (lock_of u other) (holders_of a q.op ++ queue_of a q.op) → is_older q.txn u ≡ true
   older_by q grant u other differ c h =
-      waits_older (lock_of q.txn q.op) (holders a.site (name_of q.op) (log_now a nothing) a.life.steps) (queue (name_of q.op) (waiting a.site (log_now a nothing) a.life.steps)) grant (lock_of u other) h
+      waits_older (lock_of q.txn q.op) (holders_of a q.op) (queue_of a q.op) grant (lock_of u other) h
       (clash_opposes q.txn u q.op other differ c)
 
   -- it is older than the holders that are against it
   new_holders : (q : Asked) → grant_of a q ≡ Waits → (u : Txn) (other : Op) → is_undecided u a.life.log ≡ true → Holds a.site a.life.log a.life.steps u other → (q.txn ≡ u → ⊥) → Clash q.op other →
       is_older q.txn u ≡ true
   new_holders q grant u other still holds differ c = older_by q grant u other differ c
-      (in_front (holders a.site (name_of q.op) (log_now a nothing) a.life.steps) (queue (name_of q.op) (waiting a.site (log_now a nothing) a.life.steps)) (lock_of u other)
+      (in_front (holders_of a q.op) (queue_of a q.op) (lock_of u other)
       (subst (λ l. In (lock_of u other) (holders a.site (name_of q.op) l a.life.steps)) (sym (append-nil a.life.log))
       (subst (λ n. In (lock_of u other) (holders a.site n a.life.log a.life.steps)) (sym c.same_name) (held_lock a.site a.life.log a.life.steps u other still holds))))
 
-  still_waiting : (q : Asked) → In q (arrivals a.site a.life.steps) → Open a.life.log a.life.steps q → In q (waiting a.site (log_now a nothing) a.life.steps)
+  still_waiting : (q : Asked) → In q (arrivals a.site a.life.steps) → Open a.life.log a.life.steps q → In q (waiting_now a)
   still_waiting q h o = filter_in (λ x. is_undecided x.txn (log_now a nothing) && not (is_answered a.life.steps x)) (arrivals a.site a.life.steps) q h
       (and_from (is_undecided q.txn (log_now a nothing)) (not (is_answered a.life.steps q)) (ap (is_undecided q.txn) (append-nil a.life.log) ∙ o.0) (ap not o.1))
 
@@ -133,23 +140,23 @@ module _ (weights : List ℕ) (a : At) (k : Keeps a.site a.life) (fits : Fits we
   new_ahead : (q : Asked) → grant_of a q ≡ Waits → (x : Asked) → In x (arrivals a.site a.life.steps) → Open a.life.log a.life.steps x → (q.txn ≡ x.txn → ⊥) → Clash q.op x.op →
       is_older q.txn x.txn ≡ true
   new_ahead q grant x h o differ c = older_by q grant x.txn x.op differ c
-      (in_back (holders a.site (name_of q.op) (log_now a nothing) a.life.steps) (queue (name_of q.op) (waiting a.site (log_now a nothing) a.life.steps)) (lock_of x.txn x.op)
-      (in_queue (name_of q.op) (waiting a.site (log_now a nothing) a.life.steps) x (still_waiting x h o) (sym c.same_name)))
+      (in_back (holders_of a q.op) (queue_of a q.op) (lock_of x.txn x.op)
+      (in_queue (name_of q.op) (waiting_now a) x (still_waiting x h o) (sym c.same_name)))
 
   module _ (w : EldersWait a.site a.life) where
     -- a request that gets its lock has it already, or opposes none that waits
     lock_older : (r : Asked) → Locking a r.txn r.n r.op → (q : Asked) → In q (arrivals a.site a.life.steps) → Open a.life.log a.life.steps q → (q.txn ≡ r.txn → ⊥) → Clash q.op r.op →
         is_older q.txn r.txn ≡ true
-    lock_older r l q h o differ c = elim (held_free (lock_of r.txn r.op) (holders a.site (name_of r.op) (log_now a nothing) a.life.steps) (queue (name_of r.op) (waiting a.site (log_now a nothing) a.life.steps)) l.held) [
+    lock_older r l q h o differ c = elim (held_free (lock_of r.txn r.op) (holders_of a r.op) (queue_of a r.op) l.held) [
       | inl own ↦ covered own
       | inr free ↦ absurd (true≢false (sym (clash_opposes r.txn q.txn r.op q.op (λ e. differ (sym e)) (turn_clash q.op r.op c))
-          ∙ free (lock_of q.txn q.op) (in_back (holders a.site (name_of r.op) (log_now a nothing) a.life.steps) (queue (name_of r.op) (waiting a.site (log_now a nothing) a.life.steps)) (lock_of q.txn q.op)
-          (in_queue (name_of r.op) (waiting a.site (log_now a nothing) a.life.steps) q (still_waiting q h o) c.same_name))))
+          ∙ free (lock_of q.txn q.op) (in_back (holders_of a r.op) (queue_of a r.op) (lock_of q.txn q.op)
+          (in_queue (name_of r.op) (waiting_now a) q (still_waiting q h o) c.same_name))))
     ]
       where
-        covered : is_covered (lock_of r.txn r.op) (holders a.site (name_of r.op) (log_now a nothing) a.life.steps) ≡ true → is_older q.txn r.txn ≡ true
+        covered : is_covered (lock_of r.txn r.op) (holders_of a r.op) ≡ true → is_older q.txn r.txn ≡ true
         covered own =
-            let p = any_in (λ (l : Lock). same_txn l.txn r.txn && covers l.mode (mode_of r.op)) (holders a.site (name_of r.op) (log_now a nothing) a.life.steps) own in
+            let p = any_in (λ (l : Lock). same_txn l.txn r.txn && covers l.mode (mode_of r.op)) (holders_of a r.op) own in
             let t = and_parts (same_txn p.0.txn r.txn) (covers p.0.mode (mode_of r.op)) p.2 in
             let f = held_for a.site (name_of r.op) a.life.log a.life.steps p.0 (subst (λ l. In p.0 (holders a.site (name_of r.op) l a.life.steps)) (append-nil a.life.log) p.1) in
             let mine : p.0.txn ≡ r.txn = same_is p.0.txn r.txn t.0 in
@@ -160,7 +167,7 @@ module _ (weights : List ℕ) (a : At) (k : Keeps a.site a.life) (fits : Fits we
     abbrev Behind : Asked → Asked → Type 0
     Behind x q = Younger a.life.log a.life.steps x q ⊎ (In q (arrivals a.site a.life.steps) → ⊥)
 
-    behind_sorted : Sorted Behind (arrivals a.site (a.life.steps ++ moment a ∷ []))
+    behind_sorted : Sorted Behind (arrivals a.site (steps_behind a))
     behind_sorted = subst (λ l. Sorted Behind l) (sym (arrivals_push a.site a.life.steps (moment a))) (by (taken_up a.site a.life.steps (moment a)) refl)
       where
         old : Sorted Behind (arrivals a.site a.life.steps)
@@ -176,7 +183,7 @@ module _ (weights : List ℕ) (a : At) (k : Keeps a.site a.life) (fits : Fits we
 
     -- a request that is granted stood ahead of those that still wait
     grant_older : (s : Shaped a (step_at a)) (r : Asked) → In r (grants_after a s.rule) → (q : Asked) → In q (arrivals a.site a.life.steps) →
-        Open (a.life.log ++ (step_at a).records) (a.life.steps ++ moment a ∷ []) q → (q.txn ≡ r.txn → ⊥) → Clash q.op r.op → is_older q.txn r.txn ≡ true
+        Open (log_behind a) (steps_behind a) q → (q.txn ≡ r.txn → ⊥) → Clash q.op r.op → is_older q.txn r.txn ≡ true
     grant_older s r g q h o differ c =
         elim (granted_or_behind Behind a s.rule q r sorted waits g c.same_name) [
           | inl granted ↦ absurd (granted_apart a s.rule q r granted g differ c)
@@ -186,7 +193,7 @@ module _ (weights : List ℕ) (a : At) (k : Keeps a.site a.life) (fits : Fits we
           ]
         ]
       where
-        same : arrivals a.site (a.life.steps ++ moment a ∷ []) ≡ arrivals a.site (steps_now a s.rule)
+        same : arrivals a.site (steps_behind a) ≡ arrivals a.site (steps_now a s.rule)
         same = arrivals_calm a s.rule s.ruled (shaped_calm a (step_at a) s)
 
         sorted : Sorted Behind (waiting a.site (log_now a s.rule) (steps_now a s.rule))
@@ -208,7 +215,7 @@ module _ (weights : List ℕ) (a : At) (k : Keeps a.site a.life) (fits : Fits we
             )
 
     -- what waited already is older than all who hold a lock against it now
-    old_holders : (s : Shaped a (step_at a)) (q : Asked) → In q (arrivals a.site a.life.steps) → Open (a.life.log ++ (step_at a).records) (a.life.steps ++ moment a ∷ []) q →
+    old_holders : (s : Shaped a (step_at a)) (q : Asked) → In q (arrivals a.site a.life.steps) → Open (log_behind a) (steps_behind a) q →
         (u : Txn) (other : Op) → is_undecided u a.life.log ≡ true → HoldsNow a s.rule u other → (q.txn ≡ u → ⊥) → Clash q.op other → is_older q.txn u ≡ true
     old_holders s q h o u other still (Old holds) differ c = w.holders q h (open_before q o) u other still holds differ c
     old_holders s q h o u other still (NewLock r l same is) differ c =
@@ -216,14 +223,14 @@ module _ (weights : List ℕ) (a : At) (k : Keeps a.site a.life) (fits : Fits we
     old_holders s q h o u other still (NewGrant r g some same is) differ c =
         subst (λ z. is_older q.txn z ≡ true) same (grant_older s r g q h o (λ e. differ (e ∙ same)) (subst (λ z. Clash q.op z) (sym is) c))
 
-    quiet_answers : step_at a ≡ nothing → (q : Asked) → answers q (a.life.steps ++ moment a ∷ []) ≡ answers q a.life.steps
+    quiet_answers : step_at a ≡ nothing → (q : Asked) → answers q (steps_behind a) ≡ answers q a.life.steps
     quiet_answers none q =
         answers_push q a.life.steps (moment a)
         ∙ ap (λ (m : Made). answers q a.life.steps ++ (flat_map (answer_told q) m.told ++ flat_map (answer_sent q) (map plain m.outs))) none
         ∙ append-nil (answers q a.life.steps)
 
-    push_holders : (q : Asked) → In q (arrivals a.site (a.life.steps ++ moment a ∷ [])) → Open (a.life.log ++ (step_at a).records) (a.life.steps ++ moment a ∷ []) q →
-        (u : Txn) (other : Op) → is_undecided u (a.life.log ++ (step_at a).records) ≡ true → Holds a.site (a.life.log ++ (step_at a).records) (a.life.steps ++ moment a ∷ []) u other →
+    push_holders : (q : Asked) → In q (arrivals a.site (steps_behind a)) → Open (log_behind a) (steps_behind a) q →
+        (u : Txn) (other : Op) → is_undecided u (log_behind a) ≡ true → Holds a.site (log_behind a) (steps_behind a) u other →
         (q.txn ≡ u → ⊥) → Clash q.op other → is_older q.txn u ≡ true
     push_holders q h o u other still holds differ c = by (arrived q h)
       where
@@ -240,21 +247,21 @@ module _ (weights : List ℕ) (a : At) (k : Keeps a.site a.life) (fits : Fits we
             let none = new_quiet q new grant in
             new_holders q grant u other before (quiet_holds weights a k.steady fits away k.known (ap (λ (m : Made). m.records) none) (quiet_answers none) u other holds) differ c
 
-    push_ahead : Sorted (Younger (a.life.log ++ (step_at a).records) (a.life.steps ++ moment a ∷ [])) (arrivals a.site (a.life.steps ++ moment a ∷ []))
-    push_ahead = subst (λ l. Sorted (Younger (a.life.log ++ (step_at a).records) (a.life.steps ++ moment a ∷ [])) l) (sym (arrivals_push a.site a.life.steps (moment a)))
+    push_ahead : Sorted (Younger (log_behind a) (steps_behind a)) (arrivals a.site (steps_behind a))
+    push_ahead = subst (λ l. Sorted (Younger (log_behind a) (steps_behind a)) l) (sym (arrivals_push a.site a.life.steps (moment a)))
         (by (taken_up a.site a.life.steps (moment a)) refl)
       where
-        old : Sorted (Younger (a.life.log ++ (step_at a).records) (a.life.steps ++ moment a ∷ [])) (arrivals a.site a.life.steps)
-        old = sorted_change (Younger a.life.log a.life.steps) (Younger (a.life.log ++ (step_at a).records) (a.life.steps ++ moment a ∷ [])) (arrivals a.site a.life.steps)
+        old : Sorted (Younger (log_behind a) (steps_behind a)) (arrivals a.site a.life.steps)
+        old = sorted_change (Younger a.life.log a.life.steps) (Younger (log_behind a) (steps_behind a)) (arrivals a.site a.life.steps)
             (λ x q h g r open_x open_q. r (open_before x open_x) (open_before q open_q)) w.ahead
 
-        by : (o : Option Asked) → taken_up a.site a.life.steps (moment a) ≡ o → Sorted (Younger (a.life.log ++ (step_at a).records) (a.life.steps ++ moment a ∷ [])) (and_arrived (arrivals a.site a.life.steps) (moment a) o)
+        by : (o : Option Asked) → taken_up a.site a.life.steps (moment a) ≡ o → Sorted (Younger (log_behind a) (steps_behind a)) (and_arrived (arrivals a.site a.life.steps) (moment a) o)
         by None is = old
         by (Some q) is = fresh (is_fresh (arrivals a.site a.life.steps) (moment a) q) refl
           where
             fresh : (b : Bool) → is_fresh (arrivals a.site a.life.steps) (moment a) q ≡ b →
-                Sorted (Younger (a.life.log ++ (step_at a).records) (a.life.steps ++ moment a ∷ [])) (if b then arrivals a.site a.life.steps ++ q ∷ [] else arrivals a.site a.life.steps)
-            fresh true f = sorted_push (Younger (a.life.log ++ (step_at a).records) (a.life.steps ++ moment a ∷ [])) (arrivals a.site a.life.steps) q old
+                Sorted (Younger (log_behind a) (steps_behind a)) (if b then arrivals a.site a.life.steps ++ q ∷ [] else arrivals a.site a.life.steps)
+            fresh true f = sorted_push (Younger (log_behind a) (steps_behind a)) (arrivals a.site a.life.steps) q old
                 (λ x h open_x open_q differ c. new_ahead q (new_waits q (is, f) open_q) x h (open_before x open_x) differ c)
             fresh false f = old
 

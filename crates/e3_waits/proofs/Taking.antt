@@ -7,6 +7,7 @@ use Rattle.e3_types.specs.declared.entries.Input.TheVariants as input
 use Rattle.e3_types.specs.declared.entries.Told.TheVariants as told
 use Rattle.e3_types.specs.declared.locks.Grant.{Grant}
 use Rattle.e3_types.specs.declared.locks.Grant.TheVariants.{Held, Waits, Dies}
+use Rattle.e3_types.specs.declared.locks.Lock.{Lock}
 use Rattle.e3_types.specs.declared.messages.Message.{Message}
 use Rattle.e3_types.specs.declared.messages.Message.TheVariants as msg
 use Rattle.e3_types.specs.declared.messages.Packet.{Packet}
@@ -80,7 +81,8 @@ takes_moment a away m is = by a.input refl
         allowed : refuse a t false nothing ≡ None
         allowed = is.allowed t op takes (issued_one t op m.told o os some).1
 
-        here : (b : Bool) → ((key_of op).site == a.site) ≡ b → IfTakes a (if (key_of op).site == a.site then Some (record { txn = t; n = suc (length (issued t a.life.steps)); op = op }) else None)
+        here : (b : Bool) → ((key_of op).site == a.site) ≡ b →
+            IfTakes a (if (key_of op).site == a.site then Some (record { txn = t; n = suc (length (issued t a.life.steps)); op = op }) else None)
         here true at = rw at (record {
           sender = a.site;
           comes = record { how = inr (takes, allowed, refl, eqb-true (key_of op).site a.site at) };
@@ -111,15 +113,25 @@ by_grant a q Held = and_do a q.txn q.n q.op nothing
 by_grant a q Waits = nothing
 by_grant a q (Dies older) = by_dying a q older (is_coordinator a q.txn)
 
+-- who holds the key of an operation at the beginning of a step, who waits at the site, and who waits for that key
+abbrev pub holders_of : At → Op → List Lock
+holders_of a op = holders a.site (name_of op) (log_now a nothing) a.life.steps
+
+abbrev pub waiting_now : At → List Asked
+waiting_now a = waiting a.site (log_now a nothing) a.life.steps
+
+abbrev pub queue_of : At → Op → List Lock
+queue_of a op = queue (name_of op) (waiting_now a)
+
 -- how a request is decided at the beginning of a step
 abbrev pub grant_of : At → Asked → Grant
-grant_of a q = lock_grant (lock_of q.txn q.op) (holders a.site (name_of q.op) (log_now a nothing) a.life.steps) (queue (name_of q.op) (waiting a.site (log_now a nothing) a.life.steps))
+grant_of a q = lock_grant (lock_of q.txn q.op) (holders_of a q.op) (queue_of a q.op)
 
 -- the transaction has no record, and its operation neither was answered nor waits
 pub record IsNew (a : At) (q : Asked) : Type 0 where
   pub idle : state_now a q.txn nothing ≡ Q
   pub unanswered : answers q a.life.steps ≡ []
-  pub absent : list_any (same_asked q) (waiting a.site (log_now a nothing) a.life.steps) ≡ false
+  pub absent : list_any (same_asked q) (waiting_now a) ≡ false
 
 pub granted_by : (a : At) (f : ℕ) (q : Asked) (new : IsNew a q) (g : Grant) → grant_of a q ≡ g → on_do a f q.txn q.n q.op nothing ≡ by_grant a q g
 granted_by a f q new g is = rw (new.idle, new.unanswered, new.absent, is) refl
@@ -148,7 +160,8 @@ length_push (y ∷ xs) x = ap suc (length_push xs x)
 own_counts : (a : At) (t : Txn) → ((expected a.site a.life.inc t a.life.steps a.site).count == 0 || (expected a.site a.life.inc t a.life.steps a.site).inc == a.life.inc) ≡ true
 own_counts a t = by (done a.site t a.life.steps) refl
   where
-    by : (ps : List Performed) → done a.site t a.life.steps ≡ ps → ((expected a.site a.life.inc t a.life.steps a.site).count == 0 || (expected a.site a.life.inc t a.life.steps a.site).inc == a.life.inc) ≡ true
+    by : (ps : List Performed) → done a.site t a.life.steps ≡ ps →
+        ((expected a.site a.life.inc t a.life.steps a.site).count == 0 || (expected a.site a.life.inc t a.life.steps a.site).inc == a.life.inc) ≡ true
     by [] is = rw (eq-eqb a.site a.site refl, is) refl
     by (p ∷ ps) is = rw (eq-eqb a.site a.site refl, is) (or_right _ _ (eq-eqb a.life.inc a.life.inc refl))
 
@@ -223,7 +236,8 @@ own_told a q v new takes allowed number here own = rw (coordinator, last, nth, e
     long = ap (λ l. length l) all ∙ length_push (issued q.txn a.life.steps) q.op
 
     untold : op_told q.txn (suc (length (issued q.txn a.life.steps))) (steps_now a nothing) ≡ false
-    untold = false_from_ne_true _ (λ y. no (op_told q.txn (suc (length (issued q.txn a.life.steps))) a.life.steps) refl (sym (told_push q.txn (suc (length (issued q.txn a.life.steps))) a.life.steps (so_far a nothing)) ∙ y))
+    untold = false_from_ne_true _ (λ y. no (op_told q.txn (suc (length (issued q.txn a.life.steps))) a.life.steps) refl
+        (sym (told_push q.txn (suc (length (issued q.txn a.life.steps))) a.life.steps (so_far a nothing)) ∙ y))
       where
         no : (b : Bool) → op_told q.txn (suc (length (issued q.txn a.life.steps))) a.life.steps ≡ b → (b || false) ≡ true → ⊥
         no true is e =
@@ -249,7 +263,8 @@ module _ (weights : List ℕ) (a : At) (fits : Fits weights a.site a.life a.inpu
           others_lack a.site p.«from» q.txn.sites (subst (λ x. has_site (others a.site (Rattle.e3_world.specs.Sound.txn_in x).sites) p.«from» ≡ true) says f.sender) (d.coordinator ∙ own)
 
   -- the answer that a step sends or tells
-  shown : (m : Made) → step_at a ≡ m → In (answer_now a q.txn q.op nothing) (flat_map (answer_told q) m.told ++ flat_map (answer_sent q) (map plain m.outs)) → is_answered (a.life.steps ++ moment a ∷ []) q ≡ true
+  shown : (m : Made) → step_at a ≡ m → In (answer_now a q.txn q.op nothing) (flat_map (answer_told q) m.told ++ flat_map (answer_sent q) (map plain m.outs)) →
+      is_answered (a.life.steps ++ moment a ∷ []) q ≡ true
   shown m is h = answered_some (a.life.steps ++ moment a ∷ []) q (answer_now a q.txn q.op nothing)
       (subst (λ l. In (answer_now a q.txn q.op nothing) l) (sym (answers_push q a.life.steps (moment a)))
       (in_back (answers q a.life.steps) _ _ (subst (λ (z : Made). In (answer_now a q.txn q.op nothing) (flat_map (answer_told q) z.told ++ flat_map (answer_sent q) (map plain z.outs))) (sym is) h)))
@@ -280,10 +295,12 @@ module _ (weights : List ℕ) (a : At) (fits : Fits weights a.site a.life a.inpu
       kept is = rw is refl
 
       by : (b : Bool) → (q.txn.site == a.site) ≡ b → is_answered (a.life.steps ++ moment a ∷ []) q ≡ true
-      by false is = shown (record nothing { outs = packet ∷ [] }) (done_now ∙ ap (λ m. settle (suc (suc k.more)) a m) (sent is) ∙ settled (suc (suc k.more)) a (record nothing { outs = packet ∷ [] }) refl)
+      by false is = shown (record nothing { outs = packet ∷ [] })
+          (done_now ∙ ap (λ m. settle (suc (suc k.more)) a m) (sent is) ∙ settled (suc (suc k.more)) a (record nothing { outs = packet ∷ [] }) refl)
           (subst (λ b. In (answer_now a q.txn q.op nothing) ((if b then answer_now a q.txn q.op nothing ∷ [] else []) ++ [])) (sym same) (inl refl))
       by true is = shown (and_tell (told.Op q.txn q.n (answer_now a q.txn q.op nothing)) nothing)
-          (done_now ∙ ap (λ m. settle (suc (suc k.more)) a m) (kept is) ∙ ap (λ m. settle (suc k.more) a (and_grants a 0 m)) (own (eqb-true q.txn.site a.site is)) ∙ settled (suc k.more) a (and_tell (told.Op q.txn q.n (answer_now a q.txn q.op nothing)) nothing) refl)
+          (done_now ∙ ap (λ m. settle (suc (suc k.more)) a m) (kept is) ∙ ap (λ m. settle (suc k.more) a (and_grants a 0 m)) (own (eqb-true q.txn.site a.site is))
+          ∙ settled (suc k.more) a (and_tell (told.Op q.txn q.n (answer_now a q.txn q.op nothing)) nothing) refl)
           (subst (λ b. In (answer_now a q.txn q.op nothing) (((if b then answer_now a q.txn q.op nothing ∷ [] else []) ++ []) ++ [])) (sym same) (inl refl))
 
   -- a request whose transaction dies is of one that is decided
@@ -306,7 +323,8 @@ module _ (weights : List ℕ) (a : At) (fits : Fits weights a.site a.life a.inpu
       told_or_not false is = rw is refl
 
       dying : (b : Bool) → In (log.Decision q.txn Abort) (by_dying a q older b).records
-      dying true = subst (λ l. In (log.Decision q.txn Abort) l) (sym (cast (msg.Decide q.txn Abort) (others a.site q.txn.sites) (and_tell (told.Died q.txn older) (and_record (log.Decision q.txn Abort) nothing)))) (inl refl)
+      dying true = subst (λ l. In (log.Decision q.txn Abort) l)
+          (sym (cast (msg.Decide q.txn Abort) (others a.site q.txn.sites) (and_tell (told.Died q.txn older) (and_record (log.Decision q.txn Abort) nothing)))) (inl refl)
       dying false = subst (λ l. In (log.Decision q.txn Abort) l)
           (sym (sent_same_records a q.txn.site (msg.Died q.txn q.n older) (and_decide a q.txn Abort nothing) ∙ told_or_not (is_coordinator a q.txn && is_present a q.txn) refl)) (inl refl)
 

@@ -22,7 +22,8 @@ abbrev pub in_its_way : ℕ → Life → List Asked → Asked → List Txn
 in_its_way site life ahead a =
     against (wanted a) (holders site (key_of a.op).name life.log life.steps ++ queue (key_of a.op).name ahead)
 
--- an operation of the first transaction waits at the site in this incarnation, and is against the second
+-- one operation of the first transaction waits at the site in this incarnation, behind those ahead of it, and the other
+-- transaction is in its way
 pub record WaitsAt (site : ℕ) (life : Life) (t u : Txn) : Type 0 where
   pub one : Asked
   pub ahead : List Asked

@@ -2,8 +2,8 @@
 #![tactic(auto)]
 
 ghost use Rattle.e3_waits.specs.Claims.{NoCycle, OlderWaits};
-ghost use Rattle.e3_waits.specs.Example.{until_it_waits};
-ghost use Rattle.e3_waits.specs.Waiters.{WaitsFor};
+ghost use Rattle.e3_waits.specs.Example.{in_line, middle_one, oldest_one, until_it_waits, youngest_one};
+ghost use Rattle.e3_waits.specs.Waiters.{WaitsAt, WaitsFor};
 ghost use Rattle.e3_world.specs.Given.{IsGiven};
 ghost use Rattle.e3_world.specs.Legal.{IsLegal};
 ghost use Rattle.e3_worked.specs.OlderWaitsYoungerDies.{older_waits_younger_dies, t1_1_1, t2_1_1};
@@ -31,3 +31,11 @@ pub fn an_older_one_waits()
     is_worked();
     prefix_is_legal();
 }
+
+/// A waiter waits for those that hold the record, and for those ahead of it too: where one has written a record, and another
+/// asked to write it, an older one that asks to read it waits for both.
+pub fn waiters_ahead_count()
+    ensures first { WaitsAt 3 in_line middle_one youngest_one }
+    ensures holder { WaitsAt 3 in_line oldest_one youngest_one }
+    ensures ahead { WaitsAt 3 in_line oldest_one middle_one }
+{}
