@@ -1,0 +1,15 @@
+use Rattle.std.proofs.Common.{◌≡◌, ◌-◌, length}
+use Rattle.e3_sites.specs.Delivered.{Delivers}
+use Rattle.e3_sites.proofs.delivering.deliver_all.Given as goal
+
+abbrev pub invariant-loop-packet : goal.invariant-loop-packet
+invariant-loop-packet g l = record {
+  stands : g.S.Sites.stands l.sites;
+  since : (start : _) → g.S.Sites.since start l.fn.sites → g.S.Sites.since start l.sites;
+  scenario : g.S.Sites.scenario l.sites ≡ g.S.Sites.scenario l.fn.sites;
+  most : g.S.Sites.most l.sites ≡ g.S.Sites.most l.fn.sites;
+  delivered : Delivers (g.S.Sites.scenario l.fn.sites) (g.S.Sites.entries l.fn.sites) (g.S.Sites.entries l.sites);
+}
+
+abbrev pub decreases-loop-packet : goal.decreases-loop-packet
+decreases-loop-packet g l = g.S.Sites.most l.fn.sites - length (g.S.Sites.entries l.sites)
