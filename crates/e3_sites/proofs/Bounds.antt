@@ -35,7 +35,7 @@ through_parts sc h n line all = by (pending sc h) refl
     by [] none = (none, sym (ap left none) ∙ both)
     by (p ∷ ps) some = absurd (true_not_false (sym both ∙ ap left some))
 
-some_line : (n : ℕ) → n ≢ 0 → (k : ℕ) × (n ≡ suc k)
+pub some_line : (n : ℕ) → n ≢ 0 → (k : ℕ) × (n ≡ suc k)
 some_line zero none = absurd (none refl)
 some_line (suc k) none = (k, refl)
 
