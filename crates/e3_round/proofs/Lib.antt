@@ -1,2 +1,4 @@
 pub mod Order
 pub mod InParts
+pub mod Left
+pub mod Electing
