@@ -88,19 +88,3 @@ quiet sc start now (Then h more p before first after) = packet_quiet sc h now p 
 -- a recovery step has its line
 pub has_line : (sc : Scenario) (h : List Entry) (it : Item) → present_items sc h ≡ it ∷ [] → lines h ≢ 0
 has_line sc h it step none = absurd (let nothing : present_items sc h ≡ [] = ap (step_items sc) none in let both : it ∷ [] ≡ [] = sym step ∙ nothing in cc)
-
--- where a round is due, the history has not gone through its scenario
-pub round_open : (sc : Scenario) (h : List Entry) (group : List ℕ) (r : RecoveryRound) → present_items sc h ≡ item.Recover group ∷ [] → due_round sc h ≡ Some r → ¬ IsWhole sc h
-round_open sc h group r step due whole = true_not_false (sym made ∙ ap made_by_items step ∙ ap is_none due)
-  where
-    made_by_items : List Item → Bool
-    made_by_items (item.Recover sites ∷ items) = is_none (due_round sc h)
-    made_by_items (item.Split parts ∷ items) = begins_with_parts (since_line h)
-    made_by_items (item.Merge ∷ items) = begins_with_parts (since_line h)
-    made_by_items (item.Crash site ∷ items) = not (is_up_at h site)
-    made_by_items (item.Restart site ∷ items) = is_up_at h site || has_rising (since_line h) site
-    made_by_items (item.Stop site count leave ∷ items) = true
-    made_by_items _ = items_through sc h
-
-    made : is_made sc h ≡ true
-    made = (whole_parts sc h (has_line sc h (item.Recover group) step) whole).1

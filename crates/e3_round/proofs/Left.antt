@@ -118,17 +118,20 @@ pass_over sc h group rest r at down = record {
     all : (at.passed ++ r ∷ []) ++ rest ≡ at.passed ++ r ∷ rest
     all = append_assoc at.passed (r ∷ []) rest
 
+-- just these rounds are left
+pub record AreLeft (sc : Scenario) (h : List Entry) (group : List ℕ) (rest : List RecoveryRound) : Type 0 where
+  pub left : rounds_left (made_txns h) (listed sc (to_line h) group) ≡ rest
+  pub apart : Apart rest
+
 -- a round has its Elect
 pub elect_on : (sc : Scenario) (h : List Entry) (group : List ℕ) (rest : List RecoveryRound) (r : RecoveryRound) (e : Entry) → AtRounds sc h group (r ∷ rest) →
-    is_line e ≡ false → flat_map elected_txn (inputs_of e.act) ≡ r.txn ∷ [] → AtRounds sc (h ++ e ∷ []) group rest
+    is_line e ≡ false → flat_map elected_txn (inputs_of e.act) ≡ r.txn ∷ [] → AreLeft sc (h ++ e ∷ []) group rest
 elect_on sc h group rest r e at stays elects = record {
-  passed = [];
   left =
       ap (λ l. rounds_left l (listed sc (to_line (h ++ e ∷ [])) group)) (made_push h e stays ∙ ap (λ l. made_txns h ++ l) elects)
       ∙ ap (λ l. rounds_left (made_txns h ++ r.txn ∷ []) (listed sc l group)) (to_push h e stays)
       ∙ left_push (made_txns h) r.txn (listed sc (to_line h) group)
       ∙ ap (rounds_left (r.txn ∷ [])) at.left
       ∙ left_behind at.passed rest r at.apart;
-  down = tt;
   apart = (apart_rest at.passed (r ∷ rest) at.apart).1;
 }

@@ -2,3 +2,4 @@ pub mod Order
 pub mod InParts
 pub mod Left
 pub mod Electing
+pub mod Making
