@@ -3,5 +3,7 @@
 #![tactic(auto)]
 
 mod recovering;
+mod reporting;
 
-pub use recovering::{RoundReport, recover};
+pub use recovering::recover;
+pub use reporting::RoundReport;
