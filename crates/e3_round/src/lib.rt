@@ -2,6 +2,7 @@
 //! transaction after the other.
 #![tactic(auto)]
 
+mod listing;
 mod recovering;
 mod reporting;
 
