@@ -1,9 +1,7 @@
-use Rattle.std.proofs.Common.{◌≡◌, ◌∙◌, ◌∷◌, [], ◌+◌, ◌≤◌, true, Some, ℕ, zero, suc, get_or, List, length, drop, map, refl, sym, subst, ap, drop-cons, arith}
+use Rattle.std.proofs.Common.{◌≡◌, ◌∙◌, ◌∷◌, [], ◌+◌, ◌≤◌, ℕ, zero, suc, get_or, List, length, drop, map, refl, sym, subst, ap, drop-cons, arith}
 use Rattle.e3_types.specs.declared.entries.Entry.{Entry}
-use Rattle.e3_types.specs.declared.scenarios.Item.TheVariants as item
 use Rattle.e3_types.specs.declared.scenarios.Scenario.{Scenario}
-use Rattle.e3_world.specs.Items.{RecoveryRound, due_round, is_up_at, listed, since_line}
-use Rattle.e3_world.specs.Legal.{IsLegal}
+use Rattle.e3_world.specs.Items.{RecoveryRound, due_round, listed, since_line}
 use Rattle.e3_round.specs.Reports.{report_of}
 use Rattle.e3_round.specs.Rounds.{AfterRound}
 use Rattle.e3_round.proofs.Left.{first_due}
@@ -22,7 +20,7 @@ loop-round-init g c =
       rounds = subst (λ (rounds : List RecoveryRound). InRounds (S.scenario sites) (S.entries sites) c.args.group rounds (S.entries sites))
           (sym (c.as_slice-round-items.ensures ∙ c.in_ok-rounds.ensures))
           (begin_rounds (S.scenario sites) (S.entries sites) c.args.group (g.met.S.Sites.is_legal sites c.requires.standing)
-              c.requires.step c.requires.fresh c.requires.settled);
+          c.requires.step c.requires.fresh c.requires.settled);
     }
 
 -- the round at its turn is the first of those that are left
@@ -94,7 +92,7 @@ returns-clause-recovered g c =
     let start = c.args.sites.now in
     rounds_end (S.scenario start) (S.entries start) (S.entries c.loop-round.sites) c.args.group
     (at_end (S.scenario start) (S.entries start) (S.entries c.loop-round.sites) c.args.group c.as_slice-round-items.result.now c.loop-round.round-index
-        c.loop-round-test.false c.loop-round.invariant.rounds)
+    c.loop-round-test.false c.loop-round.invariant.rounds)
 
 pub returns-clause-reports : goal.returns-clause-reports
 returns-clause-reports g c =
