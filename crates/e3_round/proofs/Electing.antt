@@ -1,27 +1,24 @@
 -- What is entered for a round: its Elect, and the packets behind it.
-use Rattle.std.proofs.Common.{◌≡◌, ◌≢◌, ◌∙◌, ◌++◌, ◌||◌, ◌∷◌, [], ◌≤◌, inl, inr, ℕ, zero, suc, Bool, true, false, not, List, length, Some, None, refl, sym, subst, ap, append-nil, arith}
-use Rattle.std.specs.Prelude.{is_none}
+use Rattle.std.proofs.Common.{◌≡◌, ◌≢◌, ◌∙◌, ◌++◌, ◌∷◌, [], ◌≤◌, inl, inr, true, false, List, Some, refl, sym, subst, ap, append-nil}
 use Rattle.std.specs.List.{flat_map}
-use Rattle.e3_sites.specs.Delivered.{Delivers, IsFull, Nothing, Then}
+use Rattle.e3_sites.specs.Delivered.{Delivers, Nothing, Then}
 use Rattle.e3_sites.specs.Entering.{AfterInput, AfterPacket, fall_of}
-use Rattle.e3_sites.proofs.Bounds.{bounded, whole_parts}
 use Rattle.e3_sites.proofs.Packets.{guard_fall}
 use Rattle.e3_types.specs.declared.entries.Act.TheVariants.{Drop}
 use Rattle.e3_types.specs.declared.entries.Entry.{Entry}
 use Rattle.e3_types.specs.declared.entries.Input.TheVariants as input
 use Rattle.e3_types.specs.declared.messages.Packet.{Packet}
 use Rattle.e3_types.specs.declared.scenarios.Item.{Item}
-use Rattle.e3_types.specs.declared.scenarios.Item.TheVariants as item
 use Rattle.e3_types.specs.declared.scenarios.Scenario.{Scenario}
 use Rattle.e3_types.specs.declared.transactions.Txn.{Txn}
-use Rattle.e3_world.specs.Items.{RecoveryRound, due_round, elected_txn, inputs_of, is_up_at, items_through, since_line}
-use Rattle.e3_world.specs.Legal.{IsDue, IsWhole, begins_with_parts, entry_of, has_rising, is_made}
+use Rattle.e3_world.specs.Items.{RecoveryRound, due_round, elected_txn, inputs_of, is_up_at}
+use Rattle.e3_world.specs.Legal.{IsDue, entry_of}
 use Rattle.e3_world.specs.Packets.{is_line, lines, pending, present_items, step_items}
 use Rattle.e3_world.specs.Progress.{Delivering}
 use Rattle.e3_world.proofs.Guards.{guard_step, up_some}
 use Rattle.e3_world.proofs.Lines.{made_push, made_txns}
 use Rattle.e3_world.proofs.Pushes.{legal_push}
-use Rattle.e3_world.proofs.Turns.{through_push, true_not_false}
+use Rattle.e3_world.proofs.Turns.{through_push}
 
 -- a round that is due may have its Elect
 pub round_due : (sc : Scenario) (h : List Entry) (r : RecoveryRound) → due_round sc h ≡ Some r → pending sc h ≡ [] →

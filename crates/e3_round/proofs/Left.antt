@@ -1,5 +1,5 @@
 -- Which rounds of a recovery step are left, and which of them is due.
-use Rattle.std.proofs.Common.{◌≡◌, ◌∙◌, ◌++◌, ◌∷◌, [], if◌then◌else◌, ℕ, Bool, true, false, List, Option, Some, None, fold, filter, refl, sym, subst, ap, append_assoc}
+use Rattle.std.proofs.Common.{◌≡◌, ◌∙◌, ◌++◌, ◌∷◌, [], ℕ, Bool, true, false, List, Some, fold, filter, refl, sym, subst, ap, append_assoc}
 use Rattle.std.specs.Prelude.{find}
 use Rattle.std.specs.List.{flat_map}
 use Rattle.e3_types.specs.declared.entries.Entry.{Entry}

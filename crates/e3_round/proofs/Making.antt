@@ -1,13 +1,12 @@
 -- The rounds of a recovery step, from its line to its last packet.
-use Rattle.std.proofs.Common.{◌≡◌, ◌∙◌, ◌++◌, ◌∷◌, [], ◌≤◌, inl, inr, ℕ, Bool, true, false, ◌+◌, List, length, length-append, Some, None, fold, refl, sym, subst, ap, append-nil, append_assoc, arith}
+use Rattle.std.proofs.Common.{◌≡◌, ◌∙◌, ◌++◌, ◌∷◌, [], ◌≤◌, inl, inr, ℕ, Bool, true, false, ◌+◌, List, length, length-append, fold, refl, sym, subst, ap, append-nil, append_assoc, arith}
 use Rattle.std.specs.Prelude.{drop}
 use Rattle.std.specs.List.{flat_map}
-use Rattle.e3_sites.specs.Delivered.{Delivers}
 use Rattle.e3_sites.proofs.Packets.{StaysDelivering, stays_delivering}
 use Rattle.e3_types.specs.declared.entries.Entry.{Entry}
 use Rattle.e3_types.specs.declared.scenarios.Item.TheVariants as item
 use Rattle.e3_types.specs.declared.scenarios.Scenario.{Scenario}
-use Rattle.e3_world.specs.Items.{RecoveryRound, Split, elected_txn, input_of, inputs_at, inputs_of, inputs_to, is_up_at, listed, plan_of, rounds_left, since_line, split_by, to_line, turn_of}
+use Rattle.e3_world.specs.Items.{RecoveryRound, Split, elected_txn, input_of, inputs_at, inputs_of, inputs_to, listed, plan_of, rounds_left, since_line, split_by, to_line}
 use Rattle.e3_world.specs.Legal.{IsLegal}
 use Rattle.e3_world.specs.Packets.{is_line, lines, pending, present_items, step_items}
 use Rattle.e3_world.specs.Progress.{Delivering, Through}
@@ -15,7 +14,7 @@ use Rattle.e3_world.proofs.Lines.{lines_to, made_txns}
 use Rattle.e3_world.proofs.Readings.{to_push}
 use Rattle.std.specs.Prelude.{filter_map}
 use Rattle.e3_round.specs.Reports.{IsRecovered}
-use Rattle.e3_round.specs.Rounds.{AfterRound, IsMade, IsPassed}
+use Rattle.e3_round.specs.Rounds.{AfterRound, IsMade}
 use Rattle.e3_round.proofs.Electing.{IsElected, elected, quiet}
 use Rattle.e3_round.proofs.Left.{AreLeft, AtRounds, due_is, elect_on, first_due, listed_apart, pass_over}
 

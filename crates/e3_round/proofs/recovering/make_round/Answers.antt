@@ -1,4 +1,4 @@
-use Rattle.std.proofs.Common.{◌≡◌, ◌∙◌, [], true, Some, List, OnOk, Ok, Err, Result, inl, sym, subst, ap}
+use Rattle.std.proofs.Common.{◌≡◌, ◌∙◌, [], true, List, OnOk, Ok, Err, Result, inl, sym, subst, ap}
 use Rattle.e3_sites.specs.Delivered.{Delivers}
 use Rattle.e3_sites.specs.Entering.{AfterInput}
 use Rattle.e3_types.specs.declared.entries.Entry.{Entry}
