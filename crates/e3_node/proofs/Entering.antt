@@ -7,7 +7,7 @@ use Rattle.e3_net.specs.declared.waiting.Waiting.{Waiting}
 use Rattle.e3_net.proofs.Keeping.{drop_keeps, fall_keeps, line_keeps, step_keeps}
 use Rattle.e3_net.proofs.Showing.{first_is_taken, pending_are, taken_is_pending}
 use Rattle.e3_node.specs.SharedStands.{SharedStands, SharedView}
-use Rattle.e3_play.specs.Entering.{IsFirst, fall_of}
+use Rattle.e3_sites.specs.Entering.{IsFirst, fall_of}
 use Rattle.e3_types.specs.declared.entries.Act.TheVariants.{Step, Fall, Rise, RiseFall, Miss, Drop, Line}
 use Rattle.e3_types.specs.declared.entries.Entry.{Entry}
 use Rattle.e3_types.specs.declared.entries.Input.{Input}

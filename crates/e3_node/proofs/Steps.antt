@@ -13,7 +13,7 @@ use Rattle.e3_node.specs.declared.fault.InputFault.{InputFault}
 use Rattle.e3_node.specs.declared.fault.InputFault.TheVariants as input_fault
 use Rattle.e3_node.specs.declared.state.State.{State}
 use Rattle.e3_node.specs.declared.state.State.TheVariants.{Down}
-use Rattle.e3_play.specs.Entering.{fall_of}
+use Rattle.e3_sites.specs.Entering.{fall_of}
 use Rattle.e3_site.specs.SiteView.{SiteView, plan_of, step_kept}
 use Rattle.e3_site.specs.StandsFor.{StandsFor, StandsOn}
 use Rattle.e3_types.specs.declared.entries.Act.TheVariants.{Step, Fall}
