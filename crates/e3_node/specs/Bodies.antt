@@ -7,7 +7,7 @@ use Rattle.e3_types.specs.Spelling.{spelling}
 use Rattle.e3_types.specs.declared.entries.Entry.{Entry}
 use Rattle.e3_types.specs.declared.records.Record.{Record}
 use Rattle.e3_types.specs.declared.scenarios.Scenario.{Scenario}
-use Rattle.e3_world.specs.Moves.{Move, Tail, kept_moves, log_by, log_of, moves_of, open_tail, recorded}
+use Rattle.e3_world.specs.Moves.{Move, Tail, kept_moves, log_of, moves_of, open_tail, recorded}
 
 -- the body of the frame of these records: their spelling; no frame where there are none
 abbrev pub body_of : List Record → List (List ℕ)

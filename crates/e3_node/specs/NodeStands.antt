@@ -1,5 +1,5 @@
 -- A node stands for its site in a history.
-use Rattle.std.specs.Prelude.{◌≡◌, ◌≤◌, ℕ, Bool, true, false, List, length, count_by}
+use Rattle.std.specs.Prelude.{◌≡◌, ◌≤◌, ℕ, Bool, true, false, List, length, filter}
 use Rattle.e3_disk.specs.Meters.{Meters}
 use Rattle.e3_log.specs.Stands.{LogState, Stands}
 use Rattle.e3_node.specs.Bodies.{AllReadBack, DiskStands, bodies_at}
@@ -25,7 +25,7 @@ is_step e = by e.act
 
 -- how many steps a site has in a history
 abbrev pub steps_at : List Entry → ℕ → ℕ
-steps_at history site = count_by is_step (own site history)
+steps_at history site = length (filter is_step (own site history))
 
 -- The history has the site down, and the disk stands for the site in it, with power or without.
 pub record IsDown {D : Type 0} (image : D → List ℕ → Type 0) (sc : Scenario) (history : List Entry) (site : ℕ) (disk : D) : Type 0 where

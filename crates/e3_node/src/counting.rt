@@ -1,5 +1,5 @@
 // How many frames the log of a site has in a history.
-ghost use Rattle.std.specs.Prelude.{◌≡◌, ◌+◌, ◌<◌, ◌≤◌, ◌^◌, length};
+ghost use Rattle.std.specs.Prelude.{◌≡◌, ◌+◌, ◌<◌, ◌≤◌, ◌^◌, if◌then◌else◌, length};
 ghost use Rattle.e3_node.specs.Bodies.{body_of};
 ghost use Rattle.e3_node.specs.Counting.{counted_by, counted_on, doubted_by, frames_in};
 

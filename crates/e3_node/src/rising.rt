@@ -1,5 +1,5 @@
 // A rise of a site over its disk.
-ghost use Rattle.std.specs.Prelude.{◌≡◌, ◌≤◌, ◌<◌, ◌++◌, ℕ, false, true, length, List as Items};
+ghost use Rattle.std.specs.Prelude.{◌≡◌, ◌≢◌, ◌≤◌, ◌<◌, ◌++◌, [], ℕ, false, true, length, List as Items};
 ghost use Rattle.e3_disk.specs.Meters.{Keeps};
 ghost use Rattle.e3_log.specs.Found.{bodies_of};
 ghost use Rattle.e3_log.specs.Stands.{Stands};
@@ -44,6 +44,7 @@ fn raised_of(cause: OpenCause) -> Raised
 // The frame of the rise is added. No memory is taken.
 fn log_rise<D: Disk + Drop>(mut log: Log<D>, rise: Readied) -> (State<D>, Raised)
     requires spelled { rise.body ≡ spelling rise.records }
+    requires some { rise.records ≢ [] }
     requires lit { (D.meters log.disk).powered ≡ true }
     ensures makes { (sc : Scenario) (h : Items Entries) (wish : Wishes) (bodies : Items (Items ℕ)) → MayRise sc h wish → IsReady wish bodies rise →
         Stands D.content D.image bodies log → DiskStands sc h wish.site (D.image log.disk) →
