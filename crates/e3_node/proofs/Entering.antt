@@ -7,8 +7,8 @@ use Rattle.e3_net.specs.declared.waiting.Waiting.{Waiting}
 use Rattle.e3_net.proofs.Keeping.{drop_keeps, fall_keeps, line_keeps, step_keeps}
 use Rattle.e3_net.proofs.Showing.{first_is_taken, pending_are, taken_is_pending}
 use Rattle.e3_node.specs.SharedStands.{SharedStands, SharedView}
-use Rattle.e3_play.specs.Entering.{IsFirst, fall_of}
-use Rattle.e3_types.specs.declared.entries.Act.TheVariants.{Step, Fall, Rise, RiseFall, Miss, Drop, Line}
+use Rattle.e3_sites.specs.Entering.{IsFirst, fall_of}
+use Rattle.e3_types.specs.declared.entries.Act.TheVariants.{Step, Fall, Rise, RiseFall, Miss, Cut, Drop, Line}
 use Rattle.e3_types.specs.declared.entries.Entry.{Entry}
 use Rattle.e3_types.specs.declared.entries.Input.{Input}
 use Rattle.e3_types.specs.declared.entries.Input.TheVariants as input
@@ -17,10 +17,10 @@ use Rattle.e3_types.specs.declared.entries.Why.{Why}
 use Rattle.e3_types.specs.declared.messages.Packet.{Packet}
 use Rattle.e3_types.specs.declared.records.Record.{Record}
 use Rattle.e3_types.specs.declared.scenarios.Scenario.{Scenario}
+use Rattle.e3_world.specs.Given.{IsGiven}
 use Rattle.e3_world.specs.Items.{is_up_at}
-use Rattle.e3_world.specs.Legal.{Guard, IsDue, IsLegal, IsRise, IsRising, entry_of, first_pending, made_by, numbered}
-use Rattle.e3_world.specs.Logs.{logged_inc}
-use Rattle.e3_world.specs.Moves.{kept_moves, log_by, own, past_of, plain}
+use Rattle.e3_world.specs.Legal.{Guard, IsCut, IsDue, IsLegal, IsRise, IsRising, entry_of, first_pending, made_by, numbered}
+use Rattle.e3_world.specs.Moves.{plain}
 use Rattle.e3_world.specs.Packets.{is_calm, lines, sent, step_items}
 use Rattle.e3_world.proofs.Pushes.{legal_push}
 
@@ -29,6 +29,7 @@ pub shared_on : (v w : SharedView) (e : Entry) → SharedStands v → Guard v.sc
     w.scenario ≡ v.scenario → w.most ≡ v.most → w.entries ≡ v.entries ++ e ∷ [] → NetStands v.scenario (v.entries ++ e ∷ []) w.traffic →
     SharedStands w
 shared_on v w e was guard few sc most entries net = record {
+  given = subst (λ (s : Scenario). IsGiven s) (sym sc) was.given;
   legal =
       subst (λ (s : Scenario). IsLegal s w.entries) (sym sc)
       (subst (λ (h : List Entry). IsLegal v.scenario h) (sym entries) (legal_push v.scenario v.entries e was.legal guard));
@@ -45,6 +46,7 @@ shared_on v w e was guard few sc most entries net = record {
 pub shared_same : (v w : SharedView) → SharedStands v → w.scenario ≡ v.scenario → w.most ≡ v.most → w.entries ≡ v.entries → w.traffic ≡ v.traffic →
     SharedStands w
 shared_same v w was sc most entries net = record {
+  given = subst (λ (s : Scenario). IsGiven s) (sym sc) was.given;
   legal =
       subst (λ (s : Scenario). IsLegal s w.entries) (sym sc) (subst (λ (h : List Entry). IsLegal v.scenario h) (sym entries) was.legal);
   within = let few : length v.entries ≤ v.most = was.within in let same : length w.entries ≡ length v.entries = ap length entries in omega (arith, few, same, most);
@@ -134,25 +136,20 @@ pub fall_guard : (sc : Scenario) (h : List Entry) (site : ℕ) (i : Input) (why 
 fall_guard sc h zero i why one up due some = absurd (omega (arith, one))
 fall_guard sc h (suc s) i why one up due some = record { up = up; due = (due, tt); some = some; made = sym (append-nil (made_by sc h (suc s) i).records) }
 
--- a first rise is in incarnation 1
-first_rise : (sc : Scenario) (h : List Entry) (site : ℕ) → IsRising sc h site → own site h ≡ [] → IsRise sc h site false 1
-first_rise sc h site turn none = record {
-  rising = turn;
-  has_tail = λ is. absurd cc;
-  next =
-      let P : List Entry → Type 0 = λ mine. 1 ≡ suc (logged_inc (log_by (past_of sc site mine).moves ++ log_by (kept_moves site false (past_of sc site mine).tail))) in
-      subst P (sym none) refl;
-}
+-- the guards of a rise, of a failed one and of a cut
+pub rise_guard : (sc : Scenario) (h : List Entry) (site : ℕ) (kept : Bool) (inc : ℕ) → 1 ≤ site → IsRise sc h site kept inc →
+    Guard sc h (record { owner = site; act = Rise kept inc })
+rise_guard sc h zero kept inc one is = absurd (omega (arith, one))
+rise_guard sc h (suc s) kept inc one is = is
 
-pub rise_guard : (sc : Scenario) (h : List Entry) (site : ℕ) → 1 ≤ site → IsRising sc h site → own site h ≡ [] →
-    Guard sc h (record { owner = site; act = Rise false 1 })
-rise_guard sc h zero one turn none = absurd (omega (arith, one))
-rise_guard sc h (suc s) one turn none = first_rise sc h (suc s) turn none
+pub rise_fall_guard : (sc : Scenario) (h : List Entry) (site : ℕ) (kept : Bool) (inc : ℕ) (why : Why) → 1 ≤ site → IsRise sc h site kept inc →
+    Guard sc h (record { owner = site; act = RiseFall kept inc why })
+rise_fall_guard sc h zero kept inc why one is = absurd (omega (arith, one))
+rise_fall_guard sc h (suc s) kept inc why one is = is
 
-pub rise_fall_guard : (sc : Scenario) (h : List Entry) (site : ℕ) (why : Why) → 1 ≤ site → IsRising sc h site → own site h ≡ [] →
-    Guard sc h (record { owner = site; act = RiseFall false 1 why })
-rise_fall_guard sc h zero why one turn none = absurd (omega (arith, one))
-rise_fall_guard sc h (suc s) why one turn none = first_rise sc h (suc s) turn none
+pub cut_guard : (sc : Scenario) (h : List Entry) (site : ℕ) → 1 ≤ site → IsCut sc h site → Guard sc h (record { owner = site; act = Cut })
+cut_guard sc h zero one is = absurd (omega (arith, one))
+cut_guard sc h (suc s) one is = is
 
 pub miss_guard : (sc : Scenario) (h : List Entry) (site : ℕ) → 1 ≤ site → IsRising sc h site → Guard sc h (record { owner = site; act = Miss })
 miss_guard sc h zero one turn = absurd (omega (arith, one))

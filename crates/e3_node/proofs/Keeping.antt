@@ -1,11 +1,13 @@
 -- An entry of another owner changes nothing of a site, and what a node that stands tells of its disk.
+use Rattle.std.specs.Prelude.{◌≤◌, length, filter}
 use Rattle.std.proofs.Common.{◌≡◌, ◌≢◌, ◌==◌, ◌++◌, ◌∷◌, [], inl, ℕ, Bool, true, false, List, Option, Some, None, refl, sym, subst, ap, ◌∙◌, eqb-true}
 use Rattle.e3_disk.specs.Meters.{Meters}
 use Rattle.e3_log.specs.Frames.{Reads}
 use Rattle.e3_log.specs.Stands.{LogState, Stands}
-use Rattle.e3_node.specs.Bodies.{DiskStands, ReadsWith, bodies_of_moves, bodies_at}
+use Rattle.e3_codec.specs.Fields.{AllCanBeReadBack}
+use Rattle.e3_node.specs.Bodies.{AllReadBack, DiskStands, ReadsWith, bodies_of_moves, bodies_at, tail_records}
 use Rattle.e3_node.specs.Claims.{DisksKept, NodesDisks, NodesKept, NodesUp}
-use Rattle.e3_node.specs.NodeStands.{IsIn}
+use Rattle.e3_node.specs.NodeStands.{IsIn, is_step}
 use Rattle.e3_node.specs.NodeView.{disk_of, is_up_in}
 use Rattle.e3_node.specs.declared.state.State.{State}
 use Rattle.e3_node.specs.declared.state.State.TheVariants.{Down, Up}
@@ -15,7 +17,7 @@ use Rattle.e3_types.specs.declared.entries.Entry.{Entry}
 use Rattle.e3_types.specs.declared.scenarios.Scenario.{Scenario}
 use Rattle.e3_world.specs.Items.{is_up_at}
 use Rattle.e3_world.specs.Lives.{incarnation_of}
-use Rattle.e3_world.specs.Moves.{Move, Tail, is_up, moves_of, open_tail, own, past_of}
+use Rattle.e3_world.specs.Moves.{Move, Tail, is_up, log_by, moves_of, open_tail, own, past_of}
 use Rattle.e3_world.proofs.Readings.{own_other}
 
 apart : (a b : ℕ) → a ≢ b → (a == b) ≡ false
@@ -54,8 +56,6 @@ in_kept : {D : Type 0} (content : D → List ℕ) (image : D → List ℕ → Ty
 in_kept content image meters sc h e site (Down disk) was other = record {
   down = up_kept h e site other ∙ was.down;
   stands = disk_kept sc h e site (image disk) was.stands other;
-  blank = λ none. was.blank (sym (own_kept site h e other) ∙ none);
-  lit = λ none. was.lit (sym (own_kept site h e other) ∙ none);
 }
 in_kept content image meters sc h e site (Up s log) was other = record {
   up = up_kept h e site other ∙ was.up;
@@ -64,6 +64,20 @@ in_kept content image meters sc h e site (Up s log) was other = record {
       let P : List Move → Type 0 = λ moves. Stands content image (bodies_of_moves moves) log in
       subst P (sym (moves_kept sc h e site other)) was.logged;
   lit = was.lit;
+  inputs =
+      let P : List Entry → Type 0 = λ mine. s.inputs ≤ length (filter is_step mine) in
+      subst P (sym (own_kept site h e other)) was.inputs;
+}
+
+-- what can be read back is as before
+pub back_kept : (sc : Scenario) (h : List Entry) (e : Entry) (site : ℕ) → AllReadBack sc h site → e.owner ≢ site → AllReadBack sc (h ++ e ∷ []) site
+back_kept sc h e site was other = record {
+  log =
+      let P : List Entry → Type 0 = λ mine. AllCanBeReadBack site (log_by (past_of sc site mine).moves) in
+      subst P (sym (own_kept site h e other)) was.log;
+  tail =
+      let P : List Entry → Type 0 = λ mine. AllCanBeReadBack site (tail_records (past_of sc site mine).tail) in
+      subst P (sym (own_kept site h e other)) was.tail;
 }
 
 pub node_kept : {D : Type 0} (content : D → List ℕ) (image : D → List ℕ → Type 0) (meters : D → Meters) → NodesKept content image meters
@@ -73,6 +87,7 @@ node_kept content image meters sc h e node was other = record {
   weights_are = was.weights_are;
   rows_are = was.rows_are;
   state = in_kept content image meters sc h e node.site node.state was.state other;
+  back = back_kept sc h e node.site was.back other;
 }
 
 -- what reads as the log reads so whatever tail is open

@@ -1,7 +1,10 @@
+pub mod Pasts
+pub mod Counts
 pub mod Keeping
 pub mod Frames
 pub mod Metering
 pub mod Entering
 pub mod Rises
+pub mod Risen
 pub mod Steps
 pub mod Appends

@@ -2,7 +2,12 @@
 use Rattle.std.proofs.Common.{◌≡◌, ◌⊎◌, ◌+◌, ◌-◌, ◌<◌, ◌≤◌, inl, inr, ℕ, refl, ap, ◌∙◌, arith}
 use Rattle.std.proofs.Math.Nat.{min-le_left, min-le_right, le-min}
 use Rattle.std.specs.Prelude.{min}
-use Rattle.e3_disk.specs.Meters.{LAST, Keeps, Meters, Rose, raised}
+use Rattle.e3_disk.specs.Meters.{LAST, Keeps, Meters, Rose, lit, raised}
+use Rattle.e3_log.specs.Opening.{TakesOne}
+use Rattle.e3_node.specs.Ends.{Takes}
+use Rattle.e3_node.specs.Rising.{RiseTakes}
+use Rattle.e3_node.specs.declared.rising.Raised.{Raised}
+use Rattle.e3_node.specs.declared.rising.Raised.TheVariants as raised_as
 
 pub keeps_same : (m : Meters) → Keeps m m
 keeps_same m = record {
@@ -13,6 +18,7 @@ keeps_same m = record {
   cuts = refl;
   faults = omega arith;
   own_faults = λ few. omega arith;
+  left = omega arith;
   stops = inl refl;
 }
 
@@ -29,6 +35,7 @@ keeps_both a b c first none left second = record {
       let one : a.faults ≤ b.faults = first.faults in
       let two : b.faults + c.stops ≤ c.faults + b.stops = second.own_faults few in
       omega (arith, one, two, none);
+  left = let one : b.calls_left ≤ a.calls_left = first.left in let two : c.calls_left ≤ b.calls_left = second.left in omega (arith, one, two);
   stops = by second.stops;
 }
   where
@@ -44,3 +51,46 @@ rose_since a b c below rose =
     let both : min (a + 1) LAST ≤ min (b + 1) LAST = le-min (omega (arith, low, below)) last in
     let up : min (b + 1) LAST ≤ c = rose in
     omega (arith, both, up)
+
+-- power changes nothing that a call keeps
+pub keeps_lit : (a b : Meters) → Keeps (lit a) b → Keeps a b
+keeps_lit a b keeps = record {
+  capacity = keeps.capacity;
+  arms = keeps.arms;
+  calls = keeps.calls;
+  codes = keeps.codes;
+  cuts = keeps.cuts;
+  faults = keeps.faults;
+  own_faults = keeps.own_faults;
+  left = keeps.left;
+  stops = keeps.stops;
+}
+
+-- a sync, and then the calls of a frame
+pub takes_both : (a b c : Meters) (r : Raised) → TakesOne a b → RiseTakes 4 r b c → RiseTakes 5 r a c
+takes_both a b c (raised_as.Rose kept inc) first second = λ armed.
+    let left : b.calls_left ≡ a.calls_left - 1 = first.0 in
+    let more : 1 < a.calls_left = first.1 armed in
+    let some : 0 < b.calls_left = omega (arith, left, more) in
+    let rest = second some in
+    let less : c.calls_left + 4 ≤ b.calls_left = rest.1 in
+    (rest.0, omega (arith, less, left, more))
+takes_both a b c raised_as.NoMemory first second = λ armed.
+    let left : b.calls_left ≡ a.calls_left - 1 = first.0 in
+    let more : 1 < a.calls_left = first.1 armed in
+    let some : 0 < b.calls_left = omega (arith, left, more) in
+    let rest = second some in
+    let less : c.calls_left + 0 ≤ b.calls_left = rest.1 in
+    (rest.0, omega (arith, less, left, more))
+takes_both a b c raised_as.Missed first second = tt
+takes_both a b c (raised_as.Failed kept inc why) first second = tt
+
+-- one call, where an arm had more left
+pub takes_one : (a b : Meters) → TakesOne a b → Takes 0 a b
+takes_one a b one = λ armed.
+    let left : b.calls_left ≡ a.calls_left - 1 = one.0 in
+    let more : 1 < a.calls_left = one.1 armed in
+    (omega (arith, left, more), omega (arith, left, more))
+
+pub takes_same : (a : Meters) → Takes 0 a a
+takes_same a = λ armed. (armed, omega arith)

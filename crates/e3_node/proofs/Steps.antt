@@ -1,22 +1,27 @@
 -- A node behind an input.
-use Rattle.std.proofs.Common.{◌≡◌, ◌≢◌, ◌==◌, ◌++◌, ◌∷◌, [], ◌≤◌, ℕ, suc, true, false, List, length, refl, sym, subst, ap, ◌∙◌, append-nil, map}
+use Rattle.std.proofs.Common.{◌≡◌, ◌≢◌, ◌++◌, ◌∷◌, [], ◌≤◌, ℕ, suc, true, false, List, length, refl, sym, subst, ap, ◌∙◌, append-nil, map, arith}
+use Rattle.std.specs.Prelude.{◌+◌, if◌then◌else◌, Bool, Option, filter, nat_lt}
+use Rattle.std.proofs.Common.{length-append}
+use Rattle.std.proofs.lemmas.List.Elements.{filter-append}
+use Rattle.e3_codec.specs.Fields.{AllCanBeReadBack}
+use Rattle.e3_disk.specs.Images.{Within}
 use Rattle.e3_disk.specs.Meters.{Meters}
 use Rattle.e3_log.specs.Stands.{LogState, Stands}
-use Rattle.e3_node.specs.Bodies.{DiskStands, ReadsWith, bodies_at, bodies_of_moves, body_of}
+use Rattle.e3_node.specs.Bodies.{AllReadBack, DiskStands, ReadsWith, bodies_at, bodies_of_moves, body_of, tail_records}
 use Rattle.e3_node.specs.Drafts.{IsDraft}
 use Rattle.e3_node.specs.Ends.{FellOver, is_fall}
-use Rattle.e3_node.specs.NodeStands.{IsDown, IsIn, IsUp, NodeStands}
-use Rattle.e3_node.specs.NodeView.{NodeView, disk_of}
+use Rattle.e3_node.specs.NodeStands.{IsDown, IsIn, IsUp, NodeStands, is_step, steps_at}
+use Rattle.e3_node.specs.NodeView.{NodeView, disk_of, is_up_in}
 use Rattle.e3_node.specs.SharedStands.{SharedView}
 use Rattle.e3_node.specs.declared.drafts.Draft.{Draft}
 use Rattle.e3_node.specs.declared.fault.InputFault.{InputFault}
 use Rattle.e3_node.specs.declared.fault.InputFault.TheVariants as input_fault
 use Rattle.e3_node.specs.declared.state.State.{State}
-use Rattle.e3_node.specs.declared.state.State.TheVariants.{Down}
-use Rattle.e3_play.specs.Entering.{fall_of}
-use Rattle.e3_site.specs.SiteView.{SiteView, plan_of, step_kept}
+use Rattle.e3_node.specs.declared.state.State.TheVariants.{Down, Up}
+use Rattle.e3_sites.specs.Entering.{fall_of}
+use Rattle.e3_site.specs.SiteView.{SiteView, count_on, plan_of, step_kept}
 use Rattle.e3_site.specs.StandsFor.{StandsFor, StandsOn}
-use Rattle.e3_types.specs.declared.entries.Act.TheVariants.{Step, Fall}
+use Rattle.e3_types.specs.declared.entries.Act.TheVariants.{Step, Fall, Cut}
 use Rattle.e3_types.specs.declared.entries.Entry.{Entry}
 use Rattle.e3_types.specs.declared.entries.Input.{Input}
 use Rattle.e3_types.specs.declared.entries.Why.{Why}
@@ -26,27 +31,22 @@ use Rattle.e3_world.specs.Items.{is_up_at}
 use Rattle.e3_world.specs.Legal.{Guard, IsDue, entry_of, made_by, numbered}
 use Rattle.e3_world.specs.Packets.{sent}
 use Rattle.e3_world.specs.declared.lives.SiteStep.{SiteStep}
-use Rattle.e3_world.specs.Moves.{Move, Past, left_by, moves_of, own, past_by, past_of, plain, plain_input}
+use Rattle.e3_world.specs.Moves.{Move, Past, Tail, left_by, log_by, log_of, moves_of, open_tail, own, plain, plain_input}
 use Rattle.e3_world.specs.Sound.{step_move}
 use Rattle.e3_world.proofs.Guards.{guard_step}
 use Rattle.e3_world.proofs.Numbers.{entered_move}
-use Rattle.e3_world.proofs.Pushes.{past_push}
+use Rattle.e3_world.proofs.Pushes.{log_push}
 use Rattle.e3_world.proofs.Readings.{own_same, up_same}
 use Rattle.e3_world.proofs.Turns.{self}
 use Rattle.e3_node.proofs.Entering.{fall_guard, step_entry}
 use Rattle.e3_node.proofs.Frames.{bodies_push}
+use Rattle.e3_node.proofs.Keeping.{disk_in}
+use Rattle.e3_node.proofs.Pasts.{all_both, back_left, past_on}
 
 -- the plan of a site that stands for a history is the step that the history makes
 pub plan_made : (sc : Scenario) (h : List Entry) (site : ℕ) (s : SiteView) (i : Input) → StandsFor sc h site s →
     plan_of s i ≡ step_kept i (made_by sc h site i)
 plan_made sc h site s i stands = rw (stands.weights_are, stands.site_is, stands.incarnation_is) refl
-
--- the past of a site behind one more entry of its own
-past_on : (sc : Scenario) (h : List Entry) (site : ℕ) (e : Entry) → e.owner ≡ site →
-    past_of sc site (own site (h ++ e ∷ [])) ≡ past_by sc site (past_of sc site (own site h)) e
-past_on sc h site e is =
-    let mine : own site (h ++ e ∷ []) ≡ own site h ++ e ∷ [] = own_same site h e (ap (λ (n : ℕ). n == site) is ∙ self site) in
-    ap (past_of sc site) mine ∙ past_push sc site (own site h) e
 
 pub step_moves : (sc : Scenario) (h : List Entry) (site : ℕ) (i : Input) →
     moves_of sc (h ++ entry_of sc h site i ∷ []) site ≡ moves_of sc h site ++ step_move sc site (moves_of sc h site) i ∷ []
@@ -64,15 +64,41 @@ pub stepped_up : {D : Type 0} (content : D → List ℕ) (image : D → List ℕ
     (sc : Scenario) (h : List Entry) (site : ℕ) (i : Input) (s : SiteView) (l : LogState D) → is_up_at h site ≡ true →
     StandsFor sc (h ++ entry_of sc h site i ∷ []) site s →
     Stands content image (bodies_at sc h site ++ body_of (made_by sc h site i).records) l → (meters l.disk).powered ≡ true →
+    s.inputs ≤ steps_at (h ++ entry_of sc h site i ∷ []) site →
     IsUp content image meters sc (h ++ entry_of sc h site i ∷ []) site s l
-stepped_up content image meters sc h site i s l up stands logged lit = record {
+stepped_up content image meters sc h site i s l up stands logged lit few = record {
   up = up_same h (entry_of sc h site i) site (self site) ∙ up;
   stands = stands;
   logged =
       let P : List (List ℕ) → Type 0 = λ bodies. Stands content image bodies l in
       subst P (sym (step_bodies sc h site i)) logged;
   lit = lit;
+  inputs = few;
 }
+
+-- the steps of a site with one more
+one_step_more : (sc : Scenario) (h : List Entry) (site : ℕ) (i : Input) → steps_at (h ++ entry_of sc h site i ∷ []) site ≡ suc (steps_at h site)
+one_step_more sc h site i =
+    let e : Entry = entry_of sc h site i in
+    let front : List Entry = filter is_step (own site h) in
+    let all : length (filter is_step (own site (h ++ e ∷ []))) ≡ length (front ++ e ∷ []) =
+    ap (λ (mine : List Entry). length (filter is_step mine)) (own_same site h e (self site)) ∙ ap length (filter-append is_step (own site h) (e ∷ [])) in
+    let more : length (front ++ e ∷ []) ≡ length front + 1 = length-append front (e ∷ []) in
+    omega (arith, all, more)
+
+counted_once : (n : ℕ) → count_on n ≤ suc n
+counted_once n = by (nat_lt n 4294967295)
+  where
+    by : (b : Bool) → (if b then suc n else n) ≤ suc n
+    by true = omega arith
+    by false = omega arith
+
+pub inputs_on : (sc : Scenario) (h : List Entry) (site : ℕ) (i : Input) (old new : ℕ) → old ≤ steps_at h site → new ≡ count_on old →
+    new ≤ steps_at (h ++ entry_of sc h site i ∷ []) site
+inputs_on sc h site i old new few is =
+    let one : count_on old ≤ suc old = counted_once old in
+    let more : steps_at (h ++ entry_of sc h site i ∷ []) site ≡ suc (steps_at h site) = one_step_more sc h site i in
+    omega (arith, few, is, one, more)
 
 -- a site that did the plan of its step stands for the history with it
 pub site_on : (sc : Scenario) (h : List Entry) (site : ℕ) (i : Input) (old new : SiteView) (plan : SiteStep) → StandsFor sc h site old →
@@ -89,8 +115,9 @@ pub record IsMade (sc : Scenario) (h : List Entry) (site : ℕ) (i : Input) (d :
   pub told_is : d.told ≡ (made_by sc h site i).told
   pub inputs_are : d.inputs ≡ i ∷ []
   pub fallen_are : d.fallen ≡ (made_by sc h site i).records
+  pub back : AllCanBeReadBack site (made_by sc h site i).records
 
-pub draft_made : (sc : Scenario) (h : List Entry) (site : ℕ) (s : SiteView) (i : Input) (d : Draft) → StandsFor sc h site s → IsDraft (plan_of s i) i d →
+pub draft_made : (sc : Scenario) (h : List Entry) (site : ℕ) (s : SiteView) (i : Input) (d : Draft) → StandsFor sc h site s → IsDraft s.site (plan_of s i) i d →
     IsMade sc h site i d
 draft_made sc h site s i d stands is = record {
   records_are = is.records_are ∙ ap (λ (p : SiteStep). p.records) (plan_made sc h site s i stands);
@@ -98,6 +125,10 @@ draft_made sc h site s i d stands is = record {
   told_is = is.told_is ∙ ap (λ (p : SiteStep). p.told) (plan_made sc h site s i stands);
   inputs_are = is.inputs_are;
   fallen_are = is.fallen_are ∙ ap (λ (p : SiteStep). p.records) (plan_made sc h site s i stands);
+  back =
+      let P : ℕ → Type 0 = λ n. AllCanBeReadBack n (made_by sc h site i).records in
+      subst P stands.site_is
+      (subst (λ (p : SiteStep). AllCanBeReadBack s.site p.records) (plan_made sc h site s i stands) is.back);
 }
 
 -- the entries of a draft
@@ -154,26 +185,39 @@ fallen_disk sc h site i why image reads = λ bytes at.
     let Q : List Move → Type 0 = λ ms. ReadsWith (bodies_of_moves ms) (left_by why (map plain_input (i ∷ [])) (made_by sc h site i).records) bytes in
     subst P (sym (past_on sc h site (fall_of sc h site i why) refl)) (subst Q (sym (append-nil (moves_of sc h site))) (reads bytes at))
 
-append_some : (mine : List Entry) (e : Entry) → mine ++ e ∷ [] ≡ [] → ⊥
-append_some [] e is = cc
-append_some (x ∷ mine) e is = cc
-
-pub fallen_down : {D : Type 0} (content : D → List ℕ) (image : D → List ℕ → Type 0) (meters : D → Meters)
+pub fallen_down : {D : Type 0} (image : D → List ℕ → Type 0)
     (sc : Scenario) (h : List Entry) (site : ℕ) (i : Input) (why : Why) (disk : D) →
-    DiskStands sc (h ++ fall_of sc h site i why ∷ []) site (image disk) →
-    IsDown content image meters sc (h ++ fall_of sc h site i why ∷ []) site disk
-fallen_down content image meters sc h site i why disk stands = record {
+    DiskStands sc (h ++ fall_of sc h site i why ∷ []) site (image disk) → IsDown image sc (h ++ fall_of sc h site i why ∷ []) site disk
+fallen_down image sc h site i why disk stands = record {
   down = up_same h (fall_of sc h site i why) site (self site);
   stands = stands;
-  blank = λ none. absurd (append_some (own site h) e (sym mine ∙ none));
-  lit = λ none. absurd (append_some (own site h) e (sym mine ∙ none));
 }
-  where
-    e : Entry
-    e = fall_of sc h site i why
 
-    mine : own site (h ++ e ∷ []) ≡ own site h ++ e ∷ []
-    mine = own_same site h e (self site)
+-- what a step records, and what a fall leaves in doubt, can be read back
+pub step_back : (sc : Scenario) (h : List Entry) (site : ℕ) (i : Input) → AllReadBack sc h site →
+    AllCanBeReadBack site (made_by sc h site i).records → AllReadBack sc (h ++ entry_of sc h site i ∷ []) site
+step_back sc h site i was back = record {
+  log =
+      let now : log_of sc (h ++ entry_of sc h site i ∷ []) site ≡ log_of sc h site ++ (made_by sc h site i).records =
+      ap log_by (step_moves sc h site i) ∙ log_push (moves_of sc h site) (step_move sc site (moves_of sc h site) i) in
+      subst (λ (rs : List Record). AllCanBeReadBack site rs) (sym now) (all_both site (log_of sc h site) (made_by sc h site i).records was.log back);
+  tail =
+      subst (λ (t : Option Tail). AllCanBeReadBack site (tail_records t))
+      (sym (ap (λ (p : Past). p.tail) (past_on sc h site (entry_of sc h site i) refl))) was.tail;
+}
+
+pub fall_back : (sc : Scenario) (h : List Entry) (site : ℕ) (i : Input) (why : Why) → AllReadBack sc h site →
+    AllCanBeReadBack site (made_by sc h site i).records → AllReadBack sc (h ++ fall_of sc h site i why ∷ []) site
+fall_back sc h site i why was back = record {
+  log =
+      let now : moves_of sc (h ++ fall_of sc h site i why ∷ []) site ≡ moves_of sc h site =
+      ap (λ (p : Past). p.moves) (past_on sc h site (fall_of sc h site i why) refl) ∙ append-nil (moves_of sc h site) in
+      subst (λ (ms : List Move). AllCanBeReadBack site (log_by ms)) (sym now) was.log;
+  tail =
+      subst (λ (t : Option Tail). AllCanBeReadBack site (tail_records t))
+      (sym (ap (λ (p : Past). p.tail) (past_on sc h site (fall_of sc h site i why) refl)))
+      (back_left site why (map plain_input (i ∷ [])) (made_by sc h site i).records back);
+}
 
 -- room is nothing to what a site stands for
 pub room_same : (sc : Scenario) (h : List Entry) (site room : ℕ) (s new : SiteView) → StandsFor sc h site s → new ≡ record s { room = room } →
@@ -200,15 +244,15 @@ input_in content image meters sc h more site i (input_fault.Fell why) mid new ke
     let P : List Entry → Type 0 = λ l. DiskStands sc l site (image (disk_of mid)) in
     subst (λ (s : State _). IsIn content image meters sc more site s) (sym (down refl))
     (subst (λ (l : List Entry). IsIn content image meters sc l site (Down (disk_of mid))) (sym f.0.entered)
-    (fallen_down content image meters sc h site i why (disk_of mid) (subst P f.0.entered f.1)))
+    (fallen_down image sc h site i why (disk_of mid) (subst P f.0.entered f.1)))
 input_in content image meters sc h more site i input_fault.Down mid new kept fell down same = still content image meters sc h more site mid new (kept refl) (same refl)
 input_in content image meters sc h more site i input_fault.HistoryFull mid new kept fell down same = still content image meters sc h more site mid new (kept refl) (same refl)
 input_in content image meters sc h more site i input_fault.NoMemory mid new kept fell down same = still content image meters sc h more site mid new (kept refl) (same refl)
 
 pub node_with : {D : Type 0} (content : D → List ℕ) (image : D → List ℕ → Type 0) (meters : D → Meters) (sc now : Scenario) (h more : List Entry)
-    (old new : NodeView D) (state : State D) → NodeStands content image meters sc h old → now ≡ sc → IsIn content image meters sc more old.site state →
+    (old new : NodeView D) (state : State D) → NodeStands content image meters sc h old → now ≡ sc → IsIn content image meters sc more old.site state → AllReadBack sc more old.site →
     new ≡ record { site = old.site; weights = old.weights; rows = old.rows; state = state } → NodeStands content image meters now more new
-node_with content image meters sc now h more old new state was same is now_is =
+node_with content image meters sc now h more old new state was same is back now_is =
     subst (λ (s : Scenario). NodeStands content image meters s more new) (sym same)
     (subst (λ (n : NodeView _). NodeStands content image meters sc more n) (sym now_is) (record {
       some = was.some;
@@ -216,4 +260,19 @@ node_with content image meters sc now h more old new state was same is now_is =
       weights_are = was.weights_are;
       rows_are = was.rows_are;
       state = is;
+      back = back;
     }))
+
+-- a site whose power is cut is down, and its disk stands
+pub cut_in : {D : Type 0} (content : D → List ℕ) (image : D → List ℕ → Type 0) (meters : D → Meters)
+    (sc : Scenario) (h : List Entry) (site : ℕ) (old new : State D) → IsIn content image meters sc h site old → is_up_in new ≡ false →
+    Within (image (disk_of old)) (image (disk_of new)) → IsIn content image meters sc (h ++ record { owner = site; act = Cut } ∷ []) site new
+cut_in content image meters sc h site old (Up s l) was down within = absurd cc
+cut_in content image meters sc h site old (Down disk) was down within = record {
+  down = up_same h (record { owner = site; act = Cut }) site (self site);
+  stands = λ bytes at.
+      let stands = disk_in content image meters sc h site old was bytes (within bytes at) in
+      let P : Past → Type 0 = λ p. ReadsWith (bodies_of_moves p.moves) p.tail bytes in
+      let Q : List Move → Type 0 = λ ms. ReadsWith (bodies_of_moves ms) (open_tail sc h site) bytes in
+      subst P (sym (past_on sc h site (record { owner = site; act = Cut }) refl)) (subst Q (sym (append-nil (moves_of sc h site))) stands);
+}

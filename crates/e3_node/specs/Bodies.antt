@@ -1,12 +1,13 @@
 -- What the disk of a site holds: one frame for each of its moves that records something.
-use Rattle.std.specs.Prelude.{◌⊎◌, ◌++◌, ◌∷◌, [], ℕ, List, Option, Some, None}
+use Rattle.std.specs.Prelude.{◌⊎◌, ◌++◌, ◌∷◌, [], ℕ, Bool, List, Option, Some, None}
 use Rattle.std.specs.List.{flat_map}
+use Rattle.e3_codec.specs.Fields.{AllCanBeReadBack}
 use Rattle.e3_log.specs.Frames.{Reads}
 use Rattle.e3_types.specs.Spelling.{spelling}
 use Rattle.e3_types.specs.declared.entries.Entry.{Entry}
 use Rattle.e3_types.specs.declared.records.Record.{Record}
 use Rattle.e3_types.specs.declared.scenarios.Scenario.{Scenario}
-use Rattle.e3_world.specs.Moves.{Move, Tail, moves_of, open_tail, recorded}
+use Rattle.e3_world.specs.Moves.{Move, Tail, kept_moves, log_of, moves_of, open_tail, recorded}
 
 -- the body of the frame of these records: their spelling; no frame where there are none
 abbrev pub body_of : List Record → List (List ℕ)
@@ -31,3 +32,23 @@ ReadsWith bodies (Some tail) bytes = Reads bodies bytes ⊎ Reads (bodies ++ bod
 abbrev pub DiskStands : Scenario → List Entry → ℕ → (List ℕ → Type 0) → Type 0
 DiskStands sc history site image =
     (bytes : List ℕ) → image bytes → ReadsWith (bodies_at sc history site) (open_tail sc history site) bytes
+
+-- the moves of a site with its open tail where a rise keeps it
+abbrev pub moves_with : Scenario → List Entry → ℕ → Bool → List Move
+moves_with sc history site kept = moves_of sc history site ++ kept_moves site kept (open_tail sc history site)
+
+-- One of these images reads as the log of a site or, where the tail is kept, as the log followed by the tail.
+pub record IsRead (sc : Scenario) (history : List Entry) (site : ℕ) (kept : Bool) (image : List ℕ → Type 0) : Type 0 where
+  pub bytes : List ℕ
+  pub at : image bytes
+  pub reads : Reads (bodies_of_moves (moves_with sc history site kept)) bytes
+
+-- the records of a tail
+abbrev pub tail_records : Option Tail → List Record
+tail_records None = []
+tail_records (Some tail) = tail.records
+
+-- each record of a site's log, and each of its open tail, can be read back from the disk
+pub record AllReadBack (sc : Scenario) (history : List Entry) (site : ℕ) : Type 0 where
+  pub log : AllCanBeReadBack site (log_of sc history site)
+  pub tail : AllCanBeReadBack site (tail_records (open_tail sc history site))

@@ -1,22 +1,22 @@
 -- How the calls of a node end.
-use Rattle.std.specs.Prelude.{◌≡◌, ◌≢◌, ◌+◌, ◌<◌, ◌++◌, ◌∷◌, [], ℕ, Bool, true, false, List, length, Result, Ok, Err}
+use Rattle.std.specs.Prelude.{◌≡◌, ◌≢◌, ◌+◌, ◌<◌, ◌≤◌, ◌++◌, ◌∷◌, [], ℕ, Bool, true, false, List, length}
 use Rattle.e3_disk.specs.Meters.{Meters, Rose}
 use Rattle.e3_log.specs.declared.fault.AppendFault.{AppendFault}
 use Rattle.e3_log.specs.declared.fault.AppendFault.TheVariants as append_fault
 use Rattle.e3_node.specs.declared.fault.InputFault.{InputFault}
 use Rattle.e3_node.specs.declared.fault.InputFault.TheVariants as input_fault
-use Rattle.e3_node.specs.declared.fault.RiseFault.{RiseFault}
-use Rattle.e3_node.specs.declared.fault.RiseFault.TheVariants as rise_fault
-use Rattle.e3_play.specs.Entering.{fall_of}
+use Rattle.e3_sites.specs.Entering.{fall_of}
 use Rattle.e3_types.specs.Spelling.{spelling}
-use Rattle.e3_types.specs.declared.entries.Act.TheVariants.{Rise, RiseFall, Miss}
+use Rattle.e3_types.specs.declared.entries.Act.TheVariants.{Rise, RiseFall}
 use Rattle.e3_types.specs.declared.entries.Entry.{Entry}
 use Rattle.e3_types.specs.declared.entries.Input.{Input}
 use Rattle.e3_types.specs.declared.entries.Why.{Why}
 use Rattle.e3_types.specs.declared.entries.Why.TheVariants.{Fault, Full}
 use Rattle.e3_types.specs.declared.records.Record.{Record}
 use Rattle.e3_types.specs.declared.scenarios.Scenario.{Scenario}
-use Rattle.e3_world.specs.Legal.{made_by}
+use Rattle.e3_world.specs.Legal.{IsRise, made_by}
+use Rattle.e3_world.specs.Moves.{log_by, log_size, rise_records}
+use Rattle.e3_node.specs.Bodies.{IsRead, moves_with}
 
 -- The reason is true: the disk's count of faults rose; or the frame of the records, behind a log of this size, passes the
 -- disk's capacity, and the numbers are its end, with the closed gate behind it, and that capacity.
@@ -35,19 +35,34 @@ pub record FellOver (sc : Scenario) (history : List Entry) (site : ℕ) (i : Inp
   pub some : (made_by sc history site i).records ≢ []
   pub entered : more ≡ history ++ fall_of sc history site i why ∷ []
 
--- the first rise of a site failed for this reason
-abbrev pub FailedFirst : List Entry → ℕ → Why → List Entry → Type 0
-FailedFirst history site why more = more ≡ history ++ record { owner = site; act = RiseFall false 1 why } ∷ []
+-- The site rose in this incarnation, and kept its open tail or not: what its disk was read as is what the rise keeps.
+pub record HasRisen (sc : Scenario) (history : List Entry) (site inc : ℕ) (more : List Entry) (image : List ℕ → Type 0) : Type 0 where
+  pub kept : Bool
+  pub allowed : IsRise sc history site kept inc
+  pub entered : more ≡ history ++ record { owner = site; act = Rise kept inc } ∷ []
+  pub read : IsRead sc history site kept image
+
+-- The rise of the site failed for this reason: its records are those of a rise behind what it kept.
+pub record HasFailedToRise (sc : Scenario) (history : List Entry) (site : ℕ) (why : Why) (more : List Entry) (old new : Meters)
+    (image : List ℕ → Type 0) : Type 0 where
+  pub kept : Bool
+  pub inc : ℕ
+  pub allowed : IsRise sc history site kept inc
+  pub entered : more ≡ history ++ record { owner = site; act = RiseFall kept inc why } ∷ []
+  pub read : IsRead sc history site kept image
+  pub reason : IsReason why (log_size (moves_with sc history site kept))
+      (rise_records sc site inc (log_by (moves_with sc history site kept))) old new
 
 -- the fault has an entry
 abbrev pub is_fall : InputFault → Bool
 is_fall (input_fault.Fell why) = true
 is_fall _ = false
 
--- the entry that comes of a first rise
-abbrev pub entries_of : ℕ → Result (Unit {0}) RiseFault → List Entry
-entries_of site (Ok done) = record { owner = site; act = Rise false 1 } ∷ []
-entries_of site (Err rise_fault.HistoryFull) = []
-entries_of site (Err rise_fault.NoMemory) = []
-entries_of site (Err rise_fault.Missed) = record { owner = site; act = Miss } ∷ []
-entries_of site (Err (rise_fault.Failed why)) = record { owner = site; act = RiseFall false 1 why } ∷ []
+-- An arm that has not run out has been taken so many calls at least, and has some left.
+abbrev pub Takes : ℕ → Meters → Meters → Type 0
+Takes n old new = 0 < old.calls_left → (0 < new.calls_left) × (new.calls_left + n ≤ old.calls_left)
+
+-- the calls that the frame of these records takes: none where there are no records
+abbrev pub calls_for : List Record → ℕ
+calls_for [] = 0
+calls_for (r ∷ rs) = 4

@@ -1,4 +1,5 @@
 pub mod Bodies
+pub mod Counting
 pub mod NodeView
 pub mod NodeStands
 pub mod SharedStands

@@ -1,64 +1,138 @@
--- The first rise of a site over a blank disk.
-use Rattle.std.specs.Prelude.{◌≡◌, ◌∷◌, [], ℕ, true, List, Result, Ok, Err}
-use Rattle.e3_disk.specs.Images.{IsBlank, Only}
-use Rattle.e3_disk.specs.Meters.{Meters, Rose}
-use Rattle.e3_log.specs.Stands.{LogState, Stands}
+-- A rise of a site over its disk.
+use Rattle.std.specs.Prelude.{◌≡◌, ◌≤◌, ◌++◌, ◌∷◌, [], ℕ, Bool, suc, nat_lt, List, Result, Ok, Err, length}
+use Rattle.std.specs.List.{flat_map}
+use Rattle.e3_codec.specs.Fields.{AllCanBeReadBack}
+use Rattle.e3_disk.specs.Meters.{Meters, Rose as RoseBy}
 use Rattle.e3_log.specs.declared.fault.OpenCause.{OpenCause}
 use Rattle.e3_log.specs.declared.fault.OpenCause.TheVariants as causes
-use Rattle.e3_node.specs.Bodies.{ReadsWith, body_of}
-use Rattle.e3_node.specs.Ends.{IsReason}
+use Rattle.e3_node.specs.Bodies.{AllReadBack, DiskStands, IsRead, bodies_at, moves_with}
+use Rattle.e3_node.specs.Counting.{frames_in}
+use Rattle.e3_node.specs.Ends.{IsReason, Takes}
+use Rattle.e3_node.specs.NodeStands.{IsUp}
 use Rattle.e3_node.specs.declared.fault.RiseFault.{RiseFault}
-use Rattle.e3_node.specs.declared.fault.RiseFault.TheVariants.{HistoryFull, NoMemory, Missed, Failed}
-use Rattle.e3_node.specs.declared.rising.Birth.{Birth}
+use Rattle.e3_node.specs.declared.fault.RiseFault.TheVariants as rise_fault
+use Rattle.e3_node.specs.declared.readying.Readied.{Readied}
+use Rattle.e3_node.specs.declared.readying.Wish.{Wish}
+use Rattle.e3_node.specs.declared.rising.Raised.{Raised}
+use Rattle.e3_node.specs.declared.rising.Raised.TheVariants.{Rose, Failed, Missed, NoMemory}
 use Rattle.e3_node.specs.declared.state.State.{State}
 use Rattle.e3_node.specs.declared.state.State.TheVariants.{Down, Up}
+use Rattle.e3_log.specs.Stands.{LogState}
+use Rattle.e3_restart.specs.Rebuilt.{IsRebuilt, StandsForEach}
 use Rattle.e3_site.specs.SiteView.{SiteView}
-use Rattle.e3_site.specs.StandsFor.{StandsRisen}
 use Rattle.e3_types.specs.Spelling.{spelling}
+use Rattle.e3_types.specs.declared.entries.Act.TheVariants as act
+use Rattle.e3_types.specs.declared.entries.Entry.{Entry}
+use Rattle.e3_types.specs.declared.entries.Why.{Why}
 use Rattle.e3_types.specs.declared.records.Record.{Record}
 use Rattle.e3_types.specs.declared.records.Record.TheVariants as log
+use Rattle.e3_types.specs.declared.scenarios.Scenario.{Scenario}
 use Rattle.e3_types.specs.declared.transactions.Row.{Row}
-use Rattle.e3_world.specs.Moves.{left_by}
+use Rattle.e3_world.specs.Legal.{IsLegal, IsRise, IsRising}
+use Rattle.e3_world.specs.Logs.{logged_inc}
+use Rattle.e3_world.specs.Moves.{log_by, log_size, rise_records, rows_at}
 
--- the records of a first rise
-abbrev pub first_records : ℕ → List ℕ → List Row → List Record
-first_records site weights rows = log.Birth 1 site weights rows ∷ log.Inc 1 ∷ []
+-- what a rise takes with it to the disk is this site's, and the frames are those of its log in the history
+pub record IsWish (site : ℕ) (weights : List ℕ) (rows : List Row) (history : List Entry) (wish : Wish) : Type 0 where
+  pub site_is : wish.site ≡ site
+  pub weights_are : wish.weights ≡ weights
+  pub rows_are : wish.rows ≡ rows
+  pub frames_are : wish.frames ≡ frames_in site history
 
--- all that the first rise of this site takes memory for
-pub record IsBirth (site : ℕ) (weights : List ℕ) (rows : List Row) (birth : Birth) : Type 0 where
-  pub site_is : birth.site ≡ site
-  pub weights_are : birth.weights ≡ weights
-  pub records_are : birth.records ≡ first_records site weights rows
-  pub body_is : birth.body ≡ spelling birth.records
+-- the birth, where the log is empty
+abbrev pub born_by : Wish → List Record → List Record
+born_by wish [] = log.Birth 1 wish.site wish.weights wish.rows ∷ []
+born_by wish (r ∷ rs) = []
 
--- the site rose, and the log has the one frame of its birth
-pub record HasRisen {D : Type 0} (content : D → List ℕ) (image : D → List ℕ → Type 0) (meters : D → Meters)
-    (birth : Birth) (s : SiteView) (l : LogState D) : Type 0 where
-  pub site_is : s.site ≡ birth.site
-  pub weights_are : s.weights ≡ birth.weights
-  pub stands : StandsRisen birth.records s
-  pub logged : Stands content image (body_of birth.records) l
-  pub lit : (meters l.disk).powered ≡ true
+-- the records of a rise behind a log
+abbrev pub records_by : Wish → ℕ → List Record → List Record
+records_by wish inc records = born_by wish records ++ log.Inc inc ∷ []
 
--- The site did not rise: the disk is blank still; or it failed and is blank in each image; or the frame is in doubt where it
--- failed, and not there where it had no room.
-abbrev pub HasNotRisen : {D : Type 0} → (D → List ℕ) → (D → List ℕ → Type 0) → (D → Meters) → Birth → D → D → RiseFault → Type 0
-HasNotRisen content image meters birth old new HistoryFull = ⊥
-HasNotRisen content image meters birth old new NoMemory = IsBlank content image new × ((meters new).powered ≡ true)
-HasNotRisen content image meters birth old new Missed = Only (0 ∷ []) (image new) × Rose (meters old).faults (meters new).faults
-HasNotRisen content image meters birth old new (Failed why) =
-    ((bytes : List ℕ) → image new bytes → ReadsWith [] (left_by why [] birth.records) bytes)
-    × IsReason why 0 birth.records (meters old) (meters new)
+-- A rise over a disk with these bodies that is ready to be made: what they spell is kept, all of it.
+pub record IsReady (wish : Wish) (bodies : List (List ℕ)) (ready : Readied) : Type 0 where
+  pub read : List Record
+  pub back : AllCanBeReadBack wish.site read
+  pub spelled : flat_map (λ body. body) bodies ≡ spelling read
+  pub kept_is : ready.kept ≡ nat_lt wish.frames (length bodies)
+  pub inc_is : ready.inc ≡ suc (logged_inc read)
+  pub records_are : ready.records ≡ records_by wish ready.inc read
+  pub body_is : ready.body ≡ spelling ready.records
+  pub fits : AllCanBeReadBack wish.site ready.records
+  pub risen : IsRebuilt wish.site (read ++ ready.records) ready.up
+  pub stands : StandsForEach (read ++ ready.records) ready.up
 
--- what a log that could not be opened makes of the rise
-abbrev pub fault_of : OpenCause → RiseFault
-fault_of causes.Failed = Missed
-fault_of (causes.Damaged at) = NoMemory
-fault_of causes.NoMemory = NoMemory
+-- In this history the site may rise, it has these weights and first rows and so many frames, and they can be read back.
+pub record MayRise (sc : Scenario) (history : List Entry) (wish : Wish) : Type 0 where
+  pub legal : IsLegal sc history
+  pub rising : IsRising sc history wish.site
+  pub some : 1 ≤ wish.site
+  pub weights_are : wish.weights ≡ sc.weights
+  pub rows_are : wish.rows ≡ rows_at wish.site sc.rows
+  pub frames_are : wish.frames ≡ length (bodies_at sc history wish.site)
+  pub back : AllReadBack sc history wish.site
 
--- what comes of a rise over a disk
-abbrev pub RiseMakes : {D : Type 0} → (D → List ℕ) → (D → List ℕ → Type 0) → (D → Meters) → Birth → D → State D → Result (Unit {0}) RiseFault → Type 0
-RiseMakes content image meters birth old (Up s l) (Ok done) = HasRisen content image meters birth s l
-RiseMakes content image meters birth old (Up s l) (Err fault) = ⊥
-RiseMakes content image meters birth old (Down disk) (Ok done) = ⊥
-RiseMakes content image meters birth old (Down disk) (Err fault) = HasNotRisen content image meters birth old disk fault
+-- the entry of a rise, and of a failed one
+abbrev pub rise_of : ℕ → Bool → ℕ → Entry
+rise_of site kept inc = record { owner = site; act = act.Rise kept inc }
+
+abbrev pub rise_fall_of : ℕ → Bool → ℕ → Why → Entry
+rise_fall_of site kept inc why = record { owner = site; act = act.RiseFall kept inc why }
+
+-- the site rose over a disk: it stands for the history with its rise
+pub record HasRaised {D : Type 0} (content : D → List ℕ) (image : D → List ℕ → Type 0) (meters : D → Meters) (sc : Scenario)
+    (history : List Entry) (site : ℕ) (old : D) (s : SiteView) (l : LogState D) (kept : Bool) (inc : ℕ) : Type 0 where
+  pub allowed : IsRise sc history site kept inc
+  pub read : IsRead sc history site kept (image old)
+  pub up : IsUp content image meters sc (history ++ rise_of site kept inc ∷ []) site s l
+  pub back : AllReadBack sc (history ++ rise_of site kept inc ∷ []) site
+
+-- the rise failed: the disk stands for the history with the failed rise
+pub record HasNotRaised {D : Type 0} (image : D → List ℕ → Type 0) (meters : D → Meters) (sc : Scenario)
+    (history : List Entry) (site : ℕ) (old new : D) (kept : Bool) (inc : ℕ) (why : Why) : Type 0 where
+  pub allowed : IsRise sc history site kept inc
+  pub read : IsRead sc history site kept (image old)
+  pub stands : DiskStands sc (history ++ rise_fall_of site kept inc why ∷ []) site (image new)
+  pub back : AllReadBack sc (history ++ rise_fall_of site kept inc why ∷ []) site
+  pub reason : IsReason why (log_size (moves_with sc history site kept)) (rise_records sc site inc (log_by (moves_with sc history site kept)))
+      (meters old) (meters new)
+
+-- what a rise makes of a disk
+abbrev pub RiseMakes : {D : Type 0} → (D → List ℕ) → (D → List ℕ → Type 0) → (D → Meters) → Scenario → List Entry → ℕ → D → State D → Raised → Type 0
+RiseMakes content image meters sc history site old (Up s l) (Rose kept inc) = HasRaised content image meters sc history site old s l kept inc
+RiseMakes content image meters sc history site old (Down new) (Failed kept inc why) = HasNotRaised image meters sc history site old new kept inc why
+RiseMakes content image meters sc history site old (Down new) Missed =
+    DiskStands sc history site (image new) × RoseBy (meters old).faults (meters new).faults
+RiseMakes content image meters sc history site old (Down new) NoMemory = DiskStands sc history site (image new)
+RiseMakes content image meters sc history site old _ _ = ⊥
+
+-- what it takes of an arm, where its frame takes so many calls and what is before it so many
+abbrev pub RiseTakes : ℕ → Raised → Meters → Meters → Type 0
+RiseTakes n (Rose kept inc) old new = Takes n old new
+RiseTakes n NoMemory old new = Takes 0 old new
+RiseTakes n _ old new = Unit {0}
+
+-- what a log that could not be opened makes of a rise
+abbrev pub raised_of : OpenCause → Raised
+raised_of causes.Failed = Missed
+raised_of _ = NoMemory
+
+-- the entries that come of a rise
+abbrev pub entries_of : ℕ → Raised → List Entry
+entries_of site (Rose kept inc) = rise_of site kept inc ∷ []
+entries_of site (Failed kept inc why) = rise_fall_of site kept inc why ∷ []
+entries_of site Missed = record { owner = site; act = act.Miss } ∷ []
+entries_of site NoMemory = []
+
+-- what is told of a rise
+abbrev pub told_of : Raised → Result ℕ RiseFault
+told_of (Rose kept inc) = Ok inc
+told_of (Failed kept inc why) = Err (rise_fault.Failed why)
+told_of Missed = Err rise_fault.Missed
+told_of NoMemory = Err rise_fault.NoMemory
+
+-- what a rise makes is allowed
+abbrev pub IsAllowed : Scenario → List Entry → ℕ → Raised → Type 0
+IsAllowed sc history site (Rose kept inc) = IsRise sc history site kept inc
+IsAllowed sc history site (Failed kept inc why) = IsRise sc history site kept inc
+IsAllowed sc history site Missed = IsRising sc history site
+IsAllowed sc history site NoMemory = Unit {0}

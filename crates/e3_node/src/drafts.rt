@@ -5,7 +5,7 @@ ghost use Rattle.e3_site.specs.SiteView.{IsPlanOf, plan_of};
 
 use crate::Shared;
 use crate::copying::copied;
-use e3_codec::put_records;
+use crate::fitting::spelled;
 use e3_site::{Plan, Site};
 use e3_types::{Input, List, NoMemory, Packet, Record, Told};
 use std::alloc::Global;
@@ -23,13 +23,13 @@ pub(crate) struct Draft {
     pub fallen: List<Record>,
 }
 
-fn draft_of(alloc: Global, plan: Plan, input: &Input) -> Result<Draft, NoMemory>
-    ensures { IfOk result (IsDraft plan input.now) }
+fn draft_of(alloc: Global, site: u32, plan: Plan, input: &Input) -> Result<Draft, NoMemory>
+    ensures { IfOk result (IsDraft site plan input.now) }
 {
     let records = copied(alloc, plan.records())?;
     let outs = copied(alloc, plan.outs())?;
     let told = copied(alloc, plan.told())?;
-    let body = put_records(alloc, plan.records())?;
+    let body = spelled(alloc, site, plan.records())?;
     let mut inputs = List::new(alloc);
     inputs.push(input.copy())?;
     let fallen = copied(alloc, plan.records())?;
@@ -51,7 +51,7 @@ pub(crate) fn prepare(
     shared: &mut Shared,
     input: &Input,
 ) -> Result<Draft, NoMemory>
-    ensures draft { IfOk result (IsDraft (plan_of site.old input.now) input.now) }
+    ensures draft { IfOk result (IsDraft site.old.site (plan_of site.old input.now) input.now) }
     ensures own { IfOk result (λ draft. IsPlanOf draft.plan site.new) }
     ensures site { site.new ≡ record site.old { room = site.new.room } }
     ensures site_room { OnOk result (1 ≤ site.new.room) }
@@ -62,7 +62,7 @@ pub(crate) fn prepare(
 {
     let plan = site.plan(input)?;
     site.ready(&plan)?;
-    let draft = draft_of(shared.alloc(), plan, input)?;
+    let draft = draft_of(shared.alloc(), site.site(), plan, input)?;
     let outs = draft.outs.len();
     if shared.sent() > u64::MAX - outs {
         return Err(NoMemory);

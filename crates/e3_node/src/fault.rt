@@ -1,4 +1,4 @@
-// Why a site did not rise, and why it did not take an input.
+// Why a site did not rise, did not take an input, and was not cut.
 ghost use Rattle.std.specs.Prelude.{◌≡◌};
 
 use e3_types::{NoMemory, Why};
@@ -6,9 +6,12 @@ use e3_types::{NoMemory, Why};
 /// Why a site did not rise.
 #[derive(Clone, Copy)]
 pub enum RiseFault {
+    /// The site is up.
+    Up,
     /// The history has as many entries as it may have.
     HistoryFull,
-    /// There was no memory. It may come at any time before the frame is written.
+    /// There was no memory, or the log has the last incarnation that 32 bits count. It may come at any time before the
+    /// frame is written.
     NoMemory,
     /// The disk failed before its log was read.
     Missed,
@@ -47,5 +50,26 @@ impl From<NoMemory> for InputFault {
 
     fn from(_cause: NoMemory) -> InputFault {
         InputFault::NoMemory
+    }
+}
+
+/// Why a site was not cut.
+#[derive(Clone, Copy)]
+pub enum CutFault {
+    /// The site is down.
+    Down,
+    /// The history has as many entries as it may have.
+    HistoryFull,
+    /// There was no memory.
+    NoMemory,
+}
+
+impl From<NoMemory> for CutFault {
+    ghost use Rattle.e3_node.specs.declared.fault.CutFault.TheVariants as fault;
+
+    ghost from_gives = { λ _ f. f ≡ fault.NoMemory };
+
+    fn from(_cause: NoMemory) -> CutFault {
+        CutFault::NoMemory
     }
 }

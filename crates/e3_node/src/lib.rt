@@ -3,10 +3,14 @@
 #![tactic(auto)]
 
 mod copying;
+mod counting;
 mod drafts;
 mod fault;
+mod fitting;
 mod law;
 mod node;
+mod reading;
+mod readying;
 mod rising;
 mod shared;
 mod state;
@@ -15,7 +19,7 @@ mod stepping;
 mod tests;
 mod writing;
 
-pub use fault::{InputFault, RiseFault};
+pub use fault::{CutFault, InputFault, RiseFault};
 pub use law::{a_node_tells_of_its_disk, bodies_spell_the_log, other_entries_keep_nodes};
 pub use node::Node;
 pub use shared::Shared;

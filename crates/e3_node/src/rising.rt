@@ -1,113 +1,158 @@
-// The first rise of a site.
-ghost use Rattle.std.specs.Prelude.{◌≡◌, false, true, [], ℕ, Err, IfOk};
-ghost use Rattle.e3_disk.specs.Images.{IsBlank};
+// A rise of a site over its disk.
+ghost use Rattle.std.specs.Prelude.{◌≡◌, ◌≢◌, ◌≤◌, ◌<◌, ◌++◌, [], ℕ, false, true, length, List as Items};
 ghost use Rattle.e3_disk.specs.Meters.{Keeps};
+ghost use Rattle.e3_log.specs.Found.{bodies_of};
 ghost use Rattle.e3_log.specs.Stands.{Stands};
+ghost use Rattle.e3_node.specs.Bodies.{DiskStands};
 ghost use Rattle.e3_node.specs.NodeView.{disk_of, is_up_in};
-ghost use Rattle.e3_node.specs.Rising.{IsBirth, RiseMakes, fault_of};
+ghost use Rattle.e3_node.specs.declared.readying.Wish.{Wish as Wishes};
+ghost use Rattle.e3_node.specs.Rising.{IsAllowed, IsReady, MayRise, RiseMakes, RiseTakes, entries_of, raised_of, told_of};
+ghost use Rattle.e3_node.specs.SharedStands.{SharedStands};
 ghost use Rattle.e3_types.specs.Spelling.{spelling};
+ghost use Rattle.e3_types.specs.declared.entries.Entry.{Entry as Entries};
+ghost use Rattle.e3_types.specs.declared.scenarios.Scenario.{Scenario};
 
+use crate::readying::{Readied, Wish, ready};
 use crate::writing::write;
-use crate::{RiseFault, State};
-use e3_codec::put_records;
-use e3_disk::Disk;
-use e3_log::{Log, OpenCause, OpenRefused};
-use e3_site::Site;
-use e3_types::{Copied, List, NoMemory, Record, Row};
-use std::alloc::Global;
+use crate::{RiseFault, Shared, State};
+use e3_disk::{Disk, Drill};
+use e3_log::{Frame, Log, OpenCause, OpenRefused};
+use e3_types::{Act, Entry, List, Why};
 
-/// All that a first rise takes memory for: the weights that the site keeps, its first records, and their spelling.
-#[derive(Drop)]
-pub(crate) struct Birth {
-    pub alloc: Global,
-    pub site: u32,
-    pub weights: List<u32>,
-    pub records: List<Record>,
-    pub body: List<u8>,
+/// What became of a rise.
+#[derive(Clone, Copy)]
+pub(crate) enum Raised {
+    /// The site is up.
+    Rose { kept: bool, inc: u32 },
+    /// Its frame was not written, or may not have been.
+    Failed { kept: bool, inc: u32, why: Why },
+    /// The disk failed before its log was read.
+    Missed,
+    /// There was no memory.
+    NoMemory,
 }
 
-/// Takes the memory. Want of it is the only error.
-pub(crate) fn birth_of(
-    alloc: Global,
-    site: u32,
-    weights: &List<u32>,
-    rows: &List<Row>,
-) -> Result<Birth, NoMemory>
-    ensures { IfOk result (IsBirth site weights.now rows.now) }
+fn raised_of(cause: OpenCause) -> Raised
+    ensures { result ≡ raised_of cause }
 {
-    let mut records = List::new(alloc);
-    records.push(Record::Birth {
-        format: 1,
-        site,
-        weights: weights.copied(alloc)?,
-        rows: rows.copied(alloc)?,
-    })?;
-    records.push(Record::Inc { inc: 1 })?;
-    let body = put_records(alloc, records.as_slice())?;
-    Ok(Birth {
-        alloc,
-        site,
-        weights: weights.copied(alloc)?,
-        records,
-        body,
-    })
+    match cause {
+        OpenCause::Failed => Raised::Missed,
+        _ => Raised::NoMemory,
+    }
 }
 
-// The log could not be opened.
-fn refuse<D: Disk + Drop>(refused: OpenRefused<D>) -> (State<D>, Result<(), RiseFault>)
-    ensures { result ≡ (State.Down refused.disk, Err (fault_of refused.cause)) }
-{
-    let fault = match refused.cause {
-        OpenCause::Failed => RiseFault::Missed,
-        _ => RiseFault::NoMemory,
-    };
-    (State::Down(refused.disk), Err(fault))
-}
-
-// The frame of the birth is the first of the log. No memory is taken.
-fn log_birth<D: Disk + Drop>(mut log: Log<D>, birth: Birth) -> (State<D>, Result<(), RiseFault>)
-    requires spelled { birth.body ≡ spelling birth.records }
-    requires empty { Stands D.content D.image [] log }
+// The frame of the rise is added. No memory is taken.
+fn log_rise<D: Disk + Drop>(mut log: Log<D>, rise: Readied) -> (State<D>, Raised)
+    requires spelled { rise.body ≡ spelling rise.records }
+    requires some { rise.records ≢ [] }
     requires lit { (D.meters log.disk).powered ≡ true }
-    ensures makes { RiseMakes D.content D.image D.meters birth log.disk result.0 result.1 }
+    ensures makes { (sc : Scenario) (h : Items Entries) (wish : Wishes) (bodies : Items (Items ℕ)) → MayRise sc h wish → IsReady wish bodies rise →
+        Stands D.content D.image bodies log → DiskStands sc h wish.site (D.image log.disk) →
+        RiseMakes D.content D.image D.meters sc h wish.site log.disk result.0 result.1 }
     ensures keeps { Keeps (D.meters log.disk) (D.meters (disk_of result.0)) }
+    ensures takes { RiseTakes 4 result.1 (D.meters log.disk) (D.meters (disk_of result.0)) }
 {
-    match write(&mut log, birth.records.as_slice(), birth.body.as_slice()) {
-        Ok(()) => {
-            let site = Site::rise(birth.alloc, birth.weights, birth.site, birth.records);
-            (State::Up(site, log), Ok(()))
-        }
-        Err(why) => (State::Down(log.into_disk()), Err(RiseFault::Failed { why })),
+    let kept = rise.kept;
+    let inc = rise.inc;
+    match write(&mut log, rise.records.as_slice(), rise.body.as_slice()) {
+        Ok(()) => (State::Up(rise.up, log), Raised::Rose { kept, inc }),
+        Err(why) => (
+            State::Down(log.into_disk()),
+            Raised::Failed { kept, inc, why },
+        ),
     }
 }
 
-fn raise<D: Disk + Drop>(disk: D, birth: Birth) -> (State<D>, Result<(), RiseFault>)
-    requires spelled { birth.body ≡ spelling birth.records }
-    requires blank { IsBlank D.content D.image disk }
+// The rise over the log that was read.
+fn rise_over<D: Disk + Drop>(log: Log<D>, frames: &List<Frame>, wish: &Wish) -> (State<D>, Raised)
+    requires stands { Stands D.content D.image (bodies_of frames.now) log }
+    requires lit { (D.meters log.disk).powered ≡ true }
+    ensures makes { (sc : Scenario) (h : Items Entries) → MayRise sc h wish.now → DiskStands sc h wish.now.site (D.image log.disk) →
+        RiseMakes D.content D.image D.meters sc h wish.now.site log.disk result.0 result.1 }
+    ensures keeps { Keeps (D.meters log.disk) (D.meters (disk_of result.0)) }
+    ensures takes { RiseTakes 4 result.1 (D.meters log.disk) (D.meters (disk_of result.0)) }
+{
+    match ready(wish, frames.as_slice()) {
+        Ok(rise) => log_rise(log, rise),
+        Err(_) => (State::Down(log.into_disk()), Raised::NoMemory),
+    }
+}
+
+// The log is read. Its sync is one call of an arm.
+fn open<D: Disk + Drop>(disk: D, wish: &Wish) -> (State<D>, Raised)
     requires lit { (D.meters disk).powered ≡ true }
-    ensures makes { RiseMakes D.content D.image D.meters birth disk result.0 result.1 }
+    ensures makes { (sc : Scenario) (h : Items Entries) → MayRise sc h wish.now → DiskStands sc h wish.now.site (D.image disk) →
+        RiseMakes D.content D.image D.meters sc h wish.now.site disk result.0 result.1 }
     ensures keeps { Keeps (D.meters disk) (D.meters (disk_of result.0)) }
+    ensures takes { RiseTakes 5 result.1 (D.meters disk) (D.meters (disk_of result.0)) }
 {
-    match Log::open(birth.alloc, disk) {
-        Ok((log, _frames)) => log_birth(log, birth),
-        Err(refused) => refuse(refused),
+    match Log::open(wish.alloc, disk) {
+        Ok((log, frames)) => rise_over(log, &frames, wish),
+        Err(refused) => (State::Down(refused.disk), raised_of(refused.cause)),
     }
 }
 
-/// What the first rise makes of a site that is down, over its blank disk.
-pub(crate) fn risen<D: Disk + Drop>(
-    state: State<D>,
-    birth: Birth,
-) -> (State<D>, Result<(), RiseFault>)
+// The disk has power from here on.
+fn raise<D: Disk + Drill + Drop>(mut disk: D, wish: &Wish) -> (State<D>, Raised)
+    ensures makes { (sc : Scenario) (h : Items Entries) → MayRise sc h wish.now → DiskStands sc h wish.now.site (D.image disk) →
+        RiseMakes D.content D.image D.meters sc h wish.now.site disk result.0 result.1 }
+    ensures keeps { Keeps (D.meters disk) (D.meters (disk_of result.0)) }
+    ensures takes { RiseTakes 5 result.1 (D.meters disk) (D.meters (disk_of result.0)) }
+{
+    disk.power_on();
+    open(disk, wish)
+}
+
+/// What a rise makes of a site that is down, over its disk.
+pub(crate) fn risen<D: Disk + Drill + Drop>(state: State<D>, wish: Wish) -> (State<D>, Raised)
     requires down { is_up_in state ≡ false }
-    requires spelled { birth.body ≡ spelling birth.records }
-    requires blank { IsBlank D.content D.image (disk_of state) }
-    requires lit { (D.meters (disk_of state)).powered ≡ true }
-    ensures makes { RiseMakes D.content D.image D.meters birth (disk_of state) result.0 result.1 }
+    ensures makes { (sc : Scenario) (h : Items Entries) → MayRise sc h wish → DiskStands sc h wish.site (D.image (disk_of state)) →
+        RiseMakes D.content D.image D.meters sc h wish.site (disk_of state) result.0 result.1 }
     ensures keeps { Keeps (D.meters (disk_of state)) (D.meters (disk_of result.0)) }
+    ensures takes { RiseTakes 5 result.1 (D.meters (disk_of state)) (D.meters (disk_of result.0)) }
 {
     match state {
-        State::Down(disk) => raise(disk, birth),
-        up => (up, Err(RiseFault::NoMemory)),
+        State::Down(disk) => raise(disk, &wish),
+        up => (up, Raised::NoMemory),
+    }
+}
+
+/// What became of a rise is entered.
+pub(crate) fn enter_rise(shared: &mut Shared, owner: u32, raised: Raised)
+    requires shared { SharedStands shared.old }
+    requires some { 1 ≤ owner }
+    requires allowed { IsAllowed shared.old.scenario shared.old.entries owner raised }
+    requires few { length shared.old.entries < shared.old.most }
+    requires room { 1 ≤ shared.old.room }
+    ensures shared { SharedStands shared.new }
+    ensures same { (shared.new.scenario ≡ shared.old.scenario) × (shared.new.most ≡ shared.old.most) }
+    ensures entered { shared.new.entries ≡ shared.old.entries ++ entries_of owner raised }
+{
+    match raised {
+        Raised::Rose { kept, inc } => shared.enter_quiet(Entry {
+            owner,
+            act: Act::Rise { kept, inc },
+        }),
+        Raised::Failed { kept, inc, why } => shared.enter_quiet(Entry {
+            owner,
+            act: Act::RiseFall { kept, inc, why },
+        }),
+        Raised::Missed => shared.enter_quiet(Entry {
+            owner,
+            act: Act::Miss,
+        }),
+        Raised::NoMemory => {}
+    }
+}
+
+/// What became of a rise, as it is told.
+pub(crate) fn told(raised: Raised) -> Result<u32, RiseFault>
+    ensures { result ≡ told_of raised }
+{
+    match raised {
+        Raised::Rose { inc, .. } => Ok(inc),
+        Raised::Failed { why, .. } => Err(RiseFault::Failed { why }),
+        Raised::Missed => Err(RiseFault::Missed),
+        Raised::NoMemory => Err(RiseFault::NoMemory),
     }
 }

@@ -2,15 +2,16 @@
 ghost use Rattle.std.specs.Prelude.{◌≡◌, ◌≤◌, ◌+◌, ◌<◌, ◌^◌, ◌++◌, ◌∷◌, ◌↔◌, [], suc, false, true, nat_le, length, IfOk, OnOk, OnErr, Err, Some};
 ghost use Rattle.e3_net.specs.Stands.{behind_input, is_quiet};
 ghost use Rattle.e3_node.specs.SharedStands.{SharedStands};
-ghost use Rattle.e3_play.specs.Entering.{IsFirst};
-ghost use Rattle.e3_play.specs.declared.sites.RunFault.TheVariants.{HistoryFull};
+ghost use Rattle.e3_sites.specs.Entering.{IsFirst};
+ghost use Rattle.e3_sites.specs.declared.sites.RunFault.TheVariants.{HistoryFull};
 ghost use Rattle.e3_types.specs.declared.entries.Act.TheVariants as act;
+ghost use Rattle.e3_world.specs.Given.{IsGiven};
 ghost use Rattle.e3_world.specs.Items.{is_up_at};
 ghost use Rattle.e3_world.specs.Legal.{Guard, IsLine, IsParts, first_pending, numbered};
 ghost use Rattle.e3_world.specs.Packets.{is_calm, sent, step_items};
 
 use e3_net::Net;
-use e3_play::RunFault;
+use e3_sites::RunFault;
 use e3_types::{
     Act, Copied, Entry, Input, Item, List, NoMemory, Packet, Record, Scenario, SiteSet, Told, Why,
 };
@@ -79,8 +80,7 @@ fn leave(net: &mut Net, input: &Input)
 impl Shared {
     /// A history without entries, which may have so many, and its network. Want of memory is the only error.
     pub fn open(alloc: Global, scenario: Scenario, most: u32) -> Result<Shared, NoMemory>
-        requires sites { length scenario.weights ≤ 64 }
-        requires shares { scenario.loss + scenario.repeat ≤ 100 }
+        requires given { IsGiven scenario }
         ensures stands { IfOk result SharedStands }
         ensures new { IfOk result (λ s. (s.scenario ≡ scenario) × (s.entries ≡ []) × (s.most ≡ most)) }
     {

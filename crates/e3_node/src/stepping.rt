@@ -1,14 +1,14 @@
 // An input of a site that is up.
 ghost use Rattle.std.specs.Prelude.{◌≡◌, ◌≢◌, ◌≤◌, ◌++◌, ◌∷◌, ◌↔◌, [], true, false, length, OnOk, Err};
 ghost use Rattle.e3_disk.specs.Meters.{Keeps};
-ghost use Rattle.e3_node.specs.Bodies.{DiskStands};
-ghost use Rattle.e3_node.specs.Ends.{FellOver, IsReason, is_fall};
+ghost use Rattle.e3_node.specs.Bodies.{AllReadBack, DiskStands};
+ghost use Rattle.e3_node.specs.Ends.{FellOver, IsReason, Takes, calls_for, is_fall};
 ghost use Rattle.e3_node.specs.NodeStands.{IsIn, IsUp};
 ghost use Rattle.e3_node.specs.NodeView.{disk_of};
 ghost use Rattle.e3_node.specs.SharedStands.{SharedStands};
 ghost use Rattle.e3_node.specs.declared.fault.InputFault.{InputFault as InputFaults};
 ghost use Rattle.e3_node.specs.declared.fault.InputFault.TheVariants as input_fault;
-ghost use Rattle.e3_play.specs.Entering.{IsFirst};
+ghost use Rattle.e3_sites.specs.Entering.{IsFirst};
 ghost use Rattle.e3_types.specs.declared.entries.Why.{Why};
 ghost use Rattle.e3_world.specs.Items.{is_up_at};
 ghost use Rattle.e3_world.specs.Legal.{IsDue, entry_of, made_by};
@@ -36,10 +36,12 @@ fn step<D: Disk>(
     requires up { IsUp D.content D.image D.meters shared.old.scenario shared.old.entries number site.old log.old }
     requires due { IsDue shared.old.scenario shared.old.entries number input }
     requires first { IsFirst shared.old.scenario shared.old.entries input }
+    requires back { AllReadBack shared.old.scenario shared.old.entries number }
     ensures shared { SharedStands shared.new }
     ensures same { (shared.new.scenario ≡ shared.old.scenario) × (shared.new.most ≡ shared.old.most) }
     ensures stepped { OnOk result (shared.new.entries ≡ shared.old.entries ++ entry_of shared.old.scenario shared.old.entries number input ∷ []) }
     ensures up { OnOk result (IsUp D.content D.image D.meters shared.old.scenario shared.new.entries number site.new log.new) }
+    ensures back { AllReadBack shared.old.scenario shared.new.entries number }
     ensures never { result ≡ Err input_fault.Down → ⊥ }
     ensures kept { (fault : InputFaults) → result ≡ Err fault → is_fall fault ≡ false →
         (shared.new.entries ≡ shared.old.entries) × (log.new ≡ log.old)
@@ -52,6 +54,8 @@ fn step<D: Disk>(
         (made_by shared.old.scenario shared.old.entries number input).records (D.meters log.old.disk) (D.meters log.new.disk) }
     ensures full { (result ≡ Err input_fault.HistoryFull) ↔ (shared.old.most ≤ length shared.old.entries) }
     ensures keeps { Keeps (D.meters log.old.disk) (D.meters log.new.disk) }
+    ensures takes { OnOk result (Takes (calls_for (made_by shared.old.scenario shared.old.entries number input).records)
+        (D.meters log.old.disk) (D.meters log.new.disk)) }
 {
     if shared.is_full() {
         return Err(InputFault::HistoryFull);
@@ -82,10 +86,12 @@ pub(crate) fn take_input<D: Disk + Drop>(
     requires stands { IsIn D.content D.image D.meters shared.old.scenario shared.old.entries number state.old }
     requires due { is_up_at shared.old.entries number ≡ true → IsDue shared.old.scenario shared.old.entries number input }
     requires first { is_up_at shared.old.entries number ≡ true → IsFirst shared.old.scenario shared.old.entries input }
+    requires back { AllReadBack shared.old.scenario shared.old.entries number }
     ensures shared { SharedStands shared.new }
     ensures same { (shared.new.scenario ≡ shared.old.scenario) × (shared.new.most ≡ shared.old.most) }
     ensures stepped { OnOk result (shared.new.entries ≡ shared.old.entries ++ entry_of shared.old.scenario shared.old.entries number input ∷ []) }
     ensures up { OnOk result (IsIn D.content D.image D.meters shared.old.scenario shared.new.entries number state.new) }
+    ensures back { AllReadBack shared.old.scenario shared.new.entries number }
     ensures down { (result ≡ Err input_fault.Down) ↔ (is_up_at shared.old.entries number ≡ false) }
     ensures kept { (fault : InputFaults) → result ≡ Err fault → is_fall fault ≡ false →
         (shared.new.entries ≡ shared.old.entries) × (disk_of state.new ≡ disk_of state.old)
@@ -99,6 +105,8 @@ pub(crate) fn take_input<D: Disk + Drop>(
     ensures full { is_up_at shared.old.entries number ≡ true →
         (result ≡ Err input_fault.HistoryFull) ↔ (shared.old.most ≤ length shared.old.entries) }
     ensures keeps { Keeps (D.meters (disk_of state.old)) (D.meters (disk_of state.new)) }
+    ensures takes { OnOk result (Takes (calls_for (made_by shared.old.scenario shared.old.entries number input).records)
+        (D.meters (disk_of state.old)) (D.meters (disk_of state.new))) }
 {
     match state {
         State::Down(_) => Err(InputFault::Down),

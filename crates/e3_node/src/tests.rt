@@ -1,5 +1,6 @@
 // First rises over disks in memory.
 ghost use Rattle.std.specs.Prelude.{◌≡◌, ◌≤◌, ◌^◌, ◌∷◌, [], IfOk};
+ghost use Rattle.e3_world.specs.Given.{IsGiven};
 
 use crate::{InputFault, Node, RiseFault, Shared};
 use e3_disk::MemDisk;
@@ -12,6 +13,7 @@ fn lone(alloc: Global) -> Result<Scenario, NoMemory>
     ensures weights { IfOk result (λ sc. sc.weights ≡ 1 ∷ []) }
     ensures rows { IfOk result (λ sc. sc.rows ≡ []) }
     ensures shares { IfOk result (λ sc. (sc.loss ≡ 0) × (sc.repeat ≡ 0)) }
+    ensures given { IfOk result IsGiven }
 {
     let mut weights = List::new(alloc);
     weights.push(1)?;
@@ -32,7 +34,7 @@ fn raised(
     most: u32,
     capacity: u64,
     fails: &[u64],
-) -> Result<(Result<(), RiseFault>, bool, u64), Fail>
+) -> Result<(Result<u32, RiseFault>, bool, u64), Fail>
     requires least { 2 ≤ capacity }
     requires most { capacity ≤ 2 ^ 30 }
 {
@@ -58,7 +60,7 @@ fn raised(
 #[test]
 fn a_site_rises_once_its_frame_is_durable(rt: HostRuntime) -> Result<(), Fail> {
     let (result, refused, entries) = raised(rt.alloc(), 8, 64, &[])?;
-    assert!(rt; matches!(result, Ok(())));
+    assert!(rt; matches!(result, Ok(1)));
     assert!(rt; !refused);
     assert_eq!(rt; entries, 1);
     Ok(())

@@ -3,7 +3,7 @@ ghost use Rattle.std.specs.Prelude.{◌≡◌, ◌≢◌, ◌++◌, [], true, �
 ghost use Rattle.e3_disk.specs.Meters.{Keeps};
 ghost use Rattle.e3_log.specs.Stands.{Stands};
 ghost use Rattle.e3_node.specs.Bodies.{ReadsWith, bodies_of_moves, body_of};
-ghost use Rattle.e3_node.specs.Ends.{IsReason, why_of};
+ghost use Rattle.e3_node.specs.Ends.{IsReason, Takes, calls_for, why_of};
 ghost use Rattle.e3_types.specs.Spelling.{spelling};
 ghost use Rattle.e3_types.specs.declared.entries.Input.{Input};
 ghost use Rattle.e3_world.specs.Moves.{Move, left_by, log_size};
@@ -36,6 +36,7 @@ pub(crate) fn write<D: Disk>(log: &mut Log<D>, records: &[Record], body: &[u8]) 
     ensures some { IfErr result (λ _. records.now ≢ []) }
     ensures keeps { Keeps (D.meters log.old.disk) (D.meters log.new.disk) }
     ensures lit { OnOk result ((D.meters log.new.disk).powered ≡ true) }
+    ensures takes { OnOk result (Takes (calls_for records.now) (D.meters log.old.disk) (D.meters log.new.disk)) }
 {
     if records.is_empty() {
         return Ok(());

@@ -1,15 +1,15 @@
 use Rattle.std.proofs.Common.{◌≡◌, ◌≢◌, ◌++◌, ◌∷◌, [], ◌∙◌, ap, sym, subst, map, List}
 use Rattle.e3_log.specs.Stands.{Stands}
-use Rattle.e3_node.specs.Bodies.{DiskStands, ReadsWith, bodies_at, body_of}
+use Rattle.e3_node.specs.Bodies.{AllReadBack, DiskStands, ReadsWith, bodies_at, body_of}
 use Rattle.e3_node.specs.Ends.{FellOver}
 use Rattle.e3_node.specs.NodeStands.{IsUp}
-use Rattle.e3_site.specs.SiteView.{SiteView, plan_of}
+use Rattle.e3_site.specs.SiteView.{SiteView, count_on, plan_of}
 use Rattle.e3_types.specs.declared.entries.Entry.{Entry}
 use Rattle.e3_types.specs.declared.entries.Why.{Why}
 use Rattle.e3_types.specs.declared.records.Record.{Record}
 use Rattle.e3_world.specs.Legal.{made_by}
 use Rattle.e3_world.specs.Moves.{left_by, moves_of, plain_input}
-use Rattle.e3_node.proofs.Steps.{draft_made, fall_allowed, fall_entered, fallen_disk, room_same, site_on, step_allowed, step_entered, stepped_up}
+use Rattle.e3_node.proofs.Steps.{draft_made, fall_allowed, fall_back, fall_entered, fallen_disk, inputs_on, room_same, site_on, step_back, step_allowed, step_entered, stepped_up}
 use Rattle.e3_node.proofs.stepping.step.Goals as goal
 
 pub enter_step-requires-clause-allowed : goal.enter_step-requires-clause-allowed
@@ -46,7 +46,27 @@ returns-in-Ok-clause-up g c =
     subst (λ (l : List Entry). IsUp g.D.Disk.content g.D.Disk.image g.D.Disk.meters sc l c.args.number c.apply.new.self c.write.new.log) (sym entered)
     (stepped_up g.D.Disk.content g.D.Disk.image g.D.Disk.meters sc h c.args.number c.args.input c.apply.new.self c.write.new.log c.requires.up.up
     (site_on sc h c.args.number c.args.input c.prepare.new.site c.apply.new.self c.in_ok-draft.draft.plan ready planned c.apply.ensures.stands)
-    logged c.in-Ok.ensures.lit)
+    logged c.in-Ok.ensures.lit
+    (inputs_on sc h c.args.number c.args.input c.args.site.now.inputs _ c.requires.up.inputs
+    (ap (λ (s : SiteView). s.inputs) c.apply.ensures.done ∙ ap (λ (s : SiteView). count_on s.inputs) c.in_ok-draft.ensures.site)))
+
+pub returns-in-Ok-clause-back : goal.returns-in-Ok-clause-back
+returns-in-Ok-clause-back g c =
+    let sc = c.args.shared.now.scenario in
+    let h = c.args.shared.now.entries in
+    let made = draft_made sc h c.args.number c.args.site.now c.args.input c.in_ok-draft.draft c.requires.up.stands c.in_ok-draft.ensures.draft in
+    let entered = step_entered c.args.shared.now c.prepare.new.shared c.enter_step.new.self.entries c.args.number c.args.input c.in_ok-draft.draft _ _ made
+    c.in_ok-draft.ensures.shared c.enter_step.ensures.entered in
+    subst (λ (l : List Entry). AllReadBack sc l c.args.number) (sym entered) (step_back sc h c.args.number c.args.input c.requires.back made.back)
+
+pub returns-in-Err-clause-back : goal.returns-in-Err-clause-back
+returns-in-Err-clause-back g c =
+    let sc = c.args.shared.now.scenario in
+    let h = c.args.shared.now.entries in
+    let made = draft_made sc h c.args.number c.args.site.now c.args.input c.in_ok-draft.draft c.requires.up.stands c.in_ok-draft.ensures.draft in
+    let entered = fall_entered c.args.shared.now c.prepare.new.shared c.enter_fall.new.self.entries c.args.number c.args.input c.in_ok-draft.draft c.in-Err.why _ _ made
+    c.in_ok-draft.ensures.shared c.enter_fall.ensures.entered in
+    subst (λ (l : List Entry). AllReadBack sc l c.args.number) (sym entered) (fall_back sc h c.args.number c.args.input c.in-Err.why c.requires.back made.back)
 
 pub returns-in-Err-clause-fell : goal.returns-in-Err-clause-fell
 returns-in-Err-clause-fell g c = λ why is.

@@ -1,4 +1,5 @@
 use Rattle.std.proofs.Common.{ap, subst, refl, Err}
+use Rattle.e3_node.specs.Bodies.{AllReadBack}
 use Rattle.e3_node.specs.Ends.{FellOver}
 use Rattle.e3_node.specs.NodeStands.{IsIn}
 use Rattle.e3_node.specs.NodeView.{NodeView}
@@ -24,4 +25,5 @@ returns-in-Err-clause-stands g c =
     node_with g.D.Disk.content g.D.Disk.image g.D.Disk.meters sc c.take_input.new.shared.scenario h more c.args.self.now _ c.settle.new.state c.requires.standing
     c.take_input.ensures.same.0
     (subst (λ (x : NodeView _). IsIn g.D.Disk.content g.D.Disk.image g.D.Disk.meters sc more x.site c.settle.new.state) c.self.view_is now)
+    (subst (λ (x : NodeView _). AllReadBack sc more x.site) c.self.view_is c.take_input.ensures.back)
     (ap (λ (x : NodeView _). let n : NodeView _ = record { site = x.site; weights = x.weights; rows = x.rows; state = c.settle.new.state } in n) c.self.view_is)

@@ -1,22 +1,134 @@
-use Rattle.std.proofs.Common.{◌++◌, ◌∙◌, ap, subst}
-use Rattle.e3_node.specs.Ends.{entries_of}
+use Rattle.std.proofs.Common.{◌≡◌, ◌++◌, ℕ, ◌∙◌, ap, subst, sym, false}
+use Rattle.e3_node.specs.Bodies.{DiskStands}
 use Rattle.e3_node.specs.NodeView.{NodeView, disk_of}
-use Rattle.e3_node.specs.Rising.{IsBirth, RiseMakes}
+use Rattle.e3_node.specs.Rising.{IsAllowed, IsWish, MayRise, RiseMakes, entries_of}
 use Rattle.e3_node.specs.SharedStands.{SharedView}
-use Rattle.e3_node.proofs.Rises.{node_risen}
+use Rattle.e3_world.specs.Items.{is_up_at}
+use Rattle.e3_node.proofs.Keeping.{disk_in}
+use Rattle.e3_node.proofs.Risen.{allowed_of, failed_told, may_rise, missed_told, node_risen, rose_told}
 use Rattle.e3_node.proofs.node.Node.rise.Goals as goal
+
+pub enter_rise-requires-clause-allowed : goal.enter_rise-requires-clause-allowed
+enter_rise-requires-clause-allowed g c =
+    let v = c.args.shared.now in
+    let sc = v.scenario in
+    let h = v.entries in
+    let node = c.args.self.now in
+    let wish = c.in_ok-wish.wish in
+    let r = c.replace_with-raised.result in
+    let state = c.replace_with-raised.new.dest in
+    let down : is_up_at h node.site ≡ false = sym (c.if-is_up.ensures.stands sc h c.requires.standing) in
+    let is : IsWish node.site node.weights node.rows h wish = subst (λ (x : NodeView _). IsWish x.site x.weights x.rows h wish) c.self.view_is c.in_ok-wish.ensures in
+    let may : MayRise sc h wish = may_rise g.D.Disk.content g.D.Disk.image g.D.Disk.meters v node wish c.requires.shared c.requires.standing (c.requires.turn down) is in
+    let stands = disk_in g.D.Disk.content g.D.Disk.image g.D.Disk.meters sc h node.site node.state c.requires.standing.state in
+    let here : DiskStands sc h wish.site (g.D.Disk.image (disk_of node.state)) = subst (λ (n : ℕ). DiskStands sc h n (g.D.Disk.image (disk_of node.state))) (sym is.site_is) stands in
+    let inside : DiskStands sc h wish.site (g.D.Disk.image (disk_of c.self.inside.state)) =
+    subst (λ (x : NodeView _). DiskStands sc h wish.site (g.D.Disk.image (disk_of x.state))) (sym c.self.view_is) here in
+    let made : RiseMakes g.D.Disk.content g.D.Disk.image g.D.Disk.meters sc h node.site (disk_of node.state) state r =
+    subst (λ (n : ℕ). RiseMakes g.D.Disk.content g.D.Disk.image g.D.Disk.meters sc h n (disk_of node.state) state r) is.site_is
+    (subst (λ (x : NodeView _). RiseMakes g.D.Disk.content g.D.Disk.image g.D.Disk.meters sc h wish.site (disk_of x.state) state r) c.self.view_is
+    (c.replace_with-raised.ensures.0 sc h may inside)) in
+    let allowed : IsAllowed sc h node.site r = allowed_of g.D.Disk.content g.D.Disk.image g.D.Disk.meters sc h node.site (disk_of node.state) state r (c.requires.turn down) made in
+    subst (λ (x : SharedView). IsAllowed x.scenario x.entries c.self.inside.site r) (sym c.in_ok-make_room.ensures.same)
+    (subst (λ (x : NodeView _). IsAllowed sc h x.site r) (sym c.self.view_is) allowed)
 
 pub returns-clause-stands : goal.returns-clause-stands
 returns-clause-stands g c =
-    let end = c.replace_with-result.result in
-    let state = c.replace_with-result.new.dest in
-    let birth = c.in_ok-birth.birth in
-    node_risen g.D.Disk.content g.D.Disk.image g.D.Disk.meters c.args.shared.now.scenario c.enter_rise.new.shared.scenario c.args.shared.now.entries
-    c.enter_rise.new.shared.entries c.args.self.now _ birth state end c.requires.standing c.requires.first
-    (subst (λ (x : NodeView _). IsBirth x.site x.weights x.rows birth) c.self.view_is c.in_ok-birth.ensures)
-    (subst (λ (x : NodeView _). RiseMakes g.D.Disk.content g.D.Disk.image g.D.Disk.meters birth (disk_of x.state) state end) c.self.view_is
-    c.replace_with-result.ensures.0)
-    (c.enter_rise.ensures.same.0 ∙ ap (λ (x : SharedView). x.scenario) c.in_ok-make_room.ensures.same)
-    (c.enter_rise.ensures.entered ∙ ap (λ (x : SharedView). x.entries ++ entries_of c.self.inside.site end) c.in_ok-make_room.ensures.same
-    ∙ ap (λ (x : NodeView _). c.args.shared.now.entries ++ entries_of x.site end) c.self.view_is)
+    let v = c.args.shared.now in
+    let sc = v.scenario in
+    let h = v.entries in
+    let node = c.args.self.now in
+    let wish = c.in_ok-wish.wish in
+    let r = c.replace_with-raised.result in
+    let state = c.replace_with-raised.new.dest in
+    let down : is_up_at h node.site ≡ false = sym (c.if-is_up.ensures.stands sc h c.requires.standing) in
+    let is : IsWish node.site node.weights node.rows h wish = subst (λ (x : NodeView _). IsWish x.site x.weights x.rows h wish) c.self.view_is c.in_ok-wish.ensures in
+    let may : MayRise sc h wish = may_rise g.D.Disk.content g.D.Disk.image g.D.Disk.meters v node wish c.requires.shared c.requires.standing (c.requires.turn down) is in
+    let stands = disk_in g.D.Disk.content g.D.Disk.image g.D.Disk.meters sc h node.site node.state c.requires.standing.state in
+    let here : DiskStands sc h wish.site (g.D.Disk.image (disk_of node.state)) = subst (λ (n : ℕ). DiskStands sc h n (g.D.Disk.image (disk_of node.state))) (sym is.site_is) stands in
+    let inside : DiskStands sc h wish.site (g.D.Disk.image (disk_of c.self.inside.state)) =
+    subst (λ (x : NodeView _). DiskStands sc h wish.site (g.D.Disk.image (disk_of x.state))) (sym c.self.view_is) here in
+    let made : RiseMakes g.D.Disk.content g.D.Disk.image g.D.Disk.meters sc h node.site (disk_of node.state) state r =
+    subst (λ (n : ℕ). RiseMakes g.D.Disk.content g.D.Disk.image g.D.Disk.meters sc h n (disk_of node.state) state r) is.site_is
+    (subst (λ (x : NodeView _). RiseMakes g.D.Disk.content g.D.Disk.image g.D.Disk.meters sc h wish.site (disk_of x.state) state r) c.self.view_is
+    (c.replace_with-raised.ensures.0 sc h may inside)) in
+    let entered : c.enter_rise.new.shared.entries ≡ h ++ entries_of node.site r =
+    c.enter_rise.ensures.entered ∙ ap (λ (x : SharedView). x.entries ++ entries_of c.self.inside.site r) c.in_ok-make_room.ensures.same
+    ∙ ap (λ (x : NodeView _). h ++ entries_of x.site r) c.self.view_is in
+    node_risen g.D.Disk.content g.D.Disk.image g.D.Disk.meters sc c.enter_rise.new.shared.scenario h c.enter_rise.new.shared.entries node _ state r
+    c.requires.standing down made (c.enter_rise.ensures.same.0 ∙ ap (λ (x : SharedView). x.scenario) c.in_ok-make_room.ensures.same) entered
     (ap (λ (x : NodeView _). let n : NodeView _ = record { site = x.site; weights = x.weights; rows = x.rows; state = state } in n) c.self.view_is)
+
+pub returns-clause-rose : goal.returns-clause-rose
+returns-clause-rose g c =
+    let v = c.args.shared.now in
+    let sc = v.scenario in
+    let h = v.entries in
+    let node = c.args.self.now in
+    let wish = c.in_ok-wish.wish in
+    let r = c.replace_with-raised.result in
+    let state = c.replace_with-raised.new.dest in
+    let down : is_up_at h node.site ≡ false = sym (c.if-is_up.ensures.stands sc h c.requires.standing) in
+    let is : IsWish node.site node.weights node.rows h wish = subst (λ (x : NodeView _). IsWish x.site x.weights x.rows h wish) c.self.view_is c.in_ok-wish.ensures in
+    let may : MayRise sc h wish = may_rise g.D.Disk.content g.D.Disk.image g.D.Disk.meters v node wish c.requires.shared c.requires.standing (c.requires.turn down) is in
+    let stands = disk_in g.D.Disk.content g.D.Disk.image g.D.Disk.meters sc h node.site node.state c.requires.standing.state in
+    let here : DiskStands sc h wish.site (g.D.Disk.image (disk_of node.state)) = subst (λ (n : ℕ). DiskStands sc h n (g.D.Disk.image (disk_of node.state))) (sym is.site_is) stands in
+    let inside : DiskStands sc h wish.site (g.D.Disk.image (disk_of c.self.inside.state)) =
+    subst (λ (x : NodeView _). DiskStands sc h wish.site (g.D.Disk.image (disk_of x.state))) (sym c.self.view_is) here in
+    let made : RiseMakes g.D.Disk.content g.D.Disk.image g.D.Disk.meters sc h node.site (disk_of node.state) state r =
+    subst (λ (n : ℕ). RiseMakes g.D.Disk.content g.D.Disk.image g.D.Disk.meters sc h n (disk_of node.state) state r) is.site_is
+    (subst (λ (x : NodeView _). RiseMakes g.D.Disk.content g.D.Disk.image g.D.Disk.meters sc h wish.site (disk_of x.state) state r) c.self.view_is
+    (c.replace_with-raised.ensures.0 sc h may inside)) in
+    let entered : c.enter_rise.new.shared.entries ≡ h ++ entries_of node.site r =
+    c.enter_rise.ensures.entered ∙ ap (λ (x : SharedView). x.entries ++ entries_of c.self.inside.site r) c.in_ok-make_room.ensures.same
+    ∙ ap (λ (x : NodeView _). h ++ entries_of x.site r) c.self.view_is in
+    rose_told g.D.Disk.content g.D.Disk.image g.D.Disk.meters sc h c.enter_rise.new.shared.entries node.site (disk_of node.state) state r c.told.result
+    made entered c.told.ensures
+
+pub returns-clause-failed : goal.returns-clause-failed
+returns-clause-failed g c =
+    let v = c.args.shared.now in
+    let sc = v.scenario in
+    let h = v.entries in
+    let node = c.args.self.now in
+    let wish = c.in_ok-wish.wish in
+    let r = c.replace_with-raised.result in
+    let state = c.replace_with-raised.new.dest in
+    let down : is_up_at h node.site ≡ false = sym (c.if-is_up.ensures.stands sc h c.requires.standing) in
+    let is : IsWish node.site node.weights node.rows h wish = subst (λ (x : NodeView _). IsWish x.site x.weights x.rows h wish) c.self.view_is c.in_ok-wish.ensures in
+    let may : MayRise sc h wish = may_rise g.D.Disk.content g.D.Disk.image g.D.Disk.meters v node wish c.requires.shared c.requires.standing (c.requires.turn down) is in
+    let stands = disk_in g.D.Disk.content g.D.Disk.image g.D.Disk.meters sc h node.site node.state c.requires.standing.state in
+    let here : DiskStands sc h wish.site (g.D.Disk.image (disk_of node.state)) = subst (λ (n : ℕ). DiskStands sc h n (g.D.Disk.image (disk_of node.state))) (sym is.site_is) stands in
+    let inside : DiskStands sc h wish.site (g.D.Disk.image (disk_of c.self.inside.state)) =
+    subst (λ (x : NodeView _). DiskStands sc h wish.site (g.D.Disk.image (disk_of x.state))) (sym c.self.view_is) here in
+    let made : RiseMakes g.D.Disk.content g.D.Disk.image g.D.Disk.meters sc h node.site (disk_of node.state) state r =
+    subst (λ (n : ℕ). RiseMakes g.D.Disk.content g.D.Disk.image g.D.Disk.meters sc h n (disk_of node.state) state r) is.site_is
+    (subst (λ (x : NodeView _). RiseMakes g.D.Disk.content g.D.Disk.image g.D.Disk.meters sc h wish.site (disk_of x.state) state r) c.self.view_is
+    (c.replace_with-raised.ensures.0 sc h may inside)) in
+    let entered : c.enter_rise.new.shared.entries ≡ h ++ entries_of node.site r =
+    c.enter_rise.ensures.entered ∙ ap (λ (x : SharedView). x.entries ++ entries_of c.self.inside.site r) c.in_ok-make_room.ensures.same
+    ∙ ap (λ (x : NodeView _). h ++ entries_of x.site r) c.self.view_is in
+    λ why told. failed_told g.D.Disk.content g.D.Disk.image g.D.Disk.meters sc h c.enter_rise.new.shared.entries node.site (disk_of node.state) state r
+    made entered why (sym c.told.ensures ∙ told)
+
+pub returns-clause-cause : goal.returns-clause-cause
+returns-clause-cause g c =
+    let v = c.args.shared.now in
+    let sc = v.scenario in
+    let h = v.entries in
+    let node = c.args.self.now in
+    let wish = c.in_ok-wish.wish in
+    let r = c.replace_with-raised.result in
+    let state = c.replace_with-raised.new.dest in
+    let down : is_up_at h node.site ≡ false = sym (c.if-is_up.ensures.stands sc h c.requires.standing) in
+    let is : IsWish node.site node.weights node.rows h wish = subst (λ (x : NodeView _). IsWish x.site x.weights x.rows h wish) c.self.view_is c.in_ok-wish.ensures in
+    let may : MayRise sc h wish = may_rise g.D.Disk.content g.D.Disk.image g.D.Disk.meters v node wish c.requires.shared c.requires.standing (c.requires.turn down) is in
+    let stands = disk_in g.D.Disk.content g.D.Disk.image g.D.Disk.meters sc h node.site node.state c.requires.standing.state in
+    let here : DiskStands sc h wish.site (g.D.Disk.image (disk_of node.state)) = subst (λ (n : ℕ). DiskStands sc h n (g.D.Disk.image (disk_of node.state))) (sym is.site_is) stands in
+    let inside : DiskStands sc h wish.site (g.D.Disk.image (disk_of c.self.inside.state)) =
+    subst (λ (x : NodeView _). DiskStands sc h wish.site (g.D.Disk.image (disk_of x.state))) (sym c.self.view_is) here in
+    let made : RiseMakes g.D.Disk.content g.D.Disk.image g.D.Disk.meters sc h node.site (disk_of node.state) state r =
+    subst (λ (n : ℕ). RiseMakes g.D.Disk.content g.D.Disk.image g.D.Disk.meters sc h n (disk_of node.state) state r) is.site_is
+    (subst (λ (x : NodeView _). RiseMakes g.D.Disk.content g.D.Disk.image g.D.Disk.meters sc h wish.site (disk_of x.state) state r) c.self.view_is
+    (c.replace_with-raised.ensures.0 sc h may inside)) in
+    λ told. missed_told g.D.Disk.content g.D.Disk.image g.D.Disk.meters sc h node.site (disk_of node.state) state r made (sym c.told.ensures ∙ told)

@@ -1,0 +1,126 @@
+// A rise that is ready to be made.
+ghost use Rattle.std.specs.Prelude.{◌≡◌, ◌<◌, suc, length, IfOk};
+ghost use Rattle.e3_log.specs.Found.{bodies_of};
+ghost use Rattle.e3_node.specs.Rising.{IsReady, IsWish, born_by, records_by};
+ghost use Rattle.e3_restart.specs.Rebuilt.{IsRebuilt, StandsForEach};
+ghost use Rattle.e3_world.specs.Logs.{logged_inc};
+
+use crate::Shared;
+use crate::counting::frames_in;
+use crate::fitting::spelled;
+use crate::reading::{add_records, read_frames};
+use e3_log::Frame;
+use e3_readings::logged_inc;
+use e3_restart::rebuild;
+use e3_site::Site;
+use e3_types::{Copied, List, NoMemory, Record, Row};
+use std::alloc::Global;
+
+/// What a rise takes with it to the disk: the site's number, weights and first rows, and how many frames its log has in the
+/// history.
+#[derive(Drop)]
+pub(crate) struct Wish {
+    pub alloc: Global,
+    pub site: u32,
+    pub weights: List<u32>,
+    pub rows: List<Row>,
+    pub frames: u64,
+}
+
+/// A rise for which all memory is taken: the site that is up with it, its records and their spelling, whether what was in
+/// doubt is kept, and the incarnation.
+#[derive(Drop)]
+pub(crate) struct Readied {
+    pub up: Site,
+    pub records: List<Record>,
+    pub body: List<u8>,
+    pub kept: bool,
+    pub inc: u32,
+}
+
+/// What a rise of this site takes with it.
+pub(crate) fn wish_of(
+    shared: &Shared,
+    site: u32,
+    weights: &List<u32>,
+    rows: &List<Row>,
+) -> Result<Wish, NoMemory>
+    ensures { IfOk result (IsWish site weights.now rows.now shared.now.entries) }
+{
+    let alloc = shared.alloc();
+    Ok(Wish {
+        alloc,
+        site,
+        weights: weights.copied(alloc)?,
+        rows: rows.copied(alloc)?,
+        frames: frames_in(site, shared.history()),
+    })
+}
+
+// The birth, where the log is empty.
+fn birth_of(wish: &Wish, log: &[Record]) -> Result<List<Record>, NoMemory>
+    ensures { IfOk result (λ records. records ≡ born_by wish.now log.now) }
+{
+    let mut records = List::new(wish.alloc);
+    if log.is_empty() {
+        records.push(Record::Birth {
+            format: 1,
+            site: wish.site,
+            weights: wish.weights.copied(wish.alloc)?,
+            rows: wish.rows.copied(wish.alloc)?,
+        })?;
+    }
+    Ok(records)
+}
+
+// The incarnation behind this log, where 32 bits count it.
+fn next_inc(log: &[Record]) -> Result<u32, NoMemory>
+    ensures { IfOk result (λ inc. inc ≡ suc (logged_inc log.now)) }
+{
+    let last = logged_inc(log);
+    if last == u32::MAX {
+        return Err(NoMemory);
+    }
+    Ok(last + 1)
+}
+
+// The records of the rise behind this log.
+fn records_by(wish: &Wish, inc: u32, log: &[Record]) -> Result<List<Record>, NoMemory>
+    ensures { IfOk result (λ records. records ≡ records_by wish.now inc log.now) }
+{
+    let mut records = birth_of(wish, log)?;
+    records.push(Record::Inc { inc })?;
+    Ok(records)
+}
+
+// The site that rose with this log.
+fn rebuilt(alloc: Global, site: u32, log: &[Record]) -> Result<Site, NoMemory>
+    requires some { 0 < length log.now }
+    ensures risen { IfOk result (IsRebuilt site log.now) }
+    ensures stands { IfOk result (StandsForEach log.now) }
+{
+    match rebuild(alloc, site, log) {
+        Ok(up) => Ok(up),
+        Err(_) => Err(NoMemory),
+    }
+}
+
+/// The rise of a site whose disk has these frames. What is read is kept, all of it: more frames than the log of the history
+/// has are the log and the one that was in doubt.
+pub(crate) fn ready(wish: &Wish, frames: &[Frame]) -> Result<Readied, NoMemory>
+    ensures { IfOk result (IsReady wish.now (bodies_of frames.now)) }
+{
+    let mut log = read_frames(wish.alloc, wish.site, frames)?;
+    let inc = next_inc(log.as_slice())?;
+    let records = records_by(wish, inc, log.as_slice())?;
+    let body = spelled(wish.alloc, wish.site, records.as_slice())?;
+    add_records(wish.alloc, records.as_slice(), &mut log)?;
+    let up = rebuilt(wish.alloc, wish.site, log.as_slice())?;
+    Ok(Readied {
+        up,
+        records,
+        body,
+        kept: wish.frames < frames.len() as u64,
+        inc,
+    })
+}
