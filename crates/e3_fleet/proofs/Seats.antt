@@ -2,9 +2,8 @@
 use Rattle.std.proofs.Common.{◌≡◌, ◌⊎◌, inl, inr, ◌+◌, ◌++◌, ◌∷◌, [], ℕ, zero, suc, List, length, Some, refl, sym, ap, subst, ◌∙◌, append_assoc, arith}
 use Rattle.std.specs.Prelude.{slice_get, remove}
 use Rattle.e3_disk.specs.Meters.{Meters}
-use Rattle.e3_fleet.specs.Fleets.{AreSeated, HasKept, HaveKept, Seated, disks_of}
+use Rattle.e3_fleet.specs.Fleets.{AreSeated, Seated, disks_of}
 use Rattle.e3_fleet.specs.Over.{AreBlank, IsFresh}
-use Rattle.e3_fleet.proofs.Kept.{kept_still}
 use Rattle.e3_fleet.proofs.Rooms.{rooms_empty}
 use Rattle.e3_node.specs.NodeStands.{NodeStands}
 use Rattle.e3_node.specs.NodeView.{NodeView, disk_of}
@@ -68,14 +67,6 @@ give_back {D} nodes rest n disks more d last same is =
     ∙ sym (append_assoc (disks_of rest) (disk_of n.state ∷ []) disks)
     ∙ ap (λ (ds : List D). ds ++ disks) (sym (disks_more rest n))
     ∙ ap (λ (ns : List (NodeView D)). disks_of ns ++ disks) (sym last)
-
--- disks that nothing happened to
-pub have_kept_still : {D : Type 0} (meters : D → Meters) (h : List Entry) (nodes : List (NodeView D)) → HaveKept meters h h nodes nodes
-have_kept_still {D} meters h nodes = record {
-  count = refl;
-  each = λ at x y is there. subst (λ (z : NodeView D). HasKept (suc at) h h (meters (disk_of x.state)) (meters (disk_of z.state))) (let one : x ≡ y = cc in one)
-      (kept_still (suc at) h (meters (disk_of x.state)));
-}
 
 -- one more blank disk
 pub blank_more : {D : Type 0} (content : D → List ℕ) (image : D → List ℕ → Type 0) (meters : D → Meters) (disks : List D) (d : D) →

@@ -1,6 +1,6 @@
 -- What the stops of a scenario ask of the disk of a site, and what a site takes of an arm.
-use Rattle.std.specs.Prelude.{◌≡◌, ◌+◌, ◌<◌, ◌==◌, ◌&&◌, ◌||◌, ◌++◌, ◌∷◌, [], if◌then◌else◌, ℕ, Bool, true, false, List, length, map, sum, count_by}
-use Rattle.std.specs.List.{flat_map, list_any}
+use Rattle.std.specs.Prelude.{◌≡◌, ◌+◌, ◌<◌, ◌==◌, ◌&&◌, ◌||◌, ◌++◌, ◌∷◌, [], if◌then◌else◌, ℕ, Bool, true, false, List, count_by}
+use Rattle.std.specs.List.{flat_map, sum_by}
 use Rattle.e3_disk.specs.Leaves.{code_of}
 use Rattle.e3_types.specs.declared.entries.Act.{Act}
 use Rattle.e3_types.specs.declared.entries.Act.TheVariants.{Step, Fall, Rise, RiseFall, Miss, Cut, Line}
@@ -36,11 +36,11 @@ arms_of sc history site = flat_map (arm_by sc site) history
 
 -- the calls of arms, added up
 abbrev pub calls_in : List Arm → ℕ
-calls_in arms = sum (map (λ a. a.calls) arms)
+calls_in arms = sum_by (λ a. a.calls) arms
 
 -- the codes of their leaves, added up
 abbrev pub codes_in : List Arm → ℕ
-codes_in arms = sum (map (λ a. code_of a.leave) arms)
+codes_in arms = sum_by (λ a. code_of a.leave) arms
 
 -- the power of a site is cut
 abbrev pub is_cut : Entry → Bool
