@@ -1,10 +1,10 @@
 // All of a run but the writing of its text.
 ghost use Rattle.std.specs.Prelude.{Ok, Err, ◌≡◌, ◌≢◌, ◌≤◌, ◌⊎◌, [], IfErr, IfOk, OnOk, length};
 ghost use Rattle.e3_fleet.specs.Over.{AreBlank, AreOver};
-ghost use Rattle.e3_play.specs.Played.{IsFull, IsPlayed};
+ghost use Rattle.e3_sites.specs.Delivered.{IsFull};
 ghost use Rattle.e3_scenario.specs.Scenarios.{scenario_of};
 ghost use Rattle.e3_top.specs.Due.{IsDue, IsRunOf};
-ghost use Rattle.e3_top.specs.Ends.{AreDisksOf, AreOverOf, IsCutShort, IsHistoryOf, IsPrepared, SourceFails};
+ghost use Rattle.e3_top.specs.Ends.{IsCutShort, IsHistoryOf, IsPrepared, SourceFails};
 ghost use Rattle.e3_top.specs.Words.{IsRun};
 ghost use Rattle.e3_words.specs.Words.{Spell};
 ghost use Rattle.e3_words.specs.declared.words.Command.TheVariants.{Run};
@@ -12,13 +12,13 @@ ghost use Rattle.e3_world.specs.Given.{IsGiven};
 ghost use Rattle.e3_world.specs.Legal.{IsWhole};
 
 use crate::words::{refused_history_full, refused_words};
-use e3_disk::Disk;
+use e3_disk::{Disk, Drill};
 use e3_fleet::{Played, play_over};
 use e3_outside::{ReadFault, Source, read_up_to};
-use e3_play::{RunFault, is_played};
 use e3_report::report;
-use e3_scenario::{ScenarioFault, fault_line, read_scenario, refused_line};
+use e3_scenario::{ScenarioFault, fault_line, read_scenario};
 use e3_serial::one_order;
+use e3_sites::RunFault;
 use e3_types::{List, NoMemory, Scenario};
 use e3_words::{Command, read_words};
 use e3_world::History;
@@ -72,7 +72,6 @@ fn text_of(
 ) -> Result<Due, Stop>
     requires run { Spell words.now (Run trace) }
     requires spelled { scenario_of bytes.now ≡ Ok scenario.now }
-    requires form { IsPlayed scenario.now }
     requires safe { IsRunOf scenario.now most history.now.entries }
     requires whole { OnOk ended (IsWhole scenario.now history.now.entries) }
     requires full { ended ≡ Err RunFault.HistoryFull → IsFull scenario.now history.now.entries most }
@@ -96,7 +95,7 @@ fn text_of(
 }
 
 // The run of a scenario of the form that is built.
-fn prepare_run<D: Disk + Drop>(
+fn prepare_run<D: Disk + Drill + Drop>(
     alloc: Global,
     words: &[String],
     trace: bool,
@@ -108,7 +107,6 @@ fn prepare_run<D: Disk + Drop>(
     requires run { Spell words.now (Run trace) }
     requires spelled { scenario_of bytes.now ≡ Ok scenario.now }
     requires given { IsGiven scenario.now }
-    requires form { IsPlayed scenario.now }
     requires enough { length scenario.now.weights ≤ length disks.items }
     requires blank { AreBlank D.content D.image D.meters disks.items }
     ensures due { IfOk result.due (λ due. IsDue words.now bytes.now most due.status result.history.entries due.text) }
@@ -166,7 +164,7 @@ fn refuse_words<D: Drop>(alloc: Global, words: &[String], disks: Vec<D>, most: u
 }
 
 // The run over the bytes that were read.
-fn prepare_bytes<D: Disk + Drop>(
+fn prepare_bytes<D: Disk + Drill + Drop>(
     alloc: Global,
     words: &[String],
     trace: bool,
@@ -189,18 +187,12 @@ fn prepare_bytes<D: Disk + Drop>(
             ScenarioFault::NoMemory => unplayed(alloc, 2, Err(NoMemory), disks),
             fault => unplayed(alloc, 2, fault_line(alloc, &fault), disks),
         },
-        Ok(scenario) => {
-            if is_played(&scenario) {
-                prepare_run(alloc, words, trace, bytes, &scenario, disks, most)
-            } else {
-                unplayed(alloc, 2, refused_line(alloc), disks)
-            }
-        }
+        Ok(scenario) => prepare_run(alloc, words, trace, bytes, &scenario, disks, most),
     }
 }
 
 /// Reads the source and plays the scenario over the disks.
-pub fn prepare<S: Source, D: Disk + Drop>(
+pub fn prepare<S: Source, D: Disk + Drill + Drop>(
     alloc: Global,
     words: &[String],
     source: &mut S,
