@@ -1,9 +1,10 @@
 -- The text that words, bytes and history give, with the status that a run ends with when it is written.
-use Rattle.std.specs.Prelude.{◌≡◌, ◌≤◌, ◌⊎◌, ℕ, List, [], String, Ok, Err, length}
+use Rattle.std.specs.Prelude.{◌≡◌, ◌≤◌, ◌⊎◌, ℕ, Bool, List, [], String, Ok, Err, length}
 use Rattle.std.specs.declared.alloc.Global.{Global}
 use Rattle.e3_disk.specs.Meters.{Meters}
 use Rattle.e3_fleet.specs.Over.{AreOver}
 use Rattle.e3_report.specs.Report.{report_of}
+use Rattle.e3_sites.specs.Delivered.{IsFull}
 use Rattle.e3_scenario.specs.Faults.{fault_text}
 use Rattle.e3_scenario.specs.Scenarios.{scenario_of}
 use Rattle.e3_scenario.specs.declared.faults.ScenarioFault.{ScenarioFault}
@@ -70,6 +71,13 @@ pub record IsFullHistory {D : Type 0} (image : D → List ℕ → Type 0) (meter
   pub unfinished : ¬ IsWhole scenario history
   pub safe : IsRunOf image meters disks_before disks_now scenario most history
   pub says : text ≡ refused_history_full
+
+-- The text of a run that was played, and its status: its report where it went through all of the scenario, and the line of a
+-- full history where it did not.
+abbrev pub IsTextOf : Scenario → ℕ → List Entry → Bool → ℕ → List ℕ → Type 0
+IsTextOf sc most history trace status text =
+    ((status ≡ 0) × IsWhole sc history × (text ≡ report_of sc history trace))
+    ⊎ ((status ≡ 6) × IsFull sc history most × (text ≡ refused_history_full))
 
 -- the status is one with a text: 0, 1, 2 or 6
 abbrev pub HasText : ℕ → Type 0
