@@ -57,28 +57,28 @@ quiet_keeps : (sc : Scenario) (h more : List Entry) (site : ℕ) (old new : Mete
 quiet_keeps sc h more site old new counted keeps took none = inl (record { none = none; goes = keeps_on old new counted keeps took })
 
 -- a rise
-pub rise_went : (sc : Scenario) (h more : List Entry) (site : ℕ) (old new : Meters) (answer : Result ℕ RiseFault) → IsCounted old → Keeps old new →
-    IfOk answer (λ inc. HasRisen sc h site inc more) → OnOk answer (Took 5 old new) →
-    ((why : Why) → answer ≡ Err (rise_fault.Failed why) → HasFailedToRise sc h site why more old new) →
+pub rise_went : (sc : Scenario) (h more : List Entry) (site : ℕ) (old new : Meters) (image : List ℕ → Type 0) (answer : Result ℕ RiseFault) → IsCounted old → Keeps old new →
+    IfOk answer (λ inc. HasRisen sc h site inc more image) → OnOk answer (Took 5 old new) →
+    ((why : Why) → answer ≡ Err (rise_fault.Failed why) → HasFailedToRise sc h site why more old new image) →
     (answer ≡ Err rise_fault.Missed → more ≡ h ++ record { owner = site; act = Miss } ∷ []) →
     (answer ≡ Err rise_fault.Missed → Rose old.faults new.faults) →
     (answer ≡ Err rise_fault.NoMemory → (more ≡ h) × Took 0 old new) →
     (answer ≡ Err rise_fault.HistoryFull → (more ≡ h) × (new ≡ old)) →
     (answer ≡ Err rise_fault.Up → (more ≡ h) × (new ≡ old)) → Went sc h more site old new
-rise_went sc h more site old new (Ok inc) counted keeps rose took failed missed cause memory full up =
+rise_went sc h more site old new image (Ok inc) counted keeps rose took failed missed cause memory full up =
     own_next sc h more site (Rise rose.kept inc) old new counted keeps rose.entered (λ k. refl) refl (λ is. absurd (true_not_false (sym is))) (λ not_end. took) tt
-rise_went sc h more site old new (Err rise_fault.Missed) counted keeps rose took failed missed cause memory full up =
+rise_went sc h more site old new image (Err rise_fault.Missed) counted keeps rose took failed missed cause memory full up =
     own_next sc h more site Miss old new counted keeps (missed refl) (λ k. refl) refl (λ is. cause refl) (λ is. absurd (true_not_false is)) tt
-rise_went sc h more site old new (Err rise_fault.NoMemory) counted keeps rose took failed missed cause memory full up =
+rise_went sc h more site old new image (Err rise_fault.NoMemory) counted keeps rose took failed missed cause memory full up =
     quiet_keeps sc h more site old new counted keeps (memory refl).1 (memory refl).0
-rise_went sc h more site old new (Err rise_fault.HistoryFull) counted keeps rose took failed missed cause memory full up =
+rise_went sc h more site old new image (Err rise_fault.HistoryFull) counted keeps rose took failed missed cause memory full up =
     quiet sc h more site old new (full refl).0 (full refl).1
-rise_went sc h more site old new (Err rise_fault.Up) counted keeps rose took failed missed cause memory full up =
+rise_went sc h more site old new image (Err rise_fault.Up) counted keeps rose took failed missed cause memory full up =
     quiet sc h more site old new (up refl).0 (up refl).1
-rise_went sc h more site old new (Err (rise_fault.Failed Fault)) counted keeps rose took failed missed cause memory full up =
+rise_went sc h more site old new image (Err (rise_fault.Failed Fault)) counted keeps rose took failed missed cause memory full up =
     let f = failed Fault refl in
     own_next sc h more site (RiseFall f.kept f.inc Fault) old new counted keeps f.entered (λ k. refl) refl (λ is. f.reason) (λ is. absurd (true_not_false is)) tt
-rise_went sc h more site old new (Err (rise_fault.Failed (Full need room))) counted keeps rose took failed missed cause memory full up =
+rise_went sc h more site old new image (Err (rise_fault.Failed (Full need room))) counted keeps rose took failed missed cause memory full up =
     let f = failed (Full need room) refl in let reason = f.reason in let need_is = reason.1 in
     own_next sc h more site (RiseFall f.kept f.inc (Full need room)) old new counted keeps f.entered (λ k. refl) refl (λ is. absurd (true_not_false (sym is)))
     (λ is. absurd (true_not_false is)) (reason.2, reason.0, omega (arith, need_is))
@@ -133,17 +133,17 @@ stop_went sc h more at number calls leave old new counted some step entered arms
 })
 
 -- what the run hears of a rise
-pub rise_rose : (sc : Scenario) (h more : List Entry) (site : ℕ) (old new : Meters) (answer : Result ℕ RiseFault) → (answer ≡ Err rise_fault.Up → ⊥) →
-    IfOk answer (λ inc. HasRisen sc h site inc more) →
+pub rise_rose : (sc : Scenario) (h more : List Entry) (site : ℕ) (old new : Meters) (image : List ℕ → Type 0) (answer : Result ℕ RiseFault) → (answer ≡ Err rise_fault.Up → ⊥) →
+    IfOk answer (λ inc. HasRisen sc h site inc more image) →
     (answer ≡ Err rise_fault.Missed → more ≡ h ++ record { owner = site; act = Miss } ∷ []) →
-    ((why : Why) → answer ≡ Err (rise_fault.Failed why) → HasFailedToRise sc h site why more old new) → OnOk (rise_answer answer) (AfterRise sc h site more)
-rise_rose sc h more site old new (Ok inc) down rose missed failed = inl (record { kept = rose.kept; inc = inc; allowed = rose.allowed; entered = rose.entered })
-rise_rose sc h more site old new (Err rise_fault.Missed) down rose missed failed = inr (inr (missed refl))
-rise_rose sc h more site old new (Err (rise_fault.Failed why)) down rose missed failed =
+    ((why : Why) → answer ≡ Err (rise_fault.Failed why) → HasFailedToRise sc h site why more old new image) → OnOk (rise_answer answer) (AfterRise sc h site more)
+rise_rose sc h more site old new image (Ok inc) down rose missed failed = inl (record { kept = rose.kept; inc = inc; allowed = rose.allowed; entered = rose.entered })
+rise_rose sc h more site old new image (Err rise_fault.Missed) down rose missed failed = inr (inr (missed refl))
+rise_rose sc h more site old new image (Err (rise_fault.Failed why)) down rose missed failed =
     let f = failed why refl in inr (inl (record { kept = f.kept; inc = f.inc; why = why; allowed = f.allowed; entered = f.entered }))
-rise_rose sc h more site old new (Err rise_fault.NoMemory) down rose missed failed = tt
-rise_rose sc h more site old new (Err rise_fault.HistoryFull) down rose missed failed = tt
-rise_rose sc h more site old new (Err rise_fault.Up) down rose missed failed = tt
+rise_rose sc h more site old new image (Err rise_fault.NoMemory) down rose missed failed = tt
+rise_rose sc h more site old new image (Err rise_fault.HistoryFull) down rose missed failed = tt
+rise_rose sc h more site old new image (Err rise_fault.Up) down rose missed failed = tt
 
 pub rise_kept : (h more : List Entry) (answer : Result ℕ RiseFault) → (answer ≡ Err rise_fault.Up → more ≡ h) →
     (answer ≡ Err rise_fault.NoMemory → more ≡ h) → (answer ≡ Err rise_fault.HistoryFull → more ≡ h) → OnErr (rise_answer answer) (more ≡ h)

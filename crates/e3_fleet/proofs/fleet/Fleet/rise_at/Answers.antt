@@ -32,7 +32,7 @@ returns-clause-on g c =
     c.requires.standing c.rise-answer.ensures.shared c.rise-answer.ensures.same.0 c.rise-answer.ensures.same.1 c.rise-answer.ensures.site
     c.rise-answer.ensures.stands
     (subst (λ (s : ℕ). Went c.args.self.now.shared.scenario c.args.self.now.shared.entries c.rise-answer.new.shared.entries s (g.D.Disk.meters (disk_of c.index_mut.result.now.state)) (g.D.Disk.meters (disk_of c.rise-answer.new.self.state))) site
-    (rise_went c.args.self.now.shared.scenario c.args.self.now.shared.entries c.rise-answer.new.shared.entries c.index_mut.result.now.site (g.D.Disk.meters (disk_of c.index_mut.result.now.state)) (g.D.Disk.meters (disk_of c.rise-answer.new.self.state)) c.rise-answer.result
+    (rise_went c.args.self.now.shared.scenario c.args.self.now.shared.entries c.rise-answer.new.shared.entries c.index_mut.result.now.site (g.D.Disk.meters (disk_of c.index_mut.result.now.state)) (g.D.Disk.meters (disk_of c.rise-answer.new.self.state)) (g.D.Disk.image (disk_of c.index_mut.result.now.state)) c.rise-answer.result
     (g.met.D.Disk.counted (disk_of c.index_mut.result.now.state)) c.rise-answer.ensures.meters c.rise-answer.ensures.rose c.rise-answer.ensures.takes
     c.rise-answer.ensures.failed c.rise-answer.ensures.missed c.rise-answer.ensures.cause (λ e. (c.rise-answer.ensures.no_memory e, c.rise-answer.ensures.spares e))
     (λ e. ((c.rise-answer.ensures.kept (inr e)).0, ap (λ (n : NodeView _). g.D.Disk.meters (disk_of n.state)) (c.rise-answer.ensures.kept (inr e)).1))
@@ -45,7 +45,7 @@ returns-clause-rose g c =
     let site : c.index_mut.result.now.site ≡ suc c.args.at = (c.requires.standing.seated c.args.at c.index_mut.result.now there).site in
     let down : is_up_at c.args.self.now.shared.entries c.index_mut.result.now.site ≡ false = subst (λ (s : ℕ). is_up_at c.args.self.now.shared.entries s ≡ false) (sym site) c.requires.turn.down in
     rw c.rise_answer.ensures (subst (λ (s : ℕ). OnOk (rise_answer c.rise-answer.result) (AfterRise c.args.self.now.shared.scenario c.args.self.now.shared.entries s c.rise-answer.new.shared.entries)) site
-    (rise_rose c.args.self.now.shared.scenario c.args.self.now.shared.entries c.rise-answer.new.shared.entries c.index_mut.result.now.site (g.D.Disk.meters (disk_of c.index_mut.result.now.state)) (g.D.Disk.meters (disk_of c.rise-answer.new.self.state)) c.rise-answer.result
+    (rise_rose c.args.self.now.shared.scenario c.args.self.now.shared.entries c.rise-answer.new.shared.entries c.index_mut.result.now.site (g.D.Disk.meters (disk_of c.index_mut.result.now.state)) (g.D.Disk.meters (disk_of c.rise-answer.new.self.state)) (g.D.Disk.image (disk_of c.index_mut.result.now.state)) c.rise-answer.result
     (λ e. true_not_false (sym (c.rise-answer.ensures.up.0 e) ∙ down))
     c.rise-answer.ensures.rose c.rise-answer.ensures.missed c.rise-answer.ensures.failed))
 
