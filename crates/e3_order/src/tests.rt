@@ -60,13 +60,13 @@ fn step(alloc: Global, history: &mut History, owner: u32, record: Record) -> Res
     enter(history, owner, act)
 }
 
-fn is_order(alloc: Global, history: &History, want: &[u32]) -> Result<bool, NoMemory> {
+fn is_order(alloc: Global, history: &History, want: &[Txn]) -> Result<bool, NoMemory> {
     let txns = order(alloc, &scenario(alloc), history)?;
     if txns.len() != want.len() as u64 {
         return Ok(false);
     }
     for (at, t) in txns.as_slice().iter().enumerate() {
-        if t.seq != want[at] {
+        if !t.is_same(&want[at]) {
             return Ok(false);
         }
     }
@@ -86,7 +86,7 @@ fn last_votes(rt: HostRuntime) -> Result<(), Fail> {
     step(alloc, h, 2, decision(1, Dir::Commit))?;
     step(alloc, h, 1, decision(3, Dir::Abort))?;
     step(alloc, h, 2, decision(2, Dir::Commit))?;
-    assert!(rt; is_order(alloc, &history, &[2, 1])?);
+    assert!(rt; is_order(alloc, &history, &[txn(2), txn(1)])?);
     Ok(())
 }
 
@@ -106,6 +106,123 @@ fn kept_votes(rt: HostRuntime) -> Result<(), Fail> {
     enter(h, 1, Act::Rise { kept: true, inc: 1 })?;
     step(alloc, h, 2, decision(1, Dir::Commit))?;
     step(alloc, h, 2, decision(2, Dir::Commit))?;
-    assert!(rt; is_order(alloc, &history, &[2, 1])?);
+    assert!(rt; is_order(alloc, &history, &[txn(2), txn(1)])?);
+    Ok(())
+}
+
+// What follows is the history of examples/order_by_last_votes.toml, each record in a step of its own, without operations.
+
+fn a() -> Txn {
+    Txn {
+        site: 1,
+        inc: 1,
+        seq: 1,
+        sites: SiteSet::one(1).with(3),
+    }
+}
+
+fn b() -> Txn {
+    Txn {
+        site: 2,
+        inc: 1,
+        seq: 1,
+        sites: SiteSet::one(1).with(2).with(3),
+    }
+}
+
+fn c() -> Txn {
+    Txn {
+        site: 3,
+        inc: 1,
+        seq: 1,
+        sites: SiteSet::one(3),
+    }
+}
+
+fn votes(alloc: Global, history: &mut History, owner: u32, txn: Txn) -> Result<(), NoMemory> {
+    let ops = List::new(alloc);
+    step(alloc, history, owner, Record::Vote { txn, ops })
+}
+
+fn joins(
+    alloc: Global,
+    history: &mut History,
+    owner: u32,
+    txn: Txn,
+    n: u32,
+) -> Result<(), NoMemory> {
+    step(alloc, history, owner, Record::Join { txn, n })
+}
+
+fn attempts(
+    alloc: Global,
+    history: &mut History,
+    owner: u32,
+    txn: Txn,
+    n: u32,
+) -> Result<(), NoMemory> {
+    let dir = Dir::Commit;
+    step(alloc, history, owner, Record::Attempt { txn, n, dir })
+}
+
+fn commits(alloc: Global, history: &mut History, owner: u32, txn: Txn) -> Result<(), NoMemory> {
+    let dir = Dir::Commit;
+    step(alloc, history, owner, Record::Decision { txn, dir })
+}
+
+// The commits of b and c are asked for. The client of c is told; b is in doubt, since what its coordinator asked of the
+// others, or their answer, is lost.
+fn in_doubt(alloc: Global, h: &mut History) -> Result<(), NoMemory> {
+    votes(alloc, h, 2, b())?;
+    votes(alloc, h, 3, c())?;
+    attempts(alloc, h, 3, c(), 1)?;
+    commits(alloc, h, 3, c())?;
+    votes(alloc, h, 1, b())?;
+    votes(alloc, h, 3, b())?;
+    attempts(alloc, h, 2, b(), 1)?;
+    attempts(alloc, h, 3, b(), 1)
+}
+
+// Sites 1 and 3 commit b without its coordinator.
+fn elected(alloc: Global, h: &mut History) -> Result<(), NoMemory> {
+    joins(alloc, h, 1, b(), 2)?;
+    joins(alloc, h, 3, b(), 2)?;
+    attempts(alloc, h, 1, b(), 2)?;
+    attempts(alloc, h, 3, b(), 2)?;
+    commits(alloc, h, 1, b())?;
+    commits(alloc, h, 3, b())
+}
+
+// Then a reads what b and c wrote, and its client is told. That of b is told last, when its coordinator learns it.
+fn told_later(alloc: Global, h: &mut History) -> Result<(), NoMemory> {
+    votes(alloc, h, 1, a())?;
+    votes(alloc, h, 3, a())?;
+    attempts(alloc, h, 1, a(), 1)?;
+    attempts(alloc, h, 3, a(), 1)?;
+    commits(alloc, h, 1, a())?;
+    commits(alloc, h, 3, a())?;
+    joins(alloc, h, 2, b(), 3)?;
+    joins(alloc, h, 1, b(), 3)?;
+    joins(alloc, h, 3, b(), 3)?;
+    commits(alloc, h, 2, b())
+}
+
+// The transactions began in the order a, b, c; their commits were asked for in the order b, c, a; their clients were told in
+// the order c, a, b. They count as run in the order c, b, a.
+#[test]
+fn neither_begins_nor_commits(rt: HostRuntime) -> Result<(), Fail> {
+    let alloc = rt.alloc();
+    let mut history = History::new(alloc);
+    for site in 1..4 {
+        let rise = Act::Rise {
+            kept: false,
+            inc: 1,
+        };
+        enter(&mut history, site, rise)?;
+    }
+    in_doubt(alloc, &mut history)?;
+    elected(alloc, &mut history)?;
+    told_later(alloc, &mut history)?;
+    assert!(rt; is_order(alloc, &history, &[c(), b(), a()])?);
     Ok(())
 }

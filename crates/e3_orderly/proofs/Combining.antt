@@ -3,22 +3,28 @@ use Rattle.std.proofs.Common.{◌≡◌, ◌≢◌, ◌≤◌, ◌++◌, ◌∷�
 use Rattle.std.specs.List.{AllByRecursion as Each}
 use Rattle.std.proofs.lemmas.Bool.{and_from, le-leb}
 use Rattle.std.proofs.lemmas.Grind.{fold-append}
+use Rattle.e3_types.specs.declared.entries.Entry.{Entry}
 use Rattle.e3_types.specs.declared.records.Record.{Record}
 use Rattle.e3_types.specs.declared.records.Record.TheVariants as log
 use Rattle.e3_types.specs.declared.scenarios.Scenario.{Scenario}
 use Rattle.e3_types.specs.declared.transactions.Txn.{Txn}
 use Rattle.e3_world.specs.Given.{IsGiven}
 use Rattle.e3_world.specs.Logs.{logged_inc}
-use Rattle.e3_world.specs.Moves.{birth, log_of, moves_of}
+use Rattle.e3_world.specs.Legal.{IsLegal}
+use Rattle.e3_world.specs.Moves.{birth, log_by, log_of, moves_at, moves_of, trail_of}
 use Rattle.e3_world.specs.Orderly.{OrderlyAfter, MayFollow, weights_by, weights_in, is_among, is_known}
 use Rattle.e3_world.proofs.Pushes.{life_log_at}
 use Rattle.e3_trails.specs.Bounds.{SuitsLog}
+use Rattle.e3_trails.specs.Claims.{TrailsAreSound, LogsAreOfTrails}
 use Rattle.e3_trails.proofs.Holding.{Holds, legal_holds}
-use Rattle.e3_orderly.specs.Orderly.{VotesFit, Fits, LogsAreOrderly}
+use Rattle.e3_serial.specs.Claims.{LogsAreOrdered}
+use Rattle.e3_orderly.specs.Orderly.{LogsAreOrderly}
 use Rattle.e3_orderly.specs.Turns.{ComesInTurn, InTurnAfter}
 use Rattle.e3_orderly.proofs.Logs.{come_in_turn}
 use Rattle.e3_orderly.proofs.Rows.{rows_ascend}
+use Rattle.e3_orderly.proofs.Few.{votes_are_few}
 use Rattle.e3_orderly.proofs.Shape.{IsSite, Stands, StandAfter, legal_shaped}
+use Rattle.e3_orderly.proofs.Votes.{Fits, VotesFit, votes_fit}
 
 -- the weights of a log that is not empty are the scenario's
 abbrev HasWeights : Scenario → List Record → Type 0
@@ -109,9 +115,17 @@ combine sc site before (r ∷ rest) given has stand suits turn fits = (
   combine sc site (before ++ r ∷ []) rest given (has_more sc site before r has stand.0) stand.1 suits.1 turn.1 fits.1,
 )
 
-pub logs_are_orderly : LogsAreOrderly
-logs_are_orderly sc h site given legal fits =
+-- the votes of a log in a legal history
+legal_fit : TrailsAreSound → LogsAreOfTrails → LogsAreOrdered → (sc : Scenario) (h : List Entry) (site : ℕ) → IsGiven sc → IsLegal sc h → VotesFit [] (log_of sc h site)
+legal_fit sound logs ordered sc h site given legal =
+    let P : List Record → Type 0 = VotesFit [] in
+    let made : List Record = log_by (moves_at site (trail_of sc h)) in
+    subst P (logs sc h site)
+    (votes_fit sc site made [] made refl ((ordered sc h given legal).logs site) (votes_are_few sc (trail_of sc h) site (sound sc h given legal)))
+
+pub logs_are_orderly : TrailsAreSound → LogsAreOfTrails → LogsAreOrdered → LogsAreOrderly
+logs_are_orderly sound logs ordered sc h site given legal =
     let Q : List Record → Type 0 = Each (SuitsLog sc.weights site) in
     let holds : Holds sc h = legal_holds sc h given legal in
     combine sc site [] (log_of sc h site) given (λ e. absurd (e refl)) (legal_shaped sc h site given legal).log
-    (subst Q (life_log_at (moves_of sc h site)) (holds.now.sites site).life.log) (come_in_turn sc h site given legal) fits
+    (subst Q (life_log_at (moves_of sc h site)) (holds.now.sites site).life.log) (come_in_turn sc h site given legal) (legal_fit sound logs ordered sc h site given legal)

@@ -20,8 +20,7 @@ use Rattle.e3_world.proofs.Pushes.{past_push, legal_push}
 use Rattle.e3_world.proofs.Readings.{own_same, own_other, up_same, up_other}
 use Rattle.e3_world.specs.Orderly.{IsOrderly}
 use Rattle.e3_trails.specs.Claims.{tail_records}
-use Rattle.e3_orderly.specs.Orderly.{VotesFit, TailsAreLogs, TailsAreOrderly}
-use Rattle.e3_orderly.proofs.Combining.{logs_are_orderly}
+use Rattle.e3_orderly.specs.Orderly.{LogsAreOrderly, TailsAreLogs, TailsAreOrderly}
 use Rattle.e3_orderly.proofs.Shape.{log_append}
 
 -- some legal history has this log at the site
@@ -173,8 +172,8 @@ tails_are_logs sc h site legal = by (open_tail sc h site) refl
     by None is = (h, legal, sym (append-nil (log_of sc h site)))
     by (Some tl) is = (legal_opens sc h site legal).tail tl is
 
-pub tails_are_orderly : TailsAreOrderly
-tails_are_orderly sc h site given legal fits =
+pub tails_are_orderly : LogsAreOrderly → TailsAreOrderly
+tails_are_orderly orderly sc h site given legal =
     let other = tails_are_logs sc h site legal in
-    let P : List Record → Type 0 = λ l. VotesFit [] l → IsOrderly site l in
-    subst P other.2 (logs_are_orderly sc other.0 site given other.1) fits
+    let P : List Record → Type 0 = IsOrderly site in
+    subst P other.2 (orderly sc other.0 site given other.1)

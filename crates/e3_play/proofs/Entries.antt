@@ -19,8 +19,11 @@ use Rattle.e3_world.proofs.Pushes.{legal_push}
 use Rattle.e3_world.proofs.Readings.{since_push, to_push}
 use Rattle.e3_world.proofs.Rises.{Rising, rise_one, miss_one, next_rise}
 use Rattle.e3_world.proofs.Turns.{fall_on, item_due, through, through_push}
-use Rattle.e3_play.specs.Entering.{AfterInput, AfterItem, AfterPacket, AfterRise, fall_of}
-use Rattle.e3_play.specs.Played.{IsAsked}
+use Rattle.e3_play.proofs.Quiet.{none_pending}
+use Rattle.e3_play.specs.Played.{AfterItem, IsAsked}
+use Rattle.e3_sites.specs.Delivered.{Delivers, Nothing, Then}
+use Rattle.e3_sites.specs.Entering.{AfterInput, AfterRise, fall_of}
+use Rattle.e3_sites.proofs.Packets.{IsOneMore, StaysDelivering, guard_fall, packet_is_one, stays_delivering}
 
 -- the last entry of a legal history meets its guard
 last_guard : (sc : Scenario) (before h : List Entry) (e : Entry) → LegalAfter sc before (h ++ e ∷ []) → Guard sc (before ++ h) e
@@ -33,25 +36,17 @@ pub guard_last : (sc : Scenario) (h : List Entry) (e : Entry) → IsLegal sc (h 
 guard_last sc h e legal = last_guard sc [] h e legal
 
 -- the next site may rise
-may_rise : (sc : Scenario) (h : List Entry) (k : ℕ) → suc k ≤ length sc.weights → Rising sc h k → IsRise sc h (suc k) false 1
-may_rise sc h k some was = guard_last sc h (record { owner = suc k; act = Rise false 1 }) (rise_one sc h k some was).legal
-
 pub turn_to_rise : (sc : Scenario) (h : List Entry) (k : ℕ) → suc k ≤ length sc.weights → Rising sc h k → IsRising sc h (suc k)
-turn_to_rise sc h k some was = (may_rise sc h k some was).rising
+turn_to_rise sc h k some was = (guard_last sc h (record { owner = suc k; act = Rise false 1 }) (rise_one sc h k some was).legal).rising
 
 -- one more site had its rise, however it ended
-pub one_risen : (sc : Scenario) (h more : List Entry) (k : ℕ) → suc k ≤ length sc.weights → Rising sc h k → AfterRise h (suc k) more → Rising sc more (suc k)
-one_risen sc h more k some was (inl rose) = let P : List Entry → Type 0 = λ l. Rising sc l (suc k) in subst P (sym rose) (rise_one sc h k some was)
+pub one_risen : (sc : Scenario) (h more : List Entry) (k : ℕ) → suc k ≤ length sc.weights → Rising sc h k → AfterRise sc h (suc k) more → Rising sc more (suc k)
+one_risen sc h more k some was (inl rose) =
+    let P : List Entry → Type 0 = λ l. Rising sc l (suc k) in subst P (sym rose.entered) (next_rise sc h k (Rise rose.kept rose.inc) was rose.allowed refl refl)
 one_risen sc h more k some was (inr (inl failed)) =
     let P : List Entry → Type 0 = λ l. Rising sc l (suc k) in
-    subst P (sym failed.entered) (next_rise sc h k (RiseFall false 1 failed.why) was (may_rise sc h k some was) refl refl)
+    subst P (sym failed.entered) (next_rise sc h k (RiseFall failed.kept failed.inc failed.why) was failed.allowed refl refl)
 one_risen sc h more k some was (inr (inr missed)) = let P : List Entry → Type 0 = λ l. Rising sc l (suc k) in subst P (sym missed) (miss_one sc h k some was)
-
--- the guard of a fall over one input
-guard_fall : (sc : Scenario) (h : List Entry) (site : ℕ) (i : Input) (why : Why) → 1 ≤ site → is_up_at h site ≡ true → IsDue sc h site i →
-    (made_by sc h site i).records ≢ [] → Guard sc h (fall_of sc h site i why)
-guard_fall sc h zero i why one up due some = absurd (omega (arith, one))
-guard_fall sc h (suc s) i why one up due some = record { up = up; due = (due, tt); some = some; made = sym (append-nil (made_by sc h (suc s) i).records) }
 
 -- a site fell over its item
 item_fallen : (sc : Scenario) (h : List Entry) (before more : List Item) (it : Item) (a : Addressed) (why : Why) → ItemsDone sc h before (it ∷ more) →
@@ -125,77 +120,28 @@ item_is_due sc h before more it a was is up =
     f : Item → Option Addressed
     f = input_of sc (to_line h)
 
-first_is_in : (ps : List Packet) (p : Packet) → slice_get ps 0 ≡ Some p → Contains ps p
-first_is_in [] p is = absurd cc
-first_is_in (x ∷ ps) p is = let same : x ≡ p = cc in let P : Packet → Type 0 = λ y. Contains (x ∷ ps) y in subst P same (0, omega arith, refl)
-
--- the first pending packet may be delivered
-pub packet_due : (sc : Scenario) (h : List Entry) (p : Packet) → Delivering sc h → slice_get (pending sc h) 0 ≡ Some p →
-    IsDue sc h p.to (input.Deliver p)
-packet_due sc h p was first = record {
-  to = refl;
-  is_pending = first_is_in (pending sc h) p first;
-  behind_items = through sc h was.done;
-  in_order = λ calm. first;
-}
-
--- one more packet is delivered or dropped
-pub packet_after : (sc : Scenario) (h next : List Entry) (p : Packet) → Delivering sc h → slice_get (pending sc h) 0 ≡ Some p → AfterPacket sc h p next →
-    Delivering sc next
-packet_after sc h next p was first (inr dropped) =
-    let P : List Entry → Type 0 = λ l. Delivering sc l in subst P (sym dropped.after) (drop_first sc h p was first dropped.down)
-packet_after sc h next p was first (inl delivered) = by delivered.after
-  where
-    P : List Entry → Type 0
-    P l = Delivering sc l
-
-    one : 1 ≤ p.to
-    one = up_some sc h p.to was.legal delivered.up
-
-    by : AfterInput sc h p.to (input.Deliver p) next → Delivering sc next
-    by (inl stepped) = subst P (sym stepped) (deliver_first sc h p was first one delivered.up)
-    by (inr fell) = subst P (sym fell.entered) (record {
-      legal = legal_push sc h _ was.legal (guard_fall sc h p.to (input.Deliver p) fell.why one delivered.up (packet_due sc h p was first) fell.some);
-      done = through_push sc h (fall_of sc h p.to (input.Deliver p) fell.why) refl (λ b is. absurd cc) was.done;
-    })
-
--- it is one entry more, and no line
-pub record IsOneMore (h next : List Entry) : Type 0 where
-  pub entry : Entry
-  pub entered : next ≡ h ++ entry ∷ []
-  pub stays : is_line entry ≡ false
-
-pub packet_is_one : (sc : Scenario) (h next : List Entry) (p : Packet) → AfterPacket sc h p next → IsOneMore h next
-packet_is_one sc h next p (inr dropped) = record { entry = record { owner = 0; act = Drop p.number }; entered = dropped.after; stays = refl }
-packet_is_one sc h next p (inl delivered) = by delivered.after
-  where
-    by : AfterInput sc h p.to (input.Deliver p) next → IsOneMore h next
-    by (inl stepped) = record { entry = entry_of sc h p.to (input.Deliver p); entered = stepped; stays = refl }
-    by (inr fell) = record { entry = fall_of sc h p.to (input.Deliver p) fell.why; entered = fell.entered; stays = refl }
-
 begins_on : (xs ys : List Entry) → begins_with_parts xs ≡ true → begins_with_parts (xs ++ ys) ≡ true
 begins_on [] ys is = absurd cc
 begins_on (x ∷ xs) ys is = is
 
+begins_by : (sc : Scenario) (h now : List Entry) → Delivers sc h now → begins_with_parts (since_line h) ≡ true → begins_with_parts (since_line now) ≡ true
+begins_by sc h now Nothing is = is
+begins_by sc h now (Then last more p before first after) is =
+    let one : IsOneMore last now = packet_is_one sc last now p after in
+    ap (λ l. begins_with_parts (since_line l)) one.entered ∙ ap begins_with_parts (since_push last one.entry one.stays)
+    ∙ begins_on (since_line last) (one.entry ∷ []) (begins_by sc h last before is)
+
 -- what a step asked stays made
-pub asked_on : (sc : Scenario) (h next : List Entry) (p : Packet) (n : ℕ) (items : List Item) → IsAsked sc h n items → slice_get (pending sc h) 0 ≡ Some p →
-    AfterPacket sc h p next → IsAsked sc next n items
-asked_on sc h next p n items was first after = record {
-  delivering = packet_after sc h next p was.delivering first after;
-  at = ap lines one.entered ∙ lines_push h one.entry ∙ rw (one.stays, was.at) (omega arith);
-  present = ap (λ l. present_items sc (to_line l)) one.entered ∙ ap (present_items sc) (to_push h one.entry one.stays) ∙ was.present;
-  parted = λ is. ap (λ l. begins_with_parts (since_line l)) one.entered ∙ ap begins_with_parts (since_push h one.entry one.stays)
-      ∙ begins_on (since_line h) (one.entry ∷ []) (was.parted is);
+pub asked_on : (sc : Scenario) (h now : List Entry) (n : ℕ) (items : List Item) → IsAsked sc h n items → Delivers sc h now → IsAsked sc now n items
+asked_on sc h now n items was delivers = record {
+  delivering = stays.delivering;
+  at = stays.same_lines ∙ was.at;
+  present = ap (present_items sc) stays.same_line ∙ was.present;
+  parted = λ is. begins_by sc h now delivers (was.parted is);
 }
   where
-    one : IsOneMore h next
-    one = packet_is_one sc h next p after
-
-pub longer : (sc : Scenario) (h next : List Entry) (p : Packet) → AfterPacket sc h p next → length next ≡ suc (length h)
-longer sc h next p after =
-    let one : IsOneMore h next = packet_is_one sc h next p after in
-    let more : length (h ++ one.entry ∷ []) ≡ length h + 1 = length-append h (one.entry ∷ []) in
-    ap length one.entered ∙ (omega (arith, more))
+    stays : StaysDelivering sc h now
+    stays = stays_delivering sc h now was.delivering delivers
 
 -- an item is no line
 pub same_after : (sc : Scenario) (h next : List Entry) (it : Item) → AfterItem sc h it next → to_line next ≡ to_line h
@@ -217,3 +163,9 @@ same_after sc h next it after = by (input_of sc (to_line h) it) after
     by : (o : Option Addressed) → came o → to_line next ≡ to_line h
     by None same = ap to_line same
     by (Some a) same = at_turn a (is_up_at h a.site) same
+
+-- a rise sends nothing
+pub rise_quiet : (sc : Scenario) (h more : List Entry) (site : ℕ) → pending sc h ≡ [] → AfterRise sc h site more → pending sc more ≡ []
+rise_quiet sc h more site none (inl rose) = ap (pending sc) rose.entered ∙ none_pending sc h _ refl none
+rise_quiet sc h more site none (inr (inl failed)) = ap (pending sc) failed.entered ∙ none_pending sc h _ refl none
+rise_quiet sc h more site none (inr (inr missed)) = ap (pending sc) missed ∙ none_pending sc h _ refl none

@@ -21,11 +21,9 @@ use Rattle.e3_world.specs.Progress.{up_behind}
 use Rattle.e3_world.proofs.Guards.{up_some}
 use Rattle.e3_world.proofs.Rises.{Rising, rises_through}
 use Rattle.e3_world.proofs.Turns.{true_not_false}
-use Rattle.e3_play.specs.Played.{IsFull, IsSettled, is_parted}
-
--- at the bound
-pub bounded : (sc : Scenario) (h : List Entry) (most : ℕ) → length h ≤ most → most ≤ length h → ¬ IsWhole sc h → IsFull sc h most
-bounded sc h most few many unmade = record { full = omega (arith, few, many); unfinished = unmade }
+use Rattle.e3_play.specs.Played.{IsSettled, is_parted}
+use Rattle.e3_sites.specs.Delivered.{IsFull}
+use Rattle.e3_sites.proofs.Bounds.{bounded, whole_parts}
 
 -- a test that all sites pass is passed by each
 pick : (p : ℕ → Bool) (n k : ℕ) → k < suc n → list_all p (suc n ∷ []) ≡ true → (k < n → p (suc k) ≡ true) → p (suc k) ≡ true
@@ -51,39 +49,6 @@ rise_open sc h k was low whole =
 -- a line is still to come
 pub line_open : (sc : Scenario) (h : List Entry) (k : ℕ) → lines h ≡ k → suc k ≤ length sc.steps → ¬ IsWhole sc h
 line_open sc h k at more whole = let last : lines h ≡ length sc.steps = whole.last in absurd (omega (arith, at, more, last))
-
-through_parts : (sc : Scenario) (h : List Entry) (n : ℕ) → lines h ≡ suc n → is_through sc h ≡ true → (pending sc h ≡ []) × (is_made sc h ≡ true)
-through_parts sc h n line all = by (pending sc h) refl
-  where
-    is_empty : List Packet → Bool
-    is_empty [] = true
-    is_empty (p ∷ ps) = false
-
-    at : ℕ → Bool
-    at zero = list_all (has_rising h) (all_sites sc)
-    at (suc n) = is_empty (pending sc h) && is_made sc h
-
-    left : List Packet → Bool
-    left ps = is_empty ps && is_made sc h
-
-    both : (is_empty (pending sc h) && is_made sc h) ≡ true
-    both = sym (ap at line) ∙ all
-
-    by : (ps : List Packet) → pending sc h ≡ ps → (pending sc h ≡ []) × (is_made sc h ≡ true)
-    by [] none = (none, sym (ap left none) ∙ both)
-    by (p ∷ ps) some = absurd (true_not_false (sym both ∙ ap left some))
-
-some_line : (n : ℕ) → n ≢ 0 → (k : ℕ) × (n ≡ suc k)
-some_line zero none = absurd (none refl)
-some_line (suc k) none = (k, refl)
-
-pub whole_parts : (sc : Scenario) (h : List Entry) → lines h ≢ 0 → IsWhole sc h → (pending sc h ≡ []) × (is_made sc h ≡ true)
-whole_parts sc h begun whole = let line : (k : ℕ) × (lines h ≡ suc k) = some_line (lines h) begun in through_parts sc h line.0 line.1 whole.through
-
--- a packet is pending
-pub packet_open : (sc : Scenario) (h : List Entry) (p : Packet) → lines h ≢ 0 → slice_get (pending sc h) 0 ≡ Some p → ¬ IsWhole sc h
-packet_open sc h p begun first whole = let none : pending sc h ≡ [] = (whole_parts sc h begun whole).0 in
-    absurd (let same : slice_get (pending sc h) 0 ≡ None = ap (λ ps. slice_get ps 0) none in let both : Some p ≡ None = sym first ∙ same in cc)
 
 -- the parts are still to come
 pub parts_open : (sc : Scenario) (h : List Entry) (items : List Item) → lines h ≢ 0 → present_items sc h ≡ items → is_parted items ≡ true → since_line h ≡ [] →
@@ -182,8 +147,8 @@ rise_full sc h k most was low few many = bounded sc h most few many (rise_open s
 pub line_full : (sc : Scenario) (h : List Entry) (k most : ℕ) → IsSettled sc h k → suc k ≤ length sc.steps → length h ≤ most → most ≤ length h → IsFull sc h most
 line_full sc h k most was more few many = bounded sc h most few many (line_open sc h k was.at more)
 
-pub risen : (sc : Scenario) (h : List Entry) (k count : ℕ) → Rising sc h k → count ≡ length sc.weights → count ≤ k → k ≤ count → IsSettled sc h 0
-risen sc h k count was all many few =
+pub risen : (sc : Scenario) (h : List Entry) (k count : ℕ) → Rising sc h k → pending sc h ≡ [] → count ≡ length sc.weights → count ≤ k → k ≤ count → IsSettled sc h 0
+risen sc h k count was none all many few =
     let P : ℕ → Type 0 = λ n. Rising sc h n in
     let same : k ≡ length sc.weights = omega (arith, all, many, few) in
-    record { legal = was.legal; at = was.before_lines; through = rises_through sc h (subst P same was) }
+    record { legal = was.legal; at = was.before_lines; none = none; through = rises_through sc h (subst P same was) }

@@ -15,7 +15,8 @@ use Rattle.e3_world.specs.Progress.{ItemsDone}
 use Rattle.e3_world.specs.declared.names.Addressed.{Addressed}
 use Rattle.e3_world.proofs.Guards.{at_index, due, item_no}
 use Rattle.e3_world.proofs.Lines.{lines_to}
-use Rattle.e3_play.specs.Entering.{AfterItem, IsFirst}
+use Rattle.e3_play.specs.Played.{AfterItem}
+use Rattle.e3_sites.specs.Entering.{IsFirst}
 use Rattle.e3_play.proofs.Entries.{item_after, item_is_due}
 use Rattle.e3_play.proofs.Full.{item_open}
 use Rattle.e3_play.proofs.Steps.{present_is}

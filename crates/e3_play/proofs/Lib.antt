@@ -2,7 +2,10 @@ pub mod Answered
 pub mod Splitting
 pub mod Counting
 pub mod ByName
+pub mod Quiet
 pub mod Entries
 pub mod Full
 pub mod Steps
+pub mod Settling
+pub mod Forms
 pub mod GroupItems

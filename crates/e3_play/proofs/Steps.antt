@@ -18,30 +18,13 @@ use Rattle.e3_world.proofs.Lines.{begin_step, end_step, lines_to}
 use Rattle.e3_world.proofs.Pushes.{legal_push}
 use Rattle.e3_world.proofs.Readings.{since_push, split_push, to_push}
 use Rattle.e3_world.proofs.Turns.{through_push}
-use Rattle.e3_play.proofs.Full.{bounded, parts_open}
-use Rattle.e3_play.specs.Played.{IsAsked, IsFull, IsSettled, is_parted, is_played, parts_asked}
+use Rattle.e3_play.proofs.Full.{parts_open}
+use Rattle.e3_play.specs.Played.{IsAsked, IsSettled, is_asking, is_parted, parts_asked}
+use Rattle.e3_sites.specs.Delivered.{IsFull}
+use Rattle.e3_sites.proofs.Bounds.{bounded}
 
 pub next_is_line : (sc : Scenario) (h : List Entry) (k : ℕ) → IsSettled sc h k → suc k ≤ length sc.steps → IsLine sc h (suc k)
 next_is_line sc h k was more = record { next = ap suc (sym was.at); exists = more; through = was.through }
-
--- behind the line of a step
-pub record IsBegun (sc : Scenario) (h : List Entry) (k : ℕ) : Type 0 where
-  pub items : ItemsDone sc h [] (step_items sc (suc k))
-  pub fresh : since_line h ≡ []
-  pub at : lines h ≡ suc k
-
-pub line_begins : (sc : Scenario) (h next : List Entry) (k number : ℕ) → number ≡ suc k → IsSettled sc h k → suc k ≤ length sc.steps →
-    next ≡ h ++ record { owner = 0; act = Line number } ∷ [] → IsBegun sc next k
-line_begins sc h next k number counted was more entered =
-    let P : List Entry → Type 0 = λ l. IsBegun sc l k in
-    subst P (sym (entered ∙ ap (λ n. h ++ record { owner = 0; act = Line n } ∷ []) counted)) (record {
-      items = begin_step sc h k was.legal was.at more was.through;
-      fresh = ap (λ w. w.since) (split_push h e);
-      at = lines_push h e ∙ (let at : lines h ≡ k = was.at in omega (arith, at));
-    })
-  where
-    e : Entry
-    e = record { owner = 0; act = Line (suc k) }
 
 -- the present items, by the history or by its part up to the last line
 pub present_is : (sc : Scenario) (h : List Entry) → present_items sc (to_line h) ≡ present_items sc h
@@ -117,7 +100,7 @@ grouped sc h next items was group done same = record {
 }
 
 -- the kinds of steps that are played
-kind : (items : List Item) → is_played items ≡ true → (list_all is_groupable items ≡ true) ⊎ (is_parted items ≡ true)
+kind : (items : List Item) → is_asking items ≡ true → (list_all is_groupable items ≡ true) ⊎ (is_parted items ≡ true)
 kind [] played = inl refl
 kind (item.Split parts ∷ []) played = inr refl
 kind (item.Merge ∷ []) played = inr refl
@@ -155,22 +138,13 @@ parts_made sc h (item.Restart site ∷ xs) is alone begins = absurd cc
 parts_made sc h (item.Stop site count leave ∷ xs) is alone begins = absurd cc
 
 -- the step ends
-pub step_settles : (sc : Scenario) (h : List Entry) (n : ℕ) (items : List Item) → IsAsked sc h (suc n) items → is_played items ≡ true → pending sc h ≡ [] →
+pub step_settles : (sc : Scenario) (h : List Entry) (n : ℕ) (items : List Item) → IsAsked sc h (suc n) items → is_asking items ≡ true → pending sc h ≡ [] →
     IsSettled sc h (suc n)
-step_settles sc h n items was played none = record { legal = was.delivering.legal; at = was.at; through = by (kind items played) }
+step_settles sc h n items was played none = record { legal = was.delivering.legal; at = was.at; none = none; through = by (kind items played) }
   where
     by : (list_all is_groupable items ≡ true) ⊎ (is_parted items ≡ true) → is_through sc h ≡ true
     by (inl group) = end_step sc h n items was.delivering was.at was.present group none
     by (inr alone) = step_through sc h n was.at none (parts_made sc h items (sym (present_is sc h) ∙ was.present) alone (was.parted alone))
-
--- the items of a step are of a kind that is played
-played_at : (steps : List (List Item)) (k : ℕ) → list_all is_played steps ≡ true → is_played (items_or (slice_get steps k)) ≡ true
-played_at [] k all = refl
-played_at (items ∷ steps) zero all = (and_parts (is_played items) (list_all is_played steps) all).0
-played_at (items ∷ steps) (suc k) all = played_at steps k (and_parts (is_played items) (list_all is_played steps) all).1
-
-pub step_is_played : (sc : Scenario) (k : ℕ) → list_all is_played sc.steps ≡ true → is_played (step_items sc (suc k)) ≡ true
-step_is_played sc k all = played_at sc.steps k all
 
 pub whole_end : (sc : Scenario) (h : List Entry) (k : ℕ) → IsSettled sc h k → k ≡ length sc.steps → IsWhole sc h
 whole_end sc h k was all = record { legal = was.legal; last = was.at ∙ all; through = was.through }
@@ -195,7 +169,7 @@ asks_parts sc (item.Crash site ∷ xs) parts is = absurd cc
 asks_parts sc (item.Restart site ∷ xs) parts is = absurd cc
 asks_parts sc (item.Stop site count leave ∷ xs) parts is = absurd cc
 
-pub asks_items : (sc : Scenario) (items : List Item) → is_played items ≡ true → parts_asked sc items ≡ None → list_all is_groupable items ≡ true
+pub asks_items : (sc : Scenario) (items : List Item) → is_asking items ≡ true → parts_asked sc items ≡ None → list_all is_groupable items ≡ true
 asks_items sc [] played is = refl
 asks_items sc (item.Split parts ∷ []) played is = absurd cc
 asks_items sc (item.Merge ∷ []) played is = absurd cc
@@ -227,23 +201,3 @@ pub parts_entered : (sc : Scenario) (h next : List Entry) (items : List Item) (p
     parts_asked sc items ≡ Some parts → next ≡ h ++ record { owner = 0; act = Parts parts } ∷ [] → IsAsked sc next (lines h) items
 parts_entered sc h next items parts was fresh is entered =
     parted sc h next items parts was fresh (asks_parts sc items parts is).0 (asks_parts sc items parts is).1 entered
-
--- in the words of the program: behind the packets of a step
-pub settled_behind : (sc own : Scenario) (begun asked last : List Entry) (k : ℕ) (items : List Item) → own ≡ sc → items ≡ step_items sc (suc k) → lines begun ≡ suc k →
-    list_all is_played sc.steps ≡ true → IsAsked sc asked (lines begun) items →
-    IsAsked own last (lines asked) (present_items own (to_line asked)) → pending own last ≡ [] → IsSettled sc last (suc k)
-settled_behind sc own begun asked last k items same is at form was now none =
-    step_settles sc last k items ended (let P : List Item → Type 0 = λ l. is_played l ≡ true in subst P (sym is) (step_is_played sc k form))
-    (ap (λ s. pending s last) (sym same) ∙ none)
-  where
-    lined : lines asked ≡ suc k
-    lined = was.at ∙ at
-
-    ended : IsAsked sc last (suc k) items
-    ended = ended_by (let P : Scenario → Type 0 = λ s. IsAsked s last (lines asked) (present_items s (to_line asked)) in subst P same now)
-      where
-        ended_by : IsAsked sc last (lines asked) (present_items sc (to_line asked)) → IsAsked sc last (suc k) items
-        ended_by it =
-            let P : ℕ → Type 0 = λ n. IsAsked sc last n items in
-            let Q : List Item → Type 0 = λ l. IsAsked sc last (lines asked) l in
-            subst P lined (subst Q was.present it)

@@ -1,3 +1,3 @@
-pub mod Entering
 pub mod Inputs
+pub mod Kinds
 pub mod Played

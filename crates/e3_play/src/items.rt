@@ -2,9 +2,9 @@
 ghost use Rattle.std.specs.Prelude.{◌≡◌, ◌≢◌, [], Some, true, OnOk, OnErr, Err};
 ghost use Rattle.std.specs.List.{list_all};
 ghost use Rattle.e3_world.specs.Given.{is_groupable};
-ghost use Rattle.e3_play.specs.Entering.{AfterItem};
-ghost use Rattle.e3_play.specs.Played.{IsFull};
-ghost use Rattle.e3_play.specs.declared.sites.RunFault.TheVariants.{HistoryFull};
+ghost use Rattle.e3_play.specs.Played.{AfterItem};
+ghost use Rattle.e3_sites.specs.Delivered.{IsFull};
+ghost use Rattle.e3_sites.specs.declared.sites.RunFault.TheVariants.{HistoryFull};
 ghost use Rattle.e3_world.specs.Items.{input_of, is_up_at, to_line};
 ghost use Rattle.e3_world.specs.Legal.{IsDue, IsWhole};
 ghost use Rattle.e3_world.specs.Packets.{lines};
@@ -13,12 +13,12 @@ ghost use Rattle.e3_world.specs.declared.names.Addressed.{Addressed};
 
 use crate::lines::to_line;
 use crate::naming::input_of;
-use crate::{RunFault, Sites};
+use e3_sites::{RunFault, Sites};
 use e3_types::{Item, Scenario};
 use std::alloc::Global;
 
 // One item: its input goes to its site. It is passed over where its name is not bound, and where its site is down.
-#[tactic(auto, using(crate::proofs::Full::bounded, crate::proofs::GroupItems::item_is_first))]
+#[tactic(auto, using(e3_sites::proofs::Bounds::bounded, crate::proofs::GroupItems::item_is_first))]
 fn take_item<S: Sites>(
     alloc: Global,
     scenario: &Scenario,

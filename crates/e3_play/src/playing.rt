@@ -1,18 +1,21 @@
 // A scenario, step by step.
 ghost use Rattle.std.specs.Prelude.{◌≡◌, ◌≢◌, ◌≤◌, ◌<◌, ◌^◌, [], suc, true, length, OnOk, Err};
-ghost use Rattle.e3_play.specs.Played.{IsAsked, IsFull, IsPlayed, IsSettled, is_played};
-ghost use Rattle.e3_play.specs.declared.sites.RunFault.TheVariants.{HistoryFull};
-ghost use Rattle.e3_world.specs.Items.{since_line, to_line};
+ghost use Rattle.e3_play.specs.Played.{IsAsked, IsFresh, IsSettled, is_asking};
+ghost use Rattle.e3_sites.specs.Delivered.{IsFull};
+ghost use Rattle.e3_sites.specs.declared.sites.RunFault.TheVariants.{HistoryFull};
+ghost use Rattle.e3_world.specs.Given.{IsGiven};
+ghost use Rattle.e3_world.specs.Items.{since_line};
 ghost use Rattle.e3_world.specs.Legal.{IsWhole};
 ghost use Rattle.e3_world.specs.Packets.{lines};
 ghost use Rattle.e3_world.specs.Progress.{ItemsDone};
 
-use crate::delivering::deliver_all;
+use crate::alone::{crash, recovery, restart};
 use crate::items::play_items;
+use crate::kinds::{Kind, kind_of};
 use crate::lines::step_items;
 use crate::parting::parts_asked;
 use crate::rising::rise_all;
-use crate::{RunFault, Sites};
+use e3_sites::{RunFault, Sites, deliver_all};
 use e3_types::{Item, Scenario};
 use std::alloc::Global;
 
@@ -25,7 +28,7 @@ fn ask<S: Sites>(
 ) -> Result<(), RunFault>
     requires played { S.scenario sites.old ≡ scenario.now }
     requires standing { S.stands sites.old }
-    requires form { is_played items.now ≡ true }
+    requires form { is_asking items.now ≡ true }
     requires begun { ItemsDone scenario.now (S.entries sites.old) [] items.now }
     requires fresh { since_line (S.entries sites.old) ≡ [] }
     requires line { lines (S.entries sites.old) ≢ 0 }
@@ -41,7 +44,29 @@ fn ask<S: Sites>(
     }
 }
 
-// The step of the next number: its line, what it asks for, and the packets.
+// A group, a split or a merge: what it asks for, and the packets.
+fn exchange<S: Sites>(
+    alloc: Global,
+    scenario: &Scenario,
+    sites: &mut S,
+    items: &[Item],
+) -> Result<(), RunFault>
+    requires played { S.scenario sites.old ≡ scenario.now }
+    requires standing { S.stands sites.old }
+    requires form { is_asking items.now ≡ true }
+    requires fresh { IsFresh scenario.now (S.entries sites.old) items.now }
+    requires begun { ItemsDone scenario.now (S.entries sites.old) [] items.now }
+    ensures stands { S.stands sites.new }
+    ensures since { (start : S) → S.since start sites.old → S.since start sites.new }
+    ensures same { (S.scenario sites.new ≡ S.scenario sites.old) × (S.most sites.new ≡ S.most sites.old) }
+    ensures settles { OnOk result (IsSettled scenario.now (S.entries sites.new) (lines (S.entries sites.old))) }
+    ensures full { result ≡ Err HistoryFull → IsFull scenario.now (S.entries sites.new) (S.most sites.old) }
+{
+    ask(alloc, scenario, sites, items)?;
+    deliver_all(sites)
+}
+
+// The step of the next number: its line, and what it does behind it. The line of a stop arms the disk, and that is all.
 fn play_step<S: Sites>(
     alloc: Global,
     scenario: &Scenario,
@@ -50,7 +75,7 @@ fn play_step<S: Sites>(
 ) -> Result<(), RunFault>
     requires played { S.scenario sites.old ≡ scenario.now }
     requires standing { S.stands sites.old }
-    requires form { IsPlayed scenario.now }
+    requires given { IsGiven scenario.now }
     requires more { suc done ≤ length scenario.now.steps }
     requires few { length scenario.now.steps < 2 ^ 32 }
     requires settled { IsSettled scenario.now (S.entries sites.old) done }
@@ -61,9 +86,26 @@ fn play_step<S: Sites>(
     ensures full { result ≡ Err HistoryFull → IsFull scenario.now (S.entries sites.new) (S.most sites.old) }
 {
     let number = done + 1;
-    sites.line(number)?;
-    ask(alloc, scenario, sites, step_items(scenario, number))?;
-    deliver_all(sites)
+    let items = step_items(scenario, number);
+    match kind_of(items) {
+        Kind::Stop { site, calls, leave } => sites.stop(number, site, calls, leave),
+        Kind::Crash { site } => {
+            sites.line(number)?;
+            crash(sites, site)
+        }
+        Kind::Restart { site } => {
+            sites.line(number)?;
+            restart(sites, site)
+        }
+        Kind::Recovery { group } => {
+            sites.line(number)?;
+            recovery(alloc, sites, group)
+        }
+        Kind::Exchange => {
+            sites.line(number)?;
+            exchange(alloc, scenario, sites, items)
+        }
+    }
 }
 
 /// Plays a scenario from its first rises to its end, on one thread: items in their order, the packet of least number
@@ -71,7 +113,7 @@ fn play_step<S: Sites>(
 pub fn play<S: Sites>(alloc: Global, scenario: &Scenario, sites: &mut S) -> Result<(), RunFault>
     requires played { S.scenario sites.old ≡ scenario.now }
     requires standing { S.stands sites.old }
-    requires form { IsPlayed scenario.now }
+    requires given { IsGiven scenario.now }
     requires few_sites { length scenario.now.weights < 2 ^ 32 }
     requires empty { S.entries sites.old ≡ [] }
     ensures stands { S.stands sites.new }

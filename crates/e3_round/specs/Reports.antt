@@ -1,13 +1,13 @@
 -- What a recovery step leaves, and what is reported of its rounds.
 use Rattle.std.specs.Prelude.{◌≡◌, [], List, if◌then◌else◌, fold, Option, Some, None}
 use Rattle.std.specs.List.{flat_map}
-use Rattle.e3_round.specs.declared.recovering.RoundReport.{RoundReport}
+use Rattle.e3_round.specs.declared.reporting.RoundReport.{RoundReport}
 use Rattle.e3_types.specs.declared.entries.Act.{Act}
 use Rattle.e3_types.specs.declared.entries.Act.TheVariants.{Step}
 use Rattle.e3_types.specs.declared.entries.Entry.{Entry}
 use Rattle.e3_types.specs.declared.entries.Told.{Told}
 use Rattle.e3_types.specs.declared.entries.Told.TheVariants as told
-use Rattle.e3_types.specs.declared.entries.Verdict.{Verdict}
+use Rattle.e3_types.specs.declared.verdicts.Verdict.{Verdict}
 use Rattle.e3_types.specs.declared.scenarios.Scenario.{Scenario}
 use Rattle.e3_types.specs.declared.transactions.Txn.{Txn}
 use Rattle.e3_types.specs.Same.{same_txn}

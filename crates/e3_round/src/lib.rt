@@ -4,5 +4,7 @@
 
 mod listing;
 mod recovering;
+mod reporting;
 
-pub use recovering::{RoundReport, recover};
+pub use recovering::recover;
+pub use reporting::RoundReport;

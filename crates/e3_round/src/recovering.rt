@@ -1,23 +1,45 @@
 // The rounds of a recovery step.
-ghost use Rattle.std.specs.Prelude.{◌≡◌, ◌∷◌, [], map, IfOk, OnOk, Err};
+ghost use Rattle.std.specs.Prelude.{◌≡◌, ◌≢◌, ◌∷◌, [], map, true, Some, IfOk, OnOk, Err};
 ghost use Rattle.e3_round.specs.Reports.{IsRecovered, report_of};
+ghost use Rattle.e3_round.specs.Rounds.{AfterRound};
 ghost use Rattle.e3_sites.specs.Delivered.{IsFull};
 ghost use Rattle.e3_sites.specs.declared.sites.RunFault.TheVariants.{HistoryFull};
 ghost use Rattle.e3_types.specs.declared.scenarios.Item.TheVariants as item;
-ghost use Rattle.e3_world.specs.Items.{listed, since_line};
-ghost use Rattle.e3_world.specs.Legal.{IsLegal};
-ghost use Rattle.e3_world.specs.Packets.{pending, present_items};
+ghost use Rattle.e3_world.specs.Items.{due_round, is_up_at, listed, since_line};
+ghost use Rattle.e3_world.specs.Packets.{lines, pending, present_items};
+ghost use Rattle.e3_world.specs.Progress.{Delivering};
 
+use crate::listing::{Round, listed};
+use crate::reporting::{RoundReport, reports_of};
 use e3_sites::{RunFault, Sites, deliver_all};
-use e3_types::{Input, List, NoMemory, SiteSet, Txn, Verdict};
+use e3_types::{Input, List, SiteSet};
 use std::alloc::Global;
 
-/// What came of the round of a transaction: the verdict that its elector told. There is none where the elector was down at
-/// its turn or fell, and where a member did not answer.
-#[derive(Drop)]
-pub struct RoundReport {
-    pub txn: Txn,
-    pub verdict: Option<Verdict>,
+// A round at its turn: its elector elects with the members, and packets are delivered. Where it is down, nothing is done.
+fn make_round<S: Sites>(sites: &mut S, round: &Round) -> Result<(), RunFault>
+    requires standing { S.stands sites.old }
+    requires delivering { Delivering (S.scenario sites.old) (S.entries sites.old) }
+    requires begun { lines (S.entries sites.old) ≢ 0 }
+    requires settled { pending (S.scenario sites.old) (S.entries sites.old) ≡ [] }
+    requires turn { is_up_at (S.entries sites.old) round.now.elector ≡ true →
+        due_round (S.scenario sites.old) (S.entries sites.old) ≡ Some round.now }
+    ensures stands { S.stands sites.new }
+    ensures since { (start : S) → S.since start sites.old → S.since start sites.new }
+    ensures same { (S.scenario sites.new ≡ S.scenario sites.old) × (S.most sites.new ≡ S.most sites.old) }
+    ensures made { OnOk result (AfterRound (S.scenario sites.old) (S.entries sites.old) round.now (S.entries sites.new)) }
+    ensures full { result ≡ Err HistoryFull → IsFull (S.scenario sites.old) (S.entries sites.new) (S.most sites.old) }
+{
+    if !sites.is_up(round.elector) {
+        return Ok(());
+    }
+    sites.input(
+        round.elector,
+        Input::Elect {
+            txn: round.txn,
+            group: round.members,
+        },
+    )?;
+    deliver_all(sites)
 }
 
 /// Makes the recovery rounds of a group: in ascending order for each transaction that is open at a member that is up. Its
@@ -42,5 +64,14 @@ pub fn recover<S: Sites>(
         map (report_of (since_line (S.entries sites.new))) (listed (S.scenario sites.old) (S.entries sites.old) group)) }
     ensures full { result ≡ Err HistoryFull → IsFull (S.scenario sites.old) (S.entries sites.new) (S.most sites.old) }
 {
-    todo
+    let rounds = listed(alloc, sites, group)?;
+    let from = sites.history().len();
+    for round in rounds.as_slice() {
+        make_round(sites, round)?;
+    }
+    Ok(reports_of(
+        alloc,
+        &sites.history()[from..],
+        rounds.as_slice(),
+    )?)
 }

@@ -11,7 +11,7 @@ use crate::{RunFault, Sites};
 use e3_types::{Input, Packet};
 
 // The first pending packet: its site takes it, or it is dropped where that site is down.
-#[tactic(auto, using(crate::proofs::Entries::packet_due, crate::proofs::Full::bounded, crate::proofs::Full::packet_open))]
+#[tactic(auto, using(crate::proofs::Packets::packet_due, crate::proofs::Bounds::bounded, crate::proofs::Bounds::packet_open))]
 fn deliver<S: Sites>(sites: &mut S, packet: Packet) -> Result<(), RunFault>
     requires standing { S.stands sites.old }
     requires delivering { Delivering (S.scenario sites.old) (S.entries sites.old) }

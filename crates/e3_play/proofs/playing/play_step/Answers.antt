@@ -1,39 +1,127 @@
-use Rattle.std.proofs.Common.{◌≡◌, ◌∙◌, ◌+◌, sym, subst, ap, suc, arith, List, [], true}
+use Rattle.std.proofs.Common.{◌≡◌, ◌≤◌, ◌∙◌, ◌+◌, ◌∷◌, [], ℕ, suc, sym, subst, ap, length, arith, List}
 use Rattle.e3_types.specs.declared.scenarios.Item.{Item}
-use Rattle.e3_world.specs.Packets.{step_items}
+use Rattle.e3_types.specs.declared.scenarios.Item.TheVariants as item
+use Rattle.e3_types.specs.declared.scenarios.Scenario.{Scenario}
+use Rattle.e3_world.specs.Packets.{lines, step_items}
 use Rattle.e3_world.specs.Progress.{ItemsDone}
-use Rattle.e3_play.specs.Played.{is_played}
-use Rattle.e3_play.proofs.Answered.{on_ok_two}
-use Rattle.e3_play.proofs.Steps.{IsBegun, line_begins, settled_behind, step_is_played}
+use Rattle.e3_play.specs.Played.{IsFresh, IsSettled, IsStep}
+use Rattle.e3_play.proofs.Answered.{on_ok}
+use Rattle.e3_play.proofs.Forms.{alone_is, crash_is, exchange_asks, no_stop, recovery_is, restart_exists, restart_is, step_is_given, stop_is}
+use Rattle.e3_play.proofs.Settling.{IsBegun, line_begins, stop_settles}
 use Rattle.e3_play.proofs.playing.play_step.Goals as goal
 
-pub ask-requires-clause-form : goal.ask-requires-clause-form
-ask-requires-clause-form g c =
-    let P : List Item → Type 0 = λ items. is_played items ≡ true in
+pub stop-requires-clause-some : goal.stop-requires-clause-some
+stop-requires-clause-some g c =
+    let items : List Item = c.step_items-items.result.now in
     let next : c.args.done + 1 ≡ suc c.args.done = omega arith in
-    subst P (sym (c.step_items.ensures ∙ ap (step_items c.args.scenario.now) next)) (step_is_played c.args.scenario.now c.args.done c.requires.form)
+    let step : IsStep c.args.scenario.now items = subst (λ l. IsStep c.args.scenario.now l) (sym (c.step_items-items.ensures ∙ ap (step_items c.args.scenario.now) next)) (step_is_given c.args.scenario.now c.args.done c.requires.given) in
+    (alone_is c.args.scenario.now items c.in-Stop.site c.in-Stop.calls c.in-Stop.leave (stop_is items c.in-Stop.site c.in-Stop.calls c.in-Stop.leave (sym c.kind_of.ensures ∙ c.in-Stop.is)) step).0
 
-pub ask-requires-clause-begun : goal.ask-requires-clause-begun
-ask-requires-clause-begun g c =
-    let P : List Item → Type 0 = λ items. ItemsDone c.args.scenario.now (g.S.Sites.entries c.line.new.self) [] items in
+pub stop-requires-clause-least : goal.stop-requires-clause-least
+stop-requires-clause-least g c =
+    let items : List Item = c.step_items-items.result.now in
     let next : c.args.done + 1 ≡ suc c.args.done = omega arith in
-    let begun : IsBegun c.args.scenario.now (g.S.Sites.entries c.line.new.self) c.args.done =
-    line_begins c.args.scenario.now (g.S.Sites.entries c.args.sites.now) (g.S.Sites.entries c.line.new.self) c.args.done (c.args.done + 1) next
-    c.requires.settled c.requires.more c.in_ok-line.ensures.entered in
-    subst P (sym (c.step_items.ensures ∙ ap (step_items c.args.scenario.now) next)) begun.items
+    let step : IsStep c.args.scenario.now items = subst (λ l. IsStep c.args.scenario.now l) (sym (c.step_items-items.ensures ∙ ap (step_items c.args.scenario.now) next)) (step_is_given c.args.scenario.now c.args.done c.requires.given) in
+    (alone_is c.args.scenario.now items c.in-Stop.site c.in-Stop.calls c.in-Stop.leave (stop_is items c.in-Stop.site c.in-Stop.calls c.in-Stop.leave (sym c.kind_of.ensures ∙ c.in-Stop.is)) step).1
 
-pub returns-clause-settles : goal.returns-clause-settles
-returns-clause-settles g c =
+pub stop-requires-clause-exists : goal.stop-requires-clause-exists
+stop-requires-clause-exists g c =
+    let items : List Item = c.step_items-items.result.now in
+    let next : c.args.done + 1 ≡ suc c.args.done = omega arith in
+    let step : IsStep c.args.scenario.now items = subst (λ l. IsStep c.args.scenario.now l) (sym (c.step_items-items.ensures ∙ ap (step_items c.args.scenario.now) next)) (step_is_given c.args.scenario.now c.args.done c.requires.given) in
+    subst (λ (sc : Scenario). c.in-Stop.site ≤ length sc.weights) (sym c.requires.played)
+    (alone_is c.args.scenario.now items c.in-Stop.site c.in-Stop.calls c.in-Stop.leave (stop_is items c.in-Stop.site c.in-Stop.calls c.in-Stop.leave (sym c.kind_of.ensures ∙ c.in-Stop.is)) step).2
+
+pub crash-requires-clause-fresh : goal.crash-requires-clause-fresh
+crash-requires-clause-fresh g c =
     let S = g.S.Sites in
     let sc = c.args.scenario.now in
     let next : c.args.done + 1 ≡ suc c.args.done = omega arith in
     let begun : IsBegun sc (S.entries c.line.new.self) c.args.done =
-    line_begins sc (S.entries c.args.sites.now) (S.entries c.line.new.self) c.args.done (c.args.done + 1) next
-    c.requires.settled c.requires.more c.in_ok-line.ensures.entered in
-    let same : S.scenario c.ask.new.sites ≡ sc =
-    c.in_ok-ask.ensures.same.0
-    ∙ c.in_ok-line.ensures.same.0 ∙ c.requires.played in
-    on_ok_two c.deliver_all.result
-    (settled_behind sc (S.scenario c.ask.new.sites) (S.entries c.line.new.self) (S.entries c.ask.new.sites) (S.entries c.deliver_all.new.sites) c.args.done
-    c.step_items.result.now same (c.step_items.ensures ∙ ap (step_items sc) next) begun.at c.requires.form c.in_ok-ask.ensures.asked)
-    c.deliver_all.ensures.asked c.deliver_all.ensures.settled
+    line_begins sc (S.entries c.args.sites.now) (S.entries c.line.new.self) c.args.done (c.args.done + 1) next c.requires.settled c.requires.more c.in_ok-line-in-Crash.ensures.entered in
+    let items : c.step_items-items.result.now ≡ item.Crash c.in-Crash.site ∷ [] = crash_is c.step_items-items.result.now c.in-Crash.site (sym c.kind_of.ensures ∙ c.in-Crash.is) in
+    let fresh : IsFresh sc (S.entries c.line.new.self) (item.Crash c.in-Crash.site ∷ []) =
+    subst (λ l. IsFresh sc (S.entries c.line.new.self) l) (sym (c.step_items-items.ensures ∙ ap (step_items sc) next) ∙ items) begun.fresh in
+    subst (λ it. IsFresh it (S.entries c.line.new.self) (item.Crash c.in-Crash.site ∷ [])) (sym (c.in_ok-line-in-Crash.ensures.same.0 ∙ c.requires.played)) fresh
+
+pub restart-requires-clause-fresh : goal.restart-requires-clause-fresh
+restart-requires-clause-fresh g c =
+    let S = g.S.Sites in
+    let sc = c.args.scenario.now in
+    let next : c.args.done + 1 ≡ suc c.args.done = omega arith in
+    let begun : IsBegun sc (S.entries c.line-in-Restart.new.self) c.args.done =
+    line_begins sc (S.entries c.args.sites.now) (S.entries c.line-in-Restart.new.self) c.args.done (c.args.done + 1) next c.requires.settled c.requires.more c.in_ok-line-in-Restart.ensures.entered in
+    let items : c.step_items-items.result.now ≡ item.Restart c.in-Restart.site ∷ [] = restart_is c.step_items-items.result.now c.in-Restart.site (sym c.kind_of.ensures ∙ c.in-Restart.is) in
+    let fresh : IsFresh sc (S.entries c.line-in-Restart.new.self) (item.Restart c.in-Restart.site ∷ []) =
+    subst (λ l. IsFresh sc (S.entries c.line-in-Restart.new.self) l) (sym (c.step_items-items.ensures ∙ ap (step_items sc) next) ∙ items) begun.fresh in
+    subst (λ it. IsFresh it (S.entries c.line-in-Restart.new.self) (item.Restart c.in-Restart.site ∷ [])) (sym (c.in_ok-line-in-Restart.ensures.same.0 ∙ c.requires.played)) fresh
+
+pub restart-requires-clause-exists : goal.restart-requires-clause-exists
+restart-requires-clause-exists g c =
+    let items : List Item = c.step_items-items.result.now in
+    let next : c.args.done + 1 ≡ suc c.args.done = omega arith in
+    let step : IsStep c.args.scenario.now items = subst (λ l. IsStep c.args.scenario.now l) (sym (c.step_items-items.ensures ∙ ap (step_items c.args.scenario.now) next)) (step_is_given c.args.scenario.now c.args.done c.requires.given) in
+    subst (λ (sc : Scenario). c.in-Restart.site ≤ length sc.weights) (sym (c.in_ok-line-in-Restart.ensures.same.0 ∙ c.requires.played))
+    (restart_exists c.args.scenario.now items c.in-Restart.site (restart_is items c.in-Restart.site (sym c.kind_of.ensures ∙ c.in-Restart.is)) step)
+
+pub recovery-requires-clause-fresh : goal.recovery-requires-clause-fresh
+recovery-requires-clause-fresh g c =
+    let S = g.S.Sites in
+    let sc = c.args.scenario.now in
+    let next : c.args.done + 1 ≡ suc c.args.done = omega arith in
+    let begun : IsBegun sc (S.entries c.line-in-Recovery.new.self) c.args.done =
+    line_begins sc (S.entries c.args.sites.now) (S.entries c.line-in-Recovery.new.self) c.args.done (c.args.done + 1) next c.requires.settled c.requires.more c.in_ok-line-in-Recovery.ensures.entered in
+    let items : c.step_items-items.result.now ≡ item.Recover c.in-Recovery.group ∷ [] = recovery_is c.step_items-items.result.now c.in-Recovery.group (sym c.kind_of.ensures ∙ c.in-Recovery.is) in
+    let fresh : IsFresh sc (S.entries c.line-in-Recovery.new.self) (item.Recover c.in-Recovery.group ∷ []) =
+    subst (λ l. IsFresh sc (S.entries c.line-in-Recovery.new.self) l) (sym (c.step_items-items.ensures ∙ ap (step_items sc) next) ∙ items) begun.fresh in
+    subst (λ it. IsFresh it (S.entries c.line-in-Recovery.new.self) (item.Recover c.in-Recovery.group ∷ [])) (sym (c.in_ok-line-in-Recovery.ensures.same.0 ∙ c.requires.played)) fresh
+
+pub line-requires-in-Exchange-clause-no_stop : goal.line-requires-in-Exchange-clause-no_stop
+line-requires-in-Exchange-clause-no_stop g c = λ site calls leave more is.
+    let sc = c.args.scenario.now in
+    let items : List Item = c.step_items-items.result.now in
+    let next : c.args.done + 1 ≡ suc c.args.done = omega arith in
+    let step : IsStep sc items = subst (λ l. IsStep sc l) (sym (c.step_items-items.ensures ∙ ap (step_items sc) next)) (step_is_given sc c.args.done c.requires.given) in
+    no_stop items (sym c.kind_of.ensures ∙ c.in-Exchange.is) sc step site calls leave more
+    (c.step_items-items.ensures ∙ ap (λ (it : Scenario). step_items it (c.args.done + 1)) (sym c.requires.played) ∙ is)
+
+pub exchange-requires-clause-form : goal.exchange-requires-clause-form
+exchange-requires-clause-form g c =
+    let sc = c.args.scenario.now in
+    let items : List Item = c.step_items-items.result.now in
+    let next : c.args.done + 1 ≡ suc c.args.done = omega arith in
+    let step : IsStep sc items = subst (λ l. IsStep sc l) (sym (c.step_items-items.ensures ∙ ap (step_items sc) next)) (step_is_given sc c.args.done c.requires.given) in
+    exchange_asks sc items step (sym c.kind_of.ensures ∙ c.in-Exchange.is)
+
+pub exchange-requires-clause-fresh : goal.exchange-requires-clause-fresh
+exchange-requires-clause-fresh g c =
+    let S = g.S.Sites in
+    let sc = c.args.scenario.now in
+    let next : c.args.done + 1 ≡ suc c.args.done = omega arith in
+    let begun : IsBegun sc (S.entries c.line-in-Exchange.new.self) c.args.done =
+    line_begins sc (S.entries c.args.sites.now) (S.entries c.line-in-Exchange.new.self) c.args.done (c.args.done + 1) next c.requires.settled c.requires.more c.in_ok-line-in-Exchange.ensures.entered in
+    subst (λ l. IsFresh sc (S.entries c.line-in-Exchange.new.self) l) (sym (c.step_items-items.ensures ∙ ap (step_items sc) next)) begun.fresh
+
+pub exchange-requires-clause-begun : goal.exchange-requires-clause-begun
+exchange-requires-clause-begun g c =
+    let S = g.S.Sites in
+    let sc = c.args.scenario.now in
+    let next : c.args.done + 1 ≡ suc c.args.done = omega arith in
+    let begun : IsBegun sc (S.entries c.line-in-Exchange.new.self) c.args.done =
+    line_begins sc (S.entries c.args.sites.now) (S.entries c.line-in-Exchange.new.self) c.args.done (c.args.done + 1) next c.requires.settled c.requires.more c.in_ok-line-in-Exchange.ensures.entered in
+    subst (λ l. ItemsDone sc (S.entries c.line-in-Exchange.new.self) [] l) (sym (c.step_items-items.ensures ∙ ap (step_items sc) next)) begun.items
+
+pub returns-in-Stop-clause-settles : goal.returns-in-Stop-clause-settles
+returns-in-Stop-clause-settles g c =
+    let S = g.S.Sites in
+    let sc = c.args.scenario.now in
+    let next : c.args.done + 1 ≡ suc c.args.done = omega arith in
+    let items : c.step_items-items.result.now ≡ item.Stop c.in-Stop.site c.in-Stop.calls c.in-Stop.leave ∷ [] =
+    stop_is c.step_items-items.result.now c.in-Stop.site c.in-Stop.calls c.in-Stop.leave (sym c.kind_of.ensures ∙ c.in-Stop.is) in
+    on_ok c.stop.result (λ entered.
+    let begun : IsBegun sc (S.entries c.stop.new.self) c.args.done =
+    line_begins sc (S.entries c.args.sites.now) (S.entries c.stop.new.self) c.args.done (c.args.done + 1) next c.requires.settled c.requires.more entered in
+    let fresh : IsFresh sc (S.entries c.stop.new.self) (item.Stop c.in-Stop.site c.in-Stop.calls c.in-Stop.leave ∷ []) =
+    subst (λ l. IsFresh sc (S.entries c.stop.new.self) l) (sym (c.step_items-items.ensures ∙ ap (step_items sc) next) ∙ items) begun.fresh in
+    subst (λ n. IsSettled sc (S.entries c.stop.new.self) n) begun.at (stop_settles sc (S.entries c.stop.new.self) c.in-Stop.site c.in-Stop.calls c.in-Stop.leave fresh))
+    c.stop.ensures.entered

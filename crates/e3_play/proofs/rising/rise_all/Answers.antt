@@ -1,7 +1,10 @@
-use Rattle.std.proofs.Common.{◌≡◌, ◌∙◌, sym, subst, ap, length, add-one, arith}
+use Rattle.std.proofs.Common.{◌≡◌, ◌∙◌, ◌+◌, [], suc, sym, subst, ap, length, add-one, arith}
+use Rattle.e3_sites.specs.Entering.{AfterRise}
+use Rattle.e3_world.specs.Packets.{pending}
+use Rattle.e3_world.proofs.Rises.{Rising}
 use Rattle.e3_types.specs.declared.scenarios.Scenario.{Scenario}
 use Rattle.e3_play.specs.Played.{IsSettled}
-use Rattle.e3_play.proofs.Entries.{turn_to_rise}
+use Rattle.e3_play.proofs.Entries.{one_risen, rise_quiet, turn_to_rise}
 use Rattle.e3_play.proofs.Full.{risen}
 use Rattle.e3_play.proofs.rising.rise_all.Goals as goal
 
@@ -17,5 +20,27 @@ returns-clause-settled g c =
     let was = c.loop-done.invariant in
     let same = was.scenario in
     let P : Scenario → Type 0 = λ sc. IsSettled sc (g.S.Sites.entries c.loop-done.sites) 0 in
-    subst P same (risen (g.S.Sites.scenario c.loop-done.sites) (g.S.Sites.entries c.loop-done.sites) c.loop-done.done c.args.count was.rising
+    subst P same (risen (g.S.Sites.scenario c.loop-done.sites) (g.S.Sites.entries c.loop-done.sites) c.loop-done.done c.args.count was.rising was.none
     (c.requires.all ∙ ap (λ (sc : Scenario). length sc.weights) (sym same)) c.loop-done-test.false c.loop-done.auto.done-end)
+
+pub loop-done-preserved : goal.loop-done-preserved
+loop-done-preserved g c =
+    let S = g.S.Sites in
+    let was = c.loop-done.invariant in
+    let now = c.in_ok-rise.ensures in
+    let same = was.scenario in
+    let last : c.loop-done.done + 1 ≡ suc c.loop-done.done = omega arith in
+    let all : c.args.count ≡ length (S.scenario c.loop-done.sites).weights = c.requires.all ∙ ap (λ (sc : Scenario). length sc.weights) (sym same) in
+    let rose : AfterRise (S.scenario c.loop-done.sites) (S.entries c.loop-done.sites) (suc c.loop-done.done) (S.entries c.rise.new.self) =
+    subst (λ n. AfterRise (S.scenario c.loop-done.sites) (S.entries c.loop-done.sites) n (S.entries c.rise.new.self)) last now.rose in
+    let P : Scenario → Type 0 = λ sc. pending sc (S.entries c.rise.new.self) ≡ [] in
+    let Q : Scenario → Type 0 = λ sc. Rising sc (S.entries c.rise.new.self) (c.loop-done.done + 1) in
+    record {
+      stands = now.stands;
+      since = λ first before. now.since first (was.since first before);
+      scenario = now.same.0 ∙ was.scenario;
+      most = now.same.1 ∙ was.most;
+      none = subst P (sym now.same.0) (rise_quiet (S.scenario c.loop-done.sites) (S.entries c.loop-done.sites) (S.entries c.rise.new.self) (suc c.loop-done.done) was.none rose);
+      rising = subst Q (sym now.same.0) (subst (λ n. Rising (S.scenario c.loop-done.sites) (S.entries c.rise.new.self) n) (sym last)
+          (one_risen (S.scenario c.loop-done.sites) (S.entries c.loop-done.sites) (S.entries c.rise.new.self) c.loop-done.done (omega (arith, all, c.loop-done-test.true)) was.rising rose));
+    }

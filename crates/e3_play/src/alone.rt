@@ -1,0 +1,61 @@
+// Steps that stand alone: a crash, a restart and a recovery. Each is passed over where it has nothing to do.
+ghost use Rattle.std.specs.Prelude.{◌≡◌, ◌≤◌, ◌∷◌, [], length, OnOk, Err};
+ghost use Rattle.e3_play.specs.Played.{IsFresh, IsSettled};
+ghost use Rattle.e3_sites.specs.Delivered.{IsFull};
+ghost use Rattle.e3_sites.specs.declared.sites.RunFault.TheVariants.{HistoryFull};
+ghost use Rattle.e3_types.specs.declared.scenarios.Item.TheVariants as item;
+ghost use Rattle.e3_world.specs.Packets.{lines};
+
+use e3_round::recover;
+use e3_sites::{RunFault, Sites};
+use e3_types::SiteSet;
+use std::alloc::Global;
+
+/// The power of a site is cut where it is up.
+pub fn crash<S: Sites>(sites: &mut S, site: u32) -> Result<(), RunFault>
+    requires standing { S.stands sites.old }
+    requires fresh { IsFresh (S.scenario sites.old) (S.entries sites.old) (item.Crash site ∷ []) }
+    ensures stands { S.stands sites.new }
+    ensures since { (start : S) → S.since start sites.old → S.since start sites.new }
+    ensures same { (S.scenario sites.new ≡ S.scenario sites.old) × (S.most sites.new ≡ S.most sites.old) }
+    ensures settles { OnOk result (IsSettled (S.scenario sites.old) (S.entries sites.new) (lines (S.entries sites.old))) }
+    ensures full { result ≡ Err HistoryFull → IsFull (S.scenario sites.old) (S.entries sites.new) (S.most sites.old) }
+{
+    if sites.is_up(site) {
+        sites.cut(site)
+    } else {
+        Ok(())
+    }
+}
+
+/// A site rises where it is down.
+pub fn restart<S: Sites>(sites: &mut S, site: u32) -> Result<(), RunFault>
+    requires standing { S.stands sites.old }
+    requires fresh { IsFresh (S.scenario sites.old) (S.entries sites.old) (item.Restart site ∷ []) }
+    requires exists { site ≤ length (S.scenario sites.old).weights }
+    ensures stands { S.stands sites.new }
+    ensures since { (start : S) → S.since start sites.old → S.since start sites.new }
+    ensures same { (S.scenario sites.new ≡ S.scenario sites.old) × (S.most sites.new ≡ S.most sites.old) }
+    ensures settles { OnOk result (IsSettled (S.scenario sites.old) (S.entries sites.new) (lines (S.entries sites.old))) }
+    ensures full { result ≡ Err HistoryFull → IsFull (S.scenario sites.old) (S.entries sites.new) (S.most sites.old) }
+{
+    if sites.is_up(site) {
+        Ok(())
+    } else {
+        sites.rise(site)
+    }
+}
+
+/// A group ends what is open at its sites. What its rounds report is in the history.
+pub fn recovery<S: Sites>(alloc: Global, sites: &mut S, group: SiteSet) -> Result<(), RunFault>
+    requires standing { S.stands sites.old }
+    requires fresh { IsFresh (S.scenario sites.old) (S.entries sites.old) (item.Recover group ∷ []) }
+    ensures stands { S.stands sites.new }
+    ensures since { (start : S) → S.since start sites.old → S.since start sites.new }
+    ensures same { (S.scenario sites.new ≡ S.scenario sites.old) × (S.most sites.new ≡ S.most sites.old) }
+    ensures settles { OnOk result (IsSettled (S.scenario sites.old) (S.entries sites.new) (lines (S.entries sites.old))) }
+    ensures full { result ≡ Err HistoryFull → IsFull (S.scenario sites.old) (S.entries sites.new) (S.most sites.old) }
+{
+    let _reports = recover(alloc, sites, group)?;
+    Ok(())
+}

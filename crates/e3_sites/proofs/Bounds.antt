@@ -1,0 +1,48 @@
+-- Where a packet is pending, the history has not gone through its scenario.
+use Rattle.std.proofs.Common.{◌≡◌, ◌≢◌, ◌&&◌, ◌∷◌, [], ◌≤◌, ℕ, zero, suc, Bool, true, false, List, length, Some, None, refl, sym, ap, ◌∙◌, arith}
+use Rattle.std.specs.Prelude.{slice_get}
+use Rattle.std.specs.List.{list_all}
+use Rattle.e3_types.specs.declared.entries.Entry.{Entry}
+use Rattle.e3_types.specs.declared.messages.Packet.{Packet}
+use Rattle.e3_types.specs.declared.scenarios.Scenario.{Scenario}
+use Rattle.e3_world.specs.Legal.{IsWhole, has_rising, is_made, is_through}
+use Rattle.e3_world.specs.Packets.{all_sites, lines, pending}
+use Rattle.e3_world.proofs.Turns.{true_not_false}
+use Rattle.e3_sites.specs.Delivered.{IsFull}
+
+-- at the bound
+pub bounded : (sc : Scenario) (h : List Entry) (most : ℕ) → length h ≤ most → most ≤ length h → ¬ IsWhole sc h → IsFull sc h most
+bounded sc h most few many unmade = record { full = omega (arith, few, many); unfinished = unmade }
+
+through_parts : (sc : Scenario) (h : List Entry) (n : ℕ) → lines h ≡ suc n → is_through sc h ≡ true → (pending sc h ≡ []) × (is_made sc h ≡ true)
+through_parts sc h n line all = by (pending sc h) refl
+  where
+    is_empty : List Packet → Bool
+    is_empty [] = true
+    is_empty (p ∷ ps) = false
+
+    at : ℕ → Bool
+    at zero = list_all (has_rising h) (all_sites sc)
+    at (suc n) = is_empty (pending sc h) && is_made sc h
+
+    left : List Packet → Bool
+    left ps = is_empty ps && is_made sc h
+
+    both : (is_empty (pending sc h) && is_made sc h) ≡ true
+    both = sym (ap at line) ∙ all
+
+    by : (ps : List Packet) → pending sc h ≡ ps → (pending sc h ≡ []) × (is_made sc h ≡ true)
+    by [] none = (none, sym (ap left none) ∙ both)
+    by (p ∷ ps) some = absurd (true_not_false (sym both ∙ ap left some))
+
+pub some_line : (n : ℕ) → n ≢ 0 → (k : ℕ) × (n ≡ suc k)
+some_line zero none = absurd (none refl)
+some_line (suc k) none = (k, refl)
+
+pub whole_parts : (sc : Scenario) (h : List Entry) → lines h ≢ 0 → IsWhole sc h → (pending sc h ≡ []) × (is_made sc h ≡ true)
+whole_parts sc h begun whole = let line : (k : ℕ) × (lines h ≡ suc k) = some_line (lines h) begun in through_parts sc h line.0 line.1 whole.through
+
+-- a packet is pending
+pub packet_open : (sc : Scenario) (h : List Entry) (p : Packet) → lines h ≢ 0 → slice_get (pending sc h) 0 ≡ Some p → ¬ IsWhole sc h
+packet_open sc h p begun first whole = let none : pending sc h ≡ [] = (whole_parts sc h begun whole).0 in
+    absurd (let same : slice_get (pending sc h) 0 ≡ None = ap (λ ps. slice_get ps 0) none in let both : Some p ≡ None = sym first ∙ same in cc)
