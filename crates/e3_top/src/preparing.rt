@@ -144,7 +144,12 @@ fn unplayed<D: Drop>(
 }
 
 // The text for words that ask for no run.
-fn refuse_words<D: Disk + Drill + Drop>(alloc: Global, words: &[String], disks: Vec<D>, most: u32) -> Prepared<D>
+fn refuse_words<D: Disk + Drill + Drop>(
+    alloc: Global,
+    words: &[String],
+    disks: Vec<D>,
+    most: u32,
+) -> Prepared<D>
     requires { ¬ IsRun words.now }
     ensures due { IfOk result.due (λ due. IsDue D.image D.meters disks.items result.disks.items words.now [] most due.status result.history.entries due.text) }
     ensures status { IfOk result.due (λ due. due.status ≡ 1) }
