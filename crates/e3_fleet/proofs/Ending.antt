@@ -3,10 +3,11 @@ use Rattle.std.proofs.Common.{◌≡◌, inl, inr, ◌⊎◌, ◌≤◌, ◌<◌
 use Rattle.std.specs.Prelude.{slice_get, option_map}
 use Rattle.std.proofs.lemmas.Option.{slice_get-map}
 use Rattle.e3_disk.specs.Images.{IsBlank}
-use Rattle.e3_disk.specs.Meters.{Meters, LAST}
-use Rattle.e3_fleet.specs.Over.{AreBlank, AreOver, HadNoRooms, HasServed, IsFresh, IsOver, RoseBy, faults_at}
-use Rattle.e3_fleet.specs.Fleets.{AreSeated, HasKept, HaveKept, disks_of}
-use Rattle.e3_fleet.proofs.Places.{get_back, get_front, get_some}
+use Rattle.e3_disk.specs.Meters.{Meters, IsCounted}
+use Rattle.e3_fleet.specs.Over.{AreBlank, AreOver, HadNoRooms, IsFresh, IsOver}
+use Rattle.e3_fleet.specs.Fleets.{AreSeated, AreUnarmed, HasKept, HaveKept, disks_of}
+use Rattle.e3_fleet.proofs.Kept.{kept_start, served_start}
+use Rattle.e3_fleet.proofs.Places.{get_back, get_front, get_low, get_some}
 use Rattle.e3_fleet.proofs.Rooms.{rooms_empty}
 use Rattle.e3_log.specs.Frames.{Reads}
 use Rattle.e3_node.specs.Bodies.{DiskStands}
@@ -21,13 +22,10 @@ blank_stands : {D : Type 0} (content : D → List ℕ) (image : D → List ℕ �
 blank_stands content image sc site d blank bytes left = subst (λ (b : List ℕ). Reads [] b) (sym (blank.1 bytes left))
     (record { rest = 0 ∷ []; parts = refl; closed = λ e. omega (arith, e); fits = tt })
 
-served_still : (sc : Scenario) (site : ℕ) (m : Meters) → HasServed sc [] site m m
-served_still sc site m = record { faults = inl (omega arith); capacity = refl; arms = refl; calls = refl; codes = refl; cuts = refl }
-
 -- a run that never began
-pub never_began : {D : Type 0} (content : D → List ℕ) (image : D → List ℕ → Type 0) (meters : D → Meters) (sc : Scenario) (disks : List D) →
+pub never_began : {D : Type 0} (content : D → List ℕ) (image : D → List ℕ → Type 0) (meters : D → Meters) → ((d : D) → IsCounted (meters d)) → (sc : Scenario) (disks : List D) →
     AreBlank content image meters disks → AreOver image meters sc [] disks disks
-never_began {D} content image meters sc disks blank = record {
+never_began {D} content image meters counted sc disks blank = record {
   count = refl;
   sites = λ at old new low is was. (let one : old ≡ new = cc in subst (λ (d : D). IsOver image meters sc [] (suc at) old d) one (over at old (blank at old is)));
   others = λ at old new far is was. (let one : new ≡ old = cc in one);
@@ -36,7 +34,7 @@ never_began {D} content image meters sc disks blank = record {
     over : (at : ℕ) (d : D) → IsFresh content image meters d → IsOver image meters sc [] (suc at) d d
     over at d fresh = record {
       stands = blank_stands content image sc (suc at) d fresh.blank;
-      served = served_still sc (suc at) (meters d);
+      served = served_start sc (suc at) (meters d) (counted d);
       rooms = rooms_empty sc (suc at) (meters d).capacity;
     }
 
@@ -44,24 +42,10 @@ disks_length : {D : Type 0} (nodes : List (NodeView D)) → length (disks_of nod
 disks_length [] = refl
 disks_length (n ∷ nodes) = ap suc (disks_length nodes)
 
-served : (sc : Scenario) (h : List Entry) (site : ℕ) (old new : Meters) → HasKept site [] h old new → HasServed sc h site old new
-served sc h site old new kept = record {
-  faults = by kept.faults;
-  capacity = kept.capacity;
-  arms = kept.arms;
-  calls = kept.calls;
-  codes = kept.codes;
-  cuts = kept.cuts;
-}
-  where
-    by : (old.faults + faults_at h site ≤ new.faults + 0) ⊎ (new.faults ≡ LAST) → RoseBy (faults_at h site) old.faults new.faults
-    by (inl k) = inl (omega (arith, k))
-    by (inr k) = inr k
-
 -- a run that ended with these nodes, whose disks came back before the others
 pub came_back : {D : Type 0} (content : D → List ℕ) (image : D → List ℕ → Type 0) (meters : D → Meters) → NodesDisks content image meters →
     (sc : Scenario) (h : List Entry) (olds news : List (NodeView D)) (rest before now : List D) → length olds ≡ length sc.weights →
-    AreSeated content image meters sc h news → HaveKept meters [] h olds news →
+    AreSeated content image meters sc h news → HaveKept meters sc h olds news →
     disks_of olds ++ rest ≡ before → now ≡ disks_of news ++ rest → AreOver image meters sc h before now
 came_back {D} content image meters law sc h olds news rest before now all seated kept was is = record {
   count = lengths;
@@ -101,8 +85,8 @@ came_back {D} content image meters law sc h olds news rest before now all seated
         subst (λ (d : D). IsOver image meters sc h (suc at) d new) (sym one)
         (subst (λ (d : D). IsOver image meters sc h (suc at) (disk_of x.state) d) (sym two) (record {
           stands = subst (λ (s : ℕ). DiskStands sc h s (image (disk_of y.state))) (seated at y here).site (law sc h y (seated at y here).stands);
-          served = served sc h (suc at) (meters (disk_of x.state)) (meters (disk_of y.state)) (kept.each at x y there here);
-          rooms = subst (λ (n : ℕ). HadNoRooms sc h (suc at) n) (kept.each at x y there here).capacity (seated at y here).rooms;
+          served = (kept.each at x y there here).served;
+          rooms = subst (λ (n : ℕ). HadNoRooms sc h (suc at) n) (kept.each at x y there here).served.capacity (seated at y here).rooms;
         }))
 
     site : (at : ℕ) (old new : D) → at < length sc.weights → slice_get before at ≡ Some old → slice_get now at ≡ Some new →
@@ -120,3 +104,22 @@ came_back {D} content image meters law sc h olds news rest before now all seated
         let back : slice_get (disks_of olds ++ rest) at ≡ slice_get (disks_of news ++ rest) at =
         (let count = disks_length olds in get_back (disks_of olds) (disks_of news) rest at same (omega (arith, far, all, count))) in
         let both : Some old ≡ Some new = sym there ∙ sym (ap (λ (ds : List D). slice_get ds at) was) ∙ back ∙ sym (ap (λ (ds : List D). slice_get ds at) is) ∙ here in cc
+
+-- nodes over the first of these disks, none of which is armed
+pub unarmed : {D : Type 0} (content : D → List ℕ) (image : D → List ℕ → Type 0) (meters : D → Meters) (nodes : List (NodeView D)) (rest disks : List D) →
+    disks_of nodes ++ rest ≡ disks → AreBlank content image meters disks → AreUnarmed meters nodes
+unarmed {D} content image meters nodes rest disks is blank at node there = (blank at (disk_of node.state) here).unarmed
+  where
+    here : slice_get disks at ≡ Some (disk_of node.state)
+    here = ap (λ (ds : List D). slice_get ds at) (sym is)
+        ∙ (let low = get_low nodes at node there in let count = disks_length nodes in get_front (disks_of nodes) rest at (omega (arith, low, count)))
+        ∙ slice_get-map (λ (x : NodeView D). disk_of x.state) nodes at ∙ ap (option_map (λ (x : NodeView D). disk_of x.state)) there
+
+-- nodes that nothing happened to
+pub have_kept_start : {D : Type 0} (meters : D → Meters) → ((d : D) → IsCounted (meters d)) → (sc : Scenario) (nodes : List (NodeView D)) →
+    AreUnarmed meters nodes → HaveKept meters sc [] nodes nodes
+have_kept_start {D} meters counted sc nodes off = record {
+  count = refl;
+  each = λ at x y is there. subst (λ (z : NodeView D). HasKept sc [] (suc at) (meters (disk_of x.state)) (meters (disk_of z.state))) (let one : x ≡ y = cc in one)
+      (kept_start sc (suc at) (meters (disk_of x.state)) (counted (disk_of x.state)) (off at x is));
+}

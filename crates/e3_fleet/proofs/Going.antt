@@ -1,12 +1,14 @@
 -- A fleet goes on over one more entry.
 use Rattle.std.proofs.Common.{◌≡◌, ◌≢◌, ◌==◌, inl, inr, ◌⊎◌, ◌≤◌, ◌<◌, ◌++◌, ◌∷◌, [], ℕ, suc, Bool, true, false, List, length, Some, refl, sym, ap, subst, ◌∙◌, arith, eqb-true, eq-eqb}
 use Rattle.std.specs.Prelude.{slice_get, slice_set, Result, Ok, Err, OnOk, OnErr}
-use Rattle.e3_disk.specs.Meters.{Meters, LAST, Keeps, Rose}
-use Rattle.e3_fleet.specs.Over.{HadNoRoom, HadNoRooms, is_fault}
+use Rattle.e3_disk.specs.Meters.{Meters, IsCounted}
+use Rattle.e3_fleet.specs.Over.{HadNoRoom, HadNoRooms}
 use Rattle.e3_fleet.specs.Fleets.{FleetStands, HasKept, HaveKept, IsFleetOn, Seated}
-use Rattle.e3_fleet.proofs.Kept.{kept_on, kept_other, kept_own, kept_quiet, kept_still}
+use Rattle.e3_fleet.specs.Stops.{arm_by}
+use Rattle.e3_fleet.proofs.Kept.{GoesOn, GoesWith, kept_more, kept_on}
 use Rattle.e3_fleet.proofs.Places.{get_low, get_set, get_set_other, get_some, set_length}
 use Rattle.e3_fleet.proofs.Rooms.{rooms_push}
+use Rattle.e3_fleet.proofs.Turns.{goes_other}
 use Rattle.e3_node.specs.Claims.{NodesKept}
 use Rattle.e3_node.specs.NodeStands.{NodeStands}
 use Rattle.e3_node.specs.NodeView.{NodeView, disk_of}
@@ -19,20 +21,6 @@ use Rattle.e3_world.proofs.Turns.{true_not_false}
 abbrev pub numbers_of : {D : Type 0} → (D → Meters) → NodeView D → Meters
 numbers_of meters node = meters (disk_of node.state)
 
--- one after the other
-pub have_kept_on : {D : Type 0} (meters : D → Meters) (a b c : List Entry) (xs ys zs : List (NodeView D)) →
-    ((d : D) → (meters d).faults ≤ LAST) → HaveKept meters a b xs ys → HaveKept meters b c ys zs → HaveKept meters a c xs zs
-have_kept_on meters a b c xs ys zs counted one two = record {
-  count = two.count ∙ one.count;
-  each = λ at x z is was. by at x z is was (let low = get_low xs at x is in let count = one.count in get_some ys at (omega (arith, low, count)));
-}
-  where
-    by : (at : ℕ) (x z : NodeView _) → slice_get xs at ≡ Some x → slice_get zs at ≡ Some z → (y : NodeView _) × (slice_get ys at ≡ Some y) →
-        HasKept (suc at) a c (numbers_of meters x) (numbers_of meters z)
-    by at x z is was (y, there) =
-        kept_on (suc at) a b c (numbers_of meters x) (numbers_of meters y) (numbers_of meters z) (counted (disk_of z.state))
-        (one.each at x y is there) (two.each at y z there was)
-
 -- a node is seated in a history with an entry of another owner
 seated_other : {D : Type 0} (content : D → List ℕ) (image : D → List ℕ → Type 0) (meters : D → Meters) → NodesKept content image meters →
     (sc : Scenario) (h : List Entry) (e : Entry) (at : ℕ) (node : NodeView D) → e.owner ≢ suc at →
@@ -43,12 +31,22 @@ seated_other content image meters law sc h e at node other was = record {
   rooms = rooms_push sc h e (suc at) (numbers_of meters node).capacity was.rooms (λ same. absurd (other same));
 }
 
--- an entry of the driver
+-- the disks kept, where those of this list did not change and go on over the entry
+have_kept : {D : Type 0} (meters : D → Meters) (sc : Scenario) (h : List Entry) (starts nodes : List (NodeView D)) (more : List Entry) →
+    ((at : ℕ) (start node : NodeView D) → slice_get nodes at ≡ Some node → HasKept sc h (suc at) (numbers_of meters start) (numbers_of meters node) →
+        HasKept sc more (suc at) (numbers_of meters start) (numbers_of meters node)) →
+    HaveKept meters sc h starts nodes → HaveKept meters sc more starts nodes
+have_kept meters sc h starts nodes more step was = record {
+  count = was.count;
+  each = λ at start node is there. step at start node there (was.each at start node is there);
+}
+
+-- an entry of the driver that arms no disk
 pub driver_on : {D : Type 0} (content : D → List ℕ) (image : D → List ℕ → Type 0) (meters : D → Meters) → NodesKept content image meters →
-    (was now : SharedView) (e : Entry) (nodes : List (NodeView D)) →
+    ((d : D) → IsCounted (meters d)) → (was now : SharedView) (e : Entry) (nodes : List (NodeView D)) →
     FleetStands content image meters was nodes → SharedStands now → now.scenario ≡ was.scenario → now.most ≡ was.most →
-    e.owner ≡ 0 → now.entries ≡ was.entries ++ e ∷ [] → IsFleetOn content image meters was now nodes nodes
-driver_on {D} content image meters law was now e nodes stood stands same most driver entered = record {
+    e.owner ≡ 0 → ((site : ℕ) → arm_by was.scenario site e ≡ []) → now.entries ≡ was.entries ++ e ∷ [] → IsFleetOn content image meters was now nodes nodes
+driver_on {D} content image meters law counted was now e nodes stood stands same most driver unarmed entered = record {
   stands = record {
     shared_stands = stands;
     count = stood.count ∙ ap (λ (sc : Scenario). length sc.weights) (sym same);
@@ -56,10 +54,9 @@ driver_on {D} content image meters law was now e nodes stood stands same most dr
   };
   scenario = same;
   most = most;
-  kept = record {
-    count = refl;
-    each = λ at x y is there. kept at x y is there;
-  };
+  kept = λ starts kept. subst (λ (sc : Scenario). HaveKept meters sc now.entries starts nodes) (sym same)
+      (subst (λ (h : List Entry). HaveKept meters was.scenario h starts nodes) (sym entered)
+      (have_kept meters was.scenario was.entries starts nodes (was.entries ++ e ∷ []) step kept));
 }
   where
     apart : (at : ℕ) → e.owner ≢ suc at
@@ -70,12 +67,11 @@ driver_on {D} content image meters law was now e nodes stood stands same most dr
     carry at node there = subst (λ (sc : Scenario). Seated content image meters sc now.entries at node) (sym same)
         (subst (λ (h : List Entry). Seated content image meters was.scenario h at node) (sym entered) there)
 
-    kept : (at : ℕ) (x y : NodeView D) → slice_get nodes at ≡ Some x → slice_get nodes at ≡ Some y →
-        HasKept (suc at) was.entries now.entries (numbers_of meters x) (numbers_of meters y)
-    kept at x y is there =
-        subst (λ (z : NodeView D). HasKept (suc at) was.entries now.entries (numbers_of meters x) (numbers_of meters z)) (let one : x ≡ y = cc in one)
-        (subst (λ (h : List Entry). HasKept (suc at) was.entries h (numbers_of meters x) (numbers_of meters x)) (sym entered)
-        (kept_other (suc at) was.entries e (numbers_of meters x) (apart at)))
+    step : (at : ℕ) (start node : NodeView D) → slice_get nodes at ≡ Some node → HasKept was.scenario was.entries (suc at) (numbers_of meters start) (numbers_of meters node) →
+        HasKept was.scenario (was.entries ++ e ∷ []) (suc at) (numbers_of meters start) (numbers_of meters node)
+    step at start node there kept =
+        kept_more was.scenario was.entries e (suc at) (numbers_of meters start) (numbers_of meters node) (numbers_of meters node) (counted (disk_of node.state))
+        (goes_other was.scenario (suc at) e (numbers_of meters node) (counted (disk_of node.state)) (apart at) (unarmed (suc at))) kept
 
 -- nothing was entered, and no node changed
 pub still_on : {D : Type 0} (content : D → List ℕ) (image : D → List ℕ → Type 0) (meters : D → Meters) (was now : SharedView) (nodes : List (NodeView D)) →
@@ -90,31 +86,37 @@ still_on {D} content image meters was now nodes stood stands same most entered =
   };
   scenario = same;
   most = most;
-  kept = record {
-    count = refl;
-    each = λ at x y is there. subst (λ (z : NodeView D). HasKept (suc at) was.entries now.entries (numbers_of meters x) (numbers_of meters z)) (let one : x ≡ y = cc in one)
-        (subst (λ (h : List Entry). HasKept (suc at) was.entries h (numbers_of meters x) (numbers_of meters x)) (sym entered)
-        (kept_still (suc at) was.entries (numbers_of meters x)));
-  };
+  kept = λ starts kept. subst (λ (sc : Scenario). HaveKept meters sc now.entries starts nodes) (sym same)
+      (subst (λ (h : List Entry). HaveKept meters was.scenario h starts nodes) (sym entered) kept);
 }
 
--- what a node's call entered: nothing, or one entry of its own, which tells the truth of its disk
-pub record IsOwn (sc : Scenario) (h more : List Entry) (site : ℕ) (old new : Meters) : Type 0 where
+-- What a call that changed the node of a site entered: an entry of that site, or the line that arms its disk. It is none of
+-- another site's and arms no other, it tells the truth of the disk, and the disk's numbers went with it.
+pub record IsNext (sc : Scenario) (h more : List Entry) (site : ℕ) (old new : Meters) : Type 0 where
   pub e : Entry
-  pub owner : e.owner ≡ site
+  pub apart : (k : ℕ) → suc k ≢ site → e.owner ≢ suc k
+  pub unarmed : (k : ℕ) → suc k ≢ site → arm_by sc (suc k) e ≡ []
   pub entered : more ≡ h ++ e ∷ []
-  pub rose : is_fault e ≡ true → Rose old.faults new.faults
+  pub goes : GoesWith sc site e old new
   pub room : HadNoRoom sc h site old.capacity e.act
+
+-- or it entered nothing
+pub record IsQuiet (h more : List Entry) (old new : Meters) : Type 0 where
+  pub none : more ≡ h
+  pub goes : GoesOn old new
+
+abbrev pub Went : Scenario → List Entry → List Entry → ℕ → Meters → Meters → Type 0
+Went sc h more site old new = IsQuiet h more old new ⊎ IsNext sc h more site old new
 
 -- a call of the node at a place
 pub node_on : {D : Type 0} (content : D → List ℕ) (image : D → List ℕ → Type 0) (meters : D → Meters) → NodesKept content image meters →
-    ((d : D) → (meters d).faults ≤ LAST) →
+    ((d : D) → IsCounted (meters d)) →
     (was now : SharedView) (nodes : List (NodeView D)) (at : ℕ) (old new : NodeView D) → slice_get nodes at ≡ Some old →
     FleetStands content image meters was nodes → SharedStands now → now.scenario ≡ was.scenario → now.most ≡ was.most →
-    new.site ≡ old.site → NodeStands content image meters now.scenario now.entries new → Keeps (numbers_of meters old) (numbers_of meters new) →
-    (now.entries ≡ was.entries) ⊎ IsOwn was.scenario was.entries now.entries (suc at) (numbers_of meters old) (numbers_of meters new) →
+    new.site ≡ old.site → NodeStands content image meters now.scenario now.entries new →
+    Went was.scenario was.entries now.entries (suc at) (numbers_of meters old) (numbers_of meters new) →
     IsFleetOn content image meters was now nodes (slice_set nodes at new)
-node_on {D} content image meters law counted was now nodes at old new there stood stands same most site standing keeps entered = record {
+node_on {D} content image meters law counted was now nodes at old new there stood stands same most site standing went = record {
   stands = record {
     shared_stands = stands;
     count = set_length nodes at new ∙ stood.count ∙ ap (λ (sc : Scenario). length sc.weights) (sym same);
@@ -122,9 +124,10 @@ node_on {D} content image meters law counted was now nodes at old new there stoo
   };
   scenario = same;
   most = most;
-  kept = record {
-    count = set_length nodes at new;
-    each = λ k x y is was. kept k x y is was (k == at) refl;
+  kept = λ starts kept. record {
+    count = set_length nodes at new ∙ kept.count;
+    each = λ k start node is was_node. subst (λ (sc : Scenario). HasKept sc now.entries (suc k) (numbers_of meters start) (numbers_of meters node)) (sym same)
+        (each starts kept k start node is was_node (k == at) refl);
   };
 }
   where
@@ -134,29 +137,34 @@ node_on {D} content image meters law counted was now nodes at old new there stoo
     here : slice_get (slice_set nodes at new) at ≡ Some new
     here = get_set nodes at new low
 
-    apart : (k : ℕ) → (k == at) ≡ false → k ≢ at
-    apart k is e = true_not_false (sym (eq-eqb k at e) ∙ is)
+    far : (k : ℕ) → (k == at) ≡ false → k ≢ at
+    far k is e = true_not_false (sym (eq-eqb k at e) ∙ is)
 
-    rooms : (now.entries ≡ was.entries) ⊎ IsOwn was.scenario was.entries now.entries (suc at) (numbers_of meters old) (numbers_of meters new) →
-        HadNoRooms was.scenario now.entries (suc at) (numbers_of meters old).capacity
-    rooms (inl none) = subst (λ (h : List Entry). HadNoRooms was.scenario h (suc at) (numbers_of meters old).capacity) (sym none) (stood.seated at old there).rooms
-    rooms (inr one) = subst (λ (h : List Entry). HadNoRooms was.scenario h (suc at) (numbers_of meters old).capacity) (sym one.entered)
-        (rooms_push was.scenario was.entries one.e (suc at) (numbers_of meters old).capacity (stood.seated at old there).rooms (λ mine. one.room))
+    far_site : (k : ℕ) → (k == at) ≡ false → suc k ≢ suc at
+    far_site k is same = far k is (omega (arith, same))
+
+    -- what it entered
+    rooms : Went was.scenario was.entries now.entries (suc at) (numbers_of meters old) (numbers_of meters new) →
+        HadNoRooms was.scenario now.entries (suc at) (numbers_of meters new).capacity
+    rooms (inl quiet) = subst (λ (h : List Entry). HadNoRooms was.scenario h (suc at) (numbers_of meters new).capacity) (sym quiet.none)
+        (subst (λ (n : ℕ). HadNoRooms was.scenario was.entries (suc at) n) (sym quiet.goes.goes.capacity) (stood.seated at old there).rooms)
+    rooms (inr next) = subst (λ (h : List Entry). HadNoRooms was.scenario h (suc at) (numbers_of meters new).capacity) (sym next.entered)
+        (subst (λ (n : ℕ). HadNoRooms was.scenario (was.entries ++ next.e ∷ []) (suc at) n) (sym next.goes.goes.capacity)
+        (rooms_push was.scenario was.entries next.e (suc at) (numbers_of meters old).capacity (stood.seated at old there).rooms (λ mine. next.room)))
 
     seated_new : Seated content image meters now.scenario now.entries at new
     seated_new = record {
       site = site ∙ (stood.seated at old there).site;
       stands = standing;
-      rooms = subst (λ (sc : Scenario). HadNoRooms sc now.entries (suc at) (numbers_of meters new).capacity) (sym same)
-          (subst (λ (n : ℕ). HadNoRooms was.scenario now.entries (suc at) n) (sym keeps.capacity) (rooms entered));
+      rooms = subst (λ (sc : Scenario). HadNoRooms sc now.entries (suc at) (numbers_of meters new).capacity) (sym same) (rooms went);
     }
 
-    other : (k : ℕ) (node : NodeView D) → k ≢ at → Seated content image meters was.scenario was.entries k node →
-        (now.entries ≡ was.entries) ⊎ IsOwn was.scenario was.entries now.entries (suc at) (numbers_of meters old) (numbers_of meters new) →
+    other : (k : ℕ) (node : NodeView D) → suc k ≢ suc at → Seated content image meters was.scenario was.entries k node →
+        Went was.scenario was.entries now.entries (suc at) (numbers_of meters old) (numbers_of meters new) →
         Seated content image meters was.scenario now.entries k node
-    other k node far was_seated (inl none) = subst (λ (h : List Entry). Seated content image meters was.scenario h k node) (sym none) was_seated
-    other k node far was_seated (inr one) = subst (λ (h : List Entry). Seated content image meters was.scenario h k node) (sym one.entered)
-        (seated_other content image meters law was.scenario was.entries one.e k node (λ mine. far (let owner = one.owner in omega (arith, mine, owner))) was_seated)
+    other k node apart was_seated (inl quiet) = subst (λ (h : List Entry). Seated content image meters was.scenario h k node) (sym quiet.none) was_seated
+    other k node apart was_seated (inr next) = subst (λ (h : List Entry). Seated content image meters was.scenario h k node) (sym next.entered)
+        (seated_other content image meters law was.scenario was.entries next.e k node (next.apart k apart) was_seated)
 
     seat : (k : ℕ) (node : NodeView D) → slice_get (slice_set nodes at new) k ≡ Some node → (b : Bool) → (k == at) ≡ b →
         Seated content image meters now.scenario now.entries k node
@@ -169,47 +177,49 @@ node_on {D} content image meters law counted was now nodes at old new there stoo
         (subst (λ (z : NodeView D). Seated content image meters now.scenario now.entries at z) one seated_new)
     seat k node is false e =
         subst (λ (sc : Scenario). Seated content image meters sc now.entries k node) (sym same)
-        (other k node (apart k e) (stood.seated k node (sym (get_set_other nodes at k new (apart k e)) ∙ is)) entered)
+        (other k node (far_site k e) (stood.seated k node (sym (get_set_other nodes at k new (far k e)) ∙ is)) went)
 
-    kept_here : (now.entries ≡ was.entries) ⊎ IsOwn was.scenario was.entries now.entries (suc at) (numbers_of meters old) (numbers_of meters new) →
-        HasKept (suc at) was.entries now.entries (numbers_of meters old) (numbers_of meters new)
-    kept_here (inl none) = subst (λ (h : List Entry). HasKept (suc at) was.entries h (numbers_of meters old) (numbers_of meters new)) (sym none)
-        (kept_quiet (suc at) was.entries (numbers_of meters old) (numbers_of meters new) keeps)
-    kept_here (inr one) = subst (λ (h : List Entry). HasKept (suc at) was.entries h (numbers_of meters old) (numbers_of meters new)) (sym one.entered)
-        (kept_own (suc at) was.entries one.e (numbers_of meters old) (numbers_of meters new) one.owner (counted (disk_of new.state)) keeps one.rose)
+    -- the numbers of its disk
+    kept_here : (start : NodeView D) → HasKept was.scenario was.entries (suc at) (numbers_of meters start) (numbers_of meters old) →
+        Went was.scenario was.entries now.entries (suc at) (numbers_of meters old) (numbers_of meters new) →
+        HasKept was.scenario now.entries (suc at) (numbers_of meters start) (numbers_of meters new)
+    kept_here start kept (inl quiet) = subst (λ (h : List Entry). HasKept was.scenario h (suc at) (numbers_of meters start) (numbers_of meters new)) (sym quiet.none)
+        (kept_on was.scenario was.entries (suc at) (numbers_of meters start) (numbers_of meters old) (numbers_of meters new) (counted (disk_of new.state)) quiet.goes kept)
+    kept_here start kept (inr next) = subst (λ (h : List Entry). HasKept was.scenario h (suc at) (numbers_of meters start) (numbers_of meters new)) (sym next.entered)
+        (kept_more was.scenario was.entries next.e (suc at) (numbers_of meters start) (numbers_of meters old) (numbers_of meters new) (counted (disk_of new.state)) next.goes kept)
 
-    kept_far : (k : ℕ) (m : Meters) → k ≢ at →
-        (now.entries ≡ was.entries) ⊎ IsOwn was.scenario was.entries now.entries (suc at) (numbers_of meters old) (numbers_of meters new) →
-        HasKept (suc k) was.entries now.entries m m
-    kept_far k m far (inl none) = subst (λ (h : List Entry). HasKept (suc k) was.entries h m m) (sym none) (kept_still (suc k) was.entries m)
-    kept_far k m far (inr one) = subst (λ (h : List Entry). HasKept (suc k) was.entries h m m) (sym one.entered)
-        (kept_other (suc k) was.entries one.e m (λ mine. far (let owner = one.owner in omega (arith, mine, owner))))
+    -- and of the others
+    kept_far : (k : ℕ) (start node : NodeView D) → suc k ≢ suc at → HasKept was.scenario was.entries (suc k) (numbers_of meters start) (numbers_of meters node) →
+        Went was.scenario was.entries now.entries (suc at) (numbers_of meters old) (numbers_of meters new) →
+        HasKept was.scenario now.entries (suc k) (numbers_of meters start) (numbers_of meters node)
+    kept_far k start node apart kept (inl quiet) = subst (λ (h : List Entry). HasKept was.scenario h (suc k) (numbers_of meters start) (numbers_of meters node)) (sym quiet.none) kept
+    kept_far k start node apart kept (inr next) = subst (λ (h : List Entry). HasKept was.scenario h (suc k) (numbers_of meters start) (numbers_of meters node)) (sym next.entered)
+        (kept_more was.scenario was.entries next.e (suc k) (numbers_of meters start) (numbers_of meters node) (numbers_of meters node) (counted (disk_of node.state))
+        (goes_other was.scenario (suc k) next.e (numbers_of meters node) (counted (disk_of node.state)) (next.apart k apart) (next.unarmed k apart)) kept)
 
-    kept : (k : ℕ) (x y : NodeView D) → slice_get nodes k ≡ Some x → slice_get (slice_set nodes at new) k ≡ Some y → (b : Bool) → (k == at) ≡ b →
-        HasKept (suc k) was.entries now.entries (numbers_of meters x) (numbers_of meters y)
-    kept k x y is was_y true e =
+    each : (starts : List (NodeView D)) → HaveKept meters was.scenario was.entries starts nodes → (k : ℕ) (start node : NodeView D) →
+        slice_get starts k ≡ Some start → slice_get (slice_set nodes at new) k ≡ Some node → (b : Bool) → (k == at) ≡ b →
+        HasKept was.scenario now.entries (suc k) (numbers_of meters start) (numbers_of meters node)
+    each starts kept k start node is is_node true e =
         let k_at : k ≡ at = eqb-true k at e in
-        let at_x : slice_get nodes at ≡ Some x = subst (λ (n : ℕ). slice_get nodes n ≡ Some x) k_at is in
-        let at_y : slice_get (slice_set nodes at new) at ≡ Some y = subst (λ (n : ℕ). slice_get (slice_set nodes at new) n ≡ Some y) k_at was_y in
-        let both : Some old ≡ Some x = sym there ∙ at_x in
-        let one : old ≡ x = cc in
-        let both_new : Some new ≡ Some y = sym here ∙ at_y in
-        let two : new ≡ y = cc in
-        subst (λ (n : ℕ). HasKept (suc n) was.entries now.entries (numbers_of meters x) (numbers_of meters y)) (sym k_at)
-        (subst (λ (z : NodeView D). HasKept (suc at) was.entries now.entries (numbers_of meters z) (numbers_of meters y)) one
-        (subst (λ (z : NodeView D). HasKept (suc at) was.entries now.entries (numbers_of meters old) (numbers_of meters z)) two (kept_here entered)))
-    kept k x y is was_y false e =
-        let at_x : slice_get (slice_set nodes at new) k ≡ Some x = get_set_other nodes at k new (apart k e) ∙ is in
-        let both : Some x ≡ Some y = sym at_x ∙ was_y in
-        let one : x ≡ y = cc in
-        subst (λ (z : NodeView D). HasKept (suc k) was.entries now.entries (numbers_of meters x) (numbers_of meters z)) one (kept_far k (numbers_of meters x) (apart k e) entered)
+        let at_start : slice_get starts at ≡ Some start = subst (λ (n : ℕ). slice_get starts n ≡ Some start) k_at is in
+        let at_node : slice_get (slice_set nodes at new) at ≡ Some node = subst (λ (n : ℕ). slice_get (slice_set nodes at new) n ≡ Some node) k_at is_node in
+        let both : Some new ≡ Some node = sym here ∙ at_node in
+        let one : new ≡ node = cc in
+        subst (λ (n : ℕ). HasKept was.scenario now.entries (suc n) (numbers_of meters start) (numbers_of meters node)) (sym k_at)
+        (subst (λ (z : NodeView D). HasKept was.scenario now.entries (suc at) (numbers_of meters start) (numbers_of meters z)) one
+        (kept_here start (kept.each at start old at_start there) went))
+    each starts kept k start node is is_node false e =
+        kept_far k start node (far_site k e) (kept.each k start node is (sym (get_set_other nodes at k new (far k e)) ∙ is_node)) went
 
 -- a call for the driver
 pub driver_call : {D E : Type 0} (content : D → List ℕ) (image : D → List ℕ → Type 0) (meters : D → Meters) → NodesKept content image meters →
+    ((d : D) → IsCounted (meters d)) →
     (was now : SharedView) (e : Entry) (nodes : List (NodeView D)) (answer : Result (Unit {0}) E) →
     FleetStands content image meters was nodes → SharedStands now → (now.scenario ≡ was.scenario) × (now.most ≡ was.most) → e.owner ≡ 0 →
+    ((site : ℕ) → arm_by was.scenario site e ≡ []) →
     OnOk answer (now.entries ≡ was.entries ++ e ∷ []) → OnErr answer (now.entries ≡ was.entries) → IsFleetOn content image meters was now nodes nodes
-driver_call content image meters law was now e nodes (Ok done) stood stands same driver entered kept =
-    driver_on content image meters law was now e nodes stood stands same.0 same.1 driver entered
-driver_call content image meters law was now e nodes (Err fault) stood stands same driver entered kept =
+driver_call content image meters law counted was now e nodes (Ok done) stood stands same driver unarmed entered kept =
+    driver_on content image meters law counted was now e nodes stood stands same.0 same.1 driver unarmed entered
+driver_call content image meters law counted was now e nodes (Err fault) stood stands same driver unarmed entered kept =
     still_on content image meters was now nodes stood stands same.0 same.1 kept

@@ -1,116 +1,232 @@
--- What the numbers of disks came to, over one more entry.
-use Rattle.std.proofs.Common.{◌≡◌, ◌≢◌, ◌==◌, inl, inr, ◌⊎◌, ◌≤◌, ◌+◌, ◌++◌, ◌∷◌, [], ℕ, suc, Bool, true, false, List, refl, sym, ap, ◌∙◌, arith, eqb-true, eq-eqb}
-use Rattle.std.specs.Prelude.{count_by, if◌then◌else◌}
-use Rattle.std.proofs.lemmas.List.Sums.{sum_by-append}
-use Rattle.e3_disk.specs.Meters.{Meters, LAST, Keeps, Rose}
-use Rattle.e3_fleet.specs.Over.{faults_at, is_fault}
-use Rattle.e3_fleet.specs.Fleets.{HasKept}
+-- What the numbers of a disk came to, over one more entry.
+use Rattle.std.proofs.Common.{◌≡◌, ◌≢◌, ◌==◌, inl, inr, ◌⊎◌, ◌≤◌, ◌<◌, ◌+◌, ◌++◌, ◌∷◌, [], ℕ, zero, suc, Bool, true, false, List, length, refl, sym, ap, subst, ◌∙◌, arith, eqb-true, eq-eqb}
+use Rattle.e3_disk.specs.Meters.{Meters, LAST, IsCounted, Keeps, Rose, raised}
+use Rattle.e3_fleet.specs.Over.{FellByStops, HasServed, RoseBy, faults_at, is_fault}
+use Rattle.e3_fleet.specs.Stops.{Arm, NoStopIsPassed, arm_by, arms_of, calls_in, codes_in, cuts_at, ends_arm, is_cut, is_over, takes_of, used_by}
+use Rattle.e3_fleet.specs.Fleets.{HasKept, StopWaits}
+use Rattle.e3_fleet.proofs.Arming.{IsAll, IsBefore, IsLast, IsPart, arms_push, at_place, calls_push, codes_push, counted_if, in_two, length_push, over_push, own_push, raised_more, raised_none, used_end, used_more, used_over}
 use Rattle.e3_types.specs.declared.entries.Entry.{Entry}
-use Rattle.e3_world.specs.Moves.{own}
-use Rattle.e3_world.proofs.Readings.{own_same, own_other}
+use Rattle.e3_types.specs.declared.scenarios.Scenario.{Scenario}
 use Rattle.e3_world.proofs.Turns.{true_not_false}
 
-abbrev one_if : Bool → ℕ
-one_if true = 1
-one_if false = 0
+-- it took so many calls of an arm
+abbrev pub Took : ℕ → Meters → Meters → Type 0
+Took n old new = 0 < old.calls_left → (0 < new.calls_left) × (new.calls_left + n ≤ old.calls_left)
 
-one_count : (b : Bool) → (if b then 1 else 0) ≡ one_if b
-one_count true = refl
-one_count false = refl
+-- how the stops and the arm went: none came, and the disk is armed only where it was or is now; or one came
+abbrev pub StopsGo : ℕ → Meters → Meters → Type 0
+StopsGo arms x y =
+    ((y.stops ≡ x.stops) × (0 < y.calls_left → (0 < x.calls_left) ⊎ (1 ≤ arms)))
+    ⊎ ((y.stops ≡ suc x.stops) × (0 < x.calls_left) × (y.calls_left ≡ 0))
 
-count_push : (p : Entry → Bool) (xs : List Entry) (x : Entry) → count_by p (xs ++ x ∷ []) ≡ count_by p xs + one_if (p x)
-count_push p xs x = let both : count_by p (xs ++ x ∷ []) ≡ count_by p xs + (0 + (if p x then 1 else 0)) = sum_by-append _ xs (x ∷ []) in
-    let one = one_count (p x) in omega (arith, both, one)
+-- what every call keeps of the numbers of a site's disk, whatever is entered
+pub record Goes (x y : Meters) : Type 0 where
+  pub grows : x.faults ≤ y.faults
+  pub own_faults : y.faults < LAST → x.faults + y.stops ≤ y.faults + x.stops
+  pub rises : x.stops ≤ y.stops
+  pub capacity : y.capacity ≡ x.capacity
 
--- an entry of another owner is none of the site's faults
-pub faults_other : (h : List Entry) (e : Entry) (site : ℕ) → e.owner ≢ site → faults_at (h ++ e ∷ []) site ≡ faults_at h site
-faults_other h e site other = by (e.owner == site) refl
+-- how the numbers of a site's disk go with one more entry
+pub record GoesWith (sc : Scenario) (site : ℕ) (e : Entry) (x y : Meters) : Type 0 where
+  pub goes : Goes x y
+  pub rose : counted_if is_fault site e ≡ 0 ⊎ ((counted_if is_fault site e ≡ 1) × Rose x.faults y.faults)
+  pub stops : y.stops < LAST → StopsGo (length (arm_by sc site e)) x y
+  pub arms : y.arms ≡ raised x.arms (length (arm_by sc site e))
+  pub calls : y.calls ≡ raised x.calls (calls_in (arm_by sc site e))
+  pub codes : y.codes ≡ raised x.codes (codes_in (arm_by sc site e))
+  pub cuts : y.cuts ≡ raised x.cuts (counted_if is_cut site e)
+  pub waits : ends_arm sc site e ≡ false → Took (takes_of site e) x y
+  pub starts : (arm : Arm) → arm_by sc site e ≡ arm ∷ [] → (0 < y.calls_left) × (y.calls_left ≤ arm.calls)
+
+-- and without one
+pub record GoesOn (x y : Meters) : Type 0 where
+  pub goes : Goes x y
+  pub stops : y.stops < LAST → StopsGo 0 x y
+  pub arms : y.arms ≡ x.arms
+  pub calls : y.calls ≡ x.calls
+  pub codes : y.codes ≡ x.codes
+  pub cuts : y.cuts ≡ x.cuts
+  pub waits : Took 0 x y
+
+-- a count that rose, further
+raise : (o x y n k m : ℕ) → x ≡ raised o n → y ≡ raised x k → m ≡ n + k → y ≡ raised o m
+raise o x y n k m was is all = is ∙ ap (λ z. raised z k) was ∙ raised_more o n k ∙ ap (λ z. raised o z) (sym all)
+
+-- the faults
+rises_on : (o x y n k m : ℕ) → y ≤ LAST → x ≤ y → RoseBy n o x → (k ≡ 0) ⊎ ((k ≡ 1) × Rose x y) → m ≡ n + k → RoseBy m o y
+rises_on o x y n k m counted up (inr last) rose all = inr (omega (arith, last, counted, up))
+rises_on o x y n k m counted up (inl low) (inl none) all = inl (omega (arith, low, none, all, up))
+rises_on o x y n k m counted up (inl low) (inr rose) all = by (y == LAST) refl
   where
-    by : (b : Bool) → (e.owner == site) ≡ b → faults_at (h ++ e ∷ []) site ≡ faults_at h site
-    by true is = absurd (other (eqb-true e.owner site is))
-    by false is = ap (count_by is_fault) (own_other site h e is)
+    by : (b : Bool) → (y == LAST) ≡ b → RoseBy m o y
+    by true is = inr (eqb-true y LAST is)
+    by false is =
+        let apart : y ≢ LAST = (λ e. true_not_false (sym (eq-eqb y LAST e) ∙ is)) in
+        let one = rose.0 in let two = rose.1 in inl (omega (arith, low, one, two, all, counted, apart))
 
--- one of the site's own is one where its disk failed
-pub faults_own : (h : List Entry) (e : Entry) (site : ℕ) → e.owner ≡ site → faults_at (h ++ e ∷ []) site ≡ faults_at h site + one_if (is_fault e)
-faults_own h e site same = ap (count_by is_fault) (own_same site h e (eq-eqb e.owner site same)) ∙ count_push is_fault (own site h) e
+-- the stops, each with its arm, and the arm that is left
+stops_on : (arms more all o : ℕ) (x y : Meters) → all ≡ arms + more → StopsGo more x y → x.stops ≤ o + arms →
+    (0 < x.calls_left → x.stops < o + arms) → (y.stops ≤ o + all) × (0 < y.calls_left → y.stops < o + all)
+stops_on arms more all o x y sum (inl same) spent left =
+    let stops : y.stops ≡ x.stops = same.0 in
+    (omega (arith, stops, spent, sum), λ armed. by (same.1 armed) stops)
+  where
+    by : (0 < x.calls_left) ⊎ (1 ≤ more) → y.stops ≡ x.stops → y.stops < o + all
+    by (inl was) stops = let low = left was in omega (arith, stops, low, sum)
+    by (inr one) stops = omega (arith, stops, spent, sum, one)
+stops_on arms more all o x y sum (inr came) spent left =
+    let low : x.stops < o + arms = left came.1 in let stops : y.stops ≡ suc x.stops = came.0 in let off : y.calls_left ≡ 0 = came.2 in
+    (omega (arith, low, stops, sum), λ armed. absurd (omega (arith, armed, off)))
 
--- nothing happened
-pub kept_still : (site : ℕ) (h : List Entry) (m : Meters) → HasKept site h h m m
-kept_still site h m = record { faults = inl (omega arith); grows = omega arith; capacity = refl; arms = refl; calls = refl; codes = refl; cuts = refl }
+-- falls by stops, in a part of the history that was there before
+fell_on : (f a o s : ℕ) (x y : Meters) → Goes x y → y.faults < LAST → y.stops < LAST →
+    (x.faults < LAST → x.stops < LAST → f + x.stops + o ≤ a + x.faults + s) → f + y.stops + o ≤ a + y.faults + s
+fell_on f a o s x y goes faults stops was =
+    let up : x.faults ≤ y.faults = goes.grows in
+    let rises : x.stops ≤ y.stops = goes.rises in
+    let own : x.faults + y.stops ≤ y.faults + x.stops = goes.own_faults faults in
+    let past : f + x.stops + o ≤ a + x.faults + s = was (omega (arith, up, faults)) (omega (arith, rises, stops)) in
+    omega (arith, own, past)
 
--- one after the other
-pub kept_on : (site : ℕ) (a b c : List Entry) (x y z : Meters) → z.faults ≤ LAST → HasKept site a b x y → HasKept site b c y z → HasKept site a c x z
-kept_on site a b c x y z counted one two = record {
-  faults = by one.faults two.faults;
-  grows = omega (arith, one.grows, two.grows);
-  capacity = two.capacity ∙ one.capacity;
-  arms = two.arms ∙ one.arms;
-  calls = two.calls ∙ one.calls;
-  codes = two.codes ∙ one.codes;
-  cuts = two.cuts ∙ one.cuts;
+-- and in all of it
+fell_all : (f a o s faults stops : ℕ) → faults < LAST → RoseBy f o faults → stops ≤ s + a → f + stops + o ≤ a + faults + s
+fell_all f a o s faults stops low (inl rose) spent = omega (arith, rose, spent)
+fell_all f a o s faults stops low (inr last) spent = absurd (omega (arith, low, last))
+
+-- nothing was entered
+pub kept_on : (sc : Scenario) (h : List Entry) (site : ℕ) (o x y : Meters) → IsCounted y → GoesOn x y → HasKept sc h site o x → HasKept sc h site o y
+kept_on sc h site o x y counted goes was = record {
+  served = record {
+    faults = rises_on o.faults x.faults y.faults (faults_at h site) 0 (faults_at h site) counted.faults goes.goes.grows was.served.faults (inl refl) (omega arith);
+    grows = let one : o.faults ≤ x.faults = was.served.grows in let two : x.faults ≤ y.faults = goes.goes.grows in omega (arith, one, two);
+    capacity = goes.goes.capacity ∙ was.served.capacity;
+    arms = goes.arms ∙ was.served.arms;
+    calls = goes.calls ∙ was.served.calls;
+    codes = goes.codes ∙ was.served.codes;
+    cuts = goes.cuts ∙ was.served.cuts;
+    fell = λ before after is faults stops. fell_on (faults_at before site) (length (arms_of sc before site)) o.faults o.stops x y goes.goes faults stops
+        (λ low few. was.served.fell before after is low few);
+    stopped = was.served.stopped;
+  };
+  spent = λ few. (stops few).0;
+  left = λ few armed. (stops few).1 armed;
+  waits = λ before after e arm is asks goes_on. wait (used_by sc site after) arm.calls (was.waits before after e arm is asks goes_on);
 }
   where
-    by : (x.faults + faults_at b site ≤ y.faults + faults_at a site) ⊎ (y.faults ≡ LAST) →
-        (y.faults + faults_at c site ≤ z.faults + faults_at b site) ⊎ (z.faults ≡ LAST) →
-        (x.faults + faults_at c site ≤ z.faults + faults_at a site) ⊎ (z.faults ≡ LAST)
-    by (inl p) (inl q) = inl (omega (arith, p, q))
-    by (inr p) (inl q) = let up : y.faults ≤ z.faults = two.grows in inr (omega (arith, p, up, counted))
-    by p (inr q) = inr q
+    n : ℕ
+    n = length (arms_of sc h site)
 
--- an entry of another, or none, while the disk is as it was
-pub kept_other : (site : ℕ) (h : List Entry) (e : Entry) (m : Meters) → e.owner ≢ site → HasKept site h (h ++ e ∷ []) m m
-kept_other site h e m other = record {
-  faults = inl (let same = faults_other h e site other in omega (arith, same));
+    stops : y.stops < LAST → (y.stops ≤ o.stops + n) × (0 < y.calls_left → y.stops < o.stops + n)
+    stops few = let rises : x.stops ≤ y.stops = goes.goes.rises in let low : x.stops < LAST = omega (arith, rises, few) in
+        stops_on n 0 n o.stops x y (omega arith) (goes.stops few) (was.spent low) (was.left low)
+
+    wait : (u k : ℕ) → (0 < x.calls_left) × (u + x.calls_left ≤ k) → (0 < y.calls_left) × (u + y.calls_left ≤ k)
+    wait u k w = let took = goes.waits w.0 in let less = took.1 in let low = w.1 in (took.0, omega (arith, less, low))
+
+-- one more entry
+pub kept_more : (sc : Scenario) (h : List Entry) (e : Entry) (site : ℕ) (o x y : Meters) → IsCounted y → GoesWith sc site e x y →
+    HasKept sc h site o x → HasKept sc (h ++ e ∷ []) site o y
+kept_more sc h e site o x y counted goes was = record {
+  served = record {
+    faults = faults;
+    grows = let one : o.faults ≤ x.faults = was.served.grows in let two : x.faults ≤ y.faults = goes.goes.grows in omega (arith, one, two);
+    capacity = goes.goes.capacity ∙ was.served.capacity;
+    arms = raise o.arms x.arms y.arms (length (arms_of sc h site)) (length (arm_by sc site e)) (length (arms_of sc (h ++ e ∷ []) site)) was.served.arms goes.arms arms;
+    calls = raise o.calls x.calls y.calls (calls_in (arms_of sc h site)) (calls_in (arm_by sc site e)) (calls_in (arms_of sc (h ++ e ∷ []) site)) was.served.calls goes.calls (calls_push sc h e site);
+    codes = raise o.codes x.codes y.codes (codes_in (arms_of sc h site)) (codes_in (arm_by sc site e)) (codes_in (arms_of sc (h ++ e ∷ []) site)) was.served.codes goes.codes (codes_push sc h e site);
+    cuts = raise o.cuts x.cuts y.cuts (cuts_at h site) (counted_if is_cut site e) (cuts_at (h ++ e ∷ []) site) was.served.cuts goes.cuts (own_push is_cut h e site);
+    fell = λ before after is low few. fell before after low few (in_two h before after e is);
+    stopped = λ before after d arm is asks. stopped before after d arm asks (at_place h before after d e is);
+  };
+  spent = λ few. (stops few).0;
+  left = λ few armed. (stops few).1 armed;
+  waits = λ before after d arm is asks goes_on. waits before after d arm asks goes_on (at_place h before after d e is);
+}
+  where
+    arms : length (arms_of sc (h ++ e ∷ []) site) ≡ length (arms_of sc h site) + length (arm_by sc site e)
+    arms = length_push sc h e site
+
+    faults : RoseBy (faults_at (h ++ e ∷ []) site) o.faults y.faults
+    faults = rises_on o.faults x.faults y.faults (faults_at h site) (counted_if is_fault site e) (faults_at (h ++ e ∷ []) site) counted.faults goes.goes.grows
+        was.served.faults goes.rose (own_push is_fault h e site)
+
+    stops : y.stops < LAST → (y.stops ≤ o.stops + length (arms_of sc (h ++ e ∷ []) site)) × (0 < y.calls_left → y.stops < o.stops + length (arms_of sc (h ++ e ∷ []) site))
+    stops few = let rises : x.stops ≤ y.stops = goes.goes.rises in let low : x.stops < LAST = omega (arith, rises, few) in
+        stops_on (length (arms_of sc h site)) (length (arm_by sc site e)) (length (arms_of sc (h ++ e ∷ []) site)) o.stops x y arms (goes.stops few) (was.spent low) (was.left low)
+
+    fell : (before after : List Entry) → y.faults < LAST → y.stops < LAST → IsAll h before after e ⊎ IsPart h before after e →
+        faults_at before site + y.stops + o.faults ≤ length (arms_of sc before site) + y.faults + o.stops
+    fell before after low few (inl all) =
+        subst (λ (b : List Entry). faults_at b site + y.stops + o.faults ≤ length (arms_of sc b site) + y.faults + o.stops) (sym all.front)
+        (fell_all (faults_at (h ++ e ∷ []) site) (length (arms_of sc (h ++ e ∷ []) site)) o.faults o.stops y.faults y.stops low faults (stops few).0)
+    fell before after low few (inr part) =
+        fell_on (faults_at before site) (length (arms_of sc before site)) o.faults o.stops x y goes.goes low few
+        (λ faults stops. was.served.fell before part.rest part.parts faults stops)
+
+    -- what waited has been taken from, or is over now
+    go : (rest : List Entry) (arm : Arm) → (0 < x.calls_left) × (used_by sc site rest + x.calls_left ≤ arm.calls) → is_over sc site rest ≡ false → ends_arm sc site e ≡ false →
+        (0 < y.calls_left) × (used_by sc site (rest ++ e ∷ []) + y.calls_left ≤ arm.calls)
+    go rest arm w opens not_end =
+        let took = goes.waits not_end w.0 in let less : y.calls_left + takes_of site e ≤ x.calls_left = took.1 in
+        let low : used_by sc site rest + x.calls_left ≤ arm.calls = w.1 in
+        let used : used_by sc site (rest ++ e ∷ []) ≡ used_by sc site rest + takes_of site e = used_more sc site rest e opens not_end in
+        (took.0, omega (arith, less, low, used))
+
+    waits : (before after : List Entry) (d : Entry) (arm : Arm) → arm_by sc site d ≡ arm ∷ [] → is_over sc site after ≡ false →
+        IsLast h before after d e ⊎ IsBefore h before after d e → (0 < y.calls_left) × (used_by sc site after + y.calls_left ≤ arm.calls)
+    waits before after d arm asks opens (inl k) =
+        let starts = goes.starts arm (subst (λ (z : Entry). arm_by sc site z ≡ arm ∷ []) k.this asks) in
+        (let low = starts.1 in (starts.0, subst (λ (a : List Entry). used_by sc site a + y.calls_left ≤ arm.calls) (sym k.rest) (omega (arith, low))))
+    waits before after d arm asks opens (inr k) =
+        let parts = over_push sc site k.rest e (subst (λ (a : List Entry). is_over sc site a ≡ false) k.more opens) in
+        subst (λ (a : List Entry). (0 < y.calls_left) × (used_by sc site a + y.calls_left ≤ arm.calls)) (sym k.more)
+        (go k.rest arm (was.waits before k.rest d arm k.parts asks parts.0) parts.0 parts.1)
+
+    stopped : (before after : List Entry) (d : Entry) (arm : Arm) → arm_by sc site d ≡ arm ∷ [] →
+        IsLast h before after d e ⊎ IsBefore h before after d e → used_by sc site after < arm.calls
+    stopped before after d arm asks (inl k) =
+        let starts = goes.starts arm (subst (λ (z : Entry). arm_by sc site z ≡ arm ∷ []) k.this asks) in let some = starts.0 in let low = starts.1 in
+        subst (λ (a : List Entry). used_by sc site a < arm.calls) (sym k.rest) (omega (arith, some, low))
+    stopped before after d arm asks (inr k) =
+        subst (λ (a : List Entry). used_by sc site a < arm.calls) (sym k.more) (by (is_over sc site k.rest) refl)
+      where
+        old : used_by sc site k.rest < arm.calls
+        old = was.served.stopped before k.rest d arm k.parts asks
+
+        by : (b : Bool) → is_over sc site k.rest ≡ b → used_by sc site (k.rest ++ e ∷ []) < arm.calls
+        by true over = let same = used_over sc site k.rest e over in omega (arith, same, old)
+        by false opens = end (ends_arm sc site e) refl
+          where
+            end : (b : Bool) → ends_arm sc site e ≡ b → used_by sc site (k.rest ++ e ∷ []) < arm.calls
+            end true is = let same = used_end sc site k.rest e is in omega (arith, same, old)
+            end false is = let w = go k.rest arm (was.waits before k.rest d arm k.parts asks opens) opens is in let some = w.0 in let low = w.1 in omega (arith, some, low)
+
+no_place : {X : Type 0} (before after : List X) (x : X) → [] ≡ before ++ x ∷ after → ⊥
+no_place [] after x is = absurd cc
+no_place (b ∷ before) after x is = absurd cc
+
+pub served_start : (sc : Scenario) (site : ℕ) (m : Meters) → IsCounted m → HasServed sc [] site m m
+served_start sc site m counted = record {
+  faults = inl (omega arith);
   grows = omega arith;
   capacity = refl;
-  arms = refl;
-  calls = refl;
-  codes = refl;
-  cuts = refl;
-}
-
--- a call that entered nothing
-pub kept_quiet : (site : ℕ) (h : List Entry) (x y : Meters) → Keeps x y → HasKept site h h x y
-kept_quiet site h x y kept = record {
-  faults = inl (let up : x.faults ≤ y.faults = kept.faults in omega (arith, up));
-  grows = kept.faults;
-  capacity = kept.capacity;
-  arms = kept.arms;
-  calls = kept.calls;
-  codes = kept.codes;
-  cuts = kept.cuts;
-}
-
--- a call that entered one of the site's own, which is a fault only where the count rose
-pub kept_own : (site : ℕ) (h : List Entry) (e : Entry) (x y : Meters) → e.owner ≡ site → y.faults ≤ LAST → Keeps x y →
-    (is_fault e ≡ true → Rose x.faults y.faults) → HasKept site h (h ++ e ∷ []) x y
-kept_own site h e x y same counted kept rose = record {
-  faults = by (is_fault e) refl;
-  grows = kept.faults;
-  capacity = kept.capacity;
-  arms = kept.arms;
-  calls = kept.calls;
-  codes = kept.codes;
-  cuts = kept.cuts;
+  arms = raised_none m.arms counted.arms;
+  calls = raised_none m.calls counted.calls;
+  codes = raised_none m.codes counted.codes;
+  cuts = raised_none m.cuts counted.cuts;
+  fell = λ before after is low few. fell before after is;
+  stopped = λ before after e arm is asks. absurd (no_place before after e is);
 }
   where
-    count : faults_at (h ++ e ∷ []) site ≡ faults_at h site + one_if (is_fault e)
-    count = faults_own h e site same
+    fell : (before after : List Entry) → [] ≡ before ++ after → faults_at before site + m.stops + m.faults ≤ length (arms_of sc before site) + m.faults + m.stops
+    fell [] after is = omega arith
+    fell (b ∷ before) after is = absurd cc
 
-    up : x.faults ≤ y.faults
-    up = kept.faults
-
-    rises : Rose x.faults y.faults → (suc x.faults ≤ y.faults) ⊎ (y.faults ≡ LAST)
-    rises r = at (y.faults == LAST) refl r
-      where
-        at : (b : Bool) → (y.faults == LAST) ≡ b → Rose x.faults y.faults → (suc x.faults ≤ y.faults) ⊎ (y.faults ≡ LAST)
-        at true is r = inr (eqb-true y.faults LAST is)
-        at false is r = inl (let apart : y.faults ≢ LAST = (λ e. true_not_false (sym (eq-eqb y.faults LAST e) ∙ is)) in omega (arith, r, counted, apart))
-
-    by : (b : Bool) → is_fault e ≡ b → (x.faults + faults_at (h ++ e ∷ []) site ≤ y.faults + faults_at h site) ⊎ (y.faults ≡ LAST)
-    by false is = let one : one_if (is_fault e) ≡ 0 = ap one_if is in inl (omega (arith, count, one, up))
-    by true is = more (rises (rose is)) (let one : one_if (is_fault e) ≡ 1 = ap one_if is in one)
-      where
-        more : (suc x.faults ≤ y.faults) ⊎ (y.faults ≡ LAST) → one_if (is_fault e) ≡ 1 → (x.faults + faults_at (h ++ e ∷ []) site ≤ y.faults + faults_at h site) ⊎ (y.faults ≡ LAST)
-        more (inl r) one = inl (omega (arith, count, one, r))
-        more (inr r) one = inr r
+-- nothing has happened yet
+pub kept_start : (sc : Scenario) (site : ℕ) (m : Meters) → IsCounted m → m.calls_left ≡ 0 → HasKept sc [] site m m
+kept_start sc site m counted unarmed = record {
+  served = served_start sc site m counted;
+  spent = λ few. omega arith;
+  left = λ few armed. absurd (omega (arith, unarmed, armed));
+  waits = λ before after e arm is asks opens. absurd (no_place before after e is);
+}

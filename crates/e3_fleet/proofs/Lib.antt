@@ -1,8 +1,10 @@
+pub mod Arming
 pub mod Places
-pub mod Rooms
 pub mod Kept
+pub mod Turns
+pub mod Rooms
 pub mod Going
 pub mod Owned
-pub mod Ending
 pub mod Unmanned
+pub mod Ending
 pub mod Seats

@@ -1,121 +1,166 @@
--- What a call of a node entered.
-use Rattle.std.proofs.Common.{◌≡◌, inl, inr, ◌⊎◌, ◌<◌, ◌++◌, ◌∷◌, [], ℕ, false, List, Ok, Err, Result, Option, refl, sym, ap, subst, ◌∙◌, arith}
-use Rattle.std.specs.Prelude.{OnOk, OnErr}
-use Rattle.e3_disk.specs.Meters.{Meters, Rose}
-use Rattle.e3_fleet.specs.Over.{HadNoRoom, IsFull}
-use Rattle.e3_fleet.specs.Fleets.{input_answer, rise_answer}
-use Rattle.e3_fleet.proofs.Going.{IsOwn}
-use Rattle.e3_node.specs.Ends.{FailedFirst, FellOver, IsReason, is_fall}
+-- What a call of a node entered, and how the numbers of its disk went with it.
+use Rattle.std.proofs.Common.{◌≡◌, ◌≢◌, inl, inr, ◌⊎◌, ◌<◌, ◌≤◌, ◌+◌, ◌++◌, ◌∷◌, [], ℕ, suc, true, false, List, Ok, Err, Result, refl, sym, ap, subst, ◌∙◌, arith}
+use Rattle.std.specs.Prelude.{OnOk, OnErr, IfOk}
+use Rattle.e3_disk.specs.Leaves.{code_of}
+use Rattle.e3_disk.specs.Meters.{Meters, IsCounted, Keeps, Rose, armed, cut}
+use Rattle.e3_fleet.specs.Over.{HadNoRoom, is_fault}
+use Rattle.e3_fleet.specs.Fleets.{cut_answer, input_answer, rise_answer}
+use Rattle.e3_fleet.specs.Stops.{arm_by, calls_of, is_cut, is_end}
+use Rattle.e3_fleet.proofs.Going.{IsNext, IsQuiet, Went}
+use Rattle.e3_fleet.proofs.Kept.{GoesOn, Took}
+use Rattle.e3_fleet.proofs.Turns.{goes_cut, goes_own, goes_stop, keeps_on, still, stop_apart}
+use Rattle.e3_node.specs.Ends.{FellOver, HasFailedToRise, HasRisen, IsReason, calls_for, is_fall}
+use Rattle.e3_node.specs.NodeView.{NodeView, disk_of}
+use Rattle.e3_node.specs.declared.fault.CutFault.{CutFault}
+use Rattle.e3_node.specs.declared.fault.CutFault.TheVariants as cut_fault
 use Rattle.e3_node.specs.declared.fault.InputFault.{InputFault}
 use Rattle.e3_node.specs.declared.fault.InputFault.TheVariants as input_fault
 use Rattle.e3_node.specs.declared.fault.RiseFault.{RiseFault}
 use Rattle.e3_node.specs.declared.fault.RiseFault.TheVariants as rise_fault
-use Rattle.e3_play.specs.Entering.{AfterInput, AfterRise, fall_of}
-use Rattle.e3_play.specs.declared.sites.RunFault.TheVariants as run_fault
-use Rattle.e3_types.specs.declared.entries.Act.TheVariants.{Rise, RiseFall, Miss}
+use Rattle.e3_sites.specs.Entering.{AfterInput, AfterRise, fall_of}
+use Rattle.e3_sites.specs.declared.sites.RunFault.TheVariants as run_fault
+use Rattle.e3_types.specs.declared.entries.Act.{Act}
+use Rattle.e3_types.specs.declared.entries.Act.TheVariants.{Step, Fall, Rise, RiseFall, Miss, Cut, Line}
 use Rattle.e3_types.specs.declared.entries.Entry.{Entry}
 use Rattle.e3_types.specs.declared.entries.Input.{Input}
 use Rattle.e3_types.specs.declared.entries.Why.{Why}
 use Rattle.e3_types.specs.declared.entries.Why.TheVariants.{Fault, Full}
+use Rattle.e3_types.specs.declared.records.Record.{Record}
+use Rattle.e3_types.specs.declared.scenarios.Item.TheVariants as item
+use Rattle.e3_types.specs.declared.scenarios.Leave.{Leave}
 use Rattle.e3_types.specs.declared.scenarios.Scenario.{Scenario}
 use Rattle.e3_world.specs.Legal.{entry_of, made_by}
-use Rattle.e3_world.specs.Moves.{Move, Tail, kept_moves, log_by, log_size, moves_of, open_tail, own, past_of, rise_records}
+use Rattle.e3_world.specs.Moves.{log_size, moves_of}
+use Rattle.e3_world.specs.Packets.{step_items}
 use Rattle.e3_world.proofs.Turns.{true_not_false}
 
--- a site without entries has no moves
-no_moves : (sc : Scenario) (h : List Entry) (site : ℕ) → own site h ≡ [] → moves_of sc h site ≡ []
-no_moves sc h site none = ap (λ (mine : List Entry). (past_of sc site mine).moves) none
+-- an entry of the site's own
+own_next : (sc : Scenario) (h more : List Entry) (site : ℕ) (act : Act) (old new : Meters) → IsCounted old → Keeps old new →
+    more ≡ h ++ record { owner = site; act = act } ∷ [] →
+    ((k : ℕ) → arm_by sc k (record { owner = site; act = act }) ≡ []) → is_cut (record { owner = site; act = act }) ≡ false →
+    (is_fault (record { owner = site; act = act }) ≡ true → Rose old.faults new.faults) → (is_end act ≡ false → Took (calls_of act) old new) →
+    HadNoRoom sc h site old.capacity act → Went sc h more site old new
+own_next sc h more site act old new counted keeps entered none no_cut rose took room = inr (record {
+  e = record { owner = site; act = act };
+  apart = λ k far same. far (sym same);
+  unarmed = λ k far. none (suc k);
+  entered = entered;
+  goes = goes_own sc site (record { owner = site; act = act }) old new counted refl (none site) no_cut keeps rose took;
+  room = room;
+})
 
--- a tail that is not kept is no move
-not_kept : (site : ℕ) (tail : Option Tail) → kept_moves site false tail ≡ []
-not_kept site tail = refl
+-- nothing
+quiet : (sc : Scenario) (h more : List Entry) (site : ℕ) (old new : Meters) → more ≡ h → new ≡ old → Went sc h more site old new
+quiet sc h more site old new none same = inl (record { none = none; goes = subst (λ (m : Meters). GoesOn old m) (sym same) (still old) })
 
-rise_room : (sc : Scenario) (h : List Entry) (site capacity need room : ℕ) (old new : Meters) → own site h ≡ [] → capacity ≡ old.capacity →
-    IsReason (Full need room) 0 (rise_records sc site 1 []) old new → HadNoRoom sc h site capacity (RiseFall false 1 (Full need room))
-rise_room sc h site capacity need room old new none same reason =
-    subst P (sym moves) (let need_is = reason.1 in (reason.2 ∙ sym same, subst (λ (n : ℕ). n < need) (sym same) reason.0, omega (arith, need_is)))
-  where
-    P : List Move → Type 0
-    P ms = IsFull capacity need room ms (rise_records sc site 1 (log_by ms))
+quiet_keeps : (sc : Scenario) (h more : List Entry) (site : ℕ) (old new : Meters) → IsCounted old → Keeps old new → Took 0 old new → more ≡ h → Went sc h more site old new
+quiet_keeps sc h more site old new counted keeps took none = inl (record { none = none; goes = keeps_on old new counted keeps took })
 
-    moves : moves_of sc h site ++ kept_moves site false (open_tail sc h site) ≡ []
-    moves = ap (λ (ms : List Move). ms ++ kept_moves site false (open_tail sc h site)) (no_moves sc h site none) ∙ not_kept site (open_tail sc h site)
-
--- a first rise
-pub rise_owns : (sc : Scenario) (h more : List Entry) (site : ℕ) (old new : Meters) (answer : Result (Unit {0}) RiseFault) → own site h ≡ [] →
-    OnOk answer (more ≡ h ++ record { owner = site; act = Rise false 1 } ∷ []) →
+-- a rise
+pub rise_went : (sc : Scenario) (h more : List Entry) (site : ℕ) (old new : Meters) (image : List ℕ → Type 0) (answer : Result ℕ RiseFault) → IsCounted old → Keeps old new →
+    IfOk answer (λ inc. HasRisen sc h site inc more image) → OnOk answer (Took 5 old new) →
+    ((why : Why) → answer ≡ Err (rise_fault.Failed why) → HasFailedToRise sc h site why more old new image) →
     (answer ≡ Err rise_fault.Missed → more ≡ h ++ record { owner = site; act = Miss } ∷ []) →
-    ((why : Why) → answer ≡ Err (rise_fault.Failed why) → FailedFirst h site why more) →
-    (answer ≡ Err rise_fault.NoMemory → more ≡ h) →
-    (answer ≡ Err rise_fault.HistoryFull → more ≡ h) →
     (answer ≡ Err rise_fault.Missed → Rose old.faults new.faults) →
-    ((why : Why) → answer ≡ Err (rise_fault.Failed why) → IsReason why 0 (rise_records sc site 1 []) old new) →
-    (more ≡ h) ⊎ IsOwn sc h more site old new
-rise_owns sc h more site old new (Ok done) none rose missed failed memory full cause why =
-    inr (record { e = record { owner = site; act = Rise false 1 }; owner = refl; entered = rose; rose = λ is. absurd (true_not_false (sym is)); room = tt })
-rise_owns sc h more site old new (Err rise_fault.Missed) none rose missed failed memory full cause why =
-    inr (record { e = record { owner = site; act = Miss }; owner = refl; entered = missed refl; rose = λ is. cause refl; room = tt })
-rise_owns sc h more site old new (Err rise_fault.NoMemory) none rose missed failed memory full cause why = inl (memory refl)
-rise_owns sc h more site old new (Err rise_fault.HistoryFull) none rose missed failed memory full cause why = inl (full refl)
-rise_owns sc h more site old new (Err (rise_fault.Failed Fault)) none rose missed failed memory full cause why =
-    inr (record { e = record { owner = site; act = RiseFall false 1 Fault }; owner = refl; entered = failed Fault refl; rose = λ is. why Fault refl; room = tt })
-rise_owns sc h more site old new (Err (rise_fault.Failed (Full need room))) none rose missed failed memory full cause why =
-    inr (record {
-      e = record { owner = site; act = RiseFall false 1 (Full need room) };
-      owner = refl;
-      entered = failed (Full need room) refl;
-      rose = λ is. absurd (true_not_false (sym is));
-      room = rise_room sc h site old.capacity need room old new none refl (why (Full need room) refl);
-    })
+    (answer ≡ Err rise_fault.NoMemory → (more ≡ h) × Took 0 old new) →
+    (answer ≡ Err rise_fault.HistoryFull → (more ≡ h) × (new ≡ old)) →
+    (answer ≡ Err rise_fault.Up → (more ≡ h) × (new ≡ old)) → Went sc h more site old new
+rise_went sc h more site old new image (Ok inc) counted keeps rose took failed missed cause memory full up =
+    own_next sc h more site (Rise rose.kept inc) old new counted keeps rose.entered (λ k. refl) refl (λ is. absurd (true_not_false (sym is))) (λ not_end. took) tt
+rise_went sc h more site old new image (Err rise_fault.Missed) counted keeps rose took failed missed cause memory full up =
+    own_next sc h more site Miss old new counted keeps (missed refl) (λ k. refl) refl (λ is. cause refl) (λ is. absurd (true_not_false is)) tt
+rise_went sc h more site old new image (Err rise_fault.NoMemory) counted keeps rose took failed missed cause memory full up =
+    quiet_keeps sc h more site old new counted keeps (memory refl).1 (memory refl).0
+rise_went sc h more site old new image (Err rise_fault.HistoryFull) counted keeps rose took failed missed cause memory full up =
+    quiet sc h more site old new (full refl).0 (full refl).1
+rise_went sc h more site old new image (Err rise_fault.Up) counted keeps rose took failed missed cause memory full up =
+    quiet sc h more site old new (up refl).0 (up refl).1
+rise_went sc h more site old new image (Err (rise_fault.Failed Fault)) counted keeps rose took failed missed cause memory full up =
+    let f = failed Fault refl in
+    own_next sc h more site (RiseFall f.kept f.inc Fault) old new counted keeps f.entered (λ k. refl) refl (λ is. f.reason) (λ is. absurd (true_not_false is)) tt
+rise_went sc h more site old new image (Err (rise_fault.Failed (Full need room))) counted keeps rose took failed missed cause memory full up =
+    let f = failed (Full need room) refl in let reason = f.reason in let need_is = reason.1 in
+    own_next sc h more site (RiseFall f.kept f.inc (Full need room)) old new counted keeps f.entered (λ k. refl) refl (λ is. absurd (true_not_false (sym is)))
+    (λ is. absurd (true_not_false is)) (reason.2, reason.0, omega (arith, need_is))
 
 -- an input
-pub input_owns : (sc : Scenario) (h more : List Entry) (site : ℕ) (i : Input) (old new : Meters) (answer : Result (Unit {0}) InputFault) →
-    OnOk answer (more ≡ h ++ entry_of sc h site i ∷ []) →
+pub input_went : (sc : Scenario) (h more : List Entry) (site : ℕ) (i : Input) (old new : Meters) (answer : Result (Unit {0}) InputFault) → IsCounted old → Keeps old new →
+    OnOk answer (more ≡ h ++ entry_of sc h site i ∷ []) → OnOk answer (Took (calls_of (entry_of sc h site i).act) old new) →
     ((why : Why) → answer ≡ Err (input_fault.Fell why) → FellOver sc h site i why more) →
-    ((fault : InputFault) → answer ≡ Err fault → is_fall fault ≡ false → more ≡ h) →
+    ((fault : InputFault) → answer ≡ Err fault → is_fall fault ≡ false → (more ≡ h) × (new ≡ old)) →
     ((why : Why) → answer ≡ Err (input_fault.Fell why) → IsReason why (log_size (moves_of sc h site)) (made_by sc h site i).records old new) →
-    (more ≡ h) ⊎ IsOwn sc h more site old new
-input_owns sc h more site i old new (Ok done) stepped fell kept why =
-    inr (record { e = entry_of sc h site i; owner = refl; entered = stepped; rose = λ is. absurd (true_not_false (sym is)); room = tt })
-input_owns sc h more site i old new (Err (input_fault.Fell Fault)) stepped fell kept why =
-    inr (record { e = fall_of sc h site i Fault; owner = refl; entered = (fell Fault refl).entered; rose = λ is. why Fault refl; room = tt })
-input_owns sc h more site i old new (Err (input_fault.Fell (Full need room))) stepped fell kept why =
-    inr (record {
-      e = fall_of sc h site i (Full need room);
-      owner = refl;
-      entered = (fell (Full need room) refl).entered;
-      rose = λ is. absurd (true_not_false (sym is));
-      room = let reason = why (Full need room) refl in let need_is = reason.1 in (reason.2, reason.0, omega (arith, need_is));
-    })
-input_owns sc h more site i old new (Err input_fault.Down) stepped fell kept why = inl (kept input_fault.Down refl refl)
-input_owns sc h more site i old new (Err input_fault.HistoryFull) stepped fell kept why = inl (kept input_fault.HistoryFull refl refl)
-input_owns sc h more site i old new (Err input_fault.NoMemory) stepped fell kept why = inl (kept input_fault.NoMemory refl refl)
+    Went sc h more site old new
+input_went sc h more site i old new (Ok done) counted keeps stepped took fell kept why =
+    own_next sc h more site (entry_of sc h site i).act old new counted keeps stepped (λ k. refl) refl (λ is. absurd (true_not_false (sym is))) (λ not_end. took) tt
+input_went sc h more site i old new (Err (input_fault.Fell Fault)) counted keeps stepped took fell kept why =
+    own_next sc h more site (fall_of sc h site i Fault).act old new counted keeps (fell Fault refl).entered (λ k. refl) refl (λ is. why Fault refl) (λ is. absurd (true_not_false is)) tt
+input_went sc h more site i old new (Err (input_fault.Fell (Full need room))) counted keeps stepped took fell kept why =
+    let reason = why (Full need room) refl in let need_is = reason.1 in
+    own_next sc h more site (fall_of sc h site i (Full need room)).act old new counted keeps (fell (Full need room) refl).entered (λ k. refl) refl
+    (λ is. absurd (true_not_false (sym is))) (λ is. absurd (true_not_false is)) (reason.2, reason.0, omega (arith, need_is))
+input_went sc h more site i old new (Err input_fault.Down) counted keeps stepped took fell kept why =
+    quiet sc h more site old new (kept input_fault.Down refl refl).0 (kept input_fault.Down refl refl).1
+input_went sc h more site i old new (Err input_fault.HistoryFull) counted keeps stepped took fell kept why =
+    quiet sc h more site old new (kept input_fault.HistoryFull refl refl).0 (kept input_fault.HistoryFull refl refl).1
+input_went sc h more site i old new (Err input_fault.NoMemory) counted keeps stepped took fell kept why =
+    quiet sc h more site old new (kept input_fault.NoMemory refl refl).0 (kept input_fault.NoMemory refl refl).1
+
+-- a cut
+pub cut_went : (sc : Scenario) (h more : List Entry) (site : ℕ) (old new : Meters) (answer : Result (Unit {0}) CutFault) → IsCounted old →
+    OnOk answer (more ≡ h ++ record { owner = site; act = Cut } ∷ []) → OnOk answer (new ≡ cut old) →
+    OnErr answer ((more ≡ h) × (new ≡ old)) → Went sc h more site old new
+cut_went sc h more site old new (Ok done) counted entered cuts kept = inr (record {
+  e = record { owner = site; act = Cut };
+  apart = λ k far same. far (sym same);
+  unarmed = λ k far. refl;
+  entered = entered;
+  goes = goes_cut sc site old new counted cuts;
+  room = tt;
+})
+cut_went sc h more site old new (Err fault) counted entered cuts kept = quiet sc h more site old new kept.0 kept.1
+
+-- a stop
+pub stop_went : (sc : Scenario) (h more : List Entry) (at number calls : ℕ) (leave : Leave) (old new : Meters) → IsCounted old → 1 ≤ calls →
+    step_items sc number ≡ item.Stop (suc at) calls leave ∷ [] → more ≡ h ++ record { owner = 0; act = Line number } ∷ [] → new ≡ armed old calls (code_of leave) →
+    Went sc h more (suc at) old new
+stop_went sc h more at number calls leave old new counted some step entered arms = inr (record {
+  e = record { owner = 0; act = Line number };
+  apart = λ k far same. absurd (omega (arith, same));
+  unarmed = λ k far. stop_apart sc (suc at) (suc k) number calls leave far step;
+  entered = entered;
+  goes = goes_stop sc (suc at) number calls leave old new counted (omega arith) some step arms;
+  room = tt;
+})
 
 -- what the run hears of a rise
-pub rise_rose : (h more : List Entry) (site : ℕ) (answer : Result (Unit {0}) RiseFault) →
-    OnOk answer (more ≡ h ++ record { owner = site; act = Rise false 1 } ∷ []) →
+pub rise_rose : (sc : Scenario) (h more : List Entry) (site : ℕ) (old new : Meters) (image : List ℕ → Type 0) (answer : Result ℕ RiseFault) → (answer ≡ Err rise_fault.Up → ⊥) →
+    IfOk answer (λ inc. HasRisen sc h site inc more image) →
     (answer ≡ Err rise_fault.Missed → more ≡ h ++ record { owner = site; act = Miss } ∷ []) →
-    ((why : Why) → answer ≡ Err (rise_fault.Failed why) → FailedFirst h site why more) → OnOk (rise_answer answer) (AfterRise h site more)
-rise_rose h more site (Ok done) rose missed failed = inl rose
-rise_rose h more site (Err rise_fault.Missed) rose missed failed = inr (inr (missed refl))
-rise_rose h more site (Err (rise_fault.Failed why)) rose missed failed = inr (inl (record { why = why; entered = failed why refl }))
-rise_rose h more site (Err rise_fault.NoMemory) rose missed failed = tt
-rise_rose h more site (Err rise_fault.HistoryFull) rose missed failed = tt
+    ((why : Why) → answer ≡ Err (rise_fault.Failed why) → HasFailedToRise sc h site why more old new image) → OnOk (rise_answer answer) (AfterRise sc h site more)
+rise_rose sc h more site old new image (Ok inc) down rose missed failed = inl (record { kept = rose.kept; inc = inc; allowed = rose.allowed; entered = rose.entered })
+rise_rose sc h more site old new image (Err rise_fault.Missed) down rose missed failed = inr (inr (missed refl))
+rise_rose sc h more site old new image (Err (rise_fault.Failed why)) down rose missed failed =
+    let f = failed why refl in inr (inl (record { kept = f.kept; inc = f.inc; why = why; allowed = f.allowed; entered = f.entered }))
+rise_rose sc h more site old new image (Err rise_fault.NoMemory) down rose missed failed = tt
+rise_rose sc h more site old new image (Err rise_fault.HistoryFull) down rose missed failed = tt
+rise_rose sc h more site old new image (Err rise_fault.Up) down rose missed failed = tt
 
-pub rise_kept : (h more : List Entry) (answer : Result (Unit {0}) RiseFault) →
+pub rise_kept : (h more : List Entry) (answer : Result ℕ RiseFault) → (answer ≡ Err rise_fault.Up → more ≡ h) →
     (answer ≡ Err rise_fault.NoMemory → more ≡ h) → (answer ≡ Err rise_fault.HistoryFull → more ≡ h) → OnErr (rise_answer answer) (more ≡ h)
-rise_kept h more (Ok done) memory full = tt
-rise_kept h more (Err rise_fault.Missed) memory full = tt
-rise_kept h more (Err (rise_fault.Failed why)) memory full = tt
-rise_kept h more (Err rise_fault.NoMemory) memory full = memory refl
-rise_kept h more (Err rise_fault.HistoryFull) memory full = full refl
+rise_kept h more (Ok done) up memory full = tt
+rise_kept h more (Err rise_fault.Missed) up memory full = tt
+rise_kept h more (Err (rise_fault.Failed why)) up memory full = tt
+rise_kept h more (Err rise_fault.NoMemory) up memory full = memory refl
+rise_kept h more (Err rise_fault.HistoryFull) up memory full = full refl
+rise_kept h more (Err rise_fault.Up) up memory full = up refl
 
-pub rise_full : (P : Type 0) (answer : Result (Unit {0}) RiseFault) → (answer ≡ Err rise_fault.HistoryFull → P) →
+pub rise_full : (P : Type 0) (answer : Result ℕ RiseFault) → (answer ≡ Err rise_fault.HistoryFull → P) →
     rise_answer answer ≡ Err run_fault.HistoryFull → P
 rise_full P (Ok done) full is = absurd cc
 rise_full P (Err rise_fault.Missed) full is = absurd cc
 rise_full P (Err (rise_fault.Failed why)) full is = absurd cc
 rise_full P (Err rise_fault.NoMemory) full is = absurd cc
+rise_full P (Err rise_fault.Up) full is = absurd cc
 rise_full P (Err rise_fault.HistoryFull) full is = full refl
 
 -- what the run hears of an input
@@ -144,3 +189,42 @@ input_full P (Err (input_fault.Fell why)) full is = absurd cc
 input_full P (Err input_fault.Down) full is = absurd cc
 input_full P (Err input_fault.NoMemory) full is = absurd cc
 input_full P (Err input_fault.HistoryFull) full is = full refl
+
+-- what the run hears of a cut
+pub cut_entered : (P : Type 0) (answer : Result (Unit {0}) CutFault) → OnOk answer P → OnOk (cut_answer answer) P
+cut_entered P (Ok done) entered = entered
+cut_entered P (Err cut_fault.HistoryFull) entered = tt
+cut_entered P (Err cut_fault.Down) entered = tt
+cut_entered P (Err cut_fault.NoMemory) entered = tt
+
+pub cut_kept : (P : Type 0) (answer : Result (Unit {0}) CutFault) → OnErr answer P → OnErr (cut_answer answer) P
+cut_kept P (Ok done) kept = tt
+cut_kept P (Err cut_fault.HistoryFull) kept = kept
+cut_kept P (Err cut_fault.Down) kept = kept
+cut_kept P (Err cut_fault.NoMemory) kept = kept
+
+pub cut_full : (P : Type 0) (answer : Result (Unit {0}) CutFault) → (answer ≡ Err cut_fault.HistoryFull → P) →
+    cut_answer answer ≡ Err run_fault.HistoryFull → P
+cut_full P (Ok done) full is = absurd cc
+cut_full P (Err cut_fault.Down) full is = absurd cc
+cut_full P (Err cut_fault.NoMemory) full is = absurd cc
+cut_full P (Err cut_fault.HistoryFull) full is = full refl
+
+-- a cut that is not made leaves the disk
+pub cut_still : {D : Type 0} (h more : List Entry) (meters : D → Meters) (old new : NodeView D) (answer : Result (Unit {0}) CutFault) →
+    OnErr answer ((more ≡ h) × (disk_of new.state ≡ disk_of old.state)) → OnErr answer ((more ≡ h) × (meters (disk_of new.state) ≡ meters (disk_of old.state)))
+cut_still h more meters old new (Ok done) kept = tt
+cut_still h more meters old new (Err fault) kept = (kept.0, ap meters kept.1)
+
+-- what the step of an input takes
+pub takes_so : (sc : Scenario) (h : List Entry) (site : ℕ) (i : Input) (old new : Meters) (answer : Result (Unit {0}) InputFault) →
+    OnOk answer (Took (calls_for (made_by sc h site i).records) old new) → OnOk answer (Took (calls_of (entry_of sc h site i).act) old new)
+takes_so sc h site i old new (Err fault) took = tt
+takes_so sc h site i old new (Ok done) took = by (made_by sc h site i).records refl
+  where
+    P : ℕ → Type 0
+    P n = Took n old new
+
+    by : (records : List Record) → (made_by sc h site i).records ≡ records → Took (calls_of (entry_of sc h site i).act) old new
+    by [] is = subst P (let one : calls_for (made_by sc h site i).records ≡ 0 = rw is refl in let two : calls_of (entry_of sc h site i).act ≡ 0 = rw is refl in one ∙ sym two) took
+    by (r ∷ rs) is = subst P (let one : calls_for (made_by sc h site i).records ≡ 4 = rw is refl in let two : calls_of (entry_of sc h site i).act ≡ 4 = rw is refl in one ∙ sym two) took

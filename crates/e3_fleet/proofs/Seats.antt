@@ -1,10 +1,13 @@
 -- Nodes take their disks from the front, and give them back there.
-use Rattle.std.proofs.Common.{◌≡◌, ◌⊎◌, inl, inr, ◌+◌, ◌++◌, ◌∷◌, [], ℕ, zero, suc, List, length, Some, refl, sym, ap, subst, ◌∙◌, append_assoc, arith}
+use Rattle.std.proofs.Common.{◌≢◌, ◌==◌, Bool, true, false, Option, eqb-true, eq-eqb, ◌≡◌, ◌⊎◌, inl, inr, ◌+◌, ◌++◌, ◌∷◌, [], ℕ, zero, suc, List, length, Some, refl, sym, ap, subst, ◌∙◌, append_assoc, arith}
 use Rattle.std.specs.Prelude.{slice_get, remove}
+use Rattle.e3_disk.specs.Memory.{blank_state, state_of}
 use Rattle.e3_disk.specs.Meters.{Meters}
-use Rattle.e3_fleet.specs.Fleets.{AreSeated, HasKept, HaveKept, Seated, disks_of}
+use Rattle.e3_disk.specs.declared.memory.MemDisk.{MemDisk}
+use Rattle.e3_fleet.specs.MemoryDisks.{AreMade, fails_at}
+use Rattle.e3_world.proofs.Turns.{true_not_false}
+use Rattle.e3_fleet.specs.Fleets.{AreSeated, Seated, disks_of}
 use Rattle.e3_fleet.specs.Over.{AreBlank, IsFresh}
-use Rattle.e3_fleet.proofs.Kept.{kept_still}
 use Rattle.e3_fleet.proofs.Rooms.{rooms_empty}
 use Rattle.e3_node.specs.NodeStands.{NodeStands}
 use Rattle.e3_node.specs.NodeView.{NodeView, disk_of}
@@ -69,14 +72,6 @@ give_back {D} nodes rest n disks more d last same is =
     ∙ ap (λ (ds : List D). ds ++ disks) (sym (disks_more rest n))
     ∙ ap (λ (ns : List (NodeView D)). disks_of ns ++ disks) (sym last)
 
--- disks that nothing happened to
-pub have_kept_still : {D : Type 0} (meters : D → Meters) (h : List Entry) (nodes : List (NodeView D)) → HaveKept meters h h nodes nodes
-have_kept_still {D} meters h nodes = record {
-  count = refl;
-  each = λ at x y is there. subst (λ (z : NodeView D). HasKept (suc at) h h (meters (disk_of x.state)) (meters (disk_of z.state))) (let one : x ≡ y = cc in one)
-      (kept_still (suc at) h (meters (disk_of x.state)));
-}
-
 -- one more blank disk
 pub blank_more : {D : Type 0} (content : D → List ℕ) (image : D → List ℕ → Type 0) (meters : D → Meters) (disks : List D) (d : D) →
     AreBlank content image meters disks → IsFresh content image meters d → AreBlank content image meters (disks ++ d ∷ [])
@@ -85,3 +80,23 @@ blank_more {D} content image meters disks d blank fresh at disk there = by (get_
     by : (slice_get disks at ≡ Some disk) ⊎ ((at ≡ length disks) × (d ≡ disk)) → IsFresh content image meters disk
     by (inl k) = blank at disk k
     by (inr k) = subst (IsFresh content image meters) k.1 fresh
+
+-- the calls that fail of the next disk in memory
+pub next_fails : (site the_one : ℕ) (fails listed : List ℕ) (now was : Option (List ℕ)) → (was ≡ Some fails ⊎ (site ≢ the_one)) →
+    ((some : List ℕ) → site ≡ the_one → was ≡ Some some → listed ≡ some) → (site ≢ the_one → (listed ≡ []) × (now ≡ was)) → listed ≡ fails_at the_one fails site
+next_fails site the_one fails listed now was some its other = by (site == the_one) refl some
+  where
+    by : (b : Bool) → (site == the_one) ≡ b → (was ≡ Some fails ⊎ (site ≢ the_one)) → listed ≡ fails_at the_one fails site
+    by true is (inl there) = its fails (eqb-true site the_one is) there ∙ (let same : fails_at the_one fails site ≡ fails = rw is refl in sym same)
+    by true is (inr apart) = absurd (apart (eqb-true site the_one is))
+    by false is some = (other (λ e. true_not_false (sym (eq-eqb site the_one e) ∙ is))).0 ∙ (let same : fails_at the_one fails site ≡ [] = rw is refl in sym same)
+
+-- one more disk in memory
+pub made_more : (capacity the_one at : ℕ) (fails listed : List ℕ) (disks : List MemDisk) (d : MemDisk) → AreMade capacity the_one fails disks → length disks ≡ at →
+    state_of d ≡ blank_state capacity listed → listed ≡ fails_at the_one fails (suc at) → AreMade capacity the_one fails (disks ++ d ∷ [])
+made_more capacity the_one at fails listed disks d made number state is k disk there = by (get_last disks d disk k there)
+  where
+    by : (slice_get disks k ≡ Some disk) ⊎ ((k ≡ length disks) × (d ≡ disk)) → state_of disk ≡ blank_state capacity (fails_at the_one fails (suc k))
+    by (inl was) = made k disk was
+    by (inr last) = subst (λ (x : MemDisk). state_of x ≡ blank_state capacity (fails_at the_one fails (suc k))) last.1
+        (state ∙ ap (blank_state capacity) (is ∙ ap (λ n. fails_at the_one fails (suc n)) (sym (last.0 ∙ number))))

@@ -1,14 +1,17 @@
 -- The nodes of all sites, and what is always true of them.
-use Rattle.std.specs.Prelude.{◌≡◌, ◌⊎◌, ◌+◌, ◌≤◌, ℕ, suc, List, length, map, slice_get, Some, Result, Ok, Err}
+use Rattle.std.specs.Prelude.{◌≡◌, ◌+◌, ◌≤◌, ◌<◌, ◌++◌, ◌∷◌, [], ℕ, suc, false, List, length, map, slice_get, Some, Result, Ok, Err}
 use Rattle.e3_disk.specs.Meters.{Meters, LAST}
-use Rattle.e3_fleet.specs.Over.{HadNoRooms, faults_at}
+use Rattle.e3_fleet.specs.Over.{HadNoRooms, HasServed}
+use Rattle.e3_fleet.specs.Stops.{Arm, arm_by, arms_of, is_over, used_by}
 use Rattle.e3_node.specs.NodeStands.{NodeStands}
+use Rattle.e3_node.specs.declared.fault.CutFault.{CutFault}
+use Rattle.e3_node.specs.declared.fault.CutFault.TheVariants as cut_fault
 use Rattle.e3_node.specs.declared.fault.InputFault.{InputFault}
 use Rattle.e3_node.specs.declared.fault.InputFault.TheVariants as input_fault
 use Rattle.e3_node.specs.declared.fault.RiseFault.{RiseFault}
 use Rattle.e3_node.specs.declared.fault.RiseFault.TheVariants as rise_fault
-use Rattle.e3_play.specs.declared.sites.RunFault.{RunFault}
-use Rattle.e3_play.specs.declared.sites.RunFault.TheVariants as run_fault
+use Rattle.e3_sites.specs.declared.sites.RunFault.{RunFault}
+use Rattle.e3_sites.specs.declared.sites.RunFault.TheVariants as run_fault
 use Rattle.e3_node.specs.NodeView.{NodeView, disk_of}
 use Rattle.e3_node.specs.SharedStands.{SharedStands, SharedView}
 use Rattle.e3_types.specs.declared.entries.Entry.{Entry}
@@ -37,36 +40,45 @@ pub record FleetStands {D : Type 0} (content : D → List ℕ) (image : D → Li
   pub count : length nodes ≡ length shared.scenario.weights
   pub seated : AreSeated content image meters shared.scenario shared.entries nodes
 
--- What the numbers of a site's disk came to while its history grew: the disk failed as often as the site fell by it, at
--- least, and it was neither armed nor cut.
-pub record HasKept (site : ℕ) (before now : List Entry) (old new : Meters) : Type 0 where
-  pub faults : (old.faults + faults_at now site ≤ new.faults + faults_at before site) ⊎ (new.faults ≡ LAST)
-  pub grows : old.faults ≤ new.faults
-  pub capacity : new.capacity ≡ old.capacity
-  pub arms : new.arms ≡ old.arms
-  pub calls : new.calls ≡ old.calls
-  pub codes : new.codes ≡ old.codes
-  pub cuts : new.cuts ≡ old.cuts
+-- While a stop may still come: where no entry behind the line of a stop ended its arm, the disk is armed, and what these
+-- entries took and the calls that are left are together no more than the calls of that arm.
+abbrev pub StopWaits : Scenario → List Entry → ℕ → Meters → Type 0
+StopWaits sc history site now = (before after : List Entry) (e : Entry) (arm : Arm) → history ≡ before ++ e ∷ after →
+    arm_by sc site e ≡ arm ∷ [] → is_over sc site after ≡ false → (0 < now.calls_left) × (used_by sc site after + now.calls_left ≤ arm.calls)
+
+-- What the numbers of a site's disk came to so far, from where nothing had happened: each stop that came had an arm of its
+-- own, while the disk is armed one arm is left, and no stop is passed over.
+pub record HasKept (sc : Scenario) (history : List Entry) (site : ℕ) (start now : Meters) : Type 0 where
+  pub served : HasServed sc history site start now
+  pub spent : now.stops < LAST → now.stops ≤ start.stops + length (arms_of sc history site)
+  pub left : now.stops < LAST → 0 < now.calls_left → now.stops < start.stops + length (arms_of sc history site)
+  pub waits : StopWaits sc history site now
 
 -- so did the disks of all these nodes
-pub record HaveKept {D : Type 0} (meters : D → Meters) (before now : List Entry) (olds news : List (NodeView D)) : Type 0 where
-  pub count : length news ≡ length olds
-  pub each : (at : ℕ) (old new : NodeView D) → slice_get olds at ≡ Some old → slice_get news at ≡ Some new →
-      HasKept (suc at) before now (meters (disk_of old.state)) (meters (disk_of new.state))
+pub record HaveKept {D : Type 0} (meters : D → Meters) (sc : Scenario) (history : List Entry) (starts nows : List (NodeView D)) : Type 0 where
+  pub count : length nows ≡ length starts
+  pub each : (at : ℕ) (start now : NodeView D) → slice_get starts at ≡ Some start → slice_get nows at ≡ Some now →
+      HasKept sc history (suc at) (meters (disk_of start.state)) (meters (disk_of now.state))
 
--- What a call made of a fleet: it still stands, it plays the same scenario within the same bound, and its disks kept.
+-- the disks of these nodes are not armed
+abbrev pub AreUnarmed : {D : Type 0} → (D → Meters) → List (NodeView D) → Type 0
+AreUnarmed {D} meters nodes = (at : ℕ) (node : NodeView D) → slice_get nodes at ≡ Some node → (meters (disk_of node.state)).calls_left ≡ 0
+
+-- What a call made of a fleet: it still stands, it plays the same scenario within the same bound, and its disks
+-- kept on.
 pub record IsFleetOn {D : Type 0} (content : D → List ℕ) (image : D → List ℕ → Type 0) (meters : D → Meters)
     (was now : SharedView) (olds news : List (NodeView D)) : Type 0 where
   pub stands : FleetStands content image meters now news
   pub scenario : now.scenario ≡ was.scenario
   pub most : now.most ≡ was.most
-  pub kept : HaveKept meters was.entries now.entries olds news
+  pub kept : (starts : List (NodeView D)) → HaveKept meters was.scenario was.entries starts olds → HaveKept meters now.scenario now.entries starts news
 
 -- what a rise is to the run: one that failed or was missed is entered, and the run goes on
-abbrev pub rise_answer : Result (Unit {0}) RiseFault → Result (Unit {0}) RunFault
-rise_answer (Ok done) = Ok done
+abbrev pub rise_answer : Result ℕ RiseFault → Result (Unit {0}) RunFault
+rise_answer (Ok inc) = Ok tt
 rise_answer (Err rise_fault.HistoryFull) = Err run_fault.HistoryFull
 rise_answer (Err rise_fault.NoMemory) = Err run_fault.NoMemory
+rise_answer (Err rise_fault.Up) = Err run_fault.NoMemory
 rise_answer (Err fault) = Ok tt
 
 -- what an input is to the run: a site that fell over it has an entry, and the run goes on
@@ -75,3 +87,9 @@ input_answer (Ok done) = Ok done
 input_answer (Err input_fault.HistoryFull) = Err run_fault.HistoryFull
 input_answer (Err (input_fault.Fell why)) = Ok tt
 input_answer (Err fault) = Err run_fault.NoMemory
+
+-- what a cut is to the run
+abbrev pub cut_answer : Result (Unit {0}) CutFault → Result (Unit {0}) RunFault
+cut_answer (Ok done) = Ok done
+cut_answer (Err cut_fault.HistoryFull) = Err run_fault.HistoryFull
+cut_answer (Err fault) = Err run_fault.NoMemory

@@ -1,2 +1,4 @@
+pub mod Stops
 pub mod Over
 pub mod Fleets
+pub mod MemoryDisks

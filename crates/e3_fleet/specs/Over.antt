@@ -1,7 +1,8 @@
 -- What a run makes of the disks that it was given.
 use Rattle.std.specs.Prelude.{◌≡◌, ◌⊎◌, ◌+◌, ◌<◌, ◌≤◌, ◌++◌, ◌∷◌, ℕ, suc, Bool, true, false, List, length, count_by, slice_get, Some}
 use Rattle.e3_disk.specs.Images.{IsBlank}
-use Rattle.e3_disk.specs.Meters.{Meters, LAST}
+use Rattle.e3_disk.specs.Meters.{Meters, LAST, raised}
+use Rattle.e3_fleet.specs.Stops.{NoStopIsPassed, arms_of, calls_in, codes_in, cuts_at}
 use Rattle.e3_node.specs.Bodies.{DiskStands}
 use Rattle.e3_types.specs.Spelling.{spelling}
 use Rattle.e3_types.specs.declared.entries.Act.{Act}
@@ -60,14 +61,24 @@ abbrev pub HadNoRooms : Scenario → List Entry → ℕ → ℕ → Type 0
 HadNoRooms sc history site capacity = (before after : List Entry) (e : Entry) → history ≡ before ++ e ∷ after → e.owner ≡ site →
     HadNoRoom sc before site capacity e.act
 
--- What the numbers of a disk came to: it failed as often as its site fell by it, at least, and it was neither armed nor cut.
+-- In every part of the history from its beginning the site fell by its disk no more often than the disk was armed by then
+-- and failed besides its stops: no fall comes of an arm before its step. Counts at their last value tell nothing.
+abbrev pub FellByStops : Scenario → List Entry → ℕ → Meters → Meters → Type 0
+FellByStops sc history site old new = (before after : List Entry) → history ≡ before ++ after → new.faults < LAST → new.stops < LAST →
+    faults_at before site + new.stops + old.faults ≤ length (arms_of sc before site) + new.faults + old.stops
+
+-- What the numbers of a disk came to. It failed as often as its site fell by it, at least. It was armed once for each stop of
+-- its site whose line is entered, with that stop's calls and leave, and its power was cut once for each cut of its site.
 pub record HasServed (sc : Scenario) (history : List Entry) (site : ℕ) (old new : Meters) : Type 0 where
   pub faults : RoseBy (faults_at history site) old.faults new.faults
+  pub grows : old.faults ≤ new.faults
   pub capacity : new.capacity ≡ old.capacity
-  pub arms : new.arms ≡ old.arms
-  pub calls : new.calls ≡ old.calls
-  pub codes : new.codes ≡ old.codes
-  pub cuts : new.cuts ≡ old.cuts
+  pub arms : new.arms ≡ raised old.arms (length (arms_of sc history site))
+  pub calls : new.calls ≡ raised old.calls (calls_in (arms_of sc history site))
+  pub codes : new.codes ≡ raised old.codes (codes_in (arms_of sc history site))
+  pub cuts : new.cuts ≡ raised old.cuts (cuts_at history site)
+  pub fell : FellByStops sc history site old new
+  pub stopped : NoStopIsPassed sc history site
 
 -- what the disk of a site came to: it stands for the site's log, and so it served
 pub record IsOver {D : Type 0} (image : D → List ℕ → Type 0) (meters : D → Meters) (sc : Scenario) (history : List Entry) (site : ℕ) (old new : D) : Type 0 where

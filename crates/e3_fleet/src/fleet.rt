@@ -1,101 +1,22 @@
 // The sites of a run over their disks, as the driver sees them.
-ghost use Rattle.std.specs.Prelude.{◌≡◌, ◌≤◌, ◌<◌, ◌++◌, ◌∷◌, [], ℕ, suc, List as Items, Some, true, false, length, slice_get, OnOk, OnErr, Err};
-ghost use Rattle.e3_fleet.specs.Fleets.{FleetStands, HaveKept, IsFleetOn, input_answer, rise_answer};
-ghost use Rattle.e3_node.specs.SharedStands.{SharedView};
-ghost use Rattle.e3_play.specs.Entering.{AfterInput, AfterRise, IsFirst};
-ghost use Rattle.e3_play.specs.declared.sites.RunFault.TheVariants.{HistoryFull};
-ghost use Rattle.e3_types.specs.declared.entries.Act.TheVariants as act;
-ghost use Rattle.e3_types.specs.declared.entries.Entry.{Entry};
-ghost use Rattle.e3_types.specs.declared.scenarios.Scenario.{Scenario};
-ghost use Rattle.e3_world.specs.Items.{is_up_at};
-ghost use Rattle.e3_world.specs.Legal.{IsDue, IsLine, IsParts, IsRising, first_pending};
-ghost use Rattle.e3_world.specs.Moves.{own};
+ghost use Rattle.e3_fleet.specs.Fleets.{FleetStands, HaveKept};
+ghost use Rattle.std.specs.Prelude.{◌≡◌, ◌≤◌, ◌++◌, ◌∷◌, [], true, false, fold, length, IfOk, OnOk, OnErr, Err};
 
-use e3_disk::Disk;
-use e3_node::{InputFault, Node, RiseFault, Shared, other_entries_keep_nodes};
-use e3_play::{RunFault, Sites};
-use e3_types::{Entry, Input, List, Packet, SiteSet};
+use e3_disk::{Disk, Drill};
+use e3_node::{Node, Shared, other_entries_keep_nodes};
+use e3_sites::{RunFault, Sites};
+use e3_types::{Entry, Input, Leave, List, NoMemory, Packet, SiteSet, Txn};
+use std::alloc::Global;
 
-/// The nodes of all sites, that of site 1 first, and what they share.
+/// The nodes of all sites, that of site 1 first, what they share, and the allocator for what they tell.
 #[derive(Drop)]
-pub struct Fleet<D: Disk + Drop> {
+pub struct Fleet<D: Disk + Drill + Drop> {
+    pub alloc: Global,
     pub shared: Shared,
     pub nodes: Vec<Node<D>>,
 }
 
-// What a rise is to the run.
-fn rise_answer(answer: Result<(), RiseFault>) -> Result<(), RunFault>
-    ensures { result ≡ rise_answer answer }
-{
-    match answer {
-        Ok(()) => Ok(()),
-        Err(fault) => match fault {
-            RiseFault::HistoryFull => Err(RunFault::HistoryFull),
-            RiseFault::NoMemory => Err(RunFault::NoMemory),
-            RiseFault::Missed | RiseFault::Failed { .. } => Ok(()),
-        },
-    }
-}
-
-// What an input is to the run.
-fn input_answer(answer: Result<(), InputFault>) -> Result<(), RunFault>
-    ensures { result ≡ input_answer answer }
-{
-    match answer {
-        Ok(()) => Ok(()),
-        Err(fault) => match fault {
-            InputFault::HistoryFull => Err(RunFault::HistoryFull),
-            InputFault::Fell { .. } => Ok(()),
-            InputFault::Down | InputFault::NoMemory => Err(RunFault::NoMemory),
-        },
-    }
-}
-
-impl<D: Disk + Drop> Fleet<D> {
-    // Whether the node at this place is up.
-    fn is_up_at(&self, at: usize) -> bool
-        requires standing { FleetStands D.content D.image D.meters self.now.shared self.now.nodes.items }
-        requires within { at < length self.now.nodes.items }
-        ensures { result ≡ is_up_at self.now.shared.entries (suc at) }
-    {
-        self.nodes[at].is_up()
-    }
-
-    // The first rise of the node at this place.
-    fn rise_at(&mut self, at: usize) -> Result<(), RunFault>
-        requires standing { FleetStands D.content D.image D.meters self.old.shared self.old.nodes.items }
-        requires within { at < length self.old.nodes.items }
-        requires turn { IsRising self.old.shared.scenario self.old.shared.entries (suc at) }
-        requires first { own (suc at) self.old.shared.entries ≡ [] }
-        ensures on { IsFleetOn D.content D.image D.meters self.old.shared self.new.shared self.old.nodes.items self.new.nodes.items }
-        ensures rose { OnOk result (AfterRise self.old.shared.entries (suc at) self.new.shared.entries) }
-        ensures kept { OnErr result (self.new.shared.entries ≡ self.old.shared.entries) }
-        ensures full { result ≡ Err HistoryFull → self.old.shared.most ≤ length self.old.shared.entries }
-    {
-        other_entries_keep_nodes::<D>();
-        let answer = self.nodes[at].rise(&mut self.shared);
-        rise_answer(answer)
-    }
-
-    // An input for the node at this place, which is up.
-    fn input_at(&mut self, at: usize, input: Input) -> Result<(), RunFault>
-        requires standing { FleetStands D.content D.image D.meters self.old.shared self.old.nodes.items }
-        requires within { at < length self.old.nodes.items }
-        requires up { is_up_at self.old.shared.entries (suc at) ≡ true }
-        requires due { IsDue self.old.shared.scenario self.old.shared.entries (suc at) input }
-        requires first { IsFirst self.old.shared.scenario self.old.shared.entries input }
-        ensures on { IsFleetOn D.content D.image D.meters self.old.shared self.new.shared self.old.nodes.items self.new.nodes.items }
-        ensures entered { OnOk result (AfterInput self.old.shared.scenario self.old.shared.entries (suc at) input self.new.shared.entries) }
-        ensures kept { OnErr result (self.new.shared.entries ≡ self.old.shared.entries) }
-        ensures full { result ≡ Err HistoryFull → self.old.shared.most ≤ length self.old.shared.entries }
-    {
-        other_entries_keep_nodes::<D>();
-        let answer = self.nodes[at].input(&mut self.shared, input);
-        input_answer(answer)
-    }
-}
-
-impl<D: Disk + Drop> Sites for Fleet<D> {
+impl<D: Disk + Drill + Drop> Sites for Fleet<D> {
     ghost scenario = { λ f. f.shared.scenario };
 
     ghost entries = { λ f. f.shared.entries };
@@ -104,7 +25,7 @@ impl<D: Disk + Drop> Sites for Fleet<D> {
 
     ghost stands = { λ f. FleetStands D.content D.image D.meters f.shared f.nodes.items };
 
-    ghost since = { λ start f. HaveKept D.meters start.shared.entries f.shared.entries start.nodes.items f.nodes.items };
+    ghost since = { λ start f. HaveKept D.meters f.shared.scenario f.shared.entries start.nodes.items f.nodes.items };
 
     ghost is_legal = { λ f s. s.shared_stands.legal };
 
@@ -130,6 +51,13 @@ impl<D: Disk + Drop> Sites for Fleet<D> {
         self.shared.first()
     }
 
+    fn open_txns(&self, site: u32) -> Result<List<Txn>, NoMemory> {
+        if site == 0 || site as usize > self.nodes.len() {
+            return Err(NoMemory);
+        }
+        self.open_txns_at(site as usize - 1)
+    }
+
     fn rise(&mut self, site: u32) -> Result<(), RunFault> {
         if site == 0 || site as usize > self.nodes.len() {
             return Err(RunFault::NoMemory);
@@ -144,6 +72,13 @@ impl<D: Disk + Drop> Sites for Fleet<D> {
         self.input_at(site as usize - 1, input)
     }
 
+    fn cut(&mut self, site: u32) -> Result<(), RunFault> {
+        if site == 0 || site as usize > self.nodes.len() {
+            return Err(RunFault::NoMemory);
+        }
+        self.cut_at(site as usize - 1)
+    }
+
     fn drop_first(&mut self, packet: &Packet) -> Result<(), RunFault> {
         other_entries_keep_nodes::<D>();
         self.shared.drop_first(packet)
@@ -152,6 +87,19 @@ impl<D: Disk + Drop> Sites for Fleet<D> {
     fn line(&mut self, number: u32) -> Result<(), RunFault> {
         other_entries_keep_nodes::<D>();
         self.shared.line(number)
+    }
+
+    fn stop(
+        &mut self,
+        number: u32,
+        site: u32,
+        calls: u32,
+        leave: Leave,
+    ) -> Result<(), RunFault> {
+        if site == 0 || site as usize > self.nodes.len() {
+            return Err(RunFault::NoMemory);
+        }
+        self.stop_at(site as usize - 1, number, calls, leave)
     }
 
     fn parts(&mut self, parts: List<SiteSet>) -> Result<(), RunFault> {

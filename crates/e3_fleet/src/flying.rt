@@ -1,18 +1,19 @@
 // A run of a scenario over disks.
 ghost use Rattle.std.specs.Prelude.{◌≡◌, ◌≤◌, ◌<◌, ◌^◌, ◌++◌, [], length, OnOk, IfOk, Err, vec_capacity};
-ghost use Rattle.e3_fleet.specs.Fleets.{AreSeated, FleetStands, HaveKept, disks_of};
+ghost use Rattle.e3_fleet.specs.Fleets.{AreSeated, AreUnarmed, FleetStands, HaveKept, disks_of};
 ghost use Rattle.e3_node.specs.SharedStands.{SharedStands};
 ghost use Rattle.e3_fleet.specs.Over.{AreBlank, AreOver};
-ghost use Rattle.e3_play.specs.Played.{IsFull, IsPlayed};
-ghost use Rattle.e3_play.specs.declared.sites.RunFault.TheVariants.{HistoryFull};
+ghost use Rattle.e3_sites.specs.Delivered.{IsFull};
+ghost use Rattle.e3_sites.specs.declared.sites.RunFault.TheVariants.{HistoryFull};
 ghost use Rattle.e3_world.specs.Given.{IsGiven};
 ghost use Rattle.e3_world.specs.Legal.{IsLegal, IsWhole};
 
 use crate::fleet::Fleet;
 use crate::seating::{seat_all, unseat_all};
-use e3_disk::Disk;
+use e3_disk::{Disk, Drill};
 use e3_node::{Node, Shared, a_node_tells_of_its_disk};
-use e3_play::{RunFault, play};
+use e3_play::play;
+use e3_sites::RunFault;
 use e3_types::{Copied, NoMemory, Scenario};
 use e3_world::History;
 use std::alloc::Global;
@@ -26,7 +27,7 @@ pub struct Played<D: Drop> {
 }
 
 // The nodes of all sites over their disks, and what they share.
-fn open<D: Disk + Drop>(
+fn open<D: Disk + Drill + Drop>(
     alloc: Global,
     scenario: &Scenario,
     most: u32,
@@ -50,14 +51,14 @@ fn open<D: Disk + Drop>(
 
 // How a run with seated nodes ended, its history, and the nodes.
 #[derive(Drop)]
-struct Flown<D: Disk + Drop> {
+struct Flown<D: Disk + Drill + Drop> {
     ended: Result<(), RunFault>,
     history: History,
     nodes: Vec<Node<D>>,
 }
 
 // The run with seated nodes.
-fn fly<D: Disk + Drop>(
+fn fly<D: Disk + Drill + Drop>(
     alloc: Global,
     scenario: &Scenario,
     shared: Shared,
@@ -66,16 +67,20 @@ fn fly<D: Disk + Drop>(
     requires played { shared.scenario ≡ scenario.now }
     requires empty { shared.entries ≡ [] }
     requires stands { FleetStands D.content D.image D.meters shared nodes.items }
-    requires form { IsPlayed scenario.now }
-    requires few { length scenario.now.weights < 2 ^ 32 }
+    requires given { IsGiven scenario.now }
+    requires unarmed { AreUnarmed D.meters nodes.items }
     ensures legal { IsLegal scenario.now result.history.entries }
     ensures within { length result.history.entries ≤ shared.most }
     ensures whole { OnOk result.ended (IsWhole scenario.now result.history.entries) }
     ensures full { result.ended ≡ Err HistoryFull → IsFull scenario.now result.history.entries shared.most }
     ensures seated { AreSeated D.content D.image D.meters scenario.now result.history.entries result.nodes.items }
-    ensures kept { HaveKept D.meters [] result.history.entries nodes.items result.nodes.items }
+    ensures kept { HaveKept D.meters scenario.now result.history.entries nodes.items result.nodes.items }
 {
-    let mut fleet = Fleet { shared, nodes };
+    let mut fleet = Fleet {
+        alloc,
+        shared,
+        nodes,
+    };
     let ended = play(alloc, scenario, &mut fleet);
     Flown {
         ended,
@@ -86,14 +91,13 @@ fn fly<D: Disk + Drop>(
 
 /// Plays a scenario over disks from its first rises to its end, with so many entries at most. Site k has the k-th disk;
 /// those past the sites of the scenario are not touched, and all come back in their order.
-pub fn play_over<D: Disk + Drop>(
+pub fn play_over<D: Disk + Drill + Drop>(
     alloc: Global,
     scenario: &Scenario,
     disks: Vec<D>,
     most: u32,
 ) -> Played<D>
     requires given { IsGiven scenario.now }
-    requires form { IsPlayed scenario.now }
     requires enough { length scenario.now.weights ≤ length disks.items }
     requires blank { AreBlank D.content D.image D.meters disks.items }
     ensures legal { IsLegal scenario.now result.history.entries }

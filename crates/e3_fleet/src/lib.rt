@@ -1,6 +1,7 @@
 //! The sites of a run, each over a disk of its own, as the driver plays them on one thread.
 #![tactic(auto)]
 
+mod calling;
 mod fleet;
 mod flying;
 mod in_memory;

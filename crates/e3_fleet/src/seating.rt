@@ -3,7 +3,7 @@ ghost use Rattle.std.specs.Prelude.{◌≡◌, ◌≤◌, ◌<◌, ◌+◌, ◌+
 ghost use Rattle.e3_fleet.specs.Fleets.{AreSeated, disks_of};
 ghost use Rattle.e3_fleet.specs.Over.{AreBlank};
 
-use e3_disk::Disk;
+use e3_disk::{Disk, Drill};
 use e3_node::Node;
 use e3_readings::rows_at;
 use e3_types::{Copied, NoMemory, Scenario};
@@ -28,7 +28,7 @@ fn put_first<T: Drop>(items: &mut Vec<T>, item: T)
 }
 
 // The node of the next site takes the first of the disks.
-fn seat_next<D: Disk + Drop>(
+fn seat_next<D: Disk + Drill + Drop>(
     alloc: Global,
     scenario: &Scenario,
     nodes: &mut Vec<Node<D>>,
@@ -56,7 +56,7 @@ fn seat_next<D: Disk + Drop>(
 }
 
 /// A node for each site of the scenario takes its disk from the front. Where memory runs out, some nodes have taken theirs.
-pub fn seat_all<D: Disk + Drop>(
+pub fn seat_all<D: Disk + Drill + Drop>(
     alloc: Global,
     scenario: &Scenario,
     nodes: &mut Vec<Node<D>>,
@@ -82,7 +82,7 @@ pub fn seat_all<D: Disk + Drop>(
 }
 
 /// The nodes give their disks back to the front, in their order. There is room for them.
-pub fn unseat_all<D: Disk + Drop>(mut nodes: Vec<Node<D>>, disks: &mut Vec<D>)
+pub fn unseat_all<D: Disk + Drill + Drop>(mut nodes: Vec<Node<D>>, disks: &mut Vec<D>)
     requires { vec_len disks.old + length nodes.items ≤ vec_capacity disks.old }
     ensures { disks.new.items ≡ disks_of nodes.items ++ disks.old.items }
 {

@@ -15,10 +15,19 @@ const NO_MEMORY: u8 = 5;
 /// The capacity of the disk of a site, in bytes.
 const CAPACITY: u64 = 33_554_432;
 
-// The words behind the program's name.
+// The words behind the program's name; none without memory. Where one of them is no text they ask for nothing, as no words do.
 fn words_of(rt: &HostRuntime, alloc: Global) -> Option<Vec<String>> {
-    let args = env::args(rt).ok()?;
     let mut words = Vec::new(alloc);
+    let args = match env::args(rt) {
+        Ok(args) => args,
+        Err(error) => {
+            return if error.kind() == io::ErrorKind::InvalidData {
+                Some(words)
+            } else {
+                None
+            };
+        }
+    };
     for word in args.skip(1) {
         words.push(word).ok()?;
     }

@@ -72,7 +72,3 @@ by_document (Some ms) = scenario_in ms
 -- the scenario that at most 4,194,304 bytes spell, or the first fault
 abbrev pub scenario_of : List ℕ → Result Scenario ScenarioFault
 scenario_of bytes = if nat_le (length bytes) 4194304 then by_document (document bytes) else Err fault.TooLong
-
--- the line for a scenario that is not built yet
-abbrev pub refused_text : List ℕ
-refused_text = codes "refused not-built\n"

@@ -20,5 +20,5 @@ mod tests;
 mod words;
 
 pub use faults::{Field, ScenarioFault};
-pub use lines::{fault_line, refused_line};
+pub use lines::fault_line;
 pub use reading::read_scenario;

@@ -2,7 +2,6 @@
 ghost use Rattle.std.specs.Prelude.{◌≡◌, ◌++◌, IfOk, OnOk};
 ghost use Rattle.std.specs.Fmt.{decimal};
 ghost use Rattle.e3_scenario.specs.Faults.{field_word, fault_words, fault_text};
-ghost use Rattle.e3_scenario.specs.Scenarios.{refused_text};
 
 use crate::faults::{Field, ScenarioFault};
 use e3_types::{List, NoMemory};
@@ -75,14 +74,5 @@ pub fn fault_line(alloc: Global, fault: &ScenarioFault) -> Result<List<u8>, NoMe
     push_text(&mut line, "refused ")?;
     push_fault(&mut line, fault)?;
     push_text(&mut line, "\n")?;
-    Ok(line)
-}
-
-/// The line that is written for a scenario that is not built yet.
-pub fn refused_line(alloc: Global) -> Result<List<u8>, NoMemory>
-    ensures { IfOk result (λ line. line ≡ refused_text) }
-{
-    let mut line = List::new(alloc);
-    line.extend(b"refused not-built\n")?;
     Ok(line)
 }

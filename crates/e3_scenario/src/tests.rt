@@ -1,4 +1,4 @@
-use crate::{fault_line, read_scenario, refused_line};
+use crate::{fault_line, read_scenario};
 use e3_types::{Item, KeyRow, List, NoMemory, SiteSet};
 use std::alloc::{AllocError, Global};
 use std::test::Fail;
@@ -83,10 +83,6 @@ fn a_line_for_each_fault(rt: HostRuntime) -> Result<(), Fail> {
     for (text, line) in table {
         assert!(rt; has_line(rt.alloc(), text, line)?, "{text}");
     }
-    assert_eq!(rt;
-        refused_line(rt.alloc())?.as_slice(),
-        b"refused not-built\n".as_slice()
-    );
     Ok(())
 }
 

@@ -9,15 +9,15 @@ use Rattle.std.proofs.lemmas.Bool.{leb-true}
 use Rattle.e3_disk.specs.Meters.{Meters}
 use Rattle.e3_decided.proofs.Histories.{given_agrees, given_voted}
 use Rattle.e3_decided.proofs.Standing.{given_stands}
-use Rattle.e3_play.specs.Played.{IsPlayed, IsFull}
+use Rattle.e3_fleet.specs.Over.{AreOver}
 use Rattle.e3_report.specs.Report.{report_of}
 use Rattle.e3_serial.specs.Claims.{LegalSerial}
 use Rattle.e3_scenario.specs.Faults.{fault_text}
-use Rattle.e3_scenario.specs.Scenarios.{scenario_of, refused_text}
+use Rattle.e3_scenario.specs.Scenarios.{scenario_of}
 use Rattle.e3_scenario.specs.declared.faults.ScenarioFault.{ScenarioFault}
 use Rattle.e3_scenario.specs.declared.faults.ScenarioFault.TheVariants as fault
-use Rattle.e3_top.specs.Due.{IsDue, IsNoScenario, IsNotBuilt, IsRunOf}
-use Rattle.e3_top.specs.Ends.{AreDisksOf, IsPrepared}
+use Rattle.e3_top.specs.Due.{IsDue, IsRunOf, IsTextOf}
+use Rattle.e3_top.specs.Ends.{IsPrepared}
 use Rattle.e3_top.specs.Words.{IsRun, refused_words, refused_history_full}
 use Rattle.e3_words.specs.Words.{Spell}
 use Rattle.e3_words.specs.declared.words.Command.{Command}
@@ -28,101 +28,79 @@ use Rattle.e3_world.specs.Given.{IsGiven}
 use Rattle.e3_world.specs.Legal.{IsLegal, IsWhole}
 
 -- a legal history of a given scenario is safe
-pub run_of : LegalSerial → (sc : Scenario) (most : ℕ) (h : List Entry) → IsGiven sc → IsLegal sc h → length h ≤ most → IsRunOf sc most h
-run_of one sc most h given legal few = record {
+pub run_of : {D : Type 0} (image : D → List ℕ → Type 0) (meters : D → Meters) (before now : List D) → LegalSerial → (sc : Scenario) (most : ℕ) (h : List Entry) → IsGiven sc → IsLegal sc h → length h ≤ most →
+    AreOver image meters sc h before now → IsRunOf image meters before now sc most h
+run_of image meters before now one sc most h given legal few over = record {
   legal = legal;
   few = few;
   agree = given_agrees sc h given legal;
   voted = given_voted sc h given legal;
   told = given_stands sc h given legal;
   serial = one sc h given legal;
+  over = over;
 }
 
--- the report of a history that went through its scenario is due
-pub done_run : (words : List (String Global)) (trace : Bool) (bytes : List ℕ) (sc : Scenario) (most : ℕ) (h : List Entry) (text : List ℕ) →
-    Spell words (Run trace) → IsPlayed sc → scenario_of bytes ≡ Ok sc → IsRunOf sc most h → IsWhole sc h → text ≡ report_of sc h trace →
-    IsDue words bytes most 0 h text
-done_run words trace bytes sc most h text run form spelled safe whole reported = record {
-  known = inl (omega arith);
+-- the text of a run is due: the report of a history that went through its scenario, or the line of a full history
+pub played_run : {D : Type 0} (image : D → List ℕ → Type 0) (meters : D → Meters) (before now : List D) (words : List (String Global)) (trace : Bool) (bytes : List ℕ) (sc : Scenario) (most status : ℕ) (h : List Entry) (text : List ℕ) →
+    Spell words (Run trace) → scenario_of bytes ≡ Ok sc → IsRunOf image meters before now sc most h → IsTextOf sc most h trace status text →
+    IsDue image meters before now words bytes most status h text
+played_run image meters before now words trace bytes sc most status h text run spelled safe (inl done) = record {
+  known = let zero = done.0 in inl (omega (arith, zero));
   done = λ e. record {
     run = record { trace = trace; spelled = run };
     scenario = sc;
     spelled = spelled;
-    played = form;
-    whole = whole;
+    whole = done.1;
     safe = safe;
-    reported = reported;
+    reported = done.2;
   };
-  words_refused = λ e. absurd (omega (arith, e));
-  scenario_refused = λ e. absurd (omega (arith, e));
-  history_full = λ e. absurd (omega (arith, e));
+  words_refused = λ e. absurd (let zero = done.0 in omega (arith, e, zero));
+  scenario_refused = λ e. absurd (let zero = done.0 in omega (arith, e, zero));
+  history_full = λ e. absurd (let zero = done.0 in omega (arith, e, zero));
 }
-
--- the line of a full history is due
-pub full_run : (words : List (String Global)) (trace : Bool) (bytes : List ℕ) (sc : Scenario) (most : ℕ) (h : List Entry) (text : List ℕ) →
-    Spell words (Run trace) → IsPlayed sc → scenario_of bytes ≡ Ok sc → IsRunOf sc most h → IsFull sc h most → text ≡ refused_history_full →
-    IsDue words bytes most 6 h text
-full_run words trace bytes sc most h text run form spelled safe full says = record {
-  known = inr refl;
-  done = λ e. absurd (omega (arith, e));
-  words_refused = λ e. absurd (omega (arith, e));
-  scenario_refused = λ e. absurd (omega (arith, e));
+played_run image meters before now words trace bytes sc most status h text run spelled safe (inr full) = record {
+  known = inr full.0;
+  done = λ e. absurd (let six = full.0 in omega (arith, e, six));
+  words_refused = λ e. absurd (let six = full.0 in omega (arith, e, six));
+  scenario_refused = λ e. absurd (let six = full.0 in omega (arith, e, six));
   history_full = λ e. record {
     run = record { trace = trace; spelled = run };
     scenario = sc;
     spelled = spelled;
-    played = form;
-    full = full.full;
-    unfinished = full.unfinished;
+    full = full.1.full;
+    unfinished = full.1.unfinished;
     safe = safe;
-    says = says;
+    says = full.2;
   };
 }
 
 -- the line for other words is due
-pub refused_run : (words : List (String Global)) (most : ℕ) (h : List Entry) (text : List ℕ) → ¬ IsRun words → h ≡ [] →
-    text ≡ refused_words → IsDue words [] most 1 h text
-refused_run words most h text other empty says = record {
+pub refused_run : {D : Type 0} (image : D → List ℕ → Type 0) (meters : D → Meters) (before now : List D) (words : List (String Global)) (most : ℕ) (h : List Entry) (text : List ℕ) → ¬ IsRun words → h ≡ [] → now ≡ before →
+    text ≡ refused_words → IsDue image meters before now words [] most 1 h text
+refused_run image meters before now words most h text other empty same says = record {
   known = inl (omega arith);
   done = λ e. absurd (omega (arith, e));
-  words_refused = λ e. record { not_run = other; unread = refl; empty = empty; says = says };
+  words_refused = λ e. record { not_run = other; unread = refl; empty = empty; untouched = same; says = says };
   scenario_refused = λ e. absurd (omega (arith, e));
   history_full = λ e. absurd (omega (arith, e));
 }
 
 -- the line of a fault is due
-pub no_scenario : (words : List (String Global)) (bytes : List ℕ) (most : ℕ) (fault : ScenarioFault) (h : List Entry) (text : List ℕ) → IsRun words →
-    scenario_of bytes ≡ Err fault → h ≡ [] → text ≡ fault_text fault → IsDue words bytes most 2 h text
-no_scenario words bytes most fault h text run spelled empty says = record {
+pub no_scenario : {D : Type 0} (image : D → List ℕ → Type 0) (meters : D → Meters) (before now : List D) (words : List (String Global)) (bytes : List ℕ) (most : ℕ) (fault : ScenarioFault) (h : List Entry) (text : List ℕ) → IsRun words →
+    scenario_of bytes ≡ Err fault → h ≡ [] → now ≡ before → text ≡ fault_text fault → IsDue image meters before now words bytes most 2 h text
+no_scenario image meters before now words bytes most fault h text run spelled empty same says = record {
   known = inl (omega arith);
   done = λ e. absurd (omega (arith, e));
   words_refused = λ e. absurd (omega (arith, e));
-  scenario_refused = λ e. inl (record { run = run; fault = fault; spelled = spelled; empty = empty; says = says });
+  scenario_refused = λ e. record { run = run; fault = fault; spelled = spelled; empty = empty; untouched = same; says = says };
   history_full = λ e. absurd (omega (arith, e));
 }
-
--- the line of what is not built is due
-pub not_built : (words : List (String Global)) (bytes : List ℕ) (most : ℕ) (sc : Scenario) (h : List Entry) (text : List ℕ) → IsRun words →
-    scenario_of bytes ≡ Ok sc → ¬ IsPlayed sc → h ≡ [] → text ≡ refused_text → IsDue words bytes most 2 h text
-not_built words bytes most sc h text run spelled other empty says = record {
-  known = inl (omega arith);
-  done = λ e. absurd (omega (arith, e));
-  words_refused = λ e. absurd (omega (arith, e));
-  scenario_refused = λ e. inr (record { run = run; scenario = sc; spelled = spelled; not_played = other; empty = empty; says = says });
-  history_full = λ e. absurd (omega (arith, e));
-}
-
--- a scenario is refused for words that ask for a run alone
-refused_for : {words : List (String Global)} {bytes : List ℕ} {history : List Entry} {text : List ℕ} →
-    IsNoScenario words bytes history text ⊎ IsNotBuilt words bytes history text → IsRun words
-refused_for (inl none) = none.run
-refused_for (inr other) = other.run
 
 -- a text of status 0, 2 or 6 is due for words that ask for a run alone
-pub status_run : {words : List (String Global)} {had left : Option (List ℕ)} {most status : ℕ} {history : List Entry} {text : List ℕ} →
-    IsPrepared words had left most status history text → (status ≡ 0) ⊎ (status ≡ 2) ⊎ (status ≡ 3) ⊎ (status ≡ 6) → IsRun words
+pub status_run : {D : Type 0} {image : D → List ℕ → Type 0} {meters : D → Meters} {before now : List D} {words : List (String Global)} {had left : Option (List ℕ)} {most status : ℕ} {history : List Entry} {text : List ℕ} →
+    IsPrepared image meters before now words had left most status history text → (status ≡ 0) ⊎ (status ≡ 2) ⊎ (status ≡ 3) ⊎ (status ≡ 6) → IsRun words
 status_run prepared (inl e) = (prepared.due.done e).run
-status_run prepared (inr (inl e)) = refused_for (prepared.due.scenario_refused e)
+status_run prepared (inr (inl e)) = (prepared.due.scenario_refused e).run
 status_run prepared (inr (inr (inl e))) = absurd (known prepared.due.known e)
   where
     known : {status : ℕ} → (status ≤ 2) ⊎ (status ≡ 6) → status ≡ 3 → ⊥
@@ -143,8 +121,8 @@ same_status : {P : Type 0} {status due : ℕ} → (status ≢ 4 → (status ≡ 
 same_status written other = sym (written other).0
 
 -- 0, 2, 3 and 6 come for words that ask for a run alone
-pub finished_run : {P : Type 0} {words : List (String Global)} {had left : Option (List ℕ)} {most due : ℕ} {history : List Entry} {text : List ℕ} (status : ℕ) →
-    IsPrepared words had left most due history text → (status ≢ 4 → (status ≡ due) × P) →
+pub finished_run : {D : Type 0} {image : D → List ℕ → Type 0} {meters : D → Meters} {before now : List D} {P : Type 0} {words : List (String Global)} {had left : Option (List ℕ)} {most due : ℕ} {history : List Entry} {text : List ℕ} (status : ℕ) →
+    IsPrepared image meters before now words had left most due history text → (status ≢ 4 → (status ≡ due) × P) →
     (status ≡ 0) ⊎ (status ≡ 2) ⊎ (status ≡ 3) ⊎ (status ≡ 6) → IsRun words
 finished_run status prepared written (inl e) = status_run prepared (inl (same_status written (λ four. omega (arith, e, four)) ∙ e))
 finished_run status prepared written (inr (inl e)) = status_run prepared (inr (inl (same_status written (λ four. omega (arith, e, four)) ∙ e)))
@@ -152,8 +130,8 @@ finished_run status prepared written (inr (inr (inl e))) = status_run prepared (
 finished_run status prepared written (inr (inr (inr e))) = status_run prepared (inr (inr (inr (same_status written (λ four. omega (arith, e, four)) ∙ e))))
 
 -- with 0 and 6 nothing of the source is left
-pub drained_run : {P : Type 0} {words : List (String Global)} {had left : Option (List ℕ)} {most due : ℕ} {history : List Entry} {text : List ℕ} (status : ℕ) →
-    IsPrepared words had left most due history text → (status ≢ 4 → (status ≡ due) × P) → (status ≡ 0) ⊎ (status ≡ 6) → IsAtEnd left
+pub drained_run : {D : Type 0} {image : D → List ℕ → Type 0} {meters : D → Meters} {before now : List D} {P : Type 0} {words : List (String Global)} {had left : Option (List ℕ)} {most due : ℕ} {history : List Entry} {text : List ℕ} (status : ℕ) →
+    IsPrepared image meters before now words had left most due history text → (status ≢ 4 → (status ≡ due) × P) → (status ≡ 0) ⊎ (status ≡ 6) → IsAtEnd left
 drained_run status prepared written (inl e) =
     let done = prepared.due.done (same_status written (λ four. omega (arith, e, four)) ∙ e) in
     prepared.read.to_end done.run (few_bytes prepared.bytes done.scenario done.spelled)
@@ -166,26 +144,13 @@ pub of_ok : {T E : Type 0} {x : T} (P : T → Type 0) (r : Result T E) → r ≡
 of_ok {T} {E} P r is holds = subst (λ (q : Result T E). IfOk q P) is holds
 
 -- the line for other words, where it was made
-pub refused_due : (words : List (String Global)) (most : ℕ) (h : List Entry) (r : Result Due Stop) (text : Result (List ℕ) NoMemory) → ¬ IsRun words → h ≡ [] →
+pub refused_due : {D : Type 0} (image : D → List ℕ → Type 0) (meters : D → Meters) (before now : List D) (words : List (String Global)) (most : ℕ) (h : List Entry) (r : Result Due Stop) (text : Result (List ℕ) NoMemory) → ¬ IsRun words → h ≡ [] → now ≡ before →
     IfOk text (λ line. line ≡ refused_words) → IfOk r (λ due. (due.status ≡ 1) × (text ≡ Ok due.text)) →
-    IfOk r (λ due. IsDue words [] most due.status h due.text)
-refused_due words most h (Err fault) text other empty says made = tt
-refused_due words most h (Ok due) text other empty says made =
-    subst (λ (n : ℕ). IsDue words [] most n h due.text) (sym made.0) (refused_run words most h due.text other empty (of_ok (λ line. line ≡ refused_words) text made.1 says))
+    IfOk r (λ due. IsDue image meters before now words [] most due.status h due.text)
+refused_due image meters before now words most h (Err fault) text other empty same says made = tt
+refused_due image meters before now words most h (Ok due) text other empty same says made =
+    subst (λ (n : ℕ). IsDue image meters before now words [] most n h due.text) (sym made.0) (refused_run image meters before now words most h due.text other empty same (of_ok (λ line. line ≡ refused_words) text made.1 says))
 
 -- words that spell a command ask for a run
 pub command_runs : (words : List (String Global)) (command : Command) → Spell words command → IsRun words
 command_runs words (Run trace) spelled = record { trace = trace; spelled = spelled }
-
--- the disks came to something, or nothing happened
-abbrev pub CameTo : {D : Type 0} → (D → List ℕ → Type 0) → (D → Meters) → List (String Global) → Option (List ℕ) → Option (List ℕ) → List D → List Entry → List D → Type 0
-CameTo image meters words had left before history now =
-    ((history ≡ []) × (now ≡ before)) ⊎ AreDisksOf image meters words had left history before now
-
--- so it is of the same history and the same disks under other names
-pub carry_disks : {D : Type 0} (image : D → List ℕ → Type 0) (meters : D → Meters) (words : List (String Global)) (had left : Option (List ℕ)) (before : List D)
-    (h same_h : List Entry) (now same_now : List D) → same_h ≡ h → same_now ≡ now → CameTo image meters words had left before h now →
-    CameTo image meters words had left before same_h same_now
-carry_disks {D} image meters words had left before h same_h now same_now is_h is_now came =
-    subst (λ (g : List Entry). CameTo image meters words had left before g same_now) (sym is_h)
-    (subst (λ (ds : List D). CameTo image meters words had left before h ds) (sym is_now) came)

@@ -1,10 +1,10 @@
 // All of a run but the writing of its text.
 ghost use Rattle.std.specs.Prelude.{Ok, Err, ◌≡◌, ◌≢◌, ◌≤◌, ◌⊎◌, [], IfErr, IfOk, OnOk, length};
-ghost use Rattle.e3_fleet.specs.Over.{AreBlank, AreOver};
-ghost use Rattle.e3_play.specs.Played.{IsFull, IsPlayed};
+ghost use Rattle.e3_fleet.specs.Over.{AreBlank};
+ghost use Rattle.e3_sites.specs.Delivered.{IsFull};
 ghost use Rattle.e3_scenario.specs.Scenarios.{scenario_of};
-ghost use Rattle.e3_top.specs.Due.{IsDue, IsRunOf};
-ghost use Rattle.e3_top.specs.Ends.{AreDisksOf, AreOverOf, IsCutShort, IsHistoryOf, IsPrepared, SourceFails};
+ghost use Rattle.e3_top.specs.Due.{IsDue, IsRunOf, IsTextOf};
+ghost use Rattle.e3_top.specs.Ends.{IsCutShort, IsHistoryOf, IsPrepared, SourceFails};
 ghost use Rattle.e3_top.specs.Words.{IsRun};
 ghost use Rattle.e3_words.specs.Words.{Spell};
 ghost use Rattle.e3_words.specs.declared.words.Command.TheVariants.{Run};
@@ -12,13 +12,13 @@ ghost use Rattle.e3_world.specs.Given.{IsGiven};
 ghost use Rattle.e3_world.specs.Legal.{IsWhole};
 
 use crate::words::{refused_history_full, refused_words};
-use e3_disk::Disk;
+use e3_disk::{Disk, Drill};
 use e3_fleet::{Played, play_over};
 use e3_outside::{ReadFault, Source, read_up_to};
-use e3_play::{RunFault, is_played};
 use e3_report::report;
-use e3_scenario::{ScenarioFault, fault_line, read_scenario, refused_line};
+use e3_scenario::{ScenarioFault, fault_line, read_scenario};
 use e3_serial::one_order;
+use e3_sites::RunFault;
 use e3_types::{List, NoMemory, Scenario};
 use e3_words::{Command, read_words};
 use e3_world::History;
@@ -62,22 +62,15 @@ pub struct Prepared<D: Drop> {
 // The text of a run that was played.
 fn text_of(
     alloc: Global,
-    words: &[String],
     trace: bool,
-    bytes: &[u8],
     scenario: &Scenario,
     ended: Result<(), RunFault>,
     history: &History,
     most: u32,
 ) -> Result<Due, Stop>
-    requires run { Spell words.now (Run trace) }
-    requires spelled { scenario_of bytes.now ≡ Ok scenario.now }
-    requires form { IsPlayed scenario.now }
-    requires safe { IsRunOf scenario.now most history.now.entries }
     requires whole { OnOk ended (IsWhole scenario.now history.now.entries) }
     requires full { ended ≡ Err RunFault.HistoryFull → IsFull scenario.now history.now.entries most }
-    ensures due { IfOk result (λ due. IsDue words.now bytes.now most due.status history.now.entries due.text) }
-    ensures status { IfOk result (λ due. (due.status ≡ 0) ⊎ (due.status ≡ 6)) }
+    ensures due { IfOk result (λ due. IsTextOf scenario.now most history.now.entries trace due.status due.text) }
     ensures only_memory { IfErr result (λ e. e ≡ Stop.NoMemory) }
 {
     match ended {
@@ -95,8 +88,8 @@ fn text_of(
     }
 }
 
-// The run of a scenario of the form that is built.
-fn prepare_run<D: Disk + Drop>(
+// The run of a scenario.
+fn prepare_run<D: Disk + Drill + Drop>(
     alloc: Global,
     words: &[String],
     trace: bool,
@@ -108,14 +101,12 @@ fn prepare_run<D: Disk + Drop>(
     requires run { Spell words.now (Run trace) }
     requires spelled { scenario_of bytes.now ≡ Ok scenario.now }
     requires given { IsGiven scenario.now }
-    requires form { IsPlayed scenario.now }
     requires enough { length scenario.now.weights ≤ length disks.items }
     requires blank { AreBlank D.content D.image D.meters disks.items }
-    ensures due { IfOk result.due (λ due. IsDue words.now bytes.now most due.status result.history.entries due.text) }
+    ensures due { IfOk result.due (λ due. IsDue D.image D.meters disks.items result.disks.items words.now bytes.now most due.status result.history.entries due.text) }
     ensures status { IfOk result.due (λ due. (due.status ≡ 0) ⊎ (due.status ≡ 6)) }
     ensures only_memory { IfErr result.due (λ e. e ≡ Stop.NoMemory) }
-    ensures history { IsRunOf scenario.now most result.history.entries }
-    ensures disks { AreOver D.image D.meters scenario.now result.history.entries disks.items result.disks.items }
+    ensures history { IsRunOf D.image D.meters disks.items result.disks.items scenario.now most result.history.entries }
 {
     one_order();
     let Played {
@@ -124,7 +115,7 @@ fn prepare_run<D: Disk + Drop>(
         disks,
     } = play_over(alloc, scenario, disks, most);
     Prepared {
-        due: text_of(alloc, words, trace, bytes, scenario, ended, &history, most),
+        due: text_of(alloc, trace, scenario, ended, &history, most),
         history,
         disks,
     }
@@ -153,9 +144,14 @@ fn unplayed<D: Drop>(
 }
 
 // The text for words that ask for no run.
-fn refuse_words<D: Drop>(alloc: Global, words: &[String], disks: Vec<D>, most: u32) -> Prepared<D>
+fn refuse_words<D: Disk + Drill + Drop>(
+    alloc: Global,
+    words: &[String],
+    disks: Vec<D>,
+    most: u32,
+) -> Prepared<D>
     requires { ¬ IsRun words.now }
-    ensures due { IfOk result.due (λ due. IsDue words.now [] most due.status result.history.entries due.text) }
+    ensures due { IfOk result.due (λ due. IsDue D.image D.meters disks.items result.disks.items words.now [] most due.status result.history.entries due.text) }
     ensures status { IfOk result.due (λ due. due.status ≡ 1) }
     ensures only_memory { IfErr result.due (λ e. e ≡ Stop.NoMemory) }
     ensures history { result.history.entries ≡ [] }
@@ -166,7 +162,7 @@ fn refuse_words<D: Drop>(alloc: Global, words: &[String], disks: Vec<D>, most: u
 }
 
 // The run over the bytes that were read.
-fn prepare_bytes<D: Disk + Drop>(
+fn prepare_bytes<D: Disk + Drill + Drop>(
     alloc: Global,
     words: &[String],
     trace: bool,
@@ -177,30 +173,23 @@ fn prepare_bytes<D: Disk + Drop>(
     requires run { Spell words.now (Run trace) }
     requires sixteen { length disks.items ≡ 16 }
     requires blank { AreBlank D.content D.image D.meters disks.items }
-    ensures due { IfOk result.due (λ due. IsDue words.now bytes.now most due.status result.history.entries due.text) }
+    ensures due { IfOk result.due (λ due. IsDue D.image D.meters disks.items result.disks.items words.now bytes.now most due.status result.history.entries due.text) }
     ensures not_words { IfOk result.due (λ due. due.status ≢ 1) }
     ensures only_memory { IfErr result.due (λ e. e ≡ Stop.NoMemory) }
-    ensures cut_short { (result.history.entries ≡ []) ⊎ IsHistoryOf bytes.now most result.history.entries }
-    ensures disks { ((result.history.entries ≡ []) × (result.disks.items ≡ disks.items)) ⊎ AreOverOf D.image D.meters bytes.now result.history.entries disks.items result.disks.items }
-    ensures untouched { IfOk result.due (λ due. due.status ≡ 2 → result.disks.items ≡ disks.items) }
+    ensures cut_short { ((result.history.entries ≡ []) × (result.disks.items ≡ disks.items))
+        ⊎ IsHistoryOf D.image D.meters disks.items result.disks.items bytes.now most result.history.entries }
 {
     match read_scenario(alloc, bytes) {
         Err(fault) => match fault {
             ScenarioFault::NoMemory => unplayed(alloc, 2, Err(NoMemory), disks),
             fault => unplayed(alloc, 2, fault_line(alloc, &fault), disks),
         },
-        Ok(scenario) => {
-            if is_played(&scenario) {
-                prepare_run(alloc, words, trace, bytes, &scenario, disks, most)
-            } else {
-                unplayed(alloc, 2, refused_line(alloc), disks)
-            }
-        }
+        Ok(scenario) => prepare_run(alloc, words, trace, bytes, &scenario, disks, most),
     }
 }
 
 /// Reads the source and plays the scenario over the disks.
-pub fn prepare<S: Source, D: Disk + Drop>(
+pub fn prepare<S: Source, D: Disk + Drill + Drop>(
     alloc: Global,
     words: &[String],
     source: &mut S,
@@ -209,15 +198,11 @@ pub fn prepare<S: Source, D: Disk + Drop>(
 ) -> Prepared<D>
     requires sixteen { length disks.items ≡ 16 }
     requires blank { AreBlank D.content D.image D.meters disks.items }
-    ensures prepared { IfOk result.due (λ due. IsPrepared words.now (S.left source.old) (S.left source.new) most due.status result.history.entries due.text) }
+    ensures prepared { IfOk result.due (λ due. IsPrepared D.image D.meters disks.items result.disks.items words.now (S.left source.old) (S.left source.new) most due.status result.history.entries due.text) }
     ensures source_failed { result.due ≡ Err Stop.SourceFailed →
-        SourceFails words.now (S.left source.old) (S.left source.new) (S.faults source.old) (S.faults source.new) result.history.entries
-        × (result.disks.items ≡ disks.items) }
+        SourceFails disks.items result.disks.items words.now (S.left source.old) (S.left source.new) (S.faults source.old) (S.faults source.new) result.history.entries }
     ensures no_memory { result.due ≡ Err Stop.NoMemory →
-        IsCutShort words.now (S.left source.old) (S.left source.new) most result.history.entries }
-    ensures disks { ((result.history.entries ≡ []) × (result.disks.items ≡ disks.items))
-        ⊎ AreDisksOf D.image D.meters words.now (S.left source.old) (S.left source.new) result.history.entries disks.items result.disks.items }
-    ensures untouched { IfOk result.due (λ due. (due.status ≡ 1) ⊎ (due.status ≡ 2) → result.disks.items ≡ disks.items) }
+        IsCutShort D.image D.meters disks.items result.disks.items words.now (S.left source.old) (S.left source.new) most result.history.entries }
     ensures unread { ¬ IsRun words.now → source.new ≡ source.old }
     ensures never_falls { S.faults source.old ≤ S.faults source.new }
 {

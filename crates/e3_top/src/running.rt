@@ -3,12 +3,12 @@ ghost use Rattle.std.specs.Prelude.{◌≡◌, ◌≢◌, ◌≤◌, ◌<◌, �
 ghost use Rattle.std.specs.Io.KnownBytes.{Appends, IsAtEnd};
 ghost use Rattle.e3_fleet.specs.Over.{AreBlank};
 ghost use Rattle.e3_outside.specs.Faults.{Rose};
-ghost use Rattle.e3_top.specs.Ends.{AreDisksOf, Finishes, IsCutShort, SinkFails, SourceFails};
+ghost use Rattle.e3_top.specs.Ends.{Finishes, IsCutShort, SinkFails, SourceFails};
 ghost use Rattle.e3_top.specs.Due.{HasText};
 ghost use Rattle.e3_top.specs.Words.{IsRun};
 
 use crate::preparing::{Due, Prepared, Stop, prepare};
-use e3_disk::Disk;
+use e3_disk::{Disk, Drill};
 use e3_outside::{Failed, Sink, Source, write_all};
 use e3_world::History;
 use std::alloc::Global;
@@ -57,7 +57,7 @@ fn finish<K: Sink, D: Drop>(due: Due, history: History, disks: Vec<D>, sink: &mu
 /// The words are those of the command line behind the program's name. The order is: words, source, scenario, the run,
 /// the sink. Each text is whole before its first byte is written. Want of memory, status 5, may come at any time before.
 /// Site k has the k-th disk; there are sixteen, each blank, powered and not armed, and they come back in their order.
-pub fn run_within<R: Wait, S: Source, K: Sink, D: Disk + Drop>(
+pub fn run_within<R: Wait, S: Source, K: Sink, D: Disk + Drill + Drop>(
     _rt: &R,
     alloc: Global,
     words: &[String],
@@ -70,34 +70,29 @@ pub fn run_within<R: Wait, S: Source, K: Sink, D: Disk + Drop>(
     requires blank { AreBlank D.content D.image D.meters disks.items }
     requires least { 1 ≤ most }
     requires most { most ≤ 2000000 }
-    // 0, 1, 2 and 6: the text that words, bytes and history give was written, all of it and nothing else.
+    // 0, 1, 2 and 6: the text that words, bytes and history give was written, all of it and nothing else. Where anything
+    // happened, each disk of a site stands for the site's log, and its numbers tell how often it failed, was armed and was cut.
     ensures finished { HasText result.status →
-        Finishes words.now (S.left source.old) (S.left source.new) (K.written sink.old) (K.written sink.new) most result.status result.history.entries }
+        Finishes D.image D.meters disks.items result.disks.items words.now (S.left source.old) (S.left source.new) (K.written sink.old) (K.written sink.new) most result.status result.history.entries }
 
-    // 3 only where the source's count of faults rose; nothing is written.
+    // 3 only where the source's count of faults rose; nothing is written, and no disk is touched.
     ensures source_failed { result.status ≡ 3 →
-        SourceFails words.now (S.left source.old) (S.left source.new) (S.faults source.old) (S.faults source.new) result.history.entries
+        SourceFails disks.items result.disks.items words.now (S.left source.old) (S.left source.new) (S.faults source.old) (S.faults source.new) result.history.entries
         × (sink.new ≡ sink.old) }
 
     // 4 only where the sink's count of faults rose; a front of the text of 0, 1, 2 or 6 was written.
     ensures sink_failed { result.status ≡ 4 →
-        SinkFails words.now (S.left source.old) (S.left source.new) (K.written sink.old) (K.written sink.new)
+        SinkFails D.image D.meters disks.items result.disks.items words.now (S.left source.old) (S.left source.new) (K.written sink.old) (K.written sink.new)
         (K.faults sink.old) (K.faults sink.new) most result.history.entries }
 
     // 5 is free; the history is legal and safe as far as it goes, and nothing is written.
     ensures no_memory { result.status ≡ 5 →
-        IsCutShort words.now (S.left source.old) (S.left source.new) most result.history.entries × (sink.new ≡ sink.old) }
+        IsCutShort D.image D.meters disks.items result.disks.items words.now (S.left source.old) (S.left source.new) most result.history.entries × (sink.new ≡ sink.old) }
 
     // Words that ask for a run, and no fault of source or sink: the run is done, or memory ran out, unless the bytes spell no
-    // scenario of the form that is built, or the history is full.
+    // scenario, or the history is full.
     ensures complete { IsRun words.now → ¬ Rose (S.faults source.old) (S.faults source.new) → ¬ Rose (K.faults sink.old) (K.faults sink.new) →
         (result.status ≡ 0) ⊎ (result.status ≡ 5) ⊎ (result.status ≡ 2) ⊎ (result.status ≡ 6) }
-
-    // Where anything happened each disk of a site stands for the site's log, and it failed as often as the site fell by it, at
-    // least; the others are as they were. For 1, 2 and 3 all disks are.
-    ensures disks { ((result.history.entries ≡ []) × (result.disks.items ≡ disks.items))
-        ⊎ AreDisksOf D.image D.meters words.now (S.left source.old) (S.left source.new) result.history.entries disks.items result.disks.items }
-    ensures untouched { (result.status ≡ 1) ⊎ (result.status ≡ 2) ⊎ (result.status ≡ 3) → result.disks.items ≡ disks.items }
 
     // There is no other status. 0, 2, 3 and 6 come only for words that ask for a run, and 1 only for other words.
     ensures statuses { result.status ≤ 6 }
@@ -134,7 +129,7 @@ pub fn run_within<R: Wait, S: Source, K: Sink, D: Disk + Drop>(
 
 /// Runs the scenario that the source has over these disks, and writes its report to the sink: `run_within` with the most
 /// entries that a history has, 2,000,000.
-pub fn run<R: Wait, S: Source, K: Sink, D: Disk + Drop>(
+pub fn run<R: Wait, S: Source, K: Sink, D: Disk + Drill + Drop>(
     rt: &R,
     alloc: Global,
     words: &[String],
@@ -144,34 +139,29 @@ pub fn run<R: Wait, S: Source, K: Sink, D: Disk + Drop>(
 ) -> Ended<D>
     requires sixteen { length disks.items ≡ 16 }
     requires blank { AreBlank D.content D.image D.meters disks.items }
-    // 0, 1, 2 and 6: the text that words, bytes and history give was written, all of it and nothing else.
+    // 0, 1, 2 and 6: the text that words, bytes and history give was written, all of it and nothing else. Where anything
+    // happened, each disk of a site stands for the site's log, and its numbers tell how often it failed, was armed and was cut.
     ensures finished { HasText result.status →
-        Finishes words.now (S.left source.old) (S.left source.new) (K.written sink.old) (K.written sink.new) 2000000 result.status result.history.entries }
+        Finishes D.image D.meters disks.items result.disks.items words.now (S.left source.old) (S.left source.new) (K.written sink.old) (K.written sink.new) 2000000 result.status result.history.entries }
 
-    // 3 only where the source's count of faults rose; nothing is written.
+    // 3 only where the source's count of faults rose; nothing is written, and no disk is touched.
     ensures source_failed { result.status ≡ 3 →
-        SourceFails words.now (S.left source.old) (S.left source.new) (S.faults source.old) (S.faults source.new) result.history.entries
+        SourceFails disks.items result.disks.items words.now (S.left source.old) (S.left source.new) (S.faults source.old) (S.faults source.new) result.history.entries
         × (sink.new ≡ sink.old) }
 
     // 4 only where the sink's count of faults rose; a front of the text of 0, 1, 2 or 6 was written.
     ensures sink_failed { result.status ≡ 4 →
-        SinkFails words.now (S.left source.old) (S.left source.new) (K.written sink.old) (K.written sink.new)
+        SinkFails D.image D.meters disks.items result.disks.items words.now (S.left source.old) (S.left source.new) (K.written sink.old) (K.written sink.new)
         (K.faults sink.old) (K.faults sink.new) 2000000 result.history.entries }
 
     // 5 is free; the history is legal and safe as far as it goes, and nothing is written.
     ensures no_memory { result.status ≡ 5 →
-        IsCutShort words.now (S.left source.old) (S.left source.new) 2000000 result.history.entries × (sink.new ≡ sink.old) }
+        IsCutShort D.image D.meters disks.items result.disks.items words.now (S.left source.old) (S.left source.new) 2000000 result.history.entries × (sink.new ≡ sink.old) }
 
     // Words that ask for a run, and no fault of source or sink: the run is done, or memory ran out, unless the bytes spell no
-    // scenario of the form that is built, or the history is full.
+    // scenario, or the history is full.
     ensures complete { IsRun words.now → ¬ Rose (S.faults source.old) (S.faults source.new) → ¬ Rose (K.faults sink.old) (K.faults sink.new) →
         (result.status ≡ 0) ⊎ (result.status ≡ 5) ⊎ (result.status ≡ 2) ⊎ (result.status ≡ 6) }
-
-    // Where anything happened each disk of a site stands for the site's log, and it failed as often as the site fell by it, at
-    // least; the others are as they were. For 1, 2 and 3 all disks are.
-    ensures disks { ((result.history.entries ≡ []) × (result.disks.items ≡ disks.items))
-        ⊎ AreDisksOf D.image D.meters words.now (S.left source.old) (S.left source.new) result.history.entries disks.items result.disks.items }
-    ensures untouched { (result.status ≡ 1) ⊎ (result.status ≡ 2) ⊎ (result.status ≡ 3) → result.disks.items ≡ disks.items }
 
     // There is no other status. 0, 2, 3 and 6 come only for words that ask for a run, and 1 only for other words.
     ensures statuses { result.status ≤ 6 }

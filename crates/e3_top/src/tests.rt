@@ -261,10 +261,6 @@ fn refused_scenarios(rt: HostRuntime) -> Result<(), Fail> {
             "weights = [1]\nsteps = [\"merge\", \"fly t\"]\n",
             "refused bad-line 2\n",
         ),
-        (
-            "weights = [1]\nsteps = [\"crash 1\"]\n",
-            "refused not-built\n",
-        ),
     ];
     for (text, line) in table {
         let mut source = source_of(rt.alloc(), text, 7, &[])?;
@@ -292,5 +288,138 @@ fn failing_streams(rt: HostRuntime) -> Result<(), Fail> {
     let ended = run_on(&rt, rt.alloc(), &["run"], &mut source, &mut sink)?;
     assert_eq!(rt; ended.status, 4);
     assert_eq!(rt; sink.written(), b"start\n1: r".as_slice());
+    Ok(())
+}
+
+#[test]
+fn a_source_that_fails_at_each_call(rt: HostRuntime) -> Result<(), Fail> {
+    // 16 bytes a call, and one call more, which finds the end
+    let reads = (ONE_WRITE.len() as u64).div_ceil(16) + 1;
+    for call in 1..reads + 2 {
+        let mut source = source_of(rt.alloc(), ONE_WRITE, 16, &[call])?;
+        let mut sink = sink_of(rt.alloc(), 64, &[])?;
+        let ended = run_on(&rt, rt.alloc(), &["run"], &mut source, &mut sink)?;
+        let fails = call <= reads;
+        assert_eq!(rt; ended.status, if fails { 3 } else { 0 }, "{call}");
+        let text = if fails { "" } else { ONE_WRITE_REPORT };
+        assert_eq!(rt; sink.written(), text.as_bytes(), "{call}");
+    }
+    Ok(())
+}
+
+#[test]
+fn a_sink_that_fails_at_each_call(rt: HostRuntime) -> Result<(), Fail> {
+    let text = ONE_WRITE_REPORT.as_bytes();
+    let writes = text.len().div_ceil(64);
+    for call in 1..writes + 2 {
+        let mut source = source_of(rt.alloc(), ONE_WRITE, 4096, &[])?;
+        let mut sink = sink_of(rt.alloc(), 64, &[call as u64])?;
+        let ended = run_on(&rt, rt.alloc(), &["run"], &mut source, &mut sink)?;
+        let fails = call <= writes;
+        assert_eq!(rt; ended.status, if fails { 4 } else { 0 }, "{call}");
+        let written = if fails {
+            &text[..(call - 1) * 64]
+        } else {
+            text
+        };
+        assert_eq!(rt; sink.written(), written, "{call}");
+    }
+    Ok(())
+}
+
+// The report of a run of this scenario over disks of 65,536 bytes, which ends with status 0.
+fn report_of(rt: &impl Wait, alloc: Global, scenario: &str) -> Result<MemSink, Fail> {
+    let mut source = source_of(alloc, scenario, 4096, &[])?;
+    let mut sink = sink_of(alloc, 4096, &[])?;
+    let ended = run_on(rt, alloc, &["run"], &mut source, &mut sink)?;
+    if ended.status != 0 {
+        return Err("not done".into());
+    }
+    Ok(sink)
+}
+
+// What a stop leaves, and whether an open gate stands where it leaves that of a gate's own write.
+const LEAVES: [(&str, bool); 5] = [
+    ("none", false),
+    ("half", false),
+    ("all", true),
+    ("junk 165", true),
+    ("junk 7", false),
+];
+
+// Site 2 writes three frames of four calls each: of its vote, of the attempt and of the decision. It falls in the frame of
+// the call, and that frame is on its disk where the gate behind it was opened, by the third call or before the fourth.
+#[test]
+fn a_stop_in_each_call_of_a_commit(rt: HostRuntime) -> Result<(), Fail> {
+    for call in 1..=12u32 {
+        for (leave, opens) in LEAVES {
+            let scenario = format!(in rt.alloc();
+                "weights = [1, 1]\nsteps = [\"begin t 1 1,2\", \"write t 2.y b\", \"stop 2 {call} {leave}\", \"commit t\", \"restart 2\"]\n"
+            )?;
+            let sink = report_of(&rt, rt.alloc(), &scenario)?;
+            let text = sink.written();
+            let kept = opens && (call % 4 == 3 || call % 4 == 0);
+            assert_eq!(rt; count_line(text, "2: fell fault"), 1, "{call} {leave}");
+            assert_eq!(rt;
+                count_line(text, "2: rose 2 kept"),
+                usize::from(kept),
+                "{call} {leave}"
+            );
+            assert_eq!(rt;
+                count_line(text, "2: rose 2"),
+                usize::from(!kept),
+                "{call} {leave}"
+            );
+        }
+    }
+    Ok(())
+}
+
+// A rise syncs once and then writes its frame: it is missed by a stop in the first call, and fails by one in the others. The
+// next rise keeps what the failed one left, where its gate was opened.
+#[test]
+fn a_stop_in_each_call_of_a_rise(rt: HostRuntime) -> Result<(), Fail> {
+    for call in 1..=5u32 {
+        for (leave, opens) in LEAVES {
+            let scenario = format!(in rt.alloc();
+                "weights = [1]\nsteps = [\"crash 1\", \"stop 1 {call} {leave}\", \"restart 1\", \"restart 1\"]\n"
+            )?;
+            let sink = report_of(&rt, rt.alloc(), &scenario)?;
+            let text = sink.written();
+            let kept = opens && call >= 4;
+            assert_eq!(rt;
+                count_line(text, "1: missed"),
+                usize::from(call == 1),
+                "{call} {leave}"
+            );
+            assert_eq!(rt;
+                count_line(text, "1: rise failed 2 fault"),
+                usize::from(call > 1),
+                "{call} {leave}"
+            );
+            assert_eq!(rt;
+                count_line(text, "1: rose 3 kept"),
+                usize::from(kept),
+                "{call} {leave}"
+            );
+            assert_eq!(rt;
+                count_line(text, "1: rose 2"),
+                usize::from(!kept),
+                "{call} {leave}"
+            );
+        }
+    }
+    Ok(())
+}
+
+// A stop waits while its site is down and rises again, and a later one of the site takes its place.
+#[test]
+fn a_stop_that_waits(rt: HostRuntime) -> Result<(), Fail> {
+    let scenario =
+        "weights = [1]\nsteps = [\"stop 1 4 none\", \"stop 1 6 none\", \"begin t 1 1\", \"write t 1.x a\", \"commit t\", \"begin u 1 1\", \"write u 1.x b\", \"commit u\"]\n";
+    let sink = report_of(&rt, rt.alloc(), scenario)?;
+    let text = sink.written();
+    assert_eq!(rt; count_line(text, "1: 1.1.1 committed"), 1);
+    assert_eq!(rt; count_line(text, "1: fell fault"), 1);
     Ok(())
 }

@@ -1,6 +1,6 @@
 use Rattle.std.proofs.Common.{List, [], sym, subst, ◌∙◌}
 use Rattle.e3_fleet.specs.Fleets.{HaveKept, Seated}
-use Rattle.e3_fleet.proofs.Seats.{have_kept_still}
+use Rattle.e3_fleet.proofs.Ending.{have_kept_start}
 use Rattle.e3_fleet.proofs.flying.fly.Goals as goal
 use Rattle.e3_types.specs.declared.entries.Entry.{Entry}
 use Rattle.e3_types.specs.declared.scenarios.Scenario.{Scenario}
@@ -13,6 +13,9 @@ returns-clause-seated g c = λ at node there.
 
 pub returns-clause-kept : goal.returns-clause-kept
 returns-clause-kept g c =
-    subst (λ (h : List Entry). HaveKept g.D.Disk.meters [] h c.args.nodes.items c.play-ended.new.sites.nodes.items) (sym c.close.ensures)
-    (subst (λ (h : List Entry). HaveKept g.D.Disk.meters h c.play-ended.new.sites.shared.entries c.args.nodes.items c.play-ended.new.sites.nodes.items) c.requires.empty
-    (c.play-ended.ensures.since (record { shared = c.args.shared; nodes = c.args.nodes }) (have_kept_still g.D.Disk.meters c.args.shared.entries c.args.nodes.items)))
+    subst (λ (h : List Entry). HaveKept g.D.Disk.meters c.args.scenario.now h c.args.nodes.items c.play-ended.new.sites.nodes.items) (sym c.close.ensures)
+    (subst (λ (sc : Scenario). HaveKept g.D.Disk.meters sc c.play-ended.new.sites.shared.entries c.args.nodes.items c.play-ended.new.sites.nodes.items)
+    (c.play-ended.ensures.same.0 ∙ c.requires.played)
+    (c.play-ended.ensures.since (record { alloc = c.args.alloc; shared = c.args.shared; nodes = c.args.nodes })
+    (subst (λ (h : List Entry). HaveKept g.D.Disk.meters c.args.shared.scenario h c.args.nodes.items c.args.nodes.items) (sym c.requires.empty)
+    (have_kept_start g.D.Disk.meters (λ d. g.met.D.Disk.counted d) c.args.shared.scenario c.args.nodes.items c.requires.unarmed))))

@@ -9,9 +9,6 @@ use Rattle.e3_node.specs.NodeView.{NodeView}
 pub down-requires-clause-blank : goal.down-requires-clause-blank
 down-requires-clause-blank g c = (c.requires.blank 0 c.remove-disk.result (slice_get_read c.args.disks.now.items (length c.args.disks.now.items) 0 c.remove-disk.result refl c.requires.enough c.remove-disk.ensures.value)).blank
 
-pub down-requires-clause-lit : goal.down-requires-clause-lit
-down-requires-clause-lit g c = (c.requires.blank 0 c.remove-disk.result (slice_get_read c.args.disks.now.items (length c.args.disks.now.items) 0 c.remove-disk.result refl c.requires.enough c.remove-disk.ensures.value)).lit
-
 pub returns-clause-blank : goal.returns-clause-blank
 returns-clause-blank g c = subst (λ (ds : List g.row.D.Denot). AreBlank g.D.Disk.content g.D.Disk.image g.D.Disk.meters ds) (sym c.remove-disk.ensures.items)
     (rest_blank g.D.Disk.content g.D.Disk.image g.D.Disk.meters c.args.disks.now.items c.requires.blank)

@@ -1,10 +1,7 @@
 use Rattle.e3_top.proofs.Runs.{run_of}
 use Rattle.e3_top.proofs.preparing.prepare_run.Goals as goal
 
-pub text_of-requires-clause-safe : goal.text_of-requires-clause-safe
-text_of-requires-clause-safe g c =
-    run_of c.one_order.ensures c.args.scenario.now c.args.most c.play_over-ended.result.history.entries c.requires.given c.play_over-ended.ensures.legal c.play_over-ended.ensures.within
-
 pub returns-clause-history : goal.returns-clause-history
 returns-clause-history g c =
-    run_of c.one_order.ensures c.args.scenario.now c.args.most c.play_over-ended.result.history.entries c.requires.given c.play_over-ended.ensures.legal c.play_over-ended.ensures.within
+    run_of g.D.Disk.image g.D.Disk.meters c.args.disks.items c.play_over-ended.result.disks.items c.one_order.ensures c.args.scenario.now c.args.most
+    c.play_over-ended.result.history.entries c.requires.given c.play_over-ended.ensures.legal c.play_over-ended.ensures.within c.play_over-ended.ensures.disks

@@ -3,5 +3,5 @@ use Rattle.e3_top.proofs.preparing.refuse_words.Goals as goal
 
 pub returns-clause-due : goal.returns-clause-due
 returns-clause-due g c =
-    refused_due c.args.words.now c.args.most c.unplayed.result.history.entries c.unplayed.result.due c.refused_words.result c.requires c.unplayed.ensures.history
-    c.refused_words.ensures c.unplayed.ensures.due
+    refused_due g.D.Disk.image g.D.Disk.meters c.args.disks.items c.unplayed.result.disks.items c.args.words.now c.args.most c.unplayed.result.history.entries
+    c.unplayed.result.due c.refused_words.result c.requires c.unplayed.ensures.history c.unplayed.ensures.disks c.refused_words.ensures c.unplayed.ensures.due

@@ -1,14 +1,13 @@
-use Rattle.std.proofs.Common.{◌≡◌, ◌⊎◌, ℕ, suc, length, Some, refl, sym, subst}
-use Rattle.std.specs.Prelude.{slice_get}
+use Rattle.std.proofs.Common.{◌≡◌, ◌⊎◌, inl, inr, ℕ, suc, true, false, length, List, Some, refl, sym, ap, subst, ◌∙◌}
+use Rattle.std.specs.Prelude.{slice_get, OnOk, OnErr, Err, Result}
 use Rattle.std.proofs.lemmas.Option.{slice_get_read}
+use Rattle.e3_node.specs.NodeView.{NodeView, disk_of}
 use Rattle.e3_fleet.specs.Fleets.{input_answer}
-use Rattle.e3_fleet.proofs.Going.{IsOwn, node_on}
-use Rattle.e3_fleet.proofs.Owned.{input_entered, input_kept, input_owns}
+use Rattle.e3_fleet.proofs.Going.{Went, node_on}
+use Rattle.e3_fleet.proofs.Owned.{input_entered, input_kept, input_went, takes_so}
 use Rattle.e3_fleet.proofs.fleet.Fleet.input_at.Goals as goal
-use Rattle.e3_node.specs.NodeView.{disk_of}
-use Rattle.e3_play.specs.Entering.{AfterInput}
+use Rattle.e3_sites.specs.Entering.{AfterInput}
 use Rattle.e3_world.specs.Legal.{IsDue}
-use Rattle.std.specs.Prelude.{OnOk}
 
 pub input-answer-requires-clause-standing : goal.input-answer-requires-clause-standing
 input-answer-requires-clause-standing g c =
@@ -26,15 +25,15 @@ returns-clause-on g c =
     let there : slice_get c.args.self.now.nodes.items c.args.at ≡ Some c.index_mut.result.now =
     slice_get_read c.args.self.now.nodes.items (length c.args.self.now.nodes.items) c.args.at c.index_mut.result.now refl c.requires.within c.index_mut.ensures.value in
     let site : c.index_mut.result.now.site ≡ suc c.args.at = (c.requires.standing.seated c.args.at c.index_mut.result.now there).site in
-    node_on g.D.Disk.content g.D.Disk.image g.D.Disk.meters c.other_entries_keep_nodes.ensures.nodes (λ d. (g.met.D.Disk.counted d).faults)
+    node_on g.D.Disk.content g.D.Disk.image g.D.Disk.meters c.other_entries_keep_nodes.ensures.nodes (λ d. g.met.D.Disk.counted d)
     c.args.self.now.shared c.input-answer.new.shared c.args.self.now.nodes.items c.args.at c.index_mut.result.now c.input-answer.new.self there
     c.requires.standing c.input-answer.ensures.shared c.input-answer.ensures.same.0 c.input-answer.ensures.same.1 c.input-answer.ensures.site
-    c.input-answer.ensures.stands c.input-answer.ensures.meters
-    (subst (λ (s : ℕ). (c.input-answer.new.shared.entries ≡ c.args.self.now.shared.entries) ⊎ IsOwn c.args.self.now.shared.scenario c.args.self.now.shared.entries
-    c.input-answer.new.shared.entries s (g.D.Disk.meters (disk_of c.index_mut.result.now.state)) (g.D.Disk.meters (disk_of c.input-answer.new.self.state))) site
-    (input_owns c.args.self.now.shared.scenario c.args.self.now.shared.entries c.input-answer.new.shared.entries c.index_mut.result.now.site c.args.input
-    (g.D.Disk.meters (disk_of c.index_mut.result.now.state)) (g.D.Disk.meters (disk_of c.input-answer.new.self.state)) c.input-answer.result
-    c.input-answer.ensures.stepped c.input-answer.ensures.fell (λ fault e no. (c.input-answer.ensures.kept fault e no).0) c.input-answer.ensures.why))
+    c.input-answer.ensures.stands
+    (subst (λ (s : ℕ). Went c.args.self.now.shared.scenario c.args.self.now.shared.entries c.input-answer.new.shared.entries s (g.D.Disk.meters (disk_of c.index_mut.result.now.state)) (g.D.Disk.meters (disk_of c.input-answer.new.self.state))) site
+    (input_went c.args.self.now.shared.scenario c.args.self.now.shared.entries c.input-answer.new.shared.entries c.index_mut.result.now.site c.args.input (g.D.Disk.meters (disk_of c.index_mut.result.now.state)) (g.D.Disk.meters (disk_of c.input-answer.new.self.state)) c.input-answer.result
+    (g.met.D.Disk.counted (disk_of c.index_mut.result.now.state)) c.input-answer.ensures.meters c.input-answer.ensures.stepped
+    (takes_so c.args.self.now.shared.scenario c.args.self.now.shared.entries c.index_mut.result.now.site c.args.input (g.D.Disk.meters (disk_of c.index_mut.result.now.state)) (g.D.Disk.meters (disk_of c.input-answer.new.self.state)) c.input-answer.result c.input-answer.ensures.takes) c.input-answer.ensures.fell
+    (λ fault e no. ((c.input-answer.ensures.kept fault e no).0, ap g.D.Disk.meters (c.input-answer.ensures.kept fault e no).1)) c.input-answer.ensures.why))
 
 pub returns-clause-entered : goal.returns-clause-entered
 returns-clause-entered g c =

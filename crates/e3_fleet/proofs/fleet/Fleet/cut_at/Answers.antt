@@ -1,0 +1,35 @@
+use Rattle.std.proofs.Common.{◌≡◌, ◌⊎◌, inl, inr, ℕ, suc, true, false, length, List, Some, refl, sym, ap, subst, ◌∙◌}
+use Rattle.std.specs.Prelude.{slice_get, OnOk, OnErr, Err, Result}
+use Rattle.std.proofs.lemmas.Option.{slice_get_read}
+use Rattle.e3_node.specs.NodeView.{NodeView, disk_of}
+use Rattle.e3_fleet.specs.Fleets.{cut_answer}
+use Rattle.e3_fleet.proofs.Going.{Went, node_on}
+use Rattle.e3_fleet.proofs.Owned.{cut_entered, cut_kept, cut_still, cut_went}
+use Rattle.e3_fleet.proofs.fleet.Fleet.cut_at.Goals as goal
+use Rattle.e3_types.specs.declared.entries.Act.TheVariants.{Cut}
+use Rattle.e3_world.specs.Legal.{IsCut}
+
+pub cut-answer-requires-clause-standing : goal.cut-answer-requires-clause-standing
+cut-answer-requires-clause-standing g c =
+    (c.requires.standing.seated c.args.at c.index_mut.result.now
+    (slice_get_read c.args.self.now.nodes.items (length c.args.self.now.nodes.items) c.args.at c.index_mut.result.now refl c.requires.within c.index_mut.ensures.value)).stands
+
+pub cut-answer-requires-clause-crash : goal.cut-answer-requires-clause-crash
+cut-answer-requires-clause-crash g c = λ up.
+    subst (λ (s : ℕ). IsCut c.args.self.now.shared.scenario c.args.self.now.shared.entries s) (sym (c.requires.standing.seated c.args.at c.index_mut.result.now
+    (slice_get_read c.args.self.now.nodes.items (length c.args.self.now.nodes.items) c.args.at c.index_mut.result.now refl c.requires.within c.index_mut.ensures.value)).site)
+    c.requires.due
+
+pub returns-clause-on : goal.returns-clause-on
+returns-clause-on g c =
+    let there : slice_get c.args.self.now.nodes.items c.args.at ≡ Some c.index_mut.result.now =
+    slice_get_read c.args.self.now.nodes.items (length c.args.self.now.nodes.items) c.args.at c.index_mut.result.now refl c.requires.within c.index_mut.ensures.value in
+    let site : c.index_mut.result.now.site ≡ suc c.args.at = (c.requires.standing.seated c.args.at c.index_mut.result.now there).site in
+    node_on g.D.Disk.content g.D.Disk.image g.D.Disk.meters c.other_entries_keep_nodes.ensures.nodes (λ d. g.met.D.Disk.counted d)
+    c.args.self.now.shared c.cut-answer.new.shared c.args.self.now.nodes.items c.args.at c.index_mut.result.now c.cut-answer.new.self there
+    c.requires.standing c.cut-answer.ensures.shared c.cut-answer.ensures.same.0 c.cut-answer.ensures.same.1 c.cut-answer.ensures.site
+    c.cut-answer.ensures.stands
+    (subst (λ (s : ℕ). Went c.args.self.now.shared.scenario c.args.self.now.shared.entries c.cut-answer.new.shared.entries s (g.D.Disk.meters (disk_of c.index_mut.result.now.state)) (g.D.Disk.meters (disk_of c.cut-answer.new.self.state))) site
+    (cut_went c.args.self.now.shared.scenario c.args.self.now.shared.entries c.cut-answer.new.shared.entries c.index_mut.result.now.site (g.D.Disk.meters (disk_of c.index_mut.result.now.state)) (g.D.Disk.meters (disk_of c.cut-answer.new.self.state)) c.cut-answer.result
+    (g.met.D.Disk.counted (disk_of c.index_mut.result.now.state)) c.cut-answer.ensures.entered c.cut-answer.ensures.meters
+    (cut_still c.args.self.now.shared.entries c.cut-answer.new.shared.entries g.D.Disk.meters c.index_mut.result.now c.cut-answer.new.self c.cut-answer.result c.cut-answer.ensures.kept)))

@@ -1,0 +1,150 @@
+// What the sites do of a run, each by the node at its place.
+ghost use Rattle.std.specs.Prelude.{◌≡◌, ◌≤◌, ◌<◌, ◌++◌, ◌∷◌, [], suc, true, fold, length, IfOk, OnOk, OnErr, Err};
+ghost use Rattle.e3_fleet.specs.Fleets.{FleetStands, IsFleetOn, cut_answer, input_answer, rise_answer};
+ghost use Rattle.e3_sites.specs.Entering.{AfterInput, AfterRise, IsFirst};
+ghost use Rattle.e3_sites.specs.declared.sites.RunFault.TheVariants.{HistoryFull};
+ghost use Rattle.e3_types.specs.declared.entries.Act.TheVariants as act;
+ghost use Rattle.e3_types.specs.declared.scenarios.Item.TheVariants as item;
+ghost use Rattle.e3_world.specs.Items.{add_txn, is_up_at, open_at};
+ghost use Rattle.e3_world.specs.Legal.{IsCut, IsDue, IsLine, IsRising};
+ghost use Rattle.e3_world.specs.Packets.{step_items};
+
+use crate::fleet::Fleet;
+use e3_disk::{Disk, Drill};
+use e3_node::{CutFault, InputFault, RiseFault, other_entries_keep_nodes};
+use e3_sites::RunFault;
+use e3_types::{Input, Leave, List, NoMemory, Txn};
+
+// What a rise is to the run.
+fn rise_answer(answer: Result<u32, RiseFault>) -> Result<(), RunFault>
+    ensures { result ≡ rise_answer answer }
+{
+    match answer {
+        Ok(_incarnation) => Ok(()),
+        Err(fault) => match fault {
+            RiseFault::HistoryFull => Err(RunFault::HistoryFull),
+            RiseFault::Up | RiseFault::NoMemory => Err(RunFault::NoMemory),
+            RiseFault::Missed | RiseFault::Failed { .. } => Ok(()),
+        },
+    }
+}
+
+// What an input is to the run.
+fn input_answer(answer: Result<(), InputFault>) -> Result<(), RunFault>
+    ensures { result ≡ input_answer answer }
+{
+    match answer {
+        Ok(()) => Ok(()),
+        Err(fault) => match fault {
+            InputFault::HistoryFull => Err(RunFault::HistoryFull),
+            InputFault::Fell { .. } => Ok(()),
+            InputFault::Down | InputFault::NoMemory => Err(RunFault::NoMemory),
+        },
+    }
+}
+
+// What a cut is to the run.
+fn cut_answer(answer: Result<(), CutFault>) -> Result<(), RunFault>
+    ensures { result ≡ cut_answer answer }
+{
+    match answer {
+        Ok(()) => Ok(()),
+        Err(fault) => match fault {
+            CutFault::HistoryFull => Err(RunFault::HistoryFull),
+            CutFault::Down | CutFault::NoMemory => Err(RunFault::NoMemory),
+        },
+    }
+}
+
+impl<D: Disk + Drill + Drop> Fleet<D> {
+    // Whether the node at this place is up.
+    pub(crate) fn is_up_at(&self, at: usize) -> bool
+        requires standing { FleetStands D.content D.image D.meters self.now.shared self.now.nodes.items }
+        requires within { at < length self.now.nodes.items }
+        ensures { result ≡ is_up_at self.now.shared.entries (suc at) }
+    {
+        self.nodes[at].is_up()
+    }
+
+    // The undecided transactions that the node at this place knows, which is up.
+    pub(crate) fn open_txns_at(&self, at: usize) -> Result<List<Txn>, NoMemory>
+        requires standing { FleetStands D.content D.image D.meters self.now.shared self.now.nodes.items }
+        requires within { at < length self.now.nodes.items }
+        requires up { is_up_at self.now.shared.entries (suc at) ≡ true }
+        ensures { IfOk result (λ txns. txns ≡ fold add_txn [] (open_at self.now.shared.scenario self.now.shared.entries (suc at))) }
+    {
+        self.nodes[at].open_txns(self.alloc)
+    }
+
+    // A rise of the node at this place.
+    pub(crate) fn rise_at(&mut self, at: usize) -> Result<(), RunFault>
+        requires standing { FleetStands D.content D.image D.meters self.old.shared self.old.nodes.items }
+        requires within { at < length self.old.nodes.items }
+        requires turn { IsRising self.old.shared.scenario self.old.shared.entries (suc at) }
+        ensures on { IsFleetOn D.content D.image D.meters self.old.shared self.new.shared self.old.nodes.items self.new.nodes.items }
+        ensures rose { OnOk result (AfterRise self.old.shared.scenario self.old.shared.entries (suc at) self.new.shared.entries) }
+        ensures kept { OnErr result (self.new.shared.entries ≡ self.old.shared.entries) }
+        ensures full { result ≡ Err HistoryFull → self.old.shared.most ≤ length self.old.shared.entries }
+    {
+        other_entries_keep_nodes::<D>();
+        let answer = self.nodes[at].rise(&mut self.shared);
+        rise_answer(answer)
+    }
+
+    // An input for the node at this place, which is up.
+    pub(crate) fn input_at(&mut self, at: usize, input: Input) -> Result<(), RunFault>
+        requires standing { FleetStands D.content D.image D.meters self.old.shared self.old.nodes.items }
+        requires within { at < length self.old.nodes.items }
+        requires up { is_up_at self.old.shared.entries (suc at) ≡ true }
+        requires due { IsDue self.old.shared.scenario self.old.shared.entries (suc at) input }
+        requires first { IsFirst self.old.shared.scenario self.old.shared.entries input }
+        ensures on { IsFleetOn D.content D.image D.meters self.old.shared self.new.shared self.old.nodes.items self.new.nodes.items }
+        ensures entered { OnOk result (AfterInput self.old.shared.scenario self.old.shared.entries (suc at) input self.new.shared.entries) }
+        ensures kept { OnErr result (self.new.shared.entries ≡ self.old.shared.entries) }
+        ensures full { result ≡ Err HistoryFull → self.old.shared.most ≤ length self.old.shared.entries }
+    {
+        other_entries_keep_nodes::<D>();
+        let answer = self.nodes[at].input(&mut self.shared, input);
+        input_answer(answer)
+    }
+
+    // The power of the node at this place is cut, which is up.
+    pub(crate) fn cut_at(&mut self, at: usize) -> Result<(), RunFault>
+        requires standing { FleetStands D.content D.image D.meters self.old.shared self.old.nodes.items }
+        requires within { at < length self.old.nodes.items }
+        requires due { IsCut self.old.shared.scenario self.old.shared.entries (suc at) }
+        ensures on { IsFleetOn D.content D.image D.meters self.old.shared self.new.shared self.old.nodes.items self.new.nodes.items }
+        ensures entered { OnOk result (self.new.shared.entries ≡ self.old.shared.entries ++ record { owner = suc at; act = act.Cut } ∷ []) }
+        ensures kept { OnErr result (self.new.shared.entries ≡ self.old.shared.entries) }
+        ensures full { result ≡ Err HistoryFull → self.old.shared.most ≤ length self.old.shared.entries }
+    {
+        other_entries_keep_nodes::<D>();
+        let answer = self.nodes[at].cut(&mut self.shared);
+        cut_answer(answer)
+    }
+
+    // The line of a stop of the node at this place is entered, and then its disk is armed. A line that is not entered arms
+    // nothing.
+    pub(crate) fn stop_at(
+        &mut self,
+        at: usize,
+        number: u32,
+        calls: u32,
+        leave: Leave,
+    ) -> Result<(), RunFault>
+        requires standing { FleetStands D.content D.image D.meters self.old.shared self.old.nodes.items }
+        requires within { at < length self.old.nodes.items }
+        requires due { IsLine self.old.shared.scenario self.old.shared.entries number }
+        requires step { step_items self.old.shared.scenario number ≡ item.Stop (suc at) calls leave ∷ [] }
+        requires some { 1 ≤ calls }
+        ensures on { IsFleetOn D.content D.image D.meters self.old.shared self.new.shared self.old.nodes.items self.new.nodes.items }
+        ensures entered { OnOk result (self.new.shared.entries ≡ self.old.shared.entries ++ record { owner = 0; act = act.Line number } ∷ []) }
+        ensures kept { OnErr result (self.new.shared.entries ≡ self.old.shared.entries) }
+        ensures full { result ≡ Err HistoryFull → self.old.shared.most ≤ length self.old.shared.entries }
+    {
+        other_entries_keep_nodes::<D>();
+        self.shared.line(number)?;
+        self.nodes[at].stop(calls, leave);
+        Ok(())
+    }
+}
