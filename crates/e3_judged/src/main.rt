@@ -63,63 +63,66 @@ fn judged(rt: &impl Wait, alloc: Global, text: &[u8]) -> Option<(&'static str, M
     Some((verdict_of(alloc, &scenario, &history).ok()?, sink))
 }
 
-// The line of a worked scenario.
-fn row_line(rt: &impl Wait, alloc: Global, name: &str, text: &str) -> Option<List<u8>> {
+// Adds the line of a worked scenario; nothing without memory.
+fn push_row(
+    rt: &impl Wait,
+    alloc: Global,
+    out: &mut List<u8>,
+    name: &str,
+    text: &str,
+) -> Option<()> {
     let (said, _sink) = judged(rt, alloc, text.as_bytes())?;
-    let mut line = List::new(alloc);
     for part in [name, ": ", said, "\n"] {
-        push_text(&mut line, part).ok()?;
+        push_text(out, part).ok()?;
     }
-    Some(line)
+    Some(())
 }
 
-// The line of a stop.
-fn stop_line(rt: &impl Wait, alloc: Global, call: u64, leave: &str) -> Option<List<u8>> {
+// Adds the line of a stop; nothing without memory.
+fn push_stop(
+    rt: &impl Wait,
+    alloc: Global,
+    out: &mut List<u8>,
+    call: u64,
+    leave: &str,
+) -> Option<()> {
     let text = stops::scenario(alloc, call, leave).ok()?;
     let (said, sink) = judged(rt, alloc, text.as_slice())?;
-    let mut line = List::new(alloc);
-    push_labelled(&mut line, "stop ", call).ok()?;
+    push_labelled(out, "stop ", call).ok()?;
     for part in [" ", leave, ": ", said] {
-        push_text(&mut line, part).ok()?;
+        push_text(out, part).ok()?;
     }
-    stops::push_events(&mut line, sink.written()).ok()?;
-    push_text(&mut line, "\n").ok()?;
-    Some(line)
+    stops::push_events(out, sink.written()).ok()?;
+    push_text(out, "\n").ok()
 }
 
-// The lines of all worked scenarios.
-fn write_rows(rt: &HostRuntime, alloc: Global) -> Result<(), u8> {
-    let mut out = io::writer(rt);
-    for (name, text) in rows::ROWS {
-        let line = row_line(rt, alloc, name, text).ok_or(NO_MEMORY)?;
-        out.write_all(line.as_slice()).map_err(|_| NO_OUTPUT)?;
-    }
-    Ok(())
-}
-
-// The lines of all stops with this leave.
-fn write_stops(rt: &HostRuntime, alloc: Global, leave: &str) -> Result<(), u8> {
-    let mut out = io::writer(rt);
+// Adds the lines of all stops with this leave.
+fn push_stops(rt: &impl Wait, alloc: Global, out: &mut List<u8>, leave: &str) -> Option<()> {
     for call in 1..=stops::CALLS {
-        let line = stop_line(rt, alloc, call, leave).ok_or(NO_MEMORY)?;
-        out.write_all(line.as_slice()).map_err(|_| NO_OUTPUT)?;
+        push_stop(rt, alloc, out, call, leave)?;
     }
-    Ok(())
+    Some(())
 }
 
-// All lines.
-fn write_all_lines(rt: &HostRuntime, alloc: Global) -> Result<(), u8> {
-    write_rows(rt, alloc)?;
-    for leave in stops::LEAVES {
-        write_stops(rt, alloc, leave)?;
+// All lines; none without memory.
+fn lines(rt: &impl Wait, alloc: Global) -> Option<List<u8>> {
+    let mut out = List::new(alloc);
+    for (name, text) in rows::ROWS {
+        push_row(rt, alloc, &mut out, name, text)?;
     }
-    Ok(())
+    for leave in stops::LEAVES {
+        push_stops(rt, alloc, &mut out, leave)?;
+    }
+    Some(out)
 }
 
 fn main(rt: HostRuntime) -> ExitCode {
     let alloc = rt.alloc();
-    match write_all_lines(&rt, alloc) {
+    let Some(text) = lines(&rt, alloc) else {
+        return ExitCode::from(NO_MEMORY);
+    };
+    match io::writer(&rt).write_all(text.as_slice()) {
         Ok(()) => ExitCode::SUCCESS,
-        Err(status) => ExitCode::from(status),
+        Err(_) => ExitCode::from(NO_OUTPUT),
     }
 }
