@@ -1,11 +1,14 @@
-//! Runs the worked scenarios that use neither crashes nor recoveries, over disks in memory, and prints what the plain judge
-//! says of each history: the scenario's name, whether the history is legal, and whether it is whole.
+//! Runs scenarios over disks in memory and prints what the plain judge says of each history: the worked scenarios, each with
+//! its name; and a commit whose coordinator's disk stops in each of its calls with each leave, with what clients were told
+//! and how the sites fell and rose.
 #![tactic(auto)]
 
 mod rows;
+mod stops;
 
 use e3_fleet::memory_disks;
 use e3_judge::{is_whole, judge};
+use e3_lines::{push_labelled, push_text};
 use e3_outside::{MemSink, MemSource};
 use e3_scenario::read_scenario;
 use e3_top::run;
@@ -20,18 +23,19 @@ const NO_OUTPUT: u8 = 4;
 
 const NO_MEMORY: u8 = 5;
 
-// The history of a run of this scenario, whose report is thrown away; none without memory.
-fn history_of(rt: &impl Wait, alloc: Global, text: &str) -> Option<History> {
+// The history of a run of this scenario, and its report; none without memory.
+fn played(rt: &impl Wait, alloc: Global, text: &[u8]) -> Option<(History, MemSink)> {
     let mut words = Vec::new(alloc);
     words.push(String::from_str(alloc, "run").ok()?).ok()?;
     let mut bytes = List::new(alloc);
-    bytes.extend(text.as_bytes()).ok()?;
+    bytes.extend(text).ok()?;
     let mut source = MemSource::new(bytes, 4096, List::new(alloc));
     let mut sink = MemSink::new(alloc, 65536, 65536, List::new(alloc)).ok()?;
     let Ok(disks) = memory_disks(alloc, 65536, 0, List::new(alloc)) else {
         return None;
     };
-    Some(run(rt, alloc, &words, &mut source, &mut sink, disks).history)
+    let ended = run(rt, alloc, &words, &mut source, &mut sink, disks);
+    Some((ended.history, sink))
 }
 
 // What the judge says of a history.
@@ -52,25 +56,73 @@ fn verdict_of(
     }
 }
 
-// What the judge says of the history of this scenario; none without memory, or where the text spells no scenario.
-fn judged(rt: &impl Wait, alloc: Global, text: &str) -> Option<&'static str> {
-    let scenario = read_scenario(alloc, text.as_bytes()).ok()?;
-    let history = history_of(rt, alloc, text)?;
-    verdict_of(alloc, &scenario, &history).ok()
+// What the judge says of a run of this scenario, and its report; none without memory, or where the text spells no scenario.
+fn judged(rt: &impl Wait, alloc: Global, text: &[u8]) -> Option<(&'static str, MemSink)> {
+    let scenario = read_scenario(alloc, text).ok()?;
+    let (history, sink) = played(rt, alloc, text)?;
+    Some((verdict_of(alloc, &scenario, &history).ok()?, sink))
+}
+
+// Adds the line of a worked scenario; nothing without memory.
+fn push_row(
+    rt: &impl Wait,
+    alloc: Global,
+    out: &mut List<u8>,
+    name: &str,
+    text: &str,
+) -> Option<()> {
+    let (said, _sink) = judged(rt, alloc, text.as_bytes())?;
+    for part in [name, ": ", said, "\n"] {
+        push_text(out, part).ok()?;
+    }
+    Some(())
+}
+
+// Adds the line of a stop; nothing without memory.
+fn push_stop(
+    rt: &impl Wait,
+    alloc: Global,
+    out: &mut List<u8>,
+    call: u64,
+    leave: &str,
+) -> Option<()> {
+    let text = stops::scenario(alloc, call, leave).ok()?;
+    let (said, sink) = judged(rt, alloc, text.as_slice())?;
+    push_labelled(out, "stop ", call).ok()?;
+    for part in [" ", leave, ": ", said] {
+        push_text(out, part).ok()?;
+    }
+    stops::push_events(out, sink.written()).ok()?;
+    push_text(out, "\n").ok()
+}
+
+// Adds the lines of all stops with this leave.
+fn push_stops(rt: &impl Wait, alloc: Global, out: &mut List<u8>, leave: &str) -> Option<()> {
+    for call in 1..=stops::CALLS {
+        push_stop(rt, alloc, out, call, leave)?;
+    }
+    Some(())
+}
+
+// All lines; none without memory.
+fn lines(rt: &impl Wait, alloc: Global) -> Option<List<u8>> {
+    let mut out = List::new(alloc);
+    for (name, text) in rows::ROWS {
+        push_row(rt, alloc, &mut out, name, text)?;
+    }
+    for leave in stops::LEAVES {
+        push_stops(rt, alloc, &mut out, leave)?;
+    }
+    Some(out)
 }
 
 fn main(rt: HostRuntime) -> ExitCode {
     let alloc = rt.alloc();
-    let mut out = io::writer(&rt);
-    for (name, text) in rows::ROWS {
-        let Some(said) = judged(&rt, alloc, text) else {
-            return ExitCode::from(NO_MEMORY);
-        };
-        for part in [name, ": ", said, "\n"] {
-            if out.write_all(part.as_bytes()).is_err() {
-                return ExitCode::from(NO_OUTPUT);
-            }
-        }
+    let Some(text) = lines(&rt, alloc) else {
+        return ExitCode::from(NO_MEMORY);
+    };
+    match io::writer(&rt).write_all(text.as_slice()) {
+        Ok(()) => ExitCode::SUCCESS,
+        Err(_) => ExitCode::from(NO_OUTPUT),
     }
-    ExitCode::SUCCESS
 }

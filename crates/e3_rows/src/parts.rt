@@ -6,14 +6,17 @@ use e3_types::{
 use e3_world::History;
 use std::alloc::Global;
 
+/// The name with these bytes. A text that is no name wants memory, as all else here does that can't be made.
 pub fn name(text: &str) -> Result<Name, NoMemory> {
     Name::new(text.as_bytes()).ok_or(NoMemory)
 }
 
+/// The value with these bytes.
 pub fn val(text: &str) -> Result<Val, NoMemory> {
     Val::new(text.as_bytes()).ok_or(NoMemory)
 }
 
+/// The key of this name at a site.
 pub fn key(site: u32, text: &str) -> Result<Key, NoMemory> {
     Ok(Key {
         site,
@@ -50,26 +53,31 @@ pub fn scenario(alloc: Global, txn: &Txn) -> Result<Scenario, NoMemory> {
     Ok(sc)
 }
 
+/// Adds a step of this one item.
 pub fn add_step(alloc: Global, sc: &mut Scenario, item: Item) -> Result<(), NoMemory> {
     sc.steps.push(one(alloc, item)?)
 }
 
+/// A list of this one item.
 pub fn one<T: Drop>(alloc: Global, item: T) -> Result<List<T>, NoMemory> {
     let mut items = List::new(alloc);
     items.push(item)?;
     Ok(items)
 }
 
+/// Adds an entry to the end of a history.
 pub fn enter(history: &mut History, owner: u32, act: Act) -> Result<(), NoMemory> {
     history.reserve(1)?;
     history.push(Entry { owner, act });
     Ok(())
 }
 
+/// Adds the rise of a site, in this incarnation.
 pub fn rise(history: &mut History, owner: u32, inc: u32, kept: bool) -> Result<(), NoMemory> {
     enter(history, owner, Act::Rise { kept, inc })
 }
 
+/// Adds the line of the step of this number.
 pub fn line(history: &mut History, number: u32) -> Result<(), NoMemory> {
     enter(history, 0, Act::Line { number })
 }

@@ -77,6 +77,7 @@ fn commit(alloc: Global, history: &mut History, txn: &Txn) -> Result<(), NoMemor
     enter(history, 1, act)
 }
 
+/// The report of a transaction of 64 writes, with its trace.
 pub fn row(alloc: Global) -> Result<List<u8>, NoMemory> {
     let txn = txn(&[1])?;
     let sc = scenario_of(alloc, &txn)?;

@@ -138,6 +138,8 @@ fn commit(alloc: Global, history: &mut History, txn: &Txn) -> Result<(), NoMemor
     enter(history, 2, act)
 }
 
+/// The report, with its trace, of a vote whose disk stops in its `count`-th call and leaves this; `kept` says whether the
+/// next rise finds the vote.
 pub fn row(alloc: Global, count: u32, leave: Leave, kept: bool) -> Result<List<u8>, NoMemory> {
     let txn = txn(&[1, 2])?;
     let sc = scenario_of(alloc, &txn, count, leave)?;
