@@ -1,2 +1,5 @@
 pub mod Order
 pub mod InParts
+pub mod Left
+pub mod Electing
+pub mod Making

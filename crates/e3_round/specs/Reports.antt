@@ -11,7 +11,7 @@ use Rattle.e3_types.specs.declared.verdicts.Verdict.{Verdict}
 use Rattle.e3_types.specs.declared.scenarios.Scenario.{Scenario}
 use Rattle.e3_types.specs.declared.transactions.Txn.{Txn}
 use Rattle.e3_types.specs.Same.{same_txn}
-use Rattle.e3_world.specs.Items.{RecoveryRound, due_round, since_line, to_line}
+use Rattle.e3_world.specs.Items.{RecoveryRound, due_round, to_line}
 use Rattle.e3_world.specs.Packets.{pending}
 use Rattle.e3_world.specs.Progress.{Delivering}
 

@@ -1,5 +1,5 @@
 // The rounds of a recovery step.
-ghost use Rattle.std.specs.Prelude.{◌≡◌, ◌≢◌, ◌∷◌, [], map, true, Some, IfOk, OnOk, Err};
+ghost use Rattle.std.specs.Prelude.{◌≡◌, ◌≢◌, ◌≤◌, ◌∷◌, [], drop, length, map, true, Some, IfOk, OnOk, Err};
 ghost use Rattle.e3_round.specs.Reports.{IsRecovered, report_of};
 ghost use Rattle.e3_round.specs.Rounds.{AfterRound};
 ghost use Rattle.e3_sites.specs.Delivered.{IsFull};
@@ -12,7 +12,7 @@ ghost use Rattle.e3_world.specs.Progress.{Delivering};
 use crate::listing::{Round, listed};
 use crate::reporting::{RoundReport, reports_of};
 use e3_sites::{RunFault, Sites, deliver_all};
-use e3_types::{Input, List, SiteSet};
+use e3_types::{Entry, Input, List, SiteSet};
 use std::alloc::Global;
 
 // A round at its turn: its elector elects with the members, and packets are delivered. Where it is down, nothing is done.
@@ -42,6 +42,14 @@ fn make_round<S: Sites>(sites: &mut S, round: &Round) -> Result<(), RunFault>
     deliver_all(sites)
 }
 
+// The entries behind the first so many.
+fn behind(history: &[Entry], count: usize) -> &[Entry]
+    requires { count ≤ length history.now }
+    ensures { result.now ≡ drop count history.now }
+{
+    &history[count..]
+}
+
 /// Makes the recovery rounds of a group: in ascending order for each transaction that is open at a member that is up. Its
 /// elector is the least of those members that are its sites, which elects with all of them; then packets are delivered in
 /// ascending order until none is pending. A round whose elector is down at its turn is passed over. With Ok there is a
@@ -69,9 +77,6 @@ pub fn recover<S: Sites>(
     for round in rounds.as_slice() {
         make_round(sites, round)?;
     }
-    Ok(reports_of(
-        alloc,
-        &sites.history()[from..],
-        rounds.as_slice(),
-    )?)
+    let entered = behind(sites.history(), from);
+    Ok(reports_of(alloc, entered, rounds.as_slice())?)
 }

@@ -1,4 +1,4 @@
-use Rattle.std.proofs.Common.{◌≡◌, ◌∙◌}
+use Rattle.std.proofs.Common.{◌∙◌}
 use Rattle.e3_round.proofs.InParts.{if_ok, listed_parts}
 use Rattle.e3_round.proofs.listing.listed.Goals as goal
 
@@ -8,5 +8,5 @@ returns g c =
     let sites = c.args.sites.now in
     if_ok c.rounds_of.result _ _
     (listed_parts (S.scenario sites) (S.entries sites) c.args.group c.as_slice-3.result.now c.as_slice.result.now c.as_slice-2.result.now
-        (c.as_slice-3.ensures ∙ c.in_ok-up.ensures) (c.as_slice.ensures ∙ c.in_ok-open.ensures) (c.as_slice-2.ensures ∙ c.in_ok-txns.ensures))
+    (c.as_slice-3.ensures ∙ c.in_ok-up.ensures) (c.as_slice.ensures ∙ c.in_ok-open.ensures) (c.as_slice-2.ensures ∙ c.in_ok-txns.ensures))
     c.rounds_of.ensures

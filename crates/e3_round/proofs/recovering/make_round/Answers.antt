@@ -1,0 +1,49 @@
+use Rattle.std.proofs.Common.{◌≡◌, ◌∙◌, [], true, List, OnOk, Ok, Err, Result, inl, sym, subst, ap}
+use Rattle.e3_sites.specs.Delivered.{Delivers}
+use Rattle.e3_sites.specs.Entering.{AfterInput}
+use Rattle.e3_types.specs.declared.entries.Entry.{Entry}
+use Rattle.e3_types.specs.declared.entries.Input.TheVariants as input
+use Rattle.e3_types.specs.declared.scenarios.Scenario.{Scenario}
+use Rattle.e3_world.specs.Items.{RecoveryRound, is_up_at}
+use Rattle.e3_world.specs.Packets.{pending}
+use Rattle.e3_world.specs.Progress.{Delivering}
+use Rattle.e3_round.specs.Rounds.{AfterRound}
+use Rattle.e3_round.proofs.Electing.{elected}
+use Rattle.e3_round.proofs.recovering.make_round.Goals as goal
+
+pub deliver_all-requires-clause-delivering : goal.deliver_all-requires-clause-delivering
+deliver_all-requires-clause-delivering g c =
+    let S = g.S.Sites in
+    let r = c.args.round.now in
+    let sc = S.scenario c.args.sites.now in
+    let h = S.entries c.args.sites.now in
+    let up : is_up_at h r.elector ≡ true = ap (λ (q : RecoveryRound). is_up_at h q.elector) (sym c.round.view_is) ∙ sym c.is_up.ensures ∙ c.if-not-is_up.false in
+    let entered : AfterInput sc h r.elector (input.Elect r.txn r.members) (S.entries c.input.new.self) =
+    subst (λ (q : RecoveryRound). AfterInput sc h q.elector (input.Elect q.txn q.members) (S.entries c.input.new.self)) c.round.view_is c.in_ok-input.ensures.entered in
+    subst (λ (s : Scenario). Delivering s (S.entries c.input.new.self)) (sym c.in_ok-input.ensures.same.0)
+    (elected sc h (S.entries c.input.new.self) r c.requires.delivering up (c.requires.turn up) c.requires.settled entered).delivering
+
+-- the round was made, where packets were delivered to the end
+made : {T E : Type 0} (result : Result T E) (sc now : Scenario) (h middle more : List Entry) (r : RecoveryRound) → now ≡ sc → is_up_at h r.elector ≡ true →
+    AfterInput sc h r.elector (input.Elect r.txn r.members) middle → Delivers now middle more → OnOk result (pending now more ≡ []) →
+    OnOk result (AfterRound sc h r more)
+made (Ok t) sc now h middle more r same up entered delivered settled = inl (record {
+  up = up;
+  elected = middle;
+  entered = entered;
+  delivered = subst (λ (s : Scenario). Delivers s middle more) same delivered;
+  settled = subst (λ (s : Scenario). pending s more ≡ []) same settled;
+})
+made (Err e) sc now h middle more r same up entered delivered settled = tt
+
+pub returns-clause-made : goal.returns-clause-made
+returns-clause-made g c =
+    let S = g.S.Sites in
+    let r = c.args.round.now in
+    let sc = S.scenario c.args.sites.now in
+    let h = S.entries c.args.sites.now in
+    let up : is_up_at h r.elector ≡ true = ap (λ (q : RecoveryRound). is_up_at h q.elector) (sym c.round.view_is) ∙ sym c.is_up.ensures ∙ c.if-not-is_up.false in
+    let entered : AfterInput sc h r.elector (input.Elect r.txn r.members) (S.entries c.input.new.self) =
+    subst (λ (q : RecoveryRound). AfterInput sc h q.elector (input.Elect q.txn q.members) (S.entries c.input.new.self)) c.round.view_is c.in_ok-input.ensures.entered in
+    made c.deliver_all.result sc (S.scenario c.input.new.self) h (S.entries c.input.new.self) (S.entries c.deliver_all.new.sites) r c.in_ok-input.ensures.same.0 up entered
+    c.deliver_all.ensures.delivered c.deliver_all.ensures.settled
