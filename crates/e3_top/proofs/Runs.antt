@@ -74,6 +74,14 @@ played_run image meters before now words trace bytes sc most status h text run s
   };
 }
 
+-- so it is where it was made
+pub played_due : {D : Type 0} (image : D → List ℕ → Type 0) (meters : D → Meters) (before now : List D) (words : List (String Global)) (trace : Bool) (bytes : List ℕ) (sc : Scenario) (most : ℕ) (h : List Entry) (r : Result Due Stop) →
+    Spell words (Run trace) → scenario_of bytes ≡ Ok sc → IsRunOf image meters before now sc most h → IfOk r (λ due. IsTextOf sc most h trace due.status due.text) →
+    IfOk r (λ due. IsDue image meters before now words bytes most due.status h due.text)
+played_due image meters before now words trace bytes sc most h (Err fault) run spelled safe made = tt
+played_due image meters before now words trace bytes sc most h (Ok due) run spelled safe made =
+    played_run image meters before now words trace bytes sc most due.status h due.text run spelled safe made
+
 -- the line for other words is due
 pub refused_run : {D : Type 0} (image : D → List ℕ → Type 0) (meters : D → Meters) (before now : List D) (words : List (String Global)) (most : ℕ) (h : List Entry) (text : List ℕ) → ¬ IsRun words → h ≡ [] → now ≡ before →
     text ≡ refused_words → IsDue image meters before now words [] most 1 h text
