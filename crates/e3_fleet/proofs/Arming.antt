@@ -1,13 +1,10 @@
 -- Arms, cuts and faults over one more entry.
-use Rattle.std.proofs.Common.{◌≡◌, ◌≢◌, ◌==◌, ◌&&◌, ◌||◌, inl, inr, ◌⊎◌, ◌≤◌, ◌<◌, ◌+◌, ◌++◌, ◌∷◌, [], ℕ, zero, suc, Bool, true, false, List, length, map, sum, min, refl, sym, ap, subst, ◌∙◌, arith, eqb-true, eq-eqb, append_assoc}
+use Rattle.std.proofs.Common.{◌≡◌, ◌==◌, ◌||◌, inl, inr, ◌⊎◌, ◌≤◌, ◌+◌, ◌++◌, ◌∷◌, [], ℕ, Bool, true, false, List, length, min, refl, sym, ap, ◌∙◌, arith}
 use Rattle.std.specs.Prelude.{count_by, if◌then◌else◌}
-use Rattle.std.specs.List.{flat_map}
 use Rattle.std.proofs.lemmas.Grind.{flat_map-append}
 use Rattle.std.proofs.lemmas.List.Sums.{sum_by-append}
-use Rattle.e3_disk.specs.Leaves.{code_of}
 use Rattle.e3_disk.specs.Meters.{LAST, raised}
-use Rattle.e3_fleet.specs.Over.{faults_at, is_fault}
-use Rattle.e3_fleet.specs.Stops.{Arm, arm_by, arms_of, calls_in, codes_in, cuts_at, ends_arm, is_cut, is_end, is_over, is_some, takes_of, used_by}
+use Rattle.e3_fleet.specs.Stops.{Arm, arm_by, arms_of, calls_in, codes_in, ends_arm, is_over, takes_of, used_by}
 use Rattle.e3_types.specs.declared.entries.Entry.{Entry}
 use Rattle.e3_types.specs.declared.scenarios.Scenario.{Scenario}
 use Rattle.e3_world.specs.Moves.{own}

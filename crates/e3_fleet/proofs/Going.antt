@@ -1,12 +1,12 @@
 -- A fleet goes on over one more entry.
-use Rattle.std.proofs.Common.{◌≡◌, ◌≢◌, ◌==◌, inl, inr, ◌⊎◌, ◌≤◌, ◌<◌, ◌++◌, ◌∷◌, [], ℕ, suc, Bool, true, false, List, length, Some, refl, sym, ap, subst, ◌∙◌, arith, eqb-true, eq-eqb}
+use Rattle.std.proofs.Common.{◌≡◌, ◌≢◌, ◌==◌, inl, inr, ◌⊎◌, ◌<◌, ◌++◌, ◌∷◌, [], ℕ, suc, Bool, true, false, List, length, Some, refl, sym, ap, subst, ◌∙◌, arith, eqb-true, eq-eqb}
 use Rattle.std.specs.Prelude.{slice_get, slice_set, Result, Ok, Err, OnOk, OnErr}
 use Rattle.e3_disk.specs.Meters.{Meters, IsCounted}
 use Rattle.e3_fleet.specs.Over.{HadNoRoom, HadNoRooms}
 use Rattle.e3_fleet.specs.Fleets.{FleetStands, HasKept, HaveKept, IsFleetOn, Seated}
 use Rattle.e3_fleet.specs.Stops.{arm_by}
 use Rattle.e3_fleet.proofs.Kept.{GoesOn, GoesWith, kept_more, kept_on}
-use Rattle.e3_fleet.proofs.Places.{get_low, get_set, get_set_other, get_some, set_length}
+use Rattle.e3_fleet.proofs.Places.{get_low, get_set, get_set_other, set_length}
 use Rattle.e3_fleet.proofs.Rooms.{rooms_push}
 use Rattle.e3_fleet.proofs.Turns.{goes_other}
 use Rattle.e3_node.specs.Claims.{NodesKept}
@@ -34,7 +34,7 @@ seated_other content image meters law sc h e at node other was = record {
 -- the disks kept, where those of this list did not change and go on over the entry
 have_kept : {D : Type 0} (meters : D → Meters) (sc : Scenario) (h : List Entry) (starts nodes : List (NodeView D)) (more : List Entry) →
     ((at : ℕ) (start node : NodeView D) → slice_get nodes at ≡ Some node → HasKept sc h (suc at) (numbers_of meters start) (numbers_of meters node) →
-        HasKept sc more (suc at) (numbers_of meters start) (numbers_of meters node)) →
+    HasKept sc more (suc at) (numbers_of meters start) (numbers_of meters node)) →
     HaveKept meters sc h starts nodes → HaveKept meters sc more starts nodes
 have_kept meters sc h starts nodes more step was = record {
   count = was.count;

@@ -1,10 +1,10 @@
 -- What the numbers of a disk came to, over one more entry.
-use Rattle.std.proofs.Common.{◌≡◌, ◌≢◌, ◌==◌, inl, inr, ◌⊎◌, ◌≤◌, ◌<◌, ◌+◌, ◌++◌, ◌∷◌, [], ℕ, zero, suc, Bool, true, false, List, length, refl, sym, ap, subst, ◌∙◌, arith, eqb-true, eq-eqb}
-use Rattle.e3_disk.specs.Meters.{Meters, LAST, IsCounted, Keeps, Rose, raised}
-use Rattle.e3_fleet.specs.Over.{FellByStops, HasServed, RoseBy, faults_at, is_fault}
-use Rattle.e3_fleet.specs.Stops.{Arm, NoStopIsPassed, arm_by, arms_of, calls_in, codes_in, cuts_at, ends_arm, is_cut, is_over, takes_of, used_by}
-use Rattle.e3_fleet.specs.Fleets.{HasKept, StopWaits}
-use Rattle.e3_fleet.proofs.Arming.{IsAll, IsBefore, IsLast, IsPart, arms_push, at_place, calls_push, codes_push, counted_if, in_two, length_push, over_push, own_push, raised_more, raised_none, used_end, used_more, used_over}
+use Rattle.std.proofs.Common.{◌≡◌, ◌≢◌, ◌==◌, inl, inr, ◌⊎◌, ◌≤◌, ◌<◌, ◌+◌, ◌++◌, ◌∷◌, [], ℕ, suc, Bool, true, false, List, length, refl, sym, ap, subst, ◌∙◌, arith, eqb-true, eq-eqb}
+use Rattle.e3_disk.specs.Meters.{Meters, LAST, IsCounted, Rose, raised}
+use Rattle.e3_fleet.specs.Over.{HasServed, RoseBy, faults_at, is_fault}
+use Rattle.e3_fleet.specs.Stops.{Arm, arm_by, arms_of, calls_in, codes_in, cuts_at, ends_arm, is_cut, is_over, takes_of, used_by}
+use Rattle.e3_fleet.specs.Fleets.{HasKept}
+use Rattle.e3_fleet.proofs.Arming.{IsAll, IsBefore, IsLast, IsPart, at_place, calls_push, codes_push, counted_if, in_two, length_push, over_push, own_push, raised_more, raised_none, used_end, used_more, used_over}
 use Rattle.e3_types.specs.declared.entries.Entry.{Entry}
 use Rattle.e3_types.specs.declared.scenarios.Scenario.{Scenario}
 use Rattle.e3_world.proofs.Turns.{true_not_false}

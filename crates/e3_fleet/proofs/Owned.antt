@@ -1,12 +1,12 @@
 -- What a call of a node entered, and how the numbers of its disk went with it.
-use Rattle.std.proofs.Common.{◌≡◌, ◌≢◌, inl, inr, ◌⊎◌, ◌<◌, ◌≤◌, ◌+◌, ◌++◌, ◌∷◌, [], ℕ, suc, true, false, List, Ok, Err, Result, refl, sym, ap, subst, ◌∙◌, arith}
+use Rattle.std.proofs.Common.{◌≡◌, inl, inr, ◌≤◌, ◌++◌, ◌∷◌, [], ℕ, suc, true, false, List, Ok, Err, Result, refl, sym, ap, subst, ◌∙◌, arith}
 use Rattle.std.specs.Prelude.{OnOk, OnErr, IfOk}
 use Rattle.e3_disk.specs.Leaves.{code_of}
 use Rattle.e3_disk.specs.Meters.{Meters, IsCounted, Keeps, Rose, armed, cut}
 use Rattle.e3_fleet.specs.Over.{HadNoRoom, is_fault}
 use Rattle.e3_fleet.specs.Fleets.{cut_answer, input_answer, rise_answer}
 use Rattle.e3_fleet.specs.Stops.{arm_by, calls_of, is_cut, is_end}
-use Rattle.e3_fleet.proofs.Going.{IsNext, IsQuiet, Went}
+use Rattle.e3_fleet.proofs.Going.{Went}
 use Rattle.e3_fleet.proofs.Kept.{GoesOn, Took}
 use Rattle.e3_fleet.proofs.Turns.{goes_cut, goes_own, goes_stop, keeps_on, still, stop_apart}
 use Rattle.e3_node.specs.Ends.{FellOver, HasFailedToRise, HasRisen, IsReason, calls_for, is_fall}
@@ -20,7 +20,7 @@ use Rattle.e3_node.specs.declared.fault.RiseFault.TheVariants as rise_fault
 use Rattle.e3_sites.specs.Entering.{AfterInput, AfterRise, fall_of}
 use Rattle.e3_sites.specs.declared.sites.RunFault.TheVariants as run_fault
 use Rattle.e3_types.specs.declared.entries.Act.{Act}
-use Rattle.e3_types.specs.declared.entries.Act.TheVariants.{Step, Fall, Rise, RiseFall, Miss, Cut, Line}
+use Rattle.e3_types.specs.declared.entries.Act.TheVariants.{Rise, RiseFall, Miss, Cut, Line}
 use Rattle.e3_types.specs.declared.entries.Entry.{Entry}
 use Rattle.e3_types.specs.declared.entries.Input.{Input}
 use Rattle.e3_types.specs.declared.entries.Why.{Why}

@@ -11,7 +11,6 @@ use Rattle.e3_fleet.specs.Over.{AreBlank, IsFresh}
 use Rattle.e3_fleet.proofs.Rooms.{rooms_empty}
 use Rattle.e3_node.specs.NodeStands.{NodeStands}
 use Rattle.e3_node.specs.NodeView.{NodeView, disk_of}
-use Rattle.e3_types.specs.declared.entries.Entry.{Entry}
 use Rattle.e3_types.specs.declared.scenarios.Scenario.{Scenario}
 
 -- a place of a list with one more at its end

@@ -1,14 +1,12 @@
 -- How the numbers of a disk go with each kind of entry.
-use Rattle.std.proofs.Common.{◌≡◌, ◌≢◌, ◌==◌, ◌&&◌, ◌||◌, inl, inr, ◌⊎◌, ◌≤◌, ◌<◌, ◌+◌, ◌++◌, ◌∷◌, [], ℕ, zero, suc, Bool, true, false, List, length, refl, sym, ap, subst, ◌∙◌, arith, min, eqb-true, eq-eqb}
-use Rattle.std.specs.Prelude.{if◌then◌else◌}
+use Rattle.std.proofs.Common.{◌≡◌, ◌≢◌, ◌==◌, ◌&&◌, ◌||◌, inl, inr, ◌⊎◌, ◌≤◌, ◌<◌, ◌+◌, ◌∷◌, [], ℕ, suc, Bool, true, false, List, length, refl, sym, ap, subst, ◌∙◌, arith, min, eqb-true, eq-eqb}
 use Rattle.e3_disk.specs.Leaves.{code_of}
 use Rattle.e3_disk.specs.Meters.{Meters, LAST, IsCounted, Keeps, Rose, armed, cut, raised}
 use Rattle.e3_fleet.specs.Over.{is_fault}
 use Rattle.e3_fleet.specs.Stops.{Arm, arm_by, arm_in, calls_in, calls_of, codes_in, ends_arm, is_cut, is_end, is_some, takes_of}
 use Rattle.e3_fleet.proofs.Arming.{counted_if, one_if, raised_none}
 use Rattle.e3_fleet.proofs.Kept.{Goes, GoesOn, GoesWith, StopsGo, Took}
-use Rattle.e3_types.specs.declared.entries.Act.{Act}
-use Rattle.e3_types.specs.declared.entries.Act.TheVariants.{Step, Fall, Rise, RiseFall, Miss, Cut, Drop, Parts, Line}
+use Rattle.e3_types.specs.declared.entries.Act.TheVariants.{Cut, Line}
 use Rattle.e3_types.specs.declared.entries.Entry.{Entry}
 use Rattle.e3_types.specs.declared.scenarios.Item.{Item}
 use Rattle.e3_types.specs.declared.scenarios.Item.TheVariants as item

@@ -89,13 +89,7 @@ impl<D: Disk + Drill + Drop> Sites for Fleet<D> {
         self.shared.line(number)
     }
 
-    fn stop(
-        &mut self,
-        number: u32,
-        site: u32,
-        calls: u32,
-        leave: Leave,
-    ) -> Result<(), RunFault> {
+    fn stop(&mut self, number: u32, site: u32, calls: u32, leave: Leave) -> Result<(), RunFault> {
         if site == 0 || site as usize > self.nodes.len() {
             return Err(RunFault::NoMemory);
         }

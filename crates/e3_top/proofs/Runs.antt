@@ -10,7 +10,6 @@ use Rattle.e3_disk.specs.Meters.{Meters}
 use Rattle.e3_decided.proofs.Histories.{given_agrees, given_voted}
 use Rattle.e3_decided.proofs.Standing.{given_stands}
 use Rattle.e3_fleet.specs.Over.{AreOver}
-use Rattle.e3_report.specs.Report.{report_of}
 use Rattle.e3_serial.specs.Claims.{LegalSerial}
 use Rattle.e3_scenario.specs.Faults.{fault_text}
 use Rattle.e3_scenario.specs.Scenarios.{scenario_of}
@@ -18,14 +17,14 @@ use Rattle.e3_scenario.specs.declared.faults.ScenarioFault.{ScenarioFault}
 use Rattle.e3_scenario.specs.declared.faults.ScenarioFault.TheVariants as fault
 use Rattle.e3_top.specs.Due.{IsDue, IsRunOf, IsTextOf}
 use Rattle.e3_top.specs.Ends.{IsPrepared}
-use Rattle.e3_top.specs.Words.{IsRun, refused_words, refused_history_full}
+use Rattle.e3_top.specs.Words.{IsRun, refused_words}
 use Rattle.e3_words.specs.Words.{Spell}
 use Rattle.e3_words.specs.declared.words.Command.{Command}
 use Rattle.e3_words.specs.declared.words.Command.TheVariants.{Run}
 use Rattle.e3_types.specs.declared.entries.Entry.{Entry}
 use Rattle.e3_types.specs.declared.scenarios.Scenario.{Scenario}
 use Rattle.e3_world.specs.Given.{IsGiven}
-use Rattle.e3_world.specs.Legal.{IsLegal, IsWhole}
+use Rattle.e3_world.specs.Legal.{IsLegal}
 
 -- a legal history of a given scenario is safe
 pub run_of : {D : Type 0} (image : D → List ℕ → Type 0) (meters : D → Meters) (before now : List D) → LegalSerial → (sc : Scenario) (most : ℕ) (h : List Entry) → IsGiven sc → IsLegal sc h → length h ≤ most →

@@ -1,4 +1,4 @@
-use Rattle.std.proofs.Common.{List, [], sym, subst, ◌∙◌}
+use Rattle.std.proofs.Common.{List, sym, subst, ◌∙◌}
 use Rattle.e3_fleet.specs.Fleets.{HaveKept, Seated}
 use Rattle.e3_fleet.proofs.Ending.{have_kept_start}
 use Rattle.e3_fleet.proofs.flying.fly.Goals as goal

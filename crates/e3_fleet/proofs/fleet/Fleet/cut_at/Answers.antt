@@ -1,12 +1,10 @@
-use Rattle.std.proofs.Common.{◌≡◌, ◌⊎◌, inl, inr, ℕ, suc, true, false, length, List, Some, refl, sym, ap, subst, ◌∙◌}
-use Rattle.std.specs.Prelude.{slice_get, OnOk, OnErr, Err, Result}
+use Rattle.std.proofs.Common.{◌≡◌, ℕ, suc, length, Some, refl, sym, subst}
+use Rattle.std.specs.Prelude.{slice_get}
 use Rattle.std.proofs.lemmas.Option.{slice_get_read}
-use Rattle.e3_node.specs.NodeView.{NodeView, disk_of}
-use Rattle.e3_fleet.specs.Fleets.{cut_answer}
+use Rattle.e3_node.specs.NodeView.{disk_of}
 use Rattle.e3_fleet.proofs.Going.{Went, node_on}
-use Rattle.e3_fleet.proofs.Owned.{cut_entered, cut_kept, cut_still, cut_went}
+use Rattle.e3_fleet.proofs.Owned.{cut_still, cut_went}
 use Rattle.e3_fleet.proofs.fleet.Fleet.cut_at.Goals as goal
-use Rattle.e3_types.specs.declared.entries.Act.TheVariants.{Cut}
 use Rattle.e3_world.specs.Legal.{IsCut}
 
 pub cut-answer-requires-clause-standing : goal.cut-answer-requires-clause-standing

@@ -1,7 +1,7 @@
-use Rattle.std.proofs.Common.{◌≡◌, ◌⊎◌, inl, inr, ℕ, suc, true, false, length, List, Some, refl, sym, ap, subst, ◌∙◌}
-use Rattle.std.specs.Prelude.{slice_get, OnOk, OnErr, Err, Result}
+use Rattle.std.proofs.Common.{◌≡◌, ℕ, suc, length, Some, refl, sym, ap, subst}
+use Rattle.std.specs.Prelude.{slice_get, OnOk}
 use Rattle.std.proofs.lemmas.Option.{slice_get_read}
-use Rattle.e3_node.specs.NodeView.{NodeView, disk_of}
+use Rattle.e3_node.specs.NodeView.{disk_of}
 use Rattle.e3_fleet.specs.Fleets.{input_answer}
 use Rattle.e3_fleet.proofs.Going.{Went, node_on}
 use Rattle.e3_fleet.proofs.Owned.{input_entered, input_kept, input_went, takes_so}

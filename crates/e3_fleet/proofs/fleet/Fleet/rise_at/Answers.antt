@@ -1,10 +1,10 @@
-use Rattle.std.proofs.Common.{◌≡◌, ◌⊎◌, inl, inr, ℕ, suc, true, false, length, List, Some, refl, sym, ap, subst, ◌∙◌}
-use Rattle.std.specs.Prelude.{slice_get, OnOk, OnErr, Err, Result}
+use Rattle.std.proofs.Common.{◌≡◌, inl, inr, ℕ, suc, false, length, Some, refl, sym, ap, subst, ◌∙◌}
+use Rattle.std.specs.Prelude.{slice_get, OnOk}
 use Rattle.std.proofs.lemmas.Option.{slice_get_read}
 use Rattle.e3_node.specs.NodeView.{NodeView, disk_of}
 use Rattle.e3_fleet.specs.Fleets.{rise_answer}
 use Rattle.e3_fleet.proofs.Going.{Went, node_on}
-use Rattle.e3_fleet.proofs.Owned.{rise_full, rise_kept, rise_rose, rise_went}
+use Rattle.e3_fleet.proofs.Owned.{rise_kept, rise_rose, rise_went}
 use Rattle.e3_fleet.proofs.fleet.Fleet.rise_at.Goals as goal
 use Rattle.e3_sites.specs.Entering.{AfterRise}
 use Rattle.e3_world.specs.Items.{is_up_at}

@@ -1,12 +1,11 @@
-use Rattle.std.proofs.Common.{◌≡◌, ◌++◌, ◌∷◌, [], ℕ, suc, length, List, Some, refl, sym, subst, arith, ◌∙◌}
-use Rattle.std.specs.Prelude.{slice_get, OnOk, OnErr, Result}
+use Rattle.std.proofs.Common.{◌≡◌, ◌++◌, ◌∷◌, [], suc, length, List, Some, refl, sym, subst, arith}
+use Rattle.std.specs.Prelude.{slice_get}
 use Rattle.std.proofs.lemmas.Option.{slice_get_read}
 use Rattle.e3_fleet.proofs.Going.{node_on, still_on}
 use Rattle.e3_fleet.proofs.Owned.{stop_went}
 use Rattle.e3_fleet.proofs.fleet.Fleet.stop_at.Goals as goal
 use Rattle.e3_node.specs.NodeStands.{NodeStands}
 use Rattle.e3_node.specs.NodeView.{disk_of}
-use Rattle.e3_sites.specs.declared.sites.RunFault.{RunFault}
 use Rattle.e3_types.specs.declared.entries.Act.TheVariants.{Line}
 use Rattle.e3_types.specs.declared.entries.Entry.{Entry}
 use Rattle.e3_types.specs.declared.scenarios.Scenario.{Scenario}
