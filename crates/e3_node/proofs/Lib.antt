@@ -8,3 +8,4 @@ pub mod Rises
 pub mod Risen
 pub mod Steps
 pub mod Appends
+pub mod Tried
