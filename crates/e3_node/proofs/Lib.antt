@@ -6,5 +6,8 @@ pub mod Metering
 pub mod Entering
 pub mod Rises
 pub mod Risen
+pub mod Strange
+pub mod Among
 pub mod Steps
 pub mod Appends
+pub mod Tried

@@ -83,6 +83,7 @@ takes_both a b c raised_as.NoMemory first second = λ armed.
     let less : c.calls_left + 0 ≤ b.calls_left = rest.1 in
     (rest.0, omega (arith, less, left, more))
 takes_both a b c raised_as.Missed first second = tt
+takes_both a b c raised_as.Foreign first second = tt
 takes_both a b c (raised_as.Failed kept inc why) first second = tt
 
 -- one call, where an arm had more left

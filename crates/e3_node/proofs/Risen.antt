@@ -4,16 +4,16 @@ use Rattle.std.specs.Prelude.{IfOk}
 use Rattle.e3_disk.specs.Meters.{Meters, Rose as RoseBy}
 use Rattle.e3_node.specs.Bodies.{AllReadBack, DiskStands, ReadsWith, bodies_of_moves}
 use Rattle.e3_node.specs.Counting.{frames_in}
-use Rattle.e3_node.specs.Ends.{HasFailedToRise, HasRisen}
+use Rattle.e3_node.specs.Ends.{HasFailedToRise, HasRisen, Takes}
 use Rattle.e3_node.specs.NodeStands.{IsDown, IsIn, NodeStands}
 use Rattle.e3_node.specs.NodeView.{NodeView, disk_of}
-use Rattle.e3_node.specs.Rising.{IsAllowed, IsWish, MayRise, RiseMakes, entries_of, rise_fall_of, told_of}
+use Rattle.e3_node.specs.Rising.{IsAllowed, IsWish, MayRise, RiseMakes, RiseTakes, entries_of, rise_fall_of, told_of}
 use Rattle.e3_node.specs.SharedStands.{SharedStands, SharedView}
 use Rattle.e3_node.specs.declared.fault.RiseFault.{RiseFault}
 use Rattle.e3_node.specs.declared.fault.RiseFault.TheVariants as rise_fault
 use Rattle.e3_node.specs.declared.readying.Wish.{Wish}
 use Rattle.e3_node.specs.declared.rising.Raised.{Raised}
-use Rattle.e3_node.specs.declared.rising.Raised.TheVariants.{Rose, Failed, Missed, NoMemory}
+use Rattle.e3_node.specs.declared.rising.Raised.TheVariants.{Rose, Failed, Missed, NoMemory, Foreign}
 use Rattle.e3_node.specs.declared.state.State.{State}
 use Rattle.e3_node.specs.declared.state.State.TheVariants.{Down, Up}
 use Rattle.e3_types.specs.declared.entries.Act.TheVariants.{Miss}
@@ -34,6 +34,7 @@ pub may_rise : {D : Type 0} (content : D → List ℕ) (image : D → List ℕ �
     (wish : Wish) → SharedStands v → NodeStands content image meters v.scenario v.entries node → IsRising v.scenario v.entries node.site →
     IsWish node.site node.weights node.rows v.entries wish → MayRise v.scenario v.entries wish
 may_rise content image meters v node wish shared was rising is = record {
+  given = shared.given;
   legal = shared.legal;
   rising = subst (λ (n : ℕ). IsRising v.scenario v.entries n) (sym is.site_is) rising;
   some = subst (λ (n : ℕ). 1 ≤ n) (sym is.site_is) was.some;
@@ -51,10 +52,12 @@ allowed_of content image meters sc h site old (Up s l) (Rose kept inc) rising ma
 allowed_of content image meters sc h site old (Up s l) (Failed kept inc why) rising made = absurd made
 allowed_of content image meters sc h site old (Up s l) Missed rising made = absurd made
 allowed_of content image meters sc h site old (Up s l) NoMemory rising made = absurd made
+allowed_of content image meters sc h site old (Up s l) Foreign rising made = absurd made
 allowed_of content image meters sc h site old (Down new) (Rose kept inc) rising made = absurd made
 allowed_of content image meters sc h site old (Down new) (Failed kept inc why) rising made = made.allowed
 allowed_of content image meters sc h site old (Down new) Missed rising made = rising
 allowed_of content image meters sc h site old (Down new) NoMemory rising made = tt
+allowed_of content image meters sc h site old (Down new) Foreign rising made = absurd made
 
 -- a missed rise leaves the disk as it stands
 missed_disk : (sc : Scenario) (h : List Entry) (site : ℕ) (image : List ℕ → Type 0) → DiskStands sc h site image →
@@ -71,6 +74,7 @@ rise_in content image meters sc h site old (Up s l) (Rose kept inc) down made = 
 rise_in content image meters sc h site old (Up s l) (Failed kept inc why) down made = absurd made
 rise_in content image meters sc h site old (Up s l) Missed down made = absurd made
 rise_in content image meters sc h site old (Up s l) NoMemory down made = absurd made
+rise_in content image meters sc h site old (Up s l) Foreign down made = absurd made
 rise_in content image meters sc h site old (Down new) (Rose kept inc) down made = absurd made
 rise_in content image meters sc h site old (Down new) (Failed kept inc why) down made = record {
   down = up_same h (rise_fall_of site kept inc why) site (self site);
@@ -82,6 +86,7 @@ rise_in content image meters sc h site old (Down new) Missed down made = record 
 }
 rise_in content image meters sc h site old (Down new) NoMemory down made =
     subst (λ (l : List Entry). IsDown image sc l site new) (sym (append-nil h)) (record { down = down; stands = made })
+rise_in content image meters sc h site old (Down new) Foreign down made = absurd made
 
 rise_back : {D : Type 0} (content : D → List ℕ) (image : D → List ℕ → Type 0) (meters : D → Meters) (sc : Scenario) (h : List Entry)
     (site : ℕ) (old : D) (state : State D) (r : Raised) → AllReadBack sc h site → RiseMakes content image meters sc h site old state r →
@@ -90,10 +95,12 @@ rise_back content image meters sc h site old (Up s l) (Rose kept inc) back made 
 rise_back content image meters sc h site old (Up s l) (Failed kept inc why) back made = absurd made
 rise_back content image meters sc h site old (Up s l) Missed back made = absurd made
 rise_back content image meters sc h site old (Up s l) NoMemory back made = absurd made
+rise_back content image meters sc h site old (Up s l) Foreign back made = absurd made
 rise_back content image meters sc h site old (Down new) (Rose kept inc) back made = absurd made
 rise_back content image meters sc h site old (Down new) (Failed kept inc why) back made = made.back
 rise_back content image meters sc h site old (Down new) Missed back made = back_quiet sc h site (record { owner = site; act = Miss }) back refl refl refl
 rise_back content image meters sc h site old (Down new) NoMemory back made = subst (λ (l : List Entry). AllReadBack sc l site) (sym (append-nil h)) back
+rise_back content image meters sc h site old (Down new) Foreign back made = absurd made
 
 -- so the whole node stands for the history with what comes of its rise
 pub node_risen : {D : Type 0} (content : D → List ℕ) (image : D → List ℕ → Type 0) (meters : D → Meters) (sc now : Scenario) (h more : List Entry)
@@ -117,10 +124,12 @@ rose_as content image meters sc h more site old (Up s l) (Rose kept inc) made en
 rose_as content image meters sc h more site old (Up s l) (Failed kept inc why) made entered = absurd made
 rose_as content image meters sc h more site old (Up s l) Missed made entered = absurd made
 rose_as content image meters sc h more site old (Up s l) NoMemory made entered = absurd made
+rose_as content image meters sc h more site old (Up s l) Foreign made entered = absurd made
 rose_as content image meters sc h more site old (Down new) (Rose kept inc) made entered = absurd made
 rose_as content image meters sc h more site old (Down new) (Failed kept inc why) made entered = tt
 rose_as content image meters sc h more site old (Down new) Missed made entered = tt
 rose_as content image meters sc h more site old (Down new) NoMemory made entered = tt
+rose_as content image meters sc h more site old (Down new) Foreign made entered = absurd made
 
 pub rose_told : {D : Type 0} (content : D → List ℕ) (image : D → List ℕ → Type 0) (meters : D → Meters) (sc : Scenario) (h more : List Entry)
     (site : ℕ) (old : D) (state : State D) (r : Raised) (told : Result ℕ RiseFault) → RiseMakes content image meters sc h site old state r →
@@ -137,6 +146,7 @@ failed_told content image meters sc h more site old (Up s l) (Rose kept inc) mad
 failed_told content image meters sc h more site old (Up s l) (Failed kept inc because) made entered why is = absurd made
 failed_told content image meters sc h more site old (Up s l) Missed made entered why is = absurd made
 failed_told content image meters sc h more site old (Up s l) NoMemory made entered why is = absurd made
+failed_told content image meters sc h more site old (Up s l) Foreign made entered why is = absurd made
 failed_told content image meters sc h more site old (Down new) (Rose kept inc) made entered why is = absurd made
 failed_told content image meters sc h more site old (Down new) (Failed kept inc because) made entered why is =
     let same : because ≡ why = cc in
@@ -144,6 +154,7 @@ failed_told content image meters sc h more site old (Down new) (Failed kept inc 
     (record { kept = kept; inc = inc; allowed = made.allowed; entered = entered; read = made.read; reason = made.reason })
 failed_told content image meters sc h more site old (Down new) Missed made entered why is = absurd cc
 failed_told content image meters sc h more site old (Down new) NoMemory made entered why is = absurd cc
+failed_told content image meters sc h more site old (Down new) Foreign made entered why is = absurd made
 
 pub missed_told : {D : Type 0} (content : D → List ℕ) (image : D → List ℕ → Type 0) (meters : D → Meters) (sc : Scenario) (h : List Entry)
     (site : ℕ) (old : D) (state : State D) (r : Raised) → RiseMakes content image meters sc h site old state r →
@@ -152,7 +163,24 @@ missed_told content image meters sc h site old (Up s l) (Rose kept inc) made is 
 missed_told content image meters sc h site old (Up s l) (Failed kept inc why) made is = absurd made
 missed_told content image meters sc h site old (Up s l) Missed made is = absurd made
 missed_told content image meters sc h site old (Up s l) NoMemory made is = absurd made
+missed_told content image meters sc h site old (Up s l) Foreign made is = absurd made
 missed_told content image meters sc h site old (Down new) (Rose kept inc) made is = absurd made
 missed_told content image meters sc h site old (Down new) (Failed kept inc why) made is = absurd cc
 missed_told content image meters sc h site old (Down new) Missed made is = made.1
 missed_told content image meters sc h site old (Down new) NoMemory made is = absurd cc
+missed_told content image meters sc h site old (Down new) Foreign made is = absurd made
+
+-- a rise that is told as wanting memory left of an arm what there was, less the sync
+pub spared_told : {D : Type 0} (content : D → List ℕ) (image : D → List ℕ → Type 0) (meters : D → Meters) (sc : Scenario) (h : List Entry)
+    (site : ℕ) (old : D) (state : State D) (r : Raised) → RiseMakes content image meters sc h site old state r →
+    RiseTakes 5 r (meters old) (meters (disk_of state)) → told_of r ≡ Err rise_fault.NoMemory → Takes 0 (meters old) (meters (disk_of state))
+spared_told content image meters sc h site old (Up s l) (Rose kept inc) made takes is = absurd cc
+spared_told content image meters sc h site old (Up s l) (Failed kept inc why) made takes is = absurd made
+spared_told content image meters sc h site old (Up s l) Missed made takes is = absurd made
+spared_told content image meters sc h site old (Up s l) NoMemory made takes is = absurd made
+spared_told content image meters sc h site old (Up s l) Foreign made takes is = absurd made
+spared_told content image meters sc h site old (Down new) (Rose kept inc) made takes is = absurd made
+spared_told content image meters sc h site old (Down new) (Failed kept inc why) made takes is = absurd cc
+spared_told content image meters sc h site old (Down new) Missed made takes is = absurd cc
+spared_told content image meters sc h site old (Down new) NoMemory made takes is = takes
+spared_told content image meters sc h site old (Down new) Foreign made takes is = absurd made

@@ -15,7 +15,7 @@ use Rattle.e3_node.specs.Rising.{HasNotRaised, HasRaised, IsReady, MayRise, Rise
 use Rattle.e3_node.specs.declared.readying.Readied.{Readied}
 use Rattle.e3_node.specs.declared.readying.Wish.{Wish}
 use Rattle.e3_node.specs.declared.rising.Raised.{Raised}
-use Rattle.e3_node.specs.declared.rising.Raised.TheVariants.{Rose, Failed, Missed, NoMemory}
+use Rattle.e3_node.specs.declared.rising.Raised.TheVariants.{Rose, Failed, Missed, NoMemory, Foreign}
 use Rattle.e3_node.specs.declared.state.State.{State}
 use Rattle.e3_node.specs.declared.state.State.TheVariants.{Down, Up}
 use Rattle.e3_site.specs.SiteView.{SiteView}
@@ -40,9 +40,9 @@ use Rattle.e3_node.proofs.Metering.{rose_since}
 use Rattle.e3_node.proofs.Pasts.{back_not_risen, back_risen, back_with, rise_fall_moves, rise_fall_tail, rise_moves, with_log}
 
 -- what was read is the frames of these moves, with the tail's exactly where it is kept
-record Found (moves : List Move) (site : ℕ) (tail : Option Tail) (bodies : List (List ℕ)) (kept : Bool) : Type 0 where
-  are : bodies ≡ bodies_of_moves (moves ++ kept_moves site kept tail)
-  some : kept ≡ true → tail ≢ None
+pub record Found (moves : List Move) (site : ℕ) (tail : Option Tail) (bodies : List (List ℕ)) (kept : Bool) : Type 0 where
+  pub are : bodies ≡ bodies_of_moves (moves ++ kept_moves site kept tail)
+  pub some : kept ≡ true → tail ≢ None
 
 found_log : (moves : List Move) (site : ℕ) (tail : Option Tail) (bodies : List (List ℕ)) → bodies ≡ bodies_of_moves moves →
     Found moves site tail bodies (nat_lt (length (bodies_of_moves moves)) (length bodies))
@@ -71,7 +71,7 @@ found_tail moves site tail bodies (r ∷ rs) some is =
       some = λ kept. λ none. cc;
     })
 
-found : (moves : List Move) (site : ℕ) (tail : Option Tail) (bodies : List (List ℕ)) (bytes : List ℕ) → ReadsWith (bodies_of_moves moves) tail bytes →
+pub found : (moves : List Move) (site : ℕ) (tail : Option Tail) (bodies : List (List ℕ)) (bytes : List ℕ) → ReadsWith (bodies_of_moves moves) tail bytes →
     Reads bodies bytes → Found moves site tail bodies (nat_lt (length (bodies_of_moves moves)) (length bodies))
 found moves site None bodies bytes stands reads = found_log moves site None bodies (one_reading bodies (bodies_of_moves moves) bytes reads stands)
 found moves site (Some tail) bodies bytes (inl stands) reads =
@@ -80,7 +80,7 @@ found moves site (Some tail) bodies bytes (inr stands) reads =
     found_tail moves site tail bodies tail.records refl (one_reading bodies (bodies_of_moves moves ++ body_of tail.records) bytes reads stands)
 
 -- the records of a rise are those of the site's in this scenario
-rise_by : (sc : Scenario) (wish : Wish) (inc : ℕ) (read : List Record) → wish.weights ≡ sc.weights → wish.rows ≡ rows_at wish.site sc.rows →
+pub rise_by : (sc : Scenario) (wish : Wish) (inc : ℕ) (read : List Record) → wish.weights ≡ sc.weights → wish.rows ≡ rows_at wish.site sc.rows →
     records_by wish inc read ≡ rise_records sc wish.site inc read
 rise_by sc wish inc [] weights rows =
     ap (λ (l : List ℕ). log.Birth 1 wish.site l wish.rows ∷ log.Inc inc ∷ []) weights
@@ -264,6 +264,7 @@ makes_since content image meters sc h site old mid (Up s l) (Rose kept inc) with
 makes_since content image meters sc h site old mid (Up s l) (Failed kept inc why) within keeps made = absurd made
 makes_since content image meters sc h site old mid (Up s l) Missed within keeps made = absurd made
 makes_since content image meters sc h site old mid (Up s l) NoMemory within keeps made = absurd made
+makes_since content image meters sc h site old mid (Up s l) Foreign within keeps made = absurd made
 makes_since content image meters sc h site old mid (Down new) (Rose kept inc) within keeps made = absurd made
 makes_since content image meters sc h site old mid (Down new) (Failed kept inc why) within keeps made = record {
   allowed = made.allowed;
@@ -275,6 +276,7 @@ makes_since content image meters sc h site old mid (Down new) (Failed kept inc w
 makes_since content image meters sc h site old mid (Down new) Missed within keeps made =
     (made.0, rose_since (meters old).faults (meters mid).faults (meters new).faults keeps.faults made.1)
 makes_since content image meters sc h site old mid (Down new) NoMemory within keeps made = made
+makes_since content image meters sc h site old mid (Down new) Foreign within keeps made = absurd made
 
 -- a disk whose images are some of another's stands where that does
 pub disk_within : {D : Type 0} (image : D → List ℕ → Type 0) (sc : Scenario) (h : List Entry) (site : ℕ) (old new : D) →

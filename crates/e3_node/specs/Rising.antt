@@ -1,7 +1,8 @@
 -- A rise of a site over its disk.
-use Rattle.std.specs.Prelude.{◌≡◌, ◌≤◌, ◌++◌, ◌∷◌, [], ℕ, Bool, suc, nat_lt, List, Result, Ok, Err, length}
+use Rattle.std.specs.Prelude.{◌≡◌, ◌⊎◌, ◌≤◌, ◌++◌, ◌∷◌, [], ℕ, Bool, suc, nat_lt, List, Result, Ok, Err, length}
 use Rattle.std.specs.List.{flat_map}
 use Rattle.e3_codec.specs.Fields.{AllCanBeReadBack}
+use Rattle.e3_codec.specs.Places.{FirstBad}
 use Rattle.e3_disk.specs.Meters.{Meters, Rose as RoseBy}
 use Rattle.e3_log.specs.declared.fault.OpenCause.{OpenCause}
 use Rattle.e3_log.specs.declared.fault.OpenCause.TheVariants as causes
@@ -14,7 +15,7 @@ use Rattle.e3_node.specs.declared.fault.RiseFault.TheVariants as rise_fault
 use Rattle.e3_node.specs.declared.readying.Readied.{Readied}
 use Rattle.e3_node.specs.declared.readying.Wish.{Wish}
 use Rattle.e3_node.specs.declared.rising.Raised.{Raised}
-use Rattle.e3_node.specs.declared.rising.Raised.TheVariants.{Rose, Failed, Missed, NoMemory}
+use Rattle.e3_node.specs.declared.rising.Raised.TheVariants.{Rose, Failed, Missed, NoMemory, Foreign}
 use Rattle.e3_node.specs.declared.state.State.{State}
 use Rattle.e3_node.specs.declared.state.State.TheVariants.{Down, Up}
 use Rattle.e3_log.specs.Stands.{LogState}
@@ -28,8 +29,10 @@ use Rattle.e3_types.specs.declared.records.Record.{Record}
 use Rattle.e3_types.specs.declared.records.Record.TheVariants as log
 use Rattle.e3_types.specs.declared.scenarios.Scenario.{Scenario}
 use Rattle.e3_types.specs.declared.transactions.Row.{Row}
+use Rattle.e3_world.specs.Given.{IsGiven}
 use Rattle.e3_world.specs.Legal.{IsLegal, IsRise, IsRising}
 use Rattle.e3_world.specs.Logs.{logged_inc}
+use Rattle.e3_world.specs.Orderly.{IsOrderly}
 use Rattle.e3_world.specs.Moves.{log_by, log_size, rise_records, rows_at}
 
 -- what a rise takes with it to the disk is this site's, and the frames are those of its log in the history
@@ -61,8 +64,31 @@ pub record IsReady (wish : Wish) (bodies : List (List ℕ)) (ready : Readied) : 
   pub risen : IsRebuilt wish.site (read ++ ready.records) ready.up
   pub stands : StandsForEach (read ++ ready.records) ready.up
 
+-- behind some whole records no record of the site begins
+abbrev pub NoRecords : ℕ → List ℕ → Type 0
+NoRecords site body = (at : ℕ) × FirstBad site body at
+
+-- one of these bodies is no list of records of the site
+abbrev pub SomeIsBad : ℕ → List (List ℕ) → Type 0
+SomeIsBad site [] = ⊥
+SomeIsBad site (body ∷ bodies) = NoRecords site body ⊎ SomeIsBad site bodies
+
+-- what these bodies spell, with the rise behind it, is not orderly
+pub record IsDisordered (wish : Wish) (bodies : List (List ℕ)) : Type 0 where
+  pub read : List Record
+  pub inc : ℕ
+  pub back : AllCanBeReadBack wish.site read
+  pub spelled : flat_map (λ body. body) bodies ≡ spelling read
+  pub inc_is : inc ≡ suc (logged_inc read)
+  pub breaks : ¬ IsOrderly wish.site (read ++ records_by wish inc read)
+
+-- the bodies are not those of the site's log
+abbrev pub IsForeign : Wish → List (List ℕ) → Type 0
+IsForeign wish bodies = SomeIsBad wish.site bodies ⊎ IsDisordered wish bodies
+
 -- In this history the site may rise, it has these weights and first rows and so many frames, and they can be read back.
 pub record MayRise (sc : Scenario) (history : List Entry) (wish : Wish) : Type 0 where
+  pub given : IsGiven sc
   pub legal : IsLegal sc history
   pub rising : IsRising sc history wish.site
   pub some : 1 ≤ wish.site
@@ -96,7 +122,7 @@ pub record HasNotRaised {D : Type 0} (image : D → List ℕ → Type 0) (meters
   pub reason : IsReason why (log_size (moves_with sc history site kept)) (rise_records sc site inc (log_by (moves_with sc history site kept)))
       (meters old) (meters new)
 
--- what a rise makes of a disk
+-- what a rise makes of a disk; a log that is not the site's comes of no disk that stands
 abbrev pub RiseMakes : {D : Type 0} → (D → List ℕ) → (D → List ℕ → Type 0) → (D → Meters) → Scenario → List Entry → ℕ → D → State D → Raised → Type 0
 RiseMakes content image meters sc history site old (Up s l) (Rose kept inc) = HasRaised content image meters sc history site old s l kept inc
 RiseMakes content image meters sc history site old (Down new) (Failed kept inc why) = HasNotRaised image meters sc history site old new kept inc why
@@ -114,25 +140,26 @@ RiseTakes n _ old new = Unit {0}
 -- what a log that could not be opened makes of a rise
 abbrev pub raised_of : OpenCause → Raised
 raised_of causes.Failed = Missed
-raised_of _ = NoMemory
+raised_of (causes.Damaged at) = Foreign
+raised_of causes.NoMemory = NoMemory
 
 -- the entries that come of a rise
 abbrev pub entries_of : ℕ → Raised → List Entry
 entries_of site (Rose kept inc) = rise_of site kept inc ∷ []
 entries_of site (Failed kept inc why) = rise_fall_of site kept inc why ∷ []
 entries_of site Missed = record { owner = site; act = act.Miss } ∷ []
-entries_of site NoMemory = []
+entries_of site _ = []
 
 -- what is told of a rise
 abbrev pub told_of : Raised → Result ℕ RiseFault
 told_of (Rose kept inc) = Ok inc
 told_of (Failed kept inc why) = Err (rise_fault.Failed why)
 told_of Missed = Err rise_fault.Missed
-told_of NoMemory = Err rise_fault.NoMemory
+told_of _ = Err rise_fault.NoMemory
 
 -- what a rise makes is allowed
 abbrev pub IsAllowed : Scenario → List Entry → ℕ → Raised → Type 0
 IsAllowed sc history site (Rose kept inc) = IsRise sc history site kept inc
 IsAllowed sc history site (Failed kept inc why) = IsRise sc history site kept inc
 IsAllowed sc history site Missed = IsRising sc history site
-IsAllowed sc history site NoMemory = Unit {0}
+IsAllowed sc history site _ = Unit {0}

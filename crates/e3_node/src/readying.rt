@@ -1,9 +1,11 @@
 // A rise that is ready to be made.
-ghost use Rattle.std.specs.Prelude.{◌≡◌, ◌<◌, suc, length, IfOk};
+ghost use Rattle.std.specs.Prelude.{◌≡◌, ◌<◌, suc, length, Err, IfOk};
 ghost use Rattle.e3_log.specs.Found.{bodies_of};
-ghost use Rattle.e3_node.specs.Rising.{IsReady, IsWish, born_by, records_by};
+ghost use Rattle.e3_node.specs.Rising.{IsForeign, IsReady, IsWish, born_by, records_by};
+ghost use Rattle.e3_node.specs.declared.readying.Unready.TheVariants as unready;
 ghost use Rattle.e3_restart.specs.Rebuilt.{IsRebuilt, StandsForEach};
 ghost use Rattle.e3_world.specs.Logs.{logged_inc};
+ghost use Rattle.e3_world.specs.Orderly.{IsOrderly};
 
 use crate::Shared;
 use crate::counting::frames_in;
@@ -11,7 +13,7 @@ use crate::fitting::spelled;
 use crate::reading::{add_records, read_frames};
 use e3_log::Frame;
 use e3_readings::logged_inc;
-use e3_restart::rebuild;
+use e3_restart::{RebuildFault, rebuild};
 use e3_site::Site;
 use e3_types::{Copied, List, NoMemory, Record, Row};
 use std::alloc::Global;
@@ -36,6 +38,25 @@ pub(crate) struct Readied {
     pub body: List<u8>,
     pub kept: bool,
     pub inc: u32,
+}
+
+/// Why no rise is ready.
+#[derive(Clone, Copy)]
+pub(crate) enum Unready {
+    /// There was no memory, or 32 bits count no further incarnation.
+    NoMemory,
+    /// What is on the disk is not the log of the site. It comes of no disk that stands for a history.
+    Foreign,
+}
+
+impl From<NoMemory> for Unready {
+    ghost use Rattle.e3_node.specs.declared.readying.Unready.TheVariants as unready;
+
+    ghost from_gives = { λ _ f. f ≡ unready.NoMemory };
+
+    fn from(_cause: NoMemory) -> Unready {
+        Unready::NoMemory
+    }
 }
 
 /// What a rise of this site takes with it.
@@ -94,21 +115,25 @@ fn records_by(wish: &Wish, inc: u32, log: &[Record]) -> Result<List<Record>, NoM
 }
 
 // The site that rose with this log.
-fn rebuilt(alloc: Global, site: u32, log: &[Record]) -> Result<Site, NoMemory>
+#[tactic(auto, using(crate::proofs::Strange::disordered))]
+fn rebuilt(alloc: Global, site: u32, log: &[Record]) -> Result<Site, Unready>
     requires some { 0 < length log.now }
     ensures risen { IfOk result (IsRebuilt site log.now) }
     ensures stands { IfOk result (StandsForEach log.now) }
+    ensures foreign { result ≡ Err unready.Foreign → ¬ IsOrderly site log.now }
 {
     match rebuild(alloc, site, log) {
         Ok(up) => Ok(up),
-        Err(_) => Err(NoMemory),
+        Err(RebuildFault::NoMemory) => Err(Unready::NoMemory),
+        Err(RebuildFault::Order { .. }) => Err(Unready::Foreign),
     }
 }
 
 /// The rise of a site whose disk has these frames. What is read is kept, all of it: more frames than the log of the history
 /// has are the log and the one that was in doubt.
-pub(crate) fn ready(wish: &Wish, frames: &[Frame]) -> Result<Readied, NoMemory>
-    ensures { IfOk result (IsReady wish.now (bodies_of frames.now)) }
+pub(crate) fn ready(wish: &Wish, frames: &[Frame]) -> Result<Readied, Unready>
+    ensures ready { IfOk result (IsReady wish.now (bodies_of frames.now)) }
+    ensures foreign { result ≡ Err unready.Foreign → IsForeign wish.now (bodies_of frames.now) }
 {
     let mut log = read_frames(wish.alloc, wish.site, frames)?;
     let inc = next_inc(log.as_slice())?;

@@ -12,11 +12,12 @@ ghost use Rattle.e3_types.specs.Spelling.{spelling};
 ghost use Rattle.e3_types.specs.declared.entries.Entry.{Entry as Entries};
 ghost use Rattle.e3_types.specs.declared.scenarios.Scenario.{Scenario};
 
-use crate::readying::{Readied, Wish, ready};
+use crate::readying::{Readied, Unready, Wish, ready};
 use crate::writing::write;
 use crate::{RiseFault, Shared, State};
 use e3_disk::{Disk, Drill};
 use e3_log::{Frame, Log, OpenCause, OpenRefused};
+use e3_orderly::logs_are_orderly;
 use e3_types::{Act, Entry, List, Why};
 
 /// What became of a rise.
@@ -30,6 +31,8 @@ pub(crate) enum Raised {
     Missed,
     /// There was no memory.
     NoMemory,
+    /// What is on the disk is not the log of the site. It comes of no disk that stands for a history.
+    Foreign,
 }
 
 fn raised_of(cause: OpenCause) -> Raised
@@ -37,7 +40,8 @@ fn raised_of(cause: OpenCause) -> Raised
 {
     match cause {
         OpenCause::Failed => Raised::Missed,
-        _ => Raised::NoMemory,
+        OpenCause::Damaged { .. } => Raised::Foreign,
+        OpenCause::NoMemory => Raised::NoMemory,
     }
 }
 
@@ -72,9 +76,11 @@ fn rise_over<D: Disk + Drop>(log: Log<D>, frames: &List<Frame>, wish: &Wish) -> 
     ensures keeps { Keeps (D.meters log.disk) (D.meters (disk_of result.0)) }
     ensures takes { RiseTakes 4 result.1 (D.meters log.disk) (D.meters (disk_of result.0)) }
 {
+    logs_are_orderly();
     match ready(wish, frames.as_slice()) {
         Ok(rise) => log_rise(log, rise),
-        Err(_) => (State::Down(log.into_disk()), Raised::NoMemory),
+        Err(Unready::NoMemory) => (State::Down(log.into_disk()), Raised::NoMemory),
+        Err(Unready::Foreign) => (State::Down(log.into_disk()), Raised::Foreign),
     }
 }
 
@@ -141,7 +147,7 @@ pub(crate) fn enter_rise(shared: &mut Shared, owner: u32, raised: Raised)
             owner,
             act: Act::Miss,
         }),
-        Raised::NoMemory => {}
+        Raised::NoMemory | Raised::Foreign => {}
     }
 }
 
@@ -153,6 +159,6 @@ pub(crate) fn told(raised: Raised) -> Result<u32, RiseFault>
         Raised::Rose { inc, .. } => Ok(inc),
         Raised::Failed { why, .. } => Err(RiseFault::Failed { why }),
         Raised::Missed => Err(RiseFault::Missed),
-        Raised::NoMemory => Err(RiseFault::NoMemory),
+        Raised::NoMemory | Raised::Foreign => Err(RiseFault::NoMemory),
     }
 }

@@ -9,8 +9,8 @@ use Rattle.e3_types.specs.declared.records.Record.{Record}
 use Rattle.e3_world.specs.Logs.{logged_inc}
 use Rattle.e3_node.proofs.readying.ready.Goals as goal
 
-pub returns : goal.returns
-returns c =
+pub returns-clause-ready : goal.returns-clause-ready
+returns-clause-ready c =
     let site = c.args.wish.now.site in
     let read = c.in_ok-log.log in
     let all : c.as_slice-5.result.now ≡ read ++ c.in_ok-records.records =

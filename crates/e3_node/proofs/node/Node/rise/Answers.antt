@@ -1,11 +1,13 @@
 use Rattle.std.proofs.Common.{◌≡◌, ◌++◌, ℕ, ◌∙◌, ap, subst, sym, false}
 use Rattle.e3_node.specs.Bodies.{DiskStands}
+use Rattle.e3_node.specs.Ends.{HasFailedToRise}
 use Rattle.e3_node.specs.NodeView.{NodeView, disk_of}
-use Rattle.e3_node.specs.Rising.{IsAllowed, IsWish, MayRise, RiseMakes, entries_of}
+use Rattle.e3_node.specs.Rising.{IsAllowed, IsWish, MayRise, RiseMakes, RiseTakes, entries_of}
 use Rattle.e3_node.specs.SharedStands.{SharedView}
 use Rattle.e3_world.specs.Items.{is_up_at}
+use Rattle.e3_world.specs.Legal.{IsRising}
 use Rattle.e3_node.proofs.Keeping.{disk_in}
-use Rattle.e3_node.proofs.Risen.{allowed_of, failed_told, may_rise, missed_told, node_risen, rose_told}
+use Rattle.e3_node.proofs.Risen.{allowed_of, failed_told, may_rise, missed_told, node_risen, rose_told, spared_told}
 use Rattle.e3_node.proofs.node.Node.rise.Goals as goal
 
 pub enter_rise-requires-clause-allowed : goal.enter_rise-requires-clause-allowed
@@ -132,3 +134,27 @@ returns-clause-cause g c =
     (subst (λ (x : NodeView _). RiseMakes g.D.Disk.content g.D.Disk.image g.D.Disk.meters sc h wish.site (disk_of x.state) state r) c.self.view_is
     (c.replace_with-raised.ensures.0 sc h may inside)) in
     λ told. missed_told g.D.Disk.content g.D.Disk.image g.D.Disk.meters sc h node.site (disk_of node.state) state r made (sym c.told.ensures ∙ told)
+
+pub returns-clause-spares : goal.returns-clause-spares
+returns-clause-spares g c =
+    let v = c.args.shared.now in
+    let sc = v.scenario in
+    let h = v.entries in
+    let node = c.args.self.now in
+    let wish = c.in_ok-wish.wish in
+    let r = c.replace_with-raised.result in
+    let state = c.replace_with-raised.new.dest in
+    let down : is_up_at h node.site ≡ false = sym (c.if-is_up.ensures.stands sc h c.requires.standing) in
+    let is : IsWish node.site node.weights node.rows h wish = subst (λ (x : NodeView _). IsWish x.site x.weights x.rows h wish) c.self.view_is c.in_ok-wish.ensures in
+    let may : MayRise sc h wish = may_rise g.D.Disk.content g.D.Disk.image g.D.Disk.meters v node wish c.requires.shared c.requires.standing (c.requires.turn down) is in
+    let stands = disk_in g.D.Disk.content g.D.Disk.image g.D.Disk.meters sc h node.site node.state c.requires.standing.state in
+    let here : DiskStands sc h wish.site (g.D.Disk.image (disk_of node.state)) = subst (λ (n : ℕ). DiskStands sc h n (g.D.Disk.image (disk_of node.state))) (sym is.site_is) stands in
+    let inside : DiskStands sc h wish.site (g.D.Disk.image (disk_of c.self.inside.state)) =
+    subst (λ (x : NodeView _). DiskStands sc h wish.site (g.D.Disk.image (disk_of x.state))) (sym c.self.view_is) here in
+    let made : RiseMakes g.D.Disk.content g.D.Disk.image g.D.Disk.meters sc h node.site (disk_of node.state) state r =
+    subst (λ (n : ℕ). RiseMakes g.D.Disk.content g.D.Disk.image g.D.Disk.meters sc h n (disk_of node.state) state r) is.site_is
+    (subst (λ (x : NodeView _). RiseMakes g.D.Disk.content g.D.Disk.image g.D.Disk.meters sc h wish.site (disk_of x.state) state r) c.self.view_is
+    (c.replace_with-raised.ensures.0 sc h may inside)) in
+    let takes : RiseTakes 5 r (g.D.Disk.meters (disk_of node.state)) (g.D.Disk.meters (disk_of state)) =
+    subst (λ (x : NodeView _). RiseTakes 5 r (g.D.Disk.meters (disk_of x.state)) (g.D.Disk.meters (disk_of state))) c.self.view_is c.replace_with-raised.ensures.1.1 in
+    λ told. spared_told g.D.Disk.content g.D.Disk.image g.D.Disk.meters sc h node.site (disk_of node.state) state r made takes (sym c.told.ensures ∙ told)
