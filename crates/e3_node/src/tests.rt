@@ -45,22 +45,31 @@ fn lone(alloc: Global) -> Result<Scenario, NoMemory>
     })
 }
 
-// The line with this number is due.
+// The first line is due, behind a rise or a failed one.
 #[tactic(auto, using(crate::proofs::Tried::line_behind_a_rise, crate::proofs::Tried::line_behind_a_fall))]
 fn is_first_due(shared: &Shared) -> bool
     requires weights { shared.now.scenario.weights ≡ 1 ∷ [] }
     requires steps { shared.now.scenario.steps ≡ (item.Crash 1 ∷ []) ∷ (item.Restart 1 ∷ []) ∷ [] }
     ensures { result ≡ true → IsLine shared.now.scenario shared.now.entries 1 }
 {
-    matches!(
-        shared.history(),
-        [Entry {
-            owner: 1,
-            act: Act::Rise { .. } | Act::RiseFall { .. }
-        }]
-    )
+    match shared.history() {
+        [
+            Entry {
+                owner,
+                act: Act::Rise { .. },
+            },
+        ] => *owner == 1,
+        [
+            Entry {
+                owner,
+                act: Act::RiseFall { .. },
+            },
+        ] => *owner == 1,
+        _ => false,
+    }
 }
 
+// The second line is due, behind the first where the rise failed, and else behind the cut.
 #[tactic(auto, using(crate::proofs::Tried::line_behind_the_crash, crate::proofs::Tried::line_behind_the_cut))]
 fn is_second_due(shared: &Shared) -> bool
     requires weights { shared.now.scenario.weights ≡ 1 ∷ [] }
@@ -70,28 +79,28 @@ fn is_second_due(shared: &Shared) -> bool
     match shared.history() {
         [
             Entry {
-                owner: 1,
+                owner,
                 act: Act::RiseFall { .. },
             },
             Entry {
-                owner: 0,
-                act: Act::Line { number: 1 },
+                owner: driver,
+                act: Act::Line { number },
             },
-        ] => true,
+        ] => *owner == 1 && *driver == 0 && *number == 1,
         [
             Entry {
-                owner: 1,
+                owner,
                 act: Act::Rise { .. },
             },
             Entry {
-                owner: 0,
-                act: Act::Line { number: 1 },
+                owner: driver,
+                act: Act::Line { number },
             },
             Entry {
-                owner: 1,
+                owner: again,
                 act: Act::Cut,
             },
-        ] => true,
+        ] => *owner == 1 && *driver == 0 && *number == 1 && *again == 1,
         _ => false,
     }
 }
@@ -103,19 +112,19 @@ fn is_cut_due(shared: &Shared) -> bool
     requires steps { shared.now.scenario.steps ≡ (item.Crash 1 ∷ []) ∷ (item.Restart 1 ∷ []) ∷ [] }
     ensures { result ≡ true → IsCut shared.now.scenario shared.now.entries 1 }
 {
-    matches!(
-        shared.history(),
+    match shared.history() {
         [
             Entry {
-                owner: 1,
-                act: Act::Rise { .. }
+                owner,
+                act: Act::Rise { .. },
             },
             Entry {
-                owner: 0,
-                act: Act::Line { number: 1 }
+                owner: driver,
+                act: Act::Line { number },
             },
-        ]
-    )
+        ] => *owner == 1 && *driver == 0 && *number == 1,
+        _ => false,
+    }
 }
 
 // The rise of the second step is due.
@@ -128,36 +137,43 @@ fn is_rise_due(shared: &Shared) -> bool
     match shared.history() {
         [
             Entry {
-                owner: 1,
+                owner,
                 act: Act::RiseFall { .. },
             },
             Entry {
-                owner: 0,
-                act: Act::Line { number: 1 },
+                owner: driver,
+                act: Act::Line { number },
             },
             Entry {
-                owner: 0,
-                act: Act::Line { number: 2 },
+                owner: driver_again,
+                act: Act::Line { number: second },
             },
-        ] => true,
+        ] => *owner == 1 && *driver == 0 && *number == 1 && *driver_again == 0 && *second == 2,
         [
             Entry {
-                owner: 1,
+                owner,
                 act: Act::Rise { .. },
             },
             Entry {
-                owner: 0,
-                act: Act::Line { number: 1 },
+                owner: driver,
+                act: Act::Line { number },
             },
             Entry {
-                owner: 1,
+                owner: again,
                 act: Act::Cut,
             },
             Entry {
-                owner: 0,
-                act: Act::Line { number: 2 },
+                owner: driver_again,
+                act: Act::Line { number: second },
             },
-        ] => true,
+        ] => {
+            *owner == 1
+                && *driver == 0
+                && *number == 1
+                && *again == 1
+                && *driver_again == 0
+                && *second == 2
+        }
         _ => false,
     }
 }
