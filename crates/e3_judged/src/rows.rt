@@ -6,10 +6,7 @@ pub const ROWS: [(&str, &str); 20] = [
         "one write",
         "weights = [1]\nsteps = [\n  \"begin t 1 1\",\n  \"write t 1.x a\",\n  \"commit t\",\n]\n",
     ),
-    (
-        "no steps",
-        "weights = [2]\nsteps = []\n",
-    ),
+    ("no steps", "weights = [2]\nsteps = []\n"),
     (
         "three sites",
         "weights = [1, 1, 1]\nrows = [\"1.ann 100\", \"2.bob 50\", \"3.cid 7\"]\nsteps = [\n  \"begin a 1 1,2\",\n  \"read a 1.ann\",\n  \"read a 2.bob\",\n  \"write a 1.ann 90\",\n  \"write a 2.bob 60\",\n  \"commit a\",\n  \"begin b 3 2,3\",\n  \"write b 3.cid 17\",\n  \"read b 2.bob\",\n  \"commit b\",\n  \"begin c 2 1,2\",\n  \"read c 1.ann\",\n  \"commit c\",\n]\n",
