@@ -78,28 +78,45 @@ fn push_row(
     Some(())
 }
 
-// Adds the line of a stop; nothing without memory.
+// Adds the line of a stop: what the judge says, and the events from this step on; nothing without memory.
 fn push_stop(
     rt: &impl Wait,
     alloc: Global,
     out: &mut List<u8>,
-    call: u64,
-    leave: &str,
+    text: &[u8],
+    from: u64,
 ) -> Option<()> {
-    let text = stops::scenario(alloc, call, leave).ok()?;
-    let (said, sink) = judged(rt, alloc, text.as_slice())?;
-    push_labelled(out, "stop ", call).ok()?;
-    for part in [" ", leave, ": ", said] {
-        push_text(out, part).ok()?;
-    }
-    stops::push_events(out, sink.written()).ok()?;
+    let (said, sink) = judged(rt, alloc, text)?;
+    push_text(out, said).ok()?;
+    stops::push_events(out, sink.written(), from).ok()?;
     push_text(out, "\n").ok()
 }
 
-// Adds the lines of all stops with this leave.
-fn push_stops(rt: &impl Wait, alloc: Global, out: &mut List<u8>, leave: &str) -> Option<()> {
+// Adds the head of the line of a stop.
+fn push_head(out: &mut List<u8>, what: &str, call: u64, leave: &str) -> Option<()> {
+    push_labelled(out, what, call).ok()?;
+    for part in [" ", leave, ": "] {
+        push_text(out, part).ok()?;
+    }
+    Some(())
+}
+
+// Adds the lines of all stops of a commit with this leave.
+fn push_commits(rt: &impl Wait, alloc: Global, out: &mut List<u8>, leave: &str) -> Option<()> {
     for call in 1..=stops::CALLS {
-        push_stop(rt, alloc, out, call, leave)?;
+        let text = stops::commit(alloc, call, leave).ok()?;
+        push_head(out, "stop ", call, leave)?;
+        push_stop(rt, alloc, out, text.as_slice(), stops::COMMIT)?;
+    }
+    Some(())
+}
+
+// Adds the lines of all stops of a rise with this leave.
+fn push_rises(rt: &impl Wait, alloc: Global, out: &mut List<u8>, leave: &str) -> Option<()> {
+    for call in 1..=stops::RISE_CALLS {
+        let text = stops::rise(alloc, call, leave).ok()?;
+        push_head(out, "stop of a rise ", call, leave)?;
+        push_stop(rt, alloc, out, text.as_slice(), stops::RISE)?;
     }
     Some(())
 }
@@ -111,7 +128,8 @@ fn lines(rt: &impl Wait, alloc: Global) -> Option<List<u8>> {
         push_row(rt, alloc, &mut out, name, text)?;
     }
     for leave in stops::LEAVES {
-        push_stops(rt, alloc, &mut out, leave)?;
+        push_commits(rt, alloc, &mut out, leave)?;
+        push_rises(rt, alloc, &mut out, leave)?;
     }
     Some(out)
 }
