@@ -72,10 +72,10 @@ fn push_row(
     text: &str,
 ) -> Option<()> {
     let (said, _sink) = judged(rt, alloc, text.as_bytes())?;
-    for part in [name, ": ", said, "\n"] {
-        push_text(out, part).ok()?;
-    }
-    Some(())
+    push_text(out, name).ok()?;
+    push_text(out, ": ").ok()?;
+    push_text(out, said).ok()?;
+    push_text(out, "\n").ok()
 }
 
 // Adds the line of a stop: what the judge says, and the events from this step on; nothing without memory.
