@@ -68,7 +68,8 @@ FellByStops sc history site old new = (before after : List Entry) → history �
     faults_at before site + new.stops + old.faults ≤ length (arms_of sc before site) + new.faults + old.stops
 
 -- What the numbers of a disk came to. It failed as often as its site fell by it, at least. It was armed once for each stop of
--- its site whose line is entered, with that stop's calls and leave, and its power was cut once for each cut of its site.
+-- its site whose line is entered; the calls and the codes of these arms add up to those of the stops; and its power was cut
+-- once for each cut of its site.
 pub record HasServed (sc : Scenario) (history : List Entry) (site : ℕ) (old new : Meters) : Type 0 where
   pub faults : RoseBy (faults_at history site) old.faults new.faults
   pub grows : old.faults ≤ new.faults

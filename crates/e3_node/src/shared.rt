@@ -176,7 +176,7 @@ impl Shared {
         Ok(())
     }
 
-    /// Enters a rise, a failed or a missed one. It takes no memory.
+    /// Enters a rise, a failed or a missed one, or a cut. It takes no memory.
     pub(crate) fn enter_quiet(&mut self, entry: Entry)
         requires standing { SharedStands self.old }
         requires quiet { is_quiet entry.act ≡ true }

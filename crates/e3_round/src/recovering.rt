@@ -53,8 +53,7 @@ fn behind(history: &[Entry], count: usize) -> &[Entry]
 /// Makes the recovery rounds of a group: in ascending order for each transaction that is open at a member that is up. Its
 /// elector is the least of those members that are its sites, which elects with all of them; then packets are delivered in
 /// ascending order until none is pending. A round whose elector is down at its turn is passed over. With Ok there is a
-/// report for each of these transactions, in their order. After a fault the entries made so far stay. (After Keidar and
-/// Dolev 1998.)
+/// report for each of these transactions, in their order. (After Keidar and Dolev 1998.)
 pub fn recover<S: Sites>(
     alloc: Global,
     sites: &mut S,

@@ -6,8 +6,8 @@ use crate::listing::Round;
 use e3_types::{Act, Entry, List, NoMemory, Told, Txn, Verdict};
 use std::alloc::Global;
 
-/// What came of the round of a transaction: the verdict that its elector told. There is none where the elector was down at
-/// its turn or fell, and where a member did not answer.
+/// What came of the round of a transaction: the last verdict on it that was told in the step. There is none where none was
+/// told, as where the elector was down at its turn or fell before it.
 #[derive(Drop)]
 pub struct RoundReport {
     pub txn: Txn,
