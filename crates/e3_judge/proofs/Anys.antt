@@ -1,5 +1,5 @@
 -- What tests over lists, options and numbers come to.
-use Rattle.std.proofs.Common.{◌≡◌, ◌==◌, ◌&&◌, ◌||◌, ◌≤◌, ◌++◌, ◌∷◌, [], ℕ, suc, zero, Bool, true, false, not, List, length, Option, Some, None, refl, ap, sym, arith, get_or, ◌∙◌}
+use Rattle.std.proofs.Common.{◌≡◌, ◌||◌, ◌≤◌, ◌∷◌, [], ℕ, Bool, true, false, not, List, Option, Some, None, refl, ap, arith, ◌∙◌}
 use Rattle.std.specs.Prelude.{Contains, nat_le, is_none}
 use Rattle.std.specs.Bool.{Decides}
 use Rattle.std.specs.List.{list_any}

@@ -1,15 +1,15 @@
 -- No breach is found exactly where the history is legal, and what is found is one.
-use Rattle.std.proofs.Common.{◌≡◌, ◌==◌, ◌&&◌, ◌++◌, ◌∷◌, [], ℕ, suc, zero, Bool, true, false, List, length, Option, Some, None, refl, ap, sym, arith, ◌∙◌, subst, append_assoc, append-nil, take}
-use Rattle.std.specs.Prelude.{is_none, slice_get}
+use Rattle.std.proofs.Common.{◌≡◌, ◌++◌, ◌∷◌, [], ℕ, List, length, Option, Some, None, refl, ap, sym, ◌∙◌, subst, append_assoc, take}
+use Rattle.std.specs.Prelude.{slice_get}
 use Rattle.std.proofs.lemmas.Bool.Decides.{Decides-eqb, Decides-and, Decides-like}
 use Rattle.e3_types.specs.declared.entries.Entry.{Entry}
 use Rattle.e3_types.specs.declared.scenarios.Scenario.{Scenario}
-use Rattle.e3_world.specs.Legal.{IsLegal, LegalAfter, IsWhole, Guard, is_through}
+use Rattle.e3_world.specs.Legal.{IsLegal, LegalAfter, Guard, is_through}
 use Rattle.e3_world.specs.Packets.{lines}
 use Rattle.e3_world.proofs.Pushes.{legal_push}
 use Rattle.e3_judge.specs.declared.breach.Breach.{Breach}
 use Rattle.e3_judge.specs.declared.breach.Guard as rule
-use Rattle.e3_judge.specs.Checks.{checks, first_failing, breach_after, first_breach, is_whole}
+use Rattle.e3_judge.specs.Checks.{checks, first_failing, breach_after, first_breach}
 use Rattle.e3_judge.specs.Claims.{ChecksAreGuard, IsBreach, NoBreachIsLegal, BreachIsBroken, WholeIsWhole}
 use Rattle.e3_judge.proofs.Anys.{decides_true, decides_none}
 use Rattle.e3_judge.proofs.Passing.{guard_from_checks, checks_from_guard}

@@ -1,10 +1,9 @@
 -- Each test of the guards is true exactly where the guard holds.
-use Rattle.std.proofs.Common.{◌≡◌, ◌≢◌, ◌⊎◌, ◌==◌, ◌&&◌, ◌||◌, ◌≤◌, ◌<◌, ◌++◌, ◌∷◌, [], ℕ, suc, zero, Bool, true, false, not, List, length, Option, Some, None, refl, ap, sym, arith, ◌∙◌, subst, inl, inr}
-use Rattle.std.specs.Prelude.{Contains, nat_le, is_none, slice_get}
+use Rattle.std.proofs.Common.{◌≡◌, ◌≢◌, ◌||◌, ◌++◌, ◌∷◌, [], ℕ, suc, Bool, true, false, not, List, length, Option, Some, None, refl, ap, subst}
+use Rattle.std.specs.Prelude.{Contains, is_none, slice_get}
 use Rattle.std.specs.Bool.{Decides}
 use Rattle.std.specs.List.{list_any}
 use Rattle.std.proofs.lemmas.Bool.Decides.{Decides-eqb, Decides-and, Decides-or, Decides-like}
-use Rattle.e3_types.specs.declared.entries.Act.{Act}
 use Rattle.e3_types.specs.declared.entries.Act.TheVariants.{Step}
 use Rattle.e3_types.specs.declared.entries.Entry.{Entry}
 use Rattle.e3_types.specs.declared.entries.Input.{Input}
@@ -16,17 +15,16 @@ use Rattle.e3_types.specs.declared.scenarios.Item.{Item}
 use Rattle.e3_types.specs.declared.scenarios.Item.TheVariants as item
 use Rattle.e3_types.specs.declared.scenarios.Scenario.{Scenario}
 use Rattle.e3_types.specs.declared.transactions.Txn.{Txn}
-use Rattle.e3_types.specs.Same.{same_numbers, same_txn}
-use Rattle.e3_world.specs.declared.lives.Made.{Made}
+use Rattle.e3_types.specs.Same.{same_numbers}
 use Rattle.e3_world.specs.Items.{since_line, inputs_at, is_delivery, taken_at, turn_of, is_up_at, items_through, due_round, RecoveryRound}
-use Rattle.e3_world.specs.Legal.{IsLine, IsParts, IsNextItem, IsDelivery, IsRound, IsDue, IsStep, AreDue, IsFall, IsCut, IsRising, IsRise, IsDrop, made_by, entry_of, numbered, is_through, parts_due, first_pending, may_rise, records_by}
+use Rattle.e3_world.specs.Legal.{IsLine, IsParts, IsNextItem, IsDelivery, IsRound, IsDue, AreDue, IsDrop, entry_of, is_through, parts_due, first_pending}
 use Rattle.e3_world.specs.Logs.{logged_inc}
 use Rattle.e3_world.specs.Moves.{Tail, log_by, kept_moves, log_of, open_tail}
-use Rattle.e3_world.specs.Packets.{sent, lines, present_items, is_calm, pending}
-use Rattle.e3_judge.specs.Checks.{is_empty, line_is_due, parts_are_due, is_in_order, may_drop, drop_is_due, is_next_item, delivery_is_due, same_round, round_is_due, input_is_due, inputs_are_due, is_crash, is_next_inc}
+use Rattle.e3_world.specs.Packets.{lines, present_items, is_calm, pending}
+use Rattle.e3_judge.specs.Checks.{line_is_due, parts_are_due, is_in_order, may_drop, drop_is_due, is_next_item, delivery_is_due, same_round, round_is_due, input_is_due, inputs_are_due, is_crash, is_next_inc}
 use Rattle.e3_judge.specs.Claims.{IsExact}
-use Rattle.e3_judge.specs.Equal.{same_list, same_record, same_packet, same_input, same_told, is_some}
-use Rattle.e3_judge.proofs.Anys.{decides_true, decides_false, decides_le, decides_where, decides_empty, decides_none, any_passing, passing_any, Passing}
+use Rattle.e3_judge.specs.Equal.{same_list, same_record, same_packet, same_input, same_told}
+use Rattle.e3_judge.proofs.Anys.{decides_true, decides_false, decides_le, decides_where, decides_empty, any_passing, passing_any, Passing}
 use Rattle.e3_judge.proofs.SameParts.{exact_list, exact_numbers, exact_some, exact_txn, exact_input, exact_packet, exact_record, exact_told}
 
 pub decides_line : (sc : Scenario) (h : List Entry) (n : ℕ) → Decides (line_is_due sc h n) (IsLine sc h n)

@@ -1,8 +1,6 @@
 -- In a legal history only a site of the scenario is ever up.
-use Rattle.std.proofs.Common.{◌≡◌, ◌==◌, ◌&&◌, ◌||◌, ◌≤◌, ◌<◌, ◌+◌, ◌++◌, ◌∷◌, [], ℕ, suc, zero, Bool, true, false, List, length, fold, refl, ap, sym, arith, ◌∙◌, eqb-true, append-nil}
+use Rattle.std.proofs.Common.{◌≡◌, ◌==◌, ◌&&◌, ◌≤◌, ◌<◌, ◌+◌, ◌++◌, ◌∷◌, [], ℕ, suc, zero, Bool, true, false, List, length, fold, refl, ap, sym, arith, ◌∙◌, eqb-true}
 use Rattle.std.specs.Prelude.{nat_le}
-use Rattle.std.specs.Bool.{Decides}
-use Rattle.std.specs.List.{list_any}
 use Rattle.std.proofs.lemmas.Bool.Decides.{nat_tests}
 use Rattle.std.proofs.lemmas.List.Folds.{list_any-append}
 use Rattle.e3_types.specs.declared.entries.Act.{Act}

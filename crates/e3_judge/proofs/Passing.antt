@@ -1,6 +1,5 @@
 -- The checks of an entry all pass exactly where its guard holds, behind entries that are legal.
-use Rattle.std.proofs.Common.{◌≡◌, ◌≢◌, ◌==◌, ◌&&◌, ◌||◌, ◌≤◌, ◌<◌, ◌++◌, ◌∷◌, [], ℕ, suc, zero, Bool, true, false, not, List, length, Option, Some, None, refl, ap, sym, arith, ◌∙◌, subst, eqb-true}
-use Rattle.std.specs.Prelude.{is_none}
+use Rattle.std.proofs.Common.{◌≡◌, ◌≢◌, ◌&&◌, ◌≤◌, ◌∷◌, [], ℕ, suc, zero, Bool, true, false, not, List, length, None, refl, arith, eqb-true}
 use Rattle.std.proofs.lemmas.Bool.{and_parts}
 use Rattle.e3_types.specs.declared.entries.Act.{Act}
 use Rattle.e3_types.specs.declared.entries.Act.TheVariants.{Step, Fall, Rise, RiseFall, Miss, Cut, Drop, Parts, Line}
@@ -13,11 +12,10 @@ use Rattle.e3_types.specs.declared.records.Record.{Record}
 use Rattle.e3_types.specs.declared.scenarios.Scenario.{Scenario}
 use Rattle.e3_world.specs.declared.lives.Made.{Made}
 use Rattle.e3_world.specs.Items.{is_up_at}
-use Rattle.e3_world.specs.Legal.{IsLegal, Guard, IsLine, IsParts, IsDrop, IsStep, IsFall, IsCut, IsRising, IsRise, made_by, entry_of, numbered, records_by}
+use Rattle.e3_world.specs.Legal.{IsLegal, Guard, IsLine, IsParts, IsDrop, IsStep, IsFall, IsCut, IsRising, IsRise, made_by, numbered, records_by}
 use Rattle.e3_world.specs.Moves.{open_tail}
 use Rattle.e3_world.specs.Packets.{sent, present_items}
-use Rattle.e3_judge.specs.declared.breach.Guard as rule
-use Rattle.e3_judge.specs.Checks.{Check, is_empty, is_site, step_checks, fall_checks, rising_checks, rise_checks, checks, first_failing}
+use Rattle.e3_judge.specs.Checks.{Check, is_empty, step_checks, fall_checks, rising_checks, rise_checks, checks, first_failing}
 use Rattle.e3_judge.specs.Equal.{same_list, same_record}
 use Rattle.e3_judge.proofs.Anys.{decides_false}
 use Rattle.e3_judge.proofs.Deciding.{decides_line, decides_parts, decides_drop, decides_input, decides_inputs, decides_crash, decides_tail, decides_inc, records_exact, packets_exact, events_exact, step_parts}

@@ -1,26 +1,19 @@
 -- The tests of equality are true exactly where the two are equal.
-use Rattle.std.proofs.Common.{◌≡◌, ◌==◌, ◌&&◌, ℕ, Bool, true, false, List, [], ◌∷◌, Option, Some, None, refl, ap}
+use Rattle.std.proofs.Common.{◌≡◌, ℕ, Bool, true, false, List, [], ◌∷◌, Option, Some, None, refl}
 use Rattle.std.specs.Bool.{Decides}
 use Rattle.std.proofs.lemmas.Bool.Decides.{Decides-eqb, Decides-and, Decides-like}
-use Rattle.e3_types.specs.declared.transactions.Answer.{Answer}
 use Rattle.e3_types.specs.declared.transactions.Answer.TheVariants.{Absent, Value, Written}
 use Rattle.e3_types.specs.declared.transactions.Call.{Call}
-use Rattle.e3_types.specs.declared.transactions.Dir.{Dir}
 use Rattle.e3_types.specs.declared.transactions.Dir.TheVariants as dir
 use Rattle.e3_types.specs.declared.transactions.Key.{Key}
 use Rattle.e3_types.specs.declared.transactions.NumOp.{NumOp}
 use Rattle.e3_types.specs.declared.transactions.Op.{Op}
 use Rattle.e3_types.specs.declared.transactions.Op.TheVariants.{Read, Write}
 use Rattle.e3_types.specs.declared.transactions.Row.{Row}
-use Rattle.e3_types.specs.declared.transactions.State.{State}
 use Rattle.e3_types.specs.declared.transactions.State.TheVariants.{Q, W, Pc, Pa, C, A}
 use Rattle.e3_types.specs.declared.transactions.Txn.{Txn}
-use Rattle.e3_types.specs.declared.entries.Input.{Input}
-use Rattle.e3_types.specs.declared.entries.Refusal.{Refusal}
-use Rattle.e3_types.specs.declared.entries.Told.{Told}
 use Rattle.e3_types.specs.declared.messages.Message.{Message}
 use Rattle.e3_types.specs.declared.messages.Packet.{Packet}
-use Rattle.e3_types.specs.declared.records.Record.{Record}
 use Rattle.e3_types.specs.declared.verdicts.Verdict.{Verdict}
 use Rattle.e3_types.specs.declared.entries.Input.TheVariants as input
 use Rattle.e3_types.specs.declared.entries.Refusal.TheVariants as refusal

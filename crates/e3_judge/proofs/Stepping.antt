@@ -1,10 +1,9 @@
 -- One more input of a fall, and one more packet of a step.
-use Rattle.std.proofs.Common.{◌≡◌, ◌&&◌, ◌++◌, ◌∷◌, ◌+◌, ◌<◌, [], ℕ, suc, Bool, true, false, List, length, refl, ap, sym, ◌∙◌, subst, append_assoc, get_or, drop, drop-cons, add-one}
+use Rattle.std.proofs.Common.{◌≡◌, ◌&&◌, ◌++◌, ◌∷◌, ◌+◌, ◌<◌, [], ℕ, suc, Bool, true, false, List, length, refl, ap, sym, ◌∙◌, append_assoc, get_or, drop, drop-cons, add-one}
 use Rattle.e3_types.specs.declared.entries.Entry.{Entry}
 use Rattle.e3_types.specs.declared.entries.Input.{Input}
 use Rattle.e3_types.specs.declared.records.Record.{Record}
 use Rattle.e3_types.specs.declared.scenarios.Scenario.{Scenario}
-use Rattle.e3_world.specs.declared.lives.Made.{Made}
 use Rattle.e3_types.specs.declared.messages.Packet.{Packet}
 use Rattle.e3_world.specs.Legal.{made_by, entry_of, records_by, numbered}
 use Rattle.e3_judge.specs.Checks.{input_is_due, inputs_are_due}

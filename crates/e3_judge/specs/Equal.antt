@@ -1,5 +1,5 @@
 -- Tests of equality of what an entry has.
-use Rattle.std.specs.Prelude.{◌==◌, ◌&&◌, ◌∷◌, [], ℕ, Bool, true, false, List, Option, Some, None}
+use Rattle.std.specs.Prelude.{◌==◌, ◌&&◌, ◌∷◌, [], Bool, true, false, List, Option, Some, None}
 use Rattle.e3_types.specs.declared.transactions.Answer.{Answer}
 use Rattle.e3_types.specs.declared.transactions.Answer.TheVariants.{Absent, Value, Written}
 use Rattle.e3_types.specs.declared.transactions.NumOp.{NumOp}

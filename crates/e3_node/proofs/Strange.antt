@@ -1,17 +1,16 @@
 -- A disk that stands for a history holds the log of its site, and nothing else.
-use Rattle.std.proofs.Common.{◌≡◌, ◌⊎◌, ◌++◌, ◌∷◌, [], inl, inr, ℕ, suc, Bool, List, Option, Some, None, length, take, drop, refl, sym, subst, ap, ◌∙◌}
+use Rattle.std.proofs.Common.{◌≡◌, ◌++◌, ◌∷◌, [], inl, inr, ℕ, suc, Bool, List, Option, Some, None, length, take, drop, sym, subst, ap, ◌∙◌}
 use Rattle.std.specs.Prelude.{nat_lt}
 use Rattle.std.specs.List.{flat_map}
 use Rattle.std.proofs.lemmas.List.{take-append-drop}
 use Rattle.e3_codec.specs.Fields.{AllCanBeReadBack}
 use Rattle.e3_codec.proofs.Records.{never_bad, one_list}
 use Rattle.e3_log.specs.Frames.{Reads}
-use Rattle.e3_node.specs.Bodies.{DiskStands, ReadsWith, bodies_at, bodies_of_moves, body_of, moves_with}
+use Rattle.e3_node.specs.Bodies.{ReadsWith, bodies_at, bodies_of_moves, body_of, moves_with}
 use Rattle.e3_node.specs.Rising.{IsDisordered, IsForeign, MayRise, SomeIsBad, records_by, rise_of}
 use Rattle.e3_node.specs.declared.readying.Wish.{Wish}
 use Rattle.e3_orderly.specs.Orderly.{LogsAreOrderly}
 use Rattle.e3_restart.specs.Orderly.{IsFirstDisorder}
-use Rattle.e3_types.specs.Spelling.{spelling}
 use Rattle.e3_types.specs.declared.entries.Entry.{Entry}
 use Rattle.e3_types.specs.declared.records.Record.{Record}
 use Rattle.e3_types.specs.declared.scenarios.Scenario.{Scenario}

@@ -1,7 +1,6 @@
 -- What is due in the histories of this crate's tests: one site, of weight 1, is crashed and raised again.
 use Rattle.std.proofs.Common.{◌≡◌, ◌∷◌, [], ℕ, Bool, List, refl, sym, subst, ap, ◌∙◌, arith}
-use Rattle.e3_types.specs.declared.entries.Act.{Act}
-use Rattle.e3_types.specs.declared.entries.Act.TheVariants.{Rise, RiseFall, Miss, Cut, Line}
+use Rattle.e3_types.specs.declared.entries.Act.TheVariants.{Rise, RiseFall, Cut, Line}
 use Rattle.e3_types.specs.declared.entries.Entry.{Entry}
 use Rattle.e3_types.specs.declared.entries.Why.{Why}
 use Rattle.e3_types.specs.declared.scenarios.Item.{Item}

@@ -1,24 +1,22 @@
 -- The history stays legal behind what is entered.
-use Rattle.std.proofs.Common.{◌≡◌, ◌≢◌, ◌++◌, ◌∷◌, [], ◌+◌, ◌≤◌, inl, inr, ℕ, zero, suc, Bool, true, false, List, length, Option, Some, None, refl, sym, subst, ap, ◌∙◌, append_assoc, append-nil, length-append, arith}
-use Rattle.std.specs.Prelude.{slice_get, filter_map, Contains}
-use Rattle.e3_types.specs.declared.entries.Act.TheVariants.{Rise, RiseFall, Drop}
+use Rattle.std.proofs.Common.{◌≡◌, ◌≢◌, ◌++◌, ◌∷◌, [], ◌+◌, ◌≤◌, inl, inr, ℕ, suc, Bool, true, false, List, length, Option, Some, None, refl, sym, subst, ap, ◌∙◌, append_assoc, append-nil}
+use Rattle.std.specs.Prelude.{filter_map}
+use Rattle.e3_types.specs.declared.entries.Act.TheVariants.{Rise, RiseFall}
 use Rattle.e3_types.specs.declared.entries.Entry.{Entry}
-use Rattle.e3_types.specs.declared.entries.Input.{Input}
 use Rattle.e3_types.specs.declared.entries.Input.TheVariants as input
 use Rattle.e3_types.specs.declared.entries.Why.{Why}
-use Rattle.e3_types.specs.declared.messages.Packet.{Packet}
 use Rattle.e3_types.specs.declared.scenarios.Item.{Item}
 use Rattle.e3_types.specs.declared.scenarios.Scenario.{Scenario}
 use Rattle.e3_world.specs.Items.{input_of, since_line, to_line, is_delivery, is_up_at}
-use Rattle.e3_world.specs.Legal.{Guard, IsDue, IsLegal, IsNextItem, IsRise, IsRising, LegalAfter, begins_with_parts, entry_of, made_by}
-use Rattle.e3_world.specs.Packets.{is_line, lines, pending, present_items}
-use Rattle.e3_world.specs.Progress.{AtPlan, Delivering, ItemsDone, after_item}
+use Rattle.e3_world.specs.Legal.{Guard, IsLegal, IsNextItem, IsRising, LegalAfter, begins_with_parts, entry_of, made_by}
+use Rattle.e3_world.specs.Packets.{pending, present_items}
+use Rattle.e3_world.specs.Progress.{AtPlan, ItemsDone, after_item}
 use Rattle.e3_world.specs.declared.names.Addressed.{Addressed}
-use Rattle.e3_world.proofs.Guards.{deliver_first, drop_first, due, item_no, item_on, item_some, lines_push, up_some, after_none, after_down, after_up}
+use Rattle.e3_world.proofs.Guards.{due, item_no, item_on, item_some, up_some, after_none, after_down, after_up}
 use Rattle.e3_world.proofs.Pushes.{legal_push}
 use Rattle.e3_world.proofs.Readings.{since_push, to_push}
 use Rattle.e3_world.proofs.Rises.{Rising, rise_one, miss_one, next_rise}
-use Rattle.e3_world.proofs.Turns.{fall_on, item_due, through, through_push}
+use Rattle.e3_world.proofs.Turns.{fall_on, item_due}
 use Rattle.e3_play.proofs.Quiet.{none_pending}
 use Rattle.e3_play.specs.Played.{AfterItem, IsAsked}
 use Rattle.e3_sites.specs.Delivered.{Delivers, Nothing, Then}

@@ -1,8 +1,8 @@
 -- The steps of a scenario that keeps the rules.
-use Rattle.std.proofs.Common.{◌≡◌, ◌≢◌, ◌==◌, ◌&&◌, ◌||◌, ◌++◌, ◌∷◌, [], ◌≤◌, ◌<◌, ◌⊎◌, inl, inr, ℕ, zero, suc, Bool, true, false, List, length, fold, Some, refl, sym, subst, ap, ◌∙◌, arith, eqb-true}
+use Rattle.std.proofs.Common.{◌≡◌, ◌≢◌, ◌==◌, ◌&&◌, ◌||◌, ◌∷◌, [], ◌≤◌, inl, inr, ℕ, zero, suc, Bool, true, false, List, length, fold, refl, sym, subst, ap, ◌∙◌, arith, eqb-true}
 use Rattle.std.specs.Prelude.{nat_le, slice_get}
-use Rattle.std.specs.List.{list_any, list_all}
-use Rattle.std.proofs.lemmas.Bool.{and_parts, leb-true, or_parts}
+use Rattle.std.specs.List.{list_all}
+use Rattle.std.proofs.lemmas.Bool.{and_parts, leb-true}
 use Rattle.std.proofs.lemmas.List.Folds.{list_any-append}
 use Rattle.e3_types.specs.declared.scenarios.Item.{Item}
 use Rattle.e3_types.specs.declared.scenarios.Item.TheVariants as item
@@ -10,7 +10,7 @@ use Rattle.e3_types.specs.declared.scenarios.Scenario.{Scenario}
 use Rattle.e3_types.specs.Sets.{has_site}
 use Rattle.e3_world.specs.Given.{IsGiven, SaidSoFar, close_step, exist, is_groupable, is_step_form, items_keep, keeps_rules, say_item, steps_keep}
 use Rattle.e3_world.specs.Packets.{all_sites, items_or, sites_to, step_items}
-use Rattle.e3_play.specs.Kinds.{kind_by, kind_of, only}
+use Rattle.e3_play.specs.Kinds.{kind_by, kind_of}
 use Rattle.e3_play.specs.Played.{IsStep, StandsAlone, is_asking}
 use Rattle.e3_play.specs.declared.kinds.Kind.TheVariants as kind
 use Rattle.e3_types.specs.declared.scenarios.Leave.{Leave}

@@ -1,5 +1,5 @@
 -- Where something is due, the history has not gone through its scenario.
-use Rattle.std.proofs.Common.{◌≡◌, ◌≢◌, ◌==◌, ◌&&◌, ◌||◌, ◌++◌, ◌∷◌, [], ◌≤◌, ◌<◌, ℕ, zero, suc, Bool, true, false, not, List, length, fold, Some, None, refl, sym, subst, ap, ◌∙◌, arith, eqb-true, eq-eqb}
+use Rattle.std.proofs.Common.{◌≡◌, ◌≢◌, ◌==◌, ◌||◌, ◌++◌, ◌∷◌, [], ◌≤◌, ◌<◌, ℕ, zero, suc, Bool, true, false, not, List, length, fold, Some, refl, sym, subst, ap, ◌∙◌, arith, eqb-true, eq-eqb}
 use Rattle.std.specs.Prelude.{nat_le, slice_get}
 use Rattle.std.specs.List.{list_any, list_all}
 use Rattle.std.proofs.lemmas.Bool.{and_parts, leb-true}
@@ -8,7 +8,6 @@ use Rattle.e3_types.specs.declared.entries.Act.{Act}
 use Rattle.e3_types.specs.declared.entries.Act.TheVariants.{Step, Fall, Rise, RiseFall, Miss, Cut, Drop, Parts, Line}
 use Rattle.e3_types.specs.declared.entries.Entry.{Entry}
 use Rattle.e3_types.specs.declared.entries.Input.{Input}
-use Rattle.e3_types.specs.declared.messages.Packet.{Packet}
 use Rattle.e3_types.specs.declared.scenarios.Item.{Item}
 use Rattle.e3_types.specs.declared.scenarios.Item.TheVariants as item
 use Rattle.e3_types.specs.declared.scenarios.Scenario.{Scenario}

@@ -1,5 +1,5 @@
 -- Where nothing is pending, nothing is pending behind an entry that sends nothing.
-use Rattle.std.proofs.Common.{◌≡◌, ◌+◌, ◌++◌, ◌∷◌, [], ℕ, ◌<◌, Bool, true, false, List, refl, sym, subst, ap, ◌∙◌, filter, map, arith, append-nil, append_assoc, nat_lt, ltb-true, lt-ltb, if◌then◌else◌, sum}
+use Rattle.std.proofs.Common.{◌≡◌, ◌+◌, ◌++◌, ◌∷◌, [], ℕ, ◌<◌, Bool, true, false, List, refl, sym, ap, ◌∙◌, filter, map, arith, append-nil, append_assoc, nat_lt, ltb-true, lt-ltb, if◌then◌else◌, sum}
 use Rattle.std.proofs.lemmas.List.{map-append}
 use Rattle.std.proofs.lemmas.List.Sums.{sum_by-append}
 use Rattle.e3_types.specs.declared.entries.Entry.{Entry}

@@ -1,7 +1,7 @@
 -- A step begins with its line, and behind it the step is through.
-use Rattle.std.proofs.Common.{◌≡◌, ◌≢◌, ◌==◌, ◌&&◌, ◌||◌, ◌++◌, ◌∷◌, [], ◌≤◌, ◌⊎◌, inl, inr, ℕ, zero, suc, Bool, true, false, not, List, length, None, Result, Ok, Err, refl, sym, subst, ap, ◌∙◌, arith}
+use Rattle.std.proofs.Common.{◌≡◌, ◌≢◌, ◌==◌, ◌&&◌, ◌||◌, ◌++◌, ◌∷◌, [], ◌≤◌, inl, inr, ℕ, zero, suc, Bool, true, false, not, List, length, None, refl, sym, subst, ap, ◌∙◌, arith}
 use Rattle.std.specs.Prelude.{nat_lt}
-use Rattle.std.specs.List.{list_all, list_any}
+use Rattle.std.specs.List.{list_all}
 use Rattle.e3_round.specs.Reports.{IsRecovered}
 use Rattle.e3_types.specs.declared.entries.Act.TheVariants.{Cut, Line, Miss, Rise, RiseFall}
 use Rattle.e3_types.specs.declared.entries.Entry.{Entry}
@@ -9,14 +9,13 @@ use Rattle.e3_types.specs.declared.scenarios.Item.{Item}
 use Rattle.e3_types.specs.declared.scenarios.Item.TheVariants as item
 use Rattle.e3_types.specs.declared.scenarios.Leave.{Leave}
 use Rattle.e3_types.specs.declared.scenarios.Scenario.{Scenario}
-use Rattle.e3_world.specs.Items.{due_round, is_up_at, since_line, to_line}
+use Rattle.e3_world.specs.Items.{due_round, is_up_at, since_line}
 use Rattle.e3_world.specs.Legal.{IsCut, IsLegal, IsRising, IsWhole, has_rising, is_made, is_rising, may_rise}
-use Rattle.e3_world.specs.Moves.{own}
 use Rattle.e3_world.specs.Packets.{all_sites, is_line, lines, outs_of, pending, present_items, step_items}
 use Rattle.e3_world.specs.Progress.{ItemsDone}
 use Rattle.e3_world.proofs.Guards.{lines_push, step_through}
 use Rattle.e3_world.proofs.Lines.{begin_step, lines_to}
-use Rattle.e3_world.proofs.Readings.{own_same, since_push, split_push, up_same}
+use Rattle.e3_world.proofs.Readings.{since_push, split_push, up_same}
 use Rattle.e3_world.proofs.Turns.{self, true_not_false}
 use Rattle.e3_play.specs.Played.{IsAsked, IsFresh, IsSettled, is_asking}
 use Rattle.e3_play.proofs.Entries.{asked_on}

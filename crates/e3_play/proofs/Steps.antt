@@ -1,9 +1,7 @@
 -- A step begins with its line, and ends when what it asks is made and nothing is pending.
-use Rattle.std.proofs.Common.{◌≡◌, ◌≢◌, ◌++◌, ◌∷◌, [], ◌≤◌, ◌⊎◌, inl, inr, ℕ, zero, suc, true, List, length, Some, None, refl, sym, subst, ap, ◌∙◌, arith}
-use Rattle.std.specs.Prelude.{slice_get}
+use Rattle.std.proofs.Common.{◌≡◌, ◌≢◌, ◌++◌, ◌∷◌, [], ◌≤◌, ◌⊎◌, inl, inr, ℕ, suc, true, List, length, Some, None, refl, sym, subst, ap, ◌∙◌, arith}
 use Rattle.std.specs.List.{list_all}
-use Rattle.std.proofs.lemmas.Bool.{and_parts}
-use Rattle.e3_types.specs.declared.entries.Act.TheVariants.{Parts, Line}
+use Rattle.e3_types.specs.declared.entries.Act.TheVariants.{Parts}
 use Rattle.e3_types.specs.declared.entries.Entry.{Entry}
 use Rattle.e3_types.specs.declared.scenarios.Item.{Item}
 use Rattle.e3_types.specs.declared.scenarios.Item.TheVariants as item
@@ -11,12 +9,12 @@ use Rattle.e3_types.specs.declared.scenarios.Scenario.{Scenario}
 use Rattle.e3_world.specs.Given.{is_groupable}
 use Rattle.e3_world.specs.Items.{since_line, to_line}
 use Rattle.e3_world.specs.Legal.{IsLine, IsParts, IsWhole, begins_with_parts, is_made, is_through, parts_due}
-use Rattle.e3_world.specs.Packets.{lines, items_or, pending, present_items, step_items}
+use Rattle.e3_world.specs.Packets.{lines, pending, present_items, step_items}
 use Rattle.e3_world.specs.Progress.{Delivering, ItemsDone}
 use Rattle.e3_world.proofs.Guards.{item_on, items_end, lines_push, step_through}
-use Rattle.e3_world.proofs.Lines.{begin_step, end_step, lines_to}
+use Rattle.e3_world.proofs.Lines.{end_step, lines_to}
 use Rattle.e3_world.proofs.Pushes.{legal_push}
-use Rattle.e3_world.proofs.Readings.{since_push, split_push, to_push}
+use Rattle.e3_world.proofs.Readings.{since_push, to_push}
 use Rattle.e3_world.proofs.Turns.{through_push}
 use Rattle.e3_play.proofs.Full.{parts_open}
 use Rattle.e3_play.specs.Played.{IsAsked, IsSettled, is_asking, is_parted, parts_asked}

@@ -30,7 +30,7 @@ use Rattle.e3_serial.proofs.Arrivals.{performed_more, InTurn, of_txn}
 use Rattle.e3_serial.proofs.Stepping.{in_flat}
 use Rattle.e3_serial.proofs.Facts.{decided_not}
 use Rattle.e3_serial.proofs.Holding.{Holds, ByDone, ByVote}
-use Rattle.e3_serial.proofs.Recording.{sent_same_records, ops_done, VoteMade, RecordMade, push_split, ruled_made, rule_made, shaped_records, lock_records, vote_done, undecided_before}
+use Rattle.e3_serial.proofs.Recording.{sent_same_records, ops_done, ruled_made, vote_done, undecided_before}
 use Rattle.e3_serial.proofs.Members.{in_split}
 use Rattle.e3_serial.proofs.Values.{untouched, writes_in}
 use Rattle.e3_serial.proofs.Tables.{installed_ops}

@@ -1,5 +1,5 @@
 -- What ordered logs keep, by places: all that the order is proved from.
-use Rattle.std.proofs.Common.{◌≡◌, ◌⊎◌, inl, inr, ⊎_elim, ℕ, zero, suc, ◌<◌, ◌==◌, Bool, true, false, not, cond, ◌&&◌, ◌||◌, List, [], ◌∷◌, ◌++◌, map, take, drop, filter, fold, refl, sym, ap, ◌∙◌, subst, arith, Option, Some, None, is_none, Contains}
+use Rattle.std.proofs.Common.{◌≡◌, ◌⊎◌, inl, inr, ℕ, ◌==◌, Bool, true, false, cond, ◌||◌, List, [], ◌∷◌, ◌++◌, map, filter, fold, refl, sym, ap, ◌∙◌, subst, Option, Some, None, is_none, Contains}
 use Rattle.std.specs.List.{flat_map, list_all}
 use Rattle.std.proofs.lemmas.Bool.{true≢false, and_parts, or_left, or_right}
 use Rattle.e3_types.specs.declared.locks.Lock.{Lock}

@@ -21,19 +21,18 @@ use Rattle.e3_world.specs.declared.lives.Asked.{Asked}
 use Rattle.e3_world.specs.declared.lives.At.{At}
 use Rattle.e3_world.specs.declared.lives.Made.{Made}
 use Rattle.e3_world.specs.declared.lives.Moment.{Moment}
-use Rattle.e3_world.specs.Logs.{has_voted, decision, decision_by, attempted, state_of, is_undecided, logged_inc, voted_ops, ops_of_vote, table_of, table_by, install_op, row_value, key_of, mode_of, lock_on, vote_locks, voted_locks}
+use Rattle.e3_world.specs.Logs.{is_undecided, logged_inc}
 use Rattle.e3_world.specs.Making.{nothing, and_send, grants_after, decides, and_grant, and_grants}
 use Rattle.e3_world.specs.Operations.{is_refusal, issued, issued_in, nth_op, answer_told, answer_sent, answers, is_answered, tells_op, op_told, unanswered}
 use Rattle.e3_world.specs.Steps.{step_at}
 use Rattle.e3_serial.proofs.Rules.{IsNews, Ruled, Start, Notes, Decides, Votes, Tells, Says, Asks, Issues, Rule, Plain, Hears, Locks, Repeats, TellsOwn, Shaped}
 use Rattle.e3_serial.proofs.Entries.{In}
 use Rattle.e3_serial.proofs.Members.{in_append}
-use Rattle.e3_serial.proofs.Shapes.{FromAway, Comes_to, step_shape, IsOwnAnswer, ruled_own, grants_own}
 use Rattle.e3_serial.proofs.Arrivals.{answers_push, told_push, answered_from, op_told_answered}
 use Rattle.e3_serial.proofs.Steadying.{some_inj, in_any}
-use Rattle.e3_serial.proofs.Answering.{Shows, InTold, InOuts, InOwn, Cause, Heard, Locked, Repeated, Granted, told_cause, sent_cause, in_each}
+use Rattle.e3_serial.proofs.Answering.{in_each}
 use Rattle.e3_world.specs.Moves.{plain}
-use Rattle.e3_serial.proofs.Stepping.{moment, so_far, is_moment, calm_allowed, grants_keep, grants_made, shaped_calm, so_far_calm, issued_calm, arrivals_calm, arrivals_so_far, same_answers, same_answered, newly, waits_parts, in_flat, granted_waits, comes_taken, lock_absent, new_taken, Why, ByLock, ByGrant, same_arrival, granted_arrived, heard_elsewhere, cause_why, new_why}
+use Rattle.e3_serial.proofs.Stepping.{moment, grants_made}
 use Rattle.e3_serial.proofs.Keeping.{IsRising}
 
 -- an own answer of a step is to a transaction of the site

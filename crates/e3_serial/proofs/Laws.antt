@@ -16,9 +16,9 @@ use Rattle.e3_trails.specs.Bounds.{IsHere}
 use Rattle.e3_world.specs.Logs.{key_of, table_of, row_value}
 use Rattle.e3_world.specs.Moves.{Move, moves_at, log_by, all_records}
 use Rattle.e3_world.specs.Serial as serial
-use Rattle.e3_world.specs.Serial.{World, run_op, all_ops, run_txn, first_world, is_committed, is_birth, commit_order, committed_in, found_by}
+use Rattle.e3_world.specs.Serial.{all_ops, first_world, is_committed, is_birth, commit_order, committed_in, found_by}
 use Rattle.e3_serial.specs.Ordered.{VoteFollows, LogFollows, IsOrdered, world_of, seen_by, TablesReplay, VotesReplay}
-use Rattle.e3_serial.proofs.Entries.{Name, AllRows, In, At, same, Entry, Vote, Decide, order, through, table, replay, committed, vote_ops, committed_at}
+use Rattle.e3_serial.proofs.Entries.{Name, AllRows, In, At, Vote, order, through, table, replay, committed, vote_ops, committed_at}
 use Rattle.e3_serial.proofs.Members.{at_take, filter_in}
 use Rattle.e3_serial.proofs.Placing.{put, entries, logged, vote_at, entered_vote, logged_split, logged_place, logged_all, take_map}
 use Rattle.e3_serial.proofs.Places.{at_has_vote, in_voters}

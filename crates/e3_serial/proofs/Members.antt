@@ -1,5 +1,5 @@
 -- Lists by members, places and order.
-use Rattle.std.proofs.Common.{◌≡◌, ◌≢◌, ◌⊎◌, inl, inr, ℕ, zero, suc, ◌+◌, ◌<◌, ◌≤◌, Bool, true, false, cond, ◌||◌, ◌==◌, List, [], ◌∷◌, ◌++◌, length, take, drop, filter, refl, sym, ap, ◌∙◌, subst, arith}
+use Rattle.std.proofs.Common.{◌≡◌, ◌≢◌, ◌⊎◌, inl, inr, ℕ, zero, suc, ◌+◌, ◌<◌, Bool, true, false, cond, ◌||◌, List, [], ◌∷◌, ◌++◌, take, filter, refl, sym, ◌∙◌, subst, arith}
 use Rattle.e3_types.specs.declared.transactions.Txn.{Txn}
 use Rattle.e3_serial.proofs.Entries.{same}
 use Rattle.e3_serial.proofs.Names.{same-true, eq-same}

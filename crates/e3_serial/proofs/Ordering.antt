@@ -10,7 +10,7 @@ use Rattle.e3_types.specs.declared.transactions.NumOp.{NumOp}
 use Rattle.e3_types.specs.declared.transactions.Txn.{Txn}
 use Rattle.e3_types.specs.Locks.{opposes, conflicts}
 use Rattle.e3_types.specs.Same.{same_txn}
-use Rattle.e3_world.specs.Logs.{has_voted, is_undecided, mode_of}
+use Rattle.e3_world.specs.Logs.{is_undecided, mode_of}
 use Rattle.e3_world.specs.Moves.{Move, Placed, all_records}
 use Rattle.e3_world.specs.Orderly.{is_free}
 use Rattle.e3_serial.specs.Ordered.{VoteFollows, DecisionFollows, Follows, LogFollows, IsOrdered}

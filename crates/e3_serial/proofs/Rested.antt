@@ -14,7 +14,7 @@ use Rattle.e3_types.specs.declared.transactions.NumOp.{NumOp}
 use Rattle.e3_types.specs.declared.transactions.Op.{Op}
 use Rattle.e3_types.specs.declared.transactions.Txn.{Txn}
 use Rattle.e3_world.specs.declared.lives.Life.{Life}
-use Rattle.e3_world.specs.Logs.{has_voted, decision, decision_by, attempted, state_of, is_undecided, logged_inc, voted_ops, ops_of_vote, table_of, table_by, install_op, row_value, key_of, mode_of, lock_on, vote_locks, voted_locks}
+use Rattle.e3_world.specs.Logs.{has_voted, logged_inc, key_of}
 use Rattle.e3_world.specs.Operations.{issued, nth_op, arrivals}
 use Rattle.e3_serial.proofs.Entries.{In}
 use Rattle.e3_serial.proofs.Steadying.{some_inj}

@@ -23,7 +23,7 @@ use Rattle.e3_world.specs.declared.lives.Performed.{Performed}
 use Rattle.e3_world.specs.Logs.{has_voted, state_of, is_undecided}
 use Rattle.e3_world.specs.Making.{nothing, log_now, steps_now}
 use Rattle.e3_world.specs.Operations.{issued, nth_op, taken_up, same_asked, is_fresh, arrivals, is_answered, done, waiting, op_told}
-use Rattle.e3_world.specs.Sound.{is_in_turn, Fits, FitsDo, FitsMessage, FitsPacket, FitsIssue}
+use Rattle.e3_world.specs.Sound.{Fits, FitsPacket}
 use Rattle.e3_world.specs.Steps.{step_at}
 use Rattle.e3_serial.proofs.Rules.{Commits, IsAsked, Hearing, Shaped}
 use Rattle.e3_serial.proofs.Entries.{In}
@@ -42,7 +42,6 @@ use Rattle.e3_serial.specs.Ordered.{seen_by}
 use Rattle.e3_serial.proofs.Voting.{idle_unvoted, listed}
 use Rattle.e3_serial.proofs.Keeping.{Keeps, next, append_split}
 use Rattle.e3_world.specs.Moves.{Move}
-use Rattle.e3_world.specs.Sound.{sends, tells, WasSent, step_move, has_risen, IsSoundStep, FitInTurn, records_in_turn, IsSoundTail, IsSoundRise, IsSoundMove, SoundAfter, IsSound}
 use Rattle.e3_serial.proofs.Telling.{right_seen, VotersAnswered}
 use Rattle.e3_serial.proofs.Stories.{First, first_more, Answered, Values, VoteOf, OwnVote, AskedVote}
 use Rattle.e3_serial.proofs.Facts.{has_vote_in}

@@ -14,7 +14,7 @@ use Rattle.e3_types.specs.declared.transactions.Txn.{Txn}
 use Rattle.e3_world.specs.declared.lives.Asked.{Asked}
 use Rattle.e3_world.specs.declared.lives.At.{At}
 use Rattle.e3_world.specs.declared.lives.Made.{Made}
-use Rattle.e3_world.specs.Logs.{has_voted, decision, decision_by, attempted, state_of, is_undecided, logged_inc, voted_ops, ops_of_vote, table_of, table_by, install_op, row_value, key_of, mode_of, lock_on, vote_locks, voted_locks}
+use Rattle.e3_world.specs.Logs.{has_voted}
 use Rattle.e3_world.specs.Making.{nothing, and_send, grants_after, decides, and_grant, and_grants}
 use Rattle.e3_world.specs.Operations.{issued, expected}
 use Rattle.e3_world.specs.Steps.{refuse, step_at}

@@ -11,7 +11,7 @@ use Rattle.e3_types.specs.Locks.{front}
 use Rattle.e3_world.specs.declared.lives.At.{At}
 use Rattle.e3_world.specs.declared.lives.Life.{Life}
 use Rattle.e3_world.specs.Logs.{logged_inc}
-use Rattle.e3_world.specs.Sound.{is_in_turn, Fits, FitsDo, FitsMessage, FitsPacket, FitsIssue}
+use Rattle.e3_world.specs.Sound.{Fits}
 use Rattle.e3_world.specs.Steps.{step_at, step_of}
 use Rattle.e3_serial.proofs.Shapes.{FromAway, step_shape}
 use Rattle.e3_serial.proofs.Steadying.{others_lack}
@@ -20,7 +20,7 @@ use Rattle.e3_serial.proofs.Recording.{RecordMade, rule_made, shaped_records}
 use Rattle.e3_serial.proofs.Keeping.{Keeps, next, append_split, step_keeps, IsRising, rise_keeps, start_keeps}
 use Rattle.e3_world.specs.Lives.{incarnation_of, life_of, life_at}
 use Rattle.e3_world.specs.Moves.{Did, Stepped, Silent, Rose, Move, moves_at, recorded, log_by, birth, rise_records, plain_input}
-use Rattle.e3_world.specs.Sound.{sends, tells, WasSent, step_move, has_risen, IsSoundStep, FitInTurn, records_in_turn, IsSoundTail, IsSoundRise, IsSoundMove, SoundAfter, IsSound}
+use Rattle.e3_world.specs.Sound.{step_move, has_risen, FitInTurn, records_in_turn, IsSoundMove, SoundAfter, IsSound}
 use Rattle.e3_world.proofs.Pushes.{incarnation_push, life_push, log_push, present_is_log, life_log_at}
 use Rattle.e3_refine.proofs.Following.{moves_here, moves_there}
 

@@ -24,7 +24,7 @@ use Rattle.e3_world.specs.Logs.{is_undecided, key_of}
 use Rattle.e3_world.specs.Making.{nothing, log_now, steps_now, and_send, answer_now, and_do, names_of, asked_on, granted_on, grants_after, decides, and_grant, and_grants}
 use Rattle.e3_world.specs.Operations.{is_refusal, issued, issued_in, nth_op, taken_up, same_asked, is_fresh, and_arrived, arrivals, answer_told, answer_sent, answers, is_answered, waiting}
 use Rattle.e3_world.specs.Sound.{Fits}
-use Rattle.e3_world.specs.Steps.{refuse, or_refused, and_ask, on_begin, on_input, handled, settle, step_at, step_of}
+use Rattle.e3_world.specs.Steps.{refuse, or_refused, on_input, settle, step_at}
 use Rattle.e3_serial.proofs.Rules.{IsNews, Hearing, Comes, Locking, Ruled, Start, Notes, Decides, Votes, Tells, Says, Asks, Issues, Rule, Plain, Hears, Locks, Repeats, TellsOwn, Shaped}
 use Rattle.e3_serial.proofs.Entries.{In}
 use Rattle.e3_serial.proofs.Members.{in_append, in_back, in_filter, filter_in}

@@ -24,7 +24,7 @@ use Rattle.e3_world.specs.declared.lives.At.{At}
 use Rattle.e3_world.specs.declared.lives.Expected.{Expected}
 use Rattle.e3_world.specs.declared.lives.Life.{Life}
 use Rattle.e3_world.specs.declared.lives.Moment.{Moment}
-use Rattle.e3_world.specs.Logs.{has_voted, decision, decision_by, attempted, state_of, is_undecided, logged_inc, voted_ops, ops_of_vote, table_of, table_by, install_op, row_value, key_of, mode_of, lock_on, vote_locks, voted_locks}
+use Rattle.e3_world.specs.Logs.{has_voted, state_of, logged_inc, key_of}
 use Rattle.e3_world.specs.Making.{nothing, log_now, steps_now}
 use Rattle.e3_world.specs.Operations.{issued, issued_in, nth_op, arrivals, tells_op, op_told, expected, expected_by}
 use Rattle.e3_world.specs.Sound.{Fits}

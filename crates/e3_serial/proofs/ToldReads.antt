@@ -19,7 +19,7 @@ use Rattle.e3_types.specs.Sets.{has_site}
 use Rattle.e3_refine.proofs.Lists.{same_is}
 use Rattle.e3_world.specs.Operations.{nth_op}
 use Rattle.e3_serial.proofs.Entries.{In}
-use Rattle.e3_serial.proofs.Members.{in_append, in_front, in_back, in_filter, filter_in}
+use Rattle.e3_serial.proofs.Members.{filter_in}
 use Rattle.e3_serial.proofs.Steadying.{some_inj, any_in}
 use Rattle.e3_serial.proofs.Holding.{in_flat_from}
 use Rattle.e3_serial.proofs.Members.{in_split}

@@ -24,8 +24,8 @@ use Rattle.e3_world.specs.declared.lives.Moment.{Moment}
 use Rattle.e3_world.specs.declared.lives.Performed.{Performed}
 use Rattle.e3_world.specs.Logs.{has_voted, decision, attempted, state_of, is_undecided, key_of, mode_of, voted_locks}
 use Rattle.e3_world.specs.Making.{nothing, state_now}
-use Rattle.e3_world.specs.Operations.{is_refusal, issued, issued_in, nth_op, taken_up, same_asked, Arrived, is_fresh, and_arrived, arrived_by, arrivals, answer_told, answer_sent, answers, is_answered, performed_by, done, waiting, done_locks, holders, queue, tells_op, op_told, unanswered, expected}
-use Rattle.e3_world.specs.Sound.{is_in_turn, Fits, FitsDo, FitsMessage, FitsPacket, FitsIssue}
+use Rattle.e3_world.specs.Operations.{arrivals, answers, performed_by, done_locks}
+use Rattle.e3_world.specs.Sound.{Fits, FitsPacket}
 use Rattle.e3_serial.proofs.Rules.{Commits, IsAsked}
 use Rattle.e3_serial.proofs.Entries.{In, changes}
 use Rattle.e3_serial.proofs.Members.{in_back, in_filter}

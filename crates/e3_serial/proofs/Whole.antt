@@ -14,7 +14,7 @@ use Rattle.e3_types.specs.declared.transactions.Op.{Op}
 use Rattle.e3_types.specs.declared.transactions.Txn.{Txn}
 use Rattle.e3_protocol.specs.Logs.{IsIn}
 use Rattle.e3_world.specs.declared.lives.At.{At}
-use Rattle.e3_world.specs.Logs.{has_voted, decision, decision_by, attempted, state_of, is_undecided, logged_inc, voted_ops, ops_of_vote, table_of, table_by, install_op, row_value, key_of, mode_of, lock_on, vote_locks, voted_locks}
+use Rattle.e3_world.specs.Logs.{logged_inc}
 use Rattle.e3_world.specs.Operations.{issued_in}
 use Rattle.e3_world.specs.Steps.{step_of}
 use Rattle.e3_serial.proofs.Entries.{In}

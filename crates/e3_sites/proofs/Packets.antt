@@ -1,5 +1,5 @@
 -- What is entered for a packet.
-use Rattle.std.proofs.Common.{◌≡◌, ◌≢◌, ◌++◌, ◌∷◌, [], ◌+◌, ◌≤◌, inl, inr, ℕ, zero, suc, Bool, true, false, List, length, Option, Some, None, refl, sym, subst, ap, ◌∙◌, append-nil, length-append, arith}
+use Rattle.std.proofs.Common.{◌≡◌, ◌≢◌, ◌++◌, ◌∷◌, [], ◌+◌, ◌≤◌, inl, inr, ℕ, zero, suc, true, false, List, length, Some, refl, sym, subst, ap, ◌∙◌, append-nil, length-append, arith}
 use Rattle.std.specs.Prelude.{slice_get, Contains}
 use Rattle.e3_types.specs.declared.entries.Act.TheVariants.{Drop}
 use Rattle.e3_types.specs.declared.entries.Entry.{Entry}

@@ -1,5 +1,5 @@
 -- Packets one after the other.
-use Rattle.std.specs.Prelude.{◌≡◌, ◌≢◌, ℕ, List, Some, length}
+use Rattle.std.specs.Prelude.{◌≡◌, ℕ, List, Some, length}
 use Rattle.e3_types.specs.declared.entries.Entry.{Entry}
 use Rattle.e3_types.specs.declared.messages.Packet.{Packet}
 use Rattle.e3_types.specs.declared.scenarios.Scenario.{Scenario}

@@ -1,7 +1,6 @@
 -- A site that rises, and nothing more: the theorems, by computation.
 use Rattle.std.specs.Prelude.{◌≡◌, [], refl}
 use Rattle.std.proofs.Common.{lit≤}
-use Rattle.e3_types.specs.Sites.{bits_of}
 use Rattle.e3_world.specs.Given.{IsGiven}
 use Rattle.e3_world.specs.Legal.{IsLegal, IsWhole}
 use Rattle.e3_world.specs.Logs.{table_of}

@@ -5,7 +5,6 @@ use Rattle.std.proofs.lemmas.Grind.{fold-append, flat_map-append}
 use Rattle.e3_types.specs.declared.entries.Entry.{Entry}
 use Rattle.e3_types.specs.declared.entries.Input.{Input}
 use Rattle.e3_types.specs.declared.entries.Input.TheVariants as input
-use Rattle.e3_types.specs.declared.records.Record.{Record}
 use Rattle.e3_types.specs.declared.scenarios.Scenario.{Scenario}
 use Rattle.e3_world.specs.declared.lives.Incarnation.{Incarnation}
 use Rattle.e3_world.specs.declared.lives.Life.{Life}

@@ -1,7 +1,7 @@
 -- What a site does in an election: it hears, joins, reports, and concludes.
 use Rattle.e3_world.specs.declared.lives.Made.{Made}
 use Rattle.e3_world.specs.declared.lives.At.{At}
-use Rattle.std.specs.Prelude.{◌&&◌, ◌∷◌, [], if◌then◌else◌, ℕ, suc, nat_lt, nat_le, Bool, true, false, not, List, Option, Some, None}
+use Rattle.std.specs.Prelude.{◌&&◌, ◌∷◌, [], if◌then◌else◌, ℕ, suc, nat_lt, nat_le, Bool, true, false, List, Option, Some, None}
 use Rattle.e3_types.specs.declared.transactions.Call.{Call}
 use Rattle.e3_types.specs.declared.transactions.Dir.{Dir}
 use Rattle.e3_types.specs.declared.transactions.Dir.TheVariants.{Abort, Commit}

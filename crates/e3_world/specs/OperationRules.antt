@@ -20,7 +20,7 @@ use Rattle.e3_types.specs.Locks.{lock_grant}
 use Rattle.e3_world.specs.declared.lives.Expected.{Expected}
 use Rattle.e3_world.specs.Logs.{key_of, mode_of}
 use Rattle.e3_world.specs.Making.{log_now, steps_now, state_now, open_now, is_coordinator, is_present, may_abort, and_tell, and_send, and_decide, and_abort, and_abort_for, and_do}
-use Rattle.e3_world.specs.Operations.{issued, nth_op, same_asked, answers, done, waiting, holders, queue, unanswered, expected}
+use Rattle.e3_world.specs.Operations.{issued, nth_op, same_asked, answers, waiting, holders, queue, unanswered, expected}
 
 -- a request for a lock: the operation is done, waits, or its transaction dies
 abbrev pub on_do : At → ℕ → Txn → ℕ → Op → Made → Made

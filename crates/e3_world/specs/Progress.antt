@@ -1,8 +1,7 @@
 -- How far the present step is done.
-use Rattle.std.specs.Prelude.{◌≡◌, ◌≤◌, ◌==◌, ◌++◌, ◌∷◌, [], if◌then◌else◌, Option, Some, None, ℕ, Bool, true, false, List, length, map, filter, filter_map}
+use Rattle.std.specs.Prelude.{◌≡◌, ◌≤◌, ◌++◌, ◌∷◌, [], if◌then◌else◌, Option, Some, None, ℕ, Bool, true, false, List, length, filter_map}
 use Rattle.std.specs.List.{list_any}
 use Rattle.e3_types.specs.declared.entries.Entry.{Entry}
-use Rattle.e3_types.specs.declared.entries.Input.{Input}
 use Rattle.e3_types.specs.declared.scenarios.Item.{Item}
 use Rattle.e3_types.specs.declared.scenarios.Scenario.{Scenario}
 use Rattle.e3_types.specs.declared.entries.Act.{Act}

@@ -1,4 +1,4 @@
-use Rattle.std.proofs.Common.{◌≡◌, ◌++◌, ◌∷◌, [], true, ◌∙◌, sym, ap}
+use Rattle.std.proofs.Common.{◌++◌, ◌∷◌, [], true, ◌∙◌, sym, ap}
 use Rattle.e3_world.specs.Legal.{entry_of}
 use Rattle.e3_judge.specs.Checks.{input_is_due}
 use Rattle.e3_judge.proofs.Stepping.{due_on}

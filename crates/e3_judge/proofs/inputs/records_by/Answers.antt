@@ -1,4 +1,4 @@
-use Rattle.std.proofs.Common.{◌≡◌, ◌++◌, ◌∷◌, [], ◌∙◌, sym, ap}
+use Rattle.std.proofs.Common.{◌++◌, ◌∷◌, [], ◌∙◌, ap}
 use Rattle.e3_world.specs.Legal.{entry_of, made_by}
 use Rattle.e3_judge.proofs.Stepping.{records_on}
 use Rattle.e3_judge.proofs.inputs.records_by.Goals as goal

@@ -1,9 +1,7 @@
 use Rattle.std.proofs.Common.{ap, subst, Err, List}
-use Rattle.e3_node.specs.Bodies.{ReadsWith, bodies_at}
 use Rattle.e3_node.specs.Rising.{IsForeign}
 use Rattle.e3_log.specs.Found.{bodies_of}
 use Rattle.e3_node.specs.declared.readying.Unready.{Unready}
-use Rattle.e3_world.specs.Moves.{open_tail}
 use Rattle.e3_node.proofs.Strange.{never_foreign}
 use Rattle.e3_node.proofs.rising.rise_over.Goals as goal
 

@@ -1,8 +1,8 @@
-use Rattle.std.proofs.Common.{◌≡◌, ◌≤◌, ◌∙◌, ◌+◌, ◌∷◌, [], ℕ, suc, sym, subst, ap, length, arith, List}
+use Rattle.std.proofs.Common.{◌≡◌, ◌≤◌, ◌∙◌, ◌+◌, ◌∷◌, [], suc, sym, subst, ap, length, arith, List}
 use Rattle.e3_types.specs.declared.scenarios.Item.{Item}
 use Rattle.e3_types.specs.declared.scenarios.Item.TheVariants as item
 use Rattle.e3_types.specs.declared.scenarios.Scenario.{Scenario}
-use Rattle.e3_world.specs.Packets.{lines, step_items}
+use Rattle.e3_world.specs.Packets.{step_items}
 use Rattle.e3_world.specs.Progress.{ItemsDone}
 use Rattle.e3_play.specs.Played.{IsFresh, IsSettled, IsStep}
 use Rattle.e3_play.proofs.Answered.{on_ok}

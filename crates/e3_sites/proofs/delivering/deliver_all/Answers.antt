@@ -1,12 +1,12 @@
-use Rattle.std.proofs.Common.{◌≡◌, ◌≢◌, ◌∙◌, [], Some, refl, zero, sym, subst, ap}
+use Rattle.std.proofs.Common.{◌≡◌, ◌∙◌, Some, refl, sym, subst, ap}
 use Rattle.e3_types.specs.declared.scenarios.Scenario.{Scenario}
 use Rattle.e3_world.specs.Legal.{first_pending}
-use Rattle.e3_world.specs.Packets.{lines, pending}
+use Rattle.e3_world.specs.Packets.{pending}
 use Rattle.e3_world.specs.Progress.{Delivering}
 use Rattle.e3_world.proofs.Guards.{nothing_first}
-use Rattle.e3_sites.specs.Delivered.{Delivers, Nothing, Then}
+use Rattle.e3_sites.specs.Delivered.{Nothing, Then}
 use Rattle.e3_sites.specs.Entering.{AfterPacket}
-use Rattle.e3_sites.proofs.Packets.{StaysDelivering, stays_delivering}
+use Rattle.e3_sites.proofs.Packets.{stays_delivering}
 use Rattle.e3_sites.proofs.delivering.deliver_all.Goals as goal
 
 pub loop-packet-init : goal.loop-packet-init

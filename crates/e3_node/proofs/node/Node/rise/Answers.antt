@@ -1,11 +1,9 @@
 use Rattle.std.proofs.Common.{◌≡◌, ◌++◌, ℕ, ◌∙◌, ap, subst, sym, false}
 use Rattle.e3_node.specs.Bodies.{DiskStands}
-use Rattle.e3_node.specs.Ends.{HasFailedToRise}
 use Rattle.e3_node.specs.NodeView.{NodeView, disk_of}
 use Rattle.e3_node.specs.Rising.{IsAllowed, IsWish, MayRise, RiseMakes, RiseTakes, entries_of}
 use Rattle.e3_node.specs.SharedStands.{SharedView}
 use Rattle.e3_world.specs.Items.{is_up_at}
-use Rattle.e3_world.specs.Legal.{IsRising}
 use Rattle.e3_node.proofs.Keeping.{disk_in}
 use Rattle.e3_node.proofs.Risen.{allowed_of, failed_told, may_rise, missed_told, node_risen, rose_told, spared_told}
 use Rattle.e3_node.proofs.node.Node.rise.Goals as goal
