@@ -1,0 +1,13 @@
+// A value with a chronicle.
+ghost use Rattle.std.specs.Prelude.{ℕ, List, Bool};
+
+/// A value that has a chronicle: a list of marks, the oldest first. Each mark belongs to some of the owners, which are
+/// numbers from 0.
+pub trait Chronicle {
+    type Mark;
+
+    ghost marks: { Self → List Self.Mark };
+
+    // Whether a mark belongs to an owner.
+    ghost belongs: { Self.Mark → ℕ → Bool };
+}
