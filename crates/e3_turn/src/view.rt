@@ -13,23 +13,30 @@ pub struct View<M> {
     pub owners: LinkedList<u64>,
     /// The chronicle, as the pass has last seen it.
     pub seen: LinkedList<M>,
-    /// Whether it has a ticket, and which. Here tickets are never used again, as the words that count them are.
+    /// Whether it has a ticket.
     pub waits: bool,
+    /// Its ticket. Here no ticket is used twice, while the words of the table count them modulo 2^64.
     pub ticket: u64,
+    /// Whether its ticket is served, and the value is with it.
     pub has_turn: bool,
     /// The owner that it is about to give away.
     pub chosen: u64,
-    /// The owners and the chronicles of the two passes that its last join put together; no owners before one.
+    /// The owners of the first of the two passes that its last join put together; none before a join.
     pub first_owners: LinkedList<u64>,
+    /// The chronicle that the first had seen.
     pub first_seen: LinkedList<M>,
+    /// The owners of the second.
     pub second_owners: LinkedList<u64>,
+    /// The chronicle that the second had seen.
     pub second_seen: LinkedList<M>,
 }
 
 /// What the rule knows of the lock from the start: its last owner, and the value that it was opened with.
 #[derive(Drop)]
 pub struct Key<V> {
+    /// The last owner.
     pub last: u32,
+    /// The value that the lock was opened with.
     pub opening: Snapshot<V>,
 }
 

@@ -6,12 +6,14 @@ use e3_turn::Chronicle;
 use std::alloc::{AllocError, Global};
 use std::marker::Model;
 
+/// A mark belongs to one owner, and has a number among the marks of this owner.
 #[derive(Clone, Copy, Drop)]
 pub struct Mark {
     pub owner: u32,
     pub number: u64,
 }
 
+/// Marks, the oldest first.
 #[derive(Drop)]
 pub struct Journal {
     marks: Vec<Mark>,

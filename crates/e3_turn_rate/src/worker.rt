@@ -8,6 +8,7 @@ use crate::journal::{Journal, Mark};
 use e3_turn::{Pass, TurnLock};
 use std::sync::Wait;
 
+/// Puts `count` marks of its owner, once it is given a pass for it.
 #[derive(Drop)]
 pub struct Worker {
     pub owner: u32,
