@@ -7,4 +7,4 @@ mod Inputs
 mod Ascending
 mod Electing
 mod Bounding
-mod Numbers
+pub mod Numbers

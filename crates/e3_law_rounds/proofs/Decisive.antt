@@ -17,7 +17,7 @@ use Rattle.e3_law_rounds.proofs.Delivering.{Entered, taking}
 use Rattle.e3_law_rounds.proofs.Tail.{Tail, or_parts}
 use Rattle.e3_law_rounds.proofs.Walked.{Each, Turn, Walked, and_then, step_then, walk}
 use Rattle.e3_law_rounds.proofs.Walking.{Rest}
-use Rattle.e3_law_rounds.proofs.Won.{Prepared, acknowledged_begins, decided_begins, prepared_on, won_on}
+use Rattle.e3_law_rounds.proofs.Won.{Prepared, attempt_of, acknowledged_begins, decided_begins, prepared_on, won_on}
 
 -- acknowledgements come until they make a quorum, and the rest of them late
 pub to_win : (sc : Scenario) (start : List Entry) (r : RecoveryRound) (base : List Entry) (n : ℕ) (dir : Dir) (h more : List Entry) (own : ℕ) (said : List Said) (done todo : List ℕ) →
@@ -71,13 +71,13 @@ pub to_attempts : (sc : Scenario) (start : List Entry) (r : RecoveryRound) (base
     has_site r.members r.elector ≡ true → Each (Turn r) [] all →
     ((m : ℕ) → has_site r.members m ≡ true → (is_undecided r.txn (log_of sc base m) ≡ true) × ((last_elected r.txn (log_of sc base m) == n) ≡ true) × ((last_attempt r.txn (log_of sc base m) == n) ≡ false)) →
     Rest sc r.members h more → Prepared sc start r base n dir h own said [] all →
-    Walked sc r h more (λ now. Acknowledged sc start r now n dir now (own + length all) said [] all)
+    Walked sc r h more (λ now. Acknowledged sc start r now n dir now (own + length all) said [] all × ((s : ℕ) → log_of sc now s ≡ log_of sc base s ++ attempt_of r n dir all s))
 to_attempts sc start r base n dir h more own said all leads each ready rest was =
     let end = walk sc r (λ h own done todo. Prepared sc start r base n dir h own said done todo) (Turn r)
     (λ h more own done todo m turn rest was. prepared_on sc start r base n dir h more own said done todo m turn.member leads turn.from_other turn.away turn.fresh
     (ready m turn.member).0 (ready m turn.member).1 (ready m turn.member).2 rest was)
     h more own [] all each rest was in
-    record { now = end.now; later = end.later; is = end.is; rest = end.rest; phase = acknowledged_begins sc start r base n dir end.now (own + length all) said all end.phase }
+    record { now = end.now; later = end.later; is = end.is; rest = end.rest; phase = (acknowledged_begins sc start r base n dir end.now (own + length all) said all end.phase, end.phase.logs) }
 
 -- from there to the tail
 pub attempts_to_tail : (sc : Scenario) (start : List Entry) (r : RecoveryRound) (n : ℕ) (dir : Dir) (h more : List Entry) (own : ℕ) (said : List Said) (all : List ℕ) →

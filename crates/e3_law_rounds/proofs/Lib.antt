@@ -28,3 +28,9 @@ mod Decisive
 mod Turns
 mod Numbering
 mod Taking_turns
+mod Beginning
+mod Choosing
+mod Ending
+mod Single
+mod Several
+mod Whole

@@ -166,8 +166,9 @@ pub conclusion_begins : (sc : Scenario) (start : List Entry) (r : RecoveryRound)
     Rest sc r.members h more → Reported sc start r all h own done (m ∷ []) →
     (e : Entry) × (later : List Entry) × (more ≡ e ∷ later) × Rest sc r.members (h ++ e ∷ []) later
     × Decided sc start r h dir (h ++ e ∷ []) (suc own) (record { site = r.elector; verdict = v } ∷ []) [] (others r.elector r.members)
+    × (log_of sc (h ++ e ∷ []) r.elector ≡ log_of sc h r.elector ++ x.records)
 conclusion_begins sc start r all dir v x h more own done m member leads away row concludes rest was =
-    (e, d.later, d.is, d.on, now)
+    (e, d.later, d.is, d.on, now, log_is)
   where
     t : Txn
     t = r.txn
@@ -224,10 +225,11 @@ conclusion_begins sc start r all dir v x h more own done m member leads away row
         e_outs : List Packet
         e_outs = numbered (suc (length (sent h))) (made_by sc h r.elector (input.Deliver d.p)).outs
 
+    log_is : log_of sc (h ++ e ∷ []) r.elector ≡ log_of sc h r.elector ++ x.records
+    log_is = log_on sc h r.elector (input.Deliver d.p) ∙ ap (λ (y : Made). log_of sc h r.elector ++ y.records) d.made ∙ ap (λ rs. log_of sc h r.elector ++ rs) follows.records
+
     decides : is_undecided t (log_of sc (h ++ e ∷ []) r.elector) ≡ false
-    decides =
-        ap (is_undecided t) (log_on sc h r.elector (input.Deliver d.p) ∙ ap (λ (y : Made). log_of sc h r.elector ++ y.records) d.made ∙ ap (λ rs. log_of sc h r.elector ++ rs) follows.records)
-        ∙ concludes.decided
+    decides = ap (is_undecided t) log_is ∙ concludes.decided
 
     now : Decided sc start r h dir (h ++ e ∷ []) (suc own) (record { site = r.elector; verdict = v } ∷ []) [] (others r.elector r.members)
     now = record {

@@ -43,7 +43,7 @@ sites_of_reports sc start t [] = refl
 sites_of_reports sc start t (x ∷ xs) = ap (λ l. x ∷ l) (sites_of_reports sc start t xs)
 
 -- none of the members has decided: no report is final
-none_final : (sc : Scenario) (start : List Entry) (t : Txn) (xs : List ℕ) →
+pub none_final : (sc : Scenario) (start : List Entry) (t : Txn) (xs : List ℕ) →
     (reports_state A (map (report_of sc start t) xs) || reports_state C (map (report_of sc start t) xs)) ≡ not (list_all (is_open sc start t) xs)
 none_final sc start t [] = refl
 none_final sc start t (x ∷ xs) = mix (same_state st A) (same_state st C) _ _ (is_open sc start t x) (list_all (is_open sc start t) xs) (final_is t (log_of sc start x)) (none_final sc start t xs)

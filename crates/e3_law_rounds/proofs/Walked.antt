@@ -120,7 +120,7 @@ not_all f r z m done todo turn =
     let tail : length (todo ++ z ∷ []) ≡ length todo + 1 = length-append todo (z ∷ []) in
     ne_eqb _ _ (λ e. let clash : ⊥ = omega (arith, many, long, tail, e) in clash)
 
-all_of : {Y : Type 0} (f : ℕ → Y) (r : RecoveryRound) (z : ℕ) (done : List ℕ) → Turn r done z [] → (length (map f (r.elector ∷ (done ++ z ∷ []))) == length r.members) ≡ true
+pub all_of : {Y : Type 0} (f : ℕ → Y) (r : RecoveryRound) (z : ℕ) (done : List ℕ) → Turn r done z [] → (length (map f (r.elector ∷ (done ++ z ∷ []))) == length r.members) ≡ true
 all_of f r z done turn =
     let many = counts f r.elector z done in
     let long : length r.members ≡ suc (length done + 1) = turn.long in

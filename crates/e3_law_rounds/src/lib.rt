@@ -1,7 +1,7 @@
 //! Recovery rounds end.
 #![tactic(auto)]
 
-ghost use Rattle.e3_law_rounds.specs.Claims.{DeliveryIsForced, DeliveryShifts, GroupInOnePart, QueueBegins, QueueIsPending};
+ghost use Rattle.e3_law_rounds.specs.Claims.{DeliveryIsForced, DeliveryShifts, GroupInOnePart, QueueBegins, QueueIsPending, RoundsEnd};
 
 /// What is pending in a recover step is a queue.
 pub fn packets_queue()
@@ -18,4 +18,9 @@ pub fn delivery_is_forced()
 /// The group of a recover step lies in one part.
 pub fn group_in_one_part()
     ensures { GroupInOnePart }
+{}
+
+/// Recovery rounds end.
+pub fn rounds_end()
+    ensures { RoundsEnd }
 {}
