@@ -122,7 +122,7 @@ acknowledged_on sc start r base n dir h more own said done todo m member leads a
           ∙ ap (λ (x : Made). (rounds_of r.elector t (life_with life (input.Deliver d.p) x)).now) made
           ∙ ap (λ (x : Rounds). x.now) (rounds_on r.elector t life (input.Deliver d.p) nothing)
           ∙ subst after (sym d.same) counted;
-      entered = entered_next sc start h more q (map (ack_mail r n dir) todo) r own said nothing d was.entered member refl step refl;
+      entered = entered_next sc start h more q (map (ack_mail r n dir) todo) r own said nothing d was.entered member (same_self t) step refl;
     }
       where
         log_now : (s : ℕ) (b : Bool) → (r.elector == s) ≡ b → log_of sc (h ++ e ∷ []) s ≡ log_of sc base s

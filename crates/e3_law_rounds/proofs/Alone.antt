@@ -12,7 +12,6 @@ use Rattle.e3_types.specs.declared.records.Record.TheVariants as log
 use Rattle.e3_types.specs.declared.scenarios.Scenario.{Scenario}
 use Rattle.e3_types.specs.declared.transactions.Dir.{Dir}
 use Rattle.e3_types.specs.declared.transactions.Txn.{Txn}
-use Rattle.e3_types.specs.declared.verdicts.SiteReport.{SiteReport}
 use Rattle.e3_types.specs.declared.verdicts.Verdict.{Verdict}
 use Rattle.e3_types.specs.declared.verdicts.Verdict.TheVariants as verdict
 use Rattle.e3_types.specs.Sets.{others}
@@ -43,9 +42,6 @@ use Rattle.e3_law_rounds.proofs.Turning.{Concludes, said_first}
 -- the number that a site joins alone
 abbrev pub own_number : Txn → At → ℕ
 own_number t a = suc (max 0 (last_elected t a.life.log))
-
-own_report : At → Txn → SiteReport
-own_report a t = record { site = a.site; state = state_of t a.life.log; attempt = last_attempt t a.life.log }
 
 at_least : (k : ℕ) → nat_le k (max 0 k) ≡ true
 at_least k = grind (arith, common_steps)

@@ -1,7 +1,5 @@
 -- The first phase of a round: its calls are answered, one after the other.
-use Rattle.std.proofs.Common.{◌≡◌, ◌==◌, ◌&&◌, ◌+◌, ℕ, suc, Bool, true, false, List, [], ◌∷◌, ◌++◌, append-nil, append_assoc, length, length-append, ◌∙◌, ap, sym, subst, refl, map, arith, eqb-true, eq-eqb, not, ◌||◌}
-use Rattle.std.specs.List.{list_all}
-use Rattle.std.proofs.lemmas.Bool.{and_parts, ne_eqb}
+use Rattle.std.proofs.Common.{◌≡◌, ◌==◌, ◌+◌, ℕ, suc, Bool, true, false, List, [], ◌∷◌, ◌++◌, append-nil, append_assoc, length, length-append, ◌∙◌, ap, sym, subst, refl, map, arith, eqb-true, ◌||◌}
 use Rattle.std.proofs.lemmas.List.{map-append}
 use Rattle.e3_types.specs.declared.entries.Entry.{Entry}
 use Rattle.e3_types.specs.declared.entries.Input.TheVariants as input
@@ -144,43 +142,6 @@ asked_on sc start r h more done todo m member leads from_other to_other rest was
 
         quiet : said_in t (e ∷ []) ≡ []
         quiet = rw made refl
-
--- the members that the elector asks
-abbrev pub are_asked : RecoveryRound → List ℕ → Bool
-are_asked r sites = list_all (λ m. has_site r.members m && not (m == r.elector)) sites
-
-turned : (a b : ℕ) → not (a == b) ≡ true → ((a == b) ≡ false) × ((b == a) ≡ false)
-turned a b is = by (a == b) refl
-  where
-    by : (c : Bool) → (a == b) ≡ c → ((a == b) ≡ false) × ((b == a) ≡ false)
-    by true same = absurd (let no_way : false ≡ true = sym (ap not same) ∙ is in cc)
-    by false apart = (apart, ne_eqb b a (λ e. let same : true ≡ false = sym (eq-eqb a b (sym e)) ∙ apart in cc))
-
--- so all are asked in turn: the first phase ends
-pub record AskedAll (sc : Scenario) (start : List Entry) (r : RecoveryRound) (h more : List Entry) (all : List ℕ) : Type 0 where
-  pub now : List Entry
-  pub later : List Entry
-  pub is : now ++ later ≡ h ++ more
-  pub rest : Rest sc r.members now later
-  pub asked : Asked sc start r now all []
-
-pub asked_all : (sc : Scenario) (start : List Entry) (r : RecoveryRound) (h more : List Entry) (done todo : List ℕ) → are_asked r todo ≡ true →
-    has_site r.members r.elector ≡ true → Rest sc r.members h more → Asked sc start r h done todo → AskedAll sc start r h more (done ++ todo)
-asked_all sc start r h more done [] each leads rest was =
-    record { now = h; later = more; is = refl; rest = rest; asked = subst (λ l. Asked sc start r h l []) (sym (append-nil done)) was }
-asked_all sc start r h more done (m ∷ todo) each leads rest was =
-    let parts = and_parts (has_site r.members m && not (m == r.elector)) (are_asked r todo) each in
-    let one = and_parts (has_site r.members m) (not (m == r.elector)) parts.0 in
-    let apart = turned m r.elector one.1 in
-    let step = asked_on sc start r h more done todo m one.0 leads apart.1 apart.0 rest was in
-    let end = asked_all sc start r (h ++ step.0 ∷ []) step.1 (done ++ m ∷ []) todo parts.1 leads step.3 step.4 in
-    record {
-      now = end.now;
-      later = end.later;
-      is = end.is ∙ append_assoc h (step.0 ∷ []) step.1 ∙ ap (λ l. h ++ l) (sym step.2);
-      rest = end.rest;
-      asked = subst (λ l. Asked sc start r end.now l []) (append_assoc done (m ∷ []) todo) end.asked;
-    }
 
 or_true : (b : Bool) → (b || true) ≡ true
 or_true true = refl

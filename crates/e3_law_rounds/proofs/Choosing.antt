@@ -47,10 +47,6 @@ kind_of verdict.Commit = Ends Commit refl
 kind_of verdict.PreAbort = Asks Abort refl
 kind_of verdict.PreCommit = Asks Commit refl
 
-pub final_no_block : (dir : Dir) → is_block (final_of dir) ≡ false
-final_no_block Abort = refl
-final_no_block Commit = refl
-
 pub pre_no_block : (dir : Dir) → is_block (pre_of dir) ≡ false
 pre_no_block Abort = refl
 pre_no_block Commit = refl

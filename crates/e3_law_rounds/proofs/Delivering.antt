@@ -1,5 +1,5 @@
 -- One delivery of a round, by its packet without the number: which entry comes, what its step is, and the queue behind it.
-use Rattle.std.proofs.Common.{◌≡◌, ◌+◌, ℕ, suc, Bool, true, false, List, [], ◌∷◌, ◌++◌, append-nil, append_assoc, length, Some, ◌∙◌, ap, sym, subst, refl, map, count_by, arith}
+use Rattle.std.proofs.Common.{◌≡◌, ◌+◌, ℕ, suc, Bool, true, false, List, [], ◌∷◌, ◌++◌, append-nil, append_assoc, length, ◌∙◌, ap, sym, subst, refl, map, count_by, arith}
 use Rattle.std.proofs.lemmas.Grind.{common_steps, flat_map-append}
 use Rattle.std.proofs.lemmas.List.{map-append}
 use Rattle.std.proofs.lemmas.List.Sums.{sum_by-append}
@@ -21,7 +21,7 @@ use Rattle.e3_world.specs.Moves.{moves_of, plain}
 use Rattle.e3_world.specs.Packets.{is_calm, parts_of, sent}
 use Rattle.e3_world.specs.Steps.{step_at}
 use Rattle.e3_law_rounds.specs.Queues.{IsQueue, are_within}
-use Rattle.e3_law_rounds.specs.Rounds.{Said, is_own, said_in, txn_of_round}
+use Rattle.e3_law_rounds.specs.Rounds.{Said, is_own, ends_txn, said_in}
 use Rattle.e3_law_numbers.proofs.Moving.{plain_numbered}
 use Rattle.e3_law_rounds.proofs.Queue.{delivery_shifts, delivery_shifts_any, staying}
 use Rattle.e3_law_rounds.proofs.Walking.{Next, Rest, goes_on}
@@ -135,7 +135,7 @@ entered_on start h r own said e was mine quiet = record {
 
 -- a delivery of the round's own that tells nothing
 pub entered_next : (sc : Scenario) (start h more : List Entry) (q : Packet) (left : List Packet) (r : RecoveryRound) (own : ℕ) (said : List Said) (made : Made) →
-    (d : Delivery sc r.members h more q left) → Entered start h r own said → has_site r.members q.«from» ≡ true → txn_of_round q.msg ≡ Some r.txn →
+    (d : Delivery sc r.members h more q left) → Entered start h r own said → has_site r.members q.«from» ≡ true → ends_txn r.txn q.msg ≡ true →
     step_at (taking sc h q) ≡ made → made.told ≡ [] →
     Entered start (h ++ entry_of sc h q.to (input.Deliver d.p) ∷ []) r (suc own) said
 entered_next sc start h more q left r own said made d was by_member of_t step none =
@@ -143,20 +143,20 @@ entered_next sc start h more q left r own said made d was by_member of_t step no
   where
     mine : is_own r (entry_of sc h q.to (input.Deliver d.p)) ≡ true
     mine =
-        let says : txn_of_round d.p.msg ≡ Some r.txn = ap (λ (x : Packet). txn_of_round x.msg) d.same ∙ of_t in
+        let says : ends_txn r.txn d.p.msg ≡ true = ap (λ (x : Packet). ends_txn r.txn x.msg) d.same ∙ of_t in
         let sent_by : has_site r.members d.p.«from» ≡ true = ap (λ (x : Packet). has_site r.members x.«from») d.same ∙ by_member in
-        rw (sent_by, says, same_self r.txn) refl
+        rw (sent_by, says) refl
 
     quiet : said_in r.txn (entry_of sc h q.to (input.Deliver d.p) ∷ []) ≡ []
     quiet = let told_is : (made_by sc h q.to (input.Deliver d.p)).told ≡ [] = ap (λ (x : Made). x.told) (d.made ∙ step) ∙ none in rw told_is refl
 
 -- it is one of the round's own
 pub own_next : (sc : Scenario) (h more : List Entry) (q : Packet) (left : List Packet) (r : RecoveryRound) → (d : Delivery sc r.members h more q left) →
-    has_site r.members q.«from» ≡ true → txn_of_round q.msg ≡ Some r.txn → is_own r (entry_of sc h q.to (input.Deliver d.p)) ≡ true
+    has_site r.members q.«from» ≡ true → ends_txn r.txn q.msg ≡ true → is_own r (entry_of sc h q.to (input.Deliver d.p)) ≡ true
 own_next sc h more q left r d by_member of_t =
-    let says : txn_of_round d.p.msg ≡ Some r.txn = ap (λ (x : Packet). txn_of_round x.msg) d.same ∙ of_t in
+    let says : ends_txn r.txn d.p.msg ≡ true = ap (λ (x : Packet). ends_txn r.txn x.msg) d.same ∙ of_t in
     let sent_by : has_site r.members d.p.«from» ≡ true = ap (λ (x : Packet). has_site r.members x.«from») d.same ∙ by_member in
-    rw (sent_by, says, same_self r.txn) refl
+    rw (sent_by, says) refl
 
 -- an entry of the round's own that tells verdicts
 pub entered_told : (start h : List Entry) (r : RecoveryRound) (own : ℕ) (said more : List Said) (e : Entry) → Entered start h r own said → is_own r e ≡ true →

@@ -132,7 +132,7 @@ heard_on sc start r h more own done todo m member leads away fresh awaits rest w
           ∙ ap (λ (x : Elections). x.now) (elections_on r.elector t life (input.Deliver d.p) nothing)
           ∙ heard (plain d.p) d.same;
       grouped = group_on sc h r.elector r.elector t d.p ∙ was.grouped;
-      entered = entered_next sc start h more q (map (answer sc start r) todo) r own [] nothing d was.entered member refl step refl;
+      entered = entered_next sc start h more q (map (answer sc start r) todo) r own [] nothing d was.entered member (same_self t) step refl;
     }
       where
         log_now : (s : ℕ) (b : Bool) → (r.elector == s) ≡ b → log_of sc (h ++ e ∷ []) s ≡ log_of sc start s

@@ -14,9 +14,9 @@ use Rattle.e3_types.specs.declared.scenarios.Item.TheVariants as item
 use Rattle.e3_types.specs.declared.scenarios.Scenario.{Scenario}
 use Rattle.e3_world.specs.Given.{IsGiven}
 use Rattle.e3_world.specs.Items.{RecoveryRound}
-use Rattle.e3_world.specs.Legal.{Guard, LegalAfter, IsStep, entry_of}
+use Rattle.e3_world.specs.Legal.{AreDue, Guard, IsDue, LegalAfter}
 use Rattle.e3_world.specs.Packets.{is_calm, is_line, outs_of, pending, present_items}
-use Rattle.e3_law_rounds.specs.Rounds.{elects, is_own, said_at, said_in}
+use Rattle.e3_law_rounds.specs.Rounds.{elects, is_elect, is_of_round, is_own, said_at, said_in}
 use Rattle.e3_law_rounds.proofs.Tail.{items_on, no_item, or_parts, pending_all}
 
 none_pass : (ps : List Packet) → list_all (λ p. false) ps ≡ true → ps ≡ []
@@ -29,16 +29,23 @@ record After (sc : Scenario) (r : RecoveryRound) (h : List Entry) (e : Entry) : 
   not_own : is_own r e ≡ false
   silent : said_in r.txn (e ∷ []) ≡ []
 
-no_step : (sc : Scenario) (h : List Entry) (group : List ℕ) (items : List Item) (site : ℕ) (i : Input) (act : Act) → IsGiven sc →
-    present_items sc h ≡ item.Recover group ∷ items → pending sc h ≡ [] → IsStep sc h site i act → elects (entry_of sc h site i) ≡ false → ⊥
-no_step sc h group items site (input.Deliver p) act given is none step other =
-    let nothing_first : None ≡ Some p = sym (ap (λ l. slice_get l 0) none) ∙ step.due.in_order (ap is_calm is) in cc
-no_step sc h group items site (input.Elect t members) act given is none step other = cc
-no_step sc h group items site (input.Begin sites) act given is none step other = no_item sc h group items site _ given is step.due
-no_step sc h group items site (input.Do t op) act given is none step other = no_item sc h group items site _ given is step.due
-no_step sc h group items site (input.Commit t) act given is none step other = no_item sc h group items site _ given is step.due
-no_step sc h group items site (input.Cancel t) act given is none step other = no_item sc h group items site _ given is step.due
-no_step sc h group items site (input.Expire t) act given is none step other = no_item sc h group items site _ given is step.due
+-- no input is due but an Elect
+none_due : (sc : Scenario) (h : List Entry) (group : List ℕ) (items : List Item) (site : ℕ) (i : Input) → IsGiven sc →
+    present_items sc h ≡ item.Recover group ∷ items → pending sc h ≡ [] → IsDue sc h site i → is_elect i ≡ false → ⊥
+none_due sc h group items site (input.Deliver p) given is none due other =
+    let nothing_first : None ≡ Some p = sym (ap (λ l. slice_get l 0) none) ∙ due.in_order (ap is_calm is) in cc
+none_due sc h group items site (input.Elect t members) given is none due other = cc
+none_due sc h group items site (input.Begin sites) given is none due other = no_item sc h group items site _ given is due
+none_due sc h group items site (input.Do t op) given is none due other = no_item sc h group items site _ given is due
+none_due sc h group items site (input.Commit t) given is none due other = no_item sc h group items site _ given is due
+none_due sc h group items site (input.Cancel t) given is none due other = no_item sc h group items site _ given is due
+none_due sc h group items site (input.Expire t) given is none due other = no_item sc h group items site _ given is due
+
+fall_takes_none : (sc : Scenario) (r : RecoveryRound) (h : List Entry) (group : List ℕ) (items : List Item) (site : ℕ) (inputs : List Input) → IsGiven sc →
+    present_items sc h ≡ item.Recover group ∷ items → pending sc h ≡ [] → AreDue sc h site inputs → list_any is_elect inputs ≡ false → list_any (is_of_round r) inputs ≡ false
+fall_takes_none sc r h group items site [] given is none due other = refl
+fall_takes_none sc r h group items site (i ∷ inputs) given is none due other =
+    absurd (none_due sc h group items site i given is none due.0 (or_parts (is_elect i) (list_any is_elect inputs) other).0)
 
 still : (sc : Scenario) (h : List Entry) (e : Entry) → pending sc h ≡ [] → outs_of e.act ≡ [] → pending sc (h ++ e ∷ []) ≡ []
 still sc h e none sends = none_pass _ (pending_all (λ p. false) sc h e (ap (list_all (λ p. false)) none) (ap (list_all (λ p. false)) sends))
@@ -47,8 +54,11 @@ by_act : (sc : Scenario) (r : RecoveryRound) (h : List Entry) (group : List ℕ)
     present_items sc h ≡ item.Recover group ∷ items → pending sc h ≡ [] → elects (record { owner = o; act = act }) ≡ false →
     Guard sc h (record { owner = o; act = act }) → After sc r h (record { owner = o; act = act })
 by_act sc r h group items zero (Step i records outs events) given is none other guard = absurd guard
-by_act sc r h group items (suc s) (Step i records outs events) given is none other guard = absurd (no_step sc h group items (suc s) i (Step i records outs events) given is none guard other)
-by_act sc r h group items o (Fall inputs records why) given is none other guard = record { none = still sc h _ none refl; not_own = refl; silent = refl }
+by_act sc r h group items (suc s) (Step i records outs events) given is none other guard =
+    absurd (none_due sc h group items (suc s) i given is none guard.due (or_parts (is_elect i) false other).0)
+by_act sc r h group items zero (Fall inputs records why) given is none other guard = absurd guard
+by_act sc r h group items (suc s) (Fall inputs records why) given is none other guard =
+    record { none = still sc h _ none refl; not_own = fall_takes_none sc r h group items (suc s) inputs given is none guard.due other; silent = refl }
 by_act sc r h group items o (Rise kept inc) given is none other guard = record { none = still sc h _ none refl; not_own = refl; silent = refl }
 by_act sc r h group items o (RiseFall kept inc why) given is none other guard = record { none = still sc h _ none refl; not_own = refl; silent = refl }
 by_act sc r h group items o Miss given is none other guard = record { none = still sc h _ none refl; not_own = refl; silent = refl }

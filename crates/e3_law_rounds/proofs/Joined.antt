@@ -147,7 +147,7 @@ joined_begins sc start r h more own done m s ss member leads away fresh heard_al
           ∙ ap (λ (x : Elections). x.now) (elections_on r.elector t life (input.Deliver d.p) makes_now)
           ∙ subst (after life.log) (sym d.same) (subst (λ l. after l q) (sym log_is) joins);
       grouped = group_on sc h r.elector r.elector t d.p ∙ was.grouped;
-      entered = entered_next sc start h more q [] r own [] makes_now d was.entered member refl step refl;
+      entered = entered_next sc start h more q [] r own [] makes_now d was.entered member (same_self t) step refl;
     }
       where
         log_now : (x : ℕ) (b : Bool) → (r.elector == x) ≡ b → log_of sc (h ++ e ∷ []) x ≡ log_of sc start x ++ join_of r n [] x
@@ -213,7 +213,7 @@ joined_on sc start r all h more own done todo m member leads from_other to_other
       logs = λ x. log_now x (m == x) refl;
       gathered = ap (λ l. (elections_of r.elector t (life_at l)).now) (moves_still sc h m r.elector (input.Deliver d.p) to_other) ∙ was.gathered;
       grouped = group_on sc h r.elector m t d.p ∙ was.grouped;
-      entered = entered_next sc start h more q left r own [] makes_now d was.entered leads refl step refl;
+      entered = entered_next sc start h more q left r own [] makes_now d was.entered leads (same_self t) step refl;
     }
       where
         or_false : (b : Bool) → (b || false) ≡ b

@@ -1,7 +1,6 @@
 -- What a round's number and its records leave of what was known of a log.
 use Rattle.std.proofs.Common.{◌≡◌, ◌==◌, ◌≤◌, ◌||◌, ℕ, suc, max, Bool, true, false, List, [], ◌∷◌, ◌++◌, None, is_none, ◌∙◌, ap, sym, subst, refl, fold, map, arith, eqb-true, nat_lt}
 use Rattle.std.proofs.lemmas.Grind.{common_steps, fold-append}
-use Rattle.std.proofs.lemmas.List.Folds.{list_any-append}
 use Rattle.e3_types.specs.declared.entries.Entry.{Entry}
 use Rattle.e3_types.specs.declared.records.Record.{Record}
 use Rattle.e3_types.specs.declared.records.Record.TheVariants as log
@@ -10,7 +9,7 @@ use Rattle.e3_types.specs.declared.transactions.Dir.{Dir}
 use Rattle.e3_types.specs.declared.transactions.Txn.{Txn}
 use Rattle.e3_types.specs.Sets.{has_site}
 use Rattle.e3_world.specs.Items.{RecoveryRound}
-use Rattle.e3_world.specs.Logs.{decision_by, has_voted, is_undecided, is_vote, last_attempt, last_attempt_by, last_elected, last_elected_by}
+use Rattle.e3_world.specs.Logs.{decision_by, is_undecided, last_attempt, last_attempt_by, last_elected, last_elected_by}
 use Rattle.e3_world.specs.Moves.{log_of}
 use Rattle.e3_law_rounds.proofs.Delivering.{same_self}
 use Rattle.e3_law_rounds.proofs.Heard.{named}
@@ -67,10 +66,3 @@ join_elected t n l less = ap (λ k. k == n) (fold-append (last_elected_by t) 1 l
 -- behind an attempt
 pub attempt_open : (t : Txn) (n : ℕ) (dir : Dir) (l : List Record) → is_undecided t (l ++ log.Attempt t n dir ∷ []) ≡ is_undecided t l
 attempt_open t n dir l = ap is_none (fold-append (decision_by t) None l (log.Attempt t n dir ∷ []))
-
-pub attempt_voted : (t : Txn) (n : ℕ) (dir : Dir) (l : List Record) → has_voted t (l ++ log.Attempt t n dir ∷ []) ≡ has_voted t l
-attempt_voted t n dir l = list_any-append (is_vote t) l (log.Attempt t n dir ∷ []) ∙ or_false (has_voted t l)
-  where
-    or_false : (b : Bool) → (b || false) ≡ b
-    or_false true = refl
-    or_false false = refl

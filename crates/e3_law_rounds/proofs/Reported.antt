@@ -132,7 +132,7 @@ reported_on sc start r all h more own done todo m member leads away fresh awaits
           ∙ ap (λ (x : Elections). x.now) (elections_on r.elector t life (input.Deliver d.p) nothing)
           ∙ subst after (sym d.same) reports;
       grouped = group_on sc h r.elector r.elector t d.p ∙ was.grouped;
-      entered = entered_next sc start h more q (map (report_mail sc start r n) todo) r own [] nothing d was.entered member refl step refl;
+      entered = entered_next sc start h more q (map (report_mail sc start r n) todo) r own [] nothing d was.entered member (same_self t) step refl;
     }
       where
         log_now : (s : ℕ) (b : Bool) → (r.elector == s) ≡ b → log_of sc (h ++ e ∷ []) s ≡ log_of sc start s ++ join_of r n all s

@@ -33,7 +33,7 @@ use Rattle.e3_world.specs.declared.lives.Expected.{Expected}
 use Rattle.e3_world.specs.declared.lives.Made.{Made}
 use Rattle.e3_world.specs.Given.{IsGiven}
 use Rattle.e3_world.specs.Items.{RecoveryRound, turn_of}
-use Rattle.e3_world.specs.Legal.{Guard, LegalAfter, IsNextItem, IsStep, entry_of, made_by, numbered}
+use Rattle.e3_world.specs.Legal.{AreDue, Guard, IsDue, IsNextItem, LegalAfter, entry_of, made_by, numbered}
 use Rattle.e3_world.specs.Logs.{decision, decision_by, is_undecided}
 use Rattle.e3_world.specs.Making.{nothing, and_abort_for, and_decide, and_record, and_tell, is_coordinator, is_present, may_abort, may_decide, open_now}
 use Rattle.e3_world.specs.Messages.{on_message}
@@ -49,7 +49,7 @@ use Rattle.e3_net.specs.declared.waiting.Waiting.{Waiting}
 use Rattle.e3_net.specs.Traffic.{wait}
 use Rattle.e3_net.specs.Stands.{given, waiting_of, without}
 use Rattle.e3_net.proofs.Pushing.{pending_waits, waiting_push}
-use Rattle.e3_law_rounds.specs.Rounds.{elects, is_of_round, is_own, said_at, said_in, verdicts_in}
+use Rattle.e3_law_rounds.specs.Rounds.{elects, is_elect, is_of_round, is_own, said_at, said_in, verdicts_in}
 use Rattle.e3_law_rounds.proofs.Deciding.{Follows, is_answer, is_answer_from, step_follows, tells_answer}
 use Rattle.e3_law_rounds.proofs.Forced.{no_inputs}
 use Rattle.e3_law_numbers.proofs.Moving.{place, place_log}
@@ -149,7 +149,7 @@ no_verdict (told.Verdict t n v) = false
 no_verdict _ = true
 
 pub none_said : (t : Txn) (o : ℕ) (i : Input) (rs : List Record) (outs : List Packet) (events : List Told) → list_all no_verdict events ≡ true →
-    verdicts_in t (record { owner = o; act = Step i rs outs events }) ≡ []
+    verdicts_in t (Step i rs outs events) ≡ []
 none_said t o i rs outs [] all = refl
 none_said t o i rs outs (told.Began u ∷ events) all = none_said t o i rs outs events all
 none_said t o i rs outs (told.Op u n answer ∷ events) all = none_said t o i rs outs events all
@@ -269,6 +269,13 @@ no_verdicts (told.Refused u why ∷ events) all = absurd cc
 no_verdicts (told.Kept u st ∷ events) all = absurd cc
 no_verdicts (told.Verdict u n v ∷ events) all = absurd cc
 
+pub or_parts : (a b : Bool) → (a || b) ≡ false → (a ≡ false) × (b ≡ false)
+or_parts true b is = absurd cc
+or_parts false b is = (refl, is)
+
+pub items_on : (sc : Scenario) (h : List Entry) (e : Entry) → is_line e ≡ false → present_items sc (h ++ e ∷ []) ≡ present_items sc h
+items_on sc h e none = ap (step_items sc) (lines_push h e ∙ (let one : count_by is_line (e ∷ []) ≡ 0 = rw none refl in let same : lines h + count_by is_line (e ∷ []) ≡ lines h = omega (arith, one) in same))
+
 -- what an entry of the tail leaves
 record After (sc : Scenario) (r : RecoveryRound) (h : List Entry) (e : Entry) : Type 0 where
   tail : Tail sc r (h ++ e ∷ [])
@@ -312,7 +319,7 @@ delivered sc r h site p tail late = record {
     late = pending_all (is_late r) sc h e tail.late (late_numbered r _ (made_by sc h site (input.Deliver p)).outs outs_late);
     decided = decided_on sc r h e tail;
   };
-  not_own = late_not_own r p p.msg refl late;
+  not_own = ap (λ b. b || false) (late_not_own r p p.msg refl late);
   silent = rw (none_said r.txn site (input.Deliver p) (made_by sc h site (input.Deliver p)).records (numbered _ (made_by sc h site (input.Deliver p)).outs) (made_by sc h site (input.Deliver p)).told says_none) refl;
 }
   where
@@ -355,24 +362,37 @@ pub no_item : (sc : Scenario) (h : List Entry) (group : List ℕ) (items : List 
 no_item sc h group items site i given is next =
     let none : None ≡ Some i = sym (ap (λ l. slice_get l (turn_of h site)) (no_inputs sc h group items site given is)) ∙ next.next in cc
 
-by_input : (sc : Scenario) (r : RecoveryRound) (h : List Entry) (group : List ℕ) (items : List Item) (site : ℕ) (i : Input) (act : Act) → IsGiven sc →
-    present_items sc h ≡ item.Recover group ∷ items → Tail sc r h → IsStep sc h site i act → elects (entry_of sc h site i) ≡ false →
-    After sc r h (record { owner = site; act = act })
-by_input sc r h group items site (input.Deliver p) act given is tail step other =
-    subst (After sc r h) (sym step.made) (delivered sc r h site p tail (first_late (is_late r) (pending sc h) p tail.late (step.due.in_order (ap is_calm is))))
-by_input sc r h group items site (input.Elect t members) act given is tail step other = absurd cc
-by_input sc r h group items site (input.Begin sites) act given is tail step other = absurd (no_item sc h group items site _ given is step.due)
-by_input sc r h group items site (input.Do t op) act given is tail step other = absurd (no_item sc h group items site _ given is step.due)
-by_input sc r h group items site (input.Commit t) act given is tail step other = absurd (no_item sc h group items site _ given is step.due)
-by_input sc r h group items site (input.Cancel t) act given is tail step other = absurd (no_item sc h group items site _ given is step.due)
-by_input sc r h group items site (input.Expire t) act given is tail step other = absurd (no_item sc h group items site _ given is step.due)
+-- an input that is due, and is no Elect, is a late delivery
+due_after : (sc : Scenario) (r : RecoveryRound) (h : List Entry) (group : List ℕ) (items : List Item) (site : ℕ) (i : Input) → IsGiven sc →
+    present_items sc h ≡ item.Recover group ∷ items → Tail sc r h → IsDue sc h site i → is_elect i ≡ false → After sc r h (entry_of sc h site i)
+due_after sc r h group items site (input.Deliver p) given is tail due other =
+    delivered sc r h site p tail (first_late (is_late r) (pending sc h) p tail.late (due.in_order (ap is_calm is)))
+due_after sc r h group items site (input.Elect t members) given is tail due other = absurd cc
+due_after sc r h group items site (input.Begin sites) given is tail due other = absurd (no_item sc h group items site _ given is due)
+due_after sc r h group items site (input.Do t op) given is tail due other = absurd (no_item sc h group items site _ given is due)
+due_after sc r h group items site (input.Commit t) given is tail due other = absurd (no_item sc h group items site _ given is due)
+due_after sc r h group items site (input.Cancel t) given is tail due other = absurd (no_item sc h group items site _ given is due)
+due_after sc r h group items site (input.Expire t) given is tail due other = absurd (no_item sc h group items site _ given is due)
+
+-- so a fall takes nothing of the round
+fall_after : (sc : Scenario) (r : RecoveryRound) (h : List Entry) (group : List ℕ) (items : List Item) (site : ℕ) (inputs : List Input) → IsGiven sc →
+    present_items sc h ≡ item.Recover group ∷ items → Tail sc r h → AreDue sc h site inputs → list_any is_elect inputs ≡ false → list_any (is_of_round r) inputs ≡ false
+fall_after sc r h group items site [] given is tail due other = refl
+fall_after sc r h group items site (i ∷ inputs) given is tail due other =
+    let parts = or_parts (is_elect i) (list_any is_elect inputs) other in
+    let one : After sc r h (entry_of sc h site i) = due_after sc r h group items site i given is tail due.0 parts.0 in
+    let here : is_of_round r i ≡ false = (or_parts (is_of_round r i) false one.not_own).0 in
+    rw here (fall_after sc r (h ++ entry_of sc h site i ∷ []) group items site inputs given (items_on sc h (entry_of sc h site i) refl ∙ is) one.tail due.1 parts.1)
 
 by_act : (sc : Scenario) (r : RecoveryRound) (h : List Entry) (group : List ℕ) (items : List Item) (o : ℕ) (act : Act) → IsGiven sc →
     present_items sc h ≡ item.Recover group ∷ items → Tail sc r h → elects (record { owner = o; act = act }) ≡ false →
     Guard sc h (record { owner = o; act = act }) → After sc r h (record { owner = o; act = act })
 by_act sc r h group items zero (Step i records outs events) given is tail other guard = absurd guard
-by_act sc r h group items (suc s) (Step i records outs events) given is tail other guard = by_input sc r h group items (suc s) i (Step i records outs events) given is tail guard other
-by_act sc r h group items o (Fall inputs records why) given is tail other guard = sends_nothing sc r h _ tail refl refl refl
+by_act sc r h group items (suc s) (Step i records outs events) given is tail other guard =
+    subst (After sc r h) (sym guard.made) (due_after sc r h group items (suc s) i given is tail guard.due (or_parts (is_elect i) false other).0)
+by_act sc r h group items zero (Fall inputs records why) given is tail other guard = absurd guard
+by_act sc r h group items (suc s) (Fall inputs records why) given is tail other guard =
+    sends_nothing sc r h _ tail refl (fall_after sc r h group items (suc s) inputs given is tail guard.due other) refl
 by_act sc r h group items o (Rise kept inc) given is tail other guard = sends_nothing sc r h _ tail refl refl refl
 by_act sc r h group items o (RiseFall kept inc why) given is tail other guard = sends_nothing sc r h _ tail refl refl refl
 by_act sc r h group items o Miss given is tail other guard = sends_nothing sc r h _ tail refl refl refl
@@ -380,13 +400,6 @@ by_act sc r h group items o Cut given is tail other guard = sends_nothing sc r h
 by_act sc r h group items o (Drop number) given is tail other guard = sends_nothing sc r h _ tail refl refl refl
 by_act sc r h group items o (Parts parts) given is tail other guard = sends_nothing sc r h _ tail refl refl refl
 by_act sc r h group items o (Line number) given is tail other guard = sends_nothing sc r h _ tail refl refl refl
-
-pub or_parts : (a b : Bool) → (a || b) ≡ false → (a ≡ false) × (b ≡ false)
-or_parts true b is = absurd cc
-or_parts false b is = (refl, is)
-
-pub items_on : (sc : Scenario) (h : List Entry) (e : Entry) → is_line e ≡ false → present_items sc (h ++ e ∷ []) ≡ present_items sc h
-items_on sc h e none = ap (step_items sc) (lines_push h e ∙ (let one : count_by is_line (e ∷ []) ≡ 0 = rw none refl in let same : lines h + count_by is_line (e ∷ []) ≡ lines h = omega (arith, one) in same))
 
 -- the rest of a round whose members have decided has no own entry and tells no verdict, and they stay decided
 pub record Ended (sc : Scenario) (r : RecoveryRound) (h more : List Entry) : Type 0 where

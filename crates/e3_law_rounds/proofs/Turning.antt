@@ -139,7 +139,7 @@ prepared_begins sc start r all dir h more own done m member leads away fresh com
           ∙ ap (λ (x : Made). (rounds_of r.elector t (life_with life (input.Deliver d.p) x)).now) made
           ∙ ap (λ (x : Rounds). x.now) (rounds_on r.elector t life (input.Deliver d.p) makes_now)
           ∙ subst After (sym d.same) begins;
-      entered = entered_told start h r own [] (record { site = r.elector; verdict = pre_of dir } ∷ []) e was.entered (own_next sc h more q [] r d member refl) says;
+      entered = entered_told start h r own [] (record { site = r.elector; verdict = pre_of dir } ∷ []) e was.entered (own_next sc h more q [] r d member (same_self t)) says;
     }
       where
         log_now : (x : ℕ) (b : Bool) → (r.elector == x) ≡ b → log_of sc (h ++ e ∷ []) x ≡ log_of sc h x ++ attempt_of r n dir [] x
@@ -240,7 +240,7 @@ conclusion_begins sc start r all dir v x h more own done m member leads away row
       are_late = late_staying r (parts_of sc h) (map plain follows.dones) (late_plain r follows.dones ∙ late_answers r r.elector follows.dones follows.are_answers);
       logs = λ s has. log_still sc h r.elector s (input.Deliver d.p) (others_apart r.elector r.members s has);
       decided = λ s has. only s has (r.elector == s) refl;
-      entered = entered_told start h r own [] (record { site = r.elector; verdict = v } ∷ []) e was.entered (own_next sc h more q [] r d member refl) says;
+      entered = entered_told start h r own [] (record { site = r.elector; verdict = v } ∷ []) e was.entered (own_next sc h more q [] r d member (same_self t)) says;
     }
       where
         only : (s : ℕ) → ((r.elector == s) || false) ≡ true → (b : Bool) → (r.elector == s) ≡ b → is_undecided t (log_of sc (h ++ e ∷ []) s) ≡ false

@@ -15,7 +15,7 @@ use Rattle.e3_world.specs.Moves.{log_of}
 use Rattle.e3_world.proofs.Pushes.{legal_front}
 use Rattle.e3_world.proofs.Turns.{self}
 use Rattle.e3_law_numbers.proofs.Numbers.{numbers_stay_low}
-use Rattle.e3_law_rounds.specs.Claims.{RoundsEnd}
+use Rattle.e3_law_rounds.specs.Rounds.{RoundsEnd}
 use Rattle.e3_law_rounds.specs.Rounds.{elect_entry, is_block, is_open}
 use Rattle.e3_law_rounds.proofs.Beginning.{Begun, round_begins}
 use Rattle.e3_law_rounds.proofs.Choosing.{heard_under, verdict_at}

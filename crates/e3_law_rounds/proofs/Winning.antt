@@ -1,5 +1,5 @@
 -- The end of an election and of an attempt, exactly.
-use Rattle.std.proofs.Common.{◌≡◌, ◌==◌, ◌&&◌, ◌++◌, ◌∷◌, [], ℕ, Bool, true, false, List, Some, None, refl, ap, ◌∙◌, append-nil, map, nat_lt, if◌then◌else◌}
+use Rattle.std.proofs.Common.{◌≡◌, ◌==◌, ◌&&◌, ◌++◌, ◌∷◌, [], ℕ, Bool, true, false, List, Some, None, refl, ap, ◌∙◌, append-nil, map, nat_lt}
 use Rattle.e3_types.specs.declared.entries.Told.{Told}
 use Rattle.e3_types.specs.declared.entries.Told.TheVariants as told
 use Rattle.e3_types.specs.declared.messages.Message.{Message}
@@ -23,7 +23,7 @@ use Rattle.e3_world.specs.declared.lives.Made.{Made}
 use Rattle.e3_world.specs.ElectionRules.{and_verdict}
 use Rattle.e3_world.specs.Elections.{all_reported, election_in_progress, take_report}
 use Rattle.e3_world.specs.Logs.{is_undecided, last_attempt, last_elected}
-use Rattle.e3_world.specs.Making.{nothing, and_attempt, and_cast, and_decide, and_record, and_tell, is_coordinator, is_present, may_attempt, may_decide}
+use Rattle.e3_world.specs.Making.{nothing, and_attempt, and_decide, and_record, and_tell, is_coordinator, is_present, may_attempt, may_decide}
 use Rattle.e3_world.specs.Messages.{on_message}
 use Rattle.e3_world.specs.Rounds.{count_ack, round_in_progress}
 use Rattle.e3_world.specs.Steps.{on_input, step_at}
@@ -112,14 +112,3 @@ row_win a f t n dir r took gathers same_n same_d may enough =
 -- an acknowledgement behind that: nothing
 pub row_ack_late : (a : At) (f : ℕ) (t : Txn) (n : ℕ) (dir : Dir) → Takes a f (msg.Ack t n dir) → round_in_progress a.site t a.life.steps ≡ None → step_at a ≡ nothing
 row_ack_late a f t n dir took none = by_message a f _ _ took (rw none refl) refl refl
-
--- the last report, where a member had decided: the elector decides too, if it had not, and tells the others
-abbrev pub final_made : At → Txn → ℕ → Dir → List ℕ → Bool → Made
-final_made a t n dir to may =
-    let said : Made = and_tell (told.Verdict t n (final_of dir)) nothing in
-    and_cast a to (msg.Decide t dir) (if may then and_decide a t dir said else said)
-
-pub verdict_final : (a : At) (t : Txn) (n : ℕ) (group : List ℕ) (reports : List SiteReport) (dir : Dir) → verdict_of a.weights t.sites reports ≡ final_of dir →
-    and_verdict a t n group reports nothing ≡ final_made a t n dir group (may_decide a t dir (and_tell (told.Verdict t n (final_of dir)) nothing))
-verdict_final a t n group reports Commit is = rw is refl
-verdict_final a t n group reports Abort is = rw is refl

@@ -105,7 +105,7 @@ prepared_on sc start r base n dir h more own said done todo m member leads from_
           ∙ ap (λ l. map (pre_mail r n dir) todo ++ l) (sym (map-append (ack_mail r n dir) done (m ∷ [])));
       logs = λ x. log_now x (m == x) refl;
       round = ap (λ l. (rounds_of r.elector t (life_at l)).now) (moves_still sc h m r.elector (input.Deliver d.p) to_other) ∙ was.round;
-      entered = entered_next sc start h more q left r own said makes_now d was.entered leads refl step refl;
+      entered = entered_next sc start h more q left r own said makes_now d was.entered leads (same_self t) step refl;
     }
       where
         or_false : (b : Bool) → (b || false) ≡ b
@@ -196,7 +196,7 @@ won_on sc start r base n dir h more own said todo m member leads away rest was =
           ∙ ap (λ (x : Made). (rounds_of r.elector t (life_with life (input.Deliver d.p) x)).now) made
           ∙ ap (λ (x : Rounds). x.now) (rounds_on r.elector t life (input.Deliver d.p) nothing)
           ∙ subst After (sym d.same) none;
-      entered = entered_next sc start h more q left r own said nothing d was.entered member refl step refl;
+      entered = entered_next sc start h more q left r own said nothing d was.entered member (same_self t) step refl;
     }
 
 -- the others are not the elector

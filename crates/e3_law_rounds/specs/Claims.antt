@@ -1,6 +1,6 @@
--- What every recovery round keeps.
-use Rattle.std.specs.Prelude.{◌≡◌, ◌≤◌, ◌++◌, ◌∷◌, [], ℕ, suc, true, false, List, length}
-use Rattle.std.specs.List.{list_any, list_all}
+-- What a recovery step keeps: its packets are a queue, and its first packet comes next.
+use Rattle.std.specs.Prelude.{◌≡◌, ◌++◌, ◌∷◌, [], ℕ, suc, true, false, List, length}
+use Rattle.std.specs.List.{list_any}
 use Rattle.e3_types.specs.declared.entries.Entry.{Entry}
 use Rattle.e3_types.specs.declared.entries.Input.TheVariants as input
 use Rattle.e3_types.specs.declared.messages.Packet.{Packet}
@@ -9,17 +9,10 @@ use Rattle.e3_types.specs.declared.scenarios.Item.TheVariants as item
 use Rattle.e3_types.specs.declared.scenarios.Scenario.{Scenario}
 use Rattle.e3_types.specs.Sets.{is_within}
 use Rattle.e3_world.specs.Given.{IsGiven}
-use Rattle.e3_world.specs.Items.{RecoveryRound, is_up_at}
+use Rattle.e3_world.specs.Items.{is_up_at}
 use Rattle.e3_world.specs.Legal.{IsLegal, Guard, entry_of, made_by, numbered}
 use Rattle.e3_world.specs.Packets.{is_calm, parts_of, pending, present_items, sent}
 use Rattle.e3_law_rounds.specs.Queues.{IsCounted, IsQueue, are_within, falls}
-use Rattle.e3_law_rounds.specs.Rounds.{RoundStands, RoundEnds, elect_entry}
-
--- The law of bounded recovery: a round whose members are up at its end ends.
-abbrev pub RoundsEnd : Type 0
-RoundsEnd = (sc : Scenario) (h : List Entry) (r : RecoveryRound) → IsGiven sc → IsLegal sc h → length h ≤ 2000000 → (s : RoundStands sc h r) →
-    list_all (is_up_at (s.start ++ elect_entry sc s.start r ∷ s.more)) r.members ≡ true →
-    RoundEnds sc s.start (elect_entry sc s.start r ∷ s.more) r
 
 -- Where nothing is pending the queue is empty; what is pending is the queue.
 abbrev pub QueueBegins : Type 0
