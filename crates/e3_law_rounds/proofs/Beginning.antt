@@ -21,7 +21,7 @@ use Rattle.e3_law_rounds.proofs.Counted.{is_counted}
 use Rattle.e3_law_rounds.proofs.Members.{IsShaped, due_shaped}
 use Rattle.e3_law_rounds.proofs.Parts.{group_in_one_part}
 use Rattle.e3_law_rounds.proofs.Tail.{items_on}
-use Rattle.e3_law_rounds.proofs.Taking_turns.{round_turns}
+use Rattle.e3_law_rounds.proofs.Due.{round_turns}
 use Rattle.e3_law_rounds.proofs.Walked.{Each, Turn}
 use Rattle.e3_law_rounds.proofs.Walking.{Rest}
 

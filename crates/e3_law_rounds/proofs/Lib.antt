@@ -27,7 +27,7 @@ mod Walked
 mod Decisive
 mod Turns
 mod Numbering
-mod Taking_turns
+mod Due
 mod Beginning
 mod Choosing
 mod Ending

@@ -1,4 +1,5 @@
--- The phases beside it: members are asked to attempt; and acknowledgements that come when the elector has decided.
+-- Two phases of a round: the members are asked to attempt, one after the other; and acknowledgements come when the elector has
+-- decided.
 use Rattle.std.proofs.Common.{◌≡◌, ◌==◌, ◌||◌, ℕ, suc, Bool, true, false, List, [], ◌∷◌, ◌++◌, append-nil, append_assoc, Some, None, ◌∙◌, ap, sym, subst, refl, map, eqb-true, eq-eqb, if◌then◌else◌}
 use Rattle.std.proofs.lemmas.Bool.{ne_eqb}
 use Rattle.std.proofs.lemmas.List.{map-append}
