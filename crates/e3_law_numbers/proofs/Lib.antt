@@ -1,10 +1,10 @@
 pub mod Moving
 pub mod Gathering
-mod Low
-mod Handling
-mod Hearing
-mod Inputs
-mod Ascending
-mod Electing
-mod Bounding
+pub mod Low
+pub mod Handling
+pub mod Hearing
+pub mod Inputs
+pub mod Ascending
+pub mod Electing
+pub mod Bounding
 pub mod Numbers

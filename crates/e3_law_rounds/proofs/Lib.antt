@@ -1,36 +1,36 @@
-mod Queue
-mod Steps
-mod Forced
-mod Parts
-mod Rows
-mod Walking
-mod Asked
-mod Delivering
-mod Heard
-mod Deciding
-mod Tail
-mod Joined
-mod Decided
-mod Members
-mod Verdicts
-mod Reported
-mod Winning
-mod Acknowledged
-mod Won
-mod Turning
-mod Concluding
-mod Idle
-mod Alone
-mod Votes
-mod Counted
-mod Walked
-mod Decisive
-mod Turns
-mod Numbering
-mod Due
-mod Beginning
-mod Choosing
-mod Ending
-mod Single
-mod Several
-mod Whole
+pub mod Queue
+pub mod Steps
+pub mod Forced
+pub mod Parts
+pub mod Rows
+pub mod Walking
+pub mod Asked
+pub mod Delivering
+pub mod Heard
+pub mod Deciding
+pub mod Tail
+pub mod Joined
+pub mod Decided
+pub mod Members
+pub mod Verdicts
+pub mod Reported
+pub mod Winning
+pub mod Acknowledged
+pub mod Won
+pub mod Turning
+pub mod Concluding
+pub mod Idle
+pub mod Alone
+pub mod Votes
+pub mod Counted
+pub mod Walked
+pub mod Decisive
+pub mod Turns
+pub mod Numbering
+pub mod Due
+pub mod Beginning
+pub mod Choosing
+pub mod Ending
+pub mod Single
+pub mod Several
+pub mod Whole
