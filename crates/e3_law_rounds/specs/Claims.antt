@@ -14,10 +14,15 @@ use Rattle.e3_world.specs.Legal.{IsLegal, Guard, entry_of, made_by, numbered}
 use Rattle.e3_world.specs.Packets.{is_calm, parts_of, pending, present_items, sent}
 use Rattle.e3_law_rounds.specs.Queues.{IsCounted, IsQueue, are_within, falls}
 
--- Where nothing is pending the queue is empty; what is pending is the queue.
+-- In every legal history packets are numbered as they are sent, and none is taken that was not sent.
+abbrev pub HistoriesAreCounted : Type 0
+HistoriesAreCounted = (sc : Scenario) (h : List Entry) → IsGiven sc → IsLegal sc h → IsCounted sc h
+
+-- Where nothing is pending the queue is empty.
 abbrev pub QueueBegins : Type 0
 QueueBegins = (sc : Scenario) (h : List Entry) → IsCounted sc h → pending sc h ≡ [] → IsQueue sc h []
 
+-- What is pending is the queue, in its order.
 abbrev pub QueueIsPending : Type 0
 QueueIsPending = (sc : Scenario) (h : List Entry) (queue : List Packet) → IsQueue sc h queue → pending sc h ≡ queue
 

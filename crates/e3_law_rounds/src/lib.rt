@@ -2,7 +2,7 @@
 //! entries, or finds the group blocked. It is a law over histories, whoever made them; nothing here runs.
 #![tactic(auto)]
 
-ghost use Rattle.e3_law_rounds.specs.Claims.{DeliveryIsForced, DeliveryShifts, GroupInOnePart, QueueBegins, QueueIsPending};
+ghost use Rattle.e3_law_rounds.specs.Claims.{DeliveryIsForced, DeliveryShifts, GroupInOnePart, HistoriesAreCounted, QueueBegins, QueueIsPending};
 ghost use Rattle.e3_law_rounds.specs.Rounds.{RoundsEnd};
 
 /// A recovery round that went on until nothing was pending, and in which no member fell: its elector, and nobody else, tells
@@ -14,8 +14,9 @@ pub fn rounds_end()
 {}
 
 /// The packets of a recovery step are a queue: each has one copy, and a delivery takes the first and puts what its step sends
-/// behind the others.
+/// behind the others. It is empty where nothing is pending, in any step.
 pub fn packets_queue()
+    ensures counted { HistoriesAreCounted }
     ensures begins { QueueBegins }
     ensures pending { QueueIsPending }
     ensures shifts { DeliveryShifts }
