@@ -1,0 +1,8 @@
+mod Deciding
+mod Answering
+mod Counting
+mod Copies
+mod Logs
+mod Begun
+mod Issued
+mod Settling

@@ -1,0 +1,41 @@
+-- Handling packets comes to an end.
+use Rattle.std.specs.Prelude.{◌≡◌, ◌⊎◌, ◌++◌, ◌∷◌, [], ℕ, true, List}
+use Rattle.std.specs.List.{list_all}
+use Rattle.e3_types.specs.declared.entries.Entry.{Entry}
+use Rattle.e3_types.specs.declared.entries.Input.TheVariants as input
+use Rattle.e3_types.specs.declared.messages.Message.TheVariants as msg
+use Rattle.e3_types.specs.declared.messages.Packet.{Packet}
+use Rattle.e3_types.specs.declared.scenarios.Scenario.{Scenario}
+use Rattle.e3_types.specs.declared.transactions.Answer.{Answer}
+use Rattle.e3_types.specs.declared.transactions.Txn.{Txn}
+use Rattle.e3_world.specs.declared.lives.Incarnation.{Incarnation}
+use Rattle.e3_world.specs.Given.{IsGiven}
+use Rattle.e3_world.specs.Legal.{Guard, IsLegal}
+use Rattle.e3_world.specs.Sound.{txn_in}
+use Rattle.e3_world.specs.Steps.{step_of}
+use Rattle.e3_laws.specs.Waiting.{is_answer, ranks_below}
+use Rattle.e3_law_settling.specs.Dooms.{Dooms}
+use Rattle.e3_law_settling.specs.Measures.{begun, is_below, measure, takes_packet}
+
+-- A step that takes an answer to an operation sends nothing, or dooms the transaction.
+abbrev pub AnswersEndOrDoom : Type 0
+AnswersEndOrDoom = (weights : List ℕ) (site : ℕ) (now : Incarnation) (packet : Packet) (t : Txn) (n inc : ℕ) (answer : Answer) →
+    packet.msg ≡ msg.Done t n inc answer →
+    ((step_of weights site now (input.Deliver packet)).outs ≡ [])
+    ⊎ Dooms site now t (step_of weights site now (input.Deliver packet))
+
+-- A step that takes a packet sends only packets that rank below it, or it takes an answer and dooms its transaction.
+abbrev pub PacketsSettle : Type 0
+PacketsSettle = (weights : List ℕ) (site : ℕ) (now : Incarnation) (packet : Packet) →
+    (list_all (λ p. ranks_below p.msg packet.msg) (step_of weights site now (input.Deliver packet)).outs ≡ true)
+    ⊎ ((is_answer packet.msg ≡ true) × Dooms site now (txn_in packet.msg) (step_of weights site now (input.Deliver packet)))
+
+-- An entry that takes a packet begins no transaction.
+abbrev pub DeliveriesBeginNothing : Type 0
+DeliveriesBeginNothing = (sc : Scenario) (h : List Entry) (e : Entry) → IsGiven sc → IsLegal sc h → Guard sc h e →
+    takes_packet e.act ≡ true → begun (h ++ e ∷ []) ≡ begun h
+
+-- An entry that takes a packet lowers the measure.
+abbrev pub TakingLowers : Type 0
+TakingLowers = (sc : Scenario) (h : List Entry) (e : Entry) → IsGiven sc → IsLegal sc h → Guard sc h e →
+    takes_packet e.act ≡ true → is_below (measure sc (h ++ e ∷ [])) (measure sc h) ≡ true
