@@ -5,4 +5,6 @@ mod Copies
 mod Logs
 mod Begun
 mod Issued
+mod Sources
+mod Falling
 mod Settling

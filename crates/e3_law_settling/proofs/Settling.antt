@@ -43,6 +43,7 @@ use Rattle.e3_law_settling.proofs.Begun.{begun_none, delivery_begins_none}
 use Rattle.e3_law_settling.proofs.Issued.{issued_begun}
 use Rattle.e3_law_settling.proofs.Copies.{copies_lower, numbered_below}
 use Rattle.e3_law_settling.proofs.Counting.{lower_first, lower_or}
+use Rattle.e3_law_settling.proofs.Falling.{Takes, fall_takes}
 use Rattle.e3_law_settling.proofs.Logs.{pairs_le, pairs_less}
 
 self : (n : ℕ) → (n == n) ≡ true
@@ -108,14 +109,11 @@ dropped sc h owner number drop =
     (copies_lower sc h e drop.packet drop.is_pending (one_if number drop.packet.number (sym drop.is_its)) refl)
 
 -- a fall over a delivery
-fallen : (sc : Scenario) (h : List Entry) (site : ℕ) (p : Packet) (inputs : List Input) (records : List Record) (why : Why) → IsDelivery sc h site p →
-    Lower sc h (record { owner = site; act = Fall (input.Deliver p ∷ inputs) records why })
-fallen sc h site p inputs records why due =
-    let e : Entry = record { owner = site; act = Fall (input.Deliver p ∷ inputs) records why } in
-    let one : 1 ≤ away_by (input.Deliver p) p.number = one_if p.number p.number refl in
-    let all : count_by (takes_input p.number) (input.Deliver p ∷ inputs) ≡ away_by (input.Deliver p) p.number + count_by (takes_input p.number) inputs = one_more (input.Deliver p) inputs p.number in
-    by_copies sc h e (begun_none h e refl)
-    (copies_lower sc h e p due.is_pending (omega (arith, one, all)) refl)
+fallen : (sc : Scenario) (h : List Entry) (site : ℕ) (inputs : List Input) (records : List Record) (why : Why) → Takes sc h site inputs →
+    Lower sc h (record { owner = site; act = Fall inputs records why })
+fallen sc h site inputs records why takes =
+    let e : Entry = record { owner = site; act = Fall inputs records why } in
+    by_copies sc h e (begun_none h e refl) (copies_lower sc h e takes.packet takes.is_pending takes.taken refl)
 
 lowers : (sc : Scenario) (h : List Entry) (owner : ℕ) (act : Act) → PacketsSettle → IsGiven sc → IsLegal sc h → Guard sc h (record { owner = owner; act = act }) →
     takes_packet act ≡ true → Lower sc h (record { owner = owner; act = act })
@@ -126,8 +124,8 @@ lowers sc h zero act settles given legal guard takes = absurd guard
 lowers sc h (suc s) (Step (input.Deliver p) records outs events) settles given legal guard takes =
     subst (Lower sc h) (sym guard.made) (delivered sc h (suc s) p settles given legal guard.up guard.due)
 lowers sc h (suc s) (Step i records outs events) settles given legal guard takes = absurd cc
-lowers sc h (suc s) (Fall (input.Deliver p ∷ inputs) records why) settles given legal guard takes = fallen sc h (suc s) p inputs records why guard.due.0
-lowers sc h (suc s) (Fall inputs records why) settles given legal guard takes = absurd cc
+lowers sc h (suc s) (Fall inputs records why) settles given legal guard takes =
+    fallen sc h (suc s) inputs records why (fall_takes sc h (suc s) inputs given legal (omega arith) guard.up guard.due takes)
 lowers sc h (suc s) Cut settles given legal guard takes = absurd cc
 lowers sc h (suc s) (Rise kept inc) settles given legal guard takes = absurd cc
 lowers sc h (suc s) (RiseFall kept inc why) settles given legal guard takes = absurd cc
