@@ -8,3 +8,4 @@ mod Issued
 mod Sources
 mod Falling
 mod Settling
+pub mod Ending

@@ -39,3 +39,13 @@ DeliveriesBeginNothing = (sc : Scenario) (h : List Entry) (e : Entry) → IsGive
 abbrev pub TakingLowers : Type 0
 TakingLowers = (sc : Scenario) (h : List Entry) (e : Entry) → IsGiven sc → IsLegal sc h → Guard sc h e →
     takes_packet e.act ≡ true → is_below (measure sc (h ++ e ∷ [])) (measure sc h) ≡ true
+
+-- From the history on, packets come to an end: whichever entry takes the next packet, and whichever takes one behind it, no
+-- such run goes on for ever.
+pub data Settles (sc : Scenario) : List Entry → Type 0 where
+  Ends : (history : List Entry) → ((e : Entry) → Guard sc history e → takes_packet e.act ≡ true → Settles sc (history ++ e ∷ [])) →
+      Settles sc history
+
+-- Every legal history settles.
+abbrev pub PacketsEnd : Type 0
+PacketsEnd = (sc : Scenario) (h : List Entry) → IsGiven sc → IsLegal sc h → Settles sc h
