@@ -9,3 +9,5 @@ mod Sources
 mod Falling
 mod Settling
 pub mod Ending
+mod Alike
+pub mod Left

@@ -1,6 +1,8 @@
 -- Handling packets comes to an end.
-use Rattle.std.specs.Prelude.{◌≡◌, ◌⊎◌, ◌++◌, ◌∷◌, [], ℕ, true, List}
+use Rattle.std.specs.Prelude.{◌≡◌, ◌⊎◌, ◌++◌, ◌∷◌, [], ◌<◌, ℕ, true, List, Some}
 use Rattle.std.specs.List.{list_all}
+use Rattle.e3_types.specs.declared.entries.Act.{Act}
+use Rattle.e3_types.specs.declared.entries.Act.TheVariants.{Step, Fall, Drop}
 use Rattle.e3_types.specs.declared.entries.Entry.{Entry}
 use Rattle.e3_types.specs.declared.entries.Input.TheVariants as input
 use Rattle.e3_types.specs.declared.messages.Message.TheVariants as msg
@@ -10,7 +12,7 @@ use Rattle.e3_types.specs.declared.transactions.Answer.{Answer}
 use Rattle.e3_types.specs.declared.transactions.Txn.{Txn}
 use Rattle.e3_world.specs.declared.lives.Incarnation.{Incarnation}
 use Rattle.e3_world.specs.Given.{IsGiven}
-use Rattle.e3_world.specs.Legal.{Guard, IsLegal}
+use Rattle.e3_world.specs.Legal.{Guard, IsLegal, first_pending}
 use Rattle.e3_world.specs.Sound.{txn_in}
 use Rattle.e3_world.specs.Steps.{step_of}
 use Rattle.e3_laws.specs.Waiting.{is_answer, ranks_below}
@@ -49,3 +51,16 @@ pub data Settles (sc : Scenario) : List Entry → Type 0 where
 -- Every legal history settles.
 abbrev pub PacketsEnd : Type 0
 PacketsEnd = (sc : Scenario) (h : List Entry) → IsGiven sc → IsLegal sc h → Settles sc h
+
+-- The act takes the first pending packet, and nothing else.
+abbrev pub TakesFirst : Scenario → List Entry → Act → Type 0
+TakesFirst sc history (Step (input.Deliver p) records outs events) = first_pending sc history ≡ Some p
+TakesFirst sc history (Fall (input.Deliver p ∷ []) records why) = first_pending sc history ≡ Some p
+TakesFirst sc history (Drop number) = (p : Packet) × (first_pending sc history ≡ Some p) × (p.number ≡ number)
+TakesFirst sc history _ = ⊥
+
+-- Each history has a number that falls with each such entry. So a driver that always takes the first pending packet enters no
+-- more for packets than this number says, whatever the bound on entries.
+abbrev pub EntriesAreCounted : Type 0
+EntriesAreCounted = (sc : Scenario) → IsGiven sc → (left : List Entry → ℕ)
+    × ((h : List Entry) (e : Entry) → IsLegal sc h → Guard sc h e → TakesFirst sc h e.act → left (h ++ e ∷ []) < left h)

@@ -1,7 +1,7 @@
 //! What is under way comes to an end: a measure falls with each packet that is taken.
 #![tactic(auto)]
 
-ghost use Rattle.e3_law_settling.specs.Claims.{AnswersEndOrDoom, DeliveriesBeginNothing, PacketsEnd, PacketsSettle, TakingLowers};
+ghost use Rattle.e3_law_settling.specs.Claims.{AnswersEndOrDoom, DeliveriesBeginNothing, EntriesAreCounted, PacketsEnd, PacketsSettle, TakingLowers};
 
 use e3_laws::packets_fall_in_rank;
 
@@ -26,6 +26,13 @@ pub fn taking_lowers_the_measure()
 /// From each legal history on, packets come to an end, in whatever order sites take them.
 pub fn packets_come_to_an_end()
     ensures { PacketsEnd }
+{
+    taking_lowers_the_measure();
+}
+
+/// So there is a number of entries that a driver does not pass which takes packets in the order of their numbers.
+pub fn packets_are_counted()
+    ensures { EntriesAreCounted }
 {
     taking_lowers_the_measure();
 }
