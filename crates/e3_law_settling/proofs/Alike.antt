@@ -1,5 +1,5 @@
 -- How large a frame that did not fit was is nothing to what follows.
-use Rattle.std.proofs.Common.{◌≡◌, ◌+◌, ◌==◌, ◌∷◌, ◌++◌, [], ℕ, suc, length, Bool, true, false, List, refl, sym, ap, ◌∙◌, fold, map, filter, if◌then◌else◌, cond}
+use Rattle.std.proofs.Common.{◌≡◌, ◌+◌, ◌==◌, ◌∷◌, ◌++◌, [], ℕ, suc, length, Bool, true, false, List, refl, sym, ap, ◌∙◌, fold, map, if◌then◌else◌, cond}
 use Rattle.std.specs.List.{flat_map}
 use Rattle.std.proofs.lemmas.List.{map-append}
 use Rattle.e3_types.specs.declared.entries.Act.{Act}
@@ -11,7 +11,6 @@ use Rattle.e3_types.specs.declared.entries.Why.TheVariants.{Fault, Full}
 use Rattle.e3_types.specs.declared.messages.Packet.{Packet}
 use Rattle.e3_types.specs.declared.records.Record.{Record}
 use Rattle.e3_types.specs.declared.scenarios.Scenario.{Scenario}
-use Rattle.e3_types.specs.declared.transactions.Txn.{Txn}
 use Rattle.e3_world.specs.declared.lives.Made.{Made}
 use Rattle.e3_world.specs.Fate.{copies_of, fate_by}
 use Rattle.e3_world.specs.Legal.{entry_of, made_by, numbered}
@@ -20,7 +19,6 @@ use Rattle.e3_world.specs.Logs.{is_undecided}
 use Rattle.e3_world.specs.Steps.{step_of}
 use Rattle.e3_world.specs.Moves.{Past, log_by, moves_of, own, past_by, past_of}
 use Rattle.e3_world.specs.Packets.{all_sites, is_calm, is_line, lines, outs_of, parts_of, pending, present_items, sent, step_items, taken, taken_by}
-use Rattle.e3_net.specs.declared.waiting.Waiting.{Waiting}
 use Rattle.e3_net.specs.Stands.{given, given_after, waiting_of, without}
 use Rattle.e3_net.proofs.Copies.{without_same}
 use Rattle.e3_net.proofs.Pushing.{pending_waits}

@@ -1,6 +1,5 @@
 -- What was begun: an entry that takes a packet begins nothing, and what is bound to a name was begun.
-use Rattle.std.proofs.Common.{◌≡◌, arith, ◌∷◌, ◌++◌, [], ℕ, List, Option, Some, None, ap, sym, subst, ◌∙◌, inl, inr, fold, append-nil, append_assoc}
-use Rattle.std.proofs.Common.{refl}
+use Rattle.std.proofs.Common.{◌≡◌, arith, ◌∷◌, ◌++◌, [], ℕ, List, Option, Some, None, refl, ap, sym, subst, ◌∙◌, inl, inr, fold, append-nil, append_assoc}
 use Rattle.std.specs.Prelude.{Contains}
 use Rattle.std.specs.List.{flat_map, AllByRecursion as Each}
 use Rattle.std.proofs.lemmas.Grind.{flat_map-append}

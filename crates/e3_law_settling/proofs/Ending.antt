@@ -5,10 +5,10 @@ use mathlib.Core.WellFounded.{Acc}
 use Rattle.e3_types.specs.declared.entries.Entry.{Entry}
 use Rattle.e3_types.specs.declared.scenarios.Scenario.{Scenario}
 use Rattle.e3_world.specs.Given.{IsGiven}
-use Rattle.e3_world.specs.Legal.{Guard, IsLegal}
+use Rattle.e3_world.specs.Legal.{IsLegal}
 use Rattle.e3_world.proofs.Pushes.{legal_push}
 use Rattle.e3_law_settling.specs.Claims.{PacketsEnd, Settles, Ends, TakingLowers}
-use Rattle.e3_law_settling.specs.Measures.{is_below, measure, takes_packet}
+use Rattle.e3_law_settling.specs.Measures.{is_below, measure}
 
 -- the first list has the length of the second, and is below it
 abbrev pub Under : List ℕ → List ℕ → Type 0

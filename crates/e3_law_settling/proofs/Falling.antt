@@ -1,6 +1,6 @@
 -- A fall over a delivery, also behind items: the packet was pending before the items, since these send packets of their own
 -- site alone, and a site takes none of its own.
-use Rattle.std.proofs.Common.{◌≡◌, ◌≤◌, ◌+◌, ◌-◌, ◌==◌, ◌∷◌, ◌++◌, [], ℕ, zero, suc, Bool, true, false, List, length, refl, sym, ap, subst, ◌∙◌, arith, map, count_by, eq-eqb, true≢false, if◌then◌else◌}
+use Rattle.std.proofs.Common.{◌≡◌, ◌≤◌, ◌+◌, ◌-◌, ◌==◌, ◌∷◌, ◌++◌, [], ℕ, zero, suc, true, false, List, length, refl, sym, ap, subst, ◌∙◌, arith, map, count_by, eq-eqb, true≢false}
 use Rattle.std.specs.Prelude.{Contains}
 use Rattle.std.specs.List.{list_all, list_any, AllByRecursion as Each}
 use Rattle.std.proofs.lemmas.Bool.{and_parts}

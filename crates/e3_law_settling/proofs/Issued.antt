@@ -1,5 +1,5 @@
 -- An operation that a site issued is of a transaction that was begun.
-use Rattle.std.proofs.Common.{◌≡◌, ◌≢◌, arith, ◌==◌, ◌&&◌, ◌∷◌, ◌++◌, [], ℕ, zero, suc, Bool, true, false, List, Option, Some, None, refl, ap, sym, subst, ◌∙◌, fold, map, filter, eqb-true, append-nil, append_assoc, if◌then◌else◌}
+use Rattle.std.proofs.Common.{◌≡◌, ◌≢◌, ◌==◌, ◌&&◌, ◌∷◌, ◌++◌, [], ℕ, zero, suc, Bool, true, false, List, Option, Some, None, refl, ap, sym, subst, ◌∙◌, fold, filter, eqb-true, append-nil, append_assoc, if◌then◌else◌}
 use Rattle.std.specs.Prelude.{Contains, slice_get, filter_map, option_map}
 use Rattle.std.specs.List.{cons_option, AllByRecursion as Each}
 use Rattle.std.proofs.lemmas.Bool.{and_parts}
@@ -25,8 +25,8 @@ use Rattle.e3_world.specs.declared.names.Addressed.{Addressed}
 use Rattle.e3_world.specs.declared.names.Bound.{Bound}
 use Rattle.e3_world.specs.Items.{input_of, inputs_at, last_bound, plan_of, since_line, to_line, turn_of, txn_of}
 use Rattle.e3_world.specs.Legal.{Guard, IsDue, IsLegal, IsNextItem, LegalAfter}
-use Rattle.e3_world.specs.Lives.{incarnation_by, incarnation_of, life_at, life_by, life_of}
-use Rattle.e3_world.specs.Moves.{Did, Move, Past, Rose, Silent, Stepped, Tail, kept_moves, log_by, moves_of, moves_of_act, own, past_of, plain_input, rise_records}
+use Rattle.e3_world.specs.Lives.{incarnation_by, incarnation_of, life_at, life_by}
+use Rattle.e3_world.specs.Moves.{Did, Move, Past, Rose, Silent, Stepped, Tail, kept_moves, moves_of, moves_of_act, own, past_of, plain_input}
 use Rattle.e3_world.specs.Operations.{issued, issued_in}
 use Rattle.e3_world.specs.Packets.{present_items}
 use Rattle.e3_world.proofs.Pushes.{past_push}
@@ -124,8 +124,8 @@ next_known sc h site t op next =
     let k : List Entry = to_line h in
     let P : List Entry → Type 0 = λ l. Contains (begun l) t in
     let was : Contains (begun k) t = nth_known (begun k) (inputs_at sc h site) (turn_of h site) (input.Do t op)
-        (each-map (KnownInput (begun k)) (λ a. a.input) (filter (λ a. a.site == site) (plan_of sc h))
-        (each-filter (λ a. KnownInput (begun k) a.input) (λ a. a.site == site) (plan_of sc h) (plan_known sc k (present_items sc k)))) next.next in
+    (each-map (KnownInput (begun k)) (λ a. a.input) (filter (λ a. a.site == site) (plan_of sc h))
+    (each-filter (λ a. KnownInput (begun k) a.input) (λ a. a.site == site) (plan_of sc h) (plan_known sc k (present_items sc k)))) next.next in
     subst P (split_from (record { to = []; since = [] }) h) (begun_later k (since_line h) t was)
 
 due_known : (sc : Scenario) (h : List Entry) (e : Entry) (site : ℕ) (i : Input) → IsDue sc h site i → KnownInput (begun (h ++ e ∷ [])) (plain_input i)

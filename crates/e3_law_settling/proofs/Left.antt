@@ -1,5 +1,5 @@
 -- A number that falls with each packet that a driver takes in turn: how many entries there are on all ways on.
-use Rattle.std.proofs.Common.{◌≡◌, ◌<◌, ◌≤◌, ◌+◌, ◌∷◌, ◌++◌, [], ℕ, zero, suc, Bool, true, false, List, Option, Some, None, refl, sym, ap, subst, ◌∙◌, arith, map, append-nil, true≢false}
+use Rattle.std.proofs.Common.{◌≡◌, ◌<◌, ◌≤◌, ◌∷◌, ◌++◌, [], ℕ, zero, suc, Bool, true, false, List, Option, Some, None, refl, sym, ap, subst, ◌∙◌, arith, map, append-nil, true≢false}
 use Rattle.std.specs.Prelude.{Contains, slice_get}
 use Rattle.std.specs.List.{AllByRecursion as Each}
 use Rattle.std.proofs.lemmas.List.{map-append}
@@ -7,7 +7,6 @@ use mathlib.Core.WellFounded.{Acc, Acc-prop}
 use Rattle.e3_types.specs.declared.entries.Act.{Act}
 use Rattle.e3_types.specs.declared.entries.Act.TheVariants.{Step, Fall, Rise, RiseFall, Miss, Cut, Drop, Parts, Line}
 use Rattle.e3_types.specs.declared.entries.Entry.{Entry}
-use Rattle.e3_types.specs.declared.entries.Input.{Input}
 use Rattle.e3_types.specs.declared.entries.Input.TheVariants as input
 use Rattle.e3_types.specs.declared.entries.Why.{Why}
 use Rattle.e3_types.specs.declared.entries.Why.TheVariants.{Fault, Full}
@@ -15,9 +14,7 @@ use Rattle.e3_types.specs.declared.messages.Packet.{Packet}
 use Rattle.e3_types.specs.declared.records.Record.{Record}
 use Rattle.e3_types.specs.declared.scenarios.Scenario.{Scenario}
 use Rattle.e3_world.specs.Given.{IsGiven}
-use Rattle.e3_world.specs.Items.{is_up_at}
 use Rattle.e3_world.specs.Legal.{Guard, IsLegal, entry_of, first_pending, made_by}
-use Rattle.e3_world.specs.Packets.{pending}
 use Rattle.e3_trails.proofs.Each.{each-at}
 use Rattle.e3_law_settling.specs.Claims.{EntriesAreCounted, TakesFirst, TakingLowers}
 use Rattle.e3_law_settling.specs.Measures.{is_below, measure, total, takes_packet}
@@ -64,7 +61,7 @@ next_less : (sc : Scenario) (h : List Entry) (was : Acc (Lower sc) h) (e : Entry
 unfolding ways
 next_less sc h (Acc.intro k more) e has below now =
     let f : Entry → ℕ = λ x. counted (is_below (measure sc (k ++ x ∷ [])) (measure sc k)) (is_below (measure sc (k ++ x ∷ [])) (measure sc k)) refl
-        (λ is. ways sc (k ++ x ∷ []) (more (k ++ x ∷ []) (refl, is))) in
+    (λ is. ways sc (k ++ x ∷ []) (more (k ++ x ∷ []) (refl, is))) in
     let all : List Entry = nexts sc k (first_pending sc k) in
     let part : f e ≤ total f all = each-at (λ x. f x ≤ total f all) all e (part_le f all) has in
     let one : f e ≡ suc (ways sc (k ++ e ∷ []) now) =
@@ -107,25 +104,25 @@ dropped sc h p first = found sc h p (record { owner = 0; act = Drop p.number }) 
 is_next : (sc : Scenario) (h : List Entry) (owner : ℕ) (act : Act) → Guard sc h (record { owner = owner; act = act }) → TakesFirst sc h act →
     IsNext sc h (record { owner = owner; act = act }) × (takes_packet act ≡ true)
 is_next sc h zero (Drop number) guard takes = (
-    let P : ℕ → Type 0 = λ n. IsNext sc h (record { owner = 0; act = Drop n }) in subst P takes.2 (dropped sc h takes.0 takes.1),
-    refl,
-  )
+  let P : ℕ → Type 0 = λ n. IsNext sc h (record { owner = 0; act = Drop n }) in subst P takes.2 (dropped sc h takes.0 takes.1),
+  refl,
+)
 is_next sc h zero (Line number) guard takes = absurd takes
 is_next sc h zero (Parts parts) guard takes = absurd takes
 is_next sc h zero act guard takes = absurd guard
 is_next sc h (suc s) (Step (input.Deliver p) records outs events) guard takes = (
-    let P : Entry → Type 0 = λ e. IsNext sc h e in
-    let Q : ℕ → Type 0 = λ site. IsNext sc h (entry_of sc h site (input.Deliver p)) in
-    subst P (sym guard.made) (subst Q guard.due.to (stepped sc h p takes)),
-    refl,
-  )
+  let P : Entry → Type 0 = λ e. IsNext sc h e in
+      let Q : ℕ → Type 0 = λ site. IsNext sc h (entry_of sc h site (input.Deliver p)) in
+      subst P (sym guard.made) (subst Q guard.due.to (stepped sc h p takes)),
+  refl,
+)
 is_next sc h (suc s) (Fall (input.Deliver p ∷ []) records why) guard takes = (
-    let P : ℕ → Type 0 = λ site. records ≡ (made_by sc h site (input.Deliver p)).records in
-    let Q : ℕ → Type 0 = λ site. IsNext sc h (record { owner = site; act = Fall (input.Deliver p ∷ []) records why }) in
-    let made : records ≡ (made_by sc h (suc s) (input.Deliver p)).records = guard.made ∙ append-nil (made_by sc h (suc s) (input.Deliver p)).records in
-    subst Q guard.due.0.to (fallen sc h p records why takes (subst P (sym guard.due.0.to) made)),
-    refl,
-  )
+  let P : ℕ → Type 0 = λ site. records ≡ (made_by sc h site (input.Deliver p)).records in
+      let Q : ℕ → Type 0 = λ site. IsNext sc h (record { owner = site; act = Fall (input.Deliver p ∷ []) records why }) in
+      let made : records ≡ (made_by sc h (suc s) (input.Deliver p)).records = guard.made ∙ append-nil (made_by sc h (suc s) (input.Deliver p)).records in
+      subst Q guard.due.0.to (fallen sc h p records why takes (subst P (sym guard.due.0.to) made)),
+  refl,
+)
 is_next sc h (suc s) (Drop number) guard takes = absurd guard
 is_next sc h (suc s) Cut guard takes = absurd takes
 is_next sc h (suc s) (Rise kept inc) guard takes = absurd takes

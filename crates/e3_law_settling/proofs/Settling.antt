@@ -1,5 +1,5 @@
 -- Each entry that takes a packet lowers the measure.
-use Rattle.std.proofs.Common.{◌≡◌, ◌⊎◌, ◌≤◌, ◌<◌, ◌+◌, ◌==◌, inl, inr, ◌∷◌, ◌++◌, [], ℕ, zero, suc, true, false, List, Some, None, length, refl, ap, sym, subst, ◌∙◌, arith, if◌then◌else◌, eq-eqb, nat_lt, nat_le, ◌&&◌, count_by}
+use Rattle.std.proofs.Common.{◌≡◌, ◌⊎◌, ◌≤◌, ◌<◌, ◌==◌, inl, inr, ◌∷◌, ◌++◌, [], ℕ, zero, suc, true, false, List, Some, None, length, refl, ap, sym, subst, ◌∙◌, arith, if◌then◌else◌, eq-eqb, nat_lt, nat_le, ◌&&◌}
 use Rattle.std.specs.Prelude.{is_none}
 use Rattle.std.specs.List.{list_all}
 use Rattle.std.proofs.lemmas.Bool.{and_parts}
@@ -26,14 +26,13 @@ use Rattle.e3_world.specs.Legal.{Guard, IsDelivery, IsDrop, IsLegal, entry_of, m
 use Rattle.e3_world.specs.Lives.{incarnation_of}
 use Rattle.e3_world.specs.Logs.{decision, decision_by, is_undecided}
 use Rattle.e3_world.specs.Moves.{log_by, log_of, moves_of, own, past_of}
-use Rattle.e3_world.specs.Packets.{sent, takes_input}
+use Rattle.e3_world.specs.Packets.{sent}
 use Rattle.e3_world.specs.Sound.{step_move, txn_in}
 use Rattle.e3_world.proofs.Numbers.{entered_move}
 use Rattle.e3_world.proofs.Pushes.{log_push, past_push, present_is_log}
 use Rattle.e3_world.proofs.Readings.{own_same}
 use Rattle.e3_net.specs.Stands.{waiting_of}
 use Rattle.e3_laws.specs.Waiting.{is_answer}
-use Rattle.e3_net.proofs.Taking.{away_by, one_more}
 use Rattle.e3_trails.proofs.Laws.{inputs_suit}
 use Rattle.e3_trails.proofs.Tracing.{same_self}
 use Rattle.e3_law_settling.specs.Claims.{DeliveriesBeginNothing, PacketsSettle, TakingLowers}

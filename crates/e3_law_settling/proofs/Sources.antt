@@ -1,5 +1,5 @@
 -- All packets that a step sends come from its site.
-use Rattle.std.proofs.Common.{◌≡◌, ◌==◌, ◌&&◌, ◌||◌, ◌∷◌, ◌++◌, [], ℕ, zero, suc, Bool, true, false, List, Option, Some, None, refl, if◌then◌else◌, fold, length, drop, nat_lt, nat_le}
+use Rattle.std.proofs.Common.{◌≡◌, ◌==◌, ◌&&◌, ◌||◌, ◌∷◌, [], ℕ, zero, suc, Bool, true, false, List, Option, Some, None, refl, if◌then◌else◌, fold, length, drop, nat_lt, nat_le}
 use Rattle.std.specs.List.{list_all, list_any}
 use Rattle.std.proofs.lemmas.List.Folds.{list_all-append}
 use Rattle.e3_types.specs.declared.entries.Input.{Input}
@@ -11,7 +11,6 @@ use Rattle.e3_types.specs.declared.locks.Grant.{Grant}
 use Rattle.e3_types.specs.declared.locks.Grant.TheVariants.{Held, Waits, Dies}
 use Rattle.e3_types.specs.declared.messages.Message.{Message}
 use Rattle.e3_types.specs.declared.messages.Message.TheVariants as msg
-use Rattle.e3_types.specs.declared.messages.Packet.{Packet}
 use Rattle.e3_types.specs.declared.records.Record.{Record}
 use Rattle.e3_types.specs.declared.records.Record.TheVariants as log
 use Rattle.e3_types.specs.declared.transactions.Answer.{Answer}

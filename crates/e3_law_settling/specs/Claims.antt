@@ -1,5 +1,5 @@
 -- Handling packets comes to an end.
-use Rattle.std.specs.Prelude.{◌≡◌, ◌⊎◌, ◌++◌, ◌∷◌, [], ◌<◌, ℕ, true, List, Some}
+use Rattle.std.specs.Prelude.{◌≡◌, ◌<◌, ◌⊎◌, ◌++◌, ◌∷◌, [], ℕ, true, List, Some}
 use Rattle.std.specs.List.{list_all}
 use Rattle.e3_types.specs.declared.entries.Act.{Act}
 use Rattle.e3_types.specs.declared.entries.Act.TheVariants.{Step, Fall, Drop}
@@ -19,14 +19,15 @@ use Rattle.e3_laws.specs.Waiting.{is_answer, ranks_below}
 use Rattle.e3_law_settling.specs.Dooms.{Dooms}
 use Rattle.e3_law_settling.specs.Measures.{begun, is_below, measure, takes_packet}
 
--- A step that takes an answer to an operation sends nothing, or dooms the transaction.
+-- A step that takes an answer to an operation sends nothing, or it dooms the transaction.
 abbrev pub AnswersEndOrDoom : Type 0
 AnswersEndOrDoom = (weights : List ℕ) (site : ℕ) (now : Incarnation) (packet : Packet) (t : Txn) (n inc : ℕ) (answer : Answer) →
     packet.msg ≡ msg.Done t n inc answer →
     ((step_of weights site now (input.Deliver packet)).outs ≡ [])
     ⊎ Dooms site now t (step_of weights site now (input.Deliver packet))
 
--- A step that takes a packet sends only packets that rank below it, or it takes an answer and dooms its transaction.
+-- A step that takes a packet sends only packets that rank below it, or it takes an answer and dooms its transaction. This
+-- holds of every site with any log and any life, legal or not.
 abbrev pub PacketsSettle : Type 0
 PacketsSettle = (weights : List ℕ) (site : ℕ) (now : Incarnation) (packet : Packet) →
     (list_all (λ p. ranks_below p.msg packet.msg) (step_of weights site now (input.Deliver packet)).outs ≡ true)
@@ -48,7 +49,7 @@ pub data Settles (sc : Scenario) : List Entry → Type 0 where
   Ends : (history : List Entry) → ((e : Entry) → Guard sc history e → takes_packet e.act ≡ true → Settles sc (history ++ e ∷ [])) →
       Settles sc history
 
--- Every legal history settles.
+-- Every legal history settles, in whatever order sites take packets.
 abbrev pub PacketsEnd : Type 0
 PacketsEnd = (sc : Scenario) (h : List Entry) → IsGiven sc → IsLegal sc h → Settles sc h
 
@@ -59,8 +60,8 @@ TakesFirst sc history (Fall (input.Deliver p ∷ []) records why) = first_pendin
 TakesFirst sc history (Drop number) = (p : Packet) × (first_pending sc history ≡ Some p) × (p.number ≡ number)
 TakesFirst sc history _ = ⊥
 
--- Each history has a number that falls with each such entry. So a driver that always takes the first pending packet enters no
--- more for packets than this number says, whatever the bound on entries.
+-- Each history has a number that falls with each such entry. So a driver that always takes the first pending packet enters
+-- no more for packets than this number, whatever the bound on entries.
 abbrev pub EntriesAreCounted : Type 0
 EntriesAreCounted = (sc : Scenario) → IsGiven sc → (left : List Entry → ℕ)
     × ((h : List Entry) (e : Entry) → IsLegal sc h → Guard sc h e → TakesFirst sc h e.act → left (h ++ e ∷ []) < left h)

@@ -6,7 +6,7 @@ ghost use Rattle.e3_law_settling.specs.Claims.{AnswersEndOrDoom, DeliveriesBegin
 use e3_laws::packets_fall_in_rank;
 
 /// A packet that is taken makes only packets of lower rank, or is an answer that dooms its transaction: that was
-/// undecided at the site and is aborted in the step, which sends only decisions and answers.
+/// undecided at the site, its coordinator, and is aborted in the step, which sends only decisions and answers.
 pub fn packets_settle()
     ensures answers { AnswersEndOrDoom }
     ensures packets { PacketsSettle }
@@ -14,8 +14,8 @@ pub fn packets_settle()
     packets_fall_in_rank();
 }
 
-/// Each entry that takes a packet, a delivery, a fall over one or a drop, lowers the measure of the history, and begins
-/// no transaction.
+/// Each entry that takes a packet, a delivery, a fall with one among its inputs or a drop, lowers the measure of the
+/// history, and begins no transaction.
 pub fn taking_lowers_the_measure()
     ensures begins { DeliveriesBeginNothing }
     ensures lowers { TakingLowers }
