@@ -11,10 +11,10 @@ SIZE = 11  # of the letters
 WIDE = 6.65  # of one letter, in a monospaced font
 LINE = 14
 LEFT, RIGHT = 196, 282
-BOX, CHANNEL = 214, 30
+BOX, CHANNEL = 270, 30
 PITCH = BOX + CHANNEL
 PAD = 6
-GAP, NO_GAP = 40, 12
+GAP, NO_GAP = 34, 10
 TOP = 62
 MOST_LINES = 9
 
@@ -122,7 +122,7 @@ class Story:
             by_step.setdefault(entry.step, []).append(entry)
         for step in [0, *steps]:
             band = Band(step, f"step {step}" if step else "start")
-            cells = [it for it in map(self.cell, by_step.get(step, [])) if it]
+            cells = self.armed(step) + [it for it in map(self.cell, by_step.get(step, [])) if it]
             if self.first <= step <= self.last:
                 self.place(band, cells)
         if self.last >= max(steps, default=0):
@@ -156,6 +156,15 @@ class Story:
 
     # cells
 
+    def armed(self, step):
+        """The cell of a step that arms a disk, which no entry tells."""
+        words = (self.run.items.get(step) or [""])[0].split(" ", 3)
+        if words[0] != "stop":
+            return []
+        cell = Cell(int(words[1]), step, None, "doubt")
+        cell.say(f"its disk is armed: call {words[2]} from now on fails, and leaves {words[3]}")
+        return [cell]
+
     def cell(self, entry):
         if entry.kind in ("line", "parts"):
             return None
@@ -166,19 +175,19 @@ class Story:
             if self.first <= entry.step <= self.last:
                 cell.sent.append(packet)
         cell.raw = [f"{entry.owner} {entry.form}", *entry.records, *[f"packet {it.number} to {it.to}: {it.message}" for it in entry.packets], *entry.told]
-        cell.told = [(f"{entry.owner}: {traces.told_words(self.run, it)}", it) for it in entry.told if not it.endswith(" written") or True]
+        cell.told = [(f"{entry.owner}: {traces.told_words(self.run, it)}", it) for it in entry.told]
         return cell
 
     def taking(self, entry, cell):
-        """The packet that an entry takes, with its arrow."""
-        number = re.fullmatch(r"(?:step deliver|drop) (\d+)", entry.form)
-        packet = self.run.packets.get(int(number[1])) if number else None
-        if packet:
-            again = packet.taken.index(entry) > 0
-            if self.first <= entry.step <= self.last:
-                self.arrows.append(Arrow(packet, self.sender_cells.get(packet.number), cell, again))
-            return packet, again
-        return None, False
+        """The last packet that an entry takes, and whether it came before; with an arrow for each."""
+        packet, again = None, False
+        for number in traces.taken_by(entry):
+            packet = self.run.packets.get(number)
+            if packet:
+                again = packet.taken.index(entry) > 0
+                if self.first <= entry.step <= self.last:
+                    self.arrows.append(Arrow(packet, self.sender_cells.get(number), cell, again))
+        return packet, again
 
     def of_step(self, entry):
         cell, run = Cell(entry.owner, entry.step, entry), self.run
@@ -187,6 +196,11 @@ class Story:
         began = [it.split(" ")[0] for it in entry.told if " began " in it]
         said = f"client begins {traces.name_of(run, began[0])} over {given[6:]}" if began else traces.input_words(run, given)
         cell.say(("again: " if again else "") + said)
+        for it in entry.told:
+            verdict = re.search(r" election \d+ (.*)", it)
+            if verdict:
+                said = re.search(r"block: (.*)", traces.told_words(run, it))
+                cell.say(f"verdict: {'it blocks, as ' + said[1] if said else verdict[1]}", "split" if said else "join")
         _record_lines(cell, run, entry.records, False)
         self.locks(entry, cell, packet)
         for it in entry.packets:
@@ -233,7 +247,7 @@ class Story:
 
     def of_fall(self, entry):
         cell = Cell(entry.owner, entry.step, entry, "down")
-        self.taking_of_fall(entry, cell)
+        self.taking(entry, cell)
         why = re.fullmatch(r"fall (fault|full \d+ of \d+) \d+", entry.form)
         cell.say(f"FALLS: {traces.why_words(why[1]) if why else entry.form}", "down")
         for it in entry.inputs[:3]:
@@ -246,17 +260,6 @@ class Story:
         self.doubt[entry.owner] = in_doubt and bool(entry.records)
         self.lose(entry.owner)
         return cell
-
-    def taking_of_fall(self, entry, cell):
-        """The packets over whose delivery a site falls."""
-        for given in entry.inputs:
-            number = re.fullmatch(r"deliver (\d+)", given)
-            packet = self.run.packets.get(int(number[1])) if number else None
-            if packet:
-                packet.taken.append(entry)
-                packet.fate = "kept"
-                if self.first <= entry.step <= self.last:
-                    self.arrows.append(Arrow(packet, self.sender_cells.get(packet.number), cell, len(packet.taken) > 1))
 
     def of_rise(self, entry):
         cell = Cell(entry.owner, entry.step, entry, "up")
@@ -487,13 +490,14 @@ class Drawing:
         return "#5d6575"
 
     def ports(self, cell):
-        """For each packet that a cell sends, where it leaves: those to the left on the left side."""
+        """For each packet that a cell sends, where it leaves: to the left on the left side, to the farthest site outermost."""
         ports = {}
         for side in (-1, 1):
-            those = sorted((it for it in cell.sent if (it.to > cell.site) == (side > 0)), key=lambda it: abs(it.to - cell.site), reverse=True)
-            gap = min(12, 88 / max(1, len(those)))
-            for k, it in enumerate(reversed(those) if side < 0 else reversed(those)):
-                ports[it.number] = self.centre(cell.site) + side * (14 + (len(those) - 1 - k) * gap)
+            those = [it for it in cell.sent if (it.to > cell.site) == (side > 0)]
+            those.sort(key=lambda it: (it.fate != "kept", abs(it.to - cell.site)))
+            gap = min(18, (BOX / 2 - 34) / max(1, len(those)))
+            for k, it in enumerate(those):
+                ports[it.number] = self.centre(cell.site) + side * (14 + k * gap)
         return ports
 
     def draw_arrows(self):
@@ -565,12 +569,12 @@ class Drawing:
     def draw_stub(self, cell, packet, x, bottom):
         """A packet that never comes: a short line with a cross."""
         ink = LOOKS[packet.fate][1]
-        end = x + (26 if packet.to > cell.site else -26)
+        end = x + (12 if packet.to > cell.site else -12)
         self.lines.append(f'<path d="M{x:.1f} {cell.top + cell.height():.1f} L{x:.1f} {bottom + 3:.1f} L{end:.1f} {bottom + 22:.1f}" fill="none" stroke="{ink}" stroke-width="1.6" stroke-dasharray="3 2"/>')
         self.cross(end, bottom + 22, ink)
 
     def cross(self, x, y, ink):
-        self.lines.append(f'<path d="M{x - 5:.1f} {y - 5:.1f} l10 10 m0 -10 l-10 10" stroke="{ink}" stroke-width="2.4" fill="none"/>')
+        self.lines.append(f'<path d="M{x - 4:.1f} {y - 4:.1f} l8 8 m0 -8 l-8 8" stroke="{ink}" stroke-width="2.2" fill="none"/>')
 
     # head and legend
 

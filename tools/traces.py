@@ -107,14 +107,17 @@ def _read_entries(run, lines):
             step = int(left[5:]) if left.startswith("line ") else step
             entry = Entry(len(run.entries), step, int(mark), left)
             run.entries.append(entry)
-            number = re.fullmatch(r"(?:step deliver|drop) (\d+)", left)
-            if number and int(number[1]) in run.packets:
-                run.packets[int(number[1])].taken.append(entry)
 
 
 def inputs_of(entry):
     """The inputs of a step or a fall."""
     return [entry.form[5:]] if entry.kind == "step" else entry.inputs if entry.kind == "fall" else []
+
+
+def taken_by(entry):
+    """The numbers of the packets that an entry takes: it delivers them, falls over them, or drops them."""
+    found = [re.fullmatch(r"(?:deliver|drop) (\d+)", it) for it in [*inputs_of(entry), entry.form]]
+    return [int(it[1]) for it in found if it]
 
 
 def _name(run):
@@ -135,7 +138,11 @@ def _name(run):
 
 
 def _judge_fates(run):
-    """A packet that nothing took was lost, or its sites lay in two parts of the network."""
+    """What took each packet. One that nothing took was lost, or its sites lay in two parts of the network."""
+    for entry in run.entries:
+        for number in taken_by(entry):
+            if number in run.packets:
+                run.packets[number].taken.append(entry)
     sites = [list(range(1, max(run.sites, default=1) + 1))]
     parts = sites
     for entry in run.entries:
