@@ -343,11 +343,11 @@ class Story:
 
 
 class Drawing:
-    """The story as shapes. `texts` are the places of all texts, for a test that none lies on another."""
+    """The story as shapes. `texts` are the places of all texts and `paths` the arrows, for a test that none lies on another."""
 
     def __init__(self, story, title):
         self.story, self.title = story, title
-        self.back, self.lines, self.front, self.texts = [], [], [], []
+        self.back, self.lines, self.front, self.texts, self.paths = [], [], [], [], []
         self.sites = sorted(story.run.sites)
         self.column = {site: LEFT + CHANNEL + k * PITCH for k, site in enumerate(self.sites)}
         self.right = LEFT + CHANNEL + len(self.sites) * PITCH
@@ -550,6 +550,7 @@ class Drawing:
 
     def draw_path(self, points, ink, arrow):
         dash = ' stroke-dasharray="5 3"' if arrow.is_again else ""
+        self.paths.append((points, arrow))
         path = "M" + " L".join(f"{x:.1f} {y:.1f}" for x, y in points)
         packet = arrow.packet
         title = f"packet {packet.number}, site {packet.sender} to {packet.to}: {packet.message}"
@@ -620,4 +621,19 @@ def overlaps(drawing):
                 break
             if one[0] < other[2] and other[0] < one[2]:
                 return one[4], other[4]
+    return None
+
+
+def crossings(drawing):
+    """An arrow of a drawing that runs through a box; None where there is none."""
+    boxes = [(drawing.column[it.site], it.top, drawing.column[it.site] + BOX, it.top + it.height(), it) for row in drawing.rows for it in row[1]]
+    for points, arrow in drawing.paths:
+        for (x0, y0), (x1, y1) in zip(points, points[1:]):
+            for left, top, right, bottom, cell in boxes:
+                if cell in (arrow.start, arrow.end) or max(y0, y1) <= top or min(y0, y1) >= bottom:
+                    continue
+                # where the segment is inside the box's height
+                cut = [(x0 + (x1 - x0) * (y - y0) / (y1 - y0)) if y1 != y0 else x0 for y in (max(top, min(y0, y1)), min(bottom, max(y0, y1)))]
+                if max(cut) > left and min(cut) < right:
+                    return arrow.packet.number, cell.raw
     return None
