@@ -196,12 +196,15 @@ class Story:
         began = [it.split(" ")[0] for it in entry.told if " began " in it]
         said = f"client begins {traces.name_of(run, began[0])} over {given[6:]}" if began else traces.input_words(run, given)
         cell.say(("again: " if again else "") + said)
+        # a verdict stands behind the join of its election, and before what it makes
+        joins = 1 + max((k for k, it in enumerate(entry.records) if it.startswith("join ")), default=-1)
+        _record_lines(cell, run, entry.records[:joins], False)
         for it in entry.told:
             verdict = re.search(r" election \d+ (.*)", it)
             if verdict:
                 said = re.search(r"block: (.*)", traces.told_words(run, it))
                 cell.say(f"verdict: {'it blocks, as ' + said[1] if said else verdict[1]}", "split" if said else "join")
-        _record_lines(cell, run, entry.records, False)
+        _record_lines(cell, run, entry.records[joins:], False)
         self.locks(entry, cell, packet)
         for it in entry.packets:
             if it.fate != "kept":
