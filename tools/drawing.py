@@ -440,7 +440,7 @@ class Drawing:
 
     def draw_lifelines(self):
         """A line for each site: whole while it is up, broken while it is down; broad where it waits for a lock."""
-        end = self.rows[-1][3] if self.rows else TOP
+        end = self.rows[-1][2] if self.rows else TOP
         for site in self.sites:
             up, y, x = self.is_up_before(site), TOP - 4, self.centre(site)
             for band, cells, top, bottom, gap, told in self.rows:
