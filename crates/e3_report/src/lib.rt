@@ -11,8 +11,6 @@ mod skips;
 mod steps;
 mod tables;
 mod takers;
-#[cfg(test)]
-mod tests;
 mod ups;
 mod whole;
 

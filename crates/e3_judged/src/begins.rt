@@ -1,9 +1,7 @@
-// A history worked out by hand: what no clause says is that calls succeed with ample memory.
-use crate::{Breach, Guard, is_whole, judge};
+// A history that is not whole, and one that is not legal.
 use e3_types::{Act, Entry, Input, Item, List, Name, NoMemory, Scenario, SiteSet, Told, Txn};
 use e3_world::History;
 use std::alloc::Global;
-use std::test::Fail;
 
 fn list_of<T: Drop>(alloc: Global, item: T) -> Result<List<T>, NoMemory> {
     let mut out = List::new(alloc);
@@ -11,15 +9,15 @@ fn list_of<T: Drop>(alloc: Global, item: T) -> Result<List<T>, NoMemory> {
     Ok(out)
 }
 
-// One site, which is to begin a transaction in the first step and to commit it in the second.
-fn scenario(alloc: Global) -> Result<Scenario, Fail> {
+/// One site, which is to begin a transaction in the first step and to commit it in the second.
+pub fn scenario(alloc: Global) -> Result<Scenario, NoMemory> {
     let begin = Item::Begin {
-        name: Name::new(b"t").ok_or("a name")?,
+        name: Name::new(b"t").ok_or(NoMemory)?,
         site: 1,
         sites: SiteSet::one(1),
     };
     let commit = Item::Commit {
-        name: Name::new(b"t").ok_or("a name")?,
+        name: Name::new(b"t").ok_or(NoMemory)?,
     };
     let mut steps = list_of(alloc, list_of(alloc, begin)?)?;
     steps.push(list_of(alloc, commit)?)?;
@@ -39,8 +37,8 @@ fn enter(history: &mut History, owner: u32, act: Act) -> Result<(), NoMemory> {
     Ok(())
 }
 
-// The site rises, the first line comes, and the begin tells the transaction of this number.
-fn begun(alloc: Global, seq: u32) -> Result<History, NoMemory> {
+/// The site rises, the first line comes, and the begin tells the transaction of this number.
+pub fn begun(alloc: Global, seq: u32) -> Result<History, NoMemory> {
     let mut history = History::new(alloc);
     enter(
         &mut history,
@@ -67,31 +65,4 @@ fn begun(alloc: Global, seq: u32) -> Result<History, NoMemory> {
     };
     enter(&mut history, 1, begin)?;
     Ok(history)
-}
-
-fn judged(alloc: Global, seq: u32) -> Result<Option<Breach>, Fail> {
-    let history = begun(alloc, seq)?;
-    Ok(judge(alloc, &scenario(alloc)?, &history)?)
-}
-
-fn whole(alloc: Global) -> Result<bool, Fail> {
-    let history = begun(alloc, 1)?;
-    Ok(is_whole(alloc, &scenario(alloc)?, &history)?)
-}
-
-#[test]
-fn a_history_that_goes_on_is_legal_and_not_whole(rt: HostRuntime) -> Result<(), Fail> {
-    let alloc = rt.alloc();
-    assert!(rt; judged(alloc, 1)?.is_none());
-    assert!(rt; !whole(alloc)?);
-    Ok(())
-}
-
-#[test]
-fn another_event_is_named(rt: HostRuntime) -> Result<(), Fail> {
-    let breach = judged(rt.alloc(), 2)?.ok_or("no breach")?;
-    assert_eq!(rt; breach.at, 2);
-    assert!(rt; breach.guard == Guard::Told);
-    assert!(rt; breach.guard.word() == "told");
-    Ok(())
 }

@@ -1,33 +1,32 @@
-// Reports of histories that are built by hand.
-use crate::report;
+// The report of a scenario and a history that have each item, event and record, each once or in each of its kinds.
+use e3_report::report;
 use e3_types::{
     Act, Answer, Dir, Entry, Input, Item, Key, KeyRow, Leave, List, Name, NoMemory, NumOp, Op,
     Record, Refusal, Scenario, SiteSet, State, Told, Txn, Val, Verdict, Why,
 };
 use e3_world::History;
 use std::alloc::Global;
-use std::test::Fail;
 
-fn name(text: &str) -> Result<Name, Fail> {
-    Ok(Name::new(text.as_bytes()).ok_or("a name")?)
+fn name(text: &str) -> Result<Name, NoMemory> {
+    Name::new(text.as_bytes()).ok_or(NoMemory)
 }
 
-fn val(text: &str) -> Result<Val, Fail> {
-    Ok(Val::new(text.as_bytes()).ok_or("a value")?)
+fn val(text: &str) -> Result<Val, NoMemory> {
+    Val::new(text.as_bytes()).ok_or(NoMemory)
 }
 
-fn key(site: u32, text: &str) -> Result<Key, Fail> {
+fn key(site: u32, text: &str) -> Result<Key, NoMemory> {
     Ok(Key {
         site,
         name: name(text)?,
     })
 }
 
-fn sites(of: &[u32]) -> Result<SiteSet, Fail> {
-    Ok(SiteSet::of(of).ok_or("sites")?)
+fn sites(of: &[u32]) -> Result<SiteSet, NoMemory> {
+    SiteSet::of(of).ok_or(NoMemory)
 }
 
-fn txn(seq: u32, of: &[u32]) -> Result<Txn, Fail> {
+fn txn(seq: u32, of: &[u32]) -> Result<Txn, NoMemory> {
     Ok(Txn {
         site: 1,
         inc: 1,
@@ -102,124 +101,15 @@ fn step(
     )
 }
 
-fn begin(of: &[u32]) -> Result<Input, Fail> {
+fn begin(of: &[u32]) -> Result<Input, NoMemory> {
     Ok(Input::Begin { sites: sites(of)? })
 }
 
-fn committed(alloc: Global, t: Txn) -> Result<List<Record>, Fail> {
-    let mut ops = List::new(alloc);
-    ops.push(NumOp {
-        n: 1,
-        op: Op::Write(key(1, "x")?, val("a")?),
-    })?;
-    let mut records = List::new(alloc);
-    records.push(Record::Vote { txn: t, ops })?;
-    records.push(Record::Attempt {
-        txn: t,
-        n: 1,
-        dir: Dir::Commit,
-    })?;
-    records.push(Record::Decision {
-        txn: t,
-        dir: Dir::Commit,
-    })?;
-    Ok(records)
-}
-
-fn one_write_scenario(alloc: Global) -> Result<Scenario, Fail> {
-    let mut sc = scenario(alloc, &[1])?;
-    sc.steps.push(alone(
-        alloc,
-        Item::Begin {
-            name: name("t")?,
-            site: 1,
-            sites: sites(&[1])?,
-        },
-    )?)?;
-    sc.steps.push(alone(
-        alloc,
-        Item::Write {
-            name: name("t")?,
-            key: key(1, "x")?,
-            val: val("a")?,
-        },
-    )?)?;
-    sc.steps
-        .push(alone(alloc, Item::Commit { name: name("t")? })?)?;
-    Ok(sc)
-}
-
-fn one_write_history(alloc: Global, history: &mut History) -> Result<(), Fail> {
-    let t = txn(1, &[1])?;
-    rise(history, 1, 1)?;
-    line(history, 1)?;
-    tell(alloc, history, 1, begin(&[1])?, Told::Began { txn: t })?;
-    line(history, 2)?;
-    let op = Op::Write(key(1, "x")?, val("a")?);
-    let answer = Answer::Written;
-    tell(
-        alloc,
-        history,
-        1,
-        Input::Do { txn: t, op },
-        Told::Op {
-            txn: t,
-            n: 1,
-            answer,
-        },
-    )?;
-    line(history, 3)?;
-    let mut told = List::new(alloc);
-    told.push(Told::Ended {
-        txn: t,
-        dir: Dir::Commit,
-    })?;
-    step(
-        alloc,
-        history,
-        1,
-        Input::Commit { txn: t },
-        committed(alloc, t)?,
-        told,
-    )?;
-    Ok(())
-}
-
-#[test]
-fn a_write_that_commits_with_its_trace(rt: HostRuntime) -> Result<(), Fail> {
-    let alloc = rt.alloc();
-    let sc = one_write_scenario(alloc)?;
-    let mut history = History::new(alloc);
-    one_write_history(alloc, &mut history)?;
-    let text = report(alloc, &sc, &history, true)?;
-    let want =
-        "start\n1: rose 1\nstep 1\n> begin t 1 1\n1: 1.1.1 began 1\nstep 2\n> write t 1.x a\n\
-        1: 1.1.1 op 1 written\nstep 3\n> commit t\n1: 1.1.1 committed\norder\n1.1.1\nsite 1 up 1\nlog\nbirth 1 1\n\
-        inc 1\nvote 1.1.1 1\nwrite 1 x a\nattempt 1.1.1 1 commit\ndecision 1.1.1 commit\nrows\nx a\nend\n\
-        1 rise 1\n0 line 1\n1 step begin 1\nt 1.1.1 began 1\n0 line 2\n1 step do 1.1.1 write 1.x a\nt 1.1.1 op 1 written\n\
-        0 line 3\n1 step commit 1.1.1\nr vote 1.1.1 1\nr write 1 x a\nr attempt 1.1.1 1 commit\nr decision 1.1.1 commit\n\
-        t 1.1.1 committed\nend\n";
-    assert_eq!(rt; text.as_slice(), want.as_bytes());
-    Ok(())
-}
-
-#[test]
-fn no_steps(rt: HostRuntime) -> Result<(), Fail> {
-    let alloc = rt.alloc();
-    let sc = scenario(alloc, &[2])?;
-    let mut history = History::new(alloc);
-    rise(&mut history, 1, 1)?;
-    let text = report(alloc, &sc, &history, false)?;
-    let want = "start\n1: rose 1\norder\nsite 1 up 1\nlog\nbirth 1 2\ninc 1\nrows\nend\n";
-    assert_eq!(rt; text.as_slice(), want.as_bytes());
-    Ok(())
-}
-
-fn txn_of_two(seq: u32) -> Result<Txn, Fail> {
+fn txn_of_two(seq: u32) -> Result<Txn, NoMemory> {
     txn(seq, &[1, 2])
 }
 
-fn add_row(sc: &mut Scenario, site: u32, at: &str, text: &str) -> Result<(), Fail> {
+fn add_row(sc: &mut Scenario, site: u32, at: &str, text: &str) -> Result<(), NoMemory> {
     sc.rows.push(KeyRow {
         key: key(site, at)?,
         val: val(text)?,
@@ -227,7 +117,7 @@ fn add_row(sc: &mut Scenario, site: u32, at: &str, text: &str) -> Result<(), Fai
     Ok(())
 }
 
-fn first_items(alloc: Global, sc: &mut Scenario) -> Result<(), Fail> {
+fn first_items(alloc: Global, sc: &mut Scenario) -> Result<(), NoMemory> {
     sc.steps.push(alone(
         alloc,
         Item::Begin {
@@ -254,7 +144,7 @@ fn first_items(alloc: Global, sc: &mut Scenario) -> Result<(), Fail> {
     Ok(())
 }
 
-fn ending_items(alloc: Global, sc: &mut Scenario) -> Result<(), Fail> {
+fn ending_items(alloc: Global, sc: &mut Scenario) -> Result<(), NoMemory> {
     let mut items = List::new(alloc);
     items.push(Item::Commit { name: name("t")? })?;
     items.push(Item::Cancel { name: name("t")? })?;
@@ -271,7 +161,7 @@ fn ending_items(alloc: Global, sc: &mut Scenario) -> Result<(), Fail> {
     Ok(())
 }
 
-fn network_items(alloc: Global, sc: &mut Scenario) -> Result<(), Fail> {
+fn network_items(alloc: Global, sc: &mut Scenario) -> Result<(), NoMemory> {
     let mut items = List::new(alloc);
     items.push(Item::Recover {
         sites: sites(&[1, 3])?,
@@ -293,7 +183,7 @@ fn network_items(alloc: Global, sc: &mut Scenario) -> Result<(), Fail> {
     Ok(())
 }
 
-fn power_items(alloc: Global, sc: &mut Scenario) -> Result<(), Fail> {
+fn power_items(alloc: Global, sc: &mut Scenario) -> Result<(), NoMemory> {
     let mut items = List::new(alloc);
     items.push(Item::Crash { site: 2 })?;
     items.push(Item::Restart { site: 1 })?;
@@ -314,7 +204,7 @@ fn power_items(alloc: Global, sc: &mut Scenario) -> Result<(), Fail> {
     Ok(())
 }
 
-fn everything(alloc: Global) -> Result<Scenario, Fail> {
+fn everything(alloc: Global) -> Result<Scenario, NoMemory> {
     let mut sc = scenario(alloc, &[1, 20, 3])?;
     add_row(&mut sc, 1, "ann", "100")?;
     add_row(&mut sc, 2, "bob", "")?;
@@ -334,7 +224,7 @@ fn vote(alloc: Global, t: Txn, n: u32, op: Option<Op>) -> Result<Record, NoMemor
     Ok(Record::Vote { txn: t, ops })
 }
 
-fn answered(alloc: Global, history: &mut History) -> Result<(), Fail> {
+fn answered(alloc: Global, history: &mut History) -> Result<(), NoMemory> {
     let t = txn_of_two(1)?;
     enter(history, 3, Act::Miss)?;
     rise(history, 2, 1)?;
@@ -404,7 +294,7 @@ fn answered(alloc: Global, history: &mut History) -> Result<(), Fail> {
     Ok(())
 }
 
-fn two_votes(alloc: Global, t: Txn) -> Result<List<Record>, Fail> {
+fn two_votes(alloc: Global, t: Txn) -> Result<List<Record>, NoMemory> {
     let mut ops = List::new(alloc);
     ops.push(NumOp {
         n: 1,
@@ -429,7 +319,7 @@ fn two_votes(alloc: Global, t: Txn) -> Result<List<Record>, Fail> {
     Ok(records)
 }
 
-fn refused(alloc: Global, history: &mut History) -> Result<(), Fail> {
+fn refused(alloc: Global, history: &mut History) -> Result<(), NoMemory> {
     let t = txn_of_two(1)?;
     line(history, 3)?;
     let mut records = List::new(alloc);
@@ -473,7 +363,7 @@ fn refused(alloc: Global, history: &mut History) -> Result<(), Fail> {
     Ok(())
 }
 
-fn add_ends(told: &mut List<Told>, t: &Txn) -> Result<(), Fail> {
+fn add_ends(told: &mut List<Told>, t: &Txn) -> Result<(), NoMemory> {
     told.push(Told::Ended {
         txn: *t,
         dir: Dir::Abort,
@@ -491,7 +381,7 @@ fn add_ends(told: &mut List<Told>, t: &Txn) -> Result<(), Fail> {
     Ok(())
 }
 
-fn add_refusals(told: &mut List<Told>, t: &Txn) -> Result<(), Fail> {
+fn add_refusals(told: &mut List<Told>, t: &Txn) -> Result<(), NoMemory> {
     for refusal in [
         Refusal::NoTxn,
         Refusal::Over { dir: Dir::Abort },
@@ -510,7 +400,7 @@ fn add_refusals(told: &mut List<Told>, t: &Txn) -> Result<(), Fail> {
     Ok(())
 }
 
-fn all_told(alloc: Global, t: &Txn) -> Result<List<Told>, Fail> {
+fn all_told(alloc: Global, t: &Txn) -> Result<List<Told>, NoMemory> {
     let mut told = List::new(alloc);
     add_ends(&mut told, t)?;
     add_refusals(&mut told, t)?;
@@ -533,7 +423,7 @@ fn all_told(alloc: Global, t: &Txn) -> Result<List<Told>, Fail> {
     Ok(told)
 }
 
-fn fallen(alloc: Global, history: &mut History) -> Result<(), Fail> {
+fn fallen(alloc: Global, history: &mut History) -> Result<(), NoMemory> {
     let t = txn_of_two(1)?;
     let u = txn_of_two(2)?;
     line(history, 4)?;
@@ -609,17 +499,8 @@ fn risen(history: &mut History) -> Result<(), NoMemory> {
     enter(history, 1, Act::Cut)
 }
 
-fn joined(alloc: Global, lines: &[&str]) -> Result<List<u8>, NoMemory> {
-    let mut out = List::new(alloc);
-    for l in lines {
-        out.extend(l.as_bytes())?;
-    }
-    Ok(out)
-}
-
-#[test]
-fn every_event_record_and_item(rt: HostRuntime) -> Result<(), Fail> {
-    let alloc = rt.alloc();
+/// Adds the report.
+pub fn push_lines(alloc: Global, out: &mut List<u8>) -> Result<(), NoMemory> {
     let sc = everything(alloc)?;
     let mut history = History::new(alloc);
     answered(alloc, &mut history)?;
@@ -627,36 +508,5 @@ fn every_event_record_and_item(rt: HostRuntime) -> Result<(), Fail> {
     fallen(alloc, &mut history)?;
     risen(&mut history)?;
     let text = report(alloc, &sc, &history, false)?;
-    let want = joined(
-        alloc,
-        &[
-            "start\n1: rose 1\n2: rose 1\n3: missed\n",
-            "step 1\n> begin t 1 1,2\n1: 1.1.1 began 1,2\n",
-            "step 2\n> read t 1.ann\n> read t 2.zed\n> write t 1.x a b\n> write t 2.y \n",
-            "1: 1.1.1 op 1 value 100\n1: 1.1.1 op 2 absent\n1: 1.1.1 op 3 written\n1: 1.1.1 op 4 value \n",
-            "step 3\n> commit t\n> cancel t\n> expire 2 t\n> elect 3 t 2,3\n3: down\n",
-            "1: 1.1.1 refused busy 2\n1: 1.1.1 refused over commit\n2: 1.1.1 kept w\n",
-            "step 4\n> recover 1,3\n> split 1,2|3\n> merge\n",
-            "> stop 1 8 none\n> stop 2 9 half\n> stop 3 1000000 all\n> stop 1 1 junk 165\n1: fell fault\n",
-            "2: 1.1.1 aborted\n2: 1.1.1 died for 1.1.2\n2: 1.1.1 doomed 2 1 2\n2: 1.1.1 refused no-transaction\n",
-            "2: 1.1.1 refused over abort\n2: 1.1.1 refused died 1.1.2\n2: 1.1.1 refused doomed 2 1 2\n",
-            "2: 1.1.1 refused too-late 3\n2: 1.1.1 kept q\n2: 1.1.1 kept pc\n2: 1.1.1 kept pa\n",
-            "2: 1.1.1 kept c\n2: 1.1.1 kept a\n2: 1.1.1 election 2 abort\n2: 1.1.1 election 2 commit\n",
-            "2: 1.1.1 election 2 pre-commit\n2: 1.1.1 election 2 pre-abort\n2: 1.1.1 election 2 block 2 of 24\n",
-            "2: fell full 120 of 100\n",
-            "step 5\n> crash 2\n> restart 1\n2: down\n",
-            "1: rise failed 2 fault\n1: rose 3 kept\n3: rise failed 1 full 31 of 10 kept\n",
-            "step 6\n> restart 1\n> crash 1\n> read nobody 1.a\n> begin u 3 1,3\n",
-            "1: up\n0: nobody not begun\n3: down\n1: cut\n2: missed\n",
-            "order\n1.1.1\n1.1.2\n",
-            "site 1 down\nlog\nbirth 1 1,20,3\nrow ab two words\nrow ann 100\ninc 1\nvote 1.1.2 0\n",
-            "vote 1.1.1 2\nread 1 ann\nwrite 3 x a b\njoin 1.1.1 2\nattempt 1.1.1 2 abort\n",
-            "decision 1.1.1 commit\ninc 2\ninc 3\nrows\nab two words\nann 100\nx a b\n",
-            "site 2 down\nlog\nbirth 1 1,20,3\nrow bob \ninc 1\nvote 1.1.1 1\nwrite 4 y \n",
-            "attempt 1.1.1 1 commit\ndecision 1.1.1 commit\nvote 1.1.2 0\ndecision 1.1.2 commit\n",
-            "decision 1.1.3 abort\nrows\nbob \ny \nsite 3 down\nlog\nrows\nend\n",
-        ],
-    )?;
-    assert_eq!(rt; text.as_slice(), want.as_slice());
-    Ok(())
+    out.extend(text.as_slice())
 }

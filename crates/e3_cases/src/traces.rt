@@ -1,28 +1,27 @@
 // The trace of a list of entries that has each form, input, record, message and event, each once or in each of its kinds.
-use crate::push_trace;
+use e3_trace_lines::push_trace;
 use e3_types::{
     Act, Answer, Call, Dir, Entry, Input, Key, List, Message, Name, NoMemory, NumOp, Op, Packet,
     Record, Refusal, Row, SiteSet, State, Told, Txn, Val, Verdict, Why,
 };
 use std::alloc::Global;
-use std::test::Fail;
 
-fn name(text: &str) -> Result<Name, Fail> {
-    Ok(Name::new(text.as_bytes()).ok_or("a name")?)
+fn name(text: &str) -> Result<Name, NoMemory> {
+    Name::new(text.as_bytes()).ok_or(NoMemory)
 }
 
-fn val(text: &str) -> Result<Val, Fail> {
-    Ok(Val::new(text.as_bytes()).ok_or("a value")?)
+fn val(text: &str) -> Result<Val, NoMemory> {
+    Val::new(text.as_bytes()).ok_or(NoMemory)
 }
 
-fn read(of: &str) -> Result<Op, Fail> {
+fn read(of: &str) -> Result<Op, NoMemory> {
     Ok(Op::Read(Key {
         site: 2,
         name: name(of)?,
     }))
 }
 
-fn write(of: &str, text: &str) -> Result<Op, Fail> {
+fn write(of: &str, text: &str) -> Result<Op, NoMemory> {
     let key = Key {
         site: 1,
         name: name(of)?,
@@ -30,11 +29,11 @@ fn write(of: &str, text: &str) -> Result<Op, Fail> {
     Ok(Op::Write(key, val(text)?))
 }
 
-fn sites(of: &[u32]) -> Result<SiteSet, Fail> {
-    Ok(SiteSet::of(of).ok_or("sites")?)
+fn sites(of: &[u32]) -> Result<SiteSet, NoMemory> {
+    SiteSet::of(of).ok_or(NoMemory)
 }
 
-fn txn_of(seq: u32) -> Result<Txn, Fail> {
+fn txn_of(seq: u32) -> Result<Txn, NoMemory> {
     Ok(Txn {
         site: 1,
         inc: 1,
@@ -66,7 +65,7 @@ fn packet(number: u64, msg: Message) -> Packet {
     }
 }
 
-fn each_input(alloc: Global, history: &mut List<Entry>) -> Result<(), Fail> {
+fn each_input(alloc: Global, history: &mut List<Entry>) -> Result<(), NoMemory> {
     let txn = txn_of(1)?;
     take(alloc, history, Input::Begin { sites: txn.sites })?;
     take(
@@ -89,7 +88,7 @@ fn each_input(alloc: Global, history: &mut List<Entry>) -> Result<(), Fail> {
     Ok(())
 }
 
-fn add_operations(outs: &mut List<Packet>, txn: Txn) -> Result<(), Fail> {
+fn add_operations(outs: &mut List<Packet>, txn: Txn) -> Result<(), NoMemory> {
     let op = read("y")?;
     outs.push(packet(1, Message::Do { txn, n: 1, op }))?;
     let op = write("x", "")?;
@@ -117,7 +116,7 @@ fn add_operations(outs: &mut List<Packet>, txn: Txn) -> Result<(), Fail> {
     Ok(())
 }
 
-fn add_election(outs: &mut List<Packet>, txn: &Txn) -> Result<(), Fail> {
+fn add_election(outs: &mut List<Packet>, txn: &Txn) -> Result<(), NoMemory> {
     let call = Call { inc: 3, seq: 4 };
     outs.push(packet(8, Message::Ask { txn: *txn, call }))?;
     let elected = 6;
@@ -142,7 +141,7 @@ fn add_election(outs: &mut List<Packet>, txn: &Txn) -> Result<(), Fail> {
     Ok(())
 }
 
-fn add_commit(outs: &mut List<Packet>, txn: &Txn, older: &Txn) -> Result<(), Fail> {
+fn add_commit(outs: &mut List<Packet>, txn: &Txn, older: &Txn) -> Result<(), NoMemory> {
     let n = 2;
     let dir = Dir::Commit;
     outs.push(packet(
@@ -187,7 +186,7 @@ fn add_commit(outs: &mut List<Packet>, txn: &Txn, older: &Txn) -> Result<(), Fai
     Ok(())
 }
 
-fn records(alloc: Global, txn: Txn) -> Result<List<Record>, Fail> {
+fn records(alloc: Global, txn: Txn) -> Result<List<Record>, NoMemory> {
     let mut weights = List::new(alloc);
     weights.push(1)?;
     weights.push(20)?;
@@ -222,7 +221,7 @@ fn records(alloc: Global, txn: Txn) -> Result<List<Record>, Fail> {
     Ok(out)
 }
 
-fn add_ends(told: &mut List<Told>, txn: Txn) -> Result<(), Fail> {
+fn add_ends(told: &mut List<Told>, txn: Txn) -> Result<(), NoMemory> {
     told.push(Told::Began { txn })?;
     for dir in [Dir::Commit, Dir::Abort] {
         told.push(Told::Ended { txn, dir })?;
@@ -246,7 +245,7 @@ fn add_ends(told: &mut List<Told>, txn: Txn) -> Result<(), Fail> {
     Ok(())
 }
 
-fn add_refusals(told: &mut List<Told>, txn: &Txn) -> Result<(), Fail> {
+fn add_refusals(told: &mut List<Told>, txn: &Txn) -> Result<(), NoMemory> {
     for refusal in [
         Refusal::NoTxn,
         Refusal::Busy { op: 2 },
@@ -265,7 +264,7 @@ fn add_refusals(told: &mut List<Told>, txn: &Txn) -> Result<(), Fail> {
     Ok(())
 }
 
-fn add_verdicts(told: &mut List<Told>, txn: &Txn) -> Result<(), Fail> {
+fn add_verdicts(told: &mut List<Told>, txn: &Txn) -> Result<(), NoMemory> {
     for state in [State::Q, State::W, State::Pc, State::Pa, State::C, State::A] {
         told.push(Told::Kept { txn: *txn, state })?;
     }
@@ -285,7 +284,7 @@ fn add_verdicts(told: &mut List<Told>, txn: &Txn) -> Result<(), Fail> {
     Ok(())
 }
 
-fn whole_step(alloc: Global, history: &mut List<Entry>) -> Result<(), Fail> {
+fn whole_step(alloc: Global, history: &mut List<Entry>) -> Result<(), NoMemory> {
     let t = txn_of(1)?;
     let mut outs = List::new(alloc);
     add_operations(&mut outs, t)?;
@@ -307,7 +306,7 @@ fn whole_step(alloc: Global, history: &mut List<Entry>) -> Result<(), Fail> {
     Ok(())
 }
 
-fn falls(alloc: Global, history: &mut List<Entry>) -> Result<(), Fail> {
+fn falls(alloc: Global, history: &mut List<Entry>) -> Result<(), NoMemory> {
     let mut inputs = List::new(alloc);
     inputs.push(Input::Expire { txn: txn_of(1)? })?;
     inputs.push(Input::Cancel { txn: txn_of(1)? })?;
@@ -359,7 +358,7 @@ fn rises(history: &mut List<Entry>) -> Result<(), NoMemory> {
     enter(history, 3, Act::Cut)
 }
 
-fn drivers(alloc: Global, history: &mut List<Entry>) -> Result<(), Fail> {
+fn drivers(alloc: Global, history: &mut List<Entry>) -> Result<(), NoMemory> {
     enter(history, 0, Act::Line { number: 12 })?;
     let mut parts = List::new(alloc);
     parts.push(sites(&[1, 3])?)?;
@@ -369,50 +368,13 @@ fn drivers(alloc: Global, history: &mut List<Entry>) -> Result<(), Fail> {
     Ok(())
 }
 
-fn joined(alloc: Global, lines: &[&str]) -> Result<List<u8>, NoMemory> {
-    let mut out = List::new(alloc);
-    for l in lines {
-        out.extend(l.as_bytes())?;
-    }
-    Ok(out)
-}
-
-#[test]
-fn each_form_input_record_message_and_event(rt: HostRuntime) -> Result<(), Fail> {
-    let alloc = rt.alloc();
+/// Adds the trace of them all.
+pub fn push_lines(alloc: Global, out: &mut List<u8>) -> Result<(), NoMemory> {
     let mut history = List::new(alloc);
     drivers(alloc, &mut history)?;
     each_input(alloc, &mut history)?;
     whole_step(alloc, &mut history)?;
     falls(alloc, &mut history)?;
     rises(&mut history)?;
-    let mut text = List::new(alloc);
-    push_trace(&mut text, history.as_slice())?;
-    let want = joined(
-        alloc,
-        &[
-            "0 line 12\n0 parts 1,3|2\n0 drop 18\n",
-            "1 step begin 1,2\n1 step do 1.1.1 read 2.y\n1 step do 1.1.1 write 1.x two  words \n",
-            "1 step commit 1.1.1\n1 step cancel 1.1.1\n1 step expire 1.1.1\n1 step elect 1.1.1 1\n1 step deliver 7\n",
-            "1 step commit 1.1.1\nr birth 1 1,20\nr row z \nr inc 1\nr vote 1.1.1 2\nr read 1 y\nr write 3 x a b\n",
-            "r join 1.1.1 2\nr attempt 1.1.1 2 commit\nr decision 1.1.1 commit\nr attempt 1.1.1 2 abort\nr decision 1.1.1 abort\n",
-            "o 1 2 do 1.1.1 1 read 2.y\no 2 2 do 1.1.1 2 write 1.x \n",
-            "o 3 2 done 1.1.1 1 5 written\no 4 2 done 1.1.1 1 5 absent\n",
-            "o 5 2 done 1.1.1 1 5 value \no 6 2 done 1.1.1 1 5 value a b\n",
-            "o 8 2 ask 1.1.1 3 4\no 9 2 last 1.1.1 3 4 6\no 10 2 elected 1.1.1 7\no 11 2 report 1.1.1 7 pc 1\n",
-            "o 12 2 died 1.1.1 2 1.1.2\no 13 2 votereq 1.1.1 3 4\no 14 2 vote 1.1.1 yes\no 15 2 vote 1.1.1 no\n",
-            "o 16 2 pre 1.1.1 2 commit\no 17 2 ack 1.1.1 2 commit\no 18 2 decide 1.1.1 abort\n",
-            "t 1.1.1 began 1,2\nt 1.1.1 committed\nt 1.1.1 aborted\nt 1.1.1 died for 1.1.2\nt 1.1.1 doomed 2 1 3\n",
-            "t 1.1.1 op 1 written\nt 1.1.1 op 1 absent\nt 1.1.1 op 1 value \nt 1.1.1 op 1 value  two  words \n",
-            "t 1.1.1 refused no-transaction\nt 1.1.1 refused busy 2\nt 1.1.1 refused over commit\n",
-            "t 1.1.1 refused over abort\nt 1.1.1 refused died 1.1.2\nt 1.1.1 refused doomed 2 1 3\n",
-            "t 1.1.1 refused too-late 4\nt 1.1.1 kept q\nt 1.1.1 kept w\nt 1.1.1 kept pc\nt 1.1.1 kept pa\n",
-            "t 1.1.1 kept c\nt 1.1.1 kept a\nt 1.1.1 election 5 abort\nt 1.1.1 election 5 commit\n",
-            "t 1.1.1 election 5 pre-commit\nt 1.1.1 election 5 pre-abort\nt 1.1.1 election 5 block 2 of 24\n",
-            "2 fall full 120 of 100 2\ni expire 1.1.1\ni cancel 1.1.1\nr join 1.1.1 2\n2 fall fault 0\n",
-            "2 rise 2 kept\n2 rise 3\n3 risefall 4 full 31 of 10 kept\n3 miss\n3 cut\n",
-        ],
-    )?;
-    assert_eq!(rt; text.as_slice(), want.as_slice());
-    Ok(())
+    push_trace(out, history.as_slice())
 }
