@@ -1,10 +1,10 @@
 -- Which owners are left, while passes are dealt and gathered.
-use Rattle.std.proofs.Common.{◌≡◌, ◌≢◌, ◌⊎◌, ⊎_elim, set, ℕ, zero, suc, ◌+◌, ◌<◌, ◌≤◌, List, [], ◌∷◌, ◌++◌, length, refl, sym, ap, ◌∙◌, subst, arith, eqb, cond, Bool, true, false}
+use Rattle.std.proofs.Common.{◌≡◌, ◌≢◌, ⊎_elim, set, ℕ, zero, suc, ◌+◌, ◌<◌, ◌≤◌, List, [], ◌∷◌, ◌++◌, length, refl, sym, ap, ◌∙◌, subst, arith, eqb, cond, Bool, true, false}
 use Rattle.std.proofs.lemmas.Bool.{eqb-true}
 use Rattle.std.proofs.lemmas.Bool.Decides.{eqb_tells}
 use Rattle.std.proofs.lemmas.List.{get_or-set_same, get_or-set_other, get_or_default}
 use Rattle.std.specs.Prelude.{slice_index_or}
-use Rattle.e3_turn.specs.Chronicles.{count_of, without, down_from, LongerExtends, longer}
+use Rattle.e3_turn.specs.Chronicles.{count_of, without, LongerExtends, longer}
 use Rattle.e3_turn_rate.specs.declared.journal.Mark.{Mark}
 use Rattle.e3_turn_rate.specs.declared.worker.Worker.{Worker}
 use Rattle.e3_turn_rate.specs.Marks.{marks_of}

@@ -1,5 +1,5 @@
 -- A mark that is allowed behind what its owner has seen is allowed behind the whole chronicle.
-use Rattle.std.proofs.Common.{◌≡◌, ◌≢◌, ◌⊎◌, ℕ, zero, suc, ◌+◌, ◌<◌, ◌≤◌, List, [], ◌∷◌, ◌++◌, length, refl, sym, ap, ◌∙◌, subst, ⊎_elim, arith, eqb, cond, Bool, true, false, true≢false, append_assoc, length-append}
+use Rattle.std.proofs.Common.{◌≡◌, ℕ, zero, suc, ◌+◌, ◌<◌, List, [], ◌∷◌, ◌++◌, length, refl, sym, ap, ◌∙◌, subst, arith, eqb, cond, Bool, true, false, append_assoc}
 use Rattle.std.specs.Prelude.{All, Result, Ok, Err, MatchResult, MatchBool, is_ok, ltb}
 use Rattle.std.proofs.lemmas.Bool.{eqb-true, eq-eqb}
 use Rattle.std.proofs.lemmas.List.{append-nil}
@@ -7,7 +7,7 @@ use Rattle.std.proofs.lemmas.List.Elements.{All-nil, All-cons, All-head, All-tai
 use Rattle.e3_turn.specs.Chronicles.{count_of, IsForeign, IsOwn, ExtendsByOthers, ExtendsByOwners, LongerExtends, longer}
 use Rattle.e3_turn.proofs.Totals.{count_of_self}
 use Rattle.e3_turn_rate.specs.declared.journal.Mark.{Mark}
-use Rattle.e3_turn_rate.specs.Marks.{marks_of, IsNext, IsNumberedBehind, IsNumbered, numbered}
+use Rattle.e3_turn_rate.specs.Marks.{marks_of, IsNext, IsNumberedBehind, numbered}
 
 abbrev pub owned_by : Mark → ℕ → Bool
 owned_by m o = eqb m.owner o

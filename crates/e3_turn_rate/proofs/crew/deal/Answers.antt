@@ -1,5 +1,4 @@
-use Rattle.std.proofs.Common.{refl, ◌≡◌, ◌+◌, ◌<◌, ◌∙◌, ap, sym, arith, length}
-use Rattle.std.specs.Prelude.{slice_index_or, Some}
+use Rattle.std.proofs.Common.{refl, ◌<◌, ◌∙◌, ap, arith, length}
 use Rattle.e3_turn_rate.specs.declared.worker.Worker.{Worker}
 use Rattle.e3_turn_rate.specs.Workers.{Dealt}
 use Rattle.e3_turn_rate.proofs.Dealing.{can_split, keeps_one, left_more, changed_more, unchanged_more, same_member}

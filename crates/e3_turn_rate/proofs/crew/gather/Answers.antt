@@ -1,5 +1,5 @@
-use Rattle.std.proofs.Common.{rules, ◌≡◌, ◌+◌, ◌<◌, ◌∙◌, ap, sym, subst, arith, length, ◌∷◌, []}
-use Rattle.std.specs.Prelude.{slice_index_or, Some}
+use Rattle.std.proofs.Common.{◌≡◌, ◌+◌, ◌<◌, ◌∙◌, ap, sym, subst, arith, length, ◌∷◌, []}
+use Rattle.std.specs.Prelude.{slice_index_or}
 use Rattle.e3_turn_rate.specs.declared.worker.Worker.{Worker}
 use Rattle.e3_turn_rate.specs.Marks.{marks_of}
 use Rattle.e3_turn_rate.specs.Workers.{HasPass, seen_of}

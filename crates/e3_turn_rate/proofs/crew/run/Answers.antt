@@ -1,6 +1,5 @@
-use Rattle.std.proofs.Common.{rules, ◌≡◌, ◌+◌, ◌<◌, ◌∙◌, ap, sym, subst, arith, length, ◌∷◌, [], ℕ}
-use Rattle.std.specs.Prelude.{slice_index_or, Some, true}
-use Rattle.e3_turn_rate.specs.declared.worker.Worker.{Worker}
+use Rattle.std.proofs.Common.{◌≡◌, ◌+◌, ◌<◌, ◌∙◌, ap, sym, subst, arith, length}
+use Rattle.std.specs.Prelude.{slice_index_or}
 use Rattle.e3_turn_rate.specs.Marks.{marks_of, numbered}
 use Rattle.e3_turn_rate.specs.Workers.{gathered, seen_of}
 use Rattle.e3_turn_rate.proofs.Dealing.{gathered_all}

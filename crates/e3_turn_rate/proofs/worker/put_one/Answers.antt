@@ -1,4 +1,4 @@
-use Rattle.std.proofs.Common.{rules, ◌∙◌, sym}
+use Rattle.std.proofs.Common.{◌∙◌}
 use Rattle.e3_turn_rate.proofs.Local.{local, has_one, grew_one, marks_after, marks_of-grown}
 use Rattle.e3_turn_rate.proofs.worker.put_one.Goals as goal
 
