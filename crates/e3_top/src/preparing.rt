@@ -14,6 +14,7 @@ ghost use Rattle.e3_world.specs.Legal.{IsWhole};
 use crate::words::{refused_history_full, refused_words};
 use e3_disk::{Disk, Drill};
 use e3_fleet::{Played, play_over};
+use e3_law_rounds::rounds_end;
 use e3_outside::{ReadFault, Source, read_up_to};
 use e3_report::report;
 use e3_scenario::{ScenarioFault, fault_line, read_scenario};
@@ -103,12 +104,14 @@ fn prepare_run<D: Disk + Drill + Drop>(
     requires given { IsGiven scenario.now }
     requires enough { length scenario.now.weights ≤ length disks.items }
     requires blank { AreBlank D.content D.image D.meters disks.items }
+    requires most { most ≤ 2000000 }
     ensures due { IfOk result.due (λ due. IsDue D.image D.meters disks.items result.disks.items words.now bytes.now most due.status result.history.entries due.text) }
     ensures status { IfOk result.due (λ due. (due.status ≡ 0) ⊎ (due.status ≡ 6)) }
     ensures only_memory { IfErr result.due (λ e. e ≡ Stop.NoMemory) }
     ensures history { IsRunOf D.image D.meters disks.items result.disks.items scenario.now most result.history.entries }
 {
     one_order();
+    rounds_end();
     let Played {
         ended,
         history,
@@ -173,6 +176,7 @@ fn prepare_bytes<D: Disk + Drill + Drop>(
     requires run { Spell words.now (Run trace) }
     requires sixteen { length disks.items ≡ 16 }
     requires blank { AreBlank D.content D.image D.meters disks.items }
+    requires most { most ≤ 2000000 }
     ensures due { IfOk result.due (λ due. IsDue D.image D.meters disks.items result.disks.items words.now bytes.now most due.status result.history.entries due.text) }
     ensures not_words { IfOk result.due (λ due. due.status ≢ 1) }
     ensures only_memory { IfErr result.due (λ e. e ≡ Stop.NoMemory) }
@@ -198,6 +202,7 @@ pub fn prepare<S: Source, D: Disk + Drill + Drop>(
 ) -> Prepared<D>
     requires sixteen { length disks.items ≡ 16 }
     requires blank { AreBlank D.content D.image D.meters disks.items }
+    requires most { most ≤ 2000000 }
     ensures prepared { IfOk result.due (λ due. IsPrepared D.image D.meters disks.items result.disks.items words.now (S.left source.old) (S.left source.new) most due.status result.history.entries due.text) }
     ensures source_failed { result.due ≡ Err Stop.SourceFailed →
         SourceFails disks.items result.disks.items words.now (S.left source.old) (S.left source.new) (S.faults source.old) (S.faults source.new) result.history.entries }
