@@ -20,7 +20,12 @@ fn decides_in_its_five_cases(rt: HostRuntime) {
     let off = report(5, State::A, 0);
     assert!(rt; matches!(decide(&[late, ended, off], 1, 9), Verdict::Abort));
     assert!(rt; matches!(decide(&[voted, ended], 1, 9), Verdict::Commit));
-    assert!(rt; matches!(decide(&[voted, late], 2, 4), Verdict::Block { have: 2, total: 4 }));
+    assert!(rt;
+        matches!(
+            decide(&[voted, late], 2, 4),
+            Verdict::Block { have: 2, total: 4 }
+        )
+    );
     assert!(rt; matches!(decide(&[late, old], 3, 4), Verdict::PreCommit));
     assert!(rt; matches!(decide(&[voted, old], 3, 4), Verdict::PreAbort));
 }
