@@ -9,11 +9,14 @@ mod orders;
 mod sites;
 mod skips;
 mod steps;
+mod summing;
 mod tables;
 mod takers;
+mod tallies;
 #[cfg(test)]
 mod tests;
 mod ups;
 mod whole;
 
+pub use summing::summary;
 pub use whole::report;
