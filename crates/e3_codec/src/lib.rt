@@ -7,8 +7,6 @@ mod laws;
 mod listed;
 mod parts;
 mod readers;
-#[cfg(test)]
-mod tests;
 mod writers;
 
 pub use faults::RecordFault;

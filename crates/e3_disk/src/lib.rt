@@ -8,8 +8,6 @@ mod memory;
 mod panel;
 mod schedule;
 mod store;
-#[cfg(test)]
-mod tests;
 
 pub use disk::{Disk, Drill};
 pub use fault::DiskFault;

@@ -29,6 +29,8 @@ impl<D: Disk + Drill + Drop> Sites for Fleet<D> {
 
     ghost is_legal = { λ f s. s.shared_stands.legal };
 
+    ghost is_given = { λ f s. s.shared_stands.given };
+
     ghost within = { λ f s. s.shared_stands.within };
 
     fn history(&self) -> &[Entry] {

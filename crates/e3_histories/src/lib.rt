@@ -11,8 +11,6 @@ mod packets;
 mod rounds;
 mod sites;
 mod steps;
-#[cfg(test)]
-mod tests;
 
 pub use items::{has_delivery, inputs_at, is_up_at, items_through, since_line, to_line, turn_of};
 pub use packets::{is_calm, lines, pending, present_items, sent_count};

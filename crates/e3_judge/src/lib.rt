@@ -7,8 +7,6 @@ mod equal;
 mod inputs;
 mod judging;
 mod laws;
-#[cfg(test)]
-mod tests;
 
 pub use breach::{Breach, Guard};
 pub use judging::{is_whole, judge};

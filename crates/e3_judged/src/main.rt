@@ -1,8 +1,9 @@
 //! Runs scenarios over disks in memory and prints what the plain judge says of each history: the worked scenarios, each with
 //! its name; and a commit whose coordinator's disk stops in each of its calls with each leave, with what clients were told
-//! and how the sites fell and rose.
+//! and how the sites fell and rose; and a history that is not whole, and one that is not legal.
 #![tactic(auto)]
 
+mod begins;
 mod rows;
 mod stops;
 
@@ -121,6 +122,24 @@ fn push_rises(rt: &impl Wait, alloc: Global, out: &mut List<u8>, leave: &str) ->
     Some(())
 }
 
+// Adds the lines of two histories that only begin: in one the begin tells its transaction, in the other another one.
+fn push_begins(alloc: Global, out: &mut List<u8>) -> Option<()> {
+    let scenario = begins::scenario(alloc).ok()?;
+    for seq in [1, 2] {
+        let history = begins::begun(alloc, seq).ok()?;
+        push_labelled(out, "tells number ", u64::from(seq)).ok()?;
+        push_text(out, ": ").ok()?;
+        push_text(out, verdict_of(alloc, &scenario, &history).ok()?).ok()?;
+        if let Some(breach) = judge(alloc, &scenario, &history).ok()? {
+            push_labelled(out, " at ", breach.at).ok()?;
+            push_text(out, ", ").ok()?;
+            push_text(out, breach.guard.word()).ok()?;
+        }
+        push_text(out, "\n").ok()?;
+    }
+    Some(())
+}
+
 // All lines; none without memory.
 fn lines(rt: &impl Wait, alloc: Global) -> Option<List<u8>> {
     let mut out = List::new(alloc);
@@ -131,6 +150,7 @@ fn lines(rt: &impl Wait, alloc: Global) -> Option<List<u8>> {
         push_commits(rt, alloc, &mut out, leave)?;
         push_rises(rt, alloc, &mut out, leave)?;
     }
+    push_begins(alloc, &mut out)?;
     Some(out)
 }
 

@@ -15,8 +15,8 @@ pub const COMMIT: u64 = 4;
 
 pub const RISE: u64 = 3;
 
-/// What a stop leaves.
-pub const LEAVES: [&str; 4] = ["none", "half", "all", "junk 165"];
+/// What a stop leaves; the byte 165 is an open gate.
+pub const LEAVES: [&str; 5] = ["none", "half", "all", "junk 165", "junk 164"];
 
 /// The scenario: a commit over three sites, a restart of the coordinator and a recovery of all sites.
 pub fn commit(alloc: Global, call: u64, leave: &str) -> Result<List<u8>, NoMemory> {

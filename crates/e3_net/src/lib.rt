@@ -5,8 +5,6 @@
 mod laws;
 mod net;
 mod queue;
-#[cfg(test)]
-mod tests;
 mod waiting;
 
 pub use laws::{each_entry_keeps_the_net, net_shows_what_is_pending};

@@ -10,4 +10,3 @@ pub mod Strange
 pub mod Among
 pub mod Steps
 pub mod Appends
-pub mod Tried

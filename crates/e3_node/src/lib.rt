@@ -15,8 +15,6 @@ mod rising;
 mod shared;
 mod state;
 mod stepping;
-#[cfg(test)]
-mod tests;
 mod writing;
 
 pub use fault::{CutFault, InputFault, RiseFault};

@@ -10,8 +10,6 @@ mod messages;
 mod operation_rules;
 mod plain_forms;
 mod steps;
-#[cfg(test)]
-mod tests;
 mod vote_rules;
 mod weights;
 

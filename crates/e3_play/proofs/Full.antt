@@ -11,6 +11,7 @@ use Rattle.e3_types.specs.declared.entries.Input.{Input}
 use Rattle.e3_types.specs.declared.scenarios.Item.{Item}
 use Rattle.e3_types.specs.declared.scenarios.Item.TheVariants as item
 use Rattle.e3_types.specs.declared.scenarios.Scenario.{Scenario}
+use Rattle.e3_world.specs.declared.names.Addressed.{Addressed}
 use Rattle.e3_world.specs.Given.{is_groupable}
 use Rattle.e3_world.specs.Items.{inputs_at, is_up_at, items_through, since_line, turn_of}
 use Rattle.e3_world.specs.Legal.{Guard, IsLegal, IsNextItem, IsWhole, LegalAfter, has_rising, is_made, is_rising, is_through}
@@ -21,7 +22,8 @@ use Rattle.e3_world.proofs.Guards.{up_some}
 use Rattle.e3_world.proofs.Rises.{Rising, rises_through}
 use Rattle.e3_world.proofs.Turns.{true_not_false}
 use Rattle.e3_play.specs.Played.{IsSettled, is_parted}
-use Rattle.e3_sites.specs.Delivered.{IsFull}
+use Rattle.e3_play.proofs.Entries.{turn_to_rise}
+use Rattle.e3_sites.specs.Delivered.{ALine, AnItem, ARise, IsFull}
 use Rattle.e3_sites.proofs.Bounds.{bounded, whole_parts}
 
 -- a test that all sites pass is passed by each
@@ -141,13 +143,18 @@ item_open sc h items (suc k) i legal begun present group up next whole =
 
 -- in the words of the program's loops
 pub rise_full : (sc : Scenario) (h : List Entry) (k most : ℕ) → Rising sc h k → k < length sc.weights → length h ≤ most → most ≤ length h → IsFull sc h most
-rise_full sc h k most was low few many = bounded sc h most few many (rise_open sc h k was low)
+rise_full sc h k most was low few many = bounded sc h most few many (ARise (suc k) (turn_to_rise sc h k (omega (arith, low)) was)) (rise_open sc h k was low)
 
 pub line_full : (sc : Scenario) (h : List Entry) (k most : ℕ) → IsSettled sc h k → suc k ≤ length sc.steps → length h ≤ most → most ≤ length h → IsFull sc h most
-line_full sc h k most was more few many = bounded sc h most few many (line_open sc h k was.at more)
+line_full sc h k most was more few many =
+    bounded sc h most few many (ALine (suc k) (record { next = ap suc (sym was.at); exists = more; through = was.through })) (line_open sc h k was.at more)
 
 pub risen : (sc : Scenario) (h : List Entry) (k count : ℕ) → Rising sc h k → pending sc h ≡ [] → count ≡ length sc.weights → count ≤ k → k ≤ count → IsSettled sc h 0
 risen sc h k count was none all many few =
     let P : ℕ → Type 0 = λ n. Rising sc h n in
     let same : k ≡ length sc.weights = omega (arith, all, many, few) in
     record { legal = was.legal; at = was.before_lines; none = none; through = rises_through sc h (subst P same was) }
+
+pub item_full : (sc : Scenario) (h : List Entry) (a : Addressed) (most : ℕ) → length h ≤ most → most ≤ length h → is_up_at h a.site ≡ true →
+    IsNextItem sc h a.site a.input → ¬ IsWhole sc h → IsFull sc h most
+item_full sc h a most few many up next unmade = bounded sc h most few many (AnItem a.site a.input up next) unmade

@@ -21,8 +21,8 @@ use Rattle.e3_play.specs.Played.{IsAsked, IsFresh, IsSettled, is_asking}
 use Rattle.e3_play.proofs.Entries.{asked_on}
 use Rattle.e3_play.proofs.Quiet.{none_pending}
 use Rattle.e3_play.proofs.Steps.{step_settles}
-use Rattle.e3_sites.proofs.Bounds.{some_line, whole_parts}
-use Rattle.e3_sites.specs.Delivered.{Delivers}
+use Rattle.e3_sites.proofs.Bounds.{bounded, some_line, whole_parts}
+use Rattle.e3_sites.specs.Delivered.{ACut, ARise, Delivers, IsFull}
 use Rattle.e3_sites.specs.Entering.{AfterRise}
 
 -- behind the line of a step
@@ -96,6 +96,9 @@ crash_passed sc h s was down = settles sc h (lines h) was.legal refl was.begun w
 pub crash_open : (sc : Scenario) (h : List Entry) (s : ℕ) → IsFresh sc h (item.Crash s ∷ []) → is_up_at h s ≡ true → ¬ IsWhole sc h
 crash_open sc h s was up whole = true_not_false (sym (whole_parts sc h was.begun whole).1 ∙ crash_unmade sc h s was.present up)
 
+pub crash_full : (sc : Scenario) (h : List Entry) (s most : ℕ) → IsFresh sc h (item.Crash s ∷ []) → is_up_at h s ≡ true → length h ≤ most → most ≤ length h → IsFull sc h most
+crash_full sc h s most was up few many = bounded sc h most few many (ACut s (may_cut sc h s was up)) (crash_open sc h s was up)
+
 -- a restart
 restart_made : (sc : Scenario) (h : List Entry) (s : ℕ) → present_items sc h ≡ item.Restart s ∷ [] → (is_up_at h s || has_rising (since_line h) s) ≡ true →
     is_made sc h ≡ true
@@ -155,6 +158,10 @@ restart_passed sc h s was up = settles sc h (lines h) was.legal refl was.begun w
 
 pub restart_open : (sc : Scenario) (h : List Entry) (s : ℕ) → IsFresh sc h (item.Restart s ∷ []) → is_up_at h s ≡ false → ¬ IsWhole sc h
 restart_open sc h s was down whole = true_not_false (sym (whole_parts sc h was.begun whole).1 ∙ restart_unmade sc h s was.present down was.fresh)
+
+pub restart_full : (sc : Scenario) (h : List Entry) (s most : ℕ) → IsFresh sc h (item.Restart s ∷ []) → s ≤ length sc.weights → is_up_at h s ≡ false →
+    length h ≤ most → most ≤ length h → IsFull sc h most
+restart_full sc h s most was some down few many = bounded sc h most few many (ARise s (may_restart sc h s was some down)) (restart_open sc h s was down)
 
 -- a recovery
 recovery_made : (sc : Scenario) (h : List Entry) (group : List ℕ) → present_items sc h ≡ item.Recover group ∷ [] → due_round sc h ≡ None → is_made sc h ≡ true

@@ -18,7 +18,7 @@ use Rattle.e3_world.proofs.Readings.{since_push, to_push}
 use Rattle.e3_world.proofs.Turns.{through_push}
 use Rattle.e3_play.proofs.Full.{parts_open}
 use Rattle.e3_play.specs.Played.{IsAsked, IsSettled, is_asking, is_parted, parts_asked}
-use Rattle.e3_sites.specs.Delivered.{IsFull}
+use Rattle.e3_sites.specs.Delivered.{IsFull, TheParts}
 use Rattle.e3_sites.proofs.Bounds.{bounded}
 
 pub next_is_line : (sc : Scenario) (h : List Entry) (k : ℕ) → IsSettled sc h k → suc k ≤ length sc.steps → IsLine sc h (suc k)
@@ -189,7 +189,8 @@ asks_items sc (item.Stop site count leave ∷ xs) played is = played
 pub parts_full : (sc : Scenario) (h : List Entry) (items : List Item) (parts : List (List ℕ)) (most : ℕ) → ItemsDone sc h [] items → since_line h ≡ [] → lines h ≢ 0 →
     parts_asked sc items ≡ Some parts → length h ≤ most → most ≤ length h → IsFull sc h most
 parts_full sc h items parts most was fresh begun is few many =
-    bounded sc h most few many (parts_open sc h items begun (sym (present_is sc h) ∙ was.present) (asks_parts sc items parts is).0 fresh)
+    bounded sc h most few many (TheParts parts (may_part sc h items parts was fresh (asks_parts sc items parts is).1))
+    (parts_open sc h items begun (sym (present_is sc h) ∙ was.present) (asks_parts sc items parts is).0 fresh)
 
 pub parts_are_due : (sc : Scenario) (h : List Entry) (items : List Item) (parts : List (List ℕ)) → ItemsDone sc h [] items → since_line h ≡ [] →
     parts_asked sc items ≡ Some parts → IsParts sc h parts

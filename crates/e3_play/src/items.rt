@@ -6,7 +6,7 @@ ghost use Rattle.e3_play.specs.Played.{AfterItem};
 ghost use Rattle.e3_sites.specs.Delivered.{IsFull};
 ghost use Rattle.e3_sites.specs.declared.sites.RunFault.TheVariants.{HistoryFull};
 ghost use Rattle.e3_world.specs.Items.{input_of, is_up_at, to_line};
-ghost use Rattle.e3_world.specs.Legal.{IsDue, IsWhole};
+ghost use Rattle.e3_world.specs.Legal.{IsDue, IsNextItem, IsWhole};
 ghost use Rattle.e3_world.specs.Packets.{lines};
 ghost use Rattle.e3_world.specs.Progress.{Delivering, ItemsDone};
 ghost use Rattle.e3_world.specs.declared.names.Addressed.{Addressed};
@@ -18,7 +18,7 @@ use e3_types::{Item, Scenario};
 use std::alloc::Global;
 
 // One item: its input goes to its site. It is passed over where its name is not bound, and where its site is down.
-#[tactic(auto, using(e3_sites::proofs::Bounds::bounded, crate::proofs::GroupItems::item_is_first))]
+#[tactic(auto, using(crate::proofs::GroupItems::item_is_first))]
 fn take_item<S: Sites>(
     alloc: Global,
     scenario: &Scenario,
@@ -29,6 +29,8 @@ fn take_item<S: Sites>(
     requires standing { S.stands sites.old }
     requires due { (a : Addressed) → input_of scenario.now (to_line (S.entries sites.old)) item.now ≡ Some a →
         is_up_at (S.entries sites.old) a.site ≡ true → IsDue scenario.now (S.entries sites.old) a.site a.input }
+    requires next { (a : Addressed) → input_of scenario.now (to_line (S.entries sites.old)) item.now ≡ Some a →
+        is_up_at (S.entries sites.old) a.site ≡ true → IsNextItem scenario.now (S.entries sites.old) a.site a.input }
     requires unmade { (a : Addressed) → input_of scenario.now (to_line (S.entries sites.old)) item.now ≡ Some a →
         is_up_at (S.entries sites.old) a.site ≡ true → ¬ IsWhole scenario.now (S.entries sites.old) }
     ensures stands { S.stands sites.new }

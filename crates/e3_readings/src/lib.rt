@@ -10,8 +10,6 @@ mod logs;
 mod operations;
 mod rounds;
 mod tables;
-#[cfg(test)]
-mod tests;
 mod votes;
 
 pub use elections::{

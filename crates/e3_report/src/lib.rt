@@ -13,8 +13,6 @@ mod summing;
 mod tables;
 mod takers;
 mod tallies;
-#[cfg(test)]
-mod tests;
 mod ups;
 mod whole;
 

@@ -3,8 +3,6 @@
 
 mod order;
 mod rebuilding;
-#[cfg(test)]
-mod tests;
 
 pub use order::first_disorder;
 pub use rebuilding::{RebuildFault, rebuild};

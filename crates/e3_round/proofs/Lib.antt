@@ -3,3 +3,4 @@ pub mod InParts
 pub mod Left
 pub mod Electing
 pub mod Making
+mod Full

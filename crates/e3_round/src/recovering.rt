@@ -1,7 +1,7 @@
 // The rounds of a recovery step.
 ghost use Rattle.std.specs.Prelude.{◌≡◌, ◌≢◌, ◌≤◌, ◌∷◌, [], drop, length, map, true, Some, IfOk, OnOk, Err};
 ghost use Rattle.e3_round.specs.Reports.{IsRecovered, report_of};
-ghost use Rattle.e3_round.specs.Rounds.{AfterRound};
+ghost use Rattle.e3_round.specs.Rounds.{AfterRound, IsPacketOrRound};
 ghost use Rattle.e3_sites.specs.Delivered.{IsFull};
 ghost use Rattle.e3_sites.specs.declared.sites.RunFault.TheVariants.{HistoryFull};
 ghost use Rattle.e3_types.specs.declared.scenarios.Item.TheVariants as item;
@@ -28,6 +28,7 @@ fn make_round<S: Sites>(sites: &mut S, round: &Round) -> Result<(), RunFault>
     ensures same { (S.scenario sites.new ≡ S.scenario sites.old) × (S.most sites.new ≡ S.most sites.old) }
     ensures made { OnOk result (AfterRound (S.scenario sites.old) (S.entries sites.old) round.now (S.entries sites.new)) }
     ensures full { result ≡ Err HistoryFull → IsFull (S.scenario sites.old) (S.entries sites.new) (S.most sites.old) }
+    ensures which { result ≡ Err HistoryFull → IsPacketOrRound (S.scenario sites.old) (S.entries sites.new) }
 {
     if !sites.is_up(round.elector) {
         return Ok(());
@@ -70,6 +71,7 @@ pub fn recover<S: Sites>(
     ensures reports { IfOk result (λ reports. reports ≡
         map (report_of (since_line (S.entries sites.new))) (listed (S.scenario sites.old) (S.entries sites.old) group)) }
     ensures full { result ≡ Err HistoryFull → IsFull (S.scenario sites.old) (S.entries sites.new) (S.most sites.old) }
+    ensures which { result ≡ Err HistoryFull → IsPacketOrRound (S.scenario sites.old) (S.entries sites.new) }
 {
     let rounds = listed(alloc, sites, group)?;
     let from = sites.history().len();

@@ -15,8 +15,6 @@ mod parts;
 mod reading;
 mod sayings;
 mod steps;
-#[cfg(test)]
-mod tests;
 mod words;
 
 pub use faults::{Field, ScenarioFault};

@@ -4,8 +4,6 @@
 
 mod plan;
 mod site;
-#[cfg(test)]
-mod tests;
 
 pub use plan::Plan;
 pub use site::Site;

@@ -1,6 +1,6 @@
 -- Where a packet is pending, the history has not gone through its scenario.
-use Rattle.std.proofs.Common.{◌≡◌, ◌≢◌, ◌&&◌, ◌∷◌, [], ◌≤◌, ℕ, zero, suc, Bool, true, false, List, length, Some, None, refl, sym, ap, ◌∙◌, arith}
-use Rattle.std.specs.Prelude.{slice_get}
+use Rattle.std.proofs.Common.{◌≡◌, ◌≢◌, ◌&&◌, ◌∷◌, [], ◌≤◌, ℕ, zero, suc, Bool, true, false, List, length, Some, None, refl, sym, subst, ap, ◌∙◌, arith}
+use Rattle.std.specs.Prelude.{slice_get, Result, Err, OnErr}
 use Rattle.std.specs.List.{list_all}
 use Rattle.e3_types.specs.declared.entries.Entry.{Entry}
 use Rattle.e3_types.specs.declared.messages.Packet.{Packet}
@@ -8,11 +8,11 @@ use Rattle.e3_types.specs.declared.scenarios.Scenario.{Scenario}
 use Rattle.e3_world.specs.Legal.{IsWhole, has_rising, is_made, is_through}
 use Rattle.e3_world.specs.Packets.{all_sites, lines, pending}
 use Rattle.e3_world.proofs.Turns.{true_not_false}
-use Rattle.e3_sites.specs.Delivered.{IsFull}
+use Rattle.e3_sites.specs.Delivered.{APacket, IsFull, IsOwed}
 
 -- at the bound
-pub bounded : (sc : Scenario) (h : List Entry) (most : ℕ) → length h ≤ most → most ≤ length h → ¬ IsWhole sc h → IsFull sc h most
-bounded sc h most few many unmade = record { full = omega (arith, few, many); unfinished = unmade }
+pub bounded : (sc : Scenario) (h : List Entry) (most : ℕ) → length h ≤ most → most ≤ length h → IsOwed sc h → ¬ IsWhole sc h → IsFull sc h most
+bounded sc h most few many owed unmade = record { full = omega (arith, few, many); owed = owed; unfinished = unmade }
 
 through_parts : (sc : Scenario) (h : List Entry) (n : ℕ) → lines h ≡ suc n → is_through sc h ≡ true → (pending sc h ≡ []) × (is_made sc h ≡ true)
 through_parts sc h n line all = by (pending sc h) refl
@@ -46,3 +46,14 @@ whole_parts sc h begun whole = let line : (k : ℕ) × (lines h ≡ suc k) = som
 pub packet_open : (sc : Scenario) (h : List Entry) (p : Packet) → lines h ≢ 0 → slice_get (pending sc h) 0 ≡ Some p → ¬ IsWhole sc h
 packet_open sc h p begun first whole = let none : pending sc h ≡ [] = (whole_parts sc h begun whole).0 in
     absurd (let same : slice_get (pending sc h) 0 ≡ None = ap (λ ps. slice_get ps 0) none in let both : Some p ≡ None = sym first ∙ same in cc)
+
+pub packet_full : (sc : Scenario) (h : List Entry) (p : Packet) (most : ℕ) → length h ≤ most → most ≤ length h → lines h ≢ 0 → slice_get (pending sc h) 0 ≡ Some p →
+    IsFull sc h most
+packet_full sc h p most few many begun first = bounded sc h most few many (APacket p first) (packet_open sc h p begun first)
+
+pub some_pending : (ps : List Packet) (p : Packet) → slice_get ps 0 ≡ Some p → ps ≢ []
+some_pending ps p first none = absurd (let same : slice_get ps 0 ≡ None = ap (λ l. slice_get l 0) none in let both : Some p ≡ None = sym first ∙ same in cc)
+
+-- what a refusal leaves, in the words of the program's calls
+pub refused : {T E : Type 0} (P : Type 0) (result : Result T E) (e : E) → result ≡ Err e → OnErr result P → P
+refused {T} {E} P result e is kept = let Q : Result T E → Type 0 = λ r. OnErr r P in subst Q is kept

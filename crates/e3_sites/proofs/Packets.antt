@@ -1,5 +1,5 @@
 -- What is entered for a packet.
-use Rattle.std.proofs.Common.{◌≡◌, ◌≢◌, ◌++◌, ◌∷◌, [], ◌+◌, ◌≤◌, inl, inr, ℕ, zero, suc, true, false, List, length, Some, refl, sym, subst, ap, ◌∙◌, append-nil, length-append, arith}
+use Rattle.std.proofs.Common.{◌≡◌, ◌≢◌, ◌++◌, ◌∷◌, [], ◌+◌, ◌≤◌, ◌<◌, inl, inr, ℕ, zero, suc, true, false, List, length, Some, refl, sym, subst, ap, ◌∙◌, append-nil, length-append, arith}
 use Rattle.std.specs.Prelude.{slice_get, Contains}
 use Rattle.e3_types.specs.declared.entries.Act.TheVariants.{Drop}
 use Rattle.e3_types.specs.declared.entries.Entry.{Entry}
@@ -8,14 +8,17 @@ use Rattle.e3_types.specs.declared.entries.Input.TheVariants as input
 use Rattle.e3_types.specs.declared.entries.Why.{Why}
 use Rattle.e3_types.specs.declared.messages.Packet.{Packet}
 use Rattle.e3_types.specs.declared.scenarios.Scenario.{Scenario}
+use Rattle.e3_world.specs.Given.{IsGiven}
 use Rattle.e3_world.specs.Items.{is_up_at, to_line}
 use Rattle.e3_world.specs.Legal.{Guard, IsDue, entry_of, made_by}
 use Rattle.e3_world.specs.Packets.{is_line, lines, pending}
 use Rattle.e3_world.specs.Progress.{Delivering}
-use Rattle.e3_world.proofs.Guards.{deliver_first, drop_first, lines_push, up_some}
+use Rattle.e3_world.proofs.Guards.{deliver_first, drop_first, guard_step, lines_push, up_some}
 use Rattle.e3_world.proofs.Pushes.{legal_push}
 use Rattle.e3_world.proofs.Readings.{to_push}
 use Rattle.e3_world.proofs.Turns.{through, through_push}
+use Rattle.e3_law_settling.specs.Claims.{TakingLowers}
+use Rattle.e3_law_settling.proofs.Left.{left, left_falls}
 use Rattle.e3_sites.specs.Delivered.{Delivers, Nothing, Then}
 use Rattle.e3_sites.specs.Entering.{AfterInput, AfterPacket, fall_of}
 
@@ -96,3 +99,25 @@ stays_delivering sc start now was (Then h more p before first after) =
       same_line = ap to_line one.entered ∙ to_push h one.entry one.stays ∙ last.same_line;
       same_lines = ap lines one.entered ∙ lines_push h one.entry ∙ rw (one.stays, last.same_lines) (omega arith);
     }
+
+-- it lowers how many entries packets may still take
+pub packet_lowers : (sc : Scenario) (h next : List Entry) (p : Packet) → TakingLowers → IsGiven sc → Delivering sc h → slice_get (pending sc h) 0 ≡ Some p →
+    AfterPacket sc h p next → left sc next < left sc h
+packet_lowers sc h next p lowers given was first after = by after
+  where
+    Less : List Entry → Type 0
+    Less l = left sc l < left sc h
+
+    by : AfterPacket sc h p next → left sc next < left sc h
+    by (inr dropped) = subst Less (sym dropped.after) (left_falls sc h (record { owner = 0; act = Drop p.number }) lowers given was.legal
+        (record { packet = p; is_pending = first_is_in (pending sc h) p first; is_its = refl; down = dropped.down; in_order = λ calm. first }) (p, first, refl))
+    by (inl delivered) = come delivered.after
+      where
+        one : 1 ≤ p.to
+        one = up_some sc h p.to was.legal delivered.up
+
+        come : AfterInput sc h p.to (input.Deliver p) next → left sc next < left sc h
+        come (inl stepped) = subst Less (sym stepped) (left_falls sc h (entry_of sc h p.to (input.Deliver p)) lowers given was.legal
+            (guard_step sc h p.to (input.Deliver p) one delivered.up (packet_due sc h p was first)) first)
+        come (inr fell) = subst Less (sym fell.entered) (left_falls sc h (fall_of sc h p.to (input.Deliver p) fell.why) lowers given was.legal
+            (guard_fall sc h p.to (input.Deliver p) fell.why one delivered.up (packet_due sc h p was first) fell.some) first)

@@ -8,10 +8,11 @@ ghost use Rattle.e3_world.specs.Items.{items_through, to_line};
 ghost use Rattle.e3_world.specs.Progress.{Delivering};
 
 use crate::{RunFault, Sites};
+use e3_law_settling::taking_lowers_the_measure;
 use e3_types::{Input, Packet};
 
 // The first pending packet: its site takes it, or it is dropped where that site is down.
-#[tactic(auto, using(crate::proofs::Packets::packet_due, crate::proofs::Bounds::bounded, crate::proofs::Bounds::packet_open))]
+#[tactic(auto, using(crate::proofs::Packets::packet_due, crate::proofs::Bounds::packet_full))]
 fn deliver<S: Sites>(sites: &mut S, packet: Packet) -> Result<(), RunFault>
     requires standing { S.stands sites.old }
     requires delivering { Delivering (S.scenario sites.old) (S.entries sites.old) }
@@ -23,6 +24,7 @@ fn deliver<S: Sites>(sites: &mut S, packet: Packet) -> Result<(), RunFault>
     ensures entered { OnOk result (AfterPacket (S.scenario sites.old) (S.entries sites.old) packet (S.entries sites.new)) }
     ensures kept { OnErr result (S.entries sites.new ≡ S.entries sites.old) }
     ensures full { result ≡ Err HistoryFull → IsFull (S.scenario sites.old) (S.entries sites.new) (S.most sites.old) }
+    ensures packet { result ≡ Err HistoryFull → pending (S.scenario sites.old) (S.entries sites.new) ≢ [] }
 {
     let site = packet.to;
     if sites.is_up(site) {
@@ -32,7 +34,8 @@ fn deliver<S: Sites>(sites: &mut S, packet: Packet) -> Result<(), RunFault>
     }
 }
 
-/// Packets are delivered or dropped until none is pending.
+/// Packets are delivered or dropped until none is pending. This ends by the measure that each of them lowers, whatever the
+/// bound on entries.
 pub fn deliver_all<S: Sites>(sites: &mut S) -> Result<(), RunFault>
     requires standing { S.stands sites.old }
     requires delivering { Delivering (S.scenario sites.old) (S.entries sites.old) }
@@ -44,7 +47,9 @@ pub fn deliver_all<S: Sites>(sites: &mut S) -> Result<(), RunFault>
     ensures delivering { Delivering (S.scenario sites.old) (S.entries sites.new) }
     ensures settled { OnOk result (pending (S.scenario sites.old) (S.entries sites.new) ≡ []) }
     ensures full { result ≡ Err HistoryFull → IsFull (S.scenario sites.old) (S.entries sites.new) (S.most sites.old) }
+    ensures packet { result ≡ Err HistoryFull → pending (S.scenario sites.old) (S.entries sites.new) ≢ [] }
 {
+    taking_lowers_the_measure();
     while let Some(packet) = sites.first() {
         deliver(sites, packet)?;
     }

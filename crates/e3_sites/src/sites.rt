@@ -8,6 +8,7 @@ ghost use Rattle.e3_types.specs.declared.scenarios.Item.{Item};
 ghost use Rattle.e3_types.specs.declared.scenarios.Item.TheVariants as item;
 ghost use Rattle.e3_types.specs.declared.scenarios.Leave.{Leave as Leaves};
 ghost use Rattle.e3_types.specs.declared.scenarios.Scenario.{Scenario};
+ghost use Rattle.e3_world.specs.Given.{IsGiven};
 ghost use Rattle.e3_world.specs.Items.{add_txn, is_up_at, open_at};
 ghost use Rattle.e3_world.specs.Legal.{IsCut, IsDue, IsLegal, IsLine, IsParts, IsRising, first_pending};
 ghost use Rattle.e3_world.specs.Packets.{step_items};
@@ -160,6 +161,9 @@ pub trait Sites {
 
     /// What stands has a legal history.
     ghost is_legal: { (sites : Self) → stands sites → IsLegal (scenario sites) (entries sites) };
+
+    /// The scenario keeps the rules.
+    ghost is_given: { (sites : Self) → stands sites → IsGiven (scenario sites) };
 
     /// It is no longer than it may be.
     ghost within: { (sites : Self) → stands sites → length (entries sites) ≤ most sites };

@@ -3,8 +3,6 @@
 
 mod preparing;
 mod running;
-#[cfg(test)]
-mod tests;
 mod words;
 
 pub use running::{Ended, run, run_within};

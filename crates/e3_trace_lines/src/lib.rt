@@ -4,7 +4,5 @@
 mod entries;
 mod inputs;
 mod messages;
-#[cfg(test)]
-mod tests;
 
 pub use entries::push_trace;

@@ -1,4 +1,5 @@
-//! Worked histories: each is whole and sound by the definitions, and its logs come to the tables that one reads off them.
+//! Worked histories: each is whole by the tests of the guards, and so legal and sound, and its logs come to the tables that
+//! one reads off them.
 #![tactic(auto)]
 
 pub mod cascade_commits;

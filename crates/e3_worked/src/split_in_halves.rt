@@ -5,6 +5,9 @@ ghost use Rattle.e3_world.specs.Serial.{commit_order};
 ghost use Rattle.e3_worked.specs.Worked.{IsWorked};
 ghost use Rattle.e3_worked.specs.SplitInHalves.{split_in_halves, split_in_halves_history};
 
+use e3_judge::checks_are_exact;
+use e3_trails::trails_are_sound;
+
 /// A split in halves blocks a commit; after the merge a recovery ends it.
 pub fn is_worked()
     ensures worked { IsWorked split_in_halves split_in_halves_history }
@@ -13,4 +16,7 @@ pub fn is_worked()
     ensures table_2 { table_of (log_of split_in_halves split_in_halves_history 2) ≡ [] }
     ensures table_3 { table_of (log_of split_in_halves split_in_halves_history 3) ≡ [] }
     ensures table_4 { table_of (log_of split_in_halves split_in_halves_history 4) ≡ [] }
-{}
+{
+    checks_are_exact();
+    trails_are_sound();
+}

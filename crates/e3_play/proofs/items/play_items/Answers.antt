@@ -1,12 +1,17 @@
 use Rattle.std.proofs.Common.{◌∙◌, add-one}
 use Rattle.e3_play.proofs.Entries.{same_after}
-use Rattle.e3_play.proofs.GroupItems.{due_at, next_at, unmade_at}
+use Rattle.e3_play.proofs.GroupItems.{due_at, next_at, next_input, unmade_at}
 use Rattle.e3_play.proofs.items.play_items.Goals as goal
 
 pub take_item-requires-clause-due : goal.take_item-requires-clause-due
 take_item-requires-clause-due g c =
     due_at c.args.scenario.now (g.S.Sites.entries c.loop-item.sites) c.args.items.now c.loop-item.item-index c.item-item.result
     c.loop-item.invariant.done c.loop-item-test.true c.item-item.is
+
+pub take_item-requires-clause-next : goal.take_item-requires-clause-next
+take_item-requires-clause-next g c = λ a bound up.
+    next_input c.args.scenario.now (g.S.Sites.entries c.loop-item.sites) c.args.items.now c.loop-item.item-index c.item-item.result a
+    c.loop-item.invariant.done c.loop-item-test.true c.item-item.is bound up
 
 pub take_item-requires-clause-unmade : goal.take_item-requires-clause-unmade
 take_item-requires-clause-unmade g c =

@@ -1,11 +1,15 @@
-use Rattle.std.proofs.Common.{◌≡◌, ◌≤◌, ◌∙◌, ◌+◌, ◌∷◌, [], suc, sym, subst, ap, length, arith, List}
+use Rattle.std.proofs.Common.{◌≡◌, ◌≤◌, ◌∙◌, ◌+◌, ◌∷◌, [], suc, sym, subst, ap, length, arith, List, rules}
+use Rattle.e3_sites.specs.Delivered.{IsFull}
+use Rattle.e3_sites.specs.declared.sites.RunFault.TheVariants.{HistoryFull}
+use Rattle.e3_types.specs.declared.entries.Entry.{Entry}
 use Rattle.e3_types.specs.declared.scenarios.Item.{Item}
 use Rattle.e3_types.specs.declared.scenarios.Item.TheVariants as item
 use Rattle.e3_types.specs.declared.scenarios.Scenario.{Scenario}
 use Rattle.e3_world.specs.Packets.{step_items}
 use Rattle.e3_world.specs.Progress.{ItemsDone}
 use Rattle.e3_play.specs.Played.{IsFresh, IsSettled, IsStep}
-use Rattle.e3_play.proofs.Answered.{on_ok}
+use Rattle.e3_play.proofs.Answered.{of_err, on_ok}
+use Rattle.e3_play.proofs.Full.{line_full}
 use Rattle.e3_play.proofs.Forms.{alone_is, crash_is, exchange_asks, no_stop, recovery_is, restart_exists, restart_is, step_is_given, stop_is}
 use Rattle.e3_play.proofs.Settling.{IsBegun, line_begins, stop_settles}
 use Rattle.e3_play.proofs.playing.play_step.Goals as goal
@@ -125,3 +129,47 @@ returns-in-Stop-clause-settles g c =
     subst (λ l. IsFresh sc (S.entries c.stop.new.self) l) (sym (c.step_items-items.ensures ∙ ap (step_items sc) next) ∙ items) begun.fresh in
     subst (λ n. IsSettled sc (S.entries c.stop.new.self) n) begun.at (stop_settles sc (S.entries c.stop.new.self) c.in-Stop.site c.in-Stop.calls c.in-Stop.leave fresh))
     c.stop.ensures.entered
+
+pub returns-in_err-line-in-Crash-clause-full : goal.returns-in_err-line-in-Crash-clause-full
+returns-in_err-line-in-Crash-clause-full g c = λ is.
+    let S = g.S.Sites in
+    let sites = c.args.sites.now in
+    let many : S.most sites ≤ length (S.entries sites) = search rules in
+    let P : List Entry → Type 0 = λ h. IsFull c.args.scenario.now h (S.most sites) in
+    subst P (sym c.in_err-line-in-Crash.ensures.kept)
+    (line_full c.args.scenario.now (S.entries sites) c.args.done (S.most sites) c.requires.settled c.requires.more (g.met.S.Sites.within sites c.requires.standing) many)
+
+pub returns-in_err-line-in-Restart-clause-full : goal.returns-in_err-line-in-Restart-clause-full
+returns-in_err-line-in-Restart-clause-full g c = λ is.
+    let S = g.S.Sites in
+    let sites = c.args.sites.now in
+    let many : S.most sites ≤ length (S.entries sites) = search rules in
+    let P : List Entry → Type 0 = λ h. IsFull c.args.scenario.now h (S.most sites) in
+    subst P (sym c.in_err-line-in-Restart.ensures.kept)
+    (line_full c.args.scenario.now (S.entries sites) c.args.done (S.most sites) c.requires.settled c.requires.more (g.met.S.Sites.within sites c.requires.standing) many)
+
+pub returns-in_err-line-in-Recovery-clause-full : goal.returns-in_err-line-in-Recovery-clause-full
+returns-in_err-line-in-Recovery-clause-full g c = λ is.
+    let S = g.S.Sites in
+    let sites = c.args.sites.now in
+    let many : S.most sites ≤ length (S.entries sites) = search rules in
+    let P : List Entry → Type 0 = λ h. IsFull c.args.scenario.now h (S.most sites) in
+    subst P (sym c.in_err-line-in-Recovery.ensures.kept)
+    (line_full c.args.scenario.now (S.entries sites) c.args.done (S.most sites) c.requires.settled c.requires.more (g.met.S.Sites.within sites c.requires.standing) many)
+
+pub returns-in_err-line-in-Exchange-clause-full : goal.returns-in_err-line-in-Exchange-clause-full
+returns-in_err-line-in-Exchange-clause-full g c = λ is.
+    let S = g.S.Sites in
+    let sites = c.args.sites.now in
+    let many : S.most sites ≤ length (S.entries sites) = search rules in
+    let P : List Entry → Type 0 = λ h. IsFull c.args.scenario.now h (S.most sites) in
+    subst P (sym c.in_err-line-in-Exchange.ensures.kept)
+    (line_full c.args.scenario.now (S.entries sites) c.args.done (S.most sites) c.requires.settled c.requires.more (g.met.S.Sites.within sites c.requires.standing) many)
+
+pub returns-in-Stop-clause-full : goal.returns-in-Stop-clause-full
+returns-in-Stop-clause-full g c = λ is.
+    let S = g.S.Sites in
+    let sites = c.args.sites.now in
+    let P : List Entry → Type 0 = λ h. IsFull c.args.scenario.now h (S.most sites) in
+    subst P (sym (of_err c.stop.result HistoryFull is c.stop.ensures.kept))
+    (line_full c.args.scenario.now (S.entries sites) c.args.done (S.most sites) c.requires.settled c.requires.more (g.met.S.Sites.within sites c.requires.standing) (c.stop.ensures.full is))

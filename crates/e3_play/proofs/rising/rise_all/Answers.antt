@@ -1,11 +1,13 @@
-use Rattle.std.proofs.Common.{◌≡◌, ◌∙◌, ◌+◌, [], suc, sym, subst, ap, length, add-one, arith}
+use Rattle.std.proofs.Common.{◌≡◌, ◌∙◌, ◌+◌, ◌≤◌, [], ℕ, suc, List, sym, subst, ap, length, add-one, arith, rules}
+use Rattle.e3_sites.specs.Delivered.{IsFull}
 use Rattle.e3_sites.specs.Entering.{AfterRise}
 use Rattle.e3_world.specs.Packets.{pending}
 use Rattle.e3_world.proofs.Rises.{Rising}
+use Rattle.e3_types.specs.declared.entries.Entry.{Entry}
 use Rattle.e3_types.specs.declared.scenarios.Scenario.{Scenario}
 use Rattle.e3_play.specs.Played.{IsSettled}
 use Rattle.e3_play.proofs.Entries.{one_risen, rise_quiet, turn_to_rise}
-use Rattle.e3_play.proofs.Full.{risen}
+use Rattle.e3_play.proofs.Full.{rise_full, risen}
 use Rattle.e3_play.proofs.rising.rise_all.Goals as goal
 
 pub rise-requires-clause-turn : goal.rise-requires-clause-turn
@@ -44,3 +46,18 @@ loop-done-preserved g c =
       rising = subst Q (sym now.same.0) (subst (λ n. Rising (S.scenario c.loop-done.sites) (S.entries c.rise.new.self) n) (sym last)
           (one_risen (S.scenario c.loop-done.sites) (S.entries c.loop-done.sites) (S.entries c.rise.new.self) c.loop-done.done (omega (arith, all, c.loop-done-test.true)) was.rising rose));
     }
+
+pub returns-in_err-rise-clause-full : goal.returns-in_err-rise-clause-full
+returns-in_err-rise-clause-full g c = λ is.
+    let S = g.S.Sites in
+    let was = c.loop-done.invariant in
+    let sc = S.scenario c.loop-done.sites in
+    let h = S.entries c.loop-done.sites in
+    let most = S.most c.loop-done.sites in
+    let all : c.args.count ≡ length sc.weights = c.requires.all ∙ ap (λ (sc : Scenario). length sc.weights) (sym was.scenario) in
+    let many : S.most c.loop-done.sites ≤ length (S.entries c.loop-done.sites) = search rules in
+    let P : Scenario → Type 0 = λ played. IsFull played (S.entries c.rise.new.self) (S.most c.args.sites.now) in
+    let Q : ℕ → Type 0 = λ n. IsFull sc (S.entries c.rise.new.self) n in
+    let R : List Entry → Type 0 = λ l. IsFull sc l most in
+    subst P was.scenario (subst Q was.most (subst R (sym c.in_err-rise.ensures.kept)
+    (rise_full sc h c.loop-done.done most was.rising (omega (arith, all, c.loop-done-test.true)) (g.met.S.Sites.within c.loop-done.sites was.stands) many)))

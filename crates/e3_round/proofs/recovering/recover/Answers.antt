@@ -1,9 +1,10 @@
-use Rattle.std.proofs.Common.{◌≡◌, ◌∙◌, ◌∷◌, [], ◌+◌, ◌≤◌, ℕ, zero, suc, get_or, List, length, drop, map, refl, sym, subst, ap, drop-cons, arith}
+use Rattle.std.proofs.Common.{◌≡◌, ◌∙◌, ◌∷◌, [], ◌+◌, ◌≤◌, ℕ, zero, suc, get_or, List, length, drop, map, refl, sym, subst, ap, drop-cons, arith, rules}
+use Rattle.e3_sites.specs.Delivered.{IsFull}
 use Rattle.e3_types.specs.declared.entries.Entry.{Entry}
 use Rattle.e3_types.specs.declared.scenarios.Scenario.{Scenario}
 use Rattle.e3_world.specs.Items.{RecoveryRound, due_round, listed, since_line}
 use Rattle.e3_round.specs.Reports.{report_of}
-use Rattle.e3_round.specs.Rounds.{AfterRound}
+use Rattle.e3_round.specs.Rounds.{AfterRound, IsPacketOrRound}
 use Rattle.e3_round.proofs.Left.{first_due}
 use Rattle.e3_round.proofs.Making.{InRounds, begin_rounds, long_enough, round_on, rounds_end, since_is}
 use Rattle.e3_round.proofs.recovering.recover.Goals as goal
@@ -107,3 +108,21 @@ returns-clause-reports g c =
     c.in_ok-reports_of.ensures
     ∙ ap (λ (l : List Entry). map (report_of l) c.as_slice.result.now) entered
     ∙ ap (map (report_of (since_line h))) rounds
+
+pub returns-in_err-make_round-clause-full : goal.returns-in_err-make_round-clause-full
+returns-in_err-make_round-clause-full g c = λ is.
+    let S = g.S.Sites in
+    let was = c.loop-round.invariant in
+    let more = S.entries c.make_round.new.sites in
+    let full : IsFull (S.scenario c.loop-round.sites) more (S.most c.loop-round.sites) = search rules in
+    let P : Scenario → Type 0 = λ sc. IsFull sc more (S.most c.args.sites.now) in
+    let Q : ℕ → Type 0 = λ most. IsFull (S.scenario c.loop-round.sites) more most in
+    subst P was.scenario (subst Q was.most full)
+
+pub returns-in_err-make_round-clause-which : goal.returns-in_err-make_round-clause-which
+returns-in_err-make_round-clause-which g c = λ is.
+    let S = g.S.Sites in
+    let more = S.entries c.make_round.new.sites in
+    let which : IsPacketOrRound (S.scenario c.loop-round.sites) more = search rules in
+    let P : Scenario → Type 0 = λ sc. IsPacketOrRound sc more in
+    subst P c.loop-round.invariant.scenario which

@@ -6,7 +6,7 @@ use Rattle.e3_world.specs.Progress.{Delivering}
 use Rattle.e3_world.proofs.Guards.{nothing_first}
 use Rattle.e3_sites.specs.Delivered.{Nothing, Then}
 use Rattle.e3_sites.specs.Entering.{AfterPacket}
-use Rattle.e3_sites.proofs.Packets.{stays_delivering}
+use Rattle.e3_sites.proofs.Packets.{packet_lowers, stays_delivering}
 use Rattle.e3_sites.proofs.delivering.deliver_all.Goals as goal
 
 pub loop-packet-init : goal.loop-packet-init
@@ -47,6 +47,18 @@ loop-packet-preserved g c =
           (subst (λ sc. first_pending sc (S.entries c.loop-packet.sites) ≡ Some c.in-Some.packet) same (sym c.first.ensures ∙ c.in-Some.is))
           (subst (λ sc. AfterPacket sc (S.entries c.loop-packet.sites) c.in-Some.packet (S.entries c.deliver.new.sites)) same now.entered);
     }
+
+pub loop-packet-smaller : goal.loop-packet-smaller
+loop-packet-smaller g c =
+    let S = g.S.Sites in
+    let start = c.args.sites.now in
+    let was = c.loop-packet.invariant in
+    let same : S.scenario c.loop-packet.sites ≡ S.scenario start = was.scenario in
+    packet_lowers (S.scenario start) (S.entries c.loop-packet.sites) (S.entries c.deliver.new.sites) c.in-Some.packet c.taking_lowers_the_measure.ensures.lowers
+    (g.met.S.Sites.is_given start c.requires.standing)
+    (stays_delivering (S.scenario start) (S.entries start) (S.entries c.loop-packet.sites) c.requires.delivering was.delivered).delivering
+    (subst (λ sc. first_pending sc (S.entries c.loop-packet.sites) ≡ Some c.in-Some.packet) same (sym c.first.ensures ∙ c.in-Some.is))
+    (subst (λ sc. AfterPacket sc (S.entries c.loop-packet.sites) c.in-Some.packet (S.entries c.deliver.new.sites)) same c.in_ok-deliver.ensures.entered)
 
 pub returns-in_err-deliver-clause-delivering : goal.returns-in_err-deliver-clause-delivering
 returns-in_err-deliver-clause-delivering g c =

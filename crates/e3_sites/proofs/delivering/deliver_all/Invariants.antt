@@ -1,4 +1,5 @@
-use Rattle.std.proofs.Common.{◌≡◌, ◌-◌, length}
+use Rattle.std.proofs.Common.{◌≡◌}
+use Rattle.e3_law_settling.proofs.Left.{left}
 use Rattle.e3_sites.specs.Delivered.{Delivers}
 use Rattle.e3_sites.proofs.delivering.deliver_all.Given as goal
 
@@ -11,5 +12,6 @@ invariant-loop-packet g l = record {
   delivered : Delivers (g.S.Sites.scenario l.fn.sites) (g.S.Sites.entries l.fn.sites) (g.S.Sites.entries l.sites);
 }
 
+-- how many entries the packets may still take, whatever the bound
 abbrev pub decreases-loop-packet : goal.decreases-loop-packet
-decreases-loop-packet g l = g.S.Sites.most l.fn.sites - length (g.S.Sites.entries l.sites)
+decreases-loop-packet g l = left (g.S.Sites.scenario l.fn.sites) (g.S.Sites.entries l.sites)

@@ -1,11 +1,19 @@
-use Rattle.e3_worked.proofs.OneWrite as theorem
+use Rattle.std.specs.Prelude.{refl}
+use Rattle.std.proofs.Common.{lit≤}
+use Rattle.e3_types.specs.Sites.{bits_of}
+use Rattle.e3_worked.specs.OneWrite.{one_write, one_write_history}
+use Rattle.e3_worked.proofs.Judging.{worked}
 use Rattle.e3_worked.proofs.one_write.is_worked.Goals as goal
 
 pub returns-clause-worked : goal.returns-clause-worked
-returns-clause-worked c = record { whole = theorem.is_whole; given = theorem.is_given; sound = theorem.is_sound }
+unfolding bits_of
+returns-clause-worked c = worked c.checks_are_exact.ensures.whole c.trails_are_sound.ensures.sound one_write one_write_history
+    (record { some = lit≤ tt; few = lit≤ tt; weighed = refl; rows_at_sites = refl; rows_differ = refl; odds = lit≤ tt; steps = refl }) refl
 
 pub returns-clause-order : goal.returns-clause-order
-returns-clause-order c = theorem.order
+unfolding bits_of
+returns-clause-order c = refl
 
 pub returns-clause-table_1 : goal.returns-clause-table_1
-returns-clause-table_1 c = theorem.table_1
+unfolding bits_of
+returns-clause-table_1 c = refl

@@ -1,0 +1,49 @@
+//! Worked cases of the lower layers: bodies of records and bytes that are none, disks in memory, the fates and the order of
+//! packets, readings of a log and of steps, logs in order and out of it, a first step and a short history, a trace with each form, a report with each
+//! kind of line, and texts of scenarios. What it must print stands in the file of this program's output.
+#![tactic(auto)]
+
+mod bodies;
+mod disks;
+mod nets;
+mod readings;
+mod reports;
+mod restarts;
+mod scenario_texts;
+mod scenarios;
+mod steps;
+mod texts;
+mod traces;
+
+use e3_types::{List, NoMemory};
+use std::alloc::Global;
+use std::io::{self, Write};
+use std::process::ExitCode;
+
+const NO_OUTPUT: u8 = 4;
+
+const NO_MEMORY: u8 = 5;
+
+fn lines(alloc: Global) -> Result<List<u8>, NoMemory> {
+    let mut out = List::new(alloc);
+    bodies::push_lines(alloc, &mut out)?;
+    disks::push_lines(alloc, &mut out)?;
+    nets::push_lines(alloc, &mut out)?;
+    readings::push_lines(alloc, &mut out)?;
+    restarts::push_lines(alloc, &mut out)?;
+    steps::push_lines(alloc, &mut out)?;
+    traces::push_lines(alloc, &mut out)?;
+    reports::push_lines(alloc, &mut out)?;
+    scenarios::push_lines(alloc, &mut out)?;
+    Ok(out)
+}
+
+fn main(rt: HostRuntime) -> ExitCode {
+    let Ok(text) = lines(rt.alloc()) else {
+        return ExitCode::from(NO_MEMORY);
+    };
+    match io::writer(&rt).write_all(text.as_slice()) {
+        Ok(()) => ExitCode::SUCCESS,
+        Err(_) => ExitCode::from(NO_OUTPUT),
+    }
+}

@@ -1,0 +1,10 @@
+pub mod Moving
+pub mod Gathering
+pub mod Low
+pub mod Handling
+pub mod Hearing
+pub mod Inputs
+pub mod Ascending
+pub mod Electing
+pub mod Bounding
+pub mod Numbers

@@ -1,0 +1,33 @@
+//! Bounded recovery: in a legal history a recovery round in which no member falls ends its transaction at all members in few
+//! entries, or finds the group blocked. It is a law over histories, whoever made them; nothing here runs.
+#![tactic(auto)]
+
+ghost use Rattle.e3_law_rounds.specs.Claims.{DeliveryIsForced, DeliveryShifts, GroupInOnePart, HistoriesAreCounted, QueueBegins, QueueIsPending};
+ghost use Rattle.e3_law_rounds.specs.Rounds.{RoundsEnd};
+
+/// A recovery round that went on until nothing was pending, and in which no member fell: its elector, and nobody else, tells
+/// one verdict on its transaction. It is Block exactly where the members are no quorum and none of them had decided at the
+/// round's start; else all of them have decided at its end. For k members it has 1 + 7(k - 1) entries of its own at most. So
+/// it is in every legal history of 2,000,000 entries at most, of every scenario that keeps the rules.
+pub fn rounds_end()
+    ensures { RoundsEnd }
+{}
+
+/// The packets of a recovery step are a queue: each has one copy, and a delivery takes the first and puts what its step sends
+/// behind the others. It is empty where nothing is pending, in any step.
+pub fn packets_queue()
+    ensures counted { HistoriesAreCounted }
+    ensures begins { QueueBegins }
+    ensures pending { QueueIsPending }
+    ensures shifts { DeliveryShifts }
+{}
+
+/// In a recovery step with packets pending the first of them is delivered next, where its receiver is up and nobody falls.
+pub fn delivery_is_forced()
+    ensures { DeliveryIsForced }
+{}
+
+/// The group of a recovery step lies in one part of the network.
+pub fn group_in_one_part()
+    ensures { GroupInOnePart }
+{}

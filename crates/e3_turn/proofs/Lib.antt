@@ -1,0 +1,5 @@
+pub mod Totals
+pub mod Prefixes
+pub mod Views
+pub mod Tickets
+pub mod Owners

@@ -1,0 +1,4 @@
+pub mod Chronicles
+pub mod Rule
+pub mod Steps
+pub mod Passes

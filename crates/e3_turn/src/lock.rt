@@ -1,0 +1,189 @@
+// The lock: its calls, each made of a few atomic steps.
+ghost use Rattle.std.specs.Prelude.{◌≡◌, ◌%◌, ◌^◌, ◌<◌, ◌++◌, length, IfOk, [], ◌∷◌, Some, MatchOption};
+ghost use Rattle.e3_turn.specs.Chronicles.{down_from, longer, without};
+ghost use Rattle.e3_turn.specs.Steps.{Rests, Took, Waits};
+ghost use Rattle.e3_turn.specs.Passes.{Agree, GrewByOthers, GrewByOwners, HasTurn, IsIdle, Owns, OwnsAll, SameOwners, last_of, owners_of, seen_by};
+
+use crate::chronicle::Chronicle;
+use crate::plays::{Chooses, Draws, GivesAway, Learns, Looks, PassesOn, PutsTogether};
+use crate::view::{Key, TurnRule, View};
+use atomic_table::{Seat, Table};
+use e3_types::NoMemory;
+use std::alloc::Global;
+use std::marker::Model;
+use std::snapshot::Snapshot;
+use std::sync::Wait;
+
+// The words of the table: tickets drawn, and tickets served.
+const DRAWN: usize = 0;
+
+const SERVED: usize = 1;
+
+// The slot of the table.
+const VALUE: usize = 0;
+
+/// What one caller knows of the lock: the owners that it speaks for, the chronicle that it has seen, and whether it has
+/// the turn. It has no bytes, and may go to another thread.
+pub type Pass<V> = Seat<Option<V>, View<<V as Chronicle>::Mark>>;
+
+/// A value that is taken in turn, in the order in which tickets were drawn. Contracts see the lock as its identity.
+#[derive(Drop)]
+pub struct TurnLock<V: Chronicle + Drop> {
+    table: Table<Option<V>, View<<V as Chronicle>::Mark>, Key<V>, TurnRule<V>, Global>,
+}
+
+impl<V: Chronicle + Drop> Model for TurnLock<V> {
+    ghost use Rattle.std.specs.Prelude.{◌≡◌};
+    ghost use Rattle.atomic_table.specs.Seated.{TableId};
+
+    ghost Value = { TableId };
+
+    ghost view = { λ l. l.table.shared.table_id };
+
+    ghost invariant = { λ l. (l.table.shared.table_id.words ≡ 2) × (l.table.shared.table_id.slots ≡ 1) };
+}
+
+fn slot_of<V: Drop>(alloc: Global, value: V) -> Result<Vec<Option<V>>, NoMemory>
+    ensures { IfOk result (λ v. v.items ≡ Some value ∷ []) }
+{
+    let mut slots = Vec::new(alloc);
+    match slots.push(Some(value)) {
+        Ok(()) => Ok(slots),
+        Err(_) => Err(NoMemory),
+    }
+}
+
+impl<V: Chronicle + Drop> TurnLock<V> {
+    /// A lock round a value, with its first pass, which owns 0 to `owners`.
+    pub fn open(alloc: Global, value: V, owners: u32) -> Result<(TurnLock<V>, Pass<V>), NoMemory>
+        ensures idle { IfOk result (λ r. IsIdle r.0 r.1) }
+        ensures owners { IfOk result (λ r. (owners_of r.1 ≡ down_from owners) × (last_of r.1 ≡ owners)) }
+        ensures seen { IfOk result (λ r. seen_by r.1 ≡ V.marks value) }
+    {
+        let key = Key {
+            last: owners,
+            opening: Snapshot::of(&value),
+        };
+        let slots = slot_of(alloc, value)?;
+        match Table::new(alloc, &[0, 0], slots, &key) {
+            Ok((table, pass)) => Ok((TurnLock { table }, pass)),
+            Err(_) => Err(NoMemory),
+        }
+    }
+
+    fn draw(&self, pass: &mut Pass<V>) -> u64
+        requires { IsIdle self.now pass.old }
+        ensures own { pass.new.table_id ≡ self.now }
+        ensures waits { Waits pass.new.me × (result ≡ pass.new.me.0.ticket % 2 ^ 64) }
+        ensures same { SameOwners pass.old pass.new }
+        ensures seen { seen_by pass.new ≡ seen_by pass.old }
+    {
+        self.table.shared.fetch_add::<Draws>(pass, DRAWN, 1)
+    }
+
+    // None where the pass has the turn, and else the ticket that is served.
+    fn look(&self, pass: &mut Pass<V>, ticket: u64) -> Option<u64>
+        requires own { pass.old.table_id ≡ self.now }
+        requires waits { Waits pass.old.me × (ticket ≡ pass.old.me.0.ticket % 2 ^ 64) }
+        ensures own { pass.new.table_id ≡ self.now }
+        ensures told { MatchOption result (Took V.marks V.belongs pass.old.me pass.new.me) (λ _. pass.new.me ≡ pass.old.me) }
+    {
+        let found = self.table.shared.load::<Looks<V>>(pass, SERVED);
+        if found == ticket { None } else { Some(found) }
+    }
+
+    // Waits until the pass has the turn.
+    fn wait<R: Wait>(&self, rt: &R, pass: &mut Pass<V>, ticket: u64)
+        requires own { pass.old.table_id ≡ self.now }
+        requires waits { Waits pass.old.me × (ticket ≡ pass.old.me.0.ticket % 2 ^ 64) }
+        ensures own { pass.new.table_id ≡ self.now }
+        ensures turn { Took V.marks V.belongs pass.old.me pass.new.me }
+    {
+        for _ in rt.forever() {
+            match self.look(pass, ticket) {
+                None => return,
+                Some(found) => self
+                    .table
+                    .shared
+                    .park(rt, SERVED, (found % (1 << 32)) as u32),
+            }
+        }
+        unreachable!()
+    }
+
+    /// Waits for the turn, and takes the value. Of its chronicle the pass has seen a beginning, and no mark behind that
+    /// is its owners'.
+    pub fn take<R: Wait>(&self, rt: &R, pass: &mut Pass<V>) -> V
+        requires { IsIdle self.now pass.old }
+        ensures turn { HasTurn self.now pass.new }
+        ensures same { SameOwners pass.old pass.new }
+        ensures seen { seen_by pass.new ≡ V.marks result }
+        ensures grew { GrewByOthers V.belongs pass.old (V.marks result) }
+    {
+        let ticket = self.draw(pass);
+        self.wait(rt, pass, ticket);
+        let Some(value) = self.table.shared.exchange(pass, VALUE, None) else {
+            unreachable!()
+        };
+        value
+    }
+
+    /// Puts a value back, and passes the turn on. Its chronicle is what the pass has seen, and then marks of the pass's
+    /// own owners alone.
+    pub fn put(&self, pass: &mut Pass<V>, value: V)
+        requires turn { HasTurn self.now pass.old }
+        requires grew { GrewByOwners V.belongs pass.old (V.marks value) }
+        ensures idle { IsIdle self.now pass.new }
+        ensures same { SameOwners pass.old pass.new }
+        ensures seen { seen_by pass.new ≡ V.marks value }
+    {
+        self.table.shared.exchange(pass, VALUE, Some(value));
+        self.table.shared.fetch_add::<PassesOn<V>>(pass, SERVED, 1);
+        self.table.shared.wake_all(SERVED);
+    }
+
+    /// Gives one of the pass's owners to a new pass, which has seen the same.
+    pub fn split(&self, pass: &mut Pass<V>, owner: u32) -> Pass<V>
+        requires idle { IsIdle self.now pass.old }
+        requires owns { Owns pass.old owner }
+        requires keeps { 1 < length (owners_of pass.old) }
+        ensures idle { IsIdle self.now pass.new × IsIdle self.now result }
+        ensures owners { (owners_of pass.new ≡ without owner (owners_of pass.old)) × (owners_of result ≡ owner ∷ []) }
+        ensures last { (last_of pass.new ≡ last_of pass.old) × (last_of result ≡ last_of pass.old) }
+        ensures seen { (seen_by pass.new ≡ seen_by pass.old) × (seen_by result ≡ seen_by pass.old) }
+    {
+        self.table
+            .shared
+            .compare_exchange::<Chooses>(pass, DRAWN, owner as u64, owner as u64);
+        self.table.shared.split_seat::<GivesAway>(pass)
+    }
+
+    /// Joins another pass into one, which then speaks for the owners of both and has seen the longer chronicle.
+    pub fn join(&self, pass: &mut Pass<V>, other: Pass<V>)
+        requires idle { IsIdle self.now pass.old }
+        requires other { IsIdle self.now other }
+        ensures idle { IsIdle self.now pass.new }
+        ensures owners { owners_of pass.new ≡ owners_of pass.old ++ owners_of other }
+        ensures last { last_of pass.new ≡ last_of pass.old }
+        ensures seen { seen_by pass.new ≡ longer (seen_by pass.old) (seen_by other) }
+        ensures agree { Agree V.belongs pass.old other }
+    {
+        self.table.shared.join_seat::<PutsTogether>(pass, other);
+        self.table.shared.load::<Learns<V>>(pass, DRAWN);
+    }
+
+    /// Ends the lock, by the pass that owns all, and hands its value out.
+    pub fn close(self, pass: Pass<V>) -> V
+        requires idle { IsIdle self pass }
+        requires all { OwnsAll pass }
+        ensures { V.marks result ≡ seen_by pass }
+    {
+        let TurnLock { table } = self;
+        let mut closed = table.close_with(pass);
+        let Some(value) = closed.take(VALUE) else {
+            unreachable!()
+        };
+        closed.free();
+        value
+    }
+}
