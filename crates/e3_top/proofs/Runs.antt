@@ -169,21 +169,22 @@ run_no_drill {words} run drill = let e : 114 ≡ 100 = one_byte words (Run run.t
 gen_no_drill : {words : List (String Global)} → IsGen words → ¬ IsDrill words
 gen_no_drill {words} gen drill = let e : 103 ≡ 100 = one_byte words (Gen gen.n) (Drill drill.n) gen.spelled drill.spelled in omega (arith, e)
 
+-- the status is neither of these
+neither : {P : Type 0} (s a b : ℕ) → s ≢ a → s ≢ b → (s ≡ a) ⊎ (s ≡ b) → P
+neither s a b one other (inl e) = absurd (one e)
+neither s a b one other (inr e) = absurd (other e)
+
 -- which statuses come for words that spell no command, and for those of each command
 pub may_refuse : (words : List (String Global)) → ¬ IsCommand words → MayEnd words 1
 may_refuse words other = record {
   known = omega arith;
   commands = λ e. absurd (omega (arith, e));
   others = λ e. other;
-  runs = by;
+  runs = neither 1 2 3 (λ e. omega (arith, e)) (λ e. omega (arith, e));
   played = λ e. absurd (omega (arith, e));
   generated = λ gen. absurd (other (record { command = Gen gen.n; spelled = gen.spelled }));
   drilled = λ drill. absurd (other (record { command = Drill drill.n; spelled = drill.spelled }));
 }
-  where
-    by : (1 ≡ 2) ⊎ (1 ≡ 3) → IsRun words
-    by (inl e) = absurd (omega (arith, e))
-    by (inr e) = absurd (omega (arith, e))
 
 pub may_run : (words : List (String Global)) (status : ℕ) → IsRun words → status ≤ 6 → status ≢ 1 → MayEnd words status
 may_run words status run low other = record {
@@ -197,47 +198,35 @@ may_run words status run low other = record {
 }
 
 pub may_tell : (words : List (String Global)) (n status : ℕ) → Spell words (Gen n) → status ≡ 0 → MayEnd words status
-may_tell words n status gen zero = record {
-  known = omega (arith, zero);
+may_tell words n status gen none = record {
+  known = omega (arith, none);
   commands = λ e. record { command = Gen n; spelled = gen };
-  others = λ e. absurd (omega (arith, e, zero));
-  runs = by;
-  played = λ e. absurd (omega (arith, e, zero));
-  generated = λ other. inl zero;
+  others = λ e. absurd (omega (arith, e, none));
+  runs = neither status 2 3 (λ e. omega (arith, e, none)) (λ e. omega (arith, e, none));
+  played = λ e. absurd (omega (arith, e, none));
+  generated = λ other. inl none;
   drilled = λ drill. absurd (gen_no_drill (record { n = n; spelled = gen }) drill);
 }
-  where
-    by : (status ≡ 2) ⊎ (status ≡ 3) → IsRun words
-    by (inl e) = absurd (omega (arith, e, zero))
-    by (inr e) = absurd (omega (arith, e, zero))
 
 pub may_drill : (words : List (String Global)) (n status : ℕ) → Spell words (Drill n) → (status ≡ 0) ⊎ (status ≡ 6) → MayEnd words status
-may_drill words n status drill (inl zero) = record {
-  known = omega (arith, zero);
+may_drill words n status drill (inl none) = record {
+  known = omega (arith, none);
   commands = λ e. record { command = Drill n; spelled = drill };
-  others = λ e. absurd (omega (arith, e, zero));
-  runs = by;
-  played = λ e. absurd (omega (arith, e, zero));
+  others = λ e. absurd (omega (arith, e, none));
+  runs = neither status 2 3 (λ e. omega (arith, e, none)) (λ e. omega (arith, e, none));
+  played = λ e. absurd (omega (arith, e, none));
   generated = λ gen. absurd (gen_no_drill gen (record { n = n; spelled = drill }));
-  drilled = λ other. inl zero;
+  drilled = λ other. inl none;
 }
-  where
-    by : (status ≡ 2) ⊎ (status ≡ 3) → IsRun words
-    by (inl e) = absurd (omega (arith, e, zero))
-    by (inr e) = absurd (omega (arith, e, zero))
 may_drill words n status drill (inr six) = record {
   known = omega (arith, six);
   commands = λ e. record { command = Drill n; spelled = drill };
   others = λ e. absurd (omega (arith, e, six));
-  runs = by;
+  runs = neither status 2 3 (λ e. omega (arith, e, six)) (λ e. omega (arith, e, six));
   played = λ e. inr (record { n = n; spelled = drill });
   generated = λ gen. absurd (gen_no_drill gen (record { n = n; spelled = drill }));
   drilled = λ other. inr (inr (inr six));
 }
-  where
-    by : (status ≡ 2) ⊎ (status ≡ 3) → IsRun words
-    by (inl e) = absurd (omega (arith, e, six))
-    by (inr e) = absurd (omega (arith, e, six))
 
 -- the sink may fail, and memory may run out, with all words
 pub may_fail : (words : List (String Global)) → MayEnd words 4
@@ -245,30 +234,22 @@ may_fail words = record {
   known = omega arith;
   commands = λ e. absurd (omega (arith, e));
   others = λ e. absurd (omega (arith, e));
-  runs = by;
+  runs = neither 4 2 3 (λ e. omega (arith, e)) (λ e. omega (arith, e));
   played = λ e. absurd (omega (arith, e));
   generated = λ gen. inr (inl refl);
   drilled = λ drill. inr (inl refl);
 }
-  where
-    by : (4 ≡ 2) ⊎ (4 ≡ 3) → IsRun words
-    by (inl e) = absurd (omega (arith, e))
-    by (inr e) = absurd (omega (arith, e))
 
 pub may_want : (words : List (String Global)) → MayEnd words 5
 may_want words = record {
   known = omega arith;
   commands = λ e. absurd (omega (arith, e));
   others = λ e. absurd (omega (arith, e));
-  runs = by;
+  runs = neither 5 2 3 (λ e. omega (arith, e)) (λ e. omega (arith, e));
   played = λ e. absurd (omega (arith, e));
   generated = λ gen. inr (inr refl);
   drilled = λ drill. inr (inr (inl refl));
 }
-  where
-    by : (5 ≡ 2) ⊎ (5 ≡ 3) → IsRun words
-    by (inl e) = absurd (omega (arith, e))
-    by (inr e) = absurd (omega (arith, e))
 
 -- the status of a text that is due, or of a sink that failed
 pub may_finish : (words : List (String Global)) (status due : ℕ) → MayEnd words due → (status ≡ due) ⊎ (status ≡ 4) → MayEnd words status
