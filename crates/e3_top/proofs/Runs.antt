@@ -10,6 +10,7 @@ use Rattle.e3_disk.specs.Meters.{Meters}
 use Rattle.e3_decided.proofs.Histories.{given_agrees, given_voted}
 use Rattle.e3_decided.proofs.Standing.{given_stands}
 use Rattle.e3_fleet.specs.Over.{AreOver}
+use Rattle.e3_law_rounds.specs.Rounds.{RoundsEnd}
 use Rattle.e3_serial.specs.Claims.{LegalSerial}
 use Rattle.e3_gen.specs.Generated.{generated, generated_scenario}
 use Rattle.e3_report.specs.Report.{report_of}
@@ -29,16 +30,20 @@ use Rattle.e3_types.specs.declared.scenarios.Scenario.{Scenario}
 use Rattle.e3_world.specs.Given.{IsGiven}
 use Rattle.e3_world.specs.Legal.{IsLegal, IsWhole}
 
--- a legal history of a given scenario is safe
-pub run_of : {D : Type 0} (image : D → List ℕ → Type 0) (meters : D → Meters) (before now : List D) → LegalSerial → (sc : Scenario) (most : ℕ) (h : List Entry) → IsGiven sc → IsLegal sc h → length h ≤ most →
+-- a legal history of a given scenario is safe, and its recovery rounds are bounded
+pub run_of : {D : Type 0} (image : D → List ℕ → Type 0) (meters : D → Meters) (before now : List D) → LegalSerial → RoundsEnd → (sc : Scenario) (most : ℕ) (h : List Entry) → most ≤ 2000000 → IsGiven sc → IsLegal sc h → length h ≤ most →
     AreOver image meters sc h before now → IsRunOf image meters before now sc most h
-run_of image meters before now one sc most h given legal few over = record {
+run_of image meters before now one ends sc most h bound given legal few over = record {
+  given = given;
   legal = legal;
   few = few;
-  agree = given_agrees sc h given legal;
-  voted = given_voted sc h given legal;
-  told = given_stands sc h given legal;
-  serial = one sc h given legal;
+  safe = record {
+    agree = given_agrees sc h given legal;
+    voted = given_voted sc h given legal;
+    told = given_stands sc h given legal;
+    serial = one sc h given legal;
+  };
+  rounds = λ r s up. ends sc h r given legal (omega (arith, few, bound)) s up;
   over = over;
 }
 
@@ -85,6 +90,7 @@ played_text image meters before now words bytes sc most status h told text plays
     scenario = sc;
     plays = plays;
     full = full.1.full;
+    owed = full.1.owed;
     unfinished = full.1.unfinished;
     safe = safe;
     says = full.2;

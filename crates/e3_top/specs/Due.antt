@@ -4,9 +4,10 @@ use Rattle.std.specs.declared.alloc.Global.{Global}
 use Rattle.e3_disk.specs.Meters.{Meters}
 use Rattle.e3_fleet.specs.Over.{AreOver}
 use Rattle.e3_gen.specs.Generated.{generated, generated_scenario}
+use Rattle.e3_law_rounds.specs.Rounds.{RoundsAreBounded}
 use Rattle.e3_report.specs.Report.{report_of}
 use Rattle.e3_report.specs.Summary.{summary_of}
-use Rattle.e3_sites.specs.Delivered.{IsFull}
+use Rattle.e3_sites.specs.Delivered.{IsFull, IsOwed}
 use Rattle.e3_scenario.specs.Faults.{fault_text}
 use Rattle.e3_scenario.specs.Scenarios.{scenario_of}
 use Rattle.e3_scenario.specs.declared.faults.ScenarioFault.{ScenarioFault}
@@ -15,23 +16,22 @@ use Rattle.e3_words.specs.Words.{IsCommand}
 use Rattle.e3_types.specs.declared.entries.Entry.{Entry}
 use Rattle.e3_types.specs.declared.scenarios.Scenario.{Scenario}
 use Rattle.e3_world.specs.Legal.{IsLegal, IsWhole}
-use Rattle.e3_world.specs.Moves.{trail_of}
-use Rattle.e3_world.specs.Safe.{Agrees, AllVoted, ToldStands}
-use Rattle.e3_world.specs.Serial.{IsSerial}
+use Rattle.e3_world.specs.Given.{IsGiven}
+use Rattle.e3_world.specs.Safe.{IsSafe}
 
--- A history of this scenario: legal, and with so many entries at most; no two decisions of a transaction differ; where a
--- commit stands every site of the transaction has its vote before it; a decision that was told stands in its site's log, and
--- in that of each legal history that goes on; and there is one order of the committed transactions, by their last votes: run
--- one after the other they give each site's table, over those that its own log commits, and each committed read that was
--- told. And what the disks came to over it.
+-- A history of this scenario, which keeps the rules: legal, so that every law on legal histories applies, and with so many
+-- entries at most. It is safe: no two decisions of a transaction differ; where a commit stands every site of the transaction
+-- has its vote before it; a decision that was told stands in its site's log, and in that of each legal history that goes on;
+-- and there is one order of the committed transactions, by their last votes: run one after the other they give each site's
+-- table, over those that its own log commits, and each committed read that was told. Each recovery round in which no member
+-- fell ends in few entries. And what the disks came to over it.
 pub record IsRunOf {D : Type 0} (image : D → List ℕ → Type 0) (meters : D → Meters) (disks_before disks_now : List D)
     (sc : Scenario) (most : ℕ) (history : List Entry) : Type 0 where
+  pub given : IsGiven sc
   pub legal : IsLegal sc history
   pub few : length history ≤ most
-  pub agree : Agrees (trail_of sc history)
-  pub voted : AllVoted (trail_of sc history)
-  pub told : ToldStands sc history
-  pub serial : IsSerial sc (trail_of sc history)
+  pub safe : IsSafe sc history
+  pub rounds : RoundsAreBounded sc history
   pub over : AreOver image meters sc history disks_before disks_now
 
 -- A run is done: the bytes spell a scenario, the history is one of it and went through all of it, and the text is its report, with the
@@ -100,12 +100,13 @@ pub record IsDrillOf (words : List (String Global)) (bytes : List ℕ) (scenario
 abbrev pub Plays : List (String Global) → List ℕ → Scenario → Type 0
 Plays words bytes scenario = (IsRun words × (scenario_of bytes ≡ Ok scenario)) ⊎ IsDrillOf words bytes scenario
 
--- A full history: it has as many entries as it may have, and went not through all of the scenario.
+-- A full history: it has as many entries as it may have, and a further one is due, so it went not through all of the scenario.
 pub record IsFullHistory {D : Type 0} (image : D → List ℕ → Type 0) (meters : D → Meters) (disks_before disks_now : List D)
     (words : List (String Global)) (bytes : List ℕ) (most : ℕ) (history : List Entry) (text : List ℕ) : Type 0 where
   pub scenario : Scenario
   pub plays : Plays words bytes scenario
   pub full : length history ≡ most
+  pub owed : IsOwed scenario history
   pub unfinished : ¬ IsWhole scenario history
   pub safe : IsRunOf image meters disks_before disks_now scenario most history
   pub says : text ≡ refused_history_full

@@ -18,6 +18,7 @@ ghost use Rattle.e3_world.specs.Legal.{IsWhole};
 use crate::words::{refused_history_full, refused_words};
 use e3_disk::{Disk, Drill};
 use e3_fleet::{Played, play_over};
+use e3_law_rounds::rounds_end;
 use e3_outside::{ReadFault, Source, read_up_to};
 use e3_gen::{generated, generated_scenario};
 use e3_report::{report, summary};
@@ -134,11 +135,13 @@ fn play<D: Disk + Drill + Drop>(
     requires given { IsGiven scenario.now }
     requires enough { length scenario.now.weights ≤ length disks.items }
     requires blank { AreBlank D.content D.image D.meters disks.items }
+    requires most { most ≤ 2000000 }
     ensures whole { OnOk result.ended (IsWhole scenario.now result.history.entries) }
     ensures full { result.ended ≡ Err RunFault.HistoryFull → IsFull scenario.now result.history.entries most }
     ensures history { IsRunOf D.image D.meters disks.items result.disks.items scenario.now most result.history.entries }
 {
     one_order();
+    rounds_end();
     play_over(alloc, scenario, disks, most)
 }
 
@@ -157,6 +160,7 @@ fn prepare_run<D: Disk + Drill + Drop>(
     requires given { IsGiven scenario.now }
     requires enough { length scenario.now.weights ≤ length disks.items }
     requires blank { AreBlank D.content D.image D.meters disks.items }
+    requires most { most ≤ 2000000 }
     ensures due { IfOk result.due (λ due. IsDue D.image D.meters disks.items result.disks.items words.now bytes.now most due.status result.history.entries due.text) }
     ensures status { IfOk result.due (λ due. MayEnd words.now due.status) }
     ensures only_memory { IfErr result.due (λ e. e ≡ Stop.NoMemory) }
@@ -188,6 +192,7 @@ fn prepare_drill<D: Disk + Drill + Drop>(
     requires given { IsGiven scenario.now }
     requires enough { length scenario.now.weights ≤ length disks.items }
     requires blank { AreBlank D.content D.image D.meters disks.items }
+    requires most { most ≤ 2000000 }
     ensures due { IfOk result.due (λ due. IsDue D.image D.meters disks.items result.disks.items words.now [] most due.status result.history.entries due.text) }
     ensures status { IfOk result.due (λ due. MayEnd words.now due.status) }
     ensures only_memory { IfErr result.due (λ e. e ≡ Stop.NoMemory) }
@@ -323,6 +328,7 @@ fn prepare_bytes<D: Disk + Drill + Drop>(
     requires run { Spell words.now (Run trace) }
     requires sixteen { length disks.items ≡ 16 }
     requires blank { AreBlank D.content D.image D.meters disks.items }
+    requires most { most ≤ 2000000 }
     ensures due { IfOk result.due (λ due. IsDue D.image D.meters disks.items result.disks.items words.now bytes.now most due.status result.history.entries due.text) }
     ensures status { IfOk result.due (λ due. MayEnd words.now due.status) }
     ensures only_memory { IfErr result.due (λ e. e ≡ Stop.NoMemory) }
@@ -347,6 +353,7 @@ fn read_and_play<S: Source, D: Disk + Drill + Drop>(
     requires run { Spell words.now (Run trace) }
     requires sixteen { length disks.items ≡ 16 }
     requires blank { AreBlank D.content D.image D.meters disks.items }
+    requires most { most ≤ 2000000 }
     ensures prepared { IfOk result.due (λ due. IsPrepared D.image D.meters disks.items result.disks.items words.now (S.left source.old) (S.left source.new) most due.status result.history.entries due.text) }
     ensures status { IfOk result.due (λ due. MayEnd words.now due.status) }
     ensures source_failed { result.due ≡ Err Stop.SourceFailed →
@@ -379,6 +386,7 @@ fn generate_and_play<D: Disk + Drill + Drop>(
     requires most { n ≤ 1000 }
     requires sixteen { length disks.items ≡ 16 }
     requires blank { AreBlank D.content D.image D.meters disks.items }
+    requires bound { most ≤ 2000000 }
     ensures due { IfOk result.due (λ due. IsDue D.image D.meters disks.items result.disks.items words.now [] most due.status result.history.entries due.text) }
     ensures status { IfOk result.due (λ due. MayEnd words.now due.status) }
     ensures only_memory { IfErr result.due (λ e. e ≡ Stop.NoMemory) }
@@ -401,6 +409,7 @@ pub fn prepare<S: Source, D: Disk + Drill + Drop>(
 ) -> Prepared<D>
     requires sixteen { length disks.items ≡ 16 }
     requires blank { AreBlank D.content D.image D.meters disks.items }
+    requires most { most ≤ 2000000 }
     ensures prepared { IfOk result.due (λ due. IsPrepared D.image D.meters disks.items result.disks.items words.now (S.left source.old) (S.left source.new) most due.status result.history.entries due.text) }
     ensures status { IfOk result.due (λ due. MayEnd words.now due.status) }
     ensures source_failed { result.due ≡ Err Stop.SourceFailed →

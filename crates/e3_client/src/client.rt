@@ -1,0 +1,273 @@
+// A transaction's client side: what is issued, answered and refused.
+ghost use Rattle.std.specs.Prelude.{◌≡◌, ◌<◌, ◌≤◌, ◌-◌, slice_set, ◌++◌, ◌∷◌, ◌+◌, [], IsTrue, IfOk, MatchResult, Some, None, length};
+ghost use Rattle.e3_types.specs.Sets.{has_site};
+ghost use Rattle.e3_client.specs.declared.client.Heard.TheVariants.{Taken};
+ghost use Rattle.e3_client.specs.Clients.{unanswered, unanswered_from, expected, expected_with, is_issued_to, is_due, heard_of, with_answer, refuse, refuse_cancel, refuse_decided, or_kept};
+
+use e3_types::{Dir, NoMemory, Refusal, State, Txn};
+use e3_world::Expected;
+use std::alloc::Global;
+use std::marker::Model;
+
+/// An operation that was issued: its site, and the incarnation under which that answered it, if it did.
+#[derive(Clone, Copy)]
+pub struct Issued {
+    pub site: u32,
+    pub answered: Option<u32>,
+}
+
+/// What an answer comes to: it is the one that was awaited; or none that is; or its site answered before under another
+/// incarnation, so that the locks of its earlier operations are gone.
+#[derive(Clone, Copy)]
+pub enum Heard {
+    Taken,
+    Stale,
+    Doomed { site: u32, had: u32, now: u32 },
+}
+
+/// A transaction that its coordinator began: the operations that were issued, one at a time and 64 at most, and the reason
+/// why it was ended, if there is one to be kept.
+#[derive(Drop)]
+pub struct Client {
+    txn: Txn,
+    ops: Vec<Issued>,
+    why: Option<Refusal>,
+}
+
+impl Model for Client {
+    ghost use Rattle.std.specs.Prelude.{◌≤◌, length, vec_len, vec_capacity};
+    ghost use Rattle.e3_client.specs.Clients.{Kept};
+
+    ghost Value = { Kept };
+
+    ghost view = { λ a. record { txn = a.txn; ops = a.ops.items; why = a.why } };
+
+    ghost invariant = { λ a. (vec_len a.ops ≤ 64) × (64 ≤ vec_capacity a.ops) };
+}
+
+// The number of the first of these that is unanswered, where the first has this number.
+fn unanswered_from(first: u32, ops: &[Issued]) -> Option<u32>
+    requires { first + length ops.now < 1000 }
+    ensures { result ≡ unanswered_from first ops.now }
+{
+    match ops {
+        [] => None,
+        [op, rest @ ..] => {
+            if op.answered.is_none() {
+                Some(first)
+            } else {
+                unanswered_from(first + 1, rest)
+            }
+        }
+    }
+}
+
+// What is expected of the site behind one more operation.
+fn expected_with(site: u32, was: Expected, op: &Issued) -> Expected
+    requires { was.count < 1000 }
+    ensures { result ≡ expected_with site was op.now }
+{
+    if op.site != site {
+        return was;
+    }
+    match op.answered {
+        None => was,
+        Some(inc) => Expected {
+            inc,
+            count: was.count + 1,
+        },
+    }
+}
+
+impl Client {
+    /// A transaction that begins now. Want of memory is the only error; no other call takes any.
+    pub fn begin(alloc: Global, txn: Txn) -> Result<Client, NoMemory>
+        ensures { IfOk result (λ client. client ≡ record { txn = txn; ops = []; why = None }) }
+    {
+        match Vec::with_capacity(alloc, 64) {
+            Ok(ops) => Ok(Client {
+                txn,
+                ops,
+                why: None,
+            }),
+            Err(_) => Err(NoMemory),
+        }
+    }
+
+    /// How many operations were issued.
+    pub fn issued(&self) -> u32
+        ensures { result ≡ length self.now.ops }
+    {
+        self.ops.len() as u32
+    }
+
+    // The number of the operation that is unanswered, if one is.
+    fn unanswered(&self) -> Option<u32>
+        ensures { result ≡ unanswered self.now.ops }
+    {
+        unanswered_from(1, &self.ops)
+    }
+
+    // The refusal of an operation or a commit.
+    fn refuse(&self, state: State, attempt: u32) -> Option<Refusal>
+        ensures { result ≡ refuse state attempt self.now }
+    {
+        match state {
+            State::C => return Some(self.decided(Dir::Commit)),
+            State::A => return Some(self.decided(Dir::Abort)),
+            _ => {}
+        }
+        match self.unanswered() {
+            Some(op) => Some(Refusal::Busy { op }),
+            None => match state {
+                State::Q => None,
+                _ => Some(Refusal::TooLate { attempt }),
+            },
+        }
+    }
+
+    /// The number of the next operation. It is refused where the transaction is decided, an operation is unanswered, or it
+    /// is too late: the first of these.
+    pub fn next_op(&self, state: State, attempt: u32) -> Result<u32, Refusal>
+        requires { length self.now.ops < 64 }
+        ensures { MatchResult result (λ n. (refuse state attempt self.now ≡ None) × (n ≡ length self.now.ops + 1))
+            (λ why. refuse state attempt self.now ≡ Some why) }
+    {
+        match self.refuse(state, attempt) {
+            Some(why) => Err(why),
+            None => Ok(self.ops.len() as u32 + 1),
+        }
+    }
+
+    /// The next operation is issued, to this site.
+    pub fn issue(&mut self, site: u32)
+        requires free { unanswered self.old.ops ≡ None }
+        requires few { length self.old.ops < 64 }
+        requires within { IsTrue (has_site self.old.txn.sites site) }
+        ensures { self.new ≡ record self.old { ops = self.old.ops ++ record { site = site; answered = None } ∷ [] } }
+    {
+        self.ops.push_reserved(Issued {
+            site,
+            answered: None,
+        });
+    }
+
+    /// What is expected of a site: the incarnation under which it answered, and the number of its answers; 0 and 0 where
+    /// there are none.
+    pub fn expected(&self, site: u32) -> (u32, u32)
+        ensures inc { result.0 ≡ (expected site self.now.ops).inc }
+        ensures count { result.1 ≡ (expected site self.now.ops).count }
+    {
+        let mut so_far = Expected { inc: 0, count: 0 };
+        for op in &self.ops {
+            so_far = expected_with(site, so_far, op);
+        }
+        (so_far.inc, so_far.count)
+    }
+
+    // The operation of this number was issued to the site.
+    fn is_issued_to(&self, site: u32, n: u32) -> bool
+        ensures { result ≡ is_issued_to site n self.now.ops }
+    {
+        if n == 0 {
+            return false;
+        }
+        match self.ops.get(n as usize - 1) {
+            Some(op) => op.site == site,
+            None => false,
+        }
+    }
+
+    // The answer is one to the unanswered operation, by its site.
+    fn is_due(&self, site: u32, n: u32) -> bool
+        ensures { result ≡ is_due site n self.now.ops }
+    {
+        match self.unanswered() {
+            Some(m) => n == m && self.is_issued_to(site, n),
+            None => false,
+        }
+    }
+
+    // The operation of this number is this one now.
+    fn put(&mut self, n: u32, op: Issued)
+        requires low { 1 ≤ n }
+        requires high { n ≤ length self.old.ops }
+        ensures { self.new ≡ record self.old { ops = slice_set self.old.ops (n - 1) op } }
+    {
+        self.ops[n as usize - 1] = op;
+    }
+
+    /// An answer of a site. It is stale exactly where that is not the unanswered operation, or was not issued to this site;
+    /// it dooms the transaction exactly where the site answered before under another incarnation. Only an answer that is
+    /// taken changes something: the operation is answered, under this incarnation.
+    pub fn answer(&mut self, from: u32, n: u32, inc: u32) -> Heard
+        ensures heard { result ≡ heard_of from n inc self.old.ops }
+        ensures taken { result ≡ Taken → self.new ≡ record self.old { ops = with_answer from n inc self.old.ops } }
+        ensures others { (result ≡ Taken → ⊥) → self.new ≡ self.old }
+    {
+        if !self.is_due(from, n) {
+            return Heard::Stale;
+        }
+        let (had, count) = self.expected(from);
+        if count != 0 && had != inc {
+            return Heard::Doomed {
+                site: from,
+                had,
+                now: inc,
+            };
+        }
+        self.put(
+            n,
+            Issued {
+                site: from,
+                answered: Some(inc),
+            },
+        );
+        Heard::Taken
+    }
+
+    /// The transaction may commit. It is refused as an operation is.
+    pub fn ready(&self, state: State, attempt: u32) -> Result<(), Refusal>
+        ensures { MatchResult result (λ u. refuse state attempt self.now ≡ None) (λ why. refuse state attempt self.now ≡ Some why) }
+    {
+        match self.refuse(state, attempt) {
+            Some(why) => Err(why),
+            None => Ok(()),
+        }
+    }
+
+    /// The transaction may be cancelled. It is refused where it is decided, or was attempted.
+    pub fn may_cancel(&self, state: State, attempt: u32) -> Result<(), Refusal>
+        ensures { MatchResult result (λ u. refuse_cancel state attempt self.now ≡ None) (λ why. refuse_cancel state attempt self.now ≡ Some why) }
+    {
+        match state {
+            State::C => Err(self.decided(Dir::Commit)),
+            State::A => Err(self.decided(Dir::Abort)),
+            _ => {
+                if attempt == 0 {
+                    return Ok(());
+                }
+                Err(Refusal::TooLate { attempt })
+            }
+        }
+    }
+
+    // The refusal of a call on this transaction, which was decided so.
+    fn decided(&self, dir: Dir) -> Refusal
+        ensures { refuse_decided dir self.now.why ≡ Some result }
+    {
+        match &self.why {
+            None => Refusal::Over { dir },
+            Some(why) => *why,
+        }
+    }
+
+    /// The transaction was ended for this reason, which is kept; an earlier one stays.
+    pub fn end(&mut self, why: Refusal)
+        ensures { self.new ≡ record self.old { why = or_kept self.old.why why } }
+    {
+        if self.why.is_none() {
+            self.why = Some(why);
+        }
+    }
+}

@@ -1,0 +1,8 @@
+//! A transaction as its coordinator keeps it for the client: its operations, their answers, and what is refused.
+#![tactic(auto)]
+
+mod client;
+#[cfg(test)]
+mod tests;
+
+pub use client::{Client, Heard, Issued};

@@ -1,0 +1,10 @@
+//! What a coordinator gathers on the way to a commit: votes, and acknowledgements of an attempt.
+#![tactic(auto)]
+
+mod rounds;
+#[cfg(test)]
+mod tests;
+mod votes;
+
+pub use rounds::Round;
+pub use votes::Votes;

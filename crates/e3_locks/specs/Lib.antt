@@ -1,0 +1,4 @@
+pub mod Places
+pub mod LockLists
+pub mod Fronts
+pub mod Replays

@@ -1,0 +1,15 @@
+//! Locks of transactions on named records, granted by the wait-die rule (Bernstein, Hadzilacos and Goodman 1987).
+#![tactic(auto)]
+
+mod fronts;
+mod granted;
+mod list_locks;
+mod locks;
+mod replays;
+#[cfg(test)]
+mod tests;
+
+pub use granted::Granted;
+pub use list_locks::ListLocks;
+pub use locks::Locks;
+pub use replays::{LockCall, replay_locks};

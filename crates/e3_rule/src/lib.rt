@@ -1,0 +1,8 @@
+//! What a group of sites may conclude from its members' reports on a transaction (Keidar and Dolev 1998).
+#![tactic(auto)]
+
+mod rule;
+#[cfg(test)]
+mod tests;
+
+pub use rule::decide;
