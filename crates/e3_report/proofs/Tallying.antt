@@ -1,17 +1,21 @@
 -- What is tallied is how many different transactions there are.
-use Rattle.std.specs.Prelude.{◌≡◌, ◌||◌, ◌++◌, ◌∷◌, [], ◌+◌, if◌then◌else◌, ℕ, Bool, true, false, List, fold, length}
+use Rattle.std.specs.Prelude.{◌≡◌, ◌||◌, ◌++◌, ◌∷◌, [], ◌+◌, if◌then◌else◌, ℕ, Bool, true, false, List, Result, Ok, Err, IfOk, fold, length}
 use Rattle.std.specs.List.{flat_map, list_any}
 use Rattle.std.proofs.Common.{refl, ap, sym, ◌∙◌, arith, length-append}
 use Rattle.std.proofs.Math.Bool.{or-false}
 use Rattle.std.proofs.lemmas.Grind.{common_steps}
 use Rattle.e3_types.specs.declared.transactions.Txn.{Txn}
 use Rattle.e3_types.specs.declared.entries.Entry.{Entry}
+use Rattle.e3_types.specs.declared.list.NoMemory.{NoMemory}
+use Rattle.e3_types.specs.declared.scenarios.Scenario.{Scenario}
 use Rattle.e3_types.specs.Same.{same_txn}
-use Rattle.e3_world.specs.Moves.{Placed}
+use Rattle.e3_world.specs.Moves.{Placed, trail_of, all_records}
 use Rattle.e3_report.specs.Keys.{has_txn, with_txn}
-use Rattle.e3_report.specs.Summary.{each_once, aborted_by, begun_by, events_of, aborted, begun}
+use Rattle.e3_report.specs.Summary.{each_once, aborted_by, begun_by, events_of, aborted, begun, summary_over, summary_of}
 use Rattle.e3_report.specs.Tallies.{Tallied, no_tally, tallied, all_tallied}
+use Rattle.e3_report.specs.Walk.{walk_of}
 use Rattle.e3_report.proofs.Maps.{txn_added}
+use Rattle.e3_report.proofs.Walking.{walk_placed}
 
 -- the transactions of each of these, one after the other
 pub tallied_each : {X : Type 0} (f : X → List Txn) (w : Tallied) (xs : List X) → fold (λ v x. all_tallied v (f x)) w xs ≡ all_tallied w (flat_map f xs)
@@ -65,3 +69,12 @@ aborts_counted records = ap (λ (w : Tallied). w.count) (tallied_each (λ p. abo
 pub begins_counted : (history : List Entry) → (fold (λ w e. all_tallied w (flat_map begun_by (events_of e.act))) no_tally history).count ≡ begun history
 begins_counted history =
     ap (λ (w : Tallied). w.count) (tallied_each (λ e. flat_map begun_by (events_of e.act)) no_tally history) ∙ counted_once (flat_map (λ e. flat_map begun_by (events_of e.act)) history)
+
+-- the summary over the records that a walk gathered is that of the history
+pub summary_walked : (n : ℕ) (sc : Scenario) (h walked counted : List Entry) (placed : List Placed) (r : Result (List ℕ) NoMemory) → walked ≡ h → counted ≡ h → placed ≡ (walk_of sc walked).placed →
+    IfOk r (λ text. text ≡ summary_over n placed counted) → IfOk r (λ text. text ≡ summary_of n sc h)
+summary_walked n sc h walked counted placed (Err fault) same alike gathered made = tt
+summary_walked n sc h walked counted placed (Ok text) same alike gathered made =
+    made
+    ∙ ap (λ (records : List Placed). summary_over n records counted) (gathered ∙ ap (λ (l : List Entry). (walk_of sc l).placed) same ∙ walk_placed sc h)
+    ∙ ap (λ (l : List Entry). summary_over n (all_records (trail_of sc h)) l) alike

@@ -3,6 +3,7 @@ ghost use Rattle.std.specs.Prelude.{◌≡◌, ◌++◌, ◌+◌, ◌-◌, IfOk,
 ghost use Rattle.e3_world.specs.Moves.{all_records, trail_of};
 ghost use Rattle.e3_report.specs.Summary.{is_step, is_cut, is_fall, is_rise, count_of, committed, aborted, begun, count_line, summary_over, summary_of};
 
+use crate::counts::one_more;
 use crate::logs::{SiteRecord, walk_of};
 use crate::orders::commit_order;
 use crate::tallies::{aborted, begun};
@@ -35,28 +36,52 @@ fn is_rise(act: &Act) -> bool
     matches!(act, Act::Rise { .. })
 }
 
-fn steps_in(history: &[Entry]) -> u64
-    ensures { result ≡ count_of is_step history.now }
+fn steps_in(history: &[Entry]) -> Result<u64, NoMemory>
+    ensures { IfOk result (λ n. n ≡ count_of is_step history.now) }
 {
-    history.iter().filter(|e| is_step(&e.act)).count() as u64
+    let mut n = 0;
+    for e in history {
+        if is_step(&e.act) {
+            n = one_more(n)?;
+        }
+    }
+    Ok(n)
 }
 
-fn cuts_in(history: &[Entry]) -> u64
-    ensures { result ≡ count_of is_cut history.now }
+fn cuts_in(history: &[Entry]) -> Result<u64, NoMemory>
+    ensures { IfOk result (λ n. n ≡ count_of is_cut history.now) }
 {
-    history.iter().filter(|e| is_cut(&e.act)).count() as u64
+    let mut n = 0;
+    for e in history {
+        if is_cut(&e.act) {
+            n = one_more(n)?;
+        }
+    }
+    Ok(n)
 }
 
-fn falls_in(history: &[Entry]) -> u64
-    ensures { result ≡ count_of is_fall history.now }
+fn falls_in(history: &[Entry]) -> Result<u64, NoMemory>
+    ensures { IfOk result (λ n. n ≡ count_of is_fall history.now) }
 {
-    history.iter().filter(|e| is_fall(&e.act)).count() as u64
+    let mut n = 0;
+    for e in history {
+        if is_fall(&e.act) {
+            n = one_more(n)?;
+        }
+    }
+    Ok(n)
 }
 
-fn rises_in(history: &[Entry]) -> u64
-    ensures { result ≡ count_of is_rise history.now }
+fn rises_in(history: &[Entry]) -> Result<u64, NoMemory>
+    ensures { IfOk result (λ n. n ≡ count_of is_rise history.now) }
 {
-    history.iter().filter(|e| is_rise(&e.act)).count() as u64
+    let mut n = 0;
+    for e in history {
+        if is_rise(&e.act) {
+            n = one_more(n)?;
+        }
+    }
+    Ok(n)
 }
 
 /// How many transactions are committed.
@@ -97,17 +122,13 @@ fn summary_over(
     let begun = begun(alloc, history)?;
     let mut out = List::new(alloc);
     push_count(&mut out, "drill", n as u64)?;
-    push_count(&mut out, "steps", steps_in(history))?;
+    push_count(&mut out, "steps", steps_in(history)?)?;
     push_count(&mut out, "committed", committed)?;
     push_count(&mut out, "aborted", aborted)?;
-    push_count(
-        &mut out,
-        "undecided",
-        undecided(begun, committed, aborted),
-    )?;
-    push_count(&mut out, "cuts", cuts_in(history))?;
-    push_count(&mut out, "falls", falls_in(history))?;
-    push_count(&mut out, "rises", rises_in(history))?;
+    push_count(&mut out, "undecided", undecided(begun, committed, aborted))?;
+    push_count(&mut out, "cuts", cuts_in(history)?)?;
+    push_count(&mut out, "falls", falls_in(history)?)?;
+    push_count(&mut out, "rises", rises_in(history)?)?;
     push_text(&mut out, "end")?;
     push_line_end(&mut out)?;
     Ok(out)

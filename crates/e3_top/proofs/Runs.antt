@@ -1,6 +1,6 @@
 -- What a run over a legal history keeps, and which text is due.
-use Rattle.std.proofs.Common.{◌≡◌, ◌≢◌, ◌≤◌, ◌<◌, ◌⊎◌, inl, inr, ℕ, Bool, true, false, List, [], length, Option, Ok, Err, refl, sym, subst, ◌∙◌, arith, nat_le, zero, suc, get_or, ap, String, Global}
-use Rattle.std.specs.Io.KnownBytes.{IsAtEnd}
+use Rattle.std.proofs.Common.{◌≡◌, ◌≢◌, ◌≤◌, ◌<◌, ◌⊎◌, inl, inr, ℕ, Bool, true, false, List, [], length, Option, Some, None, Ok, Err, refl, sym, subst, ◌∙◌, arith, nat_le, zero, suc, get_or, ap, String, Global}
+use Rattle.std.specs.Io.KnownBytes.{Consumes, IsAtEnd}
 use Rattle.std.specs.Prelude.{IfOk, Result}
 use Rattle.e3_types.specs.declared.list.NoMemory.{NoMemory}
 use Rattle.e3_top.specs.declared.preparing.Due.{Due}
@@ -20,7 +20,7 @@ use Rattle.e3_scenario.specs.Scenarios.{scenario_of}
 use Rattle.e3_scenario.specs.declared.faults.ScenarioFault.{ScenarioFault}
 use Rattle.e3_scenario.specs.declared.faults.ScenarioFault.TheVariants as fault
 use Rattle.e3_top.specs.Due.{HasText, IsDue, IsRunOf, IsTextOf, Plays, Succeeds}
-use Rattle.e3_top.specs.Ends.{IsPrepared}
+use Rattle.e3_top.specs.Ends.{IsCutShort, IsHistoryOf, IsPrepared}
 use Rattle.e3_top.specs.Words.{IsRun, IsGen, IsDrill, MayEnd, refused_words}
 use Rattle.e3_words.specs.Words.{IsCommand, Spell, words_of}
 use Rattle.e3_words.specs.declared.words.Command.{Command}
@@ -349,6 +349,22 @@ told_due image meters before now words n most h (Ok due) text gen empty same say
 -- a drill of a number plays its generated scenario
 pub drill_plays : {words : List (String Global)} (n : ℕ) (sc : Scenario) → Spell words (Drill n) → sc ≡ generated_scenario n → Plays words [] sc
 drill_plays n sc drill same = inr (record { drill = record { n = n; spelled = drill }; unread = refl; same = same })
+
+-- no byte is taken
+none_taken : (had : Option (List ℕ)) → Consumes had had []
+none_taken None = tt
+none_taken (Some bytes) = refl
+
+-- a drill that memory cut short has read nothing
+pub drill_cut : {D : Type 0} (image : D → List ℕ → Type 0) (meters : D → Meters) (before now : List D) (words : List (String Global)) (had : Option (List ℕ)) (n most : ℕ) (h : List Entry) → Spell words (Drill n) →
+    ((h ≡ []) × (now ≡ before)) ⊎ IsHistoryOf image meters before now words [] most h → IsCutShort image meters before now words had had most h
+drill_cut image meters before now words had n most h drill (inl nothing) = record { bytes = []; taken = none_taken had; few = omega arith; happened = inl nothing }
+drill_cut image meters before now words had n most h drill (inr history) = record {
+  bytes = [];
+  taken = none_taken had;
+  few = omega arith;
+  happened = inr (record { taken = none_taken had; few = omega arith; to_end = λ run. absurd (run_no_drill run (record { n = n; spelled = drill })) }, history);
+}
 
 -- the statuses of a text that was made
 pub refused_may : (words : List (String Global)) (r : Result Due Stop) (text : Result (List ℕ) NoMemory) → ¬ IsCommand words → IfOk r (λ due. (due.status ≡ 1) × (text ≡ Ok due.text)) → IfOk r (λ due. MayEnd words due.status)
