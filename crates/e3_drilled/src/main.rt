@@ -67,7 +67,15 @@ fn push_ten(rt: &impl Wait, alloc: Global, out: &mut List<u8>, words: &[&str]) -
         let (_ended, next) = ended(rt, alloc, words, List::new(alloc))?;
         same = same && next.written() == first.written();
     }
-    push_text(out, if same { "ten runs write the same\n" } else { "ten runs differ\n" }).ok()
+    push_text(
+        out,
+        if same {
+            "ten runs write the same\n"
+        } else {
+            "ten runs differ\n"
+        },
+    )
+    .ok()
 }
 
 // The history of the drill of a number is that of the run of its text: their reports with traces are the same.

@@ -36,7 +36,10 @@ fn same_call(a: &Item, b: &Item) -> bool {
             _ => false,
         },
         Item::Read { name, key } => match b {
-            Item::Read { name: other, key: of } => name.is_same(other) && key.is_same(of),
+            Item::Read {
+                name: other,
+                key: of,
+            } => name.is_same(other) && key.is_same(of),
             _ => false,
         },
         Item::Write { name, key, val } => match b {

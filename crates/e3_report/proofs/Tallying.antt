@@ -1,16 +1,14 @@
 -- What is tallied is how many different transactions there are.
 use Rattle.std.specs.Prelude.{◌≡◌, ◌||◌, ◌++◌, ◌∷◌, [], ◌+◌, if◌then◌else◌, ℕ, Bool, true, false, List, Result, Ok, Err, IfOk, fold, length}
 use Rattle.std.specs.List.{flat_map, list_any}
-use Rattle.std.proofs.Common.{refl, ap, sym, ◌∙◌, arith, length-append}
-use Rattle.std.proofs.Math.Bool.{or-false}
-use Rattle.std.proofs.lemmas.Grind.{common_steps}
+use Rattle.std.proofs.Common.{refl, ap, sym, ◌∙◌, length-append}
 use Rattle.e3_types.specs.declared.transactions.Txn.{Txn}
 use Rattle.e3_types.specs.declared.entries.Entry.{Entry}
 use Rattle.e3_types.specs.declared.list.NoMemory.{NoMemory}
 use Rattle.e3_types.specs.declared.scenarios.Scenario.{Scenario}
 use Rattle.e3_types.specs.Same.{same_txn}
 use Rattle.e3_world.specs.Moves.{Placed, trail_of, all_records}
-use Rattle.e3_report.specs.Keys.{has_txn, with_txn}
+use Rattle.e3_report.specs.Keys.{has_txn}
 use Rattle.e3_report.specs.Summary.{each_once, aborted_by, begun_by, events_of, aborted, begun, summary_over, summary_of}
 use Rattle.e3_report.specs.Tallies.{Tallied, no_tally, tallied, all_tallied}
 use Rattle.e3_report.specs.Walk.{walk_of}

@@ -1,5 +1,5 @@
 -- The summary of a history: how much of what there is in it.
-use Rattle.std.specs.Prelude.{◌++◌, ◌∷◌, [], ◌+◌, ◌-◌, if◌then◌else◌, ℕ, Bool, true, false, List, codes, count_by, fold, length, map}
+use Rattle.std.specs.Prelude.{◌++◌, ◌∷◌, [], ◌+◌, ◌-◌, if◌then◌else◌, ℕ, Bool, true, false, List, codes, count_by, fold, length}
 use Rattle.std.specs.Fmt.{decimal}
 use Rattle.std.specs.List.{flat_map, list_any}
 use Rattle.e3_types.specs.declared.entries.Act.{Act}

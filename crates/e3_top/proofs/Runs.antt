@@ -288,6 +288,7 @@ run_completes words status {P} may known rose run calm = by known
     small (suc zero) e low = absurd (may.others e (record { command = Run run.trace; spelled = run.spelled }))
     small (suc (suc zero)) e low = inr (inr (inl e))
     small (suc (suc (suc s))) e low = absurd (omega (arith, low))
+
     by : ((status ≤ 2) ⊎ (status ≡ 6)) ⊎ (status ≡ 4) → (status ≡ 0) ⊎ (status ≡ 5) ⊎ (status ≡ 2) ⊎ (status ≡ 6)
     by (inl (inl low)) = small status refl low
     by (inl (inr e)) = inr (inr (inr e))
@@ -401,6 +402,7 @@ fault_due image meters before now words trace bytes f most h (Ok due) text run c
   where
     line : (f ≢ fault.NoMemory) × (due.text ≡ fault_text f)
     line = of_ok (λ line. (f ≢ fault.NoMemory) × (line ≡ fault_text f)) text made.1 says
+
     by : (f ≡ fault.NoMemory) ⊎ (scenario_of bytes ≡ Err f) → IsDue image meters before now words bytes most due.status h due.text
     by (inl e) = absurd (line.0 e)
     by (inr spelled) = subst (λ (n : ℕ). IsDue image meters before now words bytes most n h due.text) (sym made.0)

@@ -1,5 +1,5 @@
 -- The text that words, bytes and history give, with the status that a run ends with when it is written.
-use Rattle.std.specs.Prelude.{◌≡◌, ◌≤◌, ◌⊎◌, ℕ, Bool, List, [], String, Ok, Err, length}
+use Rattle.std.specs.Prelude.{◌≡◌, ◌≤◌, ◌⊎◌, ℕ, List, [], String, Ok, Err, length}
 use Rattle.std.specs.declared.alloc.Global.{Global}
 use Rattle.e3_disk.specs.Meters.{Meters}
 use Rattle.e3_fleet.specs.Over.{AreOver}

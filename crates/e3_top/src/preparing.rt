@@ -18,9 +18,9 @@ ghost use Rattle.e3_world.specs.Legal.{IsWhole};
 use crate::words::{refused_history_full, refused_words};
 use e3_disk::{Disk, Drill};
 use e3_fleet::{Played, play_over};
+use e3_gen::{generated, generated_scenario};
 use e3_law_rounds::rounds_end;
 use e3_outside::{ReadFault, Source, read_up_to};
-use e3_gen::{generated, generated_scenario};
 use e3_report::{report, summary};
 use e3_scenario::{ScenarioFault, fault_line, read_scenario};
 use e3_serial::one_order;
@@ -422,9 +422,7 @@ pub fn prepare<S: Source, D: Disk + Drill + Drop>(
 {
     match read_words(words) {
         None => refuse_words(alloc, words, disks, most),
-        Some(Command::Run { trace }) => {
-            read_and_play(alloc, words, trace, source, disks, most)
-        }
+        Some(Command::Run { trace }) => { read_and_play(alloc, words, trace, source, disks, most) }
         Some(Command::Gen { n }) => tell_generated(alloc, words, n, disks, most),
         Some(Command::Drill { n }) => generate_and_play(alloc, words, n, disks, most),
     }
