@@ -100,8 +100,9 @@ fn push_split(out: &mut List<u8>, parts: &[SiteSet]) -> Result<(), NoMemory>
     push_parts(out, parts)
 }
 
+/// Adds an item, in the scenario's own words.
 #[tactic(auto, unfolding(crate::specs::Items::item_text))]
-fn push_item(out: &mut List<u8>, item: &Item) -> Result<(), NoMemory>
+pub fn push_item(out: &mut List<u8>, item: &Item) -> Result<(), NoMemory>
     ensures { OnOk result (out.new ≡ out.old ++ item_text item.now) }
 {
     match item {

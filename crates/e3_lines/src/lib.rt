@@ -8,7 +8,7 @@ mod records;
 mod texts;
 
 pub use events::{push_answer, push_entry, push_plain, push_told_text, push_why};
-pub use items::push_items;
+pub use items::{push_item, push_items};
 pub use records::{push_records, push_rows};
 pub use texts::{
     push_dir, push_kept, push_key, push_labelled, push_line_end, push_number, push_parts,

@@ -7,3 +7,4 @@ pub mod Ranges
 pub mod Passing
 pub mod Walking
 pub mod Standing
+pub mod Tallying

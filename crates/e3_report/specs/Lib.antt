@@ -7,3 +7,5 @@ pub mod Steps
 pub mod Report
 pub mod Walk
 pub mod Tables
+pub mod Summary
+pub mod Tallies

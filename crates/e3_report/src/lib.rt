@@ -9,9 +9,12 @@ mod orders;
 mod sites;
 mod skips;
 mod steps;
+mod summing;
 mod tables;
 mod takers;
+mod tallies;
 mod ups;
 mod whole;
 
+pub use summing::summary;
 pub use whole::report;

@@ -78,7 +78,7 @@ fn backward(alloc: Global, committed: &TxnSet, placed: &[SiteRecord]) -> Result<
 
 /// The committed transactions in the order of their last votes.
 #[tactic(auto, using(crate::proofs::Ordering::order_is_reversed))]
-fn commit_order(alloc: Global, placed: &[SiteRecord]) -> Result<List<Txn>, NoMemory>
+pub(crate) fn commit_order(alloc: Global, placed: &[SiteRecord]) -> Result<List<Txn>, NoMemory>
     ensures { IfOk result (λ txns. txns ≡ commit_order placed.now) }
 {
     let committed = commits_of(alloc, placed)?;

@@ -1,15 +1,18 @@
 -- The text that words, bytes and history give, with the status that a run ends with when it is written.
-use Rattle.std.specs.Prelude.{◌≡◌, ◌≤◌, ◌⊎◌, ℕ, Bool, List, [], String, Ok, Err, length}
+use Rattle.std.specs.Prelude.{◌≡◌, ◌≤◌, ◌⊎◌, ℕ, List, [], String, Ok, Err, length}
 use Rattle.std.specs.declared.alloc.Global.{Global}
 use Rattle.e3_disk.specs.Meters.{Meters}
 use Rattle.e3_fleet.specs.Over.{AreOver}
+use Rattle.e3_gen.specs.Generated.{generated, generated_scenario}
 use Rattle.e3_law_rounds.specs.Rounds.{RoundsAreBounded}
 use Rattle.e3_report.specs.Report.{report_of}
+use Rattle.e3_report.specs.Summary.{summary_of}
 use Rattle.e3_sites.specs.Delivered.{IsFull, IsOwed}
 use Rattle.e3_scenario.specs.Faults.{fault_text}
 use Rattle.e3_scenario.specs.Scenarios.{scenario_of}
 use Rattle.e3_scenario.specs.declared.faults.ScenarioFault.{ScenarioFault}
-use Rattle.e3_top.specs.Words.{IsRun, refused_words, refused_history_full}
+use Rattle.e3_top.specs.Words.{IsRun, IsGen, IsDrill, refused_words, refused_history_full}
+use Rattle.e3_words.specs.Words.{IsCommand}
 use Rattle.e3_types.specs.declared.entries.Entry.{Entry}
 use Rattle.e3_types.specs.declared.scenarios.Scenario.{Scenario}
 use Rattle.e3_world.specs.Legal.{IsLegal, IsWhole}
@@ -31,7 +34,7 @@ pub record IsRunOf {D : Type 0} (image : D → List ℕ → Type 0) (meters : D 
   pub rounds : RoundsAreBounded sc history
   pub over : AreOver image meters sc history disks_before disks_now
 
--- Done: the bytes spell a scenario, the history is one of it and went through all of it, and the text is its report, with the
+-- A run is done: the bytes spell a scenario, the history is one of it and went through all of it, and the text is its report, with the
 -- trace where the words ask for it.
 pub record IsDone {D : Type 0} (image : D → List ℕ → Type 0) (meters : D → Meters) (disks_before disks_now : List D)
     (words : List (String Global)) (bytes : List ℕ) (most : ℕ) (history : List Entry) (text : List ℕ) : Type 0 where
@@ -42,10 +45,36 @@ pub record IsDone {D : Type 0} (image : D → List ℕ → Type 0) (meters : D �
   pub safe : IsRunOf image meters disks_before disks_now scenario most history
   pub reported : text ≡ report_of scenario history run.trace
 
+-- A drill is done: the history is one of the generated scenario of its number and went through all of it, and the text is
+-- its summary. Nothing is read.
+pub record IsDrilled {D : Type 0} (image : D → List ℕ → Type 0) (meters : D → Meters) (disks_before disks_now : List D)
+    (words : List (String Global)) (bytes : List ℕ) (most : ℕ) (history : List Entry) (text : List ℕ) : Type 0 where
+  pub drill : IsDrill words
+  pub unread : bytes ≡ []
+  pub whole : IsWhole (generated_scenario drill.n) history
+  pub safe : IsRunOf image meters disks_before disks_now (generated_scenario drill.n) most history
+  pub reported : text ≡ summary_of drill.n (generated_scenario drill.n) history
+
+-- A generated scenario is told: the text is that of its number. Nothing is read, and nothing happens.
+pub record IsTold {D : Type 0} (disks_before disks_now : List D)
+    (words : List (String Global)) (bytes : List ℕ) (history : List Entry) (text : List ℕ) : Type 0 where
+  pub gen : IsGen words
+  pub unread : bytes ≡ []
+  pub empty : history ≡ []
+  pub untouched : disks_now ≡ disks_before
+  pub says : text ≡ generated gen.n
+
+-- what the words ask for is done
+abbrev pub Succeeds : {D : Type 0} → (D → List ℕ → Type 0) → (D → Meters) → List D → List D → List (String Global) → List ℕ → ℕ → List Entry → List ℕ → Type 0
+Succeeds image meters disks_before disks_now words bytes most history text =
+    IsDone image meters disks_before disks_now words bytes most history text
+    ⊎ IsDrilled image meters disks_before disks_now words bytes most history text
+    ⊎ IsTold disks_before disks_now words bytes history text
+
 -- Refused words: nothing is read, and nothing happens.
 pub record IsRefusedWords {D : Type 0} (disks_before disks_now : List D)
     (words : List (String Global)) (bytes : List ℕ) (history : List Entry) (text : List ℕ) : Type 0 where
-  pub not_run : ¬ IsRun words
+  pub no_command : ¬ IsCommand words
   pub unread : bytes ≡ []
   pub empty : history ≡ []
   pub untouched : disks_now ≡ disks_before
@@ -61,23 +90,32 @@ pub record IsNoScenario {D : Type 0} (disks_before disks_now : List D)
   pub untouched : disks_now ≡ disks_before
   pub says : text ≡ fault_text fault
 
+-- the drill of a number plays its generated scenario, and nothing is read
+pub record IsDrillOf (words : List (String Global)) (bytes : List ℕ) (scenario : Scenario) : Type 0 where
+  pub drill : IsDrill words
+  pub unread : bytes ≡ []
+  pub same : scenario ≡ generated_scenario drill.n
+
+-- the scenario that is played: the one that the bytes spell, or that of a drill
+abbrev pub Plays : List (String Global) → List ℕ → Scenario → Type 0
+Plays words bytes scenario = (IsRun words × (scenario_of bytes ≡ Ok scenario)) ⊎ IsDrillOf words bytes scenario
+
 -- A full history: it has as many entries as it may have, and a further one is due, so it went not through all of the scenario.
 pub record IsFullHistory {D : Type 0} (image : D → List ℕ → Type 0) (meters : D → Meters) (disks_before disks_now : List D)
     (words : List (String Global)) (bytes : List ℕ) (most : ℕ) (history : List Entry) (text : List ℕ) : Type 0 where
-  pub run : IsRun words
   pub scenario : Scenario
-  pub spelled : scenario_of bytes ≡ Ok scenario
+  pub plays : Plays words bytes scenario
   pub full : length history ≡ most
   pub owed : IsOwed scenario history
   pub unfinished : ¬ IsWhole scenario history
   pub safe : IsRunOf image meters disks_before disks_now scenario most history
   pub says : text ≡ refused_history_full
 
--- The text of a run that was played, and its status: its report where it went through all of the scenario, and the line of a
--- full history where it did not.
-abbrev pub IsTextOf : Scenario → ℕ → List Entry → Bool → ℕ → List ℕ → Type 0
-IsTextOf sc most history trace status text =
-    ((status ≡ 0) × IsWhole sc history × (text ≡ report_of sc history trace))
+-- The text of a scenario that was played, and its status: what is told where the history went through all of it, and the
+-- line of a full history where it did not.
+abbrev pub IsTextOf : Scenario → ℕ → List Entry → List ℕ → ℕ → List ℕ → Type 0
+IsTextOf sc most history told status text =
+    ((status ≡ 0) × IsWhole sc history × (text ≡ told))
     ⊎ ((status ≡ 6) × IsFull sc history most × (text ≡ refused_history_full))
 
 -- the status is one with a text: 0, 1, 2 or 6
@@ -88,7 +126,7 @@ HasText status = (status ≤ 2) ⊎ (status ≡ 6)
 pub record IsDue {D : Type 0} (image : D → List ℕ → Type 0) (meters : D → Meters) (disks_before disks_now : List D)
     (words : List (String Global)) (bytes : List ℕ) (most status : ℕ) (history : List Entry) (text : List ℕ) : Type 0 where
   pub known : HasText status
-  pub done : status ≡ 0 → IsDone image meters disks_before disks_now words bytes most history text
+  pub done : status ≡ 0 → Succeeds image meters disks_before disks_now words bytes most history text
   pub words_refused : status ≡ 1 → IsRefusedWords disks_before disks_now words bytes history text
   pub scenario_refused : status ≡ 2 → IsNoScenario disks_before disks_now words bytes history text
   pub history_full : status ≡ 6 → IsFullHistory image meters disks_before disks_now words bytes most history text

@@ -1,17 +1,16 @@
 -- How a run ends: what it took from its source, what it wrote to its sink, and what its history and its disks are.
-use Rattle.std.specs.Prelude.{◌≡◌, ◌≤◌, ◌<◌, ◌⊎◌, ℕ, List, [], take, length, Option, Ok, String}
+use Rattle.std.specs.Prelude.{◌≡◌, ◌≤◌, ◌<◌, ◌⊎◌, ℕ, List, [], take, length, Option, String}
 use Rattle.std.specs.Io.KnownBytes.{Appends, Consumes, IsAtEnd}
 use Rattle.std.specs.declared.alloc.Global.{Global}
 use Rattle.e3_disk.specs.Meters.{Meters}
 use Rattle.e3_outside.specs.Faults.{Rose}
-use Rattle.e3_scenario.specs.Scenarios.{scenario_of}
-use Rattle.e3_top.specs.Due.{IsDue, IsRunOf}
+use Rattle.e3_top.specs.Due.{IsDue, IsRunOf, Plays}
 use Rattle.e3_top.specs.Words.{IsRun}
 use Rattle.e3_types.specs.declared.entries.Entry.{Entry}
 use Rattle.e3_types.specs.declared.scenarios.Scenario.{Scenario}
 
 -- These bytes were taken from the source, which had `had` left and has `left` left now: 4,194,305 bytes at most, and
--- fewer only at its end. For words that ask for no run none are taken.
+-- fewer only at its end. Words that ask for no run take none.
 pub record IsRead (words : List (String Global)) (had left : Option (List ℕ)) (bytes : List ℕ) : Type 0 where
   pub taken : Consumes had left bytes
   pub few : length bytes ≤ 4194305
@@ -50,22 +49,22 @@ pub record SourceFails {D : Type 0} (disks_before disks_now : List D)
   pub empty : history ≡ []
   pub untouched : disks_now ≡ disks_before
 
--- the history is one of the scenario that these bytes spell
+-- the history is one of the scenario that is played
 pub record IsHistoryOf {D : Type 0} (image : D → List ℕ → Type 0) (meters : D → Meters) (disks_before disks_now : List D)
-    (bytes : List ℕ) (most : ℕ) (history : List Entry) : Type 0 where
+    (words : List (String Global)) (bytes : List ℕ) (most : ℕ) (history : List Entry) : Type 0 where
   pub scenario : Scenario
-  pub spelled : scenario_of bytes ≡ Ok scenario
+  pub plays : Plays words bytes scenario
   pub safe : IsRunOf image meters disks_before disks_now scenario most history
 
--- Memory ran out. Nothing had happened yet, or the words ask for a run, all was read, and as far as it goes the history is
--- one of the scenario that the bytes read spell.
+-- Memory ran out. Nothing had happened yet, or the words ask for a run or a drill, all was read, and as far as it goes the
+-- history is one of the scenario that is played.
 pub record IsCutShort {D : Type 0} (image : D → List ℕ → Type 0) (meters : D → Meters) (disks_before disks_now : List D)
     (words : List (String Global)) (had left : Option (List ℕ)) (most : ℕ) (history : List Entry) : Type 0 where
   pub bytes : List ℕ
   pub taken : Consumes had left bytes
   pub few : length bytes ≤ 4194305
   pub happened : ((history ≡ []) × (disks_now ≡ disks_before))
-      ⊎ (IsRun words × IsRead words had left bytes × IsHistoryOf image meters disks_before disks_now bytes most history)
+      ⊎ (IsRead words had left bytes × IsHistoryOf image meters disks_before disks_now words bytes most history)
 
 -- All is read and made, and this text is due with this status.
 pub record IsPrepared {D : Type 0} (image : D → List ℕ → Type 0) (meters : D → Meters) (disks_before disks_now : List D)

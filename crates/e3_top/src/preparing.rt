@@ -2,21 +2,26 @@
 ghost use Rattle.std.specs.Prelude.{Ok, Err, ◌≡◌, ◌≢◌, ◌≤◌, ◌⊎◌, [], IfErr, IfOk, OnOk, length};
 ghost use Rattle.e3_fleet.specs.Over.{AreBlank};
 ghost use Rattle.e3_sites.specs.Delivered.{IsFull};
+ghost use Rattle.e3_gen.specs.Generated.{generated_scenario};
+ghost use Rattle.e3_report.specs.Report.{report_of};
+ghost use Rattle.e3_report.specs.Summary.{summary_of};
+ghost use Rattle.e3_scenario.specs.Faults.{fault_text};
 ghost use Rattle.e3_scenario.specs.Scenarios.{scenario_of};
 ghost use Rattle.e3_top.specs.Due.{IsDue, IsRunOf, IsTextOf};
 ghost use Rattle.e3_top.specs.Ends.{IsCutShort, IsHistoryOf, IsPrepared, SourceFails};
-ghost use Rattle.e3_top.specs.Words.{IsRun};
-ghost use Rattle.e3_words.specs.Words.{Spell};
-ghost use Rattle.e3_words.specs.declared.words.Command.TheVariants.{Run};
+ghost use Rattle.e3_top.specs.Words.{IsGen, IsRun, MayEnd, refused_history_full};
+ghost use Rattle.e3_words.specs.Words.{IsCommand, Spell};
+ghost use Rattle.e3_words.specs.declared.words.Command.TheVariants.{Run, Gen, Drill};
 ghost use Rattle.e3_world.specs.Given.{IsGiven};
 ghost use Rattle.e3_world.specs.Legal.{IsWhole};
 
 use crate::words::{refused_history_full, refused_words};
 use e3_disk::{Disk, Drill};
 use e3_fleet::{Played, play_over};
+use e3_gen::{generated, generated_scenario};
 use e3_law_rounds::rounds_end;
 use e3_outside::{ReadFault, Source, read_up_to};
-use e3_report::report;
+use e3_report::{report, summary};
 use e3_scenario::{ScenarioFault, fault_line, read_scenario};
 use e3_serial::one_order;
 use e3_sites::RunFault;
@@ -60,8 +65,22 @@ pub struct Prepared<D: Drop> {
     pub disks: Vec<D>,
 }
 
+// The text of a scenario that was not played to its end.
+fn unfinished(alloc: Global, fault: RunFault) -> Result<Due, Stop>
+    ensures due { IfOk result (λ due. (fault ≡ RunFault.HistoryFull) × (due.status ≡ 6) × (due.text ≡ refused_history_full)) }
+    ensures only_memory { IfErr result (λ e. e ≡ Stop.NoMemory) }
+{
+    match fault {
+        RunFault::HistoryFull => Ok(Due {
+            status: 6,
+            text: refused_history_full(alloc)?,
+        }),
+        RunFault::NoMemory => Err(Stop::NoMemory),
+    }
+}
+
 // The text of a run that was played.
-fn text_of(
+fn run_text(
     alloc: Global,
     trace: bool,
     scenario: &Scenario,
@@ -71,7 +90,7 @@ fn text_of(
 ) -> Result<Due, Stop>
     requires whole { OnOk ended (IsWhole scenario.now history.now.entries) }
     requires full { ended ≡ Err RunFault.HistoryFull → IsFull scenario.now history.now.entries most }
-    ensures due { IfOk result (λ due. IsTextOf scenario.now most history.now.entries trace due.status due.text) }
+    ensures due { IfOk result (λ due. IsTextOf scenario.now most history.now.entries (report_of scenario.now history.now.entries trace) due.status due.text) }
     ensures only_memory { IfErr result (λ e. e ≡ Stop.NoMemory) }
 {
     match ended {
@@ -79,14 +98,51 @@ fn text_of(
             status: 0,
             text: report(alloc, scenario, history, trace)?,
         }),
-        Err(fault) => match fault {
-            RunFault::HistoryFull => Ok(Due {
-                status: 6,
-                text: refused_history_full(alloc)?,
-            }),
-            RunFault::NoMemory => Err(Stop::NoMemory),
-        },
+        Err(fault) => unfinished(alloc, fault),
     }
+}
+
+// The text of a drill that was played.
+fn drill_text(
+    alloc: Global,
+    n: u32,
+    scenario: &Scenario,
+    ended: Result<(), RunFault>,
+    history: &History,
+    most: u32,
+) -> Result<Due, Stop>
+    requires whole { OnOk ended (IsWhole scenario.now history.now.entries) }
+    requires full { ended ≡ Err RunFault.HistoryFull → IsFull scenario.now history.now.entries most }
+    ensures due { IfOk result (λ due. IsTextOf scenario.now most history.now.entries (summary_of n scenario.now history.now.entries) due.status due.text) }
+    ensures only_memory { IfErr result (λ e. e ≡ Stop.NoMemory) }
+{
+    match ended {
+        Ok(()) => Ok(Due {
+            status: 0,
+            text: summary(alloc, n, scenario, history)?,
+        }),
+        Err(fault) => unfinished(alloc, fault),
+    }
+}
+
+// Plays a scenario.
+fn play<D: Disk + Drill + Drop>(
+    alloc: Global,
+    scenario: &Scenario,
+    disks: Vec<D>,
+    most: u32,
+) -> Played<D>
+    requires given { IsGiven scenario.now }
+    requires enough { length scenario.now.weights ≤ length disks.items }
+    requires blank { AreBlank D.content D.image D.meters disks.items }
+    requires most { most ≤ 2000000 }
+    ensures whole { OnOk result.ended (IsWhole scenario.now result.history.entries) }
+    ensures full { result.ended ≡ Err RunFault.HistoryFull → IsFull scenario.now result.history.entries most }
+    ensures history { IsRunOf D.image D.meters disks.items result.disks.items scenario.now most result.history.entries }
+{
+    one_order();
+    rounds_end();
+    play_over(alloc, scenario, disks, most)
 }
 
 // The run of a scenario.
@@ -106,19 +162,49 @@ fn prepare_run<D: Disk + Drill + Drop>(
     requires blank { AreBlank D.content D.image D.meters disks.items }
     requires most { most ≤ 2000000 }
     ensures due { IfOk result.due (λ due. IsDue D.image D.meters disks.items result.disks.items words.now bytes.now most due.status result.history.entries due.text) }
-    ensures status { IfOk result.due (λ due. (due.status ≡ 0) ⊎ (due.status ≡ 6)) }
+    ensures status { IfOk result.due (λ due. MayEnd words.now due.status) }
     ensures only_memory { IfErr result.due (λ e. e ≡ Stop.NoMemory) }
     ensures history { IsRunOf D.image D.meters disks.items result.disks.items scenario.now most result.history.entries }
 {
-    one_order();
-    rounds_end();
     let Played {
         ended,
         history,
         disks,
-    } = play_over(alloc, scenario, disks, most);
+    } = play(alloc, scenario, disks, most);
     Prepared {
-        due: text_of(alloc, trace, scenario, ended, &history, most),
+        due: run_text(alloc, trace, scenario, ended, &history, most),
+        history,
+        disks,
+    }
+}
+
+// The drill of a generated scenario.
+fn prepare_drill<D: Disk + Drill + Drop>(
+    alloc: Global,
+    words: &[String],
+    n: u32,
+    scenario: &Scenario,
+    disks: Vec<D>,
+    most: u32,
+) -> Prepared<D>
+    requires drill { Spell words.now (Drill n) }
+    requires generated { scenario.now ≡ generated_scenario n }
+    requires given { IsGiven scenario.now }
+    requires enough { length scenario.now.weights ≤ length disks.items }
+    requires blank { AreBlank D.content D.image D.meters disks.items }
+    requires most { most ≤ 2000000 }
+    ensures due { IfOk result.due (λ due. IsDue D.image D.meters disks.items result.disks.items words.now [] most due.status result.history.entries due.text) }
+    ensures status { IfOk result.due (λ due. MayEnd words.now due.status) }
+    ensures only_memory { IfErr result.due (λ e. e ≡ Stop.NoMemory) }
+    ensures history { IsRunOf D.image D.meters disks.items result.disks.items scenario.now most result.history.entries }
+{
+    let Played {
+        ended,
+        history,
+        disks,
+    } = play(alloc, scenario, disks, most);
+    Prepared {
+        due: drill_text(alloc, n, scenario, ended, &history, most),
         history,
         disks,
     }
@@ -146,22 +232,88 @@ fn unplayed<D: Drop>(
     }
 }
 
-// The text for words that ask for no run.
+// Want of memory, before anything happens.
+fn without_memory<D: Drop>(alloc: Global, disks: Vec<D>) -> Prepared<D>
+    ensures due { result.due ≡ Err Stop.NoMemory }
+    ensures history { result.history.entries ≡ [] }
+    ensures disks { result.disks.items ≡ disks.items }
+{
+    Prepared {
+        due: Err(Stop::NoMemory),
+        history: History::new(alloc),
+        disks,
+    }
+}
+
+// The text for words that spell no command.
 fn refuse_words<D: Disk + Drill + Drop>(
     alloc: Global,
     words: &[String],
     disks: Vec<D>,
     most: u32,
 ) -> Prepared<D>
-    requires { ¬ IsRun words.now }
+    requires { ¬ IsCommand words.now }
     ensures due { IfOk result.due (λ due. IsDue D.image D.meters disks.items result.disks.items words.now [] most due.status result.history.entries due.text) }
-    ensures status { IfOk result.due (λ due. due.status ≡ 1) }
+    ensures status { IfOk result.due (λ due. MayEnd words.now due.status) }
     ensures only_memory { IfErr result.due (λ e. e ≡ Stop.NoMemory) }
     ensures history { result.history.entries ≡ [] }
     ensures disks { result.disks.items ≡ disks.items }
 {
     let (_words, _most) = (words, most);
     unplayed(alloc, 1, refused_words(alloc), disks)
+}
+
+// The text of a generated scenario.
+fn tell_generated<D: Disk + Drill + Drop>(
+    alloc: Global,
+    words: &[String],
+    n: u32,
+    disks: Vec<D>,
+    most: u32,
+) -> Prepared<D>
+    requires spelled { Spell words.now (Gen n) }
+    requires least { 1 ≤ n }
+    requires most { n ≤ 1000 }
+    ensures due { IfOk result.due (λ due. IsDue D.image D.meters disks.items result.disks.items words.now [] most due.status result.history.entries due.text) }
+    ensures status { IfOk result.due (λ due. MayEnd words.now due.status) }
+    ensures only_memory { IfErr result.due (λ e. e ≡ Stop.NoMemory) }
+    ensures history { result.history.entries ≡ [] }
+    ensures disks { result.disks.items ≡ disks.items }
+{
+    let (_words, _most) = (words, most);
+    unplayed(alloc, 0, generated(alloc, n), disks)
+}
+
+// The line of a fault. Where a read wants memory there is none.
+fn line_of(alloc: Global, fault: &ScenarioFault) -> Result<List<u8>, NoMemory>
+    ensures { IfOk result (λ line. (fault.now ≢ ScenarioFault.NoMemory) × (line ≡ fault_text fault.now)) }
+{
+    match fault {
+        ScenarioFault::NoMemory => Err(NoMemory),
+        fault => fault_line(alloc, fault),
+    }
+}
+
+// The line for bytes that spell no scenario.
+fn refuse_scenario<D: Disk + Drill + Drop>(
+    alloc: Global,
+    words: &[String],
+    trace: bool,
+    bytes: &[u8],
+    fault: &ScenarioFault,
+    disks: Vec<D>,
+    most: u32,
+) -> Prepared<D>
+    requires run { Spell words.now (Run trace) }
+    requires refused { (fault.now ≡ ScenarioFault.NoMemory) ⊎ (scenario_of bytes.now ≡ Err fault.now) }
+    ensures due { IfOk result.due (λ due. IsDue D.image D.meters disks.items result.disks.items words.now bytes.now most due.status result.history.entries due.text) }
+    ensures status { IfOk result.due (λ due. MayEnd words.now due.status) }
+    ensures only_memory { IfErr result.due (λ e. e ≡ Stop.NoMemory) }
+    ensures history { result.history.entries ≡ [] }
+    ensures disks { result.disks.items ≡ disks.items }
+{
+    let (_words, _trace, _bytes, _most) = (words, trace, bytes, most);
+    unplayed(alloc, 2, line_of(alloc, fault), disks)
 }
 
 // The run over the bytes that were read.
@@ -178,21 +330,76 @@ fn prepare_bytes<D: Disk + Drill + Drop>(
     requires blank { AreBlank D.content D.image D.meters disks.items }
     requires most { most ≤ 2000000 }
     ensures due { IfOk result.due (λ due. IsDue D.image D.meters disks.items result.disks.items words.now bytes.now most due.status result.history.entries due.text) }
-    ensures not_words { IfOk result.due (λ due. due.status ≢ 1) }
+    ensures status { IfOk result.due (λ due. MayEnd words.now due.status) }
     ensures only_memory { IfErr result.due (λ e. e ≡ Stop.NoMemory) }
     ensures cut_short { ((result.history.entries ≡ []) × (result.disks.items ≡ disks.items))
-        ⊎ IsHistoryOf D.image D.meters disks.items result.disks.items bytes.now most result.history.entries }
+        ⊎ IsHistoryOf D.image D.meters disks.items result.disks.items words.now bytes.now most result.history.entries }
 {
     match read_scenario(alloc, bytes) {
-        Err(fault) => match fault {
-            ScenarioFault::NoMemory => unplayed(alloc, 2, Err(NoMemory), disks),
-            fault => unplayed(alloc, 2, fault_line(alloc, &fault), disks),
-        },
+        Err(fault) => refuse_scenario(alloc, words, trace, bytes, &fault, disks, most),
         Ok(scenario) => prepare_run(alloc, words, trace, bytes, &scenario, disks, most),
     }
 }
 
-/// Reads the source and plays the scenario over the disks.
+// Reads the source and plays the scenario that it has.
+fn read_and_play<S: Source, D: Disk + Drill + Drop>(
+    alloc: Global,
+    words: &[String],
+    trace: bool,
+    source: &mut S,
+    disks: Vec<D>,
+    most: u32,
+) -> Prepared<D>
+    requires run { Spell words.now (Run trace) }
+    requires sixteen { length disks.items ≡ 16 }
+    requires blank { AreBlank D.content D.image D.meters disks.items }
+    requires most { most ≤ 2000000 }
+    ensures prepared { IfOk result.due (λ due. IsPrepared D.image D.meters disks.items result.disks.items words.now (S.left source.old) (S.left source.new) most due.status result.history.entries due.text) }
+    ensures status { IfOk result.due (λ due. MayEnd words.now due.status) }
+    ensures source_failed { result.due ≡ Err Stop.SourceFailed →
+        SourceFails disks.items result.disks.items words.now (S.left source.old) (S.left source.new) (S.faults source.old) (S.faults source.new) result.history.entries }
+    ensures no_memory { result.due ≡ Err Stop.NoMemory →
+        IsCutShort D.image D.meters disks.items result.disks.items words.now (S.left source.old) (S.left source.new) most result.history.entries }
+    ensures never_falls { S.faults source.old ≤ S.faults source.new }
+{
+    match read_up_to(alloc, source, MOST) {
+        Err(ReadFault::Failed) => Prepared {
+            due: Err(Stop::SourceFailed),
+            history: History::new(alloc),
+            disks,
+        },
+        Err(ReadFault::NoMemory) => without_memory(alloc, disks),
+        Ok(bytes) => prepare_bytes(alloc, words, trace, bytes.as_slice(), disks, most),
+    }
+}
+
+// Plays the generated scenario of a number.
+fn generate_and_play<D: Disk + Drill + Drop>(
+    alloc: Global,
+    words: &[String],
+    n: u32,
+    disks: Vec<D>,
+    most: u32,
+) -> Prepared<D>
+    requires drill { Spell words.now (Drill n) }
+    requires least { 1 ≤ n }
+    requires most { n ≤ 1000 }
+    requires sixteen { length disks.items ≡ 16 }
+    requires blank { AreBlank D.content D.image D.meters disks.items }
+    requires bound { most ≤ 2000000 }
+    ensures due { IfOk result.due (λ due. IsDue D.image D.meters disks.items result.disks.items words.now [] most due.status result.history.entries due.text) }
+    ensures status { IfOk result.due (λ due. MayEnd words.now due.status) }
+    ensures only_memory { IfErr result.due (λ e. e ≡ Stop.NoMemory) }
+    ensures cut_short { ((result.history.entries ≡ []) × (result.disks.items ≡ disks.items))
+        ⊎ IsHistoryOf D.image D.meters disks.items result.disks.items words.now [] most result.history.entries }
+{
+    match generated_scenario(alloc, n) {
+        Err(NoMemory) => without_memory(alloc, disks),
+        Ok(scenario) => prepare_drill(alloc, words, n, &scenario, disks, most),
+    }
+}
+
+/// Does all that the words ask for but writing the text. A run alone touches the source.
 pub fn prepare<S: Source, D: Disk + Drill + Drop>(
     alloc: Global,
     words: &[String],
@@ -204,24 +411,19 @@ pub fn prepare<S: Source, D: Disk + Drill + Drop>(
     requires blank { AreBlank D.content D.image D.meters disks.items }
     requires most { most ≤ 2000000 }
     ensures prepared { IfOk result.due (λ due. IsPrepared D.image D.meters disks.items result.disks.items words.now (S.left source.old) (S.left source.new) most due.status result.history.entries due.text) }
+    ensures status { IfOk result.due (λ due. MayEnd words.now due.status) }
     ensures source_failed { result.due ≡ Err Stop.SourceFailed →
         SourceFails disks.items result.disks.items words.now (S.left source.old) (S.left source.new) (S.faults source.old) (S.faults source.new) result.history.entries }
     ensures no_memory { result.due ≡ Err Stop.NoMemory →
         IsCutShort D.image D.meters disks.items result.disks.items words.now (S.left source.old) (S.left source.new) most result.history.entries }
+    ensures told { IsGen words.now → (result.history.entries ≡ []) × (result.disks.items ≡ disks.items) }
     ensures unread { ¬ IsRun words.now → source.new ≡ source.old }
     ensures never_falls { S.faults source.old ≤ S.faults source.new }
 {
-    let trace = match read_words(words) {
-        None => return refuse_words(alloc, words, disks, most),
-        Some(Command::Run { trace }) => trace,
-    };
-    match read_up_to(alloc, source, MOST) {
-        Err(ReadFault::Failed) => Prepared {
-            due: Err(Stop::SourceFailed),
-            history: History::new(alloc),
-            disks,
-        },
-        Err(ReadFault::NoMemory) => unplayed(alloc, 2, Err(NoMemory), disks),
-        Ok(bytes) => prepare_bytes(alloc, words, trace, bytes.as_slice(), disks, most),
+    match read_words(words) {
+        None => refuse_words(alloc, words, disks, most),
+        Some(Command::Run { trace }) => { read_and_play(alloc, words, trace, source, disks, most) }
+        Some(Command::Gen { n }) => tell_generated(alloc, words, n, disks, most),
+        Some(Command::Drill { n }) => generate_and_play(alloc, words, n, disks, most),
     }
 }

@@ -5,7 +5,7 @@ ghost use Rattle.e3_fleet.specs.Over.{AreBlank};
 ghost use Rattle.e3_outside.specs.Faults.{Rose};
 ghost use Rattle.e3_top.specs.Ends.{Finishes, IsCutShort, SinkFails, SourceFails};
 ghost use Rattle.e3_top.specs.Due.{HasText};
-ghost use Rattle.e3_top.specs.Words.{IsRun};
+ghost use Rattle.e3_top.specs.Words.{IsDrill, IsGen, IsRun, MayEnd};
 
 use crate::preparing::{Due, Prepared, Stop, prepare};
 use e3_disk::{Disk, Drill};
@@ -35,6 +35,7 @@ fn finish<K: Sink, D: Drop>(due: Due, history: History, disks: Vec<D>, sink: &mu
     ensures failed { result.status ≡ 4 → Rose (K.faults sink.old) (K.faults sink.new) × ((count : ℕ) × (count < length due.text)
         × Appends (K.written sink.old) (K.written sink.new) (take count due.text)) }
     ensures known { HasText result.status ⊎ (result.status ≡ 4) }
+    ensures status { (result.status ≡ due.status) ⊎ (result.status ≡ 4) }
     ensures counts { K.faults sink.old ≤ K.faults sink.new }
 {
     match write_all(sink, due.text.as_slice()) {
@@ -51,12 +52,14 @@ fn finish<K: Sink, D: Drop>(due: Due, history: History, disks: Vec<D>, sink: &mu
     }
 }
 
-/// Runs the scenario that the source has over these disks, and writes its report to the sink. Its history has at most so
-/// many entries.
+/// Does what the words ask for: runs the scenario that the source has over these disks, and writes its report to the sink;
+/// writes the generated scenario of a number; or runs that one, and writes its summary. A history has at most so many
+/// entries.
 ///
-/// The words are those of the command line behind the program's name. The order is: words, source, scenario, the run,
-/// the sink. Each text is whole before its first byte is written. Want of memory, status 5, may come at any time before.
-/// Site k has the k-th disk; there are sixteen, each blank, powered and not armed, and they come back in their order.
+/// The words are those of the command line behind the program's name. The order is: the words; for a run the source and the
+/// scenario; for a run and a drill the play; at last the sink. Each text is whole before its first byte is written. Want of
+/// memory, status 5, may come at any time before. Site k has the k-th disk; there are sixteen, each blank, powered and not
+/// armed, and they come back in their order.
 pub fn run_within<R: Wait, S: Source, K: Sink, D: Disk + Drill + Drop>(
     _rt: &R,
     alloc: Global,
@@ -89,19 +92,28 @@ pub fn run_within<R: Wait, S: Source, K: Sink, D: Disk + Drill + Drop>(
     ensures no_memory { result.status ≡ 5 →
         IsCutShort D.image D.meters disks.items result.disks.items words.now (S.left source.old) (S.left source.new) most result.history.entries × (sink.new ≡ sink.old) }
 
-    // Words that ask for a run, and no fault of source or sink: the run is done, or memory ran out, unless the bytes spell no
-    // scenario, or the history is full.
-    ensures complete { IsRun words.now → ¬ Rose (S.faults source.old) (S.faults source.new) → ¬ Rose (K.faults sink.old) (K.faults sink.new) →
+    // A run, and no fault of source or sink: it is done, or memory ran out, unless the bytes spell no scenario, or the history
+    // is full.
+    ensures complete_run { IsRun words.now → ¬ Rose (S.faults source.old) (S.faults source.new) → ¬ Rose (K.faults sink.old) (K.faults sink.new) →
         (result.status ≡ 0) ⊎ (result.status ≡ 5) ⊎ (result.status ≡ 2) ⊎ (result.status ≡ 6) }
 
-    // There is no other status. 0, 2, 3 and 6 come only for words that ask for a run, and 1 only for other words.
-    ensures statuses { result.status ≤ 6 }
-    ensures run_words { (result.status ≡ 0) ⊎ (result.status ≡ 2) ⊎ (result.status ≡ 3) ⊎ (result.status ≡ 6) → IsRun words.now }
-    ensures other_words { result.status ≡ 1 → ¬ IsRun words.now }
+    // A drill, and no fault of the sink: it is done, or memory ran out, unless the history is full.
+    ensures complete_drill { IsDrill words.now → ¬ Rose (K.faults sink.old) (K.faults sink.new) →
+        (result.status ≡ 0) ⊎ (result.status ≡ 5) ⊎ (result.status ≡ 6) }
 
-    // For words that ask for no run the source is not touched; with 0 and 6 nothing of it is left.
+    // A generated scenario, and no fault of the sink: it is told, or memory ran out.
+    ensures complete_gen { IsGen words.now → ¬ Rose (K.faults sink.old) (K.faults sink.new) → (result.status ≡ 0) ⊎ (result.status ≡ 5) }
+
+    // There is no other status, and each comes only for words that may have it.
+    ensures statuses { MayEnd words.now result.status }
+
+    // With a generated scenario nothing happens, whatever the status is.
+    ensures told { IsGen words.now → (result.history.entries ≡ []) × (result.disks.items ≡ disks.items) }
+
+    // A run alone touches the source: with 0 and 6 nothing of it is left then. Neither a generated scenario nor a drill reads it.
     ensures unread { ¬ IsRun words.now → source.new ≡ source.old }
-    ensures drained { (result.status ≡ 0) ⊎ (result.status ≡ 6) → IsAtEnd (S.left source.new) }
+    ensures not_read { IsGen words.now ⊎ IsDrill words.now → source.new ≡ source.old }
+    ensures drained { IsRun words.now → (result.status ≡ 0) ⊎ (result.status ≡ 6) → IsAtEnd (S.left source.new) }
 
     // The counts of faults never fall.
     ensures source_counts { S.faults source.old ≤ S.faults source.new }
@@ -127,8 +139,7 @@ pub fn run_within<R: Wait, S: Source, K: Sink, D: Disk + Drill + Drop>(
     }
 }
 
-/// Runs the scenario that the source has over these disks, and writes its report to the sink: `run_within` with the most
-/// entries that a history has, 2,000,000.
+/// Does what the words ask for: `run_within` with the most entries that a history has, 2,000,000.
 pub fn run<R: Wait, S: Source, K: Sink, D: Disk + Drill + Drop>(
     rt: &R,
     alloc: Global,
@@ -158,19 +169,28 @@ pub fn run<R: Wait, S: Source, K: Sink, D: Disk + Drill + Drop>(
     ensures no_memory { result.status ≡ 5 →
         IsCutShort D.image D.meters disks.items result.disks.items words.now (S.left source.old) (S.left source.new) 2000000 result.history.entries × (sink.new ≡ sink.old) }
 
-    // Words that ask for a run, and no fault of source or sink: the run is done, or memory ran out, unless the bytes spell no
-    // scenario, or the history is full.
-    ensures complete { IsRun words.now → ¬ Rose (S.faults source.old) (S.faults source.new) → ¬ Rose (K.faults sink.old) (K.faults sink.new) →
+    // A run, and no fault of source or sink: it is done, or memory ran out, unless the bytes spell no scenario, or the history
+    // is full.
+    ensures complete_run { IsRun words.now → ¬ Rose (S.faults source.old) (S.faults source.new) → ¬ Rose (K.faults sink.old) (K.faults sink.new) →
         (result.status ≡ 0) ⊎ (result.status ≡ 5) ⊎ (result.status ≡ 2) ⊎ (result.status ≡ 6) }
 
-    // There is no other status. 0, 2, 3 and 6 come only for words that ask for a run, and 1 only for other words.
-    ensures statuses { result.status ≤ 6 }
-    ensures run_words { (result.status ≡ 0) ⊎ (result.status ≡ 2) ⊎ (result.status ≡ 3) ⊎ (result.status ≡ 6) → IsRun words.now }
-    ensures other_words { result.status ≡ 1 → ¬ IsRun words.now }
+    // A drill, and no fault of the sink: it is done, or memory ran out, unless the history is full.
+    ensures complete_drill { IsDrill words.now → ¬ Rose (K.faults sink.old) (K.faults sink.new) →
+        (result.status ≡ 0) ⊎ (result.status ≡ 5) ⊎ (result.status ≡ 6) }
 
-    // For words that ask for no run the source is not touched; with 0 and 6 nothing of it is left.
+    // A generated scenario, and no fault of the sink: it is told, or memory ran out.
+    ensures complete_gen { IsGen words.now → ¬ Rose (K.faults sink.old) (K.faults sink.new) → (result.status ≡ 0) ⊎ (result.status ≡ 5) }
+
+    // There is no other status, and each comes only for words that may have it.
+    ensures statuses { MayEnd words.now result.status }
+
+    // With a generated scenario nothing happens, whatever the status is.
+    ensures told { IsGen words.now → (result.history.entries ≡ []) × (result.disks.items ≡ disks.items) }
+
+    // A run alone touches the source: with 0 and 6 nothing of it is left then. Neither a generated scenario nor a drill reads it.
     ensures unread { ¬ IsRun words.now → source.new ≡ source.old }
-    ensures drained { (result.status ≡ 0) ⊎ (result.status ≡ 6) → IsAtEnd (S.left source.new) }
+    ensures not_read { IsGen words.now ⊎ IsDrill words.now → source.new ≡ source.old }
+    ensures drained { IsRun words.now → (result.status ≡ 0) ⊎ (result.status ≡ 6) → IsAtEnd (S.left source.new) }
 
     // The counts of faults never fall.
     ensures source_counts { S.faults source.old ≤ S.faults source.new }

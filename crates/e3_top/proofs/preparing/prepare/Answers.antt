@@ -1,5 +1,7 @@
-use Rattle.e3_top.proofs.Runs.{command_runs}
+use Rattle.e3_top.proofs.Runs.{drill_cut}
 use Rattle.e3_top.proofs.preparing.prepare.Goals as goal
 
-pub returns-in-Ok-clause-unread : goal.returns-in-Ok-clause-unread
-returns-in-Ok-clause-unread g c = λ other. absurd (other (command_runs c.args.words.now c.in-Some-Run.field-0 c.in-Some-Run.ensures.command))
+pub returns-in-Some-Drill-clause-no_memory : goal.returns-in-Some-Drill-clause-no_memory
+returns-in-Some-Drill-clause-no_memory g c = λ e.
+    drill_cut g.D.Disk.image g.D.Disk.meters c.args.disks.items c.generate_and_play.result.disks.items c.args.words.now (g.S.Source.left c.args.source.now) c.in-Some-Drill.n
+    c.args.most c.generate_and_play.result.history.entries (rw c.in-Some-Drill.field-0-is at c.in-Some-Drill.ensures.command) c.generate_and_play.ensures.cut_short
