@@ -1,19 +1,11 @@
-//! Worked cases of the lower layers: bodies of records and bytes that are none, disks in memory, the fates and the order of
-//! packets, readings of a log and of steps, logs in order and out of it, a first step and a short history, a trace with each form, a report with each
-//! kind of line, and texts of scenarios. What it must print stands in the file of this program's output.
+//! Worked cases of bytes, disks and packets: bodies of records and bytes that are none, disks in memory, and the fates and the
+//! order of packets. What it must print stands in the file of this program's output.
 #![tactic(auto)]
 
 mod bodies;
 mod disks;
 mod nets;
-mod readings;
-mod reports;
-mod restarts;
-mod scenario_texts;
-mod scenarios;
-mod steps;
 mod texts;
-mod traces;
 
 use e3_types::{List, NoMemory};
 use std::alloc::Global;
@@ -29,12 +21,6 @@ fn lines(alloc: Global) -> Result<List<u8>, NoMemory> {
     bodies::push_lines(alloc, &mut out)?;
     disks::push_lines(alloc, &mut out)?;
     nets::push_lines(alloc, &mut out)?;
-    readings::push_lines(alloc, &mut out)?;
-    restarts::push_lines(alloc, &mut out)?;
-    steps::push_lines(alloc, &mut out)?;
-    traces::push_lines(alloc, &mut out)?;
-    reports::push_lines(alloc, &mut out)?;
-    scenarios::push_lines(alloc, &mut out)?;
     Ok(out)
 }
 
