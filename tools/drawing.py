@@ -36,7 +36,13 @@ LOOKS = {
     "split": ("#fdebd0", "#c97a10", "#7a4700"),
     "dropped": ("#e4e6eb", "#7b8394", "#3b3f4a"),
     "wait": ("#ffefc2", "#e0a100", "#6b4c00"),
+    "twice": ("#eef3c9", "#9aa52f", "#4a5208"),
 }
+# what the legend says of them
+LEGEND = (
+    ("vote", "vote"), ("joins an election", "join"), ("attempt to commit", "attempt commit"), ("attempt to abort", "attempt abort"), ("commits", "decision commit"), ("aborts", "decision abort"),
+    ("falls or is cut", "down"), ("rises", "up"), ("armed, in doubt, or open", "doubt"), ("waits for a lock", "wait"), ("comes twice", "twice"), ("lost", "lost"), ("cut off by a split, or blocks", "split"), ("dropped at a site that is down", "dropped"),
+)
 PARTS = ("#eaf2ff", "#fff0e2", "#eefbe9", "#f6ecfb", "#fffbe0", "#e8fafa")
 
 
@@ -125,7 +131,8 @@ class Story:
             cells = self.armed(step) + [it for it in map(self.cell, by_step.get(step, [])) if it]
             if self.first <= step <= self.last:
                 self.place(band, cells)
-        if self.last >= max(steps, default=0):
+        self.has_ending = self.last >= max(steps, default=0)
+        if self.has_ending:
             self.bands.append(self.ending())
 
     def place(self, band, cells):
@@ -210,7 +217,7 @@ class Story:
             if it.fate != "kept":
                 cell.say(f"{'cut off' if it.fate == 'split' else 'lost'}: {traces.message_name(it.message)} to {it.to}", it.fate)
             elif len(it.taken) > 1:
-                cell.say(f"comes twice: {traces.message_name(it.message)} to {it.to}", "wait")
+                cell.say(f"comes twice: {traces.message_name(it.message)} to {it.to}", "twice")
         for it in entry.records:
             words = it.split(" ")
             if words[0] in ("vote", "attempt", "decision"):
@@ -440,7 +447,8 @@ class Drawing:
 
     def draw_lifelines(self):
         """A line for each site: whole while it is up, broken while it is down; broad where it waits for a lock."""
-        end = self.rows[-1][2] if self.rows else TOP
+        # up to the boxes at the end, or through the last step that is drawn
+        end = self.rows[-1][2] if self.story.has_ending else self.rows[-1][0].bottom
         for site in self.sites:
             up, y, x = self.is_up_before(site), TOP - 4, self.centre(site)
             for band, cells, top, bottom, gap, told in self.rows:
@@ -592,11 +600,17 @@ class Drawing:
             self.rect(self.front, self.column[site], 34, BOX, 24, "#e6e9f1", "#9aa3b5", 5)
             self.text(self.centre(site) - len(said) * WIDE / 2, 50, said, INK, True)
 
+    def looks(self):
+        """The looks that the picture has."""
+        cells = [cell for row in self.rows for cell in row[1]]
+        used = {cell.look for cell in cells} | {look for cell in cells for _, look in cell.lines}
+        used |= {it.fate for cell in cells for it in cell.sent}
+        return used | {"split" for band in self.story.bands if band.parts}
+
     def draw_legend(self):
         y, x = self.height - 52, PAD + 4
-        looks = [("vote", "vote"), ("joins an election", "join"), ("attempt to commit", "attempt commit"), ("attempt to abort", "attempt abort"), ("commits", "decision commit"), ("aborts", "decision abort"),
-                 ("falls or is cut", "down"), ("rises", "up"), ("in doubt, or open", "doubt"), ("waits for a lock", "wait"), ("lost", "lost"), ("cut off by a split", "split"), ("dropped at a site that is down", "dropped")]
-        for said, look in looks:
+        used = self.looks()
+        for said, look in (it for it in LEGEND if it[1] in used):
             wide = len(said) * WIDE + 12
             if x + wide > self.width - PAD:
                 x, y = PAD + 4, y + LINE + 8

@@ -18,6 +18,13 @@ def add_words(parser):
     parser.add_argument("--seconds", type=float, default=60, help="how long a run may take; one that takes longer meets no condition")
 
 
+def lacks_program(program):
+    """What to say where the program cannot be run; None where it can."""
+    if os.access(program, os.X_OK):
+        return None
+    return f"there is no built program at {program}. To build and prove it: .ci/run. Another one is taken by --program, or by the variable E3PC"
+
+
 class Condition:
     def __init__(self, words):
         self.words, self.count = words, 0

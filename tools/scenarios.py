@@ -3,6 +3,7 @@
 The order of faults and the forms are those of docs/FORMATS.md. The program decides: where a text of this module and the
 program differ, the program is right. The TOML document is read by Python's own tomllib (Python 3.11), which knows TOML
 1.0, so a document that only TOML 1.1 allows is taken for none here."""
+import difflib
 import re
 
 try:
@@ -16,7 +17,15 @@ MOST_IN_GROUP = 16
 MOST_OPERATIONS = 64
 MOST_BEGINS = 4000
 MOST_SITES = 16
-KEYS = ("weights", "rows", "loss", "repeat", "luck", "steps")
+# Each key with the kind of its value, and an example.
+KEYS = {
+    "weights": ("an array of integers", "weights = [1, 1, 1]"),
+    "rows": ("an array of strings", 'rows = ["1.ann 100"]'),
+    "loss": ("an integer", "loss = 10"),
+    "repeat": ("an integer", "repeat = 10"),
+    "luck": ("an integer", "luck = 10"),
+    "steps": ("an array of strings and of arrays of strings", 'steps = ["begin t 1 1", ["write t 1.x a", "commit t"]]'),
+}
 
 # Each verb with the forms of its words, and an example.
 VERBS = {
@@ -89,7 +98,7 @@ CAUSES = {
     "grouped": ("bad-line STEP", "the item may not stand in an inner array, not even alone", "a step of its own; in groups stand " + ", ".join(GROUPABLE), '"merge"'),
     "operations": ("bad-line STEP", "the transaction has too many operations", "at most 64 reads and writes of a name", None),
     "begins": ("bad-line STEP", "there are too many begins", "at most 4,000 begins", None),
-    "no-site": ("no-site STEP", "a site has no weight", "sites that have a weight", "weights = [1, 1]"),
+    "no-site": ("no-site STEP", "a site has no weight", "sites that have a weight", 'weights = [1, 1, 1]\nsteps = ["begin t 1 1,2,3"]'),
     "coordinator": ("no-site STEP", "the coordinator is none of the transaction's sites", "the SITE of a begin among its SITES", '"begin t 1 1,2"'),
     "elector": ("no-site STEP", "the elector is none of its group", "the SITE of an elect among its SITES", '"elect 2 t 2,3"'),
     "other-site": ("no-site STEP", "a site is none of the transaction's", "sites for which the name was begun", '"begin t 1 1,2", "read t 2.x"'),
@@ -107,12 +116,12 @@ CAUSES = {
 class Fault(Exception):
     """The first fault of a scenario. `start` and `end` are places in the text, where they are known."""
 
-    def __init__(self, cause, said, start=None, end=None, field=None, step=None, item=None, verb=None, example=None):
+    def __init__(self, cause, said, start=None, end=None, field=None, step=None, item=None, verb=None, example=None, wanted=None):
         super().__init__(said)
         self.cause, self.said, self.start, self.end, self.step, self.item = cause, said, start, end, step, item
         self.form = " ".join([verb, *VERBS[verb][0]]).replace("PARTS", "SITES|SITES") if verb in VERBS else None
         refusal, _, self.wanted, self.example = CAUSES[cause]
-        self.example = example or self.example
+        self.example, self.wanted = example or self.example, wanted or self.wanted
         self.refusal = "refused " + refusal.replace("FIELD", field or "").replace("STEP", str(step))
 
 
@@ -236,6 +245,10 @@ def _is_printable(text):
     return all(" " <= it <= "~" for it in text)
 
 
+def _character(it):
+    return f"{it} (U+{ord(it):04X})" if it.isprintable() else f"U+{ord(it):04X}"
+
+
 def _number(text, most):
     """A number from 1 without leading zeros, else None."""
     return int(text) if re.fullmatch(r"[1-9][0-9]{0,6}", text) and int(text) <= most else None
@@ -275,8 +288,10 @@ def _bad_site(word, at):
 
 def _bad_sites(word, at, cause="sites"):
     low = 0
-    for piece in word.split(","):
+    for number, piece in enumerate(word.split(",")):
         site = _number(piece, 64)
+        if piece == "" and number and word:
+            return cause, f"`{word}` is no list of sites: no site stands behind the comma; no spaces may stand in a list", at - 1, at
         if not site:
             return cause, f"`{word}` is no list of sites: {_why_no_number(piece, 64)}", at, at + len(piece)
         if site <= low:
@@ -334,7 +349,7 @@ def mistake_in(text):
     """The first mistake of an item's text, from the left, or None."""
     if not _is_printable(text):
         at = next(k for k, it in enumerate(text) if not " " <= it <= "~")
-        return "bytes", f"the character {ascii(text[at])} may not stand in an item", at, at + 1
+        return "bytes", f"the character {_character(text[at])} may not stand in an item", at, at + 1
     verb, _, left = text.partition(" ")
     if verb == "" and text:
         return "spaces", "a space stands before the first word", 0, 1
@@ -344,7 +359,7 @@ def mistake_in(text):
     lacking = forms[len(text.split(" ")) - 1 :]
     if lacking and "" not in text.split(" "):
         hint = ": an empty one needs the space before it" if lacking == ("VALUE",) else ""
-        return "few-words", f"`{verb}` has {len(forms)} words behind it, and here {lacking[0]} is missing{hint}", 0, len(text)
+        return "few-words", f"`{verb}` wants {' '.join(forms)} behind it; {len(forms) - len(lacking)} of {len(forms)} words are there{hint}", 0, len(text)
     at, has_more = len(verb) + 1, len(text) > len(verb)
     for number, form in enumerate(forms):
         is_rest = form in ("VALUE", "LEAVE")
@@ -358,7 +373,8 @@ def mistake_in(text):
     if has_more:
         if left == "" or left[0] == " ":
             return "spaces", "a space stands behind the last word", at - 1, at
-        return "many-words", f"`{left}` stands behind the words of `{verb}`", at, at + len(left)
+        hint = "; no spaces may stand in a list" if left[0] in ",|" else ""
+        return "many-words", f"`{left}` stands behind the words of `{verb}`{hint}", at, at + len(left)
     return None
 
 
@@ -503,7 +519,8 @@ def read(data):
     try:
         text = data.decode("utf-8")
     except UnicodeDecodeError as e:
-        raise Fault("encoding", f"byte {e.start + 1} of the text, hexadecimal {data[e.start]:02X}, in line {data.count(10, 0, e.start) + 1}, is no part of a character")
+        at = len(data[: e.start].decode("utf-8"))
+        raise Fault("encoding", f"byte {e.start + 1} of the text, hexadecimal {data[e.start]:02X}, in line {data.count(10, 0, e.start) + 1}, is no part of a character", at, at + 1)
     return _Reader(text, _document(text)).scenario()
 
 
@@ -511,19 +528,72 @@ def _document(text):
     try:
         table = tomllib.loads(text)
     except tomllib.TOMLDecodeError as e:
-        place = re.search(r" \(at line (\d+), column (\d+)\)$", str(e))
-        if not place:
-            raise Fault("toml", f"this Python's reader says: {e}", max(0, len(text.rstrip()) - 1), len(text.rstrip()))
-        # (tomllib counts lines of the text with its line ends made one character)
-        lines = text.replace("\r\n", "\n").split("\n")
-        at = len("\n".join(lines[: int(place[1]) - 1])) + (int(place[1]) > 1) + int(place[2]) - 1
-        at += text.replace("\r\n", "\n").count("\n", 0, at) if "\r\n" in text else 0
-        raise Fault("toml", f"this Python's reader says: {str(e)[: place.start()]}", at, at + 1)
+        raise _no_toml(text, str(e))
     large = next((it for it in _integers(table) if not -(2**63) <= it < 2**63), None)
     if large is not None:
         at = text.find(str(large))
         raise Fault("integer", f"{large} is past 64 bits", *([at, at + len(str(large))] if at >= 0 else []))
     return table
+
+
+def _no_toml(text, said):
+    """The fault of a text of which Python's reader says this."""
+    place = re.search(r" \(at line (\d+), column (\d+)\)$", said)
+    at = len(text.rstrip())
+    if place:
+        # (tomllib counts lines of the text with its line ends made one character)
+        lines = text.replace("\r\n", "\n").split("\n")
+        at = len("\n".join(lines[: int(place[1]) - 1])) + (int(place[1]) > 1) + int(place[2]) - 1
+        at += text.replace("\r\n", "\n").count("\n", 0, at) if "\r\n" in text else 0
+        said = said[: place.start()]
+    said = said.removesuffix(" (at end of document)")
+    guess, start, end = _guess(text, at, said)
+    return Fault("toml", f"{guess + '; ' if guess else ''}this Python's reader says: {said}", start, end)
+
+
+def _guess(text, at, said):
+    """What may be wrong where Python's reader stopped, and the place of it; None and the reader's own place where nothing is known."""
+    opened, quote, value = _before(text, at)
+    line = lambda it: text.count("\n", 0, it) + 1
+    if said.startswith("Cannot overwrite a value"):
+        # (the reader stops behind the second value)
+        found = [it for it in re.finditer(r"^[ \t]*([A-Za-z0-9_-]+)[ \t]*=", text, re.M) if it.start() < at]
+        if found and len([it for it in found if it[1] == found[-1][1]]) > 1:
+            return f"`{found[-1][1]}` stands twice", found[-1].start(1), found[-1].end(1)
+    if quote is not None:
+        return f"the string begun in line {line(quote)} is not closed", quote, quote + 1
+    if opened and (not text[at:].strip() or re.match(r"[A-Za-z0-9_-]+[ \t]*=", text[at:])):
+        return f"the array begun in line {line(opened[-1])} is not closed", opened[-1], opened[-1] + 1
+    if opened and said.startswith("Unclosed array") and value:
+        return f"a comma may be missing behind the value before, at line {line(value - 1)}", value - 1, value
+    at = max(0, min(at, len(text.rstrip()) - 1))
+    return None, at, at + 1
+
+
+def _before(text, end):
+    """Of the text before a place: the arrays that are open, the string that is not closed, and the end of the last value."""
+    opened, value, at = [], 0, 0
+    while at < end:
+        it = text[at]
+        if it == "#":
+            at = text.find("\n", at) if "\n" in text[at:] else len(text)
+            continue
+        if it in "\"'":
+            try:
+                past = _past_string(text, at)
+            except IndexError:
+                return opened, at, value
+            if "\n" in text[at:past] and not text.startswith((3 * it), at):
+                return opened, at, value
+            at = value = past
+            continue
+        if it == "[":
+            opened.append(at)
+        elif it == "]" and opened:
+            opened.pop()
+        at += 1
+        value = value if it in " \t\r\n,[" else at
+    return opened, None, value
 
 
 def _integers(value):
@@ -543,6 +613,7 @@ class _Reader:
         if key in self.nodes:
             start, node = self.nodes[key]
             end = start + len(key)
+            node = node if key in KEYS else None
             for k in path:
                 node = node and node[2][k] if node and k < len(node[2]) else None
             if node:
@@ -557,7 +628,9 @@ class _Reader:
     def scenario(self):
         for key in self.nodes:
             if key not in KEYS:
-                raise self.fault("key", f"`{key}` is none of the six keys", key)
+                near = next(iter(difflib.get_close_matches(key.lower(), KEYS, 1, 0.5)), None)
+                hint = f"; did you mean `{near}`?" if near else ""
+                raise self.fault("key", f"`{key}` is none of the six keys{hint}", key, example=KEYS[near][1] if near else None)
         self.kinds()
         weights, rows = self.weights(), self.rows(len(self.table["weights"]))
         loss, repeat, luck = self.numbers()
@@ -570,24 +643,22 @@ class _Reader:
 
     def kinds(self):
         for key in KEYS:
-            value = self.table.get(key)
+            value, (kind, example) = self.table.get(key), KEYS[key]
             if value is None and key not in ("weights", "steps"):
                 continue
             if value is None:
-                raise self.fault("missing", f"the key `{key}` is missing", None, field=key, example="weights = [1, 1, 1]" if key == "weights" else 'steps = ["begin t 1 1", "commit t"]')
-            examples = {"weights": "weights = [1, 1, 1]", "rows": 'rows = ["1.ann 100"]', "steps": None}
-            example = examples.get(key, f"{key} = 10")
+                raise self.fault("missing", f"the key `{key}` is missing", None, field=key, example=example, wanted=f"{key}: {kind}")
             if key in KIND_TESTS:
                 wrong = _wrong_member(value, KIND_TESTS[key])
                 if not isinstance(value, list):
-                    raise self.fault("kind", f"`{key}` is {_kind_of(value)}, and no array", key, field=key, example=example)
+                    raise self.fault("kind", f"`{key}` is {_kind_of(value)}, and no array", key, field=key, example=example, wanted=f"{key}: {kind}")
                 if wrong is not None:
                     inner = _wrong_member(value[wrong], lambda it: isinstance(it, str)) if key == "steps" else None
                     path = (wrong,) if inner is None else (wrong, inner)
                     found = value[wrong] if inner is None else value[wrong][inner]
-                    raise self.fault("kind", f"member {wrong + 1} of `{key}` {'is' if inner is None else 'has'} {_kind_of(found)}", key, path, field=key, example=example)
+                    raise self.fault("kind", f"member {wrong + 1} of `{key}` {'is' if inner is None else 'has'} {_kind_of(found)}", key, path, field=key, example=example, wanted=f"{key}: {kind}")
             elif not _is_integer(value):
-                raise self.fault("kind", f"`{key}` is {_kind_of(value)}, and no integer", key, field=key, example=example)
+                raise self.fault("kind", f"`{key}` is {_kind_of(value)}, and no integer", key, field=key, example=example, wanted=f"{key}: {kind}")
 
     def weights(self):
         weights = self.table["weights"]
@@ -605,7 +676,7 @@ class _Reader:
             key, space, value = row.partition(" ")
             if not _is_printable(row):
                 wrong = next(n for n, it in enumerate(row) if not " " <= it <= "~")
-                raise at("row-bytes", f"the character {ascii(row[wrong])} may not stand in it", (wrong, wrong + 1))
+                raise at("row-bytes", f"the character {_character(row[wrong])} may not stand in it", (wrong, wrong + 1))
             bad = _bad_key(key, 0)
             if bad:
                 raise at("row-key", bad[1], (bad[2], max(bad[3], bad[2] + 1)))
@@ -664,7 +735,8 @@ class _Reader:
                 bad = mistake_in(text)
                 if bad:
                     cause, why, start, end = bad
-                    example = VERBS[verb][1] if verb in VERBS else None
+                    # (a stop of another leave says nothing of junk)
+                    example = VERBS[verb][1] if verb in VERBS and cause not in ("leave", "junk") else None
                     raise self.fault(cause, why, "steps", path, (start, max(end, start + 1)), example=example and f'"{example}"', **where)
                 item = Item(text)
                 if grouped and item.verb not in GROUPABLE:

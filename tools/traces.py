@@ -158,7 +158,7 @@ def _judge_fates(run):
 # In words
 
 DIRECTIONS = {"commit": "pre-commit", "abort": "pre-abort"}
-STATES = {"q": "open", "w": "voted", "pc": "pre-committed", "pa": "pre-aborted", "c": "committed", "a": "aborted"}
+STATES = {"q": "no vote", "w": "voted", "pc": "pre-committed", "pa": "pre-aborted", "c": "committed", "a": "aborted"}
 
 
 def name_of(run, txn):
@@ -226,10 +226,32 @@ def told_words(run, told):
     blocked = re.fullmatch(r"election (\d+) block (\d+) of (\d+)", left)
     if blocked:
         left = f"election {blocked[1]} block: weight {blocked[2]} of {blocked[3]} is no quorum"
-    died = re.fullmatch(r"(died for|refused died) (\S+)", left)
-    if died:
-        left = f"{died[1]} {name_of(run, died[2])}"
+    verb, *more = left.split(" ")
+    if verb == "died":
+        left = f"died for {name_of(run, more[-1])}"
+    elif verb == "doomed":
+        left = f"doomed: {_doom(more)}"
+    elif verb == "kept":
+        left = f"stays as it is: {STATES.get(more[0], more[0])}"
+    elif verb == "refused":
+        left = f"refused: {_refusal(run, *more)}"
     return f"{name_of(run, txn)} {left}"
+
+
+def _doom(words):
+    site, had, now = words
+    return f"site {site} answered in incarnation {had}, and now in {now}"
+
+
+def _refusal(run, reason, *more):
+    return {
+        "no-transaction": lambda: "no such transaction",
+        "busy": lambda: f"busy, operation {more[0]} is unanswered",
+        "over": lambda: f"over, it {STATES[more[0][0]]}",
+        "died": lambda: f"it died for {name_of(run, more[0])}",
+        "doomed": lambda: f"it was doomed, as {_doom(more)}",
+        "too-late": lambda: "too late, as it voted" if more[0] == "0" else f"too late, attempt {more[0]} is made",
+    }[reason]()
 
 
 def why_words(why):
