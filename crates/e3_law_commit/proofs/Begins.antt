@@ -231,14 +231,14 @@ begins sc start t s = choose (rest_of t) refl
             few = ap (λ l. is_within l []) some;
           };
           each = λ y has. inl (
-            let other : (t.site == y) ≡ false = turn_round y t.site (apart t y has) in
-            let carries : Carries sc t start k y = carries_other sc t start t.site y (input.Commit t) other in
-            let fit : Fits sc start t y = fits_of sc start t y (s.fit y (member_of t y has)) in
-            record {
-              says = carries.log None None false fit.says;
-              ready = carries.ready (wants y) (rw (fit.says.decided) refl) fit.ready;
-              asked = comes sc t start t.site (input.Commit t) was.outs (asks t y) st.sends (λ q n. refl) (asks_of t y) (requests_some t wants y (x ∷ xs) (ap (λ l. has_site l y) (sym some) ∙ has));
-            });
+              let other : (t.site == y) ≡ false = turn_round y t.site (apart t y has) in
+              let carries : Carries sc t start k y = carries_other sc t start t.site y (input.Commit t) other in
+              let fit : Fits sc start t y = fits_of sc start t y (s.fit y (member_of t y has)) in
+              record {
+                says = carries.log None None false fit.says;
+                ready = carries.ready (wants y) (rw (fit.says.decided) refl) fit.ready;
+                asked = comes sc t start t.site (input.Commit t) was.outs (asks t y) st.sends (λ q n. refl) (asks_of t y) (requests_some t wants y (x ∷ xs) (ap (λ l. has_site l y) (sym some) ∙ has));
+              });
           shaped = shapes_on sc t start t.site (input.Commit t) was.outs (is_shaped t wants 1) st.sends (λ q n. refl) (requests_shaped t wants (x ∷ xs) (λ y has. ap (λ l. has_site l y) some ∙ has)) (other_shape t wants 1) (ap (list_all (is_shaped t wants 1)) s.settled);
           few = omega (arith, on, heavy, load_none, many);
         })

@@ -291,7 +291,7 @@ still_push t site l rs steps m brings was = not_both (list_any (λ q. same_txn t
         let unanswered : is_answered steps q.0 ≡ false = not_both (is_answered steps q.0) (λ holds. true≢false (sym (answered_more steps m q.0 holds) ∙ parts.2)) in
         let open_then : is_undecided q.0.txn l ≡ true = open_before q.0.txn (is_undecided q.0.txn l) refl parts.1 in
         let waits : In q.0 (waiting site l steps) = filtered (λ (a : Asked). is_undecided a.txn l && not (is_answered steps a)) (arrivals site steps) q.0 came
-            (both (is_undecided q.0.txn l) (not (is_answered steps q.0)) open_then (flipped (is_answered steps q.0) unanswered)) in
+        (both (is_undecided q.0.txn l) (not (is_answered steps q.0)) open_then (flipped (is_answered steps q.0) unanswered)) in
         true≢false (sym (in_any (λ (q : Asked). same_txn t q.txn) (waiting site l steps) q.0 waits q.2) ∙ was)
       where
         open_before : (u : Txn) (b : Bool) → is_undecided u l ≡ b → is_undecided u (l ++ rs) ≡ true → is_undecided u l ≡ true
@@ -329,7 +329,7 @@ done_push t site l steps m brings was undecided =
         by false is = absurd (
             let open_q : is_undecided q.txn l ≡ true = subst (λ (u : Txn). is_undecided u l ≡ true) (same_is t q.txn same) undecided in
             let waits : In q (waiting site l steps) = filtered (λ (a : Asked). is_undecided a.txn l && not (is_answered steps a)) (arrivals site steps) q k
-                (both (is_undecided q.txn l) (not (is_answered steps q)) open_q (flipped (is_answered steps q) is)) in
+            (both (is_undecided q.txn l) (not (is_answered steps q)) open_q (flipped (is_answered steps q) is)) in
             true≢false (sym (in_any (λ (q : Asked). same_txn t q.txn) (waiting site l steps) q waits same) ∙ was))
 
     same_all : (qs : List Asked) → ((q : Asked) → In q qs → In q (arrivals site steps)) →

@@ -231,8 +231,10 @@ last_voice sc t wants h p n g is o gathered all = choose (is_quorum sc.weights (
             to = refl;
             few = alone;
           };
-          each = λ y has. (voted_behind sc t wants h p o.came g tried y has (o.each y has),
-            inl (comes sc t h t.site (input.Deliver p) was.outs (prepares t y) st.sends (λ q k. refl) (prepares_of t y) (mails_some (prepares t y) t.site (msg.Pre t 1 Commit) y (rw (same_self t, self y) refl) (rest_of t) has)));
+          each = λ y has. (
+            voted_behind sc t wants h p o.came g tried y has (o.each y has),
+            inl (comes sc t h t.site (input.Deliver p) was.outs (prepares t y) st.sends (λ q k. refl) (prepares_of t y) (mails_some (prepares t y) t.site (msg.Pre t 1 Commit) y (rw (same_self t, self y) refl) (rest_of t) has)),
+          );
           shaped = shapes_on sc t h t.site (input.Deliver p) was.outs (is_shaped t wants 2) st.sends (λ q k. refl) (prepare_all_shaped t wants) (other_shape t wants 2) (later sc t wants h 1 2 (omega arith) o.shaped);
           few = omega (arith, off, outs, few, w);
         })
@@ -249,8 +251,10 @@ last_voice sc t wants h p n g is o gathered all = choose (is_quorum sc.weights (
         let few : n + weight sc t h + 3 * length (rest_of t) ≤ bound t = o.few in
         Stage.Three (record {
           leads = ap (decision t) (logs ∙ sym (append_assoc (log_of sc h t.site) (log.Attempt t 1 Commit ∷ []) (log.Decision t Commit ∷ []))) ∙ decided_on t (log_of sc h t.site ++ log.Attempt t 1 Commit ∷ []) Commit;
-          each = λ y has. inl (voted_behind sc t wants h p o.came g tried y has (o.each y has),
-            comes sc t h t.site (input.Deliver p) was.outs (ends t y) st.sends (λ q k. refl) (ends_of t y) (ap (list_any (ends t y)) sent ∙ mails_some (ends t y) t.site (msg.Decide t Commit) y (rw (same_self t, self y) refl) (rest_of t) has));
+          each = λ y has. inl (
+            voted_behind sc t wants h p o.came g tried y has (o.each y has),
+            comes sc t h t.site (input.Deliver p) was.outs (ends t y) st.sends (λ q k. refl) (ends_of t y) (ap (list_any (ends t y)) sent ∙ mails_some (ends t y) t.site (msg.Decide t Commit) y (rw (same_self t, self y) refl) (rest_of t) has),
+          );
           shaped = shapes_on sc t h t.site (input.Deliver p) was.outs (is_shaped t wants 3) st.sends (λ q k. refl) (ap (list_all (is_shaped t wants 3)) sent ∙ end_all_shaped t wants) (other_shape t wants 3) (later sc t wants h 1 3 (omega arith) o.shaped);
           few = omega (arith, off, outs, few, w);
         })
@@ -470,8 +474,10 @@ ack_two sc t wants h p n g is o = choose (is_quorum sc.weights (t.site ∷ q.ack
         let outs : total (weight_of t) was.outs ≡ 1 * length (rest_of t) = ap (total (weight_of t)) sent ∙ end_all t in
         Stage.Three (record {
           leads = ap (decision t) logs ∙ decided_on t (log_of sc h t.site) Commit;
-          each = λ y has. inl ((((o.each y has).0).0, (carries y has).log None ((o.each y has).0).0 true ((o.each y has).0).1),
-            comes sc t h t.site (input.Deliver p) was.outs (ends t y) st.sends (λ x k. refl) (ends_of t y) (ap (list_any (ends t y)) sent ∙ mails_some (ends t y) t.site (msg.Decide t Commit) y (rw (same_self t, self y) refl) (rest_of t) has));
+          each = λ y has. inl (
+            (((o.each y has).0).0, (carries y has).log None ((o.each y has).0).0 true ((o.each y has).0).1),
+            comes sc t h t.site (input.Deliver p) was.outs (ends t y) st.sends (λ x k. refl) (ends_of t y) (ap (list_any (ends t y)) sent ∙ mails_some (ends t y) t.site (msg.Decide t Commit) y (rw (same_self t, self y) refl) (rest_of t) has),
+          );
           shaped = shapes_on sc t h t.site (input.Deliver p) was.outs (is_shaped t wants 3) st.sends (λ x k. refl) (ap (list_all (is_shaped t wants 3)) sent ∙ end_all_shaped t wants) (other_shape t wants 3) (later sc t wants h 2 3 (omega arith) o.shaped);
           few = omega (arith, off, outs, few_was, w);
         })

@@ -174,7 +174,7 @@ new_waits P K sc h t m (p ∷ ps) free once of some =
     left (suc k) c is holds = or_left (P q) false holds
 
     by : (list_all (λ p. not (K p) || is_once (fate_of sc h p)) (numbered (suc (suc m)) ps) ≡ true → list_any P (numbered (suc (suc m)) ps) ≡ true →
-            some_waits P (without t (map (given sc h) (numbered (suc (suc m)) ps))) ≡ true) →
+        some_waits P (without t (map (given sc h) (numbered (suc (suc m)) ps))) ≡ true) →
         (P q ≡ true) ⊎ (list_any P (numbered (suc (suc m)) ps) ≡ true) →
         (some_waits P (wait q (copies_of (fate_of sc h q) - t q.number)) || some_waits P (without t (map (given sc h) (numbered (suc (suc m)) ps)))) ≡ true
     by again (inl holds) =

@@ -139,7 +139,8 @@ pub attempt_ends : (a : At) (t : Txn) (made : Made) → is_undecided t (a.life.l
     is_quorum a.weights (a.site ∷ []) t.sites ≡ true →
     and_attempt a t 1 Commit t.sites made
     ≡ record (and_decide a t Commit (and_record (log.Attempt t 1 Commit) made)) {
-      outs = (and_decide a t Commit (and_record (log.Attempt t 1 Commit) made)).outs ++ map (mail a.site (msg.Decide t Commit)) (others a.site t.sites) }
+      outs = (and_decide a t Commit (and_record (log.Attempt t 1 Commit) made)).outs ++ map (mail a.site (msg.Decide t Commit)) (others a.site t.sites);
+    }
 attempt_ends a t made undecided joined none alone =
     rw (may_try a t made undecided joined none) (rw alone (cast_is a (msg.Decide t Commit) t.sites (and_decide a t Commit (and_record (log.Attempt t 1 Commit) made))))
 

@@ -86,15 +86,11 @@ rule_holds sc t wants h p g fresh = rw (fresh.ready, still) refl
 light_none : (t : Txn) (k : ℕ) → 1 ≤ k → suc (total (weight_of t) []) ≤ k
 light_none t k some = some
 
-
-
-
 abbrev ops_of : Scenario → List Entry → Txn → ℕ → List NumOp
 ops_of sc h t s = map (λ p. let o : NumOp = record { n = p.n; op = p.op } in o) (done s t (steps_at sc h s))
 
 pub request_one : (sc : Scenario) (t : Txn) (wants : ℕ → Expected) (h : List Entry) (p : Packet) (n : ℕ) → Given sc t h p → p.msg ≡ msg.VoteReq t (wants p.to).inc (wants p.to).count →
     StageOne sc t wants h n → Stage sc t wants (after sc h p.to p) (suc n)
-
 request_one sc t wants h p n g is o = by (o.each p.to g.here)
   where
     reply : List Packet
@@ -119,8 +115,10 @@ request_one sc t wants h p n g is o = by (o.each p.to g.here)
         refl (vote_light t p.to p.«from») in
         let now : Says t (log_of sc (after sc h p.to p) p.to) None None true =
         subst (λ l. Says t l None None true) (sym at.done.log) (says_voted t (log_of sc h p.to) (ops_of sc h t p.to) None None false fresh.says) in
-        site_one sc t wants h p was n at o shaped (inr ((None, now),
-        inl (comes sc t h p.to (input.Deliver p) reply (votes t p.to) at.done.sends (λ q k. refl) (votes_of t p.to) (rw (same_self t, self p.to, home) refl))))
+        site_one sc t wants h p was n at o shaped (inr (
+          (None, now),
+          inl (comes sc t h p.to (input.Deliver p) reply (votes t p.to) at.done.sends (λ q k. refl) (votes_of t p.to) (rw (same_self t, self p.to, home) refl)),
+        ))
     by (inr (v, some)) = choose (row_request_voted (place sc h p.to (input.Deliver p)) p.«from» t (wants p.to).inc (wants p.to).count v.0 (away_from sc t h p g) (at_place sc t h p None v.0 true v.1))
       where
         choose : (on_message (place sc h p.to (input.Deliver p)) p.«from» (msg.VoteReq t (wants p.to).inc (wants p.to).count) nothing ≡ makes [] reply)

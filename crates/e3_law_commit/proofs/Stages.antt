@@ -185,7 +185,7 @@ carries_foreign sc t h s p was st foreign still brings = record {
   ready = λ e undecided ready.
       ap (λ (l : Life). ((e.count == length (done s t l.steps)) && (e.count == 0 || e.inc == l.inc))) (life_on sc h s (input.Deliver p))
       ∙ ap (λ l. ((e.count == length l) && (e.count == 0 || e.inc == (life_at (moves_of sc h s)).inc)))
-          (done_push t s (log_of sc h s) (steps_at sc h s) (moment_of (life_at (moves_of sc h s)) (input.Deliver p) (made_by sc h s (input.Deliver p))) brings still undecided)
+      (done_push t s (log_of sc h s) (steps_at sc h s) (moment_of (life_at (moves_of sc h s)) (input.Deliver p) (made_by sc h s (input.Deliver p))) brings still undecided)
       ∙ ready;
 }
 
