@@ -1,9 +1,8 @@
-//! Worked cases of a site: readings of a log and of steps, logs in order and out of it, a first step and a short history. What
-//! it must print stands in the file of this program's output.
+//! Worked cases of a site: readings of a log and of steps, a first step and a short history. What it
+//! must print stands in the file of this program's output.
 #![tactic(auto)]
 
 mod readings;
-mod restarts;
 mod steps;
 mod texts;
 
@@ -19,7 +18,6 @@ const NO_MEMORY: u8 = 5;
 fn lines(alloc: Global) -> Result<List<u8>, NoMemory> {
     let mut out = List::new(alloc);
     readings::push_lines(alloc, &mut out)?;
-    restarts::push_lines(alloc, &mut out)?;
     steps::push_lines(alloc, &mut out)?;
     Ok(out)
 }

@@ -1,6 +1,5 @@
 // Logs of site 1 among two sites, what is out of order in them, and the site of a log.
-use crate::texts::push_known;
-use e3_lines::{push_labelled, push_text};
+use e3_lines::{push_labelled, push_number, push_text};
 use e3_restart::{RebuildFault, first_disorder, rebuild};
 use e3_site::Site;
 use e3_types::{Dir, Key, List, Name, NoMemory, NumOp, Op, Record, Row, SiteSet, Txn, Val};
@@ -52,6 +51,15 @@ fn voted(alloc: Global) -> Result<List<Record>, NoMemory> {
     Ok(log)
 }
 
+// Adds a number behind a space, or a dash for none.
+fn push_known(out: &mut List<u8>, number: Option<u64>) -> Result<(), NoMemory> {
+    push_text(out, " ")?;
+    match number {
+        Some(number) => push_number(out, number),
+        None => push_text(out, "-"),
+    }
+}
+
 // Adds the first place of a log that is out of order.
 fn push_place(out: &mut List<u8>, log: &[Record]) -> Result<(), NoMemory> {
     push_known(out, first_disorder(1, log))
@@ -66,6 +74,9 @@ fn push_behind(alloc: Global, out: &mut List<u8>, last: Record) -> Result<(), No
 
 // Adds the site that is rebuilt from a log, or the place that is out of order.
 fn push_rebuilt(alloc: Global, out: &mut List<u8>, log: &[Record]) -> Result<(), NoMemory> {
+    if log.is_empty() {
+        return push_text(out, " no record");
+    }
     match rebuild(alloc, 1, log) {
         Ok(site) => push_site(out, &site),
         Err(RebuildFault::Order { at }) => push_labelled(out, " out of order at ", at),
@@ -149,13 +160,20 @@ fn push_votes(alloc: Global, out: &mut List<u8>) -> Result<(), NoMemory> {
 
 // The numbers of joins and of attempts rise, and the attempt under 1 is to commit.
 fn push_attempts(alloc: Global, out: &mut List<u8>) -> Result<(), NoMemory> {
-    let txn = txn(1);
     push_text(out, "joins and attempts:")?;
     for n in [1, 2] {
-        push_behind(alloc, out, Record::Join { txn, n })?;
+        push_behind(alloc, out, Record::Join { txn: txn(1), n })?;
     }
     for (n, dir) in [(2, Dir::Commit), (1, Dir::Commit), (1, Dir::Abort)] {
-        push_behind(alloc, out, Record::Attempt { txn, n, dir })?;
+        push_behind(
+            alloc,
+            out,
+            Record::Attempt {
+                txn: txn(1),
+                n,
+                dir,
+            },
+        )?;
     }
     push_text(out, "\n")
 }
