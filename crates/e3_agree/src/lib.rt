@@ -3,7 +3,5 @@
 
 mod clashing;
 mod logs;
-#[cfg(test)]
-mod tests;
 
 pub use clashing::clash;

@@ -1,11 +1,14 @@
-//! Worked cases of bytes, disks and packets: bodies of records and bytes that are none, disks in memory, and the fates and the
-//! order of packets. What it must print stands in the file of this program's output.
+//! Worked cases of values, bytes, disks and packets: bodies of records and bytes that are none, disks in memory, logs
+//! and streams, and the fates and the order of packets. What it must print stands in the file of this program's output.
 #![tactic(auto)]
 
 mod bodies;
 mod disks;
+mod logs;
 mod nets;
+mod streams;
 mod texts;
+mod values;
 
 use e3_types::{List, NoMemory};
 use std::alloc::Global;
@@ -18,8 +21,11 @@ const NO_MEMORY: u8 = 5;
 
 fn lines(alloc: Global) -> Result<List<u8>, NoMemory> {
     let mut out = List::new(alloc);
+    values::push_lines(alloc, &mut out)?;
     bodies::push_lines(alloc, &mut out)?;
     disks::push_lines(alloc, &mut out)?;
+    logs::push_lines(alloc, &mut out)?;
+    streams::push_lines(alloc, &mut out)?;
     nets::push_lines(alloc, &mut out)?;
     Ok(out)
 }

@@ -2,7 +2,5 @@
 #![tactic(auto)]
 
 mod client;
-#[cfg(test)]
-mod tests;
 
 pub use client::{Client, Heard, Issued};

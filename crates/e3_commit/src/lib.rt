@@ -2,8 +2,6 @@
 #![tactic(auto)]
 
 mod rounds;
-#[cfg(test)]
-mod tests;
 mod votes;
 
 pub use rounds::Round;

@@ -2,7 +2,5 @@
 #![tactic(auto)]
 
 mod election;
-#[cfg(test)]
-mod tests;
 
 pub use election::Election;

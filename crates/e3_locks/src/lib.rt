@@ -6,8 +6,6 @@ mod granted;
 mod list_locks;
 mod locks;
 mod replays;
-#[cfg(test)]
-mod tests;
 
 pub use granted::Granted;
 pub use list_locks::ListLocks;

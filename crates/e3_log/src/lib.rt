@@ -6,8 +6,6 @@ mod fault;
 mod law;
 mod log;
 mod open;
-#[cfg(test)]
-mod tests;
 
 pub use fault::{AppendFault, OpenCause};
 pub use law::{a_frame_is_whole_or_not_at_all, frames_have_one_reading};

@@ -4,7 +4,5 @@
 
 mod orders;
 mod places;
-#[cfg(test)]
-mod tests;
 
 pub use orders::order;

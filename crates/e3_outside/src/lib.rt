@@ -8,8 +8,6 @@ mod sink;
 mod source;
 mod standard_sink;
 mod standard_source;
-#[cfg(test)]
-mod tests;
 
 pub use memory_sink::MemSink;
 pub use memory_source::MemSource;

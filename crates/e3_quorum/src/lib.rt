@@ -1,8 +1,6 @@
 //! Weights of sites, and quorums: groups with more than half of the weight, any two of which share a site (Skeen 1982).
 #![tactic(auto)]
 
-#[cfg(test)]
-mod tests;
 mod weights;
 
 pub use weights::{WeightFault, Weights};

@@ -6,8 +6,6 @@
 
 mod crew;
 mod journal;
-#[cfg(test)]
-mod tests;
 mod worker;
 
 ghost use Rattle.std.specs.Prelude.{◌≡◌, ℕ, ◌+◌, ◌<◌, length, IfOk, slice_index_or};
@@ -124,7 +122,7 @@ fn show<R: Wait + Threads + Clock + Print + Eprint + Sync>(
     let elapsed = start.elapsed(rt).map_err(|_| Failure::Clock)?;
     let in_order = workers
         .iter()
-        .filter(|worker| is_in_order(&marks, worker.owner, COUNT))
+        .filter(|worker| worker.done && is_in_order(&marks, worker.owner, COUNT))
         .count();
     println!(rt;
         "threads {size}: {} marks, of {in_order} owners in order",
