@@ -38,7 +38,7 @@ in_two w (e ∷ h) = in_two (split_by w e) h ∙ ap (λ l. l ++ h) (one (is_line
 pub both_parts : (h : List Entry) → to_line h ++ since_line h ≡ h
 both_parts h = in_two (record { to = []; since = [] }) h
 
-drop_front : (xs ys : List Entry) → drop (length xs) (xs ++ ys) ≡ ys
+pub drop_front : (xs ys : List Entry) → drop (length xs) (xs ++ ys) ≡ ys
 drop_front [] ys = refl
 drop_front (x ∷ xs) ys = drop_front xs ys
 
