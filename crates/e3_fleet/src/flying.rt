@@ -68,6 +68,7 @@ fn fly<D: Disk + Drill + Drop>(
     requires empty { shared.entries ≡ [] }
     requires stands { FleetStands D.content D.image D.meters shared nodes.items }
     requires given { IsGiven scenario.now }
+    requires most { shared.most ≤ 2000000 }
     requires unarmed { AreUnarmed D.meters nodes.items }
     ensures legal { IsLegal scenario.now result.history.entries }
     ensures within { length result.history.entries ≤ shared.most }
@@ -89,8 +90,8 @@ fn fly<D: Disk + Drill + Drop>(
     }
 }
 
-/// Plays a scenario over disks from its first rises to its end, with so many entries at most. Site k has the k-th disk;
-/// those past the sites of the scenario are not touched, and all come back in their order.
+/// Plays a scenario over disks from its first rises to its end, with so many entries at most, 2,000,000 or fewer. Site k has
+/// the k-th disk; those past the sites of the scenario are not touched, and all come back in their order.
 pub fn play_over<D: Disk + Drill + Drop>(
     alloc: Global,
     scenario: &Scenario,
@@ -98,6 +99,7 @@ pub fn play_over<D: Disk + Drill + Drop>(
     most: u32,
 ) -> Played<D>
     requires given { IsGiven scenario.now }
+    requires most { most ≤ 2000000 }
     requires enough { length scenario.now.weights ≤ length disks.items }
     requires blank { AreBlank D.content D.image D.meters disks.items }
     ensures legal { IsLegal scenario.now result.history.entries }

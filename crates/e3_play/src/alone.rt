@@ -49,6 +49,7 @@ pub fn restart<S: Sites>(sites: &mut S, site: u32) -> Result<(), RunFault>
 /// A group ends what is open at its sites. What its rounds report is in the history.
 pub fn recovery<S: Sites>(alloc: Global, sites: &mut S, group: SiteSet) -> Result<(), RunFault>
     requires standing { S.stands sites.old }
+    requires few { S.most sites.old ≤ 2000000 }
     requires fresh { IsFresh (S.scenario sites.old) (S.entries sites.old) (item.Recover group ∷ []) }
     ensures stands { S.stands sites.new }
     ensures since { (start : S) → S.since start sites.old → S.since start sites.new }

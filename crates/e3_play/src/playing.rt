@@ -76,6 +76,7 @@ fn play_step<S: Sites>(
     requires played { S.scenario sites.old ≡ scenario.now }
     requires standing { S.stands sites.old }
     requires given { IsGiven scenario.now }
+    requires most { S.most sites.old ≤ 2000000 }
     requires more { suc done ≤ length scenario.now.steps }
     requires few { length scenario.now.steps < 2 ^ 32 }
     requires settled { IsSettled scenario.now (S.entries sites.old) done }
@@ -109,11 +110,13 @@ fn play_step<S: Sites>(
 }
 
 /// Plays a scenario from its first rises to its end, on one thread: items in their order, the packet of least number
-/// first. The history is empty at first. A scenario of more steps than 32 bits count wants memory.
+/// first. The history is empty at first, and has 2,000,000 entries at most. A scenario of more steps than 32 bits count wants
+/// memory.
 pub fn play<S: Sites>(alloc: Global, scenario: &Scenario, sites: &mut S) -> Result<(), RunFault>
     requires played { S.scenario sites.old ≡ scenario.now }
     requires standing { S.stands sites.old }
     requires given { IsGiven scenario.now }
+    requires most { S.most sites.old ≤ 2000000 }
     requires few_sites { length scenario.now.weights < 2 ^ 32 }
     requires empty { S.entries sites.old ≡ [] }
     ensures stands { S.stands sites.new }

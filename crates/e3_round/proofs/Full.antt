@@ -5,7 +5,7 @@ use Rattle.e3_types.specs.declared.scenarios.Item.{Item}
 use Rattle.e3_types.specs.declared.scenarios.Item.TheVariants as item
 use Rattle.e3_types.specs.declared.scenarios.Scenario.{Scenario}
 use Rattle.e3_world.specs.Items.{RecoveryRound, due_round, recover_group}
-use Rattle.e3_world.specs.Legal.{IsWhole, is_made}
+use Rattle.e3_world.specs.Legal.{is_made}
 use Rattle.e3_world.specs.Packets.{lines, pending, present_items}
 use Rattle.e3_world.proofs.Turns.{true_not_false}
 use Rattle.e3_sites.specs.Delivered.{ARound, IsFull}

@@ -38,21 +38,9 @@ in_two w (e ∷ h) = in_two (split_by w e) h ∙ ap (λ l. l ++ h) (one (is_line
 pub both_parts : (h : List Entry) → to_line h ++ since_line h ≡ h
 both_parts h = in_two (record { to = []; since = [] }) h
 
-drop_front : (xs ys : List Entry) → drop (length xs) (xs ++ ys) ≡ ys
+pub drop_front : (xs ys : List Entry) → drop (length xs) (xs ++ ys) ≡ ys
 drop_front [] ys = refl
 drop_front (x ∷ xs) ys = drop_front xs ys
-
--- behind the last line: what there is more
-pub since_is : (start h : List Entry) → to_line h ≡ start → drop (length start) h ≡ since_line h
-since_is start h same =
-    ap (λ l. drop (length l) h) (sym same) ∙ ap (drop (length (to_line h))) (sym (both_parts h)) ∙ drop_front (to_line h) (since_line h)
-
-pub long_enough : (start h : List Entry) → to_line h ≡ start → length start ≤ length h
-long_enough start h same =
-    let all : length (to_line h ++ since_line h) ≡ length h = ap length (both_parts h) in
-    let parts : length (to_line h ++ since_line h) ≡ length (to_line h) + length (since_line h) = length-append (to_line h) (since_line h) in
-    let front : length (to_line h) ≡ length start = ap length same in
-    omega (arith, all, parts, front)
 
 line_last : (h : List Entry) → since_line h ≡ [] → to_line h ≡ h
 line_last h fresh = sym (append-nil (to_line h)) ∙ ap (λ l. to_line h ++ l) (sym fresh) ∙ both_parts h

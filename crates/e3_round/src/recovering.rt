@@ -1,6 +1,6 @@
 // The rounds of a recovery step.
-ghost use Rattle.std.specs.Prelude.{◌≡◌, ◌≢◌, ◌≤◌, ◌∷◌, [], drop, length, map, true, Some, IfOk, OnOk, Err};
-ghost use Rattle.e3_round.specs.Reports.{IsRecovered, report_of};
+ghost use Rattle.std.specs.Prelude.{◌≡◌, ◌≢◌, ◌≤◌, ◌∷◌, [], drop, length, true, Some, IfOk, OnOk, Err};
+ghost use Rattle.e3_round.specs.Reports.{HadTurns, IsRecovered, IsReport};
 ghost use Rattle.e3_round.specs.Rounds.{AfterRound, IsPacketOrRound};
 ghost use Rattle.e3_sites.specs.Delivered.{IsFull};
 ghost use Rattle.e3_sites.specs.declared.sites.RunFault.TheVariants.{HistoryFull};
@@ -10,7 +10,7 @@ ghost use Rattle.e3_world.specs.Packets.{lines, pending, present_items};
 ghost use Rattle.e3_world.specs.Progress.{Delivering};
 
 use crate::listing::{Round, listed};
-use crate::reporting::{RoundReport, reports_of};
+use crate::reporting::{RoundReport, report_of};
 use e3_sites::{RunFault, Sites, deliver_all};
 use e3_types::{Entry, Input, List, SiteSet};
 use std::alloc::Global;
@@ -51,6 +51,27 @@ fn behind(history: &[Entry], count: usize) -> &[Entry]
     &history[count..]
 }
 
+// A round at its turn, and what is reported of it.
+fn take_turn<S: Sites>(sites: &mut S, round: &Round) -> Result<RoundReport, RunFault>
+    requires standing { S.stands sites.old }
+    requires delivering { Delivering (S.scenario sites.old) (S.entries sites.old) }
+    requires begun { lines (S.entries sites.old) ≢ 0 }
+    requires settled { pending (S.scenario sites.old) (S.entries sites.old) ≡ [] }
+    requires turn { is_up_at (S.entries sites.old) round.now.elector ≡ true →
+        due_round (S.scenario sites.old) (S.entries sites.old) ≡ Some round.now }
+    ensures stands { S.stands sites.new }
+    ensures since { (start : S) → S.since start sites.old → S.since start sites.new }
+    ensures same { (S.scenario sites.new ≡ S.scenario sites.old) × (S.most sites.new ≡ S.most sites.old) }
+    ensures made { OnOk result (AfterRound (S.scenario sites.old) (S.entries sites.old) round.now (S.entries sites.new)) }
+    ensures told { IfOk result (λ report. IsReport (S.entries sites.old) (S.entries sites.new) round.now report) }
+    ensures full { result ≡ Err HistoryFull → IsFull (S.scenario sites.old) (S.entries sites.new) (S.most sites.old) }
+    ensures which { result ≡ Err HistoryFull → IsPacketOrRound (S.scenario sites.old) (S.entries sites.new) }
+{
+    let from = sites.history().len();
+    make_round(sites, round)?;
+    Ok(report_of(round, behind(sites.history(), from)))
+}
+
 /// Makes the recovery rounds of a group: in ascending order for each transaction that is open at a member that is up. Its
 /// elector is the least of those members that are its sites, which elects with all of them; then packets are delivered in
 /// ascending order until none is pending. A round whose elector is down at its turn is passed over. With Ok there is a
@@ -61,6 +82,7 @@ pub fn recover<S: Sites>(
     group: SiteSet,
 ) -> Result<List<RoundReport>, RunFault>
     requires standing { S.stands sites.old }
+    requires few { S.most sites.old ≤ 2000000 }
     requires step { present_items (S.scenario sites.old) (S.entries sites.old) ≡ item.Recover group ∷ [] }
     requires fresh { since_line (S.entries sites.old) ≡ [] }
     requires settled { pending (S.scenario sites.old) (S.entries sites.old) ≡ [] }
@@ -68,16 +90,16 @@ pub fn recover<S: Sites>(
     ensures since { (start : S) → S.since start sites.old → S.since start sites.new }
     ensures same { (S.scenario sites.new ≡ S.scenario sites.old) × (S.most sites.new ≡ S.most sites.old) }
     ensures recovered { OnOk result (IsRecovered (S.scenario sites.old) (S.entries sites.old) (S.entries sites.new)) }
-    ensures reports { IfOk result (λ reports. reports ≡
-        map (report_of (since_line (S.entries sites.new))) (listed (S.scenario sites.old) (S.entries sites.old) group)) }
+    ensures rounds { IfOk result (λ reports. HadTurns (S.scenario sites.old) (S.entries sites.old) (S.entries sites.new)
+        (listed (S.scenario sites.old) (S.entries sites.old) group) reports) }
     ensures full { result ≡ Err HistoryFull → IsFull (S.scenario sites.old) (S.entries sites.new) (S.most sites.old) }
     ensures which { result ≡ Err HistoryFull → IsPacketOrRound (S.scenario sites.old) (S.entries sites.new) }
 {
     let rounds = listed(alloc, sites, group)?;
-    let from = sites.history().len();
+    let mut reports = List::new(alloc);
     for round in rounds.as_slice() {
-        make_round(sites, round)?;
+        let report = take_turn(sites, round)?;
+        reports.push(report)?;
     }
-    let entered = behind(sites.history(), from);
-    Ok(reports_of(alloc, entered, rounds.as_slice())?)
+    Ok(reports)
 }

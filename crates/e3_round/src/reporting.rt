@@ -1,13 +1,14 @@
-// What is reported of the rounds: the verdicts that were told.
-ghost use Rattle.std.specs.Prelude.{◌≡◌, fold, map, IfOk};
-ghost use Rattle.e3_round.specs.Reports.{report_of, verdict_by, verdict_in};
+// What is reported of a round: the verdict that its elector told.
+ghost use Rattle.std.specs.Prelude.{◌≡◌, fold};
+ghost use Rattle.std.specs.List.{flat_map};
+ghost use Rattle.e3_law_rounds.specs.Rounds.{said_at, verdict_in};
+ghost use Rattle.e3_round.specs.Reports.{later, later_of, verdict_of};
 
 use crate::listing::Round;
-use e3_types::{Act, Entry, List, NoMemory, Told, Txn, Verdict};
-use std::alloc::Global;
+use e3_types::{Act, Entry, Told, Txn, Verdict};
 
-/// What came of the round of a transaction: the last verdict on it that was told in the step. There is none where none was
-/// told, as where the elector was down at its turn or fell before it.
+/// What came of the round of a transaction: the last verdict on it that its elector told in it. There is none where none was
+/// told, as where the elector was down at its turn or fell in it.
 #[derive(Drop)]
 pub struct RoundReport {
     pub txn: Txn,
@@ -16,7 +17,7 @@ pub struct RoundReport {
 
 // The verdict on the transaction, where this event tells one; else the one before.
 fn verdict_by(txn: &Txn, was: Option<Verdict>, told: &Told) -> Option<Verdict>
-    ensures { result ≡ verdict_by txn.now was told.now }
+    ensures { result ≡ fold later was (verdict_in txn.now told.now) }
 {
     match told {
         Told::Verdict {
@@ -36,7 +37,7 @@ fn verdict_by(txn: &Txn, was: Option<Verdict>, told: &Told) -> Option<Verdict>
 
 // The last verdict on the transaction, the one before and these events taken together.
 fn verdict_after(txn: &Txn, was: Option<Verdict>, told: &[Told]) -> Option<Verdict>
-    ensures { result ≡ fold (verdict_by txn.now) was told.now }
+    ensures { result ≡ fold later was (flat_map (verdict_in txn.now) told.now) }
 {
     let mut last = was;
     for event in told {
@@ -45,34 +46,30 @@ fn verdict_after(txn: &Txn, was: Option<Verdict>, told: &[Told]) -> Option<Verdi
     last
 }
 
-// The last verdict on the transaction that these entries tell.
-fn verdict_in(txn: &Txn, entries: &[Entry]) -> Option<Verdict>
-    ensures { result ≡ verdict_in entries.now txn.now }
+// The last verdict of the round's elector on its transaction, the one before and this entry taken together.
+fn verdict_with(round: &Round, was: Option<Verdict>, entry: &Entry) -> Option<Verdict>
+    ensures { result ≡ fold (later_of round.now.elector) was (said_at round.now.txn entry.now) }
 {
-    let mut last = None;
-    for entry in entries {
-        if let Act::Step { told, .. } = &entry.act {
-            last = verdict_after(txn, last, told.as_slice());
-        }
+    if entry.owner != round.elector {
+        return was;
     }
-    last
+    match &entry.act {
+        Act::Step { told, .. } => verdict_after(&round.txn, was, told.as_slice()),
+        _ => was,
+    }
 }
 
-/// The reports of these rounds, by what these entries tell. Want of memory is the only error.
-pub(crate) fn reports_of(
-    alloc: Global,
-    entries: &[Entry],
-    rounds: &[Round],
-) -> Result<List<RoundReport>, NoMemory>
-    ensures { IfOk result (λ reports. reports ≡ map (report_of entries.now) rounds.now) }
+/// The report of a round that entered these entries.
+pub(crate) fn report_of(round: &Round, entered: &[Entry]) -> RoundReport
+    ensures txn { result.txn ≡ round.now.txn }
+    ensures told { result.verdict ≡ verdict_of round.now entered.now }
 {
-    let mut reports = List::new(alloc);
-    for round in rounds {
-        let verdict = verdict_in(&round.txn, entries);
-        reports.push(RoundReport {
-            txn: round.txn,
-            verdict,
-        })?;
+    let mut verdict = None;
+    for entry in entered {
+        verdict = verdict_with(round, verdict, entry);
     }
-    Ok(reports)
+    RoundReport {
+        txn: round.txn,
+        verdict,
+    }
 }

@@ -1,5 +1,6 @@
 pub mod BusyCancelOver
 pub mod CascadeAborts
+pub mod CommitRound
 pub mod DroppedPackets
 pub mod ElectedSiteStaysSilent
 pub mod EveryPacketLost

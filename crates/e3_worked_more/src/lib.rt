@@ -4,6 +4,7 @@
 
 pub mod busy_cancel_over;
 pub mod cascade_aborts;
+pub mod commit_round;
 pub mod dropped_packets;
 pub mod elected_site_stays_silent;
 pub mod every_packet_lost;
