@@ -1,0 +1,5 @@
+pub mod Others
+pub mod Drafts
+pub mod Workers
+pub mod Least
+pub mod Claims
