@@ -6,3 +6,4 @@ pub mod Drafted
 pub mod Working
 pub mod Packets
 pub mod Least
+pub mod Longer

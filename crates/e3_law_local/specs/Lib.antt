@@ -3,3 +3,4 @@ pub mod Drafts
 pub mod Workers
 pub mod Least
 pub mod Claims
+pub mod Longer

@@ -2,6 +2,7 @@
 #![tactic(auto)]
 
 ghost use Rattle.e3_law_local.specs.Claims.{DraftsAreAllowed, DraftsStay, DueMayBeTaken, ItemsStay, LeastIsPending, LeastStays, Local, LocalKeepsLegal, NextItem, ReadingsStay};
+ghost use Rattle.e3_law_local.specs.Longer.{LegalForLonger};
 
 /// An entry of a site that is allowed behind a history is allowed, but for the numbers of its packets, behind further
 /// entries of other sites, while the packets that it takes are pending.
@@ -30,4 +31,10 @@ pub fn workers_know_their_site()
 pub fn least_packets_stay()
     ensures stay { LeastStays }
     ensures pending { LeastIsPending }
+{}
+
+/// A legal history is legal for every scenario with the same keys whose steps begin with those of its lines: what comes
+/// later in the scenario has no say in it.
+pub fn histories_serve_longer_scenarios()
+    ensures { LegalForLonger }
 {}
