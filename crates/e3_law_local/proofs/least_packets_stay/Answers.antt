@@ -1,0 +1,8 @@
+use Rattle.e3_law_local.proofs.Least.{least_is_pending, least_stays}
+use Rattle.e3_law_local.proofs.least_packets_stay.Goals as goal
+
+pub returns-clause-stay : goal.returns-clause-stay
+returns-clause-stay c = least_stays
+
+pub returns-clause-pending : goal.returns-clause-pending
+returns-clause-pending c = least_is_pending
