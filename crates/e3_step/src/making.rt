@@ -1,5 +1,5 @@
 // How a step of a site is put together: what is read at the site, and what a rule adds to the step.
-ghost use Rattle.std.specs.Prelude.{◌≡◌, ◌++◌, ◌∷◌, [], IfOk, fold, map};
+ghost use Rattle.std.specs.Prelude.{◌≡◌, ◌||◌, ◌++◌, ◌∷◌, [], IfOk, fold, map};
 ghost use Rattle.e3_types.specs.Quorums.{is_quorum};
 ghost use Rattle.e3_types.specs.Sets.{others};
 ghost use Rattle.e3_world.specs.Logs.{decision, attempted, has_voted};
@@ -7,7 +7,7 @@ ghost use Rattle.e3_world.specs.Making.{nothing, log_now, steps_now, state_now, 
 
 use crate::past::Past;
 use crate::weights::is_quorum;
-use e3_readings::{attempted_by, decision_by, is_vote, last_attempt_by, last_elected_by};
+use e3_readings::{attempted_by, decision_by, has_voted, last_attempt_by, last_elected_by};
 use e3_types::{
     Answer, Copied, Dir, List, Message, Name, NoMemory, NumOp, Op, Packet, Record, SiteSet, State,
     Told, Txn,
@@ -46,10 +46,16 @@ fn attempted_now<P: Past>(p: &P, t: &Txn, made: &Made) -> Option<Dir>
         .fold(p.attempted(t), |was, r| attempted_by(t, was, r))
 }
 
+fn or_voted(t: &Txn, before: bool, records: &[Record]) -> bool
+    ensures { result ≡ (before || has_voted t.now records.now) }
+{
+    before || has_voted(t, records)
+}
+
 fn voted_now<P: Past>(p: &P, t: &Txn, made: &Made) -> bool
     ensures { result ≡ has_voted t.now (log_now (P.at p.now) made.now) }
 {
-    p.voted(t) || made.records.as_slice().iter().any(|r| is_vote(t, r))
+    or_voted(t, p.voted(t), made.records.as_slice())
 }
 
 /// The state of the transaction with the step's records.
