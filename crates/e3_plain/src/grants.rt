@@ -1,11 +1,11 @@
-// Which requests a decision grants, and what becomes of them.
-ghost use Rattle.std.specs.Prelude.{◌≡◌, ◌++◌, ◌∷◌, [], IfOk, fold, take, drop, length};
-ghost use Rattle.std.specs.List.{list_any, flat_map};
-ghost use Rattle.e3_world.specs.Making.{log_now, steps_now, add_name, names_of, asked_on, granted_on, granted, grants_after, decides, and_grant, and_grants};
+// Which requests a decision grants.
+ghost use Rattle.std.specs.Prelude.{◌≡◌, ◌++◌, ◌∷◌, [], IfOk, fold, take, length};
+ghost use Rattle.std.specs.List.{flat_map};
+ghost use Rattle.e3_world.specs.Making.{log_now, steps_now, add_name, names_of, asked_on, granted_on, granted, grants_after};
 
-use crate::making::{and_do, log_now, steps_now};
+use crate::reading::{log_now, steps_now};
 use e3_readings::{holders, key_of, queue, waiting};
-use e3_types::{List, Name, NoMemory, Record, front};
+use e3_types::{List, Name, NoMemory, front};
 use e3_world::{Asked, At, Made};
 use std::alloc::Global;
 use std::cmp::Ordering;
@@ -151,37 +151,4 @@ pub fn grants_after(alloc: Global, a: &At, made: &Made) -> Result<List<Asked>, N
     let steps = steps_now(alloc, a, made)?;
     let asked = waiting(alloc, a.site, log.as_slice(), steps.as_slice())?;
     granted(alloc, a, made, asked.as_slice())
-}
-
-/// The record is a decision.
-pub fn decides(r: &Record) -> bool
-    ensures { result ≡ decides r.now }
-{
-    matches!(r, Record::Decision { .. })
-}
-
-fn has_decision(records: &[Record], seen: u64) -> bool
-    ensures { result ≡ list_any decides (drop seen records.now) }
-{
-    records.iter().skip(seen as usize).any(|r| decides(r))
-}
-
-fn grant_all(alloc: Global, a: &At, asked: &[Asked], made: &mut Made) -> Result<(), NoMemory>
-    ensures { IfOk result (λ u. made.new ≡ fold (and_grant a.now) made.old asked.now) }
-{
-    for q in asked {
-        and_do(alloc, a, &q.txn, q.n, &q.op, made)?;
-    }
-    Ok(())
-}
-
-/// Where a rule recorded a decision behind the first so many records, the requests that this grants are done.
-pub fn and_grants(alloc: Global, a: &At, seen: u64, made: &mut Made) -> Result<(), NoMemory>
-    ensures { IfOk result (λ u. made.new ≡ and_grants a.now seen made.old) }
-{
-    if has_decision(made.records.as_slice(), seen) {
-        let asked = grants_after(alloc, a, made)?;
-        grant_all(alloc, a, asked.as_slice(), made)?;
-    }
-    Ok(())
 }

@@ -1,17 +1,14 @@
-//! A site's plain step: the program that computes what an input makes a site do as the definition says it, reading all
-//! of the site's past anew. It is slow, and serves to say what a quick step does.
+//! A site's plain step: the step that an input makes, with every reading of the site's past computed anew as its
+//! definition says it. It is slow, and serves to say what a quick step does.
 #![tactic(auto)]
 
-mod attempt_rules;
-mod election_rules;
+mod anew;
 mod grants;
-mod making;
-mod messages;
-mod operation_rules;
 mod plain_forms;
+mod reading;
 mod steps;
-mod vote_rules;
-mod weights;
 
+pub use anew::Anew;
 pub use plain_forms::{plain, plain_input};
+pub use reading::all_came;
 pub use steps::step_of;

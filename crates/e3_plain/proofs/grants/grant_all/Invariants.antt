@@ -1,6 +1,0 @@
-use Rattle.std.proofs.Common.{◌≡◌, take, fold}
-use Rattle.e3_world.specs.Making.{and_grant}
-use Rattle.e3_plain.proofs.grants.grant_all.Given as goal
-
-abbrev pub invariant-loop-q : goal.invariant-loop-q
-invariant-loop-q l = l.made ≡ fold (and_grant l.a) l.initial.made (take l.q-index l.asked)

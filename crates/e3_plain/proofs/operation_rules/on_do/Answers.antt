@@ -1,7 +1,0 @@
-use Rattle.e3_plain.proofs.Pieces.{on_do_is}
-use Rattle.e3_plain.proofs.operation_rules.on_do.Goals as goal
-
-pub returns-in_ok-on_asked-in-Q : goal.returns-in_ok-on_asked-in-Q
-returns-in_ok-on_asked-in-Q c =
-    on_do_is c.args.a.now c.args.f c.args.t.now c.args.n c.args.op.now c.copy.result c.args.made.now c.on_asked.new.made c.in-Q.ensures c.copy.ensures
-    c.in_ok-on_asked-in-Q.ensures

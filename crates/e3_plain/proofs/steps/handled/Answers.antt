@@ -1,7 +1,0 @@
-use Rattle.e3_plain.proofs.Pieces.{handled_is}
-use Rattle.e3_plain.proofs.steps.handled.Goals as goal
-
-pub returns : goal.returns
-returns c =
-    handled_is c.args.a.now c.args.m.now c.args.made.now c.on_message.new.made c.and_grants.new.made c.len-seen.result c.in_ok-on_message.ensures
-    c.len-seen.ensures c.in_ok-and_grants.ensures

@@ -1,0 +1,179 @@
+// What a step reads of its site's past, each reading computed anew.
+ghost use Rattle.std.specs.Prelude.{◌≡◌, ◌++◌, ◌∷◌, [], IfOk, suc, count_by};
+ghost use Rattle.std.specs.List.{list_any};
+ghost use Rattle.e3_types.specs.Same.{same_txn};
+ghost use Rattle.e3_types.specs.Sets.{has_site, is_within};
+ghost use Rattle.e3_step.specs.Asking.{lock_now, lock_of, waits_now};
+ghost use Rattle.e3_step.specs.Reading.{first_of};
+ghost use Rattle.e3_world.specs.Making.{log_now, steps_now};
+ghost use Rattle.e3_world.specs.Logs.{key_of};
+ghost use Rattle.e3_world.specs.Operations.{holders, queue};
+ghost use Rattle.e3_world.specs.Steps.{is_begin};
+
+use e3_readings::{holders, key_of, mode_of, queue, waiting};
+use e3_types::{
+    Answer, Copied, Grant, Input, List, Lock, NoMemory, Record, Refusal, SiteSet, Txn, lock_grant,
+};
+use e3_world::{Asked, At, Made, Moment};
+use std::alloc::Global;
+
+/// The log with the step's own records.
+pub fn log_now(alloc: Global, a: &At, made: &Made) -> Result<List<Record>, NoMemory>
+    ensures { IfOk result (λ out. out ≡ log_now a.now made.now) }
+{
+    let mut out = a.life.log.copied(alloc)?;
+    for r in made.records.as_slice() {
+        out.push(r.copied(alloc)?)?;
+    }
+    Ok(out)
+}
+
+fn copy_moment(alloc: Global, m: &Moment) -> Result<Moment, NoMemory>
+    ensures { IfOk result (λ x. x ≡ m.now) }
+{
+    Ok(Moment {
+        before: m.before.copied(alloc)?,
+        input: m.input.copy(),
+        records: m.records.copied(alloc)?,
+        outs: m.outs.copied(alloc)?,
+        told: m.told.copied(alloc)?,
+    })
+}
+
+fn copy_steps(alloc: Global, steps: &[Moment]) -> Result<List<Moment>, NoMemory>
+    ensures { IfOk result (λ out. out ≡ steps.now) }
+{
+    let mut out = List::new(alloc);
+    for m in steps {
+        out.push(copy_moment(alloc, m)?)?;
+    }
+    Ok(out)
+}
+
+/// The steps of the incarnation with this one, as far as it is made.
+pub fn steps_now(alloc: Global, a: &At, made: &Made) -> Result<List<Moment>, NoMemory>
+    ensures { IfOk result (λ out. out ≡ steps_now a.now made.now) }
+{
+    let mut out = copy_steps(alloc, a.life.steps.as_slice())?;
+    out.push(Moment {
+        before: a.life.log.copied(alloc)?,
+        input: a.input.copy(),
+        records: made.records.copied(alloc)?,
+        outs: made.outs.copied(alloc)?,
+        told: made.told.copied(alloc)?,
+    })?;
+    Ok(out)
+}
+
+/// The first of these answers.
+pub fn first_answer(answers: &[Answer]) -> Option<Answer>
+    ensures { result ≡ first_of answers.now }
+{
+    match answers {
+        [] => None,
+        [answer, ..] => Some(answer.copy()),
+    }
+}
+
+/// The first of these reasons.
+pub fn first_reason(reasons: &[Refusal]) -> Option<Refusal>
+    ensures { result ≡ first_of reasons.now }
+{
+    match reasons {
+        [] => None,
+        [why, ..] => Some(*why),
+    }
+}
+
+/// The operations that wait before the step, but those of transactions that it decided.
+pub fn waits_now(alloc: Global, a: &At, made: &Made) -> Result<List<Asked>, NoMemory>
+    ensures { IfOk result (λ out. out ≡ waits_now a.now made.now) }
+{
+    let log = log_now(alloc, a, made)?;
+    waiting(alloc, a.site, log.as_slice(), a.life.steps.as_slice())
+}
+
+/// One of these operations is the transaction's.
+pub fn waits_for(t: &Txn, asked: &[Asked]) -> bool
+    ensures { result ≡ list_any (λ q. same_txn t.now q.txn) asked.now }
+{
+    asked.iter().any(|q| t.is_same(&q.txn))
+}
+
+fn lock_of(q: &Asked) -> Lock
+    ensures { result ≡ lock_of q.now }
+{
+    Lock {
+        txn: q.txn,
+        mode: mode_of(&q.op),
+    }
+}
+
+fn holders_of(alloc: Global, a: &At, q: &Asked, made: &Made) -> Result<List<Lock>, NoMemory>
+    ensures { IfOk result (λ out. out ≡ holders a.now.site (key_of q.now.op).name (log_now a.now made.now) a.now.life.steps) }
+{
+    let log = log_now(alloc, a, made)?;
+    let name = &key_of(&q.op).name;
+    holders(alloc, a.site, name, log.as_slice(), a.life.steps.as_slice())
+}
+
+fn queue_of(alloc: Global, a: &At, q: &Asked, made: &Made) -> Result<List<Lock>, NoMemory>
+    ensures { IfOk result (λ out. out ≡ queue (key_of q.now.op).name (waits_now a.now made.now)) }
+{
+    let waits = waits_now(alloc, a, made)?;
+    queue(alloc, &key_of(&q.op).name, waits.as_slice())
+}
+
+/// The answer of the lock rule to a request.
+pub fn lock_now(alloc: Global, a: &At, q: &Asked, made: &Made) -> Result<Grant, NoMemory>
+    ensures { IfOk result (λ g. g ≡ lock_now a.now q.now made.now) }
+{
+    let wanted = lock_of(q);
+    let held = holders_of(alloc, a, q, made)?;
+    let queued = queue_of(alloc, a, q, made)?;
+    Ok(lock_grant(&wanted, held.as_slice(), queued.as_slice()))
+}
+
+fn has_come(came: &[u32], site: u32) -> bool
+    ensures { result ≡ has_site came.now site }
+{
+    came.iter().any(|x| *x == site)
+}
+
+/// Each of the sites is among those that came.
+pub fn all_came(alloc: Global, sites: SiteSet, came: &[u32]) -> Result<bool, NoMemory>
+    ensures { IfOk result (λ b. b ≡ is_within sites came.now) }
+{
+    let awaited = sites.list(alloc)?;
+    Ok(awaited.as_slice().iter().all(|site| has_come(came, *site)))
+}
+
+/// The step took a Begin.
+pub fn is_begin(m: &Moment) -> bool
+    ensures { result ≡ is_begin m.now }
+{
+    matches!(m.input, Input::Begin { .. })
+}
+
+/// How many of these steps took a Begin.
+pub fn begins(steps: &[Moment]) -> Result<u32, NoMemory>
+    ensures { IfOk result (λ n. n ≡ count_by is_begin steps.now) }
+{
+    let mut n = 0;
+    for m in steps {
+        if is_begin(m) {
+            n = next(n)?;
+        }
+    }
+    Ok(n)
+}
+
+fn next(count: u32) -> Result<u32, NoMemory>
+    ensures { IfOk result (λ n. n ≡ suc count) }
+{
+    if count < 4294967295 {
+        Ok(count + 1)
+    } else {
+        Err(NoMemory)
+    }
+}

@@ -1,0 +1,6 @@
+use Rattle.std.proofs.Common.{◌≡◌, take}
+use Rattle.e3_types.specs.Quorums.{weight_of}
+use Rattle.e3_step.proofs.weights.weigh.Given as goal
+
+abbrev pub invariant-loop-site : goal.invariant-loop-site
+invariant-loop-site l = l.sum ≡ weight_of l.weights (take l.site-index l.sites)

@@ -1,0 +1,80 @@
+// What a site does with an attempt that is asked of it, and with an acknowledgement.
+ghost use Rattle.std.specs.Prelude.{◌≡◌, ◌==◌, ◌&&◌, ◌∷◌, IfOk, if◌then◌else◌};
+ghost use Rattle.e3_types.specs.declared.messages.Message.TheVariants as msg;
+ghost use Rattle.e3_types.specs.Quorums.{is_quorum};
+ghost use Rattle.e3_types.specs.Same.{same_dir};
+ghost use Rattle.e3_world.specs.Making.{may_decide, and_cast, and_decide};
+ghost use Rattle.e3_world.specs.AttemptRules.{on_pre, on_ack};
+
+use crate::making::{
+    and_cast, and_decide, and_record, and_send, attempt_now, elected_now, may_decide, open_now,
+};
+use crate::past::Past;
+use crate::weights::is_quorum;
+use e3_readings::count_ack;
+use e3_types::{Dir, List, Message, NoMemory, Record, Txn};
+use e3_world::{Made, Round};
+use std::alloc::Global;
+
+/// An undecided site that joined this number last attempts it, once, and acknowledges to site f.
+pub fn on_pre<P: Past>(
+    p: &P,
+    f: u32,
+    t: &Txn,
+    n: u32,
+    dir: Dir,
+    made: &mut Made,
+) -> Result<(), NoMemory>
+    ensures { IfOk result (λ u. made.new ≡ on_pre (P.at p.now) f t.now n dir made.old) }
+{
+    if !(open_now(p, t, made) && elected_now(p, t, made) == n) {
+        return Ok(());
+    }
+    if attempt_now(p, t, made) != n {
+        and_record(Record::Attempt { txn: *t, n, dir }, made)?;
+    }
+    and_send(p, f, Message::Ack { txn: *t, n, dir }, made)
+}
+
+fn with_own(alloc: Global, site: u32, acked: &[u32]) -> Result<List<u32>, NoMemory>
+    ensures { IfOk result (λ out. out ≡ site ∷ acked.now) }
+{
+    let mut out = List::new(alloc);
+    out.push(site)?;
+    out.extend(acked)?;
+    Ok(out)
+}
+
+fn has_quorum<P: Past>(alloc: Global, p: &P, t: &Txn, r: &Round) -> Result<bool, NoMemory>
+    ensures { IfOk result (λ b. b ≡ is_quorum (P.at p.now).weights ((P.at p.now).site ∷ r.now.acked) t.now.sites) }
+{
+    let members = with_own(alloc, p.site(), r.acked.as_slice())?;
+    is_quorum(p.weights(), members.as_slice(), t.sites)
+}
+
+/// An acknowledgement of site f in the round in progress: with a quorum the site decides.
+pub fn on_ack<P: Past>(
+    alloc: Global,
+    p: &P,
+    f: u32,
+    t: &Txn,
+    n: u32,
+    dir: Dir,
+    made: &mut Made,
+) -> Result<(), NoMemory>
+    ensures { IfOk result (λ u. made.new ≡ on_ack (P.at p.now) f t.now n dir made.old) }
+{
+    match p.round(alloc, t)? {
+        None => Ok(()),
+        Some(round) => {
+            let r = count_ack(round, f, n, dir)?;
+            let quorum = has_quorum(alloc, p, t, &r)?;
+            if r.n == n && r.dir == dir && may_decide(p, t, dir, made) && quorum {
+                and_decide(p, t, dir, made)?;
+                and_cast(p, r.to, &Message::Decide { txn: *t, dir }, made)
+            } else {
+                Ok(())
+            }
+        }
+    }
+}

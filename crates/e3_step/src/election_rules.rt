@@ -1,0 +1,155 @@
+// What a site does in an election: it hears, joins, reports, and concludes.
+ghost use Rattle.std.specs.Prelude.{◌≡◌, ◌<◌, IfOk, suc, if◌then◌else◌};
+ghost use Rattle.e3_types.specs.declared.messages.Message.TheVariants as msg;
+ghost use Rattle.e3_world.specs.Making.{may_decide, and_cast, and_decide};
+ghost use Rattle.e3_world.specs.ElectionRules.{and_verdict, and_join, on_last, on_elected, on_report};
+
+use crate::making::{
+    and_attempt, and_cast, and_decide, and_record, and_send, and_tell, attempt_now, elected_now,
+    may_decide, state_now,
+};
+use crate::past::Past;
+use e3_readings::{all_heard, all_reported, greatest_heard, hear, take_report};
+use e3_types::{
+    Call, Dir, Message, NoMemory, Record, SiteReport, SiteSet, Told, Txn, Verdict, verdict_of,
+};
+use e3_world::{Election, Made};
+use std::alloc::Global;
+
+fn decide_for<P: Past>(
+    p: &P,
+    t: &Txn,
+    dir: Dir,
+    group: SiteSet,
+    made: &mut Made,
+) -> Result<(), NoMemory>
+    ensures { IfOk result (λ u. made.new ≡ and_cast (P.at p.now) group (msg.Decide t.now dir)
+        (if may_decide (P.at p.now) t.now dir made.old then and_decide (P.at p.now) t.now dir made.old else made.old)) }
+{
+    if may_decide(p, t, dir, made) {
+        and_decide(p, t, dir, made)?;
+    }
+    and_cast(p, group, &Message::Decide { txn: *t, dir }, made)
+}
+
+/// The verdict over the reports of the whole group, told, and what it asks for.
+pub fn and_verdict<P: Past>(
+    p: &P,
+    t: &Txn,
+    n: u32,
+    group: SiteSet,
+    reports: &[SiteReport],
+    made: &mut Made,
+) -> Result<(), NoMemory>
+    ensures { IfOk result (λ u. made.new ≡ and_verdict (P.at p.now) t.now n group reports.now made.old) }
+{
+    let verdict = verdict_of(p.weights(), t.sites, reports);
+    and_tell(
+        Told::Verdict {
+            txn: *t,
+            n,
+            verdict,
+        },
+        made,
+    )?;
+    match verdict {
+        Verdict::Abort => decide_for(p, t, Dir::Abort, group, made),
+        Verdict::Commit => decide_for(p, t, Dir::Commit, group, made),
+        Verdict::PreCommit => and_attempt(p, t, n, Dir::Commit, group, made),
+        Verdict::PreAbort => and_attempt(p, t, n, Dir::Abort, group, made),
+        Verdict::Block { .. } => Ok(()),
+    }
+}
+
+fn next_number(n: u32) -> u32
+    requires { n < 4294967295 }
+    ensures { result ≡ suc n }
+{
+    n + 1
+}
+
+/// The whole group was heard: the site joins the greatest number plus one, unless it is not above its own or too great.
+pub fn and_join<P: Past>(p: &P, t: &Txn, e: &Election, made: &mut Made) -> Result<(), NoMemory>
+    ensures { IfOk result (λ u. made.new ≡ and_join (P.at p.now) t.now e.now made.old) }
+{
+    let greatest = greatest_heard(e);
+    if !(all_heard(e) && greatest < 4294967295 && elected_now(p, t, made) <= greatest) {
+        return Ok(());
+    }
+    let n = next_number(greatest);
+    let report = SiteReport {
+        site: p.site(),
+        state: state_now(p, t, made),
+        attempt: attempt_now(p, t, made),
+    };
+    and_record(Record::Join { txn: *t, n }, made)?;
+    and_cast(p, e.group, &Message::Elected { txn: *t, n }, made)?;
+    match e.group.without(p.site()).split_first() {
+        None => and_verdict(p, t, n, e.group, &[report], made),
+        Some(_) => Ok(()),
+    }
+}
+
+/// An answer of site f to the call of the election in progress: with the last one the site joins.
+pub fn on_last<P: Past>(
+    alloc: Global,
+    p: &P,
+    f: u32,
+    t: &Txn,
+    call: Call,
+    elected: u32,
+    made: &mut Made,
+) -> Result<(), NoMemory>
+    ensures { IfOk result (λ u. made.new ≡ on_last (P.at p.now) f t.now call elected made.old) }
+{
+    match p.election(alloc, t)? {
+        None => Ok(()),
+        Some(e) => match hear(e, f, call, elected)? {
+            None => Ok(()),
+            Some(more) => and_join(p, t, &more, made),
+        },
+    }
+}
+
+/// A greater number, from site f: the site joins it and reports.
+pub fn on_elected<P: Past>(p: &P, f: u32, t: &Txn, n: u32, made: &mut Made) -> Result<(), NoMemory>
+    ensures { IfOk result (λ u. made.new ≡ on_elected (P.at p.now) f t.now n made.old) }
+{
+    if elected_now(p, t, made) < n {
+        let report = Message::Report {
+            txn: *t,
+            n,
+            state: state_now(p, t, made),
+            attempt: attempt_now(p, t, made),
+        };
+        and_record(Record::Join { txn: *t, n }, made)?;
+        and_send(p, f, report, made)?;
+    }
+    Ok(())
+}
+
+/// A report to the elector: with the last one it has a verdict.
+pub fn on_report<P: Past>(
+    alloc: Global,
+    p: &P,
+    t: &Txn,
+    n: u32,
+    report: SiteReport,
+    made: &mut Made,
+) -> Result<(), NoMemory>
+    ensures { IfOk result (λ u. made.new ≡ on_report (P.at p.now) t.now n report made.old) }
+{
+    match p.election(alloc, t)? {
+        None => Ok(()),
+        Some(e) => match take_report(e, n, report)? {
+            None => Ok(()),
+            Some(more) => {
+                if all_reported(&more) {
+                    and_verdict(p, t, n, more.group, more.reports.as_slice(), made)
+                } else {
+                    Ok(())
+                }
+            }
+        },
+    }
+}

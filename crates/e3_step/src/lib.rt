@@ -1,0 +1,19 @@
+//! The rules by which a site makes a step, over what they read of its past: `step_at` gives the step of the definitions
+//! at any `Past`, whether its readings are computed anew each time or kept in tables.
+#![tactic(auto)]
+
+mod attempt_rules;
+mod election_rules;
+mod grants;
+mod making;
+mod messages;
+mod operation_rules;
+mod own;
+mod past;
+mod steps;
+mod vote_rules;
+mod weights;
+
+pub use own::{last_own, own_write};
+pub use past::Past;
+pub use steps::step_at;

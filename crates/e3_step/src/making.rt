@@ -1,0 +1,341 @@
+// How a step of a site is put together: what is read at the site, and what a rule adds to the step.
+ghost use Rattle.std.specs.Prelude.{◌≡◌, ◌||◌, ◌++◌, ◌∷◌, [], IfOk, fold, map};
+ghost use Rattle.e3_types.specs.Quorums.{is_quorum};
+ghost use Rattle.e3_types.specs.Sets.{others};
+ghost use Rattle.e3_world.specs.Logs.{decision, attempted, has_voted};
+ghost use Rattle.e3_world.specs.Making.{nothing, log_now, steps_now, state_now, open_now, elected_now, attempt_now, is_coordinator, is_present, may_abort, may_decide, may_attempt, and_record, and_tell, and_send, and_cast, and_decide, and_abort, and_abort_for, go_on, and_attempt, and_vote, own_write, answer_now, and_do};
+
+use crate::past::Past;
+use crate::weights::is_quorum;
+use e3_readings::{attempted_by, decision_by, has_voted, last_attempt_by, last_elected_by};
+use e3_types::{
+    Answer, Copied, Dir, List, Message, Name, NoMemory, NumOp, Op, Packet, Record, SiteSet, State,
+    Told, Txn,
+};
+use e3_world::{Made, Performed};
+use std::alloc::Global;
+
+/// A step that made nothing yet.
+pub fn nothing(alloc: Global) -> Made
+    ensures { result ≡ nothing }
+{
+    Made {
+        records: List::new(alloc),
+        outs: List::new(alloc),
+        told: List::new(alloc),
+        own: List::new(alloc),
+    }
+}
+
+/// The decision of the transaction with the step's records.
+pub fn decision_now<P: Past>(p: &P, t: &Txn, made: &Made) -> Option<Dir>
+    ensures { result ≡ decision t.now (log_now (P.at p.now) made.now) }
+{
+    made.records
+        .as_slice()
+        .iter()
+        .fold(p.decision(t), |was, r| decision_by(t, was, r))
+}
+
+fn attempted_now<P: Past>(p: &P, t: &Txn, made: &Made) -> Option<Dir>
+    ensures { result ≡ attempted t.now (log_now (P.at p.now) made.now) }
+{
+    made.records
+        .as_slice()
+        .iter()
+        .fold(p.attempted(t), |was, r| attempted_by(t, was, r))
+}
+
+fn or_voted(t: &Txn, before: bool, records: &[Record]) -> bool
+    ensures { result ≡ (before || has_voted t.now records.now) }
+{
+    before || has_voted(t, records)
+}
+
+fn voted_now<P: Past>(p: &P, t: &Txn, made: &Made) -> bool
+    ensures { result ≡ has_voted t.now (log_now (P.at p.now) made.now) }
+{
+    or_voted(t, p.voted(t), made.records.as_slice())
+}
+
+/// The state of the transaction with the step's records.
+pub fn state_now<P: Past>(p: &P, t: &Txn, made: &Made) -> State
+    ensures { result ≡ state_now (P.at p.now) t.now made.now }
+{
+    match (decision_now(p, t, made), attempted_now(p, t, made)) {
+        (Some(Dir::Commit), _) => State::C,
+        (Some(Dir::Abort), _) => State::A,
+        (None, Some(Dir::Commit)) => State::Pc,
+        (None, Some(Dir::Abort)) => State::Pa,
+        (None, None) => {
+            if voted_now(p, t, made) {
+                State::W
+            } else {
+                State::Q
+            }
+        }
+    }
+}
+
+/// The transaction is undecided with the step's records.
+pub fn open_now<P: Past>(p: &P, t: &Txn, made: &Made) -> bool
+    ensures { result ≡ open_now (P.at p.now) t.now made.now }
+{
+    decision_now(p, t, made).is_none()
+}
+
+/// Last_Elected with the step's records.
+pub fn elected_now<P: Past>(p: &P, t: &Txn, made: &Made) -> u32
+    ensures { result ≡ elected_now (P.at p.now) t.now made.now }
+{
+    made.records
+        .as_slice()
+        .iter()
+        .fold(p.elected(t), |n, r| last_elected_by(t, n, r))
+}
+
+/// Last_Attempt with the step's records.
+pub fn attempt_now<P: Past>(p: &P, t: &Txn, made: &Made) -> u32
+    ensures { result ≡ attempt_now (P.at p.now) t.now made.now }
+{
+    made.records
+        .as_slice()
+        .iter()
+        .fold(p.attempt(t), |n, r| last_attempt_by(t, n, r))
+}
+
+/// The site is the transaction's coordinator.
+pub fn is_coordinator<P: Past>(p: &P, t: &Txn) -> bool
+    ensures { result ≡ is_coordinator (P.at p.now) t.now }
+{
+    t.site == p.site()
+}
+
+/// The transaction is of the present incarnation.
+pub fn is_present<P: Past>(p: &P, t: &Txn) -> bool
+    ensures { result ≡ is_present (P.at p.now) t.now }
+{
+    t.inc == p.inc()
+}
+
+/// The coordinator may abort: it is undecided and has attempted nothing.
+pub fn may_abort<P: Past>(p: &P, t: &Txn, made: &Made) -> bool
+    ensures { result ≡ may_abort (P.at p.now) t.now made.now }
+{
+    is_coordinator(p, t) && open_now(p, t, made) && attempt_now(p, t, made) == 0
+}
+
+/// A decision may be recorded: none is, and a commit needs the vote.
+pub fn may_decide<P: Past>(p: &P, t: &Txn, dir: Dir, made: &Made) -> bool
+    ensures { result ≡ may_decide (P.at p.now) t.now dir made.now }
+{
+    match dir {
+        Dir::Abort => open_now(p, t, made),
+        Dir::Commit => open_now(p, t, made) && voted_now(p, t, made),
+    }
+}
+
+/// An attempt may be recorded: the site is undecided, joined this number last, and has not attempted it.
+pub fn may_attempt<P: Past>(p: &P, t: &Txn, n: u32, made: &Made) -> bool
+    ensures { result ≡ may_attempt (P.at p.now) t.now n made.now }
+{
+    open_now(p, t, made) && elected_now(p, t, made) == n && attempt_now(p, t, made) < n
+}
+
+/// One more record.
+pub fn and_record(r: Record, made: &mut Made) -> Result<(), NoMemory>
+    ensures { IfOk result (λ u. made.new ≡ and_record r made.old) }
+{
+    made.records.push(r)
+}
+
+/// One more event is told.
+pub fn and_tell(e: Told, made: &mut Made) -> Result<(), NoMemory>
+    ensures { IfOk result (λ u. made.new ≡ and_tell e made.old) }
+{
+    made.told.push(e)
+}
+
+/// A message to a site: a packet, or one that waits in this step where it is the site itself.
+pub fn and_send<P: Past>(p: &P, to: u32, m: Message, made: &mut Made) -> Result<(), NoMemory>
+    ensures { IfOk result (λ u. made.new ≡ and_send (P.at p.now) to m made.old) }
+{
+    if to == p.site() {
+        made.own.push(m)
+    } else {
+        made.outs.push(Packet {
+            number: 0,
+            from: p.site(),
+            to,
+            msg: m,
+        })
+    }
+}
+
+/// A message to all of these sites but the own one, in ascending order.
+pub fn and_cast<P: Past>(
+    p: &P,
+    sites: SiteSet,
+    m: &Message,
+    made: &mut Made,
+) -> Result<(), NoMemory>
+    ensures { IfOk result (λ u. made.new ≡ and_cast (P.at p.now) sites m.now made.old) }
+{
+    for to in sites.without(p.site()).iter() {
+        and_send(p, to, m.copy(), made)?;
+    }
+    Ok(())
+}
+
+/// A decision is recorded; the coordinator of the present incarnation tells it.
+pub fn and_decide<P: Past>(p: &P, t: &Txn, dir: Dir, made: &mut Made) -> Result<(), NoMemory>
+    ensures { IfOk result (λ u. made.new ≡ and_decide (P.at p.now) t.now dir made.old) }
+{
+    and_record(Record::Decision { txn: *t, dir }, made)?;
+    if is_coordinator(p, t) && is_present(p, t) {
+        and_tell(Told::Ended { txn: *t, dir }, made)?;
+    }
+    Ok(())
+}
+
+/// The coordinator aborts and sends the abort to all other sites.
+pub fn and_abort<P: Past>(p: &P, t: &Txn, made: &mut Made) -> Result<(), NoMemory>
+    ensures { IfOk result (λ u. made.new ≡ and_abort (P.at p.now) t.now made.old) }
+{
+    and_decide(p, t, Dir::Abort, made)?;
+    and_cast(
+        p,
+        t.sites,
+        &Message::Decide {
+            txn: *t,
+            dir: Dir::Abort,
+        },
+        made,
+    )
+}
+
+/// The coordinator aborts, tells this reason in place of the end, and sends the abort to all other sites.
+pub fn and_abort_for<P: Past>(p: &P, t: &Txn, why: Told, made: &mut Made) -> Result<(), NoMemory>
+    ensures { IfOk result (λ u. made.new ≡ and_abort_for (P.at p.now) t.now why made.old) }
+{
+    and_record(
+        Record::Decision {
+            txn: *t,
+            dir: Dir::Abort,
+        },
+        made,
+    )?;
+    and_tell(why, made)?;
+    and_cast(
+        p,
+        t.sites,
+        &Message::Decide {
+            txn: *t,
+            dir: Dir::Abort,
+        },
+        made,
+    )
+}
+
+/// Behind an attempt: the decision at once where the site is a quorum by itself, else the pre-decision, to these sites.
+pub fn go_on<P: Past>(
+    p: &P,
+    t: &Txn,
+    n: u32,
+    dir: Dir,
+    to: SiteSet,
+    made: &mut Made,
+) -> Result<(), NoMemory>
+    ensures { IfOk result (λ u. made.new ≡ go_on (P.at p.now) t.now n dir to made.old) }
+{
+    if is_quorum(p.weights(), &[p.site()], t.sites)? {
+        and_decide(p, t, dir, made)?;
+        and_cast(p, to, &Message::Decide { txn: *t, dir }, made)
+    } else {
+        and_cast(p, to, &Message::Pre { txn: *t, n, dir }, made)
+    }
+}
+
+/// An attempt of the site's own round.
+pub fn and_attempt<P: Past>(
+    p: &P,
+    t: &Txn,
+    n: u32,
+    dir: Dir,
+    to: SiteSet,
+    made: &mut Made,
+) -> Result<(), NoMemory>
+    ensures { IfOk result (λ u. made.new ≡ and_attempt (P.at p.now) t.now n dir to made.old) }
+{
+    if may_attempt(p, t, n, made) {
+        and_record(Record::Attempt { txn: *t, n, dir }, made)?;
+        go_on(p, t, n, dir, to, made)?;
+    }
+    Ok(())
+}
+
+fn voted(alloc: Global, performed: &[Performed]) -> Result<List<NumOp>, NoMemory>
+    ensures { IfOk result (λ ops. ops ≡ map (λ p. record { n = p.n; op = p.op }) performed.now) }
+{
+    let mut ops = List::new(alloc);
+    for p in performed {
+        ops.push(NumOp {
+            n: p.n,
+            op: p.op.copy(),
+        })?;
+    }
+    Ok(ops)
+}
+
+/// The vote, with the operations that the site has done.
+pub fn and_vote<P: Past>(alloc: Global, p: &P, t: &Txn, made: &mut Made) -> Result<(), NoMemory>
+    ensures { IfOk result (λ u. made.new ≡ and_vote (P.at p.now) t.now made.old) }
+{
+    let performed = p.done(alloc, t)?;
+    let ops = voted(alloc, performed.as_slice())?;
+    and_record(Record::Vote { txn: *t, ops }, made)
+}
+
+/// The answer to an operation that is done now.
+pub fn answer_now<P: Past>(
+    alloc: Global,
+    p: &P,
+    t: &Txn,
+    op: &Op,
+    made: &Made,
+) -> Result<Answer, NoMemory>
+    ensures { IfOk result (λ x. x ≡ answer_now (P.at p.now) t.now op.now made.now) }
+{
+    match op {
+        Op::Write(_, _) => Ok(Answer::Written),
+        Op::Read(key) => {
+            let row = p.row(alloc, &key.name, made)?;
+            p.own_value(alloc, t, &key.name, row, made)
+        }
+    }
+}
+
+/// The operation is done, and its answer goes to the coordinator.
+pub fn and_do<P: Past>(
+    alloc: Global,
+    p: &P,
+    t: &Txn,
+    n: u32,
+    op: &Op,
+    made: &mut Made,
+) -> Result<(), NoMemory>
+    ensures { IfOk result (λ u. made.new ≡ and_do (P.at p.now) t.now n op.now made.old) }
+{
+    let answer = answer_now(alloc, p, t, op, made)?;
+    and_send(
+        p,
+        t.site,
+        Message::Done {
+            txn: *t,
+            n,
+            inc: p.inc(),
+            answer,
+        },
+        made,
+    )
+}

@@ -1,0 +1,109 @@
+// What a site does with each message.
+ghost use Rattle.std.specs.Prelude.{◌≡◌, IfOk};
+ghost use Rattle.e3_types.specs.declared.messages.Message.TheVariants as msg;
+ghost use Rattle.e3_world.specs.Messages.{on_message};
+
+use crate::attempt_rules::{on_ack, on_pre};
+use crate::election_rules::{on_elected, on_last, on_report};
+use crate::making::{and_abort, and_decide, and_send, elected_now, may_abort, may_decide};
+use crate::operation_rules::{on_died, on_do, on_done};
+use crate::past::Past;
+use crate::vote_rules::{on_vote_req, on_yes};
+use e3_types::{Call, Dir, Message, NoMemory, SiteReport, Txn};
+use e3_world::Made;
+use std::alloc::Global;
+
+fn on_ask<P: Past>(p: &P, f: u32, t: &Txn, call: Call, made: &mut Made) -> Result<(), NoMemory>
+    ensures { IfOk result (λ u. made.new ≡ on_message (P.at p.now) f (msg.Ask t.now call) made.old) }
+{
+    let elected = elected_now(p, t, made);
+    and_send(
+        p,
+        f,
+        Message::LastElected {
+            txn: *t,
+            call,
+            elected,
+        },
+        made,
+    )
+}
+
+fn on_vote<P: Past>(
+    alloc: Global,
+    p: &P,
+    f: u32,
+    t: &Txn,
+    yes: bool,
+    made: &mut Made,
+) -> Result<(), NoMemory>
+    ensures { IfOk result (λ u. made.new ≡ on_message (P.at p.now) f (msg.Vote t.now yes) made.old) }
+{
+    if yes {
+        return on_yes(alloc, p, t, made);
+    }
+    if may_abort(p, t, made) {
+        and_abort(p, t, made)?;
+    }
+    Ok(())
+}
+
+fn on_decide<P: Past>(p: &P, f: u32, t: &Txn, dir: Dir, made: &mut Made) -> Result<(), NoMemory>
+    ensures { IfOk result (λ u. made.new ≡ on_message (P.at p.now) f (msg.Decide t.now dir) made.old) }
+{
+    if may_decide(p, t, dir, made) {
+        and_decide(p, t, dir, made)?;
+    }
+    Ok(())
+}
+
+/// Each message, from site f.
+pub fn on_message<P: Past>(
+    alloc: Global,
+    p: &P,
+    f: u32,
+    m: &Message,
+    made: &mut Made,
+) -> Result<(), NoMemory>
+    ensures { IfOk result (λ u. made.new ≡ on_message (P.at p.now) f m.now made.old) }
+{
+    match m {
+        Message::Do { txn, n, op } => on_do(alloc, p, f, txn, *n, op, made),
+        Message::Done {
+            txn,
+            n,
+            inc,
+            answer,
+        } => on_done(alloc, p, f, txn, *n, *inc, answer, made),
+        Message::Died { txn, older, .. } => on_died(p, txn, *older, made),
+        Message::Ask { txn, call } => on_ask(p, f, txn, *call, made),
+        Message::LastElected { txn, call, elected } => on_last(
+            alloc, p, f, txn, *call, *elected, made,
+        ),
+        Message::Elected { txn, n } => on_elected(p, f, txn, *n, made),
+        Message::Report {
+            txn,
+            n,
+            state,
+            attempt,
+        } => {
+            on_report(
+                alloc,
+                p,
+                txn,
+                *n,
+                SiteReport {
+                    site: f,
+                    state: *state,
+                    attempt: *attempt,
+                },
+                made,
+            )
+        }
+        Message::VoteReq { txn, inc, count } => on_vote_req(alloc, p, f, txn, *inc, *count, made),
+        Message::Vote { txn, yes } => on_vote(alloc, p, f, txn, *yes, made),
+        Message::Pre { txn, n, dir } => on_pre(p, f, txn, *n, *dir, made),
+        Message::Ack { txn, n, dir } => on_ack(alloc, p, f, txn, *n, *dir, made),
+        Message::Decide { txn, dir } => on_decide(p, f, txn, *dir, made),
+    }
+}

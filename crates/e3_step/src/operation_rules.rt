@@ -1,0 +1,210 @@
+// What a site does with an operation, with its answer, and with the news that one died.
+ghost use Rattle.std.specs.Prelude.{◌≡◌, ◌==◌, ◌||◌, IfOk, if◌then◌else◌};
+ghost use Rattle.e3_types.specs.declared.entries.Told.TheVariants as told;
+ghost use Rattle.e3_types.specs.declared.messages.Message.TheVariants as msg;
+ghost use Rattle.e3_types.specs.declared.transactions.Dir.TheVariants.{Abort};
+ghost use Rattle.e3_step.specs.Asking.{by_grant, asked_by, on_asked};
+ghost use Rattle.e3_world.specs.Making.{is_coordinator, may_abort, and_tell, and_send, and_decide, and_abort_for};
+ghost use Rattle.e3_world.specs.OperationRules.{on_do, on_done, on_died};
+
+use crate::making::{
+    and_abort, and_abort_for, and_decide, and_do, and_send, and_tell, is_coordinator, is_present,
+    may_abort, open_now, state_now,
+};
+use crate::past::Past;
+use e3_types::{Answer, Dir, Grant, Message, NoMemory, Op, State, Told, Txn};
+use e3_world::{Asked, Expected, Made};
+use std::alloc::Global;
+
+fn die<P: Past>(p: &P, t: &Txn, n: u32, older: Txn, made: &mut Made) -> Result<(), NoMemory>
+    ensures { IfOk result (λ u. made.new ≡ (if is_coordinator (P.at p.now) t.now then and_abort_for (P.at p.now) t.now (told.Died t.now older) made.old
+        else and_send (P.at p.now) t.now.site (msg.Died t.now n older) (and_decide (P.at p.now) t.now Abort made.old))) }
+{
+    if is_coordinator(p, t) {
+        and_abort_for(p, t, Told::Died { txn: *t, older }, made)
+    } else {
+        and_decide(p, t, Dir::Abort, made)?;
+        and_send(p, t.site, Message::Died { txn: *t, n, older }, made)
+    }
+}
+
+fn by_grant<P: Past>(
+    alloc: Global,
+    p: &P,
+    q: &Asked,
+    grant: Grant,
+    made: &mut Made,
+) -> Result<(), NoMemory>
+    ensures { IfOk result (λ u. made.new ≡ by_grant (P.at p.now) q.now made.old grant) }
+{
+    match grant {
+        Grant::Held => and_do(alloc, p, &q.txn, q.n, &q.op, made),
+        Grant::Waits => Ok(()),
+        Grant::Dies { older } => die(p, &q.txn, q.n, older, made),
+    }
+}
+
+fn unless_waiting<P: Past>(
+    alloc: Global,
+    p: &P,
+    q: &Asked,
+    waits: bool,
+    grant: Grant,
+    made: &mut Made,
+) -> Result<(), NoMemory>
+    ensures { IfOk result (λ u. made.new ≡ (if waits then made.old else by_grant (P.at p.now) q.now made.old grant)) }
+{
+    if waits {
+        Ok(())
+    } else {
+        by_grant(alloc, p, q, grant, made)
+    }
+}
+
+fn asked_by<P: Past>(
+    alloc: Global,
+    p: &P,
+    q: &Asked,
+    found: Option<Answer>,
+    waits: bool,
+    grant: Grant,
+    made: &mut Made,
+) -> Result<(), NoMemory>
+    ensures { IfOk result (λ u. made.new ≡ asked_by (P.at p.now) q.now made.old found waits grant) }
+{
+    match found {
+        Some(answer) => and_send(
+            p,
+            q.txn.site,
+            Message::Done {
+                txn: q.txn,
+                n: q.n,
+                inc: p.inc(),
+                answer,
+            },
+            made,
+        ),
+        None => unless_waiting(alloc, p, q, waits, grant, made),
+    }
+}
+
+fn on_asked<P: Past>(alloc: Global, p: &P, q: &Asked, made: &mut Made) -> Result<(), NoMemory>
+    ensures { IfOk result (λ u. made.new ≡ on_asked (P.at p.now) q.now made.old) }
+{
+    let found = p.answer(alloc, q)?;
+    let waits = p.is_waiting(alloc, q, made)?;
+    let grant = p.lock(alloc, q, made)?;
+    asked_by(alloc, p, q, found, waits, grant, made)
+}
+
+/// A request for a lock, from site f: the operation is done, waits, or its transaction dies.
+pub fn on_do<P: Past>(
+    alloc: Global,
+    p: &P,
+    f: u32,
+    t: &Txn,
+    n: u32,
+    op: &Op,
+    made: &mut Made,
+) -> Result<(), NoMemory>
+    ensures { IfOk result (λ u. made.new ≡ on_do (P.at p.now) f t.now n op.now made.old) }
+{
+    match state_now(p, t, made) {
+        State::A => and_send(
+            p,
+            f,
+            Message::Vote {
+                txn: *t,
+                yes: false,
+            },
+            made,
+        ),
+        State::Q => {
+            let q = Asked {
+                txn: *t,
+                n,
+                op: op.copy(),
+            };
+            on_asked(alloc, p, &q, made)?;
+            Ok(())
+        }
+        _ => Ok(()),
+    }
+}
+
+fn tell_done<P: Past>(
+    p: &P,
+    f: u32,
+    t: &Txn,
+    n: u32,
+    inc: u32,
+    answer: &Answer,
+    e: Expected,
+    made: &mut Made,
+) -> Result<(), NoMemory>
+    ensures { IfOk result (λ u. made.new ≡ (if e.count == 0 || e.inc == inc then and_tell (told.Op t.now n answer.now) made.old
+        else if may_abort (P.at p.now) t.now made.old then and_abort_for (P.at p.now) t.now (told.Doomed t.now f e.inc inc) made.old else made.old)) }
+{
+    if e.count == 0 || e.inc == inc {
+        and_tell(
+            Told::Op {
+                txn: *t,
+                n,
+                answer: answer.copy(),
+            },
+            made,
+        )
+    } else if may_abort(p, t, made) {
+        and_abort_for(
+            p,
+            t,
+            Told::Doomed {
+                txn: *t,
+                site: f,
+                had: e.inc,
+                now: inc,
+            },
+            made,
+        )
+    } else {
+        Ok(())
+    }
+}
+
+/// The answer to the unanswered operation, from site f, is told; under another incarnation of f than its earlier
+/// answers the transaction is doomed.
+pub fn on_done<P: Past>(
+    alloc: Global,
+    p: &P,
+    f: u32,
+    t: &Txn,
+    n: u32,
+    inc: u32,
+    answer: &Answer,
+    made: &mut Made,
+) -> Result<(), NoMemory>
+    ensures { IfOk result (λ u. made.new ≡ on_done (P.at p.now) f t.now n inc answer.now made.old) }
+{
+    if !(is_coordinator(p, t) && is_present(p, t) && open_now(p, t, made)) {
+        return Ok(());
+    }
+    if !p.is_awaited(alloc, f, t, n, made)? {
+        return Ok(());
+    }
+    let e = p.expected(alloc, t, f)?;
+    tell_done(p, f, t, n, inc, answer, e, made)
+}
+
+/// A request of the transaction died elsewhere: the coordinator aborts, if it may.
+pub fn on_died<P: Past>(p: &P, t: &Txn, older: Txn, made: &mut Made) -> Result<(), NoMemory>
+    ensures { IfOk result (λ u. made.new ≡ on_died (P.at p.now) t.now older made.old) }
+{
+    if !may_abort(p, t, made) {
+        return Ok(());
+    }
+    if is_present(p, t) {
+        and_abort_for(p, t, Told::Died { txn: *t, older }, made)
+    } else {
+        and_abort(p, t, made)
+    }
+}

@@ -1,0 +1,27 @@
+// What a transaction's own writes make of a row.
+ghost use Rattle.std.specs.Prelude.{◌≡◌, fold};
+ghost use Rattle.e3_world.specs.Making.{own_write};
+
+use e3_types::{Answer, Name, Op};
+use e3_world::Performed;
+
+/// The value of an own write of this name, or the answer so far.
+pub fn own_write(name: &Name, was: Answer, p: &Performed) -> Answer
+    ensures { result ≡ own_write name.now was p.now }
+{
+    match &p.op {
+        Op::Write(key, val) if name.is_same(&key.name) => Answer::Value(val.copy()),
+        _ => was,
+    }
+}
+
+/// The value that the last of these writes of the name gave it, or this row where none wrote it.
+pub fn last_own(name: &Name, row: Answer, performed: &[Performed]) -> Answer
+    ensures { result ≡ fold (own_write name.now) row performed.now }
+{
+    let mut answer = row;
+    for p in performed {
+        answer = own_write(name, answer, p);
+    }
+    answer
+}

@@ -1,0 +1,269 @@
+// What a step of a site does: the records, packets and events of an input, read off the site's own past alone.
+ghost use Rattle.std.specs.Prelude.{◌≡◌, ◌∷◌, [], IfOk, Option, fold, suc, length};
+ghost use Rattle.e3_world.specs.Making.{nothing, and_send};
+ghost use Rattle.e3_types.specs.declared.messages.Message.TheVariants as msg;
+ghost use Rattle.e3_world.specs.Logs.{key_of};
+ghost use Rattle.e3_world.specs.Operations.{issued};
+ghost use Rattle.e3_world.specs.Steps.{refuse_late, refuse, or_refused, on_begin, and_ask, on_commit, on_expire, on_elect, on_input, handled, settle, step_at};
+
+use crate::election_rules::and_join;
+use crate::grants::and_grants;
+use crate::making::{
+    and_abort, and_attempt, and_cast, and_decide, and_send, and_tell, and_vote, attempt_now,
+    decision_now, elected_now, is_present, may_abort, nothing, state_now,
+};
+use crate::messages::on_message;
+use crate::past::Past;
+use e3_readings::{begun, key_of};
+use e3_types::{Dir, Input, List, Message, NoMemory, Op, Refusal, SiteSet, State, Told, Txn};
+use e3_world::Made;
+use std::alloc::Global;
+use std::mem;
+
+/// The refusal of a Do, Commit or Cancel at the coordinator, if it is refused.
+pub fn refuse_late<P: Past>(p: &P, t: &Txn, made: &Made) -> Option<Refusal>
+    ensures { result ≡ refuse_late (P.at p.now) t.now made.now }
+{
+    match state_now(p, t, made) {
+        State::Q => None,
+        _ => Some(Refusal::TooLate {
+            attempt: attempt_now(p, t, made),
+        }),
+    }
+}
+
+/// The first cause that applies: no transaction of this incarnation; decided, with the reason kept; busy; too late.
+pub fn refuse<P: Past>(
+    alloc: Global,
+    p: &P,
+    t: &Txn,
+    cancels: bool,
+    made: &Made,
+) -> Result<Option<Refusal>, NoMemory>
+    ensures { IfOk result (λ why. why ≡ refuse (P.at p.now) t.now cancels made.now) }
+{
+    let kept = p.kept_reason(alloc, t)?;
+    if let Some(dir) = decision_now(p, t, made) {
+        return match kept {
+            None => Ok(Some(Refusal::Over { dir })),
+            Some(why) => Ok(Some(why)),
+        };
+    }
+    if !is_present(p, t) {
+        return Ok(Some(Refusal::NoTxn));
+    }
+    if cancels {
+        let attempt = attempt_now(p, t, made);
+        return if attempt == 0 {
+            Ok(None)
+        } else {
+            Ok(Some(Refusal::TooLate { attempt }))
+        };
+    }
+    match p.unanswered(alloc, t, made)? {
+        Some(n) => Ok(Some(Refusal::Busy { op: n })),
+        None => Ok(refuse_late(p, t, made)),
+    }
+}
+
+fn next(count: u32) -> Result<u32, NoMemory>
+    ensures { IfOk result (λ n. n ≡ suc count) }
+{
+    if count < 4294967295 {
+        Ok(count + 1)
+    } else {
+        Err(NoMemory)
+    }
+}
+
+/// A begin: the transaction has the next number of the incarnation.
+pub fn on_begin<P: Past>(p: &P, sites: SiteSet, made: &mut Made) -> Result<(), NoMemory>
+    ensures { IfOk result (λ u. made.new ≡ on_begin (P.at p.now) sites made.old) }
+{
+    let seq = next(p.begins()?)?;
+    and_tell(
+        Told::Began {
+            txn: Txn {
+                site: p.site(),
+                inc: p.inc(),
+                seq,
+                sites,
+            },
+        },
+        made,
+    )
+}
+
+/// Another site is asked for its vote, with the incarnation and the number of its answers.
+pub fn and_ask<P: Past>(
+    alloc: Global,
+    p: &P,
+    t: &Txn,
+    to: u32,
+    made: &mut Made,
+) -> Result<(), NoMemory>
+    ensures { IfOk result (λ u. made.new ≡ and_ask (P.at p.now) t.now made.old to) }
+{
+    let e = p.expected(alloc, t, to)?;
+    and_send(
+        p,
+        to,
+        Message::VoteReq {
+            txn: *t,
+            inc: e.inc,
+            count: e.count,
+        },
+        made,
+    )
+}
+
+fn ask_all<P: Past>(
+    alloc: Global,
+    p: &P,
+    t: &Txn,
+    sites: SiteSet,
+    made: &mut Made,
+) -> Result<(), NoMemory>
+    ensures { IfOk result (λ u. made.new ≡ fold (and_ask (P.at p.now) t.now) made.old sites) }
+{
+    for to in sites.iter() {
+        and_ask(alloc, p, t, to, made)?;
+    }
+    Ok(())
+}
+
+/// A commit: the coordinator votes and asks the other sites, or aborts where it joined an election.
+pub fn on_commit<P: Past>(alloc: Global, p: &P, t: &Txn, made: &mut Made) -> Result<(), NoMemory>
+    ensures { IfOk result (λ u. made.new ≡ on_commit (P.at p.now) t.now made.old) }
+{
+    if elected_now(p, t, made) != 1 {
+        return and_abort(p, t, made);
+    }
+    and_vote(alloc, p, t, made)?;
+    let others = t.sites.without(p.site());
+    match others.split_first() {
+        None => and_attempt(p, t, 1, Dir::Commit, t.sites, made),
+        Some(_) => ask_all(alloc, p, t, others, made),
+    }
+}
+
+/// An expiry: the coordinator aborts if it may, another site if it is in q; else the state is told.
+pub fn on_expire<P: Past>(p: &P, t: &Txn, made: &mut Made) -> Result<(), NoMemory>
+    ensures { IfOk result (λ u. made.new ≡ on_expire (P.at p.now) t.now made.old) }
+{
+    if may_abort(p, t, made) {
+        return and_abort(p, t, made);
+    }
+    match state_now(p, t, made) {
+        State::Q => and_decide(p, t, Dir::Abort, made),
+        state => and_tell(Told::Kept { txn: *t, state }, made),
+    }
+}
+
+/// An elect: a new call, which drops any election of the transaction here.
+pub fn on_elect<P: Past>(
+    alloc: Global,
+    p: &P,
+    t: &Txn,
+    group: SiteSet,
+    made: &mut Made,
+) -> Result<(), NoMemory>
+    ensures { IfOk result (λ u. made.new ≡ on_elect (P.at p.now) t.now group made.old) }
+{
+    let call = p.next_call()?;
+    let e = begun(alloc, p.site(), call, group, elected_now(p, t, made))?;
+    and_cast(p, group, &Message::Ask { txn: *t, call }, made)?;
+    and_join(p, t, &e, made)
+}
+
+fn next_op<P: Past>(alloc: Global, p: &P, t: &Txn) -> Result<u32, NoMemory>
+    ensures { IfOk result (λ n. n ≡ suc (length (issued t.now (P.at p.now).life.steps))) }
+{
+    let count = p.issued_count(alloc, t)?;
+    if count < 4294967295 {
+        Ok(count as u32 + 1)
+    } else {
+        Err(NoMemory)
+    }
+}
+
+fn on_operation<P: Past>(
+    alloc: Global,
+    p: &P,
+    t: &Txn,
+    op: &Op,
+    made: &mut Made,
+) -> Result<(), NoMemory>
+    ensures { IfOk result (λ u. made.new ≡ and_send (P.at p.now) (key_of op.now).site (msg.Do t.now (suc (length (issued t.now (P.at p.now).life.steps))) op.now) made.old) }
+{
+    let n = next_op(alloc, p, t)?;
+    and_send(
+        p,
+        key_of(op).site,
+        Message::Do {
+            txn: *t,
+            n,
+            op: op.copy(),
+        },
+        made,
+    )
+}
+
+/// Each input, by a step that made nothing yet.
+pub fn on_input<P: Past>(alloc: Global, p: &P, input: &Input) -> Result<Made, NoMemory>
+    ensures { IfOk result (λ made. made ≡ on_input (P.at p.now) input.now nothing) }
+{
+    let mut made = nothing(alloc);
+    match input {
+        Input::Begin { sites } => on_begin(p, *sites, &mut made)?,
+        Input::Do { txn, op } => match refuse(alloc, p, txn, false, &made)? {
+            Some(refusal) => and_tell(Told::Refused { txn: *txn, refusal }, &mut made)?,
+            None => on_operation(alloc, p, txn, op, &mut made)?,
+        },
+        Input::Commit { txn } => match refuse(alloc, p, txn, false, &made)? {
+            Some(refusal) => and_tell(Told::Refused { txn: *txn, refusal }, &mut made)?,
+            None => on_commit(alloc, p, txn, &mut made)?,
+        },
+        Input::Cancel { txn } => match refuse(alloc, p, txn, true, &made)? {
+            Some(refusal) => and_tell(Told::Refused { txn: *txn, refusal }, &mut made)?,
+            None => and_abort(p, txn, &mut made)?,
+        },
+        Input::Expire { txn } => on_expire(p, txn, &mut made)?,
+        Input::Elect { txn, group } => on_elect(alloc, p, txn, *group, &mut made)?,
+        Input::Deliver { packet } => on_message(alloc, p, packet.from, &packet.msg, &mut made)?,
+    }
+    Ok(made)
+}
+
+/// One message of a step to its own site.
+pub fn handled<P: Past>(alloc: Global, p: &P, m: &Message, made: &mut Made) -> Result<(), NoMemory>
+    ensures { IfOk result (λ u. made.new ≡ handled (P.at p.now) made.old m.now) }
+{
+    let seen = made.records.len();
+    on_message(alloc, p, p.site(), m, made)?;
+    and_grants(alloc, p, seen, made)?;
+    Ok(())
+}
+
+/// The messages that wait in the step, the first first; those that they make wait behind them.
+pub fn settle_once<P: Past>(alloc: Global, p: &P, made: &mut Made) -> Result<(), NoMemory>
+    ensures { IfOk result (λ u. made.new ≡ fold (handled (P.at p.now)) (record made.old { own = [] }) made.old.own) }
+{
+    let own = mem::replace(&mut made.own, List::new(alloc));
+    for m in own.as_slice() {
+        handled(alloc, p, m, made)?;
+    }
+    Ok(())
+}
+
+/// The step that is made at this place.
+pub fn step_at<P: Past>(alloc: Global, p: &P) -> Result<Made, NoMemory>
+    ensures { IfOk result (λ made. made ≡ step_at (P.at p.now)) }
+{
+    let mut made = on_input(alloc, p, p.input())?;
+    and_grants(alloc, p, 0, &mut made)?;
+    settle_once(alloc, p, &mut made)?;
+    settle_once(alloc, p, &mut made)?;
+    settle_once(alloc, p, &mut made)?;
+    Ok(made)
+}

@@ -1,0 +1,97 @@
+// What a site does when it is asked for its vote, and a coordinator with a yes.
+ghost use Rattle.std.specs.Prelude.{◌≡◌, ◌==◌, ◌&&◌, ◌||◌, not, IfOk};
+ghost use Rattle.std.specs.List.{list_any};
+ghost use Rattle.e3_types.specs.Same.{same_txn};
+ghost use Rattle.e3_types.specs.Sets.{has_site, is_within};
+ghost use Rattle.e3_world.specs.VoteRules.{vote_rule, on_vote_req, on_yes};
+
+use crate::making::{
+    and_attempt, and_decide, and_send, and_vote, elected_now, is_coordinator, state_now,
+};
+use crate::past::Past;
+use e3_types::{Dir, Message, NoMemory, State, Txn};
+use e3_world::Made;
+use std::alloc::Global;
+
+fn may_say_yes(count: u32, have: u64, inc: u32, present: u32, waits: bool) -> bool
+    ensures { result ≡ (count == have && (count == 0 || inc == present) && not waits) }
+{
+    count as u64 == have && (count == 0 || inc == present) && !waits
+}
+
+/// The site may say yes: it has done as many operations as it is asked for, in this incarnation, and none waits.
+pub fn vote_rule<P: Past>(
+    alloc: Global,
+    p: &P,
+    t: &Txn,
+    inc: u32,
+    count: u32,
+    made: &Made,
+) -> Result<bool, NoMemory>
+    ensures { IfOk result (λ b. b ≡ vote_rule (P.at p.now) t.now inc count made.now) }
+{
+    let performed = p.done(alloc, t)?;
+    let waits = p.waits(alloc, t, made)?;
+    Ok(may_say_yes(count, performed.len(), inc, p.inc(), waits))
+}
+
+/// A site that is asked for its vote, by site f.
+pub fn on_vote_req<P: Past>(
+    alloc: Global,
+    p: &P,
+    f: u32,
+    t: &Txn,
+    inc: u32,
+    count: u32,
+    made: &mut Made,
+) -> Result<(), NoMemory>
+    ensures { IfOk result (λ u. made.new ≡ on_vote_req (P.at p.now) f t.now inc count made.old) }
+{
+    let first = elected_now(p, t, made) == 1;
+    match (state_now(p, t, made), first) {
+        (State::A, _) => and_send(
+            p,
+            f,
+            Message::Vote {
+                txn: *t,
+                yes: false,
+            },
+            made,
+        ),
+        (State::W, true) => and_send(p, f, Message::Vote { txn: *t, yes: true }, made),
+        (State::Q, true) => {
+            if vote_rule(alloc, p, t, inc, count, made)? {
+                and_vote(alloc, p, t, made)?;
+                and_send(p, f, Message::Vote { txn: *t, yes: true }, made)
+            } else {
+                and_decide(p, t, Dir::Abort, made)?;
+                and_send(
+                    p,
+                    f,
+                    Message::Vote {
+                        txn: *t,
+                        yes: false,
+                    },
+                    made,
+                )
+            }
+        }
+        _ => Ok(()),
+    }
+}
+
+/// A yes: with the last one the coordinator attempts to commit.
+pub fn on_yes<P: Past>(alloc: Global, p: &P, t: &Txn, made: &mut Made) -> Result<(), NoMemory>
+    ensures { IfOk result (λ u. made.new ≡ on_yes (P.at p.now) t.now made.old) }
+{
+    if !(is_coordinator(p, t)
+        && state_now(p, t, made) == State::W
+        && elected_now(p, t, made) == 1)
+    {
+        return Ok(());
+    }
+    if p.has_every_yes(alloc, t, made)? {
+        and_attempt(p, t, 1, Dir::Commit, t.sites, made)?;
+    }
+    Ok(())
+}
