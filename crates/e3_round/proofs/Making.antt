@@ -1,5 +1,5 @@
 -- The rounds of a recovery step, from its line to its last packet.
-use Rattle.std.proofs.Common.{◌≡◌, ◌∙◌, ◌++◌, ◌∷◌, [], ◌≤◌, inl, inr, ℕ, Bool, true, false, ◌+◌, List, length, length-append, fold, refl, sym, subst, ap, append-nil, append_assoc, arith}
+use Rattle.std.proofs.Common.{◌≡◌, ◌∙◌, ◌++◌, ◌∷◌, [], inl, inr, ℕ, Bool, true, false, List, length, fold, refl, sym, subst, ap, append-nil, append_assoc, arith}
 use Rattle.std.specs.Prelude.{drop}
 use Rattle.std.specs.List.{flat_map}
 use Rattle.e3_sites.proofs.Packets.{StaysDelivering, stays_delivering}

@@ -303,19 +303,19 @@ module _ {X M : Type 0} (marks : X → List M) (belongs : M → ℕ → Bool) (l
   pub cuts_as : (id : ℕ) (me now : MeOf) (o : ℕ) → Rests me → now ≡ (choosing me.0 o, me.1) → 0 < count_of o me.0.owners → 1 < length me.0.owners
       → Splits (Holds marks belongs last) id now.0 (kept_part now.0) (split_part now.0)
   cuts_as id me now o rests is has more =
-      subst (λ (m : MeOf). Splits (Holds marks belongs last) id m.0 (kept_part m.0) (split_part m.0)) (sym is) (cuts id (choosing me.0 o) rests.quiet rests.idle has more)
+      subst (λ (m : MeOf). Splits (Holds marks belongs last) id m.0 (kept_part m.0) (split_part m.0)) (sym is) (cuts id (choosing me.0 o) rests.ticket rests.turn has more)
 
   pub rests_cut : (me now left right : MeOf) (o : ℕ) → Rests me → now ≡ (choosing me.0 o, me.1) → 0 < count_of o me.0.owners → 1 < length me.0.owners
       → left ≡ (kept_part now.0, now.1) → right ≡ (split_part now.0, []) → Rests left × Rests right
   rests_cut me now left right o rests is has more l r =
       let l' : left ≡ (kept_part (choosing me.0 o), me.1) = l ∙ ap (λ (m : MeOf). (kept_part m.0, m.1)) is in
       let r' : right ≡ (split_part (choosing me.0 o), []) = r ∙ ap (λ (m : MeOf). (split_part m.0, [])) is in (
-        subst (λ (m : MeOf). Rests m) (sym l') record { empty = rests.empty; quiet = rests.quiet; idle = rests.idle; owned = let z = length-without o me.0.owners has in omega arith },
-        subst (λ (m : MeOf). Rests m) (sym r') record { empty = refl; quiet = rests.quiet; idle = rests.idle; owned = omega arith },
+        subst (λ (m : MeOf). Rests m) (sym l') record { carried = rests.carried; ticket = rests.ticket; turn = rests.turn; owned = let z = length-without o me.0.owners has in omega arith },
+        subst (λ (m : MeOf). Rests m) (sym r') record { carried = refl; ticket = rests.ticket; turn = rests.turn; owned = omega arith },
       )
 
   pub rests_new : (seen : List M) (me : MeOf) → me ≡ (newcomer last seen, []) → Rests me
-  rests_new seen me e = subst (λ (m : MeOf). Rests m) (sym e) record { empty = refl; quiet = refl; idle = refl; owned = let l = length-down_from last in omega arith }
+  rests_new seen me e = subst (λ (m : MeOf). Rests m) (sym e) record { carried = refl; ticket = refl; turn = refl; owned = let l = length-down_from last in omega arith }
 
   pub owned_joined : (v w : View M) (me : MeOf) (c : List (ℕ × Option X)) → me ≡ (joined v w, c) → 0 < length v.owners → 0 < length me.0.owners
   owned_joined v w me c is h = subst (λ (m : MeOf). 0 < length m.0.owners) (sym is) (let l = length-append v.owners w.owners in omega arith)

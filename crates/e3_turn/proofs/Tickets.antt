@@ -222,12 +222,12 @@ module _ {X M : Type 0} (marks : X → List M) (belongs : M → ℕ → Bool) (l
   pub draws_as : (slots id : ℕ) (me : Me (Option X) (View M)) → Rests me
       → Allows (Holds marks belongs last) slots id me 0 (λ n. (n + 1) % 2 ^ 64) (drew (step slots 0 1 0 none) me)
   draws_as slots id me rests =
-      subst (λ (c : List (ℕ × Option X)). Allows (Holds marks belongs last) slots id (me.0, c) 0 (λ n. (n + 1) % 2 ^ 64) (drew (step slots 0 1 0 none) (me.0, c))) (sym rests.empty) (draws slots id me.0 rests.quiet rests.idle rests.owned)
+      subst (λ (c : List (ℕ × Option X)). Allows (Holds marks belongs last) slots id (me.0, c) 0 (λ n. (n + 1) % 2 ^ 64) (drew (step slots 0 1 0 none) (me.0, c))) (sym rests.carried) (draws slots id me.0 rests.ticket rests.turn rests.owned)
 
   pub looks_as : (slots id : ℕ) (me : Me (Option X) (View M)) → Waits me
       → Allows (Holds marks belongs last) slots id me 1 (λ n. n) (looked marks belongs (step slots 1 0 0 none) me)
   looks_as slots id me waits =
-      subst (λ (c : List (ℕ × Option X)). Allows (Holds marks belongs last) slots id (me.0, c) 1 (λ n. n) (looked marks belongs (step slots 1 0 0 none) (me.0, c))) (sym waits.empty) (looks slots id me.0 waits.quiet waits.idle)
+      subst (λ (c : List (ℕ × Option X)). Allows (Holds marks belongs last) slots id (me.0, c) 1 (λ n. n) (looked marks belongs (step slots 1 0 0 none) (me.0, c))) (sym waits.carried) (looks slots id me.0 waits.ticket waits.turn)
 
   -- another pass, after the turn has gone on
   others_after : (s : StateOf) (served drawn : ℕ) (chronicle : List M) → RuleAt s served drawn chronicle → (id : ℕ) (v : View M) → get_elem? s.views id ≡ some v → v.waits ≡ true → v.has_turn ≡ true → (now more : List M) → now ≡ v.seen ++ more → All (IsOwn belongs last v.owners) more
@@ -328,8 +328,8 @@ module _ {X M : Type 0} (marks : X → List M) (belongs : M → ℕ → Bool) (l
   pub put_as : (slots id : ℕ) (me now : MeOf) (x : X) → IsServed me → now ≡ (me.0, (0, Some x) ∷ rest me.1) → ExtendsByOwners belongs me.0.last me.0.owners me.0.seen (marks x)
       → Allows (Holds marks belongs last) slots id now 1 (λ n. (n + 1) % 2 ^ 64) (passed_on marks (step slots 1 1 0 none) now)
   put_as slots id me now x turn is grew =
-      let is' : now ≡ (me.0, (0, Some x) ∷ []) = is ∙ ap (λ (c : List (ℕ × Option X)). (me.0, (0, Some x) ∷ rest c)) turn.empty in
-      subst (λ (m : MeOf). Allows (Holds marks belongs last) slots id m 1 (λ n. (n + 1) % 2 ^ 64) (passed_on marks (step slots 1 1 0 none) m)) (sym is') (passes slots id me.0 x turn.quiet turn.idle grew)
+      let is' : now ≡ (me.0, (0, Some x) ∷ []) = is ∙ ap (λ (c : List (ℕ × Option X)). (me.0, (0, Some x) ∷ rest c)) turn.carried in
+      subst (λ (m : MeOf). Allows (Holds marks belongs last) slots id m 1 (λ n. (n + 1) % 2 ^ 64) (passed_on marks (step slots 1 1 0 none) m)) (sym is') (passes slots id me.0 x turn.ticket turn.turn grew)
 
   pub has_slot : (v w : MeOf) → Took marks belongs v w → (old : Option X) × (w.1 ≡ (0, old) ∷ rest w.1)
   has_slot v w took = (Some took.0, subst (λ (m : MeOf). m.1 ≡ (0, Some took.0) ∷ rest m.1) (sym took.1) refl)

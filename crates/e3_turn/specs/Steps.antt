@@ -17,23 +17,23 @@ module _ {X M : Type 0} where
 
   -- a pass with owners that has no ticket
   pub record Rests (me : Me (Option X) (View M)) : Type 0 where
-    pub empty : me.1 ≡ []
-    pub quiet : me.0.waits ≡ false
-    pub idle : me.0.has_turn ≡ false
+    pub carried : me.1 ≡ []
+    pub ticket : me.0.waits ≡ false
+    pub turn : me.0.has_turn ≡ false
     pub owned : 0 < length me.0.owners
 
   -- a pass that waits for its turn
   pub record Waits (me : Me (Option X) (View M)) : Type 0 where
-    pub empty : me.1 ≡ []
-    pub quiet : me.0.waits ≡ true
-    pub idle : me.0.has_turn ≡ false
+    pub carried : me.1 ≡ []
+    pub ticket : me.0.waits ≡ true
+    pub turn : me.0.has_turn ≡ false
     pub owned : 0 < length me.0.owners
 
   -- a pass with the turn, whose value is with the caller
   pub record IsServed (me : Me (Option X) (View M)) : Type 0 where
-    pub empty : me.1 ≡ (0, None) ∷ []
-    pub quiet : me.0.waits ≡ true
-    pub idle : me.0.has_turn ≡ true
+    pub carried : me.1 ≡ (0, None) ∷ []
+    pub ticket : me.0.waits ≡ true
+    pub turn : me.0.has_turn ≡ true
     pub owned : 0 < length me.0.owners
 
   -- draw a ticket

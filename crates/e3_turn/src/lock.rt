@@ -26,7 +26,8 @@ const VALUE: usize = 0;
 /// the turn. It has no bytes, and may go to another thread.
 pub type Pass<V> = Seat<Option<V>, View<<V as Chronicle>::Mark>>;
 
-/// A value that is taken in turn, in the order in which tickets were drawn. Contracts see the lock as its identity.
+/// A value that is taken by one pass at a time, in the order in which tickets were drawn. Contracts see the lock as its
+/// identity.
 #[derive(Drop)]
 pub struct TurnLock<V: Chronicle + Drop> {
     table: Table<Option<V>, View<<V as Chronicle>::Mark>, Key<V>, TurnRule<V>, Global>,
@@ -158,7 +159,8 @@ impl<V: Chronicle + Drop> TurnLock<V> {
         self.table.shared.split_seat::<GivesAway>(pass)
     }
 
-    /// Joins another pass into one, which then speaks for the owners of both and has seen the longer chronicle.
+    /// Joins another pass into one, which then speaks for the owners of both and has seen the longer chronicle. The next value
+    /// that it takes begins with that, as `take` says.
     pub fn join(&self, pass: &mut Pass<V>, other: Pass<V>)
         requires idle { IsIdle self.now pass.old }
         requires other { IsIdle self.now other }

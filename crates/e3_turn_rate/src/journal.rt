@@ -41,6 +41,7 @@ impl Chronicle for Journal {
 }
 
 impl Journal {
+    /// A journal without a mark. It takes no memory.
     pub fn new(alloc: Global) -> Journal
         ensures { result ≡ [] }
     {
@@ -58,6 +59,7 @@ impl Journal {
         Ok(())
     }
 
+    /// The marks, the oldest first.
     pub fn into_marks(self) -> Vec<Mark>
         ensures same { result.items ≡ self }
         ensures numbered { IsNumbered result.items }
