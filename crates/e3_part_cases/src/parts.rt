@@ -1,4 +1,6 @@
 // Quorums, the rule of a decision, votes and acknowledgements, an election, and a client's transaction.
+ghost use Rattle.std.specs.Prelude.{◌≡◌, IfOk};
+
 use crate::texts::{push_flag, push_known, push_refused, push_word};
 use e3_client::{Client, Heard};
 use e3_commit::{Round, Votes};
@@ -9,7 +11,9 @@ use e3_rule::decide;
 use e3_types::{Call, Dir, List, NoMemory, Refusal, SiteReport, SiteSet, State, Txn, Verdict};
 use std::alloc::Global;
 
-fn set(sites: &[u32]) -> Result<SiteSet, NoMemory> {
+fn set(sites: &[u32]) -> Result<SiteSet, NoMemory>
+    ensures { IfOk result (λ set. set ≡ sites.now) }
+{
     SiteSet::of(sites).ok_or(NoMemory)
 }
 
@@ -169,35 +173,63 @@ fn push_next(
     push_text(out, "\n")
 }
 
-fn push_ready(out: &mut List<u8>, ready: Result<(), Refusal>, txn: Txn) -> Result<(), NoMemory> {
-    match ready {
+fn push_ready(
+    out: &mut List<u8>,
+    client: &Client,
+    txn: Txn,
+    state: State,
+    attempt: u32,
+) -> Result<(), NoMemory> {
+    match client.ready(state, attempt) {
         Ok(()) => push_text(out, " ready\n"),
         Err(why) => push_refused(out, txn, why),
     }
 }
 
-// Adds what a client of two sites may do while it is open, while an answer is due, after its vote and its end.
-fn push_client(alloc: Global, out: &mut List<u8>, txn: Txn) -> Result<(), NoMemory> {
-    let mut client = Client::begin(alloc, txn)?;
-    push_text(out, "client:\n")?;
-    push_next(out, &client, txn, State::Q, 0)?;
-    push_ready(out, client.ready(State::Q, 0), txn)?;
-    push_ready(out, client.may_cancel(State::Q, 0), txn)?;
-    push_next(out, &client, txn, State::W, 0)?;
-    push_ready(out, client.may_cancel(State::Pc, 1), txn)?;
-    push_ready(out, client.ready(State::C, 1), txn)?;
-    client.end(Refusal::Died { older: txn });
-    push_next(out, &client, txn, State::A, 0)?;
-    let mut client = Client::begin(alloc, txn)?;
-    client.end(Refusal::Doomed {
-        site: 2,
-        had: 3,
-        now: 4,
-    });
-    push_ready(out, client.ready(State::A, 0), txn)
+fn push_cancel(
+    out: &mut List<u8>,
+    client: &Client,
+    txn: Txn,
+    state: State,
+    attempt: u32,
+) -> Result<(), NoMemory> {
+    match client.may_cancel(state, attempt) {
+        Ok(()) => push_text(out, " cancelled\n"),
+        Err(why) => push_refused(out, txn, why),
+    }
 }
 
-// Adds how the answers to two operations at site 2 are taken, the second from a later incarnation.
+// Adds what a client of two sites may do while it is open, after its vote, its attempt and its end.
+fn push_client(alloc: Global, out: &mut List<u8>, txn: Txn) -> Result<(), NoMemory> {
+    let client = Client::begin(alloc, txn)?;
+    push_text(out, "client:\n")?;
+    push_next(out, &client, txn, State::Q, 0)?;
+    push_ready(out, &client, txn, State::Q, 0)?;
+    push_cancel(out, &client, txn, State::Q, 0)?;
+    push_next(out, &client, txn, State::W, 0)?;
+    push_cancel(out, &client, txn, State::Pc, 1)?;
+    push_ready(out, &client, txn, State::C, 1)
+}
+
+// Adds what a client is told of a transaction that was aborted for a reason.
+fn push_ended(alloc: Global, out: &mut List<u8>, txn: Txn, why: Refusal) -> Result<(), NoMemory> {
+    let mut client = Client::begin(alloc, txn)?;
+    client.end(why);
+    push_ready(out, &client, txn, State::A, 0)
+}
+
+fn push_answer(
+    out: &mut List<u8>,
+    client: &mut Client,
+    from: u32,
+    n: u32,
+    inc: u32,
+) -> Result<(), NoMemory> {
+    let heard = client.answer(from, n, inc);
+    push_heard(out, heard)
+}
+
+// Adds how answers to an operation at site 2 are taken: from another site, to another operation, the right one, once more.
 fn push_answers(alloc: Global, out: &mut List<u8>, txn: Txn) -> Result<(), NoMemory> {
     if !txn.sites.has(2) {
         return Ok(());
@@ -205,11 +237,12 @@ fn push_answers(alloc: Global, out: &mut List<u8>, txn: Txn) -> Result<(), NoMem
     let mut client = Client::begin(alloc, txn)?;
     client.issue(2);
     push_next(out, &client, txn, State::Q, 0)?;
-    push_ready(out, client.ready(State::Q, 0), txn)?;
+    push_ready(out, &client, txn, State::Q, 0)?;
     push_text(out, "answers:")?;
-    for (from, n, inc) in [(1, 1, 3), (2, 2, 3), (2, 1, 3), (2, 1, 3)] {
-        push_heard(out, client.answer(from, n, inc))?;
-    }
+    push_answer(out, &mut client, 1, 1, 3)?;
+    push_answer(out, &mut client, 2, 2, 3)?;
+    push_answer(out, &mut client, 2, 1, 3)?;
+    push_answer(out, &mut client, 2, 1, 3)?;
     let (inc, count) = client.expected(2);
     push_labelled(out, ", expected incarnation ", inc as u64)?;
     push_labelled(out, ", count ", count as u64)?;
@@ -224,12 +257,20 @@ fn push_doomed(alloc: Global, out: &mut List<u8>, txn: Txn) -> Result<(), NoMemo
     let mut client = Client::begin(alloc, txn)?;
     client.issue(2);
     push_text(out, "answers:")?;
-    push_heard(out, client.answer(2, 1, 3))?;
+    push_answer(out, &mut client, 2, 1, 3)?;
     if client.issued() < 64 && client.next_op(State::Q, 0).is_ok() {
         client.issue(2);
     }
-    push_heard(out, client.answer(2, 2, 4))?;
+    push_answer(out, &mut client, 2, 2, 4)?;
     push_text(out, "\n")
+}
+
+fn doomed() -> Refusal {
+    Refusal::Doomed {
+        site: 2,
+        had: 3,
+        now: 4,
+    }
 }
 
 /// Adds the lines of these parts.
@@ -240,6 +281,8 @@ pub fn push_lines(alloc: Global, out: &mut List<u8>) -> Result<(), NoMemory> {
     push_election(alloc, out)?;
     let txn = Txn::new(1, 1, 1, set(&[1, 2])?).ok_or(NoMemory)?;
     push_client(alloc, out, txn)?;
+    push_ended(alloc, out, txn, Refusal::Died { older: txn })?;
+    push_ended(alloc, out, txn, doomed())?;
     push_answers(alloc, out, txn)?;
     push_doomed(alloc, out, txn)
 }
