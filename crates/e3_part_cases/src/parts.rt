@@ -156,10 +156,19 @@ fn push_heard(out: &mut List<u8>, heard: Heard) -> Result<(), NoMemory> {
     }
 }
 
+// The transaction of these clients.
+fn txn() -> Txn {
+    Txn {
+        site: 1,
+        inc: 1,
+        seq: 1,
+        sites: SiteSet::one(1).with(2),
+    }
+}
+
 fn push_next(
     out: &mut List<u8>,
     client: &Client,
-    txn: Txn,
     state: State,
     attempt: u32,
 ) -> Result<(), NoMemory> {
@@ -168,7 +177,7 @@ fn push_next(
     }
     match client.next_op(state, attempt) {
         Ok(n) => push_labelled(out, "next ", n as u64)?,
-        Err(why) => return push_refused(out, txn, why),
+        Err(why) => return push_refused(out, txn(), why),
     }
     push_text(out, "\n")
 }
@@ -176,46 +185,44 @@ fn push_next(
 fn push_ready(
     out: &mut List<u8>,
     client: &Client,
-    txn: Txn,
     state: State,
     attempt: u32,
 ) -> Result<(), NoMemory> {
     match client.ready(state, attempt) {
         Ok(()) => push_text(out, " ready\n"),
-        Err(why) => push_refused(out, txn, why),
+        Err(why) => push_refused(out, txn(), why),
     }
 }
 
 fn push_cancel(
     out: &mut List<u8>,
     client: &Client,
-    txn: Txn,
     state: State,
     attempt: u32,
 ) -> Result<(), NoMemory> {
     match client.may_cancel(state, attempt) {
         Ok(()) => push_text(out, " cancelled\n"),
-        Err(why) => push_refused(out, txn, why),
+        Err(why) => push_refused(out, txn(), why),
     }
 }
 
 // Adds what a client of two sites may do while it is open, after its vote, its attempt and its end.
-fn push_client(alloc: Global, out: &mut List<u8>, txn: Txn) -> Result<(), NoMemory> {
-    let client = Client::begin(alloc, txn)?;
+fn push_client(alloc: Global, out: &mut List<u8>) -> Result<(), NoMemory> {
+    let client = Client::begin(alloc, txn())?;
     push_text(out, "client:\n")?;
-    push_next(out, &client, txn, State::Q, 0)?;
-    push_ready(out, &client, txn, State::Q, 0)?;
-    push_cancel(out, &client, txn, State::Q, 0)?;
-    push_next(out, &client, txn, State::W, 0)?;
-    push_cancel(out, &client, txn, State::Pc, 1)?;
-    push_ready(out, &client, txn, State::C, 1)
+    push_next(out, &client, State::Q, 0)?;
+    push_ready(out, &client, State::Q, 0)?;
+    push_cancel(out, &client, State::Q, 0)?;
+    push_next(out, &client, State::W, 0)?;
+    push_cancel(out, &client, State::Pc, 1)?;
+    push_ready(out, &client, State::C, 1)
 }
 
 // Adds what a client is told of a transaction that was aborted for a reason.
-fn push_ended(alloc: Global, out: &mut List<u8>, txn: Txn, why: Refusal) -> Result<(), NoMemory> {
-    let mut client = Client::begin(alloc, txn)?;
+fn push_ended(alloc: Global, out: &mut List<u8>, why: Refusal) -> Result<(), NoMemory> {
+    let mut client = Client::begin(alloc, txn())?;
     client.end(why);
-    push_ready(out, &client, txn, State::A, 0)
+    push_ready(out, &client, State::A, 0)
 }
 
 fn push_answer(
@@ -224,33 +231,37 @@ fn push_answer(
     from: u32,
     n: u32,
     inc: u32,
-) -> Result<(), NoMemory> {
+) -> Result<(), NoMemory>
+    ensures { client.new.txn ≡ client.old.txn }
+{
     let heard = client.answer(from, n, inc);
     push_heard(out, heard)
 }
 
 // Adds how answers to an operation at site 2 are taken: from another site, to another operation, the right one, once more.
-fn push_answers(alloc: Global, out: &mut List<u8>, txn: Txn) -> Result<(), NoMemory> {
+fn push_answers(alloc: Global, out: &mut List<u8>) -> Result<(), NoMemory> {
+    let txn = txn();
     if !txn.sites.has(2) {
         return Ok(());
     }
     let mut client = Client::begin(alloc, txn)?;
     client.issue(2);
-    push_next(out, &client, txn, State::Q, 0)?;
-    push_ready(out, &client, txn, State::Q, 0)?;
+    push_next(out, &client, State::Q, 0)?;
+    push_ready(out, &client, State::Q, 0)?;
     push_text(out, "answers:")?;
     push_answer(out, &mut client, 1, 1, 3)?;
     push_answer(out, &mut client, 2, 2, 3)?;
     push_answer(out, &mut client, 2, 1, 3)?;
     push_answer(out, &mut client, 2, 1, 3)?;
-    let (inc, count) = client.expected(2);
-    push_labelled(out, ", expected incarnation ", inc as u64)?;
-    push_labelled(out, ", count ", count as u64)?;
+    let expected = client.expected(2);
+    push_labelled(out, ", expected incarnation ", expected.0 as u64)?;
+    push_labelled(out, ", count ", expected.1 as u64)?;
     push_text(out, "\n")
 }
 
 // Adds how the answer to a second operation is taken that comes from a later incarnation.
-fn push_doomed(alloc: Global, out: &mut List<u8>, txn: Txn) -> Result<(), NoMemory> {
+fn push_doomed(alloc: Global, out: &mut List<u8>) -> Result<(), NoMemory> {
+    let txn = txn();
     if !txn.sites.has(2) {
         return Ok(());
     }
@@ -279,10 +290,9 @@ pub fn push_lines(alloc: Global, out: &mut List<u8>) -> Result<(), NoMemory> {
     push_rules(out)?;
     push_commit(out)?;
     push_election(alloc, out)?;
-    let txn = Txn::new(1, 1, 1, set(&[1, 2])?).ok_or(NoMemory)?;
-    push_client(alloc, out, txn)?;
-    push_ended(alloc, out, txn, Refusal::Died { older: txn })?;
-    push_ended(alloc, out, txn, doomed())?;
-    push_answers(alloc, out, txn)?;
-    push_doomed(alloc, out, txn)
+    push_client(alloc, out)?;
+    push_ended(alloc, out, Refusal::Died { older: txn() })?;
+    push_ended(alloc, out, doomed())?;
+    push_answers(alloc, out)?;
+    push_doomed(alloc, out)
 }
