@@ -64,7 +64,7 @@ undecided_more t log rs = ap (λ (d : Option Dir). is_none d) (fold-append (deci
 pub undecided_is : (t : Txn) (log : List Record) → is_undecided t log ≡ not (decided_in log t)
 undecided_is t log = decided_more t None log
 
-flat_if : {X Y : Type 0} (f : X → List Y) (b : Bool) (x : X) → flat_map f (if b then x ∷ [] else []) ≡ (if b then f x else [])
+pub flat_if : {X Y : Type 0} (f : X → List Y) (b : Bool) (x : X) → flat_map f (if b then x ∷ [] else []) ≡ (if b then f x else [])
 flat_if f true x = append-nil (f x)
 flat_if f false x = refl
 

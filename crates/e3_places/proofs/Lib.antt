@@ -1,2 +1,4 @@
 mod Hearing
 mod Arriving
+mod Voting
+mod Holding

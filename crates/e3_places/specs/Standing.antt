@@ -193,10 +193,18 @@ follow records rs = list_all (may_follow records) rs
 abbrev pub lock_for : Asked → Lock
 lock_for a = record { txn = a.txn; mode = mode_of a.op }
 
--- the locks that are held for operations done and for votes
-abbrev pub held_in : Claims → List Lock
-held_in claims = map (λ s. lock_for s.asked) (filter (λ s. s.answered) claims.standing) ++ map lock_for claims.votes
+-- the lock that is held for an operation that was answered, unless these records decide its transaction
+abbrev pub held_by : List Record → Standing → List Lock
+held_by rs s = if s.answered && not (decided_in rs s.asked.txn) then lock_for s.asked ∷ [] else []
 
--- the operations that wait
-abbrev pub waiting_in : Claims → List Asked
-waiting_in claims = map (λ s. s.asked) (filter (λ s. not s.answered) claims.standing)
+-- the operation, where it was not answered, unless these records decide its transaction
+abbrev pub waits_by : List Record → Standing → List Asked
+waits_by rs s = if not s.answered && not (decided_in rs s.asked.txn) then s.asked ∷ [] else []
+
+-- the locks on a name that are held, where these records are made: for operations done and for votes
+abbrev pub held_with : List ℕ → List Record → Claims → List Lock
+held_with name rs claims = flat_map (held_by rs) claims.standing ++ map lock_for (votes_by (is_on name) claims.votes rs)
+
+-- the operations that wait, where these records are made
+abbrev pub waits_with : List Record → Claims → List Asked
+waits_with rs claims = flat_map (waits_by rs) claims.standing
