@@ -1,4 +1,8 @@
 mod Hearing
 mod Arriving
 mod Voting
-mod Holding
+mod Locking
+mod Alike
+mod Rowing
+mod Reaching
+mod Looping

@@ -29,6 +29,8 @@ use Rattle.e3_places.specs.declared.places.Standing.{Standing}
 use Rattle.e3_places.specs.declared.places.Claims.{Claims}
 use Rattle.e3_places.specs.declared.places.Place.{Place}
 use Rattle.e3_places.specs.declared.keys.TxnKey.{TxnKey}
+use Rattle.e3_places.specs.declared.picks.Pick.{Pick}
+use Rattle.e3_places.specs.declared.picks.Pick.TheVariants as pick
 
 -- the operation is on the name
 abbrev pub is_on : List ℕ → Asked → Bool
@@ -41,6 +43,11 @@ has_key k t = k.site == t.site && k.inc == t.inc && k.seq == t.seq
 -- the operation is of such a transaction
 abbrev pub is_of : TxnKey → Asked → Bool
 is_of k a = has_key k a.txn
+
+-- the operation is picked
+abbrev pub passes : Pick → Asked → Bool
+passes (pick.On name) = is_on name
+passes (pick.Of k) = is_of k
 
 -- an operation, with whether it was answered
 abbrev pub stand : Asked → Bool → Standing
@@ -201,6 +208,10 @@ held_by rs s = if s.answered && not (decided_in rs s.asked.txn) then lock_for s.
 abbrev pub waits_by : List Record → Standing → List Asked
 waits_by rs s = if not s.answered && not (decided_in rs s.asked.txn) then s.asked ∷ [] else []
 
+-- the lock of an operation of a vote, unless these records decide its transaction
+abbrev pub left_lock : List Record → Asked → List Lock
+left_lock rs a = if is_left rs a then lock_for a ∷ [] else []
+
 -- the locks on a name that are held, where these records are made: for operations done and for votes
 abbrev pub held_with : List ℕ → List Record → Claims → List Lock
 held_with name rs claims = flat_map (held_by rs) claims.standing ++ map lock_for (votes_by (is_on name) claims.votes rs)
@@ -208,3 +219,11 @@ held_with name rs claims = flat_map (held_by rs) claims.standing ++ map lock_for
 -- the operations that wait, where these records are made
 abbrev pub waits_with : List Record → Claims → List Asked
 waits_with rs claims = flat_map (waits_by rs) claims.standing
+
+-- the lock that an operation waits for, if it waits
+abbrev pub wanted_by : List Record → Standing → List Lock
+wanted_by rs s = if not s.answered && not (decided_in rs s.asked.txn) then lock_for s.asked ∷ [] else []
+
+-- the locks for which operations wait, where these records are made
+abbrev pub wanted_with : List Record → Claims → List Lock
+wanted_with rs claims = flat_map (wanted_by rs) claims.standing

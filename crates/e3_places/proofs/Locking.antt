@@ -15,7 +15,7 @@ use Rattle.e3_world.specs.Making.{asked_on}
 use Rattle.e3_world.specs.Operations.{arrivals, is_answered, done_locks, waiting, holders, queue}
 use Rattle.e3_places.specs.declared.places.Claims.{Claims}
 use Rattle.e3_places.specs.declared.places.Standing.{Standing}
-use Rattle.e3_places.specs.Standing.{is_on, stand, standing_one, standing_of, votes_of, votes_by, claims_of, decided_in, follow, lock_for, held_by, waits_by, held_with, waits_with}
+use Rattle.e3_places.specs.Standing.{is_on, stand, standing_one, standing_of, votes_of, votes_by, claims_of, decided_in, follow, lock_for, held_by, waits_by, held_with, waits_with, wanted_by, wanted_with}
 use Rattle.e3_places.proofs.Arriving.{undecided_more, flat_if}
 use Rattle.e3_places.proofs.Voting.{votes_more, voted_is}
 
@@ -108,7 +108,18 @@ queue_is name (a ∷ asked) = by (queue_is name asked) (is_on name a) refl
     by ih true e = rw e (ap (λ (l : List Lock). lock_for a ∷ l) ih)
     by ih false e = rw e ih
 
+wanted_parts : (rs : List Record) (xs : List Standing) → map lock_for (flat_map (waits_by rs) xs) ≡ flat_map (wanted_by rs) xs
+wanted_parts rs [] = refl
+wanted_parts rs (x ∷ xs) = by (not x.answered && not (decided_in rs x.asked.txn)) refl (wanted_parts rs xs)
+  where
+    by : (b : Bool) → (not x.answered && not (decided_in rs x.asked.txn)) ≡ b → map lock_for (flat_map (waits_by rs) xs) ≡ flat_map (wanted_by rs) xs
+        → map lock_for ((if b then x.asked ∷ [] else []) ++ flat_map (waits_by rs) xs) ≡ (if b then lock_for x.asked ∷ [] else []) ++ flat_map (wanted_by rs) xs
+    by true e ih = ap (λ (l : List Lock). lock_for x.asked ∷ l) ih
+    by false e ih = ih
+
 -- The locks for which they wait.
 pub wanted_is : (site : ℕ) (name : List ℕ) (life : Life) (rs : List Record)
-    → queue name (waiting site (life.log ++ rs) life.steps) ≡ map lock_for (waits_with rs (claims_of (is_on name) site life))
-wanted_is site name life rs = queue_is name (waiting site (life.log ++ rs) life.steps) ∙ ap (map lock_for) (waits_are site name life rs)
+    → queue name (waiting site (life.log ++ rs) life.steps) ≡ wanted_with rs (claims_of (is_on name) site life)
+wanted_is site name life rs =
+    queue_is name (waiting site (life.log ++ rs) life.steps) ∙ ap (map lock_for) (waits_are site name life rs)
+    ∙ wanted_parts rs (standing_of (is_on name) site life)
