@@ -6,3 +6,9 @@ mod Alike
 mod Rowing
 mod Reaching
 mod Looping
+mod Ascending
+mod Putting
+mod Fronting
+mod Finding
+mod Risen
+mod Entering

@@ -108,7 +108,7 @@ queue_is name (a ∷ asked) = by (queue_is name asked) (is_on name a) refl
     by ih true e = rw e (ap (λ (l : List Lock). lock_for a ∷ l) ih)
     by ih false e = rw e ih
 
-wanted_parts : (rs : List Record) (xs : List Standing) → map lock_for (flat_map (waits_by rs) xs) ≡ flat_map (wanted_by rs) xs
+pub wanted_parts : (rs : List Record) (xs : List Standing) → map lock_for (flat_map (waits_by rs) xs) ≡ flat_map (wanted_by rs) xs
 wanted_parts rs [] = refl
 wanted_parts rs (x ∷ xs) = by (not x.answered && not (decided_in rs x.asked.txn)) refl (wanted_parts rs xs)
   where

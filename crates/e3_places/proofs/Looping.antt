@@ -69,3 +69,36 @@ held_made name other rs claims o0 o1 o2 o3 standing votes cast again n e0 s e1 v
     ∙ ap (λ (l : List Asked). (flat_map (held_by rs) claims.standing ++ flat_map (left_lock rs) claims.votes) ++ flat_map (left_lock rs) l) last
     ∙ assoc (flat_map (held_by rs) claims.standing) (flat_map (left_lock rs) claims.votes) (flat_map (left_lock rs) own)
     ∙ ap (λ (l : List Lock). flat_map (held_by rs) claims.standing ++ l) (sym (flat_map-append (left_lock rs) claims.votes own) ∙ sym (left_parts rs (claims.votes ++ own)))
+
+pub map_next : {X Y : Type 0} (f : X → Y) (xs : List X) (i : ℕ) (x : X) (was ys zs : List Y) → i < length xs → x ≡ get_or xs i x → ys ≡ was ++ map f (take i xs) → zs ≡ ys ++ f x ∷ []
+    → zs ≡ was ++ map f (take (i + 1) xs)
+map_next f xs i x was ys zs h e g k =
+    k ∙ ap (λ (l : List _). l ++ f x ∷ []) g ∙ assoc was (map f (take i xs)) (f x ∷ [])
+    ∙ ap (λ (l : List _). was ++ l) (sym (more (take i xs)) ∙ ap (map f) (sym (take_next xs i x h e)))
+  where
+    more : (ys : List _) → map f (ys ++ x ∷ []) ≡ map f ys ++ f x ∷ []
+    more [] = refl
+    more (y ∷ ys) = ap (λ (l : List _). f y ∷ l) (more ys)
+
+pub picked_next : {X Y : Type 0} (p : X → Bool) (f : X → Y) (xs : List X) (i : ℕ) (x : X) (was ys zs : List Y) → i < length xs → x ≡ get_or xs i x
+    → ys ≡ was ++ map f (filter p (take i xs)) → zs ≡ ys ++ (if p x then f x ∷ [] else []) → zs ≡ was ++ map f (filter p (take (i + 1) xs))
+picked_next p f xs i x was ys zs h e g k =
+    k ∙ ap (λ (l : List _). l ++ (if p x then f x ∷ [] else [])) g ∙ assoc was (map f (filter p (take i xs))) (if p x then f x ∷ [] else [])
+    ∙ ap (λ (l : List _). was ++ l) (sym (more (take i xs)) ∙ ap (λ (l : List _). map f (filter p l)) (sym (take_next xs i x h e)))
+  where
+    last : (b : Bool) → map f (if b then x ∷ [] else []) ≡ (if b then f x ∷ [] else [])
+    last true = refl
+    last false = refl
+
+    one : (b : Bool) (y : _) (ys : List _) → map f (filter p (ys ++ x ∷ [])) ≡ map f (filter p ys) ++ (if p x then f x ∷ [] else [])
+        → map f (if b then y ∷ filter p (ys ++ x ∷ []) else filter p (ys ++ x ∷ [])) ≡ map f (if b then y ∷ filter p ys else filter p ys) ++ (if p x then f x ∷ [] else [])
+    one true y ys ih = ap (λ (l : List _). f y ∷ l) ih
+    one false y ys ih = ih
+
+    more : (ys : List _) → map f (filter p (ys ++ x ∷ [])) ≡ map f (filter p ys) ++ (if p x then f x ∷ [] else [])
+    more [] = last (p x)
+    more (y ∷ ys) = one (p y) y ys (more ys)
+
+pub map_pushed : {X Y : Type 0} (f : X → Y) (xs : List X) (i : ℕ) (x : X) (was ys zs : List Y) (y : Y) → i < length xs → x ≡ get_or xs i x → ys ≡ was ++ map f (take i xs) → y ≡ f x
+    → zs ≡ ys ++ y ∷ [] → zs ≡ was ++ map f (take (i + 1) xs)
+map_pushed f xs i x was ys zs y h e g d k = map_next f xs i x was ys zs h e g (k ∙ ap (λ (v : _). ys ++ v ∷ []) d)

@@ -28,7 +28,7 @@ use Rattle.e3_places.specs.declared.places.Claims.{Claims}
 use Rattle.e3_places.specs.declared.places.Place.{Place}
 use Rattle.e3_places.specs.declared.places.Standing.{Standing}
 use Rattle.e3_places.specs.Standing.{is_on, is_of, has_key, stand, standing_one, standing_of, cast_of, is_open, votes_of, claims_of, place_of, row_of, decided_in, is_told, is_sent, is_heard, is_left, again, newly, standing_by, with_cast, votes_by, claims_by, written, row_with, row_by, place_by}
-use Rattle.e3_places.specs.Keeping.{txn_key, claims_at}
+use Rattle.e3_places.specs.Keeping.{txn_key, is_key, claims_at}
 use Rattle.e3_places.specs.Touching.{name_of, decided_txns, told_txns, sent_txns, reached, is_moved, moved_names, added, names_touched, keys_touched}
 use Rattle.e3_places.proofs.Alike.{same_txn_refl, same_txn_eq}
 use Rattle.e3_places.proofs.Voting.{filter_both}
@@ -407,10 +407,6 @@ not_then false c h e = refl
 and_left : (b c : Bool) → (b && c) ≡ true → b ≡ true
 and_left true c e = refl
 and_left false c e = e
-
--- the key is that of the transaction
-abbrev pub is_key : TxnKey → TxnKey → Bool
-is_key k l = k.site == l.site && k.inc == l.inc && k.seq == l.seq
 
 pub key_quiet : (k : TxnKey) (site : ℕ) (life : Life) (new : Option Standing) (rs : List Record) (events : List Told) (outs : List Packet)
     → list_any (is_key k) (keys_touched new rs events outs) ≡ false → claims_by (is_of k) (claims_of (is_of k) site life) new rs events outs ≡ claims_of (is_of k) site life

@@ -2,12 +2,21 @@
 #![tactic(auto)]
 
 mod behind;
+mod changing;
+mod granting;
 mod holding;
 mod keys;
 mod picks;
 mod places;
+mod reading;
+mod rising;
+mod touching;
 
-pub use holding::{held, wanted};
+pub use changing::{Changes, NameChange, TxnChange, apply, changes_of, ready};
+pub use granting::{grants_after, restless_behind};
+pub use holding::lock_for;
 pub use keys::{TxnKey, txn_key};
 pub use picks::Pick;
-pub use places::{Claims, Place, Standing};
+pub use places::{Claims, Place, Places, Standing};
+pub use reading::{holders, lock, queue, row};
+pub use rising::{born, enter, unborn};

@@ -1,6 +1,12 @@
 // What stands on a name.
-use e3_types::{Answer, List};
+ghost use Rattle.std.specs.Prelude.{◌≡◌};
+ghost use Rattle.e3_places.specs.Keeping.{no_claims, bare};
+
+use crate::keys::TxnKey;
+use e3_types::{Answer, List, Name};
 use e3_world::Asked;
+use std::alloc::Global;
+use std::collections::BTreeMap;
 
 /// An operation of an undecided transaction that came to the site: it was answered, and has its lock, or it waits.
 #[derive(Drop)]
@@ -22,4 +28,32 @@ pub struct Claims {
 pub struct Place {
     pub claims: Claims,
     pub row: Answer,
+}
+
+/// What a site knows of names: what stands on each, and the operations and votes of each undecided transaction, by which its
+/// names are found.
+#[derive(Drop)]
+pub struct Places {
+    pub names: BTreeMap<Name, Place>,
+    pub txns: BTreeMap<TxnKey, Claims>,
+}
+
+/// Nothing.
+pub(crate) fn no_claims(alloc: Global) -> Claims
+    ensures { result ≡ no_claims }
+{
+    Claims {
+        standing: List::new(alloc),
+        votes: List::new(alloc),
+    }
+}
+
+/// A name on which nothing stands, without a row.
+pub(crate) fn bare(alloc: Global) -> Place
+    ensures { result ≡ bare }
+{
+    Place {
+        claims: no_claims(alloc),
+        row: Answer::Absent,
+    }
 }
