@@ -1,5 +1,5 @@
 -- The rows of a birth, one by one; and the tables of a log, some records more at a time.
-use Rattle.std.specs.Prelude.{◌≡◌, ◌<◌, ◌+◌, ◌++◌, ◌∷◌, [], if◌then◌else◌, cond, ℕ, zero, suc, Bool, true, false, List, Option, Some, None, unwrap_or, drop, length}
+use Rattle.std.specs.Prelude.{◌≡◌, ◌<◌, ◌++◌, ◌∷◌, [], if◌then◌else◌, cond, ℕ, zero, suc, Bool, true, false, List, Option, Some, None, unwrap_or, drop, length}
 use Rattle.std.specs.Map.{lookup}
 use Rattle.std.proofs.Common.{refl, ap, sym, subst, ◌∙◌, arith, get_or}
 use Rattle.e3_types.specs.declared.entries.Told.{Told}

@@ -1,10 +1,8 @@
 -- What a step reads of a name by tables that stand.
-use Rattle.std.specs.Prelude.{◌≡◌, ◌++◌, ℕ, true, List, Result, Ok, Err, IfOk}
-use Rattle.std.proofs.Common.{refl, ap, sym, ◌∙◌}
+use Rattle.std.specs.Prelude.{◌≡◌, ℕ, true, List, Result, Ok, Err, IfOk}
+use Rattle.std.proofs.Common.{ap, sym, ◌∙◌}
 use Rattle.e3_types.specs.declared.list.NoMemory.{NoMemory}
-use Rattle.e3_types.specs.declared.locks.Lock.{Lock}
 use Rattle.e3_types.specs.declared.records.Record.{Record}
-use Rattle.e3_types.specs.declared.transactions.Answer.{Answer}
 use Rattle.e3_world.specs.declared.lives.At.{At}
 use Rattle.e3_world.specs.declared.lives.Made.{Made}
 use Rattle.e3_world.specs.Logs.{table_of, row_value}

@@ -1,10 +1,9 @@
 -- The requests that are granted behind a step are found on the names that it touches.
-use Rattle.std.specs.Prelude.{◌≡◌, ◌++◌, ◌∷◌, [], if◌then◌else◌, ◌⊎◌, ℕ, zero, suc, Bool, true, false, List, Option, filter, fold, map, length, take, ◌||◌, ◌&&◌, Result, Ok, Err, IfOk}
+use Rattle.std.specs.Prelude.{◌≡◌, ◌++◌, ◌∷◌, [], if◌then◌else◌, ◌⊎◌, ℕ, zero, suc, Bool, true, false, List, Option, filter, fold, map, length, take, ◌||◌, Result, Ok, Err, IfOk}
 use Rattle.std.specs.List.{list_any, flat_map}
-use Rattle.std.specs.Ordering.{nat_cmp, match_ordering}
+use Rattle.std.specs.Ordering.{match_ordering}
 use Rattle.std.specs.declared.cmp.Ordering.{Ordering}
 use Rattle.std.specs.declared.cmp.Ordering.TheVariants.{Less, Equal, Greater}
-use Rattle.std.specs.Cmp.Lexicographic.{slice_cmp}
 use Rattle.std.proofs.Common.{refl, ap, sym, subst, ◌∙◌, inl, inr}
 use Rattle.std.proofs.lemmas.List.{append-nil}
 use Rattle.std.proofs.lemmas.List.Folds.{list_any-append}
@@ -16,7 +15,7 @@ use Rattle.e3_types.specs.declared.messages.Packet.{Packet}
 use Rattle.e3_types.specs.declared.records.Record.{Record}
 use Rattle.e3_types.specs.Locks.{front}
 use Rattle.e3_types.specs.Same.{same_numbers}
-use Rattle.e3_types.proofs.SameSites.{same_numbers_refl, same_numbers_eq}
+use Rattle.e3_types.proofs.SameSites.{same_numbers_eq}
 use Rattle.e3_world.specs.declared.lives.Asked.{Asked}
 use Rattle.e3_world.specs.declared.lives.At.{At}
 use Rattle.e3_world.specs.declared.lives.Life.{Life}
@@ -24,20 +23,20 @@ use Rattle.e3_world.specs.declared.lives.Made.{Made}
 use Rattle.e3_world.specs.declared.lives.SiteStep.{SiteStep}
 use Rattle.e3_world.specs.Lives.{life_by}
 use Rattle.e3_world.specs.Logs.{key_of}
-use Rattle.e3_world.specs.Making.{add_name, names_of, asked_on, granted_on, granted, grants_after, log_now, steps_now}
+use Rattle.e3_world.specs.Making.{add_name, names_of, asked_on, granted_on, grants_after, log_now, steps_now}
 use Rattle.e3_world.specs.Operations.{waiting, holders, queue}
 use Rattle.e3_world.proofs.Turns.{true_not_false}
 use Rattle.e3_places.specs.declared.places.Claims.{Claims}
 use Rattle.e3_places.specs.declared.places.Place.{Place}
 use Rattle.e3_places.specs.declared.places.Places.{Places}
 use Rattle.e3_places.specs.declared.places.Standing.{Standing}
-use Rattle.e3_places.specs.Standing.{is_on, fresh_of, follow, lock_for, held_with, waits_with, wanted_with, claims_of, claims_by, place_of, place_by}
+use Rattle.e3_places.specs.Standing.{is_on, fresh_of, follow, lock_for, held_with, waits_with, wanted_with, claims_of, place_by}
 use Rattle.e3_places.specs.Touching.{name_of, names_touched}
-use Rattle.e3_places.specs.Keeping.{place_at, PlacesStand}
+use Rattle.e3_places.specs.Keeping.{PlacesStand}
 use Rattle.e3_places.specs.Granting.{given, given_behind, is_restless, RestlessStand, stirred, restless_by, in_order, granted_by, step_so_far}
 use Rattle.e3_places.proofs.Ascending.{Below, Ascending, IsOne, Covered, cmp, below_more, turned, same_given}
 use Rattle.e3_places.proofs.Locking.{holders_are, waits_are, wanted_parts}
-use Rattle.e3_places.proofs.Putting.{claims_step, place_step}
+use Rattle.e3_places.proofs.Putting.{place_step}
 use Rattle.e3_places.proofs.Reaching.{name_quiet, none_left, none_right}
 
 -- names in byte order

@@ -1,8 +1,7 @@
 -- What is held and what waits on a name, as what stands there has it.
-use Rattle.std.specs.Prelude.{◌≡◌, ◌==◌, ◌&&◌, ◌||◌, ◌++◌, ◌∷◌, [], if◌then◌else◌, ℕ, Bool, true, false, not, List, filter, map}
-use Rattle.std.specs.List.{list_any, flat_map}
-use Rattle.std.proofs.Common.{refl, ap, sym, ◌∙◌, arith}
-use Rattle.std.proofs.lemmas.List.{append-nil}
+use Rattle.std.specs.Prelude.{◌≡◌, ◌&&◌, ◌++◌, ◌∷◌, [], if◌then◌else◌, ℕ, Bool, true, false, not, List, filter, map}
+use Rattle.std.specs.List.{flat_map}
+use Rattle.std.proofs.Common.{refl, ap, sym, ◌∙◌}
 use Rattle.std.proofs.lemmas.List.Concat.{flat_map-append}
 use Rattle.e3_types.specs.declared.locks.Lock.{Lock}
 use Rattle.e3_types.specs.declared.records.Record.{Record}
@@ -13,9 +12,8 @@ use Rattle.e3_world.specs.declared.lives.Moment.{Moment}
 use Rattle.e3_world.specs.Logs.{is_undecided, key_of, lock_on, voted_locks}
 use Rattle.e3_world.specs.Making.{asked_on}
 use Rattle.e3_world.specs.Operations.{arrivals, is_answered, done_locks, waiting, holders, queue}
-use Rattle.e3_places.specs.declared.places.Claims.{Claims}
 use Rattle.e3_places.specs.declared.places.Standing.{Standing}
-use Rattle.e3_places.specs.Standing.{is_on, stand, standing_one, standing_of, votes_of, votes_by, claims_of, decided_in, follow, lock_for, held_by, waits_by, held_with, waits_with, wanted_by, wanted_with}
+use Rattle.e3_places.specs.Standing.{is_on, stand, standing_one, standing_of, claims_of, decided_in, follow, lock_for, held_by, waits_by, held_with, waits_with, wanted_by, wanted_with}
 use Rattle.e3_places.proofs.Arriving.{undecided_more, flat_if}
 use Rattle.e3_places.proofs.Voting.{votes_more, voted_is}
 

@@ -1,8 +1,7 @@
 -- Changes that are put in their places.
-use Rattle.std.specs.Prelude.{◌≡◌, ◌==◌, ◌&&◌, ◌||◌, ◌∷◌, [], if◌then◌else◌, cond, ℕ, Bool, true, false, List, map, fold, Option, Some, None, unwrap_or, Result, Ok, Err, OnOk, IfOk, IsSome, OnErr, is_some, ◌≤◌, ◌-◌, take, drop, length, suc}
+use Rattle.std.specs.Prelude.{◌≡◌, ◌||◌, ◌∷◌, [], if◌then◌else◌, cond, ℕ, Bool, true, false, List, map, fold, Option, Some, None, unwrap_or, Result, Ok, Err, OnOk, IsSome, OnErr, is_some, ◌≤◌, ◌-◌, take, drop, length, suc}
 use Rattle.std.specs.List.{list_any}
 use Rattle.std.specs.Map.{lookup}
-use Rattle.std.specs.BTreeMap.{is_at}
 use Rattle.std.proofs.Common.{refl, ap, sym, subst, ◌∙◌, arith, get_or}
 use Rattle.std.proofs.lemmas.Grind.{common_steps}
 use Rattle.e3_types.specs.declared.entries.Told.{Told}
@@ -10,22 +9,20 @@ use Rattle.e3_types.specs.declared.list.NoMemory.{NoMemory}
 use Rattle.e3_types.specs.declared.messages.Packet.{Packet}
 use Rattle.e3_types.specs.declared.records.Record.{Record}
 use Rattle.e3_types.specs.Same.{same_numbers}
-use Rattle.e3_types.proofs.SameSites.{same_numbers_refl, same_numbers_eq}
+use Rattle.e3_types.proofs.SameSites.{same_numbers_eq}
 use Rattle.e3_world.specs.declared.lives.Life.{Life}
 use Rattle.e3_world.specs.declared.lives.SiteStep.{SiteStep}
 use Rattle.e3_world.specs.Lives.{life_by}
 use Rattle.e3_world.proofs.Turns.{true_not_false}
 use Rattle.e3_places.specs.declared.changing.Changes.{Changes}
-use Rattle.e3_places.specs.declared.changing.NameChange.{NameChange}
-use Rattle.e3_places.specs.declared.changing.TxnChange.{TxnChange}
 use Rattle.e3_places.specs.declared.keys.TxnKey.{TxnKey}
 use Rattle.e3_places.specs.declared.places.Claims.{Claims}
 use Rattle.e3_places.specs.declared.places.Place.{Place}
 use Rattle.e3_places.specs.declared.places.Places.{Places}
 use Rattle.e3_places.specs.declared.places.Standing.{Standing}
-use Rattle.e3_places.specs.Standing.{is_on, is_of, claims_of, claims_by, place_of, place_by, fresh_of, follow, votes_of, row_of, standing_of}
+use Rattle.e3_places.specs.Standing.{is_on, is_of, claims_of, claims_by, place_of, place_by, fresh_of, follow}
 use Rattle.e3_places.specs.Touching.{names_touched, keys_touched}
-use Rattle.e3_places.specs.Keeping.{no_claims, bare, is_key, key_cmp, at_name, at_key, value_at, place_at, claims_at, PlacesStand, name_change, txn_change, put_name, put_txn, AreChanges, Has, HasEach, IsRoomier}
+use Rattle.e3_places.specs.Keeping.{is_key, at_name, at_key, value_at, place_at, claims_at, PlacesStand, name_change, txn_change, put_name, put_txn, AreChanges, Has, HasEach, IsRoomier}
 use Rattle.e3_places.proofs.Alike.{ties}
 use Rattle.e3_places.proofs.Arriving.{standing_step}
 use Rattle.e3_places.proofs.Reaching.{name_quiet, key_quiet}

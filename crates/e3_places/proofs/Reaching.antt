@@ -1,5 +1,5 @@
 -- A step changes what stands on the names that it touches, and for the transactions that it touches, and nothing else.
-use Rattle.std.specs.Prelude.{◌≡◌, ◌==◌, ◌&&◌, ◌||◌, ◌++◌, ◌∷◌, [], if◌then◌else◌, ℕ, Bool, true, false, not, List, filter, map, fold, Option, Some, None}
+use Rattle.std.specs.Prelude.{◌≡◌, ◌==◌, ◌&&◌, ◌||◌, ◌++◌, ◌∷◌, [], ℕ, Bool, true, false, List, filter, map, fold, Option, Some, None}
 use Rattle.std.specs.List.{list_any, flat_map}
 use Rattle.std.proofs.Common.{refl, ap, sym, subst, ◌∙◌, arith}
 use Rattle.std.proofs.lemmas.Grind.{common_steps}
@@ -21,11 +21,10 @@ use Rattle.e3_world.specs.declared.lives.Asked.{Asked}
 use Rattle.e3_world.specs.declared.lives.Life.{Life}
 use Rattle.e3_world.specs.Elections.{is_decision}
 use Rattle.e3_world.specs.Logs.{is_undecided}
-use Rattle.e3_world.specs.Operations.{arrivals, is_answered}
+use Rattle.e3_world.specs.Operations.{arrivals}
 use Rattle.e3_world.proofs.Turns.{true_not_false}
 use Rattle.e3_places.specs.declared.keys.TxnKey.{TxnKey}
 use Rattle.e3_places.specs.declared.places.Claims.{Claims}
-use Rattle.e3_places.specs.declared.places.Place.{Place}
 use Rattle.e3_places.specs.declared.places.Standing.{Standing}
 use Rattle.e3_places.specs.Standing.{is_on, is_of, has_key, stand, standing_one, standing_of, cast_of, is_open, votes_of, claims_of, place_of, row_of, decided_in, is_told, is_sent, is_heard, is_left, again, newly, standing_by, with_cast, votes_by, claims_by, written, row_with, row_by, place_by}
 use Rattle.e3_places.specs.Keeping.{txn_key, is_key, claims_at}

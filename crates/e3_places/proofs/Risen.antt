@@ -1,6 +1,5 @@
 -- The tables of a log behind more records, before the first step.
-use Rattle.std.specs.Prelude.{◌≡◌, ◌++◌, ◌∷◌, [], if◌then◌else◌, cond, ℕ, Bool, true, false, List, Option, Some, None, unwrap_or, fold, filter, length}
-use Rattle.std.specs.Map.{lookup}
+use Rattle.std.specs.Prelude.{◌≡◌, ◌++◌, ◌∷◌, [], if◌then◌else◌, ℕ, Bool, true, false, List, None, fold, length}
 use Rattle.std.proofs.Common.{refl, ap, sym, ◌∙◌}
 use Rattle.e3_types.specs.declared.records.Record.{Record}
 use Rattle.e3_types.specs.declared.records.Record.TheVariants as log
@@ -16,10 +15,9 @@ use Rattle.e3_places.specs.declared.keys.TxnKey.{TxnKey}
 use Rattle.e3_places.specs.declared.places.Claims.{Claims}
 use Rattle.e3_places.specs.declared.places.Place.{Place}
 use Rattle.e3_places.specs.declared.places.Places.{Places}
-use Rattle.e3_places.specs.declared.places.Standing.{Standing}
 use Rattle.e3_places.specs.Standing.{held_with, wanted_with, is_on, is_of, claims_of, claims_by, place_of, place_by, follow}
-use Rattle.e3_places.specs.Keeping.{no_claims, bare, at_name, place_at, claims_at, PlacesStand, put_name, put_txn, AreChanges, IsRoomier, ActAlike}
-use Rattle.e3_places.specs.Granting.{RestlessStand, given}
+use Rattle.e3_places.specs.Keeping.{no_claims, place_at, claims_at, PlacesStand, put_name, put_txn, AreChanges, ActAlike}
+use Rattle.e3_places.specs.Granting.{RestlessStand}
 use Rattle.e3_places.specs.Rising.{risen, first_row, RowsStand}
 use Rattle.e3_places.proofs.Fronting.{take_none}
 use Rattle.e3_places.proofs.Rowing.{row_more}

@@ -1,6 +1,6 @@
 -- The operations of votes behind more records, and their locks.
-use Rattle.std.specs.Prelude.{◌≡◌, ◌==◌, ◌&&◌, ◌||◌, ◌++◌, ◌∷◌, [], if◌then◌else◌, ℕ, Bool, true, false, not, List, filter, map}
-use Rattle.std.specs.List.{list_any, list_all, flat_map}
+use Rattle.std.specs.Prelude.{◌≡◌, ◌&&◌, ◌++◌, ◌∷◌, [], if◌then◌else◌, ℕ, Bool, true, false, List, filter, map}
+use Rattle.std.specs.List.{flat_map}
 use Rattle.std.proofs.Common.{refl, ap, sym, ◌∙◌, arith}
 use Rattle.std.proofs.lemmas.Grind.{common_steps}
 use Rattle.std.proofs.lemmas.List.Concat.{flat_map-append}
@@ -13,7 +13,7 @@ use Rattle.e3_types.specs.declared.transactions.Txn.{Txn}
 use Rattle.e3_types.specs.Same.{same_numbers}
 use Rattle.e3_world.specs.declared.lives.Asked.{Asked}
 use Rattle.e3_world.specs.Logs.{is_undecided, key_of, lock_on, vote_locks, voted_locks}
-use Rattle.e3_places.specs.Standing.{is_on, voted, cast_in, cast_of, is_open, votes_of, decided_in, is_left, with_cast, votes_by, may_follow, follow, lock_for}
+use Rattle.e3_places.specs.Standing.{is_on, voted, cast_in, cast_of, is_open, votes_of, is_left, votes_by, may_follow, follow, lock_for}
 use Rattle.e3_places.proofs.Arriving.{undecided_more}
 
 -- a test that is two tests in turn

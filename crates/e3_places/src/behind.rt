@@ -115,12 +115,7 @@ fn add_newly(
     }
 }
 
-fn add_cast(
-    pick: &Pick,
-    t: &Txn,
-    ops: &[NumOp],
-    out: &mut List<Asked>,
-) -> Result<(), NoMemory>
+fn add_cast(pick: &Pick, t: &Txn, ops: &[NumOp], out: &mut List<Asked>) -> Result<(), NoMemory>
     ensures { IfOk result (λ u. out.new ≡ out.old ++ filter (passes pick.now) (map (voted t.now) ops.now)) }
 {
     for o in ops {
@@ -202,7 +197,13 @@ pub fn claims_by(
     ensures { IfOk result (λ c. c ≡ claims_by (passes pick.now) was.now new.now records.now events.now outs.now) }
 {
     let mut standing = List::new(alloc);
-    add_standing(records, events, outs, was.standing.as_slice(), &mut standing)?;
+    add_standing(
+        records,
+        events,
+        outs,
+        was.standing.as_slice(),
+        &mut standing,
+    )?;
     add_newly(pick, new, records, events, outs, &mut standing)?;
     Ok(Claims {
         standing,

@@ -166,11 +166,7 @@ pub fn changes_of(
 }
 
 // A name on which nothing stands says what no entry says.
-fn ready_name(
-    alloc: Global,
-    names: &mut BTreeMap<Name, Place>,
-    name: &Name,
-) -> Result<(), NoMemory>
+fn ready_name(alloc: Global, names: &mut BTreeMap<Name, Place>, name: &Name) -> Result<(), NoMemory>
     ensures same { IsRoomier at_name bare names.old.entries names.new.entries }
     ensures ok { OnOk result (Has at_name names.new.entries name.now) }
 {

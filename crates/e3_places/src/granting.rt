@@ -191,7 +191,16 @@ fn granted_by(
     let names = in_order(alloc, all.as_slice())?;
     let mut out = List::new(alloc);
     for name in names.as_slice() {
-        add_given(alloc, &places.names, new, records, events, outs, name, &mut out)?;
+        add_given(
+            alloc,
+            &places.names,
+            new,
+            records,
+            events,
+            outs,
+            name,
+            &mut out,
+        )?;
     }
     Ok(out)
 }
@@ -255,7 +264,16 @@ fn restless_by(
     let all = stirred(alloc, places, restless, new, records, events, outs)?;
     let mut out = List::new(alloc);
     for name in all.as_slice() {
-        add_restless(alloc, &places.names, new, records, events, outs, name, &mut out)?;
+        add_restless(
+            alloc,
+            &places.names,
+            new,
+            records,
+            events,
+            outs,
+            name,
+            &mut out,
+        )?;
     }
     Ok(out)
 }

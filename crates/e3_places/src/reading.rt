@@ -76,12 +76,7 @@ pub fn queue(
 }
 
 /// What the lock rule answers to a request, with the step's records.
-pub fn lock(
-    alloc: Global,
-    places: &Places,
-    q: &Asked,
-    made: &Made,
-) -> Result<Grant, NoMemory>
+pub fn lock(alloc: Global, places: &Places, q: &Asked, made: &Made) -> Result<Grant, NoMemory>
     ghost a: { At }
     requires stand { PlacesStand a.site places.now a.life }
     requires follow { follow a.life.log made.now.records ≡ true }
@@ -109,12 +104,7 @@ fn row_at(
 }
 
 /// The value of a name in the table, with the step's records: one look-up.
-pub fn row(
-    alloc: Global,
-    places: &Places,
-    name: &Name,
-    made: &Made,
-) -> Result<Answer, NoMemory>
+pub fn row(alloc: Global, places: &Places, name: &Name, made: &Made) -> Result<Answer, NoMemory>
     ghost a: { At }
     requires stand { PlacesStand a.site places.now a.life }
     requires follow { follow a.life.log made.now.records ≡ true }

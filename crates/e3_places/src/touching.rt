@@ -253,7 +253,14 @@ pub fn names_touched(
     let asked = added(alloc, new, records)?;
     add_names(asked.as_slice(), &mut out)?;
     let txns_reached = reached(alloc, records, events, outs)?;
-    add_names_of_all(txns, records, events, outs, txns_reached.as_slice(), &mut out)?;
+    add_names_of_all(
+        txns,
+        records,
+        events,
+        outs,
+        txns_reached.as_slice(),
+        &mut out,
+    )?;
     Ok(out)
 }
 

@@ -1,4 +1,4 @@
-use Rattle.std.proofs.Common.{◌≡◌, ◌++◌, take}
+use Rattle.std.proofs.Common.{◌≡◌, take}
 use Rattle.std.specs.List.{flat_map}
 use Rattle.e3_places.specs.Standing.{wanted_by}
 use Rattle.e3_places.proofs.holding.wanted.Given as goal

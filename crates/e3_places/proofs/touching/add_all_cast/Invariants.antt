@@ -1,5 +1,4 @@
-use Rattle.std.proofs.Common.{◌≡◌, ◌++◌, take, map, filter}
-use Rattle.std.specs.List.{flat_map}
+use Rattle.std.proofs.Common.{◌≡◌, ◌++◌, take}
 use Rattle.e3_places.specs.Standing.{cast_of}
 use Rattle.e3_places.proofs.touching.add_all_cast.Given as goal
 

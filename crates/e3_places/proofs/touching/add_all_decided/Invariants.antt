@@ -1,6 +1,6 @@
-use Rattle.std.proofs.Common.{◌≡◌, ◌++◌, take, map, filter}
+use Rattle.std.proofs.Common.{◌≡◌, ◌++◌, take}
 use Rattle.std.specs.List.{flat_map}
-use Rattle.e3_places.specs.Touching.{name_of, decided_txns, told_txns, sent_txns, is_moved, moved_names}
+use Rattle.e3_places.specs.Touching.{decided_txns}
 use Rattle.e3_places.proofs.touching.add_all_decided.Given as goal
 
 abbrev pub invariant-loop-r : goal.invariant-loop-r

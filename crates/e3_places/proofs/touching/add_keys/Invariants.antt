@@ -1,5 +1,4 @@
-use Rattle.std.proofs.Common.{◌≡◌, ◌++◌, take, map, filter}
-use Rattle.std.specs.List.{flat_map}
+use Rattle.std.proofs.Common.{◌≡◌, ◌++◌, take, map}
 use Rattle.e3_places.specs.Keeping.{txn_key}
 use Rattle.e3_places.proofs.touching.add_keys.Given as goal
 

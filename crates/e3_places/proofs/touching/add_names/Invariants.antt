@@ -1,6 +1,5 @@
-use Rattle.std.proofs.Common.{◌≡◌, ◌++◌, take, map, filter}
-use Rattle.std.specs.List.{flat_map}
-use Rattle.e3_places.specs.Touching.{name_of, decided_txns, told_txns, sent_txns, is_moved, moved_names}
+use Rattle.std.proofs.Common.{◌≡◌, ◌++◌, take, map}
+use Rattle.e3_places.specs.Touching.{name_of}
 use Rattle.e3_places.proofs.touching.add_names.Given as goal
 
 abbrev pub invariant-loop-a : goal.invariant-loop-a
