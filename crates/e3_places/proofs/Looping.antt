@@ -1,0 +1,104 @@
+-- What loops make, one item at a time.
+use Rattle.std.specs.Prelude.{◌≡◌, ◌<◌, ◌+◌, ◌++◌, ◌∷◌, [], if◌then◌else◌, ℕ, Bool, true, false, List, filter, map, fold, take, length}
+use Rattle.std.specs.List.{flat_map}
+use Rattle.std.proofs.Common.{refl, ap, sym, ◌∙◌, arith, get_or}
+use Rattle.std.proofs.lemmas.Grind.{common_steps}
+use Rattle.std.proofs.lemmas.List.{append-nil}
+use Rattle.std.proofs.lemmas.List.Concat.{flat_map-append}
+use Rattle.std.proofs.lemmas.List.Elements.{filter-append}
+use Rattle.std.proofs.lemmas.List.Sums.{fold-append}
+use Rattle.e3_types.specs.declared.locks.Lock.{Lock}
+use Rattle.e3_types.specs.declared.records.Record.{Record}
+use Rattle.e3_types.specs.declared.transactions.Answer.{Answer}
+use Rattle.e3_types.specs.declared.transactions.Txn.{Txn}
+use Rattle.e3_types.specs.Same.{same_txn}
+use Rattle.e3_world.specs.declared.lives.Asked.{Asked}
+use Rattle.e3_places.specs.declared.picks.Pick.TheVariants as pick
+use Rattle.e3_places.specs.declared.places.Claims.{Claims}
+use Rattle.e3_places.specs.declared.places.Standing.{Standing}
+use Rattle.e3_places.specs.Standing.{is_on, passes, cast_of, is_left, lock_for, left_lock, held_by, held_with, written}
+
+assoc : {X : Type 0} (xs ys zs : List X) → (xs ++ ys) ++ zs ≡ xs ++ (ys ++ zs)
+assoc [] ys zs = refl
+assoc (x ∷ xs) ys zs = ap (λ (l : List _). x ∷ l) (assoc xs ys zs)
+
+take_next : {X : Type 0} (xs : List X) (i : ℕ) (x : X) → i < length xs → x ≡ get_or xs i x → take (i + 1) xs ≡ take i xs ++ x ∷ []
+take_next xs i x h e = grind (arith, common_steps, h, e)
+
+pub flat_next : {X Y : Type 0} (f : X → List Y) (xs : List X) (i : ℕ) (x : X) (was ys zs : List Y) → i < length xs → x ≡ get_or xs i x → ys ≡ was ++ flat_map f (take i xs) → zs ≡ ys ++ f x
+    → zs ≡ was ++ flat_map f (take (i + 1) xs)
+flat_next f xs i x was ys zs h e g k =
+    k ∙ ap (λ (l : List _). l ++ f x) g ∙ assoc was (flat_map f (take i xs)) (f x)
+    ∙ ap (λ (l : List _). was ++ l)
+    (ap (λ (l : List _). flat_map f (take i xs) ++ l) (sym (append-nil (f x))) ∙ sym (flat_map-append f (take i xs) (x ∷ [])) ∙ ap (flat_map f) (sym (take_next xs i x h e)))
+
+one_left : {X : Type 0} (p : X → Bool) (x : X) → (if p x then x ∷ [] else []) ≡ filter p (x ∷ [])
+one_left p x = refl
+
+pub filter_next : {X : Type 0} (p : X → Bool) (xs : List X) (i : ℕ) (x : X) (was ys zs : List X) → i < length xs → x ≡ get_or xs i x → ys ≡ was ++ filter p (take i xs)
+    → zs ≡ ys ++ (if p x then x ∷ [] else []) → zs ≡ was ++ filter p (take (i + 1) xs)
+filter_next p xs i x was ys zs h e g k =
+    k ∙ ap (λ (l : List _). l ++ filter p (x ∷ [])) g ∙ assoc was (filter p (take i xs)) (filter p (x ∷ []))
+    ∙ ap (λ (l : List _). was ++ l) (sym (filter-append p (take i xs) (x ∷ [])) ∙ ap (filter p) (sym (take_next xs i x h e)))
+
+pub committed_both : (t : Txn) (votes cast : List Asked) (was x y : Answer) → x ≡ fold written was (filter (λ a. same_txn t a.txn) votes)
+    → y ≡ fold written x (filter (λ a. same_txn t a.txn) cast) → y ≡ fold written was (filter (λ a. same_txn t a.txn) (votes ++ cast))
+committed_both t votes cast was x y e f =
+    f ∙ ap (λ (v : Answer). fold written v (filter (λ a. same_txn t a.txn) cast)) e
+    ∙ sym (ap (fold written was) (filter-append (λ a. same_txn t a.txn) votes cast) ∙ fold-append written was (filter (λ a. same_txn t a.txn) votes) (filter (λ a. same_txn t a.txn) cast))
+
+left_parts : (rs : List Record) (xs : List Asked) → map lock_for (filter (is_left rs) xs) ≡ flat_map (left_lock rs) xs
+left_parts rs [] = refl
+left_parts rs (x ∷ xs) = by (is_left rs x) refl (left_parts rs xs)
+  where
+    by : (b : Bool) → is_left rs x ≡ b → map lock_for (filter (is_left rs) xs) ≡ flat_map (left_lock rs) xs
+        → map lock_for (if b then x ∷ filter (is_left rs) xs else filter (is_left rs) xs) ≡ (if b then lock_for x ∷ [] else []) ++ flat_map (left_lock rs) xs
+    by true e ih = ap (λ (l : List Lock). lock_for x ∷ l) ih
+    by false e ih = ih
+
+pub held_made : (name other : List ℕ) (rs : List Record) (claims : Claims) (o0 o1 o2 o3 : List Lock) (standing : List Standing) (votes cast again : List Asked) → other ≡ name → o0 ≡ []
+    → standing ≡ claims.standing → o1 ≡ o0 ++ flat_map (held_by rs) standing → votes ≡ claims.votes → o2 ≡ o1 ++ flat_map (left_lock rs) votes
+    → cast ≡ filter (passes (pick.On other)) (cast_of rs) → again ≡ cast → o3 ≡ o2 ++ flat_map (left_lock rs) again → o3 ≡ held_with name rs claims
+held_made name other rs claims o0 o1 o2 o3 standing votes cast again n e0 s e1 v e2 c d e3 =
+    let own : List Asked = filter (is_on name) (cast_of rs) in
+    let last : again ≡ own = d ∙ c ∙ ap (λ (m : List ℕ). filter (is_on m) (cast_of rs)) n in
+    let first : o1 ≡ flat_map (held_by rs) claims.standing = e1 ∙ ap (λ (l : List Lock). l ++ flat_map (held_by rs) standing) e0 ∙ ap (flat_map (held_by rs)) s in
+    let second : o2 ≡ flat_map (held_by rs) claims.standing ++ flat_map (left_lock rs) claims.votes =
+    e2 ∙ ap (λ (l : List Lock). l ++ flat_map (left_lock rs) votes) first ∙ ap (λ (l : List Asked). flat_map (held_by rs) claims.standing ++ flat_map (left_lock rs) l) v in
+    e3 ∙ ap (λ (l : List Lock). l ++ flat_map (left_lock rs) again) second
+    ∙ ap (λ (l : List Asked). (flat_map (held_by rs) claims.standing ++ flat_map (left_lock rs) claims.votes) ++ flat_map (left_lock rs) l) last
+    ∙ assoc (flat_map (held_by rs) claims.standing) (flat_map (left_lock rs) claims.votes) (flat_map (left_lock rs) own)
+    ∙ ap (λ (l : List Lock). flat_map (held_by rs) claims.standing ++ l) (sym (flat_map-append (left_lock rs) claims.votes own) ∙ sym (left_parts rs (claims.votes ++ own)))
+
+pub map_next : {X Y : Type 0} (f : X → Y) (xs : List X) (i : ℕ) (x : X) (was ys zs : List Y) → i < length xs → x ≡ get_or xs i x → ys ≡ was ++ map f (take i xs) → zs ≡ ys ++ f x ∷ []
+    → zs ≡ was ++ map f (take (i + 1) xs)
+map_next f xs i x was ys zs h e g k =
+    k ∙ ap (λ (l : List _). l ++ f x ∷ []) g ∙ assoc was (map f (take i xs)) (f x ∷ [])
+    ∙ ap (λ (l : List _). was ++ l) (sym (more (take i xs)) ∙ ap (map f) (sym (take_next xs i x h e)))
+  where
+    more : (ys : List _) → map f (ys ++ x ∷ []) ≡ map f ys ++ f x ∷ []
+    more [] = refl
+    more (y ∷ ys) = ap (λ (l : List _). f y ∷ l) (more ys)
+
+pub picked_next : {X Y : Type 0} (p : X → Bool) (f : X → Y) (xs : List X) (i : ℕ) (x : X) (was ys zs : List Y) → i < length xs → x ≡ get_or xs i x
+    → ys ≡ was ++ map f (filter p (take i xs)) → zs ≡ ys ++ (if p x then f x ∷ [] else []) → zs ≡ was ++ map f (filter p (take (i + 1) xs))
+picked_next p f xs i x was ys zs h e g k =
+    k ∙ ap (λ (l : List _). l ++ (if p x then f x ∷ [] else [])) g ∙ assoc was (map f (filter p (take i xs))) (if p x then f x ∷ [] else [])
+    ∙ ap (λ (l : List _). was ++ l) (sym (more (take i xs)) ∙ ap (λ (l : List _). map f (filter p l)) (sym (take_next xs i x h e)))
+  where
+    last : (b : Bool) → map f (if b then x ∷ [] else []) ≡ (if b then f x ∷ [] else [])
+    last true = refl
+    last false = refl
+
+    one : (b : Bool) (y : _) (ys : List _) → map f (filter p (ys ++ x ∷ [])) ≡ map f (filter p ys) ++ (if p x then f x ∷ [] else [])
+        → map f (if b then y ∷ filter p (ys ++ x ∷ []) else filter p (ys ++ x ∷ [])) ≡ map f (if b then y ∷ filter p ys else filter p ys) ++ (if p x then f x ∷ [] else [])
+    one true y ys ih = ap (λ (l : List _). f y ∷ l) ih
+    one false y ys ih = ih
+
+    more : (ys : List _) → map f (filter p (ys ++ x ∷ [])) ≡ map f (filter p ys) ++ (if p x then f x ∷ [] else [])
+    more [] = last (p x)
+    more (y ∷ ys) = one (p y) y ys (more ys)
+
+pub map_pushed : {X Y : Type 0} (f : X → Y) (xs : List X) (i : ℕ) (x : X) (was ys zs : List Y) (y : Y) → i < length xs → x ≡ get_or xs i x → ys ≡ was ++ map f (take i xs) → y ≡ f x
+    → zs ≡ ys ++ y ∷ [] → zs ≡ was ++ map f (take (i + 1) xs)
+map_pushed f xs i x was ys zs y h e g d k = map_next f xs i x was ys zs h e g (k ∙ ap (λ (v : _). ys ++ v ∷ []) d)

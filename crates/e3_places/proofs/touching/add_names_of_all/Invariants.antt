@@ -1,0 +1,8 @@
+use Rattle.std.proofs.Common.{◌≡◌, ◌++◌, take}
+use Rattle.std.specs.List.{flat_map}
+use Rattle.e3_places.specs.Touching.{moved_names}
+use Rattle.e3_places.specs.Keeping.{claims_at, txn_key}
+use Rattle.e3_places.proofs.touching.add_names_of_all.Given as goal
+
+abbrev pub invariant-loop-t : goal.invariant-loop-t
+invariant-loop-t l = l.out ≡ l.initial.out ++ flat_map (λ t. moved_names l.records l.events l.outs (claims_at l.txns.entries (txn_key t))) (take l.t-index l.reached)

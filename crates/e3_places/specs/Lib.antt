@@ -1,0 +1,5 @@
+pub mod Standing
+pub mod Keeping
+pub mod Touching
+pub mod Granting
+pub mod Rising

@@ -1,0 +1,298 @@
+// What stands on a name, or of a transaction, behind one more step.
+ghost use Rattle.std.specs.Prelude.{◌≡◌, ◌++◌, ◌∷◌, [], if◌then◌else◌, IfOk, filter, fold, map};
+ghost use Rattle.std.specs.List.{flat_map, list_any};
+ghost use Rattle.e3_types.specs.Same.{same_txn};
+ghost use Rattle.e3_places.specs.Standing.{passes, is_told, is_sent, is_heard, decided_in, voted, cast_in, cast_of, is_left, again, newly, standing_by, with_cast, votes_by, claims_by, written, row_with, row_by, place_by};
+
+use crate::picks::Pick;
+use crate::places::{Claims, Place, Standing};
+use e3_readings::is_decision;
+use e3_types::{Answer, Dir, List, Message, Name, NoMemory, NumOp, Op, Packet, Record, Told, Txn};
+use e3_world::Asked;
+use std::alloc::Global;
+
+/// These records decide the transaction.
+pub fn decided_in(records: &[Record], t: &Txn) -> bool
+    ensures { result ≡ decided_in records.now t.now }
+{
+    records.iter().any(|r| is_decision(t, r))
+}
+
+fn is_told(a: &Asked, e: &Told) -> bool
+    ensures { result ≡ is_told a.now e.now }
+{
+    match e {
+        Told::Op { txn, n, .. } => a.n == *n && a.txn.is_same(txn),
+        _ => false,
+    }
+}
+
+fn is_sent(a: &Asked, packet: &Packet) -> bool
+    ensures { result ≡ is_sent a.now packet.now }
+{
+    match &packet.msg {
+        Message::Done { txn, n, .. } => a.n == *n && a.txn.is_same(txn),
+        _ => false,
+    }
+}
+
+fn any_told(events: &[Told], a: &Asked) -> bool
+    ensures { result ≡ list_any (is_told a.now) events.now }
+{
+    events.iter().any(|e| is_told(a, e))
+}
+
+fn any_sent(outs: &[Packet], a: &Asked) -> bool
+    ensures { result ≡ list_any (is_sent a.now) outs.now }
+{
+    outs.iter().any(|p| is_sent(a, p))
+}
+
+/// One of these events and packets answers the operation.
+pub fn is_heard(events: &[Told], outs: &[Packet], a: &Asked) -> bool
+    ensures { result ≡ is_heard events.now outs.now a.now }
+{
+    any_told(events, a) || any_sent(outs, a)
+}
+
+/// An equal operation.
+pub fn copy_asked(a: &Asked) -> Asked
+    ensures { result ≡ a.now }
+{
+    Asked {
+        txn: a.txn,
+        n: a.n,
+        op: a.op.copy(),
+    }
+}
+
+fn add_again(
+    records: &[Record],
+    events: &[Told],
+    outs: &[Packet],
+    was: &Standing,
+    out: &mut List<Standing>,
+) -> Result<(), NoMemory>
+    ensures { IfOk result (λ u. out.new ≡ out.old ++ again records.now events.now outs.now was.now) }
+{
+    if decided_in(records, &was.asked.txn) {
+        return Ok(());
+    }
+    out.push(Standing {
+        asked: copy_asked(&was.asked),
+        answered: was.answered || is_heard(events, outs, &was.asked),
+    })
+}
+
+fn add_standing(
+    records: &[Record],
+    events: &[Told],
+    outs: &[Packet],
+    was: &[Standing],
+    out: &mut List<Standing>,
+) -> Result<(), NoMemory>
+    ensures { IfOk result (λ u. out.new ≡ out.old ++ flat_map (again records.now events.now outs.now) was.now) }
+{
+    for s in was {
+        add_again(records, events, outs, s, out)?;
+    }
+    Ok(())
+}
+
+fn add_newly(
+    pick: &Pick,
+    new: &Option<Standing>,
+    records: &[Record],
+    events: &[Told],
+    outs: &[Packet],
+    out: &mut List<Standing>,
+) -> Result<(), NoMemory>
+    ensures { IfOk result (λ u. out.new ≡ out.old ++ flat_map (again records.now events.now outs.now) (newly (passes pick.now) new.now)) }
+{
+    match new {
+        Some(s) if pick.passes(&s.asked) => add_again(records, events, outs, s, out),
+        _ => Ok(()),
+    }
+}
+
+fn add_cast(pick: &Pick, t: &Txn, ops: &[NumOp], out: &mut List<Asked>) -> Result<(), NoMemory>
+    ensures { IfOk result (λ u. out.new ≡ out.old ++ filter (passes pick.now) (map (voted t.now) ops.now)) }
+{
+    for o in ops {
+        let a = Asked {
+            txn: *t,
+            n: o.n,
+            op: o.op.copy(),
+        };
+        if pick.passes(&a) {
+            out.push(a)?;
+        }
+    }
+    Ok(())
+}
+
+fn add_record(pick: &Pick, r: &Record, out: &mut List<Asked>) -> Result<(), NoMemory>
+    ensures { IfOk result (λ u. out.new ≡ out.old ++ filter (passes pick.now) (cast_in r.now)) }
+{
+    match r {
+        Record::Vote { txn, ops } => add_cast(pick, txn, ops.as_slice(), out),
+        _ => Ok(()),
+    }
+}
+
+/// Those that are picked of the operations of these records' votes.
+pub fn cast_on(alloc: Global, pick: &Pick, records: &[Record]) -> Result<List<Asked>, NoMemory>
+    ensures { IfOk result (λ out. out ≡ filter (passes pick.now) (cast_of records.now)) }
+{
+    let mut out = List::new(alloc);
+    for r in records {
+        add_record(pick, r, &mut out)?;
+    }
+    Ok(out)
+}
+
+fn add_one(records: &[Record], a: &Asked, out: &mut List<Asked>) -> Result<(), NoMemory>
+    ensures { IfOk result (λ u. out.new ≡ out.old ++ (if is_left records.now a.now then a.now ∷ [] else [])) }
+{
+    if !decided_in(records, &a.txn) {
+        out.push(copy_asked(a))?;
+    }
+    Ok(())
+}
+
+fn add_left(records: &[Record], asked: &[Asked], out: &mut List<Asked>) -> Result<(), NoMemory>
+    ensures { IfOk result (λ u. out.new ≡ out.old ++ filter (is_left records.now) asked.now) }
+{
+    for a in asked {
+        add_one(records, a, out)?;
+    }
+    Ok(())
+}
+
+fn votes_by(
+    alloc: Global,
+    pick: &Pick,
+    votes: &[Asked],
+    records: &[Record],
+) -> Result<List<Asked>, NoMemory>
+    ensures { IfOk result (λ out. out ≡ votes_by (passes pick.now) votes.now records.now) }
+{
+    let cast = cast_on(alloc, pick, records)?;
+    let mut out = List::new(alloc);
+    add_left(records, votes, &mut out)?;
+    add_left(records, cast.as_slice(), &mut out)?;
+    Ok(out)
+}
+
+/// The claims that are picked behind a step, where this operation is taken up.
+pub fn claims_by(
+    alloc: Global,
+    pick: &Pick,
+    was: &Claims,
+    new: &Option<Standing>,
+    records: &[Record],
+    events: &[Told],
+    outs: &[Packet],
+) -> Result<Claims, NoMemory>
+    ensures { IfOk result (λ c. c ≡ claims_by (passes pick.now) was.now new.now records.now events.now outs.now) }
+{
+    let mut standing = List::new(alloc);
+    add_standing(
+        records,
+        events,
+        outs,
+        was.standing.as_slice(),
+        &mut standing,
+    )?;
+    add_newly(pick, new, records, events, outs, &mut standing)?;
+    Ok(Claims {
+        standing,
+        votes: votes_by(alloc, pick, was.votes.as_slice(), records)?,
+    })
+}
+
+fn written(was: Answer, a: &Asked) -> Answer
+    ensures { result ≡ written was a.now }
+{
+    match &a.op {
+        Op::Write(_, val) => Answer::Value(val.copy()),
+        Op::Read(_) => was,
+    }
+}
+
+fn committed(t: &Txn, asked: &[Asked], was: Answer) -> Answer
+    ensures { result ≡ fold written was (filter (λ a. same_txn t.now a.txn) asked.now) }
+{
+    let mut answer = was;
+    for a in asked {
+        if t.is_same(&a.txn) {
+            answer = written(answer, a);
+        }
+    }
+    answer
+}
+
+fn commit(t: &Txn, votes: &[Asked], cast: &[Asked], was: Answer) -> Answer
+    ensures { result ≡ fold written was (filter (λ a. same_txn t.now a.txn) (votes.now ++ cast.now)) }
+{
+    committed(t, cast, committed(t, votes, was))
+}
+
+fn row_with(votes: &[Asked], cast: &[Asked], was: Answer, r: &Record) -> Answer
+    ensures { result ≡ row_with (votes.now ++ cast.now) was r.now }
+{
+    match r {
+        Record::Decision {
+            txn,
+            dir: Dir::Commit,
+        } => commit(txn, votes, cast, was),
+        _ => was,
+    }
+}
+
+fn rows_with(votes: &[Asked], cast: &[Asked], was: Answer, records: &[Record]) -> Answer
+    ensures { result ≡ fold (row_with (votes.now ++ cast.now)) was records.now }
+{
+    let mut answer = was;
+    for r in records {
+        answer = row_with(votes, cast, answer, r);
+    }
+    answer
+}
+
+/// What a read of the name answers, where these records are made.
+pub fn row_by(
+    alloc: Global,
+    name: &Name,
+    place: &Place,
+    records: &[Record],
+) -> Result<Answer, NoMemory>
+    ensures { IfOk result (λ x. x ≡ row_by name.now place.now records.now) }
+{
+    let cast = cast_on(alloc, &Pick::On(name.copy()), records)?;
+    Ok(rows_with(
+        place.claims.votes.as_slice(),
+        cast.as_slice(),
+        place.row.copy(),
+        records,
+    ))
+}
+
+/// What stands on a name behind a step, where this operation is taken up.
+pub fn place_by(
+    alloc: Global,
+    name: &Name,
+    was: &Place,
+    new: &Option<Standing>,
+    records: &[Record],
+    events: &[Told],
+    outs: &[Packet],
+) -> Result<Place, NoMemory>
+    ensures { IfOk result (λ p. p ≡ place_by name.now was.now new.now records.now events.now outs.now) }
+{
+    let pick = Pick::On(name.copy());
+    Ok(Place {
+        claims: claims_by(alloc, &pick, &was.claims, new, records, events, outs)?,
+        row: row_by(alloc, name, was, records)?,
+    })
+}

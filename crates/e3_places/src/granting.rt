@@ -1,0 +1,302 @@
+// Which requests a decision grants.
+ghost use Rattle.std.specs.Prelude.{◌≡◌, ◌++◌, ◌∷◌, [], if◌then◌else◌, ℕ, true, IfOk, take};
+ghost use Rattle.e3_world.specs.declared.lives.At.{At};
+ghost use Rattle.e3_world.specs.declared.lives.Life.{Life};
+ghost use Rattle.e3_world.specs.Lives.{life_by};
+ghost use Rattle.e3_world.specs.Making.{add_name, grants_after};
+ghost use Rattle.e3_places.specs.Standing.{fresh_of, follow, waits_by, waits_with};
+ghost use Rattle.e3_places.specs.Keeping.{PlacesStand};
+ghost use Rattle.e3_places.specs.Granting.{given, given_behind, is_restless, stirred, restless_by, in_order, granted_by, RestlessStand, step_so_far};
+
+use crate::behind::copy_asked;
+use crate::changing::place_behind;
+use crate::holding::{held, wanted};
+use crate::places::{Claims, Place, Places, Standing};
+use crate::touching::names_touched;
+use e3_types::{List, Name, NoMemory, Packet, Record, Told, front};
+use e3_world::{Asked, Made, SiteStep};
+use std::alloc::Global;
+use std::cmp::Ordering;
+use std::collections::BTreeMap;
+
+fn add_waiting(s: &Standing, out: &mut List<Asked>) -> Result<(), NoMemory>
+    ensures { IfOk result (λ u. out.new ≡ out.old ++ waits_by [] s.now) }
+{
+    if !s.answered {
+        out.push(copy_asked(&s.asked))?;
+    }
+    Ok(())
+}
+
+fn waits(alloc: Global, claims: &Claims) -> Result<List<Asked>, NoMemory>
+    ensures { IfOk result (λ out. out ≡ waits_with [] claims.now) }
+{
+    let mut out = List::new(alloc);
+    for s in claims.standing.as_slice() {
+        add_waiting(s, &mut out)?;
+    }
+    Ok(out)
+}
+
+fn taken(count: u64, asked: List<Asked>) -> List<Asked>
+    ensures { result ≡ take count asked }
+{
+    let mut items = asked.into_vec();
+    items.truncate(count as usize);
+    List::from_vec(items)
+}
+
+fn given(alloc: Global, name: &Name, claims: &Claims) -> Result<List<Asked>, NoMemory>
+    ensures { IfOk result (λ out. out ≡ given name.now claims.now) }
+{
+    let holders = held(alloc, name, claims, &[])?;
+    let queue = wanted(alloc, claims, &[])?;
+    let first = front(alloc, holders.as_slice(), queue.as_slice())?;
+    let asked = waits(alloc, claims)?;
+    Ok(taken(first.len(), asked))
+}
+
+fn given_behind(
+    alloc: Global,
+    names: &BTreeMap<Name, Place>,
+    new: &Option<Standing>,
+    records: &[Record],
+    events: &[Told],
+    outs: &[Packet],
+    name: &Name,
+) -> Result<List<Asked>, NoMemory>
+    ensures { IfOk result (λ out. out ≡ given_behind names.now.entries new.now records.now events.now outs.now name.now) }
+{
+    let place = place_behind(alloc, names, new, records, events, outs, name)?;
+    given(alloc, name, &place.claims)
+}
+
+fn is_restless(
+    alloc: Global,
+    names: &BTreeMap<Name, Place>,
+    new: &Option<Standing>,
+    records: &[Record],
+    events: &[Told],
+    outs: &[Packet],
+    name: &Name,
+) -> Result<bool, NoMemory>
+    ensures { IfOk result (λ b. b ≡ is_restless names.now.entries new.now records.now events.now outs.now name.now) }
+{
+    let asked = given_behind(alloc, names, new, records, events, outs, name)?;
+    match asked.as_slice() {
+        [] => Ok(false),
+        [_, ..] => Ok(true),
+    }
+}
+
+fn add_names(names: &[Name], out: &mut List<Name>) -> Result<(), NoMemory>
+    ensures { IfOk result (λ u. out.new ≡ out.old ++ names.now) }
+{
+    for name in names {
+        out.push(name.copy())?;
+    }
+    Ok(())
+}
+
+fn stirred(
+    alloc: Global,
+    places: &Places,
+    restless: &[Name],
+    new: &Option<Standing>,
+    records: &[Record],
+    events: &[Told],
+    outs: &[Packet],
+) -> Result<List<Name>, NoMemory>
+    ensures { IfOk result (λ out. out ≡ stirred places.now restless.now new.now records.now events.now outs.now) }
+{
+    let mut out = names_touched(alloc, &places.txns, new, records, events, outs)?;
+    add_names(restless, &mut out)?;
+    Ok(out)
+}
+
+fn put_name(names: &[Name], new: &Name, out: &mut List<Name>) -> Result<(), NoMemory>
+    ensures { IfOk result (λ u. out.new ≡ out.old ++ add_name names.now new.now) }
+{
+    match names {
+        [] => out.push(new.copy()),
+        [name, rest @ ..] => match new.bytes().cmp(name.bytes()) {
+            Ordering::Less => {
+                out.push(new.copy())?;
+                add_names(names, out)
+            }
+            Ordering::Equal => add_names(names, out),
+            Ordering::Greater => {
+                out.push(name.copy())?;
+                put_name(rest, new, out)
+            }
+        },
+    }
+}
+
+fn with_name(alloc: Global, names: &[Name], new: &Name) -> Result<List<Name>, NoMemory>
+    ensures { IfOk result (λ out. out ≡ add_name names.now new.now) }
+{
+    let mut out = List::new(alloc);
+    put_name(names, new, &mut out)?;
+    Ok(out)
+}
+
+fn in_order(alloc: Global, names: &[Name]) -> Result<List<Name>, NoMemory>
+    ensures { IfOk result (λ out. out ≡ in_order names.now) }
+{
+    let mut out = List::new(alloc);
+    for name in names {
+        out = with_name(alloc, out.as_slice(), name)?;
+    }
+    Ok(out)
+}
+
+fn add_asked(asked: &[Asked], out: &mut List<Asked>) -> Result<(), NoMemory>
+    ensures { IfOk result (λ u. out.new ≡ out.old ++ asked.now) }
+{
+    for q in asked {
+        out.push(copy_asked(q))?;
+    }
+    Ok(())
+}
+
+fn add_given(
+    alloc: Global,
+    names: &BTreeMap<Name, Place>,
+    new: &Option<Standing>,
+    records: &[Record],
+    events: &[Told],
+    outs: &[Packet],
+    name: &Name,
+    out: &mut List<Asked>,
+) -> Result<(), NoMemory>
+    ensures { IfOk result (λ u. out.new ≡ out.old ++ given_behind names.now.entries new.now records.now events.now outs.now name.now) }
+{
+    let asked = given_behind(alloc, names, new, records, events, outs, name)?;
+    add_asked(asked.as_slice(), out)
+}
+
+fn granted_by(
+    alloc: Global,
+    places: &Places,
+    restless: &[Name],
+    new: &Option<Standing>,
+    records: &[Record],
+    events: &[Told],
+    outs: &[Packet],
+) -> Result<List<Asked>, NoMemory>
+    ensures { IfOk result (λ out. out ≡ granted_by places.now restless.now new.now records.now events.now outs.now) }
+{
+    let all = stirred(alloc, places, restless, new, records, events, outs)?;
+    let names = in_order(alloc, all.as_slice())?;
+    let mut out = List::new(alloc);
+    for name in names.as_slice() {
+        add_given(
+            alloc,
+            &places.names,
+            new,
+            records,
+            events,
+            outs,
+            name,
+            &mut out,
+        )?;
+    }
+    Ok(out)
+}
+
+/// The requests that are granted behind the step so far, name by name, where a decision has freed locks. It reads the names
+/// that the step touches, and the restless ones.
+pub fn grants_after(
+    alloc: Global,
+    places: &Places,
+    restless: &[Name],
+    new: &Option<Standing>,
+    made: &Made,
+) -> Result<List<Asked>, NoMemory>
+    ghost a: { At }
+    requires stand { PlacesStand a.site places.now a.life }
+    requires rest { RestlessStand a.site restless.now a.life }
+    requires new { new.now ≡ fresh_of a.site a.life (step_so_far a made.now) }
+    requires follow { follow a.life.log made.now.records ≡ true }
+    ensures { IfOk result (λ out. out ≡ grants_after a made.now) }
+{
+    granted_by(
+        alloc,
+        places,
+        restless,
+        new,
+        made.records.as_slice(),
+        made.told.as_slice(),
+        made.outs.as_slice(),
+    )
+}
+
+fn add_restless(
+    alloc: Global,
+    names: &BTreeMap<Name, Place>,
+    new: &Option<Standing>,
+    records: &[Record],
+    events: &[Told],
+    outs: &[Packet],
+    name: &Name,
+    out: &mut List<Name>,
+) -> Result<(), NoMemory>
+    ensures { IfOk result (λ u. out.new ≡ out.old ++ (if is_restless names.now.entries new.now records.now events.now outs.now name.now then name.now ∷ [] else [])) }
+{
+    if is_restless(alloc, names, new, records, events, outs, name)? {
+        out.push(name.copy())?;
+    }
+    Ok(())
+}
+
+fn restless_by(
+    alloc: Global,
+    places: &Places,
+    restless: &[Name],
+    new: &Option<Standing>,
+    records: &[Record],
+    events: &[Told],
+    outs: &[Packet],
+) -> Result<List<Name>, NoMemory>
+    ensures { IfOk result (λ out. out ≡ restless_by places.now restless.now new.now records.now events.now outs.now) }
+{
+    let all = stirred(alloc, places, restless, new, records, events, outs)?;
+    let mut out = List::new(alloc);
+    for name in all.as_slice() {
+        add_restless(
+            alloc,
+            &places.names,
+            new,
+            records,
+            events,
+            outs,
+            name,
+            &mut out,
+        )?;
+    }
+    Ok(out)
+}
+
+/// The names on which requests can be granted behind a step. Where each step grants what its decisions free, there are
+/// none.
+pub fn restless_behind(
+    alloc: Global,
+    places: &Places,
+    restless: &[Name],
+    new: &Option<Standing>,
+    step: &SiteStep,
+) -> Result<List<Name>, NoMemory>
+    ensures { IfOk result (λ out. (site : ℕ) (life : Life) → PlacesStand site places.now life → RestlessStand site restless.now life
+        → new.now ≡ fresh_of site life step.now → follow life.log step.now.records ≡ true → RestlessStand site out (life_by life step.now)) }
+{
+    restless_by(
+        alloc,
+        places,
+        restless,
+        new,
+        step.records.as_slice(),
+        step.told.as_slice(),
+        step.outs.as_slice(),
+    )
+}

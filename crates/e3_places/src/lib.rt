@@ -1,0 +1,22 @@
+//! What a site knows of names, kept in tables: the operations and votes of undecided transactions, and the rows.
+#![tactic(auto)]
+
+mod behind;
+mod changing;
+mod granting;
+mod holding;
+mod keys;
+mod picks;
+mod places;
+mod reading;
+mod rising;
+mod touching;
+
+pub use changing::{Changes, NameChange, TxnChange, apply, changes_of, ready};
+pub use granting::{grants_after, restless_behind};
+pub use holding::lock_for;
+pub use keys::{TxnKey, txn_key};
+pub use picks::Pick;
+pub use places::{Claims, Place, Places, Standing};
+pub use reading::{holders, lock, queue, row};
+pub use rising::{born, enter, unborn};

@@ -1,0 +1,72 @@
+// The tables of a log, when a site rises with it.
+ghost use Rattle.std.specs.Prelude.{◌≡◌, ◌++◌, ◌∷◌, [], ℕ, true, IfOk, OnOk, List as Items};
+ghost use Rattle.e3_types.specs.declared.records.Record.{Record as Entry};
+ghost use Rattle.e3_types.specs.declared.records.Record.TheVariants as log;
+ghost use Rattle.e3_places.specs.Standing.{follow};
+ghost use Rattle.e3_places.specs.Keeping.{place_at, PlacesStand};
+ghost use Rattle.e3_places.specs.Rising.{risen, first_row, RowsStand};
+
+use crate::changing::{apply, changes_of, ready};
+use crate::places::{Place, Places, no_claims};
+use e3_types::{Answer, Name, NoMemory, Record, Row};
+use std::alloc::Global;
+use std::collections::BTreeMap;
+
+/// The tables of an empty log.
+pub fn unborn(alloc: Global) -> Places
+    ensures { (site inc : ℕ) → PlacesStand site result (risen inc []) }
+{
+    Places {
+        names: BTreeMap::new(alloc),
+        txns: BTreeMap::new(alloc),
+    }
+}
+
+fn add_row(alloc: Global, names: &mut BTreeMap<Name, Place>, row: &Row) -> Result<(), NoMemory>
+    ensures { OnOk result ((name : Items ℕ) → place_at names.new.entries name ≡ first_row name row.now (place_at names.old.entries name)) }
+{
+    let place = Place {
+        claims: no_claims(alloc),
+        row: Answer::Value(row.val.copy()),
+    };
+    match names.insert(row.name.copy(), place) {
+        Ok(_) => Ok(()),
+        Err(_) => Err(NoMemory),
+    }
+}
+
+// The last row first, so that of two of one name the first stands.
+fn add_rows(alloc: Global, names: &mut BTreeMap<Name, Place>, rows: &[Row]) -> Result<(), NoMemory>
+    requires { RowsStand names.old.entries [] }
+    ensures { OnOk result (RowsStand names.new.entries rows.now) }
+{
+    for i in (0..rows.len()).rev() {
+        add_row(alloc, names, &rows[i])?;
+    }
+    Ok(())
+}
+
+/// The tables of a log that is a birth with these rows. Want of memory is the only error.
+pub fn born(alloc: Global, rows: &[Row]) -> Result<Places, NoMemory>
+    ensures { IfOk result (λ p. (site inc format own : ℕ) (weights : Items ℕ) → PlacesStand site p (risen inc (log.Birth format own weights rows.now ∷ []))) }
+{
+    let mut names = BTreeMap::new(alloc);
+    add_rows(alloc, &mut names, rows)?;
+    Ok(Places {
+        names,
+        txns: BTreeMap::new(alloc),
+    })
+}
+
+/// The tables of a log with these records more, where they may follow: none is a birth, and none votes for or decides a
+/// transaction that the log decides. Want of memory is the only error; what the tables are then is left open.
+pub fn enter(alloc: Global, places: &mut Places, records: &[Record]) -> Result<(), NoMemory>
+    ensures { OnOk result ((site inc : ℕ) (before : Items Entry) → PlacesStand site places.old (risen inc before) → follow before records.now ≡ true
+        → PlacesStand site places.new (risen inc (before ++ records.now))) }
+{
+    let none = None;
+    let changes = changes_of(alloc, places, &none, records, &[], &[])?;
+    ready(alloc, places, &changes)?;
+    apply(places, changes);
+    Ok(())
+}
