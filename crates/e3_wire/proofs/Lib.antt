@@ -6,3 +6,5 @@ pub mod Claiming
 pub mod Driving
 pub mod Staying
 pub mod Puts
+pub mod Notes
+pub mod Planned

@@ -61,7 +61,7 @@ owns_all last owners (m ∷ more) all has =
     All-cons (IsOwn belongs last owners) m more (own_all last owners m all (All-head (HasOwner last) m more has)) (owns_all last owners more all (All-tail (HasOwner last) m more has))
 
 pub drivers_may_put : DriversMayPut
-drivers_may_put p more all has = (more, refl, owns_all p.me.0.last p.me.0.owners more all has)
+drivers_may_put p marks more all is has = (more, is, owns_all p.me.0.last p.me.0.owners more all has)
 
 pub grew_drivers : (last : ℕ) (owners : List ℕ) (seen chronicle now : List Mark) (e : Entry) (r : Result (Unit {0}) WireFault) → ((o : ℕ) → o ≤ last → 0 < count_of o owners) → e.owner ≡ 0 → seen ≡ chronicle →
     OnOk r (now ≡ chronicle ++ mark.Entered e ∷ []) → OnErr r (now ≡ chronicle) → ExtendsByOwners belongs last owners seen now

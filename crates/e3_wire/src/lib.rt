@@ -12,7 +12,9 @@ mod shared;
 mod wire;
 
 pub use fault::WireFault;
-pub use laws::{drivers_may_put_marks, marks_of_others_leave_a_site};
+pub use laws::{
+    claimed_drafts_may_enter, drivers_may_put_marks, marks_add_up, marks_of_others_leave_a_site,
+};
 pub use marks::{Mark, Stored};
 pub use shared::Shared;
 pub use wire::{Wire, WirePass};

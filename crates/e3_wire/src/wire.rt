@@ -47,9 +47,11 @@ impl Wire {
         ensures idle { IfOk result (λ r. IsIdle r.0 r.1) }
         ensures owners { IfOk result (λ r. (owners_of r.1 ≡ down_from (length scenario.weights)) × (last_of r.1 ≡ length scenario.weights)) }
         ensures seen { IfOk result (λ r. seen_by r.1 ≡ mark.Start scenario most ∷ []) }
+        ensures played { IfOk result (λ r. IsPlayed (seen_by r.1)) }
     {
         let sites = scenario.weights.len() as u32;
         let shared = Shared::open(alloc, scenario, most)?;
+        shared.tell();
         let (lock, pass) = TurnLock::open(alloc, shared, sites)?;
         Ok((Wire { lock }, pass))
     }
