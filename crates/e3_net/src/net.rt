@@ -163,6 +163,16 @@ impl Net {
         queue::take(&mut self.waiting, site)
     }
 
+    /// The pending packet to this site with the least number; it stays pending. None exactly where none is pending to it.
+    pub fn next_to(&self, site: u32) -> Option<&Packet>
+        ensures { option_copied result ≡ packet_to site self.now.traffic }
+    {
+        match self.waiting.iter().find(|w| w.packet.to == site) {
+            Some(w) => Some(&w.packet),
+            None => None,
+        }
+    }
+
     /// The pending packet with the least number. None exactly where none is pending.
     pub fn first_pending(&self) -> Option<&Packet>
         ensures { option_copied result ≡ option_map (λ w. w.packet) (slice_get self.now.traffic.waiting 0) }

@@ -1,0 +1,7 @@
+use Rattle.std.proofs.Common.{ap, sym, ◌∙◌}
+use Rattle.e3_wire.specs.Marks.{entries_of}
+use Rattle.e3_wire.proofs.Entering.{entries_stored}
+use Rattle.e3_wire.proofs.shared.Shared.close.Goals as goal
+
+pub returns : goal.returns
+returns c = sym (entries_stored c.self.inside.history.entries c.self.inside.stored.items c.self.invariant.whole) ∙ ap entries_of c.self.view_is

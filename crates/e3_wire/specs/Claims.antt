@@ -1,0 +1,67 @@
+-- What a pass may conclude of marks.
+use Rattle.std.specs.Prelude.{◌≡◌, ◌≤◌, ◌+◌, ◌++◌, ◌∷◌, [], ℕ, suc, true, false, List, length, All}
+use Rattle.e3_law_local.specs.Drafts.{MayEnter}
+use Rattle.e3_law_local.specs.Least.{AreOfSites}
+use Rattle.e3_law_local.specs.Others.{AreOthers}
+use Rattle.e3_turn.specs.Passes.{GrewByOthers, GrewByOwners, Owns, OwnsAll, PassOf, last_of, seen_by}
+use Rattle.e3_types.specs.declared.entries.Entry.{Entry}
+use Rattle.e3_types.specs.declared.scenarios.Scenario.{Scenario}
+use Rattle.e3_wire.specs.declared.marks.Mark.{Mark}
+use Rattle.e3_wire.specs.declared.marks.Mark.TheVariants as mark
+use Rattle.e3_wire.specs.Marks.{AreForeign, belongs, entries_of, last_owner, most_of, note_of, scenario_of, used_by, used_of}
+use Rattle.e3_wire.specs.Wires.{IsPlayed, MayEnterBehind, TakesOne}
+use Rattle.e3_world.specs.Items.{inputs_of}
+use Rattle.e3_world.specs.Legal.{IsLegal}
+use Rattle.e3_world.specs.Packets.{is_calm, outs_of, present_items}
+
+-- what the pass of Shared is
+abbrev pub APass : Type 0
+APass = PassOf (List Mark) Mark
+
+-- behind what a pass has seen no mark belongs to an owner of it
+abbrev pub AreOthersMarks : Type 0
+AreOthersMarks = (p : APass) (o : ℕ) (marks : List Mark) → Owns p o → GrewByOthers belongs p marks →
+    (since : List Mark) × (marks ≡ seen_by p ++ since) × AreForeign o since
+
+-- Such marks are entries of other sites, and leave what is promised to the owner.
+abbrev pub LeaveASite : Type 0
+LeaveASite = (sc : Scenario) (o : ℕ) (seen since : List Mark) → IsLegal sc (entries_of (seen ++ since)) → AreForeign o since →
+    AreOthers o (entries_of since) × AreOfSites (entries_of since) × (note_of o (seen ++ since) ≡ note_of o seen)
+
+-- the mark belongs to one of the owners up to the last
+abbrev pub HasOwner : ℕ → Mark → Type 0
+HasOwner last m = (o : ℕ) × (o ≤ last) × (belongs m o ≡ true)
+
+-- a pass that owns all may put any marks that belong to someone behind what it has seen
+abbrev pub DriversMayPut : Type 0
+DriversMayPut = (p : APass) (marks more : List Mark) → OwnsAll p → marks ≡ seen_by p ++ more → All (HasOwner (last_of p)) more →
+    GrewByOwners belongs p marks
+
+-- entries behind entries
+abbrev pub EntriesFollow : Type 0
+EntriesFollow = (seen since : List Mark) → entries_of (seen ++ since) ≡ entries_of seen ++ entries_of since
+
+-- the scenario and the bound stay those of the first mark
+abbrev pub ScenarioStays : Type 0
+ScenarioStays = (seen since : List Mark) → IsPlayed seen →
+    (scenario_of (seen ++ since) ≡ scenario_of seen) × (most_of (seen ++ since) ≡ most_of seen)
+
+-- a promise adds a place and its room to the owner's note
+abbrev pub ClaimPromises : Type 0
+ClaimPromises = (o outs : ℕ) (marks : List Mark) →
+    note_of o (marks ++ mark.Place o outs ∷ []) ≡ record { places = suc (note_of o marks).places; room = (note_of o marks).room + outs }
+
+-- an entry uses what it uses of its owner's
+abbrev pub EntryUses : Type 0
+EntryUses = (e : Entry) (marks : List Mark) → note_of e.owner (marks ++ mark.Entered e ∷ []) ≡ used_by (note_of e.owner marks) e.act
+
+-- where nothing is promised to any owner, only entries count
+abbrev pub NothingPromised : Type 0
+NothingPromised = (marks : List Mark) → ((o : ℕ) → o ≤ last_owner marks → (note_of o marks).places ≡ 0) → used_of marks ≡ length (entries_of marks)
+
+-- What a site may enter behind marks, it may enter behind what others put since and its claim, if no recover step is on.
+abbrev pub ClaimedDraftsMayEnter : Type 0
+ClaimedDraftsMayEnter = (e : Entry) (outs : ℕ) (seen since : List Mark) → IsPlayed (seen ++ since) → AreForeign e.owner since →
+    e.owner ≤ last_owner seen → is_calm (present_items (scenario_of seen) (entries_of seen)) ≡ false →
+    MayEnter (scenario_of seen) (entries_of seen) e → TakesOne (scenario_of seen) (entries_of seen) e.owner (inputs_of e.act) →
+    length (outs_of e.act) ≤ outs → MayEnterBehind ((seen ++ since) ++ mark.Place e.owner outs ∷ []) e

@@ -1,0 +1,68 @@
+-- What is always true of the marks, and what an entry asks of them.
+use Rattle.std.specs.Prelude.{◌≡◌, ◌≤◌, ◌∷◌, [], ◌++◌, ℕ, true, List, length, Option, Some, None}
+use Rattle.e3_types.specs.declared.entries.Act.{Act}
+use Rattle.e3_types.specs.declared.entries.Act.TheVariants.{Drop, Step}
+use Rattle.e3_types.specs.declared.entries.Entry.{Entry}
+use Rattle.e3_types.specs.declared.entries.Input.{Input}
+use Rattle.e3_types.specs.declared.entries.Input.TheVariants as input
+use Rattle.e3_types.specs.declared.messages.Packet.{Packet}
+use Rattle.e3_types.specs.declared.scenarios.Scenario.{Scenario}
+use Rattle.e3_law_local.specs.Least.{IsLeastTo}
+use Rattle.e3_law_local.specs.Others.{Allows}
+use Rattle.e3_net.specs.Stands.{NetStands}
+use Rattle.e3_net.specs.Traffic.{Traffic}
+use Rattle.e3_world.specs.Given.{IsGiven}
+use Rattle.e3_world.specs.Items.{inputs_of}
+use Rattle.e3_world.specs.Legal.{IsLegal, first_pending, numbered}
+use Rattle.e3_world.specs.Packets.{is_calm, outs_of, present_items}
+use Rattle.e3_wire.specs.declared.marks.Mark.{Mark}
+use Rattle.e3_wire.specs.declared.marks.Mark.TheVariants as mark
+use Rattle.e3_wire.specs.Marks.{entries_of, last_owner, most_of, note_of, scenario_of, used_of}
+
+-- The scenario of the marks keeps the rules, their history is legal for it, and with the promised places it is no longer
+-- than it may be.
+pub record IsPlayed (marks : List Mark) : Type 0 where
+  pub given : IsGiven (scenario_of marks)
+  pub legal : IsLegal (scenario_of marks) (entries_of marks)
+  pub within : used_of marks ≤ most_of marks
+
+-- and the network stands for the history
+pub record WireStands (marks : List Mark) (traffic : Traffic) : Type 0 where
+  pub played : IsPlayed marks
+  pub net : NetStands (scenario_of marks) (entries_of marks) traffic
+
+-- the packet of a delivery is the least pending one to its site
+abbrev pub TakesLeast : Scenario → List Entry → ℕ → Input → Type 0
+TakesLeast sc history site (input.Deliver packet) = IsLeastTo sc history site packet
+TakesLeast sc history site i = Unit {0}
+
+-- it is one input at most, and no packet but the least
+abbrev pub TakesOne : Scenario → List Entry → ℕ → List Input → Type 0
+TakesOne sc history site [] = Unit {0}
+TakesOne sc history site (i ∷ []) = TakesLeast sc history site i
+TakesOne sc history site (i ∷ j ∷ inputs) = ⊥
+
+-- An entry of a site may be entered behind these marks: it is allowed there but for the numbers of its packets, it takes
+-- the least packet to its site or none, and a place and room for its packets are promised to the site.
+pub record MayEnterBehind (marks : List Mark) (e : Entry) : Type 0 where
+  pub site : 1 ≤ e.owner
+  pub exists : e.owner ≤ last_owner marks
+  pub allowed : Allows (scenario_of marks) (entries_of marks) e
+  pub takes : TakesOne (scenario_of marks) (entries_of marks) e.owner (inputs_of e.act)
+  pub place : 1 ≤ (note_of e.owner marks).places
+  pub room : length (outs_of e.act) ≤ (note_of e.owner marks).room
+
+-- in a recover step the first pending packet goes to this site
+abbrev pub IsInTurn : Scenario → List Entry → ℕ → Type 0
+IsInTurn sc history site = is_calm (present_items sc history) ≡ true → (p : Packet) → first_pending sc history ≡ Some p → p.to ≡ site
+
+-- the least pending packet to the site was dropped, with this number; or none was pending to it, and nothing is changed
+abbrev pub IsDroppedFor : ℕ → Option ℕ → List Mark → List Mark → Type 0
+IsDroppedFor site None before now = ((p : Packet) → IsLeastTo (scenario_of before) (entries_of before) site p → ⊥) × (now ≡ before)
+IsDroppedFor site (Some number) before now = (p : Packet) × IsLeastTo (scenario_of before) (entries_of before) site p × (p.number ≡ number)
+    × (now ≡ before ++ mark.Entered (record { owner = 0; act = Drop number }) ∷ [])
+
+-- the act with its packets numbered from this number on
+abbrev pub act_on : ℕ → Act → Act
+act_on n (Step i records outs events) = Step i records (numbered n outs) events
+act_on n act = act

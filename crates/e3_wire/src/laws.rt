@@ -1,0 +1,31 @@
+// What a pass may conclude of marks.
+ghost use Rattle.e3_wire.specs.Claims.{AreOthersMarks, ClaimPromises, ClaimedDraftsMayEnter, DriversMayPut, EntriesFollow, EntryUses, LeaveASite, NothingPromised, ScenarioStays};
+
+/// Marks that were put while a pass rested belong to none of its owners. For a site of its own they are entries of other
+/// sites, none of the driver's and no line, and they leave what is promised to it.
+pub fn marks_of_others_leave_a_site()
+    ensures others { AreOthersMarks }
+    ensures site { LeaveASite }
+{}
+
+/// A pass that owns all may put any marks of owners.
+pub fn drivers_may_put_marks()
+    ensures { DriversMayPut }
+{}
+
+/// What more marks say: their entries follow those before, and the scenario stays. A claim adds to its owner's note what an
+/// entry of the owner uses. Where nothing is promised, the history is full exactly where it has as many entries as it may
+/// have.
+pub fn marks_add_up()
+    ensures entries { EntriesFollow }
+    ensures scenario { ScenarioStays }
+    ensures claim { ClaimPromises }
+    ensures entry { EntryUses }
+    ensures none { NothingPromised }
+{}
+
+/// What a site may enter behind what its pass has seen, it may enter once a place and room are claimed for it, whatever
+/// others put meanwhile. No recover step is on.
+pub fn claimed_drafts_may_enter()
+    ensures { ClaimedDraftsMayEnter }
+{}

@@ -1,0 +1,22 @@
+// Marks, and what is stored of them.
+use e3_types::{Entry, Scenario};
+
+/// A mark of what the workers share. No value of it is made: it is how contracts see that.
+#[derive(Drop)]
+pub enum Mark {
+    /// The first mark: the scenario that is played, and how many entries the history may have.
+    Start { scenario: Scenario, most: u32 },
+    /// The next entry of the history.
+    Entered { entry: Entry },
+    /// A place for one entry is promised to the owner, and room for so many packets of it.
+    Place { owner: u32, outs: u32 },
+}
+
+/// What is stored of a mark behind the first; of an entry nothing more, since it stands in the history.
+#[derive(Clone, Copy, Drop)]
+pub enum Stored {
+    /// The next entry of the history.
+    Entered,
+    /// A place for one entry is promised to the owner, and room for so many packets of it.
+    Place { owner: u32, outs: u32 },
+}

@@ -1,0 +1,322 @@
+// What is under the lock.
+ghost use Rattle.std.specs.Prelude.{◌≡◌, ◌++◌, [], ◌∷◌, ◌≤◌, ◌<◌, ◌≢◌, ◌==◌, ◌↔◌, false, nat_le, length, IfOk, OnOk, OnErr, Err, Some, None, find, slice_get, option_copied};
+ghost use Rattle.e3_law_local.specs.Others.{numbered_on};
+ghost use Rattle.e3_types.specs.declared.entries.Act.TheVariants as act;
+ghost use Rattle.e3_wire.specs.Marks.{entries_of, last_owner, most_of, scenario_of, used_of};
+ghost use Rattle.e3_wire.specs.Wires.{IsDroppedFor, IsInTurn, IsPlayed, MayEnterBehind};
+ghost use Rattle.e3_wire.specs.declared.fault.WireFault.TheVariants.{HistoryFull};
+ghost use Rattle.e3_wire.specs.declared.marks.Mark.TheVariants as mark;
+ghost use Rattle.e3_world.specs.Given.{IsGiven};
+ghost use Rattle.e3_world.specs.Items.{is_up_at};
+ghost use Rattle.e3_world.specs.Legal.{IsLine, IsParts, first_pending};
+ghost use Rattle.e3_world.specs.Packets.{pending};
+
+use crate::growing::{make_room, push};
+use crate::passing::{count_outs, is_calm_in, pass_on};
+use crate::{Mark, Stored, WireFault};
+use e3_net::Net;
+use e3_turn::Chronicle;
+use e3_types::{Act, Copied, Entry, List, NoMemory, Packet, Scenario, SiteSet};
+use e3_world::History;
+use std::alloc::Global;
+use std::marker::Model;
+
+/// The scenario that is played, the history, its network, and what is promised. Contracts see it as its marks.
+#[derive(Drop)]
+pub struct Shared {
+    alloc: Global,
+    scenario: Scenario,
+    most: u32,
+    net: Net,
+    history: History,
+    stored: Vec<Stored>,
+    // How many places are promised, and room for how many packets.
+    places: u64,
+    room: u64,
+    // For how many more entries the history has room at least.
+    spare: u64,
+}
+
+impl Model for Shared {
+    ghost use Rattle.std.specs.Prelude.{List, vec_capacity};
+    ghost use Rattle.e3_wire.specs.declared.marks.Mark.{Mark};
+
+    ghost Value = { List Mark };
+
+    ghost use Rattle.e3_wire.specs.Stores.{IsKept, marks_from};
+
+    ghost view = { λ s. marks_from s.scenario s.most s.history.entries s.stored.items };
+
+    ghost invariant = { λ s. IsKept s.scenario s.most s.history.entries s.stored.items s.net.traffic s.places s.room s.spare
+        s.history.room (vec_capacity s.stored) s.net.room };
+}
+
+impl Chronicle for Shared {
+    type Mark = Mark;
+
+    ghost use Rattle.e3_wire.specs.Marks.{belongs};
+
+    ghost marks = { λ s. s };
+
+    ghost belongs = { belongs };
+}
+
+impl Shared {
+    /// A history without entries, which may have so many, and its network. Want of memory is the only error.
+    pub fn open(alloc: Global, scenario: Scenario, most: u32) -> Result<Shared, NoMemory>
+        requires given { IsGiven scenario }
+        ensures { IfOk result (λ s. s ≡ mark.Start scenario most ∷ []) }
+    {
+        let net = Net::new(
+            alloc,
+            scenario.weights.len() as u32,
+            scenario.luck,
+            scenario.loss,
+            scenario.repeat,
+        )?;
+        Ok(Shared {
+            alloc,
+            scenario,
+            most,
+            net,
+            history: History::new(alloc),
+            stored: Vec::new(alloc),
+            places: 0,
+            room: 0,
+            spare: 0,
+        })
+    }
+
+    /// Tells what is always true of it.
+    pub fn tell(&self)
+        ensures { IsPlayed self.now }
+    {
+        let _ = &self.scenario;
+    }
+
+    /// The scenario that is played.
+    pub fn scenario(&self) -> &Scenario
+        ensures { result.now ≡ scenario_of self.now }
+    {
+        &self.scenario
+    }
+
+    /// The history so far, in the order of its entries.
+    pub fn history(&self) -> &[Entry]
+        ensures { result.now ≡ entries_of self.now }
+    {
+        self.history.as_slice()
+    }
+
+    /// Its entries and promised places are as many as it may have entries.
+    pub fn is_full(&self) -> bool
+        ensures { result ≡ nat_le (most_of self.now) (used_of self.now) }
+    {
+        u64::from(self.most) <= self.history.len() + self.places
+    }
+
+    /// The pending packet of least number, if one is pending; it stays pending.
+    pub fn first(&self) -> Option<Packet>
+        ensures { result ≡ first_pending (scenario_of self.now) (entries_of self.now) }
+    {
+        match self.net.first_pending() {
+            Some(packet) => Some(packet.copy()),
+            None => None,
+        }
+    }
+
+    /// The pending packet to this site of least number, if one is pending to it; it stays pending.
+    pub fn next_to(&self, site: u32) -> Option<Packet>
+        ensures { result ≡ find (λ q. q.to == site) (pending (scenario_of self.now) (entries_of self.now)) }
+    {
+        match self.net.next_to(site) {
+            Some(packet) => Some(packet.copy()),
+            None => None,
+        }
+    }
+
+    // Takes all memory for one more entry of an owner with so many packets, and promises it.
+    fn promise(&mut self, owner: u32, outs: u32) -> Result<(), NoMemory>
+        requires owner { owner ≤ last_owner self.old }
+        requires few { used_of self.old < most_of self.old }
+        ensures ok { OnOk result (self.new ≡ self.old ++ mark.Place owner outs ∷ []) }
+        ensures kept { OnErr result (self.new ≡ self.old) }
+    {
+        let Some(room) = self.room.checked_add(u64::from(outs)) else {
+            return Err(NoMemory);
+        };
+        let Ok(wanted) = u32::try_from(room) else {
+            return Err(NoMemory);
+        };
+        if self.net.sent() > u64::MAX - room {
+            return Err(NoMemory);
+        }
+        self.net.reserve(wanted)?;
+        make_room(
+            self.alloc,
+            &mut self.history,
+            &mut self.spare,
+            &mut self.stored,
+            self.places,
+        )?;
+        self.stored.push_reserved(Stored::Place { owner, outs });
+        self.places += 1;
+        self.room = room;
+        Ok(())
+    }
+
+    /// Promises the owner a place for one entry, and room for so many packets of it, and takes all memory for them. What is
+    /// not used stays promised. `HistoryFull`: exactly where the entries and promised places are as many as there may be
+    /// entries.
+    pub fn claim(&mut self, owner: u32, outs: u32) -> Result<(), WireFault>
+        requires { owner ≤ last_owner self.old }
+        ensures ok { OnOk result (self.new ≡ self.old ++ mark.Place owner outs ∷ []) }
+        ensures kept { OnErr result (self.new ≡ self.old) }
+        ensures full { (result ≡ Err HistoryFull) ↔ (most_of self.old ≤ used_of self.old) }
+    {
+        if self.is_full() {
+            return Err(WireFault::HistoryFull);
+        }
+        self.promise(owner, outs)?;
+        Ok(())
+    }
+
+    /// Enters an entry of a site: the packet that it takes leaves the network, its packets are sent, with the next numbers,
+    /// and what was promised for it is used. It takes no memory.
+    pub fn enter(&mut self, entry: Entry)
+        requires { MayEnterBehind self.old entry }
+        ensures { self.new ≡ self.old ++ mark.Entered (numbered_on (entries_of self.old) entry) ∷ [] }
+    {
+        let owner = entry.owner;
+        let outs = count_outs(&entry.act);
+        let act = pass_on(&mut self.net, entry.act);
+        push(
+            &mut self.history,
+            &mut self.spare,
+            &mut self.stored,
+            Entry { owner, act },
+        );
+        self.places -= 1;
+        self.room -= outs;
+    }
+
+    /// Enters the line of the next step. The network is calm from now on exactly where the step is a recovery. `HistoryFull`:
+    /// exactly where the entries and promised places are as many as there may be entries.
+    pub fn line(&mut self, number: u32) -> Result<(), WireFault>
+        requires { IsLine (scenario_of self.old) (entries_of self.old) number }
+        ensures entered { OnOk result (self.new ≡ self.old ++ mark.Entered (record { owner = 0; act = act.Line number }) ∷ []) }
+        ensures kept { OnErr result (self.new ≡ self.old) }
+        ensures full { (result ≡ Err HistoryFull) ↔ (most_of self.old ≤ used_of self.old) }
+    {
+        if self.is_full() {
+            return Err(WireFault::HistoryFull);
+        }
+        make_room(
+            self.alloc,
+            &mut self.history,
+            &mut self.spare,
+            &mut self.stored,
+            self.places,
+        )?;
+        let calm = is_calm_in(&self.scenario, number);
+        self.net.calm(calm);
+        push(
+            &mut self.history,
+            &mut self.spare,
+            &mut self.stored,
+            Entry {
+                owner: 0,
+                act: Act::Line { number },
+            },
+        );
+        Ok(())
+    }
+
+    /// Enters the parts into which the network falls, directly behind the line of a split or a merge. `HistoryFull`: exactly
+    /// where the entries and promised places are as many as there may be entries.
+    pub fn parts(&mut self, parted: List<SiteSet>) -> Result<(), WireFault>
+        requires { IsParts (scenario_of self.old) (entries_of self.old) parted }
+        ensures entered { OnOk result (self.new ≡ self.old ++ mark.Entered (record { owner = 0; act = act.Parts parted }) ∷ []) }
+        ensures kept { OnErr result (self.new ≡ self.old) }
+        ensures full { (result ≡ Err HistoryFull) ↔ (most_of self.old ≤ used_of self.old) }
+    {
+        if self.is_full() {
+            return Err(WireFault::HistoryFull);
+        }
+        make_room(
+            self.alloc,
+            &mut self.history,
+            &mut self.spare,
+            &mut self.stored,
+            self.places,
+        )?;
+        let kept = parted.copied(self.alloc)?;
+        self.net.parts(kept);
+        push(
+            &mut self.history,
+            &mut self.spare,
+            &mut self.stored,
+            Entry {
+                owner: 0,
+                act: Act::Parts { parts: parted },
+            },
+        );
+        Ok(())
+    }
+
+    /// Drops the least pending packet to a site that is down, and answers its number; none exactly where none is pending to
+    /// it. In a recover step it is the least of all. `HistoryFull`: exactly where one is pending, and the entries and promised
+    /// places are as many as there may be entries.
+    pub fn drop_for(&mut self, site: u32) -> Result<Option<u64>, WireFault>
+        requires down { is_up_at (entries_of self.old) site ≡ false }
+        requires order { IsInTurn (scenario_of self.old) (entries_of self.old) site }
+        ensures dropped { IfOk result (λ number. IsDroppedFor site number self.old self.new) }
+        ensures kept { OnErr result (self.new ≡ self.old) }
+        ensures full { (result ≡ Err HistoryFull) ↔ ((most_of self.old ≤ used_of self.old)
+            × (find (λ q. q.to == site) (pending (scenario_of self.old) (entries_of self.old)) ≢ None)) }
+    {
+        let Some(packet) = self.next_to(site) else {
+            return Ok(None);
+        };
+        if self.is_full() {
+            return Err(WireFault::HistoryFull);
+        }
+        make_room(
+            self.alloc,
+            &mut self.history,
+            &mut self.spare,
+            &mut self.stored,
+            self.places,
+        )?;
+        let _taken = self.net.take(site);
+        push(
+            &mut self.history,
+            &mut self.spare,
+            &mut self.stored,
+            Entry {
+                owner: 0,
+                act: Act::Drop {
+                    packet: packet.number,
+                },
+            },
+        );
+        Ok(Some(packet.number))
+    }
+
+    /// A copy of the entry at this place, counted from 0; none past the end. Want of memory is the only error.
+    pub fn entry(&self, alloc: Global, at: u64) -> Result<Option<Entry>, NoMemory>
+        ensures { IfOk result (λ found. found ≡ slice_get (entries_of self.now) at) }
+    {
+        match self.history.entry(at) {
+            Some(entry) => Ok(Some(entry.copied(alloc)?)),
+            None => Ok(None),
+        }
+    }
+
+    /// The history. What was promised and not used falls away.
+    pub fn close(self) -> History
+        ensures { result.entries ≡ entries_of self }
+    {
+        self.history
+    }
+}
