@@ -1,0 +1,155 @@
+-- The operations of a transaction that came to a site, behind one more step.
+use Rattle.std.specs.Prelude.{◌≡◌, ◌==◌, ◌&&◌, ◌||◌, ◌++◌, ◌∷◌, [], if◌then◌else◌, ℕ, suc, Bool, true, false, not, List, length, filter, fold, Option, Some, None}
+use Rattle.std.specs.List.{list_any}
+use Rattle.std.proofs.Common.{refl, ap, sym, subst, ◌∙◌, arith}
+use Rattle.std.proofs.lemmas.Grind.{common_steps}
+use Rattle.std.proofs.lemmas.List.Elements.{filter-append}
+use Rattle.std.proofs.lemmas.List.Sums.{fold-append}
+use Rattle.e3_types.specs.declared.entries.Input.{Input}
+use Rattle.e3_types.specs.declared.messages.Message.{Message}
+use Rattle.e3_types.specs.declared.messages.Packet.{Packet}
+use Rattle.e3_types.specs.declared.records.Record.{Record}
+use Rattle.e3_types.specs.declared.transactions.Dir.{Dir}
+use Rattle.e3_types.specs.declared.transactions.Dir.TheVariants.{Abort, Commit}
+use Rattle.e3_types.specs.declared.transactions.Op.{Op}
+use Rattle.e3_types.specs.declared.transactions.State.{State}
+use Rattle.e3_types.specs.declared.transactions.State.TheVariants.{Q}
+use Rattle.e3_types.specs.declared.transactions.Txn.{Txn}
+use Rattle.e3_types.specs.declared.entries.Input.TheVariants as input
+use Rattle.e3_types.specs.declared.messages.Message.TheVariants as msg
+use Rattle.e3_types.specs.Same.{same_txn, same_state}
+use Rattle.e3_types.proofs.SameSites.{same_numbers_refl, same_numbers_eq}
+use Rattle.e3_world.specs.declared.lives.Asked.{Asked}
+use Rattle.e3_world.specs.declared.lives.Moment.{Moment}
+use Rattle.e3_world.specs.Logs.{key_of, state_of, decision, attempted, has_voted}
+use Rattle.e3_world.specs.Operations.{is_refusal, issued, taken_up, arrivals, arrived_by, and_arrived, Arrived, same_asked, is_fresh}
+use Rattle.e3_cards.specs.Seeing.{seen_of, seen_state}
+use Rattle.e3_cards.specs.Arriving.{came_of, came_by, taken_now}
+
+-- a transaction is one with itself
+pub same_txn_refl : (t : Txn) → same_txn t t ≡ true
+same_txn_refl t = let e = same_numbers_refl t.sites in grind (arith, common_steps, e)
+
+-- two that are one are equal
+pub same_txn_eq : (t u : Txn) → same_txn t u ≡ true → t ≡ u
+same_txn_eq t u e =
+    let sites = same_numbers_eq t.sites u.sites in
+    grind (arith, common_steps, sites, e)
+
+-- the state that was seen is the log's
+pub state_seen : (t : Txn) (log : List Record) → seen_state (seen_of t log) ≡ state_of t log
+state_seen t log = by (decision t log) (attempted t log) (has_voted t log) refl refl refl
+  where
+    by : (d e : Option Dir) (v : Bool) → decision t log ≡ d → attempted t log ≡ e → has_voted t log ≡ v → seen_state (seen_of t log) ≡ state_of t log
+    by (Some Commit) e v p q r = rw p refl
+    by (Some Abort) e v p q r = rw p refl
+    by None (Some Commit) v p q r = rw (p, q) refl
+    by None (Some Abort) v p q r = rw (p, q) refl
+    by None None true p q r = rw (p, q, r) refl
+    by None None false p q r = rw (p, q, r) refl
+
+-- the fold over steps keeps them
+arrived_steps : (site : ℕ) (was : Arrived) (steps : List Moment) → (fold (arrived_by site) was steps).steps ≡ was.steps ++ steps
+arrived_steps site was [] = grind (arith, common_steps)
+arrived_steps site was (m ∷ ms) = arrived_steps site (arrived_by site was m) ms ∙ grind (arith, common_steps)
+
+start : Arrived
+start = record { steps = []; asked = [] }
+
+-- the arrivals behind one more step
+pub arrivals_push : (site : ℕ) (steps : List Moment) (m : Moment) → arrivals site (steps ++ m ∷ []) ≡ and_arrived (arrivals site steps) m (taken_up site steps m)
+unfolding start
+arrivals_push site steps m =
+    let was : Arrived = record { steps = []; asked = [] } in
+    ap (λ (a : Arrived). a.asked) (fold-append (arrived_by site) was steps (m ∷ []))
+    ∙ ap (λ (ss : List Moment). and_arrived (arrivals site steps) m (taken_up site ss m)) (arrived_steps site was steps)
+
+-- the operation, where it is this transaction's
+abbrev pub mine : Txn → Option Asked → Option Asked
+mine t None = None
+mine t (Some a) = if same_txn t a.txn then Some a else None
+
+-- an operation is among all where it is among its transaction's
+pub among_own : (t : Txn) (a : Asked) (asked : List Asked) → same_txn t a.txn ≡ true → list_any (same_asked a) asked ≡ list_any (same_asked a) (filter (λ b. same_txn t b.txn) asked)
+among_own t a [] e = refl
+among_own t a (b ∷ bs) e = by (among_own t a bs e) (same_txn t b.txn) refl
+  where
+    by : list_any (same_asked a) bs ≡ list_any (same_asked a) (filter (λ b. same_txn t b.txn) bs) → (c : Bool) → same_txn t b.txn ≡ c
+        → list_any (same_asked a) (b ∷ bs) ≡ list_any (same_asked a) (filter (λ b. same_txn t b.txn) (b ∷ bs))
+    by ih true is = rw is (ap (λ x. same_asked a b || x) ih)
+    by ih false is =
+        let other : same_txn a.txn b.txn ≡ false = subst (λ (u : Txn). same_txn u b.txn ≡ false) (same_txn_eq t a.txn e) is in
+        rw is (grind (arith, common_steps, other, ih))
+
+-- of the arrivals behind a step those of the transaction
+came_mine : (t : Txn) (asked : List Asked) (m : Moment) (o : Option Asked)
+    → filter (λ b. same_txn t b.txn) (and_arrived asked m o) ≡ came_by (seen_of t m.before) (filter (λ b. same_txn t b.txn) asked) (mine t o)
+came_mine t asked m None = refl
+came_mine t asked m (Some a) = by (same_txn t a.txn) refl
+  where
+    own : Asked → Bool
+    own b = same_txn t b.txn
+
+    by : (c : Bool) → same_txn t a.txn ≡ c → filter (λ b. same_txn t b.txn) (and_arrived asked m (Some a)) ≡ came_by (seen_of t m.before) (filter (λ b. same_txn t b.txn) asked) (mine t (Some a))
+    by false is = rw is (pick (is_fresh asked m a))
+      where
+        pick : (f : Bool) → filter (λ b. same_txn t b.txn) (if f then asked ++ a ∷ [] else asked) ≡ filter (λ b. same_txn t b.txn) asked
+        pick true = grind (arith, common_steps, filter-append, is)
+        pick false = refl
+    by true is =
+        let state : state_of a.txn m.before ≡ seen_state (seen_of t m.before) =
+        ap (λ (u : Txn). state_of u m.before) (sym (same_txn_eq t a.txn is)) ∙ sym (state_seen t m.before) in
+        let fresh : is_fresh asked m a ≡ (same_state (seen_state (seen_of t m.before)) Q && not (list_any (same_asked a) (filter (λ b. same_txn t b.txn) asked))) =
+        ap (λ (s : State). same_state s Q && not (list_any (same_asked a) asked)) state
+        ∙ ap (λ (b : Bool). same_state (seen_state (seen_of t m.before)) Q && not b) (among_own t a asked is) in
+        rw is (rw fresh (pick (same_state (seen_state (seen_of t m.before)) Q && not (list_any (same_asked a) (filter (λ b. same_txn t b.txn) asked)))))
+      where
+        pick : (f : Bool) → filter (λ b. same_txn t b.txn) (if f then asked ++ a ∷ [] else asked) ≡ (if f then filter (λ b. same_txn t b.txn) asked ++ a ∷ [] else filter (λ b. same_txn t b.txn) asked)
+        pick true = grind (arith, common_steps, filter-append, is)
+        pick false = refl
+
+-- what a step takes up of the transaction
+pub taken_mine : (site : ℕ) (t : Txn) (steps : List Moment) (m : Moment) → mine t (taken_up site steps m) ≡ taken_now site t (issued t steps) m.input m.told
+taken_mine site t steps m = by m.input refl
+  where
+    told_by : (u : Txn) (op : Op) (r c k : Bool) → m.input ≡ input.Do u op → list_any is_refusal m.told ≡ r → same_txn t u ≡ c → ((key_of op).site == site) ≡ k
+        → mine t (taken_up site steps m) ≡ taken_now site t (issued t steps) m.input m.told
+    told_by u op true true k is e f g = rw (is, same_txn_refl u, e, f) refl
+    told_by u op true false k is e f g = rw (is, same_txn_refl u, e, f) refl
+    told_by u op false true true is e f g =
+        let other : Option Asked = Some (record { txn = u; n = suc (length (issued u steps)); op = op }) in
+        rw (is, same_txn_refl u, e, f, g) (rw f (ap (λ (v : Txn). Some (record { txn = u; n = suc (length (issued v steps)); op = op })) (sym (same_txn_eq t u f))))
+    told_by u op false true false is e f g = rw (is, same_txn_refl u, e, f, g) refl
+    told_by u op false false true is e f g = rw (is, same_txn_refl u, e, f, g) (rw f refl)
+    told_by u op false false false is e f g = rw (is, same_txn_refl u, e, f, g) refl
+
+    sent_by : (packet : Packet) (k : Message) → m.input ≡ input.Deliver packet → packet.msg ≡ k → mine t (taken_up site steps m) ≡ taken_now site t (issued t steps) m.input m.told
+    sent_by packet (msg.Do u n op) is e = rw (is, e) refl
+    sent_by packet (msg.Done u n inc answer) is e = rw (is, e) refl
+    sent_by packet (msg.Died u n older) is e = rw (is, e) refl
+    sent_by packet (msg.Ask u call) is e = rw (is, e) refl
+    sent_by packet (msg.LastElected u call n) is e = rw (is, e) refl
+    sent_by packet (msg.Elected u n) is e = rw (is, e) refl
+    sent_by packet (msg.Report u n st n2) is e = rw (is, e) refl
+    sent_by packet (msg.VoteReq u inc count) is e = rw (is, e) refl
+    sent_by packet (msg.Vote u says) is e = rw (is, e) refl
+    sent_by packet (msg.Pre u n dir) is e = rw (is, e) refl
+    sent_by packet (msg.Ack u n dir) is e = rw (is, e) refl
+    sent_by packet (msg.Decide u dir) is e = rw (is, e) refl
+
+    by : (i : Input) → m.input ≡ i → mine t (taken_up site steps m) ≡ taken_now site t (issued t steps) m.input m.told
+    by (input.Begin sites) is = rw is refl
+    by (input.Do u op) is = told_by u op (list_any is_refusal m.told) (same_txn t u) ((key_of op).site == site) is refl refl refl
+    by (input.Commit u) is = rw is refl
+    by (input.Cancel u) is = rw is refl
+    by (input.Expire u) is = rw is refl
+    by (input.Elect u group) is = rw is refl
+    by (input.Deliver packet) is = sent_by packet packet.msg is refl
+
+-- the operations of the transaction that came, behind one more moment
+pub came_push : (site : ℕ) (t : Txn) (steps : List Moment) (m : Moment)
+    → came_of site t (steps ++ m ∷ []) ≡ came_by (seen_of t m.before) (came_of site t steps) (taken_now site t (issued t steps) m.input m.told)
+came_push site t steps m =
+    ap (filter (λ a. same_txn t a.txn)) (arrivals_push site steps m)
+    ∙ came_mine t (arrivals site steps) m (taken_up site steps m)
+    ∙ ap (came_by (seen_of t m.before) (came_of site t steps)) (taken_mine site t steps m)

@@ -1,0 +1,9 @@
+pub mod Seeing
+pub mod Arrivals
+pub mod Progress
+pub mod Keeping
+pub mod Untouched
+pub mod Putting
+pub mod Answered
+pub mod Counting
+pub mod Reading

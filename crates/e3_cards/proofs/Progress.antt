@@ -1,0 +1,196 @@
+-- The election, the round and the votes of a transaction, behind one more step.
+use Rattle.std.specs.Prelude.{◌≡◌, ◌+◌, ◌++◌, ◌∷◌, [], if◌then◌else◌, ℕ, suc, Bool, true, false, List, Option, Some, None, fold, count_by}
+use Rattle.std.proofs.Common.{refl, ap, sym, ◌∙◌, arith}
+use Rattle.std.proofs.lemmas.Grind.{common_steps}
+use Rattle.std.proofs.lemmas.List.Sums.{fold-append, sum_by-append}
+use Rattle.e3_types.specs.declared.entries.Input.{Input}
+use Rattle.e3_types.specs.declared.messages.Message.{Message}
+use Rattle.e3_types.specs.declared.messages.Packet.{Packet}
+use Rattle.e3_types.specs.declared.transactions.State.{State}
+use Rattle.e3_types.specs.declared.transactions.Txn.{Txn}
+use Rattle.e3_types.specs.declared.entries.Input.TheVariants as input
+use Rattle.e3_types.specs.declared.messages.Message.TheVariants as msg
+use Rattle.e3_types.specs.Same.{same_txn}
+use Rattle.e3_world.specs.declared.gatherings.Election.{Election}
+use Rattle.e3_world.specs.declared.gatherings.Elections.{Elections}
+use Rattle.e3_world.specs.declared.gatherings.Rounds.{Rounds}
+use Rattle.e3_world.specs.declared.lives.Life.{Life}
+use Rattle.e3_world.specs.declared.lives.Moment.{Moment}
+use Rattle.e3_world.specs.declared.lives.SiteStep.{SiteStep}
+use Rattle.e3_world.specs.Elections.{all_heard, begun, hear, joined_in, after_heard, heard_more, election_with, election_by, election_in_progress, ends_election, is_elect}
+use Rattle.e3_world.specs.Logs.{last_elected, last_attempt, state_of}
+use Rattle.e3_world.specs.Rounds.{round_by}
+use Rattle.e3_world.specs.Votes.{yes_by, yes_votes}
+use Rattle.e3_cards.specs.Cards.{moment_of, moment_with, rounds_of}
+use Rattle.e3_cards.specs.Electing.{heard_all, heard_one, election_taking, election_now}
+use Rattle.e3_cards.specs.Seeing.{seen_of, seen_state}
+use Rattle.e3_cards.proofs.Arrivals.{state_seen}
+
+-- the moment of a step of a life
+abbrev pub lived : Life → SiteStep → Moment
+lived life s = record { before = life.log; input = s.input; records = s.records; outs = s.outs; told = s.told }
+
+-- the log before a step is nothing to the votes
+yes_plain : (t : Txn) (was : Option (List ℕ)) (life : Life) (s : SiteStep) → yes_by t was (lived life s) ≡ yes_by t was (moment_with s.input s.told)
+yes_plain t was life s = by s.input refl
+  where
+    by_msg : (packet : Packet) (k : Message) → s.input ≡ input.Deliver packet → packet.msg ≡ k → yes_by t was (lived life s) ≡ yes_by t was (moment_with s.input s.told)
+    by_msg packet (msg.Vote u true) is e = rw (is, e) refl
+    by_msg packet (msg.Vote u false) is e = rw (is, e) refl
+    by_msg packet (msg.Do u n op) is e = rw (is, e) refl
+    by_msg packet (msg.Done u n inc answer) is e = rw (is, e) refl
+    by_msg packet (msg.Died u n older) is e = rw (is, e) refl
+    by_msg packet (msg.Ask u call) is e = rw (is, e) refl
+    by_msg packet (msg.LastElected u call n) is e = rw (is, e) refl
+    by_msg packet (msg.Elected u n) is e = rw (is, e) refl
+    by_msg packet (msg.Report u n st n2) is e = rw (is, e) refl
+    by_msg packet (msg.VoteReq u inc count) is e = rw (is, e) refl
+    by_msg packet (msg.Pre u n dir) is e = rw (is, e) refl
+    by_msg packet (msg.Ack u n dir) is e = rw (is, e) refl
+    by_msg packet (msg.Decide u dir) is e = rw (is, e) refl
+
+    by : (i : Input) → s.input ≡ i → yes_by t was (lived life s) ≡ yes_by t was (moment_with s.input s.told)
+    by (input.Begin sites) is = rw is refl
+    by (input.Do u op) is = rw is refl
+    by (input.Commit u) is = rw is refl
+    by (input.Cancel u) is = rw is refl
+    by (input.Expire u) is = rw is refl
+    by (input.Elect u group) is = rw is refl
+    by (input.Deliver packet) is = by_msg packet packet.msg is refl
+
+-- the votes behind one more step
+pub yes_step : (t : Txn) (life : Life) (s : SiteStep) → yes_votes t (life.steps ++ lived life s ∷ []) ≡ yes_by t (yes_votes t life.steps) (moment_with s.input s.told)
+yes_step t life s =
+    let none : Option (List ℕ) = None in
+    fold-append (yes_by t) none life.steps (lived life s ∷ []) ∙ yes_plain t (yes_votes t life.steps) life s
+
+-- nor to the round
+round_plain : (site : ℕ) (t : Txn) (was : Rounds) (life : Life) (s : SiteStep) → round_by site t was (lived life s) ≡ round_by site t was (moment_of s)
+round_plain site t was life s = by s.input refl
+  where
+    by_msg : (packet : Packet) (k : Message) → s.input ≡ input.Deliver packet → packet.msg ≡ k → round_by site t was (lived life s) ≡ round_by site t was (moment_of s)
+    by_msg packet (msg.Vote u says) is e = rw (is, e) refl
+    by_msg packet (msg.Do u n op) is e = rw (is, e) refl
+    by_msg packet (msg.Done u n inc answer) is e = rw (is, e) refl
+    by_msg packet (msg.Died u n older) is e = rw (is, e) refl
+    by_msg packet (msg.Ask u call) is e = rw (is, e) refl
+    by_msg packet (msg.LastElected u call n) is e = rw (is, e) refl
+    by_msg packet (msg.Elected u n) is e = rw (is, e) refl
+    by_msg packet (msg.Report u n st n2) is e = rw (is, e) refl
+    by_msg packet (msg.VoteReq u inc count) is e = rw (is, e) refl
+    by_msg packet (msg.Pre u n dir) is e = rw (is, e) refl
+    by_msg packet (msg.Ack u n dir) is e = rw (is, e) refl
+    by_msg packet (msg.Decide u dir) is e = rw (is, e) refl
+
+    by : (i : Input) → s.input ≡ i → round_by site t was (lived life s) ≡ round_by site t was (moment_of s)
+    by (input.Begin sites) is = rw is refl
+    by (input.Do u op) is = rw is refl
+    by (input.Commit u) is = rw is refl
+    by (input.Cancel u) is = rw is refl
+    by (input.Expire u) is = rw is refl
+    by (input.Elect u group) is = rw is refl
+    by (input.Deliver packet) is = by_msg packet packet.msg is refl
+
+-- the round behind one more step
+pub rounds_step : (site : ℕ) (t : Txn) (life : Life) (s : SiteStep) → rounds_of site t (life.steps ++ lived life s ∷ []) ≡ round_by site t (rounds_of site t life.steps) (moment_of s)
+rounds_step site t life s =
+    let start : Rounds = record { group = []; now = None } in
+    fold-append (round_by site t) start life.steps (lived life s ∷ []) ∙ round_plain site t (rounds_of site t life.steps) life s
+
+-- what was seen serves in place of the log
+heard_all_is : (site : ℕ) (t : Txn) (m : Moment) (e : Election) → after_heard site t m e ≡ heard_all site t (seen_of t m.before) m.records e
+heard_all_is site t m e = by (all_heard e) (joined_in t m.records) refl refl
+  where
+    by : (b : Bool) (j : Option ℕ) → all_heard e ≡ b → joined_in t m.records ≡ j → after_heard site t m e ≡ heard_all site t (seen_of t m.before) m.records e
+    by false j p q = rw p refl
+    by true None p q = rw (p, q) refl
+    by true (Some n) p q =
+        let joins : State → Option Election = λ st. Some (record e { number = Some n; reports = record { site = site; state = st; attempt = last_attempt t m.before } ∷ [] }) in
+        let here : joins (state_of t m.before) ≡ joins (seen_state (seen_of t m.before)) = ap joins (sym (state_seen t m.before)) in
+        rw (p, q) here
+
+heard_one_is : (site : ℕ) (t : Txn) (m : Moment) (e : Election) (more : Option Election) → heard_more site t m e more ≡ heard_one site t (seen_of t m.before) m.records e more
+heard_one_is site t m e None = refl
+heard_one_is site t m e (Some more) = heard_all_is site t m more
+
+taking_is : (site : ℕ) (t : Txn) (m : Moment) (e : Election) (f : ℕ) (k : Message) → election_with site t m e f k ≡ election_taking site t (seen_of t m.before) m.records f k e
+taking_is site t m e f (msg.LastElected u call n) =
+    ap (λ (o : Option Election). if same_txn t u then o else Some e) (heard_one_is site t m e (hear e f call n))
+taking_is site t m e f (msg.Report u n st a) = refl
+taking_is site t m e f (msg.Elected u n) = refl
+taking_is site t m e f (msg.Do u n op) = refl
+taking_is site t m e f (msg.Done u n inc answer) = refl
+taking_is site t m e f (msg.Died u n older) = refl
+taking_is site t m e f (msg.Ask u call) = refl
+taking_is site t m e f (msg.VoteReq u inc count) = refl
+taking_is site t m e f (msg.Vote u says) = refl
+taking_is site t m e f (msg.Pre u n dir) = refl
+taking_is site t m e f (msg.Ack u n dir) = refl
+taking_is site t m e f (msg.Decide u dir) = refl
+
+-- the elections behind one more moment
+election_one : (site inc : ℕ) (t : Txn) (was : Elections) (life : Life) (s : SiteStep)
+    → (election_by site inc t was (lived life s)).now ≡ election_now site (record { inc = inc; seq = suc was.calls }) t (seen_of t life.log) was.now s
+election_one site inc t was life s = by s.input refl
+  where
+    still : Option Election → Option Election
+    still e = if ends_election t (lived life s) then None else e
+
+    by_packet : (packet : Packet) (now : Option Election) → s.input ≡ input.Deliver packet → was.now ≡ now
+        → (election_by site inc t was (lived life s)).now ≡ election_now site (record { inc = inc; seq = suc was.calls }) t (seen_of t life.log) was.now s
+    by_packet packet None is e = rw (is, e) refl
+    by_packet packet (Some n) is e = rw (is, e) (ap still (taking_is site t (lived life s) n packet.«from» packet.msg))
+
+    by : (i : Input) → s.input ≡ i → (election_by site inc t was (lived life s)).now ≡ election_now site (record { inc = inc; seq = suc was.calls }) t (seen_of t life.log) was.now s
+    by (input.Begin sites) is = rw is refl
+    by (input.Do u op) is = rw is refl
+    by (input.Commit u) is = rw is refl
+    by (input.Cancel u) is = rw is refl
+    by (input.Expire u) is = rw is refl
+    by (input.Elect u group) is =
+        let anew : Option Election → Option Election = λ o. still (if same_txn t u then o else was.now) in
+        rw is (ap anew (heard_all_is site t (lived life s) (begun site (record { inc = inc; seq = suc was.calls }) group (last_elected t life.log))))
+    by (input.Deliver packet) is = by_packet packet was.now is refl
+
+-- the calls are counted alike
+one_call : (site inc : ℕ) (t : Txn) (was : Elections) (m : Moment) → (election_by site inc t was m).calls ≡ was.calls + count_by is_elect (m ∷ [])
+one_call site inc t was m = by m.input refl
+  where
+    by : (i : Input) → m.input ≡ i → (election_by site inc t was m).calls ≡ was.calls + count_by is_elect (m ∷ [])
+    by (input.Elect u group) is = rw is (omega arith)
+    by (input.Begin sites) is = rw is (omega arith)
+    by (input.Do u op) is = rw is (omega arith)
+    by (input.Commit u) is = rw is (omega arith)
+    by (input.Cancel u) is = rw is (omega arith)
+    by (input.Expire u) is = rw is (omega arith)
+    by (input.Deliver packet) is = rw is (omega arith)
+
+calls_from : (site inc : ℕ) (t : Txn) (was : Elections) (steps : List Moment) →
+    (fold (election_by site inc t) was steps).calls ≡ was.calls + count_by is_elect steps
+calls_from site inc t was [] = omega arith
+calls_from site inc t was (m ∷ steps) =
+    let rest : (fold (election_by site inc t) (election_by site inc t was m) steps).calls ≡ (election_by site inc t was m).calls + count_by is_elect steps =
+    calls_from site inc t (election_by site inc t was m) steps in
+    let one = one_call site inc t was m in
+    let both : count_by is_elect (m ∷ steps) ≡ count_by is_elect (m ∷ []) + count_by is_elect steps = sum_by-append _ (m ∷ []) steps in
+    omega (arith, rest, one, both)
+
+-- the election behind one more step
+pub election_step : (site : ℕ) (t : Txn) (life : Life) (s : SiteStep)
+    → election_in_progress site life.inc t (life.steps ++ lived life s ∷ [])
+    ≡ election_now site (record { inc = life.inc; seq = suc (count_by is_elect life.steps) }) t (seen_of t life.log) (election_in_progress site life.inc t life.steps) s
+election_step site t life s =
+    let start : Elections = record { calls = 0; now = None } in
+    let was : Elections = fold (election_by site life.inc t) start life.steps in
+    let calls : was.calls ≡ count_by is_elect life.steps = let all = calls_from site life.inc t start life.steps in omega (arith, all) in
+    ap (λ (e : Elections). e.now) (fold-append (election_by site life.inc t) start life.steps (lived life s ∷ []))
+    ∙ election_one site life.inc t was life s
+    ∙ ap (λ (n : ℕ). election_now site (record { inc = life.inc; seq = suc n }) t (seen_of t life.log) was.now s) calls
+
+-- a count behind one more
+pub count_push : (p : Moment → Bool) (xs : List Moment) (m : Moment) → count_by p (xs ++ m ∷ []) ≡ (if p m then suc (count_by p xs) else count_by p xs)
+count_push p xs m = by (p m) refl
+  where
+    by : (b : Bool) → p m ≡ b → count_by p (xs ++ m ∷ []) ≡ (if p m then suc (count_by p xs) else count_by p xs)
+    by true is = let both = sum_by-append (λ x. if p x then 1 else 0) xs (m ∷ []) in grind (arith, common_steps, both, is)
+    by false is = let both = sum_by-append (λ x. if p x then 1 else 0) xs (m ∷ []) in grind (arith, common_steps, both, is)

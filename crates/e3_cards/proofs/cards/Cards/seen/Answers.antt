@@ -1,0 +1,6 @@
+use Rattle.std.proofs.Common.{ap, ◌∙◌}
+use Rattle.e3_cards.specs.declared.card.Card.{Card}
+use Rattle.e3_cards.proofs.cards.Cards.seen.Goals as goal
+
+pub returns : goal.returns
+returns c = λ a stands. c.seen_at.ensures ∙ ap (λ (k : Card). k.seen) (stands.cards_are c.args.t.now c.known.ensures)

@@ -1,0 +1,7 @@
+use Rattle.std.proofs.Common.{◌≡◌, take, fold}
+use Rattle.std.specs.List.{flat_map}
+use Rattle.e3_cards.specs.Tables.{add_txn, sent_txns}
+use Rattle.e3_cards.proofs.touched.add_packets.Given as goal
+
+abbrev pub invariant-loop-packet : goal.invariant-loop-packet
+invariant-loop-packet l = l.out ≡ fold add_txn l.initial.out (flat_map sent_txns (take l.packet-index l.outs))

@@ -1,0 +1,147 @@
+// Copies of cards.
+ghost use Rattle.std.specs.Prelude.{◌≡◌, IfOk};
+ghost use Rattle.e3_cards.specs.Tables.{card_at};
+
+use crate::card::{Card, Heard, blank};
+use crate::cards::card_or;
+use crate::keys::TxnKey;
+use e3_types::{List, NoMemory, Op, Txn};
+use e3_world::{Asked, Election, Round, Rounds};
+use std::alloc::Global;
+use std::collections::BTreeMap;
+
+/// An equal list.
+pub(crate) fn copy_all<T: Copy + Drop>(alloc: Global, items: &[T]) -> Result<List<T>, NoMemory>
+    ensures { IfOk result (λ out. out ≡ items.now) }
+{
+    let mut out = List::new(alloc);
+    out.extend(items)?;
+    Ok(out)
+}
+
+/// An equal list.
+pub(crate) fn copy_ops(alloc: Global, ops: &[Op]) -> Result<List<Op>, NoMemory>
+    ensures { IfOk result (λ out. out ≡ ops.now) }
+{
+    let mut out = List::new(alloc);
+    for x in ops {
+        out.push(x.copy())?;
+    }
+    Ok(out)
+}
+
+/// An equal list.
+pub(crate) fn copy_came(alloc: Global, came: &[Asked]) -> Result<List<Asked>, NoMemory>
+    ensures { IfOk result (λ out. out ≡ came.now) }
+{
+    let mut out = List::new(alloc);
+    for x in came {
+        out.push(Asked {
+            txn: x.txn,
+            n: x.n,
+            op: x.op.copy(),
+        })?;
+    }
+    Ok(out)
+}
+
+/// An equal list.
+pub(crate) fn copy_heard(alloc: Global, heard: &[Heard]) -> Result<List<Heard>, NoMemory>
+    ensures { IfOk result (λ out. out ≡ heard.now) }
+{
+    let mut out = List::new(alloc);
+    for x in heard {
+        out.push(Heard {
+            n: x.n,
+            answer: x.answer.copy(),
+        })?;
+    }
+    Ok(out)
+}
+
+/// A copy of the sites whose yes came.
+pub(crate) fn copy_yes(
+    alloc: Global,
+    yes: &Option<List<u32>>,
+) -> Result<Option<List<u32>>, NoMemory>
+    ensures { IfOk result (λ out. out ≡ yes.now) }
+{
+    match yes {
+        Some(sites) => Ok(Some(copy_all(alloc, sites.as_slice())?)),
+        None => Ok(None),
+    }
+}
+
+fn copy_started(alloc: Global, e: &Election) -> Result<Election, NoMemory>
+    ensures { IfOk result (λ out. out ≡ e.now) }
+{
+    Ok(Election {
+        call: e.call,
+        group: e.group,
+        heard: copy_all(alloc, e.heard.as_slice())?,
+        number: e.number,
+        reports: copy_all(alloc, e.reports.as_slice())?,
+    })
+}
+
+/// A copy of the election in progress.
+pub(crate) fn copy_election(
+    alloc: Global,
+    was: &Option<Election>,
+) -> Result<Option<Election>, NoMemory>
+    ensures { IfOk result (λ out. out ≡ was.now) }
+{
+    match was {
+        Some(e) => Ok(Some(copy_started(alloc, e)?)),
+        None => Ok(None),
+    }
+}
+
+fn copy_begun(alloc: Global, r: &Round) -> Result<Round, NoMemory>
+    ensures { IfOk result (λ out. out ≡ r.now) }
+{
+    Ok(Round {
+        n: r.n,
+        dir: r.dir,
+        to: r.to,
+        acked: copy_all(alloc, r.acked.as_slice())?,
+    })
+}
+
+/// A copy of the round in progress.
+pub(crate) fn copy_round(alloc: Global, was: &Option<Round>) -> Result<Option<Round>, NoMemory>
+    ensures { IfOk result (λ out. out ≡ was.now) }
+{
+    match was {
+        Some(r) => Ok(Some(copy_begun(alloc, r)?)),
+        None => Ok(None),
+    }
+}
+
+fn copy_card(alloc: Global, card: &Card) -> Result<Card, NoMemory>
+    ensures { IfOk result (λ out. out ≡ card.now) }
+{
+    Ok(Card {
+        seen: card.seen,
+        issued: copy_ops(alloc, card.issued.as_slice())?,
+        answered: copy_all(alloc, card.answered.as_slice())?,
+        counted: copy_all(alloc, card.counted.as_slice())?,
+        reasons: copy_all(alloc, card.reasons.as_slice())?,
+        came: copy_came(alloc, card.came.as_slice())?,
+        heard: copy_heard(alloc, card.heard.as_slice())?,
+        yes: copy_yes(alloc, &card.yes)?,
+        election: copy_election(alloc, &card.election)?,
+        rounds: Rounds {
+            group: card.rounds.group,
+            now: copy_round(alloc, &card.rounds.now)?,
+        },
+    })
+}
+
+/// A copy of the card of a transaction, or a blank one.
+pub fn copy_at(alloc: Global, map: &BTreeMap<TxnKey, Card>, t: &Txn) -> Result<Card, NoMemory>
+    ensures { IfOk result (λ card. card ≡ card_at map.now.entries t.now) }
+{
+    let none = blank(alloc);
+    copy_card(alloc, card_or(map, t, &none))
+}

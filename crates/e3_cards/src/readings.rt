@@ -1,0 +1,291 @@
+// What the rules of a step read of a transaction, where the cards stand for the place of the step.
+ghost use Rattle.std.specs.Prelude.{◌≡◌, ◌==◌, ◌&&◌, if◌then◌else◌, IfOk, OnErr, ◌≤◌, length, fold, count_by};
+ghost use Rattle.std.specs.List.{list_any};
+ghost use Rattle.e3_types.specs.Same.{same_txn};
+ghost use Rattle.e3_types.specs.Sets.{has_site, is_within, others};
+ghost use Rattle.e3_world.specs.declared.lives.At.{At as Place};
+ghost use Rattle.e3_world.specs.Elections.{election_in_progress, next_call};
+ghost use Rattle.e3_world.specs.Making.{log_now, steps_now, own_write};
+ghost use Rattle.e3_world.specs.Operations.{answers, done, expected, issued, kept_reason, same_asked, unanswered, waiting};
+ghost use Rattle.e3_world.specs.Rounds.{round_in_progress};
+ghost use Rattle.e3_world.specs.Steps.{is_begin};
+ghost use Rattle.e3_world.specs.Votes.{yes_by};
+ghost use Rattle.e3_cards.specs.Cards.{moment_with};
+ghost use Rattle.e3_cards.specs.Readings.{first_of, is_awaited, have_come, has_every_yes, own_expected, expected_of, done_of};
+ghost use Rattle.e3_cards.specs.Seeing.{seen_of};
+ghost use Rattle.e3_cards.specs.Tables.{CardsStand, card_at, call_now};
+
+use crate::arriving::next;
+use crate::card::{Card, blank};
+use crate::cards::{Cards, card_or};
+use crate::copying::{copy_election, copy_round, copy_yes};
+use crate::gathering::yes_now;
+use crate::keys::{known, txn_key};
+use crate::operations::{
+    answer_of, awaits, done_of, done_with, expected_of, is_waiting_now, own_expected, own_with,
+    unanswered_now, waits_now,
+};
+use crate::seen::{Seen, unseen};
+use e3_types::{Answer, Call, Input, List, Name, NoMemory, Refusal, SiteSet, Txn};
+use e3_world::{Asked, Election, Expected, Made, Performed, Round};
+use std::alloc::Global;
+
+fn seen_at(cards: &Cards, t: &Txn) -> Seen
+    ensures { result ≡ (card_at cards.now.map.entries t.now).seen }
+{
+    match cards.map.get(&txn_key(t)) {
+        Some(card) => card.seen,
+        None => unseen(),
+    }
+}
+
+fn expected_from(alloc: Global, cards: &Cards, card: &Card, of: u32) -> Result<Expected, NoMemory>
+    ensures { IfOk result (λ e. e ≡ (if cards.now.site == of then own_expected cards.now.inc (done_of card.now) else expected_of of card.now)) }
+{
+    if cards.site == of {
+        let done = done_of(alloc, card)?;
+        own_expected(cards.inc, done.as_slice())
+    } else {
+        expected_of(of, card)
+    }
+}
+
+fn has_site(sites: &[u32], site: u32) -> bool
+    ensures { result ≡ has_site sites.now site }
+{
+    sites.iter().any(|x| *x == site)
+}
+
+fn are_within(alloc: Global, sites: SiteSet, came: &[u32]) -> Result<bool, NoMemory>
+    ensures { IfOk result (λ b. b ≡ is_within sites came.now) }
+{
+    let awaited = sites.list(alloc)?;
+    Ok(awaited.as_slice().iter().all(|site| has_site(came, *site)))
+}
+
+fn every_yes(
+    alloc: Global,
+    site: u32,
+    t: &Txn,
+    card: &Card,
+    input: &Input,
+    made: &Made,
+) -> Result<bool, NoMemory>
+    ensures { IfOk result (λ b. b ≡ have_come (others site t.now.sites) (yes_by t.now card.now.yes (moment_with input.now made.now.told))) }
+{
+    let was = copy_yes(alloc, &card.yes)?;
+    match yes_now(alloc, t, was, input, made.told.as_slice())? {
+        Some(came) => are_within(alloc, t.sites.without(site), came.as_slice()),
+        None => Ok(false),
+    }
+}
+
+fn first_reason(reasons: &[Refusal]) -> Option<Refusal>
+    ensures { result ≡ first_of reasons.now }
+{
+    match reasons {
+        [] => None,
+        [why, ..] => Some(*why),
+    }
+}
+
+fn reason_of(card: &Card) -> Option<Refusal>
+    ensures { result ≡ first_of card.now.reasons }
+{
+    first_reason(card.reasons.as_slice())
+}
+
+impl Cards {
+    /// What the log before the step says of the transaction.
+    pub fn seen(&self, t: &Txn) -> Seen
+        ensures { (a : Place) → CardsStand a.site self.now a.life → result ≡ seen_of t.now a.life.log }
+    {
+        known(t);
+        seen_at(self, t)
+    }
+
+    /// How many operations of the transaction the steps before this one issued.
+    pub fn issued_count(&self, alloc: Global, t: &Txn) -> u64
+        ensures { (a : Place) → CardsStand a.site self.now a.life → result ≡ length (issued t.now a.life.steps) }
+    {
+        known(t);
+        let none = blank(alloc);
+        card_or(&self.map, t, &none).issued.len()
+    }
+
+    /// The operation of the transaction that is unanswered behind the steps before this one, if it is undecided now.
+    pub fn unanswered(&self, alloc: Global, t: &Txn, made: &Made) -> Result<Option<u32>, NoMemory>
+        ensures { (a : Place) → CardsStand a.site self.now a.life → IfOk result (λ n. n ≡ unanswered t.now (log_now a made.now) a.life.steps) }
+    {
+        known(t);
+        let none = blank(alloc);
+        unanswered_now(t, card_or(&self.map, t, &none), made)
+    }
+
+    /// Operation n of the transaction is its unanswered one, with the step so far, and its key is at site f.
+    pub fn is_awaited(
+        &self,
+        alloc: Global,
+        f: u32,
+        t: &Txn,
+        n: u32,
+        input: &Input,
+        made: &Made,
+    ) -> Result<bool, NoMemory>
+        ensures { (a : Place) → CardsStand a.site self.now a.life → a.input ≡ input.now → IfOk result (λ b. b ≡ is_awaited a f t.now n made.now) }
+    {
+        known(t);
+        let none = blank(alloc);
+        awaits(alloc, f, t, n, card_or(&self.map, t, &none), input, made)
+    }
+
+    /// What is expected of a site for the transaction.
+    pub fn expected(&self, alloc: Global, t: &Txn, of: u32) -> Result<Expected, NoMemory>
+        ensures { (a : Place) → CardsStand a.site self.now a.life → IfOk result (λ e. e ≡ expected a.site a.life.inc t.now a.life.steps of) }
+    {
+        known(t);
+        let none = blank(alloc);
+        expected_from(alloc, self, card_or(&self.map, t, &none), of)
+    }
+
+    /// The reason that is kept for the end of the transaction, if there is one.
+    pub fn kept_reason(&self, alloc: Global, t: &Txn) -> Option<Refusal>
+        ensures { (a : Place) → CardsStand a.site self.now a.life → result ≡ first_of (kept_reason t.now a.life.steps) }
+    {
+        known(t);
+        let none = blank(alloc);
+        reason_of(card_or(&self.map, t, &none))
+    }
+
+    /// The operations of the transaction that the site answered before the step, in the order of arrival.
+    pub fn done(&self, alloc: Global, t: &Txn) -> Result<List<Performed>, NoMemory>
+        ensures { (a : Place) → CardsStand a.site self.now a.life → IfOk result (λ out. out ≡ done a.site t.now a.life.steps) }
+    {
+        known(t);
+        let none = blank(alloc);
+        done_of(alloc, card_or(&self.map, t, &none))
+    }
+
+    /// The operations of the transaction that the site answered, with the step so far, in the order of arrival.
+    pub fn done_now(
+        &self,
+        alloc: Global,
+        t: &Txn,
+        input: &Input,
+        made: &Made,
+    ) -> Result<List<Performed>, NoMemory>
+        ensures { (a : Place) → CardsStand a.site self.now a.life → a.input ≡ input.now → IfOk result (λ out. out ≡ done a.site t.now (steps_now a made.now)) }
+    {
+        known(t);
+        let none = blank(alloc);
+        done_with(
+            alloc,
+            self.site,
+            t,
+            card_or(&self.map, t, &none),
+            input,
+            made,
+        )
+    }
+
+    /// The value that the transaction's last write of the name here gave it, with the step so far, or else this row.
+    pub fn own_value(
+        &self,
+        alloc: Global,
+        t: &Txn,
+        name: &Name,
+        row: Answer,
+        input: &Input,
+        made: &Made,
+    ) -> Result<Answer, NoMemory>
+        ensures { (a : Place) → CardsStand a.site self.now a.life → a.input ≡ input.now → IfOk result (λ x. x ≡ fold (own_write name.now) row (done a.site t.now (steps_now a made.now))) }
+    {
+        known(t);
+        let none = blank(alloc);
+        let card = card_or(&self.map, t, &none);
+        own_with(alloc, self.site, t, name, row, card, input, made)
+    }
+
+    /// The first answer to this operation before the step, if it was answered.
+    pub fn answer(&self, alloc: Global, q: &Asked) -> Option<Answer>
+        ensures { (a : Place) → CardsStand a.site self.now a.life → result ≡ first_of (answers q.now a.life.steps) }
+    {
+        known(&q.txn);
+        let none = blank(alloc);
+        answer_of(card_or(&self.map, &q.txn, &none), q.n)
+    }
+
+    /// The operation waited before the step, and its transaction is undecided now.
+    pub fn is_waiting(&self, alloc: Global, q: &Asked, made: &Made) -> bool
+        ensures { (a : Place) → CardsStand a.site self.now a.life → result ≡ list_any (same_asked q.now) (waiting a.site (log_now a made.now) a.life.steps) }
+    {
+        known(&q.txn);
+        let none = blank(alloc);
+        is_waiting_now(q, card_or(&self.map, &q.txn, &none), made)
+    }
+
+    /// An operation of the transaction waited before the step, and the transaction is undecided now.
+    pub fn waits(&self, alloc: Global, t: &Txn, made: &Made) -> bool
+        ensures { (a : Place) → CardsStand a.site self.now a.life → result ≡ list_any (λ q. same_txn t.now q.txn) (waiting a.site (log_now a made.now) a.life.steps) }
+    {
+        known(t);
+        let none = blank(alloc);
+        waits_now(t, card_or(&self.map, t, &none), made)
+    }
+
+    /// The votes of the transaction are being gathered, and with the step so far the yes of every other site came.
+    pub fn has_every_yes(
+        &self,
+        alloc: Global,
+        t: &Txn,
+        input: &Input,
+        made: &Made,
+    ) -> Result<bool, NoMemory>
+        ensures { (a : Place) → CardsStand a.site self.now a.life → a.input ≡ input.now → IfOk result (λ b. b ≡ has_every_yes a t.now made.now) }
+    {
+        known(t);
+        let none = blank(alloc);
+        every_yes(
+            alloc,
+            self.site,
+            t,
+            card_or(&self.map, t, &none),
+            input,
+            made,
+        )
+    }
+
+    /// The election of the transaction that is in progress before the step, if there is one.
+    pub fn election(&self, alloc: Global, t: &Txn) -> Result<Option<Election>, NoMemory>
+        ensures { (a : Place) → CardsStand a.site self.now a.life → IfOk result (λ e. e ≡ election_in_progress a.site a.life.inc t.now a.life.steps) }
+    {
+        known(t);
+        let none = blank(alloc);
+        copy_election(alloc, &card_or(&self.map, t, &none).election)
+    }
+
+    /// The round of the transaction that is in progress before the step, if there is one.
+    pub fn round(&self, alloc: Global, t: &Txn) -> Result<Option<Round>, NoMemory>
+        ensures { (a : Place) → CardsStand a.site self.now a.life → IfOk result (λ r. r ≡ round_in_progress a.site t.now a.life.steps) }
+    {
+        known(t);
+        let none = blank(alloc);
+        copy_round(alloc, &card_or(&self.map, t, &none).rounds.now)
+    }
+
+    /// The call of an election that the step begins. NoMemory comes where the count would pass 32 bits.
+    pub fn next_call(&self) -> Result<Call, NoMemory>
+        ensures { (a : Place) → CardsStand a.site self.now a.life → IfOk result (λ call. call ≡ next_call a.life.inc a.life.steps) }
+    {
+        call_next(self)
+    }
+}
+
+fn call_next(cards: &Cards) -> Result<Call, NoMemory>
+    ensures { IfOk result (λ call. call ≡ call_now cards.now) }
+{
+    Ok(Call {
+        inc: cards.inc,
+        seq: next(cards.calls as u64)?,
+    })
+}
