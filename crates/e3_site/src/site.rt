@@ -8,16 +8,18 @@ ghost use Rattle.e3_world.specs.Logs.{logged_inc, table_of};
 
 use crate::plan::Plan;
 use e3_opens::open_in;
-use e3_plain::step_of;
+use e3_past::{Tables, caught_up, step_with};
 use e3_readings::{life_of, logged_inc, present_log, table_of};
 use e3_types::{Input, List, NoMemory, Record, Row, Txn};
 use e3_world::SiteStep;
 use std::alloc::Global;
 use std::marker::Model;
+use std::mem;
 
 /// A site while it is up: the weights of all sites, that of site 1 first; its own number; the log that it rose with, the
 /// records of the rise among it, and its steps since, the oldest first; how many inputs it took; and room for some steps
-/// more. It keeps the allocator that it was made with.
+/// more. It keeps the allocator that it was made with, and tables of what is read of the log and of the steps, or of the
+/// first of them.
 #[derive(Drop)]
 pub struct Site {
     alloc: Global,
@@ -26,15 +28,19 @@ pub struct Site {
     rose: List<Record>,
     since: Vec<SiteStep>,
     inputs: u32,
+    tables: Option<Tables>,
 }
 
 impl Model for Site {
     ghost use Rattle.std.specs.Prelude.{◌-◌, vec_len, vec_capacity};
+    ghost use Rattle.e3_past.specs.Standing.{TheyStand};
     ghost use Rattle.e3_site.specs.SiteView.{SiteView};
 
     ghost Value = { SiteView };
 
     ghost view = { λ s. record { weights = s.weights; site = s.site; incarnation = record { rose = s.rose; since = s.since.items }; inputs = s.inputs; room = vec_capacity s.since - vec_len s.since } };
+
+    ghost invariant = { λ s. TheyStand s.site s.rose s.since.items s.tables };
 }
 
 fn count_on(count: u32) -> u32
@@ -56,6 +62,7 @@ impl Site {
             rose: log,
             since: Vec::new(alloc),
             inputs: 0,
+            tables: None,
         }
     }
 
@@ -66,16 +73,30 @@ impl Site {
         self.inputs
     }
 
+    /// Brings what the site keeps beside its steps up to the last of them, so that the next plan costs what it does. The
+    /// site is what it was. A plan that is made without it reads all steps anew.
+    pub fn catch_up(&mut self) -> Result<(), NoMemory>
+        ensures { self.new ≡ self.old }
+    {
+        let were = mem::replace(&mut self.tables, None);
+        let since = self.since.as_slice();
+        let tables = caught_up(self.alloc, self.site, self.rose.as_slice(), since, were)?;
+        self.tables = Some(tables);
+        Ok(())
+    }
+
     fn planned(&self, input: &Input) -> Result<Plan, NoMemory>
         ensures made { IfOk result (λ plan. plan ≡ plan_of self.now input.now) }
         ensures few { IfOk result (λ plan. length plan.outs < 2 ^ 32) }
     {
-        let made = step_of(
+        let steps = self.since.as_slice();
+        let made = step_with(
             self.alloc,
             self.weights.as_slice(),
             self.site,
             self.rose.as_slice(),
-            self.since.as_slice(),
+            steps,
+            &self.tables,
             input,
         )?;
         Plan::new(self.alloc, input, made)

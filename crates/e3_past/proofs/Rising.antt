@@ -1,0 +1,148 @@
+-- The cards of a log, and of more steps.
+use Rattle.std.specs.Prelude.{◌≡◌, ◌==◌, ◌≤◌, ◌<◌, ◌+◌, ◌++◌, ◌∷◌, [], if◌then◌else◌, ℕ, suc, Bool, true, false, List, length, fold, take, drop, Result, Ok, Err, IfOk}
+use Rattle.std.proofs.Common.{refl, ap, sym, subst, ◌∙◌, arith, get_or}
+use Rattle.std.proofs.lemmas.Grind.{common_steps}
+use Rattle.std.proofs.lemmas.List.Sums.{fold-append}
+use Rattle.e3_types.specs.declared.list.NoMemory.{NoMemory}
+use Rattle.e3_types.specs.declared.records.Record.{Record}
+use Rattle.e3_types.specs.declared.transactions.Txn.{Txn}
+use Rattle.e3_world.specs.declared.lives.Life.{Life}
+use Rattle.e3_world.specs.declared.lives.Moment.{Moment}
+use Rattle.e3_world.specs.declared.lives.SiteStep.{SiteStep}
+use Rattle.e3_world.specs.Elections.{ends_election, is_elect}
+use Rattle.e3_world.specs.Lives.{life_by}
+use Rattle.e3_world.specs.Logs.{logged_inc}
+use Rattle.e3_world.specs.Steps.{is_begin}
+use Rattle.e3_cards.specs.declared.card.Card.{Card}
+use Rattle.e3_cards.specs.declared.cards.Cards.{Cards}
+use Rattle.e3_cards.specs.declared.cards.Changes.{Changes}
+use Rattle.e3_cards.specs.declared.keys.TxnKey.{TxnKey}
+use Rattle.e3_past.specs.declared.tables.Tables.{Tables}
+use Rattle.e3_cards.specs.Cards.{card_by, card_of, moment_of}
+use Rattle.e3_cards.specs.Tables.{AreChanges, CardsStand, IsKnown, IsRoomier, call_now, card_at, put}
+use Rattle.e3_past.specs.Standing.{AreUpToDate, TablesStand, alone, life_from, unstepped}
+
+-- a record alone is seen in the log and nowhere else
+alone_card : (site inc : ℕ) (log : List Record) (r : Record) (t : Txn)
+    → card_of site t (life_by (unstepped inc log) (alone r)) ≡ card_of site t (unstepped inc (log ++ r ∷ []))
+alone_card site inc log r t = by (ends_election t m) refl
+  where
+    m : Moment
+    m = record { before = log; input = (alone r).input; records = r ∷ []; outs = []; told = [] }
+
+    by : (b : Bool) → ends_election t m ≡ b → card_of site t (life_by (unstepped inc log) (alone r)) ≡ card_of site t (unstepped inc (log ++ r ∷ []))
+    by true e = rw e refl
+    by false e = rw e refl
+
+pub alone_stands : (site inc : ℕ) (log : List Record) (r : Record) (cards : Cards) → CardsStand site cards (life_by (unstepped inc log) (alone r))
+    → CardsStand site cards (unstepped inc (log ++ r ∷ []))
+alone_stands site inc log r cards h = record {
+  site_is = h.site_is;
+  inc_is = h.inc_is;
+  begins_are = h.begins_are;
+  calls_are = h.calls_are;
+  cards_are = λ t known. h.cards_are t known ∙ alone_card site inc log r t;
+}
+
+-- cards with more room are those of the same life
+pub roomier_stands : (site : ℕ) (was now : Cards) (life : Life) → now.site ≡ was.site → now.inc ≡ was.inc → now.begins ≡ was.begins → now.calls ≡ was.calls
+    → IsRoomier was.map.entries now.map.entries → CardsStand site was life → CardsStand site now life
+roomier_stands site was now life s i b c room h = record {
+  site_is = s ∙ h.site_is;
+  inc_is = i ∙ h.inc_is;
+  begins_are = b ∙ h.begins_are;
+  calls_are = c ∙ h.calls_are;
+  cards_are = λ t known. room.cards t known ∙ h.cards_are t known;
+}
+
+-- changes are those of cards with more room
+pub roomier_changes : (was now : Cards) (s : SiteStep) (more : Changes) → now.site ≡ was.site → now.inc ≡ was.inc → now.begins ≡ was.begins → now.calls ≡ was.calls
+    → IsRoomier was.map.entries now.map.entries → AreChanges was s more → AreChanges now s more
+roomier_changes was now s more here inc_is begins_are calls_are room h = record {
+  begins = h.begins ∙ ap (λ (n : ℕ). if is_begin (moment_of s) then suc n else n) (sym begins_are);
+  calls = h.calls ∙ ap (λ (n : ℕ). if is_elect (moment_of s) then suc n else n) (sym calls_are);
+  cards = λ t known.
+      ap (λ (k : Card). fold (put t) k more.cards) (room.cards t known) ∙ h.cards t known
+      ∙ ap (λ (k : Card). card_by was.site (call_now was) t k s) (sym (room.cards t known))
+      ∙ ap (λ (n : ℕ). card_by n (call_now was) t (card_at now.map.entries t) s) (sym here)
+      ∙ ap (λ (i : ℕ). card_by now.site (record { inc = i; seq = suc was.calls }) t (card_at now.map.entries t) s) (sym inc_is)
+      ∙ ap (λ (n : ℕ). card_by now.site (record { inc = now.inc; seq = suc n }) t (card_at now.map.entries t) s) (sym calls_are);
+}
+
+-- the life behind one more of these steps
+pub life_more : (life : Life) (xs : List SiteStep) (i : ℕ) (x : SiteStep) → i < length xs → x ≡ get_or xs i x
+    → fold life_by life (take (i + 1) xs) ≡ life_by (fold life_by life (take i xs)) x
+life_more life xs i x h e = grind (arith, common_steps, h, e)
+
+pub log_more : (xs : List Record) (i : ℕ) (x : Record) → i < length xs → x ≡ get_or xs i x → take (i + 1) xs ≡ take i xs ++ x ∷ []
+log_more xs i x h e = grind (arith, common_steps, h, e)
+
+take_drop : (k : ℕ) (xs : List SiteStep) → take k xs ++ drop k xs ≡ xs
+take_drop k xs = grind (arith, common_steps)
+
+-- the life behind the rest of the steps
+pub life_rest : (rose : List Record) (since : List SiteStep) (k : ℕ) → fold life_by (life_from rose (take k since)) (drop k since) ≡ life_from rose since
+life_rest rose since k =
+    sym (fold-append life_by (unstepped (logged_inc rose) rose) (take k since) (drop k since)) ∙ ap (life_from rose) (take_drop k since)
+
+-- what holds of a result's value holds of it in other words
+pub ok_map : {X : Type 0} (r : Result X NoMemory) (P Q : X → Type 0) → ((x : X) → P x → Q x) → IfOk r P → IfOk r Q
+ok_map (Ok x) P Q f h = f x h
+ok_map (Err e) P Q f h = tt
+
+-- the cards behind one more of these steps
+pub steps_more : (site : ℕ) (life : Life) (cards : Cards) (xs : List SiteStep) (i : ℕ) (x : SiteStep) → i < length xs → x ≡ get_or xs i x
+    → CardsStand site cards (life_by (fold life_by life (take i xs)) x) → CardsStand site cards (fold life_by life (take (i + 1) xs))
+steps_more site life cards xs i x lt is h = subst (λ (l : Life). CardsStand site cards l) (sym (life_more life xs i x lt is)) h
+
+-- the cards behind one more of these records
+pub records_more : (site inc : ℕ) (cards : Cards) (xs : List Record) (i : ℕ) (x : Record) → i < length xs → x ≡ get_or xs i x
+    → CardsStand site cards (unstepped inc (take i xs ++ x ∷ [])) → CardsStand site cards (unstepped inc (take (i + 1) xs))
+records_more site inc cards xs i x lt is h = subst (λ (l : List Record). CardsStand site cards (unstepped inc l)) (sym (log_more xs i x lt is)) h
+
+take_whole : {X : Type 0} (k : ℕ) (xs : List X) → k ≡ length xs → take k xs ≡ xs
+take_whole k xs e = grind (arith, common_steps, e)
+
+pub steps_all : (site : ℕ) (life : Life) (cards : Cards) (xs : List SiteStep) (k : ℕ) → k ≡ length xs → CardsStand site cards (fold life_by life (take k xs))
+    → CardsStand site cards (fold life_by life xs)
+steps_all site life cards xs k e h = subst (λ (l : List SiteStep). CardsStand site cards (fold life_by life l)) (take_whole k xs e) h
+
+pub records_all : (site inc : ℕ) (cards : Cards) (xs : List Record) (k : ℕ) → k ≡ length xs → CardsStand site cards (unstepped inc (take k xs))
+    → CardsStand site cards (unstepped inc xs)
+records_all site inc cards xs k e h = subst (λ (l : List Record). CardsStand site cards (unstepped inc l)) (take_whole k xs e) h
+
+-- no cards are those of an empty log
+pub none_stand : (site inc : ℕ) (cards : Cards) → cards.site ≡ site → cards.inc ≡ inc → cards.begins ≡ 0 → cards.calls ≡ 0 → cards.map.entries ≡ []
+    → CardsStand site cards (unstepped inc [])
+none_stand site inc cards here now b c none = record {
+  site_is = here;
+  inc_is = now;
+  begins_are = b;
+  calls_are = c;
+  cards_are = λ t known. ap (λ (es : List (TxnKey × Card)). card_at es t) none;
+}
+
+-- cards that count the rest of the steps are up to date
+pub rest_stands : (site : ℕ) (rose : List Record) (since : List SiteStep) (was : Tables) (cards : Cards) (rest : List SiteStep) (k n : ℕ) → TablesStand site rose since was
+    → k ≡ was.steps → rest ≡ drop k since → n ≡ length since → ((s : ℕ) → (life : Life) → CardsStand s was.cards life → CardsStand s cards (fold life_by life rest))
+    → AreUpToDate site rose since (record { steps = n; cards = cards })
+rest_stands site rose since was cards rest k n stands same rests all behind = record {
+  cards_stand =
+      subst (λ (l : Life). CardsStand site cards l)
+      (ap (λ (l : List SiteStep). fold life_by (life_from rose (take was.steps since)) l) (rests ∙ ap (λ (m : ℕ). drop m since) same) ∙ life_rest rose since was.steps)
+      (behind site (life_from rose (take was.steps since)) stands.cards_stand);
+  all = all;
+}
+
+same_count : (k n : ℕ) → (k == n) ≡ true → k ≡ n
+same_count k n e = grind (arith, common_steps, e)
+
+-- tables that count as many steps as there are count every one
+pub up_to_date : (site : ℕ) (rose : List Record) (since : List SiteStep) (tables : Tables) → TablesStand site rose since tables
+    → (tables.steps == length since) ≡ true → AreUpToDate site rose since tables
+up_to_date site rose since tables stands same =
+    let all : tables.steps ≡ length since = same_count tables.steps (length since) same in
+    record {
+      cards_stand = subst (λ (l : List SiteStep). CardsStand site tables.cards (life_from rose l)) (take_whole tables.steps since all) stands.cards_stand;
+      all = all;
+    }

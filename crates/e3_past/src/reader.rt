@@ -1,0 +1,305 @@
+// The past of a site as its tables have it.
+ghost use Rattle.std.specs.Prelude.{◌≡◌, IfOk, true};
+ghost use Rattle.e3_world.specs.declared.lives.At.{At as Place};
+ghost use Rattle.e3_world.specs.Steps.{step_at, step_of};
+ghost use Rattle.e3_past.specs.Standing.{AreUpToDate, ReadsAt, TablesStand, TheyStand};
+
+use crate::tables::Tables;
+use e3_cards::Cards;
+use e3_plain::{Anew, plain_input, step_of};
+use e3_step::{Past, step_at};
+use e3_types::{Answer, Call, Dir, Grant, Input, List, Name, NoMemory, Record, Refusal, Txn};
+use e3_world::{Asked, Election, Expected, Made, Performed, Round, SiteStep};
+use std::alloc::Global;
+use std::marker::{Brand, Model, PhantomData};
+
+/// Where a step is made.
+pub trait Whose {
+    ghost place: { Place };
+}
+
+impl Whose for Brand {
+    ghost use Rattle.std.specs.Prelude.{[]};
+    ghost use Rattle.e3_types.specs.declared.entries.Input.TheVariants.{Begin};
+
+    ghost place = { record { weights = []; site = 0; life = record { log = []; inc = 0; steps = [] }; input = Begin [] } };
+}
+
+// A past over cards that stand for it. What no table has is read anew from the log of the rise and the steps.
+#[derive(Drop)]
+struct Reader<'a, K: Whose> {
+    weights: &'a [u32],
+    cards: &'a Cards,
+    rose: &'a [Record],
+    since: &'a [SiteStep],
+    input: &'a Input,
+    of: PhantomData<K>,
+}
+
+impl<'a, K: Whose> Model for Reader<'a, K> {
+    ghost use Rattle.std.specs.Prelude.{ℕ};
+    ghost use Rattle.e3_past.specs.Standing.{ReadsAt};
+
+    ghost Value = { ℕ };
+
+    ghost view = { λ r. r.cards.now.site };
+
+    ghost invariant = { λ r. ReadsAt K.place r.weights.now r.cards.now r.rose.now r.since.now r.input.now };
+}
+
+impl<'a, K: Whose> Reader<'a, K> {
+    fn anew(&self, alloc: Global) -> Result<Anew, NoMemory>
+        ensures { IfOk result (λ past. past.place ≡ K.place) }
+    {
+        let cards = self.cards;
+        Anew::of(
+            alloc,
+            self.weights,
+            cards.site,
+            self.rose,
+            self.since,
+            self.input,
+        )
+    }
+}
+
+impl<'a, K: Whose> Past for Reader<'a, K> {
+    ghost at = { λ _. K.place };
+
+    fn weights(&self) -> &[u32] {
+        self.weights
+    }
+
+    fn site(&self) -> u32 {
+        let cards = self.cards;
+        cards.site
+    }
+
+    fn inc(&self) -> u32 {
+        let cards = self.cards;
+        cards.inc
+    }
+
+    fn input(&self) -> &Input {
+        self.input
+    }
+
+    fn elected(&self, t: &Txn) -> u32 {
+        let cards = self.cards;
+        cards.seen(t).elected
+    }
+
+    fn attempt(&self, t: &Txn) -> u32 {
+        let cards = self.cards;
+        cards.seen(t).attempt
+    }
+
+    fn decision(&self, t: &Txn) -> Option<Dir> {
+        let cards = self.cards;
+        cards.seen(t).decision
+    }
+
+    fn attempted(&self, t: &Txn) -> Option<Dir> {
+        let cards = self.cards;
+        cards.seen(t).attempted
+    }
+
+    fn voted(&self, t: &Txn) -> bool {
+        let cards = self.cards;
+        cards.seen(t).voted
+    }
+
+    fn issued_count(&self, alloc: Global, t: &Txn) -> Result<u64, NoMemory> {
+        let cards = self.cards;
+        Ok(cards.issued_count(alloc, t))
+    }
+
+    fn unanswered(&self, alloc: Global, t: &Txn, made: &Made) -> Result<Option<u32>, NoMemory> {
+        let cards = self.cards;
+        cards.unanswered(alloc, t, made)
+    }
+
+    fn is_awaited(
+        &self,
+        alloc: Global,
+        f: u32,
+        t: &Txn,
+        n: u32,
+        made: &Made,
+    ) -> Result<bool, NoMemory> {
+        let cards = self.cards;
+        cards.is_awaited(alloc, f, t, n, self.input, made)
+    }
+
+    fn expected(&self, alloc: Global, t: &Txn, of: u32) -> Result<Expected, NoMemory> {
+        let cards = self.cards;
+        cards.expected(alloc, t, of)
+    }
+
+    fn kept_reason(&self, alloc: Global, t: &Txn) -> Result<Option<Refusal>, NoMemory> {
+        let cards = self.cards;
+        Ok(cards.kept_reason(alloc, t))
+    }
+
+    fn done(&self, alloc: Global, t: &Txn) -> Result<List<Performed>, NoMemory> {
+        let cards = self.cards;
+        cards.done(alloc, t)
+    }
+
+    fn own_value(
+        &self,
+        alloc: Global,
+        t: &Txn,
+        name: &Name,
+        row: Answer,
+        made: &Made,
+    ) -> Result<Answer, NoMemory> {
+        let cards = self.cards;
+        cards.own_value(alloc, t, name, row, self.input, made)
+    }
+
+    fn row(&self, alloc: Global, name: &Name, made: &Made) -> Result<Answer, NoMemory> {
+        self.anew(alloc)?.row(alloc, name, made)
+    }
+
+    fn answer(&self, alloc: Global, q: &Asked) -> Result<Option<Answer>, NoMemory> {
+        let cards = self.cards;
+        Ok(cards.answer(alloc, q))
+    }
+
+    fn is_waiting(&self, alloc: Global, q: &Asked, made: &Made) -> Result<bool, NoMemory> {
+        let cards = self.cards;
+        Ok(cards.is_waiting(alloc, q, made))
+    }
+
+    fn waits(&self, alloc: Global, t: &Txn, made: &Made) -> Result<bool, NoMemory> {
+        let cards = self.cards;
+        Ok(cards.waits(alloc, t, made))
+    }
+
+    fn lock(&self, alloc: Global, q: &Asked, made: &Made) -> Result<Grant, NoMemory> {
+        self.anew(alloc)?.lock(alloc, q, made)
+    }
+
+    fn grants_after(&self, alloc: Global, made: &Made) -> Result<List<Asked>, NoMemory> {
+        self.anew(alloc)?.grants_after(alloc, made)
+    }
+
+    fn has_every_yes(&self, alloc: Global, t: &Txn, made: &Made) -> Result<bool, NoMemory> {
+        let cards = self.cards;
+        cards.has_every_yes(alloc, t, self.input, made)
+    }
+
+    fn election(&self, alloc: Global, t: &Txn) -> Result<Option<Election>, NoMemory> {
+        let cards = self.cards;
+        cards.election(alloc, t)
+    }
+
+    fn round(&self, alloc: Global, t: &Txn) -> Result<Option<Round>, NoMemory> {
+        let cards = self.cards;
+        cards.round(alloc, t)
+    }
+
+    fn begins(&self) -> Result<u32, NoMemory> {
+        let cards = self.cards;
+        Ok(cards.begins)
+    }
+
+    fn next_call(&self) -> Result<Call, NoMemory> {
+        let cards = self.cards;
+        cards.next_call()
+    }
+}
+
+fn step_at_place<K: Whose>(
+    alloc: Global,
+    weights: &[u32],
+    cards: &Cards,
+    rose: &[Record],
+    since: &[SiteStep],
+    input: &Input,
+) -> Result<Made, NoMemory>
+    requires { ReadsAt K.place weights.now cards.now rose.now since.now input.now }
+    ensures { IfOk result (λ made. made ≡ step_at K.place) }
+{
+    let reader: Reader<'_, K> = Reader {
+        weights,
+        cards,
+        rose,
+        since,
+        input,
+        of: PhantomData,
+    };
+    step_at(alloc, &reader)
+}
+
+fn step_by(
+    alloc: Global,
+    weights: &[u32],
+    _site: u32,
+    rose: &[Record],
+    since: &[SiteStep],
+    tables: &Tables,
+    input: &Input,
+) -> Result<Made, NoMemory>
+    requires { AreUpToDate _site rose.now since.now tables.now }
+    ensures { IfOk result (λ made. made ≡ step_of weights.now _site (record { rose = rose.now; since = since.now }) input.now) }
+{
+    step_at_place::<Brand>(
+        alloc,
+        weights,
+        &tables.cards,
+        rose,
+        since,
+        &plain_input(input),
+    )
+}
+
+// The site and its log are passed on for the proof alone.
+fn are_up(_site: u32, _rose: &[Record], since: &[SiteStep], tables: &Tables) -> bool
+    requires { TablesStand _site _rose.now since.now tables.now }
+    ensures { result ≡ true → AreUpToDate _site _rose.now since.now tables.now }
+{
+    tables.steps == since.len() as u64
+}
+
+fn step_over(
+    alloc: Global,
+    weights: &[u32],
+    site: u32,
+    rose: &[Record],
+    since: &[SiteStep],
+    tables: &Tables,
+    input: &Input,
+) -> Result<Made, NoMemory>
+    requires { TablesStand site rose.now since.now tables.now }
+    ensures { IfOk result (λ made. made ≡ step_of weights.now site (record { rose = rose.now; since = since.now }) input.now) }
+{
+    if are_up(site, rose, since, tables) {
+        step_by(alloc, weights, site, rose, since, tables, input)
+    } else {
+        step_of(alloc, weights, site, rose, since, input)
+    }
+}
+
+/// What an input makes a site do that rose with this log, the records of the rise among it, and made these steps since, the
+/// oldest first. The weights are those of all sites, that of site 1 first. The packets of the step have number 0, and the
+/// number of a delivered packet is nothing to it. Where there are tables that count every step it reads them, else all of
+/// the site's past anew.
+pub fn step_with(
+    alloc: Global,
+    weights: &[u32],
+    site: u32,
+    rose: &[Record],
+    since: &[SiteStep],
+    tables: &Option<Tables>,
+    input: &Input,
+) -> Result<Made, NoMemory>
+    requires { TheyStand site rose.now since.now tables.now }
+    ensures { IfOk result (λ made. made ≡ step_of weights.now site (record { rose = rose.now; since = since.now }) input.now) }
+{
+    match tables {
+        Some(tables) => step_over(alloc, weights, site, rose, since, tables, input),
+        None => step_of(alloc, weights, site, rose, since, input),
+    }
+}
