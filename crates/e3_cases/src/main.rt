@@ -1,5 +1,6 @@
-//! Worked cases of values, bytes, disks and packets: bodies of records and bytes that are none, disks in memory, logs
-//! and streams, and the fates and the order of packets. What it must print stands in the file of this program's output.
+//! Worked cases of values, bytes, disks, packets and verdicts: bodies of records and bytes that are none, disks in memory,
+//! logs and streams, the fates and the order of packets, and what an elector concludes. What it must print stands in the
+//! file of this program's output.
 #![tactic(auto)]
 
 mod bodies;
@@ -9,6 +10,7 @@ mod nets;
 mod streams;
 mod texts;
 mod values;
+mod verdicts;
 
 use e3_types::{List, NoMemory};
 use std::alloc::Global;
@@ -27,6 +29,7 @@ fn lines(alloc: Global) -> Result<List<u8>, NoMemory> {
     logs::push_lines(alloc, &mut out)?;
     streams::push_lines(alloc, &mut out)?;
     nets::push_lines(alloc, &mut out)?;
+    verdicts::push_lines(&mut out)?;
     Ok(out)
 }
 
