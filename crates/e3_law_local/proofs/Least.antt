@@ -1,6 +1,6 @@
 -- Packets to a site are taken by that site alone.
 use Rattle.std.proofs.Common.{◌≡◌, ◌==◌, ◌-◌, ◌≤◌, inl, inr, ℕ, zero, suc, Bool, true, false, List, [], ◌∷◌, ◌++◌, append-nil, append_assoc, length, ◌∙◌, ap, sym, subst, refl, map, arith, count_by, eqb-true, eq-eqb, Option, Some}
-use Rattle.std.specs.Prelude.{Contains, find, option_map}
+use Rattle.std.specs.Prelude.{Contains, find, option_map, slice_get}
 use Rattle.e3_types.specs.declared.entries.Act.{Act}
 use Rattle.e3_types.specs.declared.entries.Act.TheVariants.{Step, Fall, Rise, RiseFall, Miss, Cut, Drop, Parts, Line}
 use Rattle.e3_types.specs.declared.entries.Entry.{Entry}
@@ -18,7 +18,7 @@ use Rattle.e3_net.specs.Stands.{given_after, waiting_of, without}
 use Rattle.e3_net.proofs.Copies.{Live}
 use Rattle.e3_net.proofs.Pushing.{numbers_on, pending_waits, sent_push, waiting_live, waiting_push}
 use Rattle.e3_net.proofs.Taking.{away_by, one_more}
-use Rattle.e3_law_local.specs.Claims.{LeastIsPending, LeastStays}
+use Rattle.e3_law_local.specs.Claims.{FirstIsLeast, LeastIsPending, LeastStays}
 use Rattle.e3_law_local.specs.Least.{AreOfSites, IsLeastTo}
 use Rattle.e3_law_local.proofs.Packets.{Among, among, contains, given_sent, with_copies}
 
@@ -210,3 +210,13 @@ least_among site (x ∷ ps) p is = by (x.to == site) refl (λ more. least_among 
 
 pub least_is_pending : LeastIsPending
 least_is_pending sc h site p is = let both = least_among site (pending sc h) p is in (contains p (pending sc h) both.0, both.1)
+
+first_among : (ps : List Packet) (p : Packet) → slice_get ps 0 ≡ Some p → find (λ q. q.to == p.to) ps ≡ Some p
+first_among [] p is = absurd cc
+first_among (x ∷ ps) p is =
+    let same : x ≡ p = cc in
+    let here : (x.to == p.to) ≡ true = eq-eqb x.to p.to (ap (λ (q : Packet). q.to) same) in
+    (let found : find (λ (q : Packet). q.to == p.to) (x ∷ ps) ≡ Some x = rw here refl in found) ∙ ap Some same
+
+pub first_is_least : FirstIsLeast
+first_is_least sc h p is = first_among (pending sc h) p is

@@ -6,7 +6,7 @@ use Rattle.e3_world.specs.Given.{IsGiven}
 use Rattle.e3_types.specs.declared.entries.Input.{Input}
 use Rattle.e3_types.specs.declared.messages.Packet.{Packet}
 use Rattle.e3_world.specs.Items.{inputs_of, is_delivery}
-use Rattle.e3_world.specs.Legal.{Guard, IsDue, IsLegal, entry_of}
+use Rattle.e3_world.specs.Legal.{Guard, IsDue, IsLegal, entry_of, first_pending}
 use Rattle.e3_world.specs.Packets.{is_calm, pending, present_items}
 use Rattle.e3_law_local.specs.Drafts.{MayEnter, MayTake}
 use Rattle.e3_law_local.specs.Least.{AreOfSites, IsLeastTo}
@@ -63,3 +63,7 @@ LeastStays = (sc : Scenario) (h more : List Entry) (site : ℕ) (p : Packet) →
 -- It is pending, and goes there.
 abbrev pub LeastIsPending : Type 0
 LeastIsPending = (sc : Scenario) (h : List Entry) (site : ℕ) (p : Packet) → IsLeastTo sc h site p → Contains (pending sc h) p × (p.to ≡ site)
+
+-- The first of all pending packets is the least to its receiver.
+abbrev pub FirstIsLeast : Type 0
+FirstIsLeast = (sc : Scenario) (h : List Entry) (p : Packet) → first_pending sc h ≡ Some p → IsLeastTo sc h p.to p

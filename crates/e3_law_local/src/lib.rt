@@ -1,7 +1,7 @@
 //! Entries of a site stay legal behind entries of other sites.
 #![tactic(auto)]
 
-ghost use Rattle.e3_law_local.specs.Claims.{DraftsAreAllowed, DraftsStay, DueMayBeTaken, ItemsStay, LeastIsPending, LeastStays, Local, LocalKeepsLegal, NextItem, ReadingsStay};
+ghost use Rattle.e3_law_local.specs.Claims.{DraftsAreAllowed, DraftsStay, DueMayBeTaken, FirstIsLeast, ItemsStay, LeastIsPending, LeastStays, Local, LocalKeepsLegal, NextItem, ReadingsStay};
 ghost use Rattle.e3_law_local.specs.Longer.{LegalForLonger};
 
 /// An entry of a site that is allowed behind a history is allowed, but for the numbers of its packets, behind further
@@ -27,10 +27,12 @@ pub fn workers_know_their_site()
     ensures due { DueMayBeTaken }
 {}
 
-/// The least packet to a site stays the least while other sites go on, and it is pending.
+/// The least packet to a site stays the least while other sites go on, and it is pending. The first of all pending packets
+/// is the least to its receiver.
 pub fn least_packets_stay()
     ensures stay { LeastStays }
     ensures pending { LeastIsPending }
+    ensures first { FirstIsLeast }
 {}
 
 /// A legal history is legal for every scenario with the same keys whose steps begin with those of its lines: what comes

@@ -14,7 +14,7 @@ use Rattle.e3_world.specs.Items.{inputs_of}
 use Rattle.e3_world.specs.Legal.{IsLegal}
 use Rattle.e3_world.specs.Packets.{is_calm, outs_of, present_items}
 
--- what the pass of Shared is
+-- a pass of what is shared
 abbrev pub APass : Type 0
 APass = PassOf (List Mark) Mark
 
