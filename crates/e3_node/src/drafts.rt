@@ -60,6 +60,7 @@ pub(crate) fn prepare(
     ensures packets { IfOk result (λ draft. length draft.outs ≤ shared.new.net_room) }
     ensures counted { IfOk result (λ draft. shared.old.traffic.sent + length draft.outs < 2 ^ 64) }
 {
+    site.catch_up()?;
     let plan = site.plan(input)?;
     site.ready(&plan)?;
     let draft = draft_of(shared.alloc(), site.site(), plan, input)?;
