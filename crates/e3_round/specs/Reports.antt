@@ -47,7 +47,7 @@ pub record IsReport (before after : List Entry) (r : RecoveryRound) (report : Ro
   pub told : report.verdict ≡ verdict_of r (drop (length before) after)
 
 -- A round had its turn in a recovery step, and this is reported of it. It was made, or its elector was down; the entries from
--- `before` to `after` are its own. The verdict is the one that its elector told in them. There is none only where a member fell
+-- `before` to `after` are what it entered. The verdict is the one that its elector told in them. There is none only where a member fell
 -- in the step, before the round's end. Where none fell, the round ends in few entries as bounded recovery says: its elector
 -- alone told a verdict, and it is Block exactly where the group is no quorum and nobody in it had decided; else all have.
 pub record IsTurn (sc : Scenario) (before after : List Entry) (r : RecoveryRound) (report : RoundReport) : Type 0 where

@@ -6,5 +6,6 @@ mod listing;
 mod recovering;
 mod reporting;
 
+pub use listing::RecoveryRound;
 pub use recovering::recover;
-pub use reporting::RoundReport;
+pub use reporting::{RoundReport, report_of};

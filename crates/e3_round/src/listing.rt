@@ -13,16 +13,16 @@ use std::marker::Model;
 
 /// A recovery round: a transaction, the members of the group that are up and its sites, and the least of them.
 #[derive(Drop)]
-pub(crate) struct Round {
-    pub(crate) txn: Txn,
-    pub(crate) members: SiteSet,
-    pub(crate) elector: u32,
+pub struct RecoveryRound {
+    pub txn: Txn,
+    pub members: SiteSet,
+    pub elector: u32,
 }
 
-impl Model for Round {
-    ghost use Rattle.e3_world.specs.Items.{RecoveryRound};
+impl Model for RecoveryRound {
+    ghost use Rattle.e3_world.specs.Items.{RecoveryRound as Due};
 
-    ghost Value = { RecoveryRound };
+    ghost Value = { Due };
 
     ghost view = { λ r. record { txn = r.txn; members = r.members; elector = r.elector } };
 }
@@ -71,12 +71,12 @@ fn sites_in(alloc: Global, set: SiteSet, sites: &[u32]) -> Result<List<u32>, NoM
 }
 
 // Adds the round of a transaction with these members, where there is one. Their numbers are those of a set.
-fn add_round(t: &Txn, members: &[u32], out: &mut List<Round>) -> Result<(), NoMemory>
+fn add_round(t: &Txn, members: &[u32], out: &mut List<RecoveryRound>) -> Result<(), NoMemory>
     ensures { IfOk result (λ u. out.new ≡ out.old ++ round_of t.now members.now) }
 {
     match members {
         [] => Ok(()),
-        [elector, ..] => out.push(Round {
+        [elector, ..] => out.push(RecoveryRound {
             txn: *t,
             members: SiteSet::of(members).ok_or(NoMemory)?,
             elector: *elector,
@@ -85,7 +85,7 @@ fn add_round(t: &Txn, members: &[u32], out: &mut List<Round>) -> Result<(), NoMe
 }
 
 // The rounds of these transactions, by the members that are up.
-fn rounds_of(alloc: Global, txns: &[Txn], up: &[u32]) -> Result<List<Round>, NoMemory>
+fn rounds_of(alloc: Global, txns: &[Txn], up: &[u32]) -> Result<List<RecoveryRound>, NoMemory>
     ensures { IfOk result (λ rounds. rounds ≡ flat_map (λ t. round_of t (filter (has_site t.sites) up.now)) txns.now) }
 {
     let mut rounds = List::new(alloc);
@@ -101,7 +101,7 @@ pub(crate) fn listed<S: Sites>(
     alloc: Global,
     sites: &S,
     group: SiteSet,
-) -> Result<List<Round>, NoMemory>
+) -> Result<List<RecoveryRound>, NoMemory>
     requires standing { S.stands sites.now }
     ensures { IfOk result (λ rounds. rounds ≡ listed (S.scenario sites.now) (S.entries sites.now) group) }
 {

@@ -9,14 +9,14 @@ ghost use Rattle.e3_world.specs.Items.{due_round, is_up_at, listed, since_line};
 ghost use Rattle.e3_world.specs.Packets.{lines, pending, present_items};
 ghost use Rattle.e3_world.specs.Progress.{Delivering};
 
-use crate::listing::{Round, listed};
+use crate::listing::{RecoveryRound, listed};
 use crate::reporting::{RoundReport, report_of};
 use e3_sites::{RunFault, Sites, deliver_all};
 use e3_types::{Entry, Input, List, SiteSet};
 use std::alloc::Global;
 
 // A round at its turn: its elector elects with the members, and packets are delivered. Where it is down, nothing is done.
-fn make_round<S: Sites>(sites: &mut S, round: &Round) -> Result<(), RunFault>
+fn make_round<S: Sites>(sites: &mut S, round: &RecoveryRound) -> Result<(), RunFault>
     requires standing { S.stands sites.old }
     requires delivering { Delivering (S.scenario sites.old) (S.entries sites.old) }
     requires begun { lines (S.entries sites.old) ≢ 0 }
@@ -52,7 +52,7 @@ fn behind(history: &[Entry], count: usize) -> &[Entry]
 }
 
 // A round at its turn, and what is reported of it.
-fn take_turn<S: Sites>(sites: &mut S, round: &Round) -> Result<RoundReport, RunFault>
+fn take_turn<S: Sites>(sites: &mut S, round: &RecoveryRound) -> Result<RoundReport, RunFault>
     requires standing { S.stands sites.old }
     requires delivering { Delivering (S.scenario sites.old) (S.entries sites.old) }
     requires begun { lines (S.entries sites.old) ≢ 0 }

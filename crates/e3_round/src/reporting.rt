@@ -4,7 +4,7 @@ ghost use Rattle.std.specs.List.{flat_map};
 ghost use Rattle.e3_law_rounds.specs.Rounds.{said_at, verdict_in};
 ghost use Rattle.e3_round.specs.Reports.{later, later_of, verdict_of};
 
-use crate::listing::Round;
+use crate::listing::RecoveryRound;
 use e3_types::{Act, Entry, Told, Txn, Verdict};
 
 /// What came of the round of a transaction: the last verdict on it that its elector told in it. There is none where none was
@@ -47,7 +47,7 @@ fn verdict_after(txn: &Txn, was: Option<Verdict>, told: &[Told]) -> Option<Verdi
 }
 
 // The last verdict of the round's elector on its transaction, the one before and this entry taken together.
-fn verdict_with(round: &Round, was: Option<Verdict>, entry: &Entry) -> Option<Verdict>
+fn verdict_with(round: &RecoveryRound, was: Option<Verdict>, entry: &Entry) -> Option<Verdict>
     ensures { result ≡ fold (later_of round.now.elector) was (said_at round.now.txn entry.now) }
 {
     if entry.owner != round.elector {
@@ -59,8 +59,8 @@ fn verdict_with(round: &Round, was: Option<Verdict>, entry: &Entry) -> Option<Ve
     }
 }
 
-/// The report of a round that entered these entries.
-pub(crate) fn report_of(round: &Round, entered: &[Entry]) -> RoundReport
+/// The report of a round that entered these entries, all sites' in their order: what `recover` reports of it.
+pub fn report_of(round: &RecoveryRound, entered: &[Entry]) -> RoundReport
     ensures txn { result.txn ≡ round.now.txn }
     ensures told { result.verdict ≡ verdict_of round.now entered.now }
 {
