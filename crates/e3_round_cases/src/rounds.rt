@@ -1,19 +1,7 @@
-// The recovery rounds of a history: how many entries of its own each took, beside its bound, and what its elector told.
-use e3_lines::{push_labelled, push_sites, push_text, push_told_text, push_txn};
-use e3_types::{
-    Act, Entry, Input, Item, List, Message, NoMemory, Scenario, SiteSet, Told, Txn, Verdict,
-};
-
-// A round as far as it has come: its transaction, members and elector, its own entries, and the verdict with the election's
-// number.
-#[derive(Clone, Copy)]
-struct Round {
-    txn: Txn,
-    members: SiteSet,
-    elector: u32,
-    own: u64,
-    said: Option<(u32, Verdict)>,
-}
+// The recovery rounds of a history: how many entries of its own each took, beside its bound, and what `recover` reports of it.
+use e3_lines::{push_labelled, push_sites, push_text, push_txn};
+use e3_round::{RecoveryRound, report_of};
+use e3_types::{Act, Entry, Input, Item, List, Message, NoMemory, Scenario, Txn, Verdict};
 
 // The step of this number is a recovery.
 fn is_recovery(scenario: &Scenario, number: u32) -> bool {
@@ -28,21 +16,19 @@ fn is_recovery(scenario: &Scenario, number: u32) -> bool {
 }
 
 // The round that an input begins.
-fn begun_by(owner: u32, input: &Input) -> Option<Round> {
+fn begun_by(owner: u32, input: &Input) -> Option<RecoveryRound> {
     match input {
-        Input::Elect { txn, group } => Some(Round {
+        Input::Elect { txn, group } => Some(RecoveryRound {
             txn: *txn,
             members: *group,
             elector: owner,
-            own: 0,
-            said: None,
         }),
         _ => None,
     }
 }
 
 // The round that an entry begins, as a step of its elector or as a fall over the Elect.
-fn begun_with(entry: &Entry) -> Option<Round> {
+fn begun_with(entry: &Entry) -> Option<RecoveryRound> {
     match &entry.act {
         Act::Step { input, .. } => begun_by(entry.owner, input),
         Act::Fall { inputs, .. } => match inputs.as_slice() {
@@ -68,7 +54,7 @@ fn ended_by(msg: &Message) -> Option<Txn> {
 }
 
 // The input is one of the round's own: its Elect, or the delivery of such a message that a member sent.
-fn is_own(round: &Round, input: &Input) -> bool {
+fn is_own(round: &RecoveryRound, input: &Input) -> bool {
     match input {
         Input::Elect { txn, .. } => txn.is_same(&round.txn),
         Input::Deliver { packet } => match ended_by(&packet.msg) {
@@ -79,7 +65,7 @@ fn is_own(round: &Round, input: &Input) -> bool {
     }
 }
 
-fn has_own(round: &Round, act: &Act) -> bool {
+fn has_own(round: &RecoveryRound, act: &Act) -> bool {
     match act {
         Act::Step { input, .. } => is_own(round, input),
         Act::Fall { inputs, .. } => inputs.as_slice().iter().any(|input| is_own(round, input)),
@@ -87,61 +73,72 @@ fn has_own(round: &Round, act: &Act) -> bool {
     }
 }
 
-// The verdict that the elector told, the one before and this entry taken together.
-fn said_with(round: &Round, entry: &Entry) -> Option<(u32, Verdict)> {
-    let mut said = round.said;
-    if entry.owner == round.elector {
-        if let Act::Step { told, .. } = &entry.act {
-            for event in told.as_slice() {
-                if let Told::Verdict { txn, n, verdict } = event {
-                    if txn.is_same(&round.txn) {
-                        said = Some((*n, *verdict));
-                    }
-                }
-            }
+// How many of these entries are the round's own.
+fn own_count(round: &RecoveryRound, entries: &[Entry]) -> u64 {
+    let mut count: u64 = 0;
+    for entry in entries {
+        if has_own(round, &entry.act) {
+            count = count.saturating_add(1);
         }
     }
-    said
+    count
 }
 
-fn with_entry(round: Round, entry: &Entry) -> Round {
-    Round {
-        own: if has_own(&round, &entry.act) {
-            round.own.saturating_add(1)
-        } else {
-            round.own
-        },
-        said: said_with(&round, entry),
-        ..round
+fn push_verdict(out: &mut List<u8>, verdict: Verdict) -> Result<(), NoMemory> {
+    match verdict {
+        Verdict::Abort => push_text(out, "abort"),
+        Verdict::Commit => push_text(out, "commit"),
+        Verdict::PreCommit => push_text(out, "pre-commit"),
+        Verdict::PreAbort => push_text(out, "pre-abort"),
+        Verdict::Block { have, total } => {
+            push_labelled(out, "block ", have)?;
+            push_labelled(out, " of ", total)
+        }
     }
 }
 
-// Adds a round that is over: its own entries of as many as it may have, and its verdict.
-fn push_round(out: &mut List<u8>, round: &Round) -> Result<(), NoMemory> {
+// Adds a round that entered these entries: its own of as many as it may have, and its verdict.
+fn push_round(
+    out: &mut List<u8>,
+    round: &RecoveryRound,
+    entries: &[Entry],
+) -> Result<(), NoMemory> {
     let others = u64::from(round.members.count()).saturating_sub(1);
     push_text(out, ", round ")?;
     push_txn(out, &round.txn)?;
     push_text(out, " of ")?;
     push_sites(out, round.members)?;
-    push_labelled(out, ": ", round.own)?;
+    push_labelled(out, ": ", own_count(round, entries))?;
     push_labelled(out, " of ", others.saturating_mul(7).saturating_add(1))?;
     push_text(out, ", ")?;
-    match round.said {
-        Some((n, verdict)) => push_told_text(
-            out,
-            &Told::Verdict {
-                txn: round.txn,
-                n,
-                verdict,
-            },
-        ),
+    match report_of(round, entries).verdict {
+        Some(verdict) => push_verdict(out, verdict),
         None => push_text(out, "no verdict"),
     }
 }
 
-fn push_last(out: &mut List<u8>, round: Option<Round>) -> Result<(), NoMemory> {
-    match round {
-        Some(round) => push_round(out, &round),
+// How many of these entries stand before the next line or the next round.
+fn length_of_round(entries: &[Entry]) -> usize {
+    let mut length = 1;
+    for entry in entries.iter().skip(1) {
+        if matches!(entry.act, Act::Line { .. }) || begun_with(entry).is_some() {
+            return length;
+        }
+        length = length.saturating_add(1);
+    }
+    length
+}
+
+// Adds the round that the first of these entries begins, if it begins one.
+fn push_begun(out: &mut List<u8>, entries: &[Entry]) -> Result<(), NoMemory> {
+    let [first, ..] = entries else {
+        return Ok(());
+    };
+    match begun_with(first) {
+        Some(round) => {
+            let length = length_of_round(entries).min(entries.len());
+            push_round(out, &round, &entries[..length])
+        }
         None => Ok(()),
     }
 }
@@ -153,22 +150,13 @@ pub fn push_rounds(
     history: &[Entry],
 ) -> Result<(), NoMemory> {
     let mut recovers = false;
-    let mut round = None;
-    for entry in history {
+    for (at, entry) in history.iter().enumerate() {
         if let Act::Line { number } = &entry.act {
-            push_last(out, round)?;
-            round = None;
             recovers = is_recovery(scenario, *number);
         }
         if recovers {
-            if let Some(begun) = begun_with(entry) {
-                push_last(out, round)?;
-                round = Some(begun);
-            }
-        }
-        if let Some(now) = round {
-            round = Some(with_entry(now, entry));
+            push_begun(out, &history[at..])?;
         }
     }
-    push_last(out, round)
+    Ok(())
 }
