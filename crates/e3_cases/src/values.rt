@@ -58,30 +58,29 @@ fn txn(site: u32, inc: u32, seq: u32, sites: &[u32]) -> Option<Txn> {
 }
 
 // Adds whether the first of two transactions is older, by its method and by the order of values.
-fn push_age(out: &mut List<u8>, first: Option<Txn>, second: Option<Txn>) -> Result<(), NoMemory> {
-    match (first, second) {
-        (Some(first), Some(second)) => {
-            push_flag(out, first.is_older(&second))?;
-            push_flag(out, first < second)
-        }
-        _ => push_text(out, " none"),
-    }
+fn push_age(out: &mut List<u8>, first: &Txn, second: &Txn) -> Result<(), NoMemory> {
+    push_flag(out, first.is_older(second))?;
+    push_flag(out, *first < *second)
 }
 
-fn push_ages(out: &mut List<u8>) -> Result<(), NoMemory> {
-    let rising = [
-        txn(1, 1, 1, &[1]),
-        txn(1, 1, 1, &[1, 2]),
-        txn(1, 1, 2, &[1]),
-        txn(1, 2, 1, &[1]),
-        txn(2, 1, 1, &[2]),
-    ];
-    for first in rising {
-        push_text(out, "older than each:")?;
-        for second in rising {
-            push_age(out, first, second)?;
-        }
-        push_text(out, "\n")?;
+// Adds how a transaction stands to each of these.
+fn push_ages_of(out: &mut List<u8>, first: &Txn, txns: &[Txn]) -> Result<(), NoMemory> {
+    push_text(out, "older than each:")?;
+    for second in txns {
+        push_age(out, first, second)?;
+    }
+    push_text(out, "\n")
+}
+
+fn push_ages(alloc: Global, out: &mut List<u8>) -> Result<(), NoMemory> {
+    let mut rising = List::new(alloc);
+    rising.push(txn(1, 1, 1, &[1]).ok_or(NoMemory)?)?;
+    rising.push(txn(1, 1, 1, &[1, 2]).ok_or(NoMemory)?)?;
+    rising.push(txn(1, 1, 2, &[1]).ok_or(NoMemory)?)?;
+    rising.push(txn(1, 2, 1, &[1]).ok_or(NoMemory)?)?;
+    rising.push(txn(2, 1, 1, &[2]).ok_or(NoMemory)?)?;
+    for first in rising.as_slice() {
+        push_ages_of(out, first, rising.as_slice())?;
     }
     push_text(out, "are transactions:")?;
     for (site, inc, seq) in [(1, 1, 1), (3, 1, 1), (1, 0, 1), (1, 1, 0)] {
@@ -164,7 +163,7 @@ fn push_history(alloc: Global, out: &mut List<u8>) -> Result<(), NoMemory> {
 /// Adds the lines of values. The generator's published demonstration has the first word 2,707,161,783 for 42 on the stream 54.
 pub fn push_lines(alloc: Global, out: &mut List<u8>) -> Result<(), NoMemory> {
     push_sets(alloc, out)?;
-    push_ages(out)?;
+    push_ages(alloc, out)?;
     push_texts(out)?;
     push_lists(alloc, out)?;
     push_front(alloc, out, Mode::Shared)?;
