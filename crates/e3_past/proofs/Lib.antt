@@ -1,2 +1,3 @@
+mod Naming
 pub mod Recalled
 pub mod Rising

@@ -1,5 +1,5 @@
 -- The cards of a log, and of more steps.
-use Rattle.std.specs.Prelude.{◌≡◌, ◌==◌, ◌≤◌, ◌<◌, ◌+◌, ◌++◌, ◌∷◌, [], if◌then◌else◌, ℕ, suc, Bool, true, false, List, length, fold, take, drop, Result, Ok, Err, IfOk}
+use Rattle.std.specs.Prelude.{◌≡◌, ◌==◌, ◌≤◌, ◌<◌, ◌+◌, ◌-◌, ◌++◌, ◌∷◌, [], if◌then◌else◌, ℕ, suc, Bool, true, false, List, length, fold, take, drop, Option, Result, Ok, Err, IfOk}
 use Rattle.std.proofs.Common.{refl, ap, sym, subst, ◌∙◌, arith, get_or}
 use Rattle.std.proofs.lemmas.Grind.{common_steps}
 use Rattle.std.proofs.lemmas.List.Sums.{fold-append}
@@ -17,10 +17,11 @@ use Rattle.e3_cards.specs.declared.card.Card.{Card}
 use Rattle.e3_cards.specs.declared.cards.Cards.{Cards}
 use Rattle.e3_cards.specs.declared.cards.Changes.{Changes}
 use Rattle.e3_cards.specs.declared.keys.TxnKey.{TxnKey}
+use Rattle.e3_names.specs.declared.names.Names.{Names}
 use Rattle.e3_past.specs.declared.tables.Tables.{Tables}
 use Rattle.e3_cards.specs.Cards.{card_by, card_of, moment_of}
-use Rattle.e3_cards.specs.Tables.{AreChanges, CardsStand, IsKnown, IsRoomier, call_now, card_at, put}
-use Rattle.e3_past.specs.Standing.{AreUpToDate, TablesStand, alone, life_from, unstepped}
+use Rattle.e3_cards.specs.Tables.{AreChanges, CardsStand, IsRoomier, call_now, card_at, put}
+use Rattle.e3_past.specs.Standing.{AreUpToDate, BothStand, MayStand, TablesStand, alone, life_from, unstepped}
 
 -- a record alone is seen in the log and nowhere else
 alone_card : (site inc : ℕ) (log : List Record) (r : Record) (t : Txn)
@@ -74,8 +75,8 @@ pub life_more : (life : Life) (xs : List SiteStep) (i : ℕ) (x : SiteStep) → 
     → fold life_by life (take (i + 1) xs) ≡ life_by (fold life_by life (take i xs)) x
 life_more life xs i x h e = grind (arith, common_steps, h, e)
 
-pub log_more : (xs : List Record) (i : ℕ) (x : Record) → i < length xs → x ≡ get_or xs i x → take (i + 1) xs ≡ take i xs ++ x ∷ []
-log_more xs i x h e = grind (arith, common_steps, h, e)
+log_more : (log xs : List Record) (i : ℕ) (x : Record) → i < length xs → x ≡ get_or xs i x → log ++ take (i + 1) xs ≡ (log ++ take i xs) ++ x ∷ []
+log_more log xs i x h e = grind (arith, common_steps, h, e)
 
 take_drop : (k : ℕ) (xs : List SiteStep) → take k xs ++ drop k xs ≡ xs
 take_drop k xs = grind (arith, common_steps)
@@ -90,26 +91,33 @@ pub ok_map : {X : Type 0} (r : Result X NoMemory) (P Q : X → Type 0) → ((x :
 ok_map (Ok x) P Q f h = f x h
 ok_map (Err e) P Q f h = tt
 
--- the cards behind one more of these steps
-pub steps_more : (site : ℕ) (life : Life) (cards : Cards) (xs : List SiteStep) (i : ℕ) (x : SiteStep) → i < length xs → x ≡ get_or xs i x
-    → CardsStand site cards (life_by (fold life_by life (take i xs)) x) → CardsStand site cards (fold life_by life (take (i + 1) xs))
-steps_more site life cards xs i x lt is h = subst (λ (l : Life). CardsStand site cards l) (sym (life_more life xs i x lt is)) h
+-- what holds behind one more of these steps
+pub steps_more : (P : Life → Type 0) (life : Life) (xs : List SiteStep) (i : ℕ) (x : SiteStep) → i < length xs → x ≡ get_or xs i x
+    → P (life_by (fold life_by life (take i xs)) x) → P (fold life_by life (take (i + 1) xs))
+steps_more P life xs i x lt is h = subst P (sym (life_more life xs i x lt is)) h
 
--- the cards behind one more of these records
-pub records_more : (site inc : ℕ) (cards : Cards) (xs : List Record) (i : ℕ) (x : Record) → i < length xs → x ≡ get_or xs i x
-    → CardsStand site cards (unstepped inc (take i xs ++ x ∷ [])) → CardsStand site cards (unstepped inc (take (i + 1) xs))
-records_more site inc cards xs i x lt is h = subst (λ (l : List Record). CardsStand site cards (unstepped inc l)) (sym (log_more xs i x lt is)) h
+-- what holds behind one more of these records
+pub records_more : (P : Life → Type 0) (inc : ℕ) (log xs : List Record) (i : ℕ) (x : Record) → i < length xs → x ≡ get_or xs i x
+    → P (unstepped inc ((log ++ take i xs) ++ x ∷ [])) → P (unstepped inc (log ++ take (i + 1) xs))
+records_more P inc log xs i x lt is h = subst (λ (l : List Record). P (unstepped inc l)) (sym (log_more log xs i x lt is)) h
 
 take_whole : {X : Type 0} (k : ℕ) (xs : List X) → k ≡ length xs → take k xs ≡ xs
 take_whole k xs e = grind (arith, common_steps, e)
 
-pub steps_all : (site : ℕ) (life : Life) (cards : Cards) (xs : List SiteStep) (k : ℕ) → k ≡ length xs → CardsStand site cards (fold life_by life (take k xs))
-    → CardsStand site cards (fold life_by life xs)
-steps_all site life cards xs k e h = subst (λ (l : List SiteStep). CardsStand site cards (fold life_by life l)) (take_whole k xs e) h
+pub first_rest : (xs : List Record) (x : Record) → 1 ≤ length xs → x ≡ get_or xs 0 x → x ∷ take (length xs - 1) (drop 1 xs) ≡ xs
+first_rest xs x h e = grind (arith, common_steps, h, e)
 
-pub records_all : (site inc : ℕ) (cards : Cards) (xs : List Record) (k : ℕ) → k ≡ length xs → CardsStand site cards (unstepped inc (take k xs))
-    → CardsStand site cards (unstepped inc xs)
-records_all site inc cards xs k e h = subst (λ (l : List Record). CardsStand site cards (unstepped inc l)) (take_whole k xs e) h
+pub steps_all : (P : Life → Type 0) (life : Life) (xs : List SiteStep) (k : ℕ) → k ≡ length xs → P (fold life_by life (take k xs)) → P (fold life_by life xs)
+steps_all P life xs k e h = subst (λ (l : List SiteStep). P (fold life_by life l)) (take_whole k xs e) h
+
+log_none : (log xs : List Record) → log ≡ log ++ take 0 xs
+log_none log xs = grind (arith, common_steps)
+
+pub records_none : (P : Life → Type 0) (inc : ℕ) (log xs : List Record) → P (unstepped inc log) → P (unstepped inc (log ++ take 0 xs))
+records_none P inc log xs h = subst (λ (l : List Record). P (unstepped inc l)) (log_none log xs) h
+
+pub records_all : (P : Life → Type 0) (inc : ℕ) (log xs : List Record) (k : ℕ) → k ≡ length xs → P (unstepped inc (log ++ take k xs)) → P (unstepped inc (log ++ xs))
+records_all P inc log xs k e h = subst (λ (l : List Record). P (unstepped inc (log ++ l))) (take_whole k xs e) h
 
 -- no cards are those of an empty log
 pub none_stand : (site inc : ℕ) (cards : Cards) → cards.site ≡ site → cards.inc ≡ inc → cards.begins ≡ 0 → cards.calls ≡ 0 → cards.map.entries ≡ []
@@ -122,17 +130,17 @@ none_stand site inc cards here now b c none = record {
   cards_are = λ t known. ap (λ (es : List (TxnKey × Card)). card_at es t) none;
 }
 
--- cards that count the rest of the steps are up to date
-pub rest_stands : (site : ℕ) (rose : List Record) (since : List SiteStep) (was : Tables) (cards : Cards) (rest : List SiteStep) (k n : ℕ) → TablesStand site rose since was
-    → k ≡ was.steps → rest ≡ drop k since → n ≡ length since → ((s : ℕ) → (life : Life) → CardsStand s was.cards life → CardsStand s cards (fold life_by life rest))
-    → AreUpToDate site rose since (record { steps = n; cards = cards })
-rest_stands site rose since was cards rest k n stands same rests all behind = record {
-  cards_stand =
-      subst (λ (l : Life). CardsStand site cards l)
-      (ap (λ (l : List SiteStep). fold life_by (life_from rose (take was.steps since)) l) (rests ∙ ap (λ (m : ℕ). drop m since) same) ∙ life_rest rose since was.steps)
-      (behind site (life_from rose (take was.steps since)) stands.cards_stand);
-  all = all;
-}
+-- tables that count the rest of the steps are up to date
+pub rest_stands : (site : ℕ) (rose : List Record) (since : List SiteStep) (was : Tables) (cards : Cards) (names : Option Names) (rest : List SiteStep) (k n : ℕ)
+    → TablesStand site rose since was → k ≡ was.steps → rest ≡ drop k since → n ≡ length since
+    → ((s : ℕ) → (life : Life) → BothStand s was.cards was.names life → BothStand s cards names (fold life_by life rest))
+    → AreUpToDate site rose since (record { steps = n; cards = cards; names = names })
+rest_stands site rose since was cards names rest k n stands same rests all behind =
+    let both : BothStand site cards names (life_from rose since) =
+    subst (λ (l : Life). BothStand site cards names l)
+    (ap (λ (l : List SiteStep). fold life_by (life_from rose (take was.steps since)) l) (rests ∙ ap (λ (m : ℕ). drop m since) same) ∙ life_rest rose since was.steps)
+    (behind site (life_from rose (take was.steps since)) (record { cards_stand = stands.cards_stand; names_stand = stands.names_stand })) in
+    record { cards_stand = both.cards_stand; names_stand = both.names_stand; all = all }
 
 same_count : (k n : ℕ) → (k == n) ≡ true → k ≡ n
 same_count k n e = grind (arith, common_steps, e)
@@ -144,5 +152,6 @@ up_to_date site rose since tables stands same =
     let all : tables.steps ≡ length since = same_count tables.steps (length since) same in
     record {
       cards_stand = subst (λ (l : List SiteStep). CardsStand site tables.cards (life_from rose l)) (take_whole tables.steps since all) stands.cards_stand;
+      names_stand = subst (λ (l : List SiteStep). MayStand site tables.names (life_from rose l)) (take_whole tables.steps since all) stands.names_stand;
       all = all;
     }

@@ -11,6 +11,10 @@ use Rattle.e3_world.specs.declared.lives.SiteStep.{SiteStep}
 use Rattle.e3_world.specs.Lives.{life_of}
 use Rattle.e3_cards.specs.declared.cards.Cards.{Cards}
 use Rattle.e3_cards.specs.Tables.{CardsStand}
+use Rattle.e3_places.specs.declared.places.Places.{Places}
+use Rattle.e3_places.specs.Keeping.{PlacesStand}
+use Rattle.e3_names.specs.declared.names.Names.{Names}
+use Rattle.e3_names.specs.Knowing.{NamesStand}
 use Rattle.e3_past.specs.declared.tables.Tables.{Tables}
 
 -- the life of a site that rose with this log and made these steps since
@@ -30,10 +34,31 @@ alone r = record {
   told = [];
 }
 
+-- what is known of names, where it is known, is that of a life
+abbrev pub MayStand : ℕ → Option Names → Life → Type 0
+MayStand site None life = Unit {0}
+MayStand site (Some names) life = NamesStand site names life
+
+-- so are the tables of names, where there are any
+abbrev pub PlacesMayStand : ℕ → Option Places → Life → Type 0
+PlacesMayStand site None life = Unit {0}
+PlacesMayStand site (Some places) life = PlacesStand site places life
+
+-- the cards are those of a life, and so is what is known of names
+pub record BothStand (site : ℕ) (cards : Cards) (names : Option Names) (life : Life) : Type 0 where
+  pub cards_stand : CardsStand site cards life
+  pub names_stand : MayStand site names life
+
+-- the cards are those of a life, and so are the tables of names, where there are any
+pub record RisenStand (site : ℕ) (cards : Cards) (places : Option Places) (life : Life) : Type 0 where
+  pub cards_stand : CardsStand site cards life
+  pub places_stand : PlacesMayStand site places life
+
 -- the tables are those of the site's life behind the steps that they count
 pub record TablesStand (site : ℕ) (rose : List Record) (since : List SiteStep) (tables : Tables) : Type 0 where
   pub few : tables.steps ≤ length since
   pub cards_stand : CardsStand site tables.cards (life_from rose (take tables.steps since))
+  pub names_stand : MayStand site tables.names (life_from rose (take tables.steps since))
 
 -- where there are tables, they stand
 abbrev pub TheyStand : ℕ → List Record → List SiteStep → Option Tables → Type 0
@@ -43,9 +68,11 @@ TheyStand site rose since (Some tables) = TablesStand site rose since tables
 -- the tables count every step
 pub record AreUpToDate (site : ℕ) (rose : List Record) (since : List SiteStep) (tables : Tables) : Type 0 where
   pub cards_stand : CardsStand site tables.cards (life_from rose since)
+  pub names_stand : MayStand site tables.names (life_from rose since)
   pub all : tables.steps ≡ length since
 
 -- what a reader has is read at this place
-pub record ReadsAt (place : At) (weights : List ℕ) (cards : Cards) (rose : List Record) (since : List SiteStep) (i : Input) : Type 0 where
+pub record ReadsAt (place : At) (weights : List ℕ) (cards : Cards) (names : Option Names) (rose : List Record) (since : List SiteStep) (i : Input) : Type 0 where
   pub place_is : place ≡ record { weights = weights; site = cards.site; life = life_from rose since; input = i }
   pub cards_stand : CardsStand place.site cards place.life
+  pub names_stand : MayStand place.site names place.life

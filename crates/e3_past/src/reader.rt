@@ -6,6 +6,8 @@ ghost use Rattle.e3_past.specs.Standing.{AreUpToDate, ReadsAt, TablesStand, They
 
 use crate::tables::Tables;
 use e3_cards::Cards;
+use e3_names as names;
+use e3_names::{Names, follow};
 use e3_plain::{Anew, plain_input, step_of};
 use e3_step::{Past, step_at};
 use e3_types::{Answer, Call, Dir, Grant, Input, List, Name, NoMemory, Record, Refusal, Txn};
@@ -25,11 +27,13 @@ impl Whose for Brand {
     ghost place = { record { weights = []; site = 0; life = record { log = []; inc = 0; steps = [] }; input = Begin [] } };
 }
 
-// A past over cards that stand for it. What no table has is read anew from the log of the rise and the steps.
+// A past over tables that stand for it. Where names are not known, or the records of the step so far may not follow the log,
+// what is on a name is read anew from the log of the rise and the steps.
 #[derive(Drop)]
 struct Reader<'a, K: Whose> {
     weights: &'a [u32],
     cards: &'a Cards,
+    names: &'a Option<Names>,
     rose: &'a [Record],
     since: &'a [SiteStep],
     input: &'a Input,
@@ -44,7 +48,7 @@ impl<'a, K: Whose> Model for Reader<'a, K> {
 
     ghost view = { λ r. r.cards.now.site };
 
-    ghost invariant = { λ r. ReadsAt K.place r.weights.now r.cards.now r.rose.now r.since.now r.input.now };
+    ghost invariant = { λ r. ReadsAt K.place r.weights.now r.cards.now r.names.now r.rose.now r.since.now r.input.now };
 }
 
 impl<'a, K: Whose> Reader<'a, K> {
@@ -159,7 +163,13 @@ impl<'a, K: Whose> Past for Reader<'a, K> {
     }
 
     fn row(&self, alloc: Global, name: &Name, made: &Made) -> Result<Answer, NoMemory> {
-        self.anew(alloc)?.row(alloc, name, made)
+        let cards = self.cards;
+        match self.names {
+            Some(names) if follow(cards, made.records.as_slice()) => names::row(
+                alloc, cards, names, name, made,
+            ),
+            _ => self.anew(alloc)?.row(alloc, name, made),
+        }
     }
 
     fn answer(&self, alloc: Global, q: &Asked) -> Result<Option<Answer>, NoMemory> {
@@ -178,11 +188,23 @@ impl<'a, K: Whose> Past for Reader<'a, K> {
     }
 
     fn lock(&self, alloc: Global, q: &Asked, made: &Made) -> Result<Grant, NoMemory> {
-        self.anew(alloc)?.lock(alloc, q, made)
+        let cards = self.cards;
+        match self.names {
+            Some(names) if follow(cards, made.records.as_slice()) => names::lock(
+                alloc, cards, names, q, made,
+            ),
+            _ => self.anew(alloc)?.lock(alloc, q, made),
+        }
     }
 
     fn grants_after(&self, alloc: Global, made: &Made) -> Result<List<Asked>, NoMemory> {
-        self.anew(alloc)?.grants_after(alloc, made)
+        let cards = self.cards;
+        match self.names {
+            Some(names) if follow(cards, made.records.as_slice()) => names::grants_after(
+                alloc, cards, names, self.input, made,
+            ),
+            _ => self.anew(alloc)?.grants_after(alloc, made),
+        }
     }
 
     fn has_every_yes(&self, alloc: Global, t: &Txn, made: &Made) -> Result<bool, NoMemory> {
@@ -215,16 +237,18 @@ fn step_at_place<K: Whose>(
     alloc: Global,
     weights: &[u32],
     cards: &Cards,
+    names: &Option<Names>,
     rose: &[Record],
     since: &[SiteStep],
     input: &Input,
 ) -> Result<Made, NoMemory>
-    requires { ReadsAt K.place weights.now cards.now rose.now since.now input.now }
+    requires { ReadsAt K.place weights.now cards.now names.now rose.now since.now input.now }
     ensures { IfOk result (λ made. made ≡ step_at K.place) }
 {
     let reader: Reader<'_, K> = Reader {
         weights,
         cards,
+        names,
         rose,
         since,
         input,
@@ -249,6 +273,7 @@ fn step_by(
         alloc,
         weights,
         &tables.cards,
+        &tables.names,
         rose,
         since,
         &plain_input(input),

@@ -6,7 +6,7 @@ use Rattle.e3_types.specs.declared.records.Record.{Record}
 use Rattle.e3_world.specs.declared.lives.SiteStep.{SiteStep}
 use Rattle.e3_cards.specs.Tables.{CardsStand}
 use Rattle.e3_past.specs.declared.tables.Tables.{Tables}
-use Rattle.e3_past.specs.Standing.{AreUpToDate, TablesStand, TheyStand, life_from}
+use Rattle.e3_past.specs.Standing.{AreUpToDate, MayStand, TablesStand, TheyStand, life_from}
 
 -- tables stand for equal logs and steps
 pub they_stand : (site : ℕ) (rose log : List Record) (since steps : List SiteStep) (o : Option Tables) → log ≡ rose → steps ≡ since
@@ -25,6 +25,7 @@ pub up_stand : (site : ℕ) (rose : List Record) (since : List SiteStep) (tables
 up_stand site rose since tables up = record {
   few = few_all tables.steps since up.all;
   cards_stand = subst (λ (l : List SiteStep). CardsStand site tables.cards (life_from rose l)) (sym (take_all tables.steps since up.all)) up.cards_stand;
+  names_stand = subst (λ (l : List SiteStep). MayStand site tables.names (life_from rose l)) (sym (take_all tables.steps since up.all)) up.names_stand;
 }
 
 take_front : (k : ℕ) (xs ys : List SiteStep) → k ≤ length xs → take k (xs ++ ys) ≡ take k xs
@@ -42,4 +43,6 @@ stand_on site rose since now step (Some tables) is they =
       few = few_more tables.steps since (step ∷ []) they.few;
       cards_stand =
           subst (λ (l : List SiteStep). CardsStand site tables.cards (life_from rose l)) (sym (take_front tables.steps since (step ∷ []) they.few)) they.cards_stand;
+      names_stand =
+          subst (λ (l : List SiteStep). MayStand site tables.names (life_from rose l)) (sym (take_front tables.steps since (step ∷ []) they.few)) they.names_stand;
     })

@@ -4,7 +4,7 @@ use Rattle.e3_world.specs.Making.{grants_after}
 use Rattle.e3_past.proofs.Recalled.{ok_is}
 use Rattle.e3_past.proofs.reader.ReaderPast.grants_after.Goals as goal
 
-pub returns : goal.returns
-returns g c =
-    ok_is c.grants_after.result (grants_after c.in_ok-anew.field-0.place c.args.made.now) (grants_after g.K.Whose.place c.args.made.now)
-    (ap (λ (a : At). grants_after a c.args.made.now) c.in_ok-anew.ensures) c.grants_after.ensures
+pub returns-in_ok-anew-in_default : goal.returns-in_ok-anew-in_default
+returns-in_ok-anew-in_default g c =
+    ok_is c.grants_after-in_default.result (grants_after c.in_ok-anew-in_default.field-0.place c.args.made.now) (grants_after g.K.Whose.place c.args.made.now)
+    (ap (λ (a : At). grants_after a c.args.made.now) c.in_ok-anew-in_default.ensures) c.grants_after-in_default.ensures
