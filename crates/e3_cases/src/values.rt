@@ -2,9 +2,8 @@
 // queues, the generator's words, and histories.
 use crate::texts::{push_known, push_numbers};
 use e3_lines::{push_labelled, push_text};
-use e3_types::{
-    Act, Copied, Entry, List, Lock, Mode, Name, NoMemory, Record, SiteSet, Txn, Val, front,
-};
+use e3_locks::front;
+use e3_types::{Act, Copied, Entry, List, Lock, Mode, Name, NoMemory, Record, SiteSet, Txn, Val};
 use e3_world::{History, fate_word};
 use std::alloc::Global;
 

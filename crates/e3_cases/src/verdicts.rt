@@ -1,6 +1,7 @@
 // Verdicts of an elector over the reports of its group: each of the five cases of the rule.
 use e3_lines::{push_text, push_told_text};
-use e3_types::{List, NoMemory, SiteReport, SiteSet, State, Told, Txn, verdict_of};
+use e3_rule::verdict_of;
+use e3_types::{List, NoMemory, SiteReport, SiteSet, State, Told, Txn};
 
 // Sites from 1 on report these states and attempts, of a transaction over three sites of one weight.
 fn push_verdict(out: &mut List<u8>, what: &str, reports: &[SiteReport]) -> Result<(), NoMemory> {

@@ -1,3 +1,4 @@
 pub mod Claims
 pub mod Granting
+pub mod Grants
 pub mod Requests

@@ -1,3 +1,4 @@
+pub mod OldestSoFar
 pub mod Places
 pub mod LockLists
 pub mod Fronts

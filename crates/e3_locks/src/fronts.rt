@@ -8,9 +8,9 @@ ghost use Rattle.e3_locks.specs.Places.{others_of};
 ghost use Rattle.e3_locks.specs.LockLists.{on, named, names_of, grants_on, grants_after};
 ghost use Rattle.e3_locks.specs.Fronts.{IsFree};
 
-use crate::Granted;
 use crate::granted::is_opposed;
-use e3_types::{List, Lock, Name, NoMemory, Txn, front};
+use crate::{Granted, front};
+use e3_types::{List, Lock, Name, NoMemory, Txn};
 use std::alloc::Global;
 use std::cmp::Ordering;
 

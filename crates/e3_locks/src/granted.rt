@@ -3,11 +3,12 @@ ghost use Rattle.std.specs.Prelude.{◌≤◌, vec_len, vec_capacity, ◌≡◌,
 ghost use Rattle.std.specs.List.{list_any, list_all};
 ghost use Rattle.e3_types.specs.Locks.{lock_grant, is_covered, covers, opposes, against};
 ghost use Rattle.e3_types.specs.Same.{same_txn, same_numbers, is_older};
-ghost use Rattle.e3_types.specs.OldestSoFar.{oldest_so_far};
+ghost use Rattle.e3_locks.specs.OldestSoFar.{oldest_so_far};
 ghost use Rattle.e3_world.specs.Operations.{stronger};
 ghost use Rattle.e3_locks.specs.Places.{others_of, mode_held};
 ghost use Rattle.e3_locks.specs.LockLists.{lock_of, on};
 
+use crate::rule::oldest_so_far;
 use e3_types::{Grant, Lock, Mode, Name, Txn};
 
 /// A transaction's lock on a record: one that it holds or waits for, or that a release would grant.
@@ -116,16 +117,6 @@ fn is_older_than_all(wanted: &Lock, name: &Name, held: &[Granted], queue: &[Gran
     all_let_wait(wanted, name, held, queue)
 }
 
-// The older of the one so far and another.
-fn oldest_so_far(so_far: Option<Txn>, txn: &Txn) -> Option<Txn>
-    ensures { result ≡ oldest_so_far so_far txn.now }
-{
-    match so_far {
-        Some(oldest) if !txn.is_older(&oldest) => Some(oldest),
-        _ => Some(*txn),
-    }
-}
-
 // The oldest of the one so far and of all whose locks among those on the name conflict with the one that is wanted.
 fn oldest_against(wanted: &Lock, name: &Name, locks: &[Granted], so_far: Option<Txn>) -> Option<Txn>
     ensures { result ≡ fold oldest_so_far so_far (against wanted.now (on name.now locks.now)) }
@@ -140,7 +131,7 @@ fn oldest_against(wanted: &Lock, name: &Name, locks: &[Granted], so_far: Option<
 }
 
 // What the lock rule answers, where these hold locks and those wait, each of them on some name.
-#[tactic(auto, using(e3_types::proofs::Grants::grant_held, e3_types::proofs::Grants::grant_waits, e3_types::proofs::Grants::grant_dies))]
+#[tactic(auto, using(crate::proofs::Grants::grant_held, crate::proofs::Grants::grant_waits, crate::proofs::Grants::grant_dies))]
 pub(crate) fn grant_on(wanted: &Lock, name: &Name, held: &[Granted], queue: &[Granted]) -> Grant
     ensures { result ≡ lock_grant wanted.now (on name.now held.now) (on name.now queue.now) }
 {

@@ -6,8 +6,10 @@ mod granted;
 mod list_locks;
 mod locks;
 mod replays;
+mod rule;
 
 pub use granted::Granted;
 pub use list_locks::ListLocks;
 pub use locks::Locks;
 pub use replays::{LockCall, replay_locks};
+pub use rule::{front, front_length, lock_grant};

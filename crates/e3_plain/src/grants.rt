@@ -4,8 +4,9 @@ ghost use Rattle.std.specs.List.{flat_map};
 ghost use Rattle.e3_world.specs.Making.{log_now, steps_now, add_name, names_of, asked_on, granted_on, granted, grants_after};
 
 use crate::reading::{log_now, steps_now};
+use e3_locks::front;
 use e3_readings::{holders, key_of, queue, waiting};
-use e3_types::{List, Name, NoMemory, front};
+use e3_types::{List, Name, NoMemory};
 use e3_world::{Asked, At, Made};
 use std::alloc::Global;
 use std::cmp::Ordering;

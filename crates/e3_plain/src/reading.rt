@@ -10,10 +10,9 @@ ghost use Rattle.e3_world.specs.Logs.{key_of};
 ghost use Rattle.e3_world.specs.Operations.{holders, queue};
 ghost use Rattle.e3_world.specs.Steps.{is_begin};
 
+use e3_locks::lock_grant;
 use e3_readings::{holders, key_of, mode_of, queue, waiting};
-use e3_types::{
-    Answer, Copied, Grant, Input, List, Lock, NoMemory, Record, Refusal, SiteSet, Txn, lock_grant,
-};
+use e3_types::{Answer, Copied, Grant, Input, List, Lock, NoMemory, Record, Refusal, SiteSet, Txn};
 use e3_world::{Asked, At, Made, Moment};
 use std::alloc::Global;
 

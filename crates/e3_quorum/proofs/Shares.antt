@@ -6,7 +6,7 @@ use Rattle.std.proofs.lemmas.Bool.{ltb-true, or_cases, or_parts, eqb-true, eq-eq
 use Rattle.std.proofs.lemmas.Grind.{common_steps}
 use Rattle.e3_types.specs.Quorums.{weight_of, is_quorum}
 use Rattle.e3_types.specs.Sets.{ascends, is_set, has_site, is_within, others}
-use Rattle.e3_types.proofs.Weights.{weight_cons}
+use Rattle.e3_quorum.proofs.Sums.{weight_cons}
 
 -- another site stays where one is taken away
 has_others : (x y : ℕ) (all : List ℕ) → has_site all y ≡ true → (y ≡ x → ⊥) → has_site (others x all) y ≡ true

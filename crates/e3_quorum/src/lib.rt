@@ -1,6 +1,8 @@
 //! Weights of sites, and quorums: groups with more than half of the weight, any two of which share a site (Skeen 1982).
 #![tactic(auto)]
 
+mod quorums;
 mod weights;
 
+pub use quorums::{is_quorum, weight_at, weight_of};
 pub use weights::{WeightFault, Weights};

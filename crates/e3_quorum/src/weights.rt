@@ -4,7 +4,8 @@ ghost use Rattle.e3_types.specs.Quorums.{weight_of, is_quorum};
 ghost use Rattle.e3_types.specs.Sets.{has_site, is_within};
 ghost use Rattle.e3_quorum.specs.Weighing.{range_fault, weight_fault, Refuses, have_weights};
 
-use e3_types::{List, SiteSet, is_quorum, weight_of};
+use crate::{is_quorum, weight_of};
+use e3_types::{List, SiteSet};
 use std::alloc::Global;
 use std::marker::Model;
 

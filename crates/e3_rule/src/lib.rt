@@ -3,4 +3,4 @@
 
 mod rule;
 
-pub use rule::decide;
+pub use rule::{decide, verdict_of};

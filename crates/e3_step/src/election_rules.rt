@@ -10,9 +10,8 @@ use crate::making::{
 };
 use crate::past::Past;
 use e3_readings::{all_heard, all_reported, greatest_heard, hear, take_report};
-use e3_types::{
-    Call, Dir, Message, NoMemory, Record, SiteReport, SiteSet, Told, Txn, Verdict, verdict_of,
-};
+use e3_rule::verdict_of;
+use e3_types::{Call, Dir, Message, NoMemory, Record, SiteReport, SiteSet, Told, Txn, Verdict};
 use e3_world::{Election, Made};
 use std::alloc::Global;
 

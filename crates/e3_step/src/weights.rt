@@ -1,17 +1,9 @@
 // Whether sites in any order, as they were gathered, are a quorum.
-ghost use Rattle.std.specs.Prelude.{◌≡◌, ◌-◌, ◌+◌, ◌*◌, IfOk, nat_lt, slice_index};
+ghost use Rattle.std.specs.Prelude.{◌≡◌, ◌+◌, ◌*◌, IfOk, nat_lt};
 ghost use Rattle.e3_types.specs.Quorums.{is_quorum, weight_of};
 
-use e3_types::{NoMemory, SiteSet, weight_of};
-
-fn weight_at(weights: &[u32], site: u32) -> u32
-    ensures { result ≡ slice_index weights.now (site - 1) }
-{
-    weights
-        .get(site.saturating_sub(1) as usize)
-        .copied()
-        .unwrap_or(0)
-}
+use e3_quorum::{weight_at, weight_of};
+use e3_types::{NoMemory, SiteSet};
 
 // The list stands in memory, so a weight past the greatest number is want of memory too.
 fn weigh(weights: &[u32], sites: &[u32]) -> Result<u64, NoMemory>

@@ -1,5 +1,3 @@
-pub mod Grants
 pub mod Orders
 pub mod SameSites
 pub mod SetSteps
-pub mod Weights

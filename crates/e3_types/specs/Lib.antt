@@ -6,7 +6,6 @@ pub mod Transactions
 pub mod Same
 pub mod Quorums
 pub mod Locks
-pub mod OldestSoFar
 pub mod Verdicts
 pub mod Ranks
 pub mod Spelling

@@ -30,9 +30,10 @@ impl History {
         }
     }
 
-    /// Makes room for so many entries more.
+    /// Makes room for so many entries more. Refused, it has the room that it had.
     pub fn reserve(&mut self, more: u64) -> Result<(), NoMemory>
         ensures entries { self.new.entries ≡ self.old.entries }
+        ensures grows { self.old.room ≤ self.new.room }
         ensures ok { OnOk result (more ≤ self.new.room) }
     {
         match self.entries.try_reserve(more as usize) {

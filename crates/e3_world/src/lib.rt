@@ -7,8 +7,6 @@ mod gatherings;
 mod history;
 mod lives;
 mod names;
-#[cfg(test)]
-mod tests;
 
 pub use fate::fate_word;
 pub use gatherings::{Election, Elections, Named, Round, Rounds};

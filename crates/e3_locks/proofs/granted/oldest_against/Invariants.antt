@@ -1,7 +1,7 @@
 -- the oldest so far
 use Rattle.std.proofs.Common.{◌≡◌, fold, take}
 use Rattle.e3_types.specs.Locks.{against}
-use Rattle.e3_types.specs.OldestSoFar.{oldest_so_far}
+use Rattle.e3_locks.specs.OldestSoFar.{oldest_so_far}
 use Rattle.e3_locks.specs.LockLists.{on}
 use Rattle.e3_locks.proofs.granted.oldest_against.Given as goal
 

@@ -2,10 +2,10 @@
 ghost use Rattle.std.specs.Prelude.{◌≡◌, ◌<◌, ◌-◌, ◌^◌, slice_index};
 ghost use Rattle.e3_types.specs.Quorums.{weight_of, is_quorum};
 
-use crate::SiteSet;
+use e3_types::SiteSet;
 
-// The weight of a site: site k has the k-th weight, and 0 where there is none.
-pub(crate) fn weight_at(weights: &[u32], site: u32) -> u32
+/// The weight of a site: site k has the k-th weight, and 0 where there is none.
+pub fn weight_at(weights: &[u32], site: u32) -> u32
     ensures { result ≡ slice_index weights.now (site - 1) }
 {
     match weights.get(site.saturating_sub(1) as usize) {
@@ -15,7 +15,7 @@ pub(crate) fn weight_at(weights: &[u32], site: u32) -> u32
 }
 
 /// The sum of the weights of these sites. The k-th weight is that of site k; a site without a weight has 0.
-#[tactic(auto, using(crate::proofs::Weights::weight_cons))]
+#[tactic(auto, using(crate::proofs::Sums::weight_cons))]
 pub fn weight_of(weights: &[u32], sites: SiteSet) -> u64
     ensures weight { result ≡ weight_of weights.now sites }
     ensures small { result < 2 ^ 38 }

@@ -1,7 +1,7 @@
 -- what is left makes up the whole, which is small
 use Rattle.std.proofs.Common.{◌≡◌, ◌+◌, ◌<◌}
 use Rattle.e3_types.specs.Quorums.{weight_of}
-use Rattle.e3_types.proofs.quorums.weight_of.Given as goal
+use Rattle.e3_quorum.proofs.quorums.weight_of.Given as goal
 
 abbrev pub invariant-loop-site : goal.invariant-loop-site
 invariant-loop-site l =

@@ -1,7 +1,7 @@
 -- the weight is small since there are 64 sites at most
 use Rattle.std.proofs.Common.{arith, ◌≤◌, length}
-use Rattle.e3_types.proofs.Weights.{weight_few}
-use Rattle.e3_types.proofs.quorums.weight_of.Goals as goal
+use Rattle.e3_quorum.proofs.Sums.{weight_few}
+use Rattle.e3_quorum.proofs.quorums.weight_of.Goals as goal
 
 pub loop-site-init : goal.loop-site-init
 loop-site-init c =
