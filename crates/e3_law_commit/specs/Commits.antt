@@ -126,6 +126,10 @@ pub record CommitEnds (sc : Scenario) (start step : List Entry) (t : Txn) : Type
   pub committed : (site : ℕ) → has_site t.sites site ≡ true → is_committed sc (start ++ step) t site
   pub few : count_by (is_entry_of t (sent (start ++ step))) step ≤ 1 + 5 * (length t.sites - 1)
 
+-- each such step of this history ends so
+abbrev pub CommitRoundsEnd : Scenario → List Entry → Type 0
+CommitRoundsEnd sc history = (t : Txn) (s : CommitStands sc history t) → CommitEnds sc s.start (commit_entry sc s.start t ∷ s.more) t
+
 -- The law of the commit round: in a legal history, of a scenario that keeps the rules, each such step ends so.
 abbrev pub CommitsEnd : Type 0
 CommitsEnd = (sc : Scenario) (history : List Entry) (t : Txn) → IsGiven sc → IsLegal sc history → (s : CommitStands sc history t) →

@@ -10,6 +10,7 @@ use Rattle.e3_disk.specs.Meters.{Meters}
 use Rattle.e3_decided.proofs.Histories.{given_agrees, given_voted}
 use Rattle.e3_decided.proofs.Standing.{given_stands}
 use Rattle.e3_fleet.specs.Over.{AreOver}
+use Rattle.e3_law_commit.specs.Commits.{CommitsEnd}
 use Rattle.e3_law_rounds.specs.Rounds.{RoundsEnd}
 use Rattle.e3_serial.specs.Claims.{LegalSerial}
 use Rattle.e3_gen.specs.Generated.{generated, generated_scenario}
@@ -30,10 +31,10 @@ use Rattle.e3_types.specs.declared.scenarios.Scenario.{Scenario}
 use Rattle.e3_world.specs.Given.{IsGiven}
 use Rattle.e3_world.specs.Legal.{IsLegal, IsWhole}
 
--- a legal history of a given scenario is safe, and its recovery rounds are bounded
-pub run_of : {D : Type 0} (image : D → List ℕ → Type 0) (meters : D → Meters) (before now : List D) → LegalSerial → RoundsEnd → (sc : Scenario) (most : ℕ) (h : List Entry) → most ≤ 2000000 → IsGiven sc → IsLegal sc h → length h ≤ most →
+-- a legal history of a given scenario is safe, its recovery rounds are bounded, and its commit rounds commit
+pub run_of : {D : Type 0} (image : D → List ℕ → Type 0) (meters : D → Meters) (before now : List D) → LegalSerial → RoundsEnd → CommitsEnd → (sc : Scenario) (most : ℕ) (h : List Entry) → most ≤ 2000000 → IsGiven sc → IsLegal sc h → length h ≤ most →
     AreOver image meters sc h before now → IsRunOf image meters before now sc most h
-run_of image meters before now one ends sc most h bound given legal few over = record {
+run_of image meters before now one ends commits sc most h bound given legal few over = record {
   given = given;
   legal = legal;
   few = few;
@@ -44,6 +45,7 @@ run_of image meters before now one ends sc most h bound given legal few over = r
     serial = one sc h given legal;
   };
   rounds = λ r s up. ends sc h r given legal (omega (arith, few, bound)) s up;
+  commits = λ t s. commits sc h t given legal s;
   over = over;
 }
 

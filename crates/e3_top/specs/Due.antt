@@ -4,6 +4,7 @@ use Rattle.std.specs.declared.alloc.Global.{Global}
 use Rattle.e3_disk.specs.Meters.{Meters}
 use Rattle.e3_fleet.specs.Over.{AreOver}
 use Rattle.e3_gen.specs.Generated.{generated, generated_scenario}
+use Rattle.e3_law_commit.specs.Commits.{CommitRoundsEnd}
 use Rattle.e3_law_rounds.specs.Rounds.{RoundsAreBounded}
 use Rattle.e3_report.specs.Report.{report_of}
 use Rattle.e3_report.specs.Summary.{summary_of}
@@ -24,7 +25,8 @@ use Rattle.e3_world.specs.Safe.{IsSafe}
 -- has its vote before it; a decision that was told stands in its site's log, and in that of each legal history that goes on;
 -- and there is one order of the committed transactions, by their last votes: run one after the other they give each site's
 -- table, over those that its own log commits, and each committed read that was told. Each recovery round in which no member
--- fell ends in few entries. And what the disks came to over it.
+-- fell ends in few entries. A commit that nothing disturbs, at sites that are fit to vote yes, commits at all of them in few
+-- entries. And what the disks came to over it.
 pub record IsRunOf {D : Type 0} (image : D → List ℕ → Type 0) (meters : D → Meters) (disks_before disks_now : List D)
     (sc : Scenario) (most : ℕ) (history : List Entry) : Type 0 where
   pub given : IsGiven sc
@@ -32,6 +34,7 @@ pub record IsRunOf {D : Type 0} (image : D → List ℕ → Type 0) (meters : D 
   pub few : length history ≤ most
   pub safe : IsSafe sc history
   pub rounds : RoundsAreBounded sc history
+  pub commits : CommitRoundsEnd sc history
   pub over : AreOver image meters sc history disks_before disks_now
 
 -- A run is done: the bytes spell a scenario, the history is one of it and went through all of it, and the text is its report, with the

@@ -19,6 +19,7 @@ use crate::words::{refused_history_full, refused_words};
 use e3_disk::{Disk, Drill};
 use e3_fleet::{Played, play_over};
 use e3_gen::{generated, generated_scenario};
+use e3_law_commit::commits_end;
 use e3_law_rounds::rounds_end;
 use e3_outside::{ReadFault, Source, read_up_to};
 use e3_report::{report, summary};
@@ -142,6 +143,7 @@ fn play<D: Disk + Drill + Drop>(
 {
     one_order();
     rounds_end();
+    commits_end();
     play_over(alloc, scenario, disks, most)
 }
 
