@@ -4,7 +4,7 @@ use Rattle.std.proofs.lemmas.Bool.{and_parts}
 use Rattle.std.proofs.lemmas.Grind.{common_steps}
 use Rattle.e3_types.specs.Quorums.{is_quorum, weight_of}
 use Rattle.e3_types.specs.Sets.{ascends, has_site, is_set, others}
-use Rattle.e3_types.proofs.Weights.{weight_cons}
+use Rattle.e3_quorum.proofs.Sums.{weight_cons}
 use Rattle.e3_world.proofs.Turns.{self}
 use Rattle.e3_law_commit.proofs.Packets.{total}
 

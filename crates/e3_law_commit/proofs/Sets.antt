@@ -11,7 +11,7 @@ use Rattle.e3_types.specs.declared.transactions.Txn.{Txn}
 use Rattle.e3_types.specs.Quorums.{weight_of}
 use Rattle.e3_types.specs.Same.{same_numbers}
 use Rattle.e3_types.specs.Sets.{has_site, is_set}
-use Rattle.e3_types.proofs.Weights.{weight_cons}
+use Rattle.e3_quorum.proofs.Sums.{weight_cons}
 use Rattle.e3_world.specs.declared.names.Bound.{Bound}
 use Rattle.e3_world.specs.Given.{IsGiven, SaidSoFar, close_step, exist, is_begun, is_group, is_step_form, items_keep, keeps_rules, say_item, steps_keep}
 use Rattle.e3_world.specs.Items.{last_bound, since_line, to_line, txn_of}

@@ -5,7 +5,7 @@ use Rattle.std.proofs.lemmas.Bool.{ltb-true, or_cases, or_parts, eqb-true, eq-eq
 use Rattle.e3_types.specs.declared.transactions.Txn.{Txn}
 use Rattle.e3_types.specs.Quorums.{weight_of, is_quorum}
 use Rattle.e3_types.specs.Sets.{has_site, is_within, others}
-use Rattle.e3_types.proofs.Weights.{weight_cons}
+use Rattle.e3_quorum.proofs.Sums.{weight_cons}
 use Rattle.e3_protocol.specs.Logs.{IsIn}
 use Rattle.e3_protocol.specs.Rules.{Overlaps}
 use Rattle.e3_protocol.specs.Weights.{differ, party_of}
