@@ -12,7 +12,7 @@ use Rattle.e3_types.specs.Same.{is_older, oldest}
 use Rattle.e3_types.specs.Locks.{opposes, against, grant_against}
 use Rattle.e3_locks.specs.OldestSoFar.{oldest_so_far}
 
-against_append : (wanted : Lock) (xs ys : List Lock) → against wanted (xs ++ ys) ≡ against wanted xs ++ against wanted ys
+pub against_append : (wanted : Lock) (xs ys : List Lock) → against wanted (xs ++ ys) ≡ against wanted xs ++ against wanted ys
 against_append wanted xs ys = grind (arith, common_steps, filter-append (opposes wanted) xs ys)
 
 oldest_from : (u : Txn) (us : List Txn) → fold oldest_so_far (Some u) us ≡ Some (oldest u us)

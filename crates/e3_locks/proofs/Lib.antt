@@ -1,4 +1,9 @@
 pub mod Claims
+pub mod Fairness
 pub mod Granting
 pub mod Grants
+pub mod Placing
 pub mod Requests
+pub mod Splitting
+pub mod Tables
+pub mod Awaiting

@@ -13,7 +13,7 @@ use Rattle.e3_locks.specs.LockLists.{lock_of, on, held_with, queue_with}
 use Rattle.e3_locks.specs.Replays.{Places, with_request, after_call, after_calls, answer_to, answers_to}
 use Rattle.e3_locks.proofs.Claims.{on_append, on_one, on_other}
 
-same_turned : (xs ys : List ℕ) → same_numbers xs ys ≡ same_numbers ys xs
+pub same_turned : (xs ys : List ℕ) → same_numbers xs ys ≡ same_numbers ys xs
 same_turned [] [] = refl
 same_turned (x ∷ xs) (y ∷ ys) = let ih = same_turned xs ys in grind (arith, common_steps, ih)
 same_turned [] (y ∷ ys) = refl

@@ -3,3 +3,5 @@ pub mod Places
 pub mod LockLists
 pub mod Fronts
 pub mod Replays
+pub mod Waiting
+pub mod Standing

@@ -47,7 +47,11 @@ fn others_on(alloc: Global, t: &Txn, name: &Name, locks: &[Granted]) -> Result<L
 }
 
 // Adds these locks, on the name.
-fn push_named(name: &Name, locks: &[Lock], out: &mut List<Granted>) -> Result<(), NoMemory>
+pub(crate) fn push_named(
+    name: &Name,
+    locks: &[Lock],
+    out: &mut List<Granted>,
+) -> Result<(), NoMemory>
     ensures { IfOk result (λ u. out.new ≡ out.old ++ map (named name.now) locks.now) }
 {
     for lock in locks {
@@ -127,7 +131,7 @@ fn add_name(alloc: Global, names: &[Name], new: &Name) -> Result<List<Name>, NoM
 }
 
 // The names of these, each once, in byte order.
-fn names_of(alloc: Global, locks: &[Granted]) -> Result<List<Name>, NoMemory>
+pub(crate) fn names_of(alloc: Global, locks: &[Granted]) -> Result<List<Name>, NoMemory>
     ensures { IfOk result (λ out. out ≡ names_of locks.now) }
 {
     let mut names = List::new(alloc);

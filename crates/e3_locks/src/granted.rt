@@ -152,7 +152,7 @@ pub(crate) fn grant_on(wanted: &Lock, name: &Name, held: &[Granted], queue: &[Gr
 }
 
 // The stronger of the mode so far and another.
-fn stronger(so_far: Option<Mode>, lock: &Lock) -> Option<Mode>
+pub(crate) fn stronger(so_far: Option<Mode>, lock: &Lock) -> Option<Mode>
     ensures { result ≡ stronger so_far lock.now }
 {
     match so_far {

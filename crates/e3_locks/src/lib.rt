@@ -5,11 +5,15 @@ mod fronts;
 mod granted;
 mod list_locks;
 mod locks;
+mod place;
 mod replays;
 mod rule;
+mod table;
+mod waits;
 
 pub use granted::Granted;
 pub use list_locks::ListLocks;
 pub use locks::Locks;
 pub use replays::{LockCall, replay_locks};
 pub use rule::{front, front_length, lock_grant};
+pub use table::LockTable;

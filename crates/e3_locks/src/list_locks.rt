@@ -1,10 +1,12 @@
 // The locks of a table in plain lists.
 ghost use Rattle.std.specs.Prelude.{◌≡◌, ◌≤◌, ◌+◌, ◌-◌, min, [], ℕ, List as Items, OnOk, OnErr, vec_len, vec_capacity};
 ghost use Rattle.e3_locks.specs.Places.{advanced};
-ghost use Rattle.e3_locks.specs.LockLists.{on, held_with, queue_with};
+ghost use Rattle.e3_types.specs.Locks.{lock_grant};
+ghost use Rattle.e3_locks.specs.LockLists.{lock_of, on, held_with, queue_with};
 
 use crate::fronts::{all_fronts, first_free};
 use crate::granted::{grant_on, keep_others, mode_on};
+use crate::waits::all_awaited;
 use crate::{Granted, Locks};
 use e3_types::{Grant, List, Lock, Mode, Name, NoMemory, Txn};
 use std::alloc::Global;
@@ -20,8 +22,9 @@ pub struct ListLocks {
 }
 
 impl Model for ListLocks {
-    ghost use Rattle.std.specs.Prelude.{◌+◌, ◌-◌, ◌≤◌, min, vec_len, vec_capacity};
-    ghost use Rattle.e3_locks.specs.LockLists.{LockLists};
+    ghost use Rattle.std.specs.Prelude.{◌≡◌, ◌+◌, ◌-◌, ◌≤◌, true, ℕ, List, min, vec_len, vec_capacity};
+    ghost use Rattle.e3_locks.specs.LockLists.{LockLists, on};
+    ghost use Rattle.e3_locks.specs.Waiting.{is_fair};
 
     ghost Value = { LockLists };
 
@@ -31,7 +34,8 @@ impl Model for ListLocks {
       room = min (vec_capacity a.held - (vec_len a.held + vec_len a.queue)) (vec_capacity a.queue - vec_len a.queue);
     } };
 
-    ghost invariant = { λ a. vec_len a.held + vec_len a.queue ≤ vec_capacity a.held };
+    ghost invariant = { λ a. (vec_len a.held + vec_len a.queue ≤ vec_capacity a.held)
+        × ((n : List ℕ) → is_fair (on n a.held.items) (on n a.queue.items) ≡ true) };
 }
 
 // Each name's front gets its locks.
@@ -90,6 +94,7 @@ impl ListLocks {
 impl ListLocks {
     // What a request that was answered so leaves: one lock that is held or waits, or nothing.
     fn put(&mut self, grant: &Grant, asked: Granted) -> Result<(), NoMemory>
+        requires { grant.now ≡ lock_grant (lock_of asked) (on asked.name self.old.held) (on asked.name self.old.queue) }
         ensures held { OnOk result (self.new.held ≡ held_with grant.now asked self.old.held) }
         ensures queue { OnOk result (self.new.queue ≡ queue_with grant.now asked self.old.queue) }
         ensures err_held { OnErr result (self.new.held ≡ self.old.held) }
@@ -146,5 +151,9 @@ impl Locks for ListLocks {
 
     fn holds(&self, txn: Txn, name: &Name) -> Option<Mode> {
         mode_on(&txn, name, &self.held)
+    }
+
+    fn waits_for(&self, txn: Txn) -> Result<List<Txn>, NoMemory> {
+        all_awaited(self.alloc, &txn, &self.held, &self.queue)
     }
 }

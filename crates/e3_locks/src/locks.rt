@@ -1,8 +1,11 @@
 // What a table of locks does, whatever it is made of.
-ghost use Rattle.std.specs.Prelude.{◌≡◌, ◌≤◌, List, ℕ, IfOk, OnOk, OnErr};
+ghost use Rattle.std.specs.Prelude.{◌≡◌, ◌≤◌, List, ℕ, true, IfOk, OnOk, OnErr};
+ghost use Rattle.std.specs.List.{list_all};
+ghost use Rattle.e3_types.specs.Same.{is_older};
 ghost use Rattle.e3_locks.specs.Places.{would, released, mode_held};
 ghost use Rattle.e3_locks.specs.LockLists.{LockLists, place, grants_after};
 ghost use Rattle.e3_locks.specs.Replays.{with_request};
+ghost use Rattle.e3_locks.specs.Waiting.{waits_for};
 
 use crate::Granted;
 use e3_types::{Grant, List, Mode, Name, NoMemory, Txn};
@@ -43,4 +46,11 @@ pub trait Locks {
     /// The mode in which a transaction holds a name; none exactly where it holds no lock there. It takes no memory.
     fn holds(&self, txn: Txn, name: &Name) -> Option<Mode>
         ensures { result ≡ mode_held txn (place name.now (lists self.now)).held };
+
+    /// Those that the transaction waits for, each once, the oldest first: at each of its requests that wait the others that
+    /// conflict, among the holders and the waiters ahead. All are younger, so no waits lead in a circle. Want of memory is
+    /// the only error.
+    fn waits_for(&self, txn: Txn) -> Result<List<Txn>, NoMemory>
+        ensures ok { IfOk result (λ txns. txns ≡ waits_for txn (lists self.now)) }
+        ensures younger { IfOk result (λ txns. list_all (is_older txn) txns ≡ true) };
 }
