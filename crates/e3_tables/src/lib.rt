@@ -1,0 +1,8 @@
+//! The records of a site: their values, what a transaction notes to do to them, and the writes that its commit installs.
+#![tactic(auto)]
+
+mod tables;
+mod workspace;
+
+pub use tables::Tables;
+pub use workspace::Workspace;
