@@ -4,8 +4,9 @@ ghost use Rattle.std.specs.Prelude.{◌≡◌, ◌≤◌, ◌++◌, ◌∷◌, [
 
 use e3_disk::{Disk, Drill};
 use e3_node::{Node, Shared, other_entries_keep_nodes};
-use e3_sites::{RunFault, Sites};
+use e3_sites::{RunFault, Settle, Sites, settle_in_order};
 use e3_types::{Entry, Input, Leave, List, NoMemory, Packet, SiteSet, Txn};
+use e3_world::Addressed;
 use std::alloc::Global;
 
 /// The nodes of all sites, that of site 1 first, what they share, and the allocator for what they tell.
@@ -101,5 +102,11 @@ impl<D: Disk + Drill + Drop> Sites for Fleet<D> {
     fn parts(&mut self, parts: List<SiteSet>) -> Result<(), RunFault> {
         other_entries_keep_nodes::<D>();
         self.shared.parts(parts)
+    }
+}
+
+impl<D: Disk + Drill + Drop> Settle for Fleet<D> {
+    fn settle(&mut self, inputs: List<Addressed>) -> Result<(), RunFault> {
+        settle_in_order(self, inputs.as_slice())
     }
 }

@@ -1,11 +1,8 @@
 pub mod Answered
-pub mod Splitting
-pub mod Counting
-pub mod ByName
 pub mod Quiet
 pub mod Entries
 pub mod Full
 pub mod Steps
 pub mod Settling
 pub mod Forms
-pub mod GroupItems
+pub mod Knowing

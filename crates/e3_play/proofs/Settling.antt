@@ -17,17 +17,17 @@ use Rattle.e3_world.proofs.Guards.{lines_push, step_through}
 use Rattle.e3_world.proofs.Lines.{begin_step, lines_to}
 use Rattle.e3_world.proofs.Readings.{since_push, split_push, up_same}
 use Rattle.e3_world.proofs.Turns.{self, true_not_false}
-use Rattle.e3_play.specs.Played.{IsAsked, IsFresh, IsSettled, is_asking}
-use Rattle.e3_play.proofs.Entries.{asked_on}
+use Rattle.e3_play.specs.Played.{IsAsked, IsFresh, IsSettled}
 use Rattle.e3_play.proofs.Quiet.{none_pending}
 use Rattle.e3_play.proofs.Steps.{step_settles}
 use Rattle.e3_sites.proofs.Bounds.{bounded, some_line, whole_parts}
-use Rattle.e3_sites.specs.Delivered.{ACut, ARise, Delivers, IsFull}
+use Rattle.e3_sites.specs.Delivered.{ACut, ARise, IsFull}
 use Rattle.e3_sites.specs.Entering.{AfterRise}
+use Rattle.e3_sites.specs.Settled.{StaysInStep, is_asking}
+use Rattle.e3_world.specs.Progress.{Delivering}
 
 -- behind the line of a step
 pub record IsBegun (sc : Scenario) (h : List Entry) (k : ℕ) : Type 0 where
-  pub items : ItemsDone sc h [] (step_items sc (suc k))
   pub fresh : IsFresh sc h (step_items sc (suc k))
   pub at : lines h ≡ suc k
 
@@ -36,7 +36,6 @@ pub line_begins : (sc : Scenario) (h next : List Entry) (k number : ℕ) → num
 line_begins sc h next k number counted was more entered =
     let P : List Entry → Type 0 = λ l. IsBegun sc l k in
     subst P (sym (entered ∙ ap (λ n. h ++ record { owner = 0; act = Line n } ∷ []) counted)) (record {
-      items = items;
       fresh = record {
         legal = items.legal;
         begun = λ none. (let both : suc k ≡ 0 = sym at ∙ none in absurd cc);
@@ -182,10 +181,9 @@ pub stop_settles : (sc : Scenario) (h : List Entry) (s calls : ℕ) (leave : Lea
 stop_settles sc h s calls leave was = settles sc h (lines h) was.legal refl was.begun was.none (stop_made sc h s calls leave was.present)
 
 -- a group, a split or a merge
-pub exchange_settles : (sc : Scenario) (asked last : List Entry) (n : ℕ) (items : List Item) → n ≢ 0 → is_asking items ≡ true → IsAsked sc asked n items →
-    Delivers sc asked last → pending sc last ≡ [] → IsSettled sc last n
-exchange_settles sc asked last n items begun form was delivers none =
-    let line : (k : ℕ) × (n ≡ suc k) = some_line n begun in
-    let P : ℕ → Type 0 = λ m. IsAsked sc last m items in
+pub exchange_settles : (sc : Scenario) (start asked last : List Entry) (items : List Item) → IsFresh sc start items → is_asking items ≡ true →
+    IsAsked start asked items → StaysInStep asked last → Delivering sc last → pending sc last ≡ [] → IsSettled sc last (lines start)
+exchange_settles sc start asked last items fresh form was grown done none =
+    let line : (k : ℕ) × (lines start ≡ suc k) = some_line (lines start) fresh.begun in
     let Q : ℕ → Type 0 = λ m. IsSettled sc last m in
-    subst Q (sym line.1) (step_settles sc last line.0 items (subst P line.1 (asked_on sc asked last n items was delivers)) form none)
+    subst Q (sym line.1) (step_settles sc start asked last line.0 items line.1 fresh form was grown done none)

@@ -1,74 +1,33 @@
 -- A step begins with its line, and ends when what it asks is made and nothing is pending.
-use Rattle.std.proofs.Common.{◌≡◌, ◌≢◌, ◌++◌, ◌∷◌, [], ◌≤◌, ◌⊎◌, inl, inr, ℕ, suc, true, List, length, Some, None, refl, sym, subst, ap, ◌∙◌, arith}
-use Rattle.std.specs.List.{list_all}
+use Rattle.std.proofs.Common.{◌≡◌, ◌==◌, ◌++◌, ◌∷◌, [], ◌≤◌, ◌⊎◌, inl, inr, ℕ, suc, Bool, true, false, List, length, Some, None, refl, sym, ap, ◌∙◌}
+use Rattle.std.specs.List.{flat_map, list_all}
 use Rattle.e3_types.specs.declared.entries.Act.TheVariants.{Parts}
 use Rattle.e3_types.specs.declared.entries.Entry.{Entry}
 use Rattle.e3_types.specs.declared.scenarios.Item.{Item}
 use Rattle.e3_types.specs.declared.scenarios.Item.TheVariants as item
 use Rattle.e3_types.specs.declared.scenarios.Scenario.{Scenario}
 use Rattle.e3_world.specs.Given.{is_groupable}
-use Rattle.e3_world.specs.Items.{since_line, to_line}
+use Rattle.e3_world.specs.Items.{inputs_of, since_line, taken_at}
 use Rattle.e3_world.specs.Legal.{IsLine, IsParts, IsWhole, begins_with_parts, is_made, is_through, parts_due}
+use Rattle.e3_world.specs.Moves.{own}
 use Rattle.e3_world.specs.Packets.{lines, pending, present_items, step_items}
-use Rattle.e3_world.specs.Progress.{Delivering, ItemsDone}
-use Rattle.e3_world.proofs.Guards.{item_on, items_end, lines_push, step_through}
+use Rattle.e3_world.specs.Progress.{Delivering}
+use Rattle.e3_world.proofs.Guards.{step_through}
 use Rattle.e3_world.proofs.Lines.{end_step, lines_to}
-use Rattle.e3_world.proofs.Pushes.{legal_push}
-use Rattle.e3_world.proofs.Readings.{since_push, to_push}
-use Rattle.e3_world.proofs.Turns.{through_push}
+use Rattle.e3_world.proofs.Readings.{since_push, taken_other, taken_same}
 use Rattle.e3_play.proofs.Full.{parts_open}
-use Rattle.e3_play.specs.Played.{IsAsked, IsSettled, is_asking, is_parted, parts_asked}
+use Rattle.e3_play.specs.Played.{IsAsked, IsFresh, IsSettled, parts_asked}
 use Rattle.e3_sites.specs.Delivered.{IsFull, TheParts}
+use Rattle.e3_sites.specs.Settled.{StaysInStep, is_asking, is_parted}
 use Rattle.e3_sites.proofs.Bounds.{bounded}
+use Rattle.e3_sites.proofs.Steps.{IsSameStep, same_step, since_stays, stays_none, stays_on, stays_one}
 
 pub next_is_line : (sc : Scenario) (h : List Entry) (k : ℕ) → IsSettled sc h k → suc k ≤ length sc.steps → IsLine sc h (suc k)
 next_is_line sc h k was more = record { next = ap suc (sym was.at); exists = more; through = was.through }
 
--- the present items, by the history or by its part up to the last line
-pub present_is : (sc : Scenario) (h : List Entry) → present_items sc (to_line h) ≡ present_items sc h
-present_is sc h = ap (step_items sc) (lines_to h)
-
--- nothing but parts is asked
-parts_done : (sc : Scenario) (h : List Entry) (items : List Item) → ItemsDone sc h [] items → is_parted items ≡ true → Delivering sc h
-parts_done sc h [] was parted = absurd cc
-parts_done sc h (item.Split parts ∷ []) was parted = items_end sc h (item.Split parts ∷ []) (item_on sc h [] [] (item.Split parts) was)
-parts_done sc h (item.Merge ∷ []) was parted = items_end sc h (item.Merge ∷ []) (item_on sc h [] [] item.Merge was)
-parts_done sc h (item.Split parts ∷ x ∷ xs) was parted = absurd cc
-parts_done sc h (item.Merge ∷ x ∷ xs) was parted = absurd cc
-parts_done sc h (item.Begin name site sites ∷ xs) was parted = absurd cc
-parts_done sc h (item.Read name key ∷ xs) was parted = absurd cc
-parts_done sc h (item.Write name key val ∷ xs) was parted = absurd cc
-parts_done sc h (item.Commit name ∷ xs) was parted = absurd cc
-parts_done sc h (item.Cancel name ∷ xs) was parted = absurd cc
-parts_done sc h (item.Expire site name ∷ xs) was parted = absurd cc
-parts_done sc h (item.Elect site name sites ∷ xs) was parted = absurd cc
-parts_done sc h (item.Recover sites ∷ xs) was parted = absurd cc
-parts_done sc h (item.Crash site ∷ xs) was parted = absurd cc
-parts_done sc h (item.Restart site ∷ xs) was parted = absurd cc
-parts_done sc h (item.Stop site count leave ∷ xs) was parted = absurd cc
-
-pub may_part : (sc : Scenario) (h : List Entry) (items : List Item) (parts : List (List ℕ)) → ItemsDone sc h [] items → since_line h ≡ [] →
-    parts_due sc items ≡ Some parts → IsParts sc h parts
-may_part sc h items parts was fresh is = record { behind_line = fresh; due = ap (parts_due sc) (sym (present_is sc h) ∙ was.present) ∙ is }
-
--- behind the parts
-pub parted : (sc : Scenario) (h next : List Entry) (items : List Item) (parts : List (List ℕ)) → ItemsDone sc h [] items → since_line h ≡ [] →
-    is_parted items ≡ true → parts_due sc items ≡ Some parts → next ≡ h ++ record { owner = 0; act = Parts parts } ∷ [] → IsAsked sc next (lines h) items
-parted sc h next items parts was fresh alone is entered = let P : List Entry → Type 0 = λ l. IsAsked sc l (lines h) items in subst P (sym entered) (record {
-  delivering = record {
-    legal = legal_push sc h e before.legal (may_part sc h items parts was fresh is);
-    done = through_push sc h e refl (λ b up. up) before.done;
-  };
-  at = lines_push h e ∙ (omega arith);
-  present = ap (present_items sc) (to_push h e refl) ∙ was.present;
-  parted = λ yes. ap begins_with_parts (since_push h e refl ∙ ap (λ l. l ++ e ∷ []) fresh);
-})
-  where
-    e : Entry
-    e = record { owner = 0; act = Parts parts }
-
-    before : Delivering sc h
-    before = parts_done sc h items was alone
+-- nothing is taken in a step before anything is entered in it
+none_taken : (h : List Entry) (s : ℕ) → since_line h ≡ [] → taken_at h s ≡ []
+none_taken h s fresh = ap (λ l. flat_map (λ e. inputs_of e.act) (own s l)) fresh
 
 -- a group is no split and no merge
 group_unparted : (items : List Item) → list_all is_groupable items ≡ true → is_parted items ≡ true → ⊥
@@ -87,14 +46,78 @@ group_unparted (item.Crash site ∷ xs) group alone = cc
 group_unparted (item.Restart site ∷ xs) group alone = cc
 group_unparted (item.Stop site count leave ∷ xs) group alone = cc
 
--- behind the items of a group
-pub grouped : (sc : Scenario) (h next : List Entry) (items : List Item) → ItemsDone sc h [] items → list_all is_groupable items ≡ true →
-    Delivering sc next → to_line next ≡ to_line h → IsAsked sc next (lines h) items
-grouped sc h next items was group done same = record {
-  delivering = done;
-  at = sym (lines_to next) ∙ ap lines same ∙ lines_to h;
-  present = ap (present_items sc) same ∙ was.present;
-  parted = λ alone. absurd (group_unparted items group alone);
+-- what a step asks, by the parts that it sets
+pub asks_parts : (sc : Scenario) (items : List Item) (parts : List (List ℕ)) → parts_asked sc items ≡ Some parts →
+    (is_parted items ≡ true) × (parts_due sc items ≡ Some parts)
+asks_parts sc [] parts is = absurd cc
+asks_parts sc (item.Split own ∷ []) parts is = (refl, is)
+asks_parts sc (item.Merge ∷ []) parts is = (refl, is)
+asks_parts sc (item.Split own ∷ x ∷ xs) parts is = absurd cc
+asks_parts sc (item.Merge ∷ x ∷ xs) parts is = absurd cc
+asks_parts sc (item.Begin name site sites ∷ xs) parts is = absurd cc
+asks_parts sc (item.Read name key ∷ xs) parts is = absurd cc
+asks_parts sc (item.Write name key val ∷ xs) parts is = absurd cc
+asks_parts sc (item.Commit name ∷ xs) parts is = absurd cc
+asks_parts sc (item.Cancel name ∷ xs) parts is = absurd cc
+asks_parts sc (item.Expire site name ∷ xs) parts is = absurd cc
+asks_parts sc (item.Elect site name sites ∷ xs) parts is = absurd cc
+asks_parts sc (item.Recover sites ∷ xs) parts is = absurd cc
+asks_parts sc (item.Crash site ∷ xs) parts is = absurd cc
+asks_parts sc (item.Restart site ∷ xs) parts is = absurd cc
+asks_parts sc (item.Stop site count leave ∷ xs) parts is = absurd cc
+
+pub asks_items : (sc : Scenario) (items : List Item) → is_asking items ≡ true → parts_asked sc items ≡ None → list_all is_groupable items ≡ true
+asks_items sc [] played is = refl
+asks_items sc (item.Split parts ∷ []) played is = absurd cc
+asks_items sc (item.Merge ∷ []) played is = absurd cc
+asks_items sc (item.Split parts ∷ x ∷ xs) played is = played
+asks_items sc (item.Merge ∷ x ∷ xs) played is = played
+asks_items sc (item.Begin name site sites ∷ xs) played is = played
+asks_items sc (item.Read name key ∷ xs) played is = played
+asks_items sc (item.Write name key val ∷ xs) played is = played
+asks_items sc (item.Commit name ∷ xs) played is = played
+asks_items sc (item.Cancel name ∷ xs) played is = played
+asks_items sc (item.Expire site name ∷ xs) played is = played
+asks_items sc (item.Elect site name sites ∷ xs) played is = played
+asks_items sc (item.Recover sites ∷ xs) played is = played
+asks_items sc (item.Crash site ∷ xs) played is = played
+asks_items sc (item.Restart site ∷ xs) played is = played
+asks_items sc (item.Stop site count leave ∷ xs) played is = played
+
+-- the parts are due
+pub parts_are_due : (sc : Scenario) (h : List Entry) (items : List Item) (parts : List (List ℕ)) → IsFresh sc h items → parts_asked sc items ≡ Some parts →
+    IsParts sc h parts
+parts_are_due sc h items parts was is = record { behind_line = was.fresh; due = ap (parts_due sc) was.present ∙ (asks_parts sc items parts is).1 }
+
+-- and the history is full
+pub parts_full : (sc : Scenario) (h : List Entry) (items : List Item) (parts : List (List ℕ)) (most : ℕ) → IsFresh sc h items → parts_asked sc items ≡ Some parts →
+    length h ≤ most → most ≤ length h → IsFull sc h most
+parts_full sc h items parts most was is few many =
+    bounded sc h most few many (TheParts parts (parts_are_due sc h items parts was is))
+    (parts_open sc h items was.begun was.present (asks_parts sc items parts is).0 was.fresh)
+
+-- behind them
+pub parts_entered : (sc : Scenario) (h next : List Entry) (items : List Item) (parts : List (List ℕ)) → IsFresh sc h items →
+    next ≡ h ++ record { owner = 0; act = Parts parts } ∷ [] → IsAsked h next items
+parts_entered sc h next items parts was entered = record {
+  grown = stays_one h next e entered refl;
+  fresh = λ s. ap (λ l. taken_at l s) entered ∙ by s (0 == s) refl;
+  parted = λ yes. ap (λ l. begins_with_parts (since_line l)) entered ∙ ap begins_with_parts (since_push h e refl ∙ ap (λ l. l ++ e ∷ []) was.fresh);
+}
+  where
+    e : Entry
+    e = record { owner = 0; act = Parts parts }
+
+    by : (s : ℕ) (b : Bool) → (0 == s) ≡ b → taken_at (h ++ e ∷ []) s ≡ []
+    by s true is = taken_same h e s refl is ∙ ap (λ l. l ++ []) (none_taken h s was.fresh)
+    by s false is = taken_other h e s refl is ∙ none_taken h s was.fresh
+
+-- no parts are asked for
+pub no_parts : (sc : Scenario) (h : List Entry) (items : List Item) → IsFresh sc h items → is_asking items ≡ true → parts_asked sc items ≡ None → IsAsked h h items
+no_parts sc h items was form none = record {
+  grown = stays_none h;
+  fresh = λ s. none_taken h s was.fresh;
+  parted = λ alone. absurd (group_unparted items (asks_items sc items form none) alone);
 }
 
 -- the kinds of steps that are played
@@ -135,68 +158,31 @@ parts_made sc h (item.Crash site ∷ xs) is alone begins = absurd cc
 parts_made sc h (item.Restart site ∷ xs) is alone begins = absurd cc
 parts_made sc h (item.Stop site count leave ∷ xs) is alone begins = absurd cc
 
+begins_on : (xs ys : List Entry) → begins_with_parts xs ≡ true → begins_with_parts (xs ++ ys) ≡ true
+begins_on [] ys is = absurd cc
+begins_on (x ∷ xs) ys is = is
+
 -- the step ends
-pub step_settles : (sc : Scenario) (h : List Entry) (n : ℕ) (items : List Item) → IsAsked sc h (suc n) items → is_asking items ≡ true → pending sc h ≡ [] →
-    IsSettled sc h (suc n)
-step_settles sc h n items was played none = record { legal = was.delivering.legal; at = was.at; none = none; through = by (kind items played) }
+pub step_settles : (sc : Scenario) (start asked last : List Entry) (n : ℕ) (items : List Item) → lines start ≡ suc n → IsFresh sc start items → is_asking items ≡ true →
+    IsAsked start asked items → StaysInStep asked last → Delivering sc last → pending sc last ≡ [] → IsSettled sc last (suc n)
+step_settles sc start asked last n items at fresh form was grown done none =
+    record { legal = done.legal; at = now; none = none; through = by (kind items form) }
   where
-    by : (list_all is_groupable items ≡ true) ⊎ (is_parted items ≡ true) → is_through sc h ≡ true
-    by (inl group) = end_step sc h n items was.delivering was.at was.present group none
-    by (inr alone) = step_through sc h n was.at none (parts_made sc h items (sym (present_is sc h) ∙ was.present) alone (was.parted alone))
+    same : IsSameStep sc start last
+    same = same_step sc start last (stays_on start asked last was.grown grown)
+
+    now : lines last ≡ suc n
+    now = same.at ∙ at
+
+    present : present_items sc last ≡ items
+    present = same.present ∙ fresh.present
+
+    begins : is_parted items ≡ true → begins_with_parts (since_line last) ≡ true
+    begins alone = ap begins_with_parts (since_stays asked last grown) ∙ begins_on (since_line asked) grown.more (was.parted alone)
+
+    by : (list_all is_groupable items ≡ true) ⊎ (is_parted items ≡ true) → is_through sc last ≡ true
+    by (inl group) = end_step sc last n items done now (ap (step_items sc) (lines_to last) ∙ present) group none
+    by (inr alone) = step_through sc last n now none (parts_made sc last items present alone (begins alone))
 
 pub whole_end : (sc : Scenario) (h : List Entry) (k : ℕ) → IsSettled sc h k → k ≡ length sc.steps → IsWhole sc h
 whole_end sc h k was all = record { legal = was.legal; last = was.at ∙ all; through = was.through }
-
--- what a step asks, by the parts that it sets
-pub asks_parts : (sc : Scenario) (items : List Item) (parts : List (List ℕ)) → parts_asked sc items ≡ Some parts →
-    (is_parted items ≡ true) × (parts_due sc items ≡ Some parts)
-asks_parts sc [] parts is = absurd cc
-asks_parts sc (item.Split own ∷ []) parts is = (refl, is)
-asks_parts sc (item.Merge ∷ []) parts is = (refl, is)
-asks_parts sc (item.Split own ∷ x ∷ xs) parts is = absurd cc
-asks_parts sc (item.Merge ∷ x ∷ xs) parts is = absurd cc
-asks_parts sc (item.Begin name site sites ∷ xs) parts is = absurd cc
-asks_parts sc (item.Read name key ∷ xs) parts is = absurd cc
-asks_parts sc (item.Write name key val ∷ xs) parts is = absurd cc
-asks_parts sc (item.Commit name ∷ xs) parts is = absurd cc
-asks_parts sc (item.Cancel name ∷ xs) parts is = absurd cc
-asks_parts sc (item.Expire site name ∷ xs) parts is = absurd cc
-asks_parts sc (item.Elect site name sites ∷ xs) parts is = absurd cc
-asks_parts sc (item.Recover sites ∷ xs) parts is = absurd cc
-asks_parts sc (item.Crash site ∷ xs) parts is = absurd cc
-asks_parts sc (item.Restart site ∷ xs) parts is = absurd cc
-asks_parts sc (item.Stop site count leave ∷ xs) parts is = absurd cc
-
-pub asks_items : (sc : Scenario) (items : List Item) → is_asking items ≡ true → parts_asked sc items ≡ None → list_all is_groupable items ≡ true
-asks_items sc [] played is = refl
-asks_items sc (item.Split parts ∷ []) played is = absurd cc
-asks_items sc (item.Merge ∷ []) played is = absurd cc
-asks_items sc (item.Split parts ∷ x ∷ xs) played is = played
-asks_items sc (item.Merge ∷ x ∷ xs) played is = played
-asks_items sc (item.Begin name site sites ∷ xs) played is = played
-asks_items sc (item.Read name key ∷ xs) played is = played
-asks_items sc (item.Write name key val ∷ xs) played is = played
-asks_items sc (item.Commit name ∷ xs) played is = played
-asks_items sc (item.Cancel name ∷ xs) played is = played
-asks_items sc (item.Expire site name ∷ xs) played is = played
-asks_items sc (item.Elect site name sites ∷ xs) played is = played
-asks_items sc (item.Recover sites ∷ xs) played is = played
-asks_items sc (item.Crash site ∷ xs) played is = played
-asks_items sc (item.Restart site ∷ xs) played is = played
-asks_items sc (item.Stop site count leave ∷ xs) played is = played
-
--- the parts are due, and the history is full
-pub parts_full : (sc : Scenario) (h : List Entry) (items : List Item) (parts : List (List ℕ)) (most : ℕ) → ItemsDone sc h [] items → since_line h ≡ [] → lines h ≢ 0 →
-    parts_asked sc items ≡ Some parts → length h ≤ most → most ≤ length h → IsFull sc h most
-parts_full sc h items parts most was fresh begun is few many =
-    bounded sc h most few many (TheParts parts (may_part sc h items parts was fresh (asks_parts sc items parts is).1))
-    (parts_open sc h items begun (sym (present_is sc h) ∙ was.present) (asks_parts sc items parts is).0 fresh)
-
-pub parts_are_due : (sc : Scenario) (h : List Entry) (items : List Item) (parts : List (List ℕ)) → ItemsDone sc h [] items → since_line h ≡ [] →
-    parts_asked sc items ≡ Some parts → IsParts sc h parts
-parts_are_due sc h items parts was fresh is = may_part sc h items parts was fresh (asks_parts sc items parts is).1
-
-pub parts_entered : (sc : Scenario) (h next : List Entry) (items : List Item) (parts : List (List ℕ)) → ItemsDone sc h [] items → since_line h ≡ [] →
-    parts_asked sc items ≡ Some parts → next ≡ h ++ record { owner = 0; act = Parts parts } ∷ [] → IsAsked sc next (lines h) items
-parts_entered sc h next items parts was fresh is entered =
-    parted sc h next items parts was fresh (asks_parts sc items parts is).0 (asks_parts sc items parts is).1 entered

@@ -1,3 +1,3 @@
-pub mod Inputs
 pub mod Kinds
+pub mod Known
 pub mod Played

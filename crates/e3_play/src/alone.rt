@@ -2,6 +2,7 @@
 ghost use Rattle.std.specs.Prelude.{◌≡◌, ◌≤◌, ◌∷◌, [], length, OnOk, Err};
 ghost use Rattle.e3_play.specs.Played.{IsFresh, IsSettled};
 ghost use Rattle.e3_sites.specs.Delivered.{IsFull};
+ghost use Rattle.e3_sites.specs.Settled.{StaysInStep};
 ghost use Rattle.e3_sites.specs.declared.sites.RunFault.TheVariants.{HistoryFull};
 ghost use Rattle.e3_types.specs.declared.scenarios.Item.TheVariants as item;
 ghost use Rattle.e3_world.specs.Packets.{lines};
@@ -18,6 +19,7 @@ pub fn crash<S: Sites>(sites: &mut S, site: u32) -> Result<(), RunFault>
     ensures stands { S.stands sites.new }
     ensures since { (start : S) → S.since start sites.old → S.since start sites.new }
     ensures same { (S.scenario sites.new ≡ S.scenario sites.old) × (S.most sites.new ≡ S.most sites.old) }
+    ensures grown { StaysInStep (S.entries sites.old) (S.entries sites.new) }
     ensures settles { OnOk result (IsSettled (S.scenario sites.old) (S.entries sites.new) (lines (S.entries sites.old))) }
     ensures full { result ≡ Err HistoryFull → IsFull (S.scenario sites.old) (S.entries sites.new) (S.most sites.old) }
 {
@@ -36,6 +38,7 @@ pub fn restart<S: Sites>(sites: &mut S, site: u32) -> Result<(), RunFault>
     ensures stands { S.stands sites.new }
     ensures since { (start : S) → S.since start sites.old → S.since start sites.new }
     ensures same { (S.scenario sites.new ≡ S.scenario sites.old) × (S.most sites.new ≡ S.most sites.old) }
+    ensures grown { StaysInStep (S.entries sites.old) (S.entries sites.new) }
     ensures settles { OnOk result (IsSettled (S.scenario sites.old) (S.entries sites.new) (lines (S.entries sites.old))) }
     ensures full { result ≡ Err HistoryFull → IsFull (S.scenario sites.old) (S.entries sites.new) (S.most sites.old) }
 {
@@ -54,6 +57,7 @@ pub fn recovery<S: Sites>(alloc: Global, sites: &mut S, group: SiteSet) -> Resul
     ensures stands { S.stands sites.new }
     ensures since { (start : S) → S.since start sites.old → S.since start sites.new }
     ensures same { (S.scenario sites.new ≡ S.scenario sites.old) × (S.most sites.new ≡ S.most sites.old) }
+    ensures grown { StaysInStep (S.entries sites.old) (S.entries sites.new) }
     ensures settles { OnOk result (IsSettled (S.scenario sites.old) (S.entries sites.new) (lines (S.entries sites.old))) }
     ensures full { result ≡ Err HistoryFull → IsFull (S.scenario sites.old) (S.entries sites.new) (S.most sites.old) }
 {

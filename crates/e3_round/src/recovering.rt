@@ -3,6 +3,7 @@ ghost use Rattle.std.specs.Prelude.{◌≡◌, ◌≢◌, ◌≤◌, ◌∷◌, 
 ghost use Rattle.e3_round.specs.Reports.{HadTurns, IsRecovered, IsReport};
 ghost use Rattle.e3_round.specs.Rounds.{AfterRound, IsPacketOrRound};
 ghost use Rattle.e3_sites.specs.Delivered.{IsFull};
+ghost use Rattle.e3_sites.specs.Settled.{StaysInStep};
 ghost use Rattle.e3_sites.specs.declared.sites.RunFault.TheVariants.{HistoryFull};
 ghost use Rattle.e3_types.specs.declared.scenarios.Item.TheVariants as item;
 ghost use Rattle.e3_world.specs.Items.{due_round, is_up_at, listed, since_line};
@@ -26,6 +27,7 @@ fn make_round<S: Sites>(sites: &mut S, round: &RecoveryRound) -> Result<(), RunF
     ensures stands { S.stands sites.new }
     ensures since { (start : S) → S.since start sites.old → S.since start sites.new }
     ensures same { (S.scenario sites.new ≡ S.scenario sites.old) × (S.most sites.new ≡ S.most sites.old) }
+    ensures grown { StaysInStep (S.entries sites.old) (S.entries sites.new) }
     ensures made { OnOk result (AfterRound (S.scenario sites.old) (S.entries sites.old) round.now (S.entries sites.new)) }
     ensures full { result ≡ Err HistoryFull → IsFull (S.scenario sites.old) (S.entries sites.new) (S.most sites.old) }
     ensures which { result ≡ Err HistoryFull → IsPacketOrRound (S.scenario sites.old) (S.entries sites.new) }
@@ -62,6 +64,7 @@ fn take_turn<S: Sites>(sites: &mut S, round: &RecoveryRound) -> Result<RoundRepo
     ensures stands { S.stands sites.new }
     ensures since { (start : S) → S.since start sites.old → S.since start sites.new }
     ensures same { (S.scenario sites.new ≡ S.scenario sites.old) × (S.most sites.new ≡ S.most sites.old) }
+    ensures grown { StaysInStep (S.entries sites.old) (S.entries sites.new) }
     ensures made { OnOk result (AfterRound (S.scenario sites.old) (S.entries sites.old) round.now (S.entries sites.new)) }
     ensures told { IfOk result (λ report. IsReport (S.entries sites.old) (S.entries sites.new) round.now report) }
     ensures full { result ≡ Err HistoryFull → IsFull (S.scenario sites.old) (S.entries sites.new) (S.most sites.old) }
@@ -75,7 +78,8 @@ fn take_turn<S: Sites>(sites: &mut S, round: &RecoveryRound) -> Result<RoundRepo
 /// Makes the recovery rounds of a group: in ascending order for each transaction that is open at a member that is up. Its
 /// elector is the least of those members that are its sites, which elects with all of them; then packets are delivered in
 /// ascending order until none is pending. A round whose elector is down at its turn is passed over. With Ok there is a
-/// report for each of these transactions, in their order. (After Keidar and Dolev 1998.)
+/// report for each of these transactions, in their order. With a fault some rounds may be made, and no line is entered
+/// either way. (After Keidar and Dolev 1998.)
 pub fn recover<S: Sites>(
     alloc: Global,
     sites: &mut S,
@@ -89,6 +93,7 @@ pub fn recover<S: Sites>(
     ensures stands { S.stands sites.new }
     ensures since { (start : S) → S.since start sites.old → S.since start sites.new }
     ensures same { (S.scenario sites.new ≡ S.scenario sites.old) × (S.most sites.new ≡ S.most sites.old) }
+    ensures grown { StaysInStep (S.entries sites.old) (S.entries sites.new) }
     ensures recovered { OnOk result (IsRecovered (S.scenario sites.old) (S.entries sites.old) (S.entries sites.new)) }
     ensures rounds { IfOk result (λ reports. HadTurns (S.scenario sites.old) (S.entries sites.old) (S.entries sites.new)
         (listed (S.scenario sites.old) (S.entries sites.old) group) reports) }

@@ -1,2 +1,5 @@
 pub mod Packets
 pub mod Bounds
+pub mod Steps
+pub mod Open
+pub mod Turns

@@ -6,11 +6,12 @@ use Rattle.e3_types.specs.declared.scenarios.Item.{Item}
 use Rattle.e3_types.specs.declared.scenarios.Item.TheVariants as item
 use Rattle.e3_types.specs.declared.scenarios.Scenario.{Scenario}
 use Rattle.e3_world.specs.Packets.{step_items}
-use Rattle.e3_world.specs.Progress.{ItemsDone}
+use Rattle.e3_types.specs.declared.entries.Act.TheVariants as act
 use Rattle.e3_play.specs.Played.{IsFresh, IsSettled, IsStep}
-use Rattle.e3_play.proofs.Answered.{of_err, on_ok}
+use Rattle.e3_play.proofs.Answered.{always, of_err, on_ok}
 use Rattle.e3_play.proofs.Full.{line_full}
 use Rattle.e3_play.proofs.Forms.{alone_is, crash_is, exchange_asks, no_stop, recovery_is, restart_exists, restart_is, step_is_given, stop_is}
+use Rattle.e3_play.proofs.Knowing.{knows_line, knows_more}
 use Rattle.e3_play.proofs.Settling.{IsBegun, line_begins, stop_settles}
 use Rattle.e3_play.proofs.playing.play_step.Goals as goal
 
@@ -106,14 +107,11 @@ exchange-requires-clause-fresh g c =
     line_begins sc (S.entries c.args.sites.now) (S.entries c.line-in-Exchange.new.self) c.args.done (c.args.done + 1) next c.requires.settled c.requires.more c.in_ok-line-in-Exchange.ensures.entered in
     subst (λ l. IsFresh sc (S.entries c.line-in-Exchange.new.self) l) (sym (c.step_items-items.ensures ∙ ap (step_items sc) next)) begun.fresh
 
-pub exchange-requires-clause-begun : goal.exchange-requires-clause-begun
-exchange-requires-clause-begun g c =
+pub exchange-requires-clause-known : goal.exchange-requires-clause-known
+exchange-requires-clause-known g c =
     let S = g.S.Sites in
-    let sc = c.args.scenario.now in
-    let next : c.args.done + 1 ≡ suc c.args.done = omega arith in
-    let begun : IsBegun sc (S.entries c.line-in-Exchange.new.self) c.args.done =
-    line_begins sc (S.entries c.args.sites.now) (S.entries c.line-in-Exchange.new.self) c.args.done (c.args.done + 1) next c.requires.settled c.requires.more c.in_ok-line-in-Exchange.ensures.entered in
-    subst (λ l. ItemsDone sc (S.entries c.line-in-Exchange.new.self) [] l) (sym (c.step_items-items.ensures ∙ ap (step_items sc) next)) begun.items
+    knows_more c.args.scenario.now (S.entries c.args.sites.now) (S.entries c.line-in-Exchange.new.self) (record { owner = 0; act = act.Line (c.args.done + 1) } ∷ []) c.args.names.now
+    c.requires.known c.in_ok-line-in-Exchange.ensures.entered
 
 pub returns-in-Stop-clause-settles : goal.returns-in-Stop-clause-settles
 returns-in-Stop-clause-settles g c =
@@ -173,3 +171,27 @@ returns-in-Stop-clause-full g c = λ is.
     let P : List Entry → Type 0 = λ h. IsFull c.args.scenario.now h (S.most sites) in
     subst P (sym (of_err c.stop.result HistoryFull is c.stop.ensures.kept))
     (line_full c.args.scenario.now (S.entries sites) c.args.done (S.most sites) c.requires.settled c.requires.more (g.met.S.Sites.within sites c.requires.standing) (c.stop.ensures.full is))
+
+pub returns-in_ok-line-in-Crash-clause-known : goal.returns-in_ok-line-in-Crash-clause-known
+returns-in_ok-line-in-Crash-clause-known g c =
+    let S = g.S.Sites in
+    always c.crash.result (knows_line c.args.scenario.now (S.entries c.args.sites.now) (S.entries c.line.new.self) (S.entries c.crash.new.sites)
+    (record { owner = 0; act = act.Line (c.args.done + 1) }) c.args.names.now c.requires.known c.in_ok-line-in-Crash.ensures.entered c.crash.ensures.grown)
+
+pub returns-in_ok-line-in-Restart-clause-known : goal.returns-in_ok-line-in-Restart-clause-known
+returns-in_ok-line-in-Restart-clause-known g c =
+    let S = g.S.Sites in
+    always c.restart.result (knows_line c.args.scenario.now (S.entries c.args.sites.now) (S.entries c.line-in-Restart.new.self) (S.entries c.restart.new.sites)
+    (record { owner = 0; act = act.Line (c.args.done + 1) }) c.args.names.now c.requires.known c.in_ok-line-in-Restart.ensures.entered c.restart.ensures.grown)
+
+pub returns-in_ok-line-in-Recovery-clause-known : goal.returns-in_ok-line-in-Recovery-clause-known
+returns-in_ok-line-in-Recovery-clause-known g c =
+    let S = g.S.Sites in
+    always c.recovery.result (knows_line c.args.scenario.now (S.entries c.args.sites.now) (S.entries c.line-in-Recovery.new.self) (S.entries c.recovery.new.sites)
+    (record { owner = 0; act = act.Line (c.args.done + 1) }) c.args.names.now c.requires.known c.in_ok-line-in-Recovery.ensures.entered c.recovery.ensures.grown)
+
+pub returns-in-Stop-clause-known : goal.returns-in-Stop-clause-known
+returns-in-Stop-clause-known g c =
+    let S = g.S.Sites in
+    on_ok c.stop.result (knows_more c.args.scenario.now (S.entries c.args.sites.now) (S.entries c.stop.new.self)
+    (record { owner = 0; act = act.Line (c.args.done + 1) } ∷ []) c.args.names.now c.requires.known) c.stop.ensures.entered

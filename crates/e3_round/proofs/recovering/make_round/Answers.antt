@@ -10,6 +10,7 @@ use Rattle.e3_world.specs.Progress.{Delivering}
 use Rattle.e3_round.specs.Rounds.{AfterRound, IsPacketOrRound}
 use Rattle.e3_round.proofs.Electing.{elected}
 use Rattle.e3_round.proofs.Full.{round_full, some_due}
+use Rattle.e3_sites.proofs.Steps.{delivers_stays, input_stays, stays_kept, stays_on}
 use Rattle.e3_round.proofs.recovering.make_round.Goals as goal
 
 pub deliver_all-requires-clause-delivering : goal.deliver_all-requires-clause-delivering
@@ -82,3 +83,18 @@ returns-clause-which g c = λ is.
     let S = g.S.Sites in
     let P : Scenario → Type 0 = λ sc. pending sc (S.entries c.deliver_all.new.sites) ≢ [] in
     inl (subst P c.in_ok-input.ensures.same.0 (c.deliver_all.ensures.packet is))
+
+pub returns-in_err-input-clause-grown : goal.returns-in_err-input-clause-grown
+returns-in_err-input-clause-grown g c = stays_kept (g.S.Sites.entries c.args.sites.now) (g.S.Sites.entries c.input.new.self) c.in_err-input.ensures.kept
+
+pub returns-clause-grown : goal.returns-clause-grown
+returns-clause-grown g c =
+    let S = g.S.Sites in
+    let r = c.args.round.now in
+    let sc = S.scenario c.args.sites.now in
+    let h = S.entries c.args.sites.now in
+    let entered : AfterInput sc h r.elector (input.Elect r.txn r.members) (S.entries c.input.new.self) =
+    subst (λ (q : RecoveryRound). AfterInput sc h q.elector (input.Elect q.txn q.members) (S.entries c.input.new.self)) c.round.view_is c.in_ok-input.ensures.entered in
+    stays_on h (S.entries c.input.new.self) (S.entries c.deliver_all.new.sites)
+    (input_stays sc h (S.entries c.input.new.self) r.elector (input.Elect r.txn r.members) entered)
+    (delivers_stays (S.scenario c.input.new.self) (S.entries c.input.new.self) (S.entries c.deliver_all.new.sites) c.deliver_all.ensures.delivered)

@@ -12,6 +12,7 @@ use Rattle.e3_round.proofs.Falling.{UpOrFell, WereUp, listed_were_up}
 use Rattle.e3_round.proofs.Left.{first_due}
 use Rattle.e3_round.proofs.Making.{InRounds, begin_rounds, round_on, rounds_end}
 use Rattle.e3_round.proofs.Turning.{had_turn, is_turn, turn_up}
+use Rattle.e3_sites.proofs.Steps.{stays_none, stays_on}
 use Rattle.e3_round.proofs.recovering.recover.Goals as goal
 
 pub loop-round-init : goal.loop-round-init
@@ -30,6 +31,7 @@ loop-round-init g c =
           c.requires.step c.requires.fresh c.requires.settled);
       were = subst (λ (rounds : List RecoveryRound). WereUp (S.entries sites) rounds) all (listed_were_up (S.scenario sites) (S.entries sites) c.args.group);
       up = λ m up none. up;
+      grown = stays_none (S.entries sites);
       had = subst (λ (reports : List RoundReport). HadTurns (S.scenario sites) (S.entries sites) (S.entries sites) [] reports) (sym c.new-reports.ensures) refl;
     }
 
@@ -98,6 +100,7 @@ loop-round-preserved g c =
       rounds = subst (λ (j : ℕ). InRounds sc line c.args.group (drop j rounds) more) on (round_on sc line h more c.args.group r rest left after);
       were = subst (λ (j : ℕ). WereUp line (drop j rounds)) on were.1;
       up = up;
+      grown = stays_on line h more was.grown now.grown;
       had = subst (λ (reports : List RoundReport). HadTurns sc line more (take (k + 1) rounds) reports) (sym c.in_ok-push.ensures.ok)
           (subst (λ (l : List RecoveryRound). HadTurns sc line more l (c.loop-round.reports ++ c.in_ok-report.report ∷ [])) (sym taken) had);
     }
@@ -150,3 +153,11 @@ returns-in_err-report-clause-which g c = λ is.
     let which : IsPacketOrRound (S.scenario c.loop-round.sites) more = search rules in
     let P : Scenario → Type 0 = λ sc. IsPacketOrRound sc more in
     subst P c.loop-round.invariant.scenario which
+
+pub returns-in_err-report-clause-grown : goal.returns-in_err-report-clause-grown
+returns-in_err-report-clause-grown g c =
+    let S = g.S.Sites in
+    stays_on (S.entries c.args.sites.now) (S.entries c.loop-round.sites) (S.entries c.take_turn.new.sites) c.loop-round.invariant.grown c.take_turn.ensures.grown
+
+pub returns-in_err-rounds-clause-grown : goal.returns-in_err-rounds-clause-grown
+returns-in_err-rounds-clause-grown g c = stays_none (g.S.Sites.entries c.args.sites.now)

@@ -2,6 +2,7 @@ use Rattle.std.proofs.Common.{◌≡◌, drop, take}
 use Rattle.e3_round.specs.Reports.{HadTurns}
 use Rattle.e3_round.proofs.Falling.{UpOrFell, WereUp}
 use Rattle.e3_round.proofs.Making.{InRounds}
+use Rattle.e3_sites.specs.Settled.{StaysInStep}
 use Rattle.e3_round.proofs.recovering.recover.Given as goal
 
 abbrev pub invariant-loop-round : goal.invariant-loop-round
@@ -13,5 +14,6 @@ invariant-loop-round g l = record {
   rounds : InRounds (g.S.Sites.scenario l.fn.sites) (g.S.Sites.entries l.fn.sites) l.fn.group (drop l.round-index l.round-items) (g.S.Sites.entries l.sites);
   were : WereUp (g.S.Sites.entries l.fn.sites) (drop l.round-index l.round-items);
   up : UpOrFell (g.S.Sites.entries l.fn.sites) (g.S.Sites.entries l.sites);
+  grown : StaysInStep (g.S.Sites.entries l.fn.sites) (g.S.Sites.entries l.sites);
   had : HadTurns (g.S.Sites.scenario l.fn.sites) (g.S.Sites.entries l.fn.sites) (g.S.Sites.entries l.sites) (take l.round-index l.round-items) l.reports;
 }

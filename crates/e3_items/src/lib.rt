@@ -1,0 +1,11 @@
+//! What the items of a scenario stand for: which transaction a name is bound to behind the entries so far, and which input
+//! an item gives which site. A binding is kept, and read on over further entries. Want of memory is the only error.
+#![tactic(auto)]
+
+mod binding;
+mod inputs;
+mod steps;
+
+pub use binding::{bind, nothing_bound};
+pub use inputs::inputs_asked;
+pub use steps::step_items;
