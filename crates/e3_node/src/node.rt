@@ -23,7 +23,7 @@ ghost use Rattle.e3_world.specs.Moves.{log_size, moves_of, rows_at};
 
 use crate::readying::wish_of;
 use crate::rising::{enter_rise, risen, told};
-use crate::state::{arm, into_disk, unpowered};
+use crate::state::{arm, into_disk, keep_up, unpowered};
 use crate::stepping::{settle, take_input};
 use crate::{CutFault, InputFault, RiseFault, Shared, State};
 use core::mem::replace_with;
@@ -183,7 +183,10 @@ impl<D: Disk + Drill + Drop> Node<D> {
             (D.meters (disk_of self.old.state)) (D.meters (disk_of self.new.state))) }
     {
         match take_input(self.site, &mut self.state, shared, input) {
-            Ok(()) => Ok(()),
+            Ok(()) => {
+                keep_up(&mut self.state);
+                Ok(())
+            }
             Err(fault) => {
                 settle(&mut self.state, fault);
                 Err(fault)

@@ -1,3 +1,4 @@
 mod Naming
 pub mod Recalled
 pub mod Rising
+mod Undecided

@@ -1,9 +1,8 @@
 -- The cards of a log, and of more steps.
-use Rattle.std.specs.Prelude.{◌≡◌, ◌==◌, ◌≤◌, ◌<◌, ◌+◌, ◌-◌, ◌++◌, ◌∷◌, [], if◌then◌else◌, ℕ, suc, Bool, true, false, List, length, fold, take, drop, Option, Result, Ok, Err, IfOk}
+use Rattle.std.specs.Prelude.{◌≡◌, ◌==◌, ◌<◌, ◌+◌, ◌++◌, ◌∷◌, [], if◌then◌else◌, ℕ, suc, Bool, true, false, List, length, fold, take, drop, Option}
 use Rattle.std.proofs.Common.{refl, ap, sym, subst, ◌∙◌, arith, get_or}
 use Rattle.std.proofs.lemmas.Grind.{common_steps}
 use Rattle.std.proofs.lemmas.List.Sums.{fold-append}
-use Rattle.e3_types.specs.declared.list.NoMemory.{NoMemory}
 use Rattle.e3_types.specs.declared.records.Record.{Record}
 use Rattle.e3_types.specs.declared.transactions.Txn.{Txn}
 use Rattle.e3_world.specs.declared.lives.Life.{Life}
@@ -18,10 +17,12 @@ use Rattle.e3_cards.specs.declared.cards.Cards.{Cards}
 use Rattle.e3_cards.specs.declared.cards.Changes.{Changes}
 use Rattle.e3_cards.specs.declared.keys.TxnKey.{TxnKey}
 use Rattle.e3_names.specs.declared.names.Names.{Names}
+use Rattle.e3_past.specs.declared.tables.Opens.{Opens}
 use Rattle.e3_past.specs.declared.tables.Tables.{Tables}
 use Rattle.e3_cards.specs.Cards.{card_by, card_of, moment_of}
 use Rattle.e3_cards.specs.Tables.{AreChanges, CardsStand, IsRoomier, call_now, card_at, put}
-use Rattle.e3_past.specs.Standing.{AreUpToDate, BothStand, MayStand, TablesStand, alone, life_from, unstepped}
+use Rattle.e3_past.specs.Opening.{OpensStand}
+use Rattle.e3_past.specs.Standing.{AreUpToDate, AllStand, MayStand, TablesStand, alone, life_from, unstepped}
 
 -- a record alone is seen in the log and nowhere else
 alone_card : (site inc : ℕ) (log : List Record) (r : Record) (t : Txn)
@@ -75,9 +76,6 @@ pub life_more : (life : Life) (xs : List SiteStep) (i : ℕ) (x : SiteStep) → 
     → fold life_by life (take (i + 1) xs) ≡ life_by (fold life_by life (take i xs)) x
 life_more life xs i x h e = grind (arith, common_steps, h, e)
 
-log_more : (log xs : List Record) (i : ℕ) (x : Record) → i < length xs → x ≡ get_or xs i x → log ++ take (i + 1) xs ≡ (log ++ take i xs) ++ x ∷ []
-log_more log xs i x h e = grind (arith, common_steps, h, e)
-
 take_drop : (k : ℕ) (xs : List SiteStep) → take k xs ++ drop k xs ≡ xs
 take_drop k xs = grind (arith, common_steps)
 
@@ -86,38 +84,20 @@ pub life_rest : (rose : List Record) (since : List SiteStep) (k : ℕ) → fold 
 life_rest rose since k =
     sym (fold-append life_by (unstepped (logged_inc rose) rose) (take k since) (drop k since)) ∙ ap (life_from rose) (take_drop k since)
 
--- what holds of a result's value holds of it in other words
-pub ok_map : {X : Type 0} (r : Result X NoMemory) (P Q : X → Type 0) → ((x : X) → P x → Q x) → IfOk r P → IfOk r Q
-ok_map (Ok x) P Q f h = f x h
-ok_map (Err e) P Q f h = tt
-
 -- what holds behind one more of these steps
 pub steps_more : (P : Life → Type 0) (life : Life) (xs : List SiteStep) (i : ℕ) (x : SiteStep) → i < length xs → x ≡ get_or xs i x
     → P (life_by (fold life_by life (take i xs)) x) → P (fold life_by life (take (i + 1) xs))
 steps_more P life xs i x lt is h = subst P (sym (life_more life xs i x lt is)) h
 
--- what holds behind one more of these records
-pub records_more : (P : Life → Type 0) (inc : ℕ) (log xs : List Record) (i : ℕ) (x : Record) → i < length xs → x ≡ get_or xs i x
-    → P (unstepped inc ((log ++ take i xs) ++ x ∷ [])) → P (unstepped inc (log ++ take (i + 1) xs))
-records_more P inc log xs i x lt is h = subst (λ (l : List Record). P (unstepped inc l)) (sym (log_more log xs i x lt is)) h
-
 take_whole : {X : Type 0} (k : ℕ) (xs : List X) → k ≡ length xs → take k xs ≡ xs
 take_whole k xs e = grind (arith, common_steps, e)
-
-pub first_rest : (xs : List Record) (x : Record) → 1 ≤ length xs → x ≡ get_or xs 0 x → x ∷ take (length xs - 1) (drop 1 xs) ≡ xs
-first_rest xs x h e = grind (arith, common_steps, h, e)
 
 pub steps_all : (P : Life → Type 0) (life : Life) (xs : List SiteStep) (k : ℕ) → k ≡ length xs → P (fold life_by life (take k xs)) → P (fold life_by life xs)
 steps_all P life xs k e h = subst (λ (l : List SiteStep). P (fold life_by life l)) (take_whole k xs e) h
 
-log_none : (log xs : List Record) → log ≡ log ++ take 0 xs
-log_none log xs = grind (arith, common_steps)
-
-pub records_none : (P : Life → Type 0) (inc : ℕ) (log xs : List Record) → P (unstepped inc log) → P (unstepped inc (log ++ take 0 xs))
-records_none P inc log xs h = subst (λ (l : List Record). P (unstepped inc l)) (log_none log xs) h
-
-pub records_all : (P : Life → Type 0) (inc : ℕ) (log xs : List Record) (k : ℕ) → k ≡ length xs → P (unstepped inc (log ++ take k xs)) → P (unstepped inc (log ++ xs))
-records_all P inc log xs k e h = subst (λ (l : List Record). P (unstepped inc (log ++ l))) (take_whole k xs e) h
+-- a log with one more record is not empty
+pub not_empty : (log : List Record) (r : Record) → false ≡ (length (log ++ r ∷ []) == 0)
+not_empty log r = grind (arith, common_steps)
 
 -- no cards are those of an empty log
 pub none_stand : (site inc : ℕ) (cards : Cards) → cards.site ≡ site → cards.inc ≡ inc → cards.begins ≡ 0 → cards.calls ≡ 0 → cards.map.entries ≡ []
@@ -131,16 +111,16 @@ none_stand site inc cards here now b c none = record {
 }
 
 -- tables that count the rest of the steps are up to date
-pub rest_stands : (site : ℕ) (rose : List Record) (since : List SiteStep) (was : Tables) (cards : Cards) (names : Option Names) (rest : List SiteStep) (k n : ℕ)
+pub rest_stands : (site : ℕ) (rose : List Record) (since : List SiteStep) (was : Tables) (cards : Cards) (names : Option Names) (opens : Opens) (rest : List SiteStep) (k n : ℕ)
     → TablesStand site rose since was → k ≡ was.steps → rest ≡ drop k since → n ≡ length since
-    → ((s : ℕ) → (life : Life) → BothStand s was.cards was.names life → BothStand s cards names (fold life_by life rest))
-    → AreUpToDate site rose since (record { steps = n; cards = cards; names = names })
-rest_stands site rose since was cards names rest k n stands same rests all behind =
-    let both : BothStand site cards names (life_from rose since) =
-    subst (λ (l : Life). BothStand site cards names l)
+    → ((s : ℕ) → (life : Life) → AllStand s was.cards was.names was.opens life → AllStand s cards names opens (fold life_by life rest))
+    → AreUpToDate site rose since (record { steps = n; cards = cards; names = names; opens = opens })
+rest_stands site rose since was cards names opens rest k n stands same rests all behind =
+    let every : AllStand site cards names opens (life_from rose since) =
+    subst (λ (l : Life). AllStand site cards names opens l)
     (ap (λ (l : List SiteStep). fold life_by (life_from rose (take was.steps since)) l) (rests ∙ ap (λ (m : ℕ). drop m since) same) ∙ life_rest rose since was.steps)
-    (behind site (life_from rose (take was.steps since)) (record { cards_stand = stands.cards_stand; names_stand = stands.names_stand })) in
-    record { cards_stand = both.cards_stand; names_stand = both.names_stand; all = all }
+    (behind site (life_from rose (take was.steps since)) (record { cards_stand = stands.cards_stand; names_stand = stands.names_stand; opens_stand = stands.opens_stand })) in
+    record { cards_stand = every.cards_stand; names_stand = every.names_stand; opens_stand = every.opens_stand; all = all }
 
 same_count : (k n : ℕ) → (k == n) ≡ true → k ≡ n
 same_count k n e = grind (arith, common_steps, e)
@@ -153,5 +133,6 @@ up_to_date site rose since tables stands same =
     record {
       cards_stand = subst (λ (l : List SiteStep). CardsStand site tables.cards (life_from rose l)) (take_whole tables.steps since all) stands.cards_stand;
       names_stand = subst (λ (l : List SiteStep). MayStand site tables.names (life_from rose l)) (take_whole tables.steps since all) stands.names_stand;
+      opens_stand = subst (λ (l : List SiteStep). OpensStand site tables.opens (life_from rose l)) (take_whole tables.steps since all) stands.opens_stand;
       all = all;
     }

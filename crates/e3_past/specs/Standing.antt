@@ -1,5 +1,5 @@
 -- What the tables of a site stand for.
-use Rattle.std.specs.Prelude.{◌≡◌, ◌≤◌, ◌∷◌, [], ℕ, List, Option, Some, None, length, take}
+use Rattle.std.specs.Prelude.{◌≡◌, ◌==◌, ◌≤◌, ◌∷◌, [], ℕ, List, Option, Some, None, length, take}
 use Rattle.e3_types.specs.declared.entries.Input.{Input}
 use Rattle.e3_types.specs.declared.entries.Input.TheVariants.{Deliver}
 use Rattle.e3_types.specs.declared.messages.Message.TheVariants as msg
@@ -15,7 +15,10 @@ use Rattle.e3_places.specs.declared.places.Places.{Places}
 use Rattle.e3_places.specs.Keeping.{PlacesStand}
 use Rattle.e3_names.specs.declared.names.Names.{Names}
 use Rattle.e3_names.specs.Knowing.{NamesStand}
+use Rattle.e3_past.specs.declared.logged.Logged.{Logged}
+use Rattle.e3_past.specs.declared.tables.Opens.{Opens}
 use Rattle.e3_past.specs.declared.tables.Tables.{Tables}
+use Rattle.e3_past.specs.Opening.{OpensStand}
 
 -- the life of a site that rose with this log and made these steps since
 abbrev pub life_from : List Record → List SiteStep → Life
@@ -44,21 +47,25 @@ abbrev pub PlacesMayStand : ℕ → Option Places → Life → Type 0
 PlacesMayStand site None life = Unit {0}
 PlacesMayStand site (Some places) life = PlacesStand site places life
 
--- the cards are those of a life, and so is what is known of names
-pub record BothStand (site : ℕ) (cards : Cards) (names : Option Names) (life : Life) : Type 0 where
+-- the cards are those of a life, and so are the open transactions, and what is known of names
+pub record AllStand (site : ℕ) (cards : Cards) (names : Option Names) (opens : Opens) (life : Life) : Type 0 where
   pub cards_stand : CardsStand site cards life
   pub names_stand : MayStand site names life
+  pub opens_stand : OpensStand site opens life
 
--- the cards are those of a life, and so are the tables of names, where there are any
-pub record RisenStand (site : ℕ) (cards : Cards) (places : Option Places) (life : Life) : Type 0 where
-  pub cards_stand : CardsStand site cards life
-  pub places_stand : PlacesMayStand site places life
+-- what is read of a log is that of a site of this incarnation that made no step; the tables of names are, where there are any
+pub record LoggedStand (site : ℕ) (logged : Logged) (inc : ℕ) (log : List Record) : Type 0 where
+  pub empty_is : logged.is_empty ≡ (length log == 0)
+  pub cards_stand : CardsStand site logged.cards (unstepped inc log)
+  pub places_stand : PlacesMayStand site logged.places (unstepped inc log)
+  pub opens_stand : OpensStand site logged.opens (unstepped inc log)
 
 -- the tables are those of the site's life behind the steps that they count
 pub record TablesStand (site : ℕ) (rose : List Record) (since : List SiteStep) (tables : Tables) : Type 0 where
   pub few : tables.steps ≤ length since
   pub cards_stand : CardsStand site tables.cards (life_from rose (take tables.steps since))
   pub names_stand : MayStand site tables.names (life_from rose (take tables.steps since))
+  pub opens_stand : OpensStand site tables.opens (life_from rose (take tables.steps since))
 
 -- where there are tables, they stand
 abbrev pub TheyStand : ℕ → List Record → List SiteStep → Option Tables → Type 0
@@ -69,6 +76,7 @@ TheyStand site rose since (Some tables) = TablesStand site rose since tables
 pub record AreUpToDate (site : ℕ) (rose : List Record) (since : List SiteStep) (tables : Tables) : Type 0 where
   pub cards_stand : CardsStand site tables.cards (life_from rose since)
   pub names_stand : MayStand site tables.names (life_from rose since)
+  pub opens_stand : OpensStand site tables.opens (life_from rose since)
   pub all : tables.steps ≡ length since
 
 -- what a reader has is read at this place

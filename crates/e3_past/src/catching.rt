@@ -1,23 +1,20 @@
 // How tables come to count the steps of a site.
-ghost use Rattle.std.specs.Prelude.{◌≡◌, ◌≤◌, ◌++◌, ◌∷◌, [], ℕ, IfOk, List, drop, fold, length};
-ghost use Rattle.e3_types.specs.declared.records.Record.{Record as SomeRecord};
+ghost use Rattle.std.specs.Prelude.{◌≡◌, ◌≤◌, ℕ, IfOk, drop, fold, length};
 ghost use Rattle.e3_world.specs.declared.lives.Life.{Life};
 ghost use Rattle.e3_world.specs.Lives.{life_by};
-ghost use Rattle.e3_world.specs.Logs.{logged_inc};
 ghost use Rattle.e3_cards.specs.Tables.{CardsStand};
 ghost use Rattle.e3_names.specs.Knowing.{NamesStand};
-ghost use Rattle.e3_past.specs.Standing.{AreUpToDate, BothStand, MayStand, PlacesMayStand, RisenStand, TablesStand, TheyStand, alone, unstepped};
+ghost use Rattle.e3_past.specs.Standing.{AllStand, AreUpToDate, MayStand, TablesStand, TheyStand};
 
-use crate::tables::Tables;
+use crate::logged::Logged;
+use crate::opening::add_opens;
+use crate::tables::{Opens, Tables};
 use e3_cards::{Cards, apply, changes, ready};
 use e3_names as names;
 use e3_names::{Names, follow};
-use e3_places::{Places, born, enter, unborn};
-use e3_readings::logged_inc;
-use e3_types::{Copied, Dir, Input, List, Message, NoMemory, Packet, Record, SiteSet, Txn};
+use e3_types::{NoMemory, Record};
 use e3_world::SiteStep;
 use std::alloc::Global;
-use std::collections::BTreeMap;
 
 // What is known of names behind one more step, where its records may follow the log.
 fn names_by(alloc: Global, cards: &Cards, names: Names, step: &SiteStep) -> Result<Names, NoMemory>
@@ -48,8 +45,8 @@ fn add_names(
     Ok(Some(names_by(alloc, cards, names, step)?))
 }
 
-// The cards behind one more step.
-fn add_cards(alloc: Global, cards: &mut Cards, step: &SiteStep) -> Result<(), NoMemory>
+/// The cards behind one more step. Want of memory is the only error; what they are then is left open.
+pub(crate) fn add_cards(alloc: Global, cards: &mut Cards, step: &SiteStep) -> Result<(), NoMemory>
     ensures { IfOk result (λ u. (site : ℕ) → (life : Life) → CardsStand site cards.old life → CardsStand site cards.new (life_by life step.now)) }
 {
     let more = changes(alloc, cards, step)?;
@@ -58,16 +55,19 @@ fn add_cards(alloc: Global, cards: &mut Cards, step: &SiteStep) -> Result<(), No
     Ok(())
 }
 
-// The cards behind one more step, and what is known of names: the names first, as they are read with the cards before it.
+// The cards behind one more step, the open transactions, and what is known of names: the cards last, as the others are read
+// with the cards before it.
 fn add_step(
     alloc: Global,
     cards: &mut Cards,
     names: Option<Names>,
+    opens: &mut Opens,
     step: &SiteStep,
 ) -> Result<Option<Names>, NoMemory>
-    ensures { IfOk result (λ now. (site : ℕ) → (life : Life) → BothStand site cards.old names life → BothStand site cards.new now (life_by life step.now)) }
+    ensures { IfOk result (λ now. (site : ℕ) → (life : Life) → AllStand site cards.old names opens.old life → AllStand site cards.new now opens.new (life_by life step.now)) }
 {
     let names = add_names(alloc, cards, names, step)?;
+    add_opens(alloc, cards, opens, step)?;
     add_cards(alloc, cards, step)?;
     Ok(names)
 }
@@ -76,163 +76,24 @@ fn add_steps(
     alloc: Global,
     cards: &mut Cards,
     names: Option<Names>,
+    opens: &mut Opens,
     steps: &[SiteStep],
 ) -> Result<Option<Names>, NoMemory>
-    ensures { IfOk result (λ now. (site : ℕ) → (life : Life) → BothStand site cards.old names life → BothStand site cards.new now (fold life_by life steps.now)) }
+    ensures { IfOk result (λ now. (site : ℕ) → (life : Life) → AllStand site cards.old names opens.old life → AllStand site cards.new now opens.new (fold life_by life steps.now)) }
 {
     let mut names = names;
     for step in steps {
-        names = add_step(alloc, cards, names, step)?;
+        names = add_step(alloc, cards, names, opens, step)?;
     }
     Ok(names)
 }
 
-fn alone(alloc: Global, r: &Record) -> Result<SiteStep, NoMemory>
-    ensures { IfOk result (λ s. s ≡ alone r.now) }
-{
-    let mut records = List::new(alloc);
-    records.push(r.copied(alloc)?)?;
-    Ok(SiteStep {
-        input: Input::Deliver {
-            packet: Packet {
-                number: 0,
-                from: 0,
-                to: 0,
-                msg: Message::Pre {
-                    txn: Txn {
-                        site: 0,
-                        inc: 0,
-                        seq: 0,
-                        sites: SiteSet::empty(),
-                    },
-                    n: 0,
-                    dir: Dir::Abort,
-                },
-            },
-        },
-        records,
-        outs: List::new(alloc),
-        told: List::new(alloc),
-    })
-}
-
-// The tables of names with more records, where they may follow the log.
-fn add_places(
-    alloc: Global,
-    cards: &Cards,
-    places: Option<Places>,
-    records: &[Record],
-) -> Result<Option<Places>, NoMemory>
-    ensures { IfOk result (λ now. (site inc : ℕ) → (log : List SomeRecord) → CardsStand site cards.now (unstepped inc log)
-        → PlacesMayStand site places (unstepped inc log) → PlacesMayStand site now (unstepped inc (log ++ records.now))) }
-{
-    let Some(places) = places else {
-        return Ok(None);
-    };
-    if !follow(cards, records) {
-        return Ok(None);
-    }
-    let mut places = places;
-    enter(alloc, &mut places, records)?;
-    Ok(Some(places))
-}
-
-// The cards and the tables of names behind one more record of the log of a site that made no step.
-fn add_record(
-    alloc: Global,
-    cards: &mut Cards,
-    places: Option<Places>,
-    r: &Record,
-) -> Result<Option<Places>, NoMemory>
-    ensures { IfOk result (λ now. (site inc : ℕ) → (log : List SomeRecord) → RisenStand site cards.old places (unstepped inc log)
-        → RisenStand site cards.new now (unstepped inc (log ++ r.now ∷ []))) }
-{
-    let step = alone(alloc, r)?;
-    let places = add_places(alloc, cards, places, step.records.as_slice())?;
-    add_cards(alloc, cards, &step)?;
-    Ok(places)
-}
-
-fn add_records(
-    alloc: Global,
-    cards: &mut Cards,
-    places: Option<Places>,
-    records: &[Record],
-) -> Result<Option<Places>, NoMemory>
-    ensures { IfOk result (λ now. (site inc : ℕ) → (log : List SomeRecord) → RisenStand site cards.old places (unstepped inc log)
-        → RisenStand site cards.new now (unstepped inc (log ++ records.now))) }
-{
-    let mut places = places;
-    for r in records {
-        places = add_record(alloc, cards, places, r)?;
-    }
-    Ok(places)
-}
-
-fn no_cards(alloc: Global, site: u32, inc: u32) -> Cards
-    ensures { CardsStand site result (unstepped inc []) }
-{
-    Cards {
-        site,
-        inc,
-        begins: 0,
-        calls: 0,
-        map: BTreeMap::new(alloc),
-    }
-}
-
-// The tables of names of a log that is this record. A log begins with a birth, as no other record makes rows.
-fn first_places(alloc: Global, r: &Record) -> Result<Option<Places>, NoMemory>
-    ensures { IfOk result (λ p. (site inc : ℕ) → PlacesMayStand site p (unstepped inc (r.now ∷ []))) }
-{
-    match r {
-        Record::Birth { rows, .. } => Ok(Some(born(alloc, rows.as_slice())?)),
-        _ => Ok(None),
-    }
-}
-
-// The cards of no records become those of these records.
-fn risen_places(
-    alloc: Global,
-    cards: &mut Cards,
-    rose: &[Record],
-) -> Result<Option<Places>, NoMemory>
-    ensures { IfOk result (λ now. (site inc : ℕ) → CardsStand site cards.old (unstepped inc []) → RisenStand site cards.new now (unstepped inc rose.now)) }
-{
-    match rose {
-        [] => Ok(Some(unborn(alloc))),
-        [first, rest @ ..] => {
-            let places = first_places(alloc, first)?;
-            add_record(alloc, cards, None, first)?;
-            add_records(alloc, cards, places, rest)
-        }
-    }
-}
-
-// Nothing waits at a site that made no step, so that no name is restless.
-fn known(alloc: Global, places: Option<Places>) -> Option<Names>
-    ensures { (site inc : ℕ) → (log : List SomeRecord) → PlacesMayStand site places (unstepped inc log) → MayStand site result (unstepped inc log) }
-{
-    match places {
-        Some(places) => Some(Names {
-            places,
-            restless: List::new(alloc),
-        }),
-        None => None,
-    }
-}
-
-// The tables of a site that rose with a log and made no step.
+// The tables of a site that rose with a log, which count no step. The steps are passed on for the proof alone.
 fn risen(alloc: Global, site: u32, rose: &[Record], _since: &[SiteStep]) -> Result<Tables, NoMemory>
     ensures { IfOk result (TablesStand site rose.now _since.now) }
 {
-    let mut cards = no_cards(alloc, site, logged_inc(rose));
-    let places = risen_places(alloc, &mut cards, rose)?;
-    Ok(Tables {
-        steps: 0,
-        cards,
-        names: known(alloc, places),
-    })
+    let read = Logged::of(alloc, site, rose)?;
+    Ok(read.into_tables(alloc))
 }
 
 fn rest_of(since: &[SiteStep], from: u64) -> &[SiteStep]
@@ -254,12 +115,14 @@ fn brought_up(
     ensures { IfOk result (AreUpToDate _site _rose.now since.now) }
 {
     let mut cards = tables.cards;
+    let mut opens = tables.opens;
     let rest = rest_of(since, tables.steps);
-    let names = add_steps(alloc, &mut cards, tables.names, rest)?;
+    let names = add_steps(alloc, &mut cards, tables.names, &mut opens, rest)?;
     Ok(Tables {
         steps: since.len() as u64,
         cards,
         names,
+        opens,
     })
 }
 

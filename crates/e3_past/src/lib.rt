@@ -4,9 +4,13 @@
 #![tactic(auto)]
 
 mod catching;
+mod logged;
+mod opening;
 mod reader;
 mod tables;
 
 pub use catching::caught_up;
+pub use logged::Logged;
+pub use opening::open_with;
 pub use reader::step_with;
-pub use tables::Tables;
+pub use tables::{Opens, Tables};

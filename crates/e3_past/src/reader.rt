@@ -280,8 +280,8 @@ fn step_by(
     )
 }
 
-// The site and its log are passed on for the proof alone.
-fn are_up(_site: u32, _rose: &[Record], since: &[SiteStep], tables: &Tables) -> bool
+/// The tables count every step. The site and its log are passed on for the proof alone.
+pub(crate) fn are_up(_site: u32, _rose: &[Record], since: &[SiteStep], tables: &Tables) -> bool
     requires { TablesStand _site _rose.now since.now tables.now }
     ensures { result ≡ true → AreUpToDate _site _rose.now since.now tables.now }
 {

@@ -1,5 +1,6 @@
 mod Freedom
 mod Follows
-mod Disorder
+mod Firsts
+mod Walking
 mod Births
 mod Standing

@@ -1,9 +1,13 @@
 // The site that rose with a log.
-ghost use Rattle.std.specs.Prelude.{◌≡◌, ◌<◌, IfOk, IfErr, length};
+ghost use Rattle.std.specs.Prelude.{◌≡◌, ◌<◌, [], IfOk, IfErr, length};
 ghost use Rattle.e3_world.specs.Orderly.{IsOrderly, weights_in};
+ghost use Rattle.e3_past.specs.Standing.{TheyStand};
+ghost use Rattle.e3_restart.specs.Orderly.{IsFirstDisorder};
 ghost use Rattle.e3_restart.specs.Rebuilt.{IsFaultOf, IsRebuilt, StandsForEach};
 
-use crate::order::{first_disorder, weights_in};
+use crate::disorder::{Walk, first_disorder, read_in_order};
+use crate::headings::weights_in;
+use e3_past::Tables;
 use e3_readings::present_log;
 use e3_site::Site;
 use e3_types::{List, NoMemory, Record};
@@ -29,6 +33,23 @@ fn copies(alloc: Global, records: &[Record]) -> Result<(List<u32>, List<Record>)
     Ok((weights, present_log(alloc, records, &[])?))
 }
 
+// The tables of the records, or the first place where they are not the log of the site. Where memory wants for tables there
+// are none, and the place is looked for without them.
+fn tables_in(alloc: Global, site: u32, records: &[Record]) -> Result<Option<Tables>, u64>
+    ensures orderly { IfOk result (λ tables. IsOrderly site records.now) }
+    ensures stand { IfOk result (TheyStand site records.now []) }
+    ensures fault { IfErr result (IsFirstDisorder site records.now) }
+{
+    match read_in_order(alloc, site, records) {
+        Ok(Walk::Log(read)) => Ok(Some(read.into_tables(alloc))),
+        Ok(Walk::Disorder(at)) => Err(at as u64),
+        Err(NoMemory) => match first_disorder(site, records) {
+            Some(at) => Err(at),
+            None => Ok(None),
+        },
+    }
+}
+
 /// The site that rose with these records as its log and did nothing since. The weights of all sites are those of the log's
 /// birth. Want of memory is the only error where the records are the log of the site.
 pub fn rebuild(alloc: Global, site: u32, records: &[Record]) -> Result<Site, RebuildFault>
@@ -38,10 +59,10 @@ pub fn rebuild(alloc: Global, site: u32, records: &[Record]) -> Result<Site, Reb
     ensures risen { IfOk result (IsRebuilt site records.now) }
     ensures stands { IfOk result (StandsForEach records.now) }
 {
-    match first_disorder(site, records) {
-        Some(at) => Err(RebuildFault::Order { at }),
-        None => match copies(alloc, records) {
-            Ok((weights, log)) => Ok(Site::rise(alloc, weights, site, log)),
+    match tables_in(alloc, site, records) {
+        Err(at) => Err(RebuildFault::Order { at }),
+        Ok(tables) => match copies(alloc, records) {
+            Ok((weights, log)) => Ok(Site::rise(alloc, weights, site, log, tables)),
             Err(_) => Err(RebuildFault::NoMemory),
         },
     }

@@ -60,16 +60,35 @@ fn push_known(out: &mut List<u8>, number: Option<u64>) -> Result<(), NoMemory> {
     }
 }
 
-// Adds the first place of a log that is out of order.
-fn push_place(out: &mut List<u8>, log: &[Record]) -> Result<(), NoMemory> {
-    push_known(out, first_disorder(1, log))
+// The first place of a log that is out of order, as a rise finds it, with tables.
+fn place_at_rise(alloc: Global, log: &[Record]) -> Result<Option<u64>, NoMemory> {
+    if log.is_empty() {
+        return Ok(None);
+    }
+    match rebuild(alloc, 1, log) {
+        Ok(_) => Ok(None),
+        Err(RebuildFault::Order { at }) => Ok(Some(at)),
+        Err(_) => Err(NoMemory),
+    }
+}
+
+// Adds the first place of a log that is out of order, and that of a rise, should it be another.
+fn push_place(alloc: Global, out: &mut List<u8>, log: &[Record]) -> Result<(), NoMemory> {
+    let place = first_disorder(1, log);
+    push_known(out, place)?;
+    let other = place_at_rise(alloc, log)?;
+    if other != place {
+        push_text(out, " but at a rise")?;
+        push_known(out, other)?;
+    }
+    Ok(())
 }
 
 // Adds the first place that is out of order where this record stands behind the vote of transaction 1.
 fn push_behind(alloc: Global, out: &mut List<u8>, last: Record) -> Result<(), NoMemory> {
     let mut log = voted(alloc)?;
     log.push(last)?;
-    push_place(out, log.as_slice())
+    push_place(alloc, out, log.as_slice())
 }
 
 // Adds the site that is rebuilt from a log, or the place that is out of order.
@@ -108,13 +127,13 @@ fn each_kind(alloc: Global) -> Result<List<Record>, NoMemory> {
 fn push_whole(alloc: Global, out: &mut List<u8>) -> Result<(), NoMemory> {
     let log = each_kind(alloc)?;
     push_text(out, "a record of each kind:")?;
-    push_place(out, log.as_slice())?;
+    push_place(alloc, out, log.as_slice())?;
     push_rebuilt(alloc, out, log.as_slice())?;
     push_text(out, "\nfirst rise:")?;
     let mut weights = List::new(alloc);
     weights.push(1)?;
     let first = one(alloc, Record::Inc { inc: 1 })?;
-    push_site(out, &Site::rise(alloc, weights, 1, first))?;
+    push_site(out, &Site::rise(alloc, weights, 1, first, None))?;
     push_text(out, "\n")
 }
 
@@ -122,14 +141,14 @@ fn push_whole(alloc: Global, out: &mut List<u8>) -> Result<(), NoMemory> {
 fn push_heads(alloc: Global, out: &mut List<u8>) -> Result<(), NoMemory> {
     push_text(out, "heads:")?;
     let inc = one(alloc, Record::Inc { inc: 1 })?;
-    push_place(out, inc.as_slice())?;
+    push_place(alloc, out, inc.as_slice())?;
     let format = one(alloc, birth(alloc, 2)?)?;
-    push_place(out, format.as_slice())?;
+    push_place(alloc, out, format.as_slice())?;
     let mut born = one(alloc, birth(alloc, 1)?)?;
-    push_place(out, born.as_slice())?;
+    push_place(alloc, out, born.as_slice())?;
     push_known(out, first_disorder(2, born.as_slice()))?;
     born.push(vote(alloc, 1, 1, b"x")?)?;
-    push_place(out, born.as_slice())?;
+    push_place(alloc, out, born.as_slice())?;
     push_text(out, "\n")
 }
 
@@ -185,7 +204,7 @@ fn push_decisions(alloc: Global, out: &mut List<u8>) -> Result<(), NoMemory> {
     let mut log = voted(alloc)?;
     for _ in 0..2u32 {
         log.push(Record::Decision { txn: txn(1), dir })?;
-        push_place(out, log.as_slice())?;
+        push_place(alloc, out, log.as_slice())?;
     }
     push_behind(alloc, out, Record::Decision { txn: txn(2), dir })?;
     push_text(out, "\n")
@@ -204,6 +223,18 @@ fn push_sites_of(alloc: Global, out: &mut List<u8>) -> Result<(), NoMemory> {
     push_text(out, "\n")
 }
 
+// The open transactions of a site that rose with the vote of transaction 1: with tables of its log, and without.
+fn push_open(alloc: Global, out: &mut List<u8>) -> Result<(), NoMemory> {
+    push_text(out, "open:")?;
+    let log = voted(alloc)?;
+    if let Ok(site) = rebuild(alloc, 1, log.as_slice()) {
+        push_labelled(out, " ", site.open_txns()?.len())?;
+    }
+    let site = Site::rise(alloc, one(alloc, 1)?, 1, log, None);
+    push_labelled(out, " ", site.open_txns()?.len())?;
+    push_text(out, "\n")
+}
+
 /// Adds the lines of logs.
 pub fn push_lines(alloc: Global, out: &mut List<u8>) -> Result<(), NoMemory> {
     push_whole(alloc, out)?;
@@ -212,5 +243,6 @@ pub fn push_lines(alloc: Global, out: &mut List<u8>) -> Result<(), NoMemory> {
     push_votes(alloc, out)?;
     push_attempts(alloc, out)?;
     push_decisions(alloc, out)?;
-    push_sites_of(alloc, out)
+    push_sites_of(alloc, out)?;
+    push_open(alloc, out)
 }

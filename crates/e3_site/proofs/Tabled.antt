@@ -1,11 +1,12 @@
 -- The tables that a site keeps beside its steps.
 use Rattle.std.specs.Prelude.{◌≡◌, ◌≤◌, ◌++◌, ◌∷◌, [], ℕ, List, Option, Some, None, length, take}
-use Rattle.std.proofs.Common.{ap, sym, subst, arith}
+use Rattle.std.proofs.Common.{sym, subst, arith}
 use Rattle.std.proofs.lemmas.Grind.{common_steps}
 use Rattle.e3_types.specs.declared.records.Record.{Record}
 use Rattle.e3_world.specs.declared.lives.SiteStep.{SiteStep}
 use Rattle.e3_cards.specs.Tables.{CardsStand}
 use Rattle.e3_past.specs.declared.tables.Tables.{Tables}
+use Rattle.e3_past.specs.Opening.{OpensStand}
 use Rattle.e3_past.specs.Standing.{AreUpToDate, MayStand, TablesStand, TheyStand, life_from}
 
 -- tables stand for equal logs and steps
@@ -26,6 +27,7 @@ up_stand site rose since tables up = record {
   few = few_all tables.steps since up.all;
   cards_stand = subst (λ (l : List SiteStep). CardsStand site tables.cards (life_from rose l)) (sym (take_all tables.steps since up.all)) up.cards_stand;
   names_stand = subst (λ (l : List SiteStep). MayStand site tables.names (life_from rose l)) (sym (take_all tables.steps since up.all)) up.names_stand;
+  opens_stand = subst (λ (l : List SiteStep). OpensStand site tables.opens (life_from rose l)) (sym (take_all tables.steps since up.all)) up.opens_stand;
 }
 
 take_front : (k : ℕ) (xs ys : List SiteStep) → k ≤ length xs → take k (xs ++ ys) ≡ take k xs
@@ -45,4 +47,6 @@ stand_on site rose since now step (Some tables) is they =
           subst (λ (l : List SiteStep). CardsStand site tables.cards (life_from rose l)) (sym (take_front tables.steps since (step ∷ []) they.few)) they.cards_stand;
       names_stand =
           subst (λ (l : List SiteStep). MayStand site tables.names (life_from rose l)) (sym (take_front tables.steps since (step ∷ []) they.few)) they.names_stand;
+      opens_stand =
+          subst (λ (l : List SiteStep). OpensStand site tables.opens (life_from rose l)) (sym (take_front tables.steps since (step ∷ []) they.few)) they.opens_stand;
     })

@@ -1,5 +1,6 @@
 // A site while it is up.
 ghost use Rattle.std.specs.Prelude.{◌≡◌, ◌≤◌, ◌<◌, ◌^◌, [], IfOk, OnOk, length};
+ghost use Rattle.e3_past.specs.Standing.{TheyStand};
 ghost use Rattle.e3_site.specs.Opens.{open_txns};
 ghost use Rattle.e3_site.specs.SiteView.{IsPlanOf, count_on, plan_of, with_step};
 ghost use Rattle.e3_site.specs.StandsFor.{ListsOpen, PlansStep, StandsOn, StandsRisen};
@@ -7,9 +8,8 @@ ghost use Rattle.e3_world.specs.Lives.{present_log};
 ghost use Rattle.e3_world.specs.Logs.{logged_inc, table_of};
 
 use crate::plan::Plan;
-use e3_opens::open_in;
-use e3_past::{Tables, caught_up, step_with};
-use e3_readings::{life_of, logged_inc, present_log, table_of};
+use e3_past::{Tables, caught_up, open_with, step_with};
+use e3_readings::{logged_inc, present_log, table_of};
 use e3_types::{Input, List, NoMemory, Record, Row, Txn};
 use e3_world::SiteStep;
 use std::alloc::Global;
@@ -50,8 +50,16 @@ fn count_on(count: u32) -> u32
 }
 
 impl Site {
-    /// A site that rose with this log, the records of the rise among it, and made no step since.
-    pub fn rise(alloc: Global, weights: List<u32>, site: u32, log: List<Record>) -> Site
+    /// A site that rose with this log, the records of the rise among it, and made no step since. Tables of the log, if there
+    /// are any, spare reading it anew.
+    pub fn rise(
+        alloc: Global,
+        weights: List<u32>,
+        site: u32,
+        log: List<Record>,
+        tables: Option<Tables>,
+    ) -> Site
+        requires { TheyStand site log [] tables }
         ensures risen { result ≡ record { weights = weights; site = site; incarnation = record { rose = log; since = [] }; inputs = 0; room = result.room } }
         ensures stands { StandsRisen log result }
     {
@@ -62,7 +70,7 @@ impl Site {
             rose: log,
             since: Vec::new(alloc),
             inputs: 0,
-            tables: None,
+            tables,
         }
     }
 
@@ -73,8 +81,8 @@ impl Site {
         self.inputs
     }
 
-    /// Brings what the site keeps beside its steps up to the last of them, so that the next plan costs what it does. The
-    /// site is what it was. A plan that is made without it reads all steps anew.
+    /// Brings what the site keeps beside its steps up to the last of them, so that the next plan, or a list of what is open,
+    /// costs what it does. The site is what it was. Without it all steps are read anew.
     pub fn catch_up(&mut self) -> Result<(), NoMemory>
         ensures { self.new ≡ self.old }
     {
@@ -148,8 +156,14 @@ impl Site {
         ensures listed { IfOk result (λ txns. txns ≡ open_txns self.now) }
         ensures stands { IfOk result (ListsOpen self.now) }
     {
-        let life = life_of(self.alloc, self.rose.as_slice(), self.since.as_slice())?;
-        open_in(self.alloc, self.site, &life)
+        let since = self.since.as_slice();
+        open_with(
+            self.alloc,
+            self.site,
+            self.rose.as_slice(),
+            since,
+            &self.tables,
+        )
     }
 
     /// The number of the site.

@@ -2,7 +2,7 @@ use Rattle.std.proofs.Common.{[], Option, subst, sym, ◌∙◌}
 use Rattle.e3_types.specs.declared.entries.Input.TheVariants.{Begin}
 use Rattle.e3_places.specs.declared.places.Places.{Places}
 use Rattle.e3_past.specs.Standing.{PlacesMayStand, unstepped}
-use Rattle.e3_past.proofs.catching.add_places.Goals as goal
+use Rattle.e3_past.proofs.logged.add_places.Goals as goal
 
 pub returns : goal.returns
 returns c = λ site inc log cards stand.

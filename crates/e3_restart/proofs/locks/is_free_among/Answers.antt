@@ -5,7 +5,7 @@ use Rattle.e3_types.specs.declared.transactions.Key.{Key}
 use Rattle.e3_types.specs.Locks.{opposes}
 use Rattle.e3_world.specs.Logs.{vote_locks}
 use Rattle.e3_restart.proofs.Freedom.{lock_of, free_any}
-use Rattle.e3_restart.proofs.order.is_free.Goals as goal
+use Rattle.e3_restart.proofs.locks.is_free_among.Goals as goal
 
 pub returns : goal.returns
 returns c =

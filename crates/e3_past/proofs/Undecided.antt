@@ -1,0 +1,139 @@
+-- The open transactions of a site behind one more step.
+use Rattle.std.specs.Prelude.{◌≡◌, ◌&&◌, ◌++◌, ◌∷◌, [], ℕ, Bool, true, false, List, Option, Some, None, is_none, filter, fold, map}
+use Rattle.std.specs.List.{flat_map}
+use Rattle.std.proofs.Common.{refl, ap, sym, ◌∙◌}
+use Rattle.std.proofs.lemmas.List.{append-nil}
+use Rattle.std.proofs.lemmas.List.Concat.{flat_map-append}
+use Rattle.std.proofs.lemmas.List.Elements.{filter-append}
+use Rattle.std.proofs.lemmas.List.Sums.{fold-append}
+use Rattle.e3_types.specs.declared.records.Record.{Record}
+use Rattle.e3_types.specs.declared.records.Record.TheVariants as log
+use Rattle.e3_types.specs.declared.transactions.Dir.{Dir}
+use Rattle.e3_types.specs.declared.transactions.Txn.{Txn}
+use Rattle.e3_types.specs.Same.{same_txn}
+use Rattle.e3_world.specs.declared.lives.Asked.{Asked}
+use Rattle.e3_world.specs.declared.lives.Life.{Life}
+use Rattle.e3_world.specs.declared.lives.Moment.{Moment}
+use Rattle.e3_world.specs.declared.lives.SiteStep.{SiteStep}
+use Rattle.e3_world.specs.Items.{began_in, txn_of_record}
+use Rattle.e3_world.specs.Lives.{life_by}
+use Rattle.e3_world.specs.Logs.{decision, decision_by, is_undecided}
+use Rattle.e3_world.specs.Operations.{and_arrived, arrivals, is_fresh, taken_up}
+use Rattle.e3_cards.proofs.Arrivals.{arrivals_push}
+use Rattle.e3_places.specs.Standing.{fresh_of, moment_of}
+use Rattle.e3_past.specs.declared.tables.Opens.{Opens}
+use Rattle.e3_past.specs.Opening.{OpensStand, fresh_txns, undecided_among}
+use Rattle.e3_past.specs.Standing.{alone, unstepped}
+
+-- a decision stays, whatever records come
+stays : (t : Txn) (x : Dir) (rs : List Record) → is_none (fold (decision_by t) (Some x) rs) ≡ false
+stays t x [] = refl
+stays t x (log.Decision u dir ∷ rs) = by (same_txn t u) refl (stays t dir rs) (stays t x rs)
+  where
+    by : (b : Bool) → same_txn t u ≡ b → is_none (fold (decision_by t) (Some dir) rs) ≡ false → is_none (fold (decision_by t) (Some x) rs) ≡ false
+        → is_none (fold (decision_by t) (Some x) (log.Decision u dir ∷ rs)) ≡ false
+    by true is now was = rw is now
+    by false is now was = rw is was
+stays t x (log.Birth format site weights rows ∷ rs) = stays t x rs
+stays t x (log.Inc inc ∷ rs) = stays t x rs
+stays t x (log.Vote u ops ∷ rs) = stays t x rs
+stays t x (log.Join u n ∷ rs) = stays t x rs
+stays t x (log.Attempt u n dir ∷ rs) = stays t x rs
+
+-- a log with more records leaves undecided what both leave so
+both_undecided : (log rs : List Record) (t : Txn) → is_undecided t (log ++ rs) ≡ (is_undecided t log && is_undecided t rs)
+both_undecided log rs t = ap (λ (d : Option Dir). is_none d) (fold-append (decision_by t) None log rs) ∙ by (decision t log)
+  where
+    by : (d : Option Dir) → is_none (fold (decision_by t) d rs) ≡ (is_none d && is_undecided t rs)
+    by None = refl
+    by (Some x) = stays t x rs
+
+-- a test that is two tests in turn
+filter_both : (p q r : Txn → Bool) → ((t : Txn) → r t ≡ (p t && q t)) → (ts : List Txn) → filter r ts ≡ filter q (filter p ts)
+filter_both p q r h [] = refl
+filter_both p q r h (t ∷ ts) = by (filter_both p q r h ts) (p t) (q t) refl refl
+  where
+    by : filter r ts ≡ filter q (filter p ts) → (b c : Bool) → p t ≡ b → q t ≡ c → filter r (t ∷ ts) ≡ filter q (filter p (t ∷ ts))
+    by ih true true e f = rw (h t, e, f) (ap (λ (l : List Txn). t ∷ l) ih)
+    by ih true false e f = rw (h t, e, f) ih
+    by ih false c e f = rw (h t, e) ih
+
+-- the undecided ones of some transactions and new ones, behind more records
+undecided_behind : (log rs : List Record) (known new was now : List Txn) → was ≡ undecided_among log known ++ undecided_among log new → now ≡ undecided_among rs was
+    → now ≡ undecided_among (log ++ rs) (known ++ new)
+undecided_behind log rs known new was now e f =
+    f ∙ ap (undecided_among rs) (e ∙ sym (filter-append (λ t. is_undecided t log) known new))
+    ∙ sym (filter_both (λ t. is_undecided t log) (λ t. is_undecided t rs) (λ t. is_undecided t (log ++ rs)) (both_undecided log rs) (known ++ new))
+
+map_append : (xs ys : List Asked) → map (λ a. a.txn) (xs ++ ys) ≡ map (λ a. a.txn) xs ++ map (λ a. a.txn) ys
+map_append [] ys = refl
+map_append (x ∷ xs) ys = ap (λ (l : List Txn). x.txn ∷ l) (map_append xs ys)
+
+-- the transactions of what came, behind one more step
+pub arrived_push : (site : ℕ) (life : Life) (s : SiteStep)
+    → map (λ a. a.txn) (arrivals site (life_by life s).steps) ≡ map (λ a. a.txn) (arrivals site life.steps) ++ fresh_txns (fresh_of site life s)
+arrived_push site life s = ap (map (λ a. a.txn)) (arrivals_push site life.steps m) ∙ by (taken_up site life.steps m) refl
+  where
+    m : Moment
+    m = moment_of life s
+
+    came : List Asked
+    came = arrivals site life.steps
+
+    by : (o : Option Asked) → taken_up site life.steps (moment_of life s) ≡ o
+        → map (λ a. a.txn) (and_arrived (arrivals site life.steps) (moment_of life s) (taken_up site life.steps (moment_of life s)))
+        ≡ map (λ a. a.txn) (arrivals site life.steps) ++ fresh_txns (fresh_of site life s)
+    by None is = rw is (sym (append-nil (map (λ a. a.txn) (arrivals site life.steps))))
+    by (Some a) is = pick (is_fresh (arrivals site life.steps) (moment_of life s) a) refl
+      where
+        pick : (b : Bool) → is_fresh (arrivals site life.steps) (moment_of life s) a ≡ b
+            → map (λ a. a.txn) (and_arrived (arrivals site life.steps) (moment_of life s) (taken_up site life.steps (moment_of life s)))
+            ≡ map (λ a. a.txn) (arrivals site life.steps) ++ fresh_txns (fresh_of site life s)
+        pick true e = rw (is, e) (map_append (arrivals site life.steps) (a ∷ []))
+        pick false e = rw (is, e) (sym (append-nil (map (λ a. a.txn) (arrivals site life.steps))))
+
+-- those that the site began, behind one more step
+begun_push : (steps : List Moment) (m : Moment) → flat_map (λ m. flat_map began_in m.told) steps ++ flat_map began_in m.told ≡ flat_map (λ m. flat_map began_in m.told) (steps ++ m ∷ [])
+begun_push steps m =
+    ap (λ (l : List Txn). flat_map (λ m. flat_map began_in m.told) steps ++ l) (sym (append-nil (flat_map began_in m.told)))
+    ∙ sym (flat_map-append (λ m. flat_map began_in m.told) steps (m ∷ []))
+
+-- what is open behind one more step
+pub opens_behind : (site : ℕ) (life : Life) (s : SiteStep) (rs : List Record) (was mid now : Opens) → rs ≡ s.records → OpensStand site was life
+    → mid.logged ≡ was.logged ++ undecided_among life.log (flat_map txn_of_record rs)
+    → mid.arrived ≡ was.arrived ++ undecided_among life.log (fresh_txns (fresh_of site life s))
+    → mid.begun ≡ was.begun ++ undecided_among life.log (flat_map began_in s.told)
+    → now.logged ≡ undecided_among rs mid.logged → now.arrived ≡ undecided_among rs mid.arrived → now.begun ≡ undecided_among rs mid.begun
+    → OpensStand site now (life_by life s)
+opens_behind site life s rs was mid now same h d e f j k l =
+    let known : List Txn = flat_map txn_of_record life.log in
+    let came : List Txn = map (λ a. a.txn) (arrivals site life.steps) in
+    let began : List Txn = flat_map (λ m. flat_map began_in m.told) life.steps in
+    record {
+      logged_are =
+          undecided_behind life.log rs known (flat_map txn_of_record rs) mid.logged now.logged (d ∙ ap (λ (x : List Txn). x ++ undecided_among life.log (flat_map txn_of_record rs)) h.logged_are) j
+          ∙ ap (λ (x : List Record). undecided_among (life.log ++ x) (known ++ flat_map txn_of_record x)) same
+          ∙ ap (undecided_among (life.log ++ s.records)) (sym (flat_map-append txn_of_record life.log s.records));
+      arrived_are =
+          undecided_behind life.log rs came (fresh_txns (fresh_of site life s)) mid.arrived now.arrived
+          (e ∙ ap (λ (x : List Txn). x ++ undecided_among life.log (fresh_txns (fresh_of site life s))) h.arrived_are) k
+          ∙ ap (λ (x : List Record). undecided_among (life.log ++ x) (came ++ fresh_txns (fresh_of site life s))) same
+          ∙ ap (undecided_among (life.log ++ s.records)) (sym (arrived_push site life s));
+      begun_are =
+          undecided_behind life.log rs began (flat_map began_in s.told) mid.begun now.begun (f ∙ ap (λ (x : List Txn). x ++ undecided_among life.log (flat_map began_in s.told)) h.begun_are) l
+          ∙ ap (λ (x : List Record). undecided_among (life.log ++ x) (began ++ flat_map began_in s.told)) same
+          ∙ ap (undecided_among (life.log ++ s.records)) (begun_push life.steps (moment_of life s));
+    }
+
+-- the undecided ones of two lists
+pub undecided_both : (log : List Record) (xs ys : List Txn) → undecided_among log (xs ++ ys) ≡ undecided_among log xs ++ undecided_among log ys
+undecided_both log xs ys = filter-append (λ t. is_undecided t log) xs ys
+
+-- nothing is open at a site with an empty log that made no step
+pub none_open : (site inc : ℕ) (opens : Opens) → opens.logged ≡ [] → opens.arrived ≡ [] → opens.begun ≡ [] → OpensStand site opens (unstepped inc [])
+none_open site inc opens d e f = record { logged_are = d; arrived_are = e; begun_are = f }
+
+-- a record alone opens what it does in the log
+pub alone_open : (site inc : ℕ) (log : List Record) (r : Record) (opens : Opens) → OpensStand site opens (life_by (unstepped inc log) (alone r))
+    → OpensStand site opens (unstepped inc (log ++ r ∷ []))
+alone_open site inc log r opens h = record { logged_are = h.logged_are; arrived_are = h.arrived_are; begun_are = h.begun_are }

@@ -1,0 +1,10 @@
+use Rattle.std.proofs.Common.{refl}
+use Rattle.e3_past.proofs.logged.Logged.new.Goals as goal
+
+pub returns : goal.returns
+returns c = record {
+  empty_is = refl;
+  cards_stand = c.no_cards.ensures;
+  places_stand = c.unborn.ensures c.args.site c.args.inc;
+  opens_stand = c.no_opens.ensures c.args.site c.args.inc;
+}

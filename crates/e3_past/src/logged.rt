@@ -1,0 +1,186 @@
+// What is read of a log, record by record, at a site that made no step.
+ghost use Rattle.std.specs.Prelude.{◌≡◌, ◌==◌, ◌++◌, ◌∷◌, [], ℕ, IfOk, List, length};
+ghost use Rattle.e3_types.specs.declared.records.Record.{Record as SomeRecord};
+ghost use Rattle.e3_world.specs.declared.lives.SiteStep.{SiteStep as SomeStep};
+ghost use Rattle.e3_world.specs.Logs.{logged_inc};
+ghost use Rattle.e3_cards.specs.Tables.{CardsStand};
+ghost use Rattle.e3_past.specs.Standing.{LoggedStand, MayStand, PlacesMayStand, TablesStand, alone, unstepped};
+
+use crate::catching::add_cards;
+use crate::opening::{add_opens, no_opens};
+use crate::tables::{Opens, Tables};
+use e3_cards::Cards;
+use e3_names::{Names, follow};
+use e3_places::{Places, born, enter, unborn};
+use e3_readings::logged_inc;
+use e3_types::{Copied, Dir, Input, List, Message, NoMemory, Packet, Record, SiteSet, Txn};
+use e3_world::SiteStep;
+use std::alloc::Global;
+use std::collections::BTreeMap;
+use std::mem;
+
+/// What is read of a log at a site that made no step. The tables of names are None where the log doesn't begin with a
+/// birth, or where a record came that may not follow it.
+#[derive(Drop)]
+pub struct Logged {
+    pub is_empty: bool,
+    pub cards: Cards,
+    pub places: Option<Places>,
+    pub opens: Opens,
+}
+
+fn alone(alloc: Global, r: &Record) -> Result<SiteStep, NoMemory>
+    ensures { IfOk result (λ s. s ≡ alone r.now) }
+{
+    let mut records = List::new(alloc);
+    records.push(r.copied(alloc)?)?;
+    Ok(SiteStep {
+        input: Input::Deliver {
+            packet: Packet {
+                number: 0,
+                from: 0,
+                to: 0,
+                msg: Message::Pre {
+                    txn: Txn {
+                        site: 0,
+                        inc: 0,
+                        seq: 0,
+                        sites: SiteSet::empty(),
+                    },
+                    n: 0,
+                    dir: Dir::Abort,
+                },
+            },
+        },
+        records,
+        outs: List::new(alloc),
+        told: List::new(alloc),
+    })
+}
+
+// The tables of names of a log that is this record. A log begins with a birth, as no other record makes rows.
+fn first_places(alloc: Global, r: &Record) -> Result<Option<Places>, NoMemory>
+    ensures { IfOk result (λ p. (site inc : ℕ) → PlacesMayStand site p (unstepped inc (r.now ∷ []))) }
+{
+    match r {
+        Record::Birth { rows, .. } => Ok(Some(born(alloc, rows.as_slice())?)),
+        _ => Ok(None),
+    }
+}
+
+// The tables of names with more records, where they may follow the log.
+fn add_places(
+    alloc: Global,
+    cards: &Cards,
+    places: Option<Places>,
+    records: &[Record],
+) -> Result<Option<Places>, NoMemory>
+    ensures { IfOk result (λ now. (site inc : ℕ) → (log : List SomeRecord) → CardsStand site cards.now (unstepped inc log)
+        → PlacesMayStand site places (unstepped inc log) → PlacesMayStand site now (unstepped inc (log ++ records.now))) }
+{
+    let Some(places) = places else {
+        return Ok(None);
+    };
+    if !follow(cards, records) {
+        return Ok(None);
+    }
+    let mut places = places;
+    enter(alloc, &mut places, records)?;
+    Ok(Some(places))
+}
+
+fn places_behind(
+    alloc: Global,
+    is_empty: bool,
+    cards: &Cards,
+    places: Option<Places>,
+    step: &SiteStep,
+    r: &Record,
+) -> Result<Option<Places>, NoMemory>
+    requires { step.now ≡ alone r.now }
+    ensures { IfOk result (λ now. (site inc : ℕ) → (log : List SomeRecord) → is_empty ≡ (length log == 0) → CardsStand site cards.now (unstepped inc log)
+        → PlacesMayStand site places (unstepped inc log) → PlacesMayStand site now (unstepped inc (log ++ r.now ∷ []))) }
+{
+    if is_empty {
+        first_places(alloc, r)
+    } else {
+        add_places(alloc, cards, places, step.records.as_slice())
+    }
+}
+
+fn no_cards(alloc: Global, site: u32, inc: u32) -> Cards
+    ensures { CardsStand site result (unstepped inc []) }
+{
+    Cards {
+        site,
+        inc,
+        begins: 0,
+        calls: 0,
+        map: BTreeMap::new(alloc),
+    }
+}
+
+// Nothing waits at a site that made no step, so that no name is restless.
+fn known(alloc: Global, places: Option<Places>) -> Option<Names>
+    ensures { (site inc : ℕ) → (log : List SomeRecord) → PlacesMayStand site places (unstepped inc log) → MayStand site result (unstepped inc log) }
+{
+    match places {
+        Some(places) => Some(Names {
+            places,
+            restless: List::new(alloc),
+        }),
+        None => None,
+    }
+}
+
+impl Logged {
+    /// What is read of the empty log, at a site of this incarnation.
+    pub fn new(alloc: Global, site: u32, inc: u32) -> Logged
+        ensures { LoggedStand site result inc [] }
+    {
+        Logged {
+            is_empty: true,
+            cards: no_cards(alloc, site, inc),
+            places: Some(unborn(alloc)),
+            opens: no_opens(alloc),
+        }
+    }
+
+    /// Reads one more record of the log: it costs what is known of the record's transaction and names. Want of memory is
+    /// the only error; what is read then is left open.
+    pub fn read(&mut self, alloc: Global, r: &Record) -> Result<(), NoMemory>
+        ensures { IfOk result (λ u. (site inc : ℕ) → (log : List SomeRecord) → LoggedStand site self.old inc log → LoggedStand site self.new inc (log ++ r.now ∷ [])) }
+    {
+        let step = alone(alloc, r)?;
+        let were = mem::replace(&mut self.places, None);
+        let places = places_behind(alloc, self.is_empty, &self.cards, were, &step, r)?;
+        self.places = places;
+        add_opens(alloc, &self.cards, &mut self.opens, &step)?;
+        add_cards(alloc, &mut self.cards, &step)?;
+        self.is_empty = false;
+        Ok(())
+    }
+
+    /// What is read of a whole log, at a site of its incarnation. Want of memory is the only error.
+    pub fn of(alloc: Global, site: u32, log: &[Record]) -> Result<Logged, NoMemory>
+        ensures { IfOk result (λ read. LoggedStand site read (logged_inc log.now) log.now) }
+    {
+        let mut read = Logged::new(alloc, site, logged_inc(log));
+        for r in log {
+            read.read(alloc, r)?;
+        }
+        Ok(read)
+    }
+
+    /// The tables of a site that rose with the log and made no step that they count.
+    pub fn into_tables(self, alloc: Global) -> Tables
+        ensures { (site : ℕ) → (rose : List SomeRecord) → LoggedStand site self (logged_inc rose) rose → (since : List SomeStep) → TablesStand site rose since result }
+    {
+        Tables {
+            steps: 0,
+            cards: self.cards,
+            names: known(alloc, self.places),
+            opens: self.opens,
+        }
+    }
+}
