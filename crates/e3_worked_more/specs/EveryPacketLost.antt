@@ -1,5 +1,5 @@
 -- Every packet is lost; in a recovery, where the network is calm, the sites abort.
-use Rattle.std.specs.Prelude.{◌∷◌, [], ℕ, false, List}
+use Rattle.std.specs.Prelude.{◌++◌, ◌∷◌, [], ℕ, false, List}
 use Rattle.e3_types.specs.declared.entries.Act.TheVariants.{Step, Rise, Line}
 use Rattle.e3_types.specs.declared.transactions.Answer.TheVariants.{Written}
 use Rattle.e3_types.specs.declared.transactions.Dir.TheVariants.{Abort}
@@ -10,6 +10,7 @@ use Rattle.e3_types.specs.declared.messages.Packet.{Packet}
 use Rattle.e3_types.specs.declared.scenarios.Scenario.{Scenario}
 use Rattle.e3_types.specs.declared.transactions.State.TheVariants.{Q}
 use Rattle.e3_types.specs.declared.transactions.Txn.{Txn}
+use Rattle.e3_world.specs.Items.{RecoveryRound}
 use Rattle.e3_types.specs.declared.entries.Input.TheVariants as input
 use Rattle.e3_types.specs.declared.scenarios.Item.TheVariants as item
 use Rattle.e3_types.specs.declared.messages.Message.TheVariants as msg
@@ -68,9 +69,13 @@ p7 = record { number = 7; «from» = 2; to = 1; msg = msg.Ack t1_1_1 2 Abort }
 abbrev pub p8 : Packet
 p8 = record { number = 8; «from» = 1; to = 2; msg = msg.Decide t1_1_1 Abort }
 
--- its history, entry by entry
-abbrev pub every_packet_lost_history : List Entry
-every_packet_lost_history =
+-- the round of its recovery
+abbrev pub recovery_round : RecoveryRound
+recovery_round = record { txn = t1_1_1; members = s1_2; elector = 1 }
+
+-- what is before its Elect
+abbrev pub before_round : List Entry
+before_round =
     record { owner = 1; act = Rise false 1 } ∷
     record { owner = 2; act = Rise false 1 } ∷
     record { owner = 0; act = Line 1 } ∷
@@ -80,7 +85,11 @@ every_packet_lost_history =
     record { owner = 0; act = Line 3 } ∷
     record { owner = 1; act = Step (input.Commit t1_1_1) (log.Vote t1_1_1 (record { n = 1; op = Write key_1_x (97 ∷ []) } ∷ []) ∷ []) (p1 ∷ []) ([]) } ∷
     record { owner = 0; act = Line 4 } ∷
-    record { owner = 1; act = Step (input.Elect t1_1_1 s1_2) ([]) (p2 ∷ []) ([]) } ∷
+    []
+
+-- what is behind it
+abbrev pub behind_round : List Entry
+behind_round =
     record { owner = 2; act = Step (input.Deliver p2) ([]) (p3 ∷ []) ([]) } ∷
     record { owner = 1; act = Step (input.Deliver p3) (log.Join t1_1_1 2 ∷ []) (p4 ∷ []) ([]) } ∷
     record { owner = 2; act = Step (input.Deliver p4) (log.Join t1_1_1 2 ∷ []) (p5 ∷ []) ([]) } ∷
@@ -89,3 +98,10 @@ every_packet_lost_history =
     record { owner = 1; act = Step (input.Deliver p7) (log.Decision t1_1_1 Abort ∷ []) (p8 ∷ []) (told.Ended t1_1_1 Abort ∷ []) } ∷
     record { owner = 2; act = Step (input.Deliver p8) (log.Decision t1_1_1 Abort ∷ []) ([]) ([]) } ∷
     []
+
+-- its history, entry by entry
+abbrev pub every_packet_lost_history : List Entry
+every_packet_lost_history =
+    before_round ++
+    record { owner = 1; act = Step (input.Elect t1_1_1 s1_2) ([]) (p2 ∷ []) ([]) } ∷
+    behind_round
