@@ -1,0 +1,14 @@
+pub mod Places
+pub mod Names
+pub mod Lines
+pub mod Cutting
+pub mod Numbers
+pub mod Words
+pub mod Lists
+pub mod Chains
+pub mod Said
+pub mod OneLine
+pub mod Going
+pub mod Firsts
+pub mod Behind
+pub mod Telling

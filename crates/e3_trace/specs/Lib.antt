@@ -1,0 +1,10 @@
+pub mod Cuts
+pub mod Fields
+pub mod Inputs
+pub mod Messages
+pub mod Events
+pub mod Drafts
+pub mod Entries
+pub mod Trace
+pub mod Tellable
+pub mod Example

@@ -1,0 +1,191 @@
+// The first lines of entries, read behind what earlier lines tell.
+ghost use Rattle.std.specs.Prelude.{◌≡◌, IfErr};
+ghost use Rattle.e3_trace.specs.Cuts.{Gives};
+ghost use Rattle.e3_trace.specs.Entries.{full_and, why_and, why_of, kept_of, rise_of, kept_why_of, failed_rise_of, fall_of, act_by, draft_by, form_of};
+ghost use Rattle.e3_trace.specs.Fields.{u64_of};
+
+use crate::cuts::{SPACE, behind, cut, is_text};
+use crate::drafts::{Draft, Head};
+use crate::events::of;
+use crate::faults::Fault;
+use crate::fields::{long, parts, short};
+use crate::inputs::input;
+use crate::known::Known;
+use e3_types::{Act, Why};
+use std::alloc::Global;
+
+fn kept(text: &[u8]) -> Result<bool, Fault>
+    ensures { Gives result (kept_of text.now) }
+{
+    if is_text(text, "kept") {
+        Ok(true)
+    } else {
+        Err(Fault::Bad)
+    }
+}
+
+fn full_count(text: &[u8]) -> Result<(Why, u64), Fault>
+    ensures { Gives result (full_and u64_of text.now) }
+{
+    let rest = behind(text, "full")?;
+    let (word, rest) = cut(rest, SPACE)?;
+    let need = long(word)?;
+    let rest = behind(rest, "of")?;
+    let (word, rest) = cut(rest, SPACE)?;
+    let room = long(word)?;
+    let count = long(rest)?;
+    Ok((Why::Full { need, room }, count))
+}
+
+fn full_kept(text: &[u8]) -> Result<(Why, bool), Fault>
+    ensures { Gives result (full_and kept_of text.now) }
+{
+    let rest = behind(text, "full")?;
+    let (word, rest) = cut(rest, SPACE)?;
+    let need = long(word)?;
+    let rest = behind(rest, "of")?;
+    let (word, rest) = cut(rest, SPACE)?;
+    let room = long(word)?;
+    let kept = kept(rest)?;
+    Ok((Why::Full { need, room }, kept))
+}
+
+fn why_kept(text: &[u8]) -> Result<(Why, bool), Fault>
+    ensures { Gives result (why_and kept_of text.now) }
+{
+    match behind(text, "fault") {
+        Ok(rest) => {
+            let kept = kept(rest)?;
+            Ok((Why::Fault, kept))
+        }
+        Err(_) => full_kept(text),
+    }
+}
+
+// A fall: why, and how many inputs it has.
+#[tactic(auto, unfolding(crate::specs::Entries::fall_of))]
+fn fall(text: &[u8]) -> Result<(Why, u64), Fault>
+    ensures { Gives result (fall_of text.now) }
+{
+    match behind(text, "fault") {
+        Ok(rest) => {
+            let count = long(rest)?;
+            Ok((Why::Fault, count))
+        }
+        Err(_) => full_count(text),
+    }
+}
+
+#[tactic(auto, unfolding(crate::specs::Entries::why_of, crate::specs::Events::of_of))]
+fn why(text: &[u8]) -> Result<Why, Fault>
+    ensures gives { Gives result (why_of text.now) }
+    ensures sure { IfErr result (λ e. e ≡ Fault.Bad) }
+{
+    if is_text(text, "fault") {
+        return Ok(Why::Fault);
+    }
+    let rest = behind(text, "full")?;
+    let (need, room) = of(rest)?;
+    Ok(Why::Full { need, room })
+}
+
+// A rise: its incarnation, and whether an open frame was kept.
+#[tactic(auto, unfolding(crate::specs::Entries::rise_of))]
+fn rise(text: &[u8]) -> Result<Act, Fault>
+    ensures { Gives result (rise_of text.now) }
+{
+    match cut(text, SPACE) {
+        Err(_) => {
+            let inc = short(text)?;
+            Ok(Act::Rise { kept: false, inc })
+        }
+        Ok((word, rest)) => {
+            let kept = kept(rest)?;
+            let inc = short(word)?;
+            Ok(Act::Rise { kept, inc })
+        }
+    }
+}
+
+#[tactic(auto, unfolding(crate::specs::Entries::kept_why_of))]
+fn kept_why(text: &[u8]) -> Result<(bool, Why), Fault>
+    ensures { Gives result (kept_why_of text.now) }
+{
+    match why(text) {
+        Ok(why) => Ok((false, why)),
+        Err(_) => {
+            let (why, kept) = why_kept(text)?;
+            Ok((kept, why))
+        }
+    }
+}
+
+#[tactic(auto, unfolding(crate::specs::Entries::failed_rise_of))]
+fn failed_rise(text: &[u8]) -> Result<Act, Fault>
+    ensures { Gives result (failed_rise_of text.now) }
+{
+    let (word, rest) = cut(text, SPACE)?;
+    let inc = short(word)?;
+    let (kept, why) = kept_why(rest)?;
+    Ok(Act::RiseFall { kept, inc, why })
+}
+
+// An entry of one line.
+#[tactic(auto, unfolding(crate::specs::Entries::act_by))]
+fn act_by(alloc: Global, verb: &[u8], text: &[u8]) -> Result<Act, Fault>
+    ensures { Gives result (act_by verb.now text.now) }
+{
+    if is_text(verb, "line") {
+        let number = short(text)?;
+        Ok(Act::Line { number })
+    } else if is_text(verb, "parts") {
+        let parts = parts(alloc, text)?;
+        Ok(Act::Parts { parts })
+    } else if is_text(verb, "drop") {
+        let packet = long(text)?;
+        Ok(Act::Drop { packet })
+    } else if is_text(verb, "rise") {
+        rise(text)
+    } else if is_text(verb, "risefall") {
+        failed_rise(text)
+    } else {
+        Err(Fault::Bad)
+    }
+}
+
+#[tactic(auto, unfolding(crate::specs::Entries::draft_by))]
+fn draft_by(
+    alloc: Global,
+    known: &Known,
+    owner: u32,
+    verb: &[u8],
+    text: &[u8],
+) -> Result<Draft, Fault>
+    ensures { Gives result (draft_by known.now owner verb.now text.now) }
+{
+    if is_text(verb, "step") {
+        let input = input(alloc, known, text)?;
+        Ok(Draft::new(alloc, owner, Head::Step(input), 0))
+    } else if is_text(verb, "fall") {
+        let (why, due) = fall(text)?;
+        Ok(Draft::new(alloc, owner, Head::Fall(why), due))
+    } else {
+        let act = act_by(alloc, verb, text)?;
+        Ok(Draft::new(alloc, owner, Head::Whole(act), 0))
+    }
+}
+
+/// The form of an entry of the owner.
+#[tactic(auto, unfolding(crate::specs::Entries::form_of))]
+pub(crate) fn form(alloc: Global, known: &Known, owner: u32, text: &[u8]) -> Result<Draft, Fault>
+    ensures { Gives result (form_of known.now owner text.now) }
+{
+    if is_text(text, "miss") {
+        Ok(Draft::new(alloc, owner, Head::Whole(Act::Miss), 0))
+    } else if is_text(text, "cut") {
+        Ok(Draft::new(alloc, owner, Head::Whole(Act::Cut), 0))
+    } else {
+        let (verb, rest) = cut(text, SPACE)?;
+        draft_by(alloc, known, owner, verb, rest)
+    }
+}

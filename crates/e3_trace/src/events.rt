@@ -1,0 +1,195 @@
+// What steps tell, read behind what earlier lines tell.
+ghost use Rattle.std.specs.Prelude.{◌≡◌, IfErr};
+ghost use Rattle.e3_trace.specs.Cuts.{space, made_of, pair_of, behind, Gives};
+ghost use Rattle.e3_trace.specs.Events.{of_of, verdict_of, doom_of, refusal_by, refusal_of, event_by, event_of, began_of, told_by, told_of};
+ghost use Rattle.e3_trace.specs.Fields.{u32_of, answer_of};
+ghost use Rattle.e3_types.specs.declared.entries.Told.TheVariants as told;
+
+use crate::cuts::{SPACE, behind, cut, is_text};
+use crate::faults::Fault;
+use crate::fields::{TxnName, answer, dir, long, short, sites, state, txn_name};
+use crate::known::Known;
+use e3_types::{Dir, Refusal, Told, Txn, Verdict};
+use std::alloc::Global;
+
+/// Two numbers with `of` between them.
+#[tactic(auto, unfolding(crate::specs::Events::of_of))]
+pub(crate) fn of(text: &[u8]) -> Result<(u64, u64), Fault>
+    ensures gives { Gives result (of_of text.now) }
+    ensures sure { IfErr result (λ e. e ≡ Fault.Bad) }
+{
+    let (word, rest) = cut(text, SPACE)?;
+    let some = long(word)?;
+    let rest = behind(rest, "of")?;
+    let all = long(rest)?;
+    Ok((some, all))
+}
+
+#[tactic(auto, unfolding(crate::specs::Events::verdict_of))]
+fn verdict(text: &[u8]) -> Result<Verdict, Fault>
+    ensures { Gives result (verdict_of text.now) }
+{
+    if is_text(text, "abort") {
+        Ok(Verdict::Abort)
+    } else if is_text(text, "commit") {
+        Ok(Verdict::Commit)
+    } else if is_text(text, "pre-commit") {
+        Ok(Verdict::PreCommit)
+    } else if is_text(text, "pre-abort") {
+        Ok(Verdict::PreAbort)
+    } else {
+        let rest = behind(text, "block")?;
+        let (have, total) = of(rest)?;
+        Ok(Verdict::Block { have, total })
+    }
+}
+
+// A site, the incarnation that it had, and the one that it has.
+fn doom(text: &[u8]) -> Result<(u32, (u32, u32)), Fault>
+    ensures { Gives result (doom_of text.now) }
+{
+    let (word, rest) = cut(text, SPACE)?;
+    let site = short(word)?;
+    let (word, rest) = cut(rest, SPACE)?;
+    let had = short(word)?;
+    let now = short(rest)?;
+    Ok((site, (had, now)))
+}
+
+#[tactic(auto, unfolding(crate::specs::Events::refusal_by))]
+fn refusal_by(known: &Known, verb: &[u8], text: &[u8]) -> Result<Refusal, Fault>
+    ensures { Gives result (refusal_by known.now verb.now text.now) }
+{
+    if is_text(verb, "busy") {
+        let op = short(text)?;
+        Ok(Refusal::Busy { op })
+    } else if is_text(verb, "over") {
+        let dir = dir(text)?;
+        Ok(Refusal::Over { dir })
+    } else if is_text(verb, "died") {
+        let older = known.txn(text)?;
+        Ok(Refusal::Died { older })
+    } else if is_text(verb, "doomed") {
+        let (site, (had, now)) = doom(text)?;
+        Ok(Refusal::Doomed { site, had, now })
+    } else if is_text(verb, "too-late") {
+        let attempt = short(text)?;
+        Ok(Refusal::TooLate { attempt })
+    } else {
+        Err(Fault::Bad)
+    }
+}
+
+#[tactic(auto, unfolding(crate::specs::Events::refusal_of))]
+fn refusal(known: &Known, text: &[u8]) -> Result<Refusal, Fault>
+    ensures { Gives result (refusal_of known.now text.now) }
+{
+    if is_text(text, "no-transaction") {
+        Ok(Refusal::NoTxn)
+    } else {
+        let (verb, rest) = cut(text, SPACE)?;
+        refusal_by(known, verb, rest)
+    }
+}
+
+fn answered(txn: Txn, text: &[u8]) -> Result<Told, Fault>
+    ensures { Gives result (made_of (λ p. told.Op txn p.0 p.1) (pair_of space u32_of answer_of) text.now) }
+{
+    let (word, rest) = cut(text, SPACE)?;
+    let n = short(word)?;
+    let answer = answer(rest)?;
+    Ok(Told::Op { txn, n, answer })
+}
+
+fn elected(txn: Txn, text: &[u8]) -> Result<Told, Fault>
+    ensures { Gives result (made_of (λ p. told.Verdict txn p.0 p.1) (pair_of space u32_of verdict_of) text.now) }
+{
+    let (word, rest) = cut(text, SPACE)?;
+    let n = short(word)?;
+    let verdict = verdict(rest)?;
+    Ok(Told::Verdict { txn, n, verdict })
+}
+
+#[tactic(auto, unfolding(crate::specs::Events::event_by))]
+fn event_by(known: &Known, txn: Txn, verb: &[u8], text: &[u8]) -> Result<Told, Fault>
+    ensures { Gives result (event_by known.now txn verb.now text.now) }
+{
+    if is_text(verb, "op") {
+        answered(txn, text)
+    } else if is_text(verb, "died") {
+        let rest = behind(text, "for")?;
+        let older = known.txn(rest)?;
+        Ok(Told::Died { txn, older })
+    } else if is_text(verb, "doomed") {
+        let (site, (had, now)) = doom(text)?;
+        Ok(Told::Doomed {
+            txn,
+            site,
+            had,
+            now,
+        })
+    } else if is_text(verb, "refused") {
+        let refusal = refusal(known, text)?;
+        Ok(Told::Refused { txn, refusal })
+    } else if is_text(verb, "kept") {
+        let state = state(text)?;
+        Ok(Told::Kept { txn, state })
+    } else if is_text(verb, "election") {
+        elected(txn, text)
+    } else {
+        Err(Fault::Bad)
+    }
+}
+
+#[tactic(auto, unfolding(crate::specs::Events::event_of))]
+fn event(known: &Known, txn: Txn, text: &[u8]) -> Result<Told, Fault>
+    ensures { Gives result (event_of known.now txn text.now) }
+{
+    if is_text(text, "committed") {
+        Ok(Told::Ended {
+            txn,
+            dir: Dir::Commit,
+        })
+    } else if is_text(text, "aborted") {
+        Ok(Told::Ended {
+            txn,
+            dir: Dir::Abort,
+        })
+    } else {
+        let (verb, rest) = cut(text, SPACE)?;
+        event_by(known, txn, verb, rest)
+    }
+}
+
+// What is told of the transaction of this name: it begins here, or it began before.
+#[tactic(auto, unfolding(crate::specs::Events::told_by, crate::specs::Events::began_of))]
+fn told_by(alloc: Global, known: &Known, name: TxnName, text: &[u8]) -> Result<Told, Fault>
+    ensures { Gives result (told_by known.now name text.now) }
+{
+    match behind(text, "began") {
+        Ok(rest) => {
+            let sites = sites(alloc, rest)?;
+            let txn = Txn {
+                site: name.0,
+                inc: name.1.0,
+                seq: name.1.1,
+                sites,
+            };
+            Ok(Told::Began { txn })
+        }
+        Err(_) => match known.named(name) {
+            Some(txn) => event(known, txn, text),
+            None => Err(Fault::Bad),
+        },
+    }
+}
+
+/// What a step tells: the transaction's name, and what is told of it.
+#[tactic(auto, unfolding(crate::specs::Events::told_of))]
+pub(crate) fn told(alloc: Global, known: &Known, text: &[u8]) -> Result<Told, Fault>
+    ensures { Gives result (told_of known.now text.now) }
+{
+    let (word, rest) = cut(text, SPACE)?;
+    let name = txn_name(word)?;
+    told_by(alloc, known, name, rest)
+}

@@ -1,0 +1,66 @@
+// The inputs of sites, read behind what earlier lines tell.
+ghost use Rattle.e3_trace.specs.Cuts.{space, made_of, pair_of, Gives};
+ghost use Rattle.e3_trace.specs.Fields.{sites_of, op_of, txn_of};
+ghost use Rattle.e3_trace.specs.Inputs.{do_from, elect_from, input_by, input_of};
+
+use crate::cuts::{SPACE, cut, is_text};
+use crate::faults::Fault;
+use crate::fields::{op, sites};
+use crate::known::Known;
+use e3_types::Input;
+use std::alloc::Global;
+
+fn call(known: &Known, text: &[u8]) -> Result<Input, Fault>
+    ensures { Gives result (made_of do_from (pair_of space (txn_of known.now) op_of) text.now) }
+{
+    let (word, rest) = cut(text, SPACE)?;
+    let txn = known.txn(word)?;
+    let op = op(rest)?;
+    Ok(Input::Do { txn, op })
+}
+
+fn elect(alloc: Global, known: &Known, text: &[u8]) -> Result<Input, Fault>
+    ensures { Gives result (made_of elect_from (pair_of space (txn_of known.now) sites_of) text.now) }
+{
+    let (word, rest) = cut(text, SPACE)?;
+    let txn = known.txn(word)?;
+    let group = sites(alloc, rest)?;
+    Ok(Input::Elect { txn, group })
+}
+
+#[tactic(auto, unfolding(crate::specs::Inputs::input_by))]
+fn input_by(alloc: Global, known: &Known, verb: &[u8], text: &[u8]) -> Result<Input, Fault>
+    ensures { Gives result (input_by known.now verb.now text.now) }
+{
+    if is_text(verb, "begin") {
+        let sites = sites(alloc, text)?;
+        Ok(Input::Begin { sites })
+    } else if is_text(verb, "do") {
+        call(known, text)
+    } else if is_text(verb, "commit") {
+        let txn = known.txn(text)?;
+        Ok(Input::Commit { txn })
+    } else if is_text(verb, "cancel") {
+        let txn = known.txn(text)?;
+        Ok(Input::Cancel { txn })
+    } else if is_text(verb, "expire") {
+        let txn = known.txn(text)?;
+        Ok(Input::Expire { txn })
+    } else if is_text(verb, "elect") {
+        elect(alloc, known, text)
+    } else if is_text(verb, "deliver") {
+        let packet = known.packet(text)?;
+        Ok(Input::Deliver { packet })
+    } else {
+        Err(Fault::Bad)
+    }
+}
+
+/// An input. A packet that is delivered is named by its number.
+#[tactic(auto, unfolding(crate::specs::Inputs::input_of))]
+pub(crate) fn input(alloc: Global, known: &Known, text: &[u8]) -> Result<Input, Fault>
+    ensures { Gives result (input_of known.now text.now) }
+{
+    let (verb, rest) = cut(text, SPACE)?;
+    input_by(alloc, known, verb, rest)
+}

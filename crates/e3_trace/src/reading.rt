@@ -1,0 +1,185 @@
+// Reading line by line.
+ghost use Rattle.std.specs.Prelude.{◌≡◌, option_map, None};
+ghost use Rattle.e3_trace.specs.Cuts.{Gives, Leaves, Shows};
+ghost use Rattle.e3_trace.specs.Drafts.{packet_of, packet_line, told_line, line_behind};
+ghost use Rattle.e3_trace.specs.Trace.{nothing_read, closed, entry_line, marked_line, is_mark, line_by, next_line, is_over};
+
+use crate::cuts::{SPACE, cut, is_text};
+use crate::drafts::Draft;
+use crate::entries::form;
+use crate::events::told;
+use crate::faults::Fault;
+use crate::fields::{long, short};
+use crate::known::Known;
+use crate::messages::message;
+use crate::records::add_record_line;
+use e3_types::Packet;
+use e3_world::History;
+use std::alloc::Global;
+use std::marker::Model;
+use std::mem;
+
+/// What the lines so far spell: what they tell, the entries that are read, and the one whose lines are being read.
+#[derive(Drop)]
+pub(crate) struct Reading {
+    known: Known,
+    done: History,
+    draft: Option<Draft>,
+}
+
+impl Model for Reading {
+    ghost use Rattle.e3_trace.specs.Trace.{Reading as Read};
+
+    ghost Value = { Read };
+
+    ghost view = { λ r. record { known = r.known; done = r.done.entries; draft = r.draft } };
+}
+
+#[tactic(auto, unfolding(crate::specs::Drafts::packet_of))]
+fn packet(known: &Known, site: u32, text: &[u8]) -> Result<Packet, Fault>
+    ensures { Gives result (packet_of known.now site text.now) }
+{
+    let (word, rest) = cut(text, SPACE)?;
+    let number = long(word)?;
+    let (word, rest) = cut(rest, SPACE)?;
+    let to = short(word)?;
+    let msg = message(known, rest)?;
+    Ok(Packet {
+        number,
+        from: site,
+        to,
+        msg,
+    })
+}
+
+#[tactic(auto, unfolding(crate::specs::Drafts::packet_line))]
+fn add_packet(known: &mut Known, draft: &mut Draft, text: &[u8]) -> Result<(), Fault>
+    ensures { Leaves result (known.new, draft.new) (packet_line known.old draft.old text.now) }
+{
+    if !draft.takes_packets() {
+        return Err(Fault::Bad);
+    }
+    let packet = packet(known, draft.owner, text)?;
+    known.send(&packet)?;
+    draft.add_packet(packet)?;
+    Ok(())
+}
+
+#[tactic(auto, unfolding(crate::specs::Drafts::told_line))]
+fn add_told(alloc: Global, known: &mut Known, draft: &mut Draft, text: &[u8]) -> Result<(), Fault>
+    ensures { Leaves result (known.new, draft.new) (told_line known.old draft.old text.now) }
+{
+    if !draft.takes_told() {
+        return Err(Fault::Bad);
+    }
+    let event = told(alloc, known, text)?;
+    known.tell(&event)?;
+    draft.add_told(event)?;
+    Ok(())
+}
+
+#[tactic(auto, unfolding(crate::specs::Drafts::line_behind))]
+fn add_line(
+    alloc: Global,
+    known: &mut Known,
+    draft: &mut Draft,
+    word: &[u8],
+    text: &[u8],
+) -> Result<(), Fault>
+    ensures { Leaves result (known.new, draft.new) (line_behind known.old draft.old word.now text.now) }
+{
+    if is_text(word, "i") {
+        draft.add_input(alloc, known, text)
+    } else if is_text(word, "r") {
+        add_record_line(alloc, known, draft, text)
+    } else if is_text(word, "o") {
+        add_packet(known, draft, text)
+    } else {
+        add_told(alloc, known, draft, text)
+    }
+}
+
+fn is_mark(word: &[u8]) -> bool
+    ensures { result ≡ is_mark word.now }
+{
+    is_text(word, "i") || is_text(word, "r") || is_text(word, "o") || is_text(word, "t")
+}
+
+impl Reading {
+    /// Nothing is read yet.
+    pub(crate) fn nothing(alloc: Global) -> Reading
+        ensures { result ≡ nothing_read }
+    {
+        Reading {
+            known: Known::nothing(alloc),
+            done: History::new(alloc),
+            draft: None,
+        }
+    }
+
+    // The entry whose lines are being read is read.
+    #[tactic(auto, unfolding(crate::specs::Trace::closed))]
+    fn close(&mut self) -> Result<(), Fault>
+        ensures { Leaves result self.new (option_map (λ entries. record self.old { done = entries; draft = None }) (closed self.old)) }
+    {
+        match self.draft.take() {
+            None => Ok(()),
+            Some(draft) => {
+                let entry = draft.entry()?;
+                self.done.reserve(1)?;
+                self.done.push(entry);
+                Ok(())
+            }
+        }
+    }
+
+    #[tactic(auto, unfolding(crate::specs::Trace::entry_line))]
+    fn begin_entry(&mut self, alloc: Global, word: &[u8], text: &[u8]) -> Result<(), Fault>
+        ensures { Leaves result self.new (entry_line self.old word.now text.now) }
+    {
+        self.close()?;
+        let owner = short(word)?;
+        let draft = form(alloc, &self.known, owner, text)?;
+        self.draft = Some(draft);
+        Ok(())
+    }
+
+    #[tactic(auto, unfolding(crate::specs::Trace::marked_line))]
+    fn add_line(&mut self, alloc: Global, word: &[u8], text: &[u8]) -> Result<(), Fault>
+        ensures { Leaves result self.new (marked_line self.old word.now text.now) }
+    {
+        match &mut self.draft {
+            None => Err(Fault::Bad),
+            Some(draft) => add_line(alloc, &mut self.known, draft, word, text),
+        }
+    }
+
+    /// One more line. A line at fault, or want of memory, leaves what is of no use any more.
+    #[tactic(auto, unfolding(crate::specs::Trace::next_line, crate::specs::Trace::line_by))]
+    pub(crate) fn next(&mut self, alloc: Global, line: &[u8]) -> Result<(), Fault>
+        ensures { Leaves result self.new (next_line self.old line.now) }
+    {
+        let (word, rest) = cut(line, SPACE)?;
+        if is_mark(word) {
+            self.add_line(alloc, word, rest)
+        } else {
+            self.begin_entry(alloc, word, rest)
+        }
+    }
+
+    /// More entries have begun than a history may have.
+    pub(crate) fn is_over(&self) -> bool
+        ensures { result ≡ is_over self.now }
+    {
+        let done = self.done.len();
+        2000000 < done || (done == 2000000 && self.draft.is_some())
+    }
+
+    /// The lines end: the history, where no line of an entry is due. Nothing is left here.
+    pub(crate) fn end(&mut self, alloc: Global) -> Result<History, Fault>
+        ensures { Shows (λ h. h.entries) result (closed self.old) }
+    {
+        self.close()?;
+        Ok(mem::replace(&mut self.done, History::new(alloc)))
+    }
+}
