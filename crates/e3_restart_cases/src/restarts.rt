@@ -223,13 +223,22 @@ fn push_sites_of(alloc: Global, out: &mut List<u8>) -> Result<(), NoMemory> {
     push_text(out, "\n")
 }
 
+// Adds how many transactions are open at the site that is rebuilt from a log.
+fn push_open_rebuilt(alloc: Global, out: &mut List<u8>, log: &[Record]) -> Result<(), NoMemory> {
+    if log.is_empty() {
+        return push_text(out, " no record");
+    }
+    match rebuild(alloc, 1, log) {
+        Ok(site) => push_labelled(out, " ", site.open_txns()?.len()),
+        Err(_) => push_text(out, " no site"),
+    }
+}
+
 // The open transactions of a site that rose with the vote of transaction 1: with tables of its log, and without.
 fn push_open(alloc: Global, out: &mut List<u8>) -> Result<(), NoMemory> {
     push_text(out, "open:")?;
     let log = voted(alloc)?;
-    if let Ok(site) = rebuild(alloc, 1, log.as_slice()) {
-        push_labelled(out, " ", site.open_txns()?.len())?;
-    }
+    push_open_rebuilt(alloc, out, log.as_slice())?;
     let site = Site::rise(alloc, one(alloc, 1)?, 1, log, None);
     push_labelled(out, " ", site.open_txns()?.len())?;
     push_text(out, "\n")
