@@ -1,7 +1,7 @@
 // The worked scenarios that have recovery rounds, each with its name.
 
 /// Name and text of each.
-pub const ROWS: [(&str, &str); 7] = [
+pub const ROWS: [(&str, &str); 8] = [
     (
         "split in halves",
         "weights = [1, 1, 1, 1]\nsteps = [\n  \"begin t 1 1,2,3,4\",\n  \"write t 1.x a\",\n  \"split 1,2|3,4\",\n  \"commit t\",\n  \"recover 1,2\",\n  \"recover 3,4\",\n  \"merge\",\n  \"recover 1,2,3,4\",\n]\n",
@@ -29,5 +29,9 @@ pub const ROWS: [(&str, &str); 7] = [
     (
         "members fall in a round",
         "weights = [1, 1, 1]\nsteps = [\n  \"begin t 1 1,2,3\",\n  \"begin u 1 1,2,3\",\n  \"stop 2 1 none\",\n  \"stop 3 1 none\",\n  \"recover 1,2,3\",\n]\n",
+    ),
+    (
+        "dropped packets",
+        "weights = [1, 1, 1]\nsteps = [\n  \"begin t 1 1,2,3\",\n  \"write t 1.x a\",\n  \"crash 3\",\n  \"commit t\",\n  \"restart 3\",\n  \"stop 2 5 none\",\n  \"recover 1,2,3\",\n]\n",
     ),
 ];
