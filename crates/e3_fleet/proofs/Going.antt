@@ -12,10 +12,12 @@ use Rattle.e3_fleet.proofs.Turns.{goes_other}
 use Rattle.e3_node.specs.Claims.{NodesKept}
 use Rattle.e3_node.specs.NodeStands.{NodeStands}
 use Rattle.e3_node.specs.NodeView.{NodeView, disk_of}
-use Rattle.e3_node.specs.SharedStands.{SharedStands, SharedView}
+use Rattle.e3_node.specs.SharedStands.{SharedStands}
 use Rattle.e3_types.specs.declared.entries.Entry.{Entry}
 use Rattle.e3_types.specs.declared.scenarios.Scenario.{Scenario}
 use Rattle.e3_world.proofs.Turns.{true_not_false}
+use Rattle.e3_wire.specs.Marks.{entries_of, most_of, scenario_of}
+use Rattle.e3_wire.specs.declared.marks.Mark.{Mark}
 
 -- the numbers of a node's disk
 abbrev pub numbers_of : {D : Type 0} → (D → Meters) → NodeView D → Meters
@@ -43,51 +45,51 @@ have_kept meters sc h starts nodes more step was = record {
 
 -- an entry of the driver that arms no disk
 pub driver_on : {D : Type 0} (content : D → List ℕ) (image : D → List ℕ → Type 0) (meters : D → Meters) → NodesKept content image meters →
-    ((d : D) → IsCounted (meters d)) → (was now : SharedView) (e : Entry) (nodes : List (NodeView D)) →
-    FleetStands content image meters was nodes → SharedStands now → now.scenario ≡ was.scenario → now.most ≡ was.most →
-    e.owner ≡ 0 → ((site : ℕ) → arm_by was.scenario site e ≡ []) → now.entries ≡ was.entries ++ e ∷ [] → IsFleetOn content image meters was now nodes nodes
+    ((d : D) → IsCounted (meters d)) → (was now : List Mark) (e : Entry) (nodes : List (NodeView D)) →
+    FleetStands content image meters was nodes → SharedStands now → scenario_of now ≡ scenario_of was → most_of now ≡ most_of was →
+    e.owner ≡ 0 → ((site : ℕ) → arm_by (scenario_of was) site e ≡ []) → entries_of now ≡ entries_of was ++ e ∷ [] → IsFleetOn content image meters was now nodes nodes
 driver_on {D} content image meters law counted was now e nodes stood stands same most driver unarmed entered = record {
   stands = record {
     shared_stands = stands;
     count = stood.count ∙ ap (λ (sc : Scenario). length sc.weights) (sym same);
-    seated = λ at node there. carry at node (seated_other content image meters law was.scenario was.entries e at node (apart at) (stood.seated at node there));
+    seated = λ at node there. carry at node (seated_other content image meters law (scenario_of was) (entries_of was) e at node (apart at) (stood.seated at node there));
   };
   scenario = same;
   most = most;
-  kept = λ starts kept. subst (λ (sc : Scenario). HaveKept meters sc now.entries starts nodes) (sym same)
-      (subst (λ (h : List Entry). HaveKept meters was.scenario h starts nodes) (sym entered)
-      (have_kept meters was.scenario was.entries starts nodes (was.entries ++ e ∷ []) step kept));
+  kept = λ starts kept. subst (λ (sc : Scenario). HaveKept meters sc (entries_of now) starts nodes) (sym same)
+      (subst (λ (h : List Entry). HaveKept meters (scenario_of was) h starts nodes) (sym entered)
+      (have_kept meters (scenario_of was) (entries_of was) starts nodes (entries_of was ++ e ∷ []) step kept));
 }
   where
     apart : (at : ℕ) → e.owner ≢ suc at
     apart at other = omega (arith, driver, other)
 
-    carry : (at : ℕ) (node : NodeView D) → Seated content image meters was.scenario (was.entries ++ e ∷ []) at node →
-        Seated content image meters now.scenario now.entries at node
-    carry at node there = subst (λ (sc : Scenario). Seated content image meters sc now.entries at node) (sym same)
-        (subst (λ (h : List Entry). Seated content image meters was.scenario h at node) (sym entered) there)
+    carry : (at : ℕ) (node : NodeView D) → Seated content image meters (scenario_of was) (entries_of was ++ e ∷ []) at node →
+        Seated content image meters (scenario_of now) (entries_of now) at node
+    carry at node there = subst (λ (sc : Scenario). Seated content image meters sc (entries_of now) at node) (sym same)
+        (subst (λ (h : List Entry). Seated content image meters (scenario_of was) h at node) (sym entered) there)
 
-    step : (at : ℕ) (start node : NodeView D) → slice_get nodes at ≡ Some node → HasKept was.scenario was.entries (suc at) (numbers_of meters start) (numbers_of meters node) →
-        HasKept was.scenario (was.entries ++ e ∷ []) (suc at) (numbers_of meters start) (numbers_of meters node)
+    step : (at : ℕ) (start node : NodeView D) → slice_get nodes at ≡ Some node → HasKept (scenario_of was) (entries_of was) (suc at) (numbers_of meters start) (numbers_of meters node) →
+        HasKept (scenario_of was) (entries_of was ++ e ∷ []) (suc at) (numbers_of meters start) (numbers_of meters node)
     step at start node there kept =
-        kept_more was.scenario was.entries e (suc at) (numbers_of meters start) (numbers_of meters node) (numbers_of meters node) (counted (disk_of node.state))
-        (goes_other was.scenario (suc at) e (numbers_of meters node) (counted (disk_of node.state)) (apart at) (unarmed (suc at))) kept
+        kept_more (scenario_of was) (entries_of was) e (suc at) (numbers_of meters start) (numbers_of meters node) (numbers_of meters node) (counted (disk_of node.state))
+        (goes_other (scenario_of was) (suc at) e (numbers_of meters node) (counted (disk_of node.state)) (apart at) (unarmed (suc at))) kept
 
 -- nothing was entered, and no node changed
-pub still_on : {D : Type 0} (content : D → List ℕ) (image : D → List ℕ → Type 0) (meters : D → Meters) (was now : SharedView) (nodes : List (NodeView D)) →
-    FleetStands content image meters was nodes → SharedStands now → now.scenario ≡ was.scenario → now.most ≡ was.most →
-    now.entries ≡ was.entries → IsFleetOn content image meters was now nodes nodes
+pub still_on : {D : Type 0} (content : D → List ℕ) (image : D → List ℕ → Type 0) (meters : D → Meters) (was now : List Mark) (nodes : List (NodeView D)) →
+    FleetStands content image meters was nodes → SharedStands now → scenario_of now ≡ scenario_of was → most_of now ≡ most_of was →
+    entries_of now ≡ entries_of was → IsFleetOn content image meters was now nodes nodes
 still_on {D} content image meters was now nodes stood stands same most entered = record {
   stands = record {
     shared_stands = stands;
     count = stood.count ∙ ap (λ (sc : Scenario). length sc.weights) (sym same);
-    seated = λ at node there. subst (λ (sc : Scenario). Seated content image meters sc now.entries at node) (sym same)
-        (subst (λ (h : List Entry). Seated content image meters was.scenario h at node) (sym entered) (stood.seated at node there));
+    seated = λ at node there. subst (λ (sc : Scenario). Seated content image meters sc (entries_of now) at node) (sym same)
+        (subst (λ (h : List Entry). Seated content image meters (scenario_of was) h at node) (sym entered) (stood.seated at node there));
   };
   scenario = same;
   most = most;
-  kept = λ starts kept. subst (λ (sc : Scenario). HaveKept meters sc now.entries starts nodes) (sym same)
-      (subst (λ (h : List Entry). HaveKept meters was.scenario h starts nodes) (sym entered) kept);
+  kept = λ starts kept. subst (λ (sc : Scenario). HaveKept meters sc (entries_of now) starts nodes) (sym same)
+      (subst (λ (h : List Entry). HaveKept meters (scenario_of was) h starts nodes) (sym entered) kept);
 }
 
 -- What a call that changed the node of a site entered: an entry of that site, or the line that arms its disk. It is none of
@@ -111,10 +113,10 @@ Went sc h more site old new = IsQuiet h more old new ⊎ IsNext sc h more site o
 -- a call of the node at a place
 pub node_on : {D : Type 0} (content : D → List ℕ) (image : D → List ℕ → Type 0) (meters : D → Meters) → NodesKept content image meters →
     ((d : D) → IsCounted (meters d)) →
-    (was now : SharedView) (nodes : List (NodeView D)) (at : ℕ) (old new : NodeView D) → slice_get nodes at ≡ Some old →
-    FleetStands content image meters was nodes → SharedStands now → now.scenario ≡ was.scenario → now.most ≡ was.most →
-    new.site ≡ old.site → NodeStands content image meters now.scenario now.entries new →
-    Went was.scenario was.entries now.entries (suc at) (numbers_of meters old) (numbers_of meters new) →
+    (was now : List Mark) (nodes : List (NodeView D)) (at : ℕ) (old new : NodeView D) → slice_get nodes at ≡ Some old →
+    FleetStands content image meters was nodes → SharedStands now → scenario_of now ≡ scenario_of was → most_of now ≡ most_of was →
+    new.site ≡ old.site → NodeStands content image meters (scenario_of now) (entries_of now) new →
+    Went (scenario_of was) (entries_of was) (entries_of now) (suc at) (numbers_of meters old) (numbers_of meters new) →
     IsFleetOn content image meters was now nodes (slice_set nodes at new)
 node_on {D} content image meters law counted was now nodes at old new there stood stands same most site standing went = record {
   stands = record {
@@ -126,7 +128,7 @@ node_on {D} content image meters law counted was now nodes at old new there stoo
   most = most;
   kept = λ starts kept. record {
     count = set_length nodes at new ∙ kept.count;
-    each = λ k start node is was_node. subst (λ (sc : Scenario). HasKept sc now.entries (suc k) (numbers_of meters start) (numbers_of meters node)) (sym same)
+    each = λ k start node is was_node. subst (λ (sc : Scenario). HasKept sc (entries_of now) (suc k) (numbers_of meters start) (numbers_of meters node)) (sym same)
         (each starts kept k start node is was_node (k == at) refl);
   };
 }
@@ -144,70 +146,70 @@ node_on {D} content image meters law counted was now nodes at old new there stoo
     far_site k is same = far k is (omega (arith, same))
 
     -- what it entered
-    rooms : Went was.scenario was.entries now.entries (suc at) (numbers_of meters old) (numbers_of meters new) →
-        HadNoRooms was.scenario now.entries (suc at) (numbers_of meters new).capacity
-    rooms (inl quiet) = subst (λ (h : List Entry). HadNoRooms was.scenario h (suc at) (numbers_of meters new).capacity) (sym quiet.none)
-        (subst (λ (n : ℕ). HadNoRooms was.scenario was.entries (suc at) n) (sym quiet.goes.goes.capacity) (stood.seated at old there).rooms)
-    rooms (inr next) = subst (λ (h : List Entry). HadNoRooms was.scenario h (suc at) (numbers_of meters new).capacity) (sym next.entered)
-        (subst (λ (n : ℕ). HadNoRooms was.scenario (was.entries ++ next.e ∷ []) (suc at) n) (sym next.goes.goes.capacity)
-        (rooms_push was.scenario was.entries next.e (suc at) (numbers_of meters old).capacity (stood.seated at old there).rooms (λ mine. next.room)))
+    rooms : Went (scenario_of was) (entries_of was) (entries_of now) (suc at) (numbers_of meters old) (numbers_of meters new) →
+        HadNoRooms (scenario_of was) (entries_of now) (suc at) (numbers_of meters new).capacity
+    rooms (inl quiet) = subst (λ (h : List Entry). HadNoRooms (scenario_of was) h (suc at) (numbers_of meters new).capacity) (sym quiet.none)
+        (subst (λ (n : ℕ). HadNoRooms (scenario_of was) (entries_of was) (suc at) n) (sym quiet.goes.goes.capacity) (stood.seated at old there).rooms)
+    rooms (inr next) = subst (λ (h : List Entry). HadNoRooms (scenario_of was) h (suc at) (numbers_of meters new).capacity) (sym next.entered)
+        (subst (λ (n : ℕ). HadNoRooms (scenario_of was) (entries_of was ++ next.e ∷ []) (suc at) n) (sym next.goes.goes.capacity)
+        (rooms_push (scenario_of was) (entries_of was) next.e (suc at) (numbers_of meters old).capacity (stood.seated at old there).rooms (λ mine. next.room)))
 
-    seated_new : Seated content image meters now.scenario now.entries at new
+    seated_new : Seated content image meters (scenario_of now) (entries_of now) at new
     seated_new = record {
       site = site ∙ (stood.seated at old there).site;
       stands = standing;
-      rooms = subst (λ (sc : Scenario). HadNoRooms sc now.entries (suc at) (numbers_of meters new).capacity) (sym same) (rooms went);
+      rooms = subst (λ (sc : Scenario). HadNoRooms sc (entries_of now) (suc at) (numbers_of meters new).capacity) (sym same) (rooms went);
     }
 
-    other : (k : ℕ) (node : NodeView D) → suc k ≢ suc at → Seated content image meters was.scenario was.entries k node →
-        Went was.scenario was.entries now.entries (suc at) (numbers_of meters old) (numbers_of meters new) →
-        Seated content image meters was.scenario now.entries k node
-    other k node apart was_seated (inl quiet) = subst (λ (h : List Entry). Seated content image meters was.scenario h k node) (sym quiet.none) was_seated
-    other k node apart was_seated (inr next) = subst (λ (h : List Entry). Seated content image meters was.scenario h k node) (sym next.entered)
-        (seated_other content image meters law was.scenario was.entries next.e k node (next.apart k apart) was_seated)
+    other : (k : ℕ) (node : NodeView D) → suc k ≢ suc at → Seated content image meters (scenario_of was) (entries_of was) k node →
+        Went (scenario_of was) (entries_of was) (entries_of now) (suc at) (numbers_of meters old) (numbers_of meters new) →
+        Seated content image meters (scenario_of was) (entries_of now) k node
+    other k node apart was_seated (inl quiet) = subst (λ (h : List Entry). Seated content image meters (scenario_of was) h k node) (sym quiet.none) was_seated
+    other k node apart was_seated (inr next) = subst (λ (h : List Entry). Seated content image meters (scenario_of was) h k node) (sym next.entered)
+        (seated_other content image meters law (scenario_of was) (entries_of was) next.e k node (next.apart k apart) was_seated)
 
     seat : (k : ℕ) (node : NodeView D) → slice_get (slice_set nodes at new) k ≡ Some node → (b : Bool) → (k == at) ≡ b →
-        Seated content image meters now.scenario now.entries k node
+        Seated content image meters (scenario_of now) (entries_of now) k node
     seat k node is true e =
         let k_at : k ≡ at = eqb-true k at e in
         let at_node : slice_get (slice_set nodes at new) at ≡ Some node = subst (λ (n : ℕ). slice_get (slice_set nodes at new) n ≡ Some node) k_at is in
         let both : Some new ≡ Some node = sym here ∙ at_node in
         let one : new ≡ node = cc in
-        subst (λ (n : ℕ). Seated content image meters now.scenario now.entries n node) (sym k_at)
-        (subst (λ (z : NodeView D). Seated content image meters now.scenario now.entries at z) one seated_new)
+        subst (λ (n : ℕ). Seated content image meters (scenario_of now) (entries_of now) n node) (sym k_at)
+        (subst (λ (z : NodeView D). Seated content image meters (scenario_of now) (entries_of now) at z) one seated_new)
     seat k node is false e =
-        subst (λ (sc : Scenario). Seated content image meters sc now.entries k node) (sym same)
+        subst (λ (sc : Scenario). Seated content image meters sc (entries_of now) k node) (sym same)
         (other k node (far_site k e) (stood.seated k node (sym (get_set_other nodes at k new (far k e)) ∙ is)) went)
 
     -- the numbers of its disk
-    kept_here : (start : NodeView D) → HasKept was.scenario was.entries (suc at) (numbers_of meters start) (numbers_of meters old) →
-        Went was.scenario was.entries now.entries (suc at) (numbers_of meters old) (numbers_of meters new) →
-        HasKept was.scenario now.entries (suc at) (numbers_of meters start) (numbers_of meters new)
-    kept_here start kept (inl quiet) = subst (λ (h : List Entry). HasKept was.scenario h (suc at) (numbers_of meters start) (numbers_of meters new)) (sym quiet.none)
-        (kept_on was.scenario was.entries (suc at) (numbers_of meters start) (numbers_of meters old) (numbers_of meters new) (counted (disk_of new.state)) quiet.goes kept)
-    kept_here start kept (inr next) = subst (λ (h : List Entry). HasKept was.scenario h (suc at) (numbers_of meters start) (numbers_of meters new)) (sym next.entered)
-        (kept_more was.scenario was.entries next.e (suc at) (numbers_of meters start) (numbers_of meters old) (numbers_of meters new) (counted (disk_of new.state)) next.goes kept)
+    kept_here : (start : NodeView D) → HasKept (scenario_of was) (entries_of was) (suc at) (numbers_of meters start) (numbers_of meters old) →
+        Went (scenario_of was) (entries_of was) (entries_of now) (suc at) (numbers_of meters old) (numbers_of meters new) →
+        HasKept (scenario_of was) (entries_of now) (suc at) (numbers_of meters start) (numbers_of meters new)
+    kept_here start kept (inl quiet) = subst (λ (h : List Entry). HasKept (scenario_of was) h (suc at) (numbers_of meters start) (numbers_of meters new)) (sym quiet.none)
+        (kept_on (scenario_of was) (entries_of was) (suc at) (numbers_of meters start) (numbers_of meters old) (numbers_of meters new) (counted (disk_of new.state)) quiet.goes kept)
+    kept_here start kept (inr next) = subst (λ (h : List Entry). HasKept (scenario_of was) h (suc at) (numbers_of meters start) (numbers_of meters new)) (sym next.entered)
+        (kept_more (scenario_of was) (entries_of was) next.e (suc at) (numbers_of meters start) (numbers_of meters old) (numbers_of meters new) (counted (disk_of new.state)) next.goes kept)
 
     -- and of the others
-    kept_far : (k : ℕ) (start node : NodeView D) → suc k ≢ suc at → HasKept was.scenario was.entries (suc k) (numbers_of meters start) (numbers_of meters node) →
-        Went was.scenario was.entries now.entries (suc at) (numbers_of meters old) (numbers_of meters new) →
-        HasKept was.scenario now.entries (suc k) (numbers_of meters start) (numbers_of meters node)
-    kept_far k start node apart kept (inl quiet) = subst (λ (h : List Entry). HasKept was.scenario h (suc k) (numbers_of meters start) (numbers_of meters node)) (sym quiet.none) kept
-    kept_far k start node apart kept (inr next) = subst (λ (h : List Entry). HasKept was.scenario h (suc k) (numbers_of meters start) (numbers_of meters node)) (sym next.entered)
-        (kept_more was.scenario was.entries next.e (suc k) (numbers_of meters start) (numbers_of meters node) (numbers_of meters node) (counted (disk_of node.state))
-        (goes_other was.scenario (suc k) next.e (numbers_of meters node) (counted (disk_of node.state)) (next.apart k apart) (next.unarmed k apart)) kept)
+    kept_far : (k : ℕ) (start node : NodeView D) → suc k ≢ suc at → HasKept (scenario_of was) (entries_of was) (suc k) (numbers_of meters start) (numbers_of meters node) →
+        Went (scenario_of was) (entries_of was) (entries_of now) (suc at) (numbers_of meters old) (numbers_of meters new) →
+        HasKept (scenario_of was) (entries_of now) (suc k) (numbers_of meters start) (numbers_of meters node)
+    kept_far k start node apart kept (inl quiet) = subst (λ (h : List Entry). HasKept (scenario_of was) h (suc k) (numbers_of meters start) (numbers_of meters node)) (sym quiet.none) kept
+    kept_far k start node apart kept (inr next) = subst (λ (h : List Entry). HasKept (scenario_of was) h (suc k) (numbers_of meters start) (numbers_of meters node)) (sym next.entered)
+        (kept_more (scenario_of was) (entries_of was) next.e (suc k) (numbers_of meters start) (numbers_of meters node) (numbers_of meters node) (counted (disk_of node.state))
+        (goes_other (scenario_of was) (suc k) next.e (numbers_of meters node) (counted (disk_of node.state)) (next.apart k apart) (next.unarmed k apart)) kept)
 
-    each : (starts : List (NodeView D)) → HaveKept meters was.scenario was.entries starts nodes → (k : ℕ) (start node : NodeView D) →
+    each : (starts : List (NodeView D)) → HaveKept meters (scenario_of was) (entries_of was) starts nodes → (k : ℕ) (start node : NodeView D) →
         slice_get starts k ≡ Some start → slice_get (slice_set nodes at new) k ≡ Some node → (b : Bool) → (k == at) ≡ b →
-        HasKept was.scenario now.entries (suc k) (numbers_of meters start) (numbers_of meters node)
+        HasKept (scenario_of was) (entries_of now) (suc k) (numbers_of meters start) (numbers_of meters node)
     each starts kept k start node is is_node true e =
         let k_at : k ≡ at = eqb-true k at e in
         let at_start : slice_get starts at ≡ Some start = subst (λ (n : ℕ). slice_get starts n ≡ Some start) k_at is in
         let at_node : slice_get (slice_set nodes at new) at ≡ Some node = subst (λ (n : ℕ). slice_get (slice_set nodes at new) n ≡ Some node) k_at is_node in
         let both : Some new ≡ Some node = sym here ∙ at_node in
         let one : new ≡ node = cc in
-        subst (λ (n : ℕ). HasKept was.scenario now.entries (suc n) (numbers_of meters start) (numbers_of meters node)) (sym k_at)
-        (subst (λ (z : NodeView D). HasKept was.scenario now.entries (suc at) (numbers_of meters start) (numbers_of meters z)) one
+        subst (λ (n : ℕ). HasKept (scenario_of was) (entries_of now) (suc n) (numbers_of meters start) (numbers_of meters node)) (sym k_at)
+        (subst (λ (z : NodeView D). HasKept (scenario_of was) (entries_of now) (suc at) (numbers_of meters start) (numbers_of meters z)) one
         (kept_here start (kept.each at start old at_start there) went))
     each starts kept k start node is is_node false e =
         kept_far k start node (far_site k e) (kept.each k start node is (sym (get_set_other nodes at k new (far k e)) ∙ is_node)) went
@@ -215,10 +217,10 @@ node_on {D} content image meters law counted was now nodes at old new there stoo
 -- a call for the driver
 pub driver_call : {D E : Type 0} (content : D → List ℕ) (image : D → List ℕ → Type 0) (meters : D → Meters) → NodesKept content image meters →
     ((d : D) → IsCounted (meters d)) →
-    (was now : SharedView) (e : Entry) (nodes : List (NodeView D)) (answer : Result (Unit {0}) E) →
-    FleetStands content image meters was nodes → SharedStands now → (now.scenario ≡ was.scenario) × (now.most ≡ was.most) → e.owner ≡ 0 →
-    ((site : ℕ) → arm_by was.scenario site e ≡ []) →
-    OnOk answer (now.entries ≡ was.entries ++ e ∷ []) → OnErr answer (now.entries ≡ was.entries) → IsFleetOn content image meters was now nodes nodes
+    (was now : List Mark) (e : Entry) (nodes : List (NodeView D)) (answer : Result (Unit {0}) E) →
+    FleetStands content image meters was nodes → SharedStands now → (scenario_of now ≡ scenario_of was) × (most_of now ≡ most_of was) → e.owner ≡ 0 →
+    ((site : ℕ) → arm_by (scenario_of was) site e ≡ []) →
+    OnOk answer (entries_of now ≡ entries_of was ++ e ∷ []) → OnErr answer (entries_of now ≡ entries_of was) → IsFleetOn content image meters was now nodes nodes
 driver_call content image meters law counted was now e nodes (Ok done) stood stands same driver unarmed entered kept =
     driver_on content image meters law counted was now e nodes stood stands same.0 same.1 driver unarmed entered
 driver_call content image meters law counted was now e nodes (Err fault) stood stands same driver unarmed entered kept =

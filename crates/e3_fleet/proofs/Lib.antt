@@ -8,3 +8,4 @@ pub mod Owned
 pub mod Unmanned
 pub mod Ending
 pub mod Seats
+pub mod Driven

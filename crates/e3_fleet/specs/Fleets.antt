@@ -1,5 +1,5 @@
 -- The nodes of all sites, and what is always true of them.
-use Rattle.std.specs.Prelude.{◌≡◌, ◌+◌, ◌≤◌, ◌<◌, ◌++◌, ◌∷◌, [], ℕ, suc, false, List, length, map, slice_get, Some, Result, Ok, Err}
+use Rattle.std.specs.Prelude.{◌≡◌, ◌+◌, ◌≤◌, ◌<◌, ◌++◌, ◌∷◌, [], ℕ, suc, false, List, length, map, slice_get, Option, Some, Result, Ok, Err}
 use Rattle.e3_disk.specs.Meters.{Meters, LAST}
 use Rattle.e3_fleet.specs.Over.{HadNoRooms, HasServed}
 use Rattle.e3_fleet.specs.Stops.{Arm, arm_by, arms_of, is_over, used_by}
@@ -13,9 +13,13 @@ use Rattle.e3_node.specs.declared.fault.RiseFault.TheVariants as rise_fault
 use Rattle.e3_sites.specs.declared.sites.RunFault.{RunFault}
 use Rattle.e3_sites.specs.declared.sites.RunFault.TheVariants as run_fault
 use Rattle.e3_node.specs.NodeView.{NodeView, disk_of}
-use Rattle.e3_node.specs.SharedStands.{SharedStands, SharedView}
+use Rattle.e3_node.specs.SharedStands.{SharedStands}
 use Rattle.e3_types.specs.declared.entries.Entry.{Entry}
 use Rattle.e3_types.specs.declared.scenarios.Scenario.{Scenario}
+use Rattle.e3_wire.specs.Marks.{entries_of, most_of, scenario_of}
+use Rattle.e3_wire.specs.declared.fault.WireFault.{WireFault}
+use Rattle.e3_wire.specs.declared.fault.WireFault.TheVariants as wire_fault
+use Rattle.e3_wire.specs.declared.marks.Mark.{Mark}
 
 -- the node at this place, counted from 0, is that of the next site, and stands for it
 pub record Seated {D : Type 0} (content : D → List ℕ) (image : D → List ℕ → Type 0) (meters : D → Meters)
@@ -35,10 +39,10 @@ AreSeated {D} content image meters sc history nodes =
 
 -- what the sites share stands, and there is a node for each of them
 pub record FleetStands {D : Type 0} (content : D → List ℕ) (image : D → List ℕ → Type 0) (meters : D → Meters)
-    (shared : SharedView) (nodes : List (NodeView D)) : Type 0 where
+    (shared : List Mark) (nodes : List (NodeView D)) : Type 0 where
   pub shared_stands : SharedStands shared
-  pub count : length nodes ≡ length shared.scenario.weights
-  pub seated : AreSeated content image meters shared.scenario shared.entries nodes
+  pub count : length nodes ≡ length (scenario_of shared).weights
+  pub seated : AreSeated content image meters (scenario_of shared) (entries_of shared) nodes
 
 -- While a stop may still come: where no entry behind the line of a stop ended its arm, the disk is armed, and what these
 -- entries took and the calls that are left are together no more than the calls of that arm.
@@ -67,11 +71,11 @@ AreUnarmed {D} meters nodes = (at : ℕ) (node : NodeView D) → slice_get nodes
 -- What a call made of a fleet: it still stands, it plays the same scenario within the same bound, and its disks
 -- kept on.
 pub record IsFleetOn {D : Type 0} (content : D → List ℕ) (image : D → List ℕ → Type 0) (meters : D → Meters)
-    (was now : SharedView) (olds news : List (NodeView D)) : Type 0 where
+    (was now : List Mark) (olds news : List (NodeView D)) : Type 0 where
   pub stands : FleetStands content image meters now news
-  pub scenario : now.scenario ≡ was.scenario
-  pub most : now.most ≡ was.most
-  pub kept : (starts : List (NodeView D)) → HaveKept meters was.scenario was.entries starts olds → HaveKept meters now.scenario now.entries starts news
+  pub scenario : scenario_of now ≡ scenario_of was
+  pub most : most_of now ≡ most_of was
+  pub kept : (starts : List (NodeView D)) → HaveKept meters (scenario_of was) (entries_of was) starts olds → HaveKept meters (scenario_of now) (entries_of now) starts news
 
 -- what a rise is to the run: one that failed or was missed is entered, and the run goes on
 abbrev pub rise_answer : Result ℕ RiseFault → Result (Unit {0}) RunFault
@@ -93,3 +97,14 @@ abbrev pub cut_answer : Result (Unit {0}) CutFault → Result (Unit {0}) RunFaul
 cut_answer (Ok done) = Ok done
 cut_answer (Err cut_fault.HistoryFull) = Err run_fault.HistoryFull
 cut_answer (Err fault) = Err run_fault.NoMemory
+
+-- what an answer of the wire is to the run
+abbrev pub wire_answer : Result (Unit {0}) WireFault → Result (Unit {0}) RunFault
+wire_answer (Ok done) = Ok done
+wire_answer (Err wire_fault.HistoryFull) = Err run_fault.HistoryFull
+wire_answer (Err wire_fault.NoMemory) = Err run_fault.NoMemory
+
+-- and that of a drop
+abbrev pub drop_answer : Result (Option ℕ) WireFault → Result (Unit {0}) RunFault
+drop_answer (Ok number) = Ok tt
+drop_answer (Err fault) = wire_answer (Err fault)

@@ -5,10 +5,12 @@ ghost use Rattle.e3_sites.specs.Entering.{AfterInput, AfterRise, IsFirst};
 ghost use Rattle.e3_sites.specs.declared.sites.RunFault.TheVariants.{HistoryFull};
 ghost use Rattle.e3_types.specs.declared.entries.Act.TheVariants as act;
 ghost use Rattle.e3_types.specs.declared.scenarios.Item.TheVariants as item;
+ghost use Rattle.e3_wire.specs.Marks.{entries_of, most_of, scenario_of};
 ghost use Rattle.e3_world.specs.Items.{add_txn, is_up_at, open_at};
 ghost use Rattle.e3_world.specs.Legal.{IsCut, IsDue, IsLine, IsRising};
 ghost use Rattle.e3_world.specs.Packets.{step_items};
 
+use crate::driving::enter_line;
 use crate::fleet::Fleet;
 use e3_disk::{Disk, Drill};
 use e3_node::{CutFault, InputFault, RiseFault, other_entries_keep_nodes};
@@ -61,7 +63,7 @@ impl<D: Disk + Drill + Drop> Fleet<D> {
     pub(crate) fn is_up_at(&self, at: usize) -> bool
         requires standing { FleetStands D.content D.image D.meters self.now.shared self.now.nodes.items }
         requires within { at < length self.now.nodes.items }
-        ensures { result ≡ is_up_at self.now.shared.entries (suc at) }
+        ensures { result ≡ is_up_at (entries_of self.now.shared) (suc at) }
     {
         self.nodes[at].is_up()
     }
@@ -70,8 +72,8 @@ impl<D: Disk + Drill + Drop> Fleet<D> {
     pub(crate) fn open_txns_at(&self, at: usize) -> Result<List<Txn>, NoMemory>
         requires standing { FleetStands D.content D.image D.meters self.now.shared self.now.nodes.items }
         requires within { at < length self.now.nodes.items }
-        requires up { is_up_at self.now.shared.entries (suc at) ≡ true }
-        ensures { IfOk result (λ txns. txns ≡ fold add_txn [] (open_at self.now.shared.scenario self.now.shared.entries (suc at))) }
+        requires up { is_up_at (entries_of self.now.shared) (suc at) ≡ true }
+        ensures { IfOk result (λ txns. txns ≡ fold add_txn [] (open_at (scenario_of self.now.shared) (entries_of self.now.shared) (suc at))) }
     {
         self.nodes[at].open_txns(self.alloc)
     }
@@ -80,11 +82,11 @@ impl<D: Disk + Drill + Drop> Fleet<D> {
     pub(crate) fn rise_at(&mut self, at: usize) -> Result<(), RunFault>
         requires standing { FleetStands D.content D.image D.meters self.old.shared self.old.nodes.items }
         requires within { at < length self.old.nodes.items }
-        requires turn { IsRising self.old.shared.scenario self.old.shared.entries (suc at) }
+        requires turn { IsRising (scenario_of self.old.shared) (entries_of self.old.shared) (suc at) }
         ensures on { IsFleetOn D.content D.image D.meters self.old.shared self.new.shared self.old.nodes.items self.new.nodes.items }
-        ensures rose { OnOk result (AfterRise self.old.shared.scenario self.old.shared.entries (suc at) self.new.shared.entries) }
-        ensures kept { OnErr result (self.new.shared.entries ≡ self.old.shared.entries) }
-        ensures full { result ≡ Err HistoryFull → self.old.shared.most ≤ length self.old.shared.entries }
+        ensures rose { OnOk result (AfterRise (scenario_of self.old.shared) (entries_of self.old.shared) (suc at) (entries_of self.new.shared)) }
+        ensures kept { OnErr result (entries_of self.new.shared ≡ entries_of self.old.shared) }
+        ensures full { result ≡ Err HistoryFull → most_of self.old.shared ≤ length (entries_of self.old.shared) }
     {
         other_entries_keep_nodes::<D>();
         let answer = self.nodes[at].rise(&mut self.shared);
@@ -95,13 +97,13 @@ impl<D: Disk + Drill + Drop> Fleet<D> {
     pub(crate) fn input_at(&mut self, at: usize, input: Input) -> Result<(), RunFault>
         requires standing { FleetStands D.content D.image D.meters self.old.shared self.old.nodes.items }
         requires within { at < length self.old.nodes.items }
-        requires up { is_up_at self.old.shared.entries (suc at) ≡ true }
-        requires due { IsDue self.old.shared.scenario self.old.shared.entries (suc at) input }
-        requires first { IsFirst self.old.shared.scenario self.old.shared.entries input }
+        requires up { is_up_at (entries_of self.old.shared) (suc at) ≡ true }
+        requires due { IsDue (scenario_of self.old.shared) (entries_of self.old.shared) (suc at) input }
+        requires first { IsFirst (scenario_of self.old.shared) (entries_of self.old.shared) input }
         ensures on { IsFleetOn D.content D.image D.meters self.old.shared self.new.shared self.old.nodes.items self.new.nodes.items }
-        ensures entered { OnOk result (AfterInput self.old.shared.scenario self.old.shared.entries (suc at) input self.new.shared.entries) }
-        ensures kept { OnErr result (self.new.shared.entries ≡ self.old.shared.entries) }
-        ensures full { result ≡ Err HistoryFull → self.old.shared.most ≤ length self.old.shared.entries }
+        ensures entered { OnOk result (AfterInput (scenario_of self.old.shared) (entries_of self.old.shared) (suc at) input (entries_of self.new.shared)) }
+        ensures kept { OnErr result (entries_of self.new.shared ≡ entries_of self.old.shared) }
+        ensures full { result ≡ Err HistoryFull → most_of self.old.shared ≤ length (entries_of self.old.shared) }
     {
         other_entries_keep_nodes::<D>();
         let answer = self.nodes[at].input(&mut self.shared, input);
@@ -112,11 +114,11 @@ impl<D: Disk + Drill + Drop> Fleet<D> {
     pub(crate) fn cut_at(&mut self, at: usize) -> Result<(), RunFault>
         requires standing { FleetStands D.content D.image D.meters self.old.shared self.old.nodes.items }
         requires within { at < length self.old.nodes.items }
-        requires due { IsCut self.old.shared.scenario self.old.shared.entries (suc at) }
+        requires due { IsCut (scenario_of self.old.shared) (entries_of self.old.shared) (suc at) }
         ensures on { IsFleetOn D.content D.image D.meters self.old.shared self.new.shared self.old.nodes.items self.new.nodes.items }
-        ensures entered { OnOk result (self.new.shared.entries ≡ self.old.shared.entries ++ record { owner = suc at; act = act.Cut } ∷ []) }
-        ensures kept { OnErr result (self.new.shared.entries ≡ self.old.shared.entries) }
-        ensures full { result ≡ Err HistoryFull → self.old.shared.most ≤ length self.old.shared.entries }
+        ensures entered { OnOk result (entries_of self.new.shared ≡ entries_of self.old.shared ++ record { owner = suc at; act = act.Cut } ∷ []) }
+        ensures kept { OnErr result (entries_of self.new.shared ≡ entries_of self.old.shared) }
+        ensures full { result ≡ Err HistoryFull → most_of self.old.shared ≤ length (entries_of self.old.shared) }
     {
         other_entries_keep_nodes::<D>();
         let answer = self.nodes[at].cut(&mut self.shared);
@@ -134,16 +136,16 @@ impl<D: Disk + Drill + Drop> Fleet<D> {
     ) -> Result<(), RunFault>
         requires standing { FleetStands D.content D.image D.meters self.old.shared self.old.nodes.items }
         requires within { at < length self.old.nodes.items }
-        requires due { IsLine self.old.shared.scenario self.old.shared.entries number }
-        requires step { step_items self.old.shared.scenario number ≡ item.Stop (suc at) calls leave ∷ [] }
+        requires due { IsLine (scenario_of self.old.shared) (entries_of self.old.shared) number }
+        requires step { step_items (scenario_of self.old.shared) number ≡ item.Stop (suc at) calls leave ∷ [] }
         requires some { 1 ≤ calls }
         ensures on { IsFleetOn D.content D.image D.meters self.old.shared self.new.shared self.old.nodes.items self.new.nodes.items }
-        ensures entered { OnOk result (self.new.shared.entries ≡ self.old.shared.entries ++ record { owner = 0; act = act.Line number } ∷ []) }
-        ensures kept { OnErr result (self.new.shared.entries ≡ self.old.shared.entries) }
-        ensures full { result ≡ Err HistoryFull → self.old.shared.most ≤ length self.old.shared.entries }
+        ensures entered { OnOk result (entries_of self.new.shared ≡ entries_of self.old.shared ++ record { owner = 0; act = act.Line number } ∷ []) }
+        ensures kept { OnErr result (entries_of self.new.shared ≡ entries_of self.old.shared) }
+        ensures full { result ≡ Err HistoryFull → most_of self.old.shared ≤ length (entries_of self.old.shared) }
     {
         other_entries_keep_nodes::<D>();
-        self.shared.line(number)?;
+        enter_line(&mut self.shared, number)?;
         self.nodes[at].stop(calls, leave);
         Ok(())
     }

@@ -1,11 +1,14 @@
 // The sites of a run over their disks, as the driver sees them.
 ghost use Rattle.e3_fleet.specs.Fleets.{FleetStands, HaveKept};
+ghost use Rattle.e3_wire.specs.Marks.{entries_of, most_of, scenario_of};
 ghost use Rattle.std.specs.Prelude.{◌≡◌, ◌≤◌, ◌++◌, ◌∷◌, [], true, false, fold, length, IfOk, OnOk, OnErr, Err};
 
+use crate::driving::{enter_drop, enter_line, enter_parts};
 use e3_disk::{Disk, Drill};
-use e3_node::{Node, Shared, other_entries_keep_nodes};
+use e3_node::{Node, other_entries_keep_nodes};
 use e3_sites::{RunFault, Settle, Sites, settle_in_order};
 use e3_types::{Entry, Input, Leave, List, NoMemory, Packet, SiteSet, Txn};
+use e3_wire::Shared;
 use e3_world::Addressed;
 use std::alloc::Global;
 
@@ -18,19 +21,19 @@ pub struct Fleet<D: Disk + Drill + Drop> {
 }
 
 impl<D: Disk + Drill + Drop> Sites for Fleet<D> {
-    ghost scenario = { λ f. f.shared.scenario };
+    ghost scenario = { λ f. scenario_of f.shared };
 
-    ghost entries = { λ f. f.shared.entries };
+    ghost entries = { λ f. entries_of f.shared };
 
-    ghost most = { λ f. f.shared.most };
+    ghost most = { λ f. most_of f.shared };
 
     ghost stands = { λ f. FleetStands D.content D.image D.meters f.shared f.nodes.items };
 
-    ghost since = { λ start f. HaveKept D.meters f.shared.scenario f.shared.entries start.nodes.items f.nodes.items };
+    ghost since = { λ start f. HaveKept D.meters (scenario_of f.shared) (entries_of f.shared) start.nodes.items f.nodes.items };
 
-    ghost is_legal = { λ f s. s.shared_stands.legal };
+    ghost is_legal = { λ f s. s.shared_stands.played.legal };
 
-    ghost is_given = { λ f s. s.shared_stands.given };
+    ghost is_given = { λ f s. s.shared_stands.played.given };
 
     ghost within = { λ f s. s.shared_stands.within };
 
@@ -84,12 +87,12 @@ impl<D: Disk + Drill + Drop> Sites for Fleet<D> {
 
     fn drop_first(&mut self, packet: &Packet) -> Result<(), RunFault> {
         other_entries_keep_nodes::<D>();
-        self.shared.drop_first(packet)
+        enter_drop(&mut self.shared, packet)
     }
 
     fn line(&mut self, number: u32) -> Result<(), RunFault> {
         other_entries_keep_nodes::<D>();
-        self.shared.line(number)
+        enter_line(&mut self.shared, number)
     }
 
     fn stop(&mut self, number: u32, site: u32, calls: u32, leave: Leave) -> Result<(), RunFault> {
@@ -101,7 +104,7 @@ impl<D: Disk + Drill + Drop> Sites for Fleet<D> {
 
     fn parts(&mut self, parts: List<SiteSet>) -> Result<(), RunFault> {
         other_entries_keep_nodes::<D>();
-        self.shared.parts(parts)
+        enter_parts(&mut self.shared, parts)
     }
 }
 

@@ -1,20 +1,21 @@
 // A run of a scenario over disks.
 ghost use Rattle.std.specs.Prelude.{◌≡◌, ◌≤◌, ◌<◌, ◌^◌, ◌++◌, [], length, OnOk, IfOk, Err, vec_capacity};
 ghost use Rattle.e3_fleet.specs.Fleets.{AreSeated, AreUnarmed, FleetStands, HaveKept, disks_of};
-ghost use Rattle.e3_node.specs.SharedStands.{SharedStands};
 ghost use Rattle.e3_fleet.specs.Over.{AreBlank, AreOver};
 ghost use Rattle.e3_sites.specs.Delivered.{IsFull};
 ghost use Rattle.e3_sites.specs.declared.sites.RunFault.TheVariants.{HistoryFull};
+ghost use Rattle.e3_wire.specs.Marks.{entries_of, most_of, scenario_of};
 ghost use Rattle.e3_world.specs.Given.{IsGiven};
 ghost use Rattle.e3_world.specs.Legal.{IsLegal, IsWhole};
 
 use crate::fleet::Fleet;
 use crate::seating::{seat_all, unseat_all};
 use e3_disk::{Disk, Drill};
-use e3_node::{Node, Shared, a_node_tells_of_its_disk};
+use e3_node::{Node, a_node_tells_of_its_disk};
 use e3_play::play;
 use e3_sites::RunFault;
 use e3_types::{Copied, NoMemory, Scenario};
+use e3_wire::Shared;
 use e3_world::History;
 use std::alloc::Global;
 
@@ -42,9 +43,10 @@ fn open<D: Disk + Drill + Drop>(
     ensures disks { disks_of nodes.new.items ++ disks.new.items ≡ disks.old.items }
     ensures disks_room { vec_capacity disks.new ≡ vec_capacity disks.old }
     ensures stands { IfOk result (λ shared. FleetStands D.content D.image D.meters shared nodes.new.items) }
-    ensures new { IfOk result (λ shared. (shared.scenario ≡ scenario.now) × (shared.entries ≡ []) × (shared.most ≡ most)) }
+    ensures new { IfOk result (λ shared. (scenario_of shared ≡ scenario.now) × (entries_of shared ≡ []) × (most_of shared ≡ most)) }
 {
     let shared = Shared::open(alloc, scenario.copied(alloc)?, most)?;
+    shared.tell();
     seat_all(alloc, scenario, nodes, disks)?;
     Ok(shared)
 }
@@ -64,16 +66,16 @@ fn fly<D: Disk + Drill + Drop>(
     shared: Shared,
     nodes: Vec<Node<D>>,
 ) -> Flown<D>
-    requires played { shared.scenario ≡ scenario.now }
-    requires empty { shared.entries ≡ [] }
+    requires played { scenario_of shared ≡ scenario.now }
+    requires empty { entries_of shared ≡ [] }
     requires stands { FleetStands D.content D.image D.meters shared nodes.items }
     requires given { IsGiven scenario.now }
-    requires most { shared.most ≤ 2000000 }
+    requires most { most_of shared ≤ 2000000 }
     requires unarmed { AreUnarmed D.meters nodes.items }
     ensures legal { IsLegal scenario.now result.history.entries }
-    ensures within { length result.history.entries ≤ shared.most }
+    ensures within { length result.history.entries ≤ most_of shared }
     ensures whole { OnOk result.ended (IsWhole scenario.now result.history.entries) }
-    ensures full { result.ended ≡ Err HistoryFull → IsFull scenario.now result.history.entries shared.most }
+    ensures full { result.ended ≡ Err HistoryFull → IsFull scenario.now result.history.entries (most_of shared) }
     ensures seated { AreSeated D.content D.image D.meters scenario.now result.history.entries result.nodes.items }
     ensures kept { HaveKept D.meters scenario.now result.history.entries nodes.items result.nodes.items }
 {

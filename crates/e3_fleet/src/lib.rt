@@ -2,6 +2,7 @@
 #![tactic(auto)]
 
 mod calling;
+mod driving;
 mod fleet;
 mod flying;
 mod in_memory;

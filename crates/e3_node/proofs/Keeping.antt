@@ -50,7 +50,7 @@ site_kept sc h e site s was other = record {
   incarnation_is = was.incarnation_is ∙ ap incarnation_of (sym (moves_kept sc h e site other));
 }
 
-in_kept : {D : Type 0} (content : D → List ℕ) (image : D → List ℕ → Type 0) (meters : D → Meters)
+pub in_kept : {D : Type 0} (content : D → List ℕ) (image : D → List ℕ → Type 0) (meters : D → Meters)
     (sc : Scenario) (h : List Entry) (e : Entry) (site : ℕ) (state : State D) → IsIn content image meters sc h site state → e.owner ≢ site →
     IsIn content image meters sc (h ++ e ∷ []) site state
 in_kept content image meters sc h e site (Down disk) was other = record {

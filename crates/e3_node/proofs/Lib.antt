@@ -3,10 +3,13 @@ pub mod Counts
 pub mod Keeping
 pub mod Frames
 pub mod Metering
-pub mod Entering
+pub mod Guarding
+pub mod Sharing
 pub mod Rises
 pub mod Risen
 pub mod Strange
 pub mod Among
 pub mod Steps
 pub mod Appends
+pub mod Waiting
+pub mod Turned

@@ -7,8 +7,8 @@ use Rattle.e3_node.specs.Counting.{frames_in}
 use Rattle.e3_node.specs.Ends.{HasFailedToRise, HasRisen, Takes}
 use Rattle.e3_node.specs.NodeStands.{IsDown, IsIn, NodeStands}
 use Rattle.e3_node.specs.NodeView.{NodeView, disk_of}
-use Rattle.e3_node.specs.Rising.{IsAllowed, IsWish, MayRise, RiseMakes, RiseTakes, entries_of, rise_fall_of, told_of}
-use Rattle.e3_node.specs.SharedStands.{SharedStands, SharedView}
+use Rattle.e3_node.specs.Rising.{IsAllowed, IsWish, MayRise, RiseMakes, RiseTakes, entered_by, rise_fall_of, told_of}
+use Rattle.e3_node.specs.SharedStands.{SharedStands}
 use Rattle.e3_node.specs.declared.fault.RiseFault.{RiseFault}
 use Rattle.e3_node.specs.declared.fault.RiseFault.TheVariants as rise_fault
 use Rattle.e3_node.specs.declared.readying.Wish.{Wish}
@@ -20,6 +20,8 @@ use Rattle.e3_types.specs.declared.entries.Act.TheVariants.{Miss}
 use Rattle.e3_types.specs.declared.entries.Entry.{Entry}
 use Rattle.e3_types.specs.declared.entries.Why.{Why}
 use Rattle.e3_types.specs.declared.scenarios.Scenario.{Scenario}
+use Rattle.e3_wire.specs.Marks.{entries_of, scenario_of}
+use Rattle.e3_wire.specs.declared.marks.Mark.{Mark}
 use Rattle.e3_world.specs.Items.{is_up_at}
 use Rattle.e3_world.specs.Legal.{IsRising}
 use Rattle.e3_world.specs.Moves.{Move, Past, moves_of, open_tail, rows_at}
@@ -30,18 +32,18 @@ use Rattle.e3_node.proofs.Pasts.{back_quiet, past_on}
 use Rattle.e3_node.proofs.Steps.{node_with}
 
 -- what a node that stands takes with it, where it may rise
-pub may_rise : {D : Type 0} (content : D → List ℕ) (image : D → List ℕ → Type 0) (meters : D → Meters) (v : SharedView) (node : NodeView D)
-    (wish : Wish) → SharedStands v → NodeStands content image meters v.scenario v.entries node → IsRising v.scenario v.entries node.site →
-    IsWish node.site node.weights node.rows v.entries wish → MayRise v.scenario v.entries wish
-may_rise content image meters v node wish shared was rising is = record {
-  given = shared.given;
-  legal = shared.legal;
-  rising = subst (λ (n : ℕ). IsRising v.scenario v.entries n) (sym is.site_is) rising;
+pub may_rise : {D : Type 0} (content : D → List ℕ) (image : D → List ℕ → Type 0) (meters : D → Meters) (marks : List Mark) (node : NodeView D)
+    (wish : Wish) → SharedStands marks → NodeStands content image meters (scenario_of marks) (entries_of marks) node → IsRising (scenario_of marks) (entries_of marks) node.site →
+    IsWish node.site node.weights node.rows (entries_of marks) wish → MayRise (scenario_of marks) (entries_of marks) wish
+may_rise content image meters marks node wish shared was rising is = record {
+  given = shared.played.given;
+  legal = shared.played.legal;
+  rising = subst (λ (n : ℕ). IsRising (scenario_of marks) (entries_of marks) n) (sym is.site_is) rising;
   some = subst (λ (n : ℕ). 1 ≤ n) (sym is.site_is) was.some;
   weights_are = is.weights_are ∙ was.weights_are;
-  rows_are = is.rows_are ∙ was.rows_are ∙ ap (λ (n : ℕ). rows_at n v.scenario.rows) (sym is.site_is);
-  frames_are = is.frames_are ∙ ap (λ (n : ℕ). frames_in n v.entries) (sym is.site_is) ∙ frames_are v.scenario wish.site v.entries;
-  back = subst (λ (n : ℕ). AllReadBack v.scenario v.entries n) (sym is.site_is) was.back;
+  rows_are = is.rows_are ∙ was.rows_are ∙ ap (λ (n : ℕ). rows_at n (scenario_of marks).rows) (sym is.site_is);
+  frames_are = is.frames_are ∙ ap (λ (n : ℕ). frames_in n (entries_of marks)) (sym is.site_is) ∙ frames_are (scenario_of marks) wish.site (entries_of marks);
+  back = subst (λ (n : ℕ). AllReadBack (scenario_of marks) (entries_of marks) n) (sym is.site_is) was.back;
 }
 
 -- what a rise made is allowed
@@ -69,7 +71,7 @@ missed_disk sc h site image stands = λ bytes at.
 
 rise_in : {D : Type 0} (content : D → List ℕ) (image : D → List ℕ → Type 0) (meters : D → Meters) (sc : Scenario) (h : List Entry)
     (site : ℕ) (old : D) (state : State D) (r : Raised) → is_up_at h site ≡ false → RiseMakes content image meters sc h site old state r →
-    IsIn content image meters sc (h ++ entries_of site r) site state
+    IsIn content image meters sc (h ++ entered_by site r) site state
 rise_in content image meters sc h site old (Up s l) (Rose kept inc) down made = made.up
 rise_in content image meters sc h site old (Up s l) (Failed kept inc why) down made = absurd made
 rise_in content image meters sc h site old (Up s l) Missed down made = absurd made
@@ -90,7 +92,7 @@ rise_in content image meters sc h site old (Down new) Foreign down made = absurd
 
 rise_back : {D : Type 0} (content : D → List ℕ) (image : D → List ℕ → Type 0) (meters : D → Meters) (sc : Scenario) (h : List Entry)
     (site : ℕ) (old : D) (state : State D) (r : Raised) → AllReadBack sc h site → RiseMakes content image meters sc h site old state r →
-    AllReadBack sc (h ++ entries_of site r) site
+    AllReadBack sc (h ++ entered_by site r) site
 rise_back content image meters sc h site old (Up s l) (Rose kept inc) back made = made.back
 rise_back content image meters sc h site old (Up s l) (Failed kept inc why) back made = absurd made
 rise_back content image meters sc h site old (Up s l) Missed back made = absurd made
@@ -105,7 +107,7 @@ rise_back content image meters sc h site old (Down new) Foreign back made = absu
 -- so the whole node stands for the history with what comes of its rise
 pub node_risen : {D : Type 0} (content : D → List ℕ) (image : D → List ℕ → Type 0) (meters : D → Meters) (sc now : Scenario) (h more : List Entry)
     (old new : NodeView D) (state : State D) (r : Raised) → NodeStands content image meters sc h old → is_up_at h old.site ≡ false →
-    RiseMakes content image meters sc h old.site (disk_of old.state) state r → now ≡ sc → more ≡ h ++ entries_of old.site r →
+    RiseMakes content image meters sc h old.site (disk_of old.state) state r → now ≡ sc → more ≡ h ++ entered_by old.site r →
     new ≡ record { site = old.site; weights = old.weights; rows = old.rows; state = state } → NodeStands content image meters now more new
 node_risen content image meters sc now h more old new state r was down made same entered is =
     node_with content image meters sc now h more old new state was same
@@ -117,7 +119,7 @@ node_risen content image meters sc now h more old new state r was down made same
 
 -- what is told of it is so
 rose_as : {D : Type 0} (content : D → List ℕ) (image : D → List ℕ → Type 0) (meters : D → Meters) (sc : Scenario) (h more : List Entry)
-    (site : ℕ) (old : D) (state : State D) (r : Raised) → RiseMakes content image meters sc h site old state r → more ≡ h ++ entries_of site r →
+    (site : ℕ) (old : D) (state : State D) (r : Raised) → RiseMakes content image meters sc h site old state r → more ≡ h ++ entered_by site r →
     IfOk (told_of r) (λ inc. HasRisen sc h site inc more (image old))
 rose_as content image meters sc h more site old (Up s l) (Rose kept inc) made entered =
     record { kept = kept; allowed = made.allowed; entered = entered; read = made.read }
@@ -133,14 +135,14 @@ rose_as content image meters sc h more site old (Down new) Foreign made entered 
 
 pub rose_told : {D : Type 0} (content : D → List ℕ) (image : D → List ℕ → Type 0) (meters : D → Meters) (sc : Scenario) (h more : List Entry)
     (site : ℕ) (old : D) (state : State D) (r : Raised) (told : Result ℕ RiseFault) → RiseMakes content image meters sc h site old state r →
-    more ≡ h ++ entries_of site r → told ≡ told_of r → IfOk told (λ inc. HasRisen sc h site inc more (image old))
+    more ≡ h ++ entered_by site r → told ≡ told_of r → IfOk told (λ inc. HasRisen sc h site inc more (image old))
 rose_told content image meters sc h more site old state r told made entered is =
     subst (λ (t : Result ℕ RiseFault). IfOk t (λ inc. HasRisen sc h site inc more (image old))) (sym is)
     (rose_as content image meters sc h more site old state r made entered)
 
 pub failed_told : {D : Type 0} (content : D → List ℕ) (image : D → List ℕ → Type 0) (meters : D → Meters) (sc : Scenario) (h more : List Entry)
     (site : ℕ) (old : D) (state : State D) (r : Raised) → RiseMakes content image meters sc h site old state r →
-    more ≡ h ++ entries_of site r → (why : Why) → told_of r ≡ Err (rise_fault.Failed why) →
+    more ≡ h ++ entered_by site r → (why : Why) → told_of r ≡ Err (rise_fault.Failed why) →
     HasFailedToRise sc h site why more (meters old) (meters (disk_of state)) (image old)
 failed_told content image meters sc h more site old (Up s l) (Rose kept inc) made entered why is = absurd cc
 failed_told content image meters sc h more site old (Up s l) (Failed kept inc because) made entered why is = absurd made

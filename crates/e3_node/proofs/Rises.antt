@@ -34,7 +34,7 @@ use Rattle.e3_world.specs.Moves.{Move, Rose as DidRise, Silent, Tail, kept_moves
 use Rattle.e3_world.proofs.Pushes.{legal_push, log_push}
 use Rattle.e3_world.proofs.Readings.{up_same}
 use Rattle.e3_world.proofs.Turns.{self}
-use Rattle.e3_node.proofs.Entering.{rise_guard}
+use Rattle.e3_node.proofs.Guarding.{rise_guard}
 use Rattle.e3_node.proofs.Frames.{bodies_push, spells}
 use Rattle.e3_node.proofs.Metering.{rose_since}
 use Rattle.e3_node.proofs.Pasts.{back_not_risen, back_risen, back_with, rise_fall_moves, rise_fall_tail, rise_moves, with_log}

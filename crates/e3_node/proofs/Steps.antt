@@ -1,32 +1,34 @@
 -- A node behind an input.
 use Rattle.std.proofs.Common.{◌≡◌, ◌≢◌, ◌++◌, ◌∷◌, [], ◌≤◌, ℕ, suc, true, false, List, length, refl, sym, subst, ap, ◌∙◌, append-nil, map, arith}
-use Rattle.std.specs.Prelude.{◌+◌, if◌then◌else◌, Bool, Option, filter, nat_lt}
+use Rattle.std.specs.Prelude.{◌+◌, if◌then◌else◌, Bool, Option, Result, Ok, Err, IfOk, filter, nat_lt}
 use Rattle.std.proofs.Common.{length-append}
 use Rattle.std.proofs.lemmas.List.Elements.{filter-append}
 use Rattle.e3_codec.specs.Fields.{AllCanBeReadBack}
 use Rattle.e3_disk.specs.Images.{Within}
 use Rattle.e3_disk.specs.Meters.{Meters}
 use Rattle.e3_log.specs.Stands.{LogState, Stands}
+use Rattle.e3_law_local.specs.Others.{Allows, numbered_on}
 use Rattle.e3_node.specs.Bodies.{AllReadBack, DiskStands, ReadsWith, bodies_at, bodies_of_moves, body_of, tail_records}
 use Rattle.e3_node.specs.Drafts.{IsDraft}
 use Rattle.e3_node.specs.Ends.{FellOver, is_fall}
 use Rattle.e3_node.specs.NodeStands.{IsDown, IsIn, IsUp, NodeStands, is_step, steps_at}
 use Rattle.e3_node.specs.NodeView.{NodeView, disk_of, is_up_in}
-use Rattle.e3_node.specs.SharedStands.{SharedView}
 use Rattle.e3_node.specs.declared.drafts.Draft.{Draft}
 use Rattle.e3_node.specs.declared.fault.InputFault.{InputFault}
 use Rattle.e3_node.specs.declared.fault.InputFault.TheVariants as input_fault
 use Rattle.e3_node.specs.declared.state.State.{State}
 use Rattle.e3_node.specs.declared.state.State.TheVariants.{Down, Up}
 use Rattle.e3_sites.specs.Entering.{fall_of}
-use Rattle.e3_site.specs.SiteView.{SiteView, count_on, plan_of, step_kept}
+use Rattle.e3_site.specs.SiteView.{IsPlanOf, SiteView, count_on, plan_of, step_kept}
 use Rattle.e3_site.specs.StandsFor.{StandsFor, StandsOn}
 use Rattle.e3_types.specs.declared.entries.Act.TheVariants.{Step, Fall, Cut}
 use Rattle.e3_types.specs.declared.entries.Entry.{Entry}
 use Rattle.e3_types.specs.declared.entries.Input.{Input}
 use Rattle.e3_types.specs.declared.entries.Why.{Why}
+use Rattle.e3_types.specs.declared.list.NoMemory.{NoMemory}
 use Rattle.e3_types.specs.declared.records.Record.{Record}
 use Rattle.e3_types.specs.declared.scenarios.Scenario.{Scenario}
+use Rattle.e3_wire.specs.Wires.{TakesLeast, TakesOne}
 use Rattle.e3_world.specs.Items.{is_up_at}
 use Rattle.e3_world.specs.Legal.{Guard, IsDue, entry_of, made_by, numbered}
 use Rattle.e3_world.specs.Packets.{sent}
@@ -38,7 +40,7 @@ use Rattle.e3_world.proofs.Numbers.{entered_move}
 use Rattle.e3_world.proofs.Pushes.{log_push}
 use Rattle.e3_world.proofs.Readings.{own_same, up_same}
 use Rattle.e3_world.proofs.Turns.{self}
-use Rattle.e3_node.proofs.Entering.{fall_guard, step_entry}
+use Rattle.e3_node.proofs.Guarding.{fall_guard, step_entry}
 use Rattle.e3_node.proofs.Frames.{bodies_push}
 use Rattle.e3_node.proofs.Keeping.{disk_in}
 use Rattle.e3_node.proofs.Pasts.{all_both, back_left, past_on}
@@ -131,6 +133,12 @@ draft_made sc h site s i d stands is = record {
       (subst (λ (p : SiteStep). AllCanBeReadBack s.site p.records) (plan_made sc h site s i stands) is.back);
 }
 
+-- a plan that a draft has is the site's
+pub plan_own : (r : Result Draft NoMemory) (site : ℕ) (plan : SiteStep) (i : Input) (s : SiteView) → IfOk r (IsDraft site plan i) → IsPlanOf plan s →
+    IfOk r (λ d. IsPlanOf d.plan s)
+plan_own (Ok d) site plan i s is own = subst (λ (p : SiteStep). IsPlanOf p s) (sym is.plan_is) own
+plan_own (Err none) site plan i s is own = tt
+
 -- the entries of a draft
 pub draft_step : (sc : Scenario) (h : List Entry) (site : ℕ) (i : Input) (d : Draft) → IsMade sc h site i d →
     record { owner = site; act = Step i d.records (numbered (suc (length (sent h))) d.outs) d.told } ≡ entry_of sc h site i
@@ -142,39 +150,30 @@ draft_fall sc h site i d why made =
     ap (λ (l : List Input). record { owner = site; act = Fall l d.fallen why }) made.inputs_are
     ∙ ap (λ (l : List Record). record { owner = site; act = Fall (i ∷ []) l why }) made.fallen_are
 
-pub step_allowed : (v w : SharedView) (site : ℕ) (i : Input) (d : Draft) (room net_room : ℕ) → IsMade v.scenario v.entries site i d →
-    1 ≤ site → is_up_at v.entries site ≡ true → IsDue v.scenario v.entries site i → w ≡ record v { room = room; net_room = net_room } →
-    Guard w.scenario w.entries (record { owner = site; act = Step i d.records (numbered (suc (length (sent w.entries))) d.outs) d.told })
-step_allowed v w site i d room net_room made one up due same =
-    let P : SharedView → Type 0 = λ x. Guard x.scenario x.entries (record { owner = site; act = Step i d.records (numbered (suc (length (sent x.entries))) d.outs) d.told }) in
-    let Q : Entry → Type 0 = λ e. Guard v.scenario v.entries e in
-    subst P (sym same) (subst Q (sym (draft_step v.scenario v.entries site i d made)) (guard_step v.scenario v.entries site i one up due))
+pub step_allowed : (sc : Scenario) (h : List Entry) (site : ℕ) (i : Input) (d : Draft) → IsMade sc h site i d → 1 ≤ site → is_up_at h site ≡ true →
+    IsDue sc h site i → Allows sc h (record { owner = site; act = Step i d.records d.outs d.told })
+step_allowed sc h site i d made one up due =
+    let Q : Entry → Type 0 = λ e. Guard sc h e in
+    subst Q (sym (draft_step sc h site i d made)) (guard_step sc h site i one up due)
 
-pub fall_allowed : (v w : SharedView) (site : ℕ) (i : Input) (d : Draft) (why : Why) (room net_room : ℕ) → IsMade v.scenario v.entries site i d →
-    1 ≤ site → is_up_at v.entries site ≡ true → IsDue v.scenario v.entries site i → d.records ≢ [] → w ≡ record v { room = room; net_room = net_room } →
-    Guard w.scenario w.entries (record { owner = site; act = Fall d.inputs d.fallen why })
-fall_allowed v w site i d why room net_room made one up due some same =
-    let P : SharedView → Type 0 = λ x. Guard x.scenario x.entries (record { owner = site; act = Fall d.inputs d.fallen why }) in
-    let Q : Entry → Type 0 = λ e. Guard v.scenario v.entries e in
-    subst P (sym same) (subst Q (sym (draft_fall v.scenario v.entries site i d why made))
-    (fall_guard v.scenario v.entries site i why one up due (λ none. some (made.records_are ∙ none))))
+pub fall_allowed : (sc : Scenario) (h : List Entry) (site : ℕ) (i : Input) (d : Draft) (why : Why) → IsMade sc h site i d → 1 ≤ site → is_up_at h site ≡ true →
+    IsDue sc h site i → d.records ≢ [] → Allows sc h (record { owner = site; act = Fall d.inputs d.fallen why })
+fall_allowed sc h site i d why made one up due some =
+    let Q : Entry → Type 0 = λ e. Guard sc h e in
+    subst Q (sym (draft_fall sc h site i d why made)) (fall_guard sc h site i why one up due (λ none. some (made.records_are ∙ none)))
+
+-- the one input of a fall
+pub fall_takes : (sc : Scenario) (h : List Entry) (site : ℕ) (i : Input) (inputs : List Input) → inputs ≡ i ∷ [] → TakesLeast sc h site i → TakesOne sc h site inputs
+fall_takes sc h site i inputs is least = let P : List Input → Type 0 = λ l. TakesOne sc h site l in subst P (sym is) least
 
 -- what is entered is the step, or the fall
-pub step_entered : (v w : SharedView) (more : List Entry) (site : ℕ) (i : Input) (d : Draft) (room net_room : ℕ) → IsMade v.scenario v.entries site i d →
-    w ≡ record v { room = room; net_room = net_room } →
-    more ≡ w.entries ++ record { owner = site; act = Step i d.records (numbered (suc (length (sent w.entries))) d.outs) d.told } ∷ [] →
-    more ≡ v.entries ++ entry_of v.scenario v.entries site i ∷ []
-step_entered v w more site i d room net_room made same is =
-    is ∙ ap (λ (x : SharedView). x.entries ++ record { owner = site; act = Step i d.records (numbered (suc (length (sent x.entries))) d.outs) d.told } ∷ []) same
-    ∙ ap (λ (e : Entry). v.entries ++ e ∷ []) (draft_step v.scenario v.entries site i d made)
+pub step_entered : (sc : Scenario) (h more : List Entry) (site : ℕ) (i : Input) (d : Draft) → IsMade sc h site i d →
+    more ≡ h ++ numbered_on h (record { owner = site; act = Step i d.records d.outs d.told }) ∷ [] → more ≡ h ++ entry_of sc h site i ∷ []
+step_entered sc h more site i d made is = is ∙ ap (λ (x : Entry). h ++ x ∷ []) (draft_step sc h site i d made)
 
-pub fall_entered : (v w : SharedView) (more : List Entry) (site : ℕ) (i : Input) (d : Draft) (why : Why) (room net_room : ℕ) →
-    IsMade v.scenario v.entries site i d → w ≡ record v { room = room; net_room = net_room } →
-    more ≡ w.entries ++ record { owner = site; act = Fall d.inputs d.fallen why } ∷ [] →
-    more ≡ v.entries ++ fall_of v.scenario v.entries site i why ∷ []
-fall_entered v w more site i d why room net_room made same is =
-    is ∙ ap (λ (x : SharedView). x.entries ++ record { owner = site; act = Fall d.inputs d.fallen why } ∷ []) same
-    ∙ ap (λ (e : Entry). v.entries ++ e ∷ []) (draft_fall v.scenario v.entries site i d why made)
+pub fall_entered : (sc : Scenario) (h more : List Entry) (site : ℕ) (i : Input) (d : Draft) (why : Why) → IsMade sc h site i d →
+    more ≡ h ++ numbered_on h (record { owner = site; act = Fall d.inputs d.fallen why }) ∷ [] → more ≡ h ++ fall_of sc h site i why ∷ []
+fall_entered sc h more site i d why made is = is ∙ ap (λ (x : Entry). h ++ x ∷ []) (draft_fall sc h site i d why made)
 
 -- the disk of a site that fell
 pub fallen_disk : (sc : Scenario) (h : List Entry) (site : ℕ) (i : Input) (why : Why) (image : List ℕ → Type 0) →

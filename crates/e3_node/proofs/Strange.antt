@@ -19,7 +19,7 @@ use Rattle.e3_world.specs.Logs.{logged_inc}
 use Rattle.e3_world.specs.Moves.{Move, Rose as DidRise, Tail, log_by, log_of, moves_of, open_tail, recorded, rise_records}
 use Rattle.e3_world.specs.Orderly.{IsOrderly, OrderlyAfter}
 use Rattle.e3_world.proofs.Pushes.{legal_push, log_push}
-use Rattle.e3_node.proofs.Entering.{rise_guard}
+use Rattle.e3_node.proofs.Guarding.{rise_guard}
 use Rattle.e3_node.proofs.Frames.{spells}
 use Rattle.e3_node.proofs.Pasts.{back_with, rise_moves, with_log}
 use Rattle.e3_node.proofs.Rises.{Found, found, rise_by}

@@ -2,20 +2,43 @@
 use Rattle.std.specs.Prelude.{◌≡◌, ◌≢◌, ◌++◌, ◌∷◌, [], ℕ, List}
 use Rattle.std.specs.List.{flat_map}
 use Rattle.e3_disk.specs.Meters.{Meters}
+use Rattle.e3_law_local.specs.Others.{AreOthers}
 use Rattle.e3_node.specs.Bodies.{DiskStands, bodies_of_moves}
 use Rattle.e3_node.specs.NodeStands.{NodeStands}
 use Rattle.e3_node.specs.NodeView.{NodeView, disk_of, is_up_in}
+use Rattle.e3_turn.specs.Passes.{GrewByOthers, Owns, seen_by}
 use Rattle.e3_types.specs.Spelling.{spelling}
 use Rattle.e3_types.specs.declared.entries.Entry.{Entry}
 use Rattle.e3_types.specs.declared.scenarios.Scenario.{Scenario}
+use Rattle.e3_wire.specs.Claims.{APass}
+use Rattle.e3_wire.specs.Marks.{belongs, entries_of, scenario_of}
+use Rattle.e3_wire.specs.Wires.{IsPlayed}
+use Rattle.e3_wire.specs.declared.marks.Mark.{Mark}
 use Rattle.e3_world.specs.Items.{is_up_at}
-use Rattle.e3_world.specs.Moves.{Move, log_by}
+use Rattle.e3_world.specs.Moves.{Move, log_by, moves_of}
 
 -- a node that stands for a history stands for it with an entry of another owner
 abbrev pub NodesKept : {D : Type 0} → (D → List ℕ) → (D → List ℕ → Type 0) → (D → Meters) → Type 0
 NodesKept {D} content image meters =
     (sc : Scenario) (h : List Entry) (e : Entry) (node : NodeView D) → NodeStands content image meters sc h node →
     e.owner ≢ node.site → NodeStands content image meters sc (h ++ e ∷ []) node
+
+-- and with more entries of others
+abbrev pub NodesKeptByOthers : {D : Type 0} → (D → List ℕ) → (D → List ℕ → Type 0) → (D → Meters) → Type 0
+NodesKeptByOthers {D} content image meters =
+    (sc : Scenario) (h more : List Entry) (node : NodeView D) → NodeStands content image meters sc h node →
+    AreOthers node.site more → NodeStands content image meters sc (h ++ more) node
+
+-- so it does behind what others put while a pass of the site rested
+abbrev pub NodesStandBehindOthers : {D : Type 0} → (D → List ℕ) → (D → List ℕ → Type 0) → (D → Meters) → Type 0
+NodesStandBehindOthers {D} content image meters =
+    (p : APass) (marks : List Mark) (node : NodeView D) → Owns p node.site → GrewByOthers belongs p marks → IsPlayed (seen_by p) → IsPlayed marks →
+    NodeStands content image meters (scenario_of (seen_by p)) (entries_of (seen_by p)) node →
+    NodeStands content image meters (scenario_of marks) (entries_of marks) node
+
+-- what a site did stays behind entries of others
+abbrev pub MovesStay : Type 0
+MovesStay = (sc : Scenario) (site : ℕ) (h more : List Entry) → AreOthers site more → moves_of sc (h ++ more) site ≡ moves_of sc h site
 
 -- so does a disk
 abbrev pub DisksKept : {D : Type 0} → (D → List ℕ → Type 0) → Type 0

@@ -3,8 +3,12 @@ use Rattle.std.specs.Prelude.{◌≡◌, ◌≢◌, ◌+◌, ◌<◌, ◌≤◌,
 use Rattle.e3_disk.specs.Meters.{Meters, Rose}
 use Rattle.e3_log.specs.declared.fault.AppendFault.{AppendFault}
 use Rattle.e3_log.specs.declared.fault.AppendFault.TheVariants as append_fault
+use Rattle.e3_node.specs.declared.fault.CutFault.{CutFault}
+use Rattle.e3_node.specs.declared.fault.CutFault.TheVariants as cut_fault
 use Rattle.e3_node.specs.declared.fault.InputFault.{InputFault}
 use Rattle.e3_node.specs.declared.fault.InputFault.TheVariants as input_fault
+use Rattle.e3_node.specs.declared.fault.RiseFault.{RiseFault}
+use Rattle.e3_node.specs.declared.fault.RiseFault.TheVariants as rise_fault
 use Rattle.e3_sites.specs.Entering.{fall_of}
 use Rattle.e3_types.specs.Spelling.{spelling}
 use Rattle.e3_types.specs.declared.entries.Act.TheVariants.{Rise, RiseFall}
@@ -14,6 +18,8 @@ use Rattle.e3_types.specs.declared.entries.Why.{Why}
 use Rattle.e3_types.specs.declared.entries.Why.TheVariants.{Fault, Full}
 use Rattle.e3_types.specs.declared.records.Record.{Record}
 use Rattle.e3_types.specs.declared.scenarios.Scenario.{Scenario}
+use Rattle.e3_wire.specs.declared.fault.WireFault.{WireFault}
+use Rattle.e3_wire.specs.declared.fault.WireFault.TheVariants as wire_fault
 use Rattle.e3_world.specs.Legal.{IsRise, made_by}
 use Rattle.e3_world.specs.Moves.{log_by, log_size, rise_records}
 use Rattle.e3_node.specs.Bodies.{IsRead, moves_with}
@@ -57,6 +63,19 @@ pub record HasFailedToRise (sc : Scenario) (history : List Entry) (site : ℕ) (
 abbrev pub is_fall : InputFault → Bool
 is_fall (input_fault.Fell why) = true
 is_fall _ = false
+
+-- what a claim that was refused is to a rise, an input and a cut
+abbrev pub rise_fault_of : WireFault → RiseFault
+rise_fault_of wire_fault.HistoryFull = rise_fault.HistoryFull
+rise_fault_of wire_fault.NoMemory = rise_fault.NoMemory
+
+abbrev pub input_fault_of : WireFault → InputFault
+input_fault_of wire_fault.HistoryFull = input_fault.HistoryFull
+input_fault_of wire_fault.NoMemory = input_fault.NoMemory
+
+abbrev pub cut_fault_of : WireFault → CutFault
+cut_fault_of wire_fault.HistoryFull = cut_fault.HistoryFull
+cut_fault_of wire_fault.NoMemory = cut_fault.NoMemory
 
 -- An arm that has not run out has been taken so many calls at least, and has some left.
 abbrev pub Takes : ℕ → Meters → Meters → Type 0

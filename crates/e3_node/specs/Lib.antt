@@ -7,3 +7,4 @@ pub mod Ends
 pub mod Claims
 pub mod Rising
 pub mod Drafts
+pub mod Turns

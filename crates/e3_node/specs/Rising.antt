@@ -29,6 +29,10 @@ use Rattle.e3_types.specs.declared.records.Record.{Record}
 use Rattle.e3_types.specs.declared.records.Record.TheVariants as log
 use Rattle.e3_types.specs.declared.scenarios.Scenario.{Scenario}
 use Rattle.e3_types.specs.declared.transactions.Row.{Row}
+use Rattle.e3_node.specs.SharedStands.{SharedStands}
+use Rattle.e3_wire.specs.Claims.{HaveGrown}
+use Rattle.e3_wire.specs.Marks.{entries_of, most_of, scenario_of}
+use Rattle.e3_wire.specs.declared.marks.Mark.{Mark}
 use Rattle.e3_world.specs.Given.{IsGiven}
 use Rattle.e3_world.specs.Legal.{IsLegal, IsRise, IsRising}
 use Rattle.e3_world.specs.Logs.{logged_inc}
@@ -144,11 +148,11 @@ raised_of (causes.Damaged at) = Foreign
 raised_of causes.NoMemory = NoMemory
 
 -- the entries that come of a rise
-abbrev pub entries_of : ℕ → Raised → List Entry
-entries_of site (Rose kept inc) = rise_of site kept inc ∷ []
-entries_of site (Failed kept inc why) = rise_fall_of site kept inc why ∷ []
-entries_of site Missed = record { owner = site; act = act.Miss } ∷ []
-entries_of site _ = []
+abbrev pub entered_by : ℕ → Raised → List Entry
+entered_by site (Rose kept inc) = rise_of site kept inc ∷ []
+entered_by site (Failed kept inc why) = rise_fall_of site kept inc why ∷ []
+entered_by site Missed = record { owner = site; act = act.Miss } ∷ []
+entered_by site _ = []
 
 -- what is told of a rise
 abbrev pub told_of : Raised → Result ℕ RiseFault
@@ -163,3 +167,11 @@ IsAllowed sc history site (Rose kept inc) = IsRise sc history site kept inc
 IsAllowed sc history site (Failed kept inc why) = IsRise sc history site kept inc
 IsAllowed sc history site Missed = IsRising sc history site
 IsAllowed sc history site _ = Unit {0}
+
+-- what became of a rise is entered, and what is shared stands again
+pub record RiseIsEntered (site : ℕ) (r : Raised) (before now : List Mark) : Type 0 where
+  pub stands : SharedStands now
+  pub grew : HaveGrown before now
+  pub scenario : scenario_of now ≡ scenario_of before
+  pub most : most_of now ≡ most_of before
+  pub entries : entries_of now ≡ entries_of before ++ entered_by site r

@@ -1,25 +1,30 @@
--- What the sites of a run share, as contracts see it, and what is always true of it.
-use Rattle.std.specs.Prelude.{◌≤◌, ℕ, List, length}
-use Rattle.e3_net.specs.Stands.{NetStands}
-use Rattle.e3_net.specs.Traffic.{Traffic}
+-- What is always true of what the sites of a run share, between calls of one thread.
+use Rattle.std.specs.Prelude.{◌≡◌, ◌≤◌, ◌++◌, ◌∷◌, [], ℕ, List, length}
+use Rattle.e3_law_local.specs.Others.{numbered_on}
 use Rattle.e3_types.specs.declared.entries.Entry.{Entry}
-use Rattle.e3_types.specs.declared.scenarios.Scenario.{Scenario}
-use Rattle.e3_world.specs.Given.{IsGiven}
-use Rattle.e3_world.specs.Legal.{IsLegal}
+use Rattle.e3_wire.specs.Claims.{HaveGrown}
+use Rattle.e3_wire.specs.declared.marks.Mark.{Mark}
+use Rattle.e3_wire.specs.declared.marks.Mark.TheVariants as mark
+use Rattle.e3_wire.specs.Marks.{NothingIsPromised, entries_of, last_owner, most_of, scenario_of}
+use Rattle.e3_wire.specs.Wires.{IsPlayed}
 
--- the scenario that is played, the history, the traffic of its network, how many entries the history may have, and for how
--- many entries and packets more there is room
-pub record SharedView : Type 0 where
-  pub scenario : Scenario
-  pub entries : List Entry
-  pub traffic : Traffic
-  pub most : ℕ
-  pub room : ℕ
-  pub net_room : ℕ
+-- The history of these marks is legal and no longer than it may be, and no place is promised. So it is full exactly where
+-- it has as many entries as it may have.
+pub record SharedStands (marks : List Mark) : Type 0 where
+  pub played : IsPlayed marks
+  pub within : length (entries_of marks) ≤ most_of marks
+  pub none : NothingIsPromised marks
 
--- the scenario keeps its rules, the history is legal for it and no longer than it may be, and the network stands for it
-pub record SharedStands (shared : SharedView) : Type 0 where
-  pub given : IsGiven shared.scenario
-  pub legal : IsLegal shared.scenario shared.entries
-  pub within : length shared.entries ≤ shared.most
-  pub net : NetStands shared.scenario shared.entries shared.traffic
+-- what stood so promised an owner a place since, and room for so many packets
+pub record IsClaimed (owner outs : ℕ) (before now : List Mark) : Type 0 where
+  pub stands : SharedStands before
+  pub exists : owner ≤ last_owner before
+  pub is : now ≡ before ++ mark.Place owner outs ∷ []
+
+-- What stood so has one entry more, its packets with the next numbers, and stands so again.
+pub record HasEntered (e : Entry) (before now : List Mark) : Type 0 where
+  pub stands : SharedStands now
+  pub grew : HaveGrown before now
+  pub scenario : scenario_of now ≡ scenario_of before
+  pub most : most_of now ≡ most_of before
+  pub entries : entries_of now ≡ entries_of before ++ numbered_on (entries_of before) e ∷ []

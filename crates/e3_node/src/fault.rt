@@ -2,6 +2,7 @@
 ghost use Rattle.std.specs.Prelude.{◌≡◌};
 
 use e3_types::{NoMemory, Why};
+use e3_wire::WireFault;
 
 /// Why a site did not rise.
 #[derive(Clone, Copy)]
@@ -29,6 +30,19 @@ impl From<NoMemory> for RiseFault {
     }
 }
 
+impl From<WireFault> for RiseFault {
+    ghost use Rattle.e3_node.specs.Ends.{rise_fault_of};
+
+    ghost from_gives = { λ cause f. f ≡ rise_fault_of cause };
+
+    fn from(cause: WireFault) -> RiseFault {
+        match cause {
+            WireFault::HistoryFull => RiseFault::HistoryFull,
+            WireFault::NoMemory => RiseFault::NoMemory,
+        }
+    }
+}
+
 /// Why a site did not take an input.
 #[derive(Clone, Copy)]
 pub enum InputFault {
@@ -53,6 +67,19 @@ impl From<NoMemory> for InputFault {
     }
 }
 
+impl From<WireFault> for InputFault {
+    ghost use Rattle.e3_node.specs.Ends.{input_fault_of};
+
+    ghost from_gives = { λ cause f. f ≡ input_fault_of cause };
+
+    fn from(cause: WireFault) -> InputFault {
+        match cause {
+            WireFault::HistoryFull => InputFault::HistoryFull,
+            WireFault::NoMemory => InputFault::NoMemory,
+        }
+    }
+}
+
 /// Why a site was not cut.
 #[derive(Clone, Copy)]
 pub enum CutFault {
@@ -71,5 +98,18 @@ impl From<NoMemory> for CutFault {
 
     fn from(_cause: NoMemory) -> CutFault {
         CutFault::NoMemory
+    }
+}
+
+impl From<WireFault> for CutFault {
+    ghost use Rattle.e3_node.specs.Ends.{cut_fault_of};
+
+    ghost from_gives = { λ cause f. f ≡ cut_fault_of cause };
+
+    fn from(cause: WireFault) -> CutFault {
+        match cause {
+            WireFault::HistoryFull => CutFault::HistoryFull,
+            WireFault::NoMemory => CutFault::NoMemory,
+        }
     }
 }

@@ -1,5 +1,5 @@
 // Laws of nodes.
-ghost use Rattle.e3_node.specs.Claims.{BodiesSpellTheLog, DisksKept, NodesDisks, NodesKept, NodesUp};
+ghost use Rattle.e3_node.specs.Claims.{BodiesSpellTheLog, DisksKept, MovesStay, NodesDisks, NodesKept, NodesKeptByOthers, NodesStandBehindOthers, NodesUp};
 
 use e3_disk::Disk;
 
@@ -8,6 +8,14 @@ use e3_disk::Disk;
 pub fn other_entries_keep_nodes<D: Disk>()
     ensures nodes { NodesKept D.content D.image D.meters }
     ensures disks { DisksKept D.image }
+{}
+
+/// A node that stands for a history stands for it with more entries of others, and so behind what others put while a pass
+/// that speaks for its site rested. The moves of the site are the same there.
+pub fn others_leave_nodes<D: Disk>()
+    ensures nodes { NodesKeptByOthers D.content D.image D.meters }
+    ensures turns { NodesStandBehindOthers D.content D.image D.meters }
+    ensures moves { MovesStay }
 {}
 
 /// While a node stands for a history its disk does, and it is up exactly where the history has its site up.

@@ -5,6 +5,7 @@
 mod copying;
 mod counting;
 mod drafts;
+mod entering;
 mod fault;
 mod fitting;
 mod law;
@@ -12,13 +13,14 @@ mod node;
 mod reading;
 mod readying;
 mod rising;
-mod shared;
 mod state;
 mod stepping;
+mod turning;
 mod writing;
 
 pub use fault::{CutFault, InputFault, RiseFault};
-pub use law::{a_node_tells_of_its_disk, bodies_spell_the_log, other_entries_keep_nodes};
+pub use law::{
+    a_node_tells_of_its_disk, bodies_spell_the_log, other_entries_keep_nodes, others_leave_nodes,
+};
 pub use node::Node;
-pub use shared::Shared;
 pub use state::State;

@@ -3,34 +3,45 @@ ghost use Rattle.std.specs.Prelude.{◌≡◌, ◌⊎◌, ◌≤◌, ◌<◌, �
 ghost use Rattle.e3_disk.specs.Images.{IsBlank};
 ghost use Rattle.e3_disk.specs.Leaves.{code_of};
 ghost use Rattle.e3_disk.specs.Meters.{Keeps, Rose, armed, cut};
+ghost use Rattle.e3_law_local.specs.Drafts.{MayTake};
 ghost use Rattle.e3_node.specs.Bodies.{DiskStands};
 ghost use Rattle.e3_node.specs.Ends.{FellOver, HasFailedToRise, HasRisen, IsReason, Takes, calls_for, is_fall};
 ghost use Rattle.e3_node.specs.NodeStands.{NodeStands};
 ghost use Rattle.e3_node.specs.NodeView.{disk_of, is_up_in};
 ghost use Rattle.e3_node.specs.SharedStands.{SharedStands};
+ghost use Rattle.e3_node.specs.Turns.{HasSeenMore, Meanwhile, history_seen, scenario_seen};
 ghost use Rattle.e3_node.specs.declared.fault.CutFault.TheVariants as cut_fault;
 ghost use Rattle.e3_node.specs.declared.fault.InputFault.{InputFault as InputFaults};
 ghost use Rattle.e3_node.specs.declared.fault.InputFault.TheVariants as input_fault;
 ghost use Rattle.e3_node.specs.declared.fault.RiseFault.TheVariants as rise_fault;
 ghost use Rattle.e3_sites.specs.Entering.{IsFirst};
+ghost use Rattle.e3_turn.specs.Passes.{IsIdle, Owns, SameOwners, seen_by};
 ghost use Rattle.e3_types.specs.declared.entries.Act.TheVariants as act;
 ghost use Rattle.e3_types.specs.declared.entries.Entry.{Entry as Entries};
 ghost use Rattle.e3_types.specs.declared.entries.Why.{Why};
 ghost use Rattle.e3_types.specs.declared.scenarios.Scenario.{Scenario};
+ghost use Rattle.e3_wire.specs.Claims.{HaveGrown};
+ghost use Rattle.e3_wire.specs.Marks.{entries_of, most_of, note_of, scenario_of, used_of};
+ghost use Rattle.e3_wire.specs.Wires.{IsPlayed, TakesLeast};
 ghost use Rattle.e3_world.specs.Items.{add_txn, is_up_at, open_at};
 ghost use Rattle.e3_world.specs.Legal.{IsCut, IsDue, IsRising, entry_of, made_by};
 ghost use Rattle.e3_world.specs.Moves.{log_size, moves_of, rows_at};
+ghost use Rattle.e3_world.specs.Packets.{is_calm, present_items};
 
+use crate::entering::{claim, enter, is_full};
 use crate::readying::wish_of;
 use crate::rising::{enter_rise, risen, told};
 use crate::state::{arm, into_disk, keep_up, unpowered};
 use crate::stepping::{settle, take_input};
-use crate::{CutFault, InputFault, RiseFault, Shared, State};
+use crate::turning::take_by_turns;
+use crate::{CutFault, InputFault, RiseFault, State};
 use core::mem::replace_with;
 use e3_disk::{Disk, Drill};
 use e3_types::{Act, Entry, Input, Leave, List, NoMemory, Row, Txn};
+use e3_wire::{Shared, Wire, WirePass};
 use std::alloc::Global;
 use std::marker::Model;
+use std::sync::Wait;
 
 /// A site over its disk: its number, the weights of all sites, that of site 1 first, and its first rows in byte order of
 /// their names.
@@ -113,24 +124,25 @@ impl<D: Disk + Drill + Drop> Node<D> {
     /// durable, and then the rise is entered. What of a step or a rise in doubt is found on the disk is kept, all of it.
     pub fn rise(&mut self, shared: &mut Shared) -> Result<u32, RiseFault>
         requires shared { SharedStands shared.old }
-        requires standing { NodeStands D.content D.image D.meters shared.old.scenario shared.old.entries self.old }
-        requires turn { is_up_at shared.old.entries self.old.site ≡ false → IsRising shared.old.scenario shared.old.entries self.old.site }
+        requires standing { NodeStands D.content D.image D.meters (scenario_of shared.old) (entries_of shared.old) self.old }
+        requires turn { is_up_at (entries_of shared.old) self.old.site ≡ false → IsRising (scenario_of shared.old) (entries_of shared.old) self.old.site }
         ensures shared { SharedStands shared.new }
-        ensures same { (shared.new.scenario ≡ shared.old.scenario) × (shared.new.most ≡ shared.old.most) }
-        ensures stands { NodeStands D.content D.image D.meters shared.new.scenario shared.new.entries self.new }
+        ensures grew { HaveGrown shared.old shared.new }
+        ensures same { (scenario_of shared.new ≡ scenario_of shared.old) × (most_of shared.new ≡ most_of shared.old) }
+        ensures stands { NodeStands D.content D.image D.meters (scenario_of shared.new) (entries_of shared.new) self.new }
         ensures site { self.new.site ≡ self.old.site }
-        ensures up { (result ≡ Err rise_fault.Up) ↔ (is_up_at shared.old.entries self.old.site ≡ true) }
-        ensures full { is_up_at shared.old.entries self.old.site ≡ false →
-            (result ≡ Err rise_fault.HistoryFull) ↔ (shared.old.most ≤ length shared.old.entries) }
-        ensures rose { IfOk result (λ inc. HasRisen shared.old.scenario shared.old.entries self.old.site inc shared.new.entries
+        ensures up { (result ≡ Err rise_fault.Up) ↔ (is_up_at (entries_of shared.old) self.old.site ≡ true) }
+        ensures full { is_up_at (entries_of shared.old) self.old.site ≡ false →
+            (result ≡ Err rise_fault.HistoryFull) ↔ (most_of shared.old ≤ length (entries_of shared.old)) }
+        ensures rose { IfOk result (λ inc. HasRisen (scenario_of shared.old) (entries_of shared.old) self.old.site inc (entries_of shared.new)
             (D.image (disk_of self.old.state))) }
         ensures failed { (why : Why) → result ≡ Err (rise_fault.Failed why) →
-            HasFailedToRise shared.old.scenario shared.old.entries self.old.site why shared.new.entries
+            HasFailedToRise (scenario_of shared.old) (entries_of shared.old) self.old.site why (entries_of shared.new)
             (D.meters (disk_of self.old.state)) (D.meters (disk_of self.new.state)) (D.image (disk_of self.old.state)) }
-        ensures missed { result ≡ Err rise_fault.Missed → shared.new.entries ≡ shared.old.entries ++ record { owner = self.old.site; act = act.Miss } ∷ [] }
+        ensures missed { result ≡ Err rise_fault.Missed → entries_of shared.new ≡ entries_of shared.old ++ record { owner = self.old.site; act = act.Miss } ∷ [] }
         ensures kept { (result ≡ Err rise_fault.Up) ⊎ (result ≡ Err rise_fault.HistoryFull) →
-            (shared.new.entries ≡ shared.old.entries) × (self.new ≡ self.old) }
-        ensures no_memory { result ≡ Err rise_fault.NoMemory → shared.new.entries ≡ shared.old.entries }
+            (entries_of shared.new ≡ entries_of shared.old) × (self.new ≡ self.old) }
+        ensures no_memory { result ≡ Err rise_fault.NoMemory → entries_of shared.new ≡ entries_of shared.old }
 
         // a rise that was missed has a fault of the disk as its cause; no call arms or cuts the disk, and what is left of an
         // arm pays for the calls: a sync and the four of a frame
@@ -142,11 +154,11 @@ impl<D: Disk + Drill + Drop> Node<D> {
         if self.is_up() {
             return Err(RiseFault::Up);
         }
-        if shared.is_full() {
+        if is_full(shared) {
             return Err(RiseFault::HistoryFull);
         }
         let wish = wish_of(shared, self.site, &self.weights, &self.rows)?;
-        shared.make_room(0)?;
+        claim(shared, self.site, 0)?;
         let raised = replace_with(&mut self.state, wish, risen::<D>);
         enter_rise(shared, self.site, raised);
         told(raised)
@@ -156,30 +168,31 @@ impl<D: Disk + Drill + Drop> Node<D> {
     /// that frame was not written, or may not have been. A packet that is delivered leaves the network with the entry.
     pub fn input(&mut self, shared: &mut Shared, input: Input) -> Result<(), InputFault>
         requires shared { SharedStands shared.old }
-        requires standing { NodeStands D.content D.image D.meters shared.old.scenario shared.old.entries self.old }
-        requires due { is_up_at shared.old.entries self.old.site ≡ true → IsDue shared.old.scenario shared.old.entries self.old.site input }
-        requires first { is_up_at shared.old.entries self.old.site ≡ true → IsFirst shared.old.scenario shared.old.entries input }
+        requires standing { NodeStands D.content D.image D.meters (scenario_of shared.old) (entries_of shared.old) self.old }
+        requires due { is_up_at (entries_of shared.old) self.old.site ≡ true → IsDue (scenario_of shared.old) (entries_of shared.old) self.old.site input }
+        requires first { is_up_at (entries_of shared.old) self.old.site ≡ true → IsFirst (scenario_of shared.old) (entries_of shared.old) input }
         ensures shared { SharedStands shared.new }
-        ensures same { (shared.new.scenario ≡ shared.old.scenario) × (shared.new.most ≡ shared.old.most) }
-        ensures stands { NodeStands D.content D.image D.meters shared.new.scenario shared.new.entries self.new }
+        ensures grew { HaveGrown shared.old shared.new }
+        ensures same { (scenario_of shared.new ≡ scenario_of shared.old) × (most_of shared.new ≡ most_of shared.old) }
+        ensures stands { NodeStands D.content D.image D.meters (scenario_of shared.new) (entries_of shared.new) self.new }
         ensures site { self.new.site ≡ self.old.site }
-        ensures stepped { OnOk result (shared.new.entries ≡ shared.old.entries ++ entry_of shared.old.scenario shared.old.entries self.old.site input ∷ []) }
+        ensures stepped { OnOk result (entries_of shared.new ≡ entries_of shared.old ++ entry_of (scenario_of shared.old) (entries_of shared.old) self.old.site input ∷ []) }
         ensures fell { (why : Why) → result ≡ Err (input_fault.Fell why) →
-            FellOver shared.old.scenario shared.old.entries self.old.site input why shared.new.entries }
-        ensures down { (result ≡ Err input_fault.Down) ↔ (is_up_at shared.old.entries self.old.site ≡ false) }
-        ensures full { is_up_at shared.old.entries self.old.site ≡ true →
-            (result ≡ Err input_fault.HistoryFull) ↔ (shared.old.most ≤ length shared.old.entries) }
+            FellOver (scenario_of shared.old) (entries_of shared.old) self.old.site input why (entries_of shared.new) }
+        ensures down { (result ≡ Err input_fault.Down) ↔ (is_up_at (entries_of shared.old) self.old.site ≡ false) }
+        ensures full { is_up_at (entries_of shared.old) self.old.site ≡ true →
+            (result ≡ Err input_fault.HistoryFull) ↔ (most_of shared.old ≤ length (entries_of shared.old)) }
         ensures kept { (fault : InputFaults) → result ≡ Err fault → is_fall fault ≡ false →
-            (shared.new.entries ≡ shared.old.entries) × (disk_of self.new.state ≡ disk_of self.old.state) }
+            (entries_of shared.new ≡ entries_of shared.old) × (disk_of self.new.state ≡ disk_of self.old.state) }
 
         // the disk's count of faults rose, or the frame passes its capacity; no call arms or cuts it, and what is left of an
         // arm pays for the calls of the frame
         ensures why { (why : Why) → result ≡ Err (input_fault.Fell why) →
-            IsReason why (log_size (moves_of shared.old.scenario shared.old.entries self.old.site))
-            (made_by shared.old.scenario shared.old.entries self.old.site input).records
+            IsReason why (log_size (moves_of (scenario_of shared.old) (entries_of shared.old) self.old.site))
+            (made_by (scenario_of shared.old) (entries_of shared.old) self.old.site input).records
             (D.meters (disk_of self.old.state)) (D.meters (disk_of self.new.state)) }
         ensures meters { Keeps (D.meters (disk_of self.old.state)) (D.meters (disk_of self.new.state)) }
-        ensures takes { OnOk result (Takes (calls_for (made_by shared.old.scenario shared.old.entries self.old.site input).records)
+        ensures takes { OnOk result (Takes (calls_for (made_by (scenario_of shared.old) (entries_of shared.old) self.old.site input).records)
             (D.meters (disk_of self.old.state)) (D.meters (disk_of self.new.state))) }
     {
         match take_input(self.site, &mut self.state, shared, input) {
@@ -194,34 +207,89 @@ impl<D: Disk + Drill + Drop> Node<D> {
         }
     }
 
+    /// An input for the site, by a worker whose pass speaks for it, outside of a recover step: what `input` does, while other
+    /// workers go on. The input may be taken behind what the pass had seen, its packet the least to the site; the step is that
+    /// of the history in which it is entered. The disk is written outside of the turn.
+    pub fn input_by_turns<R: Wait>(
+        &mut self,
+        rt: &R,
+        alloc: Global,
+        wire: &Wire,
+        pass: &mut WirePass,
+        input: Input,
+    ) -> Result<(), InputFault>
+        requires idle { IsIdle wire.now pass.old }
+        requires owns { Owns pass.old self.old.site }
+        requires played { IsPlayed (seen_by pass.old) }
+        requires standing { NodeStands D.content D.image D.meters (scenario_seen pass.old) (history_seen pass.old) self.old }
+        requires restless { is_calm (present_items (scenario_seen pass.old) (history_seen pass.old)) ≡ false }
+        requires due { is_up_at (history_seen pass.old) self.old.site ≡ true → MayTake (scenario_seen pass.old) (history_seen pass.old) self.old.site input }
+        requires takes { is_up_at (history_seen pass.old) self.old.site ≡ true → TakesLeast (scenario_seen pass.old) (history_seen pass.old) self.old.site input }
+
+        // each claim is followed by its entry: between calls nothing is promised to the site
+        ensures idle { IsIdle wire.now pass.new }
+        ensures same { SameOwners pass.old pass.new }
+        ensures played { IsPlayed (seen_by pass.new) }
+        ensures seen { HasSeenMore pass.old pass.new }
+        ensures scenario { (scenario_seen pass.new ≡ scenario_seen pass.old) × (most_of (seen_by pass.new) ≡ most_of (seen_by pass.old)) }
+        ensures promised { (note_of self.old.site (seen_by pass.new)).places ≡ (note_of self.old.site (seen_by pass.old)).places }
+
+        ensures stands { NodeStands D.content D.image D.meters (scenario_seen pass.new) (history_seen pass.new) self.new }
+        ensures site { self.new.site ≡ self.old.site }
+        ensures stepped { OnOk result ((now : Items Entries) × Meanwhile self.old.site (history_seen pass.old) now
+            × (history_seen pass.new ≡ now ++ entry_of (scenario_seen pass.old) now self.old.site input ∷ [])) }
+        ensures fell { (why : Why) → result ≡ Err (input_fault.Fell why) → (now : Items Entries) × Meanwhile self.old.site (history_seen pass.old) now
+            × FellOver (scenario_seen pass.old) now self.old.site input why (history_seen pass.new) }
+        ensures down { (result ≡ Err input_fault.Down) ↔ (is_up_at (history_seen pass.old) self.old.site ≡ false) }
+        ensures full { result ≡ Err input_fault.HistoryFull → most_of (seen_by pass.new) ≤ used_of (seen_by pass.new) }
+        ensures kept { (fault : InputFaults) → result ≡ Err fault → is_fall fault ≡ false →
+            Meanwhile self.old.site (history_seen pass.old) (history_seen pass.new) × (disk_of self.new.state ≡ disk_of self.old.state) }
+
+        // of the disk as `input`: the site's moves are the same behind entries of others
+        ensures why { (why : Why) → result ≡ Err (input_fault.Fell why) →
+            IsReason why (log_size (moves_of (scenario_seen pass.old) (history_seen pass.old) self.old.site))
+            (made_by (scenario_seen pass.old) (history_seen pass.old) self.old.site input).records
+            (D.meters (disk_of self.old.state)) (D.meters (disk_of self.new.state)) }
+        ensures meters { Keeps (D.meters (disk_of self.old.state)) (D.meters (disk_of self.new.state)) }
+        ensures takes { OnOk result (Takes (calls_for (made_by (scenario_seen pass.old) (history_seen pass.old) self.old.site input).records)
+            (D.meters (disk_of self.old.state)) (D.meters (disk_of self.new.state))) }
+    {
+        match take_by_turns(rt, alloc, wire, pass, self.site, &mut self.state, input) {
+            Ok(()) => Ok(()),
+            Err(fault) => {
+                settle(&mut self.state, fault);
+                Err(fault)
+            }
+        }
+    }
+
     /// The power of a site that is up is cut: the site is down.
     pub fn cut(&mut self, shared: &mut Shared) -> Result<(), CutFault>
         requires shared { SharedStands shared.old }
-        requires standing { NodeStands D.content D.image D.meters shared.old.scenario shared.old.entries self.old }
-        requires crash { is_up_at shared.old.entries self.old.site ≡ true → IsCut shared.old.scenario shared.old.entries self.old.site }
+        requires standing { NodeStands D.content D.image D.meters (scenario_of shared.old) (entries_of shared.old) self.old }
+        requires crash { is_up_at (entries_of shared.old) self.old.site ≡ true → IsCut (scenario_of shared.old) (entries_of shared.old) self.old.site }
         ensures shared { SharedStands shared.new }
-        ensures same { (shared.new.scenario ≡ shared.old.scenario) × (shared.new.most ≡ shared.old.most) }
-        ensures stands { NodeStands D.content D.image D.meters shared.new.scenario shared.new.entries self.new }
+        ensures grew { HaveGrown shared.old shared.new }
+        ensures same { (scenario_of shared.new ≡ scenario_of shared.old) × (most_of shared.new ≡ most_of shared.old) }
+        ensures stands { NodeStands D.content D.image D.meters (scenario_of shared.new) (entries_of shared.new) self.new }
         ensures site { self.new.site ≡ self.old.site }
-        ensures entered { OnOk result (shared.new.entries ≡ shared.old.entries ++ record { owner = self.old.site; act = act.Cut } ∷ []) }
-        ensures kept { OnErr result ((shared.new.entries ≡ shared.old.entries) × (disk_of self.new.state ≡ disk_of self.old.state)) }
-        ensures down { (result ≡ Err cut_fault.Down) ↔ (is_up_at shared.old.entries self.old.site ≡ false) }
-        ensures full { is_up_at shared.old.entries self.old.site ≡ true →
-            (result ≡ Err cut_fault.HistoryFull) ↔ (shared.old.most ≤ length shared.old.entries) }
+        ensures entered { OnOk result (entries_of shared.new ≡ entries_of shared.old ++ record { owner = self.old.site; act = act.Cut } ∷ []) }
+        ensures kept { OnErr result ((entries_of shared.new ≡ entries_of shared.old) × (disk_of self.new.state ≡ disk_of self.old.state)) }
+        ensures down { (result ≡ Err cut_fault.Down) ↔ (is_up_at (entries_of shared.old) self.old.site ≡ false) }
+        ensures full { is_up_at (entries_of shared.old) self.old.site ≡ true →
+            (result ≡ Err cut_fault.HistoryFull) ↔ (most_of shared.old ≤ length (entries_of shared.old)) }
         ensures meters { OnOk result (D.meters (disk_of self.new.state) ≡ cut (D.meters (disk_of self.old.state))) }
     {
         if !self.is_up() {
             return Err(CutFault::Down);
         }
-        if shared.is_full() {
+        if is_full(shared) {
             return Err(CutFault::HistoryFull);
         }
-        shared.make_room(0)?;
+        claim(shared, self.site, 0)?;
         replace_with(&mut self.state, (), unpowered::<D>);
-        shared.enter_quiet(Entry {
-            owner: self.site,
-            act: Act::Cut,
-        });
+        let (owner, act) = (self.site, Act::Cut);
+        enter(shared, Entry { owner, act });
         Ok(())
     }
 

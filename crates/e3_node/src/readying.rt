@@ -4,10 +4,10 @@ ghost use Rattle.e3_log.specs.Found.{bodies_of};
 ghost use Rattle.e3_node.specs.Rising.{IsForeign, IsReady, IsWish, born_by, records_by};
 ghost use Rattle.e3_node.specs.declared.readying.Unready.TheVariants as unready;
 ghost use Rattle.e3_restart.specs.Rebuilt.{IsRebuilt, StandsForEach};
+ghost use Rattle.e3_wire.specs.Marks.{entries_of};
 ghost use Rattle.e3_world.specs.Logs.{logged_inc};
 ghost use Rattle.e3_world.specs.Orderly.{IsOrderly};
 
-use crate::Shared;
 use crate::counting::frames_in;
 use crate::fitting::spelled;
 use crate::reading::{add_records, read_frames};
@@ -16,6 +16,7 @@ use e3_readings::logged_inc;
 use e3_restart::{RebuildFault, rebuild};
 use e3_site::Site;
 use e3_types::{Copied, List, NoMemory, Record, Row};
+use e3_wire::Shared;
 use std::alloc::Global;
 
 /// What a rise takes with it to the disk: the site's number, weights and first rows, and how many frames its log has in the
@@ -66,7 +67,7 @@ pub(crate) fn wish_of(
     weights: &List<u32>,
     rows: &List<Row>,
 ) -> Result<Wish, NoMemory>
-    ensures { IfOk result (IsWish site weights.now rows.now shared.now.entries) }
+    ensures { IfOk result (IsWish site weights.now rows.now (entries_of shared.now)) }
 {
     let alloc = shared.alloc();
     Ok(Wish {

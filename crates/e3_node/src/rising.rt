@@ -1,24 +1,28 @@
 // A rise of a site over its disk.
-ghost use Rattle.std.specs.Prelude.{◌≡◌, ◌≢◌, ◌≤◌, ◌<◌, ◌++◌, [], ℕ, false, true, length, List as Items};
+ghost use Rattle.std.specs.Prelude.{◌≡◌, ◌≢◌, ◌≤◌, ◌++◌, [], ℕ, true, false, List as Items};
 ghost use Rattle.e3_disk.specs.Meters.{Keeps};
 ghost use Rattle.e3_log.specs.Found.{bodies_of};
 ghost use Rattle.e3_log.specs.Stands.{Stands};
 ghost use Rattle.e3_node.specs.Bodies.{DiskStands};
 ghost use Rattle.e3_node.specs.NodeView.{disk_of, is_up_in};
 ghost use Rattle.e3_node.specs.declared.readying.Wish.{Wish as Wishes};
-ghost use Rattle.e3_node.specs.Rising.{IsAllowed, IsReady, MayRise, RiseMakes, RiseTakes, entries_of, raised_of, told_of};
-ghost use Rattle.e3_node.specs.SharedStands.{SharedStands};
+ghost use Rattle.e3_node.specs.Rising.{IsAllowed, IsReady, MayRise, RiseMakes, RiseTakes, RiseIsEntered, raised_of, told_of};
+ghost use Rattle.e3_node.specs.SharedStands.{IsClaimed};
 ghost use Rattle.e3_types.specs.Spelling.{spelling};
 ghost use Rattle.e3_types.specs.declared.entries.Entry.{Entry as Entries};
 ghost use Rattle.e3_types.specs.declared.scenarios.Scenario.{Scenario};
+ghost use Rattle.e3_wire.specs.Marks.{entries_of, scenario_of};
+ghost use Rattle.e3_wire.specs.declared.marks.Mark.{Mark as MarkValue};
 
+use crate::entering::enter;
 use crate::readying::{Readied, Unready, Wish, ready};
 use crate::writing::write;
-use crate::{RiseFault, Shared, State};
+use crate::{RiseFault, State};
 use e3_disk::{Disk, Drill};
 use e3_log::{Frame, Log, OpenCause, OpenRefused};
 use e3_orderly::logs_are_orderly;
 use e3_types::{Act, Entry, List, Why};
+use e3_wire::Shared;
 
 /// What became of a rise.
 #[derive(Clone, Copy)]
@@ -123,31 +127,26 @@ pub(crate) fn risen<D: Disk + Drill + Drop>(state: State<D>, wish: Wish) -> (Sta
     }
 }
 
-/// What became of a rise is entered.
+/// What became of a rise is entered; where nothing is, the place that was claimed for it is given back.
 pub(crate) fn enter_rise(shared: &mut Shared, owner: u32, raised: Raised)
-    requires shared { SharedStands shared.old }
     requires some { 1 ≤ owner }
-    requires allowed { IsAllowed shared.old.scenario shared.old.entries owner raised }
-    requires few { length shared.old.entries < shared.old.most }
-    requires room { 1 ≤ shared.old.room }
-    ensures shared { SharedStands shared.new }
-    ensures same { (shared.new.scenario ≡ shared.old.scenario) × (shared.new.most ≡ shared.old.most) }
-    ensures entered { shared.new.entries ≡ shared.old.entries ++ entries_of owner raised }
+    requires allowed { (before : Items MarkValue) × IsClaimed owner 0 before shared.old × IsAllowed (scenario_of before) (entries_of before) owner raised }
+    ensures { (before : Items MarkValue) → IsClaimed owner 0 before shared.old → RiseIsEntered owner raised before shared.new }
 {
     match raised {
-        Raised::Rose { kept, inc } => shared.enter_quiet(Entry {
-            owner,
-            act: Act::Rise { kept, inc },
-        }),
-        Raised::Failed { kept, inc, why } => shared.enter_quiet(Entry {
-            owner,
-            act: Act::RiseFall { kept, inc, why },
-        }),
-        Raised::Missed => shared.enter_quiet(Entry {
-            owner,
-            act: Act::Miss,
-        }),
-        Raised::NoMemory | Raised::Foreign => {}
+        Raised::Rose { kept, inc } => {
+            let act = Act::Rise { kept, inc };
+            enter(shared, Entry { owner, act });
+        }
+        Raised::Failed { kept, inc, why } => {
+            let act = Act::RiseFall { kept, inc, why };
+            enter(shared, Entry { owner, act });
+        }
+        Raised::Missed => {
+            let act = Act::Miss;
+            enter(shared, Entry { owner, act });
+        }
+        Raised::NoMemory | Raised::Foreign => shared.withdraw(0),
     }
 }
 

@@ -1,5 +1,5 @@
 // An input of a site that is up.
-ghost use Rattle.std.specs.Prelude.{◌≡◌, ◌≢◌, ◌≤◌, ◌++◌, ◌∷◌, ◌↔◌, [], true, false, length, OnOk, Err};
+ghost use Rattle.std.specs.Prelude.{◌≡◌, ◌≢◌, ◌≤◌, ◌++◌, ◌∷◌, ◌↔◌, [], true, false, length, IfOk, OnOk, Err};
 ghost use Rattle.e3_disk.specs.Meters.{Keeps};
 ghost use Rattle.e3_node.specs.Bodies.{AllReadBack, DiskStands};
 ghost use Rattle.e3_node.specs.Ends.{FellOver, IsReason, Takes, calls_for, is_fall};
@@ -9,19 +9,65 @@ ghost use Rattle.e3_node.specs.SharedStands.{SharedStands};
 ghost use Rattle.e3_node.specs.declared.fault.InputFault.{InputFault as InputFaults};
 ghost use Rattle.e3_node.specs.declared.fault.InputFault.TheVariants as input_fault;
 ghost use Rattle.e3_sites.specs.Entering.{IsFirst};
-ghost use Rattle.e3_types.specs.declared.entries.Why.{Why};
+ghost use Rattle.e3_types.specs.declared.entries.Act.TheVariants as act;
+ghost use Rattle.e3_types.specs.declared.entries.Why.{Why as Whys};
+ghost use Rattle.e3_wire.specs.Claims.{HaveGrown};
+ghost use Rattle.e3_wire.specs.Marks.{entries_of, last_owner, most_of, scenario_of};
 ghost use Rattle.e3_world.specs.Items.{is_up_at};
 ghost use Rattle.e3_world.specs.Legal.{IsDue, entry_of, made_by};
 ghost use Rattle.e3_world.specs.Moves.{log_size, moves_of};
 
 use crate::drafts::prepare;
+use crate::entering::{claim, enter, is_full};
 use crate::writing::write;
-use crate::{InputFault, Shared, State};
+use crate::{InputFault, State};
 use core::mem::replace_with;
 use e3_disk::Disk;
 use e3_log::Log;
 use e3_site::Site;
-use e3_types::Input;
+use e3_types::{Act, Entry, Input, List, NoMemory, Packet, Record, Told, Why};
+use e3_wire::Shared;
+
+/// For how many packets there has to be room.
+pub(crate) fn room_for(outs: &List<Packet>) -> Result<u32, NoMemory>
+    ensures { IfOk result (λ room. room ≡ length outs.now) }
+{
+    match u32::try_from(outs.len()) {
+        Ok(room) => Ok(room),
+        Err(_) => Err(NoMemory),
+    }
+}
+
+/// The entry of a step, its packets without numbers.
+pub(crate) fn step_of(
+    owner: u32,
+    input: Input,
+    records: List<Record>,
+    outs: List<Packet>,
+    told: List<Told>,
+) -> Entry
+    ensures { result ≡ record { owner = owner; act = act.Step input records outs told } }
+{
+    let act = Act::Step {
+        input,
+        records,
+        outs,
+        told,
+    };
+    Entry { owner, act }
+}
+
+/// The entry of a fall.
+pub(crate) fn fall_of(owner: u32, inputs: List<Input>, records: List<Record>, why: Why) -> Entry
+    ensures { result ≡ record { owner = owner; act = act.Fall inputs records why } }
+{
+    let act = Act::Fall {
+        inputs,
+        records,
+        why,
+    };
+    Entry { owner, act }
+}
 
 // A site that is up takes an input: its step is planned, its frame is written, and it is entered; or it falls.
 fn step<D: Disk>(
@@ -33,42 +79,48 @@ fn step<D: Disk>(
 ) -> Result<(), InputFault>
     requires shared { SharedStands shared.old }
     requires some { 1 ≤ number }
-    requires up { IsUp D.content D.image D.meters shared.old.scenario shared.old.entries number site.old log.old }
-    requires due { IsDue shared.old.scenario shared.old.entries number input }
-    requires first { IsFirst shared.old.scenario shared.old.entries input }
-    requires back { AllReadBack shared.old.scenario shared.old.entries number }
+    requires exists { number ≤ last_owner shared.old }
+    requires up { IsUp D.content D.image D.meters (scenario_of shared.old) (entries_of shared.old) number site.old log.old }
+    requires due { IsDue (scenario_of shared.old) (entries_of shared.old) number input }
+    requires first { IsFirst (scenario_of shared.old) (entries_of shared.old) input }
+    requires back { AllReadBack (scenario_of shared.old) (entries_of shared.old) number }
     ensures shared { SharedStands shared.new }
-    ensures same { (shared.new.scenario ≡ shared.old.scenario) × (shared.new.most ≡ shared.old.most) }
-    ensures stepped { OnOk result (shared.new.entries ≡ shared.old.entries ++ entry_of shared.old.scenario shared.old.entries number input ∷ []) }
-    ensures up { OnOk result (IsUp D.content D.image D.meters shared.old.scenario shared.new.entries number site.new log.new) }
-    ensures back { AllReadBack shared.old.scenario shared.new.entries number }
+    ensures grew { HaveGrown shared.old shared.new }
+    ensures same { (scenario_of shared.new ≡ scenario_of shared.old) × (most_of shared.new ≡ most_of shared.old) }
+    ensures stepped { OnOk result (entries_of shared.new ≡ entries_of shared.old ++ entry_of (scenario_of shared.old) (entries_of shared.old) number input ∷ []) }
+    ensures up { OnOk result (IsUp D.content D.image D.meters (scenario_of shared.old) (entries_of shared.new) number site.new log.new) }
+    ensures back { AllReadBack (scenario_of shared.old) (entries_of shared.new) number }
     ensures never { result ≡ Err input_fault.Down → ⊥ }
     ensures kept { (fault : InputFaults) → result ≡ Err fault → is_fall fault ≡ false →
-        (shared.new.entries ≡ shared.old.entries) × (log.new ≡ log.old)
-        × IsUp D.content D.image D.meters shared.old.scenario shared.old.entries number site.new log.new }
-    ensures fell { (why : Why) → result ≡ Err (input_fault.Fell why) →
-        FellOver shared.old.scenario shared.old.entries number input why shared.new.entries
-        × DiskStands shared.old.scenario shared.new.entries number (D.image log.new.disk) }
-    ensures why { (why : Why) → result ≡ Err (input_fault.Fell why) →
-        IsReason why (log_size (moves_of shared.old.scenario shared.old.entries number))
-        (made_by shared.old.scenario shared.old.entries number input).records (D.meters log.old.disk) (D.meters log.new.disk) }
-    ensures full { (result ≡ Err input_fault.HistoryFull) ↔ (shared.old.most ≤ length shared.old.entries) }
+        (entries_of shared.new ≡ entries_of shared.old) × (log.new ≡ log.old)
+        × IsUp D.content D.image D.meters (scenario_of shared.old) (entries_of shared.old) number site.new log.new }
+    ensures fell { (why : Whys) → result ≡ Err (input_fault.Fell why) →
+        FellOver (scenario_of shared.old) (entries_of shared.old) number input why (entries_of shared.new)
+        × DiskStands (scenario_of shared.old) (entries_of shared.new) number (D.image log.new.disk) }
+    ensures why { (why : Whys) → result ≡ Err (input_fault.Fell why) →
+        IsReason why (log_size (moves_of (scenario_of shared.old) (entries_of shared.old) number))
+        (made_by (scenario_of shared.old) (entries_of shared.old) number input).records (D.meters log.old.disk) (D.meters log.new.disk) }
+    ensures full { (result ≡ Err input_fault.HistoryFull) ↔ (most_of shared.old ≤ length (entries_of shared.old)) }
     ensures keeps { Keeps (D.meters log.old.disk) (D.meters log.new.disk) }
-    ensures takes { OnOk result (Takes (calls_for (made_by shared.old.scenario shared.old.entries number input).records)
+    ensures takes { OnOk result (Takes (calls_for (made_by (scenario_of shared.old) (entries_of shared.old) number input).records)
         (D.meters log.old.disk) (D.meters log.new.disk)) }
 {
-    if shared.is_full() {
+    if is_full(shared) {
         return Err(InputFault::HistoryFull);
     }
-    let draft = prepare(site, shared, &input)?;
+    let draft = prepare(shared.alloc(), site, &input)?;
+    let room = room_for(&draft.outs)?;
+    claim(shared, number, room)?;
     match write(log, draft.records.as_slice(), draft.body.as_slice()) {
         Ok(()) => {
-            shared.enter_step(number, input, draft.records, draft.outs, draft.told);
+            let step = step_of(number, input, draft.records, draft.outs, draft.told);
+            enter(shared, step);
             site.apply(draft.plan);
             Ok(())
         }
         Err(why) => {
-            shared.enter_fall(number, &input, draft.inputs, draft.fallen, why);
+            let fall = fall_of(number, draft.inputs, draft.fallen, why);
+            enter(shared, fall);
             Err(InputFault::Fell { why })
         }
     }
@@ -83,29 +135,31 @@ pub(crate) fn take_input<D: Disk + Drop>(
 ) -> Result<(), InputFault>
     requires shared { SharedStands shared.old }
     requires some { 1 ≤ number }
-    requires stands { IsIn D.content D.image D.meters shared.old.scenario shared.old.entries number state.old }
-    requires due { is_up_at shared.old.entries number ≡ true → IsDue shared.old.scenario shared.old.entries number input }
-    requires first { is_up_at shared.old.entries number ≡ true → IsFirst shared.old.scenario shared.old.entries input }
-    requires back { AllReadBack shared.old.scenario shared.old.entries number }
+    requires exists { number ≤ last_owner shared.old }
+    requires stands { IsIn D.content D.image D.meters (scenario_of shared.old) (entries_of shared.old) number state.old }
+    requires due { is_up_at (entries_of shared.old) number ≡ true → IsDue (scenario_of shared.old) (entries_of shared.old) number input }
+    requires first { is_up_at (entries_of shared.old) number ≡ true → IsFirst (scenario_of shared.old) (entries_of shared.old) input }
+    requires back { AllReadBack (scenario_of shared.old) (entries_of shared.old) number }
     ensures shared { SharedStands shared.new }
-    ensures same { (shared.new.scenario ≡ shared.old.scenario) × (shared.new.most ≡ shared.old.most) }
-    ensures stepped { OnOk result (shared.new.entries ≡ shared.old.entries ++ entry_of shared.old.scenario shared.old.entries number input ∷ []) }
-    ensures up { OnOk result (IsIn D.content D.image D.meters shared.old.scenario shared.new.entries number state.new) }
-    ensures back { AllReadBack shared.old.scenario shared.new.entries number }
-    ensures down { (result ≡ Err input_fault.Down) ↔ (is_up_at shared.old.entries number ≡ false) }
+    ensures grew { HaveGrown shared.old shared.new }
+    ensures same { (scenario_of shared.new ≡ scenario_of shared.old) × (most_of shared.new ≡ most_of shared.old) }
+    ensures stepped { OnOk result (entries_of shared.new ≡ entries_of shared.old ++ entry_of (scenario_of shared.old) (entries_of shared.old) number input ∷ []) }
+    ensures up { OnOk result (IsIn D.content D.image D.meters (scenario_of shared.old) (entries_of shared.new) number state.new) }
+    ensures back { AllReadBack (scenario_of shared.old) (entries_of shared.new) number }
+    ensures down { (result ≡ Err input_fault.Down) ↔ (is_up_at (entries_of shared.old) number ≡ false) }
     ensures kept { (fault : InputFaults) → result ≡ Err fault → is_fall fault ≡ false →
-        (shared.new.entries ≡ shared.old.entries) × (disk_of state.new ≡ disk_of state.old)
-        × IsIn D.content D.image D.meters shared.old.scenario shared.old.entries number state.new }
-    ensures fell { (why : Why) → result ≡ Err (input_fault.Fell why) →
-        FellOver shared.old.scenario shared.old.entries number input why shared.new.entries
-        × DiskStands shared.old.scenario shared.new.entries number (D.image (disk_of state.new)) }
-    ensures why { (why : Why) → result ≡ Err (input_fault.Fell why) →
-        IsReason why (log_size (moves_of shared.old.scenario shared.old.entries number))
-        (made_by shared.old.scenario shared.old.entries number input).records (D.meters (disk_of state.old)) (D.meters (disk_of state.new)) }
-    ensures full { is_up_at shared.old.entries number ≡ true →
-        (result ≡ Err input_fault.HistoryFull) ↔ (shared.old.most ≤ length shared.old.entries) }
+        (entries_of shared.new ≡ entries_of shared.old) × (disk_of state.new ≡ disk_of state.old)
+        × IsIn D.content D.image D.meters (scenario_of shared.old) (entries_of shared.old) number state.new }
+    ensures fell { (why : Whys) → result ≡ Err (input_fault.Fell why) →
+        FellOver (scenario_of shared.old) (entries_of shared.old) number input why (entries_of shared.new)
+        × DiskStands (scenario_of shared.old) (entries_of shared.new) number (D.image (disk_of state.new)) }
+    ensures why { (why : Whys) → result ≡ Err (input_fault.Fell why) →
+        IsReason why (log_size (moves_of (scenario_of shared.old) (entries_of shared.old) number))
+        (made_by (scenario_of shared.old) (entries_of shared.old) number input).records (D.meters (disk_of state.old)) (D.meters (disk_of state.new)) }
+    ensures full { is_up_at (entries_of shared.old) number ≡ true →
+        (result ≡ Err input_fault.HistoryFull) ↔ (most_of shared.old ≤ length (entries_of shared.old)) }
     ensures keeps { Keeps (D.meters (disk_of state.old)) (D.meters (disk_of state.new)) }
-    ensures takes { OnOk result (Takes (calls_for (made_by shared.old.scenario shared.old.entries number input).records)
+    ensures takes { OnOk result (Takes (calls_for (made_by (scenario_of shared.old) (entries_of shared.old) number input).records)
         (D.meters (disk_of state.old)) (D.meters (disk_of state.new))) }
 {
     match state {

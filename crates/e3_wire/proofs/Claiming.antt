@@ -81,7 +81,7 @@ marks_place [] (stored.Entered ∷ ms) o n = marks_place [] ms o n
 marks_place (x ∷ es) (stored.Entered ∷ ms) o n = ap (λ l. mark.Entered x ∷ l) (marks_place es ms o n)
 marks_place es (stored.Place p k ∷ ms) o n = ap (λ l. mark.Place p k ∷ l) (marks_place es ms o n)
 
-count_place : (ms : List Stored) (o n : ℕ) → count_stored (ms ++ stored.Place o n ∷ []) ≡ count_stored ms
+pub count_place : (ms : List Stored) (o n : ℕ) → count_stored (ms ++ stored.Place o n ∷ []) ≡ count_stored ms
 count_place [] o n = refl
 count_place (stored.Entered ∷ ms) o n = ap suc (count_place ms o n)
 count_place (stored.Place p k ∷ ms) o n = count_place ms o n

@@ -8,3 +8,6 @@ pub mod Staying
 pub mod Puts
 pub mod Notes
 pub mod Planned
+pub mod Spending
+pub mod Withdrawing
+pub mod Claimed

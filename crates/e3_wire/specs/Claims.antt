@@ -1,17 +1,18 @@
 -- What a pass may conclude of marks.
 use Rattle.std.specs.Prelude.{◌≡◌, ◌≤◌, ◌+◌, ◌++◌, ◌∷◌, [], ℕ, suc, true, false, List, length, All}
-use Rattle.e3_law_local.specs.Drafts.{MayEnter}
+use Rattle.e3_law_local.specs.Drafts.{MayEnter, MayTake}
 use Rattle.e3_law_local.specs.Least.{AreOfSites}
-use Rattle.e3_law_local.specs.Others.{AreOthers}
+use Rattle.e3_law_local.specs.Others.{Allows, AreOthers, numbered_on}
 use Rattle.e3_turn.specs.Passes.{GrewByOthers, GrewByOwners, Owns, OwnsAll, PassOf, last_of, seen_by}
 use Rattle.e3_types.specs.declared.entries.Entry.{Entry}
+use Rattle.e3_types.specs.declared.entries.Input.{Input}
 use Rattle.e3_types.specs.declared.scenarios.Scenario.{Scenario}
 use Rattle.e3_wire.specs.declared.marks.Mark.{Mark}
 use Rattle.e3_wire.specs.declared.marks.Mark.TheVariants as mark
-use Rattle.e3_wire.specs.Marks.{AreForeign, belongs, entries_of, last_owner, most_of, note_of, scenario_of, used_by, used_of}
-use Rattle.e3_wire.specs.Wires.{IsPlayed, MayEnterBehind, TakesOne}
+use Rattle.e3_wire.specs.Marks.{AreForeign, NothingIsPromised, belongs, entries_of, last_owner, most_of, note_of, scenario_of, used_by, used_of}
+use Rattle.e3_wire.specs.Wires.{IsPlayed, MayEnterBehind, TakesLeast, TakesOne}
 use Rattle.e3_world.specs.Items.{inputs_of}
-use Rattle.e3_world.specs.Legal.{IsLegal}
+use Rattle.e3_world.specs.Legal.{IsDue, IsLegal}
 use Rattle.e3_world.specs.Packets.{is_calm, outs_of, present_items}
 
 -- a pass of what is shared
@@ -57,7 +58,51 @@ EntryUses = (e : Entry) (marks : List Mark) → note_of e.owner (marks ++ mark.E
 
 -- where nothing is promised to any owner, only entries count
 abbrev pub NothingPromised : Type 0
-NothingPromised = (marks : List Mark) → ((o : ℕ) → o ≤ last_owner marks → (note_of o marks).places ≡ 0) → used_of marks ≡ length (entries_of marks)
+NothingPromised = (marks : List Mark) → NothingIsPromised marks → used_of marks ≡ length (entries_of marks)
+
+-- what marks that are played began with, from some of them that were played on, was played
+abbrev pub FrontsArePlayed : Type 0
+FrontsArePlayed = (seen since more : List Mark) → IsPlayed seen → IsPlayed ((seen ++ since) ++ more) → IsPlayed (seen ++ since)
+
+-- what is used never grows less
+abbrev pub UsedGrows : Type 0
+UsedGrows = (seen since : List Mark) → IsPlayed seen → used_of seen ≤ used_of (seen ++ since)
+
+-- Where nothing is promised, an entry of the driver promises nothing, and the entry of a site that a place was claimed for
+-- leaves nothing promised.
+abbrev pub EntriesPromiseNothing : Type 0
+EntriesPromiseNothing = (marks : List Mark) (e : Entry) → IsPlayed marks → NothingIsPromised marks → NothingIsPromised (marks ++ mark.Entered e ∷ [])
+
+abbrev pub ClaimsAreUsed : Type 0
+ClaimsAreUsed = (marks claimed : List Mark) (outs : ℕ) (e : Entry) → claimed ≡ marks ++ mark.Place e.owner outs ∷ [] → NothingIsPromised marks →
+    MayEnterBehind claimed e → NothingIsPromised (claimed ++ mark.Entered (numbered_on (entries_of claimed) e) ∷ [])
+
+-- the second marks are the first, and behind them marks that belong to owners
+abbrev pub HaveGrown : List Mark → List Mark → Type 0
+HaveGrown before now = (more : List Mark) × (now ≡ before ++ more) × All (HasOwner (last_owner before)) more
+
+-- so do those that grew of these
+abbrev pub GrowthAddsUp : Type 0
+GrowthAddsUp = (first second third : List Mark) → IsPlayed first → HaveGrown first second → HaveGrown second third → HaveGrown first third
+
+-- Once a place and room are claimed for it, an entry of a site that is allowed and takes the least packet or none may be
+-- entered.
+abbrev pub ClaimedEntriesMayEnter : Type 0
+ClaimedEntriesMayEnter = (e : Entry) (outs : ℕ) (marks : List Mark) → IsPlayed marks → 1 ≤ e.owner → e.owner ≤ last_owner marks →
+    Allows (scenario_of marks) (entries_of marks) e → TakesOne (scenario_of marks) (entries_of marks) e.owner (inputs_of e.act) →
+    length (outs_of e.act) ≤ outs → MayEnterBehind (marks ++ mark.Place e.owner outs ∷ []) e
+
+-- If no recover step is on it may be, whatever others put before the claim.
+abbrev pub ClaimedEntriesStay : Type 0
+ClaimedEntriesStay = (e : Entry) (outs : ℕ) (seen since : List Mark) → IsPlayed (seen ++ since) → AreForeign e.owner since →
+    1 ≤ e.owner → e.owner ≤ last_owner seen → is_calm (present_items (scenario_of seen) (entries_of seen)) ≡ false →
+    Allows (scenario_of seen) (entries_of seen) e → TakesOne (scenario_of seen) (entries_of seen) e.owner (inputs_of e.act) →
+    length (outs_of e.act) ≤ outs → MayEnterBehind ((seen ++ since) ++ mark.Place e.owner outs ∷ []) e
+
+-- An input that a site may take, and whose packet is the least to it, is due, if no recover step is on.
+abbrev pub TakenIsDue : Type 0
+TakenIsDue = (sc : Scenario) (h : List Entry) (site : ℕ) (i : Input) → is_calm (present_items sc h) ≡ false → MayTake sc h site i →
+    TakesLeast sc h site i → IsDue sc h site i
 
 -- What a site may enter behind marks, it may enter behind what others put since and its claim, if no recover step is on.
 abbrev pub ClaimedDraftsMayEnter : Type 0

@@ -1,5 +1,5 @@
 -- What marks say: the scenario, the entries, and what is promised to each owner.
-use Rattle.std.specs.Prelude.{◌≡◌, ◌==◌, ◌||◌, ◌+◌, ◌-◌, ◌∷◌, [], if◌then◌else◌, ℕ, zero, suc, Bool, true, false, List, length, fold}
+use Rattle.std.specs.Prelude.{◌≡◌, ◌≤◌, ◌==◌, ◌||◌, ◌+◌, ◌-◌, ◌∷◌, [], if◌then◌else◌, ℕ, zero, suc, Bool, true, false, List, length, fold}
 use Rattle.std.specs.List.{flat_map}
 use Rattle.e3_types.specs.declared.entries.Act.{Act}
 use Rattle.e3_types.specs.declared.entries.Act.TheVariants.{Step, Drop, Parts, Line}
@@ -88,3 +88,7 @@ rooms last marks = total (λ o. (note_of o marks).room) last
 -- how many entries and promised places there are
 abbrev pub used_of : List Mark → ℕ
 used_of marks = length (entries_of marks) + promised (last_owner marks) marks
+
+-- no place is promised to any owner
+abbrev pub NothingIsPromised : List Mark → Type 0
+NothingIsPromised marks = (o : ℕ) → o ≤ last_owner marks → (note_of o marks).places ≡ 0

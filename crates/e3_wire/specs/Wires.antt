@@ -52,6 +52,11 @@ pub record MayEnterBehind (marks : List Mark) (e : Entry) : Type 0 where
   pub place : 1 ≤ (note_of e.owner marks).places
   pub room : length (outs_of e.act) ≤ (note_of e.owner marks).room
 
+-- the last of these marks promises an owner a place and room for so many packets
+pub record EndsInPromise (owner outs : ℕ) (before marks : List Mark) : Type 0 where
+  pub exists : owner ≤ last_owner before
+  pub is : marks ≡ before ++ mark.Place owner outs ∷ []
+
 -- in a recover step the first pending packet goes to this site
 abbrev pub IsInTurn : Scenario → List Entry → ℕ → Type 0
 IsInTurn sc history site = is_calm (present_items sc history) ≡ true → (p : Packet) → first_pending sc history ≡ Some p → p.to ≡ site

@@ -13,7 +13,8 @@ mod wire;
 
 pub use fault::WireFault;
 pub use laws::{
-    claimed_drafts_may_enter, drivers_may_put_marks, marks_add_up, marks_of_others_leave_a_site,
+    claimed_drafts_may_enter, claimed_entries_may_enter, claims_are_used, drivers_may_put_marks,
+    marks_add_up, marks_of_others_leave_a_site,
 };
 pub use marks::{Mark, Stored};
 pub use shared::Shared;

@@ -1,10 +1,11 @@
 // What is under the lock.
-ghost use Rattle.std.specs.Prelude.{◌≡◌, ◌++◌, [], ◌∷◌, ◌≤◌, ◌<◌, ◌≢◌, ◌==◌, ◌↔◌, false, nat_le, length, IfOk, OnOk, OnErr, Err, Some, None, find, slice_get, option_copied};
+ghost use Rattle.std.specs.Prelude.{◌≡◌, ◌++◌, [], ◌∷◌, ◌≤◌, ◌<◌, ◌≢◌, ◌==◌, ◌↔◌, ℕ, List as Items, false, nat_le, length, IfOk, OnOk, OnErr, Err, Some, None, find, slice_get, option_copied};
 ghost use Rattle.e3_law_local.specs.Others.{numbered_on};
 ghost use Rattle.e3_types.specs.declared.entries.Act.TheVariants as act;
 ghost use Rattle.e3_wire.specs.Marks.{entries_of, last_owner, most_of, scenario_of, used_of};
-ghost use Rattle.e3_wire.specs.Wires.{IsDroppedFor, IsInTurn, IsPlayed, MayEnterBehind};
+ghost use Rattle.e3_wire.specs.Wires.{EndsInPromise, IsDroppedFor, IsInTurn, IsPlayed, MayEnterBehind};
 ghost use Rattle.e3_wire.specs.declared.fault.WireFault.TheVariants.{HistoryFull};
+ghost use Rattle.e3_wire.specs.declared.marks.Mark.{Mark as MarkValue};
 ghost use Rattle.e3_wire.specs.declared.marks.Mark.TheVariants as mark;
 ghost use Rattle.e3_world.specs.Given.{IsGiven};
 ghost use Rattle.e3_world.specs.Items.{is_up_at};
@@ -94,6 +95,11 @@ impl Shared {
         let _ = &self.scenario;
     }
 
+    /// The allocator that it was made with.
+    pub fn alloc(&self) -> Global {
+        self.alloc
+    }
+
     /// The scenario that is played.
     pub fn scenario(&self) -> &Scenario
         ensures { result.now ≡ scenario_of self.now }
@@ -179,6 +185,17 @@ impl Shared {
         }
         self.promise(owner, outs)?;
         Ok(())
+    }
+
+    /// Takes back the promise that is the last mark, with its room: nothing was entered for it. It takes no memory.
+    pub fn withdraw(&mut self, outs: u32)
+        requires { (owner : ℕ) × (before : Items MarkValue) × EndsInPromise owner outs before self.old }
+        ensures { (owner : ℕ) (before : Items MarkValue) → self.old ≡ before ++ mark.Place owner outs ∷ [] → self.new ≡ before }
+    {
+        let kept = self.stored.as_slice().len() - 1;
+        self.stored.truncate(kept);
+        self.places -= 1;
+        self.room -= u64::from(outs);
     }
 
     /// Enters an entry of a site: the packet that it takes leaves the network, its packets are sent, with the next numbers,

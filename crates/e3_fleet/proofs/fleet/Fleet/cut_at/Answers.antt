@@ -6,6 +6,7 @@ use Rattle.e3_fleet.proofs.Going.{Went, node_on}
 use Rattle.e3_fleet.proofs.Owned.{cut_still, cut_went}
 use Rattle.e3_fleet.proofs.fleet.Fleet.cut_at.Goals as goal
 use Rattle.e3_world.specs.Legal.{IsCut}
+use Rattle.e3_wire.specs.Marks.{entries_of, scenario_of}
 
 pub cut-answer-requires-clause-standing : goal.cut-answer-requires-clause-standing
 cut-answer-requires-clause-standing g c =
@@ -14,7 +15,7 @@ cut-answer-requires-clause-standing g c =
 
 pub cut-answer-requires-clause-crash : goal.cut-answer-requires-clause-crash
 cut-answer-requires-clause-crash g c = λ up.
-    subst (λ (s : ℕ). IsCut c.args.self.now.shared.scenario c.args.self.now.shared.entries s) (sym (c.requires.standing.seated c.args.at c.index_mut.result.now
+    subst (λ (s : ℕ). IsCut (scenario_of c.args.self.now.shared) (entries_of c.args.self.now.shared) s) (sym (c.requires.standing.seated c.args.at c.index_mut.result.now
     (slice_get_read c.args.self.now.nodes.items (length c.args.self.now.nodes.items) c.args.at c.index_mut.result.now refl c.requires.within c.index_mut.ensures.value)).site)
     c.requires.due
 
@@ -27,7 +28,7 @@ returns-clause-on g c =
     c.args.self.now.shared c.cut-answer.new.shared c.args.self.now.nodes.items c.args.at c.index_mut.result.now c.cut-answer.new.self there
     c.requires.standing c.cut-answer.ensures.shared c.cut-answer.ensures.same.0 c.cut-answer.ensures.same.1 c.cut-answer.ensures.site
     c.cut-answer.ensures.stands
-    (subst (λ (s : ℕ). Went c.args.self.now.shared.scenario c.args.self.now.shared.entries c.cut-answer.new.shared.entries s (g.D.Disk.meters (disk_of c.index_mut.result.now.state)) (g.D.Disk.meters (disk_of c.cut-answer.new.self.state))) site
-    (cut_went c.args.self.now.shared.scenario c.args.self.now.shared.entries c.cut-answer.new.shared.entries c.index_mut.result.now.site (g.D.Disk.meters (disk_of c.index_mut.result.now.state)) (g.D.Disk.meters (disk_of c.cut-answer.new.self.state)) c.cut-answer.result
+    (subst (λ (s : ℕ). Went (scenario_of c.args.self.now.shared) (entries_of c.args.self.now.shared) (entries_of c.cut-answer.new.shared) s (g.D.Disk.meters (disk_of c.index_mut.result.now.state)) (g.D.Disk.meters (disk_of c.cut-answer.new.self.state))) site
+    (cut_went (scenario_of c.args.self.now.shared) (entries_of c.args.self.now.shared) (entries_of c.cut-answer.new.shared) c.index_mut.result.now.site (g.D.Disk.meters (disk_of c.index_mut.result.now.state)) (g.D.Disk.meters (disk_of c.cut-answer.new.self.state)) c.cut-answer.result
     (g.met.D.Disk.counted (disk_of c.index_mut.result.now.state)) c.cut-answer.ensures.entered c.cut-answer.ensures.meters
-    (cut_still c.args.self.now.shared.entries c.cut-answer.new.shared.entries g.D.Disk.meters c.index_mut.result.now c.cut-answer.new.self c.cut-answer.result c.cut-answer.ensures.kept)))
+    (cut_still (entries_of c.args.self.now.shared) (entries_of c.cut-answer.new.shared) g.D.Disk.meters c.index_mut.result.now c.cut-answer.new.self c.cut-answer.result c.cut-answer.ensures.kept)))

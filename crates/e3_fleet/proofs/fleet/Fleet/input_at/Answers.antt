@@ -8,6 +8,7 @@ use Rattle.e3_fleet.proofs.Owned.{input_entered, input_kept, input_went, takes_s
 use Rattle.e3_fleet.proofs.fleet.Fleet.input_at.Goals as goal
 use Rattle.e3_sites.specs.Entering.{AfterInput}
 use Rattle.e3_world.specs.Legal.{IsDue}
+use Rattle.e3_wire.specs.Marks.{entries_of, scenario_of}
 
 pub input-answer-requires-clause-standing : goal.input-answer-requires-clause-standing
 input-answer-requires-clause-standing g c =
@@ -16,7 +17,7 @@ input-answer-requires-clause-standing g c =
 
 pub input-answer-requires-clause-due : goal.input-answer-requires-clause-due
 input-answer-requires-clause-due g c = λ up.
-    subst (λ (s : ℕ). IsDue c.args.self.now.shared.scenario c.args.self.now.shared.entries s c.args.input) (sym (c.requires.standing.seated c.args.at c.index_mut.result.now
+    subst (λ (s : ℕ). IsDue (scenario_of c.args.self.now.shared) (entries_of c.args.self.now.shared) s c.args.input) (sym (c.requires.standing.seated c.args.at c.index_mut.result.now
     (slice_get_read c.args.self.now.nodes.items (length c.args.self.now.nodes.items) c.args.at c.index_mut.result.now refl c.requires.within c.index_mut.ensures.value)).site)
     c.requires.due
 
@@ -29,10 +30,10 @@ returns-clause-on g c =
     c.args.self.now.shared c.input-answer.new.shared c.args.self.now.nodes.items c.args.at c.index_mut.result.now c.input-answer.new.self there
     c.requires.standing c.input-answer.ensures.shared c.input-answer.ensures.same.0 c.input-answer.ensures.same.1 c.input-answer.ensures.site
     c.input-answer.ensures.stands
-    (subst (λ (s : ℕ). Went c.args.self.now.shared.scenario c.args.self.now.shared.entries c.input-answer.new.shared.entries s (g.D.Disk.meters (disk_of c.index_mut.result.now.state)) (g.D.Disk.meters (disk_of c.input-answer.new.self.state))) site
-    (input_went c.args.self.now.shared.scenario c.args.self.now.shared.entries c.input-answer.new.shared.entries c.index_mut.result.now.site c.args.input (g.D.Disk.meters (disk_of c.index_mut.result.now.state)) (g.D.Disk.meters (disk_of c.input-answer.new.self.state)) c.input-answer.result
+    (subst (λ (s : ℕ). Went (scenario_of c.args.self.now.shared) (entries_of c.args.self.now.shared) (entries_of c.input-answer.new.shared) s (g.D.Disk.meters (disk_of c.index_mut.result.now.state)) (g.D.Disk.meters (disk_of c.input-answer.new.self.state))) site
+    (input_went (scenario_of c.args.self.now.shared) (entries_of c.args.self.now.shared) (entries_of c.input-answer.new.shared) c.index_mut.result.now.site c.args.input (g.D.Disk.meters (disk_of c.index_mut.result.now.state)) (g.D.Disk.meters (disk_of c.input-answer.new.self.state)) c.input-answer.result
     (g.met.D.Disk.counted (disk_of c.index_mut.result.now.state)) c.input-answer.ensures.meters c.input-answer.ensures.stepped
-    (takes_so c.args.self.now.shared.scenario c.args.self.now.shared.entries c.index_mut.result.now.site c.args.input (g.D.Disk.meters (disk_of c.index_mut.result.now.state)) (g.D.Disk.meters (disk_of c.input-answer.new.self.state)) c.input-answer.result c.input-answer.ensures.takes) c.input-answer.ensures.fell
+    (takes_so (scenario_of c.args.self.now.shared) (entries_of c.args.self.now.shared) c.index_mut.result.now.site c.args.input (g.D.Disk.meters (disk_of c.index_mut.result.now.state)) (g.D.Disk.meters (disk_of c.input-answer.new.self.state)) c.input-answer.result c.input-answer.ensures.takes) c.input-answer.ensures.fell
     (λ fault e no. ((c.input-answer.ensures.kept fault e no).0, ap g.D.Disk.meters (c.input-answer.ensures.kept fault e no).1)) c.input-answer.ensures.why))
 
 pub returns-clause-entered : goal.returns-clause-entered
@@ -41,10 +42,10 @@ returns-clause-entered g c =
     slice_get_read c.args.self.now.nodes.items (length c.args.self.now.nodes.items) c.args.at c.index_mut.result.now refl c.requires.within c.index_mut.ensures.value in
     let site : c.index_mut.result.now.site ≡ suc c.args.at = (c.requires.standing.seated c.args.at c.index_mut.result.now there).site in
     rw c.input_answer.ensures (subst (λ (s : ℕ). OnOk (input_answer c.input-answer.result)
-    (AfterInput c.args.self.now.shared.scenario c.args.self.now.shared.entries s c.args.input c.input-answer.new.shared.entries)) site
-    (input_entered c.args.self.now.shared.scenario c.args.self.now.shared.entries c.input-answer.new.shared.entries c.index_mut.result.now.site c.args.input
+    (AfterInput (scenario_of c.args.self.now.shared) (entries_of c.args.self.now.shared) s c.args.input (entries_of c.input-answer.new.shared))) site
+    (input_entered (scenario_of c.args.self.now.shared) (entries_of c.args.self.now.shared) (entries_of c.input-answer.new.shared) c.index_mut.result.now.site c.args.input
     c.input-answer.result c.input-answer.ensures.stepped c.input-answer.ensures.fell))
 
 pub returns-clause-kept : goal.returns-clause-kept
 returns-clause-kept g c = rw c.input_answer.ensures
-    (input_kept c.args.self.now.shared.entries c.input-answer.new.shared.entries c.input-answer.result (λ fault e no. (c.input-answer.ensures.kept fault e no).0))
+    (input_kept (entries_of c.args.self.now.shared) (entries_of c.input-answer.new.shared) c.input-answer.result (λ fault e no. (c.input-answer.ensures.kept fault e no).0))

@@ -10,6 +10,7 @@ use Rattle.e3_sites.specs.Entering.{AfterRise}
 use Rattle.e3_world.specs.Items.{is_up_at}
 use Rattle.e3_world.specs.Legal.{IsRising}
 use Rattle.e3_world.proofs.Turns.{true_not_false}
+use Rattle.e3_wire.specs.Marks.{entries_of, scenario_of}
 
 pub rise-answer-requires-clause-standing : goal.rise-answer-requires-clause-standing
 rise-answer-requires-clause-standing g c =
@@ -18,7 +19,7 @@ rise-answer-requires-clause-standing g c =
 
 pub rise-answer-requires-clause-turn : goal.rise-answer-requires-clause-turn
 rise-answer-requires-clause-turn g c = λ down.
-    subst (λ (s : ℕ). IsRising c.args.self.now.shared.scenario c.args.self.now.shared.entries s) (sym (c.requires.standing.seated c.args.at c.index_mut.result.now
+    subst (λ (s : ℕ). IsRising (scenario_of c.args.self.now.shared) (entries_of c.args.self.now.shared) s) (sym (c.requires.standing.seated c.args.at c.index_mut.result.now
     (slice_get_read c.args.self.now.nodes.items (length c.args.self.now.nodes.items) c.args.at c.index_mut.result.now refl c.requires.within c.index_mut.ensures.value)).site)
     c.requires.turn
 
@@ -31,8 +32,8 @@ returns-clause-on g c =
     c.args.self.now.shared c.rise-answer.new.shared c.args.self.now.nodes.items c.args.at c.index_mut.result.now c.rise-answer.new.self there
     c.requires.standing c.rise-answer.ensures.shared c.rise-answer.ensures.same.0 c.rise-answer.ensures.same.1 c.rise-answer.ensures.site
     c.rise-answer.ensures.stands
-    (subst (λ (s : ℕ). Went c.args.self.now.shared.scenario c.args.self.now.shared.entries c.rise-answer.new.shared.entries s (g.D.Disk.meters (disk_of c.index_mut.result.now.state)) (g.D.Disk.meters (disk_of c.rise-answer.new.self.state))) site
-    (rise_went c.args.self.now.shared.scenario c.args.self.now.shared.entries c.rise-answer.new.shared.entries c.index_mut.result.now.site (g.D.Disk.meters (disk_of c.index_mut.result.now.state)) (g.D.Disk.meters (disk_of c.rise-answer.new.self.state)) (g.D.Disk.image (disk_of c.index_mut.result.now.state)) c.rise-answer.result
+    (subst (λ (s : ℕ). Went (scenario_of c.args.self.now.shared) (entries_of c.args.self.now.shared) (entries_of c.rise-answer.new.shared) s (g.D.Disk.meters (disk_of c.index_mut.result.now.state)) (g.D.Disk.meters (disk_of c.rise-answer.new.self.state))) site
+    (rise_went (scenario_of c.args.self.now.shared) (entries_of c.args.self.now.shared) (entries_of c.rise-answer.new.shared) c.index_mut.result.now.site (g.D.Disk.meters (disk_of c.index_mut.result.now.state)) (g.D.Disk.meters (disk_of c.rise-answer.new.self.state)) (g.D.Disk.image (disk_of c.index_mut.result.now.state)) c.rise-answer.result
     (g.met.D.Disk.counted (disk_of c.index_mut.result.now.state)) c.rise-answer.ensures.meters c.rise-answer.ensures.rose c.rise-answer.ensures.takes
     c.rise-answer.ensures.failed c.rise-answer.ensures.missed c.rise-answer.ensures.cause (λ e. (c.rise-answer.ensures.no_memory e, c.rise-answer.ensures.spares e))
     (λ e. ((c.rise-answer.ensures.kept (inr e)).0, ap (λ (n : NodeView _). g.D.Disk.meters (disk_of n.state)) (c.rise-answer.ensures.kept (inr e)).1))
@@ -43,13 +44,13 @@ returns-clause-rose g c =
     let there : slice_get c.args.self.now.nodes.items c.args.at ≡ Some c.index_mut.result.now =
     slice_get_read c.args.self.now.nodes.items (length c.args.self.now.nodes.items) c.args.at c.index_mut.result.now refl c.requires.within c.index_mut.ensures.value in
     let site : c.index_mut.result.now.site ≡ suc c.args.at = (c.requires.standing.seated c.args.at c.index_mut.result.now there).site in
-    let down : is_up_at c.args.self.now.shared.entries c.index_mut.result.now.site ≡ false = subst (λ (s : ℕ). is_up_at c.args.self.now.shared.entries s ≡ false) (sym site) c.requires.turn.down in
-    rw c.rise_answer.ensures (subst (λ (s : ℕ). OnOk (rise_answer c.rise-answer.result) (AfterRise c.args.self.now.shared.scenario c.args.self.now.shared.entries s c.rise-answer.new.shared.entries)) site
-    (rise_rose c.args.self.now.shared.scenario c.args.self.now.shared.entries c.rise-answer.new.shared.entries c.index_mut.result.now.site (g.D.Disk.meters (disk_of c.index_mut.result.now.state)) (g.D.Disk.meters (disk_of c.rise-answer.new.self.state)) (g.D.Disk.image (disk_of c.index_mut.result.now.state)) c.rise-answer.result
+    let down : is_up_at (entries_of c.args.self.now.shared) c.index_mut.result.now.site ≡ false = subst (λ (s : ℕ). is_up_at (entries_of c.args.self.now.shared) s ≡ false) (sym site) c.requires.turn.down in
+    rw c.rise_answer.ensures (subst (λ (s : ℕ). OnOk (rise_answer c.rise-answer.result) (AfterRise (scenario_of c.args.self.now.shared) (entries_of c.args.self.now.shared) s (entries_of c.rise-answer.new.shared))) site
+    (rise_rose (scenario_of c.args.self.now.shared) (entries_of c.args.self.now.shared) (entries_of c.rise-answer.new.shared) c.index_mut.result.now.site (g.D.Disk.meters (disk_of c.index_mut.result.now.state)) (g.D.Disk.meters (disk_of c.rise-answer.new.self.state)) (g.D.Disk.image (disk_of c.index_mut.result.now.state)) c.rise-answer.result
     (λ e. true_not_false (sym (c.rise-answer.ensures.up.0 e) ∙ down))
     c.rise-answer.ensures.rose c.rise-answer.ensures.missed c.rise-answer.ensures.failed))
 
 pub returns-clause-kept : goal.returns-clause-kept
 returns-clause-kept g c = rw c.rise_answer.ensures
-    (rise_kept c.args.self.now.shared.entries c.rise-answer.new.shared.entries c.rise-answer.result (λ e. (c.rise-answer.ensures.kept (inl e)).0)
+    (rise_kept (entries_of c.args.self.now.shared) (entries_of c.rise-answer.new.shared) c.rise-answer.result (λ e. (c.rise-answer.ensures.kept (inl e)).0)
     c.rise-answer.ensures.no_memory (λ e. (c.rise-answer.ensures.kept (inr e)).0))

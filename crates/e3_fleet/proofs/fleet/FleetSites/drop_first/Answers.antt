@@ -4,11 +4,11 @@ use Rattle.e3_fleet.proofs.fleet.FleetSites.drop_first.Goals as goal
 use Rattle.e3_types.specs.declared.entries.Act.TheVariants.{Drop}
 
 pub returns-clause-stands : goal.returns-clause-stands
-returns-clause-stands g c = (driver_call g.D.Disk.content g.D.Disk.image g.D.Disk.meters c.other_entries_keep_nodes.ensures.nodes (λ d. g.met.D.Disk.counted d) c.args.self.now.shared c.drop_first.new.self
-    (record { owner = 0; act = Drop c.args.packet.now.number }) c.args.self.now.nodes.items c.drop_first.result c.requires.standing c.drop_first.ensures.stands c.drop_first.ensures.same refl (λ site. refl)
-    c.drop_first.ensures.entered c.drop_first.ensures.kept).stands
+returns-clause-stands g c = (driver_call g.D.Disk.content g.D.Disk.image g.D.Disk.meters c.other_entries_keep_nodes.ensures.nodes (λ d. g.met.D.Disk.counted d) c.args.self.now.shared c.enter_drop.new.shared
+    (record { owner = 0; act = Drop c.args.packet.now.number }) c.args.self.now.nodes.items c.enter_drop.result c.requires.standing c.enter_drop.ensures.stands c.enter_drop.ensures.same refl (λ site. refl)
+    c.enter_drop.ensures.entered c.enter_drop.ensures.kept).stands
 
 pub returns-clause-since : goal.returns-clause-since
-returns-clause-since g c = λ start was. (driver_call g.D.Disk.content g.D.Disk.image g.D.Disk.meters c.other_entries_keep_nodes.ensures.nodes (λ d. g.met.D.Disk.counted d) c.args.self.now.shared c.drop_first.new.self
-    (record { owner = 0; act = Drop c.args.packet.now.number }) c.args.self.now.nodes.items c.drop_first.result c.requires.standing c.drop_first.ensures.stands c.drop_first.ensures.same refl (λ site. refl)
-    c.drop_first.ensures.entered c.drop_first.ensures.kept).kept start.nodes.items was
+returns-clause-since g c = λ start was. (driver_call g.D.Disk.content g.D.Disk.image g.D.Disk.meters c.other_entries_keep_nodes.ensures.nodes (λ d. g.met.D.Disk.counted d) c.args.self.now.shared c.enter_drop.new.shared
+    (record { owner = 0; act = Drop c.args.packet.now.number }) c.args.self.now.nodes.items c.enter_drop.result c.requires.standing c.enter_drop.ensures.stands c.enter_drop.ensures.same refl (λ site. refl)
+    c.enter_drop.ensures.entered c.enter_drop.ensures.kept).kept start.nodes.items was

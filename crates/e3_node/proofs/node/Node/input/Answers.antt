@@ -1,28 +1,33 @@
-use Rattle.std.proofs.Common.{ap, subst, refl, Err}
+use Rattle.std.proofs.Common.{◌≤◌, ap, subst, sym, refl, Err}
 use Rattle.e3_node.specs.Bodies.{AllReadBack}
 use Rattle.e3_node.specs.Ends.{FellOver}
 use Rattle.e3_node.specs.NodeStands.{IsIn}
 use Rattle.e3_node.specs.NodeView.{NodeView}
 use Rattle.e3_node.specs.declared.fault.InputFault.{InputFault}
+use Rattle.e3_wire.specs.Marks.{entries_of, last_owner, scenario_of}
 use Rattle.e3_node.proofs.Steps.{input_in, node_with}
 use Rattle.e3_node.proofs.node.Node.input.Goals as goal
 
+pub take_input-requires-clause-exists : goal.take_input-requires-clause-exists
+take_input-requires-clause-exists g c =
+    subst (λ (x : NodeView _). x.site ≤ last_owner c.args.shared.now) (sym c.self.view_is) c.requires.standing.exists
+
 pub returns-in-Err-clause-fell : goal.returns-in-Err-clause-fell
 returns-in-Err-clause-fell g c = λ why is.
-    subst (λ (x : NodeView _). FellOver c.args.shared.now.scenario c.args.shared.now.entries x.site c.args.input why c.take_input.new.shared.entries)
+    subst (λ (x : NodeView _). FellOver (scenario_of c.args.shared.now) (entries_of c.args.shared.now) x.site c.args.input why (entries_of c.take_input.new.shared))
     c.self.view_is (c.in-Err.ensures.fell why is).0
 
 pub returns-in-Err-clause-stands : goal.returns-in-Err-clause-stands
 returns-in-Err-clause-stands g c =
-    let sc = c.args.shared.now.scenario in
-    let h = c.args.shared.now.entries in
-    let more = c.take_input.new.shared.entries in
+    let sc = scenario_of c.args.shared.now in
+    let h = entries_of c.args.shared.now in
+    let more = entries_of c.take_input.new.shared in
     let now : IsIn g.D.Disk.content g.D.Disk.image g.D.Disk.meters sc more c.self.inside.site c.settle.new.state =
     input_in g.D.Disk.content g.D.Disk.image g.D.Disk.meters sc h more c.self.inside.site c.args.input c.in-Err.fault c.take_input.new.state c.settle.new.state
     (λ none. let k = c.in-Err.ensures.kept c.in-Err.fault refl none in (k.0, k.2))
     (λ why is. c.in-Err.ensures.fell why (ap (λ (f : InputFault). Err f) is))
     c.settle.ensures.fell c.settle.ensures.kept in
-    node_with g.D.Disk.content g.D.Disk.image g.D.Disk.meters sc c.take_input.new.shared.scenario h more c.args.self.now _ c.settle.new.state c.requires.standing
+    node_with g.D.Disk.content g.D.Disk.image g.D.Disk.meters sc (scenario_of c.take_input.new.shared) h more c.args.self.now _ c.settle.new.state c.requires.standing
     c.take_input.ensures.same.0
     (subst (λ (x : NodeView _). IsIn g.D.Disk.content g.D.Disk.image g.D.Disk.meters sc more x.site c.settle.new.state) c.self.view_is now)
     (subst (λ (x : NodeView _). AllReadBack sc more x.site) c.self.view_is c.take_input.ensures.back)

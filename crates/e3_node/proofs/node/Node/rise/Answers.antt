@@ -1,18 +1,22 @@
-use Rattle.std.proofs.Common.{◌≡◌, ◌++◌, ℕ, ◌∙◌, ap, subst, sym, false}
+use Rattle.std.proofs.Common.{◌≡◌, ◌≤◌, ◌++◌, ℕ, ◌∙◌, ap, subst, sym, false}
 use Rattle.e3_node.specs.Bodies.{DiskStands}
 use Rattle.e3_node.specs.NodeView.{NodeView, disk_of}
-use Rattle.e3_node.specs.Rising.{IsAllowed, IsWish, MayRise, RiseMakes, RiseTakes, entries_of}
-use Rattle.e3_node.specs.SharedStands.{SharedView}
+use Rattle.e3_node.specs.Rising.{IsAllowed, IsWish, MayRise, RiseMakes, RiseIsEntered, RiseTakes, entered_by}
+use Rattle.e3_wire.specs.Marks.{entries_of, last_owner, scenario_of}
 use Rattle.e3_world.specs.Items.{is_up_at}
 use Rattle.e3_node.proofs.Keeping.{disk_in}
 use Rattle.e3_node.proofs.Risen.{allowed_of, failed_told, may_rise, missed_told, node_risen, rose_told, spared_told}
 use Rattle.e3_node.proofs.node.Node.rise.Goals as goal
 
+pub claim-requires-clause-exists : goal.claim-requires-clause-exists
+claim-requires-clause-exists g c =
+    subst (λ (x : NodeView _). x.site ≤ last_owner c.args.shared.now) (sym c.self.view_is) c.requires.standing.exists
+
 pub enter_rise-requires-clause-allowed : goal.enter_rise-requires-clause-allowed
 enter_rise-requires-clause-allowed g c =
     let v = c.args.shared.now in
-    let sc = v.scenario in
-    let h = v.entries in
+    let sc = scenario_of v in
+    let h = entries_of v in
     let node = c.args.self.now in
     let wish = c.in_ok-wish.wish in
     let r = c.replace_with-raised.result in
@@ -29,14 +33,13 @@ enter_rise-requires-clause-allowed g c =
     (subst (λ (x : NodeView _). RiseMakes g.D.Disk.content g.D.Disk.image g.D.Disk.meters sc h wish.site (disk_of x.state) state r) c.self.view_is
     (c.replace_with-raised.ensures.0 sc h may inside)) in
     let allowed : IsAllowed sc h node.site r = allowed_of g.D.Disk.content g.D.Disk.image g.D.Disk.meters sc h node.site (disk_of node.state) state r (c.requires.turn down) made in
-    subst (λ (x : SharedView). IsAllowed x.scenario x.entries c.self.inside.site r) (sym c.in_ok-make_room.ensures.same)
-    (subst (λ (x : NodeView _). IsAllowed sc h x.site r) (sym c.self.view_is) allowed)
+    (v, c.in_ok-claim.ensures.claimed, subst (λ (x : NodeView _). IsAllowed sc h x.site r) (sym c.self.view_is) allowed)
 
 pub returns-clause-stands : goal.returns-clause-stands
 returns-clause-stands g c =
     let v = c.args.shared.now in
-    let sc = v.scenario in
-    let h = v.entries in
+    let sc = scenario_of v in
+    let h = entries_of v in
     let node = c.args.self.now in
     let wish = c.in_ok-wish.wish in
     let r = c.replace_with-raised.result in
@@ -52,18 +55,17 @@ returns-clause-stands g c =
     subst (λ (n : ℕ). RiseMakes g.D.Disk.content g.D.Disk.image g.D.Disk.meters sc h n (disk_of node.state) state r) is.site_is
     (subst (λ (x : NodeView _). RiseMakes g.D.Disk.content g.D.Disk.image g.D.Disk.meters sc h wish.site (disk_of x.state) state r) c.self.view_is
     (c.replace_with-raised.ensures.0 sc h may inside)) in
-    let entered : c.enter_rise.new.shared.entries ≡ h ++ entries_of node.site r =
-    c.enter_rise.ensures.entered ∙ ap (λ (x : SharedView). x.entries ++ entries_of c.self.inside.site r) c.in_ok-make_room.ensures.same
-    ∙ ap (λ (x : NodeView _). h ++ entries_of x.site r) c.self.view_is in
-    node_risen g.D.Disk.content g.D.Disk.image g.D.Disk.meters sc c.enter_rise.new.shared.scenario h c.enter_rise.new.shared.entries node _ state r
-    c.requires.standing down made (c.enter_rise.ensures.same.0 ∙ ap (λ (x : SharedView). x.scenario) c.in_ok-make_room.ensures.same) entered
+    let has : RiseIsEntered c.self.inside.site r v c.enter_rise.new.shared = c.enter_rise.ensures v c.in_ok-claim.ensures.claimed in
+    let entered : entries_of c.enter_rise.new.shared ≡ h ++ entered_by node.site r = has.entries ∙ ap (λ (x : NodeView _). h ++ entered_by x.site r) c.self.view_is in
+    node_risen g.D.Disk.content g.D.Disk.image g.D.Disk.meters sc (scenario_of c.enter_rise.new.shared) h (entries_of c.enter_rise.new.shared) node _ state r
+    c.requires.standing down made has.scenario entered
     (ap (λ (x : NodeView _). let n : NodeView _ = record { site = x.site; weights = x.weights; rows = x.rows; state = state } in n) c.self.view_is)
 
 pub returns-clause-rose : goal.returns-clause-rose
 returns-clause-rose g c =
     let v = c.args.shared.now in
-    let sc = v.scenario in
-    let h = v.entries in
+    let sc = scenario_of v in
+    let h = entries_of v in
     let node = c.args.self.now in
     let wish = c.in_ok-wish.wish in
     let r = c.replace_with-raised.result in
@@ -79,17 +81,16 @@ returns-clause-rose g c =
     subst (λ (n : ℕ). RiseMakes g.D.Disk.content g.D.Disk.image g.D.Disk.meters sc h n (disk_of node.state) state r) is.site_is
     (subst (λ (x : NodeView _). RiseMakes g.D.Disk.content g.D.Disk.image g.D.Disk.meters sc h wish.site (disk_of x.state) state r) c.self.view_is
     (c.replace_with-raised.ensures.0 sc h may inside)) in
-    let entered : c.enter_rise.new.shared.entries ≡ h ++ entries_of node.site r =
-    c.enter_rise.ensures.entered ∙ ap (λ (x : SharedView). x.entries ++ entries_of c.self.inside.site r) c.in_ok-make_room.ensures.same
-    ∙ ap (λ (x : NodeView _). h ++ entries_of x.site r) c.self.view_is in
-    rose_told g.D.Disk.content g.D.Disk.image g.D.Disk.meters sc h c.enter_rise.new.shared.entries node.site (disk_of node.state) state r c.told.result
+    let has : RiseIsEntered c.self.inside.site r v c.enter_rise.new.shared = c.enter_rise.ensures v c.in_ok-claim.ensures.claimed in
+    let entered : entries_of c.enter_rise.new.shared ≡ h ++ entered_by node.site r = has.entries ∙ ap (λ (x : NodeView _). h ++ entered_by x.site r) c.self.view_is in
+    rose_told g.D.Disk.content g.D.Disk.image g.D.Disk.meters sc h (entries_of c.enter_rise.new.shared) node.site (disk_of node.state) state r c.told.result
     made entered c.told.ensures
 
 pub returns-clause-failed : goal.returns-clause-failed
 returns-clause-failed g c =
     let v = c.args.shared.now in
-    let sc = v.scenario in
-    let h = v.entries in
+    let sc = scenario_of v in
+    let h = entries_of v in
     let node = c.args.self.now in
     let wish = c.in_ok-wish.wish in
     let r = c.replace_with-raised.result in
@@ -105,17 +106,16 @@ returns-clause-failed g c =
     subst (λ (n : ℕ). RiseMakes g.D.Disk.content g.D.Disk.image g.D.Disk.meters sc h n (disk_of node.state) state r) is.site_is
     (subst (λ (x : NodeView _). RiseMakes g.D.Disk.content g.D.Disk.image g.D.Disk.meters sc h wish.site (disk_of x.state) state r) c.self.view_is
     (c.replace_with-raised.ensures.0 sc h may inside)) in
-    let entered : c.enter_rise.new.shared.entries ≡ h ++ entries_of node.site r =
-    c.enter_rise.ensures.entered ∙ ap (λ (x : SharedView). x.entries ++ entries_of c.self.inside.site r) c.in_ok-make_room.ensures.same
-    ∙ ap (λ (x : NodeView _). h ++ entries_of x.site r) c.self.view_is in
-    λ why told. failed_told g.D.Disk.content g.D.Disk.image g.D.Disk.meters sc h c.enter_rise.new.shared.entries node.site (disk_of node.state) state r
+    let has : RiseIsEntered c.self.inside.site r v c.enter_rise.new.shared = c.enter_rise.ensures v c.in_ok-claim.ensures.claimed in
+    let entered : entries_of c.enter_rise.new.shared ≡ h ++ entered_by node.site r = has.entries ∙ ap (λ (x : NodeView _). h ++ entered_by x.site r) c.self.view_is in
+    λ why told. failed_told g.D.Disk.content g.D.Disk.image g.D.Disk.meters sc h (entries_of c.enter_rise.new.shared) node.site (disk_of node.state) state r
     made entered why (sym c.told.ensures ∙ told)
 
 pub returns-clause-cause : goal.returns-clause-cause
 returns-clause-cause g c =
     let v = c.args.shared.now in
-    let sc = v.scenario in
-    let h = v.entries in
+    let sc = scenario_of v in
+    let h = entries_of v in
     let node = c.args.self.now in
     let wish = c.in_ok-wish.wish in
     let r = c.replace_with-raised.result in
@@ -136,8 +136,8 @@ returns-clause-cause g c =
 pub returns-clause-spares : goal.returns-clause-spares
 returns-clause-spares g c =
     let v = c.args.shared.now in
-    let sc = v.scenario in
-    let h = v.entries in
+    let sc = scenario_of v in
+    let h = entries_of v in
     let node = c.args.self.now in
     let wish = c.in_ok-wish.wish in
     let r = c.replace_with-raised.result in

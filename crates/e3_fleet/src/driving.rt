@@ -1,0 +1,86 @@
+// What the driver enters.
+ghost use Rattle.std.specs.Prelude.{◌≡◌, ◌≤◌, ◌++◌, ◌∷◌, ◌↔◌, [], false, length, OnOk, OnErr, Err, Some};
+ghost use Rattle.e3_fleet.specs.Fleets.{drop_answer, wire_answer};
+ghost use Rattle.e3_node.specs.SharedStands.{SharedStands};
+ghost use Rattle.e3_sites.specs.declared.sites.RunFault.TheVariants.{HistoryFull};
+ghost use Rattle.e3_types.specs.declared.entries.Act.TheVariants as act;
+ghost use Rattle.e3_wire.specs.Claims.{HaveGrown};
+ghost use Rattle.e3_wire.specs.Marks.{entries_of, most_of, scenario_of};
+ghost use Rattle.e3_world.specs.Items.{is_up_at};
+ghost use Rattle.e3_world.specs.Legal.{IsLine, IsParts, first_pending};
+
+use e3_sites::RunFault;
+use e3_types::{List, Packet, SiteSet};
+use e3_wire::{Shared, WireFault};
+
+// What an answer of the wire is to the run.
+fn wire_answer(answer: Result<(), WireFault>) -> Result<(), RunFault>
+    ensures { result ≡ wire_answer answer }
+{
+    match answer {
+        Ok(()) => Ok(()),
+        Err(fault) => match fault {
+            WireFault::HistoryFull => Err(RunFault::HistoryFull),
+            WireFault::NoMemory => Err(RunFault::NoMemory),
+        },
+    }
+}
+
+// What a drop is to the run.
+fn drop_answer(answer: Result<Option<u64>, WireFault>) -> Result<(), RunFault>
+    ensures { result ≡ drop_answer answer }
+{
+    match answer {
+        Ok(_number) => Ok(()),
+        Err(fault) => wire_answer(Err(fault)),
+    }
+}
+
+/// Enters the line of the next step.
+pub(crate) fn enter_line(shared: &mut Shared, number: u32) -> Result<(), RunFault>
+    requires standing { SharedStands shared.old }
+    requires due { IsLine (scenario_of shared.old) (entries_of shared.old) number }
+    ensures stands { SharedStands shared.new }
+    ensures grew { HaveGrown shared.old shared.new }
+    ensures same { (scenario_of shared.new ≡ scenario_of shared.old) × (most_of shared.new ≡ most_of shared.old) }
+    ensures entered { OnOk result (entries_of shared.new ≡ entries_of shared.old ++ record { owner = 0; act = act.Line number } ∷ []) }
+    ensures kept { OnErr result (entries_of shared.new ≡ entries_of shared.old) }
+    ensures full { (result ≡ Err HistoryFull) ↔ (most_of shared.old ≤ length (entries_of shared.old)) }
+{
+    let entered = shared.line(number);
+    shared.tell();
+    wire_answer(entered)
+}
+
+/// Enters the parts into which the network falls, directly behind the line of a split or a merge.
+pub(crate) fn enter_parts(shared: &mut Shared, parted: List<SiteSet>) -> Result<(), RunFault>
+    requires standing { SharedStands shared.old }
+    requires due { IsParts (scenario_of shared.old) (entries_of shared.old) parted }
+    ensures stands { SharedStands shared.new }
+    ensures grew { HaveGrown shared.old shared.new }
+    ensures same { (scenario_of shared.new ≡ scenario_of shared.old) × (most_of shared.new ≡ most_of shared.old) }
+    ensures entered { OnOk result (entries_of shared.new ≡ entries_of shared.old ++ record { owner = 0; act = act.Parts parted } ∷ []) }
+    ensures kept { OnErr result (entries_of shared.new ≡ entries_of shared.old) }
+    ensures full { (result ≡ Err HistoryFull) ↔ (most_of shared.old ≤ length (entries_of shared.old)) }
+{
+    let entered = shared.parts(parted);
+    shared.tell();
+    wire_answer(entered)
+}
+
+/// Drops the first pending packet, since its site is down.
+pub(crate) fn enter_drop(shared: &mut Shared, packet: &Packet) -> Result<(), RunFault>
+    requires standing { SharedStands shared.old }
+    requires first { first_pending (scenario_of shared.old) (entries_of shared.old) ≡ Some packet.now }
+    requires down { is_up_at (entries_of shared.old) packet.now.to ≡ false }
+    ensures stands { SharedStands shared.new }
+    ensures grew { HaveGrown shared.old shared.new }
+    ensures same { (scenario_of shared.new ≡ scenario_of shared.old) × (most_of shared.new ≡ most_of shared.old) }
+    ensures entered { OnOk result (entries_of shared.new ≡ entries_of shared.old ++ record { owner = 0; act = act.Drop packet.now.number } ∷ []) }
+    ensures kept { OnErr result (entries_of shared.new ≡ entries_of shared.old) }
+    ensures full { (result ≡ Err HistoryFull) ↔ (most_of shared.old ≤ length (entries_of shared.old)) }
+{
+    let dropped = shared.drop_for(packet.to);
+    shared.tell();
+    drop_answer(dropped)
+}

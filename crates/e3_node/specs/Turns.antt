@@ -1,0 +1,79 @@
+-- What a call of a site makes of what its pass has seen, while other sites go on.
+use Rattle.std.specs.Prelude.{◌≡◌, ◌++◌, ◌∷◌, [], ℕ, List, Result, Ok, Err}
+use Rattle.atomic_table.specs.Seated.{TableId}
+use Rattle.e3_disk.specs.Meters.{Meters}
+use Rattle.e3_law_local.specs.Least.{AreOfSites}
+use Rattle.e3_law_local.specs.Others.{AreOthers}
+use Rattle.e3_node.specs.Bodies.{AllReadBack, DiskStands}
+use Rattle.e3_node.specs.Ends.{FellOver}
+use Rattle.e3_node.specs.NodeStands.{IsIn}
+use Rattle.e3_node.specs.NodeView.{disk_of}
+use Rattle.e3_node.specs.declared.fault.InputFault.{InputFault}
+use Rattle.e3_node.specs.declared.fault.InputFault.TheVariants.{Fell}
+use Rattle.e3_node.specs.declared.state.State.{State}
+use Rattle.e3_turn.specs.Passes.{IsIdle, SameOwners, seen_by}
+use Rattle.e3_types.specs.declared.entries.Entry.{Entry}
+use Rattle.e3_types.specs.declared.entries.Input.{Input}
+use Rattle.e3_types.specs.declared.entries.Why.{Why}
+use Rattle.e3_types.specs.declared.scenarios.Scenario.{Scenario}
+use Rattle.e3_wire.specs.Claims.{APass}
+use Rattle.e3_wire.specs.Marks.{entries_of, note_of, scenario_of}
+use Rattle.e3_wire.specs.Wires.{IsPlayed}
+use Rattle.e3_wire.specs.declared.marks.Mark.{Mark}
+use Rattle.e3_world.specs.Legal.{entry_of}
+
+-- the scenario and the history of the marks that a pass has seen
+abbrev pub scenario_seen : APass → Scenario
+scenario_seen p = scenario_of (seen_by p)
+
+abbrev pub history_seen : APass → List Entry
+history_seen p = entries_of (seen_by p)
+
+-- behind the first history other sites than this entered something, and nobody else
+pub record Meanwhile (site : ℕ) (before now : List Entry) : Type 0 where
+  pub others : List Entry
+  pub of_others : AreOthers site others
+  pub of_sites : AreOfSites others
+  pub is : now ≡ before ++ others
+
+-- what the first pass had seen is the beginning of what the second has
+abbrev pub HasSeenMore : APass → APass → Type 0
+HasSeenMore p q = (more : List Mark) × (seen_by q ≡ seen_by p ++ more)
+
+-- what a call of the site made of its pass
+pub record HasTurned (lock : TableId) (site : ℕ) (p q : APass) : Type 0 where
+  pub idle : IsIdle lock q
+  pub same : SameOwners p q
+  pub played : IsPlayed (seen_by q)
+  pub seen : HasSeenMore p q
+  pub promised : (note_of site (seen_by q)).places ≡ (note_of site (seen_by p)).places
+
+module _ {D : Type 0} (content : D → List ℕ) (image : D → List ℕ → Type 0) (meters : D → Meters) where
+  -- the site made the step of an input behind what others entered
+  pub record HasStepped (sc : Scenario) (before more : List Entry) (site : ℕ) (i : Input) (new : State D) : Type 0 where
+    pub now : List Entry
+    pub meanwhile : Meanwhile site before now
+    pub entered : more ≡ now ++ entry_of sc now site i ∷ []
+    pub stands : IsIn content image meters sc more site new
+    pub back : AllReadBack sc more site
+
+  -- it fell over the input
+  pub record HasFallen (sc : Scenario) (before more : List Entry) (site : ℕ) (i : Input) (why : Why) (new : State D) : Type 0 where
+    pub now : List Entry
+    pub meanwhile : Meanwhile site before now
+    pub fell : FellOver sc now site i why more
+    pub stands : DiskStands sc more site (image (disk_of new))
+    pub back : AllReadBack sc more site
+
+  -- or it did nothing
+  pub record IsStill (sc : Scenario) (before more : List Entry) (site : ℕ) (old new : State D) : Type 0 where
+    pub meanwhile : Meanwhile site before more
+    pub disk : disk_of new ≡ disk_of old
+    pub stands : IsIn content image meters sc more site new
+    pub back : AllReadBack sc more site
+
+  -- how an input of the site ended
+  abbrev pub EndsSo : Scenario → List Entry → List Entry → ℕ → Input → State D → State D → Result (Unit {0}) InputFault → Type 0
+  EndsSo sc before more site i old new (Ok done) = HasStepped sc before more site i new
+  EndsSo sc before more site i old new (Err (Fell why)) = HasFallen sc before more site i why new
+  EndsSo sc before more site i old new (Err fault) = IsStill sc before more site old new
