@@ -1,16 +1,10 @@
--- All sites of a scenario, by their numbers, and the items of a step by its number in the code.
-use Rattle.std.proofs.Common.{◌≡◌, ◌-◌, ◌+◌, ◌≤◌, ◌==◌, ◌&&◌, ◌||◌, ℕ, zero, suc, Bool, false, [], ◌∷◌, refl, ap, sym, arith, ◌∙◌, nat_le, add-one}
+-- All sites of a scenario, by their numbers.
+use Rattle.std.proofs.Common.{◌≡◌, ◌+◌, ◌==◌, ◌&&◌, ◌||◌, ℕ, zero, suc, Bool, false, [], ◌∷◌, refl, ap, sym, arith, ◌∙◌, nat_le, add-one}
 use Rattle.std.specs.List.{list_all}
 use Rattle.std.proofs.lemmas.List.Folds.{list_any-append, list_all-append}
 use Rattle.std.proofs.Math.Bool.{and-true}
-use Rattle.std.specs.Prelude.{slice_get}
-use Rattle.e3_types.specs.declared.scenarios.Scenario.{Scenario}
 use Rattle.e3_types.specs.Sets.{has_site}
-use Rattle.e3_world.specs.Packets.{sites_to, step_items, items_or}
-
-pub items_from : (sc : Scenario) (n : ℕ) → 1 ≤ n → step_items sc n ≡ items_or (slice_get sc.steps (n - 1))
-items_from sc zero some = absurd (omega (arith, some))
-items_from sc (suc k) some = ap (λ j. items_or (slice_get sc.steps j)) (omega arith)
+use Rattle.e3_world.specs.Packets.{sites_to}
 
 -- the numbers from 1 to n have those from 1 to n
 has_test : (n s : ℕ) (b c : Bool) → nat_le 1 s && nat_le s n ≡ b → (suc n == s) ≡ c → b || (c || false) ≡ (nat_le 1 s && nat_le s (suc n))

@@ -1,4 +1,3 @@
-pub mod Inputs
 pub mod LeftOf
 pub mod RoundOf
 pub mod Standing

@@ -1,14 +1,14 @@
 // The items of the present step: which inputs they ask of each site, and how far each site has come.
-ghost use Rattle.std.specs.Prelude.{◌≡◌, ◌++◌, ◌∷◌, [], ◌||◌, ◌^◌, ◌<◌, ◌≤◌, ◌+◌, not, nat_le, suc, length, take, drop, count_by, filter_map, if◌then◌else◌, IfOk};
+ghost use Rattle.std.specs.Prelude.{◌≡◌, ◌||◌, ◌^◌, ◌<◌, ◌≤◌, ◌+◌, not, nat_le, suc, length, take, drop, count_by, if◌then◌else◌, IfOk};
 ghost use Rattle.std.specs.List.{list_any};
-ghost use Rattle.e3_world.specs.Items.{input_of, inputs_at, inputs_of, inputs_to, is_delivery, is_up_at, items_through, plan_of, since_line, taken_at, to_line, turn_of};
+ghost use Rattle.e3_world.specs.Items.{inputs_at, inputs_of, inputs_to, is_delivery, is_up_at, items_through, plan_of, since_line, taken_at, to_line, turn_of};
 ghost use Rattle.e3_world.specs.Packets.{is_line};
 ghost use Rattle.e3_world.specs.Progress.{up_behind};
 
 use crate::counts::add;
-use crate::names::input_of;
 use crate::packets::{is_line, present_items};
-use e3_types::{Act, Entry, Input, Item, List, NoMemory, Scenario};
+use e3_items::{bind, inputs_asked, nothing_bound};
+use e3_types::{Act, Entry, Input, List, NoMemory, Scenario};
 use e3_world::Addressed;
 use std::alloc::Global;
 
@@ -49,32 +49,15 @@ pub fn to_line(history: &[Entry]) -> &[Entry]
     &history[..end]
 }
 
-// Adds the input of an item, where it has one.
-fn add_input(
-    alloc: Global,
-    sc: &Scenario,
-    start: &[Entry],
-    item: &Item,
-    plan: &mut List<Addressed>,
-) -> Result<(), NoMemory>
-    ensures { IfOk result (λ u. plan.new ≡ plan.old ++ filter_map (input_of sc.now start.now) (item.now ∷ [])) }
-{
-    match input_of(alloc, sc, start, item)? {
-        Some(a) => plan.push(a),
-        None => Ok(()),
-    }
-}
-
 // What the present step asks of the sites, in the order of its items.
+#[tactic(auto, using(e3_items::proofs::ByName::inputs_are))]
 fn plan_of(alloc: Global, sc: &Scenario, history: &[Entry]) -> Result<List<Addressed>, NoMemory>
     ensures { IfOk result (λ plan. plan ≡ plan_of sc.now history.now) }
 {
     let start = to_line(history);
-    let mut plan = List::new(alloc);
-    for item in present_items(sc, start) {
-        add_input(alloc, sc, start, item, &mut plan)?;
-    }
-    Ok(plan)
+    let mut binding = nothing_bound(alloc);
+    bind(alloc, sc, start, &mut binding)?;
+    inputs_asked(alloc, binding.bound.as_slice(), present_items(sc, start))
 }
 
 // The inputs of a plan that go to a site.

@@ -6,7 +6,6 @@
 
 mod counts;
 mod items;
-mod names;
 mod packets;
 mod rounds;
 mod sites;

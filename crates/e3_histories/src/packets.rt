@@ -2,10 +2,11 @@
 ghost use Rattle.std.specs.Prelude.{◌≡◌, ◌++◌, length, IfOk};
 ghost use Rattle.e3_histories.specs.LeftOf.{left_of};
 ghost use Rattle.e3_world.specs.Fate.{copies_of, fate_by_luck, same_part};
-ghost use Rattle.e3_world.specs.Packets.{fate_of, is_calm, is_line, lines, outs_of, parts_of, pending, present_items, sent, step_items, taken, taken_by, takes_input};
+ghost use Rattle.e3_world.specs.Packets.{fate_of, is_calm, is_line, lines, outs_of, parts_of, pending, present_items, sent, taken, taken_by, takes_input};
 
 use crate::counts::add;
 use crate::steps::is_site;
+use e3_items::step_items;
 use e3_types::{Act, Entry, Input, Item, List, NoMemory, Packet, Scenario, SiteSet};
 use e3_world::fate_word;
 use std::alloc::Global;
@@ -49,20 +50,6 @@ pub fn sent_count(history: &[Entry]) -> Result<u64, NoMemory>
         count = add(count, outs_of(&e.act).len() as u64)?;
     }
     Ok(count)
-}
-
-/// The items of the step with this number, counted from 1; none where there is no such step.
-#[tactic(auto, using(crate::proofs::AllSites::items_from))]
-pub(crate) fn step_items(sc: &Scenario, number: u64) -> &[Item]
-    ensures { result.now ≡ step_items sc.now number }
-{
-    if number == 0 {
-        return &[];
-    }
-    match sc.steps.as_slice().get(number as usize - 1) {
-        Some(items) => items.as_slice(),
-        None => &[],
-    }
 }
 
 /// The items of the present step.

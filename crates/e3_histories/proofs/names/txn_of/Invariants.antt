@@ -1,7 +1,0 @@
-use Rattle.std.proofs.Common.{◌≡◌, take, fold, []}
-use Rattle.e3_world.specs.Items.{binding_by}
-use Rattle.e3_histories.proofs.names.txn_of.Given as goal
-
-abbrev pub invariant-loop-entry : goal.invariant-loop-entry
-invariant-loop-entry l =
-    l.binding ≡ fold (binding_by l.sc) (record { number = 0; begun_at = []; bound = [] }) (take l.entry-index l.history)
