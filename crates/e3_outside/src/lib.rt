@@ -1,7 +1,9 @@
 //! The streams that a run is given: the source that its scenario comes from and the sink that its report goes to.
-//! Streams in memory, which can be made to fail, serve tests; streams of std serve the program.
+//! Streams in memory, which can be made to fail, serve tests; streams of std serve the program. And the gate that workers
+//! pass, in which a test may hold them.
 #![tactic(auto)]
 
+mod gate;
 mod memory_sink;
 mod memory_source;
 mod sink;
@@ -9,6 +11,7 @@ mod source;
 mod standard_sink;
 mod standard_source;
 
+pub use gate::{Gate, OpenGate};
 pub use memory_sink::MemSink;
 pub use memory_source::MemSource;
 pub use sink::{Sink, write_all};

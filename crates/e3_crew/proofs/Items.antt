@@ -1,0 +1,190 @@
+-- A round of items.
+use Rattle.std.proofs.Common.{◌≡◌, ◌≢◌, ◌==◌, ◌||◌, ◌+◌, ◌<◌, ◌≤◌, ◌++◌, ◌∷◌, [], ℕ, zero, suc, Bool, true, false, List, length, refl, sym, ap, subst, ◌∙◌, arith, Option, Some, None, filter, map}
+use Rattle.std.specs.Prelude.{Result, Ok, Err, OnOk, filter_map, slice_index_or}
+use Rattle.std.specs.List.{list_any}
+use Rattle.atomic_table.specs.Seated.{TableId}
+use Rattle.e3_crew.specs.Crews.{AllEndedWell, IsCrew, OneWasRefused}
+use Rattle.e3_crew.specs.Turns.{AreDone}
+use Rattle.e3_crew.specs.Workers.{CanTakeItems, HasTakenItems, IsDealt, Knows, seen_of}
+use Rattle.e3_crew.specs.declared.worker.Worker.{Worker}
+use Rattle.e3_crew.proofs.Growing.{alike_meanwhile}
+use Rattle.e3_crew.proofs.Rounding.{Round, crew_again, gone_on, same_scenario}
+use Rattle.e3_crew.proofs.Taking.{done_meanwhile}
+use Rattle.e3_crew.proofs.Turning.{meanwhile_foreign}
+use Rattle.e3_disk.specs.Meters.{Meters}
+use Rattle.e3_law_local.specs.Workers.{AtItems}
+use Rattle.e3_law_local.proofs.Due.{next_on}
+use Rattle.e3_node.specs.Claims.{NodesKeptByOthers}
+use Rattle.e3_node.specs.NodeView.{NodeView}
+use Rattle.e3_node.specs.Turns.{Meanwhile, history_seen, scenario_seen}
+use Rattle.e3_sites.specs.Delivered.{IsFull}
+use Rattle.e3_sites.specs.Settled.{is_asking}
+use Rattle.e3_sites.specs.declared.sites.RunFault.{RunFault}
+use Rattle.e3_sites.specs.declared.sites.RunFault.TheVariants.{HistoryFull}
+use Rattle.e3_sites.proofs.Open.{item_full, up_within}
+use Rattle.e3_sites.proofs.Steps.{same_step}
+use Rattle.e3_turn.specs.Passes.{seen_by}
+use Rattle.e3_types.specs.declared.entries.Entry.{Entry}
+use Rattle.e3_types.specs.declared.entries.Input.{Input}
+use Rattle.e3_types.specs.declared.scenarios.Item.{Item}
+use Rattle.e3_types.specs.declared.scenarios.Scenario.{Scenario}
+use Rattle.e3_wire.specs.Claims.{APass, NothingPromised, UsedGrows}
+use Rattle.e3_wire.specs.declared.marks.Mark.{Mark}
+use Rattle.e3_wire.specs.Marks.{AreForeign, entries_of, last_owner, most_of, note_of, scenario_of, used_of}
+use Rattle.e3_wire.specs.Wires.{IsPlayed}
+use Rattle.e3_world.specs.Items.{input_of, inputs_at, inputs_to, is_delivery, is_up_at, taken_at, to_line, turn_of}
+use Rattle.e3_world.specs.Legal.{IsLegal, IsNextItem}
+use Rattle.e3_world.specs.Packets.{lines, present_items}
+use Rattle.e3_world.specs.Progress.{Delivering, Through}
+use Rattle.e3_world.specs.declared.names.Addressed.{Addressed}
+use Rattle.e3_world.proofs.Guards.{item_no, up_some}
+
+-- what a step asks of a site has no delivery
+plain_to : (s : ℕ) (sc : Scenario) (h : List Entry) (items : List Item) → list_any is_delivery (inputs_to s (filter_map (input_of sc h) items)) ≡ false
+plain_to s sc h [] = refl
+plain_to s sc h (it ∷ items) = by (input_of sc h it) refl (plain_to s sc h items)
+  where
+    at : (a : Addressed) (rest : List Addressed) (b : Bool) → (a.site == s) ≡ b → is_delivery a.input ≡ false → list_any is_delivery (inputs_to s rest) ≡ false →
+        list_any is_delivery (inputs_to s (a ∷ rest)) ≡ false
+    at a rest true here plain none = rw (here, plain) none
+    at a rest false other plain none = rw other none
+
+    by : (o : Option Addressed) → input_of sc h it ≡ o → list_any is_delivery (inputs_to s (filter_map (input_of sc h) items)) ≡ false →
+        list_any is_delivery (inputs_to s (filter_map (input_of sc h) (it ∷ items))) ≡ false
+    by None is rest = rw is rest
+    by (Some a) is rest = rw is (at a (filter_map (input_of sc h) items) (a.site == s) refl (item_no sc h it a is) rest)
+
+pub inputs_plain : (sc : Scenario) (h : List Entry) (s : ℕ) → list_any is_delivery (inputs_at sc h s) ≡ false
+inputs_plain sc h s = plain_to s sc (to_line h) (present_items sc (to_line h))
+
+-- at the beginning of a step none is done
+pub at_first : (sc : Scenario) (h : List Entry) (s : ℕ) (items : List Input) → items ≡ inputs_at sc h s → taken_at h s ≡ [] → AtItems sc h s items 0
+at_first sc h s items is none = record {
+  asked = sym is;
+  turn = rw none refl;
+  fresh = rw none refl;
+}
+
+-- a member of a list that has some
+pub any : {A : Type 0} (xs : List A) → 0 < length xs → A
+any [] low = absurd (omega (arith, low))
+any (x ∷ xs) low = x
+
+-- the history that is gathered has no room, where a worker had none
+pub no_room : UsedGrows → NothingPromised → (marks since all : List Mark) → IsPlayed marks → IsPlayed all → all ≡ marks ++ since → most_of all ≡ most_of marks →
+    ((o : ℕ) → o ≤ last_owner all → (note_of o all).places ≡ 0) → most_of marks ≤ used_of marks → (length (entries_of all) ≤ most_of all) × (most_of all ≤ length (entries_of all))
+no_room grows nothing marks since all played now is most none full =
+    let more : used_of marks ≤ used_of all = (let P : List Mark → Type 0 = λ l. used_of marks ≤ used_of l in subst P (sym is) (grows marks since played)) in
+    let just : used_of all ≡ length (entries_of all) = nothing all none in
+    let within = now.within in
+    (omega (arith, just, within), omega (arith, just, more, full, most))
+
+module _ {D : Type 0} (content : D → List ℕ) (image : D → List ℕ → Type 0) (meters : D → Meters) where
+  -- what a worker knows once it has its pass
+  pub knows_dealt : (wire : TableId) (p : APass) (olds : List (Worker D)) (after : Worker D) (i : ℕ) (d : Worker D) → IsCrew content image meters wire p olds → i < length olds →
+      IsDealt wire (seen_by p) (slice_index_or olds i d) after → Knows content image meters (seen_of after) after.node
+  knows_dealt wire p olds after i d crew low dealt =
+      let rest = crew.each i d low in
+      let P : List Mark → Type 0 = λ l. Knows content image meters l after.node in
+      let Q : NodeView D → Type 0 = λ n. Knows content image meters (seen_by p) n in
+      subst P (sym dealt.seen) (subst Q (sym dealt.node) (record {
+        played = crew.played;
+        restless = crew.restless;
+        none = (let S : ℕ → Type 0 = λ s. (note_of s (seen_by p)).places ≡ 0 in
+            subst S (sym rest.site) (crew.none (i + 1) (let c = crew.count in omega (arith, c, low))));
+        stands = rest.stands;
+      }))
+
+  pub can_take : (wire : TableId) (p : APass) (olds : List (Worker D)) (after : Worker D) (i : ℕ) (d : Worker D) → IsCrew content image meters wire p olds → i < length olds →
+      IsDealt wire (seen_by p) (slice_index_or olds i d) after → (slice_index_or olds i d).items ≡ inputs_at (scenario_seen p) (history_seen p) (i + 1) →
+      ((s : ℕ) → taken_at (history_seen p) s ≡ []) → CanTakeItems content image meters wire after
+  can_take wire p olds after i d crew low dealt items fresh =
+      let site : after.node.site ≡ i + 1 = ap (λ (n : NodeView D). n.site) dealt.node ∙ (crew.each i d low).site in
+      let mine : after.items ≡ inputs_at (scenario_seen p) (history_seen p) (i + 1) = dealt.items ∙ items in
+      let P : List Mark → Type 0 = λ l. AreDone (scenario_of l) (entries_of l) after.node.site after.items 0 in
+      let Q : ℕ → Type 0 = λ s. AreDone (scenario_seen p) (history_seen p) s after.items 0 in record {
+        pass = dealt.pass;
+        knows = knows_dealt wire p olds after i d crew low dealt;
+        plain = rw mine (inputs_plain (scenario_seen p) (history_seen p) (i + 1));
+        begun = subst P (sym dealt.seen) (subst Q (sym site) (λ up. at_first (scenario_seen p) (history_seen p) (i + 1) after.items mine (fresh (i + 1))));
+      }
+
+  module _ (law : NodesKeptByOthers content image meters) (wire : TableId) (p q : APass) (olds dealts turned news : List (Worker D))
+      (r : Round content image meters law wire p q olds dealts turned news) (begun : lines (history_seen p) ≢ 0)
+      (asks : is_asking (present_items (scenario_seen p) (history_seen p)) ≡ true)
+      (items : (i : ℕ) (d : Worker D) → i < length olds → (slice_index_or olds i d).items ≡ inputs_at (scenario_seen p) (history_seen p) (i + 1))
+      (took : (i : ℕ) (d : Worker D) → i < length olds → HasTakenItems content image meters wire (slice_index_or dealts i d) (slice_index_or turned i d)) where
+    abbrev sc : Scenario
+    sc = scenario_seen p
+
+    abbrev last : List Entry
+    last = history_seen q
+
+    legal : IsLegal sc last
+    legal = let P : Scenario → Type 0 = λ k. IsLegal k last in subst P (same_scenario content image meters law wire p q olds dealts turned news r) r.played.legal
+
+    -- a worker's history is gathered with entries of others behind it
+    meanwhile : (i : ℕ) (d : Worker D) → i < length olds → Meanwhile (i + 1) (entries_of (seen_of (slice_index_or turned i d))) last
+    meanwhile i d low = meanwhile_foreign (i + 1) (seen_of (slice_index_or turned i d)) (r.each i d low).0 (seen_by q) r.played (r.each i d low).2 (r.each i d low).1
+
+    site_dealt : (i : ℕ) (d : Worker D) → i < length olds → (slice_index_or dealts i d).node.site ≡ i + 1
+    site_dealt i d low = ap (λ (n : NodeView D). n.site) (r.dealt i d low).node ∙ (r.was.each i d low).site
+
+    -- the items of a site are done
+    done_at : (i : ℕ) (d : Worker D) → i < length olds → (slice_index_or news i d).ended ≡ Ok tt →
+        AreDone sc last (i + 1) (inputs_at sc (history_seen p) (i + 1)) (length (inputs_at sc (history_seen p) (i + 1)))
+    done_at i d low well =
+        let b = slice_index_or dealts i d in
+        let a = slice_index_or turned i d in
+        let mine : b.items ≡ inputs_at sc (history_seen p) (i + 1) = (r.dealt i d low).items ∙ items i d low in
+        let ok : a.ended ≡ Ok tt = sym (r.same i d low).ended ∙ well in
+        let P : Result (Unit {0}) RunFault → Type 0 = λ e. OnOk e (AreDone (scenario_of (seen_of b)) (entries_of (seen_of a)) b.node.site b.items (length b.items)) in
+        let Q : List Mark → Type 0 = λ l. AreDone (scenario_of l) (entries_of (seen_of a)) b.node.site b.items (length b.items) in
+        let R : ℕ → Type 0 = λ s. AreDone sc (entries_of (seen_of a)) s b.items (length b.items) in
+        let S : List Input → Type 0 = λ l. AreDone sc (entries_of (seen_of a)) (i + 1) l (length l) in
+        done_meanwhile sc (i + 1) (entries_of (seen_of a)) last (inputs_at sc (history_seen p) (i + 1)) (length (inputs_at sc (history_seen p) (i + 1))) r.was.played.given legal (meanwhile i d low)
+        (subst S mine (subst R (site_dealt i d low) (subst Q (r.dealt i d low).seen (subst P ok (took i d low).done))))
+
+    -- so all are, where none was refused
+    pub all_through : AllEndedWell news → Through sc last
+    all_through well zero up = absurd (let some = up_some sc last 0 legal up in omega (arith, some))
+    all_through well (suc k) up =
+        let within : suc k ≤ length sc.weights = up_within sc last (suc k) legal up in
+        let low : k < length olds = (let c = r.was.count in omega (arith, c, within)) in
+        let d : Worker D = any news (let c = r.count in omega (arith, c, low)) in
+        let same : k + 1 ≡ suc k = omega arith in
+        let P : ℕ → Type 0 = λ s. AreDone sc last s (inputs_at sc (history_seen p) s) (length (inputs_at sc (history_seen p) s)) in
+        let at : AtItems sc last (suc k) (inputs_at sc (history_seen p) (suc k)) (length (inputs_at sc (history_seen p) (suc k))) =
+        (subst P same (done_at k d low (well k d (let c = r.count in omega (arith, c, low))))) up in
+        let asked : length (inputs_at sc last (suc k)) ≡ length (inputs_at sc (history_seen p) (suc k)) = ap length at.asked in
+        let turn = at.turn in
+        omega (arith, asked, turn)
+
+    -- a worker that was refused for a full history had an item that is due
+    pub items_full : UsedGrows → NothingPromised → OneWasRefused news HistoryFull → IsFull sc last (most_of (seen_by p))
+    items_full grows nothing one =
+        let d : Worker D = any news (let w = one.within in omega (arith, w)) in
+        let i = one.at in
+        let low : i < length olds = (let c = r.count in let w = one.within in omega (arith, c, w)) in
+        let b = slice_index_or dealts i d in
+        let a = slice_index_or turned i d in
+        let had = (took i d low).full (sym (r.same i d low).ended ∙ one.is d) in
+        let m = meanwhile i d low in
+        let site = site_dealt i d low in
+        let there : scenario_of (seen_of a) ≡ sc = (took i d low).worked.scenario ∙ ap scenario_of (r.dealt i d low).seen in
+        let alike = alike_meanwhile sc (i + 1) (entries_of (seen_of a)) last r.was.played.given legal m in
+        let U : ℕ → Type 0 = λ s. is_up_at (entries_of (seen_of a)) s ≡ true in
+        let N : ℕ → Type 0 = λ s. IsNextItem (scenario_of (seen_of a)) (entries_of (seen_of a)) s had.item in
+        let M : Scenario → Type 0 = λ k. IsNextItem k (entries_of (seen_of a)) (i + 1) had.item in
+        let step = same_step sc (history_seen p) last (gone_on content image meters law wire p q olds dealts turned news r).grown in
+        let most_there : most_of (seen_of a) ≡ most_of (seen_by p) = (took i d low).worked.most ∙ ap most_of (r.dealt i d low).seen in
+        let most_last : most_of (seen_by q) ≡ most_of (seen_by p) = (gone_on content image meters law wire p q olds dealts turned news r).most in
+        let room = no_room grows nothing (seen_of a) (r.each i d low).0 (seen_by q) (took i d low).worked.knows.played r.played (r.each i d low).1 (most_last ∙ sym most_there)
+        (crew_again content image meters law wire p q olds dealts turned news r).none had.full in
+        item_full sc last (record { site = i + 1; input = had.item }) (most_of (seen_by p)) legal (λ none. begun (sym step.at ∙ none)) (ap is_asking step.present ∙ asks)
+        (alike.up ∙ subst U site had.up) (next_on sc (i + 1) (entries_of (seen_of a)) last had.item alike (subst M there (subst N site had.due)))
+        (let e = room.0 in omega (arith, e, most_last)) (let e = room.1 in omega (arith, e, most_last))
+
+    pub items_done : (answer : Result (Unit {0}) RunFault) → OnOk answer (AllEndedWell news) → OnOk answer (Delivering sc last)
+    items_done (Ok done) well = record { legal = legal; done = all_through well }
+    items_done (Err fault) well = tt

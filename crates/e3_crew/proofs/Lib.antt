@@ -1,0 +1,11 @@
+pub mod Growing
+pub mod Giving
+pub mod Turning
+pub mod Taking
+pub mod Members
+pub mod Dealing
+pub mod Rounding
+pub mod Items
+pub mod Packets
+pub mod Drops
+pub mod Further

@@ -1,0 +1,22 @@
+-- Members of a list of which one after the other changes.
+use Rattle.std.proofs.Common.{◌≡◌, ◌≢◌, ⊎_elim, set, ℕ, ◌+◌, ◌<◌, ◌≤◌, List, length, sym, ◌∙◌, subst, arith, eqb, Bool, true, false}
+use Rattle.std.proofs.lemmas.Bool.Decides.{eqb_tells}
+use Rattle.std.proofs.lemmas.List.{get_or-set_same, get_or-set_other, get_or_default}
+use Rattle.std.specs.Prelude.{slice_index_or}
+
+-- a relation of each member to what it has become, up to k, after one more has changed
+pub changed_more : {A : Type 0} (R : A → A → Type 0) (xs ys : List A) (k : ℕ) (w : A) → k < length ys
+    → ((i : ℕ) (d : A) → i < k → R (slice_index_or xs i d) (slice_index_or ys i d)) → ((d : A) → R (slice_index_or xs k d) w)
+    → (i : ℕ) (d : A) → i < k + 1 → R (slice_index_or xs i d) (slice_index_or (set ys k w) i d)
+changed_more {A = A} R xs ys k w lt before now i d le = ⊎_elim
+    (λ (t : (eqb i k ≡ true) × (i ≡ k)). subst (λ j. R (slice_index_or xs j d) (slice_index_or (set ys k w) j d)) (sym t.1) (subst (λ z. R (slice_index_or xs k d) z) (sym (get_or-set_same ys k w d lt)) (now d)))
+    (λ (t : (eqb i k ≡ false) × (i ≢ k)). subst (λ z. R (slice_index_or xs i d) z) (sym (get_or-set_other ys k i w d t.1)) (before i d (let ne = t.1 in omega arith)))
+    (eqb_tells i k)
+
+pub unchanged_more : {A : Type 0} (xs ys : List A) (k : ℕ) (w : A) → ((i : ℕ) (d : A) → k ≤ i → slice_index_or ys i d ≡ slice_index_or xs i d)
+    → (i : ℕ) (d : A) → k + 1 ≤ i → slice_index_or (set ys k w) i d ≡ slice_index_or xs i d
+unchanged_more xs ys k w h i d le = get_or-set_other ys k i w d (λ e. omega arith) ∙ h i d (omega arith)
+
+-- the member at k, at any default
+pub same_member : {A : Type 0} (xs ys : List A) (k : ℕ) (d e : A) → k < length ys → ((i : ℕ) (d : A) → k ≤ i → slice_index_or ys i d ≡ slice_index_or xs i d) → slice_index_or ys k e ≡ slice_index_or xs k d
+same_member xs ys k d e lt h = get_or_default ys k e d lt ∙ h k d (omega arith)

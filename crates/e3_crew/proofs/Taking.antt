@@ -1,0 +1,191 @@
+-- Items and packets of a worker.
+use Rattle.std.proofs.Common.{◌≡◌, ◌==◌, ◌||◌, ◌<◌, ◌+◌, ◌++◌, ◌∷◌, [], inl, inr, ℕ, zero, suc, Bool, true, false, List, length, refl, sym, ap, subst, ◌∙◌, arith, eq-eqb, Some, None}
+use Rattle.std.specs.Prelude.{Result, Ok, Err, OnErr, OnOk, get_or, slice_get}
+use Rattle.std.specs.List.{list_any}
+use Rattle.atomic_table.specs.Seated.{TableId}
+use Rattle.e3_crew.specs.Turns.{AreDone, HasTaken}
+use Rattle.e3_crew.specs.Workers.{HasGiven, HasTakenItems, HasWorked, IsPassFor, ItemHadNoRoom, Knows, PacketHadNoRoom, seen_of}
+use Rattle.e3_crew.specs.declared.worker.Worker.{Worker}
+use Rattle.e3_crew.proofs.Growing.{alike_meanwhile, through_meanwhile}
+use Rattle.e3_disk.specs.Meters.{Meters}
+use Rattle.e3_law_local.specs.Drafts.{MayTake}
+use Rattle.e3_law_local.specs.Least.{IsLeastTo}
+use Rattle.e3_law_local.specs.Workers.{AtItems}
+use Rattle.e3_law_local.proofs.Least.{least_is_pending, least_stays}
+use Rattle.e3_law_local.proofs.Working.{items_stay, next_item}
+use Rattle.e3_node.specs.NodeView.{NodeView}
+use Rattle.e3_node.specs.Turns.{Meanwhile}
+use Rattle.e3_sites.specs.Entering.{AfterInput, fall_of}
+use Rattle.e3_sites.specs.declared.sites.RunFault.{RunFault}
+use Rattle.e3_sites.specs.declared.sites.RunFault.TheVariants.{HistoryFull}
+use Rattle.e3_types.specs.declared.entries.Entry.{Entry}
+use Rattle.e3_types.specs.declared.entries.Input.{Input}
+use Rattle.e3_types.specs.declared.entries.Input.TheVariants as input
+use Rattle.e3_types.specs.declared.messages.Packet.{Packet}
+use Rattle.e3_types.specs.declared.scenarios.Scenario.{Scenario}
+use Rattle.e3_turn.specs.Passes.{seen_by}
+use Rattle.e3_wire.specs.Claims.{APass}
+use Rattle.e3_wire.specs.declared.marks.Mark.{Mark}
+use Rattle.e3_wire.specs.Marks.{entries_of, most_of, scenario_of, used_of}
+use Rattle.e3_wire.specs.Wires.{TakesLeast}
+use Rattle.e3_world.specs.Given.{IsGiven}
+use Rattle.e3_world.specs.Items.{is_delivery, is_up_at, turn_of}
+use Rattle.e3_world.specs.Legal.{IsLegal, IsNextItem, entry_of}
+use Rattle.e3_world.specs.Progress.{Through}
+use Rattle.e3_world.proofs.Pushes.{legal_front}
+use Rattle.e3_world.proofs.Readings.{up_same}
+use Rattle.e3_world.proofs.Turns.{through}
+
+neither : (a b : Bool) → (a || b) ≡ false → (a ≡ false) × (b ≡ false)
+neither true b is = absurd cc
+neither false b is = (refl, is)
+
+-- the item at a place
+pub at_index : (items : List Input) (k : ℕ) (i : Input) → k < length items → i ≡ get_or items k i → slice_get items k ≡ Some i
+at_index [] k i low is = absurd (omega (arith, low))
+at_index (x ∷ items) zero i low is = ap Some (sym is)
+at_index (x ∷ items) (suc k) i low is = at_index items k i (omega (arith, low)) is
+
+pub plain_at : (items : List Input) (k : ℕ) (i : Input) → list_any is_delivery items ≡ false → slice_get items k ≡ Some i → is_delivery i ≡ false
+plain_at [] k i plain is = absurd cc
+plain_at (x ∷ items) zero i plain is =
+    let same : x ≡ i = cc in
+    let P : Input → Type 0 = λ y. is_delivery y ≡ false in subst P same (neither (is_delivery x) (list_any is_delivery items) plain).0
+plain_at (x ∷ items) (suc k) i plain is = plain_at items k i (neither (is_delivery x) (list_any is_delivery items) plain).1 is
+
+-- what is no delivery takes no packet
+pub takes_none : (sc : Scenario) (h : List Entry) (site : ℕ) (i : Input) → is_delivery i ≡ false → TakesLeast sc h site i
+takes_none sc h site (input.Begin sites) plain = tt
+takes_none sc h site (input.Do t op) plain = tt
+takes_none sc h site (input.Commit t) plain = tt
+takes_none sc h site (input.Cancel t) plain = tt
+takes_none sc h site (input.Expire t) plain = tt
+takes_none sc h site (input.Elect t group) plain = tt
+takes_none sc h site (input.Deliver packet) plain = absurd cc
+
+pub items_meanwhile : (sc : Scenario) (site : ℕ) (h now : List Entry) (items : List Input) (k : ℕ) → IsGiven sc → IsLegal sc now → Meanwhile site h now →
+    AtItems sc h site items k → AtItems sc now site items k
+items_meanwhile sc site h now items k given legal m at =
+    let P : List Entry → Type 0 = λ l. AtItems sc l site items k in
+    subst P (sym m.is) (items_stay sc site h m.others items k given (subst (IsLegal sc) m.is legal) m.of_others at)
+
+up_meanwhile : (sc : Scenario) (site : ℕ) (h now : List Entry) → IsGiven sc → IsLegal sc now → Meanwhile site h now → is_up_at now site ≡ is_up_at h site
+up_meanwhile sc site h now given legal m = (alike_meanwhile sc site h now given legal m).up
+
+-- how far a site is, wherever others went on
+pub done_meanwhile : (sc : Scenario) (site : ℕ) (h now : List Entry) (items : List Input) (k : ℕ) → IsGiven sc → IsLegal sc now → Meanwhile site h now →
+    AreDone sc h site items k → AreDone sc now site items k
+done_meanwhile sc site h now items k given legal m done up =
+    items_meanwhile sc site h now items k given legal m (done (sym (up_meanwhile sc site h now given legal m) ∙ up))
+
+fallen : (sc : Scenario) (met now : List Entry) (site : ℕ) (i : Input) → AfterInput sc met site i now → (is_up_at now site ≡ true) →
+    now ≡ met ++ entry_of sc met site i ∷ []
+fallen sc met now site i (inl stepped) up = stepped
+fallen sc met now site i (inr fell) up = absurd
+    (let down : is_up_at now site ≡ false = ap (λ (k : List Entry). is_up_at k site) fell.entered ∙ up_same met (fall_of sc met site i fell.why) site (eq-eqb site site refl) in cc)
+
+-- with the next item taken, or a site that went down
+pub next_done : (sc : Scenario) (site : ℕ) (items : List Input) (k : ℕ) (i : Input) (before now : List Entry) → IsGiven sc → IsLegal sc now →
+    slice_get items k ≡ Some i → is_delivery i ≡ false → AreDone sc before site items k → HasTaken sc site i before now → AreDone sc now site items (suc k)
+next_done sc site items k i before now given legal got plain done taken up = by (is_up_at before site) refl
+  where
+    by : (b : Bool) → is_up_at before site ≡ b → AtItems sc now site items (suc k)
+    by true was =
+        let t = taken.up was in
+        let is : now ≡ t.0 ++ entry_of sc t.0 site i ∷ [] = fallen sc t.0 now site i t.2 up in
+        let front : IsLegal sc t.0 = legal_front sc t.0 (entry_of sc t.0 site i ∷ []) (subst (IsLegal sc) is legal) in
+        let P : List Entry → Type 0 = λ l. AtItems sc l site items (suc k) in
+        subst P (sym is) (next_item sc site t.0 items k i (items_meanwhile sc site before t.0 items k given front t.1 (done was)) got plain).2
+    by false was = absurd (let down : is_up_at now site ≡ false = up_meanwhile sc site before now given legal (taken.down was) ∙ was in cc)
+
+pub item_may : (sc : Scenario) (site : ℕ) (items : List Input) (k : ℕ) (i : Input) (h : List Entry) → slice_get items k ≡ Some i → is_delivery i ≡ false →
+    AreDone sc h site items k → is_up_at h site ≡ true → MayTake sc h site i
+item_may sc site items k i h got plain done up = (next_item sc site h items k i (done up) got plain).1
+
+module _ {D : Type 0} (content : D → List ℕ) (image : D → List ℕ → Type 0) (meters : D → Meters) where
+  -- the next item is done
+  pub next_given : (before marks : List Mark) (old new : NodeView D) (i : Input) (items : List Input) (k : ℕ) →
+      slice_get items k ≡ Some i → is_delivery i ≡ false → Knows content image meters before old →
+      AreDone (scenario_of before) (entries_of before) old.site items k → HasWorked content image meters before old marks new →
+      HasTaken (scenario_of before) old.site i (entries_of before) (entries_of marks) →
+      AreDone (scenario_of marks) (entries_of marks) new.site items (suc k)
+  next_given before marks old new i items k got plain knows done worked taken =
+      let P : Scenario → Type 0 = λ sc. AreDone sc (entries_of marks) new.site items (suc k) in
+      let Q : ℕ → Type 0 = λ s. AreDone (scenario_of before) (entries_of marks) s items (suc k) in
+      let R : Scenario → Type 0 = λ sc. IsLegal sc (entries_of marks) in
+      subst P (sym worked.scenario) (subst Q (sym worked.site) (next_done (scenario_of before) old.site items k i (entries_of before) (entries_of marks)
+      knows.played.given (subst R worked.scenario worked.knows.played.legal) got plain done taken))
+
+  -- an item that was refused is due
+  pub item_refused : (before marks : List Mark) (old new : NodeView D) (i : Input) (items : List Input) (k : ℕ) (answer : Result (Unit {0}) RunFault) →
+      slice_get items k ≡ Some i → Knows content image meters before old → AreDone (scenario_of before) (entries_of before) old.site items k →
+      HasGiven content image meters before old i marks new answer → answer ≡ Err HistoryFull → ItemHadNoRoom marks old.site
+  item_refused before marks old new i items k (Ok done) got knows at gave is = absurd cc
+  item_refused before marks old new i items k (Err fault) got knows at gave is = record {
+    full = gave.full is;
+    up = up_meanwhile sc old.site (entries_of before) (entries_of marks) knows.played.given legal gave.kept ∙ gave.up;
+    item = i;
+    due = (let P : Scenario → Type 0 = λ k. IsNextItem k (entries_of marks) old.site i in subst P (sym gave.worked.scenario) (record {
+      next = ap (λ l. slice_get l (turn_of (entries_of marks) old.site)) here.asked ∙ ap (slice_get items) here.turn ∙ got;
+      no_delivery = here.fresh;
+    }));
+  }
+    where
+      sc : Scenario
+      sc = scenario_of before
+
+      legal : IsLegal sc (entries_of marks)
+      legal = let P : Scenario → Type 0 = λ k. IsLegal k (entries_of marks) in subst P gave.worked.scenario gave.worked.knows.played.legal
+
+      here : AtItems sc (entries_of marks) old.site items k
+      here = items_meanwhile sc old.site (entries_of before) (entries_of marks) items k knows.played.given legal gave.kept (at gave.up)
+
+  -- and so is a packet
+  pub packet_refused : (before marks : List Mark) (old new : NodeView D) (p : Packet) (answer : Result (Unit {0}) RunFault) →
+      IsLeastTo (scenario_of before) (entries_of before) old.site p →
+      HasGiven content image meters before old (input.Deliver p) marks new answer → answer ≡ Err HistoryFull → PacketHadNoRoom marks old.site
+  packet_refused before marks old new p (Ok done) least gave is = absurd cc
+  packet_refused before marks old new p (Err fault) least gave is = record {
+    full = gave.full is;
+    packet = p;
+    least = (let P : Scenario → Type 0 = λ k. IsLeastTo k (entries_of marks) old.site p in
+        let Q : List Entry → Type 0 = λ k. IsLeastTo (scenario_of before) k old.site p in
+        subst P (sym gave.worked.scenario) (subst Q (sym m.is) (least_stays (scenario_of before) (entries_of before) m.others old.site p
+        (subst (IsLegal (scenario_of before)) m.is legal) m.of_others m.of_sites least)));
+  }
+    where
+      m : Meanwhile old.site (entries_of before) (entries_of marks)
+      m = gave.kept
+
+      legal : IsLegal (scenario_of before) (entries_of marks)
+      legal = let P : Scenario → Type 0 = λ k. IsLegal k (entries_of marks) in subst P gave.worked.scenario gave.worked.knows.played.legal
+
+  -- all items stay through
+  pub through_worked : (before marks : List Mark) (old new : NodeView D) → IsGiven (scenario_of before) → HasWorked content image meters before old marks new →
+      Through (scenario_of before) (entries_of before) → Through (scenario_of marks) (entries_of marks)
+  through_worked before marks old new given worked all =
+      let P : Scenario → Type 0 = λ k. Through k (entries_of marks) in
+      let Q : Scenario → Type 0 = λ k. IsLegal k (entries_of marks) in
+      subst P (sym worked.scenario) (through_meanwhile (scenario_of before) 0 (entries_of before) (entries_of marks) given
+      (subst Q worked.scenario worked.knows.played.legal) worked.grew all)
+
+-- the least packet may be taken
+pub packet_may : (sc : Scenario) (h : List Entry) (site : ℕ) (p : Packet) → IsLeastTo sc h site p → Through sc h → MayTake sc h site (input.Deliver p)
+packet_may sc h site p least all = ((least_is_pending sc h site p least).1, through sc h all)
+
+-- a turn with items, once the worker has its pass again
+pub took_items : {D : Type 0} (content : D → List ℕ) (image : D → List ℕ → Type 0) (meters : D → Meters) (wire : TableId) (before : Worker D) (marks : List Mark) (old : NodeView D)
+    (items : List Input) (p : APass) (new : NodeView D) (kept : List Input) (answer : Result (Unit {0}) RunFault) → marks ≡ seen_of before → old ≡ before.node → items ≡ before.items →
+    IsPassFor wire new.site p → HasWorked content image meters marks old (seen_by p) new →
+    OnOk answer (AreDone (scenario_of marks) (entries_of (seen_by p)) old.site items (length items)) → (answer ≡ Err HistoryFull → ItemHadNoRoom (seen_by p) old.site) →
+    HasTakenItems content image meters wire before (record { node = new; pass = Some p; items = kept; ended = answer })
+took_items {D} content image meters wire before marks old items p new kept answer seen node all pass worked done full = record {
+  pass = (p, refl, pass);
+  worked = (let P : List Mark → Type 0 = λ l. HasWorked content image meters l before.node (seen_by p) new in
+      let Q : NodeView D → Type 0 = λ n. HasWorked content image meters marks n (seen_by p) new in subst P seen (subst Q node worked));
+  done = (let P : List Mark → Type 0 = λ l. OnOk answer (AreDone (scenario_of l) (entries_of (seen_by p)) before.node.site before.items (length before.items)) in
+      let Q : NodeView D → Type 0 = λ n. OnOk answer (AreDone (scenario_of marks) (entries_of (seen_by p)) n.site before.items (length before.items)) in
+      let R : List Input → Type 0 = λ l. OnOk answer (AreDone (scenario_of marks) (entries_of (seen_by p)) old.site l (length l)) in
+      subst P seen (subst Q node (subst R all done)));
+  full = λ is. (let Q : NodeView D → Type 0 = λ n. ItemHadNoRoom (seen_by p) n.site in subst Q node (full is));
+}

@@ -1,0 +1,91 @@
+-- What workers know stays true while others go on, and turns follow one another.
+use Rattle.std.proofs.Common.{◌≡◌, ◌==◌, ◌<◌, ◌++◌, ◌∷◌, [], ℕ, suc, Bool, true, false, List, refl, sym, ap, subst, ◌∙◌, arith}
+use Rattle.e3_disk.specs.Meters.{Meters}
+use Rattle.e3_crew.specs.Turns.{AtStart, BehindFall, BehindOthers, BehindStep, WentOn}
+use Rattle.e3_crew.specs.Workers.{HasWorked, Knows}
+use Rattle.e3_crew.proofs.Growing.{lines_meanwhile, meanwhile_all, meanwhile_none, meanwhile_on, restless_on}
+use Rattle.e3_node.specs.Claims.{NodesKeptByOthers}
+use Rattle.e3_node.specs.NodeStands.{NodeStands}
+use Rattle.e3_node.specs.NodeView.{NodeView, disk_of}
+use Rattle.e3_node.specs.Turns.{Meanwhile}
+use Rattle.e3_turn.specs.Chronicles.{count_of}
+use Rattle.e3_turn.proofs.Totals.{count_of_self}
+use Rattle.e3_types.specs.declared.entries.Entry.{Entry}
+use Rattle.e3_types.specs.declared.scenarios.Scenario.{Scenario}
+use Rattle.e3_wire.specs.declared.marks.Mark.{Mark}
+use Rattle.e3_wire.specs.Marks.{AreForeign, entries_of, most_of, note_of, scenario_of}
+use Rattle.e3_wire.specs.Wires.{IsPlayed}
+use Rattle.e3_wire.proofs.Foreign.{entries_append, foreign_are_others, foreign_of_sites, notes_stay}
+use Rattle.e3_wire.proofs.Notes.{scenario_stays}
+use Rattle.e3_world.specs.Legal.{IsLegal}
+use Rattle.e3_world.specs.Packets.{is_calm, present_items}
+
+pub went_on : (sc : Scenario) (site : ℕ) (a b : List Entry) (l m : Meters) (c : List Entry) (n : Meters) → WentOn sc site a l b m → WentOn sc site b m c n → WentOn sc site a l c n
+went_on sc site a b l m c n first AtStart = first
+went_on sc site a b l m c n first (BehindOthers before more now k second others is) = BehindOthers before more c n (went_on sc site a b l m before n first second) others is
+went_on sc site a b l m c n first (BehindStep before now i k o second step) = BehindStep before c i k n (went_on sc site a b l m before k first second) step
+went_on sc site a b l m c n first (BehindFall before now i why k o second fall) = BehindFall before c i why k n (went_on sc site a b l m before k first second) fall
+
+-- marks of others, as entries
+pub meanwhile_foreign : (site : ℕ) (before since marks : List Mark) → IsPlayed marks → AreForeign site since → marks ≡ before ++ since →
+    Meanwhile site (entries_of before) (entries_of marks)
+meanwhile_foreign site before since marks played foreign is = record {
+  others = entries_of since;
+  of_others = foreign_are_others (scenario_of marks) site before since (let P : List Mark → Type 0 = λ l. IsLegal (scenario_of marks) (entries_of l) in subst P is played.legal) foreign;
+  of_sites = foreign_of_sites site since foreign;
+  is = ap entries_of is ∙ entries_append before since;
+}
+
+module _ {D : Type 0} (content : D → List ℕ) (image : D → List ℕ → Type 0) (meters : D → Meters) where
+  pub worked_none : (marks : List Mark) (node : NodeView D) → Knows content image meters marks node → HasWorked content image meters marks node marks node
+  worked_none marks node knows = record {
+    knows = knows;
+    site = refl;
+    scenario = refl;
+    most = refl;
+    grew = meanwhile_none 0 (entries_of marks);
+    went = AtStart;
+  }
+
+  pub worked_on : (a b c : List Mark) (l m n : NodeView D) → HasWorked content image meters a l b m → HasWorked content image meters b m c n → HasWorked content image meters a l c n
+  worked_on a b c l m n first second = record {
+    knows = second.knows;
+    site = second.site ∙ first.site;
+    scenario = second.scenario ∙ first.scenario;
+    most = second.most ∙ first.most;
+    grew = meanwhile_on 0 (entries_of a) (entries_of b) (entries_of c) first.grew second.grew;
+    went = went_on (scenario_of a) l.site (entries_of a) (entries_of b) (meters (disk_of l.state)) (meters (disk_of m.state)) (entries_of c) (meters (disk_of n.state)) first.went
+        (let P : Scenario → Type 0 = λ sc. WentOn sc l.site (entries_of b) (meters (disk_of m.state)) (entries_of c) (meters (disk_of n.state)) in
+        let Q : ℕ → Type 0 = λ s. WentOn (scenario_of b) s (entries_of b) (meters (disk_of m.state)) (entries_of c) (meters (disk_of n.state)) in
+        subst P first.scenario (subst Q first.site second.went));
+  }
+
+  -- while a worker only looks
+  pub worked_behind : NodesKeptByOthers content image meters → (before since marks : List Mark) (node : NodeView D) → Knows content image meters before node →
+      AreForeign node.site since → IsPlayed marks → marks ≡ before ++ since → HasWorked content image meters before node marks node
+  worked_behind law before since marks node knows foreign played is = record {
+    knows = record {
+      played = played;
+      restless = (let P : Scenario → Type 0 = λ k. is_calm (present_items k (entries_of marks)) ≡ false in
+          subst P (sym same) (restless_on (scenario_of before) (entries_of before) (entries_of marks) (lines_meanwhile node.site (entries_of before) (entries_of marks) m) knows.restless));
+      none = ap (λ (l : List Mark). (note_of node.site l).places) is ∙ ap (λ w. w.places) (notes_stay node.site before since foreign) ∙ knows.none;
+      stands = (let P : Scenario → Type 0 = λ k. NodeStands content image meters k (entries_of marks) node in
+          let Q : List Entry → Type 0 = λ k. NodeStands content image meters (scenario_of before) k node in
+          subst P (sym same) (subst Q (sym m.is) (law (scenario_of before) (entries_of before) m.others node knows.stands m.of_others)));
+    };
+    site = refl;
+    scenario = same;
+    most = ap most_of is ∙ (scenario_stays before since knows.played).1;
+    grew = meanwhile_all node.site (entries_of before) (entries_of marks) m;
+    went = BehindOthers (entries_of before) m.others (entries_of marks) (meters (disk_of node.state)) AtStart m.of_others m.is;
+  }
+    where
+      m : Meanwhile node.site (entries_of before) (entries_of marks)
+      m = meanwhile_foreign node.site before since marks played foreign is
+
+      same : scenario_of marks ≡ scenario_of before
+      same = ap scenario_of is ∙ (scenario_stays before since knows.played).0
+
+-- a pass of one owner has it
+pub owns_one : (o : ℕ) (owners : List ℕ) → owners ≡ o ∷ [] → 0 < count_of o owners
+owns_one o owners is = subst (λ l. 0 < count_of o l) (sym is) (let one = count_of_self o in omega (arith, one))

@@ -1,0 +1,39 @@
+use Rattle.std.proofs.Common.{◌≡◌, ◌∷◌, [], sym, ap, subst, ◌∙◌}
+use Rattle.e3_turn.specs.Passes.{seen_by}
+use Rattle.e3_crew.specs.Workers.{HasGiven}
+use Rattle.e3_crew.proofs.Giving.{Answered, gave}
+use Rattle.e3_crew.proofs.Turning.{owns_one}
+use Rattle.e3_crew.proofs.working.give.Goals as goal
+
+pub input_by_turns-answer-requires-clause-owns : goal.input_by_turns-answer-requires-clause-owns
+input_by_turns-answer-requires-clause-owns g c = owns_one _ _ c.requires.pass.owner_is
+
+pub returns-clause-pass : goal.returns-clause-pass
+returns-clause-pass g c = record {
+  idle = c.input_by_turns-answer.ensures.idle;
+  owner_is = c.input_by_turns-answer.ensures.same.owners ∙ c.requires.pass.owner_is ∙ ap (λ s. s ∷ []) (sym c.input_by_turns-answer.ensures.site);
+}
+
+pub returns-clause-given : goal.returns-clause-given
+returns-clause-given g c =
+    let e = c.input_by_turns-answer.ensures in
+    let P = HasGiven g.D.Disk.content g.D.Disk.image g.D.Disk.meters (seen_by c.args.pass.now) c.args.node.now c.args.input
+    (seen_by c.input_by_turns-answer.new.pass) c.input_by_turns-answer.new.self in
+    subst P (sym c.given.ensures)
+    (gave g.D.Disk.content g.D.Disk.image g.D.Disk.meters c.others_leave_nodes.ensures.moves (seen_by c.args.pass.now)
+    (seen_by c.input_by_turns-answer.new.pass) c.args.node.now c.input_by_turns-answer.new.self c.args.input c.input_by_turns-answer.result c.requires.knows (record {
+      played = e.played;
+      scenario = e.scenario.0;
+      most = e.scenario.1;
+      promised = e.promised;
+      stands = e.stands;
+      site = e.site;
+      stepped = e.stepped;
+      fell = e.fell;
+      down = e.down;
+      full = e.full;
+      kept = e.kept;
+      why = e.why;
+      keeps = e.meters;
+      takes = e.takes;
+    }))

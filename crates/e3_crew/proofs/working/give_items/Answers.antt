@@ -1,0 +1,52 @@
+use Rattle.std.proofs.Common.{rules, ◌≡◌, ℕ, Err, Some, sym, subst, ap, ◌∙◌, add-one}
+use Rattle.std.specs.Prelude.{slice_get}
+use Rattle.e3_crew.specs.Workers.{ItemHadNoRoom}
+use Rattle.e3_crew.proofs.Taking.{at_index, item_may, item_refused, next_given, plain_at}
+use Rattle.e3_crew.proofs.Turning.{worked_none, worked_on}
+use Rattle.e3_node.specs.Turns.{history_seen, scenario_seen}
+use Rattle.e3_sites.specs.declared.sites.RunFault.TheVariants.{HistoryFull}
+use Rattle.e3_turn.specs.Passes.{seen_by}
+use Rattle.e3_crew.proofs.working.give_items.Goals as goal
+
+pub loop-item-init : goal.loop-item-init
+loop-item-init g c = record {
+  pass = c.requires.pass;
+  worked = worked_none g.D.Disk.content g.D.Disk.image g.D.Disk.meters (seen_by c.args.pass.now) c.args.node.now c.requires.knows;
+  done = c.requires.begun;
+}
+
+pub give-requires-clause-due : goal.give-requires-clause-due
+give-requires-clause-due g c = λ up.
+    let at = c.loop-item.item-index in
+    let got : slice_get c.args.items.now at ≡ Some c.copy.result = at_index c.args.items.now at c.item-item.result c.loop-item-test.true c.item-item.is ∙ ap Some (sym c.copy.ensures) in
+    item_may (scenario_seen c.loop-item.pass) c.loop-item.node.site c.args.items.now at c.copy.result (history_seen c.loop-item.pass) got
+    (plain_at c.args.items.now at c.copy.result c.requires.plain got) c.loop-item.invariant.done up
+
+pub loop-item-preserved : goal.loop-item-preserved
+loop-item-preserved g c =
+    let was = c.loop-item.invariant in
+    let now = c.in_ok-give.ensures in
+    let at = c.loop-item.item-index in
+    let got : slice_get c.args.items.now at ≡ Some c.copy.result = at_index c.args.items.now at c.item-item.result c.loop-item-test.true c.item-item.is ∙ ap Some (sym c.copy.ensures) in
+    rw add-one (record {
+      pass = now.pass;
+      worked = worked_on g.D.Disk.content g.D.Disk.image g.D.Disk.meters (seen_by c.args.pass.now) (seen_by c.loop-item.pass) (seen_by c.give.new.pass)
+          c.args.node.now c.loop-item.node c.give.new.node was.worked now.given.worked;
+      done = next_given g.D.Disk.content g.D.Disk.image g.D.Disk.meters (seen_by c.loop-item.pass) (seen_by c.give.new.pass) c.loop-item.node c.give.new.node c.copy.result
+          c.args.items.now at got (plain_at c.args.items.now at c.copy.result c.requires.plain got) was.worked.knows was.done now.given.worked now.given.taken;
+    })
+
+pub returns-in_err-give-clause-worked : goal.returns-in_err-give-clause-worked
+returns-in_err-give-clause-worked g c =
+    worked_on g.D.Disk.content g.D.Disk.image g.D.Disk.meters (seen_by c.args.pass.now) (seen_by c.loop-item.pass) (seen_by c.give.new.pass)
+    c.args.node.now c.loop-item.node c.give.new.node c.loop-item.invariant.worked c.give.ensures.given.worked
+
+pub returns-in_err-give-clause-full : goal.returns-in_err-give-clause-full
+returns-in_err-give-clause-full g c = λ is.
+    let was = c.loop-item.invariant in
+    let at = c.loop-item.item-index in
+    let got : slice_get c.args.items.now at ≡ Some c.copy.result = at_index c.args.items.now at c.item-item.result c.loop-item-test.true c.item-item.is ∙ ap Some (sym c.copy.ensures) in
+    let full : c.give.result ≡ Err HistoryFull = search rules in
+    let P : ℕ → Type 0 = λ site. ItemHadNoRoom (seen_by c.give.new.pass) site in
+    subst P was.worked.site (item_refused g.D.Disk.content g.D.Disk.image g.D.Disk.meters (seen_by c.loop-item.pass) (seen_by c.give.new.pass) c.loop-item.node c.give.new.node
+    c.copy.result c.args.items.now at c.give.result got was.worked.knows was.done c.give.ensures.given full)

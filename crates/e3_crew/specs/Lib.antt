@@ -1,0 +1,4 @@
+pub mod Turns
+pub mod Workers
+pub mod Crews
+pub mod Drops

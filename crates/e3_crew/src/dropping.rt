@@ -1,0 +1,132 @@
+// The driver's turn between rounds: it drops the packets to sites that are down.
+ghost use Rattle.std.specs.Prelude.{◌≡◌, ◌≢◌, ◌<◌, [], ℕ, false, length, slice_index_or, IfOk, Err};
+ghost use Rattle.e3_crew.specs.Crews.{HasGoneOn, IsCrew};
+ghost use Rattle.e3_crew.specs.Drops.{DropHadNoRoom, HasDropped};
+ghost use Rattle.e3_crew.specs.declared.worker.Worker.{Worker as Workers};
+ghost use Rattle.e3_node.specs.NodeStands.{NodeStands};
+ghost use Rattle.e3_node.specs.Turns.{history_seen, scenario_seen};
+ghost use Rattle.e3_sites.specs.Delivered.{IsFull};
+ghost use Rattle.e3_sites.specs.declared.sites.RunFault.TheVariants.{HistoryFull};
+ghost use Rattle.e3_turn.specs.Passes.{seen_by};
+ghost use Rattle.e3_wire.specs.Wires.{IsPlayed};
+ghost use Rattle.e3_wire.specs.declared.fault.WireFault.TheVariants as wire_fault;
+ghost use Rattle.e3_wire.specs.Marks.{entries_of, most_of, scenario_of};
+ghost use Rattle.e3_world.specs.Items.{is_up_at};
+ghost use Rattle.e3_world.specs.Packets.{is_calm, lines, pending, present_items};
+ghost use Rattle.e3_world.specs.Progress.{Delivering};
+
+use crate::Worker;
+use e3_disk::{Disk, Drill};
+use e3_node::others_leave_nodes;
+use e3_sites::RunFault;
+use e3_wire::{Shared, Wire, WireFault, WirePass, drivers_may_put_marks, marks_add_up};
+use std::sync::Wait;
+
+// What a refusal of the wire is to the run.
+fn run_fault(fault: WireFault) -> RunFault
+    ensures { result ≡ HistoryFull → fault ≡ wire_fault.HistoryFull }
+{
+    match fault {
+        WireFault::HistoryFull => RunFault::HistoryFull,
+        WireFault::NoMemory => RunFault::NoMemory,
+    }
+}
+
+// Drops the packets that are pending to a site that is down.
+fn drop_all_for<R: Wait>(rt: &R, shared: &mut Shared, site: u32) -> Result<(), RunFault>
+    requires played { IsPlayed shared.old }
+    requires down { is_up_at (entries_of shared.old) site ≡ false }
+    requires restless { is_calm (present_items (scenario_of shared.old) (entries_of shared.old)) ≡ false }
+    ensures dropped { HasDropped shared.old shared.new }
+    ensures full { result ≡ Err HistoryFull → DropHadNoRoom shared.new }
+{
+    for _ in rt.forever() {
+        match shared.drop_for(site) {
+            Ok(None) => return Ok(()),
+            Ok(Some(_number)) => {}
+            Err(fault) => return Err(run_fault(fault)),
+        }
+    }
+    unreachable!()
+}
+
+// Drops the packets that are pending to a worker's site, where it is down.
+fn drop_to<D: Disk + Drill + Drop, R: Wait>(
+    rt: &R,
+    shared: &mut Shared,
+    worker: &Worker<D>,
+) -> Result<(), RunFault>
+    requires played { IsPlayed shared.old }
+    requires restless { is_calm (present_items (scenario_of shared.old) (entries_of shared.old)) ≡ false }
+    requires standing { NodeStands D.content D.image D.meters (scenario_of shared.old) (entries_of shared.old) worker.now.node }
+    ensures dropped { HasDropped shared.old shared.new }
+    ensures full { result ≡ Err HistoryFull → DropHadNoRoom shared.new }
+{
+    if worker.node.is_up() {
+        return Ok(());
+    }
+    drop_all_for(rt, shared, worker.node.site())
+}
+
+// Drops the packets that are pending to sites that are down.
+fn drop_in<D: Disk + Drill + Drop, R: Wait>(
+    rt: &R,
+    shared: &mut Shared,
+    workers: &[Worker<D>],
+) -> Result<(), RunFault>
+    requires played { IsPlayed shared.old }
+    requires restless { is_calm (present_items (scenario_of shared.old) (entries_of shared.old)) ≡ false }
+    requires standing { (i : ℕ) (d : Workers D) → i < length workers.now →
+        NodeStands D.content D.image D.meters (scenario_of shared.old) (entries_of shared.old) (slice_index_or workers.now i d).node }
+    ensures dropped { HasDropped shared.old shared.new }
+    ensures full { result ≡ Err HistoryFull → DropHadNoRoom shared.new }
+{
+    others_leave_nodes::<D>();
+    for worker in workers {
+        shared.tell();
+        drop_to(rt, shared, worker)?;
+    }
+    Ok(())
+}
+
+// How many sites packets are pending to; 0 only where none is pending at all.
+fn busy_sites<D: Disk + Drill + Drop>(shared: &Shared, workers: &[Worker<D>]) -> usize
+    ensures { result ≡ 0 → pending (scenario_of shared.now) (entries_of shared.now) ≡ [] }
+{
+    if shared.first().is_none() {
+        return 0;
+    }
+    let busy = workers
+        .iter()
+        .filter(|worker| shared.next_to(worker.node.site()).is_some())
+        .count();
+    busy.max(1)
+}
+
+/// Drops the packets that are pending to sites that are down, and tells to how many sites packets are pending then: 0 only
+/// where none is.
+pub fn drop_down<D: Disk + Drill + Drop, R: Wait>(
+    rt: &R,
+    wire: &Wire,
+    pass: &mut WirePass,
+    workers: &[Worker<D>],
+) -> Result<usize, RunFault>
+    requires crew { IsCrew D.content D.image D.meters wire.now pass.old workers.now }
+    requires begun { lines (history_seen pass.old) ≢ 0 }
+    requires delivering { Delivering (scenario_seen pass.old) (history_seen pass.old) }
+    ensures crew { IsCrew D.content D.image D.meters wire.now pass.new workers.now }
+    ensures on { HasGoneOn D.meters (seen_by pass.old) workers.now (seen_by pass.new) workers.now }
+    ensures delivering { Delivering (scenario_seen pass.old) (history_seen pass.new) }
+    ensures none { IfOk result (λ busy. busy ≡ 0 → pending (scenario_seen pass.old) (history_seen pass.new) ≡ []) }
+    ensures full { result ≡ Err HistoryFull → IsFull (scenario_seen pass.old) (history_seen pass.new) (most_of (seen_by pass.old)) }
+{
+    others_leave_nodes::<D>();
+    marks_add_up();
+    drivers_may_put_marks();
+    let mut shared = wire.take(rt, pass);
+    let dropped = drop_in(rt, &mut shared, workers);
+    let busy = busy_sites(&shared, workers);
+    wire.put(pass, shared);
+    dropped?;
+    Ok(busy)
+}

@@ -1,0 +1,169 @@
+// What a worker gives to its node.
+ghost use Rattle.std.specs.Prelude.{◌≡◌, true, false, length, IfSome, None, OnOk, Err};
+ghost use Rattle.std.specs.List.{list_any};
+ghost use Rattle.e3_crew.specs.Turns.{AreDone, given};
+ghost use Rattle.e3_crew.specs.Workers.{CanTakeItems, CanTakePackets, HasGiven, HasPass, HasTakenItems, HasTakenPackets, HasWorked, IsPassFor, ItemHadNoRoom, Knows, NonePending, PacketHadNoRoom, seen_of};
+ghost use Rattle.e3_law_local.specs.Drafts.{MayTake};
+ghost use Rattle.e3_law_local.specs.Least.{IsLeastTo};
+ghost use Rattle.e3_node.specs.Turns.{history_seen, scenario_seen};
+ghost use Rattle.e3_sites.specs.declared.sites.RunFault.TheVariants.{HistoryFull};
+ghost use Rattle.e3_turn.specs.Passes.{seen_by};
+ghost use Rattle.e3_wire.specs.Wires.{TakesLeast};
+ghost use Rattle.e3_world.specs.Items.{is_delivery, is_up_at};
+ghost use Rattle.e3_world.specs.Progress.{Through};
+
+use crate::Worker;
+use crate::worker::take_pass;
+use e3_disk::{Disk, Drill};
+use e3_node::{InputFault, Node, others_leave_nodes};
+use e3_outside::Gate;
+use e3_sites::RunFault;
+use e3_types::{Input, Packet};
+use e3_wire::{Wire, WirePass};
+use std::alloc::Global;
+use std::sync::Wait;
+
+// What an input is to a worker.
+fn given(answer: Result<(), InputFault>) -> Result<(), RunFault>
+    ensures { result ≡ given answer }
+{
+    match answer {
+        Ok(()) => Ok(()),
+        Err(fault) => match fault {
+            InputFault::HistoryFull => Err(RunFault::HistoryFull),
+            InputFault::NoMemory => Err(RunFault::NoMemory),
+            InputFault::Down | InputFault::Fell { .. } => Ok(()),
+        },
+    }
+}
+
+/// Gives an input to a node, while others go on. Where its site is down it is passed over.
+fn give<D: Disk + Drill + Drop, R: Wait>(
+    rt: &R,
+    alloc: Global,
+    wire: &Wire,
+    pass: &mut WirePass,
+    node: &mut Node<D>,
+    input: Input,
+) -> Result<(), RunFault>
+    requires pass { IsPassFor wire.now node.old.site pass.old }
+    requires knows { Knows D.content D.image D.meters (seen_by pass.old) node.old }
+    requires due { is_up_at (history_seen pass.old) node.old.site ≡ true → MayTake (scenario_seen pass.old) (history_seen pass.old) node.old.site input }
+    requires takes { is_up_at (history_seen pass.old) node.old.site ≡ true → TakesLeast (scenario_seen pass.old) (history_seen pass.old) node.old.site input }
+    ensures pass { IsPassFor wire.now node.new.site pass.new }
+    ensures given { HasGiven D.content D.image D.meters (seen_by pass.old) node.old input (seen_by pass.new) node.new result }
+{
+    others_leave_nodes::<D>();
+    let answer = node.input_by_turns(rt, alloc, wire, pass, input);
+    given(answer)
+}
+
+// Gives the items of a site to its node, in their order.
+fn give_items<D: Disk + Drill + Drop, R: Wait>(
+    rt: &R,
+    alloc: Global,
+    wire: &Wire,
+    pass: &mut WirePass,
+    node: &mut Node<D>,
+    items: &[Input],
+) -> Result<(), RunFault>
+    requires pass { IsPassFor wire.now node.old.site pass.old }
+    requires knows { Knows D.content D.image D.meters (seen_by pass.old) node.old }
+    requires plain { list_any is_delivery items.now ≡ false }
+    requires begun { AreDone (scenario_seen pass.old) (history_seen pass.old) node.old.site items.now 0 }
+    ensures pass { IsPassFor wire.now node.new.site pass.new }
+    ensures worked { HasWorked D.content D.image D.meters (seen_by pass.old) node.old (seen_by pass.new) node.new }
+    ensures done { OnOk result (AreDone (scenario_seen pass.old) (history_seen pass.new) node.old.site items.now (length items.now)) }
+    ensures full { result ≡ Err HistoryFull → ItemHadNoRoom (seen_by pass.new) node.old.site }
+{
+    for item in items {
+        give(rt, alloc, wire, pass, node, item.copy())?;
+    }
+    Ok(())
+}
+
+// The least packet to a node's site, if its site is up and one is pending to it.
+fn next_packet<D: Disk + Drill + Drop, R: Wait>(
+    rt: &R,
+    wire: &Wire,
+    pass: &mut WirePass,
+    node: &Node<D>,
+) -> Option<Packet>
+    requires pass { IsPassFor wire.now node.now.site pass.old }
+    requires knows { Knows D.content D.image D.meters (seen_by pass.old) node.now }
+    ensures pass { IsPassFor wire.now node.now.site pass.new }
+    ensures worked { HasWorked D.content D.image D.meters (seen_by pass.old) node.now (seen_by pass.new) node.now }
+    ensures some { IfSome result (λ p. IsLeastTo (scenario_seen pass.new) (history_seen pass.new) node.now.site p) }
+    ensures none { result ≡ None → NonePending (seen_by pass.new) node.now.site }
+{
+    others_leave_nodes::<D>();
+    if !node.is_up() {
+        return None;
+    }
+    wire.next_to(rt, pass, node.site())
+}
+
+// Gives packets to a node, the least to its site first, until none is pending to it.
+fn give_packets<D: Disk + Drill + Drop, G: Gate, R: Wait>(
+    rt: &R,
+    alloc: Global,
+    wire: &Wire,
+    gate: &G,
+    pass: &mut WirePass,
+    node: &mut Node<D>,
+) -> Result<(), RunFault>
+    requires pass { IsPassFor wire.now node.old.site pass.old }
+    requires knows { Knows D.content D.image D.meters (seen_by pass.old) node.old }
+    requires through { Through (scenario_seen pass.old) (history_seen pass.old) }
+    ensures pass { IsPassFor wire.now node.new.site pass.new }
+    ensures worked { HasWorked D.content D.image D.meters (seen_by pass.old) node.old (seen_by pass.new) node.new }
+    ensures done { OnOk result (NonePending (seen_by pass.new) node.old.site) }
+    ensures full { result ≡ Err HistoryFull → PacketHadNoRoom (seen_by pass.new) node.old.site }
+{
+    for _ in rt.forever() {
+        let Some(packet) = next_packet(rt, wire, pass, node) else {
+            return Ok(());
+        };
+        gate.enter(node.site());
+        give(rt, alloc, wire, pass, node, Input::Deliver { packet })?;
+    }
+    unreachable!()
+}
+
+/// A worker's turn with its items. The worker has its pass again, whatever it met.
+pub(crate) fn take_items<D: Disk + Drill + Drop, R: Wait>(
+    rt: &R,
+    alloc: Global,
+    wire: &Wire,
+    worker: &mut Worker<D>,
+)
+    requires { CanTakeItems D.content D.image D.meters wire.now worker.old }
+    ensures { HasTakenItems D.content D.image D.meters wire.now worker.old worker.new }
+{
+    let mut pass = take_pass(worker, wire);
+    worker.ended = give_items(
+        rt,
+        alloc,
+        wire,
+        &mut pass,
+        &mut worker.node,
+        worker.items.as_slice(),
+    );
+    worker.pass = Some(pass);
+}
+
+/// A worker's turn with packets.
+pub(crate) fn take_packets<D: Disk + Drill + Drop, G: Gate, R: Wait>(
+    rt: &R,
+    alloc: Global,
+    wire: &Wire,
+    gate: &G,
+    worker: &mut Worker<D>,
+)
+    requires { CanTakePackets D.content D.image D.meters wire.now worker.old }
+    ensures { HasTakenPackets D.content D.image D.meters wire.now worker.old worker.new }
+{
+    let mut pass = take_pass(worker, wire);
+    worker.ended = give_packets(rt, alloc, wire, gate, &mut pass, &mut worker.node);
+    worker.pass = Some(pass);
+}
