@@ -1,6 +1,6 @@
 -- Members of a list of which one after the other changes.
-use Rattle.std.proofs.Common.{◌≡◌, ◌≢◌, ⊎_elim, set, ℕ, ◌+◌, ◌<◌, ◌≤◌, List, length, sym, ◌∙◌, subst, arith, eqb, Bool, true, false}
-use Rattle.std.proofs.lemmas.Bool.Decides.{eqb_tells}
+use Rattle.std.proofs.Common.{◌≡◌, ◌≢◌, ⊎_elim, set, ℕ, ◌+◌, ◌<◌, ◌≤◌, List, length, sym, ap, ◌∙◌, subst, arith, eqb, Bool, true, false}
+use Rattle.std.proofs.lemmas.Bool.Decides.{eqb_tells, leb_tells}
 use Rattle.std.proofs.lemmas.List.{get_or-set_same, get_or-set_other, get_or_default}
 use Rattle.std.specs.Prelude.{slice_index_or}
 
@@ -20,3 +20,8 @@ unchanged_more xs ys k w h i d le = get_or-set_other ys k i w d (λ e. omega ari
 -- the member at k, at any default
 pub same_member : {A : Type 0} (xs ys : List A) (k : ℕ) (d e : A) → k < length ys → ((i : ℕ) (d : A) → k ≤ i → slice_index_or ys i d ≡ slice_index_or xs i d) → slice_index_or ys k e ≡ slice_index_or xs k d
 same_member xs ys k d e lt h = get_or_default ys k e d lt ∙ h k d (omega arith)
+
+-- what is told of each member, those that have changed and those that are left
+pub kept_by : {A B : Type 0} (f : A → B) (xs ys : List A) (k : ℕ) → ((i : ℕ) (d : A) → i < k → f (slice_index_or ys i d) ≡ f (slice_index_or xs i d))
+    → ((i : ℕ) (d : A) → k ≤ i → slice_index_or ys i d ≡ slice_index_or xs i d) → (i : ℕ) (d : A) → f (slice_index_or ys i d) ≡ f (slice_index_or xs i d)
+kept_by f xs ys k before later i d = ⊎_elim (λ h. ap f (later i d h.1)) (λ h. before i d h.1) (leb_tells k i)

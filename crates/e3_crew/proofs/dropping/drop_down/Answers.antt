@@ -1,4 +1,4 @@
-use Rattle.std.proofs.Common.{rules, ◌≡◌, ◌<◌, ◌++◌, [], ℕ, List, false, refl, sym, ap, subst, ◌∙◌, arith}
+use Rattle.std.proofs.Common.{rules, Err, ◌≡◌, ◌<◌, ◌++◌, [], ℕ, List, false, refl, sym, ap, subst, ◌∙◌, arith}
 use Rattle.std.specs.Prelude.{slice_index_or}
 use Rattle.e3_crew.specs.Drops.{DropHadNoRoom, HasDropped}
 use Rattle.e3_crew.proofs.Drops.{crew_dropped, drop_full, dropped_gone_on, dropped_through, drops_owned}
@@ -87,7 +87,7 @@ returns-clause-delivering g c = dropped_through (seen_by c.args.pass.now) (seen_
 
 pub returns-in_err-dropped-clause-full : goal.returns-in_err-dropped-clause-full
 returns-in_err-dropped-clause-full g c = λ is.
-    let had : DropHadNoRoom c.drop_in-dropped.new.shared = search rules in
+    let full : c.drop_in-dropped.result ≡ Err HistoryFull = search rules in
     drop_full c.marks_add_up.ensures.none (seen_by c.args.pass.now) (seen_by c.put.new.pass) c.requires.crew.played c.put.ensures.played
     (record {
       drops = c.drop_in-dropped.ensures.dropped.drops;
@@ -99,4 +99,4 @@ returns-in_err-dropped-clause-full g c = λ is.
       are = c.drop_in-dropped.ensures.dropped.are;
       is = c.put.ensures.seen ∙ c.drop_in-dropped.ensures.dropped.is ∙ ap (λ (l : List Mark). l ++ c.drop_in-dropped.ensures.dropped.drops) (seen_all (last_of c.args.pass.now) (owners_of c.args.pass.now) (seen_by c.args.pass.now) c.take-shared.result c.requires.crew.all c.take-shared.ensures.grew);
     })
-    c.put.ensures.idle (record { owners = c.put.ensures.same.owners ∙ c.take-shared.ensures.same.owners; last = c.put.ensures.same.last ∙ c.take-shared.ensures.same.last }) c.put.ensures.played).none c.requires.begun (subst DropHadNoRoom (sym c.put.ensures.seen) had)
+    c.put.ensures.idle (record { owners = c.put.ensures.same.owners ∙ c.take-shared.ensures.same.owners; last = c.put.ensures.same.last ∙ c.take-shared.ensures.same.last }) c.put.ensures.played).none c.requires.begun (subst DropHadNoRoom (sym c.put.ensures.seen) (c.drop_in-dropped.ensures.full full))

@@ -1,7 +1,7 @@
 use Rattle.std.proofs.Common.{◌≡◌, ◌<◌, ◌≤◌, ◌∙◌, ℕ, arith, length, refl, ap, sym}
 use Rattle.std.specs.Prelude.{slice_index_or}
 use Rattle.e3_crew.specs.declared.worker.Worker.{Worker}
-use Rattle.e3_crew.proofs.Members.{changed_more, unchanged_more, same_member}
+use Rattle.e3_crew.proofs.Members.{changed_more, kept_by, unchanged_more, same_member}
 use Rattle.e3_world.specs.Items.{inputs_to}
 use Rattle.e3_crew.proofs.settling.hand_out.Goals as goal
 
@@ -18,3 +18,7 @@ loop-worker-preserved g c =
           (λ d. c.in_ok-items.ensures ∙ ap (λ (s : ℕ). inputs_to s c.args.inputs.now) (c.site.ensures ∙ ap (λ (z : Worker g.row.D.Denot). z.node.site) (at d)));
       later = unchanged_more c.args.workers.now c.loop-worker.workers k _ i.later;
     }
+
+pub returns-in_err-items-clause-same : goal.returns-in_err-items-clause-same
+returns-in_err-items-clause-same g c i d low =
+    kept_by (λ (z : Worker g.row.D.Denot). z.node) c.args.workers.now c.loop-worker.workers c.loop-worker.worker-index c.loop-worker.invariant.same c.loop-worker.invariant.later i d
