@@ -7,3 +7,4 @@ pub mod Putting
 pub mod Answered
 pub mod Counting
 pub mod Reading
+pub mod Logged

@@ -5,3 +5,4 @@ pub mod Electing
 pub mod Cards
 pub mod Tables
 pub mod Readings
+pub mod Noting

@@ -14,7 +14,8 @@ fn is_open(cards: &Cards, t: &Txn) -> bool
     cards.seen(t).decision.is_none()
 }
 
-fn may_follow(cards: &Cards, r: &Record) -> bool
+/// The record may follow the log: it is no birth, and neither votes for nor decides a transaction that the log decides.
+pub fn may_follow(cards: &Cards, r: &Record) -> bool
     ensures { (a : At) → CardsStand a.site cards.now a.life → result ≡ may_follow a.life.log r.now }
 {
     match r {

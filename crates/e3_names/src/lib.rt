@@ -7,5 +7,5 @@ mod following;
 mod names;
 
 pub use arriving::fresh;
-pub use following::follow;
+pub use following::{follow, may_follow};
 pub use names::{Names, NamesBehind, apply, behind, grants_after, lock, ready, row};

@@ -4,13 +4,13 @@ use Rattle.std.proofs.Common.{refl, sym, subst}
 use Rattle.e3_types.specs.declared.records.Record.{Record}
 use Rattle.e3_types.specs.Locks.{front}
 use Rattle.e3_world.specs.declared.lives.Asked.{Asked}
+use Rattle.e3_cards.specs.Noting.{unstepped}
 use Rattle.e3_places.specs.declared.places.Claims.{Claims}
 use Rattle.e3_places.specs.declared.places.Places.{Places}
 use Rattle.e3_places.specs.Standing.{claims_of, held_with, is_on, wanted_with}
 use Rattle.e3_places.specs.Keeping.{PlacesStand}
 use Rattle.e3_places.specs.Granting.{RestlessStand}
 use Rattle.e3_names.specs.Knowing.{NamesStand}
-use Rattle.e3_past.specs.Standing.{unstepped}
 
 none_taken : (n : ℕ) (xs : List Asked) → xs ≡ [] → take n xs ≡ []
 none_taken zero [] e = refl

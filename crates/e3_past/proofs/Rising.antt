@@ -1,14 +1,13 @@
 -- The cards of a log, and of more steps.
-use Rattle.std.specs.Prelude.{◌≡◌, ◌==◌, ◌<◌, ◌+◌, ◌++◌, ◌∷◌, [], if◌then◌else◌, ℕ, suc, Bool, true, false, List, length, fold, take, drop, Option}
-use Rattle.std.proofs.Common.{refl, ap, sym, subst, ◌∙◌, arith, get_or}
+use Rattle.std.specs.Prelude.{◌≡◌, ◌==◌, ◌<◌, ◌+◌, ◌++◌, ◌∷◌, [], if◌then◌else◌, ℕ, suc, true, false, List, length, fold, take, drop, Option}
+use Rattle.std.proofs.Common.{ap, sym, subst, ◌∙◌, arith, get_or}
 use Rattle.std.proofs.lemmas.Grind.{common_steps}
 use Rattle.std.proofs.lemmas.List.Sums.{fold-append}
 use Rattle.e3_types.specs.declared.records.Record.{Record}
 use Rattle.e3_types.specs.declared.transactions.Txn.{Txn}
 use Rattle.e3_world.specs.declared.lives.Life.{Life}
-use Rattle.e3_world.specs.declared.lives.Moment.{Moment}
 use Rattle.e3_world.specs.declared.lives.SiteStep.{SiteStep}
-use Rattle.e3_world.specs.Elections.{ends_election, is_elect}
+use Rattle.e3_world.specs.Elections.{is_elect}
 use Rattle.e3_world.specs.Lives.{life_by}
 use Rattle.e3_world.specs.Logs.{logged_inc}
 use Rattle.e3_world.specs.Steps.{is_begin}
@@ -19,32 +18,11 @@ use Rattle.e3_cards.specs.declared.keys.TxnKey.{TxnKey}
 use Rattle.e3_names.specs.declared.names.Names.{Names}
 use Rattle.e3_past.specs.declared.tables.Opens.{Opens}
 use Rattle.e3_past.specs.declared.tables.Tables.{Tables}
-use Rattle.e3_cards.specs.Cards.{card_by, card_of, moment_of}
+use Rattle.e3_cards.specs.Cards.{card_by, moment_of}
+use Rattle.e3_cards.specs.Noting.{unstepped}
 use Rattle.e3_cards.specs.Tables.{AreChanges, CardsStand, IsRoomier, call_now, card_at, put}
 use Rattle.e3_past.specs.Opening.{OpensStand}
-use Rattle.e3_past.specs.Standing.{AreUpToDate, AllStand, MayStand, TablesStand, alone, life_from, unstepped}
-
--- a record alone is seen in the log and nowhere else
-alone_card : (site inc : ℕ) (log : List Record) (r : Record) (t : Txn)
-    → card_of site t (life_by (unstepped inc log) (alone r)) ≡ card_of site t (unstepped inc (log ++ r ∷ []))
-alone_card site inc log r t = by (ends_election t m) refl
-  where
-    m : Moment
-    m = record { before = log; input = (alone r).input; records = r ∷ []; outs = []; told = [] }
-
-    by : (b : Bool) → ends_election t m ≡ b → card_of site t (life_by (unstepped inc log) (alone r)) ≡ card_of site t (unstepped inc (log ++ r ∷ []))
-    by true e = rw e refl
-    by false e = rw e refl
-
-pub alone_stands : (site inc : ℕ) (log : List Record) (r : Record) (cards : Cards) → CardsStand site cards (life_by (unstepped inc log) (alone r))
-    → CardsStand site cards (unstepped inc (log ++ r ∷ []))
-alone_stands site inc log r cards h = record {
-  site_is = h.site_is;
-  inc_is = h.inc_is;
-  begins_are = h.begins_are;
-  calls_are = h.calls_are;
-  cards_are = λ t known. h.cards_are t known ∙ alone_card site inc log r t;
-}
+use Rattle.e3_past.specs.Standing.{AreUpToDate, AllStand, MayStand, TablesStand, life_from}
 
 -- cards with more room are those of the same life
 pub roomier_stands : (site : ℕ) (was now : Cards) (life : Life) → now.site ≡ was.site → now.inc ≡ was.inc → now.begins ≡ was.begins → now.calls ≡ was.calls

@@ -1,5 +1,5 @@
 -- The open transactions of a site behind one more step.
-use Rattle.std.specs.Prelude.{◌≡◌, ◌&&◌, ◌++◌, ◌∷◌, [], ℕ, Bool, true, false, List, Option, Some, None, is_none, filter, fold, map}
+use Rattle.std.specs.Prelude.{◌≡◌, ◌&&◌, ◌++◌, ◌∷◌, [], if◌then◌else◌, not, ℕ, Bool, true, false, List, Option, Some, None, is_none, filter, fold, map}
 use Rattle.std.specs.List.{flat_map}
 use Rattle.std.proofs.Common.{refl, ap, sym, ◌∙◌}
 use Rattle.std.proofs.lemmas.List.{append-nil}
@@ -15,15 +15,16 @@ use Rattle.e3_world.specs.declared.lives.Asked.{Asked}
 use Rattle.e3_world.specs.declared.lives.Life.{Life}
 use Rattle.e3_world.specs.declared.lives.Moment.{Moment}
 use Rattle.e3_world.specs.declared.lives.SiteStep.{SiteStep}
+use Rattle.e3_world.specs.Elections.{is_decision}
 use Rattle.e3_world.specs.Items.{began_in, txn_of_record}
 use Rattle.e3_world.specs.Lives.{life_by}
 use Rattle.e3_world.specs.Logs.{decision, decision_by, is_undecided}
 use Rattle.e3_world.specs.Operations.{and_arrived, arrivals, is_fresh, taken_up}
 use Rattle.e3_cards.proofs.Arrivals.{arrivals_push}
+use Rattle.e3_cards.specs.Noting.{unstepped}
 use Rattle.e3_places.specs.Standing.{fresh_of, moment_of}
 use Rattle.e3_past.specs.declared.tables.Opens.{Opens}
 use Rattle.e3_past.specs.Opening.{OpensStand, fresh_txns, undecided_among}
-use Rattle.e3_past.specs.Standing.{alone, unstepped}
 
 -- a decision stays, whatever records come
 stays : (t : Txn) (x : Dir) (rs : List Record) → is_none (fold (decision_by t) (Some x) rs) ≡ false
@@ -133,7 +134,27 @@ undecided_both log xs ys = filter-append (λ t. is_undecided t log) xs ys
 pub none_open : (site inc : ℕ) (opens : Opens) → opens.logged ≡ [] → opens.arrived ≡ [] → opens.begun ≡ [] → OpensStand site opens (unstepped inc [])
 none_open site inc opens d e f = record { logged_are = d; arrived_are = e; begun_are = f }
 
--- a record alone opens what it does in the log
-pub alone_open : (site inc : ℕ) (log : List Record) (r : Record) (opens : Opens) → OpensStand site opens (life_by (unstepped inc log) (alone r))
-    → OpensStand site opens (unstepped inc (log ++ r ∷ []))
-alone_open site inc log r opens h = record { logged_are = h.logged_are; arrived_are = h.arrived_are; begun_are = h.begun_are }
+-- what is open of a log behind one more record
+pub note_open : (site inc : ℕ) (log : List Record) (r : Record) (was now : Opens) (mid : List Txn) → OpensStand site was (unstepped inc log) → mid ≡ was.logged ++ undecided_among log (txn_of_record r)
+    → now.logged ≡ undecided_among (r ∷ []) mid → now.arrived ≡ was.arrived → now.begun ≡ was.begun → OpensStand site now (unstepped inc (log ++ r ∷ []))
+note_open site inc log r was now mid h d e f g = record {
+  logged_are =
+      undecided_behind log (r ∷ []) (flat_map txn_of_record log) (txn_of_record r) mid now.logged (d ∙ ap (λ (x : List Txn). x ++ undecided_among log (txn_of_record r)) h.logged_are) e
+      ∙ ap (λ (x : List Txn). undecided_among (log ++ r ∷ []) (flat_map txn_of_record log ++ x)) (sym (append-nil (txn_of_record r)))
+      ∙ ap (undecided_among (log ++ r ∷ [])) (sym (flat_map-append txn_of_record log (r ∷ [])));
+  arrived_are = f ∙ h.arrived_are;
+  begun_are = g ∙ h.begun_are;
+}
+
+-- a transaction that a record does not decide is undecided by it
+pub left_is : (t : Txn) (r : Record) → not (is_decision t r) ≡ is_undecided t (r ∷ [])
+left_is t (log.Decision u dir) = by (same_txn t u)
+  where
+    by : (b : Bool) → not b ≡ is_none (if b then Some dir else None)
+    by true = refl
+    by false = refl
+left_is t (log.Birth format site weights rows) = refl
+left_is t (log.Inc inc) = refl
+left_is t (log.Vote u ops) = refl
+left_is t (log.Join u n) = refl
+left_is t (log.Attempt u n dir) = refl

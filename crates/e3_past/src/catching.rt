@@ -45,8 +45,8 @@ fn add_names(
     Ok(Some(names_by(alloc, cards, names, step)?))
 }
 
-/// The cards behind one more step. Want of memory is the only error; what they are then is left open.
-pub(crate) fn add_cards(alloc: Global, cards: &mut Cards, step: &SiteStep) -> Result<(), NoMemory>
+// The cards behind one more step. Want of memory is the only error; what they are then is left open.
+fn add_cards(alloc: Global, cards: &mut Cards, step: &SiteStep) -> Result<(), NoMemory>
     ensures { IfOk result (λ u. (site : ℕ) → (life : Life) → CardsStand site cards.old life → CardsStand site cards.new (life_by life step.now)) }
 {
     let more = changes(alloc, cards, step)?;

@@ -3,18 +3,17 @@ ghost use Rattle.std.specs.Prelude.{◌≡◌, ◌==◌, ◌++◌, ◌∷◌, []
 ghost use Rattle.e3_types.specs.declared.records.Record.{Record as SomeRecord};
 ghost use Rattle.e3_world.specs.declared.lives.SiteStep.{SiteStep as SomeStep};
 ghost use Rattle.e3_world.specs.Logs.{logged_inc};
+ghost use Rattle.e3_cards.specs.Noting.{unstepped};
 ghost use Rattle.e3_cards.specs.Tables.{CardsStand};
-ghost use Rattle.e3_past.specs.Standing.{LoggedStand, MayStand, PlacesMayStand, TablesStand, alone, unstepped};
+ghost use Rattle.e3_past.specs.Standing.{LoggedStand, MayStand, PlacesMayStand, TablesStand};
 
-use crate::catching::add_cards;
-use crate::opening::{add_opens, no_opens};
+use crate::opening::{no_opens, note_opens};
 use crate::tables::{Opens, Tables};
-use e3_cards::Cards;
-use e3_names::{Names, follow};
-use e3_places::{Places, born, enter, unborn};
+use e3_cards::{Cards, note};
+use e3_names::{Names, may_follow};
+use e3_places::{Places, born, unborn};
 use e3_readings::logged_inc;
-use e3_types::{Copied, Dir, Input, List, Message, NoMemory, Packet, Record, SiteSet, Txn};
-use e3_world::SiteStep;
+use e3_types::{List, NoMemory, Record};
 use std::alloc::Global;
 use std::collections::BTreeMap;
 use std::mem;
@@ -29,35 +28,6 @@ pub struct Logged {
     pub opens: Opens,
 }
 
-fn alone(alloc: Global, r: &Record) -> Result<SiteStep, NoMemory>
-    ensures { IfOk result (λ s. s ≡ alone r.now) }
-{
-    let mut records = List::new(alloc);
-    records.push(r.copied(alloc)?)?;
-    Ok(SiteStep {
-        input: Input::Deliver {
-            packet: Packet {
-                number: 0,
-                from: 0,
-                to: 0,
-                msg: Message::Pre {
-                    txn: Txn {
-                        site: 0,
-                        inc: 0,
-                        seq: 0,
-                        sites: SiteSet::empty(),
-                    },
-                    n: 0,
-                    dir: Dir::Abort,
-                },
-            },
-        },
-        records,
-        outs: List::new(alloc),
-        told: List::new(alloc),
-    })
-}
-
 // The tables of names of a log that is this record. A log begins with a birth, as no other record makes rows.
 fn first_places(alloc: Global, r: &Record) -> Result<Option<Places>, NoMemory>
     ensures { IfOk result (λ p. (site inc : ℕ) → PlacesMayStand site p (unstepped inc (r.now ∷ []))) }
@@ -68,24 +38,24 @@ fn first_places(alloc: Global, r: &Record) -> Result<Option<Places>, NoMemory>
     }
 }
 
-// The tables of names with more records, where they may follow the log.
+// The tables of names with one more record, where it may follow the log.
 fn add_places(
     alloc: Global,
     cards: &Cards,
     places: Option<Places>,
-    records: &[Record],
+    r: &Record,
 ) -> Result<Option<Places>, NoMemory>
     ensures { IfOk result (λ now. (site inc : ℕ) → (log : List SomeRecord) → CardsStand site cards.now (unstepped inc log)
-        → PlacesMayStand site places (unstepped inc log) → PlacesMayStand site now (unstepped inc (log ++ records.now))) }
+        → PlacesMayStand site places (unstepped inc log) → PlacesMayStand site now (unstepped inc (log ++ r.now ∷ []))) }
 {
     let Some(places) = places else {
         return Ok(None);
     };
-    if !follow(cards, records) {
+    if !may_follow(cards, r) {
         return Ok(None);
     }
     let mut places = places;
-    enter(alloc, &mut places, records)?;
+    e3_places::note(alloc, &mut places, r)?;
     Ok(Some(places))
 }
 
@@ -94,17 +64,15 @@ fn places_behind(
     is_empty: bool,
     cards: &Cards,
     places: Option<Places>,
-    step: &SiteStep,
     r: &Record,
 ) -> Result<Option<Places>, NoMemory>
-    requires { step.now ≡ alone r.now }
     ensures { IfOk result (λ now. (site inc : ℕ) → (log : List SomeRecord) → is_empty ≡ (length log == 0) → CardsStand site cards.now (unstepped inc log)
         → PlacesMayStand site places (unstepped inc log) → PlacesMayStand site now (unstepped inc (log ++ r.now ∷ []))) }
 {
     if is_empty {
         first_places(alloc, r)
     } else {
-        add_places(alloc, cards, places, step.records.as_slice())
+        add_places(alloc, cards, places, r)
     }
 }
 
@@ -146,17 +114,16 @@ impl Logged {
         }
     }
 
-    /// Reads one more record of the log: it costs what is known of the record's transaction and names. Want of memory is
-    /// the only error; what is read then is left open.
+    /// Reads one more record of the log, in place: it costs what is known of the record's transaction and names. Want of
+    /// memory is the only error; what is read then is left open.
     pub fn read(&mut self, alloc: Global, r: &Record) -> Result<(), NoMemory>
         ensures { IfOk result (λ u. (site inc : ℕ) → (log : List SomeRecord) → LoggedStand site self.old inc log → LoggedStand site self.new inc (log ++ r.now ∷ [])) }
     {
-        let step = alone(alloc, r)?;
         let were = mem::replace(&mut self.places, None);
-        let places = places_behind(alloc, self.is_empty, &self.cards, were, &step, r)?;
+        let places = places_behind(alloc, self.is_empty, &self.cards, were, r)?;
         self.places = places;
-        add_opens(alloc, &self.cards, &mut self.opens, &step)?;
-        add_cards(alloc, &mut self.cards, &step)?;
+        note_opens(alloc, &self.cards, &mut self.opens, r)?;
+        note(alloc, &mut self.cards, r)?;
         self.is_empty = false;
         Ok(())
     }

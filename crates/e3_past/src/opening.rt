@@ -1,14 +1,17 @@
 // The transactions that are open at a site, kept beside its steps.
-ghost use Rattle.std.specs.Prelude.{◌≡◌, ◌++◌, ◌∷◌, [], ℕ, IfOk};
+ghost use Rattle.std.specs.Prelude.{◌≡◌, ◌++◌, ◌∷◌, [], ℕ, IfOk, List as Items};
 ghost use Rattle.std.specs.List.{flat_map};
+ghost use Rattle.e3_types.specs.declared.records.Record.{Record as SomeRecord};
 ghost use Rattle.e3_world.specs.declared.lives.At.{At};
 ghost use Rattle.e3_world.specs.Items.{began_in, txn_of_record};
 ghost use Rattle.e3_world.specs.Lives.{life_by};
+ghost use Rattle.e3_world.specs.Logs.{is_undecided};
+ghost use Rattle.e3_cards.specs.Noting.{unstepped};
 ghost use Rattle.e3_cards.specs.Tables.{CardsStand};
 ghost use Rattle.e3_opens.specs.Opens.{open_in};
 ghost use Rattle.e3_places.specs.Standing.{fresh_of};
 ghost use Rattle.e3_past.specs.Opening.{OpensStand, fresh_txns, undecided_among};
-ghost use Rattle.e3_past.specs.Standing.{AreUpToDate, TheyStand, life_from, unstepped};
+ghost use Rattle.e3_past.specs.Standing.{AreUpToDate, TheyStand, life_from};
 
 use crate::reader::are_up;
 use crate::tables::{Opens, Tables};
@@ -16,10 +19,11 @@ use e3_cards::Cards;
 use e3_names::fresh;
 use e3_opens::{in_order, open_in};
 use e3_places::Standing;
-use e3_readings::{is_undecided, life_of};
+use e3_readings::{is_decision, is_undecided, life_of};
 use e3_types::{List, NoMemory, Record, Told, Txn};
 use e3_world::SiteStep;
 use std::alloc::Global;
+use std::mem;
 
 /// Nothing is open at a site with an empty log that made no step.
 pub(crate) fn no_opens(alloc: Global) -> Opens
@@ -113,16 +117,27 @@ fn add_arrived(
 }
 
 // Those of these transactions that the records leave undecided.
-fn left(alloc: Global, records: &[Record], txns: &[Txn]) -> Result<List<Txn>, NoMemory>
-    ensures { IfOk result (λ out. out ≡ undecided_among records.now txns.now) }
+fn left(records: &[Record], txns: List<Txn>) -> List<Txn>
+    ensures { result ≡ undecided_among records.now txns }
 {
-    let mut out = List::new(alloc);
-    for t in txns {
-        if is_undecided(t, records) {
-            out.push(*t)?;
-        }
-    }
-    Ok(out)
+    let mut txns = txns.into_vec();
+    txns.retain(|t| is_undecided(t, records));
+    List::from_vec(txns)
+}
+
+fn is_left(t: &Txn, r: &Record) -> bool
+    ensures { result ≡ is_undecided t.now (r.now ∷ []) }
+{
+    !is_decision(t, r)
+}
+
+// Those of them that the record leaves undecided.
+fn left_by(r: &Record, txns: List<Txn>) -> List<Txn>
+    ensures { result ≡ undecided_among (r.now ∷ []) txns }
+{
+    let mut txns = txns.into_vec();
+    txns.retain(|t| is_left(t, r));
+    List::from_vec(txns)
 }
 
 /// The open transactions behind one more step, by the cards before it. Want of memory is the only error; what they are then
@@ -139,9 +154,29 @@ pub(crate) fn add_opens(
     add_logged(cards, records, &mut opens.logged)?;
     add_arrived(alloc, cards, step, &mut opens.arrived)?;
     add_begun(cards, step.told.as_slice(), &mut opens.begun)?;
-    opens.logged = left(alloc, records, opens.logged.as_slice())?;
-    opens.arrived = left(alloc, records, opens.arrived.as_slice())?;
-    opens.begun = left(alloc, records, opens.begun.as_slice())?;
+    let logged = mem::replace(&mut opens.logged, List::new(alloc));
+    let arrived = mem::replace(&mut opens.arrived, List::new(alloc));
+    let begun = mem::replace(&mut opens.begun, List::new(alloc));
+    opens.logged = left(records, logged);
+    opens.arrived = left(records, arrived);
+    opens.begun = left(records, begun);
+    Ok(())
+}
+
+/// The open transactions of a log with one more record, at a site that made no step, by the cards of the log before it. Want
+/// of memory is the only error; what they are then is left open.
+pub(crate) fn note_opens(
+    alloc: Global,
+    cards: &Cards,
+    opens: &mut Opens,
+    r: &Record,
+) -> Result<(), NoMemory>
+    ensures { IfOk result (λ u. (site inc : ℕ) → (log : Items SomeRecord) → CardsStand site cards.now (unstepped inc log) → OpensStand site opens.old (unstepped inc log)
+        → OpensStand site opens.new (unstepped inc (log ++ r.now ∷ []))) }
+{
+    add_recorded(cards, r, &mut opens.logged)?;
+    let logged = mem::replace(&mut opens.logged, List::new(alloc));
+    opens.logged = left_by(r, logged);
     Ok(())
 }
 

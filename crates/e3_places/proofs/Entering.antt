@@ -1,21 +1,13 @@
--- The rows of a birth, one by one; and the tables of a log, some records more at a time.
-use Rattle.std.specs.Prelude.{◌≡◌, ◌<◌, ◌++◌, ◌∷◌, [], if◌then◌else◌, cond, ℕ, zero, suc, Bool, true, false, List, Option, Some, None, unwrap_or, drop, length}
+-- The rows of a birth, one by one.
+use Rattle.std.specs.Prelude.{◌≡◌, ◌<◌, ◌∷◌, if◌then◌else◌, cond, ℕ, zero, suc, Bool, true, false, List, Option, Some, unwrap_or, drop, length, []}
 use Rattle.std.specs.Map.{lookup}
 use Rattle.std.proofs.Common.{refl, ap, sym, subst, ◌∙◌, arith, get_or}
-use Rattle.e3_types.specs.declared.entries.Told.{Told}
-use Rattle.e3_types.specs.declared.messages.Packet.{Packet}
-use Rattle.e3_types.specs.declared.records.Record.{Record}
 use Rattle.e3_types.specs.declared.transactions.Answer.TheVariants.{Value}
 use Rattle.e3_types.specs.declared.transactions.Row.{Row}
 use Rattle.e3_types.specs.Same.{same_numbers}
-use Rattle.e3_world.specs.declared.lives.Life.{Life}
-use Rattle.e3_places.specs.declared.changing.Changes.{Changes}
 use Rattle.e3_places.specs.declared.places.Place.{Place}
-use Rattle.e3_places.specs.declared.places.Places.{Places}
-use Rattle.e3_places.specs.declared.places.Standing.{Standing}
-use Rattle.e3_places.specs.Standing.{follow}
-use Rattle.e3_places.specs.Keeping.{no_claims, bare, at_name, place_at, PlacesStand, AreChanges, ActAlike}
-use Rattle.e3_places.specs.Rising.{risen, first_row, RowsStand}
+use Rattle.e3_places.specs.Keeping.{no_claims, bare, at_name, place_at}
+use Rattle.e3_places.specs.Rising.{first_row, RowsStand}
 use Rattle.e3_places.proofs.Putting.{Inserts, names_turned}
 use Rattle.e3_places.proofs.Risen.{row_first}
 
@@ -43,15 +35,3 @@ pub rows_back : (ms ns : List (List ℕ × Place)) (rows : List Row) (i j : ℕ)
 rows_back ms ns rows i j row e h is stand put =
     subst (λ (l : List Row). RowsStand ns l) (sym (drop_next rows i row h is))
     (row_first ms ns (drop (suc i) rows) row (subst (λ (k : ℕ). RowsStand ms (drop k rows)) e stand) put)
-
-pub entered : (old mid now : Places) (changes : Changes) (new : Option Standing) (rs : List Record) (events : List Told) (outs : List Packet) → new ≡ None → events ≡ [] → outs ≡ []
-    → ActAlike old mid changes → ((site : ℕ) (life : Life) → PlacesStand site old life → AreChanges old new rs events outs changes)
-    → ((site inc : ℕ) (records more : List Record) → PlacesStand site mid (risen inc records) → AreChanges mid None more [] [] changes → follow records more ≡ true
-    → PlacesStand site now (risen inc (records ++ more)))
-    → (site inc : ℕ) (before : List Record) → PlacesStand site old (risen inc before) → follow before rs ≡ true → PlacesStand site now (risen inc (before ++ rs))
-entered old mid now changes new rs events outs n e o alike are done site inc before stands h =
-    let first : AreChanges old new rs events outs changes = are site (risen inc before) stands in
-    let second : AreChanges old None rs events outs changes = subst (λ (x : Option Standing). AreChanges old x rs events outs changes) n first in
-    let third : AreChanges old None rs [] outs changes = subst (λ (x : List Told). AreChanges old None rs x outs changes) e second in
-    let fourth : AreChanges old None rs [] [] changes = subst (λ (x : List Packet). AreChanges old None rs [] x changes) o third in
-    done site inc before rs (alike.stand site (risen inc before) stands) (alike.are None rs [] [] fourth) h

@@ -12,3 +12,5 @@ mod Fronting
 mod Finding
 mod Risen
 mod Entering
+mod Turning
+pub mod Logged

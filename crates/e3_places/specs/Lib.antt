@@ -3,3 +3,4 @@ pub mod Keeping
 pub mod Touching
 pub mod Granting
 pub mod Rising
+pub mod Noting

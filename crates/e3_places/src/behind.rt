@@ -238,7 +238,7 @@ fn commit(t: &Txn, votes: &[Asked], cast: &[Asked], was: Answer) -> Answer
     committed(t, cast, committed(t, votes, was))
 }
 
-fn row_with(votes: &[Asked], cast: &[Asked], was: Answer, r: &Record) -> Answer
+pub(crate) fn row_with(votes: &[Asked], cast: &[Asked], was: Answer, r: &Record) -> Answer
     ensures { result ≡ row_with (votes.now ++ cast.now) was r.now }
 {
     match r {

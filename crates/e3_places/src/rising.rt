@@ -1,14 +1,11 @@
 // The tables of a log, when a site rises with it.
-ghost use Rattle.std.specs.Prelude.{◌≡◌, ◌++◌, ◌∷◌, [], ℕ, true, IfOk, OnOk, List as Items};
-ghost use Rattle.e3_types.specs.declared.records.Record.{Record as Entry};
+ghost use Rattle.std.specs.Prelude.{◌≡◌, ◌∷◌, [], ℕ, IfOk, OnOk, List as Items};
 ghost use Rattle.e3_types.specs.declared.records.Record.TheVariants as log;
-ghost use Rattle.e3_places.specs.Standing.{follow};
 ghost use Rattle.e3_places.specs.Keeping.{place_at, PlacesStand};
 ghost use Rattle.e3_places.specs.Rising.{risen, first_row, RowsStand};
 
-use crate::changing::{apply, changes_of, ready};
 use crate::places::{Place, Places, no_claims};
-use e3_types::{Answer, Name, NoMemory, Record, Row};
+use e3_types::{Answer, Name, NoMemory, Row};
 use std::alloc::Global;
 use std::collections::BTreeMap;
 
@@ -56,17 +53,4 @@ pub fn born(alloc: Global, rows: &[Row]) -> Result<Places, NoMemory>
         names,
         txns: BTreeMap::new(alloc),
     })
-}
-
-/// The tables of a log with these records more, where they may follow: none is a birth, and none votes for or decides a
-/// transaction that the log decides. Want of memory is the only error; what the tables are then is left open.
-pub fn enter(alloc: Global, places: &mut Places, records: &[Record]) -> Result<(), NoMemory>
-    ensures { OnOk result ((site inc : ℕ) (before : Items Entry) → PlacesStand site places.old (risen inc before) → follow before records.now ≡ true
-        → PlacesStand site places.new (risen inc (before ++ records.now))) }
-{
-    let none = None;
-    let changes = changes_of(alloc, places, &none, records, &[], &[])?;
-    ready(alloc, places, &changes)?;
-    apply(places, changes);
-    Ok(())
 }

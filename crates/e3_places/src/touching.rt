@@ -89,7 +89,7 @@ fn reached(
     Ok(out)
 }
 
-fn add_ops(t: &Txn, ops: &[NumOp], out: &mut List<Asked>) -> Result<(), NoMemory>
+pub(crate) fn add_ops(t: &Txn, ops: &[NumOp], out: &mut List<Asked>) -> Result<(), NoMemory>
     ensures { IfOk result (λ u. out.new ≡ out.old ++ map (voted t.now) ops.now) }
 {
     for o in ops {

@@ -23,13 +23,21 @@ pub enum RebuildFault {
     NoMemory,
 }
 
+// The weights of a log, as a list of their own.
+fn weights_of(alloc: Global, records: &[Record]) -> Result<List<u32>, NoMemory>
+    ensures { IfOk result (λ weights. weights ≡ weights_in records.now) }
+{
+    let mut weights = List::new(alloc);
+    weights.extend(weights_in(records))?;
+    Ok(weights)
+}
+
 // The weights of a log and its records, as lists of their own.
 fn copies(alloc: Global, records: &[Record]) -> Result<(List<u32>, List<Record>), NoMemory>
     ensures weights { IfOk result (λ both. both.0 ≡ weights_in records.now) }
     ensures log { IfOk result (λ both. both.1 ≡ records.now) }
 {
-    let mut weights = List::new(alloc);
-    weights.extend(weights_in(records))?;
+    let weights = weights_of(alloc, records)?;
     Ok((weights, present_log(alloc, records, &[])?))
 }
 
@@ -63,6 +71,23 @@ pub fn rebuild(alloc: Global, site: u32, records: &[Record]) -> Result<Site, Reb
         Err(at) => Err(RebuildFault::Order { at }),
         Ok(tables) => match copies(alloc, records) {
             Ok((weights, log)) => Ok(Site::rise(alloc, weights, site, log, tables)),
+            Err(_) => Err(RebuildFault::NoMemory),
+        },
+    }
+}
+
+/// The same of a log that is handed over, which it keeps and does not copy.
+pub fn rise_with(alloc: Global, site: u32, log: List<Record>) -> Result<Site, RebuildFault>
+    requires { 0 < length log }
+    ensures orderly { IfOk result (λ s. IsOrderly site log) }
+    ensures fault { IfErr result (IsFaultOf site log) }
+    ensures risen { IfOk result (IsRebuilt site log) }
+    ensures stands { IfOk result (StandsForEach log) }
+{
+    match tables_in(alloc, site, log.as_slice()) {
+        Err(at) => Err(RebuildFault::Order { at }),
+        Ok(tables) => match weights_of(alloc, log.as_slice()) {
+            Ok(weights) => Ok(Site::rise(alloc, weights, site, log, tables)),
             Err(_) => Err(RebuildFault::NoMemory),
         },
     }

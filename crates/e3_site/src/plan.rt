@@ -25,14 +25,28 @@ impl Model for Plan {
     ghost view = { λ p. p.step };
 }
 
+// The packets without numbers, in a list with room for just these: a list that grows by pushes has room for four at least.
 fn plain_outs(alloc: Global, outs: &[Packet]) -> Result<List<Packet>, NoMemory>
     ensures { IfOk result (λ out. out ≡ map plain outs.now) }
 {
-    let mut out = List::new(alloc);
+    let Ok(mut out) = Vec::with_capacity(alloc, outs.len()) else {
+        return Err(NoMemory);
+    };
     for p in outs {
-        out.push(plain(p))?;
+        if out.push(plain(p)).is_err() {
+            return Err(NoMemory);
+        }
     }
-    Ok(out)
+    Ok(List::from_vec(out))
+}
+
+// The same items, with room for just these.
+fn fitted<T: Drop>(items: List<T>) -> List<T>
+    ensures { result ≡ items }
+{
+    let mut items = items.into_vec();
+    items.shrink_to_fit();
+    List::from_vec(items)
 }
 
 impl Plan {
@@ -50,8 +64,8 @@ impl Plan {
             step: SiteStep {
                 input: plain_input(input),
                 outs,
-                records: made.records,
-                told: made.told,
+                records: fitted(made.records),
+                told: fitted(made.told),
             },
         })
     }

@@ -3,4 +3,4 @@ use Rattle.e3_world.specs.Moves.{plain}
 use Rattle.e3_site.proofs.plan.plain_outs.Given as goal
 
 abbrev pub invariant-loop-p : goal.invariant-loop-p
-invariant-loop-p l = l.out ≡ map plain (take l.p-index l.outs)
+invariant-loop-p l = l.out.items ≡ map plain (take l.p-index l.outs)

@@ -1,7 +1,7 @@
 use Rattle.std.proofs.Common.{[], ap, ◌∙◌}
 use Rattle.e3_types.specs.declared.entries.Input.TheVariants.{Begin}
 use Rattle.e3_cards.specs.Seeing.{seen_of}
-use Rattle.e3_past.specs.Standing.{unstepped}
+use Rattle.e3_cards.specs.Noting.{unstepped}
 use Rattle.e3_restart.proofs.before.TabledBefore.seen.Goals as goal
 
 pub returns : goal.returns

@@ -1,0 +1,99 @@
+// What one more record of a log makes of the cards, at a site that made no step: its transaction's is changed in its place.
+ghost use Rattle.std.specs.Prelude.{◌≡◌, ◌++◌, ◌∷◌, [], if◌then◌else◌, ℕ, false, List as Items, IfOk, OnOk, unwrap_or};
+ghost use Rattle.e3_types.specs.declared.records.Record.{Record as SomeRecord};
+ghost use Rattle.e3_types.specs.declared.transactions.Txn.{Txn as SomeTxn};
+ghost use Rattle.e3_types.specs.Same.{same_txn};
+ghost use Rattle.e3_cards.specs.Cards.{blank};
+ghost use Rattle.e3_cards.specs.Noting.{noted, unstepped};
+ghost use Rattle.e3_cards.specs.Tables.{card_at, record_txns, IsKnown, CardsStand};
+
+use crate::card::{Card, blank};
+use crate::cards::Cards;
+use crate::keys::{TxnKey, known, txn_key};
+use crate::seen::seen_by;
+use e3_types::{NoMemory, Record, Txn};
+use std::alloc::Global;
+use std::collections::BTreeMap;
+
+fn or_blank(alloc: Global, card: Option<Card>) -> Card
+    ensures { result ≡ unwrap_or card blank }
+{
+    match card {
+        Some(card) => card,
+        None => blank(alloc),
+    }
+}
+
+// Takes the card of a transaction out; a blank one stands in its place.
+fn take_card(alloc: Global, kept: &mut BTreeMap<TxnKey, Card>, t: &Txn) -> Result<Card, NoMemory>
+    ensures card { IfOk result (λ card. card ≡ card_at kept.old.entries t.now) }
+    ensures rest { OnOk result ((u : SomeTxn) → IsKnown u → same_txn t.now u ≡ false → card_at kept.new.entries u ≡ card_at kept.old.entries u) }
+{
+    known(t);
+    match kept.insert(txn_key(t), blank(alloc)) {
+        Ok(was) => Ok(or_blank(alloc, was)),
+        Err(_) => Err(NoMemory),
+    }
+}
+
+// The card of a transaction is this one from now on.
+fn put_card(kept: &mut BTreeMap<TxnKey, Card>, t: &Txn, card: Card) -> Result<(), NoMemory>
+    ensures { OnOk result ((u : SomeTxn) → IsKnown u → card_at kept.new.entries u ≡ (if same_txn t.now u then card else card_at kept.old.entries u)) }
+{
+    known(t);
+    match kept.insert(txn_key(t), card) {
+        Ok(_) => Ok(()),
+        Err(_) => Err(NoMemory),
+    }
+}
+
+fn noted(was: Card, t: &Txn, r: &Record) -> Card
+    ensures { result ≡ noted t.now r.now was }
+{
+    let mut card = was;
+    card.seen = seen_by(t, card.seen, r);
+    card
+}
+
+fn note_in(
+    alloc: Global,
+    kept: &mut BTreeMap<TxnKey, Card>,
+    t: &Txn,
+    r: &Record,
+) -> Result<(), NoMemory>
+    ensures { OnOk result ((u : SomeTxn) → IsKnown u → card_at kept.new.entries u
+        ≡ (if same_txn t.now u then noted t.now r.now (card_at kept.old.entries t.now) else card_at kept.old.entries u)) }
+{
+    let was = take_card(alloc, kept, t)?;
+    put_card(kept, t, noted(was, t, r))
+}
+
+fn note_of(alloc: Global, cards: &mut Cards, t: &Txn, r: &Record) -> Result<(), NoMemory>
+    requires { record_txns r.now ≡ t.now ∷ [] }
+    ensures { OnOk result ((site inc : ℕ) → (log : Items SomeRecord) → CardsStand site cards.old (unstepped inc log) → CardsStand site cards.new (unstepped inc (log ++ r.now ∷ []))) }
+{
+    note_in(alloc, &mut cards.map, t, r)
+}
+
+// A record of no transaction changes no card.
+fn pass(_cards: &Cards, _r: &Record)
+    requires { record_txns _r.now ≡ [] }
+    ensures { (site inc : ℕ) → (log : Items SomeRecord) → CardsStand site _cards.now (unstepped inc log) → CardsStand site _cards.now (unstepped inc (log ++ _r.now ∷ [])) }
+{}
+
+/// The cards of a log with one more record, at a site that made no step. It costs what is known of the record's transaction.
+/// Want of memory is the only error; what the cards are then is left open.
+pub fn note(alloc: Global, cards: &mut Cards, r: &Record) -> Result<(), NoMemory>
+    ensures { OnOk result ((site inc : ℕ) → (log : Items SomeRecord) → CardsStand site cards.old (unstepped inc log) → CardsStand site cards.new (unstepped inc (log ++ r.now ∷ []))) }
+{
+    match r {
+        Record::Vote { txn, .. }
+        | Record::Join { txn, .. }
+        | Record::Attempt { txn, .. }
+        | Record::Decision { txn, .. } => note_of(alloc, cards, txn, r),
+        Record::Birth { .. } | Record::Inc { .. } => {
+            pass(cards, r);
+            Ok(())
+        }
+    }
+}

@@ -1,0 +1,175 @@
+// What one more record of a log makes of the tables, at a site that made no step: what it touches is changed in its place.
+ghost use Rattle.std.specs.Prelude.{◌≡◌, ◌++◌, ◌∷◌, [], if◌then◌else◌, ℕ, true, OnOk, List as Items, filter, fold, map};
+ghost use Rattle.std.specs.List.{list_any};
+ghost use Rattle.e3_types.specs.declared.records.Record.{Record as Entry};
+ghost use Rattle.e3_types.specs.declared.records.Record.TheVariants as log;
+ghost use Rattle.e3_places.specs.declared.keys.TxnKey.{TxnKey as KeptKey};
+ghost use Rattle.e3_places.specs.Keeping.{PlacesStand, claims_at, place_at};
+ghost use Rattle.e3_places.specs.Noting.{ended, left_by, with_vote};
+ghost use Rattle.e3_places.specs.Rising.{risen};
+ghost use Rattle.e3_places.specs.Standing.{cast_in, follow, has_key, is_left, is_on, voted};
+ghost use Rattle.e3_places.specs.Touching.{decided_txns};
+
+use crate::behind::{copy_asked, row_with};
+use crate::keys::{TxnKey, txn_key};
+use crate::places::{Claims, Place, Places};
+use crate::taking::{put_claims, put_place, take_claims, take_place};
+use crate::touching::add_ops;
+use e3_readings::{is_decision, key_of};
+use e3_types::{Dir, List, Name, NoMemory, NumOp, Record, Txn};
+use e3_world::Asked;
+use std::alloc::Global;
+use std::collections::BTreeMap;
+
+fn add_vote(alloc: Global, names: &mut BTreeMap<Name, Place>, a: &Asked) -> Result<(), NoMemory>
+    ensures { OnOk result ((n : Items ℕ) → place_at names.new.entries n ≡ with_vote n (place_at names.old.entries n) a.now) }
+{
+    let name = &key_of(&a.op).name;
+    let mut place = take_place(alloc, names, name)?;
+    place.claims.votes.push(copy_asked(a))?;
+    put_place(names, name, place)
+}
+
+fn add_votes(
+    alloc: Global,
+    names: &mut BTreeMap<Name, Place>,
+    t: &Txn,
+    ops: &[NumOp],
+) -> Result<(), NoMemory>
+    ensures { OnOk result ((n : Items ℕ) → place_at names.new.entries n ≡ fold (with_vote n) (place_at names.old.entries n) (map (voted t.now) ops.now)) }
+{
+    for o in ops {
+        let a = Asked {
+            txn: *t,
+            n: o.n,
+            op: o.op.copy(),
+        };
+        add_vote(alloc, names, &a)?;
+    }
+    Ok(())
+}
+
+fn add_votes_of(
+    alloc: Global,
+    txns: &mut BTreeMap<TxnKey, Claims>,
+    t: &Txn,
+    ops: &[NumOp],
+) -> Result<(), NoMemory>
+    ensures { OnOk result ((k : KeptKey) → claims_at txns.new.entries k
+        ≡ (if has_key k t.now then record (claims_at txns.old.entries k) { votes = (claims_at txns.old.entries k).votes ++ map (voted t.now) ops.now } else claims_at txns.old.entries k)) }
+{
+    let key = txn_key(t);
+    let mut claims = take_claims(alloc, txns, key)?;
+    add_ops(t, ops, &mut claims.votes)?;
+    put_claims(txns, key, claims)
+}
+
+// A vote: its operations stand on their names, and at its transaction.
+fn cast(alloc: Global, places: &mut Places, t: &Txn, ops: &[NumOp]) -> Result<(), NoMemory>
+    ensures { OnOk result ((site inc : ℕ) (before : Items Entry) → PlacesStand site places.old (risen inc before) → follow before (log.Vote t.now ops.now ∷ []) ≡ true
+        → PlacesStand site places.new (risen inc (before ++ log.Vote t.now ops.now ∷ []))) }
+{
+    add_votes(alloc, &mut places.names, t, ops)?;
+    add_votes_of(alloc, &mut places.txns, t, ops)
+}
+
+fn is_left(r: &Record, a: &Asked) -> bool
+    ensures { result ≡ is_left (r.now ∷ []) a.now }
+{
+    !is_decision(&a.txn, r)
+}
+
+fn left_votes(r: &Record, votes: List<Asked>) -> List<Asked>
+    ensures { result ≡ filter (is_left (r.now ∷ [])) votes }
+{
+    let mut votes = votes.into_vec();
+    votes.retain(|a| is_left(r, a));
+    List::from_vec(votes)
+}
+
+fn left_by(r: &Record, was: Claims) -> Claims
+    ensures { result ≡ left_by r.now was }
+{
+    Claims {
+        standing: was.standing,
+        votes: left_votes(r, was.votes),
+    }
+}
+
+fn ended(r: &Record, was: Place) -> Place
+    ensures { result ≡ ended r.now was }
+{
+    let Place { claims, row } = was;
+    let row = row_with(claims.votes.as_slice(), &[], row, r);
+    Place {
+        claims: left_by(r, claims),
+        row,
+    }
+}
+
+fn end_on(
+    alloc: Global,
+    names: &mut BTreeMap<Name, Place>,
+    a: &Asked,
+    r: &Record,
+) -> Result<(), NoMemory>
+    ensures { OnOk result ((n : Items ℕ) → place_at names.new.entries n ≡ (if is_on n a.now then ended r.now (place_at names.old.entries n) else place_at names.old.entries n)) }
+{
+    let name = &key_of(&a.op).name;
+    let place = take_place(alloc, names, name)?;
+    put_place(names, name, ended(r, place))
+}
+
+// A name may come more than once: what has ended ends no further.
+fn end_each(
+    alloc: Global,
+    names: &mut BTreeMap<Name, Place>,
+    votes: &[Asked],
+    r: &Record,
+) -> Result<(), NoMemory>
+    ensures { OnOk result ((n : Items ℕ) → place_at names.new.entries n
+        ≡ (if list_any (is_on n) votes.now then ended r.now (place_at names.old.entries n) else place_at names.old.entries n)) }
+{
+    for a in votes {
+        end_on(alloc, names, a, r)?;
+    }
+    Ok(())
+}
+
+// A decision: the transaction's votes go, and where it commits their writes stand in the rows.
+fn end(alloc: Global, places: &mut Places, t: &Txn, dir: Dir) -> Result<(), NoMemory>
+    ensures { OnOk result ((site inc : ℕ) (before : Items Entry) → PlacesStand site places.old (risen inc before) → follow before (log.Decision t.now dir ∷ []) ≡ true
+        → PlacesStand site places.new (risen inc (before ++ log.Decision t.now dir ∷ []))) }
+{
+    let r = Record::Decision { txn: *t, dir };
+    let key = txn_key(t);
+    let claims = take_claims(alloc, &mut places.txns, key)?;
+    end_each(alloc, &mut places.names, claims.votes.as_slice(), &r)?;
+    put_claims(&mut places.txns, key, left_by(&r, claims))
+}
+
+// A record that neither votes nor decides changes no table.
+fn pass(_places: &Places, _r: &Record)
+    requires cast { cast_in _r.now ≡ [] }
+    requires undecided { decided_txns _r.now ≡ [] }
+    ensures { (site inc : ℕ) (before : Items Entry) → PlacesStand site _places.now (risen inc before) → follow before (_r.now ∷ []) ≡ true
+        → PlacesStand site _places.now (risen inc (before ++ _r.now ∷ [])) }
+{}
+
+/// The tables of a log with one more record, where it may follow: it is no birth, and votes for or decides no transaction
+/// that the log decides. It costs what is known of the record's transaction and on its names. Want of memory is the only
+/// error; what the tables are then is left open.
+pub fn note(alloc: Global, places: &mut Places, r: &Record) -> Result<(), NoMemory>
+    ensures { OnOk result ((site inc : ℕ) (before : Items Entry) → PlacesStand site places.old (risen inc before) → follow before (r.now ∷ []) ≡ true
+        → PlacesStand site places.new (risen inc (before ++ r.now ∷ []))) }
+{
+    match r {
+        Record::Vote { txn, ops } => cast(alloc, places, txn, ops.as_slice()),
+        Record::Decision { txn, dir } => end(alloc, places, txn, *dir),
+        Record::Birth { .. } | Record::Inc { .. } | Record::Join { .. } | Record::Attempt { .. } =>
+            {
+                pass(places, r);
+                Ok(())
+            }
+    }
+}
