@@ -1,6 +1,6 @@
 -- The lines behind the first of an entry are read from what is written of them.
-use Rattle.std.proofs.Common.{◌≡◌, ◌==◌, ◌&&◌, ◌<◌, ◌+◌, ◌-◌, ℕ, zero, suc, Bool, true, false, nat_lt, cond, List, [], ◌∷◌, ◌++◌, length, Option, Some, None, refl, ap, sym, ◌∙◌, subst, arith, append_assoc}
-use Rattle.std.specs.Prelude.{option_map, option_and_then, codes}
+use Rattle.std.proofs.Common.{◌≡◌, ◌<◌, ◌-◌, ℕ, suc, true, false, nat_lt, cond, List, [], ◌∷◌, ◌++◌, length, Some, None, refl, ap, sym, ◌∙◌, subst, arith, append_assoc}
+use Rattle.std.specs.Prelude.{option_map, codes}
 use Rattle.std.specs.Fmt.{decimal}
 use Rattle.std.specs.List.{flat_map, AllByRecursion as Each}
 use Rattle.std.proofs.lemmas.Bool.Decides.{nat_tests}
@@ -8,7 +8,6 @@ use Rattle.std.proofs.lemmas.List.{append-nil}
 use Rattle.e3_types.specs.declared.entries.Entry.{Entry}
 use Rattle.e3_types.specs.declared.entries.Input.{Input}
 use Rattle.e3_types.specs.declared.entries.Told.{Told}
-use Rattle.e3_types.specs.declared.messages.Message.{Message}
 use Rattle.e3_types.specs.declared.messages.Packet.{Packet}
 use Rattle.e3_types.specs.declared.records.Record.{Record}
 use Rattle.e3_types.specs.declared.records.Record.TheVariants as log
@@ -28,22 +27,22 @@ use Rattle.e3_trace_lines.specs.Messages.{message_text}
 use Rattle.e3_trace.specs.declared.drafts.Draft.{Draft}
 use Rattle.e3_trace.specs.declared.drafts.Growing.{Growing}
 use Rattle.e3_trace.specs.declared.drafts.Growing.TheVariants as growing
-use Rattle.e3_trace.specs.Cuts.{space, comma, feed, cut, Form, made_of, pair_of}
+use Rattle.e3_trace.specs.Cuts.{space, feed, Form, made_of, pair_of}
 use Rattle.e3_trace.specs.Drafts.{grown, records_of, ops_due, with_input, takes_records, growing_with, with_record, row_from, row_of, with_row, read_from, write_from, vote_op_by, vote_op_of, with_op, birth_of, votes_of, record_by, first_by, first_of, with_record_line, packet_from, packet_of, takes_packets, with_packet, with_told, takes_told, packet_line, told_line, line_behind}
 use Rattle.e3_trace.specs.Fields.{Known, u32_of, u64_of, name_of, value_of, numbers_of, dir_of, txn_of, known_sent, known_told}
 use Rattle.e3_trace.specs.Inputs.{input_of}
 use Rattle.e3_trace.specs.Messages.{message_of}
 use Rattle.e3_trace.specs.Events.{told_of}
-use Rattle.e3_trace.specs.Tellable.{IsShort, IsLong, lacks, IsLine, HasNumbers, IsBegun, InputTells, PacketTells, EventTells, IsRow, IsHere, IsVoteOp, AreNumbers, RecordTells, known_outs, known_events, OutsTell, EventsTell}
-use Rattle.e3_trace.specs.Trace.{Reading, next_line, line_by, marked_line}
-use Rattle.e3_trace.proofs.Chains.{IsWord, two, three, two_again, three_again}
+use Rattle.e3_trace.specs.Tellable.{IsShort, IsLong, IsBegun, InputTells, PacketTells, EventTells, IsRow, IsHere, IsVoteOp, AreNumbers, RecordTells, known_outs, known_events, OutsTell, EventsTell}
+use Rattle.e3_trace.specs.Trace.{next_line, line_by, marked_line}
+use Rattle.e3_trace.proofs.Chains.{two, three, two_again, three_again}
 use Rattle.e3_trace.proofs.Going.{Goes, goes_none, goes_then, goes_line, cond_false, cond_true, reading_at, not_over, next_by}
 use Rattle.e3_trace.proofs.Lists.{numbers_again, commas_lack}
 use Rattle.e3_trace.proofs.Names.{name_of-name}
 use Rattle.e3_trace.proofs.Numbers.{short_again, long_again}
-use Rattle.e3_trace.proofs.OneLine.{InLine, also, and_short, and_text, short_in, long_in, txn_in, input_in, message_in, told_in}
+use Rattle.e3_trace.proofs.OneLine.{InLine, and_short, and_text, short_in, long_in, txn_in, input_in, message_in, told_in}
 use Rattle.e3_trace.proofs.Said.{made, input_again, message_again, told_again, short_word, long_word, txn_word}
-use Rattle.e3_trace.proofs.Words.{widen, txn_again, dir_again, dir_lacks, value_again, name_lacks}
+use Rattle.e3_trace.proofs.Words.{dir_again, dir_lacks, value_again, name_lacks}
 
 -- the entry with other records
 abbrev pub logged : Draft → List Record → Growing → Draft

@@ -1,5 +1,5 @@
 -- Fields with spaces between them are read one behind the other.
-use Rattle.std.proofs.Common.{◌≡◌, ℕ, true, List, [], ◌∷◌, ◌++◌, Some, refl, ap, sym, ◌∙◌, append_assoc}
+use Rattle.std.proofs.Common.{◌≡◌, ℕ, true, List, ◌∷◌, ◌++◌, Some, ap, sym, ◌∙◌, append_assoc}
 use Rattle.std.specs.Prelude.{codes}
 use Rattle.e3_trace.specs.Cuts.{space, Form, pair_of}
 use Rattle.e3_trace.specs.Tellable.{lacks}

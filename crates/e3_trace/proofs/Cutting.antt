@@ -1,10 +1,10 @@
 -- A text that was joined is cut where it was joined.
-use Rattle.std.proofs.Common.{◌≡◌, ◌==◌, ◌&&◌, ℕ, Bool, true, false, not, List, [], ◌∷◌, ◌++◌, Option, Some, None, refl, ap, sym, ◌∙◌, subst, append_assoc, arith, cond}
-use Rattle.std.specs.Prelude.{option_map, option_and_then, bytes_eq, codes}
+use Rattle.std.proofs.Common.{◌≡◌, ◌==◌, ◌&&◌, ℕ, Bool, true, false, not, List, [], ◌∷◌, ◌++◌, Option, Some, None, refl, ap, arith, cond}
+use Rattle.std.specs.Prelude.{option_map}
 use Rattle.std.specs.List.{list_all}
 use Rattle.std.proofs.Common.{eqb-true}
 use Rattle.std.proofs.lemmas.Bool.{and_parts}
-use Rattle.e3_trace.specs.Cuts.{cut, in_front, pieces, Form, made_of, pair_of, behind, space}
+use Rattle.e3_trace.specs.Cuts.{cut, in_front, pieces, Form, made_of, pair_of}
 use Rattle.e3_trace.specs.Tellable.{lacks}
 use Rattle.e3_trace.proofs.Places.{Parts, longer}
 

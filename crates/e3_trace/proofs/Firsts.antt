@@ -1,33 +1,31 @@
 -- The first line of an entry is read from what is written of it.
-use Rattle.std.proofs.Common.{◌≡◌, ◌==◌, ◌&&◌, ◌*◌, ◌+◌, ◌-◌, ℕ, Bool, true, false, not, nat_le, nat_lt, cond, List, [], ◌∷◌, ◌++◌, length, Option, Some, None, refl, ap, sym, ◌∙◌, subst, append_assoc}
-use Rattle.std.specs.Prelude.{option_map, option_and_then, codes, bytes_eq}
+use Rattle.std.proofs.Common.{◌≡◌, ◌==◌, ◌&&◌, ◌*◌, ◌+◌, ◌-◌, ℕ, Bool, true, false, nat_le, cond, List, [], ◌∷◌, ◌++◌, length, Option, Some, None, refl, ap, ◌∙◌, append_assoc}
+use Rattle.std.specs.Prelude.{option_map, option_and_then, codes}
 use Rattle.std.specs.Fmt.{decimal}
 use Rattle.std.proofs.lemmas.List.{append-nil}
 use Rattle.e3_types.specs.declared.entries.Act.{Act}
 use Rattle.e3_types.specs.declared.entries.Act.TheVariants as act
-use Rattle.e3_types.specs.declared.entries.Entry.{Entry}
 use Rattle.e3_types.specs.declared.entries.Input.{Input}
 use Rattle.e3_types.specs.declared.entries.Why.{Why}
 use Rattle.e3_types.specs.declared.entries.Why.TheVariants.{Fault, Full}
-use Rattle.e3_lines.specs.Texts.{line_end, parts_text, kept_text}
+use Rattle.e3_lines.specs.Texts.{parts_text, kept_text}
 use Rattle.e3_lines.specs.Events.{why_text}
 use Rattle.e3_trace_lines.specs.Inputs.{input_text}
 use Rattle.e3_trace_lines.specs.Entries.{parts_form, step_form, fall_form, rise_form, failed_rise_form, form_text}
 use Rattle.e3_trace.specs.declared.drafts.Draft.{Draft}
 use Rattle.e3_trace.specs.declared.drafts.Head.TheVariants as head
-use Rattle.e3_trace.specs.Cuts.{space, feed, cut, Form, made_of, pair_of, behind, begins}
+use Rattle.e3_trace.specs.Cuts.{space, Form, made_of, pair_of, behind}
 use Rattle.e3_trace.specs.Drafts.{draft_of}
-use Rattle.e3_trace.specs.Entries.{full_from, full_and, fault_and, why_and, why_of, kept_of, rise_of, kept_why_of, failed_rise_of, fall_of, whole_of, step_of, act_by, draft_by, form_of}
+use Rattle.e3_trace.specs.Entries.{full_from, full_and, why_and, why_of, kept_of, rise_of, kept_why_of, failed_rise_of, fall_of, whole_of, act_by, draft_by, form_of}
 use Rattle.e3_trace.specs.Events.{of_of}
 use Rattle.e3_trace.specs.Fields.{Known, is_digit, digits_from, number_of, u32_of, u64_of, parts_of}
 use Rattle.e3_trace.specs.Inputs.{input_of}
-use Rattle.e3_trace.specs.Tellable.{IsShort, IsLong, lacks, IsWhy, AreParts, ActTells}
-use Rattle.e3_trace.proofs.Chains.{IsWord, two, two_again}
+use Rattle.e3_trace.specs.Tellable.{IsShort, IsLong, lacks, IsWhy, ActTells}
 use Rattle.e3_trace.proofs.Cutting.{cut_join, cut_whole, pair_again}
 use Rattle.e3_trace.proofs.Lists.{parts_again, parts_lack}
 use Rattle.e3_trace.proofs.Numbers.{short_again, long_again, number_lacks}
-use Rattle.e3_trace.proofs.OneLine.{InLine, also, and_short, and_text, short_in, long_in, why_in, kept_in, input_in}
-use Rattle.e3_trace.proofs.Said.{made, of_again, input_again, short_word, long_word}
+use Rattle.e3_trace.proofs.OneLine.{InLine, also, and_text, short_in, long_in, why_in, kept_in, input_in}
+use Rattle.e3_trace.proofs.Said.{made, of_again, input_again}
 use Rattle.e3_trace.proofs.Words.{widen, joined}
 
 -- a number does not go on behind a space

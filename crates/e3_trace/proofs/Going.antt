@@ -1,8 +1,6 @@
 -- How reading goes on over a text, line by line.
-use Rattle.std.proofs.Common.{◌≡◌, ◌==◌, ◌&&◌, ◌||◌, ◌<◌, ◌+◌, ℕ, Bool, true, false, not, nat_lt, cond, List, [], ◌∷◌, ◌++◌, length, Option, Some, None, Result, Ok, Err, refl, ap, sym, ◌∙◌, subst, arith, append_assoc}
-use Rattle.std.specs.Prelude.{option_map, option_and_then, bytes_eq, codes, is_some}
-use Rattle.std.specs.Fmt.{decimal}
-use Rattle.std.specs.List.{list_all}
+use Rattle.std.proofs.Common.{◌≡◌, ◌==◌, ◌<◌, ◌+◌, ℕ, Bool, true, false, nat_lt, cond, List, [], ◌∷◌, ◌++◌, length, Option, Some, Result, Err, refl, ap, sym, ◌∙◌, subst, arith, append_assoc}
+use Rattle.std.specs.Prelude.{bytes_eq, codes}
 use Rattle.std.proofs.Common.{eqb-true}
 use Rattle.std.proofs.lemmas.Bool.{and_parts}
 use Rattle.std.proofs.lemmas.Bool.Decides.{nat_tests}
@@ -11,9 +9,9 @@ use Rattle.e3_lines.specs.Texts.{line_end}
 use Rattle.e3_trace.specs.declared.drafts.Draft.{Draft}
 use Rattle.e3_trace.specs.declared.faults.TraceFault.{TraceFault}
 use Rattle.e3_trace.specs.declared.faults.TraceFault.TheVariants as fault
-use Rattle.e3_trace.specs.Cuts.{space, feed, cut, in_front, pieces}
-use Rattle.e3_trace.specs.Fields.{Known, is_digit}
-use Rattle.e3_trace.specs.Trace.{Reading, next_line, line_by, is_mark, is_over, one_on, ended, lines_read}
+use Rattle.e3_trace.specs.Cuts.{space, feed, in_front, pieces}
+use Rattle.e3_trace.specs.Fields.{Known}
+use Rattle.e3_trace.specs.Trace.{Reading, next_line, line_by, is_over, one_on, ended, lines_read}
 use Rattle.e3_trace.specs.Tellable.{lacks}
 use Rattle.e3_trace.proofs.Cutting.{cut_join, pieces_join}
 use Rattle.e3_trace.proofs.OneLine.{InLine}

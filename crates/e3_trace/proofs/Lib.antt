@@ -1,6 +1,7 @@
 pub mod Places
 pub mod Names
 pub mod Lines
+pub mod Fronts
 pub mod Cutting
 pub mod Numbers
 pub mod Words

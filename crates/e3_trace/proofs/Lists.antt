@@ -1,17 +1,16 @@
 -- Lists of numbers, sets of sites, and parts of the network are read from what is written of them.
-use Rattle.std.proofs.Common.{◌≡◌, ◌==◌, ◌&&◌, ◌<◌, ◌≤◌, ◌^◌, nat_le, nat_lt, ℕ, Bool, true, false, not, List, [], ◌∷◌, ◌++◌, length, Option, Some, None, refl, ap, sym, ◌∙◌, subst, arith, append_assoc, if◌then◌else◌, cond}
-use Rattle.std.specs.Prelude.{option_and_then, codes}
+use Rattle.std.proofs.Common.{◌≡◌, ◌==◌, ◌&&◌, ◌≤◌, nat_le, nat_lt, ℕ, true, false, not, List, [], ◌∷◌, ◌++◌, Option, Some, None, refl, ap, sym, ◌∙◌, subst, arith, append_assoc, if◌then◌else◌}
+use Rattle.std.specs.Prelude.{option_and_then}
 use Rattle.std.specs.Fmt.{decimal}
-use Rattle.std.specs.List.{list_all, flat_map, AllByRecursion as Each}
+use Rattle.std.specs.List.{flat_map, AllByRecursion as Each}
 use Rattle.std.proofs.lemmas.Bool.{and_parts}
 use Rattle.std.proofs.lemmas.Bool.Decides.{nat_tests}
 use Rattle.std.proofs.lemmas.List.{append-nil}
-use Rattle.std.proofs.lemmas.List.Concat.{flat_map-cons}
 use Rattle.e3_types.specs.Sets.{ascends, is_set}
 use Rattle.e3_lines.specs.Texts.{commas, after_comma, sites_text, after_bar, parts_text}
-use Rattle.e3_trace.specs.Cuts.{space, point, comma, bar, feed, cut, pieces}
+use Rattle.e3_trace.specs.Cuts.{comma, bar, feed, pieces}
 use Rattle.e3_trace.specs.Fields.{is_digit, u32_of, numbers_from, numbers_of, sites_of, parts_from, parts_of}
-use Rattle.e3_trace.specs.Tellable.{IsShort, IsLong, lacks, is_some_set, AreNumbers, AreParts}
+use Rattle.e3_trace.specs.Tellable.{IsShort, lacks, is_some_set, AreNumbers, AreParts}
 use Rattle.e3_trace.proofs.Cutting.{pieces_join, pieces_whole, lacks_join}
 use Rattle.e3_trace.proofs.Numbers.{short_again, number_lacks}
 use Rattle.e3_trace.proofs.Words.{widen}

@@ -1,5 +1,5 @@
 -- What is written of a part of a line has no line's end.
-use Rattle.std.proofs.Common.{◌≡◌, ◌==◌, ℕ, Bool, true, false, List, [], ◌∷◌, ◌++◌, refl}
+use Rattle.std.proofs.Common.{◌≡◌, ℕ, Bool, true, false, List, ◌++◌, refl}
 use Rattle.std.specs.Prelude.{codes}
 use Rattle.std.specs.Fmt.{decimal}
 use Rattle.e3_types.specs.declared.entries.Input.{Input}
@@ -14,12 +14,10 @@ use Rattle.e3_types.specs.declared.messages.Message.{Message}
 use Rattle.e3_types.specs.declared.messages.Message.TheVariants as msg
 use Rattle.e3_types.specs.declared.transactions.Answer.{Answer}
 use Rattle.e3_types.specs.declared.transactions.Answer.TheVariants.{Absent, Value, Written}
-use Rattle.e3_types.specs.declared.transactions.Dir.{Dir}
 use Rattle.e3_types.specs.declared.transactions.Dir.TheVariants.{Abort, Commit}
 use Rattle.e3_types.specs.declared.transactions.Key.{Key}
 use Rattle.e3_types.specs.declared.transactions.Op.{Op}
 use Rattle.e3_types.specs.declared.transactions.Op.TheVariants.{Read, Write}
-use Rattle.e3_types.specs.declared.transactions.State.{State}
 use Rattle.e3_types.specs.declared.transactions.Txn.{Txn}
 use Rattle.e3_types.specs.declared.verdicts.Verdict.{Verdict}
 use Rattle.e3_types.specs.declared.verdicts.Verdict.TheVariants as verdict
@@ -29,7 +27,7 @@ use Rattle.e3_trace_lines.specs.Inputs.{operation_text, begin_input, do_input, e
 use Rattle.e3_trace_lines.specs.Messages.{txn_and_number, txn_and_call, txn_and_attempt, do_message, done_message, died_message, last_message, report_message, votereq_message, yes_text, vote_message, decide_message, message_text}
 use Rattle.e3_trace.specs.Cuts.{feed}
 use Rattle.e3_trace.specs.Fields.{Known}
-use Rattle.e3_trace.specs.Tellable.{IsShort, IsLong, lacks, is_some_set, IsLine, IsKey, HasNumbers, IsBegun, IsOp, IsAnswer, InputTells, MessageTells, RefusalTells, IsVerdict, EventTells, IsWhy}
+use Rattle.e3_trace.specs.Tellable.{IsShort, IsLong, lacks, IsKey, HasNumbers, IsOp, IsAnswer, InputTells, MessageTells, RefusalTells, IsVerdict, EventTells, IsWhy}
 use Rattle.e3_trace.proofs.Cutting.{lacks_join}
 use Rattle.e3_trace.proofs.Lists.{sites_lack}
 use Rattle.e3_trace.proofs.Numbers.{number_lacks}

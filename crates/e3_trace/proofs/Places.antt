@@ -1,7 +1,7 @@
 -- Where a text is cut, and its pieces.
 use Rattle.std.proofs.lemmas.Bool.Decides.{nat_tests}
 use Rattle.std.specs.List.{position_or_len}
-use Rattle.std.proofs.Common.{◌≤◌, cond, not, nat_lt, arith, ◌≡◌, ◌==◌, ◌<◌, ◌+◌, ℕ, suc, Bool, true, false, List, [], ◌∷◌, length, take, drop, Option, Some, None, refl, ap, ◌∙◌, sym}
+use Rattle.std.proofs.Common.{cond, not, nat_lt, arith, ◌≡◌, ◌==◌, ◌+◌, ℕ, suc, Bool, true, false, List, [], ◌∷◌, length, take, drop, Option, Some, None, refl, ap, ◌∙◌}
 use Rattle.std.specs.Prelude.{option_map, position}
 use Rattle.e3_trace.specs.Cuts.{cut, in_front, pieces}
 

@@ -1,6 +1,6 @@
 -- Inputs, messages and what is told are read from what is written of them.
-use Rattle.std.proofs.Common.{◌≡◌, ◌==◌, ◌&&◌, ℕ, Bool, true, false, not, List, [], ◌∷◌, ◌++◌, Option, Some, None, refl, ap, sym, ◌∙◌, subst, append_assoc}
-use Rattle.std.specs.Prelude.{option_map, option_and_then, codes, bytes_eq}
+use Rattle.std.proofs.Common.{◌≡◌, ℕ, Bool, true, false, List, ◌∷◌, ◌++◌, Option, Some, refl, ap, ◌∙◌, append_assoc}
+use Rattle.std.specs.Prelude.{option_map, option_and_then, codes}
 use Rattle.std.specs.Fmt.{decimal}
 use Rattle.e3_types.specs.declared.entries.Input.{Input}
 use Rattle.e3_types.specs.declared.entries.Input.TheVariants as input
@@ -11,30 +11,28 @@ use Rattle.e3_types.specs.declared.entries.Told.TheVariants as told
 use Rattle.e3_types.specs.declared.messages.Message.{Message}
 use Rattle.e3_types.specs.declared.messages.Message.TheVariants as msg
 use Rattle.e3_types.specs.declared.transactions.Answer.{Answer}
-use Rattle.e3_types.specs.declared.transactions.Answer.TheVariants.{Absent, Value, Written}
 use Rattle.e3_types.specs.declared.transactions.Dir.{Dir}
 use Rattle.e3_types.specs.declared.transactions.Dir.TheVariants.{Abort, Commit}
 use Rattle.e3_types.specs.declared.transactions.Op.{Op}
-use Rattle.e3_types.specs.declared.transactions.Op.TheVariants.{Read, Write}
 use Rattle.e3_types.specs.declared.transactions.State.{State}
 use Rattle.e3_types.specs.declared.transactions.Txn.{Txn}
 use Rattle.e3_types.specs.declared.verdicts.Verdict.{Verdict}
 use Rattle.e3_types.specs.declared.verdicts.Verdict.TheVariants as verdict
-use Rattle.e3_lines.specs.Texts.{sites_text, txn_text, key_text, dir_text, state_text}
+use Rattle.e3_lines.specs.Texts.{sites_text, txn_text, dir_text, state_text}
 use Rattle.e3_lines.specs.Events.{answer_text, ended_text, doom_text, refusal_text, block_text, verdict_text, op_text, election_text, began_text, died_text, refused_text, kept_state_text, told_of as told_words, of_txn, told_text}
 use Rattle.e3_trace_lines.specs.Inputs.{operation_text, begin_input, do_input, elect_input, input_text}
 use Rattle.e3_trace_lines.specs.Messages.{txn_and_number, txn_and_call, txn_and_attempt, do_message, done_message, died_message, last_message, report_message, votereq_message, yes_text, vote_message, decide_message, message_text}
-use Rattle.e3_trace.specs.Cuts.{space, point, comma, bar, feed, cut, Form, made_of, pair_of, behind, begins}
+use Rattle.e3_trace.specs.Cuts.{space, pair_of, behind}
 use Rattle.e3_trace.specs.Events.{of_of, block_from, verdict_of, doom_of, doomed_from, refusal_by, refusal_of, event_by, event_of, began_of, told_by, told_of}
-use Rattle.e3_trace.specs.Fields.{Known, TxnName, u32_of, u64_of, sites_of, dir_of, state_of, op_of, answer_of, txn_name_of, txn_from, named, txn_of, packet_at, sent_of}
+use Rattle.e3_trace.specs.Fields.{Known, u32_of, u64_of, sites_of, dir_of, state_of, op_of, answer_of, txn_from, named, txn_of, packet_at, sent_of}
 use Rattle.e3_trace.specs.Inputs.{do_from, elect_from, input_by, input_of}
 use Rattle.e3_trace.specs.Messages.{call_from, do_of, done_of, died_of, ask_of, last_of, elected_of, report_of, votereq_of, yes_of, vote_of, pre_of, ack_of, decide_of, deciding_by, message_by, message_of}
-use Rattle.e3_trace.specs.Tellable.{IsShort, IsLong, lacks, is_some_set, IsLine, IsKey, HasNumbers, IsBegun, IsOp, IsAnswer, InputTells, MessageTells, RefusalTells, IsVerdict, EventTells}
-use Rattle.e3_trace.proofs.Chains.{IsWord, two, three, four, two_again, three_again, four_again, two_lack, three_lack, four_lack}
+use Rattle.e3_trace.specs.Tellable.{IsShort, IsLong, HasNumbers, IsBegun, InputTells, MessageTells, RefusalTells, IsVerdict, EventTells}
+use Rattle.e3_trace.proofs.Chains.{IsWord, two, three, four, two_again, three_again, four_again}
 use Rattle.e3_trace.proofs.Cutting.{cut_join, pair_again}
-use Rattle.e3_trace.proofs.Lists.{sites_again, sites_lack}
+use Rattle.e3_trace.proofs.Lists.{sites_again}
 use Rattle.e3_trace.proofs.Numbers.{short_again, long_again, number_lacks}
-use Rattle.e3_trace.proofs.Words.{widen, joined, txn_again, txn_name_again, txn_lacks, key_lacks, dir_again, dir_lacks, state_again, state_lacks, op_again, answer_again}
+use Rattle.e3_trace.proofs.Words.{widen, joined, txn_again, txn_name_again, txn_lacks, dir_again, state_again, state_lacks, op_again, answer_again}
 
 -- words that are fields
 pub short_word : (n : ℕ) → IsShort n → IsWord u32_of (decimal n) n

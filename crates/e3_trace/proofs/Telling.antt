@@ -1,6 +1,6 @@
 -- A trace of a tellable history is read from what is written of it.
-use Rattle.std.proofs.Common.{◌≡◌, ◌==◌, ◌&&◌, ◌||◌, ◌<◌, ◌≤◌, ◌+◌, ℕ, suc, Bool, true, false, nat_le, nat_lt, cond, List, [], ◌∷◌, ◌++◌, length, Option, Some, None, Result, Ok, Err, refl, ap, sym, ◌∙◌, subst, arith, append_assoc, length-append, le-leb}
-use Rattle.std.specs.Prelude.{option_map, option_and_then, bytes_eq, codes}
+use Rattle.std.proofs.Common.{◌≡◌, ◌==◌, ◌&&◌, ◌<◌, ◌≤◌, ◌+◌, ℕ, Bool, true, false, nat_le, List, [], ◌∷◌, ◌++◌, length, Some, Ok, Err, refl, ap, sym, ◌∙◌, subst, arith, append_assoc, length-append, le-leb}
+use Rattle.std.specs.Prelude.{bytes_eq, codes}
 use Rattle.std.specs.Fmt.{decimal}
 use Rattle.std.specs.List.{flat_map, list_all, AllByRecursion as Each}
 use Rattle.std.proofs.lemmas.List.{append-nil}
@@ -15,23 +15,20 @@ use Rattle.e3_types.specs.declared.records.Record.{Record}
 use Rattle.e3_lines.specs.Texts.{line_end}
 use Rattle.e3_trace_lines.specs.Entries.{input_line, marked_record, packet_line as packet_text, told_mark_line, form_text, lines_behind, entry_trace, trace_of}
 use Rattle.e3_trace.specs.declared.drafts.Draft.{Draft}
-use Rattle.e3_trace.specs.declared.drafts.Growing.{Growing}
-use Rattle.e3_trace.specs.declared.drafts.Growing.TheVariants as growing
 use Rattle.e3_trace.specs.declared.drafts.Head.TheVariants as head
-use Rattle.e3_trace.specs.declared.faults.TraceFault.{TraceFault}
 use Rattle.e3_trace.specs.declared.faults.TraceFault.TheVariants as fault
 use Rattle.e3_trace.specs.Cuts.{space, feed, pieces}
-use Rattle.e3_trace.specs.Drafts.{grown, records_of, ops_due, is_complete, act_of, entry_from, draft_of}
-use Rattle.e3_trace.specs.Entries.{whole_of, form_of}
-use Rattle.e3_trace.specs.Fields.{Known, is_digit, u32_of}
-use Rattle.e3_trace.specs.Tellable.{IsShort, IsLong, lacks, ActTells, known_act, known_outs, known_events, TellsAfter, IsTellable, IsBefore, ended_line, text_of, TracesReadBack}
-use Rattle.e3_trace.specs.Trace.{Reading, nothing_read, closed, entry_line, line_by, is_mark, next_line, ended, lines_read, behind_mark, read_behind, history_of}
-use Rattle.e3_trace.proofs.Behind.{Logs, logged, records_go, sending, outs_go, telling, events_go, given, inputs_go}
+use Rattle.e3_trace.specs.Drafts.{ops_due, is_complete, act_of, entry_from, draft_of}
+use Rattle.e3_trace.specs.Entries.{whole_of}
+use Rattle.e3_trace.specs.Fields.{Known, is_digit}
+use Rattle.e3_trace.specs.Tellable.{IsShort, ActTells, known_act, known_outs, known_events, TellsAfter, IsTellable, IsBefore, ended_line, text_of, TracesReadBack}
+use Rattle.e3_trace.specs.Trace.{Reading, nothing_read, closed, entry_line, line_by, is_mark, next_line, lines_read, behind_mark, read_behind, history_of}
+use Rattle.e3_trace.proofs.Behind.{logged, records_go, sending, outs_go, telling, events_go, given, inputs_go}
 use Rattle.e3_trace.proofs.Cutting.{pieces_join}
 use Rattle.e3_trace.proofs.Firsts.{first_draft, form_again, form_in}
-use Rattle.e3_trace.proofs.Going.{same_bytes, Goes, goes_none, goes_then, goes_line, first_piece, cond_false, cond_true, reading_at, not_over, next_by}
+use Rattle.e3_trace.proofs.Going.{same_bytes, Goes, goes_none, goes_then, goes_line, first_piece, cond_true, reading_at, not_over, next_by}
 use Rattle.e3_trace.proofs.Numbers.{short_again, number_lacks, number_digits}
-use Rattle.e3_trace.proofs.OneLine.{InLine, and_text, short_in}
+use Rattle.e3_trace.proofs.OneLine.{and_text, short_in}
 use Rattle.e3_trace.proofs.Words.{widen, joined}
 
 -- a number is no mark of a line

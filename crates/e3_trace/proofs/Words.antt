@@ -1,10 +1,7 @@
 -- Fields are read from what is written of them, and have no mark that would cut them.
-use Rattle.std.proofs.Common.{◌≡◌, ◌==◌, ◌&&◌, ◌<◌, ◌≤◌, ◌^◌, nat_le, nat_lt, ℕ, Bool, true, false, not, List, [], ◌∷◌, ◌++◌, length, Option, Some, None, refl, ap, sym, ◌∙◌, subst, arith, append_assoc, le-leb, if◌then◌else◌}
-use Rattle.std.specs.Prelude.{option_map, option_and_then, codes}
+use Rattle.std.proofs.Common.{◌≡◌, ◌==◌, ℕ, true, false, List, [], ◌∷◌, ◌++◌, length, Some, refl, ap, ◌∙◌, arith, append_assoc, le-leb}
+use Rattle.std.specs.Prelude.{codes}
 use Rattle.std.specs.Fmt.{decimal}
-use Rattle.std.specs.List.{list_all, flat_map, AllByRecursion as Each}
-use Rattle.std.proofs.lemmas.Bool.{and_parts}
-use Rattle.std.proofs.lemmas.Bool.Decides.{nat_tests}
 use Rattle.std.proofs.lemmas.List.Sums.{list_all-from_AllPass}
 use Rattle.e3_types.specs.declared.transactions.Answer.{Answer}
 use Rattle.e3_types.specs.declared.transactions.Answer.TheVariants.{Absent, Value, Written}
@@ -17,15 +14,15 @@ use Rattle.e3_types.specs.declared.transactions.State.{State}
 use Rattle.e3_types.specs.declared.transactions.State.TheVariants.{Q, W, Pc, Pa, C, A}
 use Rattle.e3_types.specs.declared.transactions.Txn.{Txn}
 use Rattle.e3_types.specs.Text.{IsName, IsValue, is_letter}
-use Rattle.e3_lines.specs.Texts.{commas, after_comma, sites_text, txn_text, key_text, dir_text, state_text}
+use Rattle.e3_lines.specs.Texts.{txn_text, key_text, dir_text, state_text}
 use Rattle.e3_lines.specs.Events.{answer_text}
 use Rattle.e3_trace_lines.specs.Inputs.{operation_text}
-use Rattle.e3_trace.specs.Cuts.{space, point, comma, bar, feed, cut, pieces, Form, made_of, pair_of, behind}
-use Rattle.e3_trace.specs.Fields.{Known, is_digit, u32_of, u64_of, name_of, value_of, numbers_from, numbers_of, sites_of, key_from, key_of, dir_of, state_of, write_from, op_by, op_of, answer_of, txn_name_of, named, txn_of}
-use Rattle.e3_trace.specs.Tellable.{IsShort, IsLong, lacks, is_some_set, IsLine, IsKey, HasNumbers, IsBegun, IsOp, IsAnswer}
-use Rattle.e3_trace.proofs.Cutting.{cut_join, cut_whole, pieces_join, pieces_whole, pair_again, made_again, lacks_join, lacks_by}
+use Rattle.e3_trace.specs.Cuts.{space, point, feed, made_of, pair_of}
+use Rattle.e3_trace.specs.Fields.{Known, is_digit, u32_of, name_of, value_of, key_from, key_of, dir_of, state_of, write_from, op_by, op_of, answer_of, txn_name_of, txn_of}
+use Rattle.e3_trace.specs.Tellable.{IsShort, IsLong, lacks, IsKey, HasNumbers, IsBegun, IsOp, IsAnswer}
+use Rattle.e3_trace.proofs.Cutting.{pair_again, made_again, lacks_join, lacks_by}
 use Rattle.e3_trace.proofs.Names.{name_of-name}
-use Rattle.e3_trace.proofs.Numbers.{short_again, long_again, number_lacks}
+use Rattle.e3_trace.proofs.Numbers.{short_again, number_lacks}
 
 -- a short number is a long one
 pub widen : (n : ℕ) → IsShort n → IsLong n

@@ -5,7 +5,6 @@ use Rattle.e3_types.specs.declared.entries.Act.TheVariants as act
 use Rattle.e3_types.specs.declared.entries.Why.{Why}
 use Rattle.e3_types.specs.declared.entries.Why.TheVariants.{Fault, Full}
 use Rattle.e3_trace.specs.declared.drafts.Draft.{Draft}
-use Rattle.e3_trace.specs.declared.drafts.Head.{Head}
 use Rattle.e3_trace.specs.declared.drafts.Head.TheVariants as head
 use Rattle.e3_trace.specs.Cuts.{space, cut, Form, made_of, pair_of, behind, begins}
 use Rattle.e3_trace.specs.Drafts.{draft_of}

@@ -1,6 +1,6 @@
 -- A worked example: the trace of the only site of a scenario that begins a transaction, writes and commits. It spells the
 -- history, and without its closing line it is at fault behind its last line.
-use Rattle.std.specs.Prelude.{◌≡◌, ◌++◌, ◌∷◌, [], ℕ, false, List, codes, Result, Ok, Err, refl}
+use Rattle.std.specs.Prelude.{◌≡◌, ◌++◌, ◌∷◌, [], ℕ, false, List, codes, Ok, Err, refl}
 use Rattle.e3_types.specs.declared.entries.Act.{Act}
 use Rattle.e3_types.specs.declared.entries.Act.TheVariants as act
 use Rattle.e3_types.specs.declared.entries.Entry.{Entry}

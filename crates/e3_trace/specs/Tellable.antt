@@ -18,8 +18,7 @@ use Rattle.e3_types.specs.declared.messages.Packet.{Packet}
 use Rattle.e3_types.specs.declared.records.Record.{Record}
 use Rattle.e3_types.specs.declared.records.Record.TheVariants as log
 use Rattle.e3_types.specs.declared.transactions.Answer.{Answer}
-use Rattle.e3_types.specs.declared.transactions.Answer.TheVariants.{Absent, Value, Written}
-use Rattle.e3_types.specs.declared.transactions.Call.{Call}
+use Rattle.e3_types.specs.declared.transactions.Answer.TheVariants.{Value}
 use Rattle.e3_types.specs.declared.transactions.Key.{Key}
 use Rattle.e3_types.specs.declared.transactions.NumOp.{NumOp}
 use Rattle.e3_types.specs.declared.transactions.Op.{Op}

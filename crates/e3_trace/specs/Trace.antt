@@ -90,6 +90,12 @@ behind_mark [] = None
 behind_mark (line ∷ []) = None
 behind_mark (line ∷ next ∷ more) = if bytes_eq line (codes "#trace") then Some (next ∷ more) else behind_mark (next ∷ more)
 
+-- what stands before the first line that is the mark, up to that line; all where there is no mark
+abbrev pub front_of : List (List ℕ) → List ℕ
+front_of [] = []
+front_of (line ∷ []) = line
+front_of (line ∷ next ∷ more) = if bytes_eq line (codes "#trace") then [] else line ++ feed ∷ front_of (next ∷ more)
+
 -- the history of the lines behind the mark, where there is one
 abbrev pub read_behind : Option (List (List ℕ)) → Result (List Entry) TraceFault
 read_behind None = Err (fault.Line 0)

@@ -20,4 +20,4 @@ mod trace;
 
 pub use faults::TraceFault;
 pub use laws::traces_read_back;
-pub use trace::read_trace;
+pub use trace::{before_mark, read_trace};

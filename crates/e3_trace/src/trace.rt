@@ -1,7 +1,7 @@
 // From the bytes of a trace to its history.
 ghost use Rattle.std.specs.Prelude.{◌≡◌, ◌⊎◌, ◌≤◌, length, Ok, Err, IfOk, IfErr, IfSome, MatchOption, None, Some};
 ghost use Rattle.e3_trace.specs.Cuts.{feed, pieces};
-ghost use Rattle.e3_trace.specs.Trace.{nothing_read, ended, lines_read, behind_mark, next_line, history_of, Spells, GoesOn};
+ghost use Rattle.e3_trace.specs.Trace.{nothing_read, ended, lines_read, behind_mark, front_of, next_line, history_of, Spells, GoesOn};
 
 use crate::cuts::{FEED, cut, is_text};
 use crate::faults::{Fault, TraceFault};
@@ -27,6 +27,17 @@ fn behind_mark(bytes: &[u8]) -> Option<&[u8]>
                 left = more;
             }
         }
+    }
+}
+
+/// What stands before the first line `#trace`, as the scenario of a trace: all bytes where there is no such line.
+#[tactic(auto, using(crate::proofs::Fronts::front_whole, crate::proofs::Fronts::front_room, crate::proofs::Fronts::front_taken))]
+pub fn before_mark(bytes: &[u8]) -> &[u8]
+    ensures { result.now ≡ front_of (pieces feed bytes.now) }
+{
+    match behind_mark(bytes) {
+        None => bytes,
+        Some(text) => &bytes[..bytes.len() - text.len() - 7],
     }
 }
 

@@ -1,4 +1,4 @@
-use Rattle.std.proofs.Common.{◌≡◌, sym, ◌∙◌, inr}
+use Rattle.std.proofs.Common.{sym, ◌∙◌, inr}
 use Rattle.e3_trace.proofs.Lines.{ended_whole, ended_more}
 use Rattle.e3_trace.proofs.trace.ended.Goals as goal
 

@@ -1,4 +1,4 @@
-use Rattle.std.proofs.Common.{◌≡◌, ◌+◌, ◌∙◌, false, Some, sym, length, arith}
+use Rattle.std.proofs.Common.{◌≡◌, ◌∙◌, false, Some, sym, arith}
 use Rattle.std.specs.Prelude.{bytes_eq, codes}
 use Rattle.std.proofs.lemmas.Result.{err_from_is_err_and}
 use Rattle.e3_trace.specs.Cuts.{feed, cut, pieces}

@@ -1,0 +1,6 @@
+mod Lookups
+mod Telling
+mod Knowing
+mod Partitions
+pub mod Along
+pub mod Reading
