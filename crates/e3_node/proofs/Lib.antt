@@ -1,7 +1,8 @@
+pub mod Apart
 pub mod Pasts
 pub mod Counts
-pub mod Keeping
 pub mod Frames
+pub mod Keeping
 pub mod Metering
 pub mod Guarding
 pub mod Sharing
@@ -10,6 +11,8 @@ pub mod Risen
 pub mod Strange
 pub mod Among
 pub mod Steps
+pub mod Telling
 pub mod Appends
 pub mod Waiting
 pub mod Turned
+pub mod Owning

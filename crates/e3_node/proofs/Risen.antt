@@ -1,9 +1,10 @@
 -- The whole node behind a rise, and what is told of it.
 use Rattle.std.proofs.Common.{◌≡◌, ◌++◌, ◌∷◌, [], ◌≤◌, ℕ, false, List, Result, Err, refl, sym, subst, ap, ◌∙◌, append-nil}
-use Rattle.std.specs.Prelude.{IfOk}
+use Rattle.std.specs.Prelude.{IfOk, fold}
 use Rattle.e3_disk.specs.Meters.{Meters, Rose as RoseBy}
-use Rattle.e3_node.specs.Bodies.{AllReadBack, DiskStands, ReadsWith, bodies_of_moves}
-use Rattle.e3_node.specs.Counting.{frames_in}
+use Rattle.e3_node.specs.Bodies.{AllReadBack, DiskHolds, ReadsWith}
+use Rattle.e3_node.specs.Counting.{count_of, counted_on}
+use Rattle.e3_node.specs.declared.counting.Count.{Count}
 use Rattle.e3_node.specs.Ends.{HasFailedToRise, HasRisen, Takes}
 use Rattle.e3_node.specs.NodeStands.{IsDown, IsIn, NodeStands}
 use Rattle.e3_node.specs.NodeView.{NodeView, disk_of}
@@ -27,14 +28,14 @@ use Rattle.e3_world.specs.Legal.{IsRising}
 use Rattle.e3_world.specs.Moves.{Move, Past, moves_of, open_tail, rows_at}
 use Rattle.e3_world.proofs.Readings.{up_same}
 use Rattle.e3_world.proofs.Turns.{self}
-use Rattle.e3_node.proofs.Counts.{frames_are}
+use Rattle.e3_node.proofs.Counts.{count_both, records_are}
 use Rattle.e3_node.proofs.Pasts.{back_quiet, past_on}
 use Rattle.e3_node.proofs.Steps.{node_with}
 
 -- what a node that stands takes with it, where it may rise
 pub may_rise : {D : Type 0} (content : D → List ℕ) (image : D → List ℕ → Type 0) (meters : D → Meters) (marks : List Mark) (node : NodeView D)
     (wish : Wish) → SharedStands marks → NodeStands content image meters (scenario_of marks) (entries_of marks) node → IsRising (scenario_of marks) (entries_of marks) node.site →
-    IsWish node.site node.weights node.rows (entries_of marks) wish → MayRise (scenario_of marks) (entries_of marks) wish
+    IsWish node.site node.weights node.rows node.count.records wish → MayRise (scenario_of marks) (entries_of marks) wish
 may_rise content image meters marks node wish shared was rising is = record {
   given = shared.played.given;
   legal = shared.played.legal;
@@ -42,7 +43,9 @@ may_rise content image meters marks node wish shared was rising is = record {
   some = subst (λ (n : ℕ). 1 ≤ n) (sym is.site_is) was.some;
   weights_are = is.weights_are ∙ was.weights_are;
   rows_are = is.rows_are ∙ was.rows_are ∙ ap (λ (n : ℕ). rows_at n (scenario_of marks).rows) (sym is.site_is);
-  frames_are = is.frames_are ∙ ap (λ (n : ℕ). frames_in n (entries_of marks)) (sym is.site_is) ∙ frames_are (scenario_of marks) wish.site (entries_of marks);
+  logged_is =
+      is.logged_is ∙ ap (λ (c : Count). c.records) was.count_is ∙ ap (λ (n : ℕ). (count_of n (entries_of marks)).records) (sym is.site_is)
+      ∙ records_are (scenario_of marks) wish.site (entries_of marks);
   back = subst (λ (n : ℕ). AllReadBack (scenario_of marks) (entries_of marks) n) (sym is.site_is) was.back;
 }
 
@@ -62,11 +65,11 @@ allowed_of content image meters sc h site old (Down new) NoMemory rising made = 
 allowed_of content image meters sc h site old (Down new) Foreign rising made = absurd made
 
 -- a missed rise leaves the disk as it stands
-missed_disk : (sc : Scenario) (h : List Entry) (site : ℕ) (image : List ℕ → Type 0) → DiskStands sc h site image →
-    DiskStands sc (h ++ record { owner = site; act = Miss } ∷ []) site image
+missed_disk : (sc : Scenario) (h : List Entry) (site : ℕ) (image : List ℕ → Type 0) → DiskHolds sc h site image →
+    DiskHolds sc (h ++ record { owner = site; act = Miss } ∷ []) site image
 missed_disk sc h site image stands = λ bytes at.
-    let P : Past → Type 0 = λ p. ReadsWith (bodies_of_moves p.moves) p.tail bytes in
-    let Q : List Move → Type 0 = λ ms. ReadsWith (bodies_of_moves ms) (open_tail sc h site) bytes in
+    let P : Past → Type 0 = λ p. ReadsWith site p.moves p.tail bytes in
+    let Q : List Move → Type 0 = λ ms. ReadsWith site ms (open_tail sc h site) bytes in
     subst P (sym (past_on sc h site (record { owner = site; act = Miss }) refl)) (subst Q (sym (append-nil (moves_of sc h site))) (stands bytes at))
 
 rise_in : {D : Type 0} (content : D → List ℕ) (image : D → List ℕ → Type 0) (meters : D → Meters) (sc : Scenario) (h : List Entry)
@@ -106,15 +109,18 @@ rise_back content image meters sc h site old (Down new) Foreign back made = absu
 
 -- so the whole node stands for the history with what comes of its rise
 pub node_risen : {D : Type 0} (content : D → List ℕ) (image : D → List ℕ → Type 0) (meters : D → Meters) (sc now : Scenario) (h more : List Entry)
-    (old new : NodeView D) (state : State D) (r : Raised) → NodeStands content image meters sc h old → is_up_at h old.site ≡ false →
+    (old new : NodeView D) (state : State D) (count : Count) (r : Raised) → NodeStands content image meters sc h old → is_up_at h old.site ≡ false →
     RiseMakes content image meters sc h old.site (disk_of old.state) state r → now ≡ sc → more ≡ h ++ entered_by old.site r →
-    new ≡ record { site = old.site; weights = old.weights; rows = old.rows; state = state } → NodeStands content image meters now more new
-node_risen content image meters sc now h more old new state r was down made same entered is =
-    node_with content image meters sc now h more old new state was same
+    count ≡ fold (counted_on old.site) old.count (entered_by old.site r) →
+    new ≡ record { site = old.site; weights = old.weights; rows = old.rows; count = count; state = state } → NodeStands content image meters now more new
+node_risen content image meters sc now h more old new state count r was down made same entered counts is =
+    node_with content image meters sc now h more old new state count was same
     (subst (λ (l : List Entry). IsIn content image meters sc l old.site state) (sym entered)
     (rise_in content image meters sc h old.site (disk_of old.state) state r down made))
     (subst (λ (l : List Entry). AllReadBack sc l old.site) (sym entered)
     (rise_back content image meters sc h old.site (disk_of old.state) state r was.back made))
+    (counts ∙ ap (λ (c : Count). fold (counted_on old.site) c (entered_by old.site r)) was.count_is ∙ count_both old.site h (entered_by old.site r)
+    ∙ ap (count_of old.site) (sym entered))
     is
 
 -- what is told of it is so

@@ -1,17 +1,21 @@
 -- A node behind a rise, however that ended.
-use Rattle.std.proofs.Common.{◌≡◌, ◌≢◌, ◌<◌, ◌++◌, ◌∷◌, [], inl, inr, ℕ, suc, Bool, true, false, List, Option, Some, None, length, refl, sym, subst, ap, ◌∙◌, append-nil, length-append, arith}
+use Rattle.std.proofs.Common.{◌≡◌, ◌≢◌, ◌+◌, ◌<◌, ◌^◌, ◌++◌, ◌∷◌, [], ℕ, suc, Bool, true, false, List, Option, Some, None, length, refl, sym, subst, ap, ◌∙◌, append-nil, length-append, arith}
 use Rattle.std.proofs.lemmas.Bool.{le-ltb, lt-ltb}
 use Rattle.std.specs.Prelude.{nat_lt}
 use Rattle.std.specs.List.{flat_map}
 use Rattle.e3_codec.proofs.Records.{one_list}
 use Rattle.e3_disk.specs.Images.{Within}
-use Rattle.e3_disk.specs.Meters.{Keeps, Meters}
+use Rattle.e3_disk.specs.Meters.{Keeps, Meters, Rose as RoseBy}
+use Rattle.e3_log.specs.declared.fault.OpenCause.{OpenCause}
+use Rattle.e3_log.specs.declared.fault.OpenCause.TheVariants as causes
 use Rattle.e3_log.specs.Frames.{Reads}
 use Rattle.e3_log.specs.Stands.{LogState, Stands}
 use Rattle.e3_log.proofs.One.{one_reading}
-use Rattle.e3_node.specs.Bodies.{DiskStands, IsRead, ReadsWith, bodies_at, bodies_of_moves, body_of, moves_with}
+use Rattle.e3_codec.specs.Fields.{AllCanBeReadBack}
+use Rattle.e3_node.specs.Bodies.{DiskHolds, Hold, IsLogged, IsRead, ReadsAfter, ReadsAs, ReadsWith, bodies_in, body_of, moves_with}
+use Rattle.e3_node.specs.Counting.{counted}
 use Rattle.e3_node.specs.Ends.{IsReason}
-use Rattle.e3_node.specs.Rising.{HasNotRaised, HasRaised, IsReady, MayRise, RiseMakes, born_by, records_by, rise_fall_of, rise_of}
+use Rattle.e3_node.specs.Rising.{HasNotRaised, HasRaised, IsReady, MayRise, RiseMakes, born_by, raised_of, records_by, rise_fall_of, rise_of}
 use Rattle.e3_node.specs.declared.readying.Readied.{Readied}
 use Rattle.e3_node.specs.declared.readying.Wish.{Wish}
 use Rattle.e3_node.specs.declared.rising.Raised.{Raised}
@@ -21,63 +25,87 @@ use Rattle.e3_node.specs.declared.state.State.TheVariants.{Down, Up}
 use Rattle.e3_site.specs.SiteView.{SiteView}
 use Rattle.e3_site.specs.StandsFor.{IsRisenWith, StandsFor}
 use Rattle.e3_types.specs.declared.entries.Entry.{Entry}
-use Rattle.e3_types.specs.declared.entries.Input.{Input}
 use Rattle.e3_types.specs.declared.entries.Why.{Why}
 use Rattle.e3_types.specs.declared.entries.Why.TheVariants.{Fault, Full}
+use Rattle.e3_types.specs.Spelling.{spelling}
 use Rattle.e3_types.specs.declared.records.Record.{Record}
 use Rattle.e3_types.specs.declared.records.Record.TheVariants as log
 use Rattle.e3_types.specs.declared.scenarios.Scenario.{Scenario}
 use Rattle.e3_types.specs.declared.transactions.Row.{Row}
 use Rattle.e3_world.specs.Legal.{IsLegal, IsRise}
 use Rattle.e3_world.specs.Logs.{logged_inc}
-use Rattle.e3_world.specs.Moves.{Move, Rose as DidRise, Silent, Tail, kept_moves, left_by, log_by, log_size, moves_of, open_tail, rise_records, rows_at}
+use Rattle.e3_world.specs.Moves.{Move, Rose as DidRise, Silent, Tail, kept_moves, left_by, log_by, log_size, moves_of, open_tail, recorded, rise_records, rows_at}
 use Rattle.e3_world.proofs.Pushes.{legal_push, log_push}
 use Rattle.e3_world.proofs.Readings.{up_same}
 use Rattle.e3_world.proofs.Turns.{self}
 use Rattle.e3_node.proofs.Guarding.{rise_guard}
-use Rattle.e3_node.proofs.Frames.{bodies_push, spells}
+use Rattle.e3_node.proofs.Appends.{left_reads}
+use Rattle.e3_node.proofs.Frames.{bodies_push, hold_less, hold_push, hold_spells}
 use Rattle.e3_node.proofs.Metering.{rose_since}
 use Rattle.e3_node.proofs.Pasts.{back_not_risen, back_risen, back_with, rise_fall_moves, rise_fall_tail, rise_moves, with_log}
 
--- what was read is the frames of these moves, with the tail's exactly where it is kept
-pub record Found (moves : List Move) (site : ℕ) (tail : Option Tail) (bodies : List (List ℕ)) (kept : Bool) : Type 0 where
-  pub are : bodies ≡ bodies_of_moves (moves ++ kept_moves site kept tail)
+-- what was read is the log of these moves, with the tail exactly where it is kept, and frames hold them
+pub record Found (moves : List Move) (site : ℕ) (tail : Option Tail) (bodies : List (List ℕ)) (read : List Record) (kept : Bool) : Type 0 where
+  pub lists : List (List Record)
+  pub hold : Hold (moves ++ kept_moves site kept tail) lists
+  pub are : bodies ≡ bodies_in lists
+  pub log_is : read ≡ log_by (moves ++ kept_moves site kept tail)
   pub some : kept ≡ true → tail ≢ None
 
-found_log : (moves : List Move) (site : ℕ) (tail : Option Tail) (bodies : List (List ℕ)) → bodies ≡ bodies_of_moves moves →
-    Found moves site tail bodies (nat_lt (length (bodies_of_moves moves)) (length bodies))
-found_log moves site tail bodies is =
-    let no : nat_lt (length (bodies_of_moves moves)) (length bodies) ≡ false =
-    ap (λ (b : List (List ℕ)). nat_lt (length (bodies_of_moves moves)) (length b)) is ∙ le-ltb (length (bodies_of_moves moves)) (length (bodies_of_moves moves)) (omega arith) in
-    subst (λ (k : Bool). Found moves site tail bodies k) (sym no) (record {
-      are = is ∙ ap bodies_of_moves (sym (append-nil moves));
-      some = λ yes. absurd (let both : true ≡ false = sym yes in cc);
-    })
+module _ (site : ℕ) (moves : List Move) (bodies : List (List ℕ)) (bytes : List ℕ) (read : List Record) (reads : Reads bodies bytes)
+    (back : AllCanBeReadBack site read) (spelled : flat_map (λ body. body) bodies ≡ spelling read) where
+  same_log : (ms : List Move) → AllCanBeReadBack site (log_by ms) → (it : ReadsAs ms bytes) → (bodies ≡ bodies_in it.lists) × (read ≡ log_by ms)
+  same_log ms fits it =
+      let are : bodies ≡ bodies_in it.lists = one_reading bodies (bodies_in it.lists) bytes reads it.reads in
+      (are, one_list site read (log_by ms) back fits (sym spelled ∙ ap (flat_map (λ body. body)) are ∙ hold_spells ms it.lists it.hold))
 
-found_tail : (moves : List Move) (site : ℕ) (tail : Tail) (bodies : List (List ℕ)) (records : List Record) → tail.records ≡ records →
-    bodies ≡ bodies_of_moves moves ++ body_of tail.records →
-    Found moves site (Some tail) bodies (nat_lt (length (bodies_of_moves moves)) (length bodies))
-found_tail moves site tail bodies [] none is =
-    found_log moves site (Some tail) bodies
-    (is ∙ ap (λ (rs : List Record). bodies_of_moves moves ++ body_of rs) none ∙ append-nil (bodies_of_moves moves))
-found_tail moves site tail bodies (r ∷ rs) some is =
-    let longer : length bodies ≡ suc (length (bodies_of_moves moves)) =
-    ap length (is ∙ ap (λ (l : List Record). bodies_of_moves moves ++ body_of l) some)
-    ∙ length-append (bodies_of_moves moves) (body_of (r ∷ rs)) ∙ omega arith in
-    let yes : nat_lt (length (bodies_of_moves moves)) (length bodies) ≡ true =
-    ap (λ (n : ℕ). nat_lt (length (bodies_of_moves moves)) n) longer ∙ lt-ltb (length (bodies_of_moves moves)) (suc (length (bodies_of_moves moves))) (omega arith) in
-    subst (λ (k : Bool). Found moves site (Some tail) bodies k) (sym yes) (record {
-      are = is ∙ sym (bodies_push moves (record { site = site; did = Silent tail.inputs tail.records }));
-      some = λ kept. λ none. cc;
-    })
+  -- what an image reads as is found
+  pub found : (kept : Bool) (tail : Option Tail) → ((k : Bool) → AllCanBeReadBack site (log_by (moves ++ kept_moves site k tail))) →
+      ReadsAs (moves ++ kept_moves site kept tail) bytes → (k : Bool) × Found moves site tail bodies read k
+  found false tail fits it =
+      let same = same_log (moves ++ kept_moves site false tail) (fits false) it in
+      (false, record { lists = it.lists; hold = it.hold; are = same.0; log_is = same.1; some = λ yes. absurd (let both : false ≡ true = yes in cc) })
+  found true None fits it =
+      let same = same_log (moves ++ kept_moves site true None) (fits true) it in
+      (false, record { lists = it.lists; hold = it.hold; are = same.0; log_is = same.1; some = λ yes. absurd (let both : false ≡ true = yes in cc) })
+  found true (Some tail) fits it =
+      let same = same_log (moves ++ kept_moves site true (Some tail)) (fits true) it in
+      (true, record { lists = it.lists; hold = it.hold; are = same.0; log_is = same.1; some = λ yes. λ none. cc })
 
-pub found : (moves : List Move) (site : ℕ) (tail : Option Tail) (bodies : List (List ℕ)) (bytes : List ℕ) → ReadsWith (bodies_of_moves moves) tail bytes →
-    Reads bodies bytes → Found moves site tail bodies (nat_lt (length (bodies_of_moves moves)) (length bodies))
-found moves site None bodies bytes stands reads = found_log moves site None bodies (one_reading bodies (bodies_of_moves moves) bytes reads stands)
-found moves site (Some tail) bodies bytes (inl stands) reads =
-    found_log moves site (Some tail) bodies (one_reading bodies (bodies_of_moves moves) bytes reads stands)
-found moves site (Some tail) bodies bytes (inr stands) reads =
-    found_tail moves site tail bodies tail.records refl (one_reading bodies (bodies_of_moves moves ++ body_of tail.records) bytes reads stands)
+module _ (site : ℕ) (moves : List Move) (bodies : List (List ℕ)) (read : List Record) (logged : ℕ)
+    (counts : logged ≡ counted (length (log_by moves))) (few : length read < 2 ^ 64) where
+  -- where no more was read than the log has, nothing is kept
+  quiet : (tail : Option Tail) → Found moves site tail bodies read false → Found moves site tail bodies read (nat_lt logged (length read))
+  quiet tail it =
+      let same : length read ≡ length (log_by moves) = ap length (it.log_is ∙ ap log_by (append-nil moves)) in
+      let no : nat_lt logged (length read) ≡ false = le-ltb logged (length read) (omega (arith, same, counts, few)) in
+      subst (λ (k : Bool). Found moves site tail bodies read k) (sym no) it
+
+  with_records : (tail : Tail) (records : List Record) → tail.records ≡ records → Found moves site (Some tail) bodies read true →
+      Found moves site (Some tail) bodies read (nat_lt logged (length read))
+  with_records tail [] none it =
+      let silent : Move = record { site = site; did = Silent tail.inputs tail.records } in
+      quiet (Some tail) (record {
+        lists = it.lists;
+        hold = subst (λ (ms : List Move). Hold ms it.lists) (sym (append-nil moves)) (hold_less moves it.lists silent none it.hold);
+        are = it.are;
+        log_is =
+            it.log_is ∙ log_push moves silent ∙ ap (λ (rs : List Record). log_by moves ++ rs) none ∙ append-nil (log_by moves)
+            ∙ sym (ap log_by (append-nil moves));
+        some = λ yes. absurd (let both : false ≡ true = yes in cc);
+      })
+  with_records tail (r ∷ rs) some it =
+      let silent : Move = record { site = site; did = Silent tail.inputs tail.records } in
+      let longer : length read ≡ length (log_by moves) + suc (length rs) =
+      ap length (it.log_is ∙ log_push moves silent ∙ ap (λ (l : List Record). log_by moves ++ l) some) ∙ length-append (log_by moves) (r ∷ rs) in
+      let yes : nat_lt logged (length read) ≡ true = lt-ltb logged (length read) (omega (arith, longer, counts, few)) in
+      subst (λ (k : Bool). Found moves site (Some tail) bodies read k) (sym yes) it
+
+  -- what is kept is told by how much was read
+  pub told_by_count : (tail : Option Tail) (kept : Bool) → Found moves site tail bodies read kept → Found moves site tail bodies read (nat_lt logged (length read))
+  told_by_count tail false it = quiet tail it
+  told_by_count None true it = absurd (it.some refl refl)
+  told_by_count (Some tail) true it = with_records tail tail.records refl it
 
 -- the records of a rise are those of the site's in this scenario
 pub rise_by : (sc : Scenario) (wish : Wish) (inc : ℕ) (read : List Record) → wish.weights ≡ sc.weights → wish.rows ≡ rows_at wish.site sc.rows →
@@ -89,37 +117,29 @@ rise_by sc wish inc (r ∷ rs) weights rows = refl
 
 -- what is known of a rise that is ready, over a disk that stands
 record Gathered (sc : Scenario) (h : List Entry) (wish : Wish) (bodies : List (List ℕ)) (ready : Readied) (read : List Record) : Type 0 where
-  bodies_are : bodies ≡ bodies_of_moves (moves_with sc h wish.site ready.kept)
-  read_is : read ≡ log_by (moves_with sc h wish.site ready.kept)
+  what : Found (moves_of sc h wish.site) wish.site (open_tail sc h wish.site) bodies read ready.kept
   records_are : ready.records ≡ rise_records sc wish.site ready.inc (log_by (moves_with sc h wish.site ready.kept))
   allowed : IsRise sc h wish.site ready.kept ready.inc
 
 gathered : (sc : Scenario) (h : List Entry) (wish : Wish) (bodies : List (List ℕ)) (ready : Readied) (bytes : List ℕ) → MayRise sc h wish →
-    (is : IsReady wish bodies ready) → ReadsWith (bodies_at sc h wish.site) (open_tail sc h wish.site) bytes → Reads bodies bytes →
+    (is : IsReady wish bodies ready) → ReadsWith wish.site (moves_of sc h wish.site) (open_tail sc h wish.site) bytes → Reads bodies bytes →
     Gathered sc h wish bodies ready is.read
-gathered sc h wish bodies ready bytes may is stands reads = record {
-  bodies_are = what.are;
-  read_is = read_is;
-  records_are = is.records_are ∙ rise_by sc wish ready.inc is.read may.weights_are may.rows_are ∙ ap (rise_records sc wish.site ready.inc) read_is;
+gathered sc h wish bodies ready bytes may is holds reads = record {
+  what = what;
+  records_are = is.records_are ∙ rise_by sc wish ready.inc is.read may.weights_are may.rows_are ∙ ap (rise_records sc wish.site ready.inc) what.log_is;
   allowed = record {
     rising = may.rising;
     has_tail = what.some;
-    next = is.inc_is ∙ ap (λ (l : List Record). suc (logged_inc l)) (read_is ∙ with_log sc h wish.site ready.kept);
+    next = is.inc_is ∙ ap (λ (l : List Record). suc (logged_inc l)) (what.log_is ∙ with_log sc h wish.site ready.kept);
   };
 }
   where
-    kept_is : nat_lt (length (bodies_at sc h wish.site)) (length bodies) ≡ ready.kept
-    kept_is = ap (λ (n : ℕ). nat_lt n (length bodies)) (sym may.frames_are) ∙ sym is.kept_is
-
-    what : Found (moves_of sc h wish.site) wish.site (open_tail sc h wish.site) bodies ready.kept
+    what : Found (moves_of sc h wish.site) wish.site (open_tail sc h wish.site) bodies is.read ready.kept
     what =
-        subst (λ (k : Bool). Found (moves_of sc h wish.site) wish.site (open_tail sc h wish.site) bodies k) kept_is
-        (found (moves_of sc h wish.site) wish.site (open_tail sc h wish.site) bodies bytes stands reads)
-
-    read_is : is.read ≡ log_by (moves_with sc h wish.site ready.kept)
-    read_is =
-        one_list wish.site is.read (log_by (moves_with sc h wish.site ready.kept)) is.back (back_with sc h wish.site ready.kept may.back)
-        (sym is.spelled ∙ ap (flat_map (λ body. body)) what.are ∙ spells (moves_with sc h wish.site ready.kept))
+        let some = found wish.site (moves_of sc h wish.site) bodies bytes is.read reads is.back is.spelled holds.0 (open_tail sc h wish.site)
+        (λ k. back_with sc h wish.site k may.back) holds.1 in
+        subst (λ (k : Bool). Found (moves_of sc h wish.site) wish.site (open_tail sc h wish.site) bodies is.read k) (sym is.kept_is)
+        (told_by_count wish.site (moves_of sc h wish.site) bodies is.read wish.logged may.logged_is is.few (open_tail sc h wish.site) some.0 some.1)
 
 -- a rise that is ready has records
 pub ready_some : (wish : Wish) (bodies : List (List ℕ)) (ready : Readied) → IsReady wish bodies ready → ready.records ≢ []
@@ -131,23 +151,23 @@ ready_some wish bodies ready is = λ none. by (born_by wish is.read) (sym is.rec
 
 -- the disk before was read so
 was_read : {D : Type 0} (content : D → List ℕ) (image : D → List ℕ → Type 0) (sc : Scenario) (h : List Entry) (site : ℕ) (kept : Bool)
-    (bodies : List (List ℕ)) (old : LogState D) → bodies ≡ bodies_of_moves (moves_with sc h site kept) → Stands content image bodies old →
-    image old.disk (content old.disk) → IsRead sc h site kept (image old.disk)
-was_read content image sc h site kept bodies old are stands at = record {
+    (bodies : List (List ℕ)) (read : List Record) (old : LogState D) → Found (moves_of sc h site) site (open_tail sc h site) bodies read kept →
+    Stands content image bodies old → image old.disk (content old.disk) → IsRead sc h site kept (image old.disk)
+was_read content image sc h site kept bodies read old what stands at = record {
   bytes = content old.disk;
   at = at;
-  reads = subst (λ (bs : List (List ℕ)). Reads bs (content old.disk)) are stands.disk.reads;
+  reads = record { lists = what.lists; hold = what.hold; reads = subst (λ (bs : List (List ℕ)). Reads bs (content old.disk)) what.are stands.disk.reads };
 }
 
 -- the frame of a rise was added: the site is up
 pub raised : {D : Type 0} (content : D → List ℕ) (image : D → List ℕ → Type 0) (meters : D → Meters) (sc : Scenario) (h : List Entry)
     (wish : Wish) (bodies : List (List ℕ)) (ready : Readied) (old new : LogState D) → MayRise sc h wish → IsReady wish bodies ready →
-    Stands content image bodies old → DiskStands sc h wish.site (image old.disk) → image old.disk (content old.disk) →
-    ((moves : List Move) → Stands content image (bodies_of_moves moves) old → Stands content image (bodies_of_moves moves ++ body_of ready.records) new) →
+    Stands content image bodies old → DiskHolds sc h wish.site (image old.disk) → image old.disk (content old.disk) →
+    ((lists : List (List Record)) → Stands content image (bodies_in lists) old → Stands content image (bodies_in lists ++ body_of ready.records) new) →
     (meters new.disk).powered ≡ true → HasRaised content image meters sc h wish.site old.disk ready.up new ready.kept ready.inc
 raised {D} content image meters sc h wish bodies ready old new may is stands disk at wrote lit = record {
   allowed = all.allowed;
-  read = was_read content image sc h wish.site ready.kept bodies old all.bodies_are stands at;
+  read = was_read content image sc h wish.site ready.kept bodies is.read old all.what stands at;
   up = record {
     up = up_same h e wish.site (self wish.site);
     stands =
@@ -155,9 +175,16 @@ raised {D} content image meters sc h wish bodies ready old new may is stands dis
         let Q : ℕ → Type 0 = λ n. IsRisenWith sc (h ++ e ∷ []) n (is.read ++ ready.records) in
         subst P site_is (is.stands sc (h ++ e ∷ []) legal (subst Q (sym site_is) risen));
     logged =
-        let P : List (List ℕ) → Type 0 = λ bs. Stands content image bs new in
-        let Q : List (List ℕ) → Type 0 = λ bs. Stands content image bs old in
-        subst P (sym bodies_now) (wrote (moves_with sc h wish.site ready.kept) (subst Q all.bodies_are stands));
+        let P : List Move → Type 0 = λ ms. IsLogged content image ms new in
+        subst P (sym moves_now) (record {
+          lists = all.what.lists ++ recorded mine ∷ [];
+          hold = hold_push (moves_with sc h wish.site ready.kept) all.what.lists mine all.what.hold;
+          stands =
+              let Q : List (List ℕ) → Type 0 = λ bs. Stands content image bs old in
+              let R : List Record → Type 0 = λ rs. Stands content image (bodies_in all.what.lists ++ body_of rs) new in
+              let S : List (List ℕ) → Type 0 = λ bs. Stands content image bs new in
+              subst S (sym (bodies_push all.what.lists (recorded mine))) (subst R all.records_are (wrote all.what.lists (subst Q all.what.are stands)));
+        });
     lit = lit;
     inputs = let none : ready.up.inputs ≡ 0 = ap (λ (s : SiteView). s.inputs) is.risen in omega (arith, none);
   };
@@ -182,11 +209,6 @@ raised {D} content image meters sc h wish bodies ready old new may is stands dis
     moves_now : moves_of sc (h ++ e ∷ []) wish.site ≡ moves_with sc h wish.site ready.kept ++ mine ∷ []
     moves_now = rise_moves sc h wish.site ready.kept ready.inc
 
-    bodies_now : bodies_at sc (h ++ e ∷ []) wish.site ≡ bodies_of_moves (moves_with sc h wish.site ready.kept) ++ body_of ready.records
-    bodies_now =
-        ap bodies_of_moves moves_now ∙ bodies_push (moves_with sc h wish.site ready.kept) mine
-        ∙ ap (λ (rs : List Record). bodies_of_moves (moves_with sc h wish.site ready.kept) ++ body_of rs) (sym all.records_are)
-
     risen : IsRisenWith sc (h ++ e ∷ []) wish.site (is.read ++ ready.records)
     risen = record {
       before = moves_with sc h wish.site ready.kept;
@@ -194,7 +216,7 @@ raised {D} content image meters sc h wish bodies ready old new may is stands dis
       records = rise_records sc wish.site ready.inc (log_by (moves_with sc h wish.site ready.kept));
       last = moves_now;
       log_is =
-          ap (λ (l : List Record). l ++ ready.records) all.read_is
+          ap (λ (l : List Record). l ++ ready.records) all.what.log_is
           ∙ ap (λ (l : List Record). log_by (moves_with sc h wish.site ready.kept) ++ l) all.records_are
           ∙ sym (ap log_by moves_now ∙ log_push (moves_with sc h wish.site ready.kept) mine);
     }
@@ -202,25 +224,27 @@ raised {D} content image meters sc h wish bodies ready old new may is stands dis
 -- the frame of a rise was not added, or may not have been
 pub not_raised : {D : Type 0} (content : D → List ℕ) (image : D → List ℕ → Type 0) (meters : D → Meters) (sc : Scenario) (h : List Entry)
     (wish : Wish) (bodies : List (List ℕ)) (ready : Readied) (old new : LogState D) (why : Why) → MayRise sc h wish → IsReady wish bodies ready →
-    Stands content image bodies old → DiskStands sc h wish.site (image old.disk) → image old.disk (content old.disk) →
-    ((moves : List Move) (inputs : List Input) → Stands content image (bodies_of_moves moves) old →
-    (bytes : List ℕ) → image new.disk bytes → ReadsWith (bodies_of_moves moves) (left_by why inputs ready.records) bytes) →
-    ((moves : List Move) → Stands content image (bodies_of_moves moves) old →
+    Stands content image bodies old → DiskHolds sc h wish.site (image old.disk) → image old.disk (content old.disk) →
+    ((lists : List (List Record)) → Stands content image (bodies_in lists) old →
+    (bytes : List ℕ) → image new.disk bytes → ReadsAfter lists why ready.records bytes) →
+    ((moves : List Move) (lists : List (List Record)) → Hold moves lists → Stands content image (bodies_in lists) old →
     IsReason why (log_size moves) ready.records (meters old.disk) (meters new.disk)) →
     HasNotRaised image meters sc h wish.site old.disk new.disk ready.kept ready.inc why
 not_raised {D} content image meters sc h wish bodies ready old new why may is stands disk at images reason = record {
   allowed = all.allowed;
-  read = was_read content image sc h wish.site ready.kept bodies old all.bodies_are stands at;
+  read = was_read content image sc h wish.site ready.kept bodies is.read old all.what stands at;
   stands = λ bytes there.
-      let P : List Record → Type 0 = λ rs. ReadsWith (bodies_of_moves moves) (left_by why [] rs) bytes in
-      let Q : List Move → Type 0 = λ ms. ReadsWith (bodies_of_moves ms) (left_by why [] mine) bytes in
-      let R : Option Tail → Type 0 = λ t. ReadsWith (bodies_at sc (h ++ e ∷ []) wish.site) t bytes in
+      let P : List Record → Type 0 = λ rs. ReadsWith wish.site moves (left_by why [] rs) bytes in
+      let Q : List Move → Type 0 = λ ms. ReadsWith wish.site ms (left_by why [] mine) bytes in
+      let R : Option Tail → Type 0 = λ t. ReadsWith wish.site (moves_of sc (h ++ e ∷ []) wish.site) t bytes in
       subst R (sym (rise_fall_tail sc h wish.site ready.kept ready.inc why))
       (subst Q (sym (rise_fall_moves sc h wish.site ready.kept ready.inc why))
-      (subst P all.records_are (images moves [] stands_there bytes there)));
+      (subst P all.records_are
+      (left_reads wish.site moves all.what.lists why [] ready.records bytes all.what.hold (images all.what.lists stands_there bytes there))));
   back = back_not_risen sc h wish.site ready.kept ready.inc why ready.records may.back all.records_are is.fits;
   reason =
-      subst (λ (rs : List Record). IsReason why (log_size moves) rs (meters old.disk) (meters new.disk)) all.records_are (reason moves stands_there);
+      subst (λ (rs : List Record). IsReason why (log_size moves) rs (meters old.disk) (meters new.disk)) all.records_are
+      (reason moves all.what.lists all.what.hold stands_there);
 }
   where
     e : Entry
@@ -235,8 +259,8 @@ not_raised {D} content image meters sc h wish bodies ready old new why may is st
     all : Gathered sc h wish bodies ready is.read
     all = gathered sc h wish bodies ready (content old.disk) may is (disk (content old.disk) at) stands.disk.reads
 
-    stands_there : Stands content image (bodies_of_moves moves) old
-    stands_there = subst (λ (bs : List (List ℕ)). Stands content image bs old) all.bodies_are stands
+    stands_there : Stands content image (bodies_in all.what.lists) old
+    stands_there = subst (λ (bs : List (List ℕ)). Stands content image bs old) all.what.are stands
 
 -- what was read of a disk was read of what it came from
 read_since : {D : Type 0} (image : D → List ℕ → Type 0) (sc : Scenario) (h : List Entry) (site : ℕ) (kept : Bool) (old mid : D) →
@@ -280,5 +304,14 @@ makes_since content image meters sc h site old mid (Down new) Foreign within kee
 
 -- a disk whose images are some of another's stands where that does
 pub disk_within : {D : Type 0} (image : D → List ℕ → Type 0) (sc : Scenario) (h : List Entry) (site : ℕ) (old new : D) →
-    Within (image old) (image new) → DiskStands sc h site (image old) → DiskStands sc h site (image new)
+    Within (image old) (image new) → DiskHolds sc h site (image old) → DiskHolds sc h site (image new)
 disk_within image sc h site old new within stands = λ bytes at. stands bytes (within bytes at)
+
+-- what a log that could not be opened makes of a rise, where the disk is not damaged
+pub not_opened : {D : Type 0} (content : D → List ℕ) (image : D → List ℕ → Type 0) (meters : D → Meters) (sc : Scenario) (h : List Entry)
+    (site : ℕ) (old new : D) (cause : OpenCause) → Within (image old) (image new) → DiskHolds sc h site (image old) →
+    (cause ≡ causes.Failed → RoseBy (meters old).faults (meters new).faults) → ((at : ℕ) → cause ≡ causes.Damaged at → ⊥) →
+    RiseMakes content image meters sc h site old (Down new) (raised_of cause)
+not_opened content image meters sc h site old new causes.Failed within holds rose sound = (disk_within image sc h site old new within holds, rose refl)
+not_opened content image meters sc h site old new (causes.Damaged at) within holds rose sound = absurd (sound at refl)
+not_opened content image meters sc h site old new causes.NoMemory within holds rose sound = disk_within image sc h site old new within holds

@@ -2,17 +2,21 @@
 use Rattle.std.proofs.Common.{◌≡◌, ◌≢◌, ◌++◌, ◌∷◌, [], ◌≤◌, ℕ, suc, true, false, List, length, refl, sym, subst, ap, ◌∙◌, append-nil, map, arith}
 use Rattle.std.specs.Prelude.{◌+◌, if◌then◌else◌, Bool, Option, Result, Ok, Err, IfOk, filter, nat_lt}
 use Rattle.std.proofs.Common.{length-append}
+use Rattle.std.specs.List.{AllByRecursion as Each}
 use Rattle.std.proofs.lemmas.List.Elements.{filter-append}
 use Rattle.e3_codec.specs.Fields.{AllCanBeReadBack}
 use Rattle.e3_disk.specs.Images.{Within}
 use Rattle.e3_disk.specs.Meters.{Meters}
 use Rattle.e3_log.specs.Stands.{LogState, Stands}
 use Rattle.e3_law_local.specs.Others.{Allows, numbered_on}
-use Rattle.e3_node.specs.Bodies.{AllReadBack, DiskStands, ReadsWith, bodies_at, bodies_of_moves, body_of, tail_records}
+use Rattle.e3_node.specs.Bodies.{AllReadBack, DiskHolds, IsLogged, ReadsAfter, ReadsWith, bodies_in, body_of, tail_records}
+use Rattle.e3_node.specs.Counting.{count_of}
 use Rattle.e3_node.specs.Drafts.{IsDraft}
 use Rattle.e3_node.specs.Ends.{FellOver, is_fall}
 use Rattle.e3_node.specs.NodeStands.{IsDown, IsIn, IsUp, NodeStands, is_step, steps_at}
 use Rattle.e3_node.specs.NodeView.{NodeView, disk_of, is_up_in}
+use Rattle.e3_node.specs.Telling.{IsOwn}
+use Rattle.e3_node.specs.declared.counting.Count.{Count}
 use Rattle.e3_node.specs.declared.drafts.Draft.{Draft}
 use Rattle.e3_node.specs.declared.fault.InputFault.{InputFault}
 use Rattle.e3_node.specs.declared.fault.InputFault.TheVariants as input_fault
@@ -33,7 +37,7 @@ use Rattle.e3_world.specs.Items.{is_up_at}
 use Rattle.e3_world.specs.Legal.{Guard, IsDue, entry_of, made_by, numbered}
 use Rattle.e3_world.specs.Packets.{sent}
 use Rattle.e3_world.specs.declared.lives.SiteStep.{SiteStep}
-use Rattle.e3_world.specs.Moves.{Move, Past, Tail, left_by, log_by, log_of, moves_of, open_tail, own, plain, plain_input}
+use Rattle.e3_world.specs.Moves.{Move, Past, Tail, left_by, log_by, log_of, moves_of, open_tail, own, plain, plain_input, recorded}
 use Rattle.e3_world.specs.Sound.{step_move}
 use Rattle.e3_world.proofs.Guards.{guard_step}
 use Rattle.e3_world.proofs.Numbers.{entered_move}
@@ -41,7 +45,8 @@ use Rattle.e3_world.proofs.Pushes.{log_push}
 use Rattle.e3_world.proofs.Readings.{own_same, up_same}
 use Rattle.e3_world.proofs.Turns.{self}
 use Rattle.e3_node.proofs.Guarding.{fall_guard, step_entry}
-use Rattle.e3_node.proofs.Frames.{bodies_push}
+use Rattle.e3_node.proofs.Appends.{left_reads}
+use Rattle.e3_node.proofs.Frames.{bodies_push, hold_push}
 use Rattle.e3_node.proofs.Keeping.{disk_in}
 use Rattle.e3_node.proofs.Pasts.{all_both, back_left, past_on}
 
@@ -56,24 +61,32 @@ step_moves sc h site i =
     ap (λ (p : Past). p.moves) (past_on sc h site (entry_of sc h site i) refl)
     ∙ ap (λ (ms : List Move). moves_of sc h site ++ ms) (entered_move sc h site i)
 
-pub step_bodies : (sc : Scenario) (h : List Entry) (site : ℕ) (i : Input) →
-    bodies_at sc (h ++ entry_of sc h site i ∷ []) site ≡ bodies_at sc h site ++ body_of (made_by sc h site i).records
-step_bodies sc h site i =
-    ap bodies_of_moves (step_moves sc h site i) ∙ bodies_push (moves_of sc h site) (step_move sc site (moves_of sc h site) i)
+-- the log behind a step, whose frame was written
+pub step_logged : {D : Type 0} (content : D → List ℕ) (image : D → List ℕ → Type 0) (sc : Scenario) (h : List Entry) (site : ℕ) (i : Input)
+    (old new : LogState D) → (was : IsLogged content image (moves_of sc h site) old) →
+    ((lists : List (List Record)) → Stands content image (bodies_in lists) old → Stands content image (bodies_in lists ++ body_of (made_by sc h site i).records) new) →
+    IsLogged content image (moves_of sc (h ++ entry_of sc h site i ∷ []) site) new
+step_logged content image sc h site i old new was wrote =
+    let m : Move = step_move sc site (moves_of sc h site) i in
+    let P : List Move → Type 0 = λ ms. IsLogged content image ms new in
+    let Q : List (List ℕ) → Type 0 = λ bs. Stands content image bs new in
+    subst P (sym (step_moves sc h site i)) (record {
+      lists = was.lists ++ recorded m ∷ [];
+      hold = hold_push (moves_of sc h site) was.lists m was.hold;
+      stands = subst Q (sym (bodies_push was.lists (recorded m))) (wrote was.lists was.stands);
+    })
 
 -- a site that made the planned step
 pub stepped_up : {D : Type 0} (content : D → List ℕ) (image : D → List ℕ → Type 0) (meters : D → Meters)
     (sc : Scenario) (h : List Entry) (site : ℕ) (i : Input) (s : SiteView) (l : LogState D) → is_up_at h site ≡ true →
     StandsFor sc (h ++ entry_of sc h site i ∷ []) site s →
-    Stands content image (bodies_at sc h site ++ body_of (made_by sc h site i).records) l → (meters l.disk).powered ≡ true →
+    IsLogged content image (moves_of sc (h ++ entry_of sc h site i ∷ []) site) l → (meters l.disk).powered ≡ true →
     s.inputs ≤ steps_at (h ++ entry_of sc h site i ∷ []) site →
     IsUp content image meters sc (h ++ entry_of sc h site i ∷ []) site s l
 stepped_up content image meters sc h site i s l up stands logged lit few = record {
   up = up_same h (entry_of sc h site i) site (self site) ∙ up;
   stands = stands;
-  logged =
-      let P : List (List ℕ) → Type 0 = λ bodies. Stands content image bodies l in
-      subst P (sym (step_bodies sc h site i)) logged;
+  logged = logged;
   lit = lit;
   inputs = few;
 }
@@ -117,9 +130,9 @@ pub record IsMade (sc : Scenario) (h : List Entry) (site : ℕ) (i : Input) (d :
   pub told_is : d.told ≡ (made_by sc h site i).told
   pub inputs_are : d.inputs ≡ i ∷ []
   pub fallen_are : d.fallen ≡ (made_by sc h site i).records
-  pub back : AllCanBeReadBack site (made_by sc h site i).records
+  pub back : Each (IsOwn site) (made_by sc h site i).records → AllCanBeReadBack site (made_by sc h site i).records
 
-pub draft_made : (sc : Scenario) (h : List Entry) (site : ℕ) (s : SiteView) (i : Input) (d : Draft) → StandsFor sc h site s → IsDraft s.site (plan_of s i) i d →
+pub draft_made : (sc : Scenario) (h : List Entry) (site : ℕ) (s : SiteView) (i : Input) (d : Draft) → StandsFor sc h site s → IsDraft (plan_of s i) i d →
     IsMade sc h site i d
 draft_made sc h site s i d stands is = record {
   records_are = is.records_are ∙ ap (λ (p : SiteStep). p.records) (plan_made sc h site s i stands);
@@ -128,16 +141,14 @@ draft_made sc h site s i d stands is = record {
   inputs_are = is.inputs_are;
   fallen_are = is.fallen_are ∙ ap (λ (p : SiteStep). p.records) (plan_made sc h site s i stands);
   back =
-      let P : ℕ → Type 0 = λ n. AllCanBeReadBack n (made_by sc h site i).records in
-      subst P stands.site_is
-      (subst (λ (p : SiteStep). AllCanBeReadBack s.site p.records) (plan_made sc h site s i stands) is.back);
+      subst (λ (p : SiteStep). Each (IsOwn site) p.records → AllCanBeReadBack site p.records) (plan_made sc h site s i stands) (is.back site);
 }
 
 -- a plan that a draft has is the site's
-pub plan_own : (r : Result Draft NoMemory) (site : ℕ) (plan : SiteStep) (i : Input) (s : SiteView) → IfOk r (IsDraft site plan i) → IsPlanOf plan s →
+pub plan_own : (r : Result Draft NoMemory) (plan : SiteStep) (i : Input) (s : SiteView) → IfOk r (IsDraft plan i) → IsPlanOf plan s →
     IfOk r (λ d. IsPlanOf d.plan s)
-plan_own (Ok d) site plan i s is own = subst (λ (p : SiteStep). IsPlanOf p s) (sym is.plan_is) own
-plan_own (Err none) site plan i s is own = tt
+plan_own (Ok d) plan i s is own = subst (λ (p : SiteStep). IsPlanOf p s) (sym is.plan_is) own
+plan_own (Err none) plan i s is own = tt
 
 -- the entries of a draft
 pub draft_step : (sc : Scenario) (h : List Entry) (site : ℕ) (i : Input) (d : Draft) → IsMade sc h site i d →
@@ -176,17 +187,21 @@ pub fall_entered : (sc : Scenario) (h more : List Entry) (site : ℕ) (i : Input
 fall_entered sc h more site i d why made is = is ∙ ap (λ (x : Entry). h ++ x ∷ []) (draft_fall sc h site i d why made)
 
 -- the disk of a site that fell
-pub fallen_disk : (sc : Scenario) (h : List Entry) (site : ℕ) (i : Input) (why : Why) (image : List ℕ → Type 0) →
-    ((bytes : List ℕ) → image bytes → ReadsWith (bodies_at sc h site) (left_by why (map plain_input (i ∷ [])) (made_by sc h site i).records) bytes) →
-    DiskStands sc (h ++ fall_of sc h site i why ∷ []) site image
-fallen_disk sc h site i why image reads = λ bytes at.
-    let P : Past → Type 0 = λ p. ReadsWith (bodies_of_moves p.moves) p.tail bytes in
-    let Q : List Move → Type 0 = λ ms. ReadsWith (bodies_of_moves ms) (left_by why (map plain_input (i ∷ [])) (made_by sc h site i).records) bytes in
-    subst P (sym (past_on sc h site (fall_of sc h site i why) refl)) (subst Q (sym (append-nil (moves_of sc h site))) (reads bytes at))
+pub fallen_disk : {D : Type 0} (content : D → List ℕ) (image : D → List ℕ → Type 0) (sc : Scenario) (h : List Entry) (site : ℕ) (i : Input) (why : Why)
+    (old new : LogState D) → IsLogged content image (moves_of sc h site) old →
+    ((lists : List (List Record)) → Stands content image (bodies_in lists) old →
+    (bytes : List ℕ) → image new.disk bytes → ReadsAfter lists why (made_by sc h site i).records bytes) →
+    DiskHolds sc (h ++ fall_of sc h site i why ∷ []) site (image new.disk)
+fallen_disk content image sc h site i why old new was reads = λ bytes at.
+    let inputs : List Input = map plain_input (i ∷ []) in
+    let P : Past → Type 0 = λ p. ReadsWith site p.moves p.tail bytes in
+    let Q : List Move → Type 0 = λ ms. ReadsWith site ms (left_by why inputs (made_by sc h site i).records) bytes in
+    subst P (sym (past_on sc h site (fall_of sc h site i why) refl)) (subst Q (sym (append-nil (moves_of sc h site)))
+    (left_reads site (moves_of sc h site) was.lists why inputs (made_by sc h site i).records bytes was.hold (reads was.lists was.stands bytes at)))
 
 pub fallen_down : {D : Type 0} (image : D → List ℕ → Type 0)
     (sc : Scenario) (h : List Entry) (site : ℕ) (i : Input) (why : Why) (disk : D) →
-    DiskStands sc (h ++ fall_of sc h site i why ∷ []) site (image disk) → IsDown image sc (h ++ fall_of sc h site i why ∷ []) site disk
+    DiskHolds sc (h ++ fall_of sc h site i why ∷ []) site (image disk) → IsDown image sc (h ++ fall_of sc h site i why ∷ []) site disk
 fallen_down image sc h site i why disk stands = record {
   down = up_same h (fall_of sc h site i why) site (self site);
   stands = stands;
@@ -236,11 +251,11 @@ still content image meters sc h more site mid new kept same =
 pub input_in : {D : Type 0} (content : D → List ℕ) (image : D → List ℕ → Type 0) (meters : D → Meters)
     (sc : Scenario) (h more : List Entry) (site : ℕ) (i : Input) (fault : InputFault) (mid new : State D) →
     (is_fall fault ≡ false → (more ≡ h) × IsIn content image meters sc h site mid) →
-    ((why : Why) → fault ≡ input_fault.Fell why → FellOver sc h site i why more × DiskStands sc more site (image (disk_of mid))) →
+    ((why : Why) → fault ≡ input_fault.Fell why → FellOver sc h site i why more × DiskHolds sc more site (image (disk_of mid))) →
     (is_fall fault ≡ true → new ≡ Down (disk_of mid)) → (is_fall fault ≡ false → new ≡ mid) → IsIn content image meters sc more site new
 input_in content image meters sc h more site i (input_fault.Fell why) mid new kept fell down same =
     let f = fell why refl in
-    let P : List Entry → Type 0 = λ l. DiskStands sc l site (image (disk_of mid)) in
+    let P : List Entry → Type 0 = λ l. DiskHolds sc l site (image (disk_of mid)) in
     subst (λ (s : State _). IsIn content image meters sc more site s) (sym (down refl))
     (subst (λ (l : List Entry). IsIn content image meters sc l site (Down (disk_of mid))) (sym f.0.entered)
     (fallen_down image sc h site i why (disk_of mid) (subst P f.0.entered f.1)))
@@ -249,9 +264,10 @@ input_in content image meters sc h more site i input_fault.HistoryFull mid new k
 input_in content image meters sc h more site i input_fault.NoMemory mid new kept fell down same = still content image meters sc h more site mid new (kept refl) (same refl)
 
 pub node_with : {D : Type 0} (content : D → List ℕ) (image : D → List ℕ → Type 0) (meters : D → Meters) (sc now : Scenario) (h more : List Entry)
-    (old new : NodeView D) (state : State D) → NodeStands content image meters sc h old → now ≡ sc → IsIn content image meters sc more old.site state → AllReadBack sc more old.site →
-    new ≡ record { site = old.site; weights = old.weights; rows = old.rows; state = state } → NodeStands content image meters now more new
-node_with content image meters sc now h more old new state was same is back now_is =
+    (old new : NodeView D) (state : State D) (count : Count) → NodeStands content image meters sc h old → now ≡ sc → IsIn content image meters sc more old.site state →
+    AllReadBack sc more old.site → count ≡ count_of old.site more →
+    new ≡ record { site = old.site; weights = old.weights; rows = old.rows; count = count; state = state } → NodeStands content image meters now more new
+node_with content image meters sc now h more old new state count was same is back counts now_is =
     subst (λ (s : Scenario). NodeStands content image meters s more new) (sym same)
     (subst (λ (n : NodeView _). NodeStands content image meters sc more n) (sym now_is) (record {
       some = was.some;
@@ -259,6 +275,7 @@ node_with content image meters sc now h more old new state was same is back now_
       weights_are = was.weights_are;
       rows_are = was.rows_are;
       state = is;
+      count_is = counts;
       back = back;
     }))
 
@@ -271,7 +288,7 @@ cut_in content image meters sc h site old (Down disk) was down within = record {
   down = up_same h (record { owner = site; act = Cut }) site (self site);
   stands = λ bytes at.
       let stands = disk_in content image meters sc h site old was bytes (within bytes at) in
-      let P : Past → Type 0 = λ p. ReadsWith (bodies_of_moves p.moves) p.tail bytes in
-      let Q : List Move → Type 0 = λ ms. ReadsWith (bodies_of_moves ms) (open_tail sc h site) bytes in
+      let P : Past → Type 0 = λ p. ReadsWith site p.moves p.tail bytes in
+      let Q : List Move → Type 0 = λ ms. ReadsWith site ms (open_tail sc h site) bytes in
       subst P (sym (past_on sc h site (record { owner = site; act = Cut }) refl)) (subst Q (sym (append-nil (moves_of sc h site))) stands);
 }

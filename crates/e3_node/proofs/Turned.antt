@@ -2,7 +2,7 @@
 use Rattle.std.proofs.Common.{◌≡◌, ℕ, true, false, List, Err, refl, sym, subst, ap}
 use Rattle.std.specs.Prelude.{IsErrAnd, Ok, Result}
 use Rattle.e3_disk.specs.Meters.{Meters}
-use Rattle.e3_node.specs.Bodies.{AllReadBack, DiskStands}
+use Rattle.e3_node.specs.Bodies.{AllReadBack, DiskHolds}
 use Rattle.e3_node.specs.Ends.{FellOver, input_fault_of, is_fall}
 use Rattle.e3_node.specs.NodeStands.{IsIn}
 use Rattle.e3_node.specs.NodeView.{disk_of}
@@ -41,7 +41,7 @@ module _ {D : Type 0} (content : D → List ℕ) (image : D → List ℕ → Typ
   pub in_told : (fault : InputFault) (new : State D) → EndsSo content image meters sc before more site i old mid (Err fault) →
       (is_fall fault ≡ true → new ≡ Down (disk_of mid)) → (is_fall fault ≡ false → new ≡ mid) → IsIn content image meters sc more site new × AllReadBack sc more site
   in_told (input_fault.Fell why) new ended down same =
-      let P : List Entry → Type 0 = λ l. DiskStands sc l site (image (disk_of mid)) in (
+      let P : List Entry → Type 0 = λ l. DiskHolds sc l site (image (disk_of mid)) in (
         subst (λ (s : State _). IsIn content image meters sc more site s) (sym (down refl))
             (subst (λ (l : List Entry). IsIn content image meters sc l site (Down (disk_of mid))) (sym ended.fell.entered)
             (fallen_down image sc ended.now site i why (disk_of mid) (subst P ended.fell.entered ended.stands))),

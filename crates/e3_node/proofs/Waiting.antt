@@ -1,5 +1,5 @@
 -- What a site's claim and entry made of what was seen, while others went on.
-use Rattle.std.proofs.Common.{◌≡◌, ◌≢◌, ◌==◌, ◌≤◌, ◌<◌, ◌++◌, ◌∷◌, [], ◌+◌, ℕ, zero, suc, true, false, List, length, refl, sym, subst, ap, ◌∙◌, append-nil, append_assoc, arith, eq-eqb}
+use Rattle.std.proofs.Common.{◌≡◌, ◌≤◌, ◌<◌, ◌++◌, ◌∷◌, [], ◌+◌, ℕ, zero, suc, false, List, length, refl, sym, subst, ap, ◌∙◌, append-nil, append_assoc, arith}
 use Rattle.atomic_table.specs.Seated.{TableId}
 use Rattle.e3_disk.specs.Meters.{Meters}
 use Rattle.e3_law_local.specs.Least.{AreOfSites}
@@ -38,15 +38,9 @@ use Rattle.e3_world.specs.Items.{inputs_of}
 use Rattle.e3_world.specs.Legal.{IsLegal}
 use Rattle.e3_world.specs.Moves.{moves_of}
 use Rattle.e3_world.specs.Packets.{is_calm, lines, outs_of, present_items, step_items}
+use Rattle.e3_node.proofs.Apart.{one_more, other_one}
 use Rattle.e3_node.proofs.Keeping.{back_kept, in_kept, moves_kept, node_kept}
 use Rattle.e3_node.proofs.Steps.{room_same}
-
--- one entry more of others
-other_one : (site : ℕ) (e : Entry) → (e.owner == site) ≡ false → e.owner ≢ site
-other_one site e apart same = let yes : (e.owner == site) ≡ true = eq-eqb e.owner site same in let no : true ≡ false = sym yes ∙ apart in cc
-
-one_more : (h more : List Entry) (e : Entry) → (h ++ e ∷ []) ++ more ≡ h ++ e ∷ more
-one_more h more e = append_assoc h (e ∷ []) more
 
 pub moves_stay : MovesStay
 moves_stay sc site h [] others = ap (λ (l : List Entry). moves_of sc l site) (append-nil h)

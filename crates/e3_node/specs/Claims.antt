@@ -1,13 +1,11 @@
 -- What entries of others leave, and what a node that stands tells of its disk.
 use Rattle.std.specs.Prelude.{◌≡◌, ◌≢◌, ◌++◌, ◌∷◌, [], ℕ, List}
-use Rattle.std.specs.List.{flat_map}
 use Rattle.e3_disk.specs.Meters.{Meters}
 use Rattle.e3_law_local.specs.Others.{AreOthers}
-use Rattle.e3_node.specs.Bodies.{DiskStands, bodies_of_moves}
+use Rattle.e3_node.specs.Bodies.{DiskStands}
 use Rattle.e3_node.specs.NodeStands.{NodeStands}
 use Rattle.e3_node.specs.NodeView.{NodeView, disk_of, is_up_in}
 use Rattle.e3_turn.specs.Passes.{GrewByOthers, Owns, seen_by}
-use Rattle.e3_types.specs.Spelling.{spelling}
 use Rattle.e3_types.specs.declared.entries.Entry.{Entry}
 use Rattle.e3_types.specs.declared.scenarios.Scenario.{Scenario}
 use Rattle.e3_wire.specs.Claims.{APass}
@@ -15,7 +13,7 @@ use Rattle.e3_wire.specs.Marks.{belongs, entries_of, scenario_of}
 use Rattle.e3_wire.specs.Wires.{IsPlayed}
 use Rattle.e3_wire.specs.declared.marks.Mark.{Mark}
 use Rattle.e3_world.specs.Items.{is_up_at}
-use Rattle.e3_world.specs.Moves.{Move, log_by, moves_of}
+use Rattle.e3_world.specs.Moves.{moves_of}
 
 -- a node that stands for a history stands for it with an entry of another owner
 abbrev pub NodesKept : {D : Type 0} → (D → List ℕ) → (D → List ℕ → Type 0) → (D → Meters) → Type 0
@@ -57,7 +55,3 @@ abbrev pub NodesUp : {D : Type 0} → (D → List ℕ) → (D → List ℕ → T
 NodesUp {D} content image meters =
     (sc : Scenario) (h : List Entry) (node : NodeView D) → NodeStands content image meters sc h node →
     is_up_in node.state ≡ is_up_at h node.site
-
--- the bodies of a log, one after the other, are the spelling of its records
-abbrev pub BodiesSpellTheLog : Type 0
-BodiesSpellTheLog = (moves : List Move) → flat_map (λ body. body) (bodies_of_moves moves) ≡ spelling (log_by moves)

@@ -24,12 +24,12 @@ use Rattle.e3_world.specs.Legal.{IsRise, made_by}
 use Rattle.e3_world.specs.Moves.{log_by, log_size, rise_records}
 use Rattle.e3_node.specs.Bodies.{IsRead, moves_with}
 
--- The reason is true: the disk's count of faults rose; or the frame of the records, behind a log of this size, passes the
--- disk's capacity, and the numbers are its end, with the closed gate behind it, and that capacity.
+-- The reason is true: the disk's count of faults rose; or the frame of the records passes the disk's capacity, and the numbers
+-- are its end, with the closed gate behind it, and that capacity. The end is no further than a log of this size has it.
 abbrev pub IsReason : Why → ℕ → List Record → Meters → Meters → Type 0
 IsReason Fault size records old new = Rose old.faults new.faults
 IsReason (Full need room) size records old new =
-    (old.capacity < need) × (need ≡ size + 6 + length (spelling records)) × (room ≡ old.capacity)
+    (old.capacity < need) × (need ≤ size + 6 + length (spelling records)) × (room ≡ old.capacity)
 
 -- what a frame that was not added is the reason of
 abbrev pub why_of : AppendFault → Why

@@ -6,5 +6,6 @@ pub mod SharedStands
 pub mod Ends
 pub mod Claims
 pub mod Rising
+pub mod Telling
 pub mod Drafts
 pub mod Turns

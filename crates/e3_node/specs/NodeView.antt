@@ -1,14 +1,17 @@
 -- A node as contracts see it.
 use Rattle.std.specs.Prelude.{ℕ, Bool, true, false, List}
+use Rattle.e3_node.specs.declared.counting.Count.{Count}
 use Rattle.e3_node.specs.declared.state.State.{State}
 use Rattle.e3_node.specs.declared.state.State.TheVariants.{Down, Up}
 use Rattle.e3_types.specs.declared.transactions.Row.{Row}
 
--- a node: its site's number, the weights of all sites, the site's first rows, and its disk, with the site where it is up
+-- a node: its site's number, the weights of all sites, the site's first rows, how many records its log has, and its disk, with
+-- the site where it is up
 pub record NodeView (D : Type 0) : Type 0 where
   pub site : ℕ
   pub weights : List ℕ
   pub rows : List Row
+  pub count : Count
   pub state : State D
 
 -- its disk, which is in a log while the site is up

@@ -1,13 +1,13 @@
 -- A rise of a site over its disk.
-use Rattle.std.specs.Prelude.{◌≡◌, ◌⊎◌, ◌≤◌, ◌++◌, ◌∷◌, [], ℕ, Bool, suc, nat_lt, List, Result, Ok, Err, length}
+use Rattle.std.specs.Prelude.{◌≡◌, ◌⊎◌, ◌<◌, ◌≤◌, ◌^◌, ◌++◌, ◌∷◌, [], ℕ, Bool, suc, nat_lt, List, Result, Ok, Err, length}
 use Rattle.std.specs.List.{flat_map}
 use Rattle.e3_codec.specs.Fields.{AllCanBeReadBack}
 use Rattle.e3_codec.specs.Places.{FirstBad}
 use Rattle.e3_disk.specs.Meters.{Meters, Rose as RoseBy}
 use Rattle.e3_log.specs.declared.fault.OpenCause.{OpenCause}
 use Rattle.e3_log.specs.declared.fault.OpenCause.TheVariants as causes
-use Rattle.e3_node.specs.Bodies.{AllReadBack, DiskStands, IsRead, bodies_at, moves_with}
-use Rattle.e3_node.specs.Counting.{frames_in}
+use Rattle.e3_node.specs.Bodies.{AllReadBack, DiskHolds, IsRead, moves_with}
+use Rattle.e3_node.specs.Counting.{counted}
 use Rattle.e3_node.specs.Ends.{IsReason, Takes}
 use Rattle.e3_node.specs.NodeStands.{IsUp}
 use Rattle.e3_node.specs.declared.fault.RiseFault.{RiseFault}
@@ -37,14 +37,14 @@ use Rattle.e3_world.specs.Given.{IsGiven}
 use Rattle.e3_world.specs.Legal.{IsLegal, IsRise, IsRising}
 use Rattle.e3_world.specs.Logs.{logged_inc}
 use Rattle.e3_world.specs.Orderly.{IsOrderly}
-use Rattle.e3_world.specs.Moves.{log_by, log_size, rise_records, rows_at}
+use Rattle.e3_world.specs.Moves.{log_by, log_of, log_size, rise_records, rows_at}
 
--- what a rise takes with it to the disk is this site's, and the frames are those of its log in the history
-pub record IsWish (site : ℕ) (weights : List ℕ) (rows : List Row) (history : List Entry) (wish : Wish) : Type 0 where
+-- what a rise takes with it to the disk is this site's, and its log has so many records
+pub record IsWish (site : ℕ) (weights : List ℕ) (rows : List Row) (logged : ℕ) (wish : Wish) : Type 0 where
   pub site_is : wish.site ≡ site
   pub weights_are : wish.weights ≡ weights
   pub rows_are : wish.rows ≡ rows
-  pub frames_are : wish.frames ≡ frames_in site history
+  pub logged_is : wish.logged ≡ logged
 
 -- the birth, where the log is empty
 abbrev pub born_by : Wish → List Record → List Record
@@ -60,7 +60,8 @@ pub record IsReady (wish : Wish) (bodies : List (List ℕ)) (ready : Readied) : 
   pub read : List Record
   pub back : AllCanBeReadBack wish.site read
   pub spelled : flat_map (λ body. body) bodies ≡ spelling read
-  pub kept_is : ready.kept ≡ nat_lt wish.frames (length bodies)
+  pub few : length read < 2 ^ 64
+  pub kept_is : ready.kept ≡ nat_lt wish.logged (length read)
   pub inc_is : ready.inc ≡ suc (logged_inc read)
   pub records_are : ready.records ≡ records_by wish ready.inc read
   pub body_is : ready.body ≡ spelling ready.records
@@ -90,7 +91,7 @@ pub record IsDisordered (wish : Wish) (bodies : List (List ℕ)) : Type 0 where
 abbrev pub IsForeign : Wish → List (List ℕ) → Type 0
 IsForeign wish bodies = SomeIsBad wish.site bodies ⊎ IsDisordered wish bodies
 
--- In this history the site may rise, it has these weights and first rows and so many frames, and they can be read back.
+-- In this history the site may rise, it has these weights and first rows and so many records, and they can be read back.
 pub record MayRise (sc : Scenario) (history : List Entry) (wish : Wish) : Type 0 where
   pub given : IsGiven sc
   pub legal : IsLegal sc history
@@ -98,7 +99,7 @@ pub record MayRise (sc : Scenario) (history : List Entry) (wish : Wish) : Type 0
   pub some : 1 ≤ wish.site
   pub weights_are : wish.weights ≡ sc.weights
   pub rows_are : wish.rows ≡ rows_at wish.site sc.rows
-  pub frames_are : wish.frames ≡ length (bodies_at sc history wish.site)
+  pub logged_is : wish.logged ≡ counted (length (log_of sc history wish.site))
   pub back : AllReadBack sc history wish.site
 
 -- the entry of a rise, and of a failed one
@@ -121,7 +122,7 @@ pub record HasNotRaised {D : Type 0} (image : D → List ℕ → Type 0) (meters
     (history : List Entry) (site : ℕ) (old new : D) (kept : Bool) (inc : ℕ) (why : Why) : Type 0 where
   pub allowed : IsRise sc history site kept inc
   pub read : IsRead sc history site kept (image old)
-  pub stands : DiskStands sc (history ++ rise_fall_of site kept inc why ∷ []) site (image new)
+  pub stands : DiskHolds sc (history ++ rise_fall_of site kept inc why ∷ []) site (image new)
   pub back : AllReadBack sc (history ++ rise_fall_of site kept inc why ∷ []) site
   pub reason : IsReason why (log_size (moves_with sc history site kept)) (rise_records sc site inc (log_by (moves_with sc history site kept)))
       (meters old) (meters new)
@@ -131,8 +132,8 @@ abbrev pub RiseMakes : {D : Type 0} → (D → List ℕ) → (D → List ℕ →
 RiseMakes content image meters sc history site old (Up s l) (Rose kept inc) = HasRaised content image meters sc history site old s l kept inc
 RiseMakes content image meters sc history site old (Down new) (Failed kept inc why) = HasNotRaised image meters sc history site old new kept inc why
 RiseMakes content image meters sc history site old (Down new) Missed =
-    DiskStands sc history site (image new) × RoseBy (meters old).faults (meters new).faults
-RiseMakes content image meters sc history site old (Down new) NoMemory = DiskStands sc history site (image new)
+    DiskHolds sc history site (image new) × RoseBy (meters old).faults (meters new).faults
+RiseMakes content image meters sc history site old (Down new) NoMemory = DiskHolds sc history site (image new)
 RiseMakes content image meters sc history site old _ _ = ⊥
 
 -- what it takes of an arm, where its frame takes so many calls and what is before it so many

@@ -4,7 +4,7 @@ use Rattle.atomic_table.specs.Seated.{TableId}
 use Rattle.e3_disk.specs.Meters.{Meters}
 use Rattle.e3_law_local.specs.Least.{AreOfSites}
 use Rattle.e3_law_local.specs.Others.{AreOthers}
-use Rattle.e3_node.specs.Bodies.{AllReadBack, DiskStands}
+use Rattle.e3_node.specs.Bodies.{AllReadBack, DiskHolds}
 use Rattle.e3_node.specs.Ends.{FellOver}
 use Rattle.e3_node.specs.NodeStands.{IsIn}
 use Rattle.e3_node.specs.NodeView.{disk_of}
@@ -62,7 +62,7 @@ module _ {D : Type 0} (content : D → List ℕ) (image : D → List ℕ → Typ
     pub now : List Entry
     pub meanwhile : Meanwhile site before now
     pub fell : FellOver sc now site i why more
-    pub stands : DiskStands sc more site (image (disk_of new))
+    pub stands : DiskHolds sc more site (image (disk_of new))
     pub back : AllReadBack sc more site
 
   -- or it did nothing

@@ -1,32 +1,45 @@
-// How many frames the log of a site has in a history.
-ghost use Rattle.std.specs.Prelude.{◌≡◌, ◌+◌, ◌<◌, ◌≤◌, ◌^◌, if◌then◌else◌, length};
-ghost use Rattle.e3_node.specs.Bodies.{body_of};
-ghost use Rattle.e3_node.specs.Counting.{counted_by, counted_on, doubted_by, frames_in};
+// How many records the log of a site has in a history, kept up act by act.
+ghost use Rattle.std.specs.Prelude.{◌≡◌, ◌+◌, if◌then◌else◌};
+ghost use Rattle.e3_node.specs.Counting.{born_on, counted, counted_by, doubted_by, kept_on, no_count};
 
-use e3_types::{Act, Entry, List, Record, Why};
+use e3_types::{Act, Why};
 
-/// How many frames a log has, and how many, at most one, are in doubt behind them.
+/// How many records a log has, and how many are in doubt behind them; both as far as 64 bits count.
 #[derive(Clone, Copy)]
-pub(crate) struct Count {
-    pub frames: u64,
+pub struct Count {
+    pub records: u64,
     pub doubt: u64,
 }
 
-// One frame has some records.
-fn frames_of(records: &List<Record>) -> u64
-    ensures value { result ≡ length (body_of records.now) }
-    ensures one { result ≤ 1 }
+/// Of a site that did nothing.
+pub(crate) fn no_count() -> Count
+    ensures { result ≡ no_count }
 {
-    if records.is_empty() { 0 } else { 1 }
+    Count {
+        records: 0,
+        doubt: 0,
+    }
 }
 
-fn doubted_by(why: &Why, frames: u64) -> u64
-    ensures { result ≡ doubted_by why.now frames }
+fn add(first: u64, second: u64) -> u64
+    ensures { result ≡ counted (first + second) }
+{
+    first.saturating_add(second)
+}
+
+fn doubted_by(why: &Why, records: u64) -> u64
+    ensures { result ≡ doubted_by why.now records }
 {
     match why {
-        Why::Fault => frames,
+        Why::Fault => records,
         Why::Full { .. } => 0,
     }
+}
+
+fn born_on(records: u64) -> u64
+    ensures { result ≡ born_on records }
+{
+    if records == 0 { 2 } else { 1 }
 }
 
 fn kept_of(kept: bool, doubt: u64) -> u64
@@ -35,60 +48,46 @@ fn kept_of(kept: bool, doubt: u64) -> u64
     if kept { doubt } else { 0 }
 }
 
+fn kept_on(was: Count, kept: bool) -> u64
+    ensures { result ≡ kept_on was kept }
+{
+    add(was.records, kept_of(kept, was.doubt))
+}
+
 // The count behind one more act of the site.
 fn counted_by(was: Count, act: &Act) -> Count
-    requires few { was.frames + 2 < 2 ^ 64 }
-    requires one { was.doubt ≤ 1 }
-    ensures value { result ≡ counted_by was act.now }
-    ensures few { result.frames ≤ was.frames + 2 }
-    ensures one { result.doubt ≤ 1 }
+    ensures { result ≡ counted_by was act.now }
 {
     match act {
         Act::Step { records, .. } => Count {
-            frames: was.frames + frames_of(records),
+            records: add(was.records, records.len()),
             doubt: was.doubt,
         },
         Act::Fall { records, why, .. } => Count {
-            frames: was.frames,
-            doubt: doubted_by(why, frames_of(records)),
+            records: was.records,
+            doubt: doubted_by(why, records.len()),
         },
-        Act::Rise { kept, .. } => Count {
-            frames: was.frames + kept_of(*kept, was.doubt) + 1,
-            doubt: 0,
-        },
-        Act::RiseFall { kept, why, .. } => Count {
-            frames: was.frames + kept_of(*kept, was.doubt),
-            doubt: doubted_by(why, 1),
-        },
+        Act::Rise { kept, .. } => {
+            let log = kept_on(was, *kept);
+            Count {
+                records: add(log, born_on(log)),
+                doubt: 0,
+            }
+        }
+        Act::RiseFall { kept, why, .. } => {
+            let log = kept_on(was, *kept);
+            Count {
+                records: log,
+                doubt: doubted_by(why, born_on(log)),
+            }
+        }
         _ => was,
     }
 }
 
-// The count behind one more entry.
-fn counted_on(site: u32, was: Count, e: &Entry) -> Count
-    requires few { was.frames + 2 < 2 ^ 64 }
-    requires one { was.doubt ≤ 1 }
-    ensures value { result ≡ counted_on site was e.now }
-    ensures few { result.frames ≤ was.frames + 2 }
-    ensures one { result.doubt ≤ 1 }
+/// Counts one more act of the site.
+pub(crate) fn count_on(count: &mut Count, act: &Act)
+    ensures { count.new ≡ counted_by count.old act.now }
 {
-    if e.owner == site {
-        counted_by(was, &e.act)
-    } else {
-        was
-    }
-}
-
-/// How many frames the log of a site has. The time grows with the length of the history.
-pub(crate) fn frames_in(site: u32, history: &[Entry]) -> u64
-    ensures { result ≡ frames_in site history.now }
-{
-    let mut count = Count {
-        frames: 0,
-        doubt: 0,
-    };
-    for e in history {
-        count = counted_on(site, count, e);
-    }
-    count.frames
+    *count = counted_by(*count, act);
 }

@@ -22,13 +22,13 @@ pub(crate) struct Draft {
     pub fallen: List<Record>,
 }
 
-fn draft_of(alloc: Global, site: u32, plan: Plan, input: &Input) -> Result<Draft, NoMemory>
-    ensures { IfOk result (IsDraft site plan input.now) }
+fn draft_of(alloc: Global, plan: Plan, input: &Input) -> Result<Draft, NoMemory>
+    ensures { IfOk result (IsDraft plan input.now) }
 {
     let records = copied(alloc, plan.records())?;
     let outs = copied(alloc, plan.outs())?;
     let told = copied(alloc, plan.told())?;
-    let body = spelled(alloc, site, plan.records())?;
+    let body = spelled(alloc, plan.records())?;
     let mut inputs = List::new(alloc);
     inputs.push(input.copy())?;
     let fallen = copied(alloc, plan.records())?;
@@ -45,7 +45,7 @@ fn draft_of(alloc: Global, site: u32, plan: Plan, input: &Input) -> Result<Draft
 
 /// Takes all memory that the step of an input may want at the site, and for its entry.
 pub(crate) fn prepare(alloc: Global, site: &mut Site, input: &Input) -> Result<Draft, NoMemory>
-    ensures draft { IfOk result (IsDraft site.old.site (plan_of site.old input.now) input.now) }
+    ensures draft { IfOk result (IsDraft (plan_of site.old input.now) input.now) }
     ensures own { IfOk result (λ draft. IsPlanOf draft.plan site.new) }
     ensures site { site.new ≡ record site.old { room = site.new.room } }
     ensures site_room { OnOk result (1 ≤ site.new.room) }
@@ -53,5 +53,5 @@ pub(crate) fn prepare(alloc: Global, site: &mut Site, input: &Input) -> Result<D
     site.catch_up()?;
     let plan = site.plan(input)?;
     site.ready(&plan)?;
-    draft_of(alloc, site.site(), plan, input)
+    draft_of(alloc, plan, input)
 }

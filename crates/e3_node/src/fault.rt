@@ -48,7 +48,7 @@ impl From<WireFault> for RiseFault {
 pub enum InputFault {
     /// The site is down.
     Down,
-    /// The history has as many entries as it may have.
+    /// The history has as many entries, with the places that are promised to other workers, as it may have entries.
     HistoryFull,
     /// There was no memory, or the packets would no longer be counted by 64 bits. It may come at any time before the frame
     /// is written.

@@ -1,117 +1,130 @@
 // Records that can be read back from the log of a site.
-ghost use Rattle.std.specs.Prelude.{◌≡◌, true, IfOk, OnOk};
+ghost use Rattle.std.specs.Prelude.{◌≡◌, true, ℕ, IfOk, OnOk};
 ghost use Rattle.std.specs.List.{AllByRecursion};
-ghost use Rattle.e3_codec.specs.Fields.{AllCanBeReadBack, CanBeReadBack, IsShort, ListFits, NumOpFits, OpFits, RowFits, TxnFits};
+ghost use Rattle.e3_codec.specs.Fields.{AllCanBeReadBack, IsShort, RowFits, TxnNumbersFit};
+ghost use Rattle.e3_node.specs.Telling.{IsOwn, IsTold, NumOpTold, OpTold};
 ghost use Rattle.e3_types.specs.Spelling.{spelling};
 ghost use Rattle.e3_types.specs.Text.{IsName, IsValue};
-ghost use Rattle.e3_types.specs.declared.records.Record.TheVariants as log;
 
 use e3_codec::put_records;
-use e3_types::{Key, List, Name, NoMemory, NumOp, Op, Record, Row, Txn, Val};
+use e3_types::{List, Name, NoMemory, NumOp, Op, Record, Row, SiteSet, Txn, Val};
 use std::alloc::Global;
 
-fn fits_txn(t: &Txn) -> bool
-    ensures { result ≡ true → TxnFits t.now }
+// The numbers of a transaction fit, and its sites are those of their bits.
+fn tell_txn(t: &Txn)
+    ensures { TxnNumbersFit t.now }
 {
-    let _bits = t.sites.bits();
-    Txn::new(t.site, t.inc, t.seq, t.sites).is_some()
+    let _txn = t.oldest(&[]);
+    let twin = SiteSet::of_bits(t.sites.bits());
+    let _same = twin.is_same(t.sites);
 }
 
-fn fits_name(name: &Name) -> bool
+fn is_name(name: &Name) -> bool
     ensures { result ≡ true → IsName name.now }
 {
     Name::new(name.bytes()).is_some()
 }
 
-fn fits_val(val: &Val) -> bool
+fn is_val(val: &Val) -> bool
     ensures { result ≡ true → IsValue val.now }
 {
     val.bytes().len() <= 256
 }
 
-fn fits_row(row: &Row) -> bool
+fn is_row(row: &Row) -> bool
     ensures { result ≡ true → RowFits row.now }
 {
-    fits_name(&row.name) && fits_val(&row.val)
+    is_name(&row.name) && is_val(&row.val)
 }
 
-fn fits_op(site: u32, op: &Op) -> bool
-    ensures { result ≡ true → OpFits site op.now }
+fn is_op(op: &Op) -> bool
+    ensures { result ≡ true → OpTold op.now }
 {
     match op {
-        Op::Read(key) => key.site == site && fits_name(&key.name),
-        Op::Write(key, val) => key.site == site && fits_name(&key.name) && fits_val(val),
+        Op::Read(key) => is_name(&key.name),
+        Op::Write(key, val) => is_name(&key.name) && is_val(val),
     }
 }
 
-fn fits_num_op(site: u32, o: &NumOp) -> bool
-    ensures { result ≡ true → NumOpFits site o.now }
+fn is_num_op(o: &NumOp) -> bool
+    ensures { result ≡ true → NumOpTold o.now }
 {
     let _n = o.n;
-    fits_op(site, &o.op)
+    is_op(&o.op)
 }
 
-fn fit_rows(rows: &[Row]) -> bool
-    ensures { result ≡ true → ListFits RowFits rows.now }
+fn tell_weights(weights: &[u32])
+    ensures { AllByRecursion IsShort weights.now }
 {
-    rows.len() <= 4294967295 && rows.iter().all(|row| fits_row(row))
+    let _weights = weights;
 }
 
-fn fit_weights(weights: &[u32]) -> bool
-    ensures { result ≡ true → ListFits IsShort weights.now }
+fn are_rows(rows: &[Row]) -> bool
+    ensures { result ≡ true → AllByRecursion RowFits rows.now }
 {
-    weights.len() <= 4294967295
+    rows.iter().all(|row| is_row(row))
 }
 
-fn fit_ops(site: u32, ops: &[NumOp]) -> bool
-    ensures { result ≡ true → ListFits (NumOpFits site) ops.now }
+fn are_ops(ops: &[NumOp]) -> bool
+    ensures { result ≡ true → AllByRecursion NumOpTold ops.now }
 {
-    ops.len() <= 4294967295 && ops.iter().all(|o| fits_num_op(site, o))
+    ops.iter().all(|o| is_num_op(o))
 }
 
-fn fits(site: u32, r: &Record) -> bool
-    ensures { result ≡ true → CanBeReadBack site r.now }
+// The record is told by its numbers, names and values.
+fn is_told(r: &Record) -> bool
+    ensures { result ≡ true → IsTold r.now }
 {
     match r {
         Record::Birth {
             format,
-            site: own,
+            site,
             weights,
             rows,
         } => {
-            let _numbers = (*format, *own);
-            fit_weights(weights.as_slice()) && fit_rows(rows.as_slice())
+            let _numbers = (*format, *site);
+            tell_weights(weights.as_slice());
+            are_rows(rows.as_slice())
         }
         Record::Inc { inc } => {
             let _inc = *inc;
             true
         }
-        Record::Vote { txn, ops } => fits_txn(txn) && fit_ops(site, ops.as_slice()),
+        Record::Vote { txn, ops } => {
+            tell_txn(txn);
+            are_ops(ops.as_slice())
+        }
         Record::Join { txn, n } => {
             let _n = *n;
-            fits_txn(txn)
+            tell_txn(txn);
+            true
         }
         Record::Attempt { txn, n, .. } => {
             let _n = *n;
-            fits_txn(txn)
+            tell_txn(txn);
+            true
         }
-        Record::Decision { txn, .. } => fits_txn(txn),
+        Record::Decision { txn, .. } => {
+            tell_txn(txn);
+            true
+        }
     }
 }
 
-fn all_fit(site: u32, records: &[Record]) -> bool
-    ensures { result ≡ true → AllCanBeReadBack site records.now }
+fn are_told(records: &[Record]) -> bool
+    ensures { result ≡ true → AllByRecursion IsTold records.now }
 {
-    records.iter().all(|r| fits(site, r))
+    records.iter().all(|r| is_told(r))
 }
 
-/// The spelling of records that can be read back from the log of this site. `NoMemory` comes for others too: there are
-/// none among the records that a site makes.
-pub(crate) fn spelled(alloc: Global, site: u32, records: &[Record]) -> Result<List<u8>, NoMemory>
+/// The spelling of records. Those of a site in a legal history can be read back from the site's log. What is tested is
+/// what the types of names and values keep, so that it never refuses.
+#[tactic(auto, using(crate::proofs::Telling::spelled_back))]
+pub(crate) fn spelled(alloc: Global, records: &[Record]) -> Result<List<u8>, NoMemory>
     ensures bytes { IfOk result (λ bytes. bytes ≡ spelling records.now) }
-    ensures back { OnOk result (AllCanBeReadBack site records.now) }
+    ensures back { OnOk result ((site : ℕ) → AllByRecursion (IsOwn site) records.now → AllCanBeReadBack site records.now) }
 {
-    if !all_fit(site, records) {
+    if !are_told(records) {
         return Err(NoMemory);
     }
     put_records(alloc, records)

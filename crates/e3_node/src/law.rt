@@ -1,5 +1,5 @@
 // Laws of nodes.
-ghost use Rattle.e3_node.specs.Claims.{BodiesSpellTheLog, DisksKept, MovesStay, NodesDisks, NodesKept, NodesKeptByOthers, NodesStandBehindOthers, NodesUp};
+ghost use Rattle.e3_node.specs.Claims.{DisksKept, MovesStay, NodesDisks, NodesKept, NodesKeptByOthers, NodesStandBehindOthers, NodesUp};
 
 use e3_disk::Disk;
 
@@ -18,13 +18,9 @@ pub fn others_leave_nodes<D: Disk>()
     ensures moves { MovesStay }
 {}
 
-/// While a node stands for a history its disk does, and it is up exactly where the history has its site up.
+/// While a node stands for a history its disk does, so that it reads as the log of its site; and it is up exactly where the
+/// history has its site up.
 pub fn a_node_tells_of_its_disk<D: Disk>()
     ensures disks { NodesDisks D.content D.image D.meters }
     ensures up { NodesUp D.content D.image D.meters }
-{}
-
-/// The frames of a site's disk have its records, each once and in the order of the log.
-pub fn bodies_spell_the_log()
-    ensures { BodiesSpellTheLog }
 {}

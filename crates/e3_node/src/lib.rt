@@ -19,8 +19,6 @@ mod turning;
 mod writing;
 
 pub use fault::{CutFault, InputFault, RiseFault};
-pub use law::{
-    a_node_tells_of_its_disk, bodies_spell_the_log, other_entries_keep_nodes, others_leave_nodes,
-};
+pub use law::{a_node_tells_of_its_disk, other_entries_keep_nodes, others_leave_nodes};
 pub use node::Node;
 pub use state::State;

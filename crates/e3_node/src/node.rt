@@ -28,6 +28,7 @@ ghost use Rattle.e3_world.specs.Legal.{IsCut, IsDue, IsRising, entry_of, made_by
 ghost use Rattle.e3_world.specs.Moves.{log_size, moves_of, rows_at};
 ghost use Rattle.e3_world.specs.Packets.{is_calm, present_items};
 
+use crate::counting::{Count, no_count};
 use crate::entering::{claim, enter, is_full};
 use crate::readying::wish_of;
 use crate::rising::{enter_rise, risen, told};
@@ -43,13 +44,14 @@ use std::alloc::Global;
 use std::marker::Model;
 use std::sync::Wait;
 
-/// A site over its disk: its number, the weights of all sites, that of site 1 first, and its first rows in byte order of
-/// their names.
+/// A site over its disk: its number, the weights of all sites, that of site 1 first, its first rows in byte order of their
+/// names, and how many records its log has.
 #[derive(Drop)]
 pub struct Node<D: Disk + Drill + Drop> {
     site: u32,
     weights: List<u32>,
     rows: List<Row>,
+    count: Count,
     state: State<D>,
 }
 
@@ -58,7 +60,7 @@ impl<D: Disk + Drill + Drop> Model for Node<D> {
 
     ghost Value = { NodeView D };
 
-    ghost view = { λ n. record { site = n.site; weights = n.weights; rows = n.rows; state = n.state } };
+    ghost view = { λ n. record { site = n.site; weights = n.weights; rows = n.rows; count = n.count; state = n.state } };
 }
 
 impl<D: Disk + Drill + Drop> Node<D> {
@@ -75,6 +77,7 @@ impl<D: Disk + Drill + Drop> Node<D> {
             site,
             weights,
             rows,
+            count: no_count(),
             state: State::Down(disk),
         }
     }
@@ -157,10 +160,12 @@ impl<D: Disk + Drill + Drop> Node<D> {
         if is_full(shared) {
             return Err(RiseFault::HistoryFull);
         }
-        let wish = wish_of(shared, self.site, &self.weights, &self.rows)?;
+        let alloc = shared.alloc();
+        let logged = self.count.records;
+        let wish = wish_of(alloc, self.site, &self.weights, &self.rows, logged)?;
         claim(shared, self.site, 0)?;
         let raised = replace_with(&mut self.state, wish, risen::<D>);
-        enter_rise(shared, self.site, raised);
+        enter_rise(shared, self.site, &mut self.count, raised);
         told(raised)
     }
 
@@ -195,7 +200,8 @@ impl<D: Disk + Drill + Drop> Node<D> {
         ensures takes { OnOk result (Takes (calls_for (made_by (scenario_of shared.old) (entries_of shared.old) self.old.site input).records)
             (D.meters (disk_of self.old.state)) (D.meters (disk_of self.new.state))) }
     {
-        match take_input(self.site, &mut self.state, shared, input) {
+        let (state, count) = (&mut self.state, &mut self.count);
+        match take_input(self.site, state, count, shared, input) {
             Ok(()) => {
                 keep_up(&mut self.state);
                 Ok(())
@@ -254,8 +260,12 @@ impl<D: Disk + Drill + Drop> Node<D> {
         ensures takes { OnOk result (Takes (calls_for (made_by (scenario_seen pass.old) (history_seen pass.old) self.old.site input).records)
             (D.meters (disk_of self.old.state)) (D.meters (disk_of self.new.state))) }
     {
-        match take_by_turns(rt, alloc, wire, pass, self.site, &mut self.state, input) {
-            Ok(()) => Ok(()),
+        let (state, count) = (&mut self.state, &mut self.count);
+        match take_by_turns(rt, alloc, wire, pass, self.site, state, count, input) {
+            Ok(()) => {
+                keep_up(&mut self.state);
+                Ok(())
+            }
             Err(fault) => {
                 settle(&mut self.state, fault);
                 Err(fault)

@@ -4,11 +4,9 @@ ghost use Rattle.e3_log.specs.Found.{bodies_of};
 ghost use Rattle.e3_node.specs.Rising.{IsForeign, IsReady, IsWish, born_by, records_by};
 ghost use Rattle.e3_node.specs.declared.readying.Unready.TheVariants as unready;
 ghost use Rattle.e3_restart.specs.Rebuilt.{IsRebuilt, StandsForEach};
-ghost use Rattle.e3_wire.specs.Marks.{entries_of};
 ghost use Rattle.e3_world.specs.Logs.{logged_inc};
 ghost use Rattle.e3_world.specs.Orderly.{IsOrderly};
 
-use crate::counting::frames_in;
 use crate::fitting::spelled;
 use crate::reading::{add_records, read_frames};
 use e3_log::Frame;
@@ -16,10 +14,9 @@ use e3_readings::logged_inc;
 use e3_restart::{RebuildFault, rebuild};
 use e3_site::Site;
 use e3_types::{Copied, List, NoMemory, Record, Row};
-use e3_wire::Shared;
 use std::alloc::Global;
 
-/// What a rise takes with it to the disk: the site's number, weights and first rows, and how many frames its log has in the
+/// What a rise takes with it to the disk: the site's number, weights and first rows, and how many records its log has in the
 /// history.
 #[derive(Drop)]
 pub(crate) struct Wish {
@@ -27,7 +24,7 @@ pub(crate) struct Wish {
     pub site: u32,
     pub weights: List<u32>,
     pub rows: List<Row>,
-    pub frames: u64,
+    pub logged: u64,
 }
 
 /// A rise for which all memory is taken: the site that is up with it, its records and their spelling, whether what was in
@@ -62,20 +59,20 @@ impl From<NoMemory> for Unready {
 
 /// What a rise of this site takes with it.
 pub(crate) fn wish_of(
-    shared: &Shared,
+    alloc: Global,
     site: u32,
     weights: &List<u32>,
     rows: &List<Row>,
+    logged: u64,
 ) -> Result<Wish, NoMemory>
-    ensures { IfOk result (IsWish site weights.now rows.now (entries_of shared.now)) }
+    ensures { IfOk result (IsWish site weights.now rows.now logged) }
 {
-    let alloc = shared.alloc();
     Ok(Wish {
         alloc,
         site,
         weights: weights.copied(alloc)?,
         rows: rows.copied(alloc)?,
-        frames: frames_in(site, shared.history()),
+        logged,
     })
 }
 
@@ -130,23 +127,24 @@ fn rebuilt(alloc: Global, site: u32, log: &[Record]) -> Result<Site, Unready>
     }
 }
 
-/// The rise of a site whose disk has these frames. What is read is kept, all of it: more frames than the log of the history
-/// has are the log and the one that was in doubt.
+/// The rise of a site whose disk has these frames. What is read is kept, all of it: more records than the log of the history
+/// has are the log and those that were in doubt.
 pub(crate) fn ready(wish: &Wish, frames: &[Frame]) -> Result<Readied, Unready>
     ensures ready { IfOk result (IsReady wish.now (bodies_of frames.now)) }
     ensures foreign { result ≡ Err unready.Foreign → IsForeign wish.now (bodies_of frames.now) }
 {
     let mut log = read_frames(wish.alloc, wish.site, frames)?;
+    let kept = wish.logged < log.len();
     let inc = next_inc(log.as_slice())?;
     let records = records_by(wish, inc, log.as_slice())?;
-    let body = spelled(wish.alloc, wish.site, records.as_slice())?;
+    let body = spelled(wish.alloc, records.as_slice())?;
     add_records(wish.alloc, records.as_slice(), &mut log)?;
     let up = rebuilt(wish.alloc, wish.site, log.as_slice())?;
     Ok(Readied {
         up,
         records,
         body,
-        kept: wish.frames < frames.len() as u64,
+        kept,
         inc,
     })
 }

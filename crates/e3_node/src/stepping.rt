@@ -1,7 +1,8 @@
 // An input of a site that is up.
 ghost use Rattle.std.specs.Prelude.{◌≡◌, ◌≢◌, ◌≤◌, ◌++◌, ◌∷◌, ◌↔◌, [], true, false, length, IfOk, OnOk, Err};
 ghost use Rattle.e3_disk.specs.Meters.{Keeps};
-ghost use Rattle.e3_node.specs.Bodies.{AllReadBack, DiskStands};
+ghost use Rattle.e3_node.specs.Bodies.{AllReadBack, DiskHolds};
+ghost use Rattle.e3_node.specs.Counting.{count_of};
 ghost use Rattle.e3_node.specs.Ends.{FellOver, IsReason, Takes, calls_for, is_fall};
 ghost use Rattle.e3_node.specs.NodeStands.{IsIn, IsUp};
 ghost use Rattle.e3_node.specs.NodeView.{disk_of};
@@ -17,14 +18,17 @@ ghost use Rattle.e3_world.specs.Items.{is_up_at};
 ghost use Rattle.e3_world.specs.Legal.{IsDue, entry_of, made_by};
 ghost use Rattle.e3_world.specs.Moves.{log_size, moves_of};
 
+use crate::counting::{Count, count_on};
 use crate::drafts::prepare;
 use crate::entering::{claim, enter, is_full};
 use crate::writing::write;
 use crate::{InputFault, State};
 use core::mem::replace_with;
 use e3_disk::Disk;
+use e3_law_begun::{begun_are_transactions, legal_histories_mention_what_stands};
 use e3_log::Log;
 use e3_site::Site;
+use e3_trails::records_suit_their_site;
 use e3_types::{Act, Entry, Input, List, NoMemory, Packet, Record, Told, Why};
 use e3_wire::Shared;
 
@@ -74,9 +78,11 @@ fn step<D: Disk>(
     number: u32,
     site: &mut Site,
     log: &mut Log<D>,
+    count: &mut Count,
     shared: &mut Shared,
     input: Input,
 ) -> Result<(), InputFault>
+    requires counted { count.old ≡ count_of number (entries_of shared.old) }
     requires shared { SharedStands shared.old }
     requires some { 1 ≤ number }
     requires exists { number ≤ last_owner shared.old }
@@ -90,13 +96,14 @@ fn step<D: Disk>(
     ensures stepped { OnOk result (entries_of shared.new ≡ entries_of shared.old ++ entry_of (scenario_of shared.old) (entries_of shared.old) number input ∷ []) }
     ensures up { OnOk result (IsUp D.content D.image D.meters (scenario_of shared.old) (entries_of shared.new) number site.new log.new) }
     ensures back { AllReadBack (scenario_of shared.old) (entries_of shared.new) number }
+    ensures counted { count.new ≡ count_of number (entries_of shared.new) }
     ensures never { result ≡ Err input_fault.Down → ⊥ }
     ensures kept { (fault : InputFaults) → result ≡ Err fault → is_fall fault ≡ false →
         (entries_of shared.new ≡ entries_of shared.old) × (log.new ≡ log.old)
         × IsUp D.content D.image D.meters (scenario_of shared.old) (entries_of shared.old) number site.new log.new }
     ensures fell { (why : Whys) → result ≡ Err (input_fault.Fell why) →
         FellOver (scenario_of shared.old) (entries_of shared.old) number input why (entries_of shared.new)
-        × DiskStands (scenario_of shared.old) (entries_of shared.new) number (D.image log.new.disk) }
+        × DiskHolds (scenario_of shared.old) (entries_of shared.new) number (D.image log.new.disk) }
     ensures why { (why : Whys) → result ≡ Err (input_fault.Fell why) →
         IsReason why (log_size (moves_of (scenario_of shared.old) (entries_of shared.old) number))
         (made_by (scenario_of shared.old) (entries_of shared.old) number input).records (D.meters log.old.disk) (D.meters log.new.disk) }
@@ -105,6 +112,9 @@ fn step<D: Disk>(
     ensures takes { OnOk result (Takes (calls_for (made_by (scenario_of shared.old) (entries_of shared.old) number input).records)
         (D.meters log.old.disk) (D.meters log.new.disk)) }
 {
+    legal_histories_mention_what_stands();
+    begun_are_transactions();
+    records_suit_their_site();
     if is_full(shared) {
         return Err(InputFault::HistoryFull);
     }
@@ -114,12 +124,14 @@ fn step<D: Disk>(
     match write(log, draft.records.as_slice(), draft.body.as_slice()) {
         Ok(()) => {
             let step = step_of(number, input, draft.records, draft.outs, draft.told);
+            count_on(count, &step.act);
             enter(shared, step);
             site.apply(draft.plan);
             Ok(())
         }
         Err(why) => {
             let fall = fall_of(number, draft.inputs, draft.fallen, why);
+            count_on(count, &fall.act);
             enter(shared, fall);
             Err(InputFault::Fell { why })
         }
@@ -130,9 +142,11 @@ fn step<D: Disk>(
 pub(crate) fn take_input<D: Disk + Drop>(
     number: u32,
     state: &mut State<D>,
+    count: &mut Count,
     shared: &mut Shared,
     input: Input,
 ) -> Result<(), InputFault>
+    requires counted { count.old ≡ count_of number (entries_of shared.old) }
     requires shared { SharedStands shared.old }
     requires some { 1 ≤ number }
     requires exists { number ≤ last_owner shared.old }
@@ -146,13 +160,14 @@ pub(crate) fn take_input<D: Disk + Drop>(
     ensures stepped { OnOk result (entries_of shared.new ≡ entries_of shared.old ++ entry_of (scenario_of shared.old) (entries_of shared.old) number input ∷ []) }
     ensures up { OnOk result (IsIn D.content D.image D.meters (scenario_of shared.old) (entries_of shared.new) number state.new) }
     ensures back { AllReadBack (scenario_of shared.old) (entries_of shared.new) number }
+    ensures counted { count.new ≡ count_of number (entries_of shared.new) }
     ensures down { (result ≡ Err input_fault.Down) ↔ (is_up_at (entries_of shared.old) number ≡ false) }
     ensures kept { (fault : InputFaults) → result ≡ Err fault → is_fall fault ≡ false →
         (entries_of shared.new ≡ entries_of shared.old) × (disk_of state.new ≡ disk_of state.old)
         × IsIn D.content D.image D.meters (scenario_of shared.old) (entries_of shared.old) number state.new }
     ensures fell { (why : Whys) → result ≡ Err (input_fault.Fell why) →
         FellOver (scenario_of shared.old) (entries_of shared.old) number input why (entries_of shared.new)
-        × DiskStands (scenario_of shared.old) (entries_of shared.new) number (D.image (disk_of state.new)) }
+        × DiskHolds (scenario_of shared.old) (entries_of shared.new) number (D.image (disk_of state.new)) }
     ensures why { (why : Whys) → result ≡ Err (input_fault.Fell why) →
         IsReason why (log_size (moves_of (scenario_of shared.old) (entries_of shared.old) number))
         (made_by (scenario_of shared.old) (entries_of shared.old) number input).records (D.meters (disk_of state.old)) (D.meters (disk_of state.new)) }
@@ -164,7 +179,7 @@ pub(crate) fn take_input<D: Disk + Drop>(
 {
     match state {
         State::Down(_) => Err(InputFault::Down),
-        State::Up(site, log) => step(number, site, log, shared, input),
+        State::Up(site, log) => step(number, site, log, count, shared, input),
     }
 }
 

@@ -3,6 +3,7 @@ ghost use Rattle.std.specs.Prelude.{◌≡◌, ◌≤◌, ◌↔◌, true, false
 ghost use Rattle.e3_disk.specs.Meters.{Keeps};
 ghost use Rattle.e3_law_local.specs.Drafts.{MayTake};
 ghost use Rattle.e3_node.specs.Bodies.{AllReadBack};
+ghost use Rattle.e3_node.specs.Counting.{count_of};
 ghost use Rattle.e3_node.specs.Ends.{IsReason, Takes, calls_for};
 ghost use Rattle.e3_node.specs.NodeStands.{IsIn, IsUp};
 ghost use Rattle.e3_node.specs.NodeView.{disk_of};
@@ -18,13 +19,16 @@ ghost use Rattle.e3_world.specs.Legal.{made_by};
 ghost use Rattle.e3_world.specs.Moves.{log_size, moves_of};
 ghost use Rattle.e3_world.specs.Packets.{is_calm, present_items};
 
+use crate::counting::{Count, count_on};
 use crate::drafts::prepare;
 use crate::stepping::{fall_of, room_for, step_of};
 use crate::writing::write;
 use crate::{InputFault, State};
 use e3_disk::Disk;
+use e3_law_begun::{begun_are_transactions, legal_histories_mention_what_stands};
 use e3_log::Log;
 use e3_site::Site;
+use e3_trails::records_suit_their_site;
 use e3_types::Input;
 use e3_wire::{Wire, WirePass};
 use std::alloc::Global;
@@ -40,8 +44,10 @@ fn step_by_turns<R: Wait, D: Disk>(
     number: u32,
     site: &mut Site,
     log: &mut Log<D>,
+    count: &mut Count,
     input: Input,
 ) -> Result<(), InputFault>
+    requires counted { count.old ≡ count_of number (history_seen pass.old) }
     requires idle { IsIdle wire.now pass.old }
     requires owns { Owns pass.old number }
     requires played { IsPlayed (seen_by pass.old) }
@@ -52,6 +58,7 @@ fn step_by_turns<R: Wait, D: Disk>(
     requires due { MayTake (scenario_seen pass.old) (history_seen pass.old) number input }
     requires takes { TakesLeast (scenario_seen pass.old) (history_seen pass.old) number input }
     requires back { AllReadBack (scenario_seen pass.old) (history_seen pass.old) number }
+    ensures counted { count.new ≡ count_of number (history_seen pass.new) }
     ensures turned { HasTurned wire.now number pass.old pass.new }
     ensures ended { EndsSo D.content D.image D.meters (scenario_seen pass.old) (history_seen pass.old) (history_seen pass.new) number input
         (state.Up site.old log.old) (state.Up site.new log.new) result }
@@ -64,18 +71,23 @@ fn step_by_turns<R: Wait, D: Disk>(
     ensures takes { OnOk result (Takes (calls_for (made_by (scenario_seen pass.old) (history_seen pass.old) number input).records)
         (D.meters log.old.disk) (D.meters log.new.disk)) }
 {
+    legal_histories_mention_what_stands();
+    begun_are_transactions();
+    records_suit_their_site();
     let draft = prepare(alloc, site, &input)?;
     let room = room_for(&draft.outs)?;
     wire.claim(rt, pass, number, room)?;
     match write(log, draft.records.as_slice(), draft.body.as_slice()) {
         Ok(()) => {
             let step = step_of(number, input, draft.records, draft.outs, draft.told);
+            count_on(count, &step.act);
             wire.commit_entry(rt, pass, step);
             site.apply(draft.plan);
             Ok(())
         }
         Err(why) => {
             let fall = fall_of(number, draft.inputs, draft.fallen, why);
+            count_on(count, &fall.act);
             wire.commit_entry(rt, pass, fall);
             Err(InputFault::Fell { why })
         }
@@ -90,8 +102,10 @@ pub(crate) fn take_by_turns<R: Wait, D: Disk + Drop>(
     pass: &mut WirePass,
     number: u32,
     state: &mut State<D>,
+    count: &mut Count,
     input: Input,
 ) -> Result<(), InputFault>
+    requires counted { count.old ≡ count_of number (history_seen pass.old) }
     requires idle { IsIdle wire.now pass.old }
     requires owns { Owns pass.old number }
     requires played { IsPlayed (seen_by pass.old) }
@@ -102,6 +116,7 @@ pub(crate) fn take_by_turns<R: Wait, D: Disk + Drop>(
     requires due { is_up_at (history_seen pass.old) number ≡ true → MayTake (scenario_seen pass.old) (history_seen pass.old) number input }
     requires takes { is_up_at (history_seen pass.old) number ≡ true → TakesLeast (scenario_seen pass.old) (history_seen pass.old) number input }
     requires back { AllReadBack (scenario_seen pass.old) (history_seen pass.old) number }
+    ensures counted { count.new ≡ count_of number (history_seen pass.new) }
     ensures turned { HasTurned wire.now number pass.old pass.new }
     ensures ended { EndsSo D.content D.image D.meters (scenario_seen pass.old) (history_seen pass.old) (history_seen pass.new) number input
         state.old state.new result }
@@ -116,6 +131,8 @@ pub(crate) fn take_by_turns<R: Wait, D: Disk + Drop>(
 {
     match state {
         State::Down(_) => Err(InputFault::Down),
-        State::Up(site, log) => step_by_turns(rt, alloc, wire, pass, number, site, log, input),
+        State::Up(site, log) => step_by_turns(
+            rt, alloc, wire, pass, number, site, log, count, input,
+        ),
     }
 }

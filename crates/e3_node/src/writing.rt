@@ -2,11 +2,11 @@
 ghost use Rattle.std.specs.Prelude.{◌≡◌, ◌≢◌, ◌++◌, [], true, ℕ, length, List as Items, OnOk, IfErr};
 ghost use Rattle.e3_disk.specs.Meters.{Keeps};
 ghost use Rattle.e3_log.specs.Stands.{Stands};
-ghost use Rattle.e3_node.specs.Bodies.{ReadsWith, bodies_of_moves, body_of};
+ghost use Rattle.e3_node.specs.Bodies.{Hold, ReadsAfter, bodies_in, body_of};
 ghost use Rattle.e3_node.specs.Ends.{IsReason, Takes, calls_for, why_of};
 ghost use Rattle.e3_types.specs.Spelling.{spelling};
-ghost use Rattle.e3_types.specs.declared.entries.Input.{Input};
-ghost use Rattle.e3_world.specs.Moves.{Move, left_by, log_size};
+ghost use Rattle.e3_types.specs.declared.records.Record.{Record as Records};
+ghost use Rattle.e3_world.specs.Moves.{Move, log_size};
 
 use e3_disk::Disk;
 use e3_log::{AppendFault, Log};
@@ -26,12 +26,11 @@ fn why_of(fault: AppendFault) -> Why
 pub(crate) fn write<D: Disk>(log: &mut Log<D>, records: &[Record], body: &[u8]) -> Result<(), Why>
     requires spelled { body.now ≡ spelling records.now }
     requires lit { (D.meters log.old.disk).powered ≡ true }
-    ensures stands { (moves : Items Move) → Stands D.content D.image (bodies_of_moves moves) log.old →
-        OnOk result (Stands D.content D.image (bodies_of_moves moves ++ body_of records.now) log.new) }
-    ensures images { (moves : Items Move) (inputs : Items Input) → Stands D.content D.image (bodies_of_moves moves) log.old →
-        IfErr result (λ why. (bytes : Items ℕ) → D.image log.new.disk bytes →
-        ReadsWith (bodies_of_moves moves) (left_by why inputs records.now) bytes) }
-    ensures reason { (moves : Items Move) → Stands D.content D.image (bodies_of_moves moves) log.old →
+    ensures stands { (lists : Items (Items Records)) → Stands D.content D.image (bodies_in lists) log.old →
+        OnOk result (Stands D.content D.image (bodies_in lists ++ body_of records.now) log.new) }
+    ensures images { (lists : Items (Items Records)) → Stands D.content D.image (bodies_in lists) log.old →
+        IfErr result (λ why. (bytes : Items ℕ) → D.image log.new.disk bytes → ReadsAfter lists why records.now bytes) }
+    ensures reason { (moves : Items Move) (lists : Items (Items Records)) → Hold moves lists → Stands D.content D.image (bodies_in lists) log.old →
         IfErr result (λ why. IsReason why (log_size moves) records.now (D.meters log.old.disk) (D.meters log.new.disk)) }
     ensures some { IfErr result (λ _. records.now ≢ []) }
     ensures keeps { Keeps (D.meters log.old.disk) (D.meters log.new.disk) }

@@ -159,7 +159,6 @@ impl Shared {
         }
         self.net.reserve(wanted)?;
         make_room(
-            self.alloc,
             &mut self.history,
             &mut self.spare,
             &mut self.stored,
@@ -229,7 +228,6 @@ impl Shared {
             return Err(WireFault::HistoryFull);
         }
         make_room(
-            self.alloc,
             &mut self.history,
             &mut self.spare,
             &mut self.stored,
@@ -261,7 +259,6 @@ impl Shared {
             return Err(WireFault::HistoryFull);
         }
         make_room(
-            self.alloc,
             &mut self.history,
             &mut self.spare,
             &mut self.stored,
@@ -299,7 +296,6 @@ impl Shared {
             return Err(WireFault::HistoryFull);
         }
         make_room(
-            self.alloc,
             &mut self.history,
             &mut self.spare,
             &mut self.stored,

@@ -2,4 +2,4 @@ use Rattle.e3_node.proofs.Steps.{plan_own}
 use Rattle.e3_node.proofs.drafts.prepare.Goals as goal
 
 pub returns-clause-own : goal.returns-clause-own
-returns-clause-own c = plan_own c.draft_of.result _ _ c.args.input.now c.ready.new.self c.draft_of.ensures (c.ready.ensures.own c.in_ok-plan.ensures.own)
+returns-clause-own c = plan_own c.draft_of.result _ c.args.input.now c.ready.new.self c.draft_of.ensures (c.ready.ensures.own c.in_ok-plan.ensures.own)

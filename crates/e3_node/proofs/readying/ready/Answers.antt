@@ -1,5 +1,4 @@
-use Rattle.std.proofs.Common.{◌≡◌, ◌++◌, ◌∙◌, ap, sym, subst, suc, List}
-use Rattle.std.proofs.lemmas.List.{length-map}
+use Rattle.std.proofs.Common.{◌≡◌, ◌++◌, ◌∙◌, ap, sym, subst, suc, List, arith}
 use Rattle.std.specs.Prelude.{nat_lt}
 use Rattle.e3_codec.specs.Fields.{AllCanBeReadBack}
 use Rattle.e3_node.specs.Rising.{records_by}
@@ -7,6 +6,9 @@ use Rattle.e3_restart.specs.Rebuilt.{IsRebuilt, StandsForEach}
 use Rattle.e3_types.specs.Spelling.{spelling}
 use Rattle.e3_types.specs.declared.records.Record.{Record}
 use Rattle.e3_world.specs.Logs.{logged_inc}
+use Rattle.std.specs.List.{AllByRecursion as Each}
+use Rattle.e3_node.specs.Telling.{IsOwn}
+use Rattle.e3_node.proofs.Owning.{rise_own}
 use Rattle.e3_node.proofs.readying.ready.Goals as goal
 
 pub returns-clause-ready : goal.returns-clause-ready
@@ -15,15 +17,20 @@ returns-clause-ready c =
     let read = c.in_ok-log.log in
     let all : c.as_slice-5.result.now ≡ read ++ c.in_ok-records.records =
     c.as_slice-5.ensures ∙ c.in_ok-add_records.ensures ∙ ap (λ (l : List Record). read ++ l) c.as_slice-4.ensures in
+    let made : c.in_ok-records.records ≡ records_by c.args.wish.now c.in_ok-inc.inc read =
+    c.in_ok-records.ensures ∙ ap (λ (l : List Record). records_by c.args.wish.now c.in_ok-inc.inc l) c.as_slice-2.ensures in
     record {
       read = read;
       back = c.in_ok-log.ensures.back;
       spelled = c.in_ok-log.ensures.read;
-      kept_is = ap (nat_lt c.args.wish.now.frames) (sym (length-map c.args.frames.now (λ f. f.body)));
+      few = omega (arith, c.len.type_inv, c.len.ensures);
+      kept_is = ap (nat_lt c.args.wish.now.logged) c.len.ensures;
       inc_is = c.in_ok-inc.ensures ∙ ap (λ (l : List Record). suc (logged_inc l)) c.as_slice.ensures;
-      records_are = c.in_ok-records.ensures ∙ ap (λ (l : List Record). records_by c.args.wish.now c.in_ok-inc.inc l) c.as_slice-2.ensures;
+      records_are = made;
       body_is = c.in_ok-body.ensures.bytes ∙ ap spelling c.as_slice-3.ensures;
-      fits = subst (λ (l : List Record). AllCanBeReadBack site l) c.as_slice-3.ensures c.in_ok-body.ensures.back;
+      fits =
+          subst (λ (l : List Record). AllCanBeReadBack site l) c.as_slice-3.ensures
+          (c.in_ok-body.ensures.back site (subst (λ (l : List Record). Each (IsOwn site) l) (sym (c.as_slice-3.ensures ∙ made)) (rise_own c.args.wish.now c.in_ok-inc.inc read)));
       risen = subst (λ (l : List Record). IsRebuilt site l c.in_ok-up.up) all c.in_ok-up.ensures.risen;
       stands = subst (λ (l : List Record). StandsForEach l c.in_ok-up.up) all c.in_ok-up.ensures.stands;
     }

@@ -1,7 +1,8 @@
-use Rattle.std.proofs.Common.{◌≡◌, ◌≢◌, ◌++◌, ◌∷◌, [], ◌∙◌, ap, sym, subst, map, List, arith}
+use Rattle.std.proofs.Common.{◌≡◌, ◌≢◌, ◌++◌, ◌∷◌, [], ◌∙◌, ap, sym, subst, List, arith}
 use Rattle.e3_log.specs.Stands.{Stands}
-use Rattle.e3_node.specs.Bodies.{AllReadBack, DiskStands, ReadsWith, bodies_at, body_of}
-use Rattle.e3_node.specs.Ends.{FellOver}
+use Rattle.e3_node.specs.Bodies.{AllReadBack, DiskHolds, IsLogged, ReadsAfter, bodies_in, body_of}
+use Rattle.e3_node.specs.Counting.{counted_by}
+use Rattle.e3_node.specs.Ends.{FellOver, IsReason}
 use Rattle.e3_node.specs.NodeStands.{IsUp}
 use Rattle.e3_node.specs.SharedStands.{HasEntered}
 use Rattle.e3_site.specs.SiteView.{SiteView, count_on, plan_of}
@@ -11,11 +12,13 @@ use Rattle.e3_types.specs.declared.entries.Why.{Why}
 use Rattle.e3_types.specs.declared.records.Record.{Record}
 use Rattle.e3_wire.specs.Marks.{entries_of, scenario_of}
 use Rattle.e3_wire.specs.Wires.{MayEnterBehind}
-use Rattle.e3_world.specs.Legal.{made_by}
-use Rattle.e3_world.specs.Moves.{left_by, moves_of, plain_input}
+use Rattle.e3_world.specs.Legal.{entry_of, made_by}
+use Rattle.e3_world.specs.Moves.{log_size, moves_of}
+use Rattle.e3_node.proofs.Counts.{count_fallen, count_stepped}
 use Rattle.e3_node.proofs.Guarding.{first_takes_least}
+use Rattle.e3_node.proofs.Owning.{made_own}
 use Rattle.e3_node.proofs.Sharing.{has_from, may_enter}
-use Rattle.e3_node.proofs.Steps.{draft_made, fall_allowed, fall_back, fall_entered, fall_takes, fallen_disk, inputs_on, room_same, site_on, step_back, step_allowed, step_entered, stepped_up}
+use Rattle.e3_node.proofs.Steps.{draft_made, fall_allowed, fall_back, fall_entered, fall_takes, fallen_disk, inputs_on, room_same, site_on, step_back, step_allowed, step_entered, step_logged, stepped_up}
 use Rattle.e3_node.proofs.stepping.step.Goals as goal
 
 pub enter-requires : goal.enter-requires
@@ -102,9 +105,10 @@ returns-in-Ok-clause-up g c =
     let ready = room_same sc h c.args.number _ c.args.site.now c.prepare.new.site c.requires.up.stands c.in_ok-draft.ensures.site in
     let planned : d.plan ≡ plan_of c.prepare.new.site c.args.input =
     c.in_ok-draft.ensures.draft.plan_is ∙ sym (ap (λ (s : SiteView). plan_of s c.args.input) c.in_ok-draft.ensures.site) in
-    let logged : Stands g.D.Disk.content g.D.Disk.image (bodies_at sc h c.args.number ++ body_of (made_by sc h c.args.number c.args.input).records) c.write.new.log =
-    subst (λ (rs : List Record). Stands g.D.Disk.content g.D.Disk.image (bodies_at sc h c.args.number ++ body_of rs) c.write.new.log)
-    (c.as_slice.ensures ∙ made.records_are) (c.in-Ok.ensures.stands (moves_of sc h c.args.number) c.requires.up.logged) in
+    let logged : IsLogged g.D.Disk.content g.D.Disk.image (moves_of sc (h ++ entry_of sc h c.args.number c.args.input ∷ []) c.args.number) c.write.new.log =
+    step_logged g.D.Disk.content g.D.Disk.image sc h c.args.number c.args.input c.args.log.now c.write.new.log c.requires.up.logged
+    (λ lists before. subst (λ (rs : List Record). Stands g.D.Disk.content g.D.Disk.image (bodies_in lists ++ body_of rs) c.write.new.log)
+    (c.as_slice.ensures ∙ made.records_are) (c.in-Ok.ensures.stands lists before)) in
     subst (λ (l : List Entry). IsUp g.D.Disk.content g.D.Disk.image g.D.Disk.meters sc l c.args.number c.apply.new.self c.write.new.log) (sym entered)
     (stepped_up g.D.Disk.content g.D.Disk.image g.D.Disk.meters sc h c.args.number c.args.input c.apply.new.self c.write.new.log c.requires.up.up
     (site_on sc h c.args.number c.args.input c.prepare.new.site c.apply.new.self d.plan ready planned c.apply.ensures.stands)
@@ -122,7 +126,8 @@ returns-in-Ok-clause-back g c =
     let e : Entry = record { owner = c.args.number; act = Step c.args.input d.records d.outs d.told } in
     let has : HasEntered e was c.enter.new.shared = has_from was c.claim.new.shared c.enter.new.shared _ c.step_of-step.result e c.step_of-step.ensures c.in_ok-claim.ensures.claimed c.enter.ensures in
     let entered = step_entered sc h (entries_of c.enter.new.shared) c.args.number c.args.input d made has.entries in
-    subst (λ (l : List Entry). AllReadBack sc l c.args.number) (sym entered) (step_back sc h c.args.number c.args.input c.requires.back made.back)
+    subst (λ (l : List Entry). AllReadBack sc l c.args.number) (sym entered) (step_back sc h c.args.number c.args.input c.requires.back (made.back (made_own c.legal_histories_mention_what_stands.ensures.records c.begun_are_transactions.ensures c.records_suit_their_site.ensures.votes sc h c.args.number c.args.input
+    c.requires.shared.played.given c.requires.shared.played.legal c.requires.some c.requires.up.up c.requires.due)))
 
 pub returns-in-Err-clause-shared : goal.returns-in-Err-clause-shared
 returns-in-Err-clause-shared g c =
@@ -167,7 +172,8 @@ returns-in-Err-clause-back g c =
     let e : Entry = record { owner = c.args.number; act = Fall d.inputs d.fallen c.in-Err.why } in
     let has : HasEntered e was c.enter-in-Err.new.shared = has_from was c.claim.new.shared c.enter-in-Err.new.shared _ c.fall_of-fall.result e c.fall_of-fall.ensures c.in_ok-claim.ensures.claimed c.enter-in-Err.ensures in
     let entered = fall_entered sc h (entries_of c.enter-in-Err.new.shared) c.args.number c.args.input d c.in-Err.why made has.entries in
-    subst (λ (l : List Entry). AllReadBack sc l c.args.number) (sym entered) (fall_back sc h c.args.number c.args.input c.in-Err.why c.requires.back made.back)
+    subst (λ (l : List Entry). AllReadBack sc l c.args.number) (sym entered) (fall_back sc h c.args.number c.args.input c.in-Err.why c.requires.back (made.back (made_own c.legal_histories_mention_what_stands.ensures.records c.begun_are_transactions.ensures c.records_suit_their_site.ensures.votes sc h c.args.number c.args.input
+    c.requires.shared.played.given c.requires.shared.played.legal c.requires.some c.requires.up.up c.requires.due)))
 
 pub returns-in-Err-clause-fell : goal.returns-in-Err-clause-fell
 returns-in-Err-clause-fell g c = λ why is.
@@ -183,11 +189,51 @@ returns-in-Err-clause-fell g c = λ why is.
     let image = g.D.Disk.image c.write.new.log.disk in
     let some : (made_by sc h c.args.number c.args.input).records ≢ [] = (λ none. c.in-Err.ensures.some (c.as_slice.ensures ∙ made.records_are ∙ none)) in
     let over : FellOver sc h c.args.number c.args.input c.in-Err.why more = record { some = some; entered = entered } in
-    let stands : DiskStands sc more c.args.number image =
-    subst (λ (l : List Entry). DiskStands sc l c.args.number image) (sym entered)
-    (fallen_disk sc h c.args.number c.args.input c.in-Err.why image (λ bytes at.
-    subst (λ (rs : List Record). ReadsWith (bodies_at sc h c.args.number) (left_by c.in-Err.why (map plain_input (c.args.input ∷ [])) rs) bytes)
-    (c.as_slice.ensures ∙ made.records_are)
-    (c.in-Err.ensures.images (moves_of sc h c.args.number) (map plain_input (c.args.input ∷ [])) c.requires.up.logged bytes at))) in
+    let stands : DiskHolds sc more c.args.number image =
+    subst (λ (l : List Entry). DiskHolds sc l c.args.number image) (sym entered)
+    (fallen_disk g.D.Disk.content g.D.Disk.image sc h c.args.number c.args.input c.in-Err.why c.args.log.now c.write.new.log c.requires.up.logged
+    (λ lists before bytes at. subst (λ (rs : List Record). ReadsAfter lists c.in-Err.why rs bytes)
+    (c.as_slice.ensures ∙ made.records_are) (c.in-Err.ensures.images lists before bytes at))) in
     let same : c.in-Err.why ≡ why = cc in
-    subst (λ (w : Why). FellOver sc h c.args.number c.args.input w more × DiskStands sc more c.args.number image) same (over, stands)
+    subst (λ (w : Why). FellOver sc h c.args.number c.args.input w more × DiskHolds sc more c.args.number image) same (over, stands)
+
+pub returns-in-Ok-clause-counted : goal.returns-in-Ok-clause-counted
+returns-in-Ok-clause-counted g c =
+    let was = c.args.shared.now in
+    let sc = scenario_of was in
+    let h = entries_of was in
+    let d = c.in_ok-draft.draft in
+    let made = draft_made sc h c.args.number c.args.site.now c.args.input d c.requires.up.stands c.in_ok-draft.ensures.draft in
+    let e : Entry = record { owner = c.args.number; act = Step c.args.input d.records d.outs d.told } in
+    let has : HasEntered e was c.enter.new.shared = has_from was c.claim.new.shared c.enter.new.shared _ c.step_of-step.result e c.step_of-step.ensures c.in_ok-claim.ensures.claimed c.enter.ensures in
+    let entered = step_entered sc h (entries_of c.enter.new.shared) c.args.number c.args.input d made has.entries in
+    count_stepped sc c.args.number h (entries_of c.enter.new.shared) c.args.input d.records d.outs d.told c.args.count.now c.count_on.new.count made.records_are entered
+    c.requires.counted (c.count_on.ensures ∙ ap (λ (y : Entry). counted_by c.args.count.now y.act) c.step_of-step.ensures)
+
+pub returns-in-Err-clause-counted : goal.returns-in-Err-clause-counted
+returns-in-Err-clause-counted g c =
+    let was = c.args.shared.now in
+    let sc = scenario_of was in
+    let h = entries_of was in
+    let d = c.in_ok-draft.draft in
+    let made = draft_made sc h c.args.number c.args.site.now c.args.input d c.requires.up.stands c.in_ok-draft.ensures.draft in
+    let e : Entry = record { owner = c.args.number; act = Fall d.inputs d.fallen c.in-Err.why } in
+    let has : HasEntered e was c.enter-in-Err.new.shared = has_from was c.claim.new.shared c.enter-in-Err.new.shared _ c.fall_of-fall.result e c.fall_of-fall.ensures c.in_ok-claim.ensures.claimed c.enter-in-Err.ensures in
+    let entered = fall_entered sc h (entries_of c.enter-in-Err.new.shared) c.args.number c.args.input d c.in-Err.why made has.entries in
+    count_fallen sc c.args.number h (entries_of c.enter-in-Err.new.shared) c.args.input d.inputs d.fallen c.in-Err.why c.args.count.now c.count_on-in-Err.new.count made.fallen_are entered
+    c.requires.counted (c.count_on-in-Err.ensures ∙ ap (λ (y : Entry). counted_by c.args.count.now y.act) c.fall_of-fall.ensures)
+
+pub returns-in-Err-clause-why : goal.returns-in-Err-clause-why
+returns-in-Err-clause-why g c = λ why is.
+    let was = c.args.shared.now in
+    let sc = scenario_of was in
+    let h = entries_of was in
+    let d = c.in_ok-draft.draft in
+    let made = draft_made sc h c.args.number c.args.site.now c.args.input d c.requires.up.stands c.in_ok-draft.ensures.draft in
+    let old = g.D.Disk.meters c.args.log.now.disk in
+    let new = g.D.Disk.meters c.write.new.log.disk in
+    let logged = c.requires.up.logged in
+    let same : c.in-Err.why ≡ why = cc in
+    subst (λ (w : Why). IsReason w (log_size (moves_of sc h c.args.number)) (made_by sc h c.args.number c.args.input).records old new) same
+    (subst (λ (rs : List Record). IsReason c.in-Err.why (log_size (moves_of sc h c.args.number)) rs old new) (c.as_slice.ensures ∙ made.records_are)
+    (c.in-Err.ensures.reason (moves_of sc h c.args.number) logged.lists logged.hold logged.stands))

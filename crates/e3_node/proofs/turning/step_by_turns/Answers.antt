@@ -1,7 +1,9 @@
-use Rattle.std.proofs.Common.{◌≡◌, ◌++◌, ◌∷◌, [], ◌∙◌, ap, refl, sym, subst, map, List, arith}
+use Rattle.std.proofs.Common.{◌≡◌, ◌++◌, ◌∷◌, [], ◌∙◌, ap, refl, sym, subst, List, arith}
 use Rattle.e3_law_local.specs.Others.{numbered_on}
 use Rattle.e3_log.specs.Stands.{Stands}
-use Rattle.e3_node.specs.Bodies.{AllReadBack, DiskStands, ReadsWith, bodies_at, body_of}
+use Rattle.e3_node.specs.Bodies.{AllReadBack, DiskHolds, IsLogged, ReadsAfter, bodies_in, body_of}
+use Rattle.e3_node.specs.Counting.{counted_by}
+use Rattle.e3_node.specs.Ends.{IsReason}
 use Rattle.e3_node.specs.NodeStands.{IsUp}
 use Rattle.e3_node.specs.Turns.{IsStill, history_seen, scenario_seen}
 use Rattle.e3_node.specs.declared.state.State.TheVariants.{Up}
@@ -9,15 +11,18 @@ use Rattle.e3_site.specs.SiteView.{SiteView, count_on, plan_of}
 use Rattle.e3_turn.specs.Passes.{GrewByOthers, Owns, seen_by}
 use Rattle.e3_types.specs.declared.entries.Act.TheVariants.{Fall, Step}
 use Rattle.e3_types.specs.declared.entries.Entry.{Entry}
+use Rattle.e3_types.specs.declared.entries.Why.{Why}
 use Rattle.e3_types.specs.declared.records.Record.{Record}
 use Rattle.e3_wire.specs.Marks.{belongs, entries_of}
 use Rattle.e3_wire.specs.Wires.{MayEnterBehind}
 use Rattle.e3_wire.specs.declared.marks.Mark.{Mark}
 use Rattle.e3_wire.specs.declared.marks.Mark.TheVariants as mark
 use Rattle.e3_wire.proofs.Claimed.{taken_is_due}
-use Rattle.e3_world.specs.Legal.{made_by}
-use Rattle.e3_world.specs.Moves.{left_by, moves_of, plain_input}
-use Rattle.e3_node.proofs.Steps.{draft_made, fall_allowed, fall_back, fall_entered, fall_takes, fallen_disk, inputs_on, room_same, site_on, step_back, step_allowed, step_entered, stepped_up}
+use Rattle.e3_world.specs.Legal.{entry_of, made_by}
+use Rattle.e3_world.specs.Moves.{log_size, moves_of}
+use Rattle.e3_node.proofs.Steps.{draft_made, fall_allowed, fall_back, fall_entered, fall_takes, fallen_disk, inputs_on, room_same, site_on, step_back, step_allowed, step_entered, step_logged, stepped_up}
+use Rattle.e3_node.proofs.Counts.{count_fallen, count_meanwhile, count_stepped}
+use Rattle.e3_node.proofs.Owning.{made_own, own_meanwhile}
 use Rattle.e3_node.proofs.Turned.{refused}
 use Rattle.e3_node.proofs.Waiting.{back_meanwhile, behind_of, entered_turn, entries, looked, may_commit, meanwhile, still_owns, still_restless, still_up, up_meanwhile}
 use Rattle.e3_node.proofs.turning.step_by_turns.Goals as goal
@@ -133,9 +138,10 @@ returns-in-Ok-clause-ended g c =
     let ready = room_same sc now c.args.number _ c.args.site.now c.prepare.new.site up.stands c.in_ok-draft.ensures.site in
     let planned : d.plan ≡ plan_of c.prepare.new.site c.args.input =
     c.in_ok-draft.ensures.draft.plan_is ∙ sym (ap (λ (s : SiteView). plan_of s c.args.input) c.in_ok-draft.ensures.site) in
-    let logged : Stands g.D.Disk.content g.D.Disk.image (bodies_at sc now c.args.number ++ body_of (made_by sc now c.args.number c.args.input).records) c.write.new.log =
-    subst (λ (rs : List Record). Stands g.D.Disk.content g.D.Disk.image (bodies_at sc now c.args.number ++ body_of rs) c.write.new.log)
-    (c.as_slice.ensures ∙ here.records_are) (c.in-Ok.ensures.stands (moves_of sc now c.args.number) up.logged) in
+    let logged : IsLogged g.D.Disk.content g.D.Disk.image (moves_of sc (now ++ entry_of sc now c.args.number c.args.input ∷ []) c.args.number) c.write.new.log =
+    step_logged g.D.Disk.content g.D.Disk.image sc now c.args.number c.args.input c.args.log.now c.write.new.log up.logged
+    (λ lists before. subst (λ (rs : List Record). Stands g.D.Disk.content g.D.Disk.image (bodies_in lists ++ body_of rs) c.write.new.log)
+    (c.as_slice.ensures ∙ here.records_are) (c.in-Ok.ensures.stands lists before)) in
     record {
       now = now;
       meanwhile = m;
@@ -147,7 +153,8 @@ returns-in-Ok-clause-ended g c =
           logged c.in-Ok.ensures.lit
           (inputs_on sc now c.args.number c.args.input c.args.site.now.inputs _ up.inputs
           (ap (λ (s : SiteView). s.inputs) c.apply.ensures.done ∙ ap (λ (s : SiteView). count_on s.inputs) c.in_ok-draft.ensures.site)));
-      back = subst (λ (l : List Entry). AllReadBack sc l c.args.number) (sym entered) (step_back sc now c.args.number c.args.input back here.back);
+      back = subst (λ (l : List Entry). AllReadBack sc l c.args.number) (sym entered) (step_back sc now c.args.number c.args.input back (here.back (own_meanwhile sc h now c.args.number c.args.input m (made_own c.legal_histories_mention_what_stands.ensures.records c.begun_are_transactions.ensures c.records_suit_their_site.ensures.votes sc h c.args.number c.args.input
+          c.requires.played.given c.requires.played.legal c.requires.some c.requires.up.up due))));
     }
 
 pub returns-in-Err-clause-turned : goal.returns-in-Err-clause-turned
@@ -202,12 +209,12 @@ returns-in-Err-clause-ended g c =
       meanwhile = m;
       fell = record { some = (λ none. c.in-Err.ensures.some (c.as_slice.ensures ∙ here.records_are ∙ none)); entered = entered };
       stands =
-          subst (λ (l : List Entry). DiskStands sc l c.args.number image) (sym entered)
-          (fallen_disk sc now c.args.number c.args.input c.in-Err.why image (λ bytes at.
-          subst (λ (rs : List Record). ReadsWith (bodies_at sc now c.args.number) (left_by c.in-Err.why (map plain_input (c.args.input ∷ [])) rs) bytes)
-          (c.as_slice.ensures ∙ here.records_are)
-          (c.in-Err.ensures.images (moves_of sc now c.args.number) (map plain_input (c.args.input ∷ [])) up.logged bytes at)));
-      back = subst (λ (l : List Entry). AllReadBack sc l c.args.number) (sym entered) (fall_back sc now c.args.number c.args.input c.in-Err.why back here.back);
+          subst (λ (l : List Entry). DiskHolds sc l c.args.number image) (sym entered)
+          (fallen_disk g.D.Disk.content g.D.Disk.image sc now c.args.number c.args.input c.in-Err.why c.args.log.now c.write.new.log up.logged
+          (λ lists before bytes at. subst (λ (rs : List Record). ReadsAfter lists c.in-Err.why rs bytes)
+          (c.as_slice.ensures ∙ here.records_are) (c.in-Err.ensures.images lists before bytes at)));
+      back = subst (λ (l : List Entry). AllReadBack sc l c.args.number) (sym entered) (fall_back sc now c.args.number c.args.input c.in-Err.why back (here.back (own_meanwhile sc h now c.args.number c.args.input m (made_own c.legal_histories_mention_what_stands.ensures.records c.begun_are_transactions.ensures c.records_suit_their_site.ensures.votes sc h c.args.number c.args.input
+          c.requires.played.given c.requires.played.legal c.requires.some c.requires.up.up due))));
     }
 
 pub returns-in_err-claim-clause-turned : goal.returns-in_err-claim-clause-turned
@@ -231,3 +238,83 @@ returns-in_err-claim-clause-ended g c =
     record { meanwhile = m; disk = refl; stands = up; back = back_meanwhile sc h more c.args.number m c.requires.back } in
     refused g.D.Disk.content g.D.Disk.image g.D.Disk.meters sc h more c.args.number c.args.input (Up c.args.site.now c.args.log.now) (Up c.prepare.new.site c.args.log.now)
     c.in_err-claim.field-0.0 c.from_residual-in_err-claim.result c.from_residual-in_err-claim.ensures.1 still
+
+pub returns-in-Ok-clause-counted : goal.returns-in-Ok-clause-counted
+returns-in-Ok-clause-counted g c =
+    let p = c.args.pass.now in
+    let q = c.claim.new.pass in
+    let sc = scenario_seen p in
+    let h = history_seen p in
+    let d = c.in_ok-draft.draft in
+    let made = draft_made sc h c.args.number c.args.site.now c.args.input d c.requires.up.stands c.in_ok-draft.ensures.draft in
+    let due = taken_is_due sc h c.args.number c.args.input c.requires.restless c.requires.due c.requires.takes in
+    let cl = c.in_ok-claim.ensures.claimed in
+    let e : Entry = record { owner = c.args.number; act = Step c.args.input d.records d.outs d.told } in
+    let allows = step_allowed sc h c.args.number c.args.input d made c.requires.some c.requires.up.up due in
+    let r = c.commit_entry.new.pass in
+    let P : Entry → Type 0 = λ y. (later : List Mark) × GrewByOthers belongs q later × (seen_by r ≡ later ++ mark.Entered (numbered_on (entries_of later) y) ∷ []) in
+    let ent : P e = subst P c.step_of-step.ensures c.commit_entry.ensures.entered in
+    let owns = still_owns p q c.args.number c.claim.ensures.same c.requires.owns in
+    let b = behind_of p q r c.args.number _ e c.requires.owns owns cl.0 cl.1 cl.2 ent.0 ent.1 ent.2 in
+    let now = entries_of ent.0 in
+    let m = meanwhile c.args.number _ (seen_by p) (seen_by q) ent.0 (seen_by r) e b refl c.requires.played c.claim.ensures.played c.commit_entry.ensures.played in
+    let up : IsUp g.D.Disk.content g.D.Disk.image g.D.Disk.meters sc now c.args.number c.args.site.now c.args.log.now =
+    up_meanwhile g.D.Disk.content g.D.Disk.image g.D.Disk.meters sc h now c.args.number (Up c.args.site.now c.args.log.now) m c.requires.up in
+    let back = back_meanwhile sc h now c.args.number m c.requires.back in
+    let here = draft_made sc now c.args.number c.args.site.now c.args.input d up.stands c.in_ok-draft.ensures.draft in
+    let is = entries c.args.number _ (seen_by p) (seen_by q) ent.0 (seen_by r) e b refl c.requires.played c.claim.ensures.played c.commit_entry.ensures.played in
+    let more = history_seen r in
+    let entered = step_entered sc now more c.args.number c.args.input d here is in
+    count_stepped sc c.args.number now more c.args.input d.records d.outs d.told c.args.count.now c.count_on.new.count here.records_are entered
+    (c.requires.counted ∙ sym (count_meanwhile c.args.number h now m)) (c.count_on.ensures ∙ ap (λ (y : Entry). counted_by c.args.count.now y.act) c.step_of-step.ensures)
+
+pub returns-in-Err-clause-counted : goal.returns-in-Err-clause-counted
+returns-in-Err-clause-counted g c =
+    let p = c.args.pass.now in
+    let q = c.claim.new.pass in
+    let sc = scenario_seen p in
+    let h = history_seen p in
+    let d = c.in_ok-draft.draft in
+    let made = draft_made sc h c.args.number c.args.site.now c.args.input d c.requires.up.stands c.in_ok-draft.ensures.draft in
+    let due = taken_is_due sc h c.args.number c.args.input c.requires.restless c.requires.due c.requires.takes in
+    let cl = c.in_ok-claim.ensures.claimed in
+    let e : Entry = record { owner = c.args.number; act = Fall d.inputs d.fallen c.in-Err.why } in
+    let allows = fall_allowed sc h c.args.number c.args.input d c.in-Err.why made c.requires.some c.requires.up.up due (λ none. c.in-Err.ensures.some (c.as_slice.ensures ∙ none)) in
+    let r = c.commit_entry-in-Err.new.pass in
+    let P : Entry → Type 0 = λ y. (later : List Mark) × GrewByOthers belongs q later × (seen_by r ≡ later ++ mark.Entered (numbered_on (entries_of later) y) ∷ []) in
+    let ent : P e = subst P c.fall_of-fall.ensures c.commit_entry-in-Err.ensures.entered in
+    let owns = still_owns p q c.args.number c.claim.ensures.same c.requires.owns in
+    let b = behind_of p q r c.args.number _ e c.requires.owns owns cl.0 cl.1 cl.2 ent.0 ent.1 ent.2 in
+    let now = entries_of ent.0 in
+    let m = meanwhile c.args.number _ (seen_by p) (seen_by q) ent.0 (seen_by r) e b refl c.requires.played c.claim.ensures.played c.commit_entry-in-Err.ensures.played in
+    let up : IsUp g.D.Disk.content g.D.Disk.image g.D.Disk.meters sc now c.args.number c.args.site.now c.args.log.now =
+    up_meanwhile g.D.Disk.content g.D.Disk.image g.D.Disk.meters sc h now c.args.number (Up c.args.site.now c.args.log.now) m c.requires.up in
+    let back = back_meanwhile sc h now c.args.number m c.requires.back in
+    let here = draft_made sc now c.args.number c.args.site.now c.args.input d up.stands c.in_ok-draft.ensures.draft in
+    let is = entries c.args.number _ (seen_by p) (seen_by q) ent.0 (seen_by r) e b refl c.requires.played c.claim.ensures.played c.commit_entry-in-Err.ensures.played in
+    let more = history_seen r in
+    let entered = fall_entered sc now more c.args.number c.args.input d c.in-Err.why here is in
+    count_fallen sc c.args.number now more c.args.input d.inputs d.fallen c.in-Err.why c.args.count.now c.count_on-in-Err.new.count here.fallen_are entered
+    (c.requires.counted ∙ sym (count_meanwhile c.args.number h now m)) (c.count_on-in-Err.ensures ∙ ap (λ (y : Entry). counted_by c.args.count.now y.act) c.fall_of-fall.ensures)
+
+pub returns-in_err-claim-clause-counted : goal.returns-in_err-claim-clause-counted
+returns-in_err-claim-clause-counted g c =
+    let p = c.args.pass.now in
+    let q = c.claim.new.pass in
+    let cl = c.in_err-claim.ensures.claimed in
+    let m = (looked c.args.wire.now p q c.args.number cl.0 c.requires.owns c.requires.played c.claim.ensures.played c.claim.ensures.idle c.claim.ensures.same cl.1 cl.3).1 in
+    c.requires.counted ∙ sym (count_meanwhile c.args.number (history_seen p) (history_seen q) m)
+
+pub returns-in-Err-clause-why : goal.returns-in-Err-clause-why
+returns-in-Err-clause-why g c = λ why is.
+    let sc = scenario_seen c.args.pass.now in
+    let h = history_seen c.args.pass.now in
+    let d = c.in_ok-draft.draft in
+    let made = draft_made sc h c.args.number c.args.site.now c.args.input d c.requires.up.stands c.in_ok-draft.ensures.draft in
+    let old = g.D.Disk.meters c.args.log.now.disk in
+    let new = g.D.Disk.meters c.write.new.log.disk in
+    let logged = c.requires.up.logged in
+    let same : c.in-Err.why ≡ why = cc in
+    subst (λ (w : Why). IsReason w (log_size (moves_of sc h c.args.number)) (made_by sc h c.args.number c.args.input).records old new) same
+    (subst (λ (rs : List Record). IsReason c.in-Err.why (log_size (moves_of sc h c.args.number)) rs old new) (c.as_slice.ensures ∙ made.records_are)
+    (c.in-Err.ensures.reason (moves_of sc h c.args.number) logged.lists logged.hold logged.stands))

@@ -1,5 +1,6 @@
 use Rattle.std.proofs.Common.{◌≡◌, ◌≤◌, ◌++◌, ◌∷◌, [], ◌∙◌, ap, refl, subst, sym, true, List, arith}
 use Rattle.e3_node.specs.Bodies.{AllReadBack}
+use Rattle.e3_node.specs.Counting.{count_of}
 use Rattle.e3_node.specs.NodeStands.{IsIn}
 use Rattle.e3_node.specs.NodeView.{NodeView}
 use Rattle.e3_node.specs.SharedStands.{HasEntered}
@@ -8,6 +9,7 @@ use Rattle.e3_types.specs.declared.entries.Entry.{Entry}
 use Rattle.e3_wire.specs.Marks.{entries_of, last_owner, scenario_of}
 use Rattle.e3_world.specs.Items.{is_up_at}
 use Rattle.e3_world.specs.Legal.{IsCut}
+use Rattle.e3_node.proofs.Counts.{count_own}
 use Rattle.e3_node.proofs.Guarding.{cut_guard}
 use Rattle.e3_node.proofs.Pasts.{back_quiet}
 use Rattle.e3_node.proofs.Sharing.{may_enter}
@@ -47,7 +49,10 @@ returns-clause-stands g c =
     let back : AllReadBack sc more c.args.self.now.site =
     subst (λ (l : List Entry). AllReadBack sc l c.args.self.now.site) (sym (has.entries ∙ ap (λ (x : NodeView _). h ++ record { owner = x.site; act = Cut } ∷ []) c.self.view_is))
     (back_quiet sc h c.args.self.now.site (record { owner = c.args.self.now.site; act = Cut }) c.requires.standing.back refl refl refl) in
-    node_with g.D.Disk.content g.D.Disk.image g.D.Disk.meters sc (scenario_of c.enter.new.shared) h more c.args.self.now _ state c.requires.standing
+    node_with g.D.Disk.content g.D.Disk.image g.D.Disk.meters sc (scenario_of c.enter.new.shared) h more c.args.self.now _ state c.args.self.now.count c.requires.standing
     has.scenario
     (subst (λ (x : NodeView _). IsIn g.D.Disk.content g.D.Disk.image g.D.Disk.meters sc more x.site state) c.self.view_is behind) back
-    (ap (λ (x : NodeView _). let n : NodeView _ = record { site = x.site; weights = x.weights; rows = x.rows; state = state } in n) c.self.view_is)
+    (c.requires.standing.count_is
+    ∙ sym (ap (count_of c.args.self.now.site) (has.entries ∙ ap (λ (x : NodeView _). h ++ record { owner = x.site; act = Cut } ∷ []) c.self.view_is)
+    ∙ count_own c.args.self.now.site h (record { owner = c.args.self.now.site; act = Cut }) refl))
+    (ap (λ (x : NodeView _). let n : NodeView _ = record { site = x.site; weights = x.weights; rows = x.rows; count = x.count; state = state } in n) c.self.view_is)

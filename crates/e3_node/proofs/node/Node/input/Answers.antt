@@ -1,5 +1,6 @@
-use Rattle.std.proofs.Common.{◌≤◌, ap, subst, sym, refl, Err}
+use Rattle.std.proofs.Common.{◌≡◌, ◌≤◌, ap, subst, sym, refl, Err}
 use Rattle.e3_node.specs.Bodies.{AllReadBack}
+use Rattle.e3_node.specs.Counting.{count_of}
 use Rattle.e3_node.specs.Ends.{FellOver}
 use Rattle.e3_node.specs.NodeStands.{IsIn}
 use Rattle.e3_node.specs.NodeView.{NodeView}
@@ -11,6 +12,10 @@ use Rattle.e3_node.proofs.node.Node.input.Goals as goal
 pub take_input-requires-clause-exists : goal.take_input-requires-clause-exists
 take_input-requires-clause-exists g c =
     subst (λ (x : NodeView _). x.site ≤ last_owner c.args.shared.now) (sym c.self.view_is) c.requires.standing.exists
+
+pub take_input-requires-clause-counted : goal.take_input-requires-clause-counted
+take_input-requires-clause-counted g c =
+    subst (λ (x : NodeView _). x.count ≡ count_of x.site (entries_of c.args.shared.now)) (sym c.self.view_is) c.requires.standing.count_is
 
 pub returns-in-Err-clause-fell : goal.returns-in-Err-clause-fell
 returns-in-Err-clause-fell g c = λ why is.
@@ -27,8 +32,9 @@ returns-in-Err-clause-stands g c =
     (λ none. let k = c.in-Err.ensures.kept c.in-Err.fault refl none in (k.0, k.2))
     (λ why is. c.in-Err.ensures.fell why (ap (λ (f : InputFault). Err f) is))
     c.settle.ensures.fell c.settle.ensures.kept in
-    node_with g.D.Disk.content g.D.Disk.image g.D.Disk.meters sc (scenario_of c.take_input.new.shared) h more c.args.self.now _ c.settle.new.state c.requires.standing
+    node_with g.D.Disk.content g.D.Disk.image g.D.Disk.meters sc (scenario_of c.take_input.new.shared) h more c.args.self.now _ c.settle.new.state c.take_input.new.count c.requires.standing
     c.take_input.ensures.same.0
     (subst (λ (x : NodeView _). IsIn g.D.Disk.content g.D.Disk.image g.D.Disk.meters sc more x.site c.settle.new.state) c.self.view_is now)
     (subst (λ (x : NodeView _). AllReadBack sc more x.site) c.self.view_is c.take_input.ensures.back)
-    (ap (λ (x : NodeView _). let n : NodeView _ = record { site = x.site; weights = x.weights; rows = x.rows; state = c.settle.new.state } in n) c.self.view_is)
+    (subst (λ (x : NodeView _). c.take_input.new.count ≡ count_of x.site more) c.self.view_is c.take_input.ensures.counted)
+    (ap (λ (x : NodeView _). let n : NodeView _ = record { site = x.site; weights = x.weights; rows = x.rows; count = c.take_input.new.count; state = c.settle.new.state } in n) c.self.view_is)

@@ -1,5 +1,6 @@
-use Rattle.std.proofs.Common.{◌≡◌, ◌≤◌, ◌++◌, ℕ, ◌∙◌, ap, subst, sym, false}
-use Rattle.e3_node.specs.Bodies.{DiskStands}
+use Rattle.std.proofs.Common.{◌≡◌, ◌≤◌, ◌++◌, ℕ, ◌∙◌, ap, fold, subst, sym, false}
+use Rattle.e3_node.specs.Bodies.{DiskHolds}
+use Rattle.e3_node.specs.Counting.{counted_on}
 use Rattle.e3_node.specs.NodeView.{NodeView, disk_of}
 use Rattle.e3_node.specs.Rising.{IsAllowed, IsWish, MayRise, RiseMakes, RiseIsEntered, RiseTakes, entered_by}
 use Rattle.e3_wire.specs.Marks.{entries_of, last_owner, scenario_of}
@@ -22,12 +23,12 @@ enter_rise-requires-clause-allowed g c =
     let r = c.replace_with-raised.result in
     let state = c.replace_with-raised.new.dest in
     let down : is_up_at h node.site ≡ false = sym (c.if-is_up.ensures.stands sc h c.requires.standing) in
-    let is : IsWish node.site node.weights node.rows h wish = subst (λ (x : NodeView _). IsWish x.site x.weights x.rows h wish) c.self.view_is c.in_ok-wish.ensures in
+    let is : IsWish node.site node.weights node.rows node.count.records wish = subst (λ (x : NodeView _). IsWish x.site x.weights x.rows x.count.records wish) c.self.view_is c.in_ok-wish.ensures in
     let may : MayRise sc h wish = may_rise g.D.Disk.content g.D.Disk.image g.D.Disk.meters v node wish c.requires.shared c.requires.standing (c.requires.turn down) is in
     let stands = disk_in g.D.Disk.content g.D.Disk.image g.D.Disk.meters sc h node.site node.state c.requires.standing.state in
-    let here : DiskStands sc h wish.site (g.D.Disk.image (disk_of node.state)) = subst (λ (n : ℕ). DiskStands sc h n (g.D.Disk.image (disk_of node.state))) (sym is.site_is) stands in
-    let inside : DiskStands sc h wish.site (g.D.Disk.image (disk_of c.self.inside.state)) =
-    subst (λ (x : NodeView _). DiskStands sc h wish.site (g.D.Disk.image (disk_of x.state))) (sym c.self.view_is) here in
+    let here : DiskHolds sc h wish.site (g.D.Disk.image (disk_of node.state)) = subst (λ (n : ℕ). DiskHolds sc h n (g.D.Disk.image (disk_of node.state))) (sym is.site_is) stands in
+    let inside : DiskHolds sc h wish.site (g.D.Disk.image (disk_of c.self.inside.state)) =
+    subst (λ (x : NodeView _). DiskHolds sc h wish.site (g.D.Disk.image (disk_of x.state))) (sym c.self.view_is) here in
     let made : RiseMakes g.D.Disk.content g.D.Disk.image g.D.Disk.meters sc h node.site (disk_of node.state) state r =
     subst (λ (n : ℕ). RiseMakes g.D.Disk.content g.D.Disk.image g.D.Disk.meters sc h n (disk_of node.state) state r) is.site_is
     (subst (λ (x : NodeView _). RiseMakes g.D.Disk.content g.D.Disk.image g.D.Disk.meters sc h wish.site (disk_of x.state) state r) c.self.view_is
@@ -45,21 +46,22 @@ returns-clause-stands g c =
     let r = c.replace_with-raised.result in
     let state = c.replace_with-raised.new.dest in
     let down : is_up_at h node.site ≡ false = sym (c.if-is_up.ensures.stands sc h c.requires.standing) in
-    let is : IsWish node.site node.weights node.rows h wish = subst (λ (x : NodeView _). IsWish x.site x.weights x.rows h wish) c.self.view_is c.in_ok-wish.ensures in
+    let is : IsWish node.site node.weights node.rows node.count.records wish = subst (λ (x : NodeView _). IsWish x.site x.weights x.rows x.count.records wish) c.self.view_is c.in_ok-wish.ensures in
     let may : MayRise sc h wish = may_rise g.D.Disk.content g.D.Disk.image g.D.Disk.meters v node wish c.requires.shared c.requires.standing (c.requires.turn down) is in
     let stands = disk_in g.D.Disk.content g.D.Disk.image g.D.Disk.meters sc h node.site node.state c.requires.standing.state in
-    let here : DiskStands sc h wish.site (g.D.Disk.image (disk_of node.state)) = subst (λ (n : ℕ). DiskStands sc h n (g.D.Disk.image (disk_of node.state))) (sym is.site_is) stands in
-    let inside : DiskStands sc h wish.site (g.D.Disk.image (disk_of c.self.inside.state)) =
-    subst (λ (x : NodeView _). DiskStands sc h wish.site (g.D.Disk.image (disk_of x.state))) (sym c.self.view_is) here in
+    let here : DiskHolds sc h wish.site (g.D.Disk.image (disk_of node.state)) = subst (λ (n : ℕ). DiskHolds sc h n (g.D.Disk.image (disk_of node.state))) (sym is.site_is) stands in
+    let inside : DiskHolds sc h wish.site (g.D.Disk.image (disk_of c.self.inside.state)) =
+    subst (λ (x : NodeView _). DiskHolds sc h wish.site (g.D.Disk.image (disk_of x.state))) (sym c.self.view_is) here in
     let made : RiseMakes g.D.Disk.content g.D.Disk.image g.D.Disk.meters sc h node.site (disk_of node.state) state r =
     subst (λ (n : ℕ). RiseMakes g.D.Disk.content g.D.Disk.image g.D.Disk.meters sc h n (disk_of node.state) state r) is.site_is
     (subst (λ (x : NodeView _). RiseMakes g.D.Disk.content g.D.Disk.image g.D.Disk.meters sc h wish.site (disk_of x.state) state r) c.self.view_is
     (c.replace_with-raised.ensures.0 sc h may inside)) in
-    let has : RiseIsEntered c.self.inside.site r v c.enter_rise.new.shared = c.enter_rise.ensures v c.in_ok-claim.ensures.claimed in
+    let has : RiseIsEntered c.self.inside.site r v c.enter_rise.new.shared = c.enter_rise.ensures.entered v c.in_ok-claim.ensures.claimed in
     let entered : entries_of c.enter_rise.new.shared ≡ h ++ entered_by node.site r = has.entries ∙ ap (λ (x : NodeView _). h ++ entered_by x.site r) c.self.view_is in
-    node_risen g.D.Disk.content g.D.Disk.image g.D.Disk.meters sc (scenario_of c.enter_rise.new.shared) h (entries_of c.enter_rise.new.shared) node _ state r
+    node_risen g.D.Disk.content g.D.Disk.image g.D.Disk.meters sc (scenario_of c.enter_rise.new.shared) h (entries_of c.enter_rise.new.shared) node _ state c.enter_rise.new.count r
     c.requires.standing down made has.scenario entered
-    (ap (λ (x : NodeView _). let n : NodeView _ = record { site = x.site; weights = x.weights; rows = x.rows; state = state } in n) c.self.view_is)
+    (subst (λ (x : NodeView _). c.enter_rise.new.count ≡ fold (counted_on x.site) x.count (entered_by x.site r)) c.self.view_is c.enter_rise.ensures.counted)
+    (ap (λ (x : NodeView _). let n : NodeView _ = record { site = x.site; weights = x.weights; rows = x.rows; count = c.enter_rise.new.count; state = state } in n) c.self.view_is)
 
 pub returns-clause-rose : goal.returns-clause-rose
 returns-clause-rose g c =
@@ -71,17 +73,17 @@ returns-clause-rose g c =
     let r = c.replace_with-raised.result in
     let state = c.replace_with-raised.new.dest in
     let down : is_up_at h node.site ≡ false = sym (c.if-is_up.ensures.stands sc h c.requires.standing) in
-    let is : IsWish node.site node.weights node.rows h wish = subst (λ (x : NodeView _). IsWish x.site x.weights x.rows h wish) c.self.view_is c.in_ok-wish.ensures in
+    let is : IsWish node.site node.weights node.rows node.count.records wish = subst (λ (x : NodeView _). IsWish x.site x.weights x.rows x.count.records wish) c.self.view_is c.in_ok-wish.ensures in
     let may : MayRise sc h wish = may_rise g.D.Disk.content g.D.Disk.image g.D.Disk.meters v node wish c.requires.shared c.requires.standing (c.requires.turn down) is in
     let stands = disk_in g.D.Disk.content g.D.Disk.image g.D.Disk.meters sc h node.site node.state c.requires.standing.state in
-    let here : DiskStands sc h wish.site (g.D.Disk.image (disk_of node.state)) = subst (λ (n : ℕ). DiskStands sc h n (g.D.Disk.image (disk_of node.state))) (sym is.site_is) stands in
-    let inside : DiskStands sc h wish.site (g.D.Disk.image (disk_of c.self.inside.state)) =
-    subst (λ (x : NodeView _). DiskStands sc h wish.site (g.D.Disk.image (disk_of x.state))) (sym c.self.view_is) here in
+    let here : DiskHolds sc h wish.site (g.D.Disk.image (disk_of node.state)) = subst (λ (n : ℕ). DiskHolds sc h n (g.D.Disk.image (disk_of node.state))) (sym is.site_is) stands in
+    let inside : DiskHolds sc h wish.site (g.D.Disk.image (disk_of c.self.inside.state)) =
+    subst (λ (x : NodeView _). DiskHolds sc h wish.site (g.D.Disk.image (disk_of x.state))) (sym c.self.view_is) here in
     let made : RiseMakes g.D.Disk.content g.D.Disk.image g.D.Disk.meters sc h node.site (disk_of node.state) state r =
     subst (λ (n : ℕ). RiseMakes g.D.Disk.content g.D.Disk.image g.D.Disk.meters sc h n (disk_of node.state) state r) is.site_is
     (subst (λ (x : NodeView _). RiseMakes g.D.Disk.content g.D.Disk.image g.D.Disk.meters sc h wish.site (disk_of x.state) state r) c.self.view_is
     (c.replace_with-raised.ensures.0 sc h may inside)) in
-    let has : RiseIsEntered c.self.inside.site r v c.enter_rise.new.shared = c.enter_rise.ensures v c.in_ok-claim.ensures.claimed in
+    let has : RiseIsEntered c.self.inside.site r v c.enter_rise.new.shared = c.enter_rise.ensures.entered v c.in_ok-claim.ensures.claimed in
     let entered : entries_of c.enter_rise.new.shared ≡ h ++ entered_by node.site r = has.entries ∙ ap (λ (x : NodeView _). h ++ entered_by x.site r) c.self.view_is in
     rose_told g.D.Disk.content g.D.Disk.image g.D.Disk.meters sc h (entries_of c.enter_rise.new.shared) node.site (disk_of node.state) state r c.told.result
     made entered c.told.ensures
@@ -96,17 +98,17 @@ returns-clause-failed g c =
     let r = c.replace_with-raised.result in
     let state = c.replace_with-raised.new.dest in
     let down : is_up_at h node.site ≡ false = sym (c.if-is_up.ensures.stands sc h c.requires.standing) in
-    let is : IsWish node.site node.weights node.rows h wish = subst (λ (x : NodeView _). IsWish x.site x.weights x.rows h wish) c.self.view_is c.in_ok-wish.ensures in
+    let is : IsWish node.site node.weights node.rows node.count.records wish = subst (λ (x : NodeView _). IsWish x.site x.weights x.rows x.count.records wish) c.self.view_is c.in_ok-wish.ensures in
     let may : MayRise sc h wish = may_rise g.D.Disk.content g.D.Disk.image g.D.Disk.meters v node wish c.requires.shared c.requires.standing (c.requires.turn down) is in
     let stands = disk_in g.D.Disk.content g.D.Disk.image g.D.Disk.meters sc h node.site node.state c.requires.standing.state in
-    let here : DiskStands sc h wish.site (g.D.Disk.image (disk_of node.state)) = subst (λ (n : ℕ). DiskStands sc h n (g.D.Disk.image (disk_of node.state))) (sym is.site_is) stands in
-    let inside : DiskStands sc h wish.site (g.D.Disk.image (disk_of c.self.inside.state)) =
-    subst (λ (x : NodeView _). DiskStands sc h wish.site (g.D.Disk.image (disk_of x.state))) (sym c.self.view_is) here in
+    let here : DiskHolds sc h wish.site (g.D.Disk.image (disk_of node.state)) = subst (λ (n : ℕ). DiskHolds sc h n (g.D.Disk.image (disk_of node.state))) (sym is.site_is) stands in
+    let inside : DiskHolds sc h wish.site (g.D.Disk.image (disk_of c.self.inside.state)) =
+    subst (λ (x : NodeView _). DiskHolds sc h wish.site (g.D.Disk.image (disk_of x.state))) (sym c.self.view_is) here in
     let made : RiseMakes g.D.Disk.content g.D.Disk.image g.D.Disk.meters sc h node.site (disk_of node.state) state r =
     subst (λ (n : ℕ). RiseMakes g.D.Disk.content g.D.Disk.image g.D.Disk.meters sc h n (disk_of node.state) state r) is.site_is
     (subst (λ (x : NodeView _). RiseMakes g.D.Disk.content g.D.Disk.image g.D.Disk.meters sc h wish.site (disk_of x.state) state r) c.self.view_is
     (c.replace_with-raised.ensures.0 sc h may inside)) in
-    let has : RiseIsEntered c.self.inside.site r v c.enter_rise.new.shared = c.enter_rise.ensures v c.in_ok-claim.ensures.claimed in
+    let has : RiseIsEntered c.self.inside.site r v c.enter_rise.new.shared = c.enter_rise.ensures.entered v c.in_ok-claim.ensures.claimed in
     let entered : entries_of c.enter_rise.new.shared ≡ h ++ entered_by node.site r = has.entries ∙ ap (λ (x : NodeView _). h ++ entered_by x.site r) c.self.view_is in
     λ why told. failed_told g.D.Disk.content g.D.Disk.image g.D.Disk.meters sc h (entries_of c.enter_rise.new.shared) node.site (disk_of node.state) state r
     made entered why (sym c.told.ensures ∙ told)
@@ -121,12 +123,12 @@ returns-clause-cause g c =
     let r = c.replace_with-raised.result in
     let state = c.replace_with-raised.new.dest in
     let down : is_up_at h node.site ≡ false = sym (c.if-is_up.ensures.stands sc h c.requires.standing) in
-    let is : IsWish node.site node.weights node.rows h wish = subst (λ (x : NodeView _). IsWish x.site x.weights x.rows h wish) c.self.view_is c.in_ok-wish.ensures in
+    let is : IsWish node.site node.weights node.rows node.count.records wish = subst (λ (x : NodeView _). IsWish x.site x.weights x.rows x.count.records wish) c.self.view_is c.in_ok-wish.ensures in
     let may : MayRise sc h wish = may_rise g.D.Disk.content g.D.Disk.image g.D.Disk.meters v node wish c.requires.shared c.requires.standing (c.requires.turn down) is in
     let stands = disk_in g.D.Disk.content g.D.Disk.image g.D.Disk.meters sc h node.site node.state c.requires.standing.state in
-    let here : DiskStands sc h wish.site (g.D.Disk.image (disk_of node.state)) = subst (λ (n : ℕ). DiskStands sc h n (g.D.Disk.image (disk_of node.state))) (sym is.site_is) stands in
-    let inside : DiskStands sc h wish.site (g.D.Disk.image (disk_of c.self.inside.state)) =
-    subst (λ (x : NodeView _). DiskStands sc h wish.site (g.D.Disk.image (disk_of x.state))) (sym c.self.view_is) here in
+    let here : DiskHolds sc h wish.site (g.D.Disk.image (disk_of node.state)) = subst (λ (n : ℕ). DiskHolds sc h n (g.D.Disk.image (disk_of node.state))) (sym is.site_is) stands in
+    let inside : DiskHolds sc h wish.site (g.D.Disk.image (disk_of c.self.inside.state)) =
+    subst (λ (x : NodeView _). DiskHolds sc h wish.site (g.D.Disk.image (disk_of x.state))) (sym c.self.view_is) here in
     let made : RiseMakes g.D.Disk.content g.D.Disk.image g.D.Disk.meters sc h node.site (disk_of node.state) state r =
     subst (λ (n : ℕ). RiseMakes g.D.Disk.content g.D.Disk.image g.D.Disk.meters sc h n (disk_of node.state) state r) is.site_is
     (subst (λ (x : NodeView _). RiseMakes g.D.Disk.content g.D.Disk.image g.D.Disk.meters sc h wish.site (disk_of x.state) state r) c.self.view_is
@@ -143,12 +145,12 @@ returns-clause-spares g c =
     let r = c.replace_with-raised.result in
     let state = c.replace_with-raised.new.dest in
     let down : is_up_at h node.site ≡ false = sym (c.if-is_up.ensures.stands sc h c.requires.standing) in
-    let is : IsWish node.site node.weights node.rows h wish = subst (λ (x : NodeView _). IsWish x.site x.weights x.rows h wish) c.self.view_is c.in_ok-wish.ensures in
+    let is : IsWish node.site node.weights node.rows node.count.records wish = subst (λ (x : NodeView _). IsWish x.site x.weights x.rows x.count.records wish) c.self.view_is c.in_ok-wish.ensures in
     let may : MayRise sc h wish = may_rise g.D.Disk.content g.D.Disk.image g.D.Disk.meters v node wish c.requires.shared c.requires.standing (c.requires.turn down) is in
     let stands = disk_in g.D.Disk.content g.D.Disk.image g.D.Disk.meters sc h node.site node.state c.requires.standing.state in
-    let here : DiskStands sc h wish.site (g.D.Disk.image (disk_of node.state)) = subst (λ (n : ℕ). DiskStands sc h n (g.D.Disk.image (disk_of node.state))) (sym is.site_is) stands in
-    let inside : DiskStands sc h wish.site (g.D.Disk.image (disk_of c.self.inside.state)) =
-    subst (λ (x : NodeView _). DiskStands sc h wish.site (g.D.Disk.image (disk_of x.state))) (sym c.self.view_is) here in
+    let here : DiskHolds sc h wish.site (g.D.Disk.image (disk_of node.state)) = subst (λ (n : ℕ). DiskHolds sc h n (g.D.Disk.image (disk_of node.state))) (sym is.site_is) stands in
+    let inside : DiskHolds sc h wish.site (g.D.Disk.image (disk_of c.self.inside.state)) =
+    subst (λ (x : NodeView _). DiskHolds sc h wish.site (g.D.Disk.image (disk_of x.state))) (sym c.self.view_is) here in
     let made : RiseMakes g.D.Disk.content g.D.Disk.image g.D.Disk.meters sc h node.site (disk_of node.state) state r =
     subst (λ (n : ℕ). RiseMakes g.D.Disk.content g.D.Disk.image g.D.Disk.meters sc h n (disk_of node.state) state r) is.site_is
     (subst (λ (x : NodeView _). RiseMakes g.D.Disk.content g.D.Disk.image g.D.Disk.meters sc h wish.site (disk_of x.state) state r) c.self.view_is

@@ -1,0 +1,19 @@
+use Rattle.std.proofs.Common.{sym, subst}
+use Rattle.e3_node.specs.Rising.{RiseMakes}
+use Rattle.e3_node.specs.declared.rising.Raised.{Raised}
+use Rattle.e3_node.specs.declared.state.State.TheVariants.{Down}
+use Rattle.e3_world.specs.Moves.{moves_of, open_tail}
+use Rattle.e3_node.proofs.Rises.{not_opened}
+use Rattle.e3_node.proofs.Strange.{reads_some}
+use Rattle.e3_node.proofs.rising.open.Goals as goal
+
+pub returns-in-Err-clause-makes : goal.returns-in-Err-clause-makes
+returns-in-Err-clause-makes g c = λ sc h may holds.
+    let site = c.args.wish.now.site in
+    let old = c.args.disk in
+    let new = c.in-Err.refused.disk in
+    subst (λ (r : Raised). RiseMakes g.D.Disk.content g.D.Disk.image g.D.Disk.meters sc h site old (Down new) r) (sym c.raised_of.ensures)
+    (not_opened g.D.Disk.content g.D.Disk.image g.D.Disk.meters sc h site old new c.in-Err.refused.cause c.in-Err.ensures.images holds
+    (λ is. c.in-Err.ensures.failed is c.requires.lit)
+    (λ at is. reads_some site (moves_of sc h site) (open_tail sc h site) (g.D.Disk.content old) (holds (g.D.Disk.content old) (g.met.D.Disk.reads_an_image old))
+    (λ bs reads. c.in-Err.ensures.whole bs reads at is)))
