@@ -1,14 +1,14 @@
 -- Drops of the driver, and what they leave.
-use Rattle.std.proofs.Common.{◌≡◌, ◌≢◌, ◌==◌, ◌+◌, ◌<◌, ◌≤◌, ◌++◌, ◌∷◌, [], ℕ, suc, Bool, true, false, List, length, refl, sym, ap, subst, ◌∙◌, arith, append-nil, append_assoc, fold, Some}
+use Rattle.std.proofs.Common.{◌≡◌, ◌≢◌, ◌==◌, ◌+◌, ◌<◌, ◌≤◌, ◌++◌, ◌∷◌, [], ℕ, Bool, true, false, List, length, refl, sym, ap, subst, ◌∙◌, arith, append-nil, append_assoc, fold, Some}
 use Rattle.std.specs.Prelude.{All, None, Option, find, slice_get, slice_index_or}
 use Rattle.std.specs.List.{list_any}
 use Rattle.std.proofs.lemmas.Bool.{ne_eqb}
 use Rattle.std.proofs.lemmas.Grind.{fold-append}
-use Rattle.std.proofs.lemmas.List.Elements.{All-nil, All-cons}
+use Rattle.std.proofs.lemmas.List.Elements.{All-nil, All-cons, All-head}
 use Rattle.atomic_table.specs.Seated.{TableId}
 use Rattle.e3_crew.specs.Crews.{HasGoneOn, IsCrew}
 use Rattle.e3_crew.specs.Drops.{AreDrops, DropHadNoRoom, HasDropped}
-use Rattle.e3_crew.specs.Turns.{AtStart, BehindOthers, WentOn}
+use Rattle.e3_crew.specs.Turns.{AtStart, BehindOthers}
 use Rattle.e3_crew.specs.declared.worker.Worker.{Worker}
 use Rattle.e3_crew.proofs.Growing.{restless_on}
 use Rattle.e3_disk.specs.Meters.{Meters}
@@ -19,18 +19,17 @@ use Rattle.e3_node.specs.NodeStands.{NodeStands}
 use Rattle.e3_node.specs.NodeView.{NodeView, disk_of}
 use Rattle.e3_node.specs.Turns.{history_seen, scenario_seen}
 use Rattle.e3_sites.specs.Delivered.{IsFull}
-use Rattle.e3_sites.specs.Settled.{StaysInStep}
 use Rattle.e3_sites.proofs.Bounds.{packet_full}
 use Rattle.e3_types.specs.declared.messages.Packet.{Packet}
-use Rattle.e3_turn.specs.Passes.{IsIdle, SameOwners, last_of, owners_of, seen_by}
-use Rattle.e3_turn.specs.Chronicles.{count_of}
+use Rattle.e3_turn.specs.Passes.{GrewByOthers, IsIdle, OwnsAll, SameOwners, last_of, owners_of, seen_by}
+use Rattle.e3_turn.specs.Chronicles.{IsForeign, count_of}
 use Rattle.e3_types.specs.declared.entries.Act.TheVariants.{Drop}
 use Rattle.e3_types.specs.declared.entries.Entry.{Entry}
 use Rattle.e3_types.specs.declared.scenarios.Scenario.{Scenario}
 use Rattle.e3_wire.specs.Claims.{APass, HasOwner, NothingPromised}
 use Rattle.e3_wire.specs.declared.marks.Mark.{Mark}
 use Rattle.e3_wire.specs.declared.marks.Mark.TheVariants as mark
-use Rattle.e3_wire.specs.Marks.{Note, entries_of, last_owner, most_of, note_by, note_of, nothing, scenario_of, used_of}
+use Rattle.e3_wire.specs.Marks.{Note, belongs, entries_of, last_owner, most_of, note_by, note_of, nothing, scenario_of, used_of}
 use Rattle.e3_wire.specs.Wires.{IsDroppedFor, IsPlayed}
 use Rattle.e3_wire.proofs.Foreign.{entries_append}
 use Rattle.e3_wire.proofs.Notes.{scenario_stays}
@@ -147,6 +146,31 @@ dropped_through before now played after d was =
       done = subst P (sym (dropped_entries before now d))
           (all_leave P (λ h number all. through_push sc h (drop_of number) refl (λ was up. up) all) d.drops (entries_of before) d.are was.done);
     }
+
+-- what a pass that owns all takes is what it has seen
+pub alone : (p : APass) (marks : List Mark) → OwnsAll p → GrewByOthers belongs p marks → marks ≡ seen_by p
+alone p marks all grew = by grew.0 grew.1 grew.2
+  where
+    P : Mark → Type 0
+    P m = IsForeign belongs (last_of p) (owners_of p) m
+
+    by : (more : List Mark) → marks ≡ seen_by p ++ more → All P more → marks ≡ seen_by p
+    by [] is foreign = is ∙ append-nil (seen_by p)
+    by (m ∷ more) is foreign =
+        let head : P m = All-head P m more foreign in
+        let some = all head.0.0 head.0.1 in
+        let none = head.1 head.0.0 head.0.2 in
+        absurd (omega (arith, some, none))
+
+-- so what it dropped and put back is behind what it had seen
+pub came : (p q : APass) (taken put : List Mark) → OwnsAll p → GrewByOthers belongs p taken → HasDropped taken put → seen_by q ≡ put → HasDropped (seen_by p) (seen_by q)
+came p q taken put all grew d is =
+    let P : List Mark → Type 0 = λ l. HasDropped l (seen_by q) in
+    let Q : List Mark → Type 0 = λ l. HasDropped taken l in
+    subst P (alone p taken all grew) (subst Q (sym is) d)
+
+pub same_owners : (p q r : APass) → SameOwners p q → SameOwners q r → SameOwners p r
+same_owners p q r first second = record { owners = second.owners ∙ first.owners; last = second.last ∙ first.last }
 
 module _ {D : Type 0} (content : D → List ℕ) (image : D → List ℕ → Type 0) (meters : D → Meters) (law : NodesKeptByOthers content image meters)
     (wire : TableId) (p q : APass) (workers : List (Worker D)) (was : IsCrew content image meters wire p workers)

@@ -1,8 +1,8 @@
 -- Rounds one after the other.
-use Rattle.std.proofs.Common.{◌≡◌, ◌≢◌, ◌+◌, ◌<◌, ◌++◌, ◌∷◌, [], ℕ, zero, suc, List, length, refl, sym, ap, subst, ◌∙◌, arith, take, get_or}
+use Rattle.std.proofs.Common.{◌≡◌, ◌≢◌, ◌+◌, ◌<◌, [], ℕ, List, length, refl, sym, ap, subst, ◌∙◌, arith}
 use Rattle.std.specs.Prelude.{Err, Ok, OnOk, Result, slice_index_or}
 use Rattle.atomic_table.specs.Seated.{TableId}
-use Rattle.e3_crew.specs.Crews.{HasGoneOn, IsAtRest, IsCrew}
+use Rattle.e3_crew.specs.Crews.{HasGoneOn, IsCrew}
 use Rattle.e3_crew.specs.Turns.{AtStart, WentOn}
 use Rattle.e3_crew.specs.declared.worker.Worker.{Worker}
 use Rattle.e3_crew.proofs.Turning.{went_on}
@@ -13,7 +13,6 @@ use Rattle.e3_node.specs.Turns.{history_seen, scenario_seen}
 use Rattle.e3_sites.specs.Delivered.{IsFull}
 use Rattle.e3_sites.specs.Settled.{StaysInStep}
 use Rattle.e3_sites.proofs.Steps.{same_step, stays_none, stays_on}
-use Rattle.e3_turn.specs.Passes.{seen_by}
 use Rattle.e3_types.specs.declared.entries.Entry.{Entry}
 use Rattle.e3_types.specs.declared.scenarios.Scenario.{Scenario}
 use Rattle.e3_wire.specs.Claims.{APass}

@@ -1,11 +1,10 @@
 -- What an answer of a node to an input comes to.
-use Rattle.std.proofs.Common.{◌≡◌, ◌==◌, ◌↔◌, ◌≤◌, ◌++◌, ◌∷◌, [], inl, inr, ℕ, suc, Bool, true, false, List, refl, sym, ap, subst, ◌∙◌, arith, eq-eqb}
-use Rattle.std.specs.Prelude.{Result, Ok, Err, OnOk, OnErr}
+use Rattle.std.proofs.Common.{◌≡◌, ◌↔◌, ◌≤◌, ◌++◌, ◌∷◌, [], inl, inr, ℕ, Bool, true, false, List, refl, sym, ap, subst, ◌∙◌}
+use Rattle.std.specs.Prelude.{Result, Ok, Err, OnOk}
 use Rattle.e3_disk.specs.Meters.{Keeps, Meters}
-use Rattle.e3_crew.specs.Turns.{AreDone, AtStart, BehindFall, BehindOthers, BehindStep, HasTaken, IsFallBy, IsStepBy, WentOn, given}
+use Rattle.e3_crew.specs.Turns.{AtStart, BehindFall, BehindOthers, BehindStep, WentOn, given}
 use Rattle.e3_crew.specs.Workers.{HasGiven, HasWorked, Knows}
-use Rattle.e3_crew.proofs.Growing.{alike_meanwhile, lines_meanwhile, meanwhile_all, meanwhile_none, meanwhile_on, meanwhile_own, restless_on}
-use Rattle.e3_law_local.specs.Others.{AreOthers}
+use Rattle.e3_crew.proofs.Growing.{alike_meanwhile, lines_meanwhile, meanwhile_all, meanwhile_on, meanwhile_own, restless_on}
 use Rattle.e3_node.specs.Claims.{MovesStay}
 use Rattle.e3_node.specs.Ends.{FellOver, IsReason, Takes, calls_for, is_fall}
 use Rattle.e3_node.specs.NodeStands.{NodeStands}
@@ -13,9 +12,7 @@ use Rattle.e3_node.specs.NodeView.{NodeView, disk_of}
 use Rattle.e3_node.specs.Turns.{Meanwhile}
 use Rattle.e3_node.specs.declared.fault.InputFault.{InputFault}
 use Rattle.e3_node.specs.declared.fault.InputFault.TheVariants as input_fault
-use Rattle.e3_sites.specs.Entering.{AfterInput, fall_of}
-use Rattle.e3_sites.specs.declared.sites.RunFault.{RunFault}
-use Rattle.e3_sites.specs.declared.sites.RunFault.TheVariants.{HistoryFull}
+use Rattle.e3_sites.specs.Entering.{fall_of}
 use Rattle.e3_types.specs.declared.entries.Entry.{Entry}
 use Rattle.e3_types.specs.declared.entries.Input.{Input}
 use Rattle.e3_types.specs.declared.entries.Why.{Why}

@@ -10,7 +10,7 @@ use Rattle.e3_node.specs.Turns.{Meanwhile}
 use Rattle.e3_types.specs.declared.entries.Entry.{Entry}
 use Rattle.e3_types.specs.declared.scenarios.Scenario.{Scenario}
 use Rattle.e3_world.specs.Given.{IsGiven}
-use Rattle.e3_world.specs.Items.{inputs_at, is_up_at, turn_of}
+use Rattle.e3_world.specs.Items.{inputs_at, turn_of}
 use Rattle.e3_world.specs.Legal.{IsLegal}
 use Rattle.e3_world.specs.Packets.{is_calm, is_line, lines, present_items, step_items}
 use Rattle.e3_world.specs.Progress.{Through}

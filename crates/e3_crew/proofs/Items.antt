@@ -1,5 +1,5 @@
 -- A round of items.
-use Rattle.std.proofs.Common.{◌≡◌, ◌≢◌, ◌==◌, ◌||◌, ◌+◌, ◌<◌, ◌≤◌, ◌++◌, ◌∷◌, [], ℕ, zero, suc, Bool, true, false, List, length, refl, sym, ap, subst, ◌∙◌, arith, Option, Some, None, filter, map}
+use Rattle.std.proofs.Common.{◌≡◌, ◌≢◌, ◌==◌, ◌+◌, ◌<◌, ◌≤◌, ◌++◌, ◌∷◌, [], ℕ, zero, suc, Bool, true, false, List, length, refl, sym, ap, subst, ◌∙◌, arith, Option, Some, None}
 use Rattle.std.specs.Prelude.{Result, Ok, Err, OnOk, filter_map, slice_index_or}
 use Rattle.std.specs.List.{list_any}
 use Rattle.atomic_table.specs.Seated.{TableId}
@@ -30,9 +30,9 @@ use Rattle.e3_types.specs.declared.scenarios.Item.{Item}
 use Rattle.e3_types.specs.declared.scenarios.Scenario.{Scenario}
 use Rattle.e3_wire.specs.Claims.{APass, NothingPromised, UsedGrows}
 use Rattle.e3_wire.specs.declared.marks.Mark.{Mark}
-use Rattle.e3_wire.specs.Marks.{AreForeign, entries_of, last_owner, most_of, note_of, scenario_of, used_of}
+use Rattle.e3_wire.specs.Marks.{entries_of, last_owner, most_of, note_of, scenario_of, used_of}
 use Rattle.e3_wire.specs.Wires.{IsPlayed}
-use Rattle.e3_world.specs.Items.{input_of, inputs_at, inputs_to, is_delivery, is_up_at, taken_at, to_line, turn_of}
+use Rattle.e3_world.specs.Items.{input_of, inputs_at, inputs_to, is_delivery, is_up_at, taken_at, to_line}
 use Rattle.e3_world.specs.Legal.{IsLegal, IsNextItem}
 use Rattle.e3_world.specs.Packets.{lines, present_items}
 use Rattle.e3_world.specs.Progress.{Delivering, Through}

@@ -1,5 +1,5 @@
 -- Members of a list of which one after the other changes.
-use Rattle.std.proofs.Common.{◌≡◌, ◌≢◌, ⊎_elim, set, ℕ, ◌+◌, ◌<◌, ◌≤◌, List, length, sym, ap, ◌∙◌, subst, arith, eqb, Bool, true, false}
+use Rattle.std.proofs.Common.{◌≡◌, ◌≢◌, ⊎_elim, set, ℕ, ◌+◌, ◌<◌, ◌≤◌, List, length, sym, ap, ◌∙◌, subst, arith, eqb, true, false}
 use Rattle.std.proofs.lemmas.Bool.Decides.{eqb_tells, leb_tells}
 use Rattle.std.proofs.lemmas.List.{get_or-set_same, get_or-set_other, get_or_default}
 use Rattle.std.specs.Prelude.{slice_index_or}
@@ -21,7 +21,11 @@ unchanged_more xs ys k w h i d le = get_or-set_other ys k i w d (λ e. omega ari
 pub same_member : {A : Type 0} (xs ys : List A) (k : ℕ) (d e : A) → k < length ys → ((i : ℕ) (d : A) → k ≤ i → slice_index_or ys i d ≡ slice_index_or xs i d) → slice_index_or ys k e ≡ slice_index_or xs k d
 same_member xs ys k d e lt h = get_or_default ys k e d lt ∙ h k d (omega arith)
 
--- what is told of each member, those that have changed and those that are left
-pub kept_by : {A B : Type 0} (f : A → B) (xs ys : List A) (k : ℕ) → ((i : ℕ) (d : A) → i < k → f (slice_index_or ys i d) ≡ f (slice_index_or xs i d))
-    → ((i : ℕ) (d : A) → k ≤ i → slice_index_or ys i d ≡ slice_index_or xs i d) → (i : ℕ) (d : A) → f (slice_index_or ys i d) ≡ f (slice_index_or xs i d)
-kept_by f xs ys k before later i d = ⊎_elim (λ h. ap f (later i d h.1)) (λ h. before i d h.1) (leb_tells k i)
+-- what is told of each member, while one of them is set to what is told of it
+pub kept_at : {A B : Type 0} (f : A → B) (xs ys : List A) (k : ℕ) (w : A) → k < length ys → ((i : ℕ) (d : A) → i < k → f (slice_index_or ys i d) ≡ f (slice_index_or xs i d))
+    → ((i : ℕ) (d : A) → k ≤ i → slice_index_or ys i d ≡ slice_index_or xs i d) → ((d : A) → f w ≡ f (slice_index_or xs k d))
+    → (i : ℕ) (d : A) → f (slice_index_or (set ys k w) i d) ≡ f (slice_index_or xs i d)
+kept_at {A = A} f xs ys k w lt before later here i d = ⊎_elim
+    (λ (t : (eqb i k ≡ true) × (i ≡ k)). subst (λ j. f (slice_index_or (set ys k w) j d) ≡ f (slice_index_or xs j d)) (sym t.1) (ap f (get_or-set_same ys k w d lt) ∙ here d))
+    (λ (t : (eqb i k ≡ false) × (i ≢ k)). ap f (get_or-set_other ys k i w d t.1) ∙ ⊎_elim (λ h. ap f (later i d h.1)) (λ h. before i d h.1) (leb_tells k i))
+    (eqb_tells i k)

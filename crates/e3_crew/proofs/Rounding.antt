@@ -1,27 +1,26 @@
 -- A round of all workers, from the dealing of their passes to the gathering.
-use Rattle.std.proofs.Common.{◌≡◌, ◌+◌, ◌<◌, ◌≤◌, ◌++◌, ◌∷◌, [], ℕ, zero, suc, true, false, List, length, refl, sym, ap, subst, ◌∙◌, arith}
+use Rattle.std.proofs.Common.{◌≡◌, ◌+◌, ◌<◌, ◌≤◌, ◌∷◌, [], ℕ, zero, suc, false, List, length, refl, sym, ap, subst, ◌∙◌, arith}
 use Rattle.std.specs.Prelude.{slice_index_or}
 use Rattle.std.specs.List.{list_any}
 use Rattle.atomic_table.specs.Seated.{TableId}
-use Rattle.e3_crew.specs.Crews.{HasGoneOn, IsAtRest, IsCrew}
+use Rattle.e3_crew.specs.Crews.{HasGoneOn, IsCrew}
 use Rattle.e3_crew.specs.Turns.{WentOn}
-use Rattle.e3_crew.specs.Workers.{AddedByOthers, HasWorked, IsDealt, KeepsItsOwn, Knows, seen_of}
+use Rattle.e3_crew.specs.Workers.{AddedByOthers, HasWorked, IsDealt, KeepsItsOwn, seen_of}
 use Rattle.e3_crew.specs.declared.worker.Worker.{Worker}
 use Rattle.e3_crew.proofs.Growing.{lines_meanwhile, restless_on}
 use Rattle.e3_crew.proofs.Turning.{meanwhile_foreign, worked_behind, worked_on}
 use Rattle.e3_disk.specs.Meters.{Meters}
 use Rattle.e3_law_local.specs.Others.{AreOthers}
 use Rattle.e3_node.specs.Claims.{NodesKeptByOthers}
-use Rattle.e3_node.specs.NodeStands.{NodeStands}
 use Rattle.e3_node.specs.NodeView.{NodeView, disk_of}
 use Rattle.e3_node.specs.Turns.{Meanwhile, history_seen, scenario_seen}
 use Rattle.e3_sites.specs.Settled.{StaysInStep}
-use Rattle.e3_turn.specs.Passes.{IsIdle, Owns, OwnsAll, last_of, seen_by}
+use Rattle.e3_turn.specs.Passes.{IsIdle, Owns, last_of, seen_by}
 use Rattle.e3_types.specs.declared.entries.Entry.{Entry}
 use Rattle.e3_types.specs.declared.scenarios.Scenario.{Scenario}
 use Rattle.e3_wire.specs.Claims.{APass}
 use Rattle.e3_wire.specs.declared.marks.Mark.{Mark}
-use Rattle.e3_wire.specs.Marks.{AreForeign, entries_of, last_owner, most_of, note_of, scenario_of}
+use Rattle.e3_wire.specs.Marks.{AreForeign, last_owner, most_of, note_of, scenario_of}
 use Rattle.e3_wire.specs.Wires.{IsPlayed}
 use Rattle.e3_wire.proofs.Foreign.{notes_stay}
 use Rattle.e3_wire.proofs.Notes.{scenario_stays}

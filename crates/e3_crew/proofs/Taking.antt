@@ -1,6 +1,6 @@
 -- Items and packets of a worker.
-use Rattle.std.proofs.Common.{◌≡◌, ◌==◌, ◌||◌, ◌<◌, ◌+◌, ◌++◌, ◌∷◌, [], inl, inr, ℕ, zero, suc, Bool, true, false, List, length, refl, sym, ap, subst, ◌∙◌, arith, eq-eqb, Some, None}
-use Rattle.std.specs.Prelude.{Result, Ok, Err, OnErr, OnOk, get_or, slice_get}
+use Rattle.std.proofs.Common.{◌≡◌, ◌||◌, ◌<◌, ◌++◌, ◌∷◌, [], inl, inr, ℕ, zero, suc, Bool, true, false, List, length, refl, sym, ap, subst, ◌∙◌, arith, eq-eqb, Some}
+use Rattle.std.specs.Prelude.{Result, Ok, Err, OnOk, get_or, slice_get}
 use Rattle.std.specs.List.{list_any}
 use Rattle.atomic_table.specs.Seated.{TableId}
 use Rattle.e3_crew.specs.Turns.{AreDone, HasTaken}
@@ -26,7 +26,7 @@ use Rattle.e3_types.specs.declared.scenarios.Scenario.{Scenario}
 use Rattle.e3_turn.specs.Passes.{seen_by}
 use Rattle.e3_wire.specs.Claims.{APass}
 use Rattle.e3_wire.specs.declared.marks.Mark.{Mark}
-use Rattle.e3_wire.specs.Marks.{entries_of, most_of, scenario_of, used_of}
+use Rattle.e3_wire.specs.Marks.{entries_of, scenario_of}
 use Rattle.e3_wire.specs.Wires.{TakesLeast}
 use Rattle.e3_world.specs.Given.{IsGiven}
 use Rattle.e3_world.specs.Items.{is_delivery, is_up_at, turn_of}

@@ -1,5 +1,5 @@
 -- What workers know stays true while others go on, and turns follow one another.
-use Rattle.std.proofs.Common.{◌≡◌, ◌==◌, ◌<◌, ◌++◌, ◌∷◌, [], ℕ, suc, Bool, true, false, List, refl, sym, ap, subst, ◌∙◌, arith}
+use Rattle.std.proofs.Common.{◌≡◌, ◌<◌, ◌++◌, ◌∷◌, [], ℕ, false, List, refl, sym, ap, subst, ◌∙◌, arith}
 use Rattle.e3_disk.specs.Meters.{Meters}
 use Rattle.e3_crew.specs.Turns.{AtStart, BehindFall, BehindOthers, BehindStep, WentOn}
 use Rattle.e3_crew.specs.Workers.{HasWorked, Knows}

@@ -1,7 +1,6 @@
 -- What the driver drops between rounds.
 use Rattle.std.specs.Prelude.{◌≡◌, ◌≤◌, ◌++◌, ◌∷◌, [], ℕ, List, Some}
 use Rattle.e3_types.specs.declared.entries.Act.TheVariants.{Drop}
-use Rattle.e3_types.specs.declared.entries.Entry.{Entry}
 use Rattle.e3_types.specs.declared.messages.Packet.{Packet}
 use Rattle.e3_wire.specs.declared.marks.Mark.{Mark}
 use Rattle.e3_wire.specs.declared.marks.Mark.TheVariants as mark

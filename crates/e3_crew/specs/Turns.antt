@@ -1,5 +1,5 @@
 -- What a site and its disk came to while others went on.
-use Rattle.std.specs.Prelude.{◌≡◌, ◌⊎◌, ◌++◌, ◌∷◌, [], ℕ, true, false, List, Result, Ok, Err}
+use Rattle.std.specs.Prelude.{◌≡◌, ◌++◌, ◌∷◌, [], ℕ, true, false, List, Result, Ok, Err}
 use Rattle.e3_disk.specs.Meters.{Keeps, Meters}
 use Rattle.e3_law_local.specs.Others.{AreOthers}
 use Rattle.e3_law_local.specs.Workers.{AtItems}

@@ -12,18 +12,17 @@ use Rattle.e3_node.specs.Turns.{Meanwhile}
 use Rattle.e3_sites.specs.declared.sites.RunFault.{RunFault}
 use Rattle.e3_sites.specs.declared.sites.RunFault.TheVariants.{HistoryFull}
 use Rattle.e3_turn.specs.Passes.{IsIdle, owners_of, seen_by}
-use Rattle.e3_types.specs.declared.entries.Entry.{Entry}
 use Rattle.e3_types.specs.declared.entries.Input.{Input}
 use Rattle.e3_types.specs.declared.messages.Packet.{Packet}
-use Rattle.e3_types.specs.declared.scenarios.Scenario.{Scenario}
 use Rattle.e3_wire.specs.Claims.{APass}
 use Rattle.e3_wire.specs.declared.marks.Mark.{Mark}
 use Rattle.e3_wire.specs.Marks.{AreForeign, entries_of, most_of, note_of, scenario_of, used_of}
 use Rattle.e3_wire.specs.Wires.{IsPlayed}
-use Rattle.e3_world.specs.Items.{is_delivery, is_up_at}
+use Rattle.e3_world.specs.Items.{inputs_to, is_delivery, is_up_at}
 use Rattle.e3_world.specs.Legal.{IsNextItem}
 use Rattle.e3_world.specs.Packets.{is_calm, present_items}
 use Rattle.e3_world.specs.Progress.{Through}
+use Rattle.e3_world.specs.declared.names.Addressed.{Addressed}
 
 -- a pass of this wire that speaks for one site
 pub record IsPassFor (wire : TableId) (site : ℕ) (p : APass) : Type 0 where
@@ -131,6 +130,11 @@ pub record IsDealt {D : Type 0} (wire : TableId) (marks : List Mark) (before aft
   pub seen : seen_of after ≡ marks
   pub node : after.node ≡ before.node
   pub items : after.items ≡ before.items
+
+-- it was given those of the inputs that go to its site
+pub record HasItems {D : Type 0} (inputs : List Addressed) (before after : Worker D) : Type 0 where
+  pub node : after.node ≡ before.node
+  pub items : after.items ≡ inputs_to before.node.site inputs
 
 -- what a worker has but for its pass is as it was
 pub record KeepsItsOwn {D : Type 0} (before after : Worker D) : Type 0 where

@@ -1,20 +1,25 @@
 // The driver's turn between rounds: it drops the packets to sites that are down.
-ghost use Rattle.std.specs.Prelude.{◌≡◌, ◌<◌, [], ℕ, false, length, slice_index_or, Err};
+ghost use Rattle.std.specs.Prelude.{◌≡◌, ◌≢◌, ◌<◌, [], ℕ, false, length, slice_index_or, Err, IfOk};
+ghost use Rattle.e3_crew.specs.Crews.{HasGoneOn, IsCrew};
 ghost use Rattle.e3_crew.specs.Drops.{DropHadNoRoom, HasDropped};
 ghost use Rattle.e3_crew.specs.declared.worker.Worker.{Worker as Workers};
 ghost use Rattle.e3_node.specs.NodeStands.{NodeStands};
+ghost use Rattle.e3_node.specs.Turns.{history_seen, scenario_seen};
+ghost use Rattle.e3_sites.specs.Delivered.{IsFull};
 ghost use Rattle.e3_sites.specs.declared.sites.RunFault.TheVariants.{HistoryFull};
+ghost use Rattle.e3_turn.specs.Passes.{seen_by};
 ghost use Rattle.e3_wire.specs.Wires.{IsPlayed};
 ghost use Rattle.e3_wire.specs.declared.fault.WireFault.TheVariants as wire_fault;
-ghost use Rattle.e3_wire.specs.Marks.{entries_of, scenario_of};
+ghost use Rattle.e3_wire.specs.Marks.{entries_of, most_of, scenario_of};
 ghost use Rattle.e3_world.specs.Items.{is_up_at};
-ghost use Rattle.e3_world.specs.Packets.{is_calm, pending, present_items};
+ghost use Rattle.e3_world.specs.Packets.{is_calm, lines, pending, present_items};
+ghost use Rattle.e3_world.specs.Progress.{Delivering};
 
 use crate::Worker;
 use e3_disk::{Disk, Drill};
 use e3_node::others_leave_nodes;
 use e3_sites::RunFault;
-use e3_wire::{Shared, WireFault};
+use e3_wire::{Shared, Wire, WireFault, WirePass, drivers_may_put_marks, marks_add_up};
 use std::sync::Wait;
 
 // What a refusal of the wire is to the run.
@@ -63,9 +68,9 @@ fn drop_to<D: Disk + Drill + Drop, R: Wait>(
     drop_all_for(rt, shared, worker.node.site())
 }
 
-/// Drops the packets that are pending to sites that are down, in what the driver took of the wire. `HistoryFull` comes where
-/// one is pending and the history has no room for its drop.
-pub fn drop_in<D: Disk + Drill + Drop, R: Wait>(
+// Drops the packets that are pending to sites that are down, in what the driver took of the wire. `HistoryFull` comes where
+// one is pending and the history has no room for its drop.
+fn drop_in<D: Disk + Drill + Drop, R: Wait>(
     rt: &R,
     shared: &mut Shared,
     workers: &[Worker<D>],
@@ -85,8 +90,8 @@ pub fn drop_in<D: Disk + Drill + Drop, R: Wait>(
     Ok(())
 }
 
-/// How many sites packets are pending to; 0 only where none is pending at all.
-pub fn busy_sites<D: Disk + Drill + Drop>(shared: &Shared, workers: &[Worker<D>]) -> usize
+// How many sites packets are pending to; 0 only where none is pending at all.
+fn busy_sites<D: Disk + Drill + Drop>(shared: &Shared, workers: &[Worker<D>]) -> usize
     ensures { result ≡ 0 → pending (scenario_of shared.now) (entries_of shared.now) ≡ [] }
 {
     if shared.first().is_none() {
@@ -97,4 +102,32 @@ pub fn busy_sites<D: Disk + Drill + Drop>(shared: &Shared, workers: &[Worker<D>]
         .filter(|worker| shared.next_to(worker.node.site()).is_some())
         .count();
     busy.max(1)
+}
+
+/// Drops the packets that are pending to sites that are down, and tells to how many sites packets are pending then: 0 only
+/// where none is pending at all.
+pub(crate) fn drop_down<D: Disk + Drill + Drop, R: Wait>(
+    rt: &R,
+    wire: &Wire,
+    pass: &mut WirePass,
+    workers: &[Worker<D>],
+) -> Result<usize, RunFault>
+    requires crew { IsCrew D.content D.image D.meters wire.now pass.old workers.now }
+    requires begun { lines (history_seen pass.old) ≢ 0 }
+    requires delivering { Delivering (scenario_seen pass.old) (history_seen pass.old) }
+    ensures crew { IsCrew D.content D.image D.meters wire.now pass.new workers.now }
+    ensures on { HasGoneOn D.meters (seen_by pass.old) workers.now (seen_by pass.new) workers.now }
+    ensures delivering { Delivering (scenario_seen pass.old) (history_seen pass.new) }
+    ensures none { IfOk result (λ busy. busy ≡ 0 → pending (scenario_seen pass.old) (history_seen pass.new) ≡ []) }
+    ensures full { result ≡ Err HistoryFull → IsFull (scenario_seen pass.old) (history_seen pass.new) (most_of (seen_by pass.old)) }
+{
+    others_leave_nodes::<D>();
+    marks_add_up();
+    drivers_may_put_marks();
+    let mut shared = wire.take(rt, pass);
+    let dropped = drop_in(rt, &mut shared, workers);
+    let busy = busy_sites(&shared, workers);
+    wire.put(pass, shared);
+    dropped?;
+    Ok(busy)
 }

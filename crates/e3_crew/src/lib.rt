@@ -1,13 +1,13 @@
-//! Workers of the sites of a run, each in a thread of its own: rounds in which the sites take what a step asks of them, and
-//! the packets that come of it; and the driver's drops between them.
+//! Workers of the sites of a run, each in a thread of its own: a step settles in rounds, in which the sites take what it
+//! asks of them, and then the packets that come of it; between rounds the driver drops those to sites that are down.
 #![tactic(auto)]
 
 mod crew;
 mod dropping;
 mod rounds;
+mod settling;
 mod worker;
 mod working;
 
-pub use dropping::{busy_sites, drop_in};
-pub use rounds::{item_round, packet_round};
+pub use settling::settle;
 pub use worker::Worker;

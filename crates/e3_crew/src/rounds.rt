@@ -35,18 +35,19 @@ fn ended<D: Disk + Drill + Drop>(workers: &[Worker<D>]) -> Result<(), RunFault>
     Ok(())
 }
 
-// How many threads a round takes where so many sites are busy: one for each worker, or the caller's alone.
-fn threads_for(busy: usize, workers: usize) -> usize
+/// How many threads a round takes where so many sites are busy: as many as it may, or the caller's alone.
+pub(crate) fn threads_for(busy: usize, most: usize) -> usize
     ensures { 0 < result }
 {
-    if busy <= 1 { 1 } else { workers.max(1) }
+    if busy <= 1 { 1 } else { most.max(1) }
 }
 
 /// Each site takes its items of the present step, in their order. A step that asks one site alone starts no thread.
-pub fn item_round<D: Disk + Drill + Drop + Send, R: Wait + Threads + Sync>(
+pub(crate) fn item_round<D: Disk + Drill + Drop + Send, R: Wait + Threads + Sync>(
     rt: &R,
     alloc: Global,
     wire: &Wire,
+    most_threads: usize,
     pass: &mut WirePass,
     workers: &mut [Worker<D>],
 ) -> Result<(), RunFault>
@@ -67,24 +68,24 @@ pub fn item_round<D: Disk + Drill + Drop + Send, R: Wait + Threads + Sync>(
         .iter()
         .filter(|worker| !worker.items.is_empty())
         .count();
-    let threads = threads_for(busy, workers.len());
+    let threads = threads_for(busy, most_threads);
     deal(wire, workers, pass);
     all_take_items(rt, alloc, wire, workers, threads);
     gather(wire, workers, pass);
     ended(workers)
 }
 
-/// Each site takes packets, the least to it first, until none is pending to it. Where packets to one site alone are pending
-/// no thread is started.
-pub fn packet_round<D: Disk + Drill + Drop + Send, G: Gate + Sync, R: Wait + Threads + Sync>(
+/// Each site takes packets, the least to it first, until none is pending to it.
+pub(crate) fn packet_round<D: Disk + Drill + Drop + Send, G: Gate + Sync, R: Wait + Threads + Sync>(
     rt: &R,
     alloc: Global,
     wire: &Wire,
     gate: &G,
+    threads: usize,
     pass: &mut WirePass,
     workers: &mut [Worker<D>],
-    busy: usize,
 ) -> Result<(), RunFault>
+    requires threads { 0 < threads }
     requires crew { IsCrew D.content D.image D.meters wire.now pass.old workers.old }
     requires begun { lines (history_seen pass.old) ≢ 0 }
     requires delivering { Delivering (scenario_seen pass.old) (history_seen pass.old) }
@@ -95,7 +96,6 @@ pub fn packet_round<D: Disk + Drill + Drop + Send, G: Gate + Sync, R: Wait + Thr
 {
     others_leave_nodes::<D>();
     marks_add_up();
-    let threads = threads_for(busy, workers.len());
     deal(wire, workers, pass);
     all_take_packets(rt, alloc, wire, gate, workers, threads);
     gather(wire, workers, pass);

@@ -15,9 +15,9 @@ use std::alloc::Global;
 #[derive(Drop)]
 pub struct Worker<D: Disk + Drill + Drop> {
     pub node: Node<D>,
-    pub pass: Option<WirePass>,
-    pub items: List<Input>,
-    pub ended: Result<(), RunFault>,
+    pub(crate) pass: Option<WirePass>,
+    pub(crate) items: List<Input>,
+    pub(crate) ended: Result<(), RunFault>,
 }
 
 impl<D: Disk + Drill + Drop> Worker<D> {
@@ -32,6 +32,13 @@ impl<D: Disk + Drill + Drop> Worker<D> {
             items: List::new(alloc),
             ended: Ok(()),
         }
+    }
+
+    /// The node, as the worker leaves it.
+    pub fn into_node(self) -> Node<D>
+        ensures { result ≡ self.node }
+    {
+        self.node
     }
 }
 

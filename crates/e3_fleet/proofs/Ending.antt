@@ -1,26 +1,19 @@
 -- What the disks of a run came to.
-use Rattle.std.proofs.Common.{◌≡◌, ◌≤◌, ◌<◌, ◌++◌, ◌∷◌, [], ℕ, suc, List, length, Some, refl, sym, ap, subst, ◌∙◌, arith}
+use Rattle.std.proofs.Common.{◌≡◌, ◌≤◌, ◌<◌, ◌++◌, ◌∷◌, [], ℕ, suc, List, length, Some, refl, sym, ap, subst, ◌∙◌, ◌+◌, arith, length-append}
 use Rattle.std.specs.Prelude.{slice_get, option_map}
 use Rattle.std.proofs.lemmas.Option.{slice_get-map}
-use Rattle.e3_disk.specs.Images.{IsBlank}
 use Rattle.e3_disk.specs.Meters.{Meters, IsCounted}
 use Rattle.e3_fleet.specs.Over.{AreBlank, AreOver, HadNoRooms, IsFresh, IsOver}
 use Rattle.e3_fleet.specs.Fleets.{AreSeated, AreUnarmed, HasKept, HaveKept, disks_of}
 use Rattle.e3_fleet.proofs.Kept.{kept_start, served_start}
 use Rattle.e3_fleet.proofs.Places.{get_back, get_front, get_low, get_some}
 use Rattle.e3_fleet.proofs.Rooms.{rooms_empty}
-use Rattle.e3_log.specs.Frames.{Reads}
 use Rattle.e3_node.specs.Bodies.{DiskStands}
 use Rattle.e3_node.specs.Claims.{NodesDisks}
 use Rattle.e3_node.specs.NodeView.{NodeView, disk_of}
+use Rattle.e3_node.proofs.Keeping.{blank_stands}
 use Rattle.e3_types.specs.declared.entries.Entry.{Entry}
 use Rattle.e3_types.specs.declared.scenarios.Scenario.{Scenario}
-
--- a blank disk stands for a site without entries
-blank_stands : {D : Type 0} (content : D → List ℕ) (image : D → List ℕ → Type 0) (sc : Scenario) (site : ℕ) (d : D) →
-    IsBlank content image d → DiskStands sc [] site (image d)
-blank_stands content image sc site d blank bytes left = subst (λ (b : List ℕ). Reads [] b) (sym (blank.1 bytes left))
-    (record { rest = 0 ∷ []; parts = refl; closed = λ e. omega (arith, e); fits = tt })
 
 -- a run that never began
 pub never_began : {D : Type 0} (content : D → List ℕ) (image : D → List ℕ → Type 0) (meters : D → Meters) → ((d : D) → IsCounted (meters d)) → (sc : Scenario) (disks : List D) →
@@ -123,3 +116,11 @@ have_kept_start {D} meters counted sc nodes off = record {
   each = λ at x y is there. subst (λ (z : NodeView D). HasKept sc [] (suc at) (meters (disk_of x.state)) (meters (disk_of z.state))) (let one : x ≡ y = cc in one)
       (kept_start sc (suc at) (meters (disk_of x.state)) (counted (disk_of x.state)) (off at x is));
 }
+
+-- the disks of nodes and the others are as many as there were
+pub room_left : {D : Type 0} (nodes : List (NodeView D)) (rest before : List D) (count : ℕ) → disks_of nodes ++ rest ≡ before → count ≡ length nodes →
+    length rest + count ≡ length before
+room_left {D} nodes rest before count is same =
+    let all : length (disks_of nodes ++ rest) ≡ length before = ap length is in
+    let sum : length (disks_of nodes ++ rest) ≡ length (disks_of nodes) + length rest = length-append (disks_of nodes) rest in
+    let disks = disks_length nodes in omega (arith, all, sum, disks, same)

@@ -9,3 +9,5 @@ pub mod Unmanned
 pub mod Ending
 pub mod Seats
 pub mod Driven
+pub mod Holding
+pub mod Working

@@ -228,3 +228,11 @@ takes_so sc h site i old new (Ok done) took = by (made_by sc h site i).records r
     by : (records : List Record) → (made_by sc h site i).records ≡ records → Took (calls_of (entry_of sc h site i).act) old new
     by [] is = subst P (let one : calls_for (made_by sc h site i).records ≡ 0 = rw is refl in let two : calls_of (entry_of sc h site i).act ≡ 0 = rw is refl in one ∙ sym two) took
     by (r ∷ rs) is = subst P (let one : calls_for (made_by sc h site i).records ≡ 4 = rw is refl in let two : calls_of (entry_of sc h site i).act ≡ 4 = rw is refl in one ∙ sym two) took
+
+-- what the run hears of a cut
+pub cut_told : (h more : List Entry) (s t : ℕ) (answer : Result (Unit {0}) CutFault) → s ≡ t → OnOk answer (more ≡ h ++ record { owner = s; act = Cut } ∷ []) →
+    OnOk (cut_answer answer) (more ≡ h ++ record { owner = t; act = Cut } ∷ [])
+cut_told h more s t (Ok done) same entered = entered ∙ ap (λ (o : ℕ). h ++ record { owner = o; act = Cut } ∷ []) same
+cut_told h more s t (Err cut_fault.HistoryFull) same entered = tt
+cut_told h more s t (Err cut_fault.NoMemory) same entered = tt
+cut_told h more s t (Err cut_fault.Down) same entered = tt

@@ -1,5 +1,7 @@
 -- The nodes of all sites, and what is always true of them.
 use Rattle.std.specs.Prelude.{◌≡◌, ◌+◌, ◌≤◌, ◌<◌, ◌++◌, ◌∷◌, [], ℕ, suc, false, List, length, map, slice_get, Option, Some, Result, Ok, Err}
+use Rattle.atomic_table.specs.Seated.{TableId}
+use Rattle.e3_crew.specs.declared.worker.Worker.{Worker}
 use Rattle.e3_disk.specs.Meters.{Meters, LAST}
 use Rattle.e3_fleet.specs.Over.{HadNoRooms, HasServed}
 use Rattle.e3_fleet.specs.Stops.{Arm, arm_by, arms_of, is_over, used_by}
@@ -14,9 +16,12 @@ use Rattle.e3_sites.specs.declared.sites.RunFault.{RunFault}
 use Rattle.e3_sites.specs.declared.sites.RunFault.TheVariants as run_fault
 use Rattle.e3_node.specs.NodeView.{NodeView, disk_of}
 use Rattle.e3_node.specs.SharedStands.{SharedStands}
+use Rattle.e3_turn.specs.Passes.{HasTurn, OwnsAll, last_of, seen_by}
 use Rattle.e3_types.specs.declared.entries.Entry.{Entry}
 use Rattle.e3_types.specs.declared.scenarios.Scenario.{Scenario}
-use Rattle.e3_wire.specs.Marks.{entries_of, most_of, scenario_of}
+use Rattle.e3_wire.specs.Claims.{APass, HaveGrown}
+use Rattle.e3_wire.specs.Marks.{entries_of, last_owner, most_of, scenario_of}
+use Rattle.e3_wire.specs.Wires.{IsPlayed}
 use Rattle.e3_wire.specs.declared.fault.WireFault.{WireFault}
 use Rattle.e3_wire.specs.declared.fault.WireFault.TheVariants as wire_fault
 use Rattle.e3_wire.specs.declared.marks.Mark.{Mark}
@@ -27,6 +32,10 @@ pub record Seated {D : Type 0} (content : D → List ℕ) (image : D → List �
   pub site : node.site ≡ suc at
   pub stands : NodeStands content image meters sc history node
   pub rooms : HadNoRooms sc history (suc at) (meters (disk_of node.state)).capacity
+
+-- the nodes of workers, in their order
+abbrev pub nodes_of : {D : Type 0} → List (Worker D) → List (NodeView D)
+nodes_of workers = map (λ w. w.node) workers
 
 -- the disks of nodes, in their order
 abbrev pub disks_of : {D : Type 0} → List (NodeView D) → List D
@@ -43,6 +52,21 @@ pub record FleetStands {D : Type 0} (content : D → List ℕ) (image : D → Li
   pub shared_stands : SharedStands shared
   pub count : length nodes ≡ length (scenario_of shared).weights
   pub seated : AreSeated content image meters (scenario_of shared) (entries_of shared) nodes
+
+-- The driver's pass has the turn of this wire and owns all. Behind what it had seen only owners' marks were put into what was
+-- taken, so it may be put back.
+pub record IsTaken (wire : TableId) (p : APass) (shared : List Mark) : Type 0 where
+  pub turn : HasTurn wire p
+  pub all : OwnsAll p
+  pub last : last_of p ≡ last_owner (seen_by p)
+  pub played : IsPlayed (seen_by p)
+  pub grown : HaveGrown (seen_by p) shared
+
+-- a fleet stands, and the driver holds what its sites share
+pub record FleetIsHeld {D : Type 0} (content : D → List ℕ) (image : D → List ℕ → Type 0) (meters : D → Meters)
+    (wire : TableId) (p : APass) (shared : List Mark) (nodes : List (NodeView D)) : Type 0 where
+  pub fleet : FleetStands content image meters shared nodes
+  pub taken : IsTaken wire p shared
 
 -- While a stop may still come: where no entry behind the line of a stop ended its arm, the disk is armed, and what these
 -- entries took and the calls that are left are together no more than the calls of that arm.

@@ -2,3 +2,4 @@ pub mod Stops
 pub mod Over
 pub mod Fleets
 pub mod MemoryDisks
+pub mod Settling

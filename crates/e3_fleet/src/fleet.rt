@@ -1,44 +1,47 @@
 // The sites of a run over their disks, as the driver sees them.
-ghost use Rattle.e3_fleet.specs.Fleets.{FleetStands, HaveKept};
+ghost use Rattle.e3_fleet.specs.Fleets.{FleetIsHeld, HaveKept, nodes_of};
 ghost use Rattle.e3_wire.specs.Marks.{entries_of, most_of, scenario_of};
 ghost use Rattle.std.specs.Prelude.{◌≡◌, ◌≤◌, ◌++◌, ◌∷◌, [], true, false, fold, length, IfOk, OnOk, OnErr, Err};
 
 use crate::driving::{enter_drop, enter_line, enter_parts};
+use crate::held::Held;
 use e3_disk::{Disk, Drill};
-use e3_node::{Node, other_entries_keep_nodes};
-use e3_sites::{RunFault, Settle, Sites, settle_in_order};
+use e3_node::other_entries_keep_nodes;
+use e3_sites::{RunFault, Sites};
 use e3_types::{Entry, Input, Leave, List, NoMemory, Packet, SiteSet, Txn};
-use e3_wire::Shared;
-use e3_world::Addressed;
+use e3_wire::{Wire, WirePass};
 use std::alloc::Global;
 
-/// The nodes of all sites, that of site 1 first, what they share, and the allocator for what they tell.
+/// The sites of a run: their workers, and the wire by which these share the history and the network. Between the rounds of
+/// workers the driver has the turn, and holds what is shared.
 #[derive(Drop)]
 pub struct Fleet<D: Disk + Drill + Drop> {
-    pub alloc: Global,
-    pub shared: Shared,
-    pub nodes: Vec<Node<D>>,
+    pub(crate) alloc: Global,
+    pub(crate) wire: Wire,
+    pub(crate) pass: WirePass,
+    pub(crate) held: Held<D>,
 }
 
 impl<D: Disk + Drill + Drop> Sites for Fleet<D> {
-    ghost scenario = { λ f. scenario_of f.shared };
+    ghost scenario = { λ f. scenario_of f.held.shared };
 
-    ghost entries = { λ f. entries_of f.shared };
+    ghost entries = { λ f. entries_of f.held.shared };
 
-    ghost most = { λ f. most_of f.shared };
+    ghost most = { λ f. most_of f.held.shared };
 
-    ghost stands = { λ f. FleetStands D.content D.image D.meters f.shared f.nodes.items };
+    ghost stands = { λ f. FleetIsHeld D.content D.image D.meters f.wire f.pass f.held.shared (nodes_of f.held.workers.items) };
 
-    ghost since = { λ start f. HaveKept D.meters (scenario_of f.shared) (entries_of f.shared) start.nodes.items f.nodes.items };
+    ghost since = { λ start f. HaveKept D.meters (scenario_of f.held.shared) (entries_of f.held.shared)
+        (nodes_of start.held.workers.items) (nodes_of f.held.workers.items) };
 
-    ghost is_legal = { λ f s. s.shared_stands.played.legal };
+    ghost is_legal = { λ f s. s.fleet.shared_stands.played.legal };
 
-    ghost is_given = { λ f s. s.shared_stands.played.given };
+    ghost is_given = { λ f s. s.fleet.shared_stands.played.given };
 
-    ghost within = { λ f s. s.shared_stands.within };
+    ghost within = { λ f s. s.fleet.shared_stands.within };
 
     fn history(&self) -> &[Entry] {
-        self.shared.history()
+        self.held.shared.history()
     }
 
     // A site past the nodes, or site 0, is never up.
@@ -47,69 +50,63 @@ impl<D: Disk + Drill + Drop> Sites for Fleet<D> {
         if site == 0 {
             return false;
         }
-        if site as usize > self.nodes.len() {
+        if site as usize > self.held.workers.len() {
             return false;
         }
-        self.is_up_at(site as usize - 1)
+        self.held.is_up_at(site as usize - 1)
     }
 
     fn first(&self) -> Option<Packet> {
-        self.shared.first()
+        self.held.shared.first()
     }
 
     fn open_txns(&self, site: u32) -> Result<List<Txn>, NoMemory> {
-        if site == 0 || site as usize > self.nodes.len() {
+        if site == 0 || site as usize > self.held.workers.len() {
             return Err(NoMemory);
         }
-        self.open_txns_at(site as usize - 1)
+        self.held.open_txns_at(self.alloc, site as usize - 1)
     }
 
     fn rise(&mut self, site: u32) -> Result<(), RunFault> {
-        if site == 0 || site as usize > self.nodes.len() {
+        if site == 0 || site as usize > self.held.workers.len() {
             return Err(RunFault::NoMemory);
         }
-        self.rise_at(site as usize - 1)
+        self.held.rise_at(site as usize - 1)
     }
 
     fn input(&mut self, site: u32, input: Input) -> Result<(), RunFault> {
-        if site == 0 || site as usize > self.nodes.len() {
+        if site == 0 || site as usize > self.held.workers.len() {
             return Err(RunFault::NoMemory);
         }
-        self.input_at(site as usize - 1, input)
+        self.held.input_at(site as usize - 1, input)
     }
 
     fn cut(&mut self, site: u32) -> Result<(), RunFault> {
-        if site == 0 || site as usize > self.nodes.len() {
+        if site == 0 || site as usize > self.held.workers.len() {
             return Err(RunFault::NoMemory);
         }
-        self.cut_at(site as usize - 1)
+        self.held.cut_at(site as usize - 1)
     }
 
     fn drop_first(&mut self, packet: &Packet) -> Result<(), RunFault> {
         other_entries_keep_nodes::<D>();
-        enter_drop(&mut self.shared, packet)
+        enter_drop(&mut self.held.shared, packet)
     }
 
     fn line(&mut self, number: u32) -> Result<(), RunFault> {
         other_entries_keep_nodes::<D>();
-        enter_line(&mut self.shared, number)
+        enter_line(&mut self.held.shared, number)
     }
 
     fn stop(&mut self, number: u32, site: u32, calls: u32, leave: Leave) -> Result<(), RunFault> {
-        if site == 0 || site as usize > self.nodes.len() {
+        if site == 0 || site as usize > self.held.workers.len() {
             return Err(RunFault::NoMemory);
         }
-        self.stop_at(site as usize - 1, number, calls, leave)
+        self.held.stop_at(site as usize - 1, number, calls, leave)
     }
 
     fn parts(&mut self, parts: List<SiteSet>) -> Result<(), RunFault> {
         other_entries_keep_nodes::<D>();
-        enter_parts(&mut self.shared, parts)
-    }
-}
-
-impl<D: Disk + Drill + Drop> Settle for Fleet<D> {
-    fn settle(&mut self, inputs: List<Addressed>) -> Result<(), RunFault> {
-        settle_in_order(self, inputs.as_slice())
+        enter_parts(&mut self.held.shared, parts)
     }
 }

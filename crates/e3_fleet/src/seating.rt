@@ -1,8 +1,9 @@
-// Nodes over the disks of a run, and the disks again.
+// Workers of nodes over the disks of a run, and the disks again.
 ghost use Rattle.std.specs.Prelude.{◌≡◌, ◌≤◌, ◌<◌, ◌+◌, ◌++◌, ◌∷◌, [], ℕ, List as Items, length, map, OnOk, vec_len, vec_capacity};
-ghost use Rattle.e3_fleet.specs.Fleets.{AreSeated, disks_of};
+ghost use Rattle.e3_fleet.specs.Fleets.{AreSeated, disks_of, nodes_of};
 ghost use Rattle.e3_fleet.specs.Over.{AreBlank};
 
+use e3_crew::Worker;
 use e3_disk::{Disk, Drill};
 use e3_node::Node;
 use e3_readings::rows_at;
@@ -27,66 +28,68 @@ fn put_first<T: Drop>(items: &mut Vec<T>, item: T)
     let _ = items.insert(0, item);
 }
 
-// The node of the next site takes the first of the disks.
+// The node of the next site takes the first of the disks, and a worker takes the node.
 fn seat_next<D: Disk + Drill + Drop>(
     alloc: Global,
     scenario: &Scenario,
-    nodes: &mut Vec<Node<D>>,
+    workers: &mut Vec<Worker<D>>,
     disks: &mut Vec<D>,
 ) -> Result<(), NoMemory>
-    requires room { vec_len nodes.old < vec_capacity nodes.old }
-    requires site { length nodes.old.items < length scenario.now.weights }
+    requires room { vec_len workers.old < vec_capacity workers.old }
+    requires site { length workers.old.items < length scenario.now.weights }
     requires few { length scenario.now.weights ≤ 64 }
     requires enough { 0 < length disks.old.items }
     requires blank { AreBlank D.content D.image D.meters disks.old.items }
-    requires seated { AreSeated D.content D.image D.meters scenario.now [] nodes.old.items }
-    ensures seated { AreSeated D.content D.image D.meters scenario.now [] nodes.new.items }
-    ensures disks { disks_of nodes.new.items ++ disks.new.items ≡ disks_of nodes.old.items ++ disks.old.items }
-    ensures more { OnOk result (length nodes.new.items ≡ length nodes.old.items + 1) }
+    requires seated { AreSeated D.content D.image D.meters scenario.now [] (nodes_of workers.old.items) }
+    ensures seated { AreSeated D.content D.image D.meters scenario.now [] (nodes_of workers.new.items) }
+    ensures disks { disks_of (nodes_of workers.new.items) ++ disks.new.items ≡ disks_of (nodes_of workers.old.items) ++ disks.old.items }
+    ensures more { OnOk result (length workers.new.items ≡ length workers.old.items + 1) }
     ensures blank { AreBlank D.content D.image D.meters disks.new.items }
-    ensures nodes_room { vec_capacity nodes.old ≤ vec_capacity nodes.new }
+    ensures workers_room { vec_capacity workers.old ≤ vec_capacity workers.new }
     ensures disks_room { vec_capacity disks.new ≡ vec_capacity disks.old }
 {
-    let site = nodes.len() as u32 + 1;
+    let site = workers.len() as u32 + 1;
     let weights = scenario.weights.copied(alloc)?;
     let rows = rows_at(alloc, site, scenario.rows.as_slice())?;
     let disk = disks.remove(0);
-    push_within(nodes, Node::down(site, weights, rows, disk));
+    let node = Node::down(site, weights, rows, disk);
+    push_within(workers, Worker::new(alloc, node));
     Ok(())
 }
 
-/// A node for each site of the scenario takes its disk from the front. Where memory runs out, some nodes have taken theirs.
+/// A worker with a node for each site of the scenario: each node takes its disk from the front. Where memory runs out, some
+/// have taken theirs.
 pub fn seat_all<D: Disk + Drill + Drop>(
     alloc: Global,
     scenario: &Scenario,
-    nodes: &mut Vec<Node<D>>,
+    workers: &mut Vec<Worker<D>>,
     disks: &mut Vec<D>,
 ) -> Result<(), NoMemory>
-    requires empty { nodes.old.items ≡ [] }
+    requires empty { workers.old.items ≡ [] }
     requires few { length scenario.now.weights ≤ 64 }
     requires enough { length scenario.now.weights ≤ length disks.old.items }
     requires blank { AreBlank D.content D.image D.meters disks.old.items }
-    ensures seated { AreSeated D.content D.image D.meters scenario.now [] nodes.new.items }
-    ensures all { OnOk result (length nodes.new.items ≡ length scenario.now.weights) }
-    ensures disks { disks_of nodes.new.items ++ disks.new.items ≡ disks.old.items }
+    ensures seated { AreSeated D.content D.image D.meters scenario.now [] (nodes_of workers.new.items) }
+    ensures all { OnOk result (length workers.new.items ≡ length scenario.now.weights) }
+    ensures disks { disks_of (nodes_of workers.new.items) ++ disks.new.items ≡ disks.old.items }
     ensures disks_room { vec_capacity disks.new ≡ vec_capacity disks.old }
 {
     let count = scenario.weights.len() as usize;
-    if nodes.try_reserve(count).is_err() {
+    if workers.try_reserve(count).is_err() {
         return Err(NoMemory);
     }
     for seated in 0..count {
-        seat_next(alloc, scenario, nodes, disks)?;
+        seat_next(alloc, scenario, workers, disks)?;
     }
     Ok(())
 }
 
-/// The nodes give their disks back to the front, in their order. There is room for them.
-pub fn unseat_all<D: Disk + Drill + Drop>(mut nodes: Vec<Node<D>>, disks: &mut Vec<D>)
-    requires { vec_len disks.old + length nodes.items ≤ vec_capacity disks.old }
-    ensures { disks.new.items ≡ disks_of nodes.items ++ disks.old.items }
+/// The workers' nodes give their disks back to the front, in their order. There is room for them.
+pub fn unseat_all<D: Disk + Drill + Drop>(mut workers: Vec<Worker<D>>, disks: &mut Vec<D>)
+    requires { vec_len disks.old + length workers.items ≤ vec_capacity disks.old }
+    ensures { disks.new.items ≡ disks_of (nodes_of workers.items) ++ disks.old.items }
 {
-    while let Some(node) = nodes.pop() {
-        put_first(disks, node.into_disk());
+    while let Some(worker) = workers.pop() {
+        put_first(disks, worker.into_node().into_disk());
     }
 }

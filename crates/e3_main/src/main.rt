@@ -3,7 +3,7 @@
 #![tactic(auto)]
 
 use e3_fleet::memory_disks;
-use e3_outside::{StdSink, StdSource};
+use e3_outside::{OpenGate, StdSink, StdSource};
 use e3_types::List;
 use std::alloc::Global;
 use std::process::ExitCode;
@@ -44,6 +44,6 @@ fn main(rt: HostRuntime) -> ExitCode {
     };
     let mut source = StdSource::new(rt.reader());
     let mut sink = StdSink::new(io::writer(&rt));
-    let ended = e3_top::run(&rt, alloc, &words, &mut source, &mut sink, disks);
+    let ended = e3_top::run(&rt, alloc, &words, &mut source, &mut sink, disks, &OpenGate);
     ExitCode::from(ended.status)
 }

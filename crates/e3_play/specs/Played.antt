@@ -5,9 +5,11 @@ use Rattle.e3_types.specs.declared.entries.Entry.{Entry}
 use Rattle.e3_types.specs.declared.scenarios.Item.{Item}
 use Rattle.e3_types.specs.declared.scenarios.Item.TheVariants as item
 use Rattle.e3_types.specs.declared.scenarios.Scenario.{Scenario}
-use Rattle.e3_world.specs.Items.{since_line, taken_at}
+use Rattle.e3_world.specs.Items.{plan_of, since_line, taken_at}
 use Rattle.e3_world.specs.Legal.{IsLegal, begins_with_parts, is_through}
 use Rattle.e3_world.specs.Packets.{all_sites, lines, pending, present_items}
+use Rattle.e3_world.specs.Progress.{Delivering}
+use Rattle.e3_world.specs.declared.names.Addressed.{Addressed}
 
 -- the step is a crash, a restart, a recovery or a stop, of a site that exists; a stop counts from 1
 abbrev pub StandsAlone : Scenario → List Item → Type 0
@@ -47,3 +49,12 @@ pub record IsFresh (sc : Scenario) (history : List Entry) (items : List Item) : 
   pub present : present_items sc history ≡ items
   pub fresh : since_line history ≡ []
   pub none : pending sc history ≡ []
+
+-- A step is entered but for what the sites do of it: these inputs are what it asks of them. Whatever sites enter, once what it
+-- asks is done and nothing is pending so many steps are through.
+pub record IsReady (sc : Scenario) (done : ℕ) (history : List Entry) (inputs : List Addressed) : Type 0 where
+  pub begun : lines history ≢ 0
+  pub form : is_asking (present_items sc history) ≡ true
+  pub asked : inputs ≡ plan_of sc history
+  pub fresh : (site : ℕ) → taken_at history site ≡ []
+  pub settles : (now : List Entry) → StaysInStep history now → Delivering sc now → pending sc now ≡ [] → IsSettled sc now done

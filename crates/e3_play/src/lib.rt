@@ -9,4 +9,6 @@ mod parting;
 mod playing;
 mod rising;
 
-pub use playing::play;
+pub use names::Names;
+pub use playing::{begin_recovery, begin_step};
+pub use rising::rise_all;

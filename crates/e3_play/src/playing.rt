@@ -1,22 +1,22 @@
-// A scenario, step by step.
-ghost use Rattle.std.specs.Prelude.{◌≡◌, ◌≤◌, ◌<◌, ◌^◌, [], suc, true, length, OnOk, OnErr, Err};
+// A step of a scenario, but for what the sites do of it.
+ghost use Rattle.std.specs.Prelude.{◌≡◌, ◌≤◌, ◌<◌, ◌^◌, ◌⊎◌, ◌∷◌, [], ℕ, List as Items, suc, true, length, IfOk, IfSome, IsErr, MatchOption, OnOk, OnErr, Ok, Err, None};
 ghost use Rattle.e3_play.specs.Known.{KnowsNames};
-ghost use Rattle.e3_play.specs.Played.{IsAsked, IsFresh, IsSettled};
+ghost use Rattle.e3_play.specs.Played.{IsAsked, IsFresh, IsReady, IsSettled};
 ghost use Rattle.e3_sites.specs.Delivered.{IsFull};
 ghost use Rattle.e3_sites.specs.Settled.{is_asking};
 ghost use Rattle.e3_sites.specs.declared.sites.RunFault.TheVariants.{HistoryFull};
 ghost use Rattle.e3_world.specs.Given.{IsGiven};
-ghost use Rattle.e3_world.specs.Legal.{IsWhole};
-ghost use Rattle.e3_world.specs.Packets.{lines};
+ghost use Rattle.e3_types.specs.declared.scenarios.Item.TheVariants as item;
+ghost use Rattle.e3_world.specs.Packets.{lines, step_items};
 
 use crate::alone::{crash, recovery, restart};
 use crate::kinds::{Kind, kind_of};
 use crate::names::Names;
 use crate::parting::parts_asked;
-use crate::rising::rise_all;
 use e3_items::{inputs_asked, step_items};
-use e3_sites::{RunFault, Settle, Sites};
-use e3_types::{Item, Scenario};
+use e3_sites::{RunFault, Sites};
+use e3_types::{Item, List, Scenario, SiteSet};
+use e3_world::Addressed;
 use std::alloc::Global;
 
 // The parts of the network that a step asks for are set, where it asks for them.
@@ -43,15 +43,15 @@ fn set_parts<S: Sites>(
     }
 }
 
-// A group, a split or a merge: its parts, and what it asks of the sites until no packet is pending. The inputs are computed
-// once, behind the line; so a name that the step itself binds stands for nothing in it.
-fn exchange<S: Settle>(
+// A group, a split or a merge: its parts are set, and this is what it asks of the sites. The inputs are computed once, behind
+// the line; so a name that the step itself binds stands for nothing in it.
+fn exchange<S: Sites>(
     alloc: Global,
     scenario: &Scenario,
     sites: &mut S,
     names: &mut Names,
     items: &[Item],
-) -> Result<(), RunFault>
+) -> Result<List<Addressed>, RunFault>
     requires played { S.scenario sites.old ≡ scenario.now }
     requires standing { S.stands sites.old }
     requires form { is_asking items.now ≡ true }
@@ -61,23 +61,25 @@ fn exchange<S: Settle>(
     ensures since { (start : S) → S.since start sites.old → S.since start sites.new }
     ensures same { (S.scenario sites.new ≡ S.scenario sites.old) × (S.most sites.new ≡ S.most sites.old) }
     ensures known { OnOk result (KnowsNames scenario.now (S.entries sites.new) names.new) }
-    ensures settles { OnOk result (IsSettled scenario.now (S.entries sites.new) (lines (S.entries sites.old))) }
+    ensures ready { IfOk result (λ inputs. IsReady scenario.now (lines (S.entries sites.old)) (S.entries sites.new) inputs) }
     ensures full { result ≡ Err HistoryFull → IsFull scenario.now (S.entries sites.new) (S.most sites.old) }
 {
     names.read_on(alloc, scenario, sites.history())?;
     let inputs = inputs_asked(alloc, names.binding.bound.as_slice(), items)?;
     set_parts(alloc, scenario, sites, items)?;
-    sites.settle(inputs)
+    Ok(inputs)
 }
 
-// The step of the next number: its line, and what it does behind it. The line of a stop arms the disk, and that is all.
-fn play_step<S: Settle>(
+/// The step of the next number: its line, and all that the driver does of it. Where it asks something of the sites, these
+/// inputs are what it asks, and once the sites settled with them the step is through; else it is through. The line of a stop
+/// arms the disk, and that is all.
+pub fn begin_step<S: Sites>(
     alloc: Global,
     scenario: &Scenario,
     sites: &mut S,
     names: &mut Names,
     done: u32,
-) -> Result<(), RunFault>
+) -> Result<Option<List<Addressed>>, RunFault>
     requires played { S.scenario sites.old ≡ scenario.now }
     requires standing { S.stands sites.old }
     requires given { IsGiven scenario.now }
@@ -90,54 +92,66 @@ fn play_step<S: Settle>(
     ensures since { (start : S) → S.since start sites.old → S.since start sites.new }
     ensures same { (S.scenario sites.new ≡ S.scenario sites.old) × (S.most sites.new ≡ S.most sites.old) }
     ensures known { OnOk result (KnowsNames scenario.now (S.entries sites.new) names.new) }
-    ensures settles { OnOk result (IsSettled scenario.now (S.entries sites.new) (suc done)) }
+    ensures begun { IfOk result (λ asked. MatchOption asked (IsSettled scenario.now (S.entries sites.new) (suc done))
+        (λ inputs. IsReady scenario.now (suc done) (S.entries sites.new) inputs)) }
     ensures full { result ≡ Err HistoryFull → IsFull scenario.now (S.entries sites.new) (S.most sites.old) }
 {
     let number = done + 1;
     let items = step_items(scenario, number as u64);
     match kind_of(items) {
-        Kind::Stop { site, calls, leave } => sites.stop(number, site, calls, leave),
+        Kind::Stop { site, calls, leave } => {
+            sites.stop(number, site, calls, leave)?;
+            Ok(None)
+        }
         Kind::Crash { site } => {
             sites.line(number)?;
-            crash(sites, site)
+            crash(sites, site)?;
+            Ok(None)
         }
         Kind::Restart { site } => {
             sites.line(number)?;
-            restart(sites, site)
+            restart(sites, site)?;
+            Ok(None)
         }
         Kind::Recovery { group } => {
             sites.line(number)?;
-            recovery(alloc, sites, group)
+            recovery(alloc, sites, group)?;
+            Ok(None)
         }
         Kind::Exchange => {
             sites.line(number)?;
-            exchange(alloc, scenario, sites, names, items)
+            let inputs = exchange(alloc, scenario, sites, names, items)?;
+            Ok(Some(inputs))
         }
     }
 }
 
-/// Plays a scenario from its first rises to its end, step by step; each settles before the next. The history is empty at
-/// first, and has 2,000,000 entries at most. A scenario of more steps than 32 bits count wants memory.
-pub fn play<S: Settle>(alloc: Global, scenario: &Scenario, sites: &mut S) -> Result<(), RunFault>
+/// Enters the line of the next step where that is a recovery, and answers the group that is to recover. Where it is another
+/// step nothing is entered.
+pub fn begin_recovery<S: Sites>(
+    scenario: &Scenario,
+    sites: &mut S,
+    done: u32,
+) -> Result<Option<SiteSet>, RunFault>
     requires played { S.scenario sites.old ≡ scenario.now }
     requires standing { S.stands sites.old }
-    requires given { IsGiven scenario.now }
-    requires most { S.most sites.old ≤ 2000000 }
-    requires few_sites { length scenario.now.weights < 2 ^ 32 }
-    requires empty { S.entries sites.old ≡ [] }
+    requires more { suc done ≤ length scenario.now.steps }
+    requires few { length scenario.now.steps < 2 ^ 32 }
+    requires settled { IsSettled scenario.now (S.entries sites.old) done }
     ensures stands { S.stands sites.new }
     ensures since { (start : S) → S.since start sites.old → S.since start sites.new }
     ensures same { (S.scenario sites.new ≡ S.scenario sites.old) × (S.most sites.new ≡ S.most sites.old) }
-    ensures whole { OnOk result (IsWhole scenario.now (S.entries sites.new)) }
-    ensures full { result ≡ Err HistoryFull → IsFull scenario.now (S.entries sites.new) (S.most sites.old) }
+    ensures due { IfOk result (λ due. IfSome due (λ group. IsFresh scenario.now (S.entries sites.new) (item.Recover group ∷ []))) }
+    ensures another { result ≡ Ok None → (group : Items ℕ) → step_items scenario.now (suc done) ≡ item.Recover group ∷ [] → ⊥ }
+    ensures kept { (result ≡ Ok None) ⊎ IsErr result → S.entries sites.new ≡ S.entries sites.old }
 {
-    rise_all(sites, scenario.weights.len() as u32)?;
-    let Ok(steps) = u32::try_from(scenario.steps.len()) else {
-        return Err(RunFault::NoMemory);
-    };
-    let mut names = Names::new(alloc);
-    for done in 0..steps {
-        play_step(alloc, scenario, sites, &mut names, done)?;
+    let number = done + 1;
+    let items = step_items(scenario, number as u64);
+    match kind_of(items) {
+        Kind::Recovery { group } => {
+            sites.line(number)?;
+            Ok(Some(group))
+        }
+        _ => Ok(None),
     }
-    Ok(())
 }

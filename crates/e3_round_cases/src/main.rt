@@ -1,13 +1,14 @@
 //! Runs worked scenarios over disks in memory and prints each of their recovery rounds: how many entries of its own it took,
-//! beside its bound, and the verdict that its elector told.
+//! beside its bound, and the verdict that its elector told; and what `recover` itself reports in the first recovery of each.
 #![tactic(auto)]
 
+mod reports;
 mod rounds;
 mod rows;
 
 use e3_fleet::memory_disks;
 use e3_lines::push_text;
-use e3_outside::{MemSink, MemSource};
+use e3_outside::{MemSink, MemSource, OpenGate};
 use e3_scenario::read_scenario;
 use e3_top::run;
 use e3_types::List;
@@ -16,13 +17,14 @@ use std::alloc::Global;
 use std::io::{self, Write};
 use std::process::ExitCode;
 use std::sync::Wait;
+use std::thread::Threads;
 
 const NO_OUTPUT: u8 = 4;
 
 const NO_MEMORY: u8 = 5;
 
 // The history of a run of this scenario; none without memory.
-fn played(rt: &impl Wait, alloc: Global, text: &[u8]) -> Option<History> {
+fn played<R: Wait + Threads + Sync>(rt: &R, alloc: Global, text: &[u8]) -> Option<History> {
     let mut words = Vec::new(alloc);
     words.push(String::from_str(alloc, "run").ok()?).ok()?;
     let mut bytes = List::new(alloc);
@@ -32,27 +34,30 @@ fn played(rt: &impl Wait, alloc: Global, text: &[u8]) -> Option<History> {
     let Ok(disks) = memory_disks(alloc, 65536, 0, List::new(alloc)) else {
         return None;
     };
-    let ended = run(rt, alloc, &words, &mut source, &mut sink, disks);
+    let ended = run(rt, alloc, &words, &mut source, &mut sink, disks, &OpenGate);
     Some(ended.history)
 }
 
 // Adds the lines of the rounds of a worked scenario; nothing without memory.
-fn push_row(
-    rt: &impl Wait,
+fn push_row<R: Wait + Threads + Sync>(
+    rt: &R,
     alloc: Global,
     out: &mut List<u8>,
     name: &str,
     text: &str,
 ) -> Option<()> {
-    let scenario = read_scenario(alloc, text.as_bytes()).ok()?;
+    let Ok(scenario) = read_scenario(alloc, text.as_bytes()) else {
+        return None;
+    };
     let history = played(rt, alloc, text.as_bytes())?;
     push_text(out, name).ok()?;
     rounds::push_rounds(out, &scenario, history.as_slice()).ok()?;
+    reports::push_reports(rt, alloc, out, &scenario)?;
     push_text(out, "\n").ok()
 }
 
 // All lines; none without memory.
-fn lines(rt: &impl Wait, alloc: Global) -> Option<List<u8>> {
+fn lines<R: Wait + Threads + Sync>(rt: &R, alloc: Global) -> Option<List<u8>> {
     let mut out = List::new(alloc);
     for (name, text) in rows::ROWS {
         push_row(rt, alloc, &mut out, name, text)?;

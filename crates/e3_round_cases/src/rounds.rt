@@ -97,6 +97,14 @@ fn push_verdict(out: &mut List<u8>, verdict: Verdict) -> Result<(), NoMemory> {
     }
 }
 
+/// Adds a verdict, or that there is none.
+pub fn push_verdict_or_none(out: &mut List<u8>, verdict: Option<Verdict>) -> Result<(), NoMemory> {
+    match verdict {
+        Some(verdict) => push_verdict(out, verdict),
+        None => push_text(out, "no verdict"),
+    }
+}
+
 // Adds a round that entered these entries: its own of as many as it may have, and its verdict.
 fn push_round(
     out: &mut List<u8>,
@@ -111,10 +119,7 @@ fn push_round(
     push_labelled(out, ": ", own_count(round, entries))?;
     push_labelled(out, " of ", others.saturating_mul(7).saturating_add(1))?;
     push_text(out, ", ")?;
-    match report_of(round, entries).verdict {
-        Some(verdict) => push_verdict(out, verdict),
-        None => push_text(out, "no verdict"),
-    }
+    push_verdict_or_none(out, report_of(round, entries).verdict)
 }
 
 // How many of these entries stand before the next line or the next round.

@@ -1,7 +1,7 @@
 // The worked scenarios that have recovery rounds, each with its name.
 
 /// Name and text of each.
-pub const ROWS: [(&str, &str); 8] = [
+pub const ROWS: [(&str, &str); 7] = [
     (
         "split in halves",
         "weights = [1, 1, 1, 1]\nsteps = [\n  \"begin t 1 1,2,3,4\",\n  \"write t 1.x a\",\n  \"split 1,2|3,4\",\n  \"commit t\",\n  \"recover 1,2\",\n  \"recover 3,4\",\n  \"merge\",\n  \"recover 1,2,3,4\",\n]\n",
@@ -13,10 +13,6 @@ pub const ROWS: [(&str, &str); 8] = [
     (
         "cascade aborts",
         "weights = [1, 1, 1]\nsteps = [\n  \"begin t 1 1,2,3\",\n  \"write t 1.x a\",\n  \"write t 2.y b\",\n  \"write t 3.z c\",\n  \"stop 1 8 all\",\n  \"commit t\",\n  \"stop 3 8 all\",\n  \"elect 2 t 2,3\",\n  \"restart 1\",\n  \"restart 3\",\n  \"crash 2\",\n  \"recover 1,3\",\n  \"restart 2\",\n  \"recover 1,2,3\",\n]\n",
-    ),
-    (
-        "two electors",
-        "weights = [1, 1, 1]\nsteps = [\n  \"begin t 1 1,2,3\",\n  \"write t 2.y b\",\n  [\"elect 1 t 1,2,3\", \"elect 3 t 1,2,3\"],\n  \"recover 1,2,3\",\n]\n",
     ),
     (
         "elected site stays silent",

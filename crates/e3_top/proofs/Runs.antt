@@ -369,6 +369,11 @@ drill_cut image meters before now words had n most h drill (inr history) = recor
   happened = inr (record { taken = none_taken had; few = omega arith; to_end = λ run. absurd (run_no_drill run (record { n = n; spelled = drill })) }, history);
 }
 
+-- where nothing was read and nothing happened
+pub nothing_cut : {D : Type 0} (image : D → List ℕ → Type 0) (meters : D → Meters) (before now : List D) (words : List (String Global)) (had : Option (List ℕ)) (most : ℕ) (h : List Entry) →
+    h ≡ [] → now ≡ before → IsCutShort image meters before now words had had most h
+nothing_cut image meters before now words had most h none same = record { bytes = []; taken = none_taken had; few = omega arith; happened = inl (none, same) }
+
 -- the statuses of a text that was made
 pub refused_may : (words : List (String Global)) (r : Result Due Stop) (text : Result (List ℕ) NoMemory) → ¬ IsCommand words → IfOk r (λ due. (due.status ≡ 1) × (text ≡ Ok due.text)) → IfOk r (λ due. MayEnd words due.status)
 refused_may words (Err stop) text other made = tt

@@ -21,7 +21,7 @@ use e3_fleet::{Played, play_over};
 use e3_gen::{generated, generated_scenario};
 use e3_law_commit::commits_end;
 use e3_law_rounds::rounds_end;
-use e3_outside::{ReadFault, Source, read_up_to};
+use e3_outside::{Gate, ReadFault, Source, read_up_to};
 use e3_report::{report, summary};
 use e3_scenario::{ScenarioFault, fault_line, read_scenario};
 use e3_serial::one_order;
@@ -30,9 +30,14 @@ use e3_types::{List, NoMemory, Scenario};
 use e3_words::{Command, read_words};
 use e3_world::History;
 use std::alloc::Global;
+use std::sync::Wait;
+use std::thread::Threads;
 
 /// One byte more than a scenario has at most.
 const MOST: u64 = 4_194_305;
+
+/// In how many threads sites work at most: one for each site that there may be.
+const MOST_THREADS: usize = 16;
 
 /// A text that is due, and the status that the run ends with when it is written.
 #[derive(Drop)]
@@ -127,10 +132,12 @@ fn drill_text(
 }
 
 // Plays a scenario.
-fn play<D: Disk + Drill + Drop>(
+fn play<D: Disk + Drill + Drop + Send, G: Gate + Sync, R: Wait + Threads + Sync>(
+    rt: &R,
     alloc: Global,
     scenario: &Scenario,
     disks: Vec<D>,
+    gate: &G,
     most: u32,
 ) -> Played<D>
     requires given { IsGiven scenario.now }
@@ -144,17 +151,19 @@ fn play<D: Disk + Drill + Drop>(
     one_order();
     rounds_end();
     commits_end();
-    play_over(alloc, scenario, disks, most)
+    play_over(rt, alloc, scenario, disks, gate, MOST_THREADS, most)
 }
 
 // The run of a scenario.
-fn prepare_run<D: Disk + Drill + Drop>(
+fn prepare_run<D: Disk + Drill + Drop + Send, G: Gate + Sync, R: Wait + Threads + Sync>(
+    rt: &R,
     alloc: Global,
     words: &[String],
     trace: bool,
     bytes: &[u8],
     scenario: &Scenario,
     disks: Vec<D>,
+    gate: &G,
     most: u32,
 ) -> Prepared<D>
     requires run { Spell words.now (Run trace) }
@@ -172,7 +181,7 @@ fn prepare_run<D: Disk + Drill + Drop>(
         ended,
         history,
         disks,
-    } = play(alloc, scenario, disks, most);
+    } = play(rt, alloc, scenario, disks, gate, most);
     Prepared {
         due: run_text(alloc, trace, scenario, ended, &history, most),
         history,
@@ -181,12 +190,14 @@ fn prepare_run<D: Disk + Drill + Drop>(
 }
 
 // The drill of a generated scenario.
-fn prepare_drill<D: Disk + Drill + Drop>(
+fn prepare_drill<D: Disk + Drill + Drop + Send, G: Gate + Sync, R: Wait + Threads + Sync>(
+    rt: &R,
     alloc: Global,
     words: &[String],
     n: u32,
     scenario: &Scenario,
     disks: Vec<D>,
+    gate: &G,
     most: u32,
 ) -> Prepared<D>
     requires drill { Spell words.now (Drill n) }
@@ -204,7 +215,7 @@ fn prepare_drill<D: Disk + Drill + Drop>(
         ended,
         history,
         disks,
-    } = play(alloc, scenario, disks, most);
+    } = play(rt, alloc, scenario, disks, gate, most);
     Prepared {
         due: drill_text(alloc, n, scenario, ended, &history, most),
         history,
@@ -319,12 +330,14 @@ fn refuse_scenario<D: Disk + Drill + Drop>(
 }
 
 // The run over the bytes that were read.
-fn prepare_bytes<D: Disk + Drill + Drop>(
+fn prepare_bytes<D: Disk + Drill + Drop + Send, G: Gate + Sync, R: Wait + Threads + Sync>(
+    rt: &R,
     alloc: Global,
     words: &[String],
     trace: bool,
     bytes: &[u8],
     disks: Vec<D>,
+    gate: &G,
     most: u32,
 ) -> Prepared<D>
     requires run { Spell words.now (Run trace) }
@@ -339,17 +352,24 @@ fn prepare_bytes<D: Disk + Drill + Drop>(
 {
     match read_scenario(alloc, bytes) {
         Err(fault) => refuse_scenario(alloc, words, trace, bytes, &fault, disks, most),
-        Ok(scenario) => prepare_run(alloc, words, trace, bytes, &scenario, disks, most),
+        Ok(scenario) => prepare_run(rt, alloc, words, trace, bytes, &scenario, disks, gate, most),
     }
 }
 
 // Reads the source and plays the scenario that it has.
-fn read_and_play<S: Source, D: Disk + Drill + Drop>(
+fn read_and_play<
+    S: Source,
+    D: Disk + Drill + Drop + Send,
+    G: Gate + Sync,
+    R: Wait + Threads + Sync,
+>(
+    rt: &R,
     alloc: Global,
     words: &[String],
     trace: bool,
     source: &mut S,
     disks: Vec<D>,
+    gate: &G,
     most: u32,
 ) -> Prepared<D>
     requires run { Spell words.now (Run trace) }
@@ -371,16 +391,18 @@ fn read_and_play<S: Source, D: Disk + Drill + Drop>(
             disks,
         },
         Err(ReadFault::NoMemory) => without_memory(alloc, disks),
-        Ok(bytes) => prepare_bytes(alloc, words, trace, bytes.as_slice(), disks, most),
+        Ok(bytes) => prepare_bytes(rt, alloc, words, trace, bytes.as_slice(), disks, gate, most),
     }
 }
 
 // Plays the generated scenario of a number.
-fn generate_and_play<D: Disk + Drill + Drop>(
+fn generate_and_play<D: Disk + Drill + Drop + Send, G: Gate + Sync, R: Wait + Threads + Sync>(
+    rt: &R,
     alloc: Global,
     words: &[String],
     n: u32,
     disks: Vec<D>,
+    gate: &G,
     most: u32,
 ) -> Prepared<D>
     requires drill { Spell words.now (Drill n) }
@@ -397,16 +419,18 @@ fn generate_and_play<D: Disk + Drill + Drop>(
 {
     match generated_scenario(alloc, n) {
         Err(NoMemory) => without_memory(alloc, disks),
-        Ok(scenario) => prepare_drill(alloc, words, n, &scenario, disks, most),
+        Ok(scenario) => prepare_drill(rt, alloc, words, n, &scenario, disks, gate, most),
     }
 }
 
 /// Does all that the words ask for but writing the text. A run alone touches the source.
-pub fn prepare<S: Source, D: Disk + Drill + Drop>(
+pub fn prepare<S: Source, D: Disk + Drill + Drop + Send, G: Gate + Sync, R: Wait + Threads + Sync>(
+    rt: &R,
     alloc: Global,
     words: &[String],
     source: &mut S,
     disks: Vec<D>,
+    gate: &G,
     most: u32,
 ) -> Prepared<D>
     requires sixteen { length disks.items ≡ 16 }
@@ -424,8 +448,10 @@ pub fn prepare<S: Source, D: Disk + Drill + Drop>(
 {
     match read_words(words) {
         None => refuse_words(alloc, words, disks, most),
-        Some(Command::Run { trace }) => { read_and_play(alloc, words, trace, source, disks, most) }
+        Some(Command::Run { trace }) => {
+            read_and_play(rt, alloc, words, trace, source, disks, gate, most)
+        }
         Some(Command::Gen { n }) => tell_generated(alloc, words, n, disks, most),
-        Some(Command::Drill { n }) => generate_and_play(alloc, words, n, disks, most),
+        Some(Command::Drill { n }) => { generate_and_play(rt, alloc, words, n, disks, gate, most) }
     }
 }

@@ -9,10 +9,11 @@ ghost use Rattle.e3_top.specs.Words.{IsDrill, IsGen, IsRun, MayEnd};
 
 use crate::preparing::{Due, Prepared, Stop, prepare};
 use e3_disk::{Disk, Drill};
-use e3_outside::{Failed, Sink, Source, write_all};
+use e3_outside::{Failed, Gate, Sink, Source, write_all};
 use e3_world::History;
 use std::alloc::Global;
 use std::sync::Wait;
+use std::thread::Threads;
 
 /// The most entries that the history of a run has.
 const MOST_ENTRIES: u32 = 2_000_000;
@@ -59,14 +60,22 @@ fn finish<K: Sink, D: Drop>(due: Due, history: History, disks: Vec<D>, sink: &mu
 /// The words are those of the command line behind the program's name. The order is: the words; for a run the source and the
 /// scenario; for a run and a drill the play; at last the sink. Each text is whole before its first byte is written. Want of
 /// memory, status 5, may come at any time before. Site k has the k-th disk; there are sixteen, each blank, powered and not
-/// armed, and they come back in their order.
-pub fn run_within<R: Wait, S: Source, K: Sink, D: Disk + Drill + Drop>(
-    _rt: &R,
+/// armed, and they come back in their order. The sites work side by side, in threads; each passes the gate before each packet
+/// that it takes.
+pub fn run_within<
+    S: Source,
+    K: Sink,
+    D: Disk + Drill + Drop + Send,
+    G: Gate + Sync,
+    R: Wait + Threads + Sync,
+>(
+    rt: &R,
     alloc: Global,
     words: &[String],
     source: &mut S,
     sink: &mut K,
     disks: Vec<D>,
+    gate: &G,
     most: u32,
 ) -> Ended<D>
     requires sixteen { length disks.items ≡ 16 }
@@ -123,7 +132,7 @@ pub fn run_within<R: Wait, S: Source, K: Sink, D: Disk + Drill + Drop>(
         due,
         history,
         disks,
-    } = prepare(alloc, words, source, disks, most);
+    } = prepare(rt, alloc, words, source, disks, gate, most);
     match due {
         Ok(due) => finish(due, history, disks, sink),
         Err(Stop::SourceFailed) => Ended {
@@ -140,13 +149,20 @@ pub fn run_within<R: Wait, S: Source, K: Sink, D: Disk + Drill + Drop>(
 }
 
 /// Does what the words ask for: `run_within` with the most entries that a history has, 2,000,000.
-pub fn run<R: Wait, S: Source, K: Sink, D: Disk + Drill + Drop>(
+pub fn run<
+    S: Source,
+    K: Sink,
+    D: Disk + Drill + Drop + Send,
+    G: Gate + Sync,
+    R: Wait + Threads + Sync,
+>(
     rt: &R,
     alloc: Global,
     words: &[String],
     source: &mut S,
     sink: &mut K,
     disks: Vec<D>,
+    gate: &G,
 ) -> Ended<D>
     requires sixteen { length disks.items ≡ 16 }
     requires blank { AreBlank D.content D.image D.meters disks.items }
@@ -196,5 +212,5 @@ pub fn run<R: Wait, S: Source, K: Sink, D: Disk + Drill + Drop>(
     ensures source_counts { S.faults source.old ≤ S.faults source.new }
     ensures sink_counts { K.faults sink.old ≤ K.faults sink.new }
 {
-    run_within(rt, alloc, words, source, sink, disks, MOST_ENTRIES)
+    run_within(rt, alloc, words, source, sink, disks, gate, MOST_ENTRIES)
 }

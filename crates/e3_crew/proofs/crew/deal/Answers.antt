@@ -1,5 +1,4 @@
-use Rattle.std.proofs.Common.{◌≡◌, ◌⊎◌, ◌∷◌, [], inl, inr, ◌<◌, ◌≤◌, ◌+◌, ℕ, refl, sym, subst, ◌∙◌, ap, arith, length}
-use Rattle.e3_turn.specs.Chronicles.{count_of}
+use Rattle.std.proofs.Common.{◌≡◌, ◌⊎◌, ◌∷◌, [], inl, inr, ◌<◌, ◌≤◌, ◌+◌, ℕ, refl, ◌∙◌, ap, arith, length}
 use Rattle.e3_turn.specs.Passes.{owners_of, seen_by}
 use Rattle.e3_crew.specs.declared.worker.Worker.{Worker}
 use Rattle.e3_crew.specs.Workers.{IsDealt}

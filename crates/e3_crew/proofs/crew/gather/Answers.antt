@@ -1,11 +1,10 @@
-use Rattle.std.proofs.Common.{◌≡◌, ◌+◌, ◌<◌, ◌≤◌, ◌∷◌, [], ℕ, refl, sym, subst, ◌∙◌, ap, arith, length}
+use Rattle.std.proofs.Common.{◌≡◌, ◌+◌, ◌<◌, ◌∷◌, [], ℕ, refl, sym, subst, ◌∙◌, ap, arith, length}
 use Rattle.std.specs.Prelude.{slice_index_or}
 use Rattle.e3_turn.specs.Passes.{Owns, last_of, owners_of, seen_by}
 use Rattle.e3_crew.specs.declared.worker.Worker.{Worker}
-use Rattle.e3_crew.specs.Workers.{AddedByOthers, HasPass, KeepsItsOwn, seen_of}
-use Rattle.e3_wire.specs.declared.marks.Mark.{Mark}
+use Rattle.e3_crew.specs.Workers.{HasPass, KeepsItsOwn, seen_of}
 use Rattle.e3_wire.specs.Wires.{IsPlayed}
-use Rattle.e3_crew.proofs.Dealing.{added_none, each_more, joined_first, joined_played, joined_second, added_on, owns_more}
+use Rattle.e3_crew.proofs.Dealing.{added_none, each_more, joined_first, joined_played, added_on, owns_more}
 use Rattle.e3_crew.proofs.Members.{changed_more, unchanged_more, same_member}
 use Rattle.e3_crew.proofs.crew.gather.Goals as goal
 

@@ -1,4 +1,4 @@
-use Rattle.std.proofs.Common.{◌≡◌, ◌+◌, ◌<◌, ◌≤◌, ℕ, length}
+use Rattle.std.proofs.Common.{◌≡◌, ◌+◌, ◌<◌, ◌≤◌, ℕ}
 use Rattle.std.specs.Prelude.{slice_index_or}
 use Rattle.e3_turn.specs.Passes.{IsIdle, Owns, last_of, seen_by}
 use Rattle.e3_crew.specs.declared.worker.Worker.{Worker}

@@ -1,4 +1,4 @@
-use Rattle.std.proofs.Common.{rules, ◌≡◌, Err, true, false, sym, ap, subst, ◌∙◌}
+use Rattle.std.proofs.Common.{rules, ◌≡◌, Err, true, false, sym, subst, ◌∙◌}
 use Rattle.e3_crew.specs.Drops.{DropHadNoRoom}
 use Rattle.e3_crew.proofs.Drops.{dropped_for, dropped_on, dropped_restless, dropped_up, no_drop_room}
 use Rattle.e3_wire.specs.declared.fault.WireFault.TheVariants.{HistoryFull}

@@ -1,7 +1,6 @@
-use Rattle.std.proofs.Common.{◌≡◌, sym, subst}
-use Rattle.std.specs.Prelude.{slice_index_or}
+use Rattle.std.proofs.Common.{sym, subst}
 use Rattle.e3_crew.specs.declared.worker.Worker.{Worker}
-use Rattle.e3_crew.proofs.Drops.{dropped_none, dropped_on, dropped_restless, dropped_stands}
+use Rattle.e3_crew.proofs.Drops.{dropped_on, dropped_restless, dropped_stands}
 use Rattle.e3_node.specs.NodeStands.{NodeStands}
 use Rattle.e3_wire.specs.Marks.{entries_of, scenario_of}
 use Rattle.e3_crew.proofs.dropping.drop_in.Goals as goal

@@ -1,14 +1,13 @@
-use Rattle.std.proofs.Common.{◌≡◌, ◌<◌, ◌≤◌, ◌∙◌, ℕ, List, sym, ap, subst, arith, length}
+use Rattle.std.proofs.Common.{◌<◌, ◌∙◌, List, sym, ap, subst, arith, length}
 use Rattle.std.specs.Prelude.{slice_index_or}
 use Rattle.e3_crew.specs.Workers.{AddedByOthers}
-use Rattle.e3_crew.specs.declared.worker.Worker.{Worker}
 use Rattle.e3_node.specs.NodeView.{NodeView}
 use Rattle.e3_sites.specs.declared.sites.RunFault.TheVariants.{HistoryFull}
 use Rattle.e3_turn.specs.Passes.{seen_by}
 use Rattle.e3_wire.specs.declared.marks.Mark.{Mark}
 use Rattle.e3_wire.specs.Wires.{IsPlayed}
 use Rattle.e3_crew.proofs.Packets.{can_take, packets_full, still_delivering}
-use Rattle.e3_crew.proofs.Rounding.{Round, crew_again, gone_on}
+use Rattle.e3_crew.proofs.Rounding.{crew_again, gone_on}
 use Rattle.e3_crew.proofs.rounds.packet_round.Goals as goal
 
 pub deal-requires-clause-sites : goal.deal-requires-clause-sites

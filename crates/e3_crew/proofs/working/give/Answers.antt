@@ -1,7 +1,7 @@
-use Rattle.std.proofs.Common.{◌≡◌, ◌∷◌, [], sym, ap, subst, ◌∙◌}
+use Rattle.std.proofs.Common.{◌∷◌, [], sym, ap, subst, ◌∙◌}
 use Rattle.e3_turn.specs.Passes.{seen_by}
 use Rattle.e3_crew.specs.Workers.{HasGiven}
-use Rattle.e3_crew.proofs.Giving.{Answered, gave}
+use Rattle.e3_crew.proofs.Giving.{gave}
 use Rattle.e3_crew.proofs.Turning.{owns_one}
 use Rattle.e3_crew.proofs.working.give.Goals as goal
 

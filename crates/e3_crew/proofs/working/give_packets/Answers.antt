@@ -1,4 +1,4 @@
-use Rattle.std.proofs.Common.{rules, ◌≡◌, ℕ, Err, sym, subst, ap, ◌∙◌}
+use Rattle.std.proofs.Common.{rules, ◌≡◌, ℕ, Err, subst}
 use Rattle.e3_crew.specs.Workers.{PacketHadNoRoom}
 use Rattle.e3_crew.proofs.Taking.{packet_may, packet_refused, through_worked}
 use Rattle.e3_crew.proofs.Turning.{worked_none, worked_on}

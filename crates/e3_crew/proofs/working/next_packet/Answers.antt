@@ -1,4 +1,3 @@
-use Rattle.std.proofs.Common.{◌≡◌, ◌∙◌, sym, ap}
 use Rattle.e3_turn.specs.Passes.{seen_by}
 use Rattle.e3_wire.proofs.Staying.{are_others_marks}
 use Rattle.e3_crew.proofs.Turning.{owns_one, worked_behind, worked_none}

@@ -1,4 +1,4 @@
-use Rattle.std.proofs.Common.{◌≡◌, ◌∙◌}
+use Rattle.std.proofs.Common.{◌∙◌}
 use Rattle.e3_turn.specs.Passes.{seen_by}
 use Rattle.e3_crew.proofs.Taking.{took_items}
 use Rattle.e3_crew.proofs.working.take_items.Goals as goal

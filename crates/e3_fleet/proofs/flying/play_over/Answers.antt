@@ -1,18 +1,21 @@
-use Rattle.std.proofs.Common.{List, length, sym, ap, subst, ◌∙◌, []}
+use Rattle.std.proofs.Common.{ℕ, ◌≡◌, ◌+◌, List, length, sym, ap, subst, ◌∙◌, [], arith}
 use Rattle.e3_fleet.specs.Over.{AreOver}
-use Rattle.e3_fleet.proofs.Ending.{came_back, never_began, unarmed}
+use Rattle.e3_fleet.specs.Fleets.{nodes_of}
+use Rattle.e3_fleet.proofs.Ending.{came_back, never_began, room_left, unarmed}
+use Rattle.e3_fleet.proofs.Holding.{nodes_length}
 use Rattle.e3_fleet.proofs.flying.play_over.Goals as goal
+use Rattle.e3_sites.specs.Delivered.{IsFull}
 use Rattle.e3_types.specs.declared.entries.Entry.{Entry}
 use Rattle.e3_types.specs.declared.scenarios.Scenario.{Scenario}
 
 pub fly-ended-requires-clause-unarmed : goal.fly-ended-requires-clause-unarmed
-fly-ended-requires-clause-unarmed g c =
-    unarmed g.D.Disk.content g.D.Disk.image g.D.Disk.meters c.open.new.nodes.items c.open.new.disks.items c.args.disks.items c.open.ensures.disks c.requires.blank
+fly-ended-requires-clause-unarmed g c κs lives =
+    unarmed g.D.Disk.content g.D.Disk.image g.D.Disk.meters (nodes_of c.open.new.workers.items) c.open.new.disks.items c.args.disks.items c.open.ensures.disks c.requires.blank
 
 pub returns-in-Ok-clause-disks : goal.returns-in-Ok-clause-disks
 returns-in-Ok-clause-disks g c =
     came_back g.D.Disk.content g.D.Disk.image g.D.Disk.meters c.a_node_tells_of_its_disk.ensures.disks c.args.scenario.now c.fly-ended.result.history.entries
-    c.open.new.nodes.items c.fly-ended.result.nodes.items c.open.new.disks.items c.args.disks.items c.unseat_all.new.disks.items
+    (nodes_of c.open.new.workers.items) (nodes_of c.fly-ended.result.workers.items) c.open.new.disks.items c.args.disks.items c.unseat_all.new.disks.items
     (c.in-Ok.ensures.stands.count ∙ ap (λ (sc : Scenario). length sc.weights) c.in-Ok.ensures.new.0)
     c.fly-ended.ensures.seated c.fly-ended.ensures.kept c.open.ensures.disks c.unseat_all.ensures
 
@@ -21,4 +24,19 @@ returns-in-Err-clause-disks g c =
     subst (λ (h : List Entry). AreOver g.D.Disk.image g.D.Disk.meters c.args.scenario.now h c.args.disks.items c.unseat_all-in-Err.new.disks.items) (sym c.new.ensures)
     (subst (λ (ds : List g.row.D.Denot). AreOver g.D.Disk.image g.D.Disk.meters c.args.scenario.now [] c.args.disks.items ds)
     (sym (c.unseat_all-in-Err.ensures ∙ c.open.ensures.disks))
-    (never_began g.D.Disk.content g.D.Disk.image g.D.Disk.meters (λ d. g.met.D.Disk.counted d) c.args.scenario.now c.args.disks.items c.requires.blank))
+    (never_began g.D.Disk.content g.D.Disk.image g.D.Disk.meters c.disks_are_counted.ensures c.args.scenario.now c.args.disks.items c.requires.blank))
+
+pub returns-in-Ok-clause-full : goal.returns-in-Ok-clause-full
+returns-in-Ok-clause-full g c = λ is.
+    subst (λ (most : ℕ). IsFull c.args.scenario.now c.fly-ended.result.history.entries most) c.in-Ok.ensures.new.2 (c.fly-ended.ensures.full is)
+
+pub unseat_all-requires : goal.unseat_all-requires
+unseat_all-requires g c =
+    let all : length c.open.new.disks.items + length c.fly-ended.result.workers.items ≡ length c.args.disks.items =
+    room_left (nodes_of c.open.new.workers.items) c.open.new.disks.items c.args.disks.items (length c.fly-ended.result.workers.items) c.open.ensures.disks
+    (c.fly-ended.ensures.count ∙ sym (nodes_length c.open.new.workers.items)) in
+    let one = c.open.new.disks.ok.0 in
+    let two = c.args.disks.ok.0 in
+    let low = c.args.disks.ok.1 in
+    let same = c.open.ensures.disks_room in
+    omega (arith, all, one, two, low, same)

@@ -1,14 +1,19 @@
 use Rattle.std.proofs.Common.{refl}
+use Rattle.e3_fleet.specs.Fleets.{nodes_of}
 use Rattle.e3_fleet.proofs.Going.{driver_call}
+use Rattle.e3_fleet.proofs.Holding.{held_on}
 use Rattle.e3_fleet.proofs.fleet.FleetSites.drop_first.Goals as goal
 use Rattle.e3_types.specs.declared.entries.Act.TheVariants.{Drop}
 
 pub returns-clause-stands : goal.returns-clause-stands
-returns-clause-stands g c = (driver_call g.D.Disk.content g.D.Disk.image g.D.Disk.meters c.other_entries_keep_nodes.ensures.nodes (λ d. g.met.D.Disk.counted d) c.args.self.now.shared c.enter_drop.new.shared
-    (record { owner = 0; act = Drop c.args.packet.now.number }) c.args.self.now.nodes.items c.enter_drop.result c.requires.standing c.enter_drop.ensures.stands c.enter_drop.ensures.same refl (λ site. refl)
-    c.enter_drop.ensures.entered c.enter_drop.ensures.kept).stands
+returns-clause-stands g c =
+    held_on g.D.Disk.content g.D.Disk.image g.D.Disk.meters c.args.self.now.wire c.args.self.now.pass c.args.self.now.held.shared c.enter_drop.new.shared
+    (nodes_of c.args.self.now.held.workers.items) (nodes_of c.args.self.now.held.workers.items) c.requires.standing
+    (driver_call g.D.Disk.content g.D.Disk.image g.D.Disk.meters c.other_entries_keep_nodes.ensures.nodes (λ d. g.met.D.Disk.counted d) c.args.self.now.held.shared c.enter_drop.new.shared
+    (record { owner = 0; act = Drop c.args.packet.now.number }) (nodes_of c.args.self.now.held.workers.items) c.enter_drop.result c.requires.standing.fleet c.enter_drop.ensures.stands c.enter_drop.ensures.same refl (λ site. refl)
+    c.enter_drop.ensures.entered c.enter_drop.ensures.kept) c.enter_drop.ensures.grew
 
 pub returns-clause-since : goal.returns-clause-since
-returns-clause-since g c = λ start was. (driver_call g.D.Disk.content g.D.Disk.image g.D.Disk.meters c.other_entries_keep_nodes.ensures.nodes (λ d. g.met.D.Disk.counted d) c.args.self.now.shared c.enter_drop.new.shared
-    (record { owner = 0; act = Drop c.args.packet.now.number }) c.args.self.now.nodes.items c.enter_drop.result c.requires.standing c.enter_drop.ensures.stands c.enter_drop.ensures.same refl (λ site. refl)
-    c.enter_drop.ensures.entered c.enter_drop.ensures.kept).kept start.nodes.items was
+returns-clause-since g c = λ start was. (driver_call g.D.Disk.content g.D.Disk.image g.D.Disk.meters c.other_entries_keep_nodes.ensures.nodes (λ d. g.met.D.Disk.counted d) c.args.self.now.held.shared c.enter_drop.new.shared
+    (record { owner = 0; act = Drop c.args.packet.now.number }) (nodes_of c.args.self.now.held.workers.items) c.enter_drop.result c.requires.standing.fleet c.enter_drop.ensures.stands c.enter_drop.ensures.same refl (λ site. refl)
+    c.enter_drop.ensures.entered c.enter_drop.ensures.kept).kept (nodes_of start.held.workers.items) was

@@ -1,0 +1,110 @@
+// A scenario, step by step.
+ghost use Rattle.std.specs.Prelude.{◌≡◌, ◌≤◌, ◌<◌, ◌^◌, [], suc, length, OnOk, Err};
+ghost use Rattle.e3_fleet.specs.Settling.{Since, Stands, history_in, most_in, scenario_in};
+ghost use Rattle.e3_fleet.specs.declared.fleet.Fleet.{Fleet as Fleets};
+ghost use Rattle.e3_play.specs.Known.{KnowsNames};
+ghost use Rattle.e3_play.specs.Played.{IsSettled};
+ghost use Rattle.e3_sites.specs.Delivered.{IsFull};
+ghost use Rattle.e3_sites.specs.declared.sites.RunFault.TheVariants.{HistoryFull};
+ghost use Rattle.e3_world.specs.Given.{IsGiven};
+ghost use Rattle.e3_world.specs.Legal.{IsWhole};
+
+use crate::fleet::Fleet;
+use crate::settling::settle_fleet;
+use e3_disk::{Disk, Drill};
+use e3_outside::Gate;
+use e3_play::{Names, begin_step, rise_all};
+use e3_sites::RunFault;
+use e3_types::Scenario;
+use std::sync::Wait;
+use std::thread::Threads;
+
+// The step of the next number: what the driver does of it, and then what the sites do.
+fn play_step<D: Disk + Drill + Drop + Send, G: Gate + Sync, R: Wait + Threads + Sync>(
+    rt: &R,
+    scenario: &Scenario,
+    gate: &G,
+    threads: usize,
+    fleet: &mut Fleet<D>,
+    names: &mut Names,
+    done: u32,
+) -> Result<(), RunFault>
+    requires played { scenario_in fleet.old ≡ scenario.now }
+    requires standing { Stands D.content D.image D.meters fleet.old }
+    requires given { IsGiven scenario.now }
+    requires most { most_in fleet.old ≤ 2000000 }
+    requires more { suc done ≤ length scenario.now.steps }
+    requires few { length scenario.now.steps < 2 ^ 32 }
+    requires settled { IsSettled scenario.now (history_in fleet.old) done }
+    requires known { KnowsNames scenario.now (history_in fleet.old) names.old }
+    ensures stands { Stands D.content D.image D.meters fleet.new }
+    ensures since { (start : Fleets D) → Since D.meters start fleet.old → Since D.meters start fleet.new }
+    ensures same { (scenario_in fleet.new ≡ scenario_in fleet.old) × (most_in fleet.new ≡ most_in fleet.old) }
+    ensures known { OnOk result (KnowsNames scenario.now (history_in fleet.new) names.new) }
+    ensures settles { OnOk result (IsSettled scenario.now (history_in fleet.new) (suc done)) }
+    ensures full { result ≡ Err HistoryFull → IsFull scenario.now (history_in fleet.new) (most_in fleet.old) }
+{
+    let alloc = fleet.alloc;
+    let asked = begin_step(alloc, scenario, fleet, names, done)?;
+    match asked {
+        Some(inputs) => settle_fleet(rt, gate, threads, fleet, inputs),
+        None => Ok(()),
+    }
+}
+
+/// Plays the first rises and the first so many steps of a scenario, each of which settles before the next. The history is
+/// empty at first, and has 2,000,000 entries at most.
+pub fn play_first<D: Disk + Drill + Drop + Send, G: Gate + Sync, R: Wait + Threads + Sync>(
+    rt: &R,
+    scenario: &Scenario,
+    gate: &G,
+    threads: usize,
+    fleet: &mut Fleet<D>,
+    count: u32,
+) -> Result<(), RunFault>
+    requires played { scenario_in fleet.old ≡ scenario.now }
+    requires standing { Stands D.content D.image D.meters fleet.old }
+    requires given { IsGiven scenario.now }
+    requires most { most_in fleet.old ≤ 2000000 }
+    requires few { length scenario.now.steps < 2 ^ 32 }
+    requires within { count ≤ length scenario.now.steps }
+    requires empty { history_in fleet.old ≡ [] }
+    ensures stands { Stands D.content D.image D.meters fleet.new }
+    ensures since { (start : Fleets D) → Since D.meters start fleet.old → Since D.meters start fleet.new }
+    ensures same { (scenario_in fleet.new ≡ scenario_in fleet.old) × (most_in fleet.new ≡ most_in fleet.old) }
+    ensures settled { OnOk result (IsSettled scenario.now (history_in fleet.new) count) }
+    ensures full { result ≡ Err HistoryFull → IsFull scenario.now (history_in fleet.new) (most_in fleet.old) }
+{
+    rise_all(fleet, scenario.weights.len() as u32)?;
+    let mut names = Names::new(fleet.alloc);
+    for done in 0..count {
+        play_step(rt, scenario, gate, threads, fleet, &mut names, done)?;
+    }
+    Ok(())
+}
+
+/// Plays a scenario from its first rises to its end. A scenario of more steps than 32 bits count wants memory.
+pub(crate) fn play<D: Disk + Drill + Drop + Send, G: Gate + Sync, R: Wait + Threads + Sync>(
+    rt: &R,
+    scenario: &Scenario,
+    gate: &G,
+    threads: usize,
+    fleet: &mut Fleet<D>,
+) -> Result<(), RunFault>
+    requires played { scenario_in fleet.old ≡ scenario.now }
+    requires standing { Stands D.content D.image D.meters fleet.old }
+    requires given { IsGiven scenario.now }
+    requires most { most_in fleet.old ≤ 2000000 }
+    requires empty { history_in fleet.old ≡ [] }
+    ensures stands { Stands D.content D.image D.meters fleet.new }
+    ensures since { (start : Fleets D) → Since D.meters start fleet.old → Since D.meters start fleet.new }
+    ensures same { (scenario_in fleet.new ≡ scenario_in fleet.old) × (most_in fleet.new ≡ most_in fleet.old) }
+    ensures whole { OnOk result (IsWhole scenario.now (history_in fleet.new)) }
+    ensures full { result ≡ Err HistoryFull → IsFull scenario.now (history_in fleet.new) (most_in fleet.old) }
+{
+    let Ok(steps) = u32::try_from(scenario.steps.len()) else {
+        return Err(RunFault::NoMemory);
+    };
+    play_first(rt, scenario, gate, threads, fleet, steps)?;
+    Ok(())
+}

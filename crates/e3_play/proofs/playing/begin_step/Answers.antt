@@ -1,0 +1,196 @@
+use Rattle.std.proofs.Common.{◌≡◌, ◌≤◌, ◌∙◌, ◌+◌, ◌∷◌, [], suc, sym, subst, ap, length, arith, List, rules}
+use Rattle.e3_sites.specs.Delivered.{IsFull}
+use Rattle.e3_sites.specs.declared.sites.RunFault.TheVariants.{HistoryFull}
+use Rattle.e3_types.specs.declared.entries.Entry.{Entry}
+use Rattle.e3_types.specs.declared.scenarios.Item.{Item}
+use Rattle.e3_types.specs.declared.scenarios.Item.TheVariants as item
+use Rattle.e3_types.specs.declared.scenarios.Scenario.{Scenario}
+use Rattle.e3_world.specs.Packets.{step_items}
+use Rattle.e3_types.specs.declared.entries.Act.TheVariants as act
+use Rattle.e3_play.specs.Played.{IsFresh, IsSettled, IsStep}
+use Rattle.e3_play.proofs.Answered.{always, of_err, on_ok}
+use Rattle.e3_play.proofs.Full.{line_full}
+use Rattle.e3_play.proofs.Forms.{alone_is, crash_is, exchange_asks, no_stop, recovery_is, restart_exists, restart_is, step_is_given, stop_is}
+use Rattle.e3_play.proofs.Knowing.{knows_line, knows_more}
+use Rattle.e3_play.proofs.Settling.{IsBegun, line_begins, stop_settles}
+use Rattle.e3_play.proofs.playing.begin_step.Goals as goal
+
+pub stop-requires-clause-some : goal.stop-requires-clause-some
+stop-requires-clause-some g c =
+    let items : List Item = c.step_items-items.result.now in
+    let next : c.args.done + 1 ≡ suc c.args.done = omega arith in
+    let step : IsStep c.args.scenario.now items = subst (λ l. IsStep c.args.scenario.now l) (sym (c.step_items-items.ensures ∙ ap (step_items c.args.scenario.now) next)) (step_is_given c.args.scenario.now c.args.done c.requires.given) in
+    (alone_is c.args.scenario.now items c.in-Stop.site c.in-Stop.calls c.in-Stop.leave (stop_is items c.in-Stop.site c.in-Stop.calls c.in-Stop.leave (sym c.kind_of.ensures ∙ c.in-Stop.is)) step).0
+
+pub stop-requires-clause-least : goal.stop-requires-clause-least
+stop-requires-clause-least g c =
+    let items : List Item = c.step_items-items.result.now in
+    let next : c.args.done + 1 ≡ suc c.args.done = omega arith in
+    let step : IsStep c.args.scenario.now items = subst (λ l. IsStep c.args.scenario.now l) (sym (c.step_items-items.ensures ∙ ap (step_items c.args.scenario.now) next)) (step_is_given c.args.scenario.now c.args.done c.requires.given) in
+    (alone_is c.args.scenario.now items c.in-Stop.site c.in-Stop.calls c.in-Stop.leave (stop_is items c.in-Stop.site c.in-Stop.calls c.in-Stop.leave (sym c.kind_of.ensures ∙ c.in-Stop.is)) step).1
+
+pub stop-requires-clause-exists : goal.stop-requires-clause-exists
+stop-requires-clause-exists g c =
+    let items : List Item = c.step_items-items.result.now in
+    let next : c.args.done + 1 ≡ suc c.args.done = omega arith in
+    let step : IsStep c.args.scenario.now items = subst (λ l. IsStep c.args.scenario.now l) (sym (c.step_items-items.ensures ∙ ap (step_items c.args.scenario.now) next)) (step_is_given c.args.scenario.now c.args.done c.requires.given) in
+    subst (λ (sc : Scenario). c.in-Stop.site ≤ length sc.weights) (sym c.requires.played)
+    (alone_is c.args.scenario.now items c.in-Stop.site c.in-Stop.calls c.in-Stop.leave (stop_is items c.in-Stop.site c.in-Stop.calls c.in-Stop.leave (sym c.kind_of.ensures ∙ c.in-Stop.is)) step).2
+
+pub crash-requires-clause-fresh : goal.crash-requires-clause-fresh
+crash-requires-clause-fresh g c =
+    let S = g.S.Sites in
+    let sc = c.args.scenario.now in
+    let next : c.args.done + 1 ≡ suc c.args.done = omega arith in
+    let begun : IsBegun sc (S.entries c.line.new.self) c.args.done =
+    line_begins sc (S.entries c.args.sites.now) (S.entries c.line.new.self) c.args.done (c.args.done + 1) next c.requires.settled c.requires.more c.in_ok-line-in-Crash.ensures.entered in
+    let items : c.step_items-items.result.now ≡ item.Crash c.in-Crash.site ∷ [] = crash_is c.step_items-items.result.now c.in-Crash.site (sym c.kind_of.ensures ∙ c.in-Crash.is) in
+    let fresh : IsFresh sc (S.entries c.line.new.self) (item.Crash c.in-Crash.site ∷ []) =
+    subst (λ l. IsFresh sc (S.entries c.line.new.self) l) (sym (c.step_items-items.ensures ∙ ap (step_items sc) next) ∙ items) begun.fresh in
+    subst (λ it. IsFresh it (S.entries c.line.new.self) (item.Crash c.in-Crash.site ∷ [])) (sym (c.in_ok-line-in-Crash.ensures.same.0 ∙ c.requires.played)) fresh
+
+pub restart-requires-clause-fresh : goal.restart-requires-clause-fresh
+restart-requires-clause-fresh g c =
+    let S = g.S.Sites in
+    let sc = c.args.scenario.now in
+    let next : c.args.done + 1 ≡ suc c.args.done = omega arith in
+    let begun : IsBegun sc (S.entries c.line-in-Restart.new.self) c.args.done =
+    line_begins sc (S.entries c.args.sites.now) (S.entries c.line-in-Restart.new.self) c.args.done (c.args.done + 1) next c.requires.settled c.requires.more c.in_ok-line-in-Restart.ensures.entered in
+    let items : c.step_items-items.result.now ≡ item.Restart c.in-Restart.site ∷ [] = restart_is c.step_items-items.result.now c.in-Restart.site (sym c.kind_of.ensures ∙ c.in-Restart.is) in
+    let fresh : IsFresh sc (S.entries c.line-in-Restart.new.self) (item.Restart c.in-Restart.site ∷ []) =
+    subst (λ l. IsFresh sc (S.entries c.line-in-Restart.new.self) l) (sym (c.step_items-items.ensures ∙ ap (step_items sc) next) ∙ items) begun.fresh in
+    subst (λ it. IsFresh it (S.entries c.line-in-Restart.new.self) (item.Restart c.in-Restart.site ∷ [])) (sym (c.in_ok-line-in-Restart.ensures.same.0 ∙ c.requires.played)) fresh
+
+pub restart-requires-clause-exists : goal.restart-requires-clause-exists
+restart-requires-clause-exists g c =
+    let items : List Item = c.step_items-items.result.now in
+    let next : c.args.done + 1 ≡ suc c.args.done = omega arith in
+    let step : IsStep c.args.scenario.now items = subst (λ l. IsStep c.args.scenario.now l) (sym (c.step_items-items.ensures ∙ ap (step_items c.args.scenario.now) next)) (step_is_given c.args.scenario.now c.args.done c.requires.given) in
+    subst (λ (sc : Scenario). c.in-Restart.site ≤ length sc.weights) (sym (c.in_ok-line-in-Restart.ensures.same.0 ∙ c.requires.played))
+    (restart_exists c.args.scenario.now items c.in-Restart.site (restart_is items c.in-Restart.site (sym c.kind_of.ensures ∙ c.in-Restart.is)) step)
+
+pub recovery-requires-clause-fresh : goal.recovery-requires-clause-fresh
+recovery-requires-clause-fresh g c =
+    let S = g.S.Sites in
+    let sc = c.args.scenario.now in
+    let next : c.args.done + 1 ≡ suc c.args.done = omega arith in
+    let begun : IsBegun sc (S.entries c.line-in-Recovery.new.self) c.args.done =
+    line_begins sc (S.entries c.args.sites.now) (S.entries c.line-in-Recovery.new.self) c.args.done (c.args.done + 1) next c.requires.settled c.requires.more c.in_ok-line-in-Recovery.ensures.entered in
+    let items : c.step_items-items.result.now ≡ item.Recover c.in-Recovery.group ∷ [] = recovery_is c.step_items-items.result.now c.in-Recovery.group (sym c.kind_of.ensures ∙ c.in-Recovery.is) in
+    let fresh : IsFresh sc (S.entries c.line-in-Recovery.new.self) (item.Recover c.in-Recovery.group ∷ []) =
+    subst (λ l. IsFresh sc (S.entries c.line-in-Recovery.new.self) l) (sym (c.step_items-items.ensures ∙ ap (step_items sc) next) ∙ items) begun.fresh in
+    subst (λ it. IsFresh it (S.entries c.line-in-Recovery.new.self) (item.Recover c.in-Recovery.group ∷ [])) (sym (c.in_ok-line-in-Recovery.ensures.same.0 ∙ c.requires.played)) fresh
+
+pub line-requires-in-Exchange-clause-no_stop : goal.line-requires-in-Exchange-clause-no_stop
+line-requires-in-Exchange-clause-no_stop g c = λ site calls leave more is.
+    let sc = c.args.scenario.now in
+    let items : List Item = c.step_items-items.result.now in
+    let next : c.args.done + 1 ≡ suc c.args.done = omega arith in
+    let step : IsStep sc items = subst (λ l. IsStep sc l) (sym (c.step_items-items.ensures ∙ ap (step_items sc) next)) (step_is_given sc c.args.done c.requires.given) in
+    no_stop items (sym c.kind_of.ensures ∙ c.in-Exchange.is) sc step site calls leave more
+    (c.step_items-items.ensures ∙ ap (λ (it : Scenario). step_items it (c.args.done + 1)) (sym c.requires.played) ∙ is)
+
+pub exchange-requires-clause-form : goal.exchange-requires-clause-form
+exchange-requires-clause-form g c =
+    let sc = c.args.scenario.now in
+    let items : List Item = c.step_items-items.result.now in
+    let next : c.args.done + 1 ≡ suc c.args.done = omega arith in
+    let step : IsStep sc items = subst (λ l. IsStep sc l) (sym (c.step_items-items.ensures ∙ ap (step_items sc) next)) (step_is_given sc c.args.done c.requires.given) in
+    exchange_asks sc items step (sym c.kind_of.ensures ∙ c.in-Exchange.is)
+
+pub exchange-requires-clause-fresh : goal.exchange-requires-clause-fresh
+exchange-requires-clause-fresh g c =
+    let S = g.S.Sites in
+    let sc = c.args.scenario.now in
+    let next : c.args.done + 1 ≡ suc c.args.done = omega arith in
+    let begun : IsBegun sc (S.entries c.line-in-Exchange.new.self) c.args.done =
+    line_begins sc (S.entries c.args.sites.now) (S.entries c.line-in-Exchange.new.self) c.args.done (c.args.done + 1) next c.requires.settled c.requires.more c.in_ok-line-in-Exchange.ensures.entered in
+    subst (λ l. IsFresh sc (S.entries c.line-in-Exchange.new.self) l) (sym (c.step_items-items.ensures ∙ ap (step_items sc) next)) begun.fresh
+
+pub exchange-requires-clause-known : goal.exchange-requires-clause-known
+exchange-requires-clause-known g c =
+    let S = g.S.Sites in
+    knows_more c.args.scenario.now (S.entries c.args.sites.now) (S.entries c.line-in-Exchange.new.self) (record { owner = 0; act = act.Line (c.args.done + 1) } ∷ []) c.args.names.now
+    c.requires.known c.in_ok-line-in-Exchange.ensures.entered
+
+pub returns-in_ok-stop-in-Stop-clause-begun : goal.returns-in_ok-stop-in-Stop-clause-begun
+returns-in_ok-stop-in-Stop-clause-begun g c =
+    let S = g.S.Sites in
+    let sc = c.args.scenario.now in
+    let next : c.args.done + 1 ≡ suc c.args.done = omega arith in
+    let items : c.step_items-items.result.now ≡ item.Stop c.in-Stop.site c.in-Stop.calls c.in-Stop.leave ∷ [] =
+    stop_is c.step_items-items.result.now c.in-Stop.site c.in-Stop.calls c.in-Stop.leave (sym c.kind_of.ensures ∙ c.in-Stop.is) in
+    let begun : IsBegun sc (S.entries c.stop.new.self) c.args.done =
+    line_begins sc (S.entries c.args.sites.now) (S.entries c.stop.new.self) c.args.done (c.args.done + 1) next c.requires.settled c.requires.more c.in_ok-stop-in-Stop.ensures.entered in
+    let fresh : IsFresh sc (S.entries c.stop.new.self) (item.Stop c.in-Stop.site c.in-Stop.calls c.in-Stop.leave ∷ []) =
+    subst (λ l. IsFresh sc (S.entries c.stop.new.self) l) (sym (c.step_items-items.ensures ∙ ap (step_items sc) next) ∙ items) begun.fresh in
+    subst (λ n. IsSettled sc (S.entries c.stop.new.self) n) begun.at (stop_settles sc (S.entries c.stop.new.self) c.in-Stop.site c.in-Stop.calls c.in-Stop.leave fresh)
+
+pub returns-in_err-line-in-Crash-clause-full : goal.returns-in_err-line-in-Crash-clause-full
+returns-in_err-line-in-Crash-clause-full g c = λ is.
+    let S = g.S.Sites in
+    let sites = c.args.sites.now in
+    let many : S.most sites ≤ length (S.entries sites) = search rules in
+    let P : List Entry → Type 0 = λ h. IsFull c.args.scenario.now h (S.most sites) in
+    subst P (sym c.in_err-line-in-Crash.ensures.kept)
+    (line_full c.args.scenario.now (S.entries sites) c.args.done (S.most sites) c.requires.settled c.requires.more (g.met.S.Sites.within sites c.requires.standing) many)
+
+pub returns-in_err-line-in-Restart-clause-full : goal.returns-in_err-line-in-Restart-clause-full
+returns-in_err-line-in-Restart-clause-full g c = λ is.
+    let S = g.S.Sites in
+    let sites = c.args.sites.now in
+    let many : S.most sites ≤ length (S.entries sites) = search rules in
+    let P : List Entry → Type 0 = λ h. IsFull c.args.scenario.now h (S.most sites) in
+    subst P (sym c.in_err-line-in-Restart.ensures.kept)
+    (line_full c.args.scenario.now (S.entries sites) c.args.done (S.most sites) c.requires.settled c.requires.more (g.met.S.Sites.within sites c.requires.standing) many)
+
+pub returns-in_err-line-in-Recovery-clause-full : goal.returns-in_err-line-in-Recovery-clause-full
+returns-in_err-line-in-Recovery-clause-full g c = λ is.
+    let S = g.S.Sites in
+    let sites = c.args.sites.now in
+    let many : S.most sites ≤ length (S.entries sites) = search rules in
+    let P : List Entry → Type 0 = λ h. IsFull c.args.scenario.now h (S.most sites) in
+    subst P (sym c.in_err-line-in-Recovery.ensures.kept)
+    (line_full c.args.scenario.now (S.entries sites) c.args.done (S.most sites) c.requires.settled c.requires.more (g.met.S.Sites.within sites c.requires.standing) many)
+
+pub returns-in_err-line-in-Exchange-clause-full : goal.returns-in_err-line-in-Exchange-clause-full
+returns-in_err-line-in-Exchange-clause-full g c = λ is.
+    let S = g.S.Sites in
+    let sites = c.args.sites.now in
+    let many : S.most sites ≤ length (S.entries sites) = search rules in
+    let P : List Entry → Type 0 = λ h. IsFull c.args.scenario.now h (S.most sites) in
+    subst P (sym c.in_err-line-in-Exchange.ensures.kept)
+    (line_full c.args.scenario.now (S.entries sites) c.args.done (S.most sites) c.requires.settled c.requires.more (g.met.S.Sites.within sites c.requires.standing) many)
+
+pub returns-in_err-stop-in-Stop-clause-full : goal.returns-in_err-stop-in-Stop-clause-full
+returns-in_err-stop-in-Stop-clause-full g c = λ is.
+    let S = g.S.Sites in
+    let sites = c.args.sites.now in
+    let many : S.most sites ≤ length (S.entries sites) = search rules in
+    let P : List Entry → Type 0 = λ h. IsFull c.args.scenario.now h (S.most sites) in
+    subst P (sym c.in_err-stop-in-Stop.ensures.kept)
+    (line_full c.args.scenario.now (S.entries sites) c.args.done (S.most sites) c.requires.settled c.requires.more (g.met.S.Sites.within sites c.requires.standing) many)
+
+pub returns-in_ok-crash-in-Crash-clause-known : goal.returns-in_ok-crash-in-Crash-clause-known
+returns-in_ok-crash-in-Crash-clause-known g c =
+    let S = g.S.Sites in
+    knows_line c.args.scenario.now (S.entries c.args.sites.now) (S.entries c.line.new.self) (S.entries c.crash.new.sites)
+    (record { owner = 0; act = act.Line (c.args.done + 1) }) c.args.names.now c.requires.known c.in_ok-line-in-Crash.ensures.entered c.crash.ensures.grown
+
+pub returns-in_ok-restart-in-Restart-clause-known : goal.returns-in_ok-restart-in-Restart-clause-known
+returns-in_ok-restart-in-Restart-clause-known g c =
+    let S = g.S.Sites in
+    knows_line c.args.scenario.now (S.entries c.args.sites.now) (S.entries c.line-in-Restart.new.self) (S.entries c.restart.new.sites)
+    (record { owner = 0; act = act.Line (c.args.done + 1) }) c.args.names.now c.requires.known c.in_ok-line-in-Restart.ensures.entered c.restart.ensures.grown
+
+pub returns-in_ok-recovery-in-Recovery-clause-known : goal.returns-in_ok-recovery-in-Recovery-clause-known
+returns-in_ok-recovery-in-Recovery-clause-known g c =
+    let S = g.S.Sites in
+    knows_line c.args.scenario.now (S.entries c.args.sites.now) (S.entries c.line-in-Recovery.new.self) (S.entries c.recovery.new.sites)
+    (record { owner = 0; act = act.Line (c.args.done + 1) }) c.args.names.now c.requires.known c.in_ok-line-in-Recovery.ensures.entered c.recovery.ensures.grown
+
+pub returns-in_ok-stop-in-Stop-clause-known : goal.returns-in_ok-stop-in-Stop-clause-known
+returns-in_ok-stop-in-Stop-clause-known g c =
+    let S = g.S.Sites in
+    knows_more c.args.scenario.now (S.entries c.args.sites.now) (S.entries c.stop.new.self)
+    (record { owner = 0; act = act.Line (c.args.done + 1) } ∷ []) c.args.names.now c.requires.known c.in_ok-stop-in-Stop.ensures.entered
