@@ -1,0 +1,12 @@
+pub mod Lists
+pub mod Txns
+pub mod Readings
+pub mod Shape
+pub mod Notes
+pub mod Locks
+pub mod Tables
+pub mod Going
+pub mod Briefs
+pub mod Standing
+pub mod Following
+pub mod Laws

@@ -1,0 +1,172 @@
+-- The table of a log with one more record.
+use Rattle.std.proofs.Common.{◌≡◌, ◌∷◌, [], ◌++◌, ℕ, Bool, true, false, List, Option, Some, None, is_none, refl, sym, ap, subst, ◌∙◌, fold, append_assoc, append-nil, if◌then◌else◌}
+use Rattle.std.specs.declared.cmp.Ordering.{Ordering}
+use Rattle.std.specs.declared.cmp.Ordering.TheVariants.{Less, Equal, Greater}
+use Rattle.std.specs.Ordering.{nat_cmp, match_ordering, ordering_reverse}
+use Rattle.std.specs.Cmp.Lexicographic.{slice_cmp}
+use Rattle.std.specs.List.{AllByRecursion as Each}
+use Rattle.std.proofs.lemmas.Bool.{and_from, and_parts}
+use Rattle.std.proofs.lemmas.Cmp.{nat_list_cmp_total}
+use Rattle.std.proofs.lemmas.Grind.{fold-append}
+use Rattle.e3_types.specs.declared.records.Record.{Record}
+use Rattle.e3_types.specs.declared.records.Record.TheVariants as log
+use Rattle.e3_types.specs.declared.transactions.Dir.{Dir}
+use Rattle.e3_types.specs.declared.transactions.Dir.TheVariants.{Abort, Commit}
+use Rattle.e3_types.specs.declared.transactions.NumOp.{NumOp}
+use Rattle.e3_types.specs.declared.transactions.Op.{Op}
+use Rattle.e3_types.specs.declared.transactions.Op.TheVariants.{Read, Write}
+use Rattle.e3_types.specs.declared.transactions.Row.{Row}
+use Rattle.e3_types.specs.declared.transactions.State.TheVariants.{Q}
+use Rattle.e3_types.specs.declared.transactions.Txn.{Txn}
+use Rattle.e3_types.specs.Same.{same_txn}
+use Rattle.e3_world.specs.Logs.{decision, decision_by, install_op, is_undecided, ops_of_vote, set_row, table_by, table_of, voted_ops}
+use Rattle.e3_world.specs.Orderly.{names_ascend}
+use Rattle.e3_law_brief.specs.Orderly.{MayFollow, OrderlyAfter, IsOrderly}
+use Rattle.e3_law_brief.proofs.Lists.{each_map, fold_alike}
+use Rattle.e3_law_brief.proofs.Shape.{ops_push, quiet_from, Quiet}
+use Rattle.e3_law_brief.proofs.Txns.{apart, other_way, same_self}
+
+-- a decision stays
+pub stays : (t : Txn) (d : Dir) (l : List Record) → is_none (fold (decision_by t) (Some d) l) ≡ false
+stays t d [] = refl
+stays t d (log.Birth format site weights rows ∷ l) = stays t d l
+stays t d (log.Inc n ∷ l) = stays t d l
+stays t d (log.Vote u ops ∷ l) = stays t d l
+stays t d (log.Join u n ∷ l) = stays t d l
+stays t d (log.Attempt u n dir ∷ l) = stays t d l
+stays t d (log.Decision u e ∷ l) = by (λ x. stays t x l) (same_txn t u) refl
+  where
+    by : ((x : Dir) → is_none (fold (decision_by t) (Some x) l) ≡ false) → (b : Bool) → same_txn t u ≡ b → is_none (fold (decision_by t) (Some d) (log.Decision u e ∷ l)) ≡ false
+    by more true is = rw is (more e)
+    by more false is = rw is (more d)
+
+-- each decision of a log is of a transaction that it decides
+abbrev DecidedIn : List Record → Record → Type 0
+DecidedIn all (log.Decision u d) = is_undecided u all ≡ false
+DecidedIn all r = Unit {0}
+
+decided_here : (front : List Record) (r : Record) (rest : List Record) → DecidedIn (front ++ r ∷ rest) r
+decided_here front (log.Birth format site weights rows) rest = tt
+decided_here front (log.Inc n) rest = tt
+decided_here front (log.Vote u ops) rest = tt
+decided_here front (log.Join u n) rest = tt
+decided_here front (log.Attempt u n dir) rest = tt
+decided_here front (log.Decision u d) rest =
+    ap is_none (fold-append (decision_by u) None front (log.Decision u d ∷ rest) ∙ ap (λ (x : Option Dir). fold (decision_by u) x rest) own) ∙ stays u d rest
+  where
+    own : (if same_txn u u then Some d else decision u front) ≡ Some d
+    own = rw (same_self u) refl
+
+each_decided : (front back : List Record) → Each (DecidedIn (front ++ back)) back
+each_decided front [] = tt
+each_decided front (r ∷ rs) =
+    (decided_here front r rs, subst (λ (x : List Record). Each (DecidedIn x) rs) (append_assoc front (r ∷ []) rs) (each_decided (front ++ r ∷ []) rs))
+
+-- a record that may follow has no operations of a decided transaction
+steady : (site : ℕ) (l : List Record) (r : Record) → MayFollow site l r → (u : Txn) → is_undecided u l ≡ false → ops_of_vote u r ≡ []
+steady site l (log.Birth format number weights rows) may u decided = refl
+steady site l (log.Inc n) may u decided = refl
+steady site l (log.Join t n) may u decided = refl
+steady site l (log.Attempt t n dir) may u decided = refl
+steady site l (log.Decision t dir) may u decided = refl
+steady site l (log.Vote t ops) may u decided =
+    let q : Quiet t l = quiet_from t l may.fresh in
+    let differ : same_txn u t ≡ false = other_way t u (apart (λ x. is_undecided x l) t u (ap is_none q.undecided) decided) in
+    rw differ refl
+
+-- no record adds operations to those of a decided transaction, and none but a vote adds any
+no_more : (t : Txn) (l : List Record) (r : Record) → ops_of_vote t r ≡ [] → voted_ops t (l ++ r ∷ []) ≡ voted_ops t l
+no_more t l r none = ops_push t l r ∙ ap (λ x. voted_ops t l ++ x) none ∙ append-nil (voted_ops t l)
+
+table_step : (l : List Record) (r : Record) → ((u : Txn) → is_undecided u l ≡ false → ops_of_vote u r ≡ []) → (x : Record) → DecidedIn l x
+    → (rows : List Row) → table_by (l ++ r ∷ []) rows x ≡ table_by l rows x
+table_step l r none (log.Birth format site weights born) decided rows = refl
+table_step l r none (log.Inc n) decided rows = refl
+table_step l r none (log.Vote u ops) decided rows = refl
+table_step l r none (log.Join u n) decided rows = refl
+table_step l r none (log.Attempt u n dir) decided rows = refl
+table_step l r none (log.Decision u Abort) decided rows = refl
+table_step l r none (log.Decision u Commit) decided rows = ap (λ (ops : List NumOp). fold install_op rows ops) (no_more u l r (none u decided))
+
+last_step : (l : List Record) (r : Record) (rows : List Row) → table_by (l ++ r ∷ []) rows r ≡ table_by l rows r
+last_step l (log.Birth format site weights born) rows = refl
+last_step l (log.Inc n) rows = refl
+last_step l (log.Vote u ops) rows = refl
+last_step l (log.Join u n) rows = refl
+last_step l (log.Attempt u n dir) rows = refl
+last_step l (log.Decision u Abort) rows = refl
+last_step l (log.Decision u Commit) rows = ap (λ (ops : List NumOp). fold install_op rows ops) (no_more u l (log.Decision u Commit) refl)
+
+pub table_push : (site : ℕ) (l : List Record) (r : Record) → MayFollow site l r → table_of (l ++ r ∷ []) ≡ table_by l (table_of l) r
+table_push site l r may =
+    fold-append (table_by (l ++ r ∷ [])) [] l (r ∷ [])
+    ∙ ap (λ (rows : List Row). table_by (l ++ r ∷ []) rows r)
+    (fold_alike (table_by (l ++ r ∷ [])) (table_by l) l
+    (each_map (DecidedIn l) (λ x. (rows : List Row) → table_by (l ++ r ∷ []) rows x ≡ table_by l rows x) (table_step l r (steady site l r may)) l (each_decided [] l)) [])
+    ∙ last_step l r (table_of l)
+
+-- rows that are set one by one ascend
+abbrev order : Row → Row → Ordering
+order a b = slice_cmp nat_cmp a.name b.name
+
+set_behind : (row new : Row) (rows : List Row) → order row new ≡ Less → names_ascend (row ∷ rows) ≡ true → names_ascend (set_row new rows) ≡ true →
+    names_ascend (row ∷ set_row new rows) ≡ true
+set_behind row new [] less up set = rw less refl
+set_behind row new (next ∷ more) less up set = by (order new next) refl
+  where
+    by : (o : Ordering) → order new next ≡ o → names_ascend (row ∷ set_row new (next ∷ more)) ≡ true
+    by Less is = rw (is, less) (rw is at set)
+    by Equal is = rw (is, less) (rw is at set)
+    by Greater is =
+        let first = and_parts (match_ordering (order row next) true false false) (names_ascend (next ∷ more)) up in
+        rw is (and_from _ _ first.0 (rw is at set))
+
+set_ascends : (new : Row) (rows : List Row) → names_ascend rows ≡ true → names_ascend (set_row new rows) ≡ true
+set_ascends new [] up = refl
+set_ascends new (row ∷ rows) up = by (set_ascends new rows (rest rows up)) (order new row) refl
+  where
+    rest : (l : List Row) → names_ascend (row ∷ l) ≡ true → names_ascend l ≡ true
+    rest [] h = refl
+    rest (next ∷ more) h = (and_parts _ _ h).1
+
+    tied : (l : List Row) → order new row ≡ Equal → names_ascend (row ∷ l) ≡ true → names_ascend (new ∷ l) ≡ true
+    tied [] is h = refl
+    tied (next ∷ more) is h =
+        let same : order new next ≡ order row next = nat_list_cmp_total.congr new.name row.name next.name is in rw same h
+
+    by : names_ascend (set_row new rows) ≡ true → (o : Ordering) → order new row ≡ o → names_ascend (set_row new (row ∷ rows)) ≡ true
+    by set Less is = rw (is, is) up
+    by set Equal is = rw is (tied rows is up)
+    by set Greater is =
+        let less : order row new ≡ Less = nat_list_cmp_total.antisymm row.name new.name ∙ ap ordering_reverse is in
+        rw is (set_behind row new rows less up set)
+
+install_ascends : (op : NumOp) (rows : List Row) → names_ascend rows ≡ true → names_ascend (install_op rows op) ≡ true
+install_ascends op rows up = by op.op refl
+  where
+    by : (o : Op) → op.op ≡ o → names_ascend (install_op rows op) ≡ true
+    by (Read key) is = rw is up
+    by (Write key val) is = rw is (set_ascends (record { name = key.name; val = val }) rows up)
+
+installs_ascend : (ops : List NumOp) (rows : List Row) → names_ascend rows ≡ true → names_ascend (fold install_op rows ops) ≡ true
+installs_ascend [] rows up = up
+installs_ascend (o ∷ ops) rows up = installs_ascend ops (install_op rows o) (install_ascends o rows up)
+
+next_ascends : (site : ℕ) (l : List Record) (r : Record) (rows : List Row) → MayFollow site l r → names_ascend rows ≡ true → names_ascend (table_by l rows r) ≡ true
+next_ascends site l (log.Birth format number weights born) rows may up = may.ascending
+next_ascends site l (log.Inc n) rows may up = up
+next_ascends site l (log.Vote u ops) rows may up = up
+next_ascends site l (log.Join u n) rows may up = up
+next_ascends site l (log.Attempt u n dir) rows may up = up
+next_ascends site l (log.Decision u Abort) rows may up = up
+next_ascends site l (log.Decision u Commit) rows may up = installs_ascend (voted_ops u l) rows up
+
+ascends_all : (site : ℕ) (l rest : List Record) → names_ascend (table_of l) ≡ true → OrderlyAfter site l rest → names_ascend (table_of (l ++ rest)) ≡ true
+ascends_all site l [] up orderly = subst (λ (x : List Record). names_ascend (table_of x) ≡ true) (sym (append-nil l)) up
+ascends_all site l (r ∷ rest) up orderly =
+    subst (λ (x : List Record). names_ascend (table_of x) ≡ true) (append_assoc l (r ∷ []) rest)
+    (ascends_all site (l ++ r ∷ []) rest
+    (subst (λ (x : List Row). names_ascend x ≡ true) (sym (table_push site l r orderly.0)) (next_ascends site l r (table_of l) orderly.0 up)) orderly.1)
+
+pub table_ascends : (site : ℕ) (l : List Record) → IsOrderly site l → names_ascend (table_of l) ≡ true
+table_ascends site l orderly = ascends_all site [] l refl orderly

@@ -1,0 +1,4 @@
+pub mod Orderly
+pub mod Brief
+pub mod Alike
+pub mod Laws
