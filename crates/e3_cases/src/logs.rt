@@ -19,12 +19,16 @@ const LEAVES: [(&str, Leave); 5] = [
     ("junk 165", Leave::Junk(0xA5)),
 ];
 
-// A log over a disk that it opens.
-fn opened<D: Disk + Drop>(alloc: Global, disk: D) -> Result<(Log<D>, List<Frame>), NoMemory> {
+/// A log over a disk that it opens.
+pub(crate) fn opened<D: Disk + Drop>(
+    alloc: Global,
+    disk: D,
+) -> Result<(Log<D>, List<Frame>), NoMemory> {
     Log::open(alloc, disk).map_err(|_| NoMemory)
 }
 
-fn add<D: Disk>(log: &mut Log<D>, body: &[u8]) -> Result<(), AppendFault> {
+/// Appends a body, where it is one.
+pub(crate) fn add<D: Disk>(log: &mut Log<D>, body: &[u8]) -> Result<(), AppendFault> {
     if body.is_empty() {
         return Ok(());
     }
@@ -145,7 +149,8 @@ fn refused<D: Disk + Drop>(alloc: Global, disk: D) -> Option<(OpenCause, u64)> {
     }
 }
 
-fn push_cause(out: &mut List<u8>, cause: OpenCause) -> Result<(), NoMemory> {
+/// Adds why a log is not opened.
+pub(crate) fn push_cause(out: &mut List<u8>, cause: OpenCause) -> Result<(), NoMemory> {
     match cause {
         OpenCause::Failed => push_text(out, " failed"),
         OpenCause::Damaged { at } => push_labelled(out, " damaged at ", at),
@@ -202,6 +207,8 @@ pub fn push_lines(alloc: Global, out: &mut List<u8>) -> Result<(), NoMemory> {
         push_refused(alloc, out, faulty(alloc, call)?)?;
     }
     for bytes in [
+        [0xA5, 0, 0, 0, 0x40].as_slice(),
+        [0xA5, 0, 0, 0, 1, 2, 0xA5, 0, 0, 0, 0xFF].as_slice(),
         [0xA5, 0, 0, 0].as_slice(),
         [0xA5, 0, 0, 0, 2, 7].as_slice(),
         [0xA5, 0, 0, 0, 1, 7].as_slice(),

@@ -1,9 +1,10 @@
 //! Worked cases of values, bytes, disks, packets and verdicts: bodies of records and bytes that are none, disks in memory,
-//! logs and streams, the fates and the order of packets, and what an elector concludes. What it must print stands in the
-//! file of this program's output.
+//! logs, those of damaged disks too, and streams, the fates and the order of packets, and what an elector concludes. What it
+//! must print stands in the file of this program's output.
 #![tactic(auto)]
 
 mod bodies;
+mod damage;
 mod disks;
 mod logs;
 mod nets;
@@ -27,6 +28,7 @@ fn lines(alloc: Global) -> Result<List<u8>, NoMemory> {
     bodies::push_lines(alloc, &mut out)?;
     disks::push_lines(alloc, &mut out)?;
     logs::push_lines(alloc, &mut out)?;
+    damage::push_lines(alloc, &mut out)?;
     streams::push_lines(alloc, &mut out)?;
     nets::push_lines(alloc, &mut out)?;
     verdicts::push_lines(&mut out)?;

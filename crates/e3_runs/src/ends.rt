@@ -16,6 +16,13 @@ pub fn push_call(out: &mut List<u8>, what: &str, call: u64) -> Result<(), NoMemo
     push_text(out, " fails: ")
 }
 
+/// Adds the name of a run of a scenario in which this call of a stream fails.
+pub fn push_failing(out: &mut List<u8>, name: &str, what: &str, call: u64) -> Result<(), NoMemory> {
+    push_text(out, name)?;
+    push_text(out, ", ")?;
+    push_call(out, what, call)
+}
+
 /// Adds its status, how many entries its history has, how many bytes are left of its source, and how many it wrote.
 pub fn push_end(out: &mut List<u8>, ran: &Ran) -> Result<(), NoMemory> {
     push_labelled(out, "status ", u64::from(ran.ended.status))?;

@@ -1,11 +1,12 @@
 // What a run is given, and the run.
 use e3_disk::{Disk, MemDisk};
 use e3_fleet::memory_disks;
-use e3_outside::{MemSink, MemSource};
+use e3_outside::{MemSink, MemSource, OpenGate};
 use e3_top::{Ended, run_within};
 use e3_types::List;
 use std::alloc::Global;
 use std::sync::Wait;
+use std::thread::Threads;
 
 /// What a run is given: its words, the text of its source, the most bytes that a read gives and a write takes, the capacity
 /// of its disks, the most entries of its history; and the call of the source, of the sink and of the disk of site 1 that
@@ -77,7 +78,7 @@ fn sink_of(alloc: Global, given: &Given) -> Option<MemSink> {
 }
 
 /// The run; none without memory.
-pub fn played(rt: &impl Wait, alloc: Global, given: &Given) -> Option<Ran> {
+pub fn played<R: Wait + Threads + Sync>(rt: &R, alloc: Global, given: &Given) -> Option<Ran> {
     let words = words_of(alloc, given.words)?;
     let mut source = source_of(alloc, given)?;
     let mut sink = sink_of(alloc, given)?;
@@ -86,7 +87,16 @@ pub fn played(rt: &impl Wait, alloc: Global, given: &Given) -> Option<Ran> {
         return None;
     };
     let most = given.most.max(1).min(2_000_000);
-    let ended = run_within(rt, alloc, &words, &mut source, &mut sink, disks, most);
+    let ended = run_within(
+        rt,
+        alloc,
+        &words,
+        &mut source,
+        &mut sink,
+        disks,
+        &OpenGate,
+        most,
+    );
     Some(Ran {
         ended,
         source,

@@ -2,6 +2,7 @@
 //! histories with little room: how each ends. What it must print stands in the file of this program's output.
 #![tactic(auto)]
 
+mod cuts;
 mod ends;
 mod given;
 mod tables;
@@ -12,13 +13,15 @@ use std::alloc::Global;
 use std::io::{self, Write};
 use std::process::ExitCode;
 use std::sync::Wait;
+use std::thread::Threads;
+use tables::{STREAMS, Streams};
 
 const NO_OUTPUT: u8 = 4;
 
 const NO_MEMORY: u8 = 5;
 
 // The whole report of a scenario, by a run with nothing in its way; none without memory.
-fn report_of(rt: &impl Wait, alloc: Global, text: &str) -> Option<List<u8>> {
+fn report_of<R: Wait + Threads + Sync>(rt: &R, alloc: Global, text: &str) -> Option<List<u8>> {
     let ran = given::played(rt, alloc, &Given::plain(text))?;
     let mut report = List::new(alloc);
     report.extend(ran.sink.written()).ok()?;
@@ -26,8 +29,8 @@ fn report_of(rt: &impl Wait, alloc: Global, text: &str) -> Option<List<u8>> {
 }
 
 // Adds the line of a run: how it ended, and what it wrote of this report; nothing without memory.
-fn push_run(
-    rt: &impl Wait,
+fn push_run<R: Wait + Threads + Sync>(
+    rt: &R,
     alloc: Global,
     out: &mut List<u8>,
     given: &Given,
@@ -39,13 +42,23 @@ fn push_run(
 }
 
 // Adds the line of a run: its status, and how often each event of site 1 stands in its report; nothing without memory.
-fn push_counted(rt: &impl Wait, alloc: Global, out: &mut List<u8>, given: &Given) -> Option<()> {
+fn push_counted<R: Wait + Threads + Sync>(
+    rt: &R,
+    alloc: Global,
+    out: &mut List<u8>,
+    given: &Given,
+) -> Option<()> {
     let ran = given::played(rt, alloc, given)?;
     ends::push_events(out, &ran).ok()
 }
 
 // Adds the bytes of the disk of site 1 behind a run; nothing without memory.
-fn push_disk(rt: &impl Wait, alloc: Global, out: &mut List<u8>, given: &Given) -> Option<()> {
+fn push_disk<R: Wait + Threads + Sync>(
+    rt: &R,
+    alloc: Global,
+    out: &mut List<u8>,
+    given: &Given,
+) -> Option<()> {
     let mut ran = given::played(rt, alloc, given)?;
     let disk = ran.ended.disks.first_mut()?;
     let bytes = given::bytes_of(alloc, disk)?;
@@ -53,8 +66,8 @@ fn push_disk(rt: &impl Wait, alloc: Global, out: &mut List<u8>, given: &Given) -
 }
 
 // Adds a line for each run of a table, behind its name.
-fn push_table(
-    rt: &impl Wait,
+fn push_table<R: Wait + Threads + Sync>(
+    rt: &R,
     alloc: Global,
     out: &mut List<u8>,
     table: &[(&str, Given)],
@@ -67,26 +80,44 @@ fn push_table(
     Some(())
 }
 
-// Adds the lines of runs whose source fails in one of its calls, and then of those whose sink does.
-fn push_failing_streams(
-    rt: &impl Wait,
+// Adds the lines of runs of this scenario whose source fails in one of its calls, and then of those whose sink does; one call
+// more of each is not made.
+fn push_failing_streams<R: Wait + Threads + Sync>(
+    rt: &R,
     alloc: Global,
     out: &mut List<u8>,
-    report: &[u8],
+    streams: &Streams,
 ) -> Option<()> {
-    for call in 1..=tables::READS {
-        ends::push_call(out, "read", call).ok()?;
-        push_run(rt, alloc, out, &tables::failing_read(call), report)?;
+    let report = report_of(rt, alloc, streams.text)?;
+    for call in 1..=streams.reads.saturating_add(1) {
+        ends::push_failing(out, streams.name, "read", call).ok()?;
+        push_run(
+            rt,
+            alloc,
+            out,
+            &streams.failing_read(call),
+            report.as_slice(),
+        )?;
     }
-    for call in 1..=tables::WRITES {
-        ends::push_call(out, "write", call).ok()?;
-        push_run(rt, alloc, out, &tables::failing_write(call), report)?;
+    for call in 1..=streams.writes.saturating_add(1) {
+        ends::push_failing(out, streams.name, "write", call).ok()?;
+        push_run(
+            rt,
+            alloc,
+            out,
+            &streams.failing_write(call),
+            report.as_slice(),
+        )?;
     }
     Some(())
 }
 
 // Adds the lines of runs whose first disk fails in one of its calls, and of some with stops.
-fn push_failing_disks(rt: &impl Wait, alloc: Global, out: &mut List<u8>) -> Option<()> {
+fn push_failing_disks<R: Wait + Threads + Sync>(
+    rt: &R,
+    alloc: Global,
+    out: &mut List<u8>,
+) -> Option<()> {
     for call in 1..=tables::DISK_CALLS {
         ends::push_call(out, "disk call", call).ok()?;
         push_counted(rt, alloc, out, &tables::failing_disk(call))?;
@@ -98,7 +129,7 @@ fn push_failing_disks(rt: &impl Wait, alloc: Global, out: &mut List<u8>) -> Opti
 }
 
 // All lines; none without memory.
-fn lines(rt: &impl Wait, alloc: Global) -> Option<List<u8>> {
+fn lines<R: Wait + Threads + Sync>(rt: &R, alloc: Global) -> Option<List<u8>> {
     let one_write = report_of(rt, alloc, tables::ONE_WRITE)?;
     let no_steps = report_of(rt, alloc, tables::NO_STEPS)?;
     let mut out = List::new(alloc);
@@ -116,9 +147,12 @@ fn lines(rt: &impl Wait, alloc: Global) -> Option<List<u8>> {
         &tables::no_steps(),
         no_steps.as_slice(),
     )?;
-    push_failing_streams(rt, alloc, &mut out, one_write.as_slice())?;
+    for streams in &STREAMS {
+        push_failing_streams(rt, alloc, &mut out, streams)?;
+    }
     push_failing_disks(rt, alloc, &mut out)?;
     push_disk(rt, alloc, &mut out, &Given::plain(tables::ONE_WRITE))?;
+    cuts::push_cuts(rt, alloc, &mut out)?;
     Some(out)
 }
 

@@ -4,6 +4,10 @@ use crate::given::Given;
 pub const ONE_WRITE: &str =
     "weights = [1]\nsteps = [\"begin t 1 1\", \"write t 1.x a\", \"commit t\"]\n";
 
+/// Three sites, with reads and writes over two of them at a time.
+pub const THREE_SITES: &str =
+    "weights = [1, 1, 1]\nrows = [\"1.ann 100\", \"2.bob 50\", \"3.cid 7\"]\nsteps = [\n  \"begin a 1 1,2\",\n  \"read a 1.ann\",\n  \"read a 2.bob\",\n  \"write a 1.ann 90\",\n  \"write a 2.bob 60\",\n  \"commit a\",\n  \"begin b 3 2,3\",\n  \"write b 3.cid 17\",\n  \"read b 2.bob\",\n  \"commit b\",\n  \"begin c 2 1,2\",\n  \"read c 1.ann\",\n  \"commit c\",\n]\n";
+
 pub const NO_STEPS: &str = "weights = [2]\nsteps = []\n";
 
 /// A stop waits while its site is down and rises again, and a later one of the site takes its place.
@@ -98,27 +102,51 @@ pub fn no_steps() -> [(&'static str, Given<'static>); 4] {
     ]
 }
 
-/// The reads of one write by 16 bytes: five with bytes, and one that finds the end; and one more, which is not made.
-pub const READS: u64 = 7;
-
-/// One write by 16 bytes, where this read fails.
-pub fn failing_read(call: u64) -> Given<'static> {
-    Given {
-        read: 16,
-        failing_read: Some(call),
-        ..Given::plain(ONE_WRITE)
-    }
+/// A scenario whose source and sink fail in turn in each of their calls: its name and text, the most bytes that a read gives,
+/// how many reads it takes to the end of the source, and how many writes of 64 bytes its report takes.
+pub struct Streams {
+    pub name: &'static str,
+    pub text: &'static str,
+    pub read: u64,
+    pub reads: u64,
+    pub writes: u64,
 }
 
-/// The writes of its report by 64 bytes, and one more, which is not made.
-pub const WRITES: u64 = 6;
+/// One write by 16 bytes: five reads with bytes, and one that finds the end; and three sites by 64 bytes.
+pub const STREAMS: [Streams; 2] = [
+    Streams {
+        name: "one write",
+        text: ONE_WRITE,
+        read: 16,
+        reads: 6,
+        writes: 5,
+    },
+    Streams {
+        name: "three sites",
+        text: THREE_SITES,
+        read: 64,
+        reads: 6,
+        writes: 20,
+    },
+];
 
-/// One write, where this write of 64 bytes of its report fails.
-pub fn failing_write(call: u64) -> Given<'static> {
-    Given {
-        write: 64,
-        failing_write: Some(call),
-        ..Given::plain(ONE_WRITE)
+impl Streams {
+    /// The run whose source fails in this read.
+    pub fn failing_read(&self, call: u64) -> Given<'static> {
+        Given {
+            read: self.read,
+            failing_read: Some(call),
+            ..Given::plain(self.text)
+        }
+    }
+
+    /// The run whose sink fails in this write.
+    pub fn failing_write(&self, call: u64) -> Given<'static> {
+        Given {
+            write: 64,
+            failing_write: Some(call),
+            ..Given::plain(self.text)
+        }
     }
 }
 
