@@ -1,11 +1,14 @@
-//! Worked cases of the parts: quorums, the rule of a decision, votes, elections, a client's transaction and locks; and what the
-//! judges of histories find in histories made by hand. What it must print stands in the file of this program's output.
+//! Worked cases of the parts: quorums, the rule of a decision, votes, elections, a client's transaction, locks and records; and
+//! what the judges of histories find in histories made by hand. What it must print stands in the file of this program's output.
 #![tactic(auto)]
 
+mod clients;
 mod histories;
 mod judges;
+mod lock_lists;
 mod locks;
 mod parts;
+mod rows;
 mod texts;
 
 use e3_types::{List, NoMemory};
@@ -20,7 +23,9 @@ const NO_MEMORY: u8 = 5;
 fn lines(alloc: Global) -> Result<List<u8>, NoMemory> {
     let mut out = List::new(alloc);
     parts::push_lines(alloc, &mut out)?;
-    locks::push_lines(alloc, &mut out)?;
+    clients::push_lines(alloc, &mut out)?;
+    lock_lists::push_lines(alloc, &mut out)?;
+    rows::push_lines(alloc, &mut out)?;
     judges::push_lines(alloc, &mut out)?;
     Ok(out)
 }

@@ -1,14 +1,13 @@
-// Quorums, the rule of a decision, votes and acknowledgements, an election, and a client's transaction.
+// Quorums, the rule of a decision, votes and acknowledgements, and elections.
 ghost use Rattle.std.specs.Prelude.{◌≡◌, IfOk};
 
-use crate::texts::{push_flag, push_known, push_refused, push_word};
-use e3_client::{Client, Heard};
+use crate::texts::{push_flag, push_known, push_word};
 use e3_commit::{Round, Votes};
 use e3_elect::Election;
 use e3_lines::{push_labelled, push_text};
 use e3_quorum::{WeightFault, Weights};
 use e3_rule::decide;
-use e3_types::{Call, Dir, List, NoMemory, Refusal, SiteReport, SiteSet, State, Txn, Verdict};
+use e3_types::{Call, Dir, List, NoMemory, SiteReport, SiteSet, State, Verdict};
 use std::alloc::Global;
 
 fn set(sites: &[u32]) -> Result<SiteSet, NoMemory>
@@ -90,17 +89,22 @@ fn push_verdict(
     push_text(out, "\n")
 }
 
+// The verdicts in the order of the rule, and by the reports of the greatest attempt those of a quorum.
 fn push_rules(out: &mut List<u8>) -> Result<(), NoMemory> {
     let voted = report(1, State::W, 0);
     let late = report(2, State::Pc, 3);
     let old = report(3, State::Pa, 2);
     let ended = report(4, State::C, 2);
     let off = report(5, State::A, 0);
+    let first = report(6, State::Pc, 1);
     push_verdict(out, &[late, ended, off], 1, 9)?;
     push_verdict(out, &[voted, ended], 1, 9)?;
     push_verdict(out, &[voted, late], 2, 4)?;
     push_verdict(out, &[late, old], 3, 4)?;
-    push_verdict(out, &[voted, old], 3, 4)
+    push_verdict(out, &[first, voted], 3, 4)?;
+    push_verdict(out, &[voted, old], 3, 4)?;
+    push_verdict(out, &[first, old], 3, 4)?;
+    push_verdict(out, &[voted, voted], 3, 4)
 }
 
 // Adds the votes and the acknowledgements of a commit of three sites, each behind the one before.
@@ -108,7 +112,7 @@ fn push_commit(out: &mut List<u8>) -> Result<(), NoMemory> {
     let sites = set(&[1, 2, 3])?;
     let mut votes = Votes::start(sites, 1);
     push_text(out, "all said yes:")?;
-    for from in [2, 2, 3] {
+    for from in [2, 2, 4, 3] {
         push_flag(out, votes.yes(from))?;
     }
     let mut round = Round::attempt(1, Dir::Commit, sites.without(1), 1);
@@ -126,162 +130,42 @@ fn push_commit(out: &mut List<u8>) -> Result<(), NoMemory> {
     push_text(out, "\n")
 }
 
-// Adds what an election of sites 2 and 3 hears: a stranger, another call, an answer, and one more.
-fn push_election(alloc: Global, out: &mut List<u8>) -> Result<(), NoMemory> {
-    let call = Call { inc: 1, seq: 1 };
-    let group = set(&[2, 3])?;
+// Adds what an election of site 2 hears, whose own number is 4, and which number it comes to.
+fn push_heard(
+    alloc: Global,
+    out: &mut List<u8>,
+    group: SiteSet,
+    answers: &[(u32, Call, u32)],
+) -> Result<(), NoMemory> {
     if !group.has(2) {
         return Ok(());
     }
-    let mut election = Election::start(alloc, call, group, 2, 4)?;
+    let mut election = Election::start(alloc, Call { inc: 1, seq: 1 }, group, 2, 4)?;
     push_text(out, "elected:")?;
     push_known(out, election.number())?;
-    let other = Call { inc: 1, seq: 2 };
-    for (from, call, elected) in [(4, call, 9), (3, other, 9), (3, call, 6), (3, call, 9)] {
-        push_flag(out, election.heard(from, call, elected))?;
-    }
-    push_known(out, election.number())?;
-    push_text(out, "\n")
-}
-
-fn push_heard(out: &mut List<u8>, heard: Heard) -> Result<(), NoMemory> {
-    match heard {
-        Heard::Taken => push_word(out, "taken"),
-        Heard::Stale => push_word(out, "stale"),
-        Heard::Doomed { site, had, now } => {
-            push_labelled(out, " doomed at ", site as u64)?;
-            push_labelled(out, ", had ", had as u64)?;
-            push_labelled(out, ", now ", now as u64)
-        }
-    }
-}
-
-// The transaction of these clients.
-fn txn() -> Txn {
-    Txn {
-        site: 1,
-        inc: 1,
-        seq: 1,
-        sites: SiteSet::one(1).with(2),
-    }
-}
-
-fn push_next(
-    out: &mut List<u8>,
-    client: &Client,
-    state: State,
-    attempt: u32,
-) -> Result<(), NoMemory> {
-    if client.issued() >= 64 {
-        return Ok(());
-    }
-    match client.next_op(state, attempt) {
-        Ok(n) => push_labelled(out, "next ", n as u64)?,
-        Err(why) => return push_refused(out, txn(), why),
+    for (from, call, elected) in answers {
+        push_flag(out, election.heard(*from, *call, *elected))?;
+        push_known(out, election.number())?;
     }
     push_text(out, "\n")
 }
 
-fn push_ready(
-    out: &mut List<u8>,
-    client: &Client,
-    state: State,
-    attempt: u32,
-) -> Result<(), NoMemory> {
-    match client.ready(state, attempt) {
-        Ok(()) => push_text(out, " ready\n"),
-        Err(why) => push_refused(out, txn(), why),
-    }
-}
-
-fn push_cancel(
-    out: &mut List<u8>,
-    client: &Client,
-    state: State,
-    attempt: u32,
-) -> Result<(), NoMemory> {
-    match client.may_cancel(state, attempt) {
-        Ok(()) => push_text(out, " cancelled\n"),
-        Err(why) => push_refused(out, txn(), why),
-    }
-}
-
-// Adds what a client of two sites may do while it is open, after its vote, its attempt and its end.
-fn push_client(alloc: Global, out: &mut List<u8>) -> Result<(), NoMemory> {
-    let client = Client::begin(alloc, txn())?;
-    push_text(out, "client:\n")?;
-    push_next(out, &client, State::Q, 0)?;
-    push_ready(out, &client, State::Q, 0)?;
-    push_cancel(out, &client, State::Q, 0)?;
-    push_next(out, &client, State::W, 0)?;
-    push_cancel(out, &client, State::Pc, 1)?;
-    push_ready(out, &client, State::C, 1)
-}
-
-// Adds what a client is told of a transaction that was aborted for a reason.
-fn push_ended(alloc: Global, out: &mut List<u8>, why: Refusal) -> Result<(), NoMemory> {
-    let mut client = Client::begin(alloc, txn())?;
-    client.end(why);
-    push_ready(out, &client, State::A, 0)
-}
-
-fn push_answer(
-    out: &mut List<u8>,
-    client: &mut Client,
-    from: u32,
-    n: u32,
-    inc: u32,
-) -> Result<(), NoMemory>
-    ensures { client.new.txn ≡ client.old.txn }
-{
-    let heard = client.answer(from, n, inc);
-    push_heard(out, heard)
-}
-
-// Adds how answers to an operation at site 2 are taken: from another site, to another operation, the right one, once more.
+// Adds what an election hears in two groups: a stranger, another call, an answer, and one more; and of three sites an answer
+// twice.
 fn push_answers(alloc: Global, out: &mut List<u8>) -> Result<(), NoMemory> {
-    let txn = txn();
-    if !txn.sites.has(2) {
-        return Ok(());
-    }
-    let mut client = Client::begin(alloc, txn)?;
-    client.issue(2);
-    push_next(out, &client, State::Q, 0)?;
-    push_ready(out, &client, State::Q, 0)?;
-    push_text(out, "answers:")?;
-    push_answer(out, &mut client, 1, 1, 3)?;
-    push_answer(out, &mut client, 2, 2, 3)?;
-    push_answer(out, &mut client, 2, 1, 3)?;
-    push_answer(out, &mut client, 2, 1, 3)?;
-    let expected = client.expected(2);
-    push_labelled(out, ", expected incarnation ", expected.0 as u64)?;
-    push_labelled(out, ", count ", expected.1 as u64)?;
-    push_text(out, "\n")
-}
-
-// Adds how the answer to a second operation is taken that comes from a later incarnation.
-fn push_doomed(alloc: Global, out: &mut List<u8>) -> Result<(), NoMemory> {
-    let txn = txn();
-    if !txn.sites.has(2) {
-        return Ok(());
-    }
-    let mut client = Client::begin(alloc, txn)?;
-    client.issue(2);
-    push_text(out, "answers:")?;
-    push_answer(out, &mut client, 2, 1, 3)?;
-    if client.issued() < 64 && client.next_op(State::Q, 0).is_ok() {
-        client.issue(2);
-    }
-    push_answer(out, &mut client, 2, 2, 4)?;
-    push_text(out, "\n")
-}
-
-fn doomed() -> Refusal {
-    Refusal::Doomed {
-        site: 2,
-        had: 3,
-        now: 4,
-    }
+    let call = Call { inc: 1, seq: 1 };
+    let other = Call { inc: 1, seq: 2 };
+    let two = set(&[2, 3])?;
+    let three = set(&[2, 3, 4])?;
+    let odd = [(4, call, 9), (3, other, 9), (3, call, 6), (3, call, 9)];
+    push_heard(alloc, out, two, &odd)?;
+    push_heard(
+        alloc,
+        out,
+        three,
+        &[(3, call, 6), (3, call, 6), (4, call, 5)],
+    )?;
+    push_heard(alloc, out, two, &[(3, call, 4_294_967_295)])
 }
 
 /// Adds the lines of these parts.
@@ -289,10 +173,5 @@ pub fn push_lines(alloc: Global, out: &mut List<u8>) -> Result<(), NoMemory> {
     push_quorums(alloc, out)?;
     push_rules(out)?;
     push_commit(out)?;
-    push_election(alloc, out)?;
-    push_client(alloc, out)?;
-    push_ended(alloc, out, Refusal::Died { older: txn() })?;
-    push_ended(alloc, out, doomed())?;
-    push_answers(alloc, out)?;
-    push_doomed(alloc, out)
+    push_answers(alloc, out)
 }

@@ -31,11 +31,10 @@ pub fn push_found(out: &mut List<u8>, found: Option<Txn>) -> Result<(), NoMemory
     }
 }
 
-/// Adds why a transaction's client is refused, as a report says it, and ends the line.
+/// Adds why a transaction's client is refused, as a report says it.
 pub fn push_refused(out: &mut List<u8>, txn: Txn, refusal: Refusal) -> Result<(), NoMemory> {
     push_text(out, " ")?;
-    push_told_text(out, &Told::Refused { txn, refusal })?;
-    push_text(out, "\n")
+    push_told_text(out, &Told::Refused { txn, refusal })
 }
 
 /// Adds how a lock's request is answered.
