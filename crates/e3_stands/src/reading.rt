@@ -2,14 +2,33 @@
 use e3_codec::put_records;
 use e3_disk::{Drill, MemDisk};
 use e3_histories::{log_at, tail_at};
-use e3_log::{Log, OpenCause};
+use e3_log::{Frame, Log, OpenCause, OpenRefused};
 use e3_types::{Entry, List, Scenario};
 use std::alloc::Global;
 
-// The bodies of the frames of a disk, one behind the other; none where it reads as no log. Nothing at all without memory.
-fn bodies_on(alloc: Global, mut disk: MemDisk) -> Option<Option<List<u8>>> {
+// Opens a log over a disk that has power. An arm that was left makes a first try fail, and power comes again behind it.
+fn opened(
+    alloc: Global,
+    mut disk: MemDisk,
+) -> Result<(Log<MemDisk>, List<Frame>), OpenRefused<MemDisk>> {
     disk.power_on();
     match Log::open(alloc, disk) {
+        Err(
+            OpenRefused {
+                mut disk,
+                cause: OpenCause::Failed,
+            },
+        ) => {
+            disk.power_on();
+            Log::open(alloc, disk)
+        }
+        answer => answer,
+    }
+}
+
+// The bodies of the frames of a disk, one behind the other; none where it reads as no log. Nothing at all without memory.
+fn bodies_on(alloc: Global, disk: MemDisk) -> Option<Option<List<u8>>> {
+    match opened(alloc, disk) {
         Ok((_log, frames)) => {
             let mut bytes = List::new(alloc);
             for frame in frames.as_slice() {
