@@ -1,7 +1,7 @@
 -- A transaction as its coordinator keeps it for the client: its operations, and what a call or an answer comes to.
 use Rattle.std.specs.Prelude.{◌==◌, ◌&&◌, ◌||◌, ◌∷◌, [], if◌then◌else◌, ℕ, zero, suc, Bool, true, false, not, List, length, fold, map, Option, Some, None, is_none, slice_get, slice_set, ◌-◌}
 use Rattle.e3_types.specs.declared.entries.Refusal.{Refusal}
-use Rattle.e3_types.specs.declared.entries.Refusal.TheVariants.{Busy, Over, TooLate}
+use Rattle.e3_types.specs.declared.entries.Refusal.TheVariants.{Busy, Died, Doomed as DoomedFor, Over, TooLate}
 use Rattle.e3_types.specs.declared.transactions.Dir.{Dir}
 use Rattle.e3_types.specs.declared.transactions.Dir.TheVariants.{Abort, Commit}
 use Rattle.e3_types.specs.declared.transactions.State.{State}
@@ -69,10 +69,12 @@ heard_of site n inc ops =
 abbrev pub with_answer : ℕ → ℕ → ℕ → List Issued → List Issued
 with_answer site n inc ops = slice_set ops (n - 1) (record { site = site; answered = Some inc })
 
--- the refusal of a call on a transaction that is decided: the reason that is kept, else that it is over
+-- the refusal of a call on a transaction that is decided: that a request died or that it was doomed, where it was aborted
+-- for that, else that it is over
 abbrev pub refuse_decided : Dir → Option Refusal → Option Refusal
-refuse_decided dir None = Some (Over dir)
-refuse_decided dir (Some why) = Some why
+refuse_decided Abort (Some (Died older)) = Some (Died older)
+refuse_decided Abort (Some (DoomedFor site had now)) = Some (DoomedFor site had now)
+refuse_decided dir why = Some (Over dir)
 
 -- the refusal of an operation or a commit, in this state after this attempt, if it is refused: that it is decided, else
 -- that an operation is unanswered, else that it is too late

@@ -256,13 +256,19 @@ impl Client {
     fn decided(&self, dir: Dir) -> Refusal
         ensures { refuse_decided dir self.now.why ≡ Some result }
     {
-        match &self.why {
-            None => Refusal::Over { dir },
-            Some(why) => *why,
+        match (dir, &self.why) {
+            (Dir::Abort, Some(Refusal::Died { older })) => Refusal::Died { older: *older },
+            (Dir::Abort, Some(Refusal::Doomed { site, had, now })) => Refusal::Doomed {
+                site: *site,
+                had: *had,
+                now: *now,
+            },
+            _ => Refusal::Over { dir },
         }
     }
 
-    /// The transaction was ended for this reason, which is kept; an earlier one stays.
+    /// The transaction was ended for this reason, which is kept; an earlier one stays. Where it is aborted, calls are refused for
+    /// a request that died and for its doom; any other reason says no more than that it is over.
     pub fn end(&mut self, why: Refusal)
         ensures { self.new ≡ record self.old { why = or_kept self.old.why why } }
     {

@@ -2,3 +2,4 @@ mod Naming
 pub mod Recalled
 pub mod Rising
 mod Undecided
+pub mod Known

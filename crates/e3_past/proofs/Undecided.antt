@@ -1,6 +1,6 @@
 -- The open transactions of a site behind one more step.
 use Rattle.std.specs.Prelude.{◌≡◌, ◌&&◌, ◌++◌, ◌∷◌, [], if◌then◌else◌, not, ℕ, Bool, true, false, List, Option, Some, None, is_none, filter, fold, map}
-use Rattle.std.specs.List.{flat_map}
+use Rattle.std.specs.List.{flat_map, list_any}
 use Rattle.std.proofs.Common.{refl, ap, sym, ◌∙◌}
 use Rattle.std.proofs.lemmas.List.{append-nil}
 use Rattle.std.proofs.lemmas.List.Concat.{flat_map-append}
@@ -24,7 +24,7 @@ use Rattle.e3_cards.proofs.Arrivals.{arrivals_push}
 use Rattle.e3_cards.specs.Noting.{unstepped}
 use Rattle.e3_places.specs.Standing.{fresh_of, moment_of}
 use Rattle.e3_past.specs.declared.tables.Opens.{Opens}
-use Rattle.e3_past.specs.Opening.{OpensStand, fresh_txns, undecided_among}
+use Rattle.e3_past.specs.Opening.{OpensStand, decides, fresh_txns, undecided_among}
 
 -- a decision stays, whatever records come
 stays : (t : Txn) (x : Dir) (rs : List Record) → is_none (fold (decision_by t) (Some x) rs) ≡ false
@@ -158,3 +158,29 @@ left_is t (log.Inc inc) = refl
 left_is t (log.Vote u ops) = refl
 left_is t (log.Join u n) = refl
 left_is t (log.Attempt u n dir) = refl
+
+-- records without a decision leave a transaction undecided
+quiet : (t : Txn) (rs : List Record) → list_any decides rs ≡ false → is_undecided t rs ≡ true
+quiet t [] e = refl
+quiet t (log.Decision u dir ∷ rs) e = cc
+quiet t (log.Birth format site weights rows ∷ rs) e = quiet t rs e
+quiet t (log.Inc inc ∷ rs) e = quiet t rs e
+quiet t (log.Vote u ops ∷ rs) e = quiet t rs e
+quiet t (log.Join u n ∷ rs) e = quiet t rs e
+quiet t (log.Attempt u n dir ∷ rs) e = quiet t rs e
+
+all_pass : (p : Txn → Bool) → ((t : Txn) → p t ≡ true) → (ts : List Txn) → ts ≡ filter p ts
+all_pass p h [] = refl
+all_pass p h (t ∷ ts) = rw (h t) (ap (λ (l : List Txn). t ∷ l) (all_pass p h ts))
+
+-- so they leave these transactions as they are
+pub none_decided : (rs : List Record) (ts : List Txn) → list_any decides rs ≡ false → ts ≡ undecided_among rs ts
+none_decided rs ts e = all_pass (λ t. is_undecided t rs) (λ t. quiet t rs e) ts
+
+pub none_decided_by : (r : Record) (ts : List Txn) → decides r ≡ false → ts ≡ undecided_among (r ∷ []) ts
+none_decided_by (log.Decision t dir) ts e = absurd (let no : true ≡ false = e in cc)
+none_decided_by (log.Birth format site weights rows) ts e = none_decided (log.Birth format site weights rows ∷ []) ts refl
+none_decided_by (log.Inc inc) ts e = none_decided (log.Inc inc ∷ []) ts refl
+none_decided_by (log.Vote t ops) ts e = none_decided (log.Vote t ops ∷ []) ts refl
+none_decided_by (log.Join t n) ts e = none_decided (log.Join t n ∷ []) ts refl
+none_decided_by (log.Attempt t n dir) ts e = none_decided (log.Attempt t n dir ∷ []) ts refl

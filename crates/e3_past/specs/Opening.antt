@@ -1,7 +1,8 @@
 -- The transactions that are open at a site, as its tables keep them.
-use Rattle.std.specs.Prelude.{◌≡◌, ◌∷◌, [], ℕ, List, Option, Some, None, filter, map}
+use Rattle.std.specs.Prelude.{◌≡◌, ◌∷◌, [], ℕ, Bool, true, false, List, Option, Some, None, filter, map}
 use Rattle.std.specs.List.{flat_map}
 use Rattle.e3_types.specs.declared.records.Record.{Record}
+use Rattle.e3_types.specs.declared.records.Record.TheVariants as log
 use Rattle.e3_types.specs.declared.transactions.Txn.{Txn}
 use Rattle.e3_world.specs.declared.lives.Life.{Life}
 use Rattle.e3_world.specs.Items.{began_in, txn_of_record}
@@ -13,6 +14,11 @@ use Rattle.e3_past.specs.declared.tables.Opens.{Opens}
 -- those of these transactions that the log leaves undecided
 abbrev pub undecided_among : List Record → List Txn → List Txn
 undecided_among log txns = filter (λ t. is_undecided t log) txns
+
+-- the record decides a transaction
+abbrev pub decides : Record → Bool
+decides (log.Decision t dir) = true
+decides _ = false
 
 -- the transaction of an operation that came, if one did
 abbrev pub fresh_txns : Option Standing → List Txn

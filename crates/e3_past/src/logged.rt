@@ -1,11 +1,14 @@
 // What is read of a log, record by record, at a site that made no step.
-ghost use Rattle.std.specs.Prelude.{◌≡◌, ◌==◌, ◌++◌, ◌∷◌, [], ℕ, IfOk, List, length};
+ghost use Rattle.std.specs.Prelude.{◌≡◌, ◌==◌, ◌++◌, ◌∷◌, [], ℕ, IfOk, List, length, true};
+ghost use Rattle.std.specs.Option.{IsSome};
 ghost use Rattle.e3_types.specs.declared.records.Record.{Record as SomeRecord};
 ghost use Rattle.e3_world.specs.declared.lives.SiteStep.{SiteStep as SomeStep};
 ghost use Rattle.e3_world.specs.Logs.{logged_inc};
+ghost use Rattle.e3_world.specs.Orderly.{IsOrderly};
 ghost use Rattle.e3_cards.specs.Noting.{unstepped};
 ghost use Rattle.e3_cards.specs.Tables.{CardsStand};
-ghost use Rattle.e3_past.specs.Standing.{LoggedStand, MayStand, PlacesMayStand, TablesStand};
+ghost use Rattle.e3_places.specs.Standing.{may_follow};
+ghost use Rattle.e3_past.specs.Standing.{LoggedStand, MayStand, PlacesMayStand, TablesStand, is_birth, may_be_read};
 
 use crate::opening::{no_opens, note_opens};
 use crate::tables::{Opens, Tables};
@@ -30,7 +33,8 @@ pub struct Logged {
 
 // The tables of names of a log that is this record. A log begins with a birth, as no other record makes rows.
 fn first_places(alloc: Global, r: &Record) -> Result<Option<Places>, NoMemory>
-    ensures { IfOk result (λ p. (site inc : ℕ) → PlacesMayStand site p (unstepped inc (r.now ∷ []))) }
+    ensures stand { IfOk result (λ p. (site inc : ℕ) → PlacesMayStand site p (unstepped inc (r.now ∷ []))) }
+    ensures known { IfOk result (λ p. is_birth r.now ≡ true → IsSome p) }
 {
     match r {
         Record::Birth { rows, .. } => Ok(Some(born(alloc, rows.as_slice())?)),
@@ -45,8 +49,10 @@ fn add_places(
     places: Option<Places>,
     r: &Record,
 ) -> Result<Option<Places>, NoMemory>
-    ensures { IfOk result (λ now. (site inc : ℕ) → (log : List SomeRecord) → CardsStand site cards.now (unstepped inc log)
+    ensures stand { IfOk result (λ now. (site inc : ℕ) → (log : List SomeRecord) → CardsStand site cards.now (unstepped inc log)
         → PlacesMayStand site places (unstepped inc log) → PlacesMayStand site now (unstepped inc (log ++ r.now ∷ []))) }
+    ensures known { IfOk result (λ now. (site inc : ℕ) → (log : List SomeRecord) → CardsStand site cards.now (unstepped inc log)
+        → IsSome places → may_follow log r.now ≡ true → IsSome now) }
 {
     let Some(places) = places else {
         return Ok(None);
@@ -66,8 +72,10 @@ fn places_behind(
     places: Option<Places>,
     r: &Record,
 ) -> Result<Option<Places>, NoMemory>
-    ensures { IfOk result (λ now. (site inc : ℕ) → (log : List SomeRecord) → is_empty ≡ (length log == 0) → CardsStand site cards.now (unstepped inc log)
+    ensures stand { IfOk result (λ now. (site inc : ℕ) → (log : List SomeRecord) → is_empty ≡ (length log == 0) → CardsStand site cards.now (unstepped inc log)
         → PlacesMayStand site places (unstepped inc log) → PlacesMayStand site now (unstepped inc (log ++ r.now ∷ []))) }
+    ensures known { IfOk result (λ now. (site inc : ℕ) → (log : List SomeRecord) → is_empty ≡ (length log == 0) → CardsStand site cards.now (unstepped inc log)
+        → IsSome places → may_be_read log r.now ≡ true → IsSome now) }
 {
     if is_empty {
         first_places(alloc, r)
@@ -90,7 +98,8 @@ fn no_cards(alloc: Global, site: u32, inc: u32) -> Cards
 
 // Nothing waits at a site that made no step, so that no name is restless.
 fn known(alloc: Global, places: Option<Places>) -> Option<Names>
-    ensures { (site inc : ℕ) → (log : List SomeRecord) → PlacesMayStand site places (unstepped inc log) → MayStand site result (unstepped inc log) }
+    ensures stand { (site inc : ℕ) → (log : List SomeRecord) → PlacesMayStand site places (unstepped inc log) → MayStand site result (unstepped inc log) }
+    ensures known { IsSome places → IsSome result }
 {
     match places {
         Some(places) => Some(Names {
@@ -128,9 +137,11 @@ impl Logged {
         Ok(())
     }
 
-    /// What is read of a whole log, at a site of its incarnation. Want of memory is the only error.
+    /// What is read of a whole log, at a site of its incarnation. The log of a site has tables of names. Want of memory is the
+    /// only error.
     pub fn of(alloc: Global, site: u32, log: &[Record]) -> Result<Logged, NoMemory>
-        ensures { IfOk result (λ read. LoggedStand site read (logged_inc log.now) log.now) }
+        ensures stand { IfOk result (λ read. LoggedStand site read (logged_inc log.now) log.now) }
+        ensures known { IfOk result (λ read. IsOrderly site log.now → IsSome read.places) }
     {
         let mut read = Logged::new(alloc, site, logged_inc(log));
         for r in log {
@@ -139,9 +150,11 @@ impl Logged {
         Ok(read)
     }
 
-    /// The tables of a site that rose with the log and made no step that they count.
+    /// The tables of a site that rose with the log and made no step that they count. Names are known where there are tables of
+    /// them.
     pub fn into_tables(self, alloc: Global) -> Tables
-        ensures { (site : ℕ) → (rose : List SomeRecord) → LoggedStand site self (logged_inc rose) rose → (since : List SomeStep) → TablesStand site rose since result }
+        ensures stand { (site : ℕ) → (rose : List SomeRecord) → LoggedStand site self (logged_inc rose) rose → (since : List SomeStep) → TablesStand site rose since result }
+        ensures known { IsSome self.places → IsSome result.names }
     {
         Tables {
             steps: 0,

@@ -1,6 +1,6 @@
 // The transactions that are open at a site, kept beside its steps.
 ghost use Rattle.std.specs.Prelude.{◌≡◌, ◌++◌, ◌∷◌, [], ℕ, IfOk, List as Items};
-ghost use Rattle.std.specs.List.{flat_map};
+ghost use Rattle.std.specs.List.{flat_map, list_any};
 ghost use Rattle.e3_types.specs.declared.records.Record.{Record as SomeRecord};
 ghost use Rattle.e3_world.specs.declared.lives.At.{At};
 ghost use Rattle.e3_world.specs.Items.{began_in, txn_of_record};
@@ -10,7 +10,7 @@ ghost use Rattle.e3_cards.specs.Noting.{unstepped};
 ghost use Rattle.e3_cards.specs.Tables.{CardsStand};
 ghost use Rattle.e3_opens.specs.Opens.{open_in};
 ghost use Rattle.e3_places.specs.Standing.{fresh_of};
-ghost use Rattle.e3_past.specs.Opening.{OpensStand, fresh_txns, undecided_among};
+ghost use Rattle.e3_past.specs.Opening.{OpensStand, decides, fresh_txns, undecided_among};
 ghost use Rattle.e3_past.specs.Standing.{AreUpToDate, TheyStand, life_from};
 
 use crate::reader::are_up;
@@ -116,13 +116,40 @@ fn add_arrived(
     add_fresh(cards, &new, out)
 }
 
-// Those of these transactions that the records leave undecided.
-fn left(records: &[Record], txns: List<Txn>) -> List<Txn>
+fn decides(r: &Record) -> bool
+    ensures { result ≡ decides r.now }
+{
+    match r {
+        Record::Decision { .. } => true,
+        _ => false,
+    }
+}
+
+// A record among these decides a transaction.
+fn have_decided(records: &[Record]) -> bool
+    ensures { result ≡ list_any decides records.now }
+{
+    records.iter().any(|r| decides(r))
+}
+
+// Those of these transactions that the records leave undecided, of which one decides a transaction.
+fn sifted(records: &[Record], txns: List<Txn>) -> List<Txn>
     ensures { result ≡ undecided_among records.now txns }
 {
     let mut txns = txns.into_vec();
     txns.retain(|t| is_undecided(t, records));
     List::from_vec(txns)
+}
+
+// Those of these transactions that the records leave undecided. Where no record decides a transaction it looks at none of them,
+// so that most steps cost nothing for what is open.
+fn left(records: &[Record], txns: List<Txn>) -> List<Txn>
+    ensures { result ≡ undecided_among records.now txns }
+{
+    if !have_decided(records) {
+        return txns;
+    }
+    sifted(records, txns)
 }
 
 fn is_left(t: &Txn, r: &Record) -> bool
@@ -132,12 +159,22 @@ fn is_left(t: &Txn, r: &Record) -> bool
 }
 
 // Those of them that the record leaves undecided.
-fn left_by(r: &Record, txns: List<Txn>) -> List<Txn>
+fn sifted_by(r: &Record, txns: List<Txn>) -> List<Txn>
     ensures { result ≡ undecided_among (r.now ∷ []) txns }
 {
     let mut txns = txns.into_vec();
     txns.retain(|t| is_left(t, r));
     List::from_vec(txns)
+}
+
+// The same, at no cost where the record is no decision.
+fn left_by(r: &Record, txns: List<Txn>) -> List<Txn>
+    ensures { result ≡ undecided_among (r.now ∷ []) txns }
+{
+    if !decides(r) {
+        return txns;
+    }
+    sifted_by(r, txns)
 }
 
 /// The open transactions behind one more step, by the cards before it. Want of memory is the only error; what they are then

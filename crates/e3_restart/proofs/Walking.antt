@@ -9,7 +9,8 @@ use Rattle.e3_world.specs.Orderly.{IsOrderly, weights_by}
 use Rattle.e3_past.specs.declared.logged.Logged.{Logged}
 use Rattle.e3_past.specs.Standing.{LoggedStand}
 use Rattle.e3_restart.specs.Orderly.{IsFirstDisorder, disorder_after, disorder_in, is_orderly_next}
-use Rattle.e3_restart.specs.Reading.{AreRead}
+use Rattle.e3_past.proofs.Known.{orderly_known}
+use Rattle.e3_restart.specs.Reading.{AreRead, IsLogRead}
 use Rattle.e3_restart.proofs.Firsts.{disorder_found}
 
 take_more : (xs : List Record) (k : ℕ) (x : Record) → k < length xs → x ≡ get_or xs k x → take (k + 1) xs ≡ take k xs ++ x ∷ []
@@ -74,3 +75,7 @@ read_all site rising records k read inc weights all rises are =
     let P : ℕ → Type 0 = λ n. LoggedStand site read n records in
     let Q : List Record → Type 0 = λ l. LoggedStand site read rising l in
     subst P rises (subst Q (take_whole records k all) are.stand)
+
+-- and the names of a log are known
+pub log_read : (site : ℕ) (records : List Record) (read : Logged) → IsOrderly site records → LoggedStand site read (logged_inc records) records → IsLogRead site records read
+log_read site records read orderly stand = record { orderly = orderly; stand = stand; known = orderly_known site (logged_inc records) records read stand orderly }

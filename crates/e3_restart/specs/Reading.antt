@@ -1,5 +1,6 @@
 -- Tables of the records before another one.
 use Rattle.std.specs.Prelude.{◌≡◌, ℕ, List}
+use Rattle.std.specs.Option.{IsSome}
 use Rattle.e3_types.specs.declared.records.Record.{Record}
 use Rattle.e3_world.specs.Logs.{logged_inc}
 use Rattle.e3_world.specs.Orderly.{IsOrderly, weights_in}
@@ -16,7 +17,13 @@ pub record AreRead (site rising : ℕ) (records : List Record) (read : Logged) (
   pub inc_is : inc ≡ logged_inc records
   pub weights_are : weights ≡ weights_in records
 
+-- a walk over a log has read it; there are tables of its names
+pub record IsLogRead (site : ℕ) (records : List Record) (read : Logged) : Type 0 where
+  pub orderly : IsOrderly site records
+  pub stand : LoggedStand site read (logged_inc records) records
+  pub known : IsSome read.places
+
 -- a walk over records found their log and has read it, or the first place that is out of order
 abbrev pub IsWalk : ℕ → List Record → Walk → Type 0
-IsWalk site records (Log read) = IsOrderly site records × LoggedStand site read (logged_inc records) records
+IsWalk site records (Log read) = IsLogRead site records read
 IsWalk site records (Disorder at) = IsFirstDisorder site records at

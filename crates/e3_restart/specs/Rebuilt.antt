@@ -1,8 +1,10 @@
 -- What a site that is rebuilt from records is, and when there is none.
-use Rattle.std.specs.Prelude.{◌≡◌, [], ℕ, List}
+use Rattle.std.specs.Prelude.{◌≡◌, [], ℕ, List, Option, Some, None}
+use Rattle.std.specs.Option.{IsSome}
 use Rattle.e3_types.specs.declared.entries.Entry.{Entry}
 use Rattle.e3_types.specs.declared.records.Record.{Record}
 use Rattle.e3_types.specs.declared.scenarios.Scenario.{Scenario}
+use Rattle.e3_past.specs.declared.tables.Tables.{Tables}
 use Rattle.e3_site.specs.SiteView.{SiteView}
 use Rattle.e3_site.specs.StandsFor.{StandsFor, IsRisenWith}
 use Rattle.e3_world.specs.Legal.{IsLegal}
@@ -15,6 +17,11 @@ use Rattle.e3_restart.specs.Orderly.{IsFirstDisorder}
 abbrev pub IsFaultOf : ℕ → List Record → RebuildFault → Type 0
 IsFaultOf site records (Order at) = IsFirstDisorder site records at
 IsFaultOf site records NoMemory = IsOrderly site records
+
+-- where there are tables, they know the names
+abbrev pub HaveNames : Option Tables → Type 0
+HaveNames None = Unit {0}
+HaveNames (Some tables) = IsSome tables.names
 
 -- the site has the weights of the log's birth, rose with this log, and did nothing since
 abbrev pub IsRebuilt : ℕ → List Record → SiteView → Type 0

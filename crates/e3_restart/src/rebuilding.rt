@@ -3,7 +3,7 @@ ghost use Rattle.std.specs.Prelude.{◌≡◌, ◌<◌, [], IfOk, IfErr, length}
 ghost use Rattle.e3_world.specs.Orderly.{IsOrderly, weights_in};
 ghost use Rattle.e3_past.specs.Standing.{TheyStand};
 ghost use Rattle.e3_restart.specs.Orderly.{IsFirstDisorder};
-ghost use Rattle.e3_restart.specs.Rebuilt.{IsFaultOf, IsRebuilt, StandsForEach};
+ghost use Rattle.e3_restart.specs.Rebuilt.{HaveNames, IsFaultOf, IsRebuilt, StandsForEach};
 
 use crate::disorder::{Walk, first_disorder, read_in_order};
 use crate::headings::weights_in;
@@ -41,11 +41,12 @@ fn copies(alloc: Global, records: &[Record]) -> Result<(List<u32>, List<Record>)
     Ok((weights, present_log(alloc, records, &[])?))
 }
 
-// The tables of the records, or the first place where they are not the log of the site. Where memory wants for tables there
-// are none, and the place is looked for without them.
+// The tables of the records, with those of their names, or the first place where they are not the log of the site. Where
+// memory wants for tables there are none, and the place is looked for without them.
 fn tables_in(alloc: Global, site: u32, records: &[Record]) -> Result<Option<Tables>, u64>
     ensures orderly { IfOk result (λ tables. IsOrderly site records.now) }
     ensures stand { IfOk result (TheyStand site records.now []) }
+    ensures known { IfOk result HaveNames }
     ensures fault { IfErr result (IsFirstDisorder site records.now) }
 {
     match read_in_order(alloc, site, records) {

@@ -1,4 +1,4 @@
 use Rattle.e3_past.proofs.catching.risen.Goals as goal
 
 pub returns : goal.returns
-returns c = c.into_tables.ensures c.args.site c.args.rose.now c.in_ok-read.ensures c.args._since.now
+returns c = c.into_tables.ensures.stand c.args.site c.args.rose.now c.in_ok-read.ensures.stand c.args._since.now

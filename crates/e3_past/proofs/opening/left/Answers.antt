@@ -1,7 +1,6 @@
-use Rattle.std.proofs.Common.{ap, rules, ◌∙◌}
-use Rattle.std.proofs.lemmas.Fn.{filter_same}
-use Rattle.e3_past.specs.Opening.{undecided_among}
+use Rattle.std.proofs.Common.{sym, ◌∙◌}
+use Rattle.e3_past.proofs.Undecided.{none_decided}
 use Rattle.e3_past.proofs.opening.left.Goals as goal
 
-pub returns : goal.returns
-returns c = c.from_vec.ensures ∙ filter_same _ _ _ (λ x b f' k. search rules) _ _ c.retain.ensures.filtered ∙ ap (undecided_among c.args.records.now) c.into_vec-txns.ensures
+pub returns-then-not-have_decided : goal.returns-then-not-have_decided
+returns-then-not-have_decided c = none_decided c.args.records.now c.args.txns (sym c.have_decided.ensures ∙ c.if-not-have_decided.true)

@@ -1,7 +1,6 @@
-use Rattle.std.proofs.Common.{◌∷◌, [], ap, rules, ◌∙◌}
-use Rattle.std.proofs.lemmas.Fn.{filter_same}
-use Rattle.e3_past.specs.Opening.{undecided_among}
+use Rattle.std.proofs.Common.{sym, ◌∙◌}
+use Rattle.e3_past.proofs.Undecided.{none_decided_by}
 use Rattle.e3_past.proofs.opening.left_by.Goals as goal
 
-pub returns : goal.returns
-returns c = c.from_vec.ensures ∙ filter_same _ _ _ (λ x b f' k. search rules) _ _ c.retain.ensures.filtered ∙ ap (undecided_among (c.args.r.now ∷ [])) c.into_vec-txns.ensures
+pub returns-then-not-decides : goal.returns-then-not-decides
+returns-then-not-decides c = none_decided_by c.args.r.now c.args.txns (sym c.decides.ensures ∙ c.if-not-decides.true)

@@ -1,5 +1,5 @@
 use Rattle.std.proofs.Common.{arith, sym, ◌∙◌}
-use Rattle.e3_restart.proofs.Walking.{found_at, found_none, read_all}
+use Rattle.e3_restart.proofs.Walking.{found_at, found_none, log_read, read_all}
 use Rattle.e3_restart.proofs.disorder.read_in_order.Goals as goal
 
 pub returns-then-not-is_orderly_next : goal.returns-then-not-is_orderly_next
@@ -8,8 +8,8 @@ returns-then-not-is_orderly_next c =
     c.loop-k.invariant.0
 
 pub returns : goal.returns
-returns c = (
-  found_none c.args.site c.args.records.now c.loop-k.k (omega arith) c.loop-k.invariant.0,
-  read_all c.args.site c.logged_inc-rising.result c.args.records.now c.loop-k.k c.loop-k.read c.loop-k.inc c.loop-k.weights.now (omega arith) c.logged_inc-rising.ensures
-      c.loop-k.invariant.1,
-)
+returns c =
+    log_read c.args.site c.args.records.now c.loop-k.read
+    (found_none c.args.site c.args.records.now c.loop-k.k (omega arith) c.loop-k.invariant.0)
+    (read_all c.args.site c.logged_inc-rising.result c.args.records.now c.loop-k.k c.loop-k.read c.loop-k.inc c.loop-k.weights.now (omega arith) c.logged_inc-rising.ensures
+    c.loop-k.invariant.1)

@@ -6,5 +6,6 @@ returns c = record {
   empty_is = refl;
   cards_stand = c.no_cards.ensures;
   places_stand = c.unborn.ensures c.args.site c.args.inc;
+  places_known = λ all. refl;
   opens_stand = c.no_opens.ensures c.args.site c.args.inc;
 }

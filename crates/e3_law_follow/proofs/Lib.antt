@@ -1,0 +1,3 @@
+mod Keeping
+mod Handling
+mod Laws
