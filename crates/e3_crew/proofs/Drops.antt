@@ -18,8 +18,8 @@ use Rattle.e3_node.specs.Claims.{NodesKeptByOthers}
 use Rattle.e3_node.specs.NodeStands.{NodeStands}
 use Rattle.e3_node.specs.NodeView.{NodeView, disk_of}
 use Rattle.e3_node.specs.Turns.{history_seen, scenario_seen}
-use Rattle.e3_sites.specs.Delivered.{IsFull}
-use Rattle.e3_sites.proofs.Bounds.{packet_full}
+use Rattle.e3_sites.specs.Delivered.{IsFullBefore, IsPacketDue}
+use Rattle.e3_sites.proofs.Bounds.{packet_full, packet_owed}
 use Rattle.e3_types.specs.declared.messages.Packet.{Packet}
 use Rattle.e3_turn.specs.Passes.{GrewByOthers, IsIdle, OwnsAll, SameOwners, last_of, owners_of, seen_by}
 use Rattle.e3_turn.specs.Chronicles.{IsForeign, count_of}
@@ -34,7 +34,7 @@ use Rattle.e3_wire.specs.Wires.{IsDroppedFor, IsPlayed}
 use Rattle.e3_wire.proofs.Foreign.{entries_append}
 use Rattle.e3_wire.proofs.Notes.{scenario_stays}
 use Rattle.e3_world.specs.Items.{is_up_at}
-use Rattle.e3_world.specs.Legal.{IsLegal}
+use Rattle.e3_world.specs.Legal.{IsLegal, first_pending}
 use Rattle.e3_world.specs.Packets.{is_calm, is_line, lines, pending, present_items}
 use Rattle.e3_world.specs.Progress.{Delivering, Through}
 use Rattle.e3_world.proofs.Readings.{up_other, up_same}
@@ -218,16 +218,18 @@ module _ {D : Type 0} (content : D → List ℕ) (image : D → List ℕ → Typ
 
 -- the driver's refusal, at the bound
 pub drop_full : NothingPromised → (before now : List Mark) → IsPlayed before → IsPlayed now → HasDropped before now → ((o : ℕ) → o ≤ last_owner now → (note_of o now).places ≡ 0) →
-    lines (entries_of before) ≢ 0 → DropHadNoRoom now → IsFull (scenario_of before) (entries_of now) (most_of before)
-drop_full nothing before now played after d none begun had =
+    lines (entries_of before) ≢ 0 → Delivering (scenario_of before) (entries_of before) → DropHadNoRoom now →
+    IsFullBefore IsPacketDue (scenario_of before) (entries_of now) (most_of before)
+drop_full nothing before now played after d none begun was had =
     let sc : scenario_of now ≡ scenario_of before = ap scenario_of d.is ∙ (scenario_stays before d.drops played).0 in
     let most : most_of now ≡ most_of before = ap most_of d.is ∙ (scenario_stays before d.drops played).1 in
     let just : used_of now ≡ length (entries_of now) = nothing now none in
     let within = after.within in
     let full = had.full in
-    let P : Scenario → Type 0 = λ k. slice_get (pending k (entries_of now)) 0 ≡ Some had.packet in
-    packet_full (scenario_of before) (entries_of now) had.packet (most_of before) (omega (arith, just, within, most)) (omega (arith, just, full, most))
-    (λ no_line. begun (sym (dropped_lines before now d) ∙ no_line)) (subst P sc had.first)
+    let P : Scenario → Type 0 = λ k. first_pending k (entries_of now) ≡ Some had.packet in
+    packet_full (scenario_of before) (entries_of now) (most_of before) (omega (arith, just, within, most)) (omega (arith, just, full, most))
+    (λ no_line. begun (sym (dropped_lines before now d) ∙ no_line))
+    (packet_owed (scenario_of before) (entries_of now) had.packet (dropped_through before now played after d was) (subst P sc had.first))
 
 -- what is not there is not found
 pub some_first : (site : ℕ) (ps : List Packet) → (find (λ q. q.to == site) ps ≡ None → ⊥) → (q : Packet) × (slice_get ps 0 ≡ Some q)

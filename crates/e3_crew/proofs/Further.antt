@@ -10,7 +10,7 @@ use Rattle.e3_disk.specs.Meters.{Meters}
 use Rattle.e3_node.specs.NodeStands.{NodeStands}
 use Rattle.e3_node.specs.NodeView.{NodeView, disk_of}
 use Rattle.e3_node.specs.Turns.{history_seen, scenario_seen}
-use Rattle.e3_sites.specs.Delivered.{IsFull}
+use Rattle.e3_sites.specs.Delivered.{IsFullBefore}
 use Rattle.e3_sites.specs.Settled.{StaysInStep}
 use Rattle.e3_sites.proofs.Steps.{same_step, stays_none, stays_on}
 use Rattle.e3_types.specs.declared.entries.Entry.{Entry}
@@ -78,11 +78,11 @@ delivering_on before marks same h was = let P : Scenario → Type 0 = λ sc. Del
 pub delivering_back : (before marks : List Mark) → scenario_of marks ≡ scenario_of before → (h : List Entry) → Delivering (scenario_of before) h → Delivering (scenario_of marks) h
 delivering_back before marks same h was = let P : Scenario → Type 0 = λ sc. Delivering sc h in subst P (sym same) was
 
-pub full_on : (before marks : List Mark) → scenario_of marks ≡ scenario_of before → most_of marks ≡ most_of before → (h : List Entry) →
-    IsFull (scenario_of marks) h (most_of marks) → IsFull (scenario_of before) h (most_of before)
-full_on before marks same most h was =
-    let P : Scenario → Type 0 = λ sc. IsFull sc h (most_of marks) in
-    let Q : ℕ → Type 0 = λ m. IsFull (scenario_of before) h m in subst Q most (subst P same was)
+pub full_on : (owes : Scenario → List Entry → Type 0) (before marks : List Mark) → scenario_of marks ≡ scenario_of before → most_of marks ≡ most_of before → (h : List Entry) →
+    IsFullBefore owes (scenario_of marks) h (most_of marks) → IsFullBefore owes (scenario_of before) h (most_of before)
+full_on owes before marks same most h was =
+    let P : Scenario → Type 0 = λ sc. IsFullBefore owes sc h (most_of marks) in
+    let Q : ℕ → Type 0 = λ m. IsFullBefore owes (scenario_of before) h m in subst Q most (subst P same was)
 
 pub settled_on : (before marks : List Mark) → scenario_of marks ≡ scenario_of before → (h : List Entry) → pending (scenario_of marks) h ≡ [] → pending (scenario_of before) h ≡ []
 settled_on before marks same h was = let P : Scenario → Type 0 = λ sc. pending sc h ≡ [] in subst P same was

@@ -17,7 +17,7 @@ use Rattle.e3_law_local.proofs.Due.{next_on}
 use Rattle.e3_node.specs.Claims.{NodesKeptByOthers}
 use Rattle.e3_node.specs.NodeView.{NodeView}
 use Rattle.e3_node.specs.Turns.{Meanwhile, history_seen, scenario_seen}
-use Rattle.e3_sites.specs.Delivered.{IsFull}
+use Rattle.e3_sites.specs.Delivered.{IsFullBefore, IsItemDue}
 use Rattle.e3_sites.specs.Settled.{is_asking}
 use Rattle.e3_sites.specs.declared.sites.RunFault.{RunFault}
 use Rattle.e3_sites.specs.declared.sites.RunFault.TheVariants.{HistoryFull}
@@ -161,7 +161,7 @@ module _ {D : Type 0} (content : D → List ℕ) (image : D → List ℕ → Typ
         omega (arith, asked, turn)
 
     -- a worker that was refused for a full history had an item that is due
-    pub items_full : UsedGrows → NothingPromised → OneWasRefused news HistoryFull → IsFull sc last (most_of (seen_by p))
+    pub items_full : UsedGrows → NothingPromised → OneWasRefused news HistoryFull → IsFullBefore IsItemDue sc last (most_of (seen_by p))
     items_full grows nothing one =
         let d : Worker D = any news (let w = one.within in omega (arith, w)) in
         let i = one.at in
@@ -181,8 +181,12 @@ module _ {D : Type 0} (content : D → List ℕ) (image : D → List ℕ → Typ
         let most_last : most_of (seen_by q) ≡ most_of (seen_by p) = (gone_on content image meters law wire p q olds dealts turned news r).most in
         let room = no_room grows nothing (seen_of a) (r.each i d low).0 (seen_by q) (took i d low).worked.knows.played r.played (r.each i d low).1 (most_last ∙ sym most_there)
         (crew_again content image meters law wire p q olds dealts turned news r).none had.full in
-        item_full sc last (record { site = i + 1; input = had.item }) (most_of (seen_by p)) legal (λ none. begun (sym step.at ∙ none)) (ap is_asking step.present ∙ asks)
-        (alike.up ∙ subst U site had.up) (next_on sc (i + 1) (entries_of (seen_of a)) last had.item alike (subst M there (subst N site had.due)))
+        item_full sc last (most_of (seen_by p)) (record {
+          site = i + 1;
+          item = had.item;
+          up = alike.up ∙ subst U site had.up;
+          next = next_on sc (i + 1) (entries_of (seen_of a)) last had.item alike (subst M there (subst N site had.due));
+        }) legal (λ none. begun (sym step.at ∙ none)) (ap is_asking step.present ∙ asks)
         (let e = room.0 in omega (arith, e, most_last)) (let e = room.1 in omega (arith, e, most_last))
 
     pub items_done : (answer : Result (Unit {0}) RunFault) → OnOk answer (AllEndedWell news) → OnOk answer (Delivering sc last)

@@ -15,9 +15,9 @@ use Rattle.e3_law_local.proofs.Least.{least_stays}
 use Rattle.e3_node.specs.Claims.{NodesKeptByOthers}
 use Rattle.e3_node.specs.NodeView.{NodeView}
 use Rattle.e3_node.specs.Turns.{Meanwhile, history_seen, scenario_seen}
-use Rattle.e3_sites.specs.Delivered.{IsFull}
+use Rattle.e3_sites.specs.Delivered.{IsFullBefore, IsPacketDue}
 use Rattle.e3_sites.specs.declared.sites.RunFault.TheVariants.{HistoryFull}
-use Rattle.e3_sites.proofs.Bounds.{packet_full}
+use Rattle.e3_sites.proofs.Bounds.{packet_full, packet_owed}
 use Rattle.e3_sites.proofs.Steps.{same_step}
 use Rattle.e3_turn.specs.Passes.{seen_by}
 use Rattle.e3_types.specs.declared.entries.Entry.{Entry}
@@ -63,10 +63,10 @@ module _ {D : Type 0} (content : D → List ℕ) (image : D → List ℕ → Typ
     }
 
     -- a worker that was refused for a full history had a packet
-    pub packets_full : lines (history_seen p) ≢ 0 →
+    pub packets_full : lines (history_seen p) ≢ 0 → Through sc (history_seen p) →
         ((i : ℕ) (d : Worker D) → i < length olds → HasTakenPackets content image meters wire (slice_index_or dealts i d) (slice_index_or turned i d)) →
-        UsedGrows → NothingPromised → OneWasRefused news HistoryFull → IsFull sc last (most_of (seen_by p))
-    packets_full begun took grows nothing one =
+        UsedGrows → NothingPromised → OneWasRefused news HistoryFull → IsFullBefore IsPacketDue sc last (most_of (seen_by p))
+    packets_full begun through took grows nothing one =
         let d : Worker D = any news (let w = one.within in omega (arith, w)) in
         let i = one.at in
         let low : i < length olds = (let c = r.count in let w = one.within in omega (arith, c, w)) in
@@ -86,5 +86,5 @@ module _ {D : Type 0} (content : D → List ℕ) (image : D → List ℕ → Typ
         let most_last : most_of (seen_by q) ≡ most_of (seen_by p) = (gone_on content image meters law wire p q olds dealts turned news r).most in
         let room = no_room grows nothing (seen_of a) (r.each i d low).0 (seen_by q) (took i d low).worked.knows.played r.played (r.each i d low).1 (most_last ∙ sym most_there)
         (crew_again content image meters law wire p q olds dealts turned news r).none had.full in
-        packet_full sc last first.0 (most_of (seen_by p)) (let e = room.0 in omega (arith, e, most_last)) (let e = room.1 in omega (arith, e, most_last))
-        (λ none. begun (sym step.at ∙ none)) first.1
+        packet_full sc last (most_of (seen_by p)) (let e = room.0 in omega (arith, e, most_last)) (let e = room.1 in omega (arith, e, most_last))
+        (λ none. begun (sym step.at ∙ none)) (packet_owed sc last first.0 (still_delivering through) first.1)

@@ -112,14 +112,6 @@ pub record HasTakenPackets {D : Type 0} (content : D → List ℕ) (image : D �
   pub done : OnOk after.ended (NonePending (seen_of after) before.node.site)
   pub full : after.ended ≡ Err HistoryFull → PacketHadNoRoom (seen_of after) before.node.site
 
-abbrev pub AllTookItems : {D : Type 0} → (D → List ℕ) → (D → List ℕ → Type 0) → (D → Meters) → TableId → List (Worker D) → List (Worker D) → Type 0
-AllTookItems {D} content image meters wire xs ys =
-    (i : ℕ) (d : Worker D) → i < length xs → HasTakenItems content image meters wire (slice_index_or xs i d) (slice_index_or ys i d)
-
-abbrev pub AllTookPackets : {D : Type 0} → (D → List ℕ) → (D → List ℕ → Type 0) → (D → Meters) → TableId → List (Worker D) → List (Worker D) → Type 0
-AllTookPackets {D} content image meters wire xs ys =
-    (i : ℕ) (d : Worker D) → i < length xs → HasTakenPackets content image meters wire (slice_index_or xs i d) (slice_index_or ys i d)
-
 -- behind these marks others than the owner put some
 abbrev pub AddedByOthers : ℕ → List Mark → List Mark → Type 0
 AddedByOthers owner before now = (since : List Mark) × (now ≡ before ++ since) × AreForeign owner since

@@ -1,6 +1,8 @@
-// All workers at once, each in a thread of its own.
+// All workers at once: those that have something to take are at work each in a thread of its own.
 ghost use Rattle.std.specs.Prelude.{◌≡◌, ◌+◌, ◌<◌, ◌≤◌, ℕ, length, All, slice_index_or};
-ghost use Rattle.e3_crew.specs.Workers.{AddedByOthers, AllTookItems, AllTookPackets, CanTakeItems, CanTakePackets, HasPass, IsDealt, KeepsItsOwn, seen_of};
+ghost use Rattle.std.specs.Thread.{IsSync, IsSend};
+ghost use Rattle.e3_crew.specs.Forks.{AllTook, CanTake, HasTaken};
+ghost use Rattle.e3_crew.specs.Workers.{AddedByOthers, HasPass, IsDealt, KeepsItsOwn, seen_of};
 ghost use Rattle.e3_crew.specs.declared.worker.Worker.{Worker as Workers};
 ghost use Rattle.e3_turn.specs.Passes.{IsIdle, Owns, OwnsAll, last_of, seen_by};
 ghost use Rattle.e3_wire.specs.Wires.{IsPlayed};
@@ -10,51 +12,141 @@ use crate::worker::take_pass;
 use crate::working::{take_items, take_packets};
 use e3_disk::{Disk, Drill};
 use e3_outside::Gate;
+use e3_types::SiteSet;
 use e3_wire::{Wire, WirePass};
 use std::alloc::Global;
 use std::sync::Wait;
 use std::thread;
-use std::thread::Threads;
+use std::thread::{Threads, join_mut};
 
-/// Each worker gives its items to its node, in at most so many threads.
-pub fn all_take_items<D: Disk + Drill + Drop + Send, R: Wait + Threads + Sync>(
-    rt: &R,
-    alloc: Global,
-    wire: &Wire,
-    workers: &mut [Worker<D>],
-    threads: usize,
-)
-    requires threads { 0 < threads }
-    requires ready { All (CanTakeItems D.content D.image D.meters wire.now) workers.old }
-    ensures { AllTookItems D.content D.image D.meters wire.now workers.old workers.new }
-{
-    thread::for_each_mut(
-        rt,
-        workers,
-        threads,
-        &|_, worker| take_items(rt, alloc, wire, worker),
-    );
+/// What workers take: their items, or packets until none is pending to them.
+#[derive(Clone, Copy)]
+pub enum Turn {
+    Items,
+    Packets,
 }
 
-/// Each worker gives packets to its node until none is pending to it, in at most so many threads.
-pub fn all_take_packets<D: Disk + Drill + Drop + Send, G: Gate + Sync, R: Wait + Threads + Sync>(
+/// A round of turns: what workers take in it, and the sites that have something to take when it begins.
+#[derive(Drop)]
+pub struct Round {
+    pub alloc: Global,
+    pub turn: Turn,
+    pub busy: SiteSet,
+}
+
+// A worker's turn.
+fn take_turn<D: Disk + Drill + Drop, G: Gate, R: Wait>(
     rt: &R,
     alloc: Global,
     wire: &Wire,
     gate: &G,
-    workers: &mut [Worker<D>],
-    threads: usize,
+    turn: Turn,
+    worker: &mut Worker<D>,
 )
-    requires threads { 0 < threads }
-    requires ready { All (CanTakePackets D.content D.image D.meters wire.now) workers.old }
-    ensures { AllTookPackets D.content D.image D.meters wire.now workers.old workers.new }
+    requires { CanTake turn D.content D.image D.meters wire.now worker.old }
+    ensures { HasTaken turn D.content D.image D.meters wire.now worker.old worker.new }
+{
+    match turn {
+        Turn::Items => take_items(rt, alloc, wire, worker),
+        Turn::Packets => take_packets(rt, alloc, wire, gate, worker),
+    }
+}
+
+// The turns of these workers one after the other, on the caller's thread.
+fn take_in_order<D: Disk + Drill + Drop + Send, G: Gate + Sync, R: Wait + Threads + Sync>(
+    rt: &R,
+    alloc: Global,
+    wire: &Wire,
+    gate: &G,
+    turn: Turn,
+    workers: &mut [Worker<D>],
+)
+    requires { All (CanTake turn D.content D.image D.meters wire.now) workers.old }
+    ensures { AllTook turn D.content D.image D.meters wire.now workers.old workers.new }
 {
     thread::for_each_mut(
         rt,
         workers,
-        threads,
-        &|_, worker| take_packets(rt, alloc, wire, gate, worker),
+        1,
+        &|_, worker| take_turn(rt, alloc, wire, gate, turn, worker),
     );
+}
+
+// How many of these workers are of these sites.
+fn busy_among<D: Disk + Drill + Drop>(workers: &[Worker<D>], busy: SiteSet) -> usize {
+    workers
+        .iter()
+        .filter(|worker| busy.has(worker.node.site()))
+        .count()
+}
+
+// The first place with half of the busy workers before it, and neither end.
+fn middle_of<D: Disk + Drill + Drop>(workers: &[Worker<D>], busy: SiteSet) -> usize
+    requires { 1 < length workers.now }
+    ensures front { 0 < result }
+    ensures back { result < length workers.now }
+{
+    let half = busy_among(workers, busy) / 2;
+    let last = workers.len() - 1;
+    for at in 1..last {
+        if busy_among(&workers[..at], busy) >= half {
+            return at;
+        }
+    }
+    last
+}
+
+/// Each worker has its turn, in at most so many threads. Of those that are of the busy sites no two share a thread, where so
+/// many threads are allowed; a thread is started for each of them but one, which works on the caller's. The others work
+/// beside them: they may come to have something to take.
+#[cycle(forks)]
+pub fn all_take<D: Disk + Drill + Drop + Send, G: Gate + Sync, R: Wait + Threads + Sync>(
+    rt: &R,
+    wire: &Wire,
+    gate: &G,
+    round: &Round,
+    threads: usize,
+    workers: &mut [Worker<D>],
+)
+    requires { All (CanTake round.now.turn D.content D.image D.meters wire.now) workers.old }
+    ensures { AllTook round.now.turn D.content D.image D.meters wire.now workers.old workers.new }
+{
+    if threads < 2 || workers.len() < 2 || busy_among(workers, round.busy) < 2 {
+        take_in_order(rt, round.alloc, wire, gate, round.turn, workers);
+        return;
+    }
+    let few = threads / 2;
+    let (front, back) = workers.split_at_mut(middle_of(workers, round.busy));
+    both_take(rt, wire, gate, round, few, threads - few, front, back);
+}
+
+// A function of its own, so that what the closures ask is what it is given.
+#[cycle(forks)]
+fn both_take<D: Disk + Drill + Drop + Send, G: Gate + Sync, R: Wait + Threads + Sync>(
+    rt: &R,
+    wire: &Wire,
+    gate: &G,
+    round: &Round,
+    few: usize,
+    others: usize,
+    front: &mut [Worker<D>],
+    back: &mut [Worker<D>],
+)
+    requires some { (0 < length front.old) × (0 < length back.old) }
+    requires front { All (CanTake round.now.turn D.content D.image D.meters wire.now) front.old }
+    requires back { All (CanTake round.now.turn D.content D.image D.meters wire.now) back.old }
+    ensures front { AllTook round.now.turn D.content D.image D.meters wire.now front.old front.new }
+    ensures back { AllTook round.now.turn D.content D.image D.meters wire.now back.old back.new }
+{
+    let mut there = ||
+        requires { IsSync R.row × IsSync G.row × IsSend D.row × All (CanTake round.now.turn D.content D.image D.meters wire.now) front.now }
+        ensures { AllTook round.entry.now.turn D.content D.image D.meters wire.entry.now front.entry.now front.exit.now }
+    { all_take(rt, wire, gate, round, few, front) };
+    let mut here = ||
+        requires { IsSync R.row × IsSync G.row × IsSend D.row × All (CanTake round.now.turn D.content D.image D.meters wire.now) back.now }
+        ensures { AllTook round.entry.now.turn D.content D.image D.meters wire.entry.now back.entry.now back.exit.now }
+    { all_take(rt, wire, gate, round, others, back) };
+    join_mut(rt, &mut there, &mut here);
 }
 
 /// Gives each worker a pass for its site, off one that owns all.

@@ -1,11 +1,11 @@
 // The driver's turn between rounds: it drops the packets to sites that are down.
-ghost use Rattle.std.specs.Prelude.{◌≡◌, ◌≢◌, ◌<◌, [], ℕ, false, length, slice_index_or, Err, IfOk};
+ghost use Rattle.std.specs.Prelude.{◌≡◌, ◌≢◌, ◌<◌, [], ℕ, false, length, slice_index_or, None, Err, IfOk};
 ghost use Rattle.e3_crew.specs.Crews.{HasGoneOn, IsCrew};
 ghost use Rattle.e3_crew.specs.Drops.{DropHadNoRoom, HasDropped};
 ghost use Rattle.e3_crew.specs.declared.worker.Worker.{Worker as Workers};
 ghost use Rattle.e3_node.specs.NodeStands.{NodeStands};
 ghost use Rattle.e3_node.specs.Turns.{history_seen, scenario_seen};
-ghost use Rattle.e3_sites.specs.Delivered.{IsFull};
+ghost use Rattle.e3_sites.specs.Delivered.{IsFullBefore, IsPacketDue};
 ghost use Rattle.e3_sites.specs.declared.sites.RunFault.TheVariants.{HistoryFull};
 ghost use Rattle.e3_turn.specs.Passes.{seen_by};
 ghost use Rattle.e3_wire.specs.Wires.{IsPlayed};
@@ -16,9 +16,11 @@ ghost use Rattle.e3_world.specs.Packets.{is_calm, lines, pending, present_items}
 ghost use Rattle.e3_world.specs.Progress.{Delivering};
 
 use crate::Worker;
+use crate::rounds::and_site;
 use e3_disk::{Disk, Drill};
 use e3_node::others_leave_nodes;
 use e3_sites::RunFault;
+use e3_types::SiteSet;
 use e3_wire::{Shared, Wire, WireFault, WirePass, drivers_may_put_marks, marks_add_up};
 use std::sync::Wait;
 
@@ -90,36 +92,38 @@ fn drop_in<D: Disk + Drill + Drop, R: Wait>(
     Ok(())
 }
 
-// How many sites packets are pending to; 0 only where none is pending at all.
-fn busy_sites<D: Disk + Drill + Drop>(shared: &Shared, workers: &[Worker<D>]) -> usize
-    ensures { result ≡ 0 → pending (scenario_of shared.now) (entries_of shared.now) ≡ [] }
+// The sites that packets are pending to; none only where none is pending at all.
+fn busy_sites<D: Disk + Drill + Drop>(shared: &Shared, workers: &[Worker<D>]) -> Option<SiteSet>
+    ensures { result ≡ None → pending (scenario_of shared.now) (entries_of shared.now) ≡ [] }
 {
     if shared.first().is_none() {
-        return 0;
+        return None;
     }
-    let busy = workers
-        .iter()
-        .filter(|worker| shared.next_to(worker.node.site()).is_some())
-        .count();
-    busy.max(1)
+    let mut busy = SiteSet::empty();
+    for worker in workers {
+        if shared.next_to(worker.node.site()).is_some() {
+            busy = and_site(busy, worker.node.site());
+        }
+    }
+    Some(busy)
 }
 
-/// Drops the packets that are pending to sites that are down, and tells to how many sites packets are pending then: 0 only
+/// Drops the packets that are pending to sites that are down, and tells to which sites packets are pending then; none only
 /// where none is pending at all.
 pub(crate) fn drop_down<D: Disk + Drill + Drop, R: Wait>(
     rt: &R,
     wire: &Wire,
     pass: &mut WirePass,
     workers: &[Worker<D>],
-) -> Result<usize, RunFault>
+) -> Result<Option<SiteSet>, RunFault>
     requires crew { IsCrew D.content D.image D.meters wire.now pass.old workers.now }
     requires begun { lines (history_seen pass.old) ≢ 0 }
     requires delivering { Delivering (scenario_seen pass.old) (history_seen pass.old) }
     ensures crew { IsCrew D.content D.image D.meters wire.now pass.new workers.now }
     ensures on { HasGoneOn D.meters (seen_by pass.old) workers.now (seen_by pass.new) workers.now }
     ensures delivering { Delivering (scenario_seen pass.old) (history_seen pass.new) }
-    ensures none { IfOk result (λ busy. busy ≡ 0 → pending (scenario_seen pass.old) (history_seen pass.new) ≡ []) }
-    ensures full { result ≡ Err HistoryFull → IsFull (scenario_seen pass.old) (history_seen pass.new) (most_of (seen_by pass.old)) }
+    ensures none { IfOk result (λ busy. busy ≡ None → pending (scenario_seen pass.old) (history_seen pass.new) ≡ []) }
+    ensures full { result ≡ Err HistoryFull → IsFullBefore IsPacketDue (scenario_seen pass.old) (history_seen pass.new) (most_of (seen_by pass.old)) }
 {
     others_leave_nodes::<D>();
     marks_add_up();

@@ -3,7 +3,7 @@ ghost use Rattle.std.specs.Prelude.{◌≡◌, ◌≢◌, ◌+◌, ◌<◌, [], 
 ghost use Rattle.e3_crew.specs.Crews.{AllEndedWell, HasGoneOn, IsCrew, OneWasRefused};
 ghost use Rattle.e3_crew.specs.declared.worker.Worker.{Worker as Workers};
 ghost use Rattle.e3_node.specs.Turns.{history_seen, scenario_seen};
-ghost use Rattle.e3_sites.specs.Delivered.{IsFull};
+ghost use Rattle.e3_sites.specs.Delivered.{IsFullBefore, IsItemDue, IsPacketDue};
 ghost use Rattle.e3_sites.specs.Settled.{is_asking};
 ghost use Rattle.e3_sites.specs.declared.sites.RunFault.{RunFault as Faults};
 ghost use Rattle.e3_sites.specs.declared.sites.RunFault.TheVariants.{HistoryFull};
@@ -14,11 +14,12 @@ ghost use Rattle.e3_world.specs.Packets.{lines, present_items};
 ghost use Rattle.e3_world.specs.Progress.{Delivering};
 
 use crate::Worker;
-use crate::crew::{all_take_items, all_take_packets, deal, gather};
+use crate::crew::{Round, Turn, all_take, deal, gather};
 use e3_disk::{Disk, Drill};
 use e3_node::others_leave_nodes;
 use e3_outside::Gate;
 use e3_sites::RunFault;
+use e3_types::SiteSet;
 use e3_wire::{Wire, WirePass, marks_add_up};
 use std::alloc::Global;
 use std::sync::Wait;
@@ -35,18 +36,32 @@ fn ended<D: Disk + Drill + Drop>(workers: &[Worker<D>]) -> Result<(), RunFault>
     Ok(())
 }
 
-/// How many threads a round takes where so many sites are busy: as many as it may, or the caller's alone.
-pub(crate) fn threads_for(busy: usize, most: usize) -> usize
-    ensures { 0 < result }
-{
-    if busy <= 1 { 1 } else { most.max(1) }
+// The sites, with this one; a set has numbers from 1 to 64.
+pub(crate) fn and_site(sites: SiteSet, site: u32) -> SiteSet {
+    if site == 0 || site > 64 {
+        sites
+    } else {
+        sites.with(site)
+    }
+}
+
+// The sites that have items to take.
+fn asked_sites<D: Disk + Drill + Drop>(workers: &[Worker<D>]) -> SiteSet {
+    let mut asked = SiteSet::empty();
+    for worker in workers {
+        if !worker.items.is_empty() {
+            asked = and_site(asked, worker.node.site());
+        }
+    }
+    asked
 }
 
 /// Each site takes its items of the present step, in their order. A step that asks one site alone starts no thread.
-pub(crate) fn item_round<D: Disk + Drill + Drop + Send, R: Wait + Threads + Sync>(
+pub(crate) fn item_round<D: Disk + Drill + Drop + Send, G: Gate + Sync, R: Wait + Threads + Sync>(
     rt: &R,
     alloc: Global,
     wire: &Wire,
+    gate: &G,
     most_threads: usize,
     pass: &mut WirePass,
     workers: &mut [Worker<D>],
@@ -60,44 +75,49 @@ pub(crate) fn item_round<D: Disk + Drill + Drop + Send, R: Wait + Threads + Sync
     ensures crew { IsCrew D.content D.image D.meters wire.now pass.new workers.new }
     ensures on { HasGoneOn D.meters (seen_by pass.old) workers.old (seen_by pass.new) workers.new }
     ensures done { OnOk result (Delivering (scenario_seen pass.old) (history_seen pass.new)) }
-    ensures full { result ≡ Err HistoryFull → IsFull (scenario_seen pass.old) (history_seen pass.new) (most_of (seen_by pass.old)) }
+    ensures full { result ≡ Err HistoryFull → IsFullBefore IsItemDue (scenario_seen pass.old) (history_seen pass.new) (most_of (seen_by pass.old)) }
 {
     others_leave_nodes::<D>();
     marks_add_up();
-    let busy = workers
-        .iter()
-        .filter(|worker| !worker.items.is_empty())
-        .count();
-    let threads = threads_for(busy, most_threads);
+    let round = Round {
+        alloc,
+        turn: Turn::Items,
+        busy: asked_sites(workers),
+    };
     deal(wire, workers, pass);
-    all_take_items(rt, alloc, wire, workers, threads);
+    all_take(rt, wire, gate, &round, most_threads, workers);
     gather(wire, workers, pass);
     ended(workers)
 }
 
-/// Each site takes packets, the least to it first, until none is pending to it.
+/// Each site takes packets, the least to it first, until none is pending to it. At first some are pending to the busy ones.
 pub(crate) fn packet_round<D: Disk + Drill + Drop + Send, G: Gate + Sync, R: Wait + Threads + Sync>(
     rt: &R,
     alloc: Global,
     wire: &Wire,
     gate: &G,
-    threads: usize,
+    busy: SiteSet,
+    most_threads: usize,
     pass: &mut WirePass,
     workers: &mut [Worker<D>],
 ) -> Result<(), RunFault>
-    requires threads { 0 < threads }
     requires crew { IsCrew D.content D.image D.meters wire.now pass.old workers.old }
     requires begun { lines (history_seen pass.old) ≢ 0 }
     requires delivering { Delivering (scenario_seen pass.old) (history_seen pass.old) }
     ensures crew { IsCrew D.content D.image D.meters wire.now pass.new workers.new }
     ensures on { HasGoneOn D.meters (seen_by pass.old) workers.old (seen_by pass.new) workers.new }
     ensures delivering { Delivering (scenario_seen pass.old) (history_seen pass.new) }
-    ensures full { result ≡ Err HistoryFull → IsFull (scenario_seen pass.old) (history_seen pass.new) (most_of (seen_by pass.old)) }
+    ensures full { result ≡ Err HistoryFull → IsFullBefore IsPacketDue (scenario_seen pass.old) (history_seen pass.new) (most_of (seen_by pass.old)) }
 {
     others_leave_nodes::<D>();
     marks_add_up();
+    let round = Round {
+        alloc,
+        turn: Turn::Packets,
+        busy,
+    };
     deal(wire, workers, pass);
-    all_take_packets(rt, alloc, wire, gate, workers, threads);
+    all_take(rt, wire, gate, &round, most_threads, workers);
     gather(wire, workers, pass);
     ended(workers)
 }

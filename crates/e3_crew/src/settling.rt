@@ -3,7 +3,7 @@ ghost use Rattle.std.specs.Prelude.{◌≡◌, ◌≢◌, ◌<◌, [], ℕ, true
 ghost use Rattle.e3_crew.specs.Crews.{HasGoneOn, IsCrew};
 ghost use Rattle.e3_crew.specs.declared.worker.Worker.{Worker as Workers};
 ghost use Rattle.e3_node.specs.Turns.{history_seen, scenario_seen};
-ghost use Rattle.e3_sites.specs.Delivered.{IsFull};
+ghost use Rattle.e3_sites.specs.Delivered.{IsFullBefore, IsItemOrPacket, IsPacketDue};
 ghost use Rattle.e3_sites.specs.Settled.{is_asking};
 ghost use Rattle.e3_sites.specs.declared.sites.RunFault.TheVariants.{HistoryFull};
 ghost use Rattle.e3_turn.specs.Passes.{seen_by};
@@ -14,29 +14,17 @@ ghost use Rattle.e3_world.specs.Progress.{Delivering};
 
 use crate::Worker;
 use crate::dropping::drop_down;
-use crate::rounds::{item_round, packet_round, threads_for};
+use crate::rounds::{item_round, packet_round};
 use e3_disk::{Disk, Drill};
+use e3_items::inputs_to;
 use e3_outside::Gate;
 use e3_sites::RunFault;
-use e3_types::{Input, List, NoMemory};
+use e3_types::NoMemory;
 use e3_wire::{Wire, WirePass};
 use e3_world::Addressed;
 use std::alloc::Global;
 use std::sync::Wait;
 use std::thread::Threads;
-
-// The inputs that go to a site, in their order.
-fn inputs_to(alloc: Global, inputs: &[Addressed], site: u32) -> Result<List<Input>, NoMemory>
-    ensures { IfOk result (λ items. items ≡ inputs_to site inputs.now) }
-{
-    let mut items = List::new(alloc);
-    for asked in inputs {
-        if asked.site == site {
-            items.push(asked.input.copy())?;
-        }
-    }
-    Ok(items)
-}
 
 // Gives each worker the inputs that go to its site.
 fn hand_out<D: Disk + Drill + Drop>(
@@ -49,7 +37,7 @@ fn hand_out<D: Disk + Drill + Drop>(
         (slice_index_or workers.new i d).items ≡ inputs_to (slice_index_or workers.old i d).node.site inputs.now) }
 {
     for worker in workers.iter_mut() {
-        let items = inputs_to(alloc, inputs, worker.node.site())?;
+        let items = inputs_to(alloc, inputs, worker.node.site() as u64)?;
         worker.items = items;
     }
     Ok(())
@@ -73,15 +61,13 @@ fn deliver<D: Disk + Drill + Drop + Send, G: Gate + Sync, R: Wait + Threads + Sy
     ensures on { HasGoneOn D.meters (seen_by pass.old) workers.old (seen_by pass.new) workers.new }
     ensures delivering { Delivering (scenario_seen pass.old) (history_seen pass.new) }
     ensures settled { OnOk result (pending (scenario_seen pass.old) (history_seen pass.new) ≡ []) }
-    ensures full { result ≡ Err HistoryFull → IsFull (scenario_seen pass.old) (history_seen pass.new) (most_of (seen_by pass.old)) }
+    ensures full { result ≡ Err HistoryFull → IsFullBefore IsPacketDue (scenario_seen pass.old) (history_seen pass.new) (most_of (seen_by pass.old)) }
 {
     for _ in rt.forever() {
-        let busy = drop_down(rt, wire, pass, workers)?;
-        if busy == 0 {
+        let Some(busy) = drop_down(rt, wire, pass, workers)? else {
             return Ok(());
-        }
-        let threads = threads_for(busy, most_threads);
-        packet_round(rt, alloc, wire, gate, threads, pass, workers)?;
+        };
+        packet_round(rt, alloc, wire, gate, busy, most_threads, pass, workers)?;
     }
     unreachable!()
 }
@@ -109,9 +95,9 @@ pub fn settle<D: Disk + Drill + Drop + Send, G: Gate + Sync, R: Wait + Threads +
     ensures on { HasGoneOn D.meters (seen_by pass.old) workers.old (seen_by pass.new) workers.new }
     ensures delivering { OnOk result (Delivering (scenario_seen pass.old) (history_seen pass.new)) }
     ensures settled { OnOk result (pending (scenario_seen pass.old) (history_seen pass.new) ≡ []) }
-    ensures full { result ≡ Err HistoryFull → IsFull (scenario_seen pass.old) (history_seen pass.new) (most_of (seen_by pass.old)) }
+    ensures full { result ≡ Err HistoryFull → IsFullBefore IsItemOrPacket (scenario_seen pass.old) (history_seen pass.new) (most_of (seen_by pass.old)) }
 {
     hand_out(alloc, workers, inputs)?;
-    item_round(rt, alloc, wire, most_threads, pass, workers)?;
+    item_round(rt, alloc, wire, gate, most_threads, pass, workers)?;
     deliver(rt, alloc, wire, gate, most_threads, pass, workers)
 }

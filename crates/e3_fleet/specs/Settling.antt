@@ -3,7 +3,7 @@ use Rattle.std.specs.Prelude.{◌≡◌, ◌≢◌, [], ℕ, true, List, OnOk, R
 use Rattle.e3_disk.specs.Meters.{Meters}
 use Rattle.e3_fleet.specs.Fleets.{FleetIsHeld, HaveKept, IsFleetOn, nodes_of}
 use Rattle.e3_fleet.specs.declared.fleet.Fleet.{Fleet}
-use Rattle.e3_sites.specs.Delivered.{IsFull}
+use Rattle.e3_sites.specs.Delivered.{IsFullBefore, IsItemOrPacket}
 use Rattle.e3_sites.specs.Settled.{StaysInStep, is_asking}
 use Rattle.e3_sites.specs.declared.sites.RunFault.{RunFault}
 use Rattle.e3_sites.specs.declared.sites.RunFault.TheVariants.{HistoryFull}
@@ -46,7 +46,7 @@ module _ {D : Type 0} (content : D → List ℕ) (image : D → List ℕ → Typ
     pub grown : StaysInStep (history_in was) (history_in now)
     pub delivering : OnOk answer (Delivering (scenario_in was) (history_in now))
     pub settled : OnOk answer (pending (scenario_in was) (history_in now) ≡ [])
-    pub full : answer ≡ Err HistoryFull → IsFull (scenario_in was) (history_in now) (most_in was)
+    pub full : answer ≡ Err HistoryFull → IsFullBefore IsItemOrPacket (scenario_in was) (history_in now) (most_in was)
 
 -- the second fleet's disks came to what they are from those of the first
 abbrev pub Since : {D : Type 0} → (D → Meters) → Fleet D → Fleet D → Type 0

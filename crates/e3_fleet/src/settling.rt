@@ -2,7 +2,7 @@
 ghost use Rattle.std.specs.Prelude.{◌≡◌, ◌≢◌, [], ℕ, true, OnOk, Err};
 ghost use Rattle.e3_fleet.specs.Fleets.{FleetStands, IsFleetOn, IsTaken, nodes_of};
 ghost use Rattle.e3_fleet.specs.Settling.{CanSettle, HasSettled};
-ghost use Rattle.e3_sites.specs.Delivered.{IsFull};
+ghost use Rattle.e3_sites.specs.Delivered.{IsFullBefore, IsItemOrPacket};
 ghost use Rattle.e3_sites.specs.Settled.{StaysInStep, is_asking};
 ghost use Rattle.e3_sites.specs.declared.sites.RunFault.TheVariants.{HistoryFull};
 ghost use Rattle.e3_wire.specs.Marks.{entries_of, most_of, scenario_of};
@@ -48,7 +48,7 @@ fn settled_by<D: Disk + Drill + Drop + Send, R: Wait + Threads + Sync, G: Gate +
     ensures grown { StaysInStep (entries_of held.shared) (entries_of result.0.shared) }
     ensures delivering { OnOk result.1 (Delivering (scenario_of held.shared) (entries_of result.0.shared)) }
     ensures settled { OnOk result.1 (pending (scenario_of held.shared) (entries_of result.0.shared) ≡ []) }
-    ensures full { result.1 ≡ Err HistoryFull → IsFull (scenario_of held.shared) (entries_of result.0.shared) (most_of held.shared) }
+    ensures full { result.1 ≡ Err HistoryFull → IsFullBefore IsItemOrPacket (scenario_of held.shared) (entries_of result.0.shared) (most_of held.shared) }
 {
     disks_are_counted::<D>();
     let Held {

@@ -1,13 +1,13 @@
 // The items of the present step: which inputs they ask of each site, and how far each site has come.
 ghost use Rattle.std.specs.Prelude.{◌≡◌, ◌||◌, ◌^◌, ◌<◌, ◌≤◌, ◌+◌, not, nat_le, suc, length, take, drop, count_by, if◌then◌else◌, IfOk};
 ghost use Rattle.std.specs.List.{list_any};
-ghost use Rattle.e3_world.specs.Items.{inputs_at, inputs_of, inputs_to, is_delivery, is_up_at, items_through, plan_of, since_line, taken_at, to_line, turn_of};
+ghost use Rattle.e3_world.specs.Items.{inputs_at, inputs_of, is_delivery, is_up_at, items_through, plan_of, since_line, taken_at, to_line, turn_of};
 ghost use Rattle.e3_world.specs.Packets.{is_line};
 ghost use Rattle.e3_world.specs.Progress.{up_behind};
 
 use crate::counts::add;
 use crate::packets::{is_line, present_items};
-use e3_items::{bind, inputs_asked, nothing_bound};
+use e3_items::{bind, inputs_asked, inputs_to, nothing_bound};
 use e3_types::{Act, Entry, Input, List, NoMemory, Scenario};
 use e3_world::Addressed;
 use std::alloc::Global;
@@ -60,19 +60,6 @@ fn plan_of(alloc: Global, sc: &Scenario, history: &[Entry]) -> Result<List<Addre
     inputs_asked(alloc, binding.bound.as_slice(), present_items(sc, start))
 }
 
-// The inputs of a plan that go to a site.
-fn inputs_to(alloc: Global, site: u64, plan: &[Addressed]) -> Result<List<Input>, NoMemory>
-    ensures { IfOk result (λ inputs. inputs ≡ inputs_to site plan.now) }
-{
-    let mut inputs = List::new(alloc);
-    for a in plan {
-        if a.site as u64 == site {
-            inputs.push(a.input.copy())?;
-        }
-    }
-    Ok(inputs)
-}
-
 /// The inputs of the present step that go to a site.
 pub fn inputs_at(
     alloc: Global,
@@ -83,7 +70,7 @@ pub fn inputs_at(
     ensures { IfOk result (λ inputs. inputs ≡ inputs_at sc.now history.now site) }
 {
     let plan = plan_of(alloc, sc, history)?;
-    inputs_to(alloc, site as u64, plan.as_slice())
+    inputs_to(alloc, plan.as_slice(), site as u64)
 }
 
 // The input is a delivery.
@@ -200,7 +187,7 @@ fn is_done(alloc: Global, sc: &Scenario, history: &[Entry], site: u64) -> Result
         return Ok(true);
     }
     let plan = plan_of(alloc, sc, history)?;
-    let inputs = inputs_to(alloc, site, plan.as_slice())?;
+    let inputs = inputs_to(alloc, plan.as_slice(), site)?;
     let turn = turn_at(history, site)?;
     Ok(inputs.len() <= turn)
 }

@@ -1,7 +1,7 @@
-// The inputs of items.
+// The inputs of items, and which of them go to a site.
 ghost use Rattle.std.specs.Prelude.{◌≡◌, ◌++◌, ◌∷◌, [], None, fold, filter_map, IfOk, option_copied};
 ghost use Rattle.e3_items.specs.Inputs.{input_by_name, input_for, input_with, name_in};
-ghost use Rattle.e3_world.specs.Items.{last_bound};
+ghost use Rattle.e3_world.specs.Items.{inputs_to, last_bound};
 
 use e3_types::{Input, Item, List, Name, NoMemory, Op, Txn};
 use e3_world::{Addressed, Bound};
@@ -125,6 +125,19 @@ pub fn inputs_asked(
     let mut inputs = List::new(alloc);
     for item in items {
         add_input(bound, item, &mut inputs)?;
+    }
+    Ok(inputs)
+}
+
+/// Those of these inputs that go to a site, in their order.
+pub fn inputs_to(alloc: Global, asked: &[Addressed], site: u64) -> Result<List<Input>, NoMemory>
+    ensures { IfOk result (λ inputs. inputs ≡ inputs_to site asked.now) }
+{
+    let mut inputs = List::new(alloc);
+    for a in asked {
+        if a.site as u64 == site {
+            inputs.push(a.input.copy())?;
+        }
     }
     Ok(inputs)
 }

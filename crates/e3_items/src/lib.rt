@@ -7,5 +7,5 @@ mod inputs;
 mod steps;
 
 pub use binding::{bind, nothing_bound};
-pub use inputs::inputs_asked;
+pub use inputs::{inputs_asked, inputs_to};
 pub use steps::step_items;

@@ -11,7 +11,7 @@ use Rattle.e3_types.specs.declared.scenarios.Leave.{Leave}
 use Rattle.e3_types.specs.declared.scenarios.Scenario.{Scenario}
 use Rattle.e3_world.specs.Items.{due_round, is_up_at, since_line}
 use Rattle.e3_world.specs.Legal.{IsCut, IsLegal, IsRising, IsWhole, has_rising, is_made, is_rising, may_rise}
-use Rattle.e3_world.specs.Packets.{all_sites, is_line, lines, outs_of, pending, present_items, step_items}
+use Rattle.e3_world.specs.Packets.{all_sites, is_calm, is_line, lines, outs_of, pending, present_items, step_items}
 use Rattle.e3_world.specs.Progress.{ItemsDone}
 use Rattle.e3_world.proofs.Guards.{lines_push, step_through}
 use Rattle.e3_world.proofs.Lines.{begin_step, lines_to}
@@ -20,8 +20,9 @@ use Rattle.e3_world.proofs.Turns.{self, true_not_false}
 use Rattle.e3_play.specs.Played.{IsAsked, IsFresh, IsSettled}
 use Rattle.e3_play.proofs.Quiet.{none_pending}
 use Rattle.e3_play.proofs.Steps.{step_settles}
-use Rattle.e3_sites.proofs.Bounds.{bounded, some_line, whole_parts}
-use Rattle.e3_sites.specs.Delivered.{ACut, ARise, IsFull}
+use Rattle.e3_sites.proofs.Bounds.{bounded, full_too, some_line, whole_parts}
+use Rattle.e3_sites.proofs.Steps.{same_step}
+use Rattle.e3_sites.specs.Delivered.{ACut, ARise, IsFull, IsFullBefore, IsOwed, IsPacketOrRound, OfRecovery}
 use Rattle.e3_sites.specs.Entering.{AfterRise}
 use Rattle.e3_sites.specs.Settled.{StaysInStep, is_asking}
 use Rattle.e3_world.specs.Progress.{Delivering}
@@ -187,3 +188,9 @@ exchange_settles sc start asked last items fresh form was grown done none =
     let line : (k : ℕ) × (lines start ≡ suc k) = some_line (lines start) fresh.begun in
     let Q : ℕ → Type 0 = λ m. IsSettled sc last m in
     subst Q (sym line.1) (step_settles sc start asked last line.0 items line.1 fresh form was grown done none)
+
+-- a recovery that is not through lacks a packet or a round
+pub recovery_full : (sc : Scenario) (h next : List Entry) (group : List ℕ) (most : ℕ) → IsFresh sc h (item.Recover group ∷ []) → StaysInStep h next →
+    IsFullBefore IsPacketOrRound sc next most → IsFull sc next most
+recovery_full sc h next group most was stays full = full_too IsPacketOrRound IsOwed sc next most
+    (λ due. OfRecovery (ap is_calm ((same_step sc h next stays).present ∙ was.present)) due) full

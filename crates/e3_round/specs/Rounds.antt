@@ -1,12 +1,12 @@
 -- The rounds of a recovery step, and what comes of one.
-use Rattle.std.specs.Prelude.{◌≡◌, ◌≢◌, ◌⊎◌, ◌∷◌, [], ℕ, true, false, List, None}
+use Rattle.std.specs.Prelude.{◌≡◌, ◌⊎◌, ◌∷◌, [], ℕ, true, false, List}
 use Rattle.e3_sites.specs.Delivered.{Delivers}
 use Rattle.e3_sites.specs.Entering.{AfterInput}
 use Rattle.e3_types.specs.declared.entries.Entry.{Entry}
 use Rattle.e3_types.specs.declared.entries.Input.TheVariants as input
 use Rattle.e3_types.specs.declared.scenarios.Scenario.{Scenario}
 use Rattle.e3_types.specs.declared.transactions.Txn.{Txn}
-use Rattle.e3_world.specs.Items.{RecoveryRound, due_round, is_up_at}
+use Rattle.e3_world.specs.Items.{RecoveryRound, is_up_at}
 use Rattle.e3_world.specs.Packets.{pending}
 
 -- the round of a transaction by the members that are up and its sites: none without such a member; else the least elects
@@ -30,7 +30,3 @@ pub record IsPassed (history : List Entry) (r : RecoveryRound) (more : List Entr
 -- what comes of a round at its turn
 abbrev pub AfterRound : Scenario → List Entry → RecoveryRound → List Entry → Type 0
 AfterRound sc history r more = IsMade sc history r more ⊎ IsPassed history r more
-
--- what is due is a packet or a round
-abbrev pub IsPacketOrRound : Scenario → List Entry → Type 0
-IsPacketOrRound sc history = (pending sc history ≢ []) ⊎ (due_round sc history ≢ None)

@@ -1,8 +1,8 @@
 // The rounds of a recovery step.
 ghost use Rattle.std.specs.Prelude.{◌≡◌, ◌≢◌, ◌≤◌, ◌∷◌, [], drop, length, true, Some, IfOk, OnOk, Err};
 ghost use Rattle.e3_round.specs.Reports.{HadTurns, IsRecovered, IsReport};
-ghost use Rattle.e3_round.specs.Rounds.{AfterRound, IsPacketOrRound};
-ghost use Rattle.e3_sites.specs.Delivered.{IsFull};
+ghost use Rattle.e3_round.specs.Rounds.{AfterRound};
+ghost use Rattle.e3_sites.specs.Delivered.{IsFullBefore, IsPacketOrRound};
 ghost use Rattle.e3_sites.specs.Settled.{StaysInStep};
 ghost use Rattle.e3_sites.specs.declared.sites.RunFault.TheVariants.{HistoryFull};
 ghost use Rattle.e3_types.specs.declared.scenarios.Item.TheVariants as item;
@@ -29,8 +29,7 @@ fn make_round<S: Sites>(sites: &mut S, round: &RecoveryRound) -> Result<(), RunF
     ensures same { (S.scenario sites.new ≡ S.scenario sites.old) × (S.most sites.new ≡ S.most sites.old) }
     ensures grown { StaysInStep (S.entries sites.old) (S.entries sites.new) }
     ensures made { OnOk result (AfterRound (S.scenario sites.old) (S.entries sites.old) round.now (S.entries sites.new)) }
-    ensures full { result ≡ Err HistoryFull → IsFull (S.scenario sites.old) (S.entries sites.new) (S.most sites.old) }
-    ensures which { result ≡ Err HistoryFull → IsPacketOrRound (S.scenario sites.old) (S.entries sites.new) }
+    ensures full { result ≡ Err HistoryFull → IsFullBefore IsPacketOrRound (S.scenario sites.old) (S.entries sites.new) (S.most sites.old) }
 {
     if !sites.is_up(round.elector) {
         return Ok(());
@@ -67,8 +66,7 @@ fn take_turn<S: Sites>(sites: &mut S, round: &RecoveryRound) -> Result<RoundRepo
     ensures grown { StaysInStep (S.entries sites.old) (S.entries sites.new) }
     ensures made { OnOk result (AfterRound (S.scenario sites.old) (S.entries sites.old) round.now (S.entries sites.new)) }
     ensures told { IfOk result (λ report. IsReport (S.entries sites.old) (S.entries sites.new) round.now report) }
-    ensures full { result ≡ Err HistoryFull → IsFull (S.scenario sites.old) (S.entries sites.new) (S.most sites.old) }
-    ensures which { result ≡ Err HistoryFull → IsPacketOrRound (S.scenario sites.old) (S.entries sites.new) }
+    ensures full { result ≡ Err HistoryFull → IsFullBefore IsPacketOrRound (S.scenario sites.old) (S.entries sites.new) (S.most sites.old) }
 {
     let from = sites.history().len();
     make_round(sites, round)?;
@@ -97,8 +95,7 @@ pub fn recover<S: Sites>(
     ensures recovered { OnOk result (IsRecovered (S.scenario sites.old) (S.entries sites.old) (S.entries sites.new)) }
     ensures rounds { IfOk result (λ reports. HadTurns (S.scenario sites.old) (S.entries sites.old) (S.entries sites.new)
         (listed (S.scenario sites.old) (S.entries sites.old) group) reports) }
-    ensures full { result ≡ Err HistoryFull → IsFull (S.scenario sites.old) (S.entries sites.new) (S.most sites.old) }
-    ensures which { result ≡ Err HistoryFull → IsPacketOrRound (S.scenario sites.old) (S.entries sites.new) }
+    ensures full { result ≡ Err HistoryFull → IsFullBefore IsPacketOrRound (S.scenario sites.old) (S.entries sites.new) (S.most sites.old) }
 {
     let rounds = listed(alloc, sites, group)?;
     let mut reports = List::new(alloc);

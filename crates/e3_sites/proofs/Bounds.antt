@@ -5,14 +5,24 @@ use Rattle.std.specs.List.{list_all}
 use Rattle.e3_types.specs.declared.entries.Entry.{Entry}
 use Rattle.e3_types.specs.declared.messages.Packet.{Packet}
 use Rattle.e3_types.specs.declared.scenarios.Scenario.{Scenario}
-use Rattle.e3_world.specs.Legal.{IsWhole, has_rising, is_made, is_through}
+use Rattle.e3_world.specs.Legal.{IsWhole, first_pending, has_rising, is_made, is_through}
 use Rattle.e3_world.specs.Packets.{all_sites, lines, pending}
-use Rattle.e3_world.proofs.Turns.{true_not_false}
-use Rattle.e3_sites.specs.Delivered.{APacket, IsFull, IsOwed}
+use Rattle.e3_world.specs.Progress.{Delivering}
+use Rattle.e3_world.proofs.Turns.{through, true_not_false}
+use Rattle.e3_sites.specs.Delivered.{IsFull, IsFullBefore, IsOwed, IsPacketDue}
 
 -- at the bound
+pub bounded_before : (owes : Scenario → List Entry → Type 0) (sc : Scenario) (h : List Entry) (most : ℕ) → length h ≤ most → most ≤ length h → owes sc h → ¬ IsWhole sc h →
+    IsFullBefore owes sc h most
+bounded_before owes sc h most few many owed unmade = record { full = omega (arith, few, many); owed = owed; unfinished = unmade }
+
 pub bounded : (sc : Scenario) (h : List Entry) (most : ℕ) → length h ≤ most → most ≤ length h → IsOwed sc h → ¬ IsWhole sc h → IsFull sc h most
-bounded sc h most few many owed unmade = record { full = omega (arith, few, many); owed = owed; unfinished = unmade }
+bounded sc h most few many owed unmade = bounded_before IsOwed sc h most few many owed unmade
+
+-- a full history of one kind is one of more kinds
+pub full_too : (one more : Scenario → List Entry → Type 0) (sc : Scenario) (h : List Entry) (most : ℕ) → (one sc h → more sc h) → IsFullBefore one sc h most →
+    IsFullBefore more sc h most
+full_too one more sc h most widen was = record { full = was.full; owed = widen was.owed; unfinished = was.unfinished }
 
 through_parts : (sc : Scenario) (h : List Entry) (n : ℕ) → lines h ≡ suc n → is_through sc h ≡ true → (pending sc h ≡ []) × (is_made sc h ≡ true)
 through_parts sc h n line all = by (pending sc h) refl
@@ -47,12 +57,13 @@ pub packet_open : (sc : Scenario) (h : List Entry) (p : Packet) → lines h ≢ 
 packet_open sc h p begun first whole = let none : pending sc h ≡ [] = (whole_parts sc h begun whole).0 in
     absurd (let same : slice_get (pending sc h) 0 ≡ None = ap (λ ps. slice_get ps 0) none in let both : Some p ≡ None = sym first ∙ same in cc)
 
-pub packet_full : (sc : Scenario) (h : List Entry) (p : Packet) (most : ℕ) → length h ≤ most → most ≤ length h → lines h ≢ 0 → slice_get (pending sc h) 0 ≡ Some p →
-    IsFull sc h most
-packet_full sc h p most few many begun first = bounded sc h most few many (APacket p first) (packet_open sc h p begun first)
+-- and it is due, where all items are through
+pub packet_owed : (sc : Scenario) (h : List Entry) (p : Packet) → Delivering sc h → first_pending sc h ≡ Some p → IsPacketDue sc h
+packet_owed sc h p was first = record { packet = p; first = first; through = through sc h was.done }
 
-pub some_pending : (ps : List Packet) (p : Packet) → slice_get ps 0 ≡ Some p → ps ≢ []
-some_pending ps p first none = absurd (let same : slice_get ps 0 ≡ None = ap (λ l. slice_get l 0) none in let both : Some p ≡ None = sym first ∙ same in cc)
+pub packet_full : (sc : Scenario) (h : List Entry) (most : ℕ) → length h ≤ most → most ≤ length h → lines h ≢ 0 → IsPacketDue sc h →
+    IsFullBefore IsPacketDue sc h most
+packet_full sc h most few many begun due = bounded_before IsPacketDue sc h most few many due (packet_open sc h due.packet begun due.first)
 
 -- what a refusal leaves, in the words of the program's calls
 pub refused : {T E : Type 0} (P : Type 0) (result : Result T E) (e : E) → result ≡ Err e → OnErr result P → P

@@ -2,4 +2,3 @@ pub mod Packets
 pub mod Bounds
 pub mod Steps
 pub mod Open
-pub mod Turns

@@ -16,13 +16,12 @@ use Rattle.e3_world.specs.Legal.{Guard, IsLegal, IsNextItem, IsWhole, LegalAfter
 use Rattle.e3_world.specs.Moves.{own}
 use Rattle.e3_world.specs.Packets.{is_calm, lines, present_items, sites_to, step_items}
 use Rattle.e3_world.specs.Progress.{up_behind}
-use Rattle.e3_world.specs.declared.names.Addressed.{Addressed}
 use Rattle.e3_world.proofs.Guards.{up_some}
 use Rattle.e3_world.proofs.Lines.{lines_to}
 use Rattle.e3_world.proofs.Turns.{true_not_false}
-use Rattle.e3_sites.specs.Delivered.{AnItem, IsFull}
+use Rattle.e3_sites.specs.Delivered.{IsFullBefore, IsItemDue}
 use Rattle.e3_sites.specs.Settled.{is_asking}
-use Rattle.e3_sites.proofs.Bounds.{bounded, whole_parts}
+use Rattle.e3_sites.proofs.Bounds.{bounded_before, whole_parts}
 
 -- a test that all sites pass is passed by each
 pick : (p : ℕ → Bool) (n k : ℕ) → k < suc n → list_all p (suc n ∷ []) ≡ true → (k < n → p (suc k) ≡ true) → p (suc k) ≡ true
@@ -140,7 +139,7 @@ item_open sc h s i legal begun asks up next whole = by (made_or_none sc h (to_li
     by (inl made) = some_left sc h s i legal up next (sym made ∙ (whole_parts sc h begun whole).1)
     by (inr none) = none_asked sc h s i (ap (filter_map (input_of sc (to_line h))) present ∙ none) next
 
-pub item_full : (sc : Scenario) (h : List Entry) (a : Addressed) (most : ℕ) → IsLegal sc h → lines h ≢ 0 → is_asking (present_items sc h) ≡ true →
-    is_up_at h a.site ≡ true → IsNextItem sc h a.site a.input → length h ≤ most → most ≤ length h → IsFull sc h most
-item_full sc h a most legal begun asks up next few many =
-    bounded sc h most few many (AnItem a.site a.input up next) (item_open sc h a.site a.input legal begun asks up next)
+pub item_full : (sc : Scenario) (h : List Entry) (most : ℕ) (due : IsItemDue sc h) → IsLegal sc h → lines h ≢ 0 → is_asking (present_items sc h) ≡ true →
+    length h ≤ most → most ≤ length h → IsFullBefore IsItemDue sc h most
+item_full sc h most due legal begun asks few many =
+    bounded_before IsItemDue sc h most few many due (item_open sc h due.site due.item legal begun asks due.up due.next)

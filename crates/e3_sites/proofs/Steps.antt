@@ -14,8 +14,7 @@ use Rattle.e3_world.proofs.Turns.{true_not_false}
 use Rattle.e3_sites.specs.Delivered.{Delivers, Nothing, Then}
 use Rattle.e3_sites.specs.Entering.{AfterInput, fall_of}
 use Rattle.e3_world.specs.Legal.{entry_of}
-use Rattle.e3_world.specs.declared.names.Addressed.{Addressed}
-use Rattle.e3_sites.specs.Settled.{AfterTurn, StaysInStep}
+use Rattle.e3_sites.specs.Settled.{StaysInStep}
 use Rattle.e3_sites.proofs.Packets.{IsOneMore, packet_is_one}
 
 pub stays_none : (h : List Entry) → StaysInStep h h
@@ -82,7 +81,3 @@ delivers_stays sc start now (Then h more p before first after) =
 pub input_stays : (sc : Scenario) (h next : List Entry) (site : ℕ) (i : Input) → AfterInput sc h site i next → StaysInStep h next
 input_stays sc h next site i (inl stepped) = stays_one h next (entry_of sc h site i) stepped refl
 input_stays sc h next site i (inr fell) = stays_one h next (fall_of sc h site i fell.why) fell.entered refl
-
-pub turn_stays : (sc : Scenario) (h next : List Entry) (a : Addressed) → AfterTurn sc h a next → StaysInStep h next
-turn_stays sc h next a (inl taken) = input_stays sc h next a.site a.input taken.after
-turn_stays sc h next a (inr passed) = stays_kept h next passed.after

@@ -1,7 +1,7 @@
 // The packets of a step, the least number first, until none is pending.
 ghost use Rattle.std.specs.Prelude.{◌≡◌, ◌≢◌, [], Some, slice_get, OnOk, OnErr, Err};
 ghost use Rattle.e3_sites.specs.Entering.{AfterPacket};
-ghost use Rattle.e3_sites.specs.Delivered.{Delivers, IsFull};
+ghost use Rattle.e3_sites.specs.Delivered.{Delivers, IsFullBefore, IsPacketDue};
 ghost use Rattle.e3_sites.specs.declared.sites.RunFault.TheVariants.{HistoryFull};
 ghost use Rattle.e3_world.specs.Packets.{pending, lines, present_items};
 ghost use Rattle.e3_world.specs.Items.{items_through, to_line};
@@ -23,8 +23,7 @@ fn deliver<S: Sites>(sites: &mut S, packet: Packet) -> Result<(), RunFault>
     ensures same { (S.scenario sites.new ≡ S.scenario sites.old) × (S.most sites.new ≡ S.most sites.old) }
     ensures entered { OnOk result (AfterPacket (S.scenario sites.old) (S.entries sites.old) packet (S.entries sites.new)) }
     ensures kept { OnErr result (S.entries sites.new ≡ S.entries sites.old) }
-    ensures full { result ≡ Err HistoryFull → IsFull (S.scenario sites.old) (S.entries sites.new) (S.most sites.old) }
-    ensures packet { result ≡ Err HistoryFull → pending (S.scenario sites.old) (S.entries sites.new) ≢ [] }
+    ensures full { result ≡ Err HistoryFull → IsFullBefore IsPacketDue (S.scenario sites.old) (S.entries sites.new) (S.most sites.old) }
 {
     let site = packet.to;
     if sites.is_up(site) {
@@ -46,8 +45,7 @@ pub fn deliver_all<S: Sites>(sites: &mut S) -> Result<(), RunFault>
     ensures delivered { Delivers (S.scenario sites.old) (S.entries sites.old) (S.entries sites.new) }
     ensures delivering { Delivering (S.scenario sites.old) (S.entries sites.new) }
     ensures settled { OnOk result (pending (S.scenario sites.old) (S.entries sites.new) ≡ []) }
-    ensures full { result ≡ Err HistoryFull → IsFull (S.scenario sites.old) (S.entries sites.new) (S.most sites.old) }
-    ensures packet { result ≡ Err HistoryFull → pending (S.scenario sites.old) (S.entries sites.new) ≢ [] }
+    ensures full { result ≡ Err HistoryFull → IsFullBefore IsPacketDue (S.scenario sites.old) (S.entries sites.new) (S.most sites.old) }
 {
     taking_lowers_the_measure();
     while let Some(packet) = sites.first() {

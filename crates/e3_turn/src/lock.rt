@@ -13,6 +13,7 @@ use std::alloc::Global;
 use std::marker::Model;
 use std::snapshot::Snapshot;
 use std::sync::Wait;
+use std::thread;
 
 // The words of the table: tickets drawn, and tickets served.
 const DRAWN: usize = 0;
@@ -21,6 +22,9 @@ const SERVED: usize = 1;
 
 // The slot of the table.
 const VALUE: usize = 0;
+
+// How often a pass looks before it sleeps: to be woken costs more than the turn of another takes.
+const LOOKS: u32 = 100;
 
 /// What one caller knows of the lock: the owners that it speaks for, the chronicle that it has seen, and whether it has
 /// the turn. It has no bytes, and may go to another thread.
@@ -93,6 +97,22 @@ impl<V: Chronicle + Drop> TurnLock<V> {
         if found == ticket { None } else { Some(found) }
     }
 
+    // Looks some times, and lets other threads go on in between.
+    fn look_on(&self, pass: &mut Pass<V>, ticket: u64) -> Option<u64>
+        requires own { pass.old.table_id ≡ self.now }
+        requires waits { Waits pass.old.me × (ticket ≡ pass.old.me.0.ticket % 2 ^ 64) }
+        ensures own { pass.new.table_id ≡ self.now }
+        ensures told { MatchOption result (Took V.marks V.belongs pass.old.me pass.new.me) (λ _. pass.new.me ≡ pass.old.me) }
+    {
+        for _ in 0..LOOKS {
+            if self.look(pass, ticket).is_none() {
+                return None;
+            }
+            thread::yield_now();
+        }
+        self.look(pass, ticket)
+    }
+
     // Waits until the pass has the turn.
     fn wait<R: Wait>(&self, rt: &R, pass: &mut Pass<V>, ticket: u64)
         requires own { pass.old.table_id ≡ self.now }
@@ -101,7 +121,7 @@ impl<V: Chronicle + Drop> TurnLock<V> {
         ensures turn { Took V.marks V.belongs pass.old.me pass.new.me }
     {
         for _ in rt.forever() {
-            match self.look(pass, ticket) {
+            match self.look_on(pass, ticket) {
                 None => return,
                 Some(found) => self
                     .table

@@ -79,4 +79,4 @@ returns-in_err-dropped-clause-full g c = λ is.
     c.put.ensures.idle (same_owners c.args.pass.now c.take-shared.new.pass c.put.new.pass c.take-shared.ensures.same c.put.ensures.same) c.put.ensures.played in
     drop_full c.marks_add_up.ensures.none (seen_by c.args.pass.now) (seen_by c.put.new.pass) c.requires.crew.played c.put.ensures.played
     (came c.args.pass.now c.put.new.pass c.take-shared.result c.drop_in-dropped.new.shared c.requires.crew.all c.take-shared.ensures.grew c.drop_in-dropped.ensures.dropped c.put.ensures.seen)
-    crew.none c.requires.begun (subst DropHadNoRoom (sym c.put.ensures.seen) (c.drop_in-dropped.ensures.full full))
+    crew.none c.requires.begun c.requires.delivering (subst DropHadNoRoom (sym c.put.ensures.seen) (c.drop_in-dropped.ensures.full full))

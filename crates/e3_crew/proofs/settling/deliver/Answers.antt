@@ -1,6 +1,7 @@
 use Rattle.std.proofs.Common.{rules, ◌≡◌, Err, refl}
 use Rattle.e3_crew.proofs.Further.{begun_on, delivering_back, delivering_on, full_on, gone_further, gone_none, settled_on}
 use Rattle.e3_node.specs.Turns.{history_seen, scenario_seen}
+use Rattle.e3_sites.specs.Delivered.{IsPacketDue}
 use Rattle.e3_sites.specs.declared.sites.RunFault.TheVariants.{HistoryFull}
 use Rattle.e3_turn.specs.Passes.{seen_by}
 use Rattle.e3_crew.proofs.settling.deliver.Goals as goal
@@ -36,11 +37,11 @@ loop-preserved g c = record {
       delivering_on (seen_by c.args.pass.now) (seen_by c.drop_down.new.pass) on.scenario (history_seen c.packet_round.new.pass) c.packet_round.ensures.delivering);
 }
 
-pub returns-then-busy-eq0-clause-on : goal.returns-then-busy-eq0-clause-on
-returns-then-busy-eq0-clause-on g c = (gone_further g.D.Disk.meters (seen_by c.args.pass.now) (seen_by c.loop.pass) (seen_by c.drop_down.new.pass) c.args.workers.now c.loop.workers c.loop.workers c.loop.invariant.on c.drop_down.ensures.on)
+pub returns-in_default-clause-on : goal.returns-in_default-clause-on
+returns-in_default-clause-on g c = (gone_further g.D.Disk.meters (seen_by c.args.pass.now) (seen_by c.loop.pass) (seen_by c.drop_down.new.pass) c.args.workers.now c.loop.workers c.loop.workers c.loop.invariant.on c.drop_down.ensures.on)
 
-pub returns-then-busy-eq0-clause-delivering : goal.returns-then-busy-eq0-clause-delivering
-returns-then-busy-eq0-clause-delivering g c = delivering_on (seen_by c.args.pass.now) (seen_by c.loop.pass) c.loop.invariant.on.scenario (history_seen c.drop_down.new.pass) c.drop_down.ensures.delivering
+pub returns-in_default-clause-delivering : goal.returns-in_default-clause-delivering
+returns-in_default-clause-delivering g c = delivering_on (seen_by c.args.pass.now) (seen_by c.loop.pass) c.loop.invariant.on.scenario (history_seen c.drop_down.new.pass) c.drop_down.ensures.delivering
 
 pub returns-in_err-busy-clause-on : goal.returns-in_err-busy-clause-on
 returns-in_err-busy-clause-on g c = (gone_further g.D.Disk.meters (seen_by c.args.pass.now) (seen_by c.loop.pass) (seen_by c.drop_down.new.pass) c.args.workers.now c.loop.workers c.loop.workers c.loop.invariant.on c.drop_down.ensures.on)
@@ -48,13 +49,13 @@ returns-in_err-busy-clause-on g c = (gone_further g.D.Disk.meters (seen_by c.arg
 pub returns-in_err-busy-clause-delivering : goal.returns-in_err-busy-clause-delivering
 returns-in_err-busy-clause-delivering g c = delivering_on (seen_by c.args.pass.now) (seen_by c.loop.pass) c.loop.invariant.on.scenario (history_seen c.drop_down.new.pass) c.drop_down.ensures.delivering
 
-pub returns-then-busy-eq0-clause-settled : goal.returns-then-busy-eq0-clause-settled
-returns-then-busy-eq0-clause-settled g c = settled_on (seen_by c.args.pass.now) (seen_by c.loop.pass) c.loop.invariant.on.scenario (history_seen c.drop_down.new.pass) (c.in_ok-busy.ensures.none (search rules))
+pub returns-in_default-clause-settled : goal.returns-in_default-clause-settled
+returns-in_default-clause-settled g c = settled_on (seen_by c.args.pass.now) (seen_by c.loop.pass) c.loop.invariant.on.scenario (history_seen c.drop_down.new.pass) (c.in_ok-busy.ensures.none (search rules))
 
 pub returns-in_err-busy-clause-full : goal.returns-in_err-busy-clause-full
 returns-in_err-busy-clause-full g c = λ is.
     let full : c.drop_down.result ≡ Err HistoryFull = search rules in
-    full_on (seen_by c.args.pass.now) (seen_by c.loop.pass) c.loop.invariant.on.scenario c.loop.invariant.on.most (history_seen c.drop_down.new.pass) (c.drop_down.ensures.full full)
+    full_on IsPacketDue (seen_by c.args.pass.now) (seen_by c.loop.pass) c.loop.invariant.on.scenario c.loop.invariant.on.most (history_seen c.drop_down.new.pass) (c.drop_down.ensures.full full)
 
 pub returns-in_err-packet_round-clause-on : goal.returns-in_err-packet_round-clause-on
 returns-in_err-packet_round-clause-on g c = (gone_further g.D.Disk.meters (seen_by c.args.pass.now) (seen_by c.drop_down.new.pass) (seen_by c.packet_round.new.pass) c.args.workers.now c.loop.workers c.packet_round.new.workers (gone_further g.D.Disk.meters (seen_by c.args.pass.now) (seen_by c.loop.pass) (seen_by c.drop_down.new.pass) c.args.workers.now c.loop.workers c.loop.workers c.loop.invariant.on c.drop_down.ensures.on) c.packet_round.ensures.on)
@@ -68,4 +69,4 @@ pub returns-in_err-packet_round-clause-full : goal.returns-in_err-packet_round-c
 returns-in_err-packet_round-clause-full g c = λ is.
     let on = (gone_further g.D.Disk.meters (seen_by c.args.pass.now) (seen_by c.loop.pass) (seen_by c.drop_down.new.pass) c.args.workers.now c.loop.workers c.loop.workers c.loop.invariant.on c.drop_down.ensures.on) in
     let full : c.packet_round.result ≡ Err HistoryFull = search rules in
-    full_on (seen_by c.args.pass.now) (seen_by c.drop_down.new.pass) on.scenario on.most (history_seen c.packet_round.new.pass) (c.packet_round.ensures.full full)
+    full_on IsPacketDue (seen_by c.args.pass.now) (seen_by c.drop_down.new.pass) on.scenario on.most (history_seen c.packet_round.new.pass) (c.packet_round.ensures.full full)

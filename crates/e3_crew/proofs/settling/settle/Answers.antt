@@ -1,9 +1,12 @@
-use Rattle.std.proofs.Common.{◌≡◌, ◌+◌, ◌<◌, ◌∙◌, [], ℕ, ap, arith, length, subst}
+use Rattle.std.proofs.Common.{◌≡◌, ◌+◌, ◌<◌, ◌∙◌, [], ℕ, ap, arith, inl, inr, length, rules, subst}
 use Rattle.std.specs.Prelude.{OnOk}
 use Rattle.e3_crew.proofs.Further.{begun_on, crew_same, delivering_back, delivering_on, full_on, gone_further, gone_none, ok_of}
 use Rattle.e3_node.specs.Turns.{history_seen, scenario_seen}
+use Rattle.e3_sites.specs.Delivered.{IsFullBefore, IsItemDue, IsItemOrPacket, IsPacketDue}
+use Rattle.e3_sites.proofs.Bounds.{full_too}
 use Rattle.e3_turn.specs.Passes.{seen_by}
 use Rattle.e3_types.specs.declared.scenarios.Scenario.{Scenario}
+use Rattle.e3_wire.specs.Marks.{most_of}
 use Rattle.e3_world.specs.Items.{inputs_to}
 use Rattle.e3_world.specs.Packets.{pending}
 use Rattle.e3_crew.proofs.settling.settle.Goals as goal
@@ -45,6 +48,15 @@ returns-clause-settled g c =
     let P : Scenario → Type 0 = λ sc. OnOk c.deliver.result (pending sc (history_seen c.deliver.new.pass) ≡ []) in
     subst P c.item_round.ensures.on.scenario c.deliver.ensures.settled
 
+pub returns-in_err-item_round-clause-full : goal.returns-in_err-item_round-clause-full
+returns-in_err-item_round-clause-full g c = λ is.
+    let sc = scenario_seen c.args.pass.now in
+    let h = history_seen c.item_round.new.pass in
+    let most = most_of (seen_by c.args.pass.now) in
+    let full : IsFullBefore IsItemDue sc h most = search rules in
+    full_too IsItemDue IsItemOrPacket sc h most (λ due. inl due) full
+
 pub returns-clause-full : goal.returns-clause-full
 returns-clause-full g c = λ is.
-    full_on (seen_by c.args.pass.now) (seen_by c.item_round.new.pass) c.item_round.ensures.on.scenario c.item_round.ensures.on.most (history_seen c.deliver.new.pass) (c.deliver.ensures.full is)
+    full_on IsItemOrPacket (seen_by c.args.pass.now) (seen_by c.item_round.new.pass) c.item_round.ensures.on.scenario c.item_round.ensures.on.most (history_seen c.deliver.new.pass)
+    (full_too IsPacketDue IsItemOrPacket (scenario_seen c.item_round.new.pass) (history_seen c.deliver.new.pass) (most_of (seen_by c.item_round.new.pass)) (λ due. inr due) (c.deliver.ensures.full is))

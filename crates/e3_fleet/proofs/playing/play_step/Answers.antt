@@ -1,12 +1,15 @@
-use Rattle.std.proofs.Common.{◌≡◌, ◌∙◌, [], ℕ, suc, true, List, sym, subst}
+use Rattle.std.proofs.Common.{◌≡◌, ◌∙◌, [], ℕ, suc, true, List, ap, sym, subst}
 use Rattle.std.specs.Prelude.{MatchOption, Option}
 use Rattle.e3_fleet.specs.Settling.{history_in, most_in, scenario_in}
 use Rattle.e3_fleet.proofs.playing.play_step.Goals as goal
 use Rattle.e3_play.specs.Played.{IsReady, IsSettled}
 use Rattle.e3_play.proofs.Answered.{always, on_ok_two}
 use Rattle.e3_play.proofs.Knowing.{knows_step}
-use Rattle.e3_sites.specs.Delivered.{IsFull}
-use Rattle.e3_sites.specs.Settled.{is_asking}
+use Rattle.e3_sites.specs.Delivered.{IsFull, IsFullBefore, IsItemOrPacket, IsOwed, OfSites}
+use Rattle.e3_sites.specs.Settled.{StaysInStep, is_asking}
+use Rattle.e3_sites.proofs.Bounds.{full_too}
+use Rattle.e3_sites.proofs.Steps.{same_step}
+use Rattle.e3_types.specs.declared.entries.Entry.{Entry}
 use Rattle.e3_types.specs.declared.scenarios.Scenario.{Scenario}
 use Rattle.e3_world.specs.Items.{plan_of}
 use Rattle.e3_world.specs.Packets.{pending, present_items}
@@ -53,13 +56,21 @@ returns-in-Some-clause-settles g c =
     (λ done none. ready.settles (history_in last) c.settle_fleet.ensures.grown (subst (λ (k : Scenario). Delivering k (history_in last)) same done) (subst (λ (k : Scenario). pending k (history_in last) ≡ []) same none))
     c.settle_fleet.ensures.delivering c.settle_fleet.ensures.settled
 
+-- a step of sites that is not through lacks an item or a packet
+sites_full : (sc : Scenario) (h next : List Entry) (most : ℕ) → is_asking (present_items sc h) ≡ true → StaysInStep h next → IsFullBefore IsItemOrPacket sc next most → IsFull sc next most
+sites_full sc h next most asks stays full = full_too IsItemOrPacket IsOwed sc next most (λ due. OfSites (ap is_asking (same_step sc h next stays).present ∙ asks) due) full
+
 pub returns-in-Some-clause-full : goal.returns-in-Some-clause-full
 returns-in-Some-clause-full g c = λ is.
     let mid = c.begin_step.new.sites in
     let last = c.settle_fleet.new.fleet in
-    let P : Scenario → Type 0 = λ k. IsFull k (history_in last) (most_in c.args.fleet.now) in
-    let Q : ℕ → Type 0 = λ most. IsFull (scenario_in mid) (history_in last) most in
-    subst P (c.begin_step.ensures.same.0 ∙ c.requires.played) (subst Q c.begin_step.ensures.same.1 (c.settle_fleet.ensures.full is))
+    let sc = c.args.scenario.now in
+    let M : Option (List Addressed) → Type 0 = λ a. MatchOption a (IsSettled sc (history_in mid) (suc c.args.done)) (λ inputs. IsReady sc (suc c.args.done) (history_in mid) inputs) in
+    let ready : IsReady sc (suc c.args.done) (history_in mid) c.in-Some.inputs = subst M c.in-Some.is c.in_ok-asked.ensures.begun in
+    let P : Scenario → Type 0 = λ k. IsFullBefore IsItemOrPacket k (history_in last) (most_in c.args.fleet.now) in
+    let Q : ℕ → Type 0 = λ most. IsFullBefore IsItemOrPacket (scenario_in mid) (history_in last) most in
+    sites_full sc (history_in mid) (history_in last) (most_in c.args.fleet.now) ready.form c.settle_fleet.ensures.grown
+    (subst P (c.begin_step.ensures.same.0 ∙ c.requires.played) (subst Q c.begin_step.ensures.same.1 (c.settle_fleet.ensures.full is)))
 
 pub returns-in-None-clause-settles : goal.returns-in-None-clause-settles
 returns-in-None-clause-settles g c =

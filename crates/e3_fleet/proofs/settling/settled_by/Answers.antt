@@ -6,7 +6,7 @@ use Rattle.e3_fleet.specs.Fleets.{FleetStands, IsFleetOn, nodes_of}
 use Rattle.e3_fleet.proofs.Holding.{crew_of, filled, may_put, nothing_added, taken_again, told_of}
 use Rattle.e3_fleet.proofs.Working.{crew_on}
 use Rattle.e3_fleet.proofs.settling.settled_by.Goals as goal
-use Rattle.e3_sites.specs.Delivered.{IsFull}
+use Rattle.e3_sites.specs.Delivered.{IsFullBefore, IsItemOrPacket}
 use Rattle.e3_sites.specs.Settled.{StaysInStep, is_asking}
 use Rattle.e3_sites.specs.declared.sites.RunFault.TheVariants.{HistoryFull}
 use Rattle.e3_turn.specs.Passes.{seen_by}
@@ -81,5 +81,5 @@ returns-clause-settled g c =
 pub returns-clause-full : goal.returns-clause-full
 returns-clause-full g c =
     let again : c.take-shared.result ≡ seen_by c.settle-answer.new.pass = nothing_added c.settle-answer.new.pass c.take-shared.result c.settle-answer.ensures.crew.all c.take-shared.ensures.grew in
-    let P : List Mark → List Mark → Type 0 = λ a b. c.settle-answer.result ≡ Err HistoryFull → IsFull (scenario_of a) (entries_of b) (most_of a) in
+    let P : List Mark → List Mark → Type 0 = λ a b. c.settle-answer.result ≡ Err HistoryFull → IsFullBefore IsItemOrPacket (scenario_of a) (entries_of b) (most_of a) in
     told_of P (seen_by c.put.new.pass) c.args.held.shared (seen_by c.settle-answer.new.pass) c.take-shared.result c.put.ensures.seen (sym again) c.settle-answer.ensures.full

@@ -1,15 +1,15 @@
-use Rattle.std.proofs.Common.{◌≡◌, ◌≢◌, ◌≤◌, ◌∙◌, [], ℕ, true, List, length, OnOk, Ok, Err, Result, inl, inr, sym, subst, ap, rules}
-use Rattle.e3_sites.specs.Delivered.{Delivers, IsFull}
+use Rattle.std.proofs.Common.{◌≡◌, ◌≤◌, ◌∙◌, [], ℕ, true, List, length, OnOk, Ok, Err, Result, inl, sym, subst, ap, rules}
+use Rattle.e3_sites.specs.Delivered.{Delivers, IsFullBefore, IsPacketOrRound}
 use Rattle.e3_sites.specs.Entering.{AfterInput}
 use Rattle.e3_types.specs.declared.entries.Entry.{Entry}
 use Rattle.e3_types.specs.declared.entries.Input.TheVariants as input
 use Rattle.e3_types.specs.declared.scenarios.Scenario.{Scenario}
-use Rattle.e3_world.specs.Items.{RecoveryRound, due_round, is_up_at}
+use Rattle.e3_world.specs.Items.{RecoveryRound, is_up_at}
 use Rattle.e3_world.specs.Packets.{pending}
 use Rattle.e3_world.specs.Progress.{Delivering}
-use Rattle.e3_round.specs.Rounds.{AfterRound, IsPacketOrRound}
+use Rattle.e3_round.specs.Rounds.{AfterRound}
 use Rattle.e3_round.proofs.Electing.{elected}
-use Rattle.e3_round.proofs.Full.{round_full, some_due}
+use Rattle.e3_round.proofs.Full.{delivery_full, round_full}
 use Rattle.e3_sites.proofs.Steps.{delivers_stays, input_stays, stays_kept, stays_on}
 use Rattle.e3_round.proofs.recovering.make_round.Goals as goal
 
@@ -57,32 +57,18 @@ returns-in_err-input-clause-full g c = λ is.
     let r = c.args.round.now in
     let up : is_up_at (S.entries sites) r.elector ≡ true = ap (λ (q : RecoveryRound). is_up_at (S.entries sites) q.elector) (sym c.round.view_is) ∙ sym c.is_up.ensures ∙ c.if-not-is_up.false in
     let many : S.most sites ≤ length (S.entries sites) = search rules in
-    let P : List Entry → Type 0 = λ h. IsFull (S.scenario sites) h (S.most sites) in
+    let P : List Entry → Type 0 = λ h. IsFullBefore IsPacketOrRound (S.scenario sites) h (S.most sites) in
     subst P (sym c.in_err-input.ensures.kept)
     (round_full (S.scenario sites) (S.entries sites) r (S.most sites) (g.met.S.Sites.within sites c.requires.standing) many c.requires.begun (c.requires.turn up) c.requires.settled)
-
-pub returns-in_err-input-clause-which : goal.returns-in_err-input-clause-which
-returns-in_err-input-clause-which g c = λ is.
-    let S = g.S.Sites in
-    let sites = c.args.sites.now in
-    let r = c.args.round.now in
-    let up : is_up_at (S.entries sites) r.elector ≡ true = ap (λ (q : RecoveryRound). is_up_at (S.entries sites) q.elector) (sym c.round.view_is) ∙ sym c.is_up.ensures ∙ c.if-not-is_up.false in
-    let P : List Entry → Type 0 = λ h. IsPacketOrRound (S.scenario sites) h in
-    subst P (sym c.in_err-input.ensures.kept) (inr (some_due (due_round (S.scenario sites) (S.entries sites)) r (c.requires.turn up)))
 
 pub returns-clause-full : goal.returns-clause-full
 returns-clause-full g c = λ is.
     let S = g.S.Sites in
     let more = S.entries c.deliver_all.new.sites in
-    let P : Scenario → Type 0 = λ sc. IsFull sc more (S.most c.args.sites.now) in
-    let Q : ℕ → Type 0 = λ most. IsFull (S.scenario c.input.new.self) more most in
-    subst P c.in_ok-input.ensures.same.0 (subst Q c.in_ok-input.ensures.same.1 (c.deliver_all.ensures.full is))
-
-pub returns-clause-which : goal.returns-clause-which
-returns-clause-which g c = λ is.
-    let S = g.S.Sites in
-    let P : Scenario → Type 0 = λ sc. pending sc (S.entries c.deliver_all.new.sites) ≢ [] in
-    inl (subst P c.in_ok-input.ensures.same.0 (c.deliver_all.ensures.packet is))
+    let P : Scenario → Type 0 = λ sc. IsFullBefore IsPacketOrRound sc more (S.most c.args.sites.now) in
+    let Q : ℕ → Type 0 = λ most. IsFullBefore IsPacketOrRound (S.scenario c.input.new.self) more most in
+    subst P c.in_ok-input.ensures.same.0 (subst Q c.in_ok-input.ensures.same.1
+    (delivery_full (S.scenario c.input.new.self) more (S.most c.input.new.self) (c.deliver_all.ensures.full is)))
 
 pub returns-in_err-input-clause-grown : goal.returns-in_err-input-clause-grown
 returns-in_err-input-clause-grown g c = stays_kept (g.S.Sites.entries c.args.sites.now) (g.S.Sites.entries c.input.new.self) c.in_err-input.ensures.kept

@@ -1,12 +1,12 @@
 use Rattle.std.proofs.Common.{◌≡◌, ◌∙◌, ◌++◌, ◌∷◌, [], ◌+◌, ◌≤◌, ℕ, zero, suc, get_or, List, length, drop, take, refl, sym, subst, ap, drop-cons, arith, rules}
 use Rattle.std.proofs.lemmas.List.{take_more}
-use Rattle.e3_sites.specs.Delivered.{IsFull}
+use Rattle.e3_sites.specs.Delivered.{IsFullBefore, IsPacketOrRound}
 use Rattle.e3_types.specs.declared.scenarios.Scenario.{Scenario}
 use Rattle.e3_world.specs.Given.{IsGiven}
 use Rattle.e3_world.specs.Items.{RecoveryRound, due_round, listed}
 use Rattle.e3_world.specs.Legal.{IsLegal}
 use Rattle.e3_round.specs.Reports.{HadTurns, IsTurn}
-use Rattle.e3_round.specs.Rounds.{AfterRound, IsPacketOrRound}
+use Rattle.e3_round.specs.Rounds.{AfterRound}
 use Rattle.e3_round.specs.declared.reporting.RoundReport.{RoundReport}
 use Rattle.e3_round.proofs.Falling.{UpOrFell, WereUp, listed_were_up}
 use Rattle.e3_round.proofs.Left.{first_due}
@@ -141,18 +141,10 @@ returns-in_err-report-clause-full g c = λ is.
     let S = g.S.Sites in
     let was = c.loop-round.invariant in
     let more = S.entries c.take_turn.new.sites in
-    let full : IsFull (S.scenario c.loop-round.sites) more (S.most c.loop-round.sites) = search rules in
-    let P : Scenario → Type 0 = λ sc. IsFull sc more (S.most c.args.sites.now) in
-    let Q : ℕ → Type 0 = λ most. IsFull (S.scenario c.loop-round.sites) more most in
+    let full : IsFullBefore IsPacketOrRound (S.scenario c.loop-round.sites) more (S.most c.loop-round.sites) = search rules in
+    let P : Scenario → Type 0 = λ sc. IsFullBefore IsPacketOrRound sc more (S.most c.args.sites.now) in
+    let Q : ℕ → Type 0 = λ most. IsFullBefore IsPacketOrRound (S.scenario c.loop-round.sites) more most in
     subst P was.scenario (subst Q was.most full)
-
-pub returns-in_err-report-clause-which : goal.returns-in_err-report-clause-which
-returns-in_err-report-clause-which g c = λ is.
-    let S = g.S.Sites in
-    let more = S.entries c.take_turn.new.sites in
-    let which : IsPacketOrRound (S.scenario c.loop-round.sites) more = search rules in
-    let P : Scenario → Type 0 = λ sc. IsPacketOrRound sc more in
-    subst P c.loop-round.invariant.scenario which
 
 pub returns-in_err-report-clause-grown : goal.returns-in_err-report-clause-grown
 returns-in_err-report-clause-grown g c =
