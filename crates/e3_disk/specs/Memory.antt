@@ -17,14 +17,15 @@ use Rattle.e3_disk.specs.Stored.{Stored, settled, written, left}
 abbrev pub stored_of : Store → Stored
 stored_of s = record { content = s.content.items; durable = s.durable.items; from = s.from; to = s.to }
 
--- A disk in memory: its bytes, its numbers, what the next stop leaves, the numbers of the calls that fail, and how many
--- of its calls were made that answer a result.
+-- A disk in memory: its bytes, its numbers, what the next stop leaves, the numbers of the calls that fail, how many of its
+-- calls were made that answer a result, and how many of those were writes and syncs.
 pub record DiskState : Type 0 where
   pub bytes : Stored
   pub meters : Meters
   pub leave : Leave
   pub fails : List ℕ
   pub calls : ℕ
+  pub writes : ℕ
 
 -- The state of a disk in memory.
 abbrev pub state_of : MemDisk → DiskState
@@ -34,6 +35,7 @@ state_of d = record {
   leave = d.panel.leave;
   fails = d.schedule.fails;
   calls = d.schedule.calls;
+  writes = d.writes;
 }
 
 -- The images that a crash now may leave: of the durable bytes, with the pending range torn.
@@ -48,11 +50,16 @@ blank_state capacity fails = record {
   leave = leaves.None;
   fails = fails;
   calls = 0;
+  writes = 0;
 }
 
 -- Calls are numbered from 1.
 abbrev pub next_call : DiskState → ℕ
 next_call s = raised s.calls 1
+
+-- One more write or sync was asked of this disk.
+abbrev pub next_write : DiskState → ℕ
+next_write s = raised s.writes 1
 
 -- The next call of this disk is listed.
 abbrev pub fails_next : DiskState → Bool
@@ -80,14 +87,15 @@ write_answer place bytes s =
     if is_full place bytes s then Err (Full (place + length bytes) s.meters.capacity)
     else by_turn (next_turn s) (Ok tt) (Err Failed) (Err Failed)
 
--- The disk after a write. One that is Full is numbered and changes nothing else. The stop finds the range pending.
+-- The disk after a write. One that is Full is numbered and counted, and changes nothing else. The stop finds the range pending.
 abbrev pub after_write : ℕ → List ℕ → DiskState → DiskState
 after_write place bytes s =
-    if is_full place bytes s then record s { calls = next_call s }
+    if is_full place bytes s then record s { calls = next_call s; writes = next_write s }
     else record s {
       bytes = by_turn (next_turn s) (written place bytes s.bytes) (left s.leave (written place bytes s.bytes)) s.bytes;
       meters = after_turn (fails_next s) s.meters;
       calls = next_call s;
+      writes = next_write s;
     }
 
 -- What a sync answers.
@@ -100,6 +108,7 @@ after_sync s = record s {
   bytes = by_turn (next_turn s) (settled 0 s.bytes) (left s.leave s.bytes) s.bytes;
   meters = after_turn (fails_next s) s.meters;
   calls = next_call s;
+  writes = next_write s;
 }
 
 -- The disk after an arm.

@@ -18,6 +18,7 @@ pub struct MemDisk {
     store: Store,
     panel: Panel,
     schedule: Schedule,
+    writes: u64,
     ghost room: { (panel.capacity ≡ store.room) × (2 ≤ panel.capacity) × (panel.capacity ≤ 2 ^ 30) },
 }
 
@@ -105,6 +106,7 @@ impl Disk for MemDisk {
         ensures after { state_of self.new ≡ after_write place bytes.now (state_of self.old) }
         ensures count { CountsOnlyOwn (state_of self.old) (state_of self.new) }
     {
+        self.writes = self.writes.saturating_add(1);
         let listed = self.schedule.is_listed();
         let room = self.panel.capacity;
         let need = place + bytes.len() as u64;
@@ -136,6 +138,7 @@ impl Disk for MemDisk {
         ensures after { state_of self.new ≡ after_sync (state_of self.old) }
         ensures count { CountsOnlyOwn (state_of self.old) (state_of self.new) }
     {
+        self.writes = self.writes.saturating_add(1);
         let listed = self.schedule.is_listed();
         match self.panel.write_turn(listed) {
             Turn::Go => {
@@ -218,6 +221,14 @@ impl MemDisk {
             store,
             panel,
             schedule,
+            writes: 0,
         })
+    }
+
+    /// How many writes and syncs were asked of the disk, whatever they answered: as far as 64 bits count.
+    pub fn calls(&self) -> u64
+        ensures { result ≡ (state_of self.now).writes }
+    {
+        self.writes
     }
 }

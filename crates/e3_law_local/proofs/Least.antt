@@ -42,7 +42,7 @@ unique n (x ∷ ps) p q is (inr a) (inl b) same =
 unique n (x ∷ ps) p q is (inr a) (inr b) same = let tail : ps ≡ numbered (suc n) ps = cc in unique (suc n) ps p q tail a b same
 
 -- the packets of a legal history are numbered from 1
-outs_numbered : (sc : Scenario) (h : List Entry) (o : ℕ) (act : Act) → Guard sc h (record { owner = o; act = act }) →
+pub outs_numbered : (sc : Scenario) (h : List Entry) (o : ℕ) (act : Act) → Guard sc h (record { owner = o; act = act }) →
     (outs : List Packet) × (outs_of act ≡ numbered (suc (length (sent h))) outs)
 outs_numbered sc h zero (Step i records outs events) guard = absurd guard
 outs_numbered sc h (suc s) (Step i records outs events) guard = ((made_by sc h (suc s) i).outs, ap (λ (e : Entry). outs_of e.act) guard.made)
@@ -55,7 +55,7 @@ outs_numbered sc h o (Drop packet) guard = ([], refl)
 outs_numbered sc h o (Parts parts) guard = ([], refl)
 outs_numbered sc h o (Line number) guard = ([], refl)
 
-numbers_push : (h : List Entry) (e : Entry) (outs : List Packet) → outs_of e.act ≡ numbered (suc (length (sent h))) outs → sent h ≡ numbered 1 (sent h) →
+pub numbers_push : (h : List Entry) (e : Entry) (outs : List Packet) → outs_of e.act ≡ numbered (suc (length (sent h))) outs → sent h ≡ numbered 1 (sent h) →
     sent (h ++ e ∷ []) ≡ numbered 1 (sent (h ++ e ∷ []))
 numbers_push h e outs is was =
     sent_push h e ∙ ap (λ l. sent h ++ l) is ∙ numbers_on (sent h) outs was ∙ ap (numbered 1) (sym (sent_push h e ∙ ap (λ l. sent h ++ l) is))
@@ -67,7 +67,7 @@ numbers_after sc before (e ∷ h) legal was =
     let P : List Entry → Type 0 = λ k. sent k ≡ numbered 1 (sent k) in
     subst P (append_assoc before (e ∷ []) h) (numbers_after sc (before ++ e ∷ []) h legal.1 (numbers_push before e outs.0 outs.1 was))
 
-legal_numbers : (sc : Scenario) (h : List Entry) → IsLegal sc h → sent h ≡ numbered 1 (sent h)
+pub legal_numbers : (sc : Scenario) (h : List Entry) → IsLegal sc h → sent h ≡ numbered 1 (sent h)
 legal_numbers sc h legal = numbers_after sc [] h legal refl
 
 -- what is pending was sent
@@ -115,7 +115,7 @@ inputs_other sc h site other p (i ∷ inputs) numbers has to apart due =
     let none : away_by i p.number ≡ 0 = rw first refl in
     all ∙ (omega (arith, rest, none))
 
-act_other : (sc : Scenario) (h : List Entry) (site o : ℕ) (act : Act) (p : Packet) → sent h ≡ numbered 1 (sent h) → Among p (sent h) → p.to ≡ site →
+pub act_other : (sc : Scenario) (h : List Entry) (site o : ℕ) (act : Act) (p : Packet) → sent h ≡ numbered 1 (sent h) → Among p (sent h) → p.to ≡ site →
     (o == 0) ≡ false → (o == site) ≡ false → Guard sc h (record { owner = o; act = act }) → taken_by p.number act ≡ 0
 act_other sc h site zero act p numbers has to some apart guard = absurd (let yes : (zero == 0) ≡ true = eq-eqb zero 0 refl in let both : true ≡ false = sym yes ∙ some in cc)
 act_other sc h site (suc s) (Step i records outs events) p numbers has to some apart guard = rw (input_other sc h site (suc s) p i numbers has to apart guard.due) refl
@@ -129,7 +129,7 @@ act_other sc h site (suc s) (Parts parts) p numbers has to some apart guard = ab
 act_other sc h site (suc s) (Line number) p numbers has to some apart guard = absurd guard
 
 -- the first packet to a site is found again where none to it is taken
-abbrev found : ℕ → List Waiting → Option Packet
+abbrev pub found : ℕ → List Waiting → Option Packet
 found site ws = option_map (λ w. w.packet) (find (goes_to site) ws)
 
 wait_some : (site : ℕ) (p : Packet) (c : ℕ) (ws : List Waiting) → (p.to == site) ≡ true → 1 ≤ c → found site (wait p c ++ ws) ≡ Some p
@@ -190,7 +190,7 @@ all_stay sc h (e ∷ more) site p numbers legal others sites is =
     (all_stay sc (h ++ e ∷ []) more site p (numbers_push h e outs.0 outs.1 numbers) legal.1 others.2 sites.1
     (one_stays sc h e site p numbers legal.0 sites.0 others.0 is))
 
-front : (sc : Scenario) (before h more : List Entry) → LegalAfter sc before (h ++ more) → LegalAfter sc before h
+pub front : (sc : Scenario) (before h more : List Entry) → LegalAfter sc before (h ++ more) → LegalAfter sc before h
 front sc before [] more legal = tt
 front sc before (x ∷ h) more legal = (legal.0, front sc (before ++ x ∷ []) h more legal.1)
 

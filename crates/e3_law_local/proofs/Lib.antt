@@ -7,3 +7,4 @@ pub mod Working
 pub mod Packets
 pub mod Least
 pub mod Longer
+pub mod Queues

@@ -4,12 +4,13 @@ use Rattle.e3_types.specs.declared.entries.Entry.{Entry}
 use Rattle.e3_types.specs.declared.scenarios.Scenario.{Scenario}
 use Rattle.e3_world.specs.Given.{IsGiven}
 use Rattle.e3_types.specs.declared.entries.Input.{Input}
+use Rattle.e3_types.specs.declared.entries.Input.TheVariants as input
 use Rattle.e3_types.specs.declared.messages.Packet.{Packet}
 use Rattle.e3_world.specs.Items.{inputs_of, is_delivery}
 use Rattle.e3_world.specs.Legal.{Guard, IsDue, IsLegal, entry_of, first_pending}
 use Rattle.e3_world.specs.Packets.{is_calm, pending, present_items}
 use Rattle.e3_law_local.specs.Drafts.{MayEnter, MayTake}
-use Rattle.e3_law_local.specs.Least.{AreOfSites, IsLeastTo}
+use Rattle.e3_law_local.specs.Least.{AreFirstTo, AreOfSites, IsLeastTo, queue_to}
 use Rattle.e3_law_local.specs.Workers.{AtItems, ReadsAlike}
 use Rattle.e3_law_local.specs.Others.{numbered_on, Allows, AreOthers, AreWaiting}
 
@@ -67,3 +68,21 @@ LeastIsPending = (sc : Scenario) (h : List Entry) (site : ℕ) (p : Packet) → 
 -- The first of all pending packets is the least to its receiver.
 abbrev pub FirstIsLeast : Type 0
 FirstIsLeast = (sc : Scenario) (h : List Entry) (p : Packet) → first_pending sc h ≡ Some p → IsLeastTo sc h p.to p
+
+-- Behind entries of other sites the packets to a site are those of before, and then others.
+abbrev pub QueueStays : Type 0
+QueueStays = (sc : Scenario) (h more : List Entry) (site : ℕ) → IsLegal sc (h ++ more) → AreOthers site more → AreOfSites more →
+    (new : List Packet) × (queue_to sc (h ++ more) site ≡ queue_to sc h site ++ new)
+
+-- The first of them is the least.
+abbrev pub FrontIsLeast : Type 0
+FrontIsLeast = (sc : Scenario) (h : List Entry) (site : ℕ) (p : Packet) (rest : List Packet) → queue_to sc h site ≡ p ∷ rest → IsLeastTo sc h site p
+
+-- Behind the step that takes it the others are the first.
+abbrev pub QueueGoesOn : Type 0
+QueueGoesOn = (sc : Scenario) (h : List Entry) (site : ℕ) (p : Packet) (rest : List Packet) → IsLegal sc h → queue_to sc h site ≡ p ∷ rest →
+    (new : List Packet) × (queue_to sc (h ++ entry_of sc h site (input.Deliver p) ∷ []) site ≡ rest ++ new)
+
+-- So each of the first packets to a site is pending behind the steps that those before it would make.
+abbrev pub FirstAreWaiting : Type 0
+FirstAreWaiting = (sc : Scenario) (h : List Entry) (site : ℕ) (inputs : List Input) → IsLegal sc h → AreFirstTo sc h site inputs → AreWaiting sc h site inputs

@@ -1,7 +1,7 @@
 //! Entries of a site stay legal behind entries of other sites.
 #![tactic(auto)]
 
-ghost use Rattle.e3_law_local.specs.Claims.{DraftsAreAllowed, DraftsStay, DueMayBeTaken, FirstIsLeast, ItemsStay, LeastIsPending, LeastStays, Local, LocalKeepsLegal, NextItem, ReadingsStay};
+ghost use Rattle.e3_law_local.specs.Claims.{DraftsAreAllowed, DraftsStay, DueMayBeTaken, FirstAreWaiting, FirstIsLeast, FrontIsLeast, ItemsStay, LeastIsPending, LeastStays, Local, LocalKeepsLegal, NextItem, QueueGoesOn, QueueStays, ReadingsStay};
 ghost use Rattle.e3_law_local.specs.Longer.{LegalForLonger};
 
 /// An entry of a site that is allowed behind a history is allowed, but for the numbers of its packets, behind further
@@ -33,6 +33,16 @@ pub fn least_packets_stay()
     ensures stay { LeastStays }
     ensures pending { LeastIsPending }
     ensures first { FirstIsLeast }
+{}
+
+/// The packets to a site, each as often as it has copies left. Behind entries of other sites they are those of before, and
+/// then others; the first is the least, and behind the step that takes it the others are the first. So the first few are
+/// pending, each behind the steps that those before it would make.
+pub fn first_packets_stay()
+    ensures stay { QueueStays }
+    ensures least { FrontIsLeast }
+    ensures goes_on { QueueGoesOn }
+    ensures waiting { FirstAreWaiting }
 {}
 
 /// A legal history is legal for every scenario with the same keys whose steps begin with those of its lines: what comes

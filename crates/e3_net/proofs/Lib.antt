@@ -8,3 +8,4 @@ pub mod AllSites
 pub mod Places
 pub mod Sending
 pub mod Entering
+pub mod Queues

@@ -1,5 +1,5 @@
 -- The traffic of a network: what decides the fates of packets, and the packets that wait to be delivered.
-use Rattle.std.specs.Prelude.{◌==◌, ◌-◌, ◌++◌, ◌∷◌, [], if◌then◌else◌, ℕ, zero, suc, Bool, false, List, find, Option, option_map}
+use Rattle.std.specs.Prelude.{◌==◌, ◌-◌, ◌++◌, ◌∷◌, [], if◌then◌else◌, ℕ, zero, suc, Bool, false, List, find, replicate, Option, option_map}
 use Rattle.e3_types.specs.declared.messages.Message.{Message}
 use Rattle.e3_types.specs.declared.messages.Packet.{Packet}
 use Rattle.e3_world.specs.Fate.{fate_by, copies_of}
@@ -59,6 +59,11 @@ goes_to site w = w.packet.to == site
 -- the pending packet to the site with the least number
 abbrev pub packet_to : ℕ → Traffic → Option Packet
 packet_to site net = option_map (λ w. w.packet) (find (goes_to site) net.waiting)
+
+-- the packets that wait for the site, each as often as it has copies left, in ascending order of their numbers
+abbrev pub queue_in : ℕ → List Waiting → List Packet
+queue_in site [] = []
+queue_in site (w ∷ ws) = if goes_to site w then replicate w.copies w.packet ++ queue_in site ws else queue_in site ws
 
 -- one copy less of the first packet to the site
 abbrev pub less_one_to : ℕ → List Waiting → List Waiting

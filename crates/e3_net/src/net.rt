@@ -1,6 +1,6 @@
 // The network: what decides the fates of packets, and the packets that are pending.
-ghost use Rattle.std.specs.Prelude.{◌≡◌, ◌+◌, ◌-◌, ◌^◌, ◌<◌, ◌≤◌, suc, length, IfOk, OnOk, option_copied, option_map, slice_get};
-ghost use Rattle.e3_net.specs.Traffic.{copies_now, fresh, packet_to, sends, sends_all, takes};
+ghost use Rattle.std.specs.Prelude.{◌≡◌, ◌+◌, ◌-◌, ◌^◌, ◌<◌, ◌≤◌, suc, length, take, IfOk, OnOk, option_copied, option_map, slice_get};
+ghost use Rattle.e3_net.specs.Traffic.{copies_now, fresh, packet_to, queue_in, sends, sends_all, takes};
 ghost use Rattle.e3_world.specs.Legal.{numbered};
 ghost use Rattle.e3_world.specs.Packets.{sites_to};
 
@@ -171,6 +171,14 @@ impl Net {
             Some(w) => Some(&w.packet),
             None => None,
         }
+    }
+
+    /// The pending packets to this site, so many at most, each as often as it has copies left, that of least number first:
+    /// what `take` gives, call by call. They stay pending. Want of memory is the only error.
+    pub fn next_few(&self, alloc: Global, site: u32, most: u32) -> Result<List<Packet>, NoMemory>
+        ensures { IfOk result (λ few. few ≡ take most (queue_in site self.now.traffic.waiting)) }
+    {
+        queue::first_few(alloc, &self.waiting, site, most)
     }
 
     /// The pending packet with the least number. None exactly where none is pending.

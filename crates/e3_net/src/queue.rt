@@ -1,12 +1,13 @@
 // The queue of the packets that are pending, in ascending order of their numbers.
-ghost use Rattle.std.specs.Prelude.{◌≡◌, ◌+◌, ◌<◌, ◌≤◌, ◌++◌, true, false, take, IfSome, IfNone, option_map, find, length, slice_get};
+ghost use Rattle.std.specs.Prelude.{◌≡◌, ◌+◌, ◌<◌, ◌≤◌, ◌++◌, true, false, take, IfSome, IfNone, IfOk, OnOk, option_map, find, length, replicate, slice_get};
 ghost use Rattle.std.specs.List.{list_any};
 ghost use Rattle.std.specs.VecDeque.{deque_len, deque_capacity};
 ghost use Rattle.e3_world.specs.Fate.{copies_of, fate_by_luck, same_part};
-ghost use Rattle.e3_net.specs.Traffic.{goes_to, less_one_at, less_one_to, wait};
+ghost use Rattle.e3_net.specs.Traffic.{goes_to, less_one_at, less_one_to, queue_in, wait};
 
 use crate::Waiting;
-use e3_types::{Packet, SiteSet};
+use e3_types::{List, NoMemory, Packet, SiteSet};
+use std::alloc::Global;
 use std::collections::VecDeque;
 
 // Some part has both sites.
@@ -83,4 +84,44 @@ pub(crate) fn take(waiting: &mut VecDeque<Waiting>, site: u32) -> Option<Packet>
 {
     let at = place_of(waiting, site)?;
     take_copy(waiting, at)
+}
+
+// So many copies of a packet behind those before, as far as there may be more.
+fn add_copies(
+    out: &mut List<Packet>,
+    packet: &Packet,
+    copies: u8,
+    most: u32,
+) -> Result<(), NoMemory>
+    requires { length out.old ≤ most }
+    ensures { OnOk result (out.new ≡ take most (out.old ++ replicate copies packet.now)) }
+{
+    for _ in 0..copies {
+        if out.len() < u64::from(most) {
+            out.push(packet.copy())?;
+        }
+    }
+    Ok(())
+}
+
+// The first packets to the site, each as often as it has copies, so many at most.
+pub(crate) fn first_few(
+    alloc: Global,
+    waiting: &VecDeque<Waiting>,
+    site: u32,
+    most: u32,
+) -> Result<List<Packet>, NoMemory>
+    ensures { IfOk result (λ few. few ≡ take most (queue_in site waiting.now.items)) }
+{
+    let mut few = List::new(alloc);
+    for at in 0..waiting.len() {
+        if few.len() >= u64::from(most) {
+            return Ok(few);
+        }
+        let w = &waiting[at];
+        if w.packet.to == site {
+            add_copies(&mut few, &w.packet, w.copies, most)?;
+        }
+    }
+    Ok(few)
 }

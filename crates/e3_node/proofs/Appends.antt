@@ -1,12 +1,12 @@
 -- What an append leaves, by the records of its frame.
-use Rattle.std.proofs.Common.{◌≡◌, ◌≢◌, ◌⊎◌, ◌+◌, ◌<◌, ◌≤◌, ◌++◌, ◌∷◌, [], inl, inr, ℕ, true, List, length, refl, sym, subst, ap, arith}
+use Rattle.std.proofs.Common.{◌≡◌, ◌≢◌, ◌⊎◌, ◌+◌, ◌<◌, ◌≤◌, ◌++◌, ◌∷◌, [], inl, inr, ℕ, true, List, length, refl, sym, subst, ap, ◌∙◌, arith}
 use Rattle.e3_disk.specs.Meters.{Meters, Rose}
 use Rattle.e3_log.specs.Frames.{Reads, frames}
 use Rattle.e3_log.specs.Stands.{LogState, Stands, ReadsBeforeOrAfter}
 use Rattle.e3_log.specs.declared.fault.AppendFault.{AppendFault}
 use Rattle.e3_log.specs.declared.fault.AppendFault.TheVariants.{Failed, Full}
 use Rattle.e3_node.specs.Bodies.{Hold, ReadsAfter, ReadsWith, bodies_in, body_of}
-use Rattle.e3_node.specs.Ends.{IsReason, why_of}
+use Rattle.e3_node.specs.Ends.{EndsAt, IsReason, why_of}
 use Rattle.e3_types.specs.Spelling.{spelling}
 use Rattle.e3_types.specs.declared.entries.Input.{Input}
 use Rattle.e3_types.specs.declared.records.Record.{Record}
@@ -58,6 +58,12 @@ left_reads site moves lists why.Fault inputs records bytes hold (inr behind) = (
 )
 left_reads site moves lists (why.Full need room) inputs records bytes hold before =
     reads_with site moves (left_by (why.Full need room) inputs records) bytes (record { lists = lists; hold = hold; reads = before })
+
+-- where it had no room its end is told
+pub end_told : (records : List Record) (body : List ℕ) (end : ℕ) (fault : AppendFault) → body ≡ spelling records →
+    ((need room : ℕ) → fault ≡ Full need room → need ≡ end + 6 + length body) → EndsAt end records (why_of fault)
+end_told records body end Failed is full = tt
+end_told records body end (Full need room) is full = full need room refl ∙ ap (λ (bytes : List ℕ). end + 6 + length bytes) is
 
 -- why it was not added
 pub reason_of : (moves : List Move) (lists : List (List Record)) (records : List Record) (body : List ℕ) (end : ℕ) (old new : Meters) (fault : AppendFault) →

@@ -8,7 +8,7 @@ use Rattle.e3_node.specs.Rising.{records_by}
 use Rattle.e3_node.specs.Telling.{IsOwn}
 use Rattle.e3_node.specs.Turns.{Meanwhile}
 use Rattle.e3_node.specs.declared.readying.Wish.{Wish}
-use Rattle.e3_trails.specs.Claims.{VotesAtTheirSite, records_at, tail_records}
+use Rattle.e3_law_trails.specs.Claims.{VotesAtTheirSite, records_at, tail_records}
 use Rattle.e3_types.specs.declared.entries.Entry.{Entry}
 use Rattle.e3_types.specs.declared.entries.Input.{Input}
 use Rattle.e3_types.specs.declared.records.Record.{Record}

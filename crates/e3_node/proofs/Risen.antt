@@ -159,7 +159,7 @@ failed_told content image meters sc h more site old (Down new) (Rose kept inc) m
 failed_told content image meters sc h more site old (Down new) (Failed kept inc because) made entered why is =
     let same : because ≡ why = cc in
     subst (λ (w : Why). HasFailedToRise sc h site w more (meters old) (meters new) (image old)) same
-    (record { kept = kept; inc = inc; allowed = made.allowed; entered = entered; read = made.read; reason = made.reason })
+    (record { kept = kept; inc = inc; allowed = made.allowed; entered = entered; read = made.read; reason = made.reason; need = made.need })
 failed_told content image meters sc h more site old (Down new) Missed made entered why is = absurd cc
 failed_told content image meters sc h more site old (Down new) NoMemory made entered why is = absurd cc
 failed_told content image meters sc h more site old (Down new) Foreign made entered why is = absurd made

@@ -14,7 +14,7 @@ use Rattle.e3_log.proofs.One.{one_reading}
 use Rattle.e3_codec.specs.Fields.{AllCanBeReadBack}
 use Rattle.e3_node.specs.Bodies.{DiskHolds, Hold, IsLogged, IsRead, ReadsAfter, ReadsAs, ReadsWith, bodies_in, body_of, moves_with}
 use Rattle.e3_node.specs.Counting.{counted}
-use Rattle.e3_node.specs.Ends.{IsReason}
+use Rattle.e3_node.specs.Ends.{EndsAt, IsReason}
 use Rattle.e3_node.specs.Rising.{HasNotRaised, HasRaised, IsReady, MayRise, RiseMakes, born_by, raised_of, records_by, rise_fall_of, rise_of}
 use Rattle.e3_node.specs.declared.readying.Readied.{Readied}
 use Rattle.e3_node.specs.declared.readying.Wish.{Wish}
@@ -150,7 +150,7 @@ ready_some wish bodies ready is = λ none. by (born_by wish is.read) (sym is.rec
     by (r ∷ rs) is_none = cc
 
 -- the disk before was read so
-was_read : {D : Type 0} (content : D → List ℕ) (image : D → List ℕ → Type 0) (sc : Scenario) (h : List Entry) (site : ℕ) (kept : Bool)
+abbrev was_read : {D : Type 0} (content : D → List ℕ) (image : D → List ℕ → Type 0) (sc : Scenario) (h : List Entry) (site : ℕ) (kept : Bool)
     (bodies : List (List ℕ)) (read : List Record) (old : LogState D) → Found (moves_of sc h site) site (open_tail sc h site) bodies read kept →
     Stands content image bodies old → image old.disk (content old.disk) → IsRead sc h site kept (image old.disk)
 was_read content image sc h site kept bodies read old what stands at = record {
@@ -228,9 +228,9 @@ pub not_raised : {D : Type 0} (content : D → List ℕ) (image : D → List ℕ
     ((lists : List (List Record)) → Stands content image (bodies_in lists) old →
     (bytes : List ℕ) → image new.disk bytes → ReadsAfter lists why ready.records bytes) →
     ((moves : List Move) (lists : List (List Record)) → Hold moves lists → Stands content image (bodies_in lists) old →
-    IsReason why (log_size moves) ready.records (meters old.disk) (meters new.disk)) →
+    IsReason why (log_size moves) ready.records (meters old.disk) (meters new.disk)) → EndsAt old.end ready.records why →
     HasNotRaised image meters sc h wish.site old.disk new.disk ready.kept ready.inc why
-not_raised {D} content image meters sc h wish bodies ready old new why may is stands disk at images reason = record {
+not_raised {D} content image meters sc h wish bodies ready old new why may is stands disk at images reason need = record {
   allowed = all.allowed;
   read = was_read content image sc h wish.site ready.kept bodies is.read old all.what stands at;
   stands = λ bytes there.
@@ -245,6 +245,9 @@ not_raised {D} content image meters sc h wish bodies ready old new why may is st
   reason =
       subst (λ (rs : List Record). IsReason why (log_size moves) rs (meters old.disk) (meters new.disk)) all.records_are
       (reason moves all.what.lists all.what.hold stands_there);
+  need =
+      subst (λ (n : ℕ). EndsAt n mine why) stands_there.disk.end_is
+      (subst (λ (rs : List Record). EndsAt old.end rs why) all.records_are need);
 }
   where
     e : Entry
@@ -263,7 +266,7 @@ not_raised {D} content image meters sc h wish bodies ready old new why may is st
     stands_there = subst (λ (bs : List (List ℕ)). Stands content image bs old) all.what.are stands
 
 -- what was read of a disk was read of what it came from
-read_since : {D : Type 0} (image : D → List ℕ → Type 0) (sc : Scenario) (h : List Entry) (site : ℕ) (kept : Bool) (old mid : D) →
+abbrev read_since : {D : Type 0} (image : D → List ℕ → Type 0) (sc : Scenario) (h : List Entry) (site : ℕ) (kept : Bool) (old mid : D) →
     Within (image old) (image mid) → IsRead sc h site kept (image mid) → IsRead sc h site kept (image old)
 read_since image sc h site kept old mid within read = record { bytes = read.bytes; at = within read.bytes read.at; reads = read.reads }
 
@@ -296,6 +299,7 @@ makes_since content image meters sc h site old mid (Down new) (Failed kept inc w
   stands = made.stands;
   back = made.back;
   reason = reason_since why _ _ (meters old) (meters mid) (meters new) keeps made.reason;
+  need = made.need;
 }
 makes_since content image meters sc h site old mid (Down new) Missed within keeps made =
     (made.0, rose_since (meters old).faults (meters mid).faults (meters new).faults keeps.faults made.1)

@@ -13,7 +13,7 @@ use Rattle.e3_types.specs.declared.entries.Why.{Why}
 use Rattle.e3_wire.specs.declared.fault.WireFault.{WireFault}
 use Rattle.e3_wire.specs.Claims.{HasOwner, HaveGrown}
 use Rattle.e3_wire.specs.Marks.{NothingIsPromised, entries_of, last_owner, most_of, scenario_of, used_of}
-use Rattle.e3_wire.specs.Wires.{IsPlayed, MayEnterBehind, TakesOne}
+use Rattle.e3_wire.specs.Wires.{IsPlayed, MayEnterBehind, TakesInTurn}
 use Rattle.e3_wire.specs.declared.marks.Mark.{Mark}
 use Rattle.e3_wire.specs.declared.marks.Mark.TheVariants as mark
 use Rattle.e3_wire.proofs.Claimed.{claimed_entries_may_enter}
@@ -52,7 +52,7 @@ claimed_reads owner outs before now claim =
 
 -- an allowed entry may be entered behind its claim
 pub may_enter : (before now : List Mark) (outs : ℕ) (e : Entry) → IsClaimed e.owner outs before now → 1 ≤ e.owner → Allows (scenario_of before) (entries_of before) e →
-    TakesOne (scenario_of before) (entries_of before) e.owner (inputs_of e.act) → length (outs_of e.act) ≤ outs → MayEnterBehind now e
+    TakesInTurn (scenario_of before) (entries_of before) e.owner (inputs_of e.act) → length (outs_of e.act) ≤ outs → MayEnterBehind now e
 may_enter before now outs e claim site may takes few =
     let P : List Mark → Type 0 = λ l. MayEnterBehind l e in
     subst P (sym claim.is) (claimed_entries_may_enter e outs before claim.stands.played site claim.exists may takes few)

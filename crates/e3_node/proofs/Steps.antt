@@ -1,5 +1,5 @@
 -- A node behind an input.
-use Rattle.std.proofs.Common.{◌≡◌, ◌≢◌, ◌++◌, ◌∷◌, [], ◌≤◌, ℕ, suc, true, false, List, length, refl, sym, subst, ap, ◌∙◌, append-nil, map, arith}
+use Rattle.std.proofs.Common.{◌≡◌, ◌≢◌, ◌++◌, ◌∷◌, [], ◌^◌, ◌<◌, ◌≤◌, ℕ, suc, true, false, List, length, refl, sym, subst, ap, ◌∙◌, append-nil, map, arith}
 use Rattle.std.specs.Prelude.{◌+◌, if◌then◌else◌, Bool, Option, Result, Ok, Err, IfOk, filter, nat_lt}
 use Rattle.std.proofs.Common.{length-append}
 use Rattle.std.specs.List.{AllByRecursion as Each}
@@ -32,7 +32,7 @@ use Rattle.e3_types.specs.declared.entries.Why.{Why}
 use Rattle.e3_types.specs.declared.list.NoMemory.{NoMemory}
 use Rattle.e3_types.specs.declared.records.Record.{Record}
 use Rattle.e3_types.specs.declared.scenarios.Scenario.{Scenario}
-use Rattle.e3_wire.specs.Wires.{TakesLeast, TakesOne}
+use Rattle.e3_wire.specs.Wires.{TakesLeast, TakesInTurn}
 use Rattle.e3_world.specs.Items.{is_up_at}
 use Rattle.e3_world.specs.Legal.{Guard, IsDue, entry_of, made_by, numbered}
 use Rattle.e3_world.specs.Packets.{sent}
@@ -150,6 +150,11 @@ pub plan_own : (r : Result Draft NoMemory) (plan : SiteStep) (i : Input) (s : Si
 plan_own (Ok d) plan i s is own = subst (λ (p : SiteStep). IsPlanOf p s) (sym is.plan_is) own
 plan_own (Err none) plan i s is own = tt
 
+-- and it has no more packets than the plan
+pub plan_few : (r : Result Draft NoMemory) (plan : SiteStep) (i : Input) → IfOk r (IsDraft plan i) → length plan.outs < 2 ^ 32 → IfOk r (λ d. length d.outs < 2 ^ 32)
+plan_few (Ok d) plan i is few = let same : length d.outs ≡ length plan.outs = ap length is.outs_are in omega (arith, same, few)
+plan_few (Err none) plan i is few = tt
+
 -- the entries of a draft
 pub draft_step : (sc : Scenario) (h : List Entry) (site : ℕ) (i : Input) (d : Draft) → IsMade sc h site i d →
     record { owner = site; act = Step i d.records (numbered (suc (length (sent h))) d.outs) d.told } ≡ entry_of sc h site i
@@ -174,8 +179,8 @@ fall_allowed sc h site i d why made one up due some =
     subst Q (sym (draft_fall sc h site i d why made)) (fall_guard sc h site i why one up due (λ none. some (made.records_are ∙ none)))
 
 -- the one input of a fall
-pub fall_takes : (sc : Scenario) (h : List Entry) (site : ℕ) (i : Input) (inputs : List Input) → inputs ≡ i ∷ [] → TakesLeast sc h site i → TakesOne sc h site inputs
-fall_takes sc h site i inputs is least = let P : List Input → Type 0 = λ l. TakesOne sc h site l in subst P (sym is) least
+pub fall_takes : (sc : Scenario) (h : List Entry) (site : ℕ) (i : Input) (inputs : List Input) → inputs ≡ i ∷ [] → TakesLeast sc h site i → TakesInTurn sc h site inputs
+fall_takes sc h site i inputs is least = let P : List Input → Type 0 = λ l. TakesInTurn sc h site l in subst P (sym is) least
 
 -- what is entered is the step, or the fall
 pub step_entered : (sc : Scenario) (h more : List Entry) (site : ℕ) (i : Input) (d : Draft) → IsMade sc h site i d →

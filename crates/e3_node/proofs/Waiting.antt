@@ -24,7 +24,7 @@ use Rattle.e3_types.specs.declared.entries.Entry.{Entry}
 use Rattle.e3_types.specs.declared.scenarios.Scenario.{Scenario}
 use Rattle.e3_wire.specs.Claims.{APass}
 use Rattle.e3_wire.specs.Marks.{AreForeign, Note, belongs, entries_of, last_owner, most_of, note_of, scenario_of, used_by, used_of}
-use Rattle.e3_wire.specs.Wires.{IsPlayed, MayEnterBehind, TakesOne}
+use Rattle.e3_wire.specs.Wires.{IsPlayed, MayEnterBehind, TakesInTurn}
 use Rattle.e3_wire.specs.declared.fault.WireFault.{WireFault}
 use Rattle.e3_wire.specs.declared.fault.WireFault.TheVariants as wire_fault
 use Rattle.e3_wire.specs.declared.marks.Mark.{Mark}
@@ -210,7 +210,7 @@ still_owns p q site same owns = subst (λ (l : List ℕ). 0 < count_of site l) (
 pub may_commit : (p : APass) (claimed : List Mark) (outs : ℕ) (e : Entry) (between : List Mark) → Owns p e.owner → GrewByOthers belongs p between →
     claimed ≡ between ++ mark.Place e.owner outs ∷ [] → IsPlayed (seen_by p) → IsPlayed claimed → 1 ≤ e.owner → e.owner ≤ last_owner (seen_by p) →
     is_calm (present_items (scenario_of (seen_by p)) (entries_of (seen_by p))) ≡ false → Allows (scenario_of (seen_by p)) (entries_of (seen_by p)) e →
-    TakesOne (scenario_of (seen_by p)) (entries_of (seen_by p)) e.owner (inputs_of e.act) → length (outs_of e.act) ≤ outs → MayEnterBehind claimed e
+    TakesInTurn (scenario_of (seen_by p)) (entries_of (seen_by p)) e.owner (inputs_of e.act) → length (outs_of e.act) ≤ outs → MayEnterBehind claimed e
 may_commit p claimed outs e between owns grew is was at_claim some exists restless may takes few =
     let one = are_others_marks p e.owner between owns grew in
     let all : claimed ≡ (seen_by p ++ one.0) ++ mark.Place e.owner outs ∷ [] = is ∙ ap (λ (l : List Mark). l ++ mark.Place e.owner outs ∷ []) one.1 in

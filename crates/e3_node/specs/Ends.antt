@@ -1,6 +1,7 @@
 -- How the calls of a node end.
 use Rattle.std.specs.Prelude.{◌≡◌, ◌≢◌, ◌+◌, ◌<◌, ◌≤◌, ◌++◌, ◌∷◌, [], ℕ, Bool, true, false, List, length}
 use Rattle.e3_disk.specs.Meters.{Meters, Rose}
+use Rattle.e3_log.specs.Frames.{frames}
 use Rattle.e3_log.specs.declared.fault.AppendFault.{AppendFault}
 use Rattle.e3_log.specs.declared.fault.AppendFault.TheVariants as append_fault
 use Rattle.e3_node.specs.declared.fault.CutFault.{CutFault}
@@ -22,7 +23,7 @@ use Rattle.e3_wire.specs.declared.fault.WireFault.{WireFault}
 use Rattle.e3_wire.specs.declared.fault.WireFault.TheVariants as wire_fault
 use Rattle.e3_world.specs.Legal.{IsRise, made_by}
 use Rattle.e3_world.specs.Moves.{log_by, log_size, rise_records}
-use Rattle.e3_node.specs.Bodies.{IsRead, moves_with}
+use Rattle.e3_node.specs.Bodies.{IsRead, bodies_in, moves_with}
 
 -- The reason is true: the disk's count of faults rose; or the frame of the records passes the disk's capacity, and the numbers
 -- are its end, with the closed gate behind it, and that capacity. The end is no further than a log of this size has it.
@@ -30,6 +31,12 @@ abbrev pub IsReason : Why → ℕ → List Record → Meters → Meters → Type
 IsReason Fault size records old new = Rose old.faults new.faults
 IsReason (Full need room) size records old new =
     (old.capacity < need) × (need ≤ size + 6 + length (spelling records)) × (room ≡ old.capacity)
+
+-- Where the frame of the records had no room, what is told is exactly its end, with the closed gate behind it, behind frames
+-- that end at this place.
+abbrev pub EndsAt : ℕ → List Record → Why → Type 0
+EndsAt place records Fault = Unit {0}
+EndsAt place records (Full need room) = need ≡ place + 6 + length (spelling records)
 
 -- what a frame that was not added is the reason of
 abbrev pub why_of : AppendFault → Why
@@ -58,6 +65,7 @@ pub record HasFailedToRise (sc : Scenario) (history : List Entry) (site : ℕ) (
   pub read : IsRead sc history site kept image
   pub reason : IsReason why (log_size (moves_with sc history site kept))
       (rise_records sc site inc (log_by (moves_with sc history site kept))) old new
+  pub need : EndsAt (length (frames (bodies_in read.reads.lists))) (rise_records sc site inc (log_by (moves_with sc history site kept))) why
 
 -- the fault has an entry
 abbrev pub is_fall : InputFault → Bool

@@ -4,11 +4,12 @@ use Rattle.std.specs.List.{flat_map}
 use Rattle.e3_codec.specs.Fields.{AllCanBeReadBack}
 use Rattle.e3_codec.specs.Places.{FirstBad}
 use Rattle.e3_disk.specs.Meters.{Meters, Rose as RoseBy}
+use Rattle.e3_log.specs.Frames.{frames}
 use Rattle.e3_log.specs.declared.fault.OpenCause.{OpenCause}
 use Rattle.e3_log.specs.declared.fault.OpenCause.TheVariants as causes
-use Rattle.e3_node.specs.Bodies.{AllReadBack, DiskHolds, IsRead, moves_with}
+use Rattle.e3_node.specs.Bodies.{AllReadBack, DiskHolds, IsRead, bodies_in, moves_with}
 use Rattle.e3_node.specs.Counting.{counted}
-use Rattle.e3_node.specs.Ends.{IsReason, Takes}
+use Rattle.e3_node.specs.Ends.{EndsAt, IsReason, Takes}
 use Rattle.e3_node.specs.NodeStands.{IsUp}
 use Rattle.e3_node.specs.declared.fault.RiseFault.{RiseFault}
 use Rattle.e3_node.specs.declared.fault.RiseFault.TheVariants as rise_fault
@@ -126,6 +127,7 @@ pub record HasNotRaised {D : Type 0} (image : D → List ℕ → Type 0) (meters
   pub back : AllReadBack sc (history ++ rise_fall_of site kept inc why ∷ []) site
   pub reason : IsReason why (log_size (moves_with sc history site kept)) (rise_records sc site inc (log_by (moves_with sc history site kept)))
       (meters old) (meters new)
+  pub need : EndsAt (length (frames (bodies_in read.reads.lists))) (rise_records sc site inc (log_by (moves_with sc history site kept))) why
 
 -- what a rise makes of a disk; a log that is not the site's comes of no disk that stands
 abbrev pub RiseMakes : {D : Type 0} → (D → List ℕ) → (D → List ℕ → Type 0) → (D → Meters) → Scenario → List Entry → ℕ → D → State D → Raised → Type 0

@@ -1,5 +1,5 @@
 // A step that is ready to be made.
-ghost use Rattle.std.specs.Prelude.{◌≡◌, ◌≤◌, IfOk, OnOk};
+ghost use Rattle.std.specs.Prelude.{◌≡◌, ◌^◌, ◌<◌, ◌≤◌, length, IfOk, OnOk};
 ghost use Rattle.e3_node.specs.Drafts.{IsDraft};
 ghost use Rattle.e3_site.specs.SiteView.{IsPlanOf, plan_of};
 
@@ -46,6 +46,7 @@ fn draft_of(alloc: Global, plan: Plan, input: &Input) -> Result<Draft, NoMemory>
 /// Takes all memory that the step of an input may want at the site, and for its entry.
 pub(crate) fn prepare(alloc: Global, site: &mut Site, input: &Input) -> Result<Draft, NoMemory>
     ensures draft { IfOk result (IsDraft (plan_of site.old input.now) input.now) }
+    ensures few { IfOk result (λ draft. length draft.outs < 2 ^ 32) }
     ensures own { IfOk result (λ draft. IsPlanOf draft.plan site.new) }
     ensures site { site.new ≡ record site.old { room = site.new.room } }
     ensures site_room { OnOk result (1 ≤ site.new.room) }

@@ -1,5 +1,5 @@
 // Records that can be read back from the log of a site.
-ghost use Rattle.std.specs.Prelude.{◌≡◌, true, ℕ, IfOk, OnOk};
+ghost use Rattle.std.specs.Prelude.{◌≡◌, ℕ, IfOk, OnOk};
 ghost use Rattle.std.specs.List.{AllByRecursion};
 ghost use Rattle.e3_codec.specs.Fields.{AllCanBeReadBack, IsShort, RowFits, TxnNumbersFit};
 ghost use Rattle.e3_node.specs.Telling.{IsOwn, IsTold, NumOpTold, OpTold};
@@ -19,38 +19,44 @@ fn tell_txn(t: &Txn)
     let _same = twin.is_same(t.sites);
 }
 
-fn is_name(name: &Name) -> bool
-    ensures { result ≡ true → IsName name.now }
+// A name has the form of its type.
+fn tell_name(name: &Name)
+    ensures { IsName name.now }
 {
-    Name::new(name.bytes()).is_some()
+    let _name = name.copy();
 }
 
-fn is_val(val: &Val) -> bool
-    ensures { result ≡ true → IsValue val.now }
+// So has a value.
+fn tell_val(val: &Val)
+    ensures { IsValue val.now }
 {
-    val.bytes().len() <= 256
+    let _val = val.copy();
 }
 
-fn is_row(row: &Row) -> bool
-    ensures { result ≡ true → RowFits row.now }
+fn tell_row(row: &Row)
+    ensures { RowFits row.now }
 {
-    is_name(&row.name) && is_val(&row.val)
+    tell_name(&row.name);
+    tell_val(&row.val);
 }
 
-fn is_op(op: &Op) -> bool
-    ensures { result ≡ true → OpTold op.now }
+fn tell_op(op: &Op)
+    ensures { OpTold op.now }
 {
     match op {
-        Op::Read(key) => is_name(&key.name),
-        Op::Write(key, val) => is_name(&key.name) && is_val(val),
+        Op::Read(key) => tell_name(&key.name),
+        Op::Write(key, val) => {
+            tell_name(&key.name);
+            tell_val(val);
+        }
     }
 }
 
-fn is_num_op(o: &NumOp) -> bool
-    ensures { result ≡ true → NumOpTold o.now }
+fn tell_num_op(o: &NumOp)
+    ensures { NumOpTold o.now }
 {
     let _n = o.n;
-    is_op(&o.op)
+    tell_op(&o.op);
 }
 
 fn tell_weights(weights: &[u32])
@@ -59,21 +65,25 @@ fn tell_weights(weights: &[u32])
     let _weights = weights;
 }
 
-fn are_rows(rows: &[Row]) -> bool
-    ensures { result ≡ true → AllByRecursion RowFits rows.now }
+fn tell_rows(rows: &[Row])
+    ensures { AllByRecursion RowFits rows.now }
 {
-    rows.iter().all(|row| is_row(row))
+    for row in rows {
+        tell_row(row);
+    }
 }
 
-fn are_ops(ops: &[NumOp]) -> bool
-    ensures { result ≡ true → AllByRecursion NumOpTold ops.now }
+fn tell_ops(ops: &[NumOp])
+    ensures { AllByRecursion NumOpTold ops.now }
 {
-    ops.iter().all(|o| is_num_op(o))
+    for o in ops {
+        tell_num_op(o);
+    }
 }
 
-// The record is told by its numbers, names and values.
-fn is_told(r: &Record) -> bool
-    ensures { result ≡ true → IsTold r.now }
+// The numbers, names and values of a record are such as their types have.
+fn tell_record(r: &Record)
+    ensures { IsTold r.now }
 {
     match r {
         Record::Birth {
@@ -84,48 +94,42 @@ fn is_told(r: &Record) -> bool
         } => {
             let _numbers = (*format, *site);
             tell_weights(weights.as_slice());
-            are_rows(rows.as_slice())
+            tell_rows(rows.as_slice());
         }
         Record::Inc { inc } => {
             let _inc = *inc;
-            true
         }
         Record::Vote { txn, ops } => {
             tell_txn(txn);
-            are_ops(ops.as_slice())
+            tell_ops(ops.as_slice());
         }
         Record::Join { txn, n } => {
             let _n = *n;
             tell_txn(txn);
-            true
         }
         Record::Attempt { txn, n, .. } => {
             let _n = *n;
             tell_txn(txn);
-            true
         }
-        Record::Decision { txn, .. } => {
-            tell_txn(txn);
-            true
-        }
+        Record::Decision { txn, .. } => tell_txn(txn),
     }
 }
 
-fn are_told(records: &[Record]) -> bool
-    ensures { result ≡ true → AllByRecursion IsTold records.now }
+fn tell_records(records: &[Record])
+    ensures { AllByRecursion IsTold records.now }
 {
-    records.iter().all(|r| is_told(r))
+    for r in records {
+        tell_record(r);
+    }
 }
 
-/// The spelling of records. Those of a site in a legal history can be read back from the site's log. What is tested is
-/// what the types of names and values keep, so that it never refuses.
+/// The spelling of records. Those of a site in a legal history can be read back from the site's log: that each number, name
+/// and value has the form of its type is told, and nothing is tested.
 #[tactic(auto, using(crate::proofs::Telling::spelled_back))]
 pub(crate) fn spelled(alloc: Global, records: &[Record]) -> Result<List<u8>, NoMemory>
     ensures bytes { IfOk result (λ bytes. bytes ≡ spelling records.now) }
     ensures back { OnOk result ((site : ℕ) → AllByRecursion (IsOwn site) records.now → AllCanBeReadBack site records.now) }
 {
-    if !are_told(records) {
-        return Err(NoMemory);
-    }
+    tell_records(records);
     put_records(alloc, records)
 }

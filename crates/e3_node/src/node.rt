@@ -5,9 +5,9 @@ ghost use Rattle.e3_disk.specs.Leaves.{code_of};
 ghost use Rattle.e3_disk.specs.Meters.{Keeps, Rose, armed, cut};
 ghost use Rattle.e3_law_local.specs.Drafts.{MayTake};
 ghost use Rattle.e3_node.specs.Bodies.{DiskStands};
-ghost use Rattle.e3_node.specs.Ends.{FellOver, HasFailedToRise, HasRisen, IsReason, Takes, calls_for, is_fall};
+ghost use Rattle.e3_node.specs.Ends.{EndsAt, FellOver, HasFailedToRise, HasRisen, IsReason, Takes, calls_for, is_fall};
 ghost use Rattle.e3_node.specs.NodeStands.{NodeStands};
-ghost use Rattle.e3_node.specs.NodeView.{disk_of, is_up_in};
+ghost use Rattle.e3_node.specs.NodeView.{disk_of, end_of, is_up_in};
 ghost use Rattle.e3_node.specs.SharedStands.{SharedStands};
 ghost use Rattle.e3_node.specs.Turns.{HasSeenMore, Meanwhile, history_seen, scenario_seen};
 ghost use Rattle.e3_node.specs.declared.fault.CutFault.TheVariants as cut_fault;
@@ -190,12 +190,14 @@ impl<D: Disk + Drill + Drop> Node<D> {
         ensures kept { (fault : InputFaults) → result ≡ Err fault → is_fall fault ≡ false →
             (entries_of shared.new ≡ entries_of shared.old) × (disk_of self.new.state ≡ disk_of self.old.state) }
 
-        // the disk's count of faults rose, or the frame passes its capacity; no call arms or cuts it, and what is left of an
-        // arm pays for the calls of the frame
+        // the disk's count of faults rose, or the frame passes its capacity, and its end is told exactly; no call arms or cuts
+        // it, and what is left of an arm pays for the calls of the frame
         ensures why { (why : Why) → result ≡ Err (input_fault.Fell why) →
             IsReason why (log_size (moves_of (scenario_of shared.old) (entries_of shared.old) self.old.site))
             (made_by (scenario_of shared.old) (entries_of shared.old) self.old.site input).records
             (D.meters (disk_of self.old.state)) (D.meters (disk_of self.new.state)) }
+        ensures need { (why : Why) → result ≡ Err (input_fault.Fell why) →
+            EndsAt (end_of self.old.state) (made_by (scenario_of shared.old) (entries_of shared.old) self.old.site input).records why }
         ensures meters { Keeps (D.meters (disk_of self.old.state)) (D.meters (disk_of self.new.state)) }
         ensures takes { OnOk result (Takes (calls_for (made_by (scenario_of shared.old) (entries_of shared.old) self.old.site input).records)
             (D.meters (disk_of self.old.state)) (D.meters (disk_of self.new.state))) }
@@ -256,6 +258,8 @@ impl<D: Disk + Drill + Drop> Node<D> {
             IsReason why (log_size (moves_of (scenario_seen pass.old) (history_seen pass.old) self.old.site))
             (made_by (scenario_seen pass.old) (history_seen pass.old) self.old.site input).records
             (D.meters (disk_of self.old.state)) (D.meters (disk_of self.new.state)) }
+        ensures need { (why : Why) → result ≡ Err (input_fault.Fell why) →
+            EndsAt (end_of self.old.state) (made_by (scenario_seen pass.old) (history_seen pass.old) self.old.site input).records why }
         ensures meters { Keeps (D.meters (disk_of self.old.state)) (D.meters (disk_of self.new.state)) }
         ensures takes { OnOk result (Takes (calls_for (made_by (scenario_seen pass.old) (history_seen pass.old) self.old.site input).records)
             (D.meters (disk_of self.old.state)) (D.meters (disk_of self.new.state))) }

@@ -27,6 +27,16 @@ pub(crate) fn add_records(
     Ok(())
 }
 
+// Moves records to the end.
+fn move_records(read: List<Record>, out: &mut List<Record>) -> Result<(), NoMemory>
+    ensures { OnOk result (out.new ≡ out.old ++ read) }
+{
+    for r in read.into_vec() {
+        out.push(r)?;
+    }
+    Ok(())
+}
+
 // The records of one frame.
 fn records_in(alloc: Global, site: u32, body: &[u8]) -> Result<List<Record>, Unready>
     ensures read { IfOk result (λ rs. AllCanBeReadBack site rs × (body.now ≡ spelling rs)) }
@@ -51,7 +61,7 @@ fn add_frame(
     ensures foreign { result ≡ Err unready.Foreign → NoRecords site frame.now.body }
 {
     let read = records_in(alloc, site, frame.body.as_slice())?;
-    add_records(alloc, read.as_slice(), records)?;
+    move_records(read, records)?;
     Ok(())
 }
 

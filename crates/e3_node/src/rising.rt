@@ -22,8 +22,8 @@ use crate::readying::{Readied, Unready, Wish, ready};
 use crate::writing::write;
 use crate::{RiseFault, State};
 use e3_disk::{Disk, Drill};
+use e3_law_orderly::logs_are_orderly;
 use e3_log::{Frame, Log, OpenCause, OpenRefused};
-use e3_orderly::logs_are_orderly;
 use e3_types::{Act, Entry, List, Why};
 use e3_wire::Shared;
 

@@ -1,11 +1,11 @@
 // An input of a site that is up.
-ghost use Rattle.std.specs.Prelude.{◌≡◌, ◌≢◌, ◌≤◌, ◌++◌, ◌∷◌, ◌↔◌, [], true, false, length, IfOk, OnOk, Err};
+ghost use Rattle.std.specs.Prelude.{◌≡◌, ◌≢◌, ◌^◌, ◌<◌, ◌≤◌, ◌++◌, ◌∷◌, ◌↔◌, [], true, false, length, OnOk, Err};
 ghost use Rattle.e3_disk.specs.Meters.{Keeps};
 ghost use Rattle.e3_node.specs.Bodies.{AllReadBack, DiskHolds};
 ghost use Rattle.e3_node.specs.Counting.{count_of};
-ghost use Rattle.e3_node.specs.Ends.{FellOver, IsReason, Takes, calls_for, is_fall};
+ghost use Rattle.e3_node.specs.Ends.{EndsAt, FellOver, IsReason, Takes, calls_for, is_fall};
 ghost use Rattle.e3_node.specs.NodeStands.{IsIn, IsUp};
-ghost use Rattle.e3_node.specs.NodeView.{disk_of};
+ghost use Rattle.e3_node.specs.NodeView.{disk_of, end_of};
 ghost use Rattle.e3_node.specs.SharedStands.{SharedStands};
 ghost use Rattle.e3_node.specs.declared.fault.InputFault.{InputFault as InputFaults};
 ghost use Rattle.e3_node.specs.declared.fault.InputFault.TheVariants as input_fault;
@@ -26,20 +26,18 @@ use crate::{InputFault, State};
 use core::mem::replace_with;
 use e3_disk::Disk;
 use e3_law_begun::{begun_are_transactions, legal_histories_mention_what_stands};
+use e3_law_trails::records_suit_their_site;
 use e3_log::Log;
 use e3_site::Site;
-use e3_trails::records_suit_their_site;
-use e3_types::{Act, Entry, Input, List, NoMemory, Packet, Record, Told, Why};
+use e3_types::{Act, Entry, Input, List, Packet, Record, Told, Why};
 use e3_wire::Shared;
 
 /// For how many packets there has to be room.
-pub(crate) fn room_for(outs: &List<Packet>) -> Result<u32, NoMemory>
-    ensures { IfOk result (λ room. room ≡ length outs.now) }
+pub(crate) fn room_for(outs: &List<Packet>) -> u32
+    requires { length outs.now < 2 ^ 32 }
+    ensures { result ≡ length outs.now }
 {
-    match u32::try_from(outs.len()) {
-        Ok(room) => Ok(room),
-        Err(_) => Err(NoMemory),
-    }
+    outs.len() as u32
 }
 
 /// The entry of a step, its packets without numbers.
@@ -107,6 +105,8 @@ fn step<D: Disk>(
     ensures why { (why : Whys) → result ≡ Err (input_fault.Fell why) →
         IsReason why (log_size (moves_of (scenario_of shared.old) (entries_of shared.old) number))
         (made_by (scenario_of shared.old) (entries_of shared.old) number input).records (D.meters log.old.disk) (D.meters log.new.disk) }
+    ensures need { (why : Whys) → result ≡ Err (input_fault.Fell why) →
+        EndsAt log.old.end (made_by (scenario_of shared.old) (entries_of shared.old) number input).records why }
     ensures full { (result ≡ Err input_fault.HistoryFull) ↔ (most_of shared.old ≤ length (entries_of shared.old)) }
     ensures keeps { Keeps (D.meters log.old.disk) (D.meters log.new.disk) }
     ensures takes { OnOk result (Takes (calls_for (made_by (scenario_of shared.old) (entries_of shared.old) number input).records)
@@ -119,7 +119,7 @@ fn step<D: Disk>(
         return Err(InputFault::HistoryFull);
     }
     let draft = prepare(shared.alloc(), site, &input)?;
-    let room = room_for(&draft.outs)?;
+    let room = room_for(&draft.outs);
     claim(shared, number, room)?;
     match write(log, draft.records.as_slice(), draft.body.as_slice()) {
         Ok(()) => {
@@ -171,6 +171,8 @@ pub(crate) fn take_input<D: Disk + Drop>(
     ensures why { (why : Whys) → result ≡ Err (input_fault.Fell why) →
         IsReason why (log_size (moves_of (scenario_of shared.old) (entries_of shared.old) number))
         (made_by (scenario_of shared.old) (entries_of shared.old) number input).records (D.meters (disk_of state.old)) (D.meters (disk_of state.new)) }
+    ensures need { (why : Whys) → result ≡ Err (input_fault.Fell why) →
+        EndsAt (end_of state.old) (made_by (scenario_of shared.old) (entries_of shared.old) number input).records why }
     ensures full { is_up_at (entries_of shared.old) number ≡ true →
         (result ≡ Err input_fault.HistoryFull) ↔ (most_of shared.old ≤ length (entries_of shared.old)) }
     ensures keeps { Keeps (D.meters (disk_of state.old)) (D.meters (disk_of state.new)) }

@@ -4,9 +4,9 @@ ghost use Rattle.e3_disk.specs.Meters.{Keeps};
 ghost use Rattle.e3_law_local.specs.Drafts.{MayTake};
 ghost use Rattle.e3_node.specs.Bodies.{AllReadBack};
 ghost use Rattle.e3_node.specs.Counting.{count_of};
-ghost use Rattle.e3_node.specs.Ends.{IsReason, Takes, calls_for};
+ghost use Rattle.e3_node.specs.Ends.{EndsAt, IsReason, Takes, calls_for};
 ghost use Rattle.e3_node.specs.NodeStands.{IsIn, IsUp};
-ghost use Rattle.e3_node.specs.NodeView.{disk_of};
+ghost use Rattle.e3_node.specs.NodeView.{disk_of, end_of};
 ghost use Rattle.e3_node.specs.Turns.{EndsSo, HasTurned, history_seen, scenario_seen};
 ghost use Rattle.e3_node.specs.declared.fault.InputFault.TheVariants as input_fault;
 ghost use Rattle.e3_node.specs.declared.state.State.TheVariants as state;
@@ -26,9 +26,9 @@ use crate::writing::write;
 use crate::{InputFault, State};
 use e3_disk::Disk;
 use e3_law_begun::{begun_are_transactions, legal_histories_mention_what_stands};
+use e3_law_trails::records_suit_their_site;
 use e3_log::Log;
 use e3_site::Site;
-use e3_trails::records_suit_their_site;
 use e3_types::Input;
 use e3_wire::{Wire, WirePass};
 use std::alloc::Global;
@@ -66,6 +66,8 @@ fn step_by_turns<R: Wait, D: Disk>(
     ensures why { (why : Why) → result ≡ Err (input_fault.Fell why) →
         IsReason why (log_size (moves_of (scenario_seen pass.old) (history_seen pass.old) number))
         (made_by (scenario_seen pass.old) (history_seen pass.old) number input).records (D.meters log.old.disk) (D.meters log.new.disk) }
+    ensures need { (why : Why) → result ≡ Err (input_fault.Fell why) →
+        EndsAt log.old.end (made_by (scenario_seen pass.old) (history_seen pass.old) number input).records why }
     ensures full { result ≡ Err input_fault.HistoryFull → most_of (seen_by pass.new) ≤ used_of (seen_by pass.new) }
     ensures keeps { Keeps (D.meters log.old.disk) (D.meters log.new.disk) }
     ensures takes { OnOk result (Takes (calls_for (made_by (scenario_seen pass.old) (history_seen pass.old) number input).records)
@@ -75,7 +77,7 @@ fn step_by_turns<R: Wait, D: Disk>(
     begun_are_transactions();
     records_suit_their_site();
     let draft = prepare(alloc, site, &input)?;
-    let room = room_for(&draft.outs)?;
+    let room = room_for(&draft.outs);
     wire.claim(rt, pass, number, room)?;
     match write(log, draft.records.as_slice(), draft.body.as_slice()) {
         Ok(()) => {
@@ -124,6 +126,8 @@ pub(crate) fn take_by_turns<R: Wait, D: Disk + Drop>(
     ensures why { (why : Why) → result ≡ Err (input_fault.Fell why) →
         IsReason why (log_size (moves_of (scenario_seen pass.old) (history_seen pass.old) number))
         (made_by (scenario_seen pass.old) (history_seen pass.old) number input).records (D.meters (disk_of state.old)) (D.meters (disk_of state.new)) }
+    ensures need { (why : Why) → result ≡ Err (input_fault.Fell why) →
+        EndsAt (end_of state.old) (made_by (scenario_seen pass.old) (history_seen pass.old) number input).records why }
     ensures full { result ≡ Err input_fault.HistoryFull → most_of (seen_by pass.new) ≤ used_of (seen_by pass.new) }
     ensures keeps { Keeps (D.meters (disk_of state.old)) (D.meters (disk_of state.new)) }
     ensures takes { OnOk result (Takes (calls_for (made_by (scenario_seen pass.old) (history_seen pass.old) number input).records)

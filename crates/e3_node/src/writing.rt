@@ -3,7 +3,7 @@ ghost use Rattle.std.specs.Prelude.{◌≡◌, ◌≢◌, ◌++◌, [], true, �
 ghost use Rattle.e3_disk.specs.Meters.{Keeps};
 ghost use Rattle.e3_log.specs.Stands.{Stands};
 ghost use Rattle.e3_node.specs.Bodies.{Hold, ReadsAfter, bodies_in, body_of};
-ghost use Rattle.e3_node.specs.Ends.{IsReason, Takes, calls_for, why_of};
+ghost use Rattle.e3_node.specs.Ends.{EndsAt, IsReason, Takes, calls_for, why_of};
 ghost use Rattle.e3_types.specs.Spelling.{spelling};
 ghost use Rattle.e3_types.specs.declared.records.Record.{Record as Records};
 ghost use Rattle.e3_world.specs.Moves.{Move, log_size};
@@ -32,6 +32,7 @@ pub(crate) fn write<D: Disk>(log: &mut Log<D>, records: &[Record], body: &[u8]) 
         IfErr result (λ why. (bytes : Items ℕ) → D.image log.new.disk bytes → ReadsAfter lists why records.now bytes) }
     ensures reason { (moves : Items Move) (lists : Items (Items Records)) → Hold moves lists → Stands D.content D.image (bodies_in lists) log.old →
         IfErr result (λ why. IsReason why (log_size moves) records.now (D.meters log.old.disk) (D.meters log.new.disk)) }
+    ensures need { IfErr result (EndsAt log.old.end records.now) }
     ensures some { IfErr result (λ _. records.now ≢ []) }
     ensures keeps { Keeps (D.meters log.old.disk) (D.meters log.new.disk) }
     ensures lit { OnOk result ((D.meters log.new.disk).powered ≡ true) }

@@ -5,7 +5,7 @@ use Rattle.e3_types.specs.declared.entries.Input.TheVariants as input
 use Rattle.e3_types.specs.declared.scenarios.Scenario.{Scenario}
 use Rattle.e3_law_local.specs.Others.{Allows, AreOthers}
 use Rattle.e3_law_local.proofs.Laws.{local}
-use Rattle.e3_law_local.proofs.Least.{least_is_pending, least_stays}
+use Rattle.e3_law_local.proofs.Least.{least_is_pending}
 use Rattle.e3_world.specs.Items.{inputs_of}
 use Rattle.e3_world.specs.Legal.{IsLegal}
 use Rattle.e3_world.specs.Packets.{outs_of}
@@ -13,10 +13,10 @@ use Rattle.e3_wire.specs.Claims.{ClaimedEntriesMayEnter, ClaimedEntriesStay, Tak
 use Rattle.e3_wire.specs.declared.marks.Mark.{Mark}
 use Rattle.e3_wire.specs.declared.marks.Mark.TheVariants as mark
 use Rattle.e3_wire.specs.Marks.{Note, entries_of, scenario_of}
-use Rattle.e3_wire.specs.Wires.{TakesOne}
+use Rattle.e3_wire.specs.Wires.{TakesInTurn}
 use Rattle.e3_wire.proofs.Foreign.{entries_append, foreign_are_others, foreign_of_sites}
 use Rattle.e3_wire.proofs.Notes.{claim_promises, scenario_stays}
-use Rattle.e3_wire.proofs.Takes.{all_wait, one_on}
+use Rattle.e3_wire.proofs.Takes.{all_wait, turn_on}
 
 pub claimed_entries_may_enter : ClaimedEntriesMayEnter
 claimed_entries_may_enter e outs marks played site exists may takes few =
@@ -29,8 +29,8 @@ claimed_entries_may_enter e outs marks played site exists may takes few =
       allowed = (let P : Scenario → Type 0 = λ sc. Allows sc (entries_of (marks ++ mark.Place e.owner outs ∷ [])) e in
           let Q : List Entry → Type 0 = λ h. Allows (scenario_of marks) h e in
           subst P (sym keys) (subst Q (sym all) may));
-      takes = (let P : Scenario → Type 0 = λ sc. TakesOne sc (entries_of (marks ++ mark.Place e.owner outs ∷ [])) e.owner (inputs_of e.act) in
-          let Q : List Entry → Type 0 = λ h. TakesOne (scenario_of marks) h e.owner (inputs_of e.act) in
+      takes = (let P : Scenario → Type 0 = λ sc. TakesInTurn sc (entries_of (marks ++ mark.Place e.owner outs ∷ [])) e.owner (inputs_of e.act) in
+          let Q : List Entry → Type 0 = λ h. TakesInTurn (scenario_of marks) h e.owner (inputs_of e.act) in
           subst P (sym keys) (subst Q (sym all) takes));
       place = (let P : Note → Type 0 = λ w. 1 ≤ w.places in subst P (sym note) (omega arith));
       room = (let P : Note → Type 0 = λ w. length (outs_of e.act) ≤ w.room in subst P (sym note) (omega (arith, few)));
@@ -46,8 +46,8 @@ claimed_entries_stay e outs (mark.Place o n ∷ rest) since played foreign site 
 claimed_entries_stay e outs (mark.Start sc most ∷ rest) since played foreign site exists calm may takes few =
     claimed_entries_may_enter e outs (M ++ since) played site exists
     (let P : List Entry → Type 0 = λ k. Allows sc k e in
-    subst P (sym parts) (local sc h more e played.given legal site calm others may (all_wait sc (h ++ more) e.owner (inputs_of e.act) there)))
-    (let P : List Entry → Type 0 = λ k. TakesOne sc k e.owner (inputs_of e.act) in subst P (sym parts) there) few
+    subst P (sym parts) (local sc h more e played.given legal site calm others may (all_wait sc (h ++ more) e.owner (inputs_of e.act) legal there)))
+    (let P : List Entry → Type 0 = λ k. TakesInTurn sc k e.owner (inputs_of e.act) in subst P (sym parts) there) few
   where
     M : List Mark
     M = mark.Start sc most ∷ rest
@@ -67,8 +67,8 @@ claimed_entries_stay e outs (mark.Start sc most ∷ rest) since played foreign s
     others : AreOthers e.owner more
     others = foreign_are_others sc e.owner M since played.legal foreign
 
-    there : TakesOne sc (h ++ more) e.owner (inputs_of e.act)
-    there = one_on sc h more e.owner (inputs_of e.act) (λ p least. least_stays sc h more e.owner p legal others (foreign_of_sites e.owner since foreign) least) takes
+    there : TakesInTurn sc (h ++ more) e.owner (inputs_of e.act)
+    there = turn_on sc h more e.owner (inputs_of e.act) legal others (foreign_of_sites e.owner since foreign) takes
 
 pub taken_is_due : TakenIsDue
 taken_is_due sc h site (input.Deliver p) restless may least = record {

@@ -21,7 +21,7 @@ use Rattle.e3_wire.specs.declared.marks.Stored.{Stored}
 use Rattle.e3_wire.specs.declared.marks.Stored.TheVariants as stored
 use Rattle.e3_wire.specs.Marks.{Note, entries_of, note_by, note_of, promised, rooms, used_by}
 use Rattle.e3_wire.specs.Stores.{IsKept, count_stored, marks_from, marks_of}
-use Rattle.e3_wire.specs.Wires.{MayEnterBehind, TakesOne, WireStands, act_on}
+use Rattle.e3_wire.specs.Wires.{MayEnterBehind, WireStands, act_on}
 use Rattle.e3_wire.proofs.Foreign.{entries_append}
 use Rattle.e3_wire.proofs.Sums.{changes, itself, one_of_all}
 use Rattle.e3_wire.proofs.Takes.{net_on, used}
@@ -78,11 +78,6 @@ on_is h o (Line number) n is = refl
 -- what is taken changes no count of what was sent
 sent_taken : (net : Traffic) (inputs : List Input) → (behind_inputs net inputs).sent ≡ net.sent
 sent_taken net inputs = ap (λ (t : Traffic). t.sent) (behind_all_rest net inputs)
-
-one_input : (sc : Scenario) (h : List Entry) (site : ℕ) (inputs : List Input) → TakesOne sc h site inputs → length inputs ≤ 1
-one_input sc h site [] takes = omega arith
-one_input sc h site (i ∷ []) takes = omega arith
-one_input sc h site (i ∷ j ∷ inputs) takes = absurd takes
 
 -- what an entry of a site does to the sums
 pub record Uses (marks : List Mark) (last : ℕ) (e y : Entry) : Type 0 where
@@ -166,7 +161,6 @@ entry_keeps sc most rest net e was may = record {
 
 -- what is known before the entry is made, and what holds behind it
 pub record Entered (sc : Scenario) (most : ℕ) (es : List Entry) (ms : List Stored) (net : Traffic) (places room spare hr sr nr : ℕ) (e : Entry) : Type 0 where
-  pub single : length (inputs_of e.act) ≤ 1
   pub counts : net.sent + length (outs_of e.act) < 2 ^ 64
   pub packets : length (outs_of e.act) ≤ nr
   pub entry : 1 ≤ hr
@@ -183,7 +177,6 @@ pub record Entered (sc : Scenario) (most : ℕ) (es : List Entry) (ms : List Sto
 pub entered : (sc : Scenario) (most : ℕ) (es : List Entry) (ms : List Stored) (net : Traffic) (places room spare hr sr nr : ℕ) (e : Entry) → IsKept sc most es ms net places room spare hr sr nr →
     MayEnterBehind (marks_from sc most es ms) e → Entered sc most es ms net places room spare hr sr nr e
 entered sc most es ms net places room spare hr sr nr e was may = record {
-  single = one_input sc (entries_of M) e.owner (inputs_of e.act) may.takes;
   counts = omega (arith, some_room, was.room_is, was.counted);
   packets = omega (arith, some_room, was.room_is, was.for_packets);
   entry = omega (arith, some_place, was.places_are, was.for_entries, was.spare_is);

@@ -8,7 +8,6 @@ use Rattle.e3_law_local.specs.Others.{Allows, AreOthers}
 use Rattle.e3_law_local.proofs.Alike.{all_on}
 use Rattle.e3_law_local.proofs.Drafted.{drafts_are_allowed, drafts_stay}
 use Rattle.e3_law_local.proofs.Laws.{legal_behind}
-use Rattle.e3_law_local.proofs.Least.{least_stays}
 use Rattle.e3_world.specs.Items.{inputs_of}
 use Rattle.e3_world.specs.Legal.{IsLegal}
 use Rattle.e3_world.specs.Packets.{is_calm, lines, outs_of, step_items}
@@ -16,10 +15,10 @@ use Rattle.e3_wire.specs.Claims.{ClaimedDraftsMayEnter}
 use Rattle.e3_wire.specs.declared.marks.Mark.{Mark}
 use Rattle.e3_wire.specs.declared.marks.Mark.TheVariants as mark
 use Rattle.e3_wire.specs.Marks.{Note, entries_of, note_of}
-use Rattle.e3_wire.specs.Wires.{TakesOne}
+use Rattle.e3_wire.specs.Wires.{TakesInTurn}
 use Rattle.e3_wire.proofs.Foreign.{entries_append, foreign_are_others, foreign_of_sites}
 use Rattle.e3_wire.proofs.Notes.{claim_promises}
-use Rattle.e3_wire.proofs.Takes.{all_wait, one_on}
+use Rattle.e3_wire.proofs.Takes.{all_wait, turn_on}
 
 some_owner : (sc : Scenario) (h : List Entry) (o : ℕ) (act : Act) → MayEnter sc h (record { owner = o; act = act }) → 1 ≤ o
 some_owner sc h zero act may = absurd may
@@ -37,8 +36,8 @@ claimed_drafts_may_enter e outs (mark.Start sc most ∷ rest) since played forei
   exists = low;
   allowed = (let P : List Entry → Type 0 = λ k. Allows sc k e in
       subst P (sym all) (drafts_are_allowed sc (h ++ more) e (ap (λ n. is_calm (step_items sc n)) line ∙ calm)
-      (drafts_stay sc h more e played.given legal others may) (all_wait sc (h ++ more) e.owner (inputs_of e.act) takes_there)));
-  takes = (let P : List Entry → Type 0 = λ k. TakesOne sc k e.owner (inputs_of e.act) in subst P (sym all) takes_there);
+      (drafts_stay sc h more e played.given legal others may) (all_wait sc (h ++ more) e.owner (inputs_of e.act) legal takes_there)));
+  takes = (let P : List Entry → Type 0 = λ k. TakesInTurn sc k e.owner (inputs_of e.act) in subst P (sym all) takes_there);
   place = (let P : Note → Type 0 = λ w. 1 ≤ w.places in subst P (sym note) (omega arith));
   room = (let P : Note → Type 0 = λ w. length (outs_of e.act) ≤ w.room in subst P (sym note) (omega (arith, few)));
 }
@@ -64,8 +63,8 @@ claimed_drafts_may_enter e outs (mark.Start sc most ∷ rest) since played forei
     others : AreOthers e.owner more
     others = foreign_are_others sc e.owner M since played.legal foreign
 
-    takes_there : TakesOne sc (h ++ more) e.owner (inputs_of e.act)
-    takes_there = one_on sc h more e.owner (inputs_of e.act) (λ p least. least_stays sc h more e.owner p legal others (foreign_of_sites e.owner since foreign) least) takes
+    takes_there : TakesInTurn sc (h ++ more) e.owner (inputs_of e.act)
+    takes_there = turn_on sc h more e.owner (inputs_of e.act) legal others (foreign_of_sites e.owner since foreign) takes
 
     line : lines (h ++ more) ≡ lines h
     line = (all_on sc e.owner h more played.given (legal_behind sc [] h more legal) others).line

@@ -6,7 +6,6 @@ use Rattle.e3_turn.specs.Chronicles.{count_of, ExtendsByOthers, IsForeign}
 use Rattle.e3_types.specs.declared.entries.Entry.{Entry}
 use Rattle.e3_law_local.specs.Others.{Allows, AreOthers}
 use Rattle.e3_law_local.proofs.Laws.{local}
-use Rattle.e3_law_local.proofs.Least.{least_stays}
 use Rattle.e3_world.specs.Items.{inputs_of}
 use Rattle.e3_world.specs.Legal.{IsLegal}
 use Rattle.e3_world.specs.Packets.{is_calm, outs_of, present_items}
@@ -14,9 +13,9 @@ use Rattle.e3_wire.specs.Claims.{AreOthersMarks, LeaveASite}
 use Rattle.e3_wire.specs.declared.marks.Mark.{Mark}
 use Rattle.e3_wire.specs.declared.marks.Mark.TheVariants as mark
 use Rattle.e3_wire.specs.Marks.{AreForeign, Note, belongs, entries_of, note_of, scenario_of}
-use Rattle.e3_wire.specs.Wires.{IsPlayed, MayEnterBehind, TakesOne}
+use Rattle.e3_wire.specs.Wires.{IsPlayed, MayEnterBehind, TakesInTurn}
 use Rattle.e3_wire.proofs.Foreign.{entries_append, foreign_are_others, foreign_of_sites, notes_stay}
-use Rattle.e3_wire.proofs.Takes.{all_wait, one_on}
+use Rattle.e3_wire.proofs.Takes.{all_wait, turn_on}
 
 -- marks of others are foreign to each owner of the pass
 foreign_one : (last : ℕ) (owners : List ℕ) (o : ℕ) (m : Mark) → 0 < count_of o owners → IsForeign belongs last owners m → belongs m o ≡ false
@@ -63,8 +62,8 @@ enter_on (mark.Start sc most ∷ rest) since e played foreign calm may = record 
   site = may.site;
   exists = may.exists;
   allowed = (let P : List Entry → Type 0 = λ k. Allows sc k e in
-      subst P (sym parts) (local sc h more e played.given legal may.site calm others may.allowed (all_wait sc (h ++ more) e.owner (inputs_of e.act) takes)));
-  takes = (let P : List Entry → Type 0 = λ k. TakesOne sc k e.owner (inputs_of e.act) in subst P (sym parts) takes);
+      subst P (sym parts) (local sc h more e played.given legal may.site calm others may.allowed (all_wait sc (h ++ more) e.owner (inputs_of e.act) legal takes)));
+  takes = (let P : List Entry → Type 0 = λ k. TakesInTurn sc k e.owner (inputs_of e.act) in subst P (sym parts) takes);
   place = (let P : Note → Type 0 = λ w. 1 ≤ w.places in subst P (sym note) may.place);
   room = (let P : Note → Type 0 = λ w. length (outs_of e.act) ≤ w.room in subst P (sym note) may.room);
 }
@@ -87,8 +86,8 @@ enter_on (mark.Start sc most ∷ rest) since e played foreign calm may = record 
     others : AreOthers e.owner more
     others = foreign_are_others sc e.owner M since played.legal foreign
 
-    takes : TakesOne sc (h ++ more) e.owner (inputs_of e.act)
-    takes = one_on sc h more e.owner (inputs_of e.act) (λ p least. least_stays sc h more e.owner p legal others (foreign_of_sites e.owner since foreign) least) may.takes
+    takes : TakesInTurn sc (h ++ more) e.owner (inputs_of e.act)
+    takes = turn_on sc h more e.owner (inputs_of e.act) legal others (foreign_of_sites e.owner since foreign) may.takes
 
     note : note_of e.owner (M ++ since) ≡ note_of e.owner M
     note = notes_stay e.owner M since foreign

@@ -10,7 +10,7 @@ use Rattle.e3_types.specs.declared.scenarios.Scenario.{Scenario}
 use Rattle.e3_wire.specs.declared.marks.Mark.{Mark}
 use Rattle.e3_wire.specs.declared.marks.Mark.TheVariants as mark
 use Rattle.e3_wire.specs.Marks.{AreForeign, NothingIsPromised, belongs, entries_of, last_owner, most_of, note_of, scenario_of, used_by, used_of}
-use Rattle.e3_wire.specs.Wires.{IsPlayed, MayEnterBehind, TakesLeast, TakesOne}
+use Rattle.e3_wire.specs.Wires.{IsPlayed, MayEnterBehind, TakesLeast, TakesInTurn}
 use Rattle.e3_world.specs.Items.{inputs_of}
 use Rattle.e3_world.specs.Legal.{IsDue, IsLegal}
 use Rattle.e3_world.specs.Packets.{is_calm, outs_of, present_items}
@@ -89,14 +89,14 @@ GrowthAddsUp = (first second third : List Mark) → IsPlayed first → HaveGrown
 -- entered.
 abbrev pub ClaimedEntriesMayEnter : Type 0
 ClaimedEntriesMayEnter = (e : Entry) (outs : ℕ) (marks : List Mark) → IsPlayed marks → 1 ≤ e.owner → e.owner ≤ last_owner marks →
-    Allows (scenario_of marks) (entries_of marks) e → TakesOne (scenario_of marks) (entries_of marks) e.owner (inputs_of e.act) →
+    Allows (scenario_of marks) (entries_of marks) e → TakesInTurn (scenario_of marks) (entries_of marks) e.owner (inputs_of e.act) →
     length (outs_of e.act) ≤ outs → MayEnterBehind (marks ++ mark.Place e.owner outs ∷ []) e
 
 -- If no recover step is on it may be, whatever others put before the claim.
 abbrev pub ClaimedEntriesStay : Type 0
 ClaimedEntriesStay = (e : Entry) (outs : ℕ) (seen since : List Mark) → IsPlayed (seen ++ since) → AreForeign e.owner since →
     1 ≤ e.owner → e.owner ≤ last_owner seen → is_calm (present_items (scenario_of seen) (entries_of seen)) ≡ false →
-    Allows (scenario_of seen) (entries_of seen) e → TakesOne (scenario_of seen) (entries_of seen) e.owner (inputs_of e.act) →
+    Allows (scenario_of seen) (entries_of seen) e → TakesInTurn (scenario_of seen) (entries_of seen) e.owner (inputs_of e.act) →
     length (outs_of e.act) ≤ outs → MayEnterBehind ((seen ++ since) ++ mark.Place e.owner outs ∷ []) e
 
 -- An input that a site may take, and whose packet is the least to it, is due, if no recover step is on.
@@ -108,5 +108,5 @@ TakenIsDue = (sc : Scenario) (h : List Entry) (site : ℕ) (i : Input) → is_ca
 abbrev pub ClaimedDraftsMayEnter : Type 0
 ClaimedDraftsMayEnter = (e : Entry) (outs : ℕ) (seen since : List Mark) → IsPlayed (seen ++ since) → AreForeign e.owner since →
     e.owner ≤ last_owner seen → is_calm (present_items (scenario_of seen) (entries_of seen)) ≡ false →
-    MayEnter (scenario_of seen) (entries_of seen) e → TakesOne (scenario_of seen) (entries_of seen) e.owner (inputs_of e.act) →
+    MayEnter (scenario_of seen) (entries_of seen) e → TakesInTurn (scenario_of seen) (entries_of seen) e.owner (inputs_of e.act) →
     length (outs_of e.act) ≤ outs → MayEnterBehind ((seen ++ since) ++ mark.Place e.owner outs ∷ []) e

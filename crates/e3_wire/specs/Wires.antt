@@ -7,7 +7,7 @@ use Rattle.e3_types.specs.declared.entries.Input.{Input}
 use Rattle.e3_types.specs.declared.entries.Input.TheVariants as input
 use Rattle.e3_types.specs.declared.messages.Packet.{Packet}
 use Rattle.e3_types.specs.declared.scenarios.Scenario.{Scenario}
-use Rattle.e3_law_local.specs.Least.{IsLeastTo}
+use Rattle.e3_law_local.specs.Least.{AreFirstTo, IsLeastTo}
 use Rattle.e3_law_local.specs.Others.{Allows}
 use Rattle.e3_net.specs.Stands.{NetStands}
 use Rattle.e3_net.specs.Traffic.{Traffic}
@@ -36,19 +36,19 @@ abbrev pub TakesLeast : Scenario → List Entry → ℕ → Input → Type 0
 TakesLeast sc history site (input.Deliver packet) = IsLeastTo sc history site packet
 TakesLeast sc history site i = Unit {0}
 
--- it is one input at most, and no packet but the least
-abbrev pub TakesOne : Scenario → List Entry → ℕ → List Input → Type 0
-TakesOne sc history site [] = Unit {0}
-TakesOne sc history site (i ∷ []) = TakesLeast sc history site i
-TakesOne sc history site (i ∷ j ∷ inputs) = ⊥
+-- One input takes the least packet to the site, or none; several take the first ones, in their order.
+abbrev pub TakesInTurn : Scenario → List Entry → ℕ → List Input → Type 0
+TakesInTurn sc history site [] = Unit {0}
+TakesInTurn sc history site (i ∷ []) = TakesLeast sc history site i
+TakesInTurn sc history site (i ∷ j ∷ inputs) = AreFirstTo sc history site (i ∷ j ∷ inputs)
 
 -- An entry of a site may be entered behind these marks: it is allowed there but for the numbers of its packets, it takes
--- the least packet to its site or none, and a place and room for its packets are promised to the site.
+-- the first packets to its site or none, and a place and room for its packets are promised to the site.
 pub record MayEnterBehind (marks : List Mark) (e : Entry) : Type 0 where
   pub site : 1 ≤ e.owner
   pub exists : e.owner ≤ last_owner marks
   pub allowed : Allows (scenario_of marks) (entries_of marks) e
-  pub takes : TakesOne (scenario_of marks) (entries_of marks) e.owner (inputs_of e.act)
+  pub takes : TakesInTurn (scenario_of marks) (entries_of marks) e.owner (inputs_of e.act)
   pub place : 1 ≤ (note_of e.owner marks).places
   pub room : length (outs_of e.act) ≤ (note_of e.owner marks).room
 

@@ -24,9 +24,19 @@ fn leave(net: &mut Net, input: &Input)
     }
 }
 
+// The packets of deliveries leave the network, one after the other.
+fn leave_all(net: &mut Net, inputs: &[Input])
+    ensures traffic { net.new.traffic ≡ behind_inputs net.old.traffic inputs.now }
+    ensures sent { net.new.traffic.sent ≡ net.old.traffic.sent }
+    ensures room { net.old.room ≤ net.new.room }
+{
+    for input in inputs {
+        leave(net, input);
+    }
+}
+
 // What an act takes leaves the network, and what it sends is sent, with the next numbers.
 pub(crate) fn pass_on(net: &mut Net, act: Act) -> Act
-    requires one { length (inputs_of act) ≤ 1 }
     requires few { net.old.traffic.sent + length (outs_of act) < 2 ^ 64 }
     requires room { length (outs_of act) ≤ net.old.room }
     ensures act { result ≡ act_on (suc net.old.traffic.sent) act }
@@ -54,10 +64,7 @@ pub(crate) fn pass_on(net: &mut Net, act: Act) -> Act
             records,
             why,
         } => {
-            match inputs.as_slice() {
-                [input] => leave(net, input),
-                _ => {}
-            }
+            leave_all(net, inputs.as_slice());
             Act::Fall {
                 inputs,
                 records,

@@ -1,5 +1,6 @@
 // What is under the lock.
-ghost use Rattle.std.specs.Prelude.{◌≡◌, ◌++◌, [], ◌∷◌, ◌≤◌, ◌<◌, ◌≢◌, ◌==◌, ◌↔◌, ℕ, List as Items, false, nat_le, length, IfOk, OnOk, OnErr, Err, Some, None, find, slice_get, option_copied};
+ghost use Rattle.std.specs.Prelude.{◌≡◌, ◌++◌, [], ◌∷◌, ◌≤◌, ◌<◌, ◌≢◌, ◌==◌, ◌↔◌, ℕ, List as Items, false, nat_le, length, take, IfOk, OnOk, OnErr, Err, Some, None, find, slice_get, option_copied};
+ghost use Rattle.e3_law_local.specs.Least.{queue_to};
 ghost use Rattle.e3_law_local.specs.Others.{numbered_on};
 ghost use Rattle.e3_types.specs.declared.entries.Act.TheVariants as act;
 ghost use Rattle.e3_wire.specs.Marks.{entries_of, last_owner, most_of, scenario_of, used_of};
@@ -141,6 +142,14 @@ impl Shared {
         }
     }
 
+    /// The pending packets to this site, so many at most, each as often as it has copies left, that of least number first;
+    /// they stay pending. Want of memory is the only error.
+    pub fn next_few(&self, alloc: Global, site: u32, most: u32) -> Result<List<Packet>, NoMemory>
+        ensures { IfOk result (λ few. few ≡ take most (queue_to (scenario_of self.now) (entries_of self.now) site)) }
+    {
+        self.net.next_few(alloc, site, most)
+    }
+
     // Takes all memory for one more entry of an owner with so many packets, and promises it.
     fn promise(&mut self, owner: u32, outs: u32) -> Result<(), NoMemory>
         requires owner { owner ≤ last_owner self.old }
@@ -197,7 +206,7 @@ impl Shared {
         self.room -= u64::from(outs);
     }
 
-    /// Enters an entry of a site: the packet that it takes leaves the network, its packets are sent, with the next numbers,
+    /// Enters an entry of a site: the packets that it takes leave the network, its packets are sent, with the next numbers,
     /// and what was promised for it is used. It takes no memory.
     pub fn enter(&mut self, entry: Entry)
         requires { MayEnterBehind self.old entry }

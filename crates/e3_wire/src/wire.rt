@@ -1,5 +1,6 @@
 // The wire, in turns.
-ghost use Rattle.std.specs.Prelude.{◌≡◌, ◌<◌, ◌≤◌, ◌++◌, ◌∷◌, ◌==◌, ◌↔◌, [], ℕ, List as Items, length, true, false, IfOk, OnOk, OnErr, Err, find, slice_get};
+ghost use Rattle.std.specs.Prelude.{◌≡◌, ◌<◌, ◌≤◌, ◌++◌, ◌∷◌, ◌==◌, ◌↔◌, [], ℕ, List as Items, length, true, false, IfOk, OnOk, OnErr, Err, find, slice_get, take};
+ghost use Rattle.e3_law_local.specs.Least.{queue_to};
 ghost use Rattle.e3_law_local.specs.Others.{numbered_on};
 ghost use Rattle.e3_turn.specs.Chronicles.{down_from, longer, without};
 ghost use Rattle.e3_turn.specs.Passes.{Agree, GrewByOthers, GrewByOwners, HasTurn, IsIdle, Owns, OwnsAll, SameOwners, last_of, owners_of, seen_by};
@@ -15,7 +16,7 @@ ghost use Rattle.e3_world.specs.Packets.{is_calm, pending, present_items};
 
 use crate::{Shared, WireFault};
 use e3_turn::{Pass, TurnLock};
-use e3_types::{Copied, Entry, NoMemory, Packet, Scenario};
+use e3_types::{Copied, Entry, List, NoMemory, Packet, Scenario};
 use e3_world::History;
 use std::alloc::Global;
 use std::marker::Model;
@@ -126,6 +127,30 @@ impl Wire {
         found
     }
 
+    /// The pending packets to this site, so many at most, each as often as it has copies left, that of least number first;
+    /// they stay pending. They stay the first ones until entries of the site take them, or the driver drops them. Want of
+    /// memory is the only error.
+    pub fn next_few<R: Wait>(
+        &self,
+        rt: &R,
+        alloc: Global,
+        pass: &mut WirePass,
+        site: u32,
+        most: u32,
+    ) -> Result<List<Packet>, NoMemory>
+        requires { IsIdle self.now pass.old }
+        ensures idle { IsIdle self.now pass.new }
+        ensures same { SameOwners pass.old pass.new }
+        ensures grew { GrewByOthers belongs pass.old (seen_by pass.new) }
+        ensures found { IfOk result (λ few. few ≡ take most (queue_to (scenario_of (seen_by pass.new)) (entries_of (seen_by pass.new)) site)) }
+        ensures played { IsPlayed (seen_by pass.new) }
+    {
+        let shared = self.take(rt, pass);
+        let found = shared.next_few(alloc, site, most);
+        self.put(pass, shared);
+        found
+    }
+
     /// The pending packet of least number, if one is pending; it stays pending.
     pub fn first<R: Wait>(&self, rt: &R, pass: &mut WirePass) -> Option<Packet>
         requires { IsIdle self.now pass.old }
@@ -179,8 +204,8 @@ impl Wire {
     }
 
     /// Enters an entry of a site of the pass, behind all that is entered now. It was allowed, but for the numbers of its
-    /// packets, behind what the pass had seen, its packet the least to its site; a place and room were promised. It takes no
-    /// memory.
+    /// packets, behind what the pass had seen, and takes the first packets to its site, or none; a place and room were
+    /// promised. It takes no memory.
     pub fn commit_entry<R: Wait>(&self, rt: &R, pass: &mut WirePass, entry: Entry)
         requires idle { IsIdle self.now pass.old }
         requires owns { Owns pass.old entry.owner }

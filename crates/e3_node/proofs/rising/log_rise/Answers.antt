@@ -1,7 +1,7 @@
 use Rattle.std.proofs.Common.{◌++◌, sym, subst, List}
 use Rattle.e3_log.specs.Stands.{Stands}
 use Rattle.e3_node.specs.Bodies.{ReadsAfter, bodies_in, body_of}
-use Rattle.e3_node.specs.Ends.{IsReason}
+use Rattle.e3_node.specs.Ends.{EndsAt, IsReason}
 use Rattle.e3_node.specs.Rising.{HasNotRaised}
 use Rattle.e3_types.specs.declared.records.Record.{Record}
 use Rattle.e3_world.specs.Moves.{log_size}
@@ -27,4 +27,5 @@ returns-in-Err-clause-makes g c = λ sc h wish bodies may is stands disk.
     (λ lists before bytes at. subst (λ (rs : List Record). ReadsAfter lists c.in-Err.why rs bytes)
     c.as_slice.ensures (c.in-Err.ensures.images lists before bytes at))
     (λ moves lists hold before. subst (λ (rs : List Record). IsReason c.in-Err.why (log_size moves) rs old new) c.as_slice.ensures
-    (c.in-Err.ensures.reason moves lists hold before)))
+    (c.in-Err.ensures.reason moves lists hold before))
+    (subst (λ (rs : List Record). EndsAt c.args.log.end rs c.in-Err.why) c.as_slice.ensures c.in-Err.ensures.need))

@@ -1,11 +1,23 @@
-use Rattle.std.proofs.Common.{sym, subst}
+use Rattle.std.proofs.Common.{rules, sym, subst}
+use Rattle.e3_disk.specs.Images.{Within}
+use Rattle.e3_disk.specs.Meters.{Keeps}
 use Rattle.e3_node.specs.Rising.{RiseMakes}
 use Rattle.e3_node.specs.declared.rising.Raised.{Raised}
 use Rattle.e3_node.specs.declared.state.State.TheVariants.{Down}
 use Rattle.e3_world.specs.Moves.{moves_of, open_tail}
-use Rattle.e3_node.proofs.Rises.{not_opened}
+use Rattle.e3_node.proofs.Rises.{disk_within, makes_since, not_opened}
 use Rattle.e3_node.proofs.Strange.{reads_some}
 use Rattle.e3_node.proofs.rising.open.Goals as goal
+
+pub returns-in-Ok-clause-makes : goal.returns-in-Ok-clause-makes
+returns-in-Ok-clause-makes g c = λ sc h may holds.
+    let site = c.args.wish.now.site in
+    let old = c.args.disk in
+    let mid = c.in-Ok.log.disk in
+    let images : Within (g.D.Disk.image old) (g.D.Disk.image mid) = search rules in
+    let keeps : Keeps (g.D.Disk.meters old) (g.D.Disk.meters mid) = search rules in
+    makes_since g.D.Disk.content g.D.Disk.image g.D.Disk.meters sc h site old mid c.rise_over.result.0 c.rise_over.result.1 images keeps
+    (c.rise_over.ensures.makes sc h may (disk_within g.D.Disk.image sc h site old mid images holds))
 
 pub returns-in-Err-clause-makes : goal.returns-in-Err-clause-makes
 returns-in-Err-clause-makes g c = λ sc h may holds.

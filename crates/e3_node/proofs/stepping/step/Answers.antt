@@ -2,7 +2,7 @@ use Rattle.std.proofs.Common.{◌≡◌, ◌≢◌, ◌++◌, ◌∷◌, [], ◌
 use Rattle.e3_log.specs.Stands.{Stands}
 use Rattle.e3_node.specs.Bodies.{AllReadBack, DiskHolds, IsLogged, ReadsAfter, bodies_in, body_of}
 use Rattle.e3_node.specs.Counting.{counted_by}
-use Rattle.e3_node.specs.Ends.{FellOver, IsReason}
+use Rattle.e3_node.specs.Ends.{EndsAt, FellOver, IsReason}
 use Rattle.e3_node.specs.NodeStands.{IsUp}
 use Rattle.e3_node.specs.SharedStands.{HasEntered}
 use Rattle.e3_site.specs.SiteView.{SiteView, count_on, plan_of}
@@ -31,7 +31,7 @@ enter-requires g c =
     let e : Entry = record { owner = c.args.number; act = Step c.args.input d.records d.outs d.told } in
     let may : MayEnterBehind c.claim.new.shared e =
     may_enter was c.claim.new.shared _ e c.in_ok-claim.ensures.claimed c.requires.some (step_allowed sc h c.args.number c.args.input d made c.requires.some c.requires.up.up c.requires.due)
-    (first_takes_least sc h c.args.number c.args.input c.requires.due c.requires.first) (omega (arith, c.in_ok-room.ensures)) in
+    (first_takes_least sc h c.args.number c.args.input c.requires.due c.requires.first) (omega (arith, c.room_for-room.ensures)) in
     subst (λ (x : Entry). MayEnterBehind c.claim.new.shared x) (sym c.step_of-step.ensures) may
 
 pub enter-requires-in-Err : goal.enter-requires-in-Err
@@ -237,3 +237,13 @@ returns-in-Err-clause-why g c = λ why is.
     subst (λ (w : Why). IsReason w (log_size (moves_of sc h c.args.number)) (made_by sc h c.args.number c.args.input).records old new) same
     (subst (λ (rs : List Record). IsReason c.in-Err.why (log_size (moves_of sc h c.args.number)) rs old new) (c.as_slice.ensures ∙ made.records_are)
     (c.in-Err.ensures.reason (moves_of sc h c.args.number) logged.lists logged.hold logged.stands))
+
+pub returns-in-Err-clause-need : goal.returns-in-Err-clause-need
+returns-in-Err-clause-need g c = λ why is.
+    let sc = scenario_of c.args.shared.now in
+    let h = entries_of c.args.shared.now in
+    let d = c.in_ok-draft.draft in
+    let made = draft_made sc h c.args.number c.args.site.now c.args.input d c.requires.up.stands c.in_ok-draft.ensures.draft in
+    let same : c.in-Err.why ≡ why = cc in
+    subst (EndsAt c.args.log.now.end (made_by sc h c.args.number c.args.input).records) same
+    (subst (λ (rs : List Record). EndsAt c.args.log.now.end rs c.in-Err.why) (c.as_slice.ensures ∙ made.records_are) c.in-Err.ensures.need)

@@ -3,7 +3,7 @@ use Rattle.e3_law_local.specs.Others.{numbered_on}
 use Rattle.e3_log.specs.Stands.{Stands}
 use Rattle.e3_node.specs.Bodies.{AllReadBack, DiskHolds, IsLogged, ReadsAfter, bodies_in, body_of}
 use Rattle.e3_node.specs.Counting.{counted_by}
-use Rattle.e3_node.specs.Ends.{IsReason}
+use Rattle.e3_node.specs.Ends.{EndsAt, IsReason}
 use Rattle.e3_node.specs.NodeStands.{IsUp}
 use Rattle.e3_node.specs.Turns.{IsStill, history_seen, scenario_seen}
 use Rattle.e3_node.specs.declared.state.State.TheVariants.{Up}
@@ -47,7 +47,7 @@ commit_entry-requires-clause-may g c =
     let allows = step_allowed sc h c.args.number c.args.input d made c.requires.some c.requires.up.up due in
     let may : MayEnterBehind (seen_by q) e =
     may_commit p (seen_by q) _ e cl.0 c.requires.owns cl.1 cl.2 c.requires.played c.claim.ensures.played c.requires.some c.requires.exists c.requires.restless allows
-    c.requires.takes (omega (arith, c.in_ok-room.ensures)) in
+    c.requires.takes (omega (arith, c.room_for-room.ensures)) in
     subst (λ (y : Entry). MayEnterBehind (seen_by q) y) (sym c.step_of-step.ensures) may
 
 pub commit_entry-requires-clause-alone : goal.commit_entry-requires-clause-alone
@@ -318,3 +318,13 @@ returns-in-Err-clause-why g c = λ why is.
     subst (λ (w : Why). IsReason w (log_size (moves_of sc h c.args.number)) (made_by sc h c.args.number c.args.input).records old new) same
     (subst (λ (rs : List Record). IsReason c.in-Err.why (log_size (moves_of sc h c.args.number)) rs old new) (c.as_slice.ensures ∙ made.records_are)
     (c.in-Err.ensures.reason (moves_of sc h c.args.number) logged.lists logged.hold logged.stands))
+
+pub returns-in-Err-clause-need : goal.returns-in-Err-clause-need
+returns-in-Err-clause-need g c = λ why is.
+    let sc = scenario_seen c.args.pass.now in
+    let h = history_seen c.args.pass.now in
+    let d = c.in_ok-draft.draft in
+    let made = draft_made sc h c.args.number c.args.site.now c.args.input d c.requires.up.stands c.in_ok-draft.ensures.draft in
+    let same : c.in-Err.why ≡ why = cc in
+    subst (EndsAt c.args.log.now.end (made_by sc h c.args.number c.args.input).records) same
+    (subst (λ (rs : List Record). EndsAt c.args.log.now.end rs c.in-Err.why) (c.as_slice.ensures ∙ made.records_are) c.in-Err.ensures.need)

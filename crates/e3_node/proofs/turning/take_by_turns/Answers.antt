@@ -1,6 +1,6 @@
 use Rattle.std.proofs.Common.{refl, subst, sym}
-use Rattle.e3_node.specs.Ends.{IsReason}
-use Rattle.e3_node.specs.NodeView.{disk_of}
+use Rattle.e3_node.specs.Ends.{EndsAt, IsReason}
+use Rattle.e3_node.specs.NodeView.{disk_of, end_of}
 use Rattle.e3_node.specs.Turns.{history_seen, scenario_seen}
 use Rattle.e3_node.specs.declared.state.State.{State}
 use Rattle.e3_world.specs.Legal.{made_by}
@@ -21,3 +21,9 @@ returns-in-Up-clause-why g c = λ why is.
     let h = history_seen c.args.pass.now in
     subst (λ (s : State _). IsReason why (log_size (moves_of sc h c.args.number)) (made_by sc h c.args.number c.args.input).records
     (g.D.Disk.meters (disk_of s)) (g.D.Disk.meters c.step_by_turns.new.log.disk)) (sym c.in-Up.is) (c.step_by_turns.ensures.why why is)
+
+pub returns-in-Up-clause-need : goal.returns-in-Up-clause-need
+returns-in-Up-clause-need g c = λ why is.
+    let sc = scenario_seen c.args.pass.now in
+    let h = history_seen c.args.pass.now in
+    subst (λ (s : State _). EndsAt (end_of s) (made_by sc h c.args.number c.args.input).records why) (sym c.in-Up.is) (c.step_by_turns.ensures.need why is)

@@ -1,11 +1,12 @@
 use Rattle.std.proofs.Common.{◌≡◌, ◌≤◌, ap, subst, sym, refl, Err}
 use Rattle.e3_node.specs.Bodies.{AllReadBack}
 use Rattle.e3_node.specs.Counting.{count_of}
-use Rattle.e3_node.specs.Ends.{FellOver}
+use Rattle.e3_node.specs.Ends.{EndsAt, FellOver}
 use Rattle.e3_node.specs.NodeStands.{IsIn}
-use Rattle.e3_node.specs.NodeView.{NodeView}
+use Rattle.e3_node.specs.NodeView.{NodeView, end_of}
 use Rattle.e3_node.specs.declared.fault.InputFault.{InputFault}
 use Rattle.e3_wire.specs.Marks.{entries_of, last_owner, scenario_of}
+use Rattle.e3_world.specs.Legal.{made_by}
 use Rattle.e3_node.proofs.Steps.{input_in, node_with}
 use Rattle.e3_node.proofs.node.Node.input.Goals as goal
 
@@ -21,6 +22,11 @@ pub returns-in-Err-clause-fell : goal.returns-in-Err-clause-fell
 returns-in-Err-clause-fell g c = λ why is.
     subst (λ (x : NodeView _). FellOver (scenario_of c.args.shared.now) (entries_of c.args.shared.now) x.site c.args.input why (entries_of c.take_input.new.shared))
     c.self.view_is (c.in-Err.ensures.fell why is).0
+
+pub returns-in-Err-clause-need : goal.returns-in-Err-clause-need
+returns-in-Err-clause-need g c = λ why is.
+    subst (λ (x : NodeView _). EndsAt (end_of x.state) (made_by (scenario_of c.args.shared.now) (entries_of c.args.shared.now) x.site c.args.input).records why)
+    c.self.view_is (c.in-Err.ensures.need why is)
 
 pub returns-in-Err-clause-stands : goal.returns-in-Err-clause-stands
 returns-in-Err-clause-stands g c =

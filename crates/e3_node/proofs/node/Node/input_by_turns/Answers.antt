@@ -1,9 +1,9 @@
 use Rattle.std.proofs.Common.{◌≡◌, ap, subst, sym}
 use Rattle.e3_node.specs.Bodies.{AllReadBack}
 use Rattle.e3_node.specs.Counting.{count_of}
-use Rattle.e3_node.specs.Ends.{Takes, calls_for}
+use Rattle.e3_node.specs.Ends.{EndsAt, Takes, calls_for}
 use Rattle.e3_node.specs.NodeStands.{IsIn}
-use Rattle.e3_node.specs.NodeView.{NodeView, disk_of}
+use Rattle.e3_node.specs.NodeView.{NodeView, disk_of, end_of}
 use Rattle.e3_node.specs.Turns.{history_seen, scenario_seen}
 use Rattle.e3_node.specs.declared.state.State.{State}
 use Rattle.e3_world.specs.Legal.{made_by}
@@ -25,6 +25,11 @@ returns-in-Ok-clause-takes g c =
     (sym c.keep_up.ensures)
     (subst (λ (x : NodeView _). Takes (calls_for (made_by sc h x.site c.args.input).records) (g.D.Disk.meters (disk_of x.state)) (g.D.Disk.meters (disk_of c.take_by_turns.new.state)))
     c.self.view_is c.in-Ok.ensures.takes)
+
+pub returns-in-Err-clause-need : goal.returns-in-Err-clause-need
+returns-in-Err-clause-need g c = λ why is.
+    subst (λ (x : NodeView _). EndsAt (end_of x.state) (made_by (scenario_seen c.args.pass.now) (history_seen c.args.pass.now) x.site c.args.input).records why)
+    c.self.view_is (c.in-Err.ensures.need why is)
 
 pub returns-in-Err-clause-stands : goal.returns-in-Err-clause-stands
 returns-in-Err-clause-stands g c =

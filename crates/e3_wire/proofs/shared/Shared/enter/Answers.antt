@@ -17,11 +17,6 @@ pass_on-act-requires-clause-room c =
     let P : List Mark → Type 0 = λ l. MayEnterBehind l c.args.entry in
     (entered _ _ _ _ _ _ _ _ _ _ _ c.args.entry c.self.invariant (subst P (sym c.self.view_is) c.requires)).packets
 
-pub pass_on-act-requires-clause-one : goal.pass_on-act-requires-clause-one
-pass_on-act-requires-clause-one c =
-    let P : List Mark → Type 0 = λ l. MayEnterBehind l c.args.entry in
-    (entered _ _ _ _ _ _ _ _ _ _ _ c.args.entry c.self.invariant (subst P (sym c.self.view_is) c.requires)).single
-
 pub push-requires-clause-entry : goal.push-requires-clause-entry
 push-requires-clause-entry c =
     let P : List Mark → Type 0 = λ l. MayEnterBehind l c.args.entry in
