@@ -1,5 +1,5 @@
-//! The program: `e3pc run` runs the scenario on standard input over disks in memory, writes its report to standard output,
-//! and ends with the status of the run.
+//! The program: `e3pc run` runs the scenario on standard input over disks in memory and writes its report to standard output;
+//! `e3pc check` judges the history that stands there behind its scenario. It ends with the status of the run.
 #![tactic(auto)]
 
 use e3_fleet::memory_disks;

@@ -1,6 +1,7 @@
 -- The text that words, bytes and history give, with the status that a run ends with when it is written.
 use Rattle.std.specs.Prelude.{◌≡◌, ◌≤◌, ◌⊎◌, ℕ, List, [], String, Ok, Err, length}
 use Rattle.std.specs.declared.alloc.Global.{Global}
+use Rattle.e3_check.specs.Claims.{IsVerdict}
 use Rattle.e3_disk.specs.Meters.{Meters}
 use Rattle.e3_fleet.specs.Over.{AreOver}
 use Rattle.e3_gen.specs.Generated.{generated, generated_scenario}
@@ -12,7 +13,7 @@ use Rattle.e3_sites.specs.Delivered.{IsFull, IsOwed}
 use Rattle.e3_scenario.specs.Faults.{fault_text}
 use Rattle.e3_scenario.specs.Scenarios.{scenario_of}
 use Rattle.e3_scenario.specs.declared.faults.ScenarioFault.{ScenarioFault}
-use Rattle.e3_top.specs.Words.{IsRun, IsGen, IsDrill, refused_words, refused_history_full}
+use Rattle.e3_top.specs.Words.{IsRun, IsGen, IsDrill, IsCheck, refused_words, refused_history_full}
 use Rattle.e3_words.specs.Words.{IsCommand}
 use Rattle.e3_types.specs.declared.entries.Entry.{Entry}
 use Rattle.e3_types.specs.declared.scenarios.Scenario.{Scenario}
@@ -67,12 +68,20 @@ pub record IsTold {D : Type 0} (disks_before disks_now : List D)
   pub untouched : disks_now ≡ disks_before
   pub says : text ≡ generated gen.n
 
+-- A verdict is given: the status, the history and the text are those of the verdict on the bytes, and nothing is played.
+pub record IsChecked {D : Type 0} (disks_before disks_now : List D)
+    (words : List (String Global)) (bytes : List ℕ) (status : ℕ) (history : List Entry) (text : List ℕ) : Type 0 where
+  pub check : IsCheck words
+  pub untouched : disks_now ≡ disks_before
+  pub verdict : IsVerdict bytes status history text
+
 -- what the words ask for is done
 abbrev pub Succeeds : {D : Type 0} → (D → List ℕ → Type 0) → (D → Meters) → List D → List D → List (String Global) → List ℕ → ℕ → List Entry → List ℕ → Type 0
 Succeeds image meters disks_before disks_now words bytes most history text =
     IsDone image meters disks_before disks_now words bytes most history text
     ⊎ IsDrilled image meters disks_before disks_now words bytes most history text
     ⊎ IsTold disks_before disks_now words bytes history text
+    ⊎ IsChecked disks_before disks_now words bytes 0 history text
 
 -- Refused words: nothing is read, and nothing happens.
 pub record IsRefusedWords {D : Type 0} (disks_before disks_now : List D)
@@ -121,15 +130,18 @@ IsTextOf sc most history told status text =
     ((status ≡ 0) × IsWhole sc history × (text ≡ told))
     ⊎ ((status ≡ 6) × IsFull sc history most × (text ≡ refused_history_full))
 
--- the status is one with a text: 0, 1, 2 or 6
+-- the status is one with a text: 0, 1, 2, 6, 8 or 9
 abbrev pub HasText : ℕ → Type 0
-HasText status = (status ≤ 2) ⊎ (status ≡ 6)
+HasText status = (status ≤ 2) ⊎ (status ≡ 6) ⊎ (status ≡ 8) ⊎ (status ≡ 9)
 
--- the text is due, with status 0, 1, 2 or 6
+-- The text is due, with status 0, 1, 2, 6, 8 or 9. For the words `check` it is that of the verdict on the bytes, and so is the
+-- status; 8 and 9 come for these words alone.
 pub record IsDue {D : Type 0} (image : D → List ℕ → Type 0) (meters : D → Meters) (disks_before disks_now : List D)
     (words : List (String Global)) (bytes : List ℕ) (most status : ℕ) (history : List Entry) (text : List ℕ) : Type 0 where
   pub known : HasText status
   pub done : status ≡ 0 → Succeeds image meters disks_before disks_now words bytes most history text
   pub words_refused : status ≡ 1 → IsRefusedWords disks_before disks_now words bytes history text
-  pub scenario_refused : status ≡ 2 → IsNoScenario disks_before disks_now words bytes history text
+  pub scenario_refused : status ≡ 2 → IsNoScenario disks_before disks_now words bytes history text ⊎ IsChecked disks_before disks_now words bytes status history text
   pub history_full : status ≡ 6 → IsFullHistory image meters disks_before disks_now words bytes most history text
+  pub judged : (status ≡ 8) ⊎ (status ≡ 9) → IsCheck words
+  pub checked : IsCheck words → IsChecked disks_before disks_now words bytes status history text

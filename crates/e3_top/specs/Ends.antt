@@ -5,18 +5,25 @@ use Rattle.std.specs.declared.alloc.Global.{Global}
 use Rattle.e3_disk.specs.Meters.{Meters}
 use Rattle.e3_outside.specs.Faults.{Rose}
 use Rattle.e3_top.specs.Due.{IsDue, IsRunOf, Plays}
-use Rattle.e3_top.specs.Words.{IsRun}
+use Rattle.e3_top.specs.Words.{IsRun, IsCheck, most_bytes}
 use Rattle.e3_types.specs.declared.entries.Entry.{Entry}
 use Rattle.e3_types.specs.declared.scenarios.Scenario.{Scenario}
+use Rattle.e3_words.specs.Words.{IsCommand, Spell}
+use Rattle.e3_words.specs.declared.words.Command.{Command}
 
--- These bytes were taken from the source, which had `had` left and has `left` left now: 4,194,305 bytes at most, and
--- fewer only at its end. Words that ask for no run take none.
-pub record IsRead (words : List (String Global)) (had left : Option (List ℕ)) (bytes : List ℕ) : Type 0 where
+-- These bytes were taken from the source, which had `had` left and has `left` left now: no more than the command takes at
+-- most, and none for other words.
+pub record IsTaken (words : List (String Global)) (had left : Option (List ℕ)) (bytes : List ℕ) : Type 0 where
   pub taken : Consumes had left bytes
-  pub few : length bytes ≤ 4194305
-  pub to_end : IsRun words → length bytes < 4194305 → IsAtEnd left
+  pub few : (command : Command) → Spell words command → length bytes ≤ most_bytes command
+  pub none : ¬ IsCommand words → bytes ≡ []
 
--- The run ended with status 0, 1, 2 or 6: all of the text that is due was written, and nothing else.
+-- They were taken, and fewer than the most of the command only at the source's end.
+pub record IsRead (words : List (String Global)) (had left : Option (List ℕ)) (bytes : List ℕ) : Type 0 where
+  pub taken : IsTaken words had left bytes
+  pub to_end : (command : Command) → Spell words command → length bytes < most_bytes command → IsAtEnd left
+
+-- The run ended with status 0, 1, 2, 6, 8 or 9: all of the text that is due was written, and nothing else.
 pub record Finishes {D : Type 0} (image : D → List ℕ → Type 0) (meters : D → Meters) (disks_before disks_now : List D)
     (words : List (String Global)) (had left written_before written_now : Option (List ℕ)) (most status : ℕ) (history : List Entry) : Type 0 where
   pub bytes : List ℕ
@@ -25,7 +32,7 @@ pub record Finishes {D : Type 0} (image : D → List ℕ → Type 0) (meters : D
   pub due : IsDue image meters disks_before disks_now words bytes most status history text
   pub written : Appends written_before written_now text
 
--- The sink failed in this call: a front of the text of 0, 1, 2 or 6 was written.
+-- The sink failed in this call: a front of the text of 0, 1, 2, 6, 8 or 9 was written.
 pub record SinkFails {D : Type 0} (image : D → List ℕ → Type 0) (meters : D → Meters) (disks_before disks_now : List D)
     (words : List (String Global)) (had left written_before written_now : Option (List ℕ)) (faults_before faults_now most : ℕ) (history : List Entry) : Type 0 where
   pub counted : Rose faults_before faults_now
@@ -38,14 +45,14 @@ pub record SinkFails {D : Type 0} (image : D → List ℕ → Type 0) (meters : 
   pub short : count < length text
   pub written : Appends written_before written_now (take count text)
 
--- The source failed in this call. What was taken before is less than the most that a run takes.
+-- The source failed in this call. What was taken before is less than the most that the command takes.
 pub record SourceFails {D : Type 0} (disks_before disks_now : List D)
     (words : List (String Global)) (had left : Option (List ℕ)) (faults_before faults_now : ℕ) (history : List Entry) : Type 0 where
-  pub run : IsRun words
+  pub reads : IsRun words ⊎ IsCheck words
   pub counted : Rose faults_before faults_now
   pub bytes : List ℕ
   pub taken : Consumes had left bytes
-  pub few : length bytes < 4194305
+  pub few : (command : Command) → Spell words command → length bytes < most_bytes command
   pub empty : history ≡ []
   pub untouched : disks_now ≡ disks_before
 
@@ -61,8 +68,7 @@ pub record IsHistoryOf {D : Type 0} (image : D → List ℕ → Type 0) (meters 
 pub record IsCutShort {D : Type 0} (image : D → List ℕ → Type 0) (meters : D → Meters) (disks_before disks_now : List D)
     (words : List (String Global)) (had left : Option (List ℕ)) (most : ℕ) (history : List Entry) : Type 0 where
   pub bytes : List ℕ
-  pub taken : Consumes had left bytes
-  pub few : length bytes ≤ 4194305
+  pub taken : IsTaken words had left bytes
   pub happened : ((history ≡ []) × (disks_now ≡ disks_before))
       ⊎ (IsRead words had left bytes × IsHistoryOf image meters disks_before disks_now words bytes most history)
 

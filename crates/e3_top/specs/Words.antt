@@ -2,7 +2,8 @@
 use Rattle.std.specs.Prelude.{◌≡◌, ◌≤◌, ◌⊎◌, ℕ, Bool, codes, List, String}
 use Rattle.std.specs.declared.alloc.Global.{Global}
 use Rattle.e3_words.specs.Words.{Spell, IsCommand}
-use Rattle.e3_words.specs.declared.words.Command.TheVariants.{Run, Gen, Drill}
+use Rattle.e3_words.specs.declared.words.Command.{Command}
+use Rattle.e3_words.specs.declared.words.Command.TheVariants.{Run, Gen, Drill, Check}
 
 -- the words ask for a run: `run`, or `run --trace` where its trace is to stand behind the report
 pub record IsRun (words : List (String Global)) : Type 0 where
@@ -19,14 +20,28 @@ pub record IsDrill (words : List (String Global)) : Type 0 where
   pub n : ℕ
   pub spelled : Spell words (Drill n)
 
+-- the words ask for the verdict on a printed history: `check`
+pub record IsCheck (words : List (String Global)) : Type 0 where
+  pub spelled : Spell words Check
+
+-- So many bytes a command takes from the source at most: one more than a scenario has, or one more than a scenario with its
+-- trace. A generated scenario and a drill take none.
+abbrev pub most_bytes : Command → ℕ
+most_bytes (Run trace) = 4194305
+most_bytes (Gen n) = 0
+most_bytes (Drill n) = 0
+most_bytes Check = 268435457
+
 -- The words may end with this status: 0, 4 and 5 are those of the generated scenario, and 6 beside them those of a drill; 2
--- and 3 are those of a run alone, and 1 of words that spell no command. 4 and 5 are those of all words.
+-- and 3 are those of a run and of a verdict alone, 8 and 9 those of a verdict alone, and 1 of words that spell no command. 4
+-- and 5 are those of all words.
 pub record MayEnd (words : List (String Global)) (status : ℕ) : Type 0 where
-  pub known : status ≤ 6
+  pub known : (status ≤ 6) ⊎ (status ≡ 8) ⊎ (status ≡ 9)
   pub commands : status ≡ 0 → IsCommand words
   pub others : status ≡ 1 → ¬ IsCommand words
-  pub runs : (status ≡ 2) ⊎ (status ≡ 3) → IsRun words
+  pub runs : (status ≡ 2) ⊎ (status ≡ 3) → IsRun words ⊎ IsCheck words
   pub played : status ≡ 6 → IsRun words ⊎ IsDrill words
+  pub judged : (status ≡ 8) ⊎ (status ≡ 9) → IsCheck words
   pub generated : IsGen words → (status ≡ 0) ⊎ (status ≡ 4) ⊎ (status ≡ 5)
   pub drilled : IsDrill words → (status ≡ 0) ⊎ (status ≡ 4) ⊎ (status ≡ 5) ⊎ (status ≡ 6)
 

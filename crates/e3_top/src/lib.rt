@@ -1,6 +1,8 @@
-//! A run, from the words of the command line and the bytes of a scenario to the bytes of a report.
+//! A run, from the words of the command line and the bytes of a scenario to the bytes of a report; and the verdict on a printed
+//! history.
 #![tactic(auto)]
 
+mod checking;
 mod preparing;
 mod running;
 mod words;

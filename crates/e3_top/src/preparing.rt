@@ -9,22 +9,23 @@ ghost use Rattle.e3_scenario.specs.Faults.{fault_text};
 ghost use Rattle.e3_scenario.specs.Scenarios.{scenario_of};
 ghost use Rattle.e3_top.specs.Due.{IsDue, IsRunOf, IsTextOf};
 ghost use Rattle.e3_top.specs.Ends.{IsCutShort, IsHistoryOf, IsPrepared, SourceFails};
-ghost use Rattle.e3_top.specs.Words.{IsGen, IsRun, MayEnd, refused_history_full};
+ghost use Rattle.e3_top.specs.Words.{IsCheck, IsGen, IsRun, MayEnd, refused_history_full};
 ghost use Rattle.e3_words.specs.Words.{IsCommand, Spell};
 ghost use Rattle.e3_words.specs.declared.words.Command.TheVariants.{Run, Gen, Drill};
 ghost use Rattle.e3_world.specs.Given.{IsGiven};
 ghost use Rattle.e3_world.specs.Legal.{IsWhole};
 
+use crate::checking::read_and_judge;
 use crate::words::{refused_history_full, refused_words};
 use e3_disk::{Disk, Drill};
 use e3_fleet::{Played, play_over};
 use e3_gen::{generated, generated_scenario};
 use e3_law_commit::commits_end;
 use e3_law_rounds::rounds_end;
+use e3_law_serial::one_order;
 use e3_outside::{Gate, ReadFault, Source, read_up_to};
 use e3_report::{report, summary};
 use e3_scenario::{ScenarioFault, fault_line, read_scenario};
-use e3_serial::one_order;
 use e3_sites::RunFault;
 use e3_types::{List, NoMemory, Scenario};
 use e3_words::{Command, read_words};
@@ -245,8 +246,8 @@ fn unplayed<D: Drop>(
     }
 }
 
-// Want of memory, before anything happens.
-fn without_memory<D: Drop>(alloc: Global, disks: Vec<D>) -> Prepared<D>
+/// Want of memory, before anything happens.
+pub fn without_memory<D: Drop>(alloc: Global, disks: Vec<D>) -> Prepared<D>
     ensures due { result.due ≡ Err Stop.NoMemory }
     ensures history { result.history.entries ≡ [] }
     ensures disks { result.disks.items ≡ disks.items }
@@ -423,7 +424,7 @@ fn generate_and_play<D: Disk + Drill + Drop + Send, G: Gate + Sync, R: Wait + Th
     }
 }
 
-/// Does all that the words ask for but writing the text. A run alone touches the source.
+/// Does all that the words ask for but writing the text. Only a run and a verdict touch the source.
 pub fn prepare<S: Source, D: Disk + Drill + Drop + Send, G: Gate + Sync, R: Wait + Threads + Sync>(
     rt: &R,
     alloc: Global,
@@ -443,7 +444,8 @@ pub fn prepare<S: Source, D: Disk + Drill + Drop + Send, G: Gate + Sync, R: Wait
     ensures no_memory { result.due ≡ Err Stop.NoMemory →
         IsCutShort D.image D.meters disks.items result.disks.items words.now (S.left source.old) (S.left source.new) most result.history.entries }
     ensures told { IsGen words.now → (result.history.entries ≡ []) × (result.disks.items ≡ disks.items) }
-    ensures unread { ¬ IsRun words.now → source.new ≡ source.old }
+    ensures untouched { IsCheck words.now → result.disks.items ≡ disks.items }
+    ensures unread { ¬ IsRun words.now → ¬ IsCheck words.now → source.new ≡ source.old }
     ensures never_falls { S.faults source.old ≤ S.faults source.new }
 {
     match read_words(words) {
@@ -453,5 +455,6 @@ pub fn prepare<S: Source, D: Disk + Drill + Drop + Send, G: Gate + Sync, R: Wait
         }
         Some(Command::Gen { n }) => tell_generated(alloc, words, n, disks, most),
         Some(Command::Drill { n }) => { generate_and_play(rt, alloc, words, n, disks, gate, most) }
+        Some(Command::Check) => read_and_judge(alloc, words, source, disks, most),
     }
 }

@@ -3,15 +3,16 @@ use Rattle.std.specs.Prelude.{◌≡◌, ◌≤◌, ℕ, true, false, codes, Lis
 use Rattle.std.specs.Fmt.{decimal}
 use Rattle.std.specs.declared.alloc.Global.{Global}
 use Rattle.e3_words.specs.declared.words.Command.{Command}
-use Rattle.e3_words.specs.declared.words.Command.TheVariants.{Run, Gen, Drill}
+use Rattle.e3_words.specs.declared.words.Command.TheVariants.{Run, Gen, Drill, Check}
 
 -- The words that spell a command: `run`, or `run --trace` for a run that writes its trace too; `gen N` or `drill N`, where N
--- has no leading zero.
+-- has no leading zero; `check` for the verdict on a printed history.
 abbrev pub words_of : Command → List (List ℕ)
 words_of (Run false) = codes "run" ∷ []
 words_of (Run true) = codes "run" ∷ codes "--trace" ∷ []
 words_of (Gen n) = codes "gen" ∷ decimal n ∷ []
 words_of (Drill n) = codes "drill" ∷ decimal n ∷ []
+words_of Check = codes "check" ∷ []
 
 -- a number of which there is a generated scenario: 1 to 1,000
 pub record IsNumber (n : ℕ) : Type 0 where
@@ -23,6 +24,7 @@ abbrev pub HasNumber : Command → Type 0
 HasNumber (Run trace) = Unit {0}
 HasNumber (Gen n) = IsNumber n
 HasNumber (Drill n) = IsNumber n
+HasNumber Check = Unit {0}
 
 -- these words, and no others, spell the command
 pub record Spell (words : List (String Global)) (command : Command) : Type 0 where

@@ -15,6 +15,8 @@ pub enum Command {
     Gen { n: u32 },
     /// The run of the generated scenario of this number, 1 to 1,000.
     Drill { n: u32 },
+    /// The verdict on a printed history.
+    Check,
 }
 
 fn is_word(word: &String, text: &str) -> bool
@@ -54,6 +56,8 @@ fn read_one(word: &String) -> Option<Command>
 {
     if is_word(word, "run") {
         Some(Command::Run { trace: false })
+    } else if is_word(word, "check") {
+        Some(Command::Check)
     } else {
         None
     }

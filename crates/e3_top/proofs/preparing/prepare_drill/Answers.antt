@@ -1,4 +1,5 @@
-use Rattle.e3_top.proofs.Runs.{drill_may, drill_due}
+use Rattle.e3_top.proofs.Runs.{drill_due}
+use Rattle.e3_top.proofs.Statuses.{drill_may}
 use Rattle.e3_top.proofs.preparing.prepare_drill.Goals as goal
 
 pub returns-clause-due : goal.returns-clause-due

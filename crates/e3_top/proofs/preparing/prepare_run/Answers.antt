@@ -1,4 +1,5 @@
-use Rattle.e3_top.proofs.Runs.{run_may, run_due}
+use Rattle.e3_top.proofs.Runs.{run_due}
+use Rattle.e3_top.proofs.Statuses.{run_may}
 use Rattle.e3_top.proofs.preparing.prepare_run.Goals as goal
 
 pub returns-clause-due : goal.returns-clause-due

@@ -1,4 +1,5 @@
-use Rattle.e3_top.proofs.Runs.{fault_due, fault_may}
+use Rattle.e3_top.proofs.Runs.{fault_due}
+use Rattle.e3_top.proofs.Statuses.{fault_may}
 use Rattle.e3_top.proofs.preparing.refuse_scenario.Goals as goal
 
 pub returns-clause-due : goal.returns-clause-due

@@ -1,4 +1,5 @@
-use Rattle.e3_top.proofs.Runs.{refused_may, refused_due}
+use Rattle.e3_top.proofs.Runs.{refused_due}
+use Rattle.e3_top.proofs.Statuses.{refused_may}
 use Rattle.e3_top.proofs.preparing.refuse_words.Goals as goal
 
 pub returns-clause-due : goal.returns-clause-due

@@ -1,4 +1,5 @@
-use Rattle.e3_top.proofs.Runs.{told_may, told_due}
+use Rattle.e3_top.proofs.Runs.{told_due}
+use Rattle.e3_top.proofs.Statuses.{told_may}
 use Rattle.e3_top.proofs.preparing.tell_generated.Goals as goal
 
 pub returns-clause-due : goal.returns-clause-due
