@@ -28,9 +28,9 @@ use Rattle.e3_world.specs.Progress.{up_behind}
 use Rattle.e3_world.specs.Steps.{is_begin}
 use Rattle.e3_world.proofs.Pushes.{past_push, incarnation_push, life_push, legal_push}
 use Rattle.e3_world.proofs.Readings.{own_same, own_other, up_same, up_other}
-use Rattle.e3_trails.specs.Bounds.{Suits}
-use Rattle.e3_trails.proofs.Each.{each-push, each-filter, each-at, each-weaker}
-use Rattle.e3_trails.proofs.Laws.{inputs_suit}
+use Rattle.e3_law_trails.specs.Bounds.{Suits}
+use Rattle.e3_law_trails.proofs.Each.{each-push, each-filter, each-at, each-weaker}
+use Rattle.e3_law_trails.proofs.Laws.{inputs_suit}
 use Rattle.e3_law_begun.specs.Mentions.{begun_in, Stands}
 use Rattle.e3_law_begun.specs.Claims.{BegunAreTransactions}
 use Rattle.e3_law_begun.proofs.Lists.{each-join}

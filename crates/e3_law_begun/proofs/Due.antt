@@ -27,7 +27,7 @@ use Rattle.e3_world.specs.Moves.{moves_of}
 use Rattle.e3_world.specs.Operations.{arrivals}
 use Rattle.e3_world.specs.Packets.{lines, sent, items_or, step_items, present_items}
 use Rattle.e3_world.proofs.InTrail.{pending_sent}
-use Rattle.e3_trails.proofs.Each.{each-append, each-filter, each-flat, each-map, each-at, each-weaker, each-of}
+use Rattle.e3_law_trails.proofs.Each.{each-append, each-filter, each-flat, each-map, each-at, each-weaker, each-of}
 use Rattle.e3_law_begun.specs.Mentions.{Mention, OfTxn, OfVal, of_input, values_in}
 use Rattle.e3_law_begun.proofs.Lists.{IfAny, any-get, any-find, held}
 use Rattle.e3_law_begun.proofs.Reading.{RecordIs, PacketIs, AskedIs, MomentIs, InputIs, arrivals_are}

@@ -40,7 +40,7 @@ use Rattle.e3_world.specs.Rounds.{round_in_progress, count_ack}
 use Rattle.e3_world.specs.Steps.{handled, settle}
 use Rattle.e3_world.specs.VoteRules.{vote_rule, on_vote_req, on_yes}
 use Rattle.e3_world.specs.Votes.{yes_votes}
-use Rattle.e3_trails.proofs.Each.{each-filter, each-take, each-flat, each-of}
+use Rattle.e3_law_trails.proofs.Each.{each-filter, each-take, each-flat, each-of}
 use Rattle.e3_law_begun.specs.Mentions.{Mention, OfTxn}
 use Rattle.e3_law_begun.proofs.Reading.{AnswerIs, MessageIs, AskedIs, GrantIs, arrivals_are, holders_are, queue_is, grant_is, answers_are}
 use Rattle.e3_law_begun.proofs.Keeping.{Keeps, Ready, inputs_are, inputs_now, log_is, keep_choice, keep_record, keep_tell, keep_send, keep_cast, keep_told, keep_decide, keep_abort, keep_abort_for, keep_attempt, keep_vote, keep_do, keep_granted}

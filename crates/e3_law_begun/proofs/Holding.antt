@@ -32,8 +32,8 @@ use Rattle.e3_world.specs.Moves.{Move, Did, Stepped, Silent, Rose, Past, Tail, o
 use Rattle.e3_world.specs.Packets.{sent, outs_of, is_line, step_items}
 use Rattle.e3_world.proofs.Pushes.{past_push, incarnation_push, life_push, life_log}
 use Rattle.e3_world.proofs.Readings.{to_push, own_same, own_other}
-use Rattle.e3_trails.proofs.Each.{each-append, each-push, each-map, each-left, each-right, each-weaker, each-of}
-use Rattle.e3_trails.proofs.Holding.{sent_push, to_at_line}
+use Rattle.e3_law_trails.proofs.Each.{each-append, each-push, each-map, each-left, each-right, each-weaker, each-of}
+use Rattle.e3_law_trails.proofs.Holding.{sent_push, to_at_line}
 use Rattle.e3_law_begun.specs.Mentions.{Mention, OfTxn, OfVal, of_input, of_message, of_record, of_event, begun_in, WasBegun, values_in, values_of, Stands}
 use Rattle.e3_law_begun.proofs.Lists.{IfAny, each-unmap, each-unflat, each-join, each-both, each-within}
 use Rattle.e3_law_begun.proofs.Reading.{RecordIs, PacketIs, EventIs, MomentIs, rows_are}

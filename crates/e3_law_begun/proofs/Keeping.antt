@@ -22,7 +22,7 @@ use Rattle.e3_world.specs.Items.{began_in}
 use Rattle.e3_world.specs.Logs.{table_of, row_value}
 use Rattle.e3_world.specs.Making.{log_now, steps_now, is_coordinator, is_present, may_attempt, and_record, and_tell, and_send, and_cast, and_decide, and_abort, and_abort_for, go_on, and_attempt, and_vote, and_do, answer_now, and_grant}
 use Rattle.e3_world.specs.Operations.{done}
-use Rattle.e3_trails.proofs.Each.{each-append, each-push, each-weaker}
+use Rattle.e3_law_trails.proofs.Each.{each-append, each-push, each-weaker}
 use Rattle.e3_law_begun.specs.Mentions.{Mention, OfTxn, of_input}
 use Rattle.e3_law_begun.proofs.Reading.{AnswerIs, RecordIs, MessageIs, PacketIs, EventIs, AskedIs, MomentIs, InputIs, done_is, vote_is, table_is, value_is, owns_are}
 

@@ -15,8 +15,8 @@ use Rattle.e3_world.specs.Lives.{incarnation_of}
 use Rattle.e3_world.specs.Moves.{Tail, moves_of, log_of, open_tail}
 use Rattle.e3_world.specs.Packets.{sent, outs_of}
 use Rattle.e3_world.proofs.Pushes.{life_log_at, legal_front}
-use Rattle.e3_trails.specs.Claims.{tail_records, records_at}
-use Rattle.e3_trails.proofs.Each.{each-append, each-at, each-weaker}
+use Rattle.e3_law_trails.specs.Claims.{tail_records, records_at}
+use Rattle.e3_law_trails.proofs.Each.{each-append, each-at, each-weaker}
 use Rattle.e3_law_begun.specs.Mentions.{Mention, of_input, of_message, of_record, of_event, of_act, Stands}
 use Rattle.e3_law_begun.specs.Claims.{EntriesMentionWhatStands, DueMentionsWhatStands, StepsMentionWhatStands, RecordsMentionWhatStands, PacketsMentionWhatStands, PacketsAreTheirOwners}
 use Rattle.e3_law_begun.proofs.Lists.{IfAny, each-join}

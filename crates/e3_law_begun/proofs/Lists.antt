@@ -3,7 +3,7 @@ use Rattle.std.proofs.Common.{◌≡◌, ◌∷◌, [], ℕ, zero, suc, Bool, tr
 use Rattle.std.specs.Prelude.{Contains, slice_get, find}
 use Rattle.std.specs.List.{flat_map, AllByRecursion as Each}
 use Rattle.std.proofs.lemmas.List.Elements.{All-contains_itself, recursion_from_All}
-use Rattle.e3_trails.proofs.Each.{each-append, each-left, each-right}
+use Rattle.e3_law_trails.proofs.Each.{each-append, each-left, each-right}
 
 -- what holds of the one that there may be
 abbrev pub IfAny : {X : Type 0} → (X → Type 0) → Option X → Type 0

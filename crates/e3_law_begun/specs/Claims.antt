@@ -12,7 +12,7 @@ use Rattle.e3_world.specs.Given.{IsGiven}
 use Rattle.e3_world.specs.Legal.{IsLegal, IsDue, entry_of}
 use Rattle.e3_world.specs.Orderly.{is_among}
 use Rattle.e3_world.specs.Packets.{sent, outs_of}
-use Rattle.e3_trails.specs.Claims.{records_at}
+use Rattle.e3_law_trails.specs.Claims.{records_at}
 use Rattle.e3_law_begun.specs.Mentions.{Stands, WasBegun, of_act, of_input, of_message, of_record}
 
 -- Each entry mentions only transactions that an earlier entry of their coordinator told as begun, and values of the

@@ -28,10 +28,10 @@ use Rattle.e3_world.specs.Making.{nothing, is_coordinator, is_present, log_now, 
 use Rattle.e3_world.specs.Operations.{and_arrived, arrivals, done, expected, is_answered, performed_by, taken_up, waiting}
 use Rattle.e3_world.specs.Steps.{handled, on_input, settle, step_at}
 use Rattle.e3_world.proofs.Turns.{self}
-use Rattle.e3_serial.proofs.Entries.{In}
-use Rattle.e3_serial.proofs.Arrivals.{answered_more, arrivals_push, performed_more}
-use Rattle.e3_serial.proofs.Steadying.{any_in, in_any}
-use Rattle.e3_serial.proofs.Stepping.{granted_waits, waits_parts}
+use Rattle.e3_law_serial.proofs.Entries.{In}
+use Rattle.e3_law_serial.proofs.Arrivals.{answered_more, arrivals_push, performed_more}
+use Rattle.e3_law_serial.proofs.Steadying.{any_in, in_any}
+use Rattle.e3_law_serial.proofs.Stepping.{granted_waits, waits_parts}
 use Rattle.e3_law_rounds.proofs.Tail.{decided_more}
 
 -- the message is an answer or a decision of another transaction

@@ -21,7 +21,7 @@ use Rattle.e3_types.specs.Same.{same_txn}
 use Rattle.e3_world.specs.Steps.{on_input}
 use Rattle.e3_net.specs.Stands.{waiting_of}
 use Rattle.e3_net.proofs.Pushing.{taken_push}
-use Rattle.e3_protocol.specs.Logs.{IsIn}
+use Rattle.e3_law_protocol.specs.Logs.{IsIn}
 use Rattle.e3_law_numbers.proofs.Gathering.{life_on, moment_of}
 use Rattle.e3_law_numbers.proofs.Moving.{log_on, place, place_log}
 use Rattle.e3_law_rounds.specs.Queues.{IsCounted}

@@ -27,11 +27,11 @@ use Rattle.e3_world.specs.Packets.{fate_of, is_line, lines, outs_of, pending, pr
 use Rattle.e3_world.proofs.Pushes.{legal_push}
 use Rattle.e3_world.proofs.Readings.{own_other, taken_other, taken_same, to_push, up_other, up_same}
 use Rattle.e3_world.proofs.Turns.{self}
-use Rattle.e3_protocol.specs.Logs.{IsIn}
-use Rattle.e3_refine.proofs.Following.{in_from_contains}
-use Rattle.e3_refine.proofs.Lists.{in_left}
-use Rattle.e3_refine.proofs.Voting.{contains_from_in}
-use Rattle.e3_trails.proofs.Laws.{was_sent}
+use Rattle.e3_law_protocol.specs.Logs.{IsIn}
+use Rattle.e3_law_refinement.proofs.Following.{in_from_contains}
+use Rattle.e3_law_refinement.proofs.Lists.{in_left}
+use Rattle.e3_law_refinement.proofs.Voting.{contains_from_in}
+use Rattle.e3_law_trails.proofs.Laws.{was_sent}
 use Rattle.e3_law_numbers.proofs.Gathering.{life_on, moment_of}
 use Rattle.e3_law_numbers.proofs.Moving.{log_on, moves_still}
 use Rattle.e3_law_rounds.proofs.Counted.{is_counted}

@@ -34,8 +34,8 @@ use Rattle.e3_world.specs.Packets.{pending}
 use Rattle.e3_world.specs.Rounds.{count_ack, round_by, round_by_record, round_in_progress}
 use Rattle.e3_world.specs.Votes.{yes_by, yes_votes}
 use Rattle.e3_world.proofs.Turns.{self}
-use Rattle.e3_protocol.specs.Logs.{IsIn}
-use Rattle.e3_refine.proofs.Lists.{in_right}
+use Rattle.e3_law_protocol.specs.Logs.{IsIn}
+use Rattle.e3_law_refinement.proofs.Lists.{in_right}
 use Rattle.e3_law_numbers.proofs.Gathering.{moment_of}
 use Rattle.e3_law_numbers.proofs.Moving.{log_still, place, place_log}
 use Rattle.e3_law_rounds.proofs.Delivering.{same_self}

@@ -29,10 +29,10 @@ use Rattle.e3_world.specs.Sound.{txn_in}
 use Rattle.e3_world.specs.Votes.{yes_by, yes_votes}
 use Rattle.e3_world.specs.Lives.{life_at}
 use Rattle.e3_net.proofs.Pushing.{sent_push}
-use Rattle.e3_protocol.specs.Logs.{IsIn}
-use Rattle.e3_refine.proofs.Lists.{in_right}
-use Rattle.e3_trails.proofs.Laws.{go_between}
-use Rattle.e3_refine.proofs.Voting.{contains_from_in}
+use Rattle.e3_law_protocol.specs.Logs.{IsIn}
+use Rattle.e3_law_refinement.proofs.Lists.{in_right}
+use Rattle.e3_law_trails.proofs.Laws.{go_between}
+use Rattle.e3_law_refinement.proofs.Voting.{contains_from_in}
 use Rattle.e3_law_numbers.proofs.Moving.{moves_still, place}
 use Rattle.e3_law_rounds.proofs.Deciding.{Follows, is_answer, is_answer_from, step_follows}
 use Rattle.e3_law_commit.specs.Commits.{is_packet_of}

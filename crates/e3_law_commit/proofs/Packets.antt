@@ -17,7 +17,7 @@ use Rattle.e3_net.proofs.Copies.{Live}
 use Rattle.e3_net.proofs.Pushing.{pending_waits, waiting_climbs, waiting_live, waiting_push}
 use Rattle.e3_law_rounds.specs.Queues.{IsCounted}
 use Rattle.e3_law_commit.specs.Commits.{is_once}
-use Rattle.e3_protocol.specs.Logs.{IsIn}
+use Rattle.e3_law_protocol.specs.Logs.{IsIn}
 
 -- some packet that waits passes the test
 abbrev pub some_waits : (Packet → Bool) → List Waiting → Bool

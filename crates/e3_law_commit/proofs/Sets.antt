@@ -18,10 +18,10 @@ use Rattle.e3_world.specs.Items.{last_bound, since_line, to_line, txn_of}
 use Rattle.e3_world.specs.Legal.{IsLegal, LegalAfter}
 use Rattle.e3_world.specs.Packets.{all_sites, items_or, step_items}
 use Rattle.e3_world.proofs.Pushes.{legal_front}
-use Rattle.e3_protocol.specs.Logs.{IsIn}
-use Rattle.e3_trails.proofs.Holding.{split_from}
-use Rattle.e3_decided.proofs.Counting.{Counted, binding, counted_on, counted_start}
-use Rattle.e3_decided.proofs.Named.{Names, names_of_steps}
+use Rattle.e3_law_protocol.specs.Logs.{IsIn}
+use Rattle.e3_law_trails.proofs.Holding.{split_from}
+use Rattle.e3_law_agreement.proofs.Counting.{Counted, binding, counted_on, counted_start}
+use Rattle.e3_law_agreement.proofs.Named.{Names, names_of_steps}
 
 -- each begin of the scenario is for a set of sites
 group_set : (sc : Scenario) (group : List ℕ) → is_group sc group ≡ true → is_set group ≡ true

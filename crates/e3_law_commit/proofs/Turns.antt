@@ -24,8 +24,8 @@ use Rattle.e3_world.specs.Packets.{pending}
 use Rattle.e3_world.specs.Rounds.{round_in_progress}
 use Rattle.e3_world.specs.Votes.{yes_votes}
 use Rattle.e3_world.specs.Lives.{life_at}
-use Rattle.e3_protocol.specs.Logs.{IsIn}
-use Rattle.e3_serial.proofs.Steadying.{others_lack}
+use Rattle.e3_law_protocol.specs.Logs.{IsIn}
+use Rattle.e3_law_serial.proofs.Steadying.{others_lack}
 use Rattle.e3_law_numbers.proofs.Moving.{moves_still, place, place_log}
 use Rattle.e3_law_rounds.proofs.Delivering.{same_self}
 use Rattle.e3_law_rounds.proofs.Rows.{mail}

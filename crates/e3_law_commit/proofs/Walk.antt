@@ -25,13 +25,13 @@ use Rattle.e3_world.proofs.Pushes.{legal_push}
 use Rattle.e3_world.proofs.Readings.{own_other, up_same}
 use Rattle.e3_world.proofs.Turns.{self}
 use Rattle.e3_net.proofs.Pushing.{sent_push}
-use Rattle.e3_protocol.specs.Logs.{IsIn}
-use Rattle.e3_refine.specs.Rows.{MayTake}
-use Rattle.e3_refine.proofs.Following.{in_from_contains}
-use Rattle.e3_refine.proofs.Lists.{in_right}
-use Rattle.e3_decided.proofs.Fitting.{given_fit}
-use Rattle.e3_decided.proofs.Histories.{due_taken, legal_made}
-use Rattle.e3_decided.proofs.Telling.{sends_own}
+use Rattle.e3_law_protocol.specs.Logs.{IsIn}
+use Rattle.e3_law_refinement.specs.Rows.{MayTake}
+use Rattle.e3_law_refinement.proofs.Following.{in_from_contains}
+use Rattle.e3_law_refinement.proofs.Lists.{in_right}
+use Rattle.e3_law_agreement.proofs.Fitting.{given_fit}
+use Rattle.e3_law_agreement.proofs.Histories.{due_taken, legal_made}
+use Rattle.e3_law_agreement.proofs.Telling.{sends_own}
 use Rattle.e3_world.specs.declared.lives.Made.{Made}
 use Rattle.e3_world.specs.Lives.{incarnation_of}
 use Rattle.e3_world.specs.Moves.{moves_at, trail_of}

@@ -20,9 +20,9 @@ use Rattle.e3_world.proofs.Lines.{lines_to}
 use Rattle.e3_world.proofs.Pushes.{legal_push}
 use Rattle.e3_world.proofs.Readings.{taken_same, to_push}
 use Rattle.e3_world.proofs.Turns.{self}
-use Rattle.e3_protocol.specs.Logs.{IsIn}
-use Rattle.e3_trails.specs.Bounds.{Suits}
-use Rattle.e3_trails.proofs.Laws.{inputs_suit}
+use Rattle.e3_law_protocol.specs.Logs.{IsIn}
+use Rattle.e3_law_trails.specs.Bounds.{Suits}
+use Rattle.e3_law_trails.proofs.Laws.{inputs_suit}
 use Rattle.e3_law_rounds.proofs.Counted.{is_counted}
 use Rattle.e3_law_rounds.proofs.Delivering.{same_self}
 use Rattle.e3_law_rounds.proofs.Tail.{items_on}

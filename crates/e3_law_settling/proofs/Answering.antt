@@ -30,8 +30,8 @@ use Rattle.e3_world.specs.Operations.{expected, issued, issued_in}
 use Rattle.e3_world.specs.Sound.{txn_in}
 use Rattle.e3_world.specs.Steps.{on_input, settle, step_at, step_of}
 use Rattle.e3_world.proofs.Pushes.{life_log}
-use Rattle.e3_laws.specs.Waiting.{is_answer, ranks_below}
-use Rattle.e3_laws.specs.Claims.{PacketRanksFall}
+use Rattle.e3_law_steps.specs.Waiting.{is_answer, ranks_below}
+use Rattle.e3_law_steps.specs.Claims.{PacketRanksFall}
 use Rattle.e3_law_settling.specs.Claims.{AnswersEndOrDoom, PacketsSettle}
 use Rattle.e3_law_settling.specs.Dooms.{Dooms, is_last_word}
 use Rattle.e3_law_settling.proofs.Deciding.{Follows, is_answer_from, no_grants, step_follows}

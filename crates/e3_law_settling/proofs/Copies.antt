@@ -17,7 +17,7 @@ use Rattle.e3_net.specs.Stands.{given, waiting_of, without}
 use Rattle.e3_net.specs.Traffic.{wait}
 use Rattle.e3_net.proofs.Copies.{Live}
 use Rattle.e3_net.proofs.Pushing.{pending_waits, waiting_live, waiting_push}
-use Rattle.e3_trails.proofs.Each.{each-at}
+use Rattle.e3_law_trails.proofs.Each.{each-at}
 use Rattle.e3_law_settling.specs.Measures.{copies_at, copies_if, down_from, is_below}
 use Rattle.e3_law_settling.proofs.Counting.{lower_from, total_append}
 

@@ -31,8 +31,8 @@ use Rattle.e3_world.specs.Operations.{issued, issued_in}
 use Rattle.e3_world.specs.Packets.{present_items}
 use Rattle.e3_world.proofs.Pushes.{past_push}
 use Rattle.e3_world.proofs.Readings.{own_other, own_same}
-use Rattle.e3_trails.proofs.Each.{each-append, each-filter, each-map, each-push, each-weaker}
-use Rattle.e3_trails.proofs.Holding.{split_from}
+use Rattle.e3_law_trails.proofs.Each.{each-append, each-filter, each-map, each-push, each-weaker}
+use Rattle.e3_law_trails.proofs.Holding.{split_from}
 use Rattle.e3_law_settling.specs.Measures.{begun}
 use Rattle.e3_law_settling.proofs.Begun.{IsBegun, begun_later, begun_more, bound_begun, bound_in}
 

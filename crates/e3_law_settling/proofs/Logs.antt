@@ -15,8 +15,8 @@ use Rattle.e3_world.specs.Logs.{decision, decision_by, is_undecided}
 use Rattle.e3_world.specs.Moves.{log_by, log_of, moves_of_act, own, past_of}
 use Rattle.e3_world.proofs.Pushes.{past_push}
 use Rattle.e3_world.proofs.Readings.{own_other, own_same}
-use Rattle.e3_trails.proofs.Clocks.{log_append}
-use Rattle.e3_trails.proofs.Each.{each-at}
+use Rattle.e3_law_trails.proofs.Clocks.{log_append}
+use Rattle.e3_law_trails.proofs.Each.{each-at}
 use Rattle.e3_law_settling.specs.Measures.{is_open, open_pairs, begun, total}
 use Rattle.e3_law_settling.proofs.Counting.{total_le, total_less}
 

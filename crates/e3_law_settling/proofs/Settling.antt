@@ -32,9 +32,9 @@ use Rattle.e3_world.proofs.Numbers.{entered_move}
 use Rattle.e3_world.proofs.Pushes.{log_push, past_push, present_is_log}
 use Rattle.e3_world.proofs.Readings.{own_same}
 use Rattle.e3_net.specs.Stands.{waiting_of}
-use Rattle.e3_laws.specs.Waiting.{is_answer}
-use Rattle.e3_trails.proofs.Laws.{inputs_suit}
-use Rattle.e3_trails.proofs.Tracing.{same_self}
+use Rattle.e3_law_steps.specs.Waiting.{is_answer}
+use Rattle.e3_law_trails.proofs.Laws.{inputs_suit}
+use Rattle.e3_law_trails.proofs.Tracing.{same_self}
 use Rattle.e3_law_settling.specs.Claims.{DeliveriesBeginNothing, PacketsSettle, TakingLowers}
 use Rattle.e3_law_settling.specs.Dooms.{Dooms}
 use Rattle.e3_law_settling.specs.Measures.{begun, copies_at, down_from, is_below, measure, open_pairs, takes_packet}

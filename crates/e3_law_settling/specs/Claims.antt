@@ -15,7 +15,7 @@ use Rattle.e3_world.specs.Given.{IsGiven}
 use Rattle.e3_world.specs.Legal.{Guard, IsLegal, first_pending}
 use Rattle.e3_world.specs.Sound.{txn_in}
 use Rattle.e3_world.specs.Steps.{step_of}
-use Rattle.e3_laws.specs.Waiting.{is_answer, ranks_below}
+use Rattle.e3_law_steps.specs.Waiting.{is_answer, ranks_below}
 use Rattle.e3_law_settling.specs.Dooms.{Dooms}
 use Rattle.e3_law_settling.specs.Measures.{begun, is_below, measure, takes_packet}
 

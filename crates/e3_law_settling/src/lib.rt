@@ -3,7 +3,7 @@
 
 ghost use Rattle.e3_law_settling.specs.Claims.{AnswersEndOrDoom, DeliveriesBeginNothing, EntriesAreCounted, PacketsEnd, PacketsSettle, TakingLowers};
 
-use e3_laws::packets_fall_in_rank;
+use e3_law_steps::packets_fall_in_rank;
 
 /// A packet that is taken makes only packets of lower rank, or is an answer that dooms its transaction: that was
 /// undecided at the site, its coordinator, and is aborted in the step, which sends only decisions and answers.

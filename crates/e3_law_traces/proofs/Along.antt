@@ -29,13 +29,13 @@ use Rattle.e3_world.proofs.Guards.{guard_step}
 use Rattle.e3_world.proofs.InTrail.{pending_sent}
 use Rattle.e3_world.proofs.Pushes.{past_push, log_push, legal_push, legal_front}
 use Rattle.e3_world.proofs.Readings.{own_same, up_same}
-use Rattle.e3_trails.specs.Bounds.{SuitsLog, GoesBetween, Suits}
-use Rattle.e3_trails.specs.Claims.{AllDiffer, tail_records}
-use Rattle.e3_trails.proofs.Each.{each-append, each-left, each-right, each-at, each-weaker}
-use Rattle.e3_trails.proofs.Holding.{sent_push, legal_holds}
-use Rattle.e3_trails.proofs.Clocks.{says_records, due_says, fall_of_txn}
-use Rattle.e3_trails.proofs.Laws.{go_between, records_suit, inputs_suit, names_apart}
-use Rattle.e3_trails.proofs.Tracing.{OfTxn}
+use Rattle.e3_law_trails.specs.Bounds.{SuitsLog, GoesBetween, Suits}
+use Rattle.e3_law_trails.specs.Claims.{AllDiffer, tail_records}
+use Rattle.e3_law_trails.proofs.Each.{each-append, each-left, each-right, each-at, each-weaker}
+use Rattle.e3_law_trails.proofs.Holding.{sent_push, legal_holds}
+use Rattle.e3_law_trails.proofs.Clocks.{says_records, due_says, fall_of_txn}
+use Rattle.e3_law_trails.proofs.Laws.{go_between, records_suit, inputs_suit, names_apart}
+use Rattle.e3_law_trails.proofs.Tracing.{OfTxn}
 use Rattle.e3_law_begun.specs.Mentions.{Mention, OfTxn as Transaction, OfVal, of_input, of_message, of_record, of_event, begun_in, values_of, Stands}
 use Rattle.e3_law_begun.proofs.Lists.{each-unflat, each-within}
 use Rattle.e3_law_begun.proofs.Laws.{guard_at, entries_mention, packets_own}

@@ -116,6 +116,13 @@ impl<D: Disk> Log<D> {
         self.disk
     }
 
+    /// The generation of the region that counts.
+    pub fn generation(&self) -> u32
+        ensures { result ≡ self.now.generation }
+    {
+        self.generation
+    }
+
     /// A frame with a body of this length ends in the region that counts. It takes no memory and makes no disk call.
     pub fn fits(&self, length: u64) -> bool
         ensures { self.now.failed ≡ false → IsTrue result ↔ (self.now.end + 6 + length ≤ limit (D.meters self.now.disk).capacity self.now.region) }

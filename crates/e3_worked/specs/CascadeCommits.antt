@@ -1,10 +1,9 @@
 -- Two electors attempt different directions; a tail that is kept decides between them.
-use Rattle.std.specs.Prelude.{◌∷◌, [], ℕ, true, false, List}
+use Rattle.std.specs.Prelude.{◌∷◌, [], ℕ, true, false, List, codes, ◌++◌}
 use Rattle.e3_types.specs.declared.entries.Act.TheVariants.{Step, Fall, Rise, Cut, Line}
 use Rattle.e3_types.specs.declared.transactions.Answer.TheVariants.{Written}
 use Rattle.e3_types.specs.declared.transactions.Dir.TheVariants.{Abort, Commit}
 use Rattle.e3_types.specs.declared.entries.Entry.{Entry}
-use Rattle.e3_types.specs.declared.transactions.Key.{Key}
 use Rattle.e3_types.specs.declared.transactions.Op.TheVariants.{Write}
 use Rattle.e3_types.specs.declared.messages.Packet.{Packet}
 use Rattle.e3_types.specs.declared.scenarios.Scenario.{Scenario}
@@ -18,46 +17,24 @@ use Rattle.e3_types.specs.declared.records.Record.TheVariants as log
 use Rattle.e3_types.specs.declared.messages.Message.TheVariants as msg
 use Rattle.e3_types.specs.declared.entries.Told.TheVariants as told
 use Rattle.e3_types.specs.declared.verdicts.Verdict.TheVariants as verdict
+use Rattle.e3_worked.specs.Names.{bare, s1_2_3, s2_3, s1_3, key_1_x, key_2_y, key_3_z}
 
--- sets of sites, keys and transactions
-abbrev pub s1_2_3 : List ℕ
-s1_2_3 = 1 ∷ 2 ∷ 3 ∷ []
-
-abbrev pub s2_3 : List ℕ
-s2_3 = 2 ∷ 3 ∷ []
-
-abbrev pub s1_3 : List ℕ
-s1_3 = 1 ∷ 3 ∷ []
-
-abbrev pub key_1_x : Key
-key_1_x = record { site = 1; name = 120 ∷ [] }
-
-abbrev pub key_2_y : Key
-key_2_y = record { site = 2; name = 121 ∷ [] }
-
-abbrev pub key_3_z : Key
-key_3_z = record { site = 3; name = 122 ∷ [] }
-
+-- its transactions
 abbrev pub t1_1_1 : Txn
 t1_1_1 = record { site = 1; inc = 1; seq = 1; sites = s1_2_3 }
 
 -- the scenario
 abbrev pub cascade_commits : Scenario
-cascade_commits = record {
-  weights = 1 ∷ 1 ∷ 1 ∷ [];
-  rows = [];
-  loss = 0;
-  repeat = 0;
-  luck = 0;
+cascade_commits = record (bare (1 ∷ 1 ∷ 1 ∷ [])) {
   steps =
-      (item.Begin (116 ∷ []) 1 s1_2_3 ∷ []) ∷
-      (item.Write (116 ∷ []) key_1_x (97 ∷ []) ∷ []) ∷
-      (item.Write (116 ∷ []) key_2_y (98 ∷ []) ∷ []) ∷
-      (item.Write (116 ∷ []) key_3_z (99 ∷ []) ∷ []) ∷
+      (item.Begin (codes "t") 1 s1_2_3 ∷ []) ∷
+      (item.Write (codes "t") key_1_x (codes "a") ∷ []) ∷
+      (item.Write (codes "t") key_2_y (codes "b") ∷ []) ∷
+      (item.Write (codes "t") key_3_z (codes "c") ∷ []) ∷
       (item.Stop 1 8 leave.All ∷ []) ∷
-      (item.Commit (116 ∷ []) ∷ []) ∷
+      (item.Commit (codes "t") ∷ []) ∷
       (item.Stop 3 5 leave.None ∷ []) ∷
-      (item.Elect 2 (116 ∷ []) s2_3 ∷ []) ∷
+      (item.Elect 2 (codes "t") s2_3 ∷ []) ∷
       (item.Restart 1 ∷ []) ∷
       (item.Restart 3 ∷ []) ∷
       (item.Crash 2 ∷ []) ∷
@@ -69,13 +46,13 @@ cascade_commits = record {
 
 -- the packets, by their numbers
 abbrev pub p1 : Packet
-p1 = record { number = 1; «from» = 1; to = 2; msg = msg.Do t1_1_1 2 (Write key_2_y (98 ∷ [])) }
+p1 = record { number = 1; «from» = 1; to = 2; msg = msg.Do t1_1_1 2 (Write key_2_y (codes "b")) }
 
 abbrev pub p2 : Packet
 p2 = record { number = 2; «from» = 2; to = 1; msg = msg.Done t1_1_1 2 1 Written }
 
 abbrev pub p3 : Packet
-p3 = record { number = 3; «from» = 1; to = 3; msg = msg.Do t1_1_1 3 (Write key_3_z (99 ∷ [])) }
+p3 = record { number = 3; «from» = 1; to = 3; msg = msg.Do t1_1_1 3 (Write key_3_z (codes "c")) }
 
 abbrev pub p4 : Packet
 p4 = record { number = 4; «from» = 3; to = 1; msg = msg.Done t1_1_1 3 1 Written }
@@ -158,29 +135,29 @@ p29 = record { number = 29; «from» = 1; to = 2; msg = msg.Decide t1_1_1 Commit
 abbrev pub p30 : Packet
 p30 = record { number = 30; «from» = 1; to = 3; msg = msg.Decide t1_1_1 Commit }
 
--- its history, entry by entry
-abbrev pub cascade_commits_history : List Entry
-cascade_commits_history =
+-- its history up to the rise of the third site, entry by entry
+abbrev pub before_its_rise : List Entry
+before_its_rise =
     record { owner = 1; act = Rise false 1 } ∷
     record { owner = 2; act = Rise false 1 } ∷
     record { owner = 3; act = Rise false 1 } ∷
     record { owner = 0; act = Line 1 } ∷
     record { owner = 1; act = Step (input.Begin s1_2_3) ([]) ([]) (told.Began t1_1_1 ∷ []) } ∷
     record { owner = 0; act = Line 2 } ∷
-    record { owner = 1; act = Step (input.Do t1_1_1 (Write key_1_x (97 ∷ []))) ([]) ([]) (told.Op t1_1_1 1 Written ∷ []) } ∷
+    record { owner = 1; act = Step (input.Do t1_1_1 (Write key_1_x (codes "a"))) ([]) ([]) (told.Op t1_1_1 1 Written ∷ []) } ∷
     record { owner = 0; act = Line 3 } ∷
-    record { owner = 1; act = Step (input.Do t1_1_1 (Write key_2_y (98 ∷ []))) ([]) (p1 ∷ []) ([]) } ∷
+    record { owner = 1; act = Step (input.Do t1_1_1 (Write key_2_y (codes "b"))) ([]) (p1 ∷ []) ([]) } ∷
     record { owner = 2; act = Step (input.Deliver p1) ([]) (p2 ∷ []) ([]) } ∷
     record { owner = 1; act = Step (input.Deliver p2) ([]) ([]) (told.Op t1_1_1 2 Written ∷ []) } ∷
     record { owner = 0; act = Line 4 } ∷
-    record { owner = 1; act = Step (input.Do t1_1_1 (Write key_3_z (99 ∷ []))) ([]) (p3 ∷ []) ([]) } ∷
+    record { owner = 1; act = Step (input.Do t1_1_1 (Write key_3_z (codes "c"))) ([]) (p3 ∷ []) ([]) } ∷
     record { owner = 3; act = Step (input.Deliver p3) ([]) (p4 ∷ []) ([]) } ∷
     record { owner = 1; act = Step (input.Deliver p4) ([]) ([]) (told.Op t1_1_1 3 Written ∷ []) } ∷
     record { owner = 0; act = Line 5 } ∷
     record { owner = 0; act = Line 6 } ∷
-    record { owner = 1; act = Step (input.Commit t1_1_1) (log.Vote t1_1_1 (record { n = 1; op = Write key_1_x (97 ∷ []) } ∷ []) ∷ []) (p5 ∷ p6 ∷ []) ([]) } ∷
-    record { owner = 2; act = Step (input.Deliver p5) (log.Vote t1_1_1 (record { n = 2; op = Write key_2_y (98 ∷ []) } ∷ []) ∷ []) (p7 ∷ []) ([]) } ∷
-    record { owner = 3; act = Step (input.Deliver p6) (log.Vote t1_1_1 (record { n = 3; op = Write key_3_z (99 ∷ []) } ∷ []) ∷ []) (p8 ∷ []) ([]) } ∷
+    record { owner = 1; act = Step (input.Commit t1_1_1) (log.Vote t1_1_1 (record { n = 1; op = Write key_1_x (codes "a") } ∷ []) ∷ []) (p5 ∷ p6 ∷ []) ([]) } ∷
+    record { owner = 2; act = Step (input.Deliver p5) (log.Vote t1_1_1 (record { n = 2; op = Write key_2_y (codes "b") } ∷ []) ∷ []) (p7 ∷ []) ([]) } ∷
+    record { owner = 3; act = Step (input.Deliver p6) (log.Vote t1_1_1 (record { n = 3; op = Write key_3_z (codes "c") } ∷ []) ∷ []) (p8 ∷ []) ([]) } ∷
     record { owner = 1; act = Step (input.Deliver p7) ([]) ([]) ([]) } ∷
     record { owner = 1; act = Fall (input.Deliver p8 ∷ []) (log.Attempt t1_1_1 1 Commit ∷ []) Fault } ∷
     record { owner = 0; act = Line 7 } ∷
@@ -194,6 +171,12 @@ cascade_commits_history =
     record { owner = 0; act = Line 9 } ∷
     record { owner = 1; act = Rise true 2 } ∷
     record { owner = 0; act = Line 10 } ∷
+    []
+
+-- its history, entry by entry
+abbrev pub cascade_commits_history : List Entry
+cascade_commits_history =
+    before_its_rise ++
     record { owner = 3; act = Rise false 2 } ∷
     record { owner = 0; act = Line 11 } ∷
     record { owner = 2; act = Cut } ∷
@@ -221,3 +204,96 @@ cascade_commits_history =
     record { owner = 2; act = Step (input.Deliver p29) (log.Decision t1_1_1 Commit ∷ []) ([]) ([]) } ∷
     record { owner = 3; act = Step (input.Deliver p30) ([]) ([]) ([]) } ∷
     []
+
+-- its report
+abbrev pub cascade_commits_report : List ℕ
+cascade_commits_report =
+    codes "start\n" ++
+    codes "1: rose 1\n" ++
+    codes "2: rose 1\n" ++
+    codes "3: rose 1\n" ++
+    codes "step 1\n" ++
+    codes "> begin t 1 1,2,3\n" ++
+    codes "1: 1.1.1 began 1,2,3\n" ++
+    codes "step 2\n" ++
+    codes "> write t 1.x a\n" ++
+    codes "1: 1.1.1 op 1 written\n" ++
+    codes "step 3\n" ++
+    codes "> write t 2.y b\n" ++
+    codes "1: 1.1.1 op 2 written\n" ++
+    codes "step 4\n" ++
+    codes "> write t 3.z c\n" ++
+    codes "1: 1.1.1 op 3 written\n" ++
+    codes "step 5\n" ++
+    codes "> stop 1 8 all\n" ++
+    codes "step 6\n" ++
+    codes "> commit t\n" ++
+    codes "1: fell fault\n" ++
+    codes "step 7\n" ++
+    codes "> stop 3 5 none\n" ++
+    codes "step 8\n" ++
+    codes "> elect 2 t 2,3\n" ++
+    codes "2: 1.1.1 election 2 pre-abort\n" ++
+    codes "3: fell fault\n" ++
+    codes "step 9\n" ++
+    codes "> restart 1\n" ++
+    codes "1: rose 2 kept\n" ++
+    codes "step 10\n" ++
+    codes "> restart 3\n" ++
+    codes "3: rose 2\n" ++
+    codes "step 11\n" ++
+    codes "> crash 2\n" ++
+    codes "2: cut\n" ++
+    codes "step 12\n" ++
+    codes "> recover 1,3\n" ++
+    codes "1: 1.1.1 election 3 pre-commit\n" ++
+    codes "step 13\n" ++
+    codes "> restart 2\n" ++
+    codes "2: rose 2\n" ++
+    codes "step 14\n" ++
+    codes "> recover 1,2,3\n" ++
+    codes "1: 1.1.1 election 4 commit\n" ++
+    codes "order\n" ++
+    codes "1.1.1\n" ++
+    codes "site 1 up 2\n" ++
+    codes "log\n" ++
+    codes "birth 1 1,1,1\n" ++
+    codes "inc 1\n" ++
+    codes "vote 1.1.1 1\n" ++
+    codes "write 1 x a\n" ++
+    codes "attempt 1.1.1 1 commit\n" ++
+    codes "inc 2\n" ++
+    codes "join 1.1.1 3\n" ++
+    codes "attempt 1.1.1 3 commit\n" ++
+    codes "decision 1.1.1 commit\n" ++
+    codes "join 1.1.1 4\n" ++
+    codes "rows\n" ++
+    codes "x a\n" ++
+    codes "site 2 up 2\n" ++
+    codes "log\n" ++
+    codes "birth 1 1,1,1\n" ++
+    codes "inc 1\n" ++
+    codes "vote 1.1.1 1\n" ++
+    codes "write 2 y b\n" ++
+    codes "join 1.1.1 2\n" ++
+    codes "attempt 1.1.1 2 abort\n" ++
+    codes "inc 2\n" ++
+    codes "join 1.1.1 4\n" ++
+    codes "decision 1.1.1 commit\n" ++
+    codes "rows\n" ++
+    codes "y b\n" ++
+    codes "site 3 up 2\n" ++
+    codes "log\n" ++
+    codes "birth 1 1,1,1\n" ++
+    codes "inc 1\n" ++
+    codes "vote 1.1.1 1\n" ++
+    codes "write 3 z c\n" ++
+    codes "join 1.1.1 2\n" ++
+    codes "inc 2\n" ++
+    codes "join 1.1.1 3\n" ++
+    codes "attempt 1.1.1 3 commit\n" ++
+    codes "decision 1.1.1 commit\n" ++
+    codes "join 1.1.1 4\n" ++
+    codes "rows\n" ++
+    codes "z c\n" ++
+    codes "end\n"

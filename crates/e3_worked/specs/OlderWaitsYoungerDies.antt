@@ -1,10 +1,9 @@
 -- The older transaction waits for a lock; the younger dies.
-use Rattle.std.specs.Prelude.{◌∷◌, [], ℕ, true, false, List}
+use Rattle.std.specs.Prelude.{◌∷◌, [], ℕ, true, false, List, codes, ◌++◌, take}
 use Rattle.e3_types.specs.declared.entries.Act.TheVariants.{Step, Rise, Line}
 use Rattle.e3_types.specs.declared.transactions.Answer.TheVariants.{Absent, Written}
 use Rattle.e3_types.specs.declared.transactions.Dir.TheVariants.{Abort, Commit}
 use Rattle.e3_types.specs.declared.entries.Entry.{Entry}
-use Rattle.e3_types.specs.declared.transactions.Key.{Key}
 use Rattle.e3_types.specs.declared.transactions.Op.TheVariants.{Read, Write}
 use Rattle.e3_types.specs.declared.messages.Packet.{Packet}
 use Rattle.e3_types.specs.declared.scenarios.Scenario.{Scenario}
@@ -14,17 +13,9 @@ use Rattle.e3_types.specs.declared.scenarios.Item.TheVariants as item
 use Rattle.e3_types.specs.declared.records.Record.TheVariants as log
 use Rattle.e3_types.specs.declared.messages.Message.TheVariants as msg
 use Rattle.e3_types.specs.declared.entries.Told.TheVariants as told
+use Rattle.e3_worked.specs.Names.{bare, s1_2, key_1_x, key_2_y}
 
--- sets of sites, keys and transactions
-abbrev pub s1_2 : List ℕ
-s1_2 = 1 ∷ 2 ∷ []
-
-abbrev pub key_1_x : Key
-key_1_x = record { site = 1; name = 120 ∷ [] }
-
-abbrev pub key_2_y : Key
-key_2_y = record { site = 2; name = 121 ∷ [] }
-
+-- its transactions
 abbrev pub t1_1_1 : Txn
 t1_1_1 = record { site = 1; inc = 1; seq = 1; sites = s1_2 }
 
@@ -33,20 +24,15 @@ t2_1_1 = record { site = 2; inc = 1; seq = 1; sites = s1_2 }
 
 -- the scenario
 abbrev pub older_waits_younger_dies : Scenario
-older_waits_younger_dies = record {
-  weights = 1 ∷ 1 ∷ [];
-  rows = [];
-  loss = 0;
-  repeat = 0;
-  luck = 0;
+older_waits_younger_dies = record (bare (1 ∷ 1 ∷ [])) {
   steps =
-      (item.Begin (116 ∷ []) 1 s1_2 ∷ []) ∷
-      (item.Begin (117 ∷ []) 2 s1_2 ∷ []) ∷
-      (item.Write (116 ∷ []) key_1_x (97 ∷ []) ∷ []) ∷
-      (item.Write (117 ∷ []) key_2_y (98 ∷ []) ∷ []) ∷
-      (item.Read (116 ∷ []) key_2_y ∷ []) ∷
-      (item.Read (117 ∷ []) key_1_x ∷ []) ∷
-      (item.Commit (116 ∷ []) ∷ []) ∷
+      (item.Begin (codes "t") 1 s1_2 ∷ []) ∷
+      (item.Begin (codes "u") 2 s1_2 ∷ []) ∷
+      (item.Write (codes "t") key_1_x (codes "a") ∷ []) ∷
+      (item.Write (codes "u") key_2_y (codes "b") ∷ []) ∷
+      (item.Read (codes "t") key_2_y ∷ []) ∷
+      (item.Read (codes "u") key_1_x ∷ []) ∷
+      (item.Commit (codes "t") ∷ []) ∷
       [];
 }
 
@@ -91,9 +77,9 @@ older_waits_younger_dies_history =
     record { owner = 0; act = Line 2 } ∷
     record { owner = 2; act = Step (input.Begin s1_2) ([]) ([]) (told.Began t2_1_1 ∷ []) } ∷
     record { owner = 0; act = Line 3 } ∷
-    record { owner = 1; act = Step (input.Do t1_1_1 (Write key_1_x (97 ∷ []))) ([]) ([]) (told.Op t1_1_1 1 Written ∷ []) } ∷
+    record { owner = 1; act = Step (input.Do t1_1_1 (Write key_1_x (codes "a"))) ([]) ([]) (told.Op t1_1_1 1 Written ∷ []) } ∷
     record { owner = 0; act = Line 4 } ∷
-    record { owner = 2; act = Step (input.Do t2_1_1 (Write key_2_y (98 ∷ []))) ([]) ([]) (told.Op t2_1_1 1 Written ∷ []) } ∷
+    record { owner = 2; act = Step (input.Do t2_1_1 (Write key_2_y (codes "b"))) ([]) ([]) (told.Op t2_1_1 1 Written ∷ []) } ∷
     record { owner = 0; act = Line 5 } ∷
     record { owner = 1; act = Step (input.Do t1_1_1 (Read key_2_y)) ([]) (p1 ∷ []) ([]) } ∷
     record { owner = 2; act = Step (input.Deliver p1) ([]) ([]) ([]) } ∷
@@ -104,10 +90,66 @@ older_waits_younger_dies_history =
     record { owner = 1; act = Step (input.Deliver p4) ([]) ([]) ([]) } ∷
     record { owner = 1; act = Step (input.Deliver p5) ([]) ([]) (told.Op t1_1_1 2 Absent ∷ []) } ∷
     record { owner = 0; act = Line 7 } ∷
-    record { owner = 1; act = Step (input.Commit t1_1_1) (log.Vote t1_1_1 (record { n = 1; op = Write key_1_x (97 ∷ []) } ∷ []) ∷ []) (p6 ∷ []) ([]) } ∷
+    record { owner = 1; act = Step (input.Commit t1_1_1) (log.Vote t1_1_1 (record { n = 1; op = Write key_1_x (codes "a") } ∷ []) ∷ []) (p6 ∷ []) ([]) } ∷
     record { owner = 2; act = Step (input.Deliver p6) (log.Vote t1_1_1 (record { n = 2; op = Read key_2_y } ∷ []) ∷ []) (p7 ∷ []) ([]) } ∷
     record { owner = 1; act = Step (input.Deliver p7) (log.Attempt t1_1_1 1 Commit ∷ []) (p8 ∷ []) ([]) } ∷
     record { owner = 2; act = Step (input.Deliver p8) (log.Attempt t1_1_1 1 Commit ∷ []) (p9 ∷ []) ([]) } ∷
     record { owner = 1; act = Step (input.Deliver p9) (log.Decision t1_1_1 Commit ∷ []) (p10 ∷ []) (told.Ended t1_1_1 Commit ∷ []) } ∷
     record { owner = 2; act = Step (input.Deliver p10) (log.Decision t1_1_1 Commit ∷ []) ([]) ([]) } ∷
     []
+
+-- its front up to the step in which the older transaction's read comes to the key that the younger one wrote
+abbrev pub until_it_waits : List Entry
+until_it_waits = take 13 older_waits_younger_dies_history
+
+-- its report
+abbrev pub older_waits_younger_dies_report : List ℕ
+older_waits_younger_dies_report =
+    codes "start\n" ++
+    codes "1: rose 1\n" ++
+    codes "2: rose 1\n" ++
+    codes "step 1\n" ++
+    codes "> begin t 1 1,2\n" ++
+    codes "1: 1.1.1 began 1,2\n" ++
+    codes "step 2\n" ++
+    codes "> begin u 2 1,2\n" ++
+    codes "2: 2.1.1 began 1,2\n" ++
+    codes "step 3\n" ++
+    codes "> write t 1.x a\n" ++
+    codes "1: 1.1.1 op 1 written\n" ++
+    codes "step 4\n" ++
+    codes "> write u 2.y b\n" ++
+    codes "2: 2.1.1 op 1 written\n" ++
+    codes "step 5\n" ++
+    codes "> read t 2.y\n" ++
+    codes "step 6\n" ++
+    codes "> read u 1.x\n" ++
+    codes "1: 1.1.1 op 2 absent\n" ++
+    codes "2: 2.1.1 died for 1.1.1\n" ++
+    codes "step 7\n" ++
+    codes "> commit t\n" ++
+    codes "1: 1.1.1 committed\n" ++
+    codes "order\n" ++
+    codes "1.1.1\n" ++
+    codes "site 1 up 1\n" ++
+    codes "log\n" ++
+    codes "birth 1 1,1\n" ++
+    codes "inc 1\n" ++
+    codes "decision 2.1.1 abort\n" ++
+    codes "vote 1.1.1 1\n" ++
+    codes "write 1 x a\n" ++
+    codes "attempt 1.1.1 1 commit\n" ++
+    codes "decision 1.1.1 commit\n" ++
+    codes "rows\n" ++
+    codes "x a\n" ++
+    codes "site 2 up 1\n" ++
+    codes "log\n" ++
+    codes "birth 1 1,1\n" ++
+    codes "inc 1\n" ++
+    codes "decision 2.1.1 abort\n" ++
+    codes "vote 1.1.1 1\n" ++
+    codes "read 2 y\n" ++
+    codes "attempt 1.1.1 1 commit\n" ++
+    codes "decision 1.1.1 commit\n" ++
+    codes "rows\n" ++
+    codes "end\n"

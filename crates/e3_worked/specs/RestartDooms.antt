@@ -1,10 +1,9 @@
 -- A site restarts between two reads: the transaction is doomed.
-use Rattle.std.specs.Prelude.{◌∷◌, [], ℕ, false, List}
+use Rattle.std.specs.Prelude.{◌∷◌, [], ℕ, false, List, codes, ◌++◌}
 use Rattle.e3_types.specs.declared.entries.Act.TheVariants.{Step, Rise, Cut, Line}
 use Rattle.e3_types.specs.declared.transactions.Answer.TheVariants.{Value}
 use Rattle.e3_types.specs.declared.transactions.Dir.TheVariants.{Abort}
 use Rattle.e3_types.specs.declared.entries.Entry.{Entry}
-use Rattle.e3_types.specs.declared.transactions.Key.{Key}
 use Rattle.e3_types.specs.declared.transactions.Op.TheVariants.{Read}
 use Rattle.e3_types.specs.declared.messages.Packet.{Packet}
 use Rattle.e3_types.specs.declared.scenarios.Scenario.{Scenario}
@@ -15,32 +14,23 @@ use Rattle.e3_types.specs.declared.records.Record.TheVariants as log
 use Rattle.e3_types.specs.declared.messages.Message.TheVariants as msg
 use Rattle.e3_types.specs.declared.entries.Refusal.TheVariants as refusal
 use Rattle.e3_types.specs.declared.entries.Told.TheVariants as told
+use Rattle.e3_worked.specs.Names.{bare, s1_2, key_2_x}
 
--- sets of sites, keys and transactions
-abbrev pub s1_2 : List ℕ
-s1_2 = 1 ∷ 2 ∷ []
-
-abbrev pub key_2_x : Key
-key_2_x = record { site = 2; name = 120 ∷ [] }
-
+-- its transactions
 abbrev pub t1_1_1 : Txn
 t1_1_1 = record { site = 1; inc = 1; seq = 1; sites = s1_2 }
 
 -- the scenario
 abbrev pub restart_dooms : Scenario
-restart_dooms = record {
-  weights = 1 ∷ 1 ∷ [];
-  rows = record { key = key_2_x; val = 97 ∷ [] } ∷ [];
-  loss = 0;
-  repeat = 0;
-  luck = 0;
+restart_dooms = record (bare (1 ∷ 1 ∷ [])) {
+  rows = record { key = key_2_x; val = codes "a" } ∷ [];
   steps =
-      (item.Begin (116 ∷ []) 1 s1_2 ∷ []) ∷
-      (item.Read (116 ∷ []) key_2_x ∷ []) ∷
+      (item.Begin (codes "t") 1 s1_2 ∷ []) ∷
+      (item.Read (codes "t") key_2_x ∷ []) ∷
       (item.Crash 2 ∷ []) ∷
       (item.Restart 2 ∷ []) ∷
-      (item.Read (116 ∷ []) key_2_x ∷ []) ∷
-      (item.Commit (116 ∷ []) ∷ []) ∷
+      (item.Read (codes "t") key_2_x ∷ []) ∷
+      (item.Commit (codes "t") ∷ []) ∷
       [];
 }
 
@@ -49,13 +39,13 @@ abbrev pub p1 : Packet
 p1 = record { number = 1; «from» = 1; to = 2; msg = msg.Do t1_1_1 1 (Read key_2_x) }
 
 abbrev pub p2 : Packet
-p2 = record { number = 2; «from» = 2; to = 1; msg = msg.Done t1_1_1 1 1 (Value (97 ∷ [])) }
+p2 = record { number = 2; «from» = 2; to = 1; msg = msg.Done t1_1_1 1 1 (Value (codes "a")) }
 
 abbrev pub p3 : Packet
 p3 = record { number = 3; «from» = 1; to = 2; msg = msg.Do t1_1_1 2 (Read key_2_x) }
 
 abbrev pub p4 : Packet
-p4 = record { number = 4; «from» = 2; to = 1; msg = msg.Done t1_1_1 2 2 (Value (97 ∷ [])) }
+p4 = record { number = 4; «from» = 2; to = 1; msg = msg.Done t1_1_1 2 2 (Value (codes "a")) }
 
 abbrev pub p5 : Packet
 p5 = record { number = 5; «from» = 1; to = 2; msg = msg.Decide t1_1_1 Abort }
@@ -70,7 +60,7 @@ restart_dooms_history =
     record { owner = 0; act = Line 2 } ∷
     record { owner = 1; act = Step (input.Do t1_1_1 (Read key_2_x)) ([]) (p1 ∷ []) ([]) } ∷
     record { owner = 2; act = Step (input.Deliver p1) ([]) (p2 ∷ []) ([]) } ∷
-    record { owner = 1; act = Step (input.Deliver p2) ([]) ([]) (told.Op t1_1_1 1 (Value (97 ∷ [])) ∷ []) } ∷
+    record { owner = 1; act = Step (input.Deliver p2) ([]) ([]) (told.Op t1_1_1 1 (Value (codes "a")) ∷ []) } ∷
     record { owner = 0; act = Line 3 } ∷
     record { owner = 2; act = Cut } ∷
     record { owner = 0; act = Line 4 } ∷
@@ -83,3 +73,80 @@ restart_dooms_history =
     record { owner = 0; act = Line 6 } ∷
     record { owner = 1; act = Step (input.Commit t1_1_1) ([]) ([]) (told.Refused t1_1_1 (refusal.Doomed 2 1 2) ∷ []) } ∷
     []
+
+-- its report
+abbrev pub restart_dooms_report : List ℕ
+restart_dooms_report =
+    codes "start\n" ++
+    codes "1: rose 1\n" ++
+    codes "2: rose 1\n" ++
+    codes "step 1\n" ++
+    codes "> begin t 1 1,2\n" ++
+    codes "1: 1.1.1 began 1,2\n" ++
+    codes "step 2\n" ++
+    codes "> read t 2.x\n" ++
+    codes "1: 1.1.1 op 1 value a\n" ++
+    codes "step 3\n" ++
+    codes "> crash 2\n" ++
+    codes "2: cut\n" ++
+    codes "step 4\n" ++
+    codes "> restart 2\n" ++
+    codes "2: rose 2\n" ++
+    codes "step 5\n" ++
+    codes "> read t 2.x\n" ++
+    codes "1: 1.1.1 doomed 2 1 2\n" ++
+    codes "step 6\n" ++
+    codes "> commit t\n" ++
+    codes "1: 1.1.1 refused doomed 2 1 2\n" ++
+    codes "order\n" ++
+    codes "site 1 up 1\n" ++
+    codes "log\n" ++
+    codes "birth 1 1,1\n" ++
+    codes "inc 1\n" ++
+    codes "decision 1.1.1 abort\n" ++
+    codes "rows\n" ++
+    codes "site 2 up 2\n" ++
+    codes "log\n" ++
+    codes "birth 1 1,1\n" ++
+    codes "row x a\n" ++
+    codes "inc 1\n" ++
+    codes "inc 2\n" ++
+    codes "decision 1.1.1 abort\n" ++
+    codes "rows\n" ++
+    codes "x a\n" ++
+    codes "end\n"
+
+-- its trace: the history, entry by entry, and a second `end`
+abbrev pub restart_dooms_trace : List ℕ
+restart_dooms_trace =
+    codes "1 rise 1\n" ++
+    codes "2 rise 1\n" ++
+    codes "0 line 1\n" ++
+    codes "1 step begin 1,2\n" ++
+    codes "t 1.1.1 began 1,2\n" ++
+    codes "0 line 2\n" ++
+    codes "1 step do 1.1.1 read 2.x\n" ++
+    codes "o 1 2 do 1.1.1 1 read 2.x\n" ++
+    codes "2 step deliver 1\n" ++
+    codes "o 2 1 done 1.1.1 1 1 value a\n" ++
+    codes "1 step deliver 2\n" ++
+    codes "t 1.1.1 op 1 value a\n" ++
+    codes "0 line 3\n" ++
+    codes "2 cut\n" ++
+    codes "0 line 4\n" ++
+    codes "2 rise 2\n" ++
+    codes "0 line 5\n" ++
+    codes "1 step do 1.1.1 read 2.x\n" ++
+    codes "o 3 2 do 1.1.1 2 read 2.x\n" ++
+    codes "2 step deliver 3\n" ++
+    codes "o 4 1 done 1.1.1 2 2 value a\n" ++
+    codes "1 step deliver 4\n" ++
+    codes "r decision 1.1.1 abort\n" ++
+    codes "o 5 2 decide 1.1.1 abort\n" ++
+    codes "t 1.1.1 doomed 2 1 2\n" ++
+    codes "2 step deliver 5\n" ++
+    codes "r decision 1.1.1 abort\n" ++
+    codes "0 line 6\n" ++
+    codes "1 step commit 1.1.1\n" ++
+    codes "t 1.1.1 refused doomed 2 1 2\n" ++
+    codes "end\n"

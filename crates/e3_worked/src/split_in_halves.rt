@@ -1,12 +1,13 @@
-ghost use Rattle.std.specs.Prelude.{◌≡◌, [], ◌∷◌};
+ghost use Rattle.std.specs.Prelude.{◌≡◌, ◌++◌, [], true, false};
+ghost use Rattle.e3_report.specs.Report.{report_of};
 ghost use Rattle.e3_world.specs.Logs.{table_of};
 ghost use Rattle.e3_world.specs.Moves.{all_records, log_of, trail_of};
 ghost use Rattle.e3_world.specs.Serial.{commit_order};
 ghost use Rattle.e3_worked.specs.Worked.{IsWorked};
-ghost use Rattle.e3_worked.specs.SplitInHalves.{split_in_halves, split_in_halves_history};
+ghost use Rattle.e3_worked.specs.SplitInHalves.{split_in_halves, split_in_halves_history, split_in_halves_report, split_in_halves_trace};
 
 use e3_judge::checks_are_exact;
-use e3_trails::trails_are_sound;
+use e3_law_trails::trails_are_sound;
 
 /// A split in halves blocks a commit; after the merge a recovery ends it.
 pub fn is_worked()
@@ -20,3 +21,9 @@ pub fn is_worked()
     checks_are_exact();
     trails_are_sound();
 }
+
+/// Its report, and its report with the trace, are to the byte the texts that are written down.
+pub fn is_reported()
+    ensures report { report_of split_in_halves split_in_halves_history false ≡ split_in_halves_report }
+    ensures trace { report_of split_in_halves split_in_halves_history true ≡ split_in_halves_report ++ split_in_halves_trace }
+{}

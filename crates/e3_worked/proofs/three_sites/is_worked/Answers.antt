@@ -1,5 +1,4 @@
 use Rattle.std.specs.Prelude.{refl}
-use Rattle.std.proofs.Common.{lit≤}
 use Rattle.e3_types.specs.Sites.{bits_of}
 use Rattle.e3_worked.specs.ThreeSites.{three_sites, three_sites_history}
 use Rattle.e3_worked.proofs.Judging.{worked}
@@ -7,8 +6,7 @@ use Rattle.e3_worked.proofs.three_sites.is_worked.Goals as goal
 
 pub returns-clause-worked : goal.returns-clause-worked
 unfolding bits_of
-returns-clause-worked c = worked c.checks_are_exact.ensures.whole c.trails_are_sound.ensures.sound three_sites three_sites_history
-    (record { some = lit≤ tt; few = lit≤ tt; weighed = refl; rows_at_sites = refl; rows_differ = refl; odds = lit≤ tt; steps = refl }) refl
+returns-clause-worked c = worked c.checks_are_exact.ensures.whole c.trails_are_sound.ensures.sound three_sites three_sites_history refl refl
 
 pub returns-clause-order : goal.returns-clause-order
 unfolding bits_of

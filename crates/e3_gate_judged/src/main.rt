@@ -1,0 +1,97 @@
+//! Runs scenarios over disks in memory: how each run ends, what it writes, what the plain judge says of its history, and of how
+//! many sites the disk reads as the site's log, with or without what is in doubt. The standard input has texts of scenarios, each
+//! behind a line `##text`, and behind each the lines of what is run of it, as `##judge one write`; where it has no such line it is
+//! one scenario, which is judged. What it must print stands in the file of this program's output.
+//!
+//! `judge NAME` judges a run, and `group NAME` four. `stop NAME: CALL LEAVE` puts these words for the `@` of the text, judges the run
+//! and adds the events behind the stop. `run NAME: SETTINGS` tells how a run ends whose streams, disks or history are as the
+//! settings say, and `events NAME: SETTINGS` counts some events of it. `disk` has the bytes of the disk of site 1, and `fronts` how
+//! each front of the text is refused.
+#![tactic(auto)]
+
+mod ends;
+mod fronts;
+mod given;
+mod judging;
+mod standing;
+mod texts;
+
+use e3_outside::{StdSource, read_up_to};
+use e3_types::List;
+use std::alloc::Global;
+use std::io::{self, Write};
+use std::process::ExitCode;
+use std::sync::Wait;
+use std::thread::Threads;
+use texts::cut;
+
+const NO_OUTPUT: u8 = 4;
+
+/// Want of memory beside a run, no input, or no scenario where one is judged.
+const NO_MEMORY: u8 = 6;
+
+/// More bytes than all texts have.
+const MOST: u64 = 1_048_576;
+
+// Adds the lines of what is run of a text, by the first letter of what is asked; nothing without memory.
+fn push_command<R: Wait + Threads + Sync>(
+    rt: &R,
+    alloc: Global,
+    out: &mut List<u8>,
+    text: &[u8],
+    command: &[u8],
+) -> Option<()> {
+    let (word, rest) = cut(command, b' ');
+    let (name, settings) = cut(rest, b':');
+    match word.first() {
+        Some(b'j') => judging::push_judged(rt, alloc, out, name, text),
+        Some(b'g') => judging::push_group(rt, alloc, out, name, text),
+        Some(b's') => judging::push_stop(rt, alloc, out, name, text, settings),
+        Some(b'r') => ends::push_run(rt, alloc, out, name, text, settings),
+        Some(b'e') => ends::push_counted(rt, alloc, out, name, text, settings),
+        Some(b'd') => ends::push_disk(rt, alloc, out, text),
+        Some(b'f') => fronts::push_fronts(rt, alloc, out, text),
+        _ => None,
+    }
+}
+
+// All lines; none without memory.
+fn lines<R: Wait + Threads + Sync>(rt: &R, alloc: Global, input: &[u8]) -> Option<List<u8>> {
+    let mut out = List::new(alloc);
+    let mut text = List::new(alloc);
+    for line in input.split_inclusive(|byte| *byte == b'\n') {
+        let Some(command) = line.strip_prefix(b"##") else {
+            text.extend(line).ok()?;
+            continue;
+        };
+        match command.first() {
+            Some(b't') => text = List::new(alloc),
+            _ => push_command(
+                rt,
+                alloc,
+                &mut out,
+                text.as_slice(),
+                texts::without_end(command),
+            )?,
+        }
+    }
+    if out.is_empty() {
+        judging::push_said(rt, alloc, &mut out, text.as_slice())?;
+    }
+    Some(out)
+}
+
+fn main(rt: HostRuntime) -> ExitCode {
+    let alloc = rt.alloc();
+    let mut source = StdSource::new(rt.reader());
+    let Ok(input) = read_up_to(alloc, &mut source, MOST) else {
+        return ExitCode::from(NO_MEMORY);
+    };
+    let Some(text) = lines(&rt, alloc, input.as_slice()) else {
+        return ExitCode::from(NO_MEMORY);
+    };
+    match io::writer(&rt).write_all(text.as_slice()) {
+        Ok(()) => ExitCode::SUCCESS,
+        Err(_) => ExitCode::from(NO_OUTPUT),
+    }
+}

@@ -1,0 +1,46 @@
+//! One order over every legal history.
+#![tactic(auto)]
+
+ghost use Rattle.e3_law_serial.specs.Claims.{LegalSerial, LegalTables, LegalVotes, LogsAreOrdered, OrderedTables, OrderedVotes};
+
+use e3_law_agreement::histories_agree;
+use e3_law_trails::{records_suit_their_site, trails_are_sound};
+
+/// Where each log's records follow one another as votes and decisions do, no two decisions of a transaction differ, and a
+/// commit stands behind all votes, there is one order, that of the last votes: the committed transactions run one after the
+/// other give each site's table, over those that its own log commits, and what each read in their votes found.
+pub fn ordered_logs_replay()
+    ensures tables { OrderedTables }
+    ensures votes { OrderedVotes }
+{}
+
+/// In every legal history of a given scenario the logs are ordered: no vote conflicts with one that is undecided, the
+/// operations of a vote ascend and are on keys of its site, and each transaction votes and decides at most once at a site.
+pub fn logs_are_ordered()
+    ensures { LogsAreOrdered }
+{
+    trails_are_sound();
+    records_suit_their_site();
+    histories_agree();
+}
+
+/// In every legal history of a given scenario there is one order of the committed transactions, that of their last votes:
+/// run one after the other they give each site's table, over those that its log commits, and what their votes found.
+pub fn legal_histories_replay()
+    ensures tables { LegalTables }
+    ensures votes { LegalVotes }
+{
+    logs_are_ordered();
+    ordered_logs_replay();
+}
+
+/// In every legal history of a given scenario there is one order of the committed transactions, that of their last votes:
+/// run one after the other they give each site's table, over those that its own log commits, and the answer to each of their
+/// reads that was told to a client, however sites fall and rise and whatever is lost or comes twice.
+pub fn one_order()
+    ensures { LegalSerial }
+{
+    trails_are_sound();
+    histories_agree();
+    legal_histories_replay();
+}

@@ -1,5 +1,0 @@
-use Rattle.e3_laws.proofs.Inputs.{packets_fall}
-use Rattle.e3_laws.proofs.packets_fall_in_rank.Goals as goal
-
-pub returns : goal.returns
-returns c = packets_fall

@@ -1,5 +1,0 @@
-use Rattle.e3_laws.proofs.Histories.{front_is_legal}
-use Rattle.e3_laws.proofs.prefix_is_legal.Goals as goal
-
-pub returns : goal.returns
-returns c = front_is_legal

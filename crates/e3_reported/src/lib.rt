@@ -1,4 +1,0 @@
-//! The reports of worked histories, as they are written down for each.
-#![tactic(auto)]
-
-pub mod reports;

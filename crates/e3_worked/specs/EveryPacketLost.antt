@@ -1,0 +1,178 @@
+-- Every packet is lost; in a recovery, where the network is calm, the sites abort.
+use Rattle.std.specs.Prelude.{◌++◌, ◌∷◌, [], ℕ, false, List, codes}
+use Rattle.e3_types.specs.declared.entries.Act.TheVariants.{Step, Rise, Line}
+use Rattle.e3_types.specs.declared.transactions.Answer.TheVariants.{Written}
+use Rattle.e3_types.specs.declared.transactions.Dir.TheVariants.{Abort}
+use Rattle.e3_types.specs.declared.entries.Entry.{Entry}
+use Rattle.e3_types.specs.declared.transactions.Op.TheVariants.{Write}
+use Rattle.e3_types.specs.declared.messages.Packet.{Packet}
+use Rattle.e3_types.specs.declared.scenarios.Scenario.{Scenario}
+use Rattle.e3_types.specs.declared.transactions.State.TheVariants.{Q}
+use Rattle.e3_types.specs.declared.transactions.Txn.{Txn}
+use Rattle.e3_world.specs.Items.{RecoveryRound}
+use Rattle.e3_types.specs.declared.entries.Input.TheVariants as input
+use Rattle.e3_types.specs.declared.scenarios.Item.TheVariants as item
+use Rattle.e3_types.specs.declared.messages.Message.TheVariants as msg
+use Rattle.e3_types.specs.declared.records.Record.TheVariants as log
+use Rattle.e3_types.specs.declared.entries.Told.TheVariants as told
+use Rattle.e3_types.specs.declared.verdicts.Verdict.TheVariants as verdict
+use Rattle.e3_worked.specs.Names.{bare, s1_2, key_1_x}
+
+-- its transactions
+abbrev pub t1_1_1 : Txn
+t1_1_1 = record { site = 1; inc = 1; seq = 1; sites = s1_2 }
+
+-- the scenario
+abbrev pub every_packet_lost : Scenario
+every_packet_lost = record (bare (1 ∷ 1 ∷ [])) {
+  loss = 100;
+  steps =
+      (item.Begin (codes "t") 1 s1_2 ∷ []) ∷
+      (item.Write (codes "t") key_1_x (codes "a") ∷ []) ∷
+      (item.Commit (codes "t") ∷ []) ∷
+      (item.Recover s1_2 ∷ []) ∷
+      [];
+}
+
+-- the packets, by their numbers
+abbrev pub p1 : Packet
+p1 = record { number = 1; «from» = 1; to = 2; msg = msg.VoteReq t1_1_1 0 0 }
+
+abbrev pub p2 : Packet
+p2 = record { number = 2; «from» = 1; to = 2; msg = msg.Ask t1_1_1 (record { inc = 1; seq = 1 }) }
+
+abbrev pub p3 : Packet
+p3 = record { number = 3; «from» = 2; to = 1; msg = msg.LastElected t1_1_1 (record { inc = 1; seq = 1 }) 1 }
+
+abbrev pub p4 : Packet
+p4 = record { number = 4; «from» = 1; to = 2; msg = msg.Elected t1_1_1 2 }
+
+abbrev pub p5 : Packet
+p5 = record { number = 5; «from» = 2; to = 1; msg = msg.Report t1_1_1 2 Q 0 }
+
+abbrev pub p6 : Packet
+p6 = record { number = 6; «from» = 1; to = 2; msg = msg.Pre t1_1_1 2 Abort }
+
+abbrev pub p7 : Packet
+p7 = record { number = 7; «from» = 2; to = 1; msg = msg.Ack t1_1_1 2 Abort }
+
+abbrev pub p8 : Packet
+p8 = record { number = 8; «from» = 1; to = 2; msg = msg.Decide t1_1_1 Abort }
+
+-- the round of its recovery
+abbrev pub recovery_round : RecoveryRound
+recovery_round = record { txn = t1_1_1; members = s1_2; elector = 1 }
+
+-- what is before its Elect
+abbrev pub before_round : List Entry
+before_round =
+    record { owner = 1; act = Rise false 1 } ∷
+    record { owner = 2; act = Rise false 1 } ∷
+    record { owner = 0; act = Line 1 } ∷
+    record { owner = 1; act = Step (input.Begin s1_2) ([]) ([]) (told.Began t1_1_1 ∷ []) } ∷
+    record { owner = 0; act = Line 2 } ∷
+    record { owner = 1; act = Step (input.Do t1_1_1 (Write key_1_x (codes "a"))) ([]) ([]) (told.Op t1_1_1 1 Written ∷ []) } ∷
+    record { owner = 0; act = Line 3 } ∷
+    record { owner = 1; act = Step (input.Commit t1_1_1) (log.Vote t1_1_1 (record { n = 1; op = Write key_1_x (codes "a") } ∷ []) ∷ []) (p1 ∷ []) ([]) } ∷
+    record { owner = 0; act = Line 4 } ∷
+    []
+
+-- what is behind it
+abbrev pub behind_round : List Entry
+behind_round =
+    record { owner = 2; act = Step (input.Deliver p2) ([]) (p3 ∷ []) ([]) } ∷
+    record { owner = 1; act = Step (input.Deliver p3) (log.Join t1_1_1 2 ∷ []) (p4 ∷ []) ([]) } ∷
+    record { owner = 2; act = Step (input.Deliver p4) (log.Join t1_1_1 2 ∷ []) (p5 ∷ []) ([]) } ∷
+    record { owner = 1; act = Step (input.Deliver p5) (log.Attempt t1_1_1 2 Abort ∷ []) (p6 ∷ []) (told.Verdict t1_1_1 2 verdict.PreAbort ∷ []) } ∷
+    record { owner = 2; act = Step (input.Deliver p6) (log.Attempt t1_1_1 2 Abort ∷ []) (p7 ∷ []) ([]) } ∷
+    record { owner = 1; act = Step (input.Deliver p7) (log.Decision t1_1_1 Abort ∷ []) (p8 ∷ []) (told.Ended t1_1_1 Abort ∷ []) } ∷
+    record { owner = 2; act = Step (input.Deliver p8) (log.Decision t1_1_1 Abort ∷ []) ([]) ([]) } ∷
+    []
+
+-- its history, entry by entry
+abbrev pub every_packet_lost_history : List Entry
+every_packet_lost_history =
+    before_round ++
+    record { owner = 1; act = Step (input.Elect t1_1_1 s1_2) ([]) (p2 ∷ []) ([]) } ∷
+    behind_round
+
+-- its report
+abbrev pub every_packet_lost_report : List ℕ
+every_packet_lost_report =
+    codes "start\n" ++
+    codes "1: rose 1\n" ++
+    codes "2: rose 1\n" ++
+    codes "step 1\n" ++
+    codes "> begin t 1 1,2\n" ++
+    codes "1: 1.1.1 began 1,2\n" ++
+    codes "step 2\n" ++
+    codes "> write t 1.x a\n" ++
+    codes "1: 1.1.1 op 1 written\n" ++
+    codes "step 3\n" ++
+    codes "> commit t\n" ++
+    codes "step 4\n" ++
+    codes "> recover 1,2\n" ++
+    codes "1: 1.1.1 election 2 pre-abort\n" ++
+    codes "1: 1.1.1 aborted\n" ++
+    codes "order\n" ++
+    codes "site 1 up 1\n" ++
+    codes "log\n" ++
+    codes "birth 1 1,1\n" ++
+    codes "inc 1\n" ++
+    codes "vote 1.1.1 1\n" ++
+    codes "write 1 x a\n" ++
+    codes "join 1.1.1 2\n" ++
+    codes "attempt 1.1.1 2 abort\n" ++
+    codes "decision 1.1.1 abort\n" ++
+    codes "rows\n" ++
+    codes "site 2 up 1\n" ++
+    codes "log\n" ++
+    codes "birth 1 1,1\n" ++
+    codes "inc 1\n" ++
+    codes "join 1.1.1 2\n" ++
+    codes "attempt 1.1.1 2 abort\n" ++
+    codes "decision 1.1.1 abort\n" ++
+    codes "rows\n" ++
+    codes "end\n"
+
+-- its trace: the history, entry by entry, and a second `end`
+abbrev pub every_packet_lost_trace : List ℕ
+every_packet_lost_trace =
+    codes "1 rise 1\n" ++
+    codes "2 rise 1\n" ++
+    codes "0 line 1\n" ++
+    codes "1 step begin 1,2\n" ++
+    codes "t 1.1.1 began 1,2\n" ++
+    codes "0 line 2\n" ++
+    codes "1 step do 1.1.1 write 1.x a\n" ++
+    codes "t 1.1.1 op 1 written\n" ++
+    codes "0 line 3\n" ++
+    codes "1 step commit 1.1.1\n" ++
+    codes "r vote 1.1.1 1\n" ++
+    codes "r write 1 x a\n" ++
+    codes "o 1 2 votereq 1.1.1 0 0\n" ++
+    codes "0 line 4\n" ++
+    codes "1 step elect 1.1.1 1,2\n" ++
+    codes "o 2 2 ask 1.1.1 1 1\n" ++
+    codes "2 step deliver 2\n" ++
+    codes "o 3 1 last 1.1.1 1 1 1\n" ++
+    codes "1 step deliver 3\n" ++
+    codes "r join 1.1.1 2\n" ++
+    codes "o 4 2 elected 1.1.1 2\n" ++
+    codes "2 step deliver 4\n" ++
+    codes "r join 1.1.1 2\n" ++
+    codes "o 5 1 report 1.1.1 2 q 0\n" ++
+    codes "1 step deliver 5\n" ++
+    codes "r attempt 1.1.1 2 abort\n" ++
+    codes "o 6 2 pre 1.1.1 2 abort\n" ++
+    codes "t 1.1.1 election 2 pre-abort\n" ++
+    codes "2 step deliver 6\n" ++
+    codes "r attempt 1.1.1 2 abort\n" ++
+    codes "o 7 1 ack 1.1.1 2 abort\n" ++
+    codes "1 step deliver 7\n" ++
+    codes "r decision 1.1.1 abort\n" ++
+    codes "o 8 2 decide 1.1.1 abort\n" ++
+    codes "t 1.1.1 aborted\n" ++
+    codes "2 step deliver 8\n" ++
+    codes "r decision 1.1.1 abort\n" ++
+    codes "end\n"
