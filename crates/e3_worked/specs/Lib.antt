@@ -30,5 +30,6 @@ pub mod AllowedChanges
 pub mod WrongInputs
 pub mod WrongLines
 pub mod WrongMakings
+pub mod WrongNo
 pub mod WrongOwners
 pub mod WrongRises

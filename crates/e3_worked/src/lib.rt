@@ -32,5 +32,6 @@ pub mod vote_stopped;
 pub mod wrong_inputs;
 pub mod wrong_lines;
 pub mod wrong_makings;
+pub mod wrong_no;
 pub mod wrong_owners;
 pub mod wrong_rises;
