@@ -1,7 +1,7 @@
 -- What is found is a clash, and where none is found there is none.
 use Rattle.std.proofs.Common.{◌≡◌, inl, inr, ◌∷◌, [], ◌||◌, Bool, true, false, List, fold, Option, Some, None, refl, sym, ap, subst, ◌∙◌, if◌then◌else◌}
 use Rattle.std.specs.List.{list_any}
-use Rattle.std.proofs.lemmas.Bool.{or_cases}
+use Rattle.std.proofs.lemmas.Bool.{or_cases, or_right}
 use Rattle.e3_types.specs.declared.entries.Entry.{Entry}
 use Rattle.e3_types.specs.declared.records.Record.{Record}
 use Rattle.e3_types.specs.declared.records.Record.TheVariants as log
@@ -13,10 +13,11 @@ use Rattle.e3_world.specs.Legal.{IsLegal}
 use Rattle.e3_world.specs.Moves.{trail_of}
 use Rattle.e3_world.specs.Safe.{Agrees}
 use Rattle.e3_law_protocol.specs.Logs.{IsIn}
-use Rattle.e3_law_refinement.proofs.Lists.{same_is, same_from}
+use Rattle.e3_law_refinement.proofs.Lists.{same_from}
 use Rattle.e3_law_agreement.proofs.Histories.{given_agrees}
 use Rattle.e3_agree.specs.Clashes.{decisions, is_abort_of, clash_by, Clashes}
 use Rattle.e3_agree.proofs.Placing.{looked_at, stands_placed}
+use Rattle.e3_law_steps.proofs.Tests.{same_is}
 
 -- an abort that is found is among the records
 abort_in : (t : Txn) (rs : List Record) → list_any (is_abort_of t) rs ≡ true → IsIn (log.Decision t Abort) rs
@@ -34,10 +35,6 @@ abort_in t (r ∷ rs) is = elim (or_cases (is_abort_of t r) (list_any (is_abort_
     one (log.Attempt u n d) this = cc
     one (log.Birth format site weights rows) this = cc
     one (log.Inc inc) this = cc
-
-or_right : (a b : Bool) → b ≡ true → (a || b) ≡ true
-or_right true b h = refl
-or_right false b h = h
 
 -- and one that is among them is found
 abort_found : (t : Txn) (rs : List Record) → IsIn (log.Decision t Abort) rs → list_any (is_abort_of t) rs ≡ true

@@ -1,5 +1,5 @@
 -- The decisions that are looked at are those of the logs.
-use Rattle.std.proofs.Common.{Option, Some, None, append_assoc, ◌≡◌, ◌⊎◌, inl, inr, ◌∷◌, [], ◌++◌, ◌==◌, ℕ, Bool, true, false, List, fold, map, refl, sym, ap, subst, ◌∙◌, if◌then◌else◌, eqb-true, append-nil}
+use Rattle.std.proofs.Common.{Option, Some, None, append_assoc, ◌≡◌, inl, inr, ◌∷◌, [], ◌++◌, ◌==◌, ℕ, Bool, true, false, List, fold, refl, sym, ap, subst, ◌∙◌, if◌then◌else◌, eqb-true, append-nil}
 use Rattle.std.specs.Prelude.{Contains}
 use Rattle.std.specs.List.{flat_map}
 use Rattle.e3_types.specs.declared.entries.Entry.{Entry}
@@ -9,14 +9,14 @@ use Rattle.e3_types.specs.declared.scenarios.Scenario.{Scenario}
 use Rattle.e3_types.specs.declared.transactions.Dir.{Dir}
 use Rattle.e3_types.specs.declared.transactions.Txn.{Txn}
 use Rattle.e3_types.specs.Sets.{has_site}
-use Rattle.e3_world.specs.Moves.{Rose, Move, Tail, Past, own, moves_at, recorded, rise_records, kept_moves, left_by, moves_of_act, past_by, past_of, log_by, log_of, all_records, trail_of}
+use Rattle.e3_world.specs.Moves.{Rose, Move, Tail, Past, own, recorded, rise_records, kept_moves, left_by, moves_of_act, past_by, past_of, log_by, log_of, all_records, trail_of}
 use Rattle.e3_world.proofs.Trails.{trail_moves}
 use Rattle.e3_law_protocol.specs.Logs.{IsIn}
 use Rattle.e3_law_protocol.proofs.Shares.{in_from_has}
 use Rattle.e3_law_refinement.proofs.Agreeing.{put, placed_in}
 use Rattle.e3_law_refinement.proofs.Following.{in_from_contains}
-use Rattle.e3_law_refinement.proofs.Lists.{in_parts, in_left, in_right, in_flat_map, has_from_in}
-use Rattle.e3_law_refinement.proofs.Voting.{contains_from_in}
+use Rattle.e3_law_refinement.proofs.Lists.{in_left, in_right, in_flat_map, has_from_in}
+use Rattle.e3_law_refinement.proofs.Voting.{contains_from_in, placed_out}
 use Rattle.e3_types.specs.declared.entries.Act.{Act}
 use Rattle.e3_types.specs.declared.entries.Act.TheVariants.{Step, Fall, Rise, RiseFall, Miss, Cut, Drop, Parts, Line}
 use Rattle.e3_types.specs.declared.entries.Why.{Why}
@@ -177,25 +177,6 @@ only_decisions q (log.Join t n) k = absurd k
 only_decisions q (log.Attempt t n d) k = absurd k
 only_decisions q (log.Birth format site weights rows) k = absurd k
 only_decisions q (log.Inc inc) k = absurd k
-
-in_map_put : (s : ℕ) (r : Record) (rs : List Record) → IsIn r rs → IsIn (put s r) (map (put s) rs)
-in_map_put s r [] k = absurd k
-in_map_put s r (q ∷ rs) (inl e) = inl (ap (put s) e)
-in_map_put s r (q ∷ rs) (inr k) = inr (in_map_put s r rs k)
-
--- a record of a site's log is placed in the trail
-placed_out : (trail : List Move) (s : ℕ) (r : Record) → IsIn r (log_by (moves_at s trail)) → IsIn (put s r) (all_records trail)
-placed_out [] s r k = absurd k
-placed_out (m ∷ trail) s r k = go (m.site == s) refl k (λ q. placed_out trail s r q)
-  where
-    go : (b : Bool) → (m.site == s) ≡ b → IsIn r (log_by (if b then m ∷ moves_at s trail else moves_at s trail)) → (IsIn r (log_by (moves_at s trail)) → IsIn (put s r) (all_records trail))
-        → IsIn (put s r) (map (put m.site) (recorded m) ++ all_records trail)
-    go false e q rest = in_right (put s r) (map (put m.site) (recorded m)) (all_records trail) (rest q)
-    go true e q rest = here (in_parts r (recorded m) (log_by (moves_at s trail)) q)
-      where
-        here : IsIn r (recorded m) ⊎ IsIn r (log_by (moves_at s trail)) → IsIn (put s r) (map (put m.site) (recorded m) ++ all_records trail)
-        here (inl a) = in_left (put s r) (map (put m.site) (recorded m)) (all_records trail) (subst (λ z. IsIn (put z r) (map (put m.site) (recorded m))) (eqb-true m.site s e) (in_map_put m.site r (recorded m) a))
-        here (inr a) = in_right (put s r) (map (put m.site) (recorded m)) (all_records trail) (rest a)
 
 -- a decision that is looked at is placed in the trail
 pub stands_placed : (sc : Scenario) (h : List Entry) (r : Record) → IsIn r (decisions h) → (s : ℕ) × Contains (all_records (trail_of sc h)) (record { site = s; entered = r })

@@ -1,8 +1,8 @@
 -- The names of a legal history stand for the transactions of their begin items.
-use Rattle.std.proofs.Common.{◌≡◌, ◌⊎◌, inl, inr, ◌∷◌, [], ◌++◌, ◌==◌, ◌+◌, ℕ, zero, suc, Bool, true, false, List, fold, length, Option, Some, None, refl, sym, ap, subst, ◌∙◌, arith, cond, eqb-true, eq-eqb, append-nil}
-use Rattle.std.specs.Prelude.{not, slice_get, count_by, filter_map, nat_le}
-use Rattle.std.specs.List.{list_all, flat_map}
-use Rattle.std.proofs.lemmas.Bool.{cases_eq, and_parts, false_from_ne_true}
+use Rattle.std.proofs.Common.{◌≡◌, ◌⊎◌, inl, inr, ◌∷◌, [], ◌++◌, ◌==◌, ◌+◌, ℕ, zero, suc, Bool, true, false, List, Option, Some, None, refl, sym, ap, subst, ◌∙◌, arith, cond, eqb-true, eq-eqb, append-nil}
+use Rattle.std.specs.Prelude.{not, slice_get, count_by, filter_map}
+use Rattle.std.specs.List.{flat_map}
+use Rattle.std.proofs.lemmas.Bool.{cases_eq, false_from_ne_true}
 use Rattle.std.proofs.lemmas.List.Sums.{sum_by-append}
 use Rattle.std.proofs.lemmas.Grind.{fold-append}
 use Rattle.e3_types.specs.declared.entries.Act.{Act}
@@ -19,23 +19,18 @@ use Rattle.e3_types.specs.declared.scenarios.Scenario.{Scenario}
 use Rattle.e3_world.specs.declared.names.Binding.{Binding}
 use Rattle.e3_world.specs.declared.names.Bound.{Bound}
 use Rattle.e3_world.specs.Given.{is_step_form, is_groupable}
-use Rattle.e3_world.specs.Items.{begin_names, binds, binding_by, due_round, recover_group, inputs_at, inputs_to, inputs_of, input_of, is_delivery, is_up_at, plan_of, taken_at, to_line, turn_of}
+use Rattle.e3_world.specs.Items.{begin_names, binds, binding_by, due_round, recover_group, inputs_at, inputs_to, inputs_of, input_of, is_delivery, is_up_at, taken_at, to_line, turn_of}
 use Rattle.e3_world.specs.Legal.{Guard, IsStep, IsNextItem, IsRound, may_rise, made_by, entry_of}
 use Rattle.e3_world.specs.Moves.{own}
 use Rattle.e3_world.specs.Packets.{is_line, lines, present_items, step_items}
 use Rattle.e3_world.specs.Progress.{up_behind}
 use Rattle.e3_world.proofs.Guards.{lines_push}
-use Rattle.e3_world.proofs.Lines.{lines_to}
 use Rattle.e3_world.proofs.Readings.{split_push, taken_same, taken_other, up_same, up_other}
-use Rattle.e3_world.proofs.Turns.{plan_push}
 use Rattle.e3_law_protocol.specs.Logs.{IsIn}
-use Rattle.e3_law_refinement.proofs.Lists.{in_parts}
 use Rattle.e3_law_agreement.proofs.Named.{Names, StepNamed}
 use Rattle.e3_law_agreement.proofs.Positions.{is_begin, add_if, begins_before, begins_next, position}
-
--- what the entries have bound
-abbrev pub binding : Scenario → List Entry → Binding
-binding sc h = fold (binding_by sc) (record { number = 0; begun_at = []; bound = [] }) h
+use Rattle.e3_law_steps.proofs.Items.{single, inputs_push, plan_is, binding}
+use Rattle.e3_law_protocol.proofs.Reached.{in_parts}
 
 abbrev pub counts : ℕ → List ℕ → ℕ
 counts s l = count_by (λ o. o == s) l
@@ -73,9 +68,6 @@ turn_more h e i stays takes =
 turn_same : (h : List Entry) (e : Entry) → is_line e ≡ false → inputs_of e.act ≡ [] → turn_of (h ++ e ∷ []) e.owner ≡ turn_of h e.owner
 turn_same h e stays takes =
     ap (λ l. count_by (λ j. not (is_delivery j)) l) (taken_same h e e.owner stays (eq-eqb e.owner e.owner refl) ∙ ap (λ z. taken_at h e.owner ++ z) takes ∙ append-nil (taken_at h e.owner))
-
-inputs_push : (sc : Scenario) (h : List Entry) (e : Entry) (s : ℕ) → is_line e ≡ false → inputs_at sc (h ++ e ∷ []) s ≡ inputs_at sc h s
-inputs_push sc h e s stays = ap (inputs_to s) (plan_push sc h e stays)
 
 lines_same : (h : List Entry) (e : Entry) → is_line e ≡ false → lines (h ++ e ∷ []) ≡ lines h
 lines_same h e stays = lines_push h e ∙ (let none : count_by is_line (e ∷ []) ≡ 0 = rw stays refl in omega (arith, none))
@@ -122,18 +114,6 @@ step_case sc names (suc k) = by (slice_get sc.steps k) refl
     by : (o : Option (List Item)) → slice_get sc.steps k ≡ o → (step_items sc (suc k) ≡ []) ⊎ StepNamed names.all (step_items sc (suc k))
     by None is = inl (rw is refl)
     by (Some items) is = inr (subst (λ z. StepNamed names.all z) (let e : items ≡ step_items sc (suc k) = rw is refl in e) (names.each items (got sc.steps k items is)))
-
-single : (it : Item) (items : List Item) → is_step_form (it ∷ items) ≡ true → is_groupable it ≡ false → items ≡ []
-single it [] form is = refl
-single it (more ∷ items) form is =
-    let p = and_parts (list_all is_groupable (it ∷ more ∷ items)) (nat_le (length items) 14) form in
-    let q = and_parts (is_groupable it) (list_all is_groupable (more ∷ items)) p.0 in
-    let yes_it : is_groupable it ≡ true = q.0 in
-    cc
-
--- the plan of the present step
-pub plan_is : (sc : Scenario) (h : List Entry) → plan_of sc h ≡ filter_map (input_of sc (to_line h)) (present_items sc h)
-plan_is sc h = ap (λ n. filter_map (input_of sc (to_line h)) (step_items sc n)) (lines_to h)
 
 -- a step with such an item asks nothing of the sites
 bare_plan : (sc : Scenario) (h : List Entry) (names : Names sc.steps) (it : Item) (items : List Item) (s : ℕ) → present_items sc h ≡ it ∷ items → is_groupable it ≡ false

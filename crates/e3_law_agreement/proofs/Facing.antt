@@ -14,9 +14,11 @@ use Rattle.e3_law_protocol.specs.Marks.{behind}
 use Rattle.e3_law_refinement.specs.Rows.{Reads}
 use Rattle.e3_law_refinement.specs.Views.{note_of, notes_of}
 use Rattle.e3_law_refinement.proofs.Following.{start_ok}
-use Rattle.e3_law_refinement.proofs.Lists.{in_left, in_right, in_flat_map, only_one, same_is, same_from}
-use Rattle.e3_law_refinement.proofs.Readings.{in_behind, reads_more, has_from_vote}
+use Rattle.e3_law_refinement.proofs.Lists.{in_left, in_right, in_flat_map, only_one, same_from}
+use Rattle.e3_law_refinement.proofs.Readings.{reads_more, has_from_vote, orderly_front}
 use Rattle.e3_law_agreement.proofs.Erasing.{face, face_split}
+use Rattle.e3_law_steps.proofs.Tests.{same_is}
+use Rattle.e3_law_protocol.proofs.Reached.{in_behind}
 
 in_behind_cases : (x : Note) (l ns : List Note) → IsIn x (behind l ns) → IsIn x l ⊎ IsIn x ns
 in_behind_cases x l [] k = inl k
@@ -108,16 +110,12 @@ decision_from t d rs k =
 pub reads_face : (t : Txn) (rs : List Record) → Reads t rs (face t rs)
 reads_face t rs = reads_more t 0 [] [] rs ((start_ok (record { weights = []; rows = []; luck = 0; loss = 0; repeat = 0; steps = [] }) t).sites 0).reads
 
-pub orderly_behind : (l ns : List Note) → Orderly (behind l ns) → Orderly l
-orderly_behind l [] o = o
-orderly_behind l (n ∷ ns) o = (orderly_behind (n ∷ l) ns o).1
-
 -- the note of a record fits behind those of the records before it
 pub fits_at : (t : Txn) (rs before : List Record) (r : Record) (after : List Record) (x : Note) → note_of t 0 r ≡ x ∷ [] → Orderly (face t rs) → rs ≡ before ++ r ∷ after
     → Fits x (face t before) × Orderly (face t before)
 fits_at t rs before r after x one o is =
     let whole : Orderly (behind (behind (face t before) (note_of t 0 r)) (notes_of t 0 after)) = subst Orderly (ap (face t) is ∙ face_split t before r after) o in
-    let front : Orderly (behind (face t before) (note_of t 0 r)) = orderly_behind (behind (face t before) (note_of t 0 r)) (notes_of t 0 after) whole in
+    let front : Orderly (behind (face t before) (note_of t 0 r)) = orderly_front (behind (face t before) (note_of t 0 r)) (notes_of t 0 after) whole in
     let this : Orderly (x ∷ face t before) = subst (λ ns. Orderly (behind (face t before) ns)) one front in
     (this.0, this.1)
 
@@ -165,14 +163,14 @@ attempts_below t rs o = let r = reads_face t rs in omega (arith, r.attempts, r.e
 no_vote_behind : (d : Dir) (l ns : List Note) → Orderly (behind l ns) → IsIn (Decision d) l → IsIn Vote ns → ⊥
 no_vote_behind d l [] o k v = v
 no_vote_behind d l (n ∷ ns) o k (inl e) =
-    let first : Orderly (Vote ∷ l) = subst (λ (z : Note). Orderly (z ∷ l)) (sym e) (orderly_behind (n ∷ l) ns o) in
+    let first : Orderly (Vote ∷ l) = subst (λ (z : Note). Orderly (z ∷ l)) (sym e) (orderly_front (n ∷ l) ns o) in
     subst (λ z. IsIn (Decision d) z) first.0 k
 no_vote_behind d l (n ∷ ns) o k (inr v) = no_vote_behind d (n ∷ l) ns o (inr k) v
 
 no_attempt_behind : (d : Dir) (m : ℕ) (e : Dir) (l ns : List Note) → Orderly (behind l ns) → IsIn (Decision d) l → IsIn (Attempt m e) ns → ⊥
 no_attempt_behind d m e l [] o k v = v
 no_attempt_behind d m e l (n ∷ ns) o k (inl p) =
-    let first : Orderly (Attempt m e ∷ l) = subst (λ (z : Note). Orderly (z ∷ l)) (sym p) (orderly_behind (n ∷ l) ns o) in
+    let first : Orderly (Attempt m e ∷ l) = subst (λ (z : Note). Orderly (z ∷ l)) (sym p) (orderly_front (n ∷ l) ns o) in
     first.0.open_yet d (final_is d l first.1 k)
 no_attempt_behind d m e l (n ∷ ns) o k (inr v) = no_attempt_behind d m e (n ∷ l) ns o (inr k) v
 
@@ -211,7 +209,7 @@ attempt_before t rs before d after n e o is k =
 -- notes more leave what stood before a join
 pub join_stays : (n e : ℕ) (l ns : List Note) → Orderly (behind l ns) → IsIn (Join n e) l → before_join n (behind l ns) ≡ before_join n l
 join_stays n e l [] o k = refl
-join_stays n e l (r ∷ ns) o k = join_stays n e (r ∷ l) ns o (inr k) ∙ one r (orderly_behind (r ∷ l) ns o)
+join_stays n e l (r ∷ ns) o k = join_stays n e (r ∷ l) ns o (inr k) ∙ one r (orderly_front (r ∷ l) ns o)
   where
     one : (r : Note) → Orderly (r ∷ l) → before_join n (r ∷ l) ≡ before_join n l
     one Vote first = refl

@@ -1,8 +1,7 @@
 -- Decisions that are read off a log stand in it, and those that a state, a refusal or a verdict says.
-use Rattle.std.proofs.Common.{◌≡◌, ◌⊎◌, inl, inr, ◌∷◌, [], ◌++◌, ◌==◌, ◌*◌, ◌<◌, ℕ, Bool, true, false, List, fold, map, Option, Some, None, refl, sym, ap, subst, ◌∙◌, arith, if◌then◌else◌}
-use Rattle.std.specs.Prelude.{is_none, nat_le}
+use Rattle.std.proofs.Common.{◌≡◌, ◌⊎◌, inl, inr, ◌∷◌, [], ◌++◌, ◌==◌, ℕ, Bool, true, false, List, map, Option, Some, None, refl, sym, ap, subst, ◌∙◌, if◌then◌else◌}
 use Rattle.std.specs.List.{flat_map}
-use Rattle.std.proofs.lemmas.Bool.{and_cases, cond_both, leb-false}
+use Rattle.std.proofs.lemmas.Bool.{and_cases}
 use Rattle.e3_types.specs.declared.entries.Refusal.{Refusal}
 use Rattle.e3_types.specs.declared.entries.Refusal.TheVariants as refusal
 use Rattle.e3_types.specs.declared.entries.Told.{Told}
@@ -15,54 +14,33 @@ use Rattle.e3_types.specs.declared.transactions.State.{State}
 use Rattle.e3_types.specs.declared.transactions.State.TheVariants.{Q, W, Pc, Pa, C, A}
 use Rattle.e3_types.specs.declared.transactions.Txn.{Txn}
 use Rattle.e3_types.specs.declared.verdicts.SiteReport.{SiteReport}
-use Rattle.e3_types.specs.declared.verdicts.Verdict.TheVariants as verdict
-use Rattle.e3_types.specs.Quorums.{weight_of}
 use Rattle.e3_types.specs.Same.{same_txn}
 use Rattle.e3_types.specs.Sets.{has_site}
-use Rattle.e3_types.specs.Verdicts.{verdict_of}
 use Rattle.e3_world.specs.declared.lives.At.{At}
 use Rattle.e3_world.specs.declared.lives.Moment.{Moment}
-use Rattle.e3_world.specs.Logs.{decision_by, decision, attempted, has_voted, state_of}
+use Rattle.e3_world.specs.Logs.{decision, attempted, has_voted, state_of}
 use Rattle.e3_world.specs.Making.{nothing, log_now, state_now, attempt_now, open_now, is_present, may_decide}
 use Rattle.e3_world.specs.Operations.{unanswered, reason_in, kept_reason}
 use Rattle.e3_world.specs.Safe.{Said, says, said_state, said_refusal}
 use Rattle.e3_world.specs.Steps.{refuse, refuse_late}
 use Rattle.e3_law_protocol.specs.Logs.{IsIn, Vote, Decision, Final, status, attempt, before_join, Backs}
 use Rattle.e3_law_protocol.specs.Rules.{Report, Reply, Replied, letter}
-use Rattle.e3_law_protocol.specs.Verdicts.{status_in, reply_of, FinalIn, Rules}
+use Rattle.e3_law_protocol.specs.Verdicts.{status_in, reply_of, FinalIn}
 use Rattle.e3_law_protocol.proofs.Agree.{agrees, all_voted}
 use Rattle.e3_law_protocol.proofs.Logs.{before_join_backs}
-use Rattle.e3_law_protocol.proofs.Ruled.{verdicts_rule}
 use Rattle.e3_law_protocol.proofs.Shares.{in_from_has}
 use Rattle.e3_law_refinement.specs.Rows.{Here, party, own_log, Stands}
-use Rattle.e3_law_refinement.proofs.Lists.{in_map, in_flat_map, same_is}
+use Rattle.e3_law_refinement.proofs.Lists.{in_map, in_flat_map}
 use Rattle.e3_law_refinement.proofs.Readings.{has_from_vote, decision_in}
 use Rattle.e3_law_refinement.proofs.Tests.{reads_now}
 use Rattle.e3_law_refinement.proofs.Gathered.{Reported}
 use Rattle.e3_law_agreement.proofs.Saying.{Stood, AllStood, one_said}
-
-found_from : (t : Txn) (d : Dir) (rs : List Record) (was : Option Dir) → fold (decision_by t) was rs ≡ Some d → (was ≡ Some d) ⊎ IsIn (log.Decision t d) rs
-found_from t d [] was is = inl is
-found_from t d (r ∷ rs) was is = go (found_from t d rs (decision_by t was r) is) r refl
-  where
-    decides : (u : Txn) (e : Dir) (b : Bool) → same_txn t u ≡ b → (if b then Some e else was) ≡ Some d → (was ≡ Some d) ⊎ IsIn (log.Decision t d) (log.Decision u e ∷ rs)
-    decides u e true same q = inr (inl (let way : e ≡ d = cc in ap (λ x. log.Decision t x) (sym way) ∙ ap (λ v. log.Decision v e) (same_is t u same)))
-    decides u e false same q = inl q
-
-    go : (decision_by t was r ≡ Some d) ⊎ IsIn (log.Decision t d) rs → (q : Record) → r ≡ q → (was ≡ Some d) ⊎ IsIn (log.Decision t d) (r ∷ rs)
-    go (inr k) q e = inr (inr k)
-    go (inl k) (log.Decision u f) e =
-        subst (λ (x : Record). (was ≡ Some d) ⊎ IsIn (log.Decision t d) (x ∷ rs)) (sym e)
-        (decides u f (same_txn t u) refl (subst (λ (x : Record). decision_by t was x ≡ Some d) e k))
-    go (inl k) (log.Vote u ops) e = inl (subst (λ (x : Record). decision_by t was x ≡ Some d) e k)
-    go (inl k) (log.Join u n) e = inl (subst (λ (x : Record). decision_by t was x ≡ Some d) e k)
-    go (inl k) (log.Attempt u n f) e = inl (subst (λ (x : Record). decision_by t was x ≡ Some d) e k)
-    go (inl k) (log.Birth format site weights rows) e = inl (subst (λ (x : Record). decision_by t was x ≡ Some d) e k)
-    go (inl k) (log.Inc inc) e = inl (subst (λ (x : Record). decision_by t was x ≡ Some d) e k)
+use Rattle.e3_law_steps.proofs.Tests.{some_is, same_is}
+use Rattle.e3_law_refinement.proofs.Telling.{decision_found}
 
 -- the decision of a transaction that is read off a log stands in it
 pub found : (t : Txn) (d : Dir) (rs : List Record) → decision t rs ≡ Some d → IsIn (log.Decision t d) rs
-found t d rs is = go (found_from t d rs None is)
+found t d rs is = go (decision_found t d rs None is)
   where
     go : (None ≡ Some d) ⊎ IsIn (log.Decision t d) rs → IsIn (log.Decision t d) rs
     go (inl e) = cc
@@ -179,10 +157,6 @@ final_somewhere h n d r s (inr own) is =
     let state : status (before_join n (own_log h)) ≡ Final d = sym (ap (λ (z : Reply). z.stood) own) ∙ is in
     (h.at.site, subst (λ z. Backs z (attempt (before_join n (own_log h))) (own_log h)) state (before_join_backs n (own_log h) (s.kept.orderly h.at.site)))
 
-some_is : {X : Type 0} (o : Option X) → is_none o ≡ false → (x : X) × (o ≡ Some x)
-some_is None is = absurd cc
-some_is (Some x) is = (x, refl)
-
 -- where a decision that another site made may not be recorded, it is recorded already
 stands_already : (h : Here) (d : Dir) → Stands h → has_site h.txn.sites h.at.site ≡ true → (y : ℕ) × IsIn (Decision d) (h.before.log y) → may_decide h.at h.txn d nothing ≡ false
     → IsIn (log.Decision h.txn d) (log_now h.at nothing)
@@ -213,11 +187,3 @@ verdict_stands h n group reports d s member ok final shut =
     let f = in_map reply_of final.0 reports final.1 in
     let replied : Replied h.before.sent (own_log h) h.at.site n final.0 = subst (λ (z : Reply). Replied h.before.sent (own_log h) h.at.site n z) (sym f.2) (ok.replied f.0 f.1) in
     stands_already h d s member (final_somewhere h n d final.0 s replied final.2) shut
-
--- the verdict over reports, also where there is none, is what the rules ask for
-pub rules_of : (weights sites : List ℕ) (reports : List SiteReport) → Rules weights sites reports (verdict_of weights sites reports)
-rules_of weights sites (r ∷ rs) = verdicts_rule weights sites r rs
-rules_of weights sites [] =
-    cond_both (nat_le (2 * weight_of weights []) (weight_of weights sites)) (verdict.Block (weight_of weights []) (weight_of weights sites)) verdict.PreCommit (Rules weights sites [])
-    (λ e. tt)
-    (λ e. absurd (let low : weight_of weights sites < 2 * weight_of weights [] = leb-false (2 * weight_of weights []) (weight_of weights sites) e in omega (arith, low)))

@@ -32,7 +32,8 @@ use Rattle.e3_law_refinement.proofs.Lists.{in_left, in_map, in_flat_map, has_fro
 use Rattle.e3_law_refinement.proofs.Sites.{within_in, within_from}
 use Rattle.e3_law_refinement.proofs.Following.{in_from_contains}
 use Rattle.e3_law_agreement.proofs.Named.{begun, ItemNamed, StepNamed, Names, names_of_steps}
-use Rattle.e3_law_agreement.proofs.Counting.{binding, Counted, step_case, plan_is, step_on, counted_on, counted_start}
+use Rattle.e3_law_agreement.proofs.Counting.{Counted, step_case, step_on, counted_on, counted_start}
+use Rattle.e3_law_steps.proofs.Items.{plan_is, binding, round_of}
 
 -- what is bound goes on to be bound
 binds_more : (sc : Scenario) (was : Binding) (owner : ℕ) (act : Act) (b : Bound) → IsIn b was.bound → IsIn b (binding_by sc was (record { owner = owner; act = act })).bound
@@ -230,10 +231,6 @@ left_in (t ∷ ts) (x ∷ rounds) r k = by (same_txn t x.txn) k (λ q. left_in t
     by : (b : Bool) → IsIn r (if b then rounds_left ts rounds else rounds_left (t ∷ ts) rounds) → (IsIn r (rounds_left ts rounds) → IsIn r rounds) → (IsIn r (rounds_left (t ∷ ts) rounds) → IsIn r rounds) → IsIn r (x ∷ rounds)
     by true q first second = inr (first q)
     by false q first second = inr (second q)
-
-abbrev round_of : Txn → List ℕ → List RecoveryRound
-round_of t [] = []
-round_of t (r ∷ more) = record { txn = t; members = r ∷ more; elector = r } ∷ []
 
 -- the round is of sites of its transaction, the elector among them
 abbrev RoundFits : RecoveryRound → Type 0

@@ -5,10 +5,8 @@ use Rattle.e3_law_protocol.specs.Logs.{IsIn, Note, Status, Join, attempt, status
 use Rattle.e3_law_protocol.specs.Marks.{Mark, behind, log_of, sent_of, situation_of, MayMark, AllowedAfter, Allowed}
 use Rattle.e3_law_protocol.specs.Rules.{Party, Overlaps, Letter, Word, Report, Reachable, Start, MaySay, MayReport}
 use Rattle.e3_law_protocol.proofs.Keep.{law}
-use Rattle.e3_law_protocol.proofs.Reached.{mark_reaches}
-use Rattle.e3_law_refinement.proofs.Growing.{log_here, log_there, sent_mark}
-use Rattle.e3_law_refinement.proofs.Lists.{in_parts}
-use Rattle.e3_law_refinement.proofs.Readings.{in_behind}
+use Rattle.e3_law_protocol.proofs.Reached.{mark_reaches, in_parts, in_behind, sent_more}
+use Rattle.e3_law_refinement.proofs.Growing.{log_here, log_there}
 use Rattle.e3_law_agreement.proofs.Facing.{join_stays}
 
 -- each report that was sent says how its site stood before its join
@@ -25,7 +23,7 @@ report_stays l ns y n st a o may =
     }
 
 reports_mark : (g : Party) (marks : List Mark) (m : Mark) → Overlaps g → Reachable g (situation_of marks) → MayMark g (situation_of marks) m → ReportsOk marks → ReportsOk (marks ++ m ∷ [])
-reports_mark g marks m shared reach may ok p n st a k is = by (in_parts p (sent_of marks) m.sends (subst (λ z. IsIn p z) (sent_mark marks m) k))
+reports_mark g marks m shared reach may ok p n st a k is = by (in_parts p (sent_of marks) m.sends (subst (λ z. IsIn p z) (sent_more marks m) k))
   where
     ordered : (x : ℕ) → Orderly (log_of x (marks ++ m ∷ []))
     ordered = (law g (situation_of (marks ++ m ∷ [])) shared (mark_reaches g marks m reach may)).orderly

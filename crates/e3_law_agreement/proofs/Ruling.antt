@@ -35,7 +35,7 @@ use Rattle.e3_world.specs.AttemptRules.{on_pre, on_ack}
 use Rattle.e3_world.specs.ElectionRules.{and_verdict, and_join, on_last, on_elected, on_report}
 use Rattle.e3_world.specs.Elections.{all_heard, all_reported, greatest_heard, hear, take_report, election_in_progress}
 use Rattle.e3_world.specs.Logs.{key_of, mode_of}
-use Rattle.e3_world.specs.Making.{nothing, log_now, steps_now, state_now, elected_now, attempt_now, open_now, is_coordinator, is_present, may_abort, may_decide, and_record, and_tell, and_send, and_cast, and_decide, and_abort, and_abort_for, and_attempt, and_vote, and_do}
+use Rattle.e3_world.specs.Making.{nothing, log_now, steps_now, state_now, elected_now, attempt_now, open_now, is_coordinator, is_present, may_abort, may_decide, and_record, and_tell, and_send, and_cast, and_decide, and_abort, and_abort_for, and_attempt, and_vote}
 use Rattle.e3_world.specs.Messages.{on_message}
 use Rattle.e3_world.specs.OperationRules.{on_do, on_done, on_died}
 use Rattle.e3_world.specs.Operations.{same_asked, answers, waiting, holders, queue, expected}
@@ -48,19 +48,12 @@ use Rattle.e3_law_protocol.specs.Rules.{Report, Reply, Came}
 use Rattle.e3_law_protocol.specs.Verdicts.{status_in, reply_of, FinalIn, Rules}
 use Rattle.e3_law_refinement.specs.Rows.{Here, Stands}
 use Rattle.e3_law_refinement.proofs.Elections.{cast_records}
-use Rattle.e3_law_refinement.proofs.Lists.{same_is}
 use Rattle.e3_law_refinement.proofs.Gathered.{NumberedOk, ElectionOk, take_ok, election_stands}
 use Rattle.e3_law_agreement.proofs.Saying.{one_if, ReportsOnce, is_quiet, Tells, tells_nothing, stood_more, tells_record, tells_tell, tells_send, tells_cast, one_said, tells_decide, tells_decided, tells_abort, tells_abort_for, tells_attempt, tells_vote, tells_do}
-use Rattle.e3_law_agreement.proofs.Finding.{final_found, verdict_stands, rules_of}
-
-abbrev dies : At → Txn → ℕ → Made → Txn → Bool → Made
-dies a u n made older true = and_abort_for a u (told.Died u older) made
-dies a u n made older false = and_send a u.site (msg.Died u n older) (and_decide a u Abort made)
-
-abbrev by_grant : At → Txn → ℕ → Op → Made → Grant → Made
-by_grant a u n op made Held = and_do a u n op made
-by_grant a u n op made Waits = made
-by_grant a u n op made (Dies older) = dies a u n made older (is_coordinator a u)
+use Rattle.e3_law_agreement.proofs.Finding.{final_found, verdict_stands}
+use Rattle.e3_law_steps.proofs.Rules.{by_grant, dies, behind_join}
+use Rattle.e3_law_steps.proofs.Tests.{same_is}
+use Rattle.e3_law_refinement.proofs.Verdicts.{rules_of}
 
 tells_dies : (a : At) (made : Made) (u : Txn) (n : ℕ) (older : Txn) (b : Bool) → Tells a made → Tells a (dies a u n made older b)
 tells_dies a made u n older true t = tells_abort_for a made u (told.Died u older) t refl
@@ -240,10 +233,6 @@ tells_verdict a made u n group reports t stands = by (verdict_of a.weights u.sit
     by verdict.PreAbort is rules = rw is (tells_attempt a (more verdict.PreAbort) u n Abort group (tells_tell a made (told.Verdict u n verdict.PreAbort) t (λ s k. absurd k)))
     by (verdict.Block have total) is rules = rw is (tells_tell a made (told.Verdict u n (verdict.Block have total)) t (λ s k. absurd k))
 
-abbrev if_alone : At → Txn → ℕ → Election → SiteReport → List ℕ → Made → Made
-if_alone a u n e report [] more = and_verdict a u n e.group (report ∷ []) more
-if_alone a u n e report (s ∷ ss) more = more
-
 -- the whole group was heard: alone in it the site concludes at once, from its own state
 pub tells_join : (a : At) (made : Made) (u : Txn) (e : Election) → Tells a made → Tells a (and_join a u e made)
 tells_join a made u e t = by (all_heard e && nat_lt (greatest_heard e) 4294967295 && nat_le (elected_now a u made) (greatest_heard e)) refl
@@ -270,7 +259,7 @@ tells_join a made u e t = by (all_heard e && nat_lt (greatest_heard e) 429496729
         (stood_more a made (log.Join u n) (log.Decision u d) (final_found u (log_now a made) d own))
     final d (r, inr k, is) = absurd k
 
-    alone : (l : List ℕ) → Tells a (if_alone a u n e report l said)
+    alone : (l : List ℕ) → Tells a (behind_join a u n e report l said)
     alone [] = tells_verdict a said u n e.group (report ∷ []) said_tells (λ d k shut. final d k)
     alone (y ∷ ys) = said_tells
 

@@ -2,7 +2,6 @@
 use Rattle.std.proofs.Common.{◌∙◌, ap, sym, ◌+◌, arith, cond, count_by, ◌≡◌, ◌⊎◌, inl, inr, ◌∷◌, [], ◌++◌, ◌==◌, ◌&&◌, ℕ, Bool, true, false, List, fold, map, refl, sym, subst}
 use Rattle.std.specs.Prelude.{drop}
 use Rattle.std.specs.List.{list_all, list_any}
-use Rattle.std.proofs.lemmas.List.Folds.{list_all-append}
 use Rattle.e3_types.specs.declared.entries.Told.{Told}
 use Rattle.e3_types.specs.declared.entries.Told.TheVariants as told
 use Rattle.e3_types.specs.declared.messages.Message.{Message}
@@ -24,7 +23,9 @@ use Rattle.e3_law_protocol.specs.Logs.{IsIn}
 use Rattle.e3_types.specs.declared.messages.Packet.{Packet}
 use Rattle.std.proofs.lemmas.List.Sums.{sum_by-cons, sum_by-append, sum_by_push}
 use Rattle.e3_law_agreement.specs.Facts.{is_report_for, reports_in}
-use Rattle.e3_law_refinement.proofs.Lists.{in_parts, in_left, in_right}
+use Rattle.e3_law_refinement.proofs.Lists.{in_left, in_right}
+use Rattle.e3_law_steps.proofs.Lists.{one_more}
+use Rattle.e3_law_protocol.proofs.Reached.{in_parts}
 
 -- the decision that is said is among the records
 abbrev pub Stood : List Record → Said → Type 0
@@ -87,9 +88,6 @@ tells_tell a made e t all = record { told = λ x k. by x (in_parts x made.told (
     by x (inl k) = t.told x k
     by x (inr (inl same)) = subst (λ (z : Told). AllStood (log_now a made) z) (sym same) all
     by x (inr (inr k)) = absurd k
-
-one_more : {X : Type 0} (p : X → Bool) (xs : List X) (x : X) → list_all p xs ≡ true → p x ≡ true → list_all p (xs ++ x ∷ []) ≡ true
-one_more p xs x all this = rw (list_all-append, all, this) refl
 
 -- one, if it is so
 abbrev pub one_if : Bool → ℕ

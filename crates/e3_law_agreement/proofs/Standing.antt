@@ -29,13 +29,14 @@ use Rattle.e3_law_protocol.specs.Logs.{IsIn}
 use Rattle.e3_law_refinement.specs.Rows.{MayTake}
 use Rattle.e3_law_refinement.specs.Trails.{IsMade}
 use Rattle.e3_law_refinement.proofs.Following.{in_from_contains}
-use Rattle.e3_law_refinement.proofs.Lists.{in_flat_map, in_left, in_right, in_parts}
+use Rattle.e3_law_refinement.proofs.Lists.{in_flat_map, in_left, in_right}
 use Rattle.e3_law_refinement.proofs.Voting.{contains_from_in}
 use Rattle.e3_law_agreement.specs.Histories.{ItemsFit}
 use Rattle.e3_law_agreement.proofs.Fitting.{given_fit}
 use Rattle.e3_law_agreement.proofs.Histories.{due_taken, past_here, legal_made, given_told}
 use Rattle.e3_law_agreement.proofs.Saying.{Stood, AllStood}
 use Rattle.e3_law_agreement.proofs.Telling.{made_lives_tell, step_tells, sends_own}
+use Rattle.e3_law_protocol.proofs.Reached.{in_parts}
 
 -- the log of a site with one more move or none
 log_more : (sc : Scenario) (h : List Entry) (e : Entry) (s : ℕ) (r : Record) → IsIn r (log_of sc h s) → IsIn r (log_of sc (h ++ e ∷ []) s)
@@ -63,7 +64,7 @@ step_log sc h site i records outs events =
     ∙ flat_map-append recorded (moves_of sc h site) (moves_of_act sc site (past_of sc site (own site h)) e.act)
     ∙ ap (λ z. log_of sc h site ++ z) (append-nil records)
 
-numbered_from : (n : ℕ) (ps : List Packet) (p : Packet) → IsIn p (numbered n ps) → (q : Packet) × IsIn q ps × (p.«from» ≡ q.«from»)
+pub numbered_from : (n : ℕ) (ps : List Packet) (p : Packet) → IsIn p (numbered n ps) → (q : Packet) × IsIn q ps × (p.«from» ≡ q.«from»)
 numbered_from n [] p k = absurd k
 numbered_from n (q ∷ ps) p (inl e) = (q, inl refl, ap (λ (z : Packet). z.«from») e)
 numbered_from n (q ∷ ps) p (inr k) = let t = numbered_from (suc n) ps p k in (t.0, inr t.1, t.2)

@@ -26,16 +26,17 @@ use Rattle.e3_law_protocol.specs.Rules.{letter, Came}
 use Rattle.e3_law_protocol.specs.Weights.{party_of}
 use Rattle.e3_law_protocol.proofs.Keep.{law}
 use Rattle.e3_law_protocol.proofs.Shares.{majorities_overlap}
-use Rattle.e3_law_refinement.specs.Rows.{MayTake, WasHeard, IsFromAway, ElectFits, Stands, Good}
+use Rattle.e3_law_refinement.specs.Rows.{MayTake, WasHeard, IsFromAway, Stands, Good}
 use Rattle.e3_law_refinement.specs.Trails.{marks_of, IsMadeMove, MadeAfter, IsMade}
 use Rattle.e3_law_refinement.specs.Views.{words_of}
 use Rattle.e3_law_refinement.proofs.Following.{SentOk, OutsOk, Delivers, TrailOk, made_ok, in_from_contains, in_map_to, moves_here, moves_there}
-use Rattle.e3_law_refinement.proofs.Growing.{here, site_step}
-use Rattle.e3_law_refinement.proofs.Lists.{in_parts, in_left}
+use Rattle.e3_law_refinement.proofs.Growing.{here, site_step, elect_fits, takes_plain}
+use Rattle.e3_law_refinement.proofs.Lists.{in_left}
 use Rattle.e3_law_refinement.proofs.Whole.{good_step}
 use Rattle.e3_law_agreement.proofs.Histories.{made_append}
 use Rattle.e3_law_agreement.proofs.Saying.{AllStood, Tells}
 use Rattle.e3_law_agreement.proofs.Stepping.{tells_step}
+use Rattle.e3_law_protocol.proofs.Reached.{in_parts}
 
 -- the place of a step
 abbrev pub place : Scenario → ℕ → Life → Input → At
@@ -74,24 +75,6 @@ away before x (input.Commit u) ok fits was = tt
 away before x (input.Cancel u) ok fits was = tt
 away before x (input.Expire u) ok fits was = tt
 away before x (input.Elect u group) ok fits was = tt
-
-elect_fits : (x : ℕ) (i : Input) → MayTake x i → ElectFits x (plain_input i)
-elect_fits x (input.Elect u group) fits = (fits.1, fits.2)
-elect_fits x (input.Begin sites) fits = tt
-elect_fits x (input.Do u op) fits = tt
-elect_fits x (input.Commit u) fits = tt
-elect_fits x (input.Cancel u) fits = tt
-elect_fits x (input.Expire u) fits = tt
-elect_fits x (input.Deliver packet) fits = tt
-
-takes_plain : (x : ℕ) (i : Input) → MayTake x i → MayTake x (plain_input i)
-takes_plain x (input.Deliver packet) fits = fits
-takes_plain x (input.Elect u group) fits = fits
-takes_plain x (input.Begin sites) fits = fits
-takes_plain x (input.Do u op) fits = fits
-takes_plain x (input.Commit u) fits = fits
-takes_plain x (input.Cancel u) fits = fits
-takes_plain x (input.Expire u) fits = fits
 
 -- what stands before a step behind such moves, for each transaction
 pub stands_before : (sc : Scenario) (before : List Move) (x : ℕ) (i : Input) → IsMade sc before → MayTake x i → WasSent before i

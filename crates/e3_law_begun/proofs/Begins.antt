@@ -29,16 +29,17 @@ use Rattle.e3_world.specs.Steps.{is_begin}
 use Rattle.e3_world.proofs.Pushes.{past_push, incarnation_push, life_push, legal_push}
 use Rattle.e3_world.proofs.Readings.{own_same, own_other, up_same, up_other}
 use Rattle.e3_law_trails.specs.Bounds.{Suits}
-use Rattle.e3_law_trails.proofs.Each.{each-push, each-filter, each-at, each-weaker}
-use Rattle.e3_law_trails.proofs.Laws.{inputs_suit}
+use Rattle.e3_law_steps.proofs.Each.{each-push, each-filter, each-at, each-weaker}
+use Rattle.e3_law_trails.proofs.Suits.Laws.{inputs_suit}
 use Rattle.e3_law_begun.specs.Mentions.{begun_in, Stands}
 use Rattle.e3_law_begun.specs.Claims.{BegunAreTransactions}
 use Rattle.e3_law_begun.proofs.Lists.{each-join}
 use Rattle.e3_law_begun.proofs.Keeping.{Keeps, Tells}
-use Rattle.e3_law_begun.proofs.Inputs.{place, BeginIs}
+use Rattle.e3_law_begun.proofs.Inputs.{BeginIs}
 use Rattle.e3_law_begun.proofs.Due.{BeginsKnown}
 use Rattle.e3_law_begun.proofs.Holding.{keeps_at, legal_holds}
 use Rattle.e3_law_begun.proofs.Laws.{due_mentions}
+use Rattle.e3_law_trails.proofs.Suits.Inputs.{place}
 
 -- a transaction of the scenario's sites, with numbers from 1 on
 abbrev pub IsOf : Scenario → Txn → Type 0

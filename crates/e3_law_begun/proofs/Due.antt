@@ -17,9 +17,8 @@ use Rattle.e3_types.specs.Same.{same_numbers, same_txn, is_older}
 use Rattle.e3_types.specs.Sets.{has_site}
 use Rattle.e3_world.specs.declared.lives.Life.{Life}
 use Rattle.e3_world.specs.declared.names.Addressed.{Addressed}
-use Rattle.e3_world.specs.declared.names.Binding.{Binding}
 use Rattle.e3_world.specs.declared.names.Bound.{Bound}
-use Rattle.e3_world.specs.Items.{RecoveryRound, binding_by, last_bound, txn_of, input_of, plan_of, inputs_at, to_line, turn_of, is_up_at, txn_of_record, began_in, known_txns, add_txn, open_at, listed, recover_group, elected_txn, rounds_left, due_round, since_line, inputs_of}
+use Rattle.e3_world.specs.Items.{RecoveryRound, last_bound, txn_of, input_of, plan_of, inputs_at, to_line, turn_of, is_up_at, txn_of_record, began_in, known_txns, add_txn, open_at, listed, recover_group, elected_txn, rounds_left, due_round, since_line, inputs_of}
 use Rattle.e3_world.specs.Legal.{IsDue, IsNextItem, IsRound}
 use Rattle.e3_world.specs.Lives.{life_at}
 use Rattle.e3_world.specs.Logs.{is_undecided}
@@ -27,10 +26,11 @@ use Rattle.e3_world.specs.Moves.{moves_of}
 use Rattle.e3_world.specs.Operations.{arrivals}
 use Rattle.e3_world.specs.Packets.{lines, sent, items_or, step_items, present_items}
 use Rattle.e3_world.proofs.InTrail.{pending_sent}
-use Rattle.e3_law_trails.proofs.Each.{each-append, each-filter, each-flat, each-map, each-at, each-weaker, each-of}
+use Rattle.e3_law_steps.proofs.Each.{each-append, each-filter, each-flat, each-map, each-at, each-weaker, each-of, IfAny}
 use Rattle.e3_law_begun.specs.Mentions.{Mention, OfTxn, OfVal, of_input, values_in}
-use Rattle.e3_law_begun.proofs.Lists.{IfAny, any-get, any-find, held}
+use Rattle.e3_law_begun.proofs.Lists.{any-get, any-find, held}
 use Rattle.e3_law_begun.proofs.Reading.{RecordIs, PacketIs, AskedIs, MomentIs, InputIs, arrivals_are}
+use Rattle.e3_law_steps.proofs.Items.{binding}
 
 -- the values of an item, and of a scenario, may be mentioned
 abbrev pub ItemIs : (Mention → Type 0) → Item → Type 0
@@ -50,17 +50,13 @@ pub record LifeIs (P : Mention → Type 0) (D : Told → Type 0) (life : Life) :
   pub told : Each (λ m. Each D m.told) life.steps
   pub log : Each (RecordIs P) life.log
 
--- what a history has bound
-abbrev pub binding_of : Scenario → List Entry → Binding
-binding_of sc h = fold (binding_by sc) (record { number = 0; begun_at = []; bound = [] }) h
-
 abbrev pub BoundIs : (Mention → Type 0) → Bound → Type 0
 BoundIs P b = P (OfTxn b.txn)
 
 -- what is known where a step began
 pub record LineIs (P : Mention → Type 0) (sc : Scenario) (k : List Entry) : Type 0 where
   pub lives : (s : ℕ) → LifeIs P (BeginsKnown P) (life_at (moves_of sc k s))
-  pub bound : Each (BoundIs P) (binding_of sc k).bound
+  pub bound : Each (BoundIs P) (binding sc k).bound
 
 module _ (P : Mention → Type 0) where
   abbrev KnownTxn : Txn → Type 0
@@ -85,14 +81,14 @@ module _ (P : Mention → Type 0) where
       by true = all.0
       by false = first
 
-  bound_is : (sc : Scenario) (k : List Entry) (name : List ℕ) → Each (BoundIs P) (binding_of sc k).bound → IfAny KnownTxn (txn_of sc k name)
-  bound_is sc k name all = last_is name None (binding_of sc k).bound tt all
+  bound_is : (sc : Scenario) (k : List Entry) (name : List ℕ) → Each (BoundIs P) (binding sc k).bound → IfAny KnownTxn (txn_of sc k name)
+  bound_is sc k name all = last_is name None (binding sc k).bound tt all
 
   mapped : (f : Txn → Addressed) (o : Option Txn) → ((t : Txn) → KnownTxn t → InputKnown (f t).input) → IfAny KnownTxn o → IfAny (λ a. InputKnown a.input) (option_map f o)
   mapped f None each is = tt
   mapped f (Some t) each is = each t is
 
-  item_is : (sc : Scenario) (k : List Entry) (it : Item) → Each (BoundIs P) (binding_of sc k).bound → ItemIs P it → IfAny (λ a. InputKnown a.input) (input_of sc k it)
+  item_is : (sc : Scenario) (k : List Entry) (it : Item) → Each (BoundIs P) (binding sc k).bound → ItemIs P it → IfAny (λ a. InputKnown a.input) (input_of sc k it)
   item_is sc k (item.Begin name site sites) all vals = tt
   item_is sc k (item.Read name key) all vals = mapped _ (txn_of sc k name) (λ t known. (known, tt)) (bound_is sc k name all)
   item_is sc k (item.Write name key val) all vals = mapped _ (txn_of sc k name) (λ t known. (known, vals)) (bound_is sc k name all)
@@ -106,7 +102,7 @@ module _ (P : Mention → Type 0) where
   consed Q None xs this more = more
   consed Q (Some x) xs this more = (this, more)
 
-  plan_is : (sc : Scenario) (k : List Entry) (items : List Item) → Each (BoundIs P) (binding_of sc k).bound → Each (ItemIs P) items →
+  plan_is : (sc : Scenario) (k : List Entry) (items : List Item) → Each (BoundIs P) (binding sc k).bound → Each (ItemIs P) items →
       Each (λ a. InputKnown a.input) (filter_map (input_of sc k) items)
   plan_is sc k [] all vals = tt
   plan_is sc k (it ∷ items) all vals =

@@ -32,14 +32,17 @@ use Rattle.e3_world.specs.Moves.{Move, Did, Stepped, Silent, Rose, Past, Tail, o
 use Rattle.e3_world.specs.Packets.{sent, outs_of, is_line, step_items}
 use Rattle.e3_world.proofs.Pushes.{past_push, incarnation_push, life_push, life_log}
 use Rattle.e3_world.proofs.Readings.{to_push, own_same, own_other}
-use Rattle.e3_law_trails.proofs.Each.{each-append, each-push, each-map, each-left, each-right, each-weaker, each-of}
-use Rattle.e3_law_trails.proofs.Holding.{sent_push, to_at_line}
+use Rattle.e3_law_steps.proofs.Each.{each-append, each-push, each-map, each-left, each-right, each-weaker, each-of, IfAny, each-both}
+use Rattle.e3_law_trails.proofs.Suits.Holding.{to_at_line}
 use Rattle.e3_law_begun.specs.Mentions.{Mention, OfTxn, OfVal, of_input, of_message, of_record, of_event, begun_in, WasBegun, values_in, values_of, Stands}
-use Rattle.e3_law_begun.proofs.Lists.{IfAny, each-unmap, each-unflat, each-join, each-both, each-within}
+use Rattle.e3_law_begun.proofs.Lists.{each-unmap, each-unflat, each-join, each-within}
 use Rattle.e3_law_begun.proofs.Reading.{RecordIs, PacketIs, EventIs, MomentIs, rows_are}
 use Rattle.e3_law_begun.proofs.Keeping.{Keeps, Goes, Tells}
-use Rattle.e3_law_begun.proofs.Inputs.{place, BeginIs, step_keeps}
-use Rattle.e3_law_begun.proofs.Due.{ItemIs, ValuesAre, BeginsKnown, LifeIs, BoundIs, LineIs, binding_of, due_is}
+use Rattle.e3_law_begun.proofs.Inputs.{BeginIs, step_keeps}
+use Rattle.e3_law_begun.proofs.Due.{ItemIs, ValuesAre, BeginsKnown, LifeIs, BoundIs, LineIs, due_is}
+use Rattle.e3_law_steps.proofs.Moving.{sent_push}
+use Rattle.e3_law_trails.proofs.Suits.Inputs.{place}
+use Rattle.e3_law_steps.proofs.Items.{binding}
 
 -- what holds of a site: of its life, and of the records that may be on its disk
 pub record SiteIs (P : Mention → Type 0) (D : Told → Type 0) (past : Past) : Type 0 where
@@ -96,7 +99,7 @@ begins_more P Q to e all = each-weaker (λ t. P (OfTxn t)) (λ t. Q (OfTxn t)) (
 line_more : (P Q : Mention → Type 0) → ((x : Mention) → P x → Q x) → (sc : Scenario) (k : List Entry) → LineIs P sc k → LineIs Q sc k
 line_more P Q to sc k is = record {
   lives = λ s. life_more P Q (BeginsKnown P) (BeginsKnown Q) to (begins_more P Q to) (life_at (moves_of sc k s)) (is.lives s);
-  bound = bound_more P Q to (binding_of sc k).bound is.bound;
+  bound = bound_more P Q to (binding sc k).bound is.bound;
 }
 
 -- the moves of sites
@@ -307,7 +310,7 @@ values_stand sc h =
 -- what holds of a history, and where its present step began
 pub record Holds (sc : Scenario) (h : List Entry) : Type 0 where
   pub now : SaidIs (Stands sc h) (BeginsKnown (Stands sc h)) sc h
-  pub bound : Each (BoundIs (Stands sc h)) (binding_of sc h).bound
+  pub bound : Each (BoundIs (Stands sc h)) (binding sc h).bound
   pub line : LineIs (Stands sc h) sc (to_line h)
 
 -- one more entry
@@ -316,12 +319,12 @@ module _ (sc : Scenario) (h : List Entry) (e : Entry) where
   now_more is = said_more (Stands sc h) (Stands sc (h ++ e ∷ [])) (BeginsKnown (Stands sc h)) (BeginsKnown (Stands sc (h ++ e ∷ []))) (stands_more sc h e)
       (begins_more (Stands sc h) (Stands sc (h ++ e ∷ [])) (stands_more sc h e)) sc h is
 
-  binding_push : binding_of sc (h ++ e ∷ []) ≡ binding_by sc (binding_of sc h) e
+  binding_push : binding sc (h ++ e ∷ []) ≡ binding_by sc (binding sc h) e
   binding_push = fold-append (binding_by sc) _ h (e ∷ [])
 
 -- an entry that is no step and no line
 quiet_holds : (sc : Scenario) (h : List Entry) (owner : ℕ) (act : Act) → Holds sc h → is_line (record { owner = owner; act = act }) ≡ false → outs_of act ≡ [] →
-    binding_by sc (binding_of sc h) (record { owner = owner; act = act }) ≡ binding_of sc h →
+    binding_by sc (binding sc h) (record { owner = owner; act = act }) ≡ binding sc h →
     (SiteIs (Stands sc (h ++ record { owner = owner; act = act } ∷ [])) (BeginsKnown (Stands sc (h ++ record { owner = owner; act = act } ∷ []))) (past_of sc owner (own owner h)) →
     SiteIs (Stands sc (h ++ record { owner = owner; act = act } ∷ [])) (BeginsKnown (Stands sc (h ++ record { owner = owner; act = act } ∷ [])))
     (past_by sc owner (past_of sc owner (own owner h)) (record { owner = owner; act = act }))) →
@@ -333,7 +336,7 @@ quiet_holds sc h owner act was stays out same past = record {
     sites = sites_push (SiteIs (Stands sc k) (BeginsKnown (Stands sc k))) sc h owner act was_more.sites (past (was_more.sites owner));
   };
   bound = let R : Binding → Type 0 = λ b. Each (BoundIs (Stands sc k)) b.bound in
-      subst R (sym (binding_push sc h e ∙ same)) (bound_more (Stands sc h) (Stands sc k) (stands_more sc h e) (binding_of sc h).bound was.bound);
+      subst R (sym (binding_push sc h e ∙ same)) (bound_more (Stands sc h) (Stands sc k) (stands_more sc h e) (binding sc h).bound was.bound);
   line = let R : List Entry → Type 0 = LineIs (Stands sc k) sc in
       subst R (sym (to_push h e stays)) (line_more (Stands sc h) (Stands sc k) (stands_more sc h e) sc (to_line h) was.line);
 }
@@ -372,9 +375,9 @@ line_holds sc h number was = record {
           (quiet_past (Stands sc k) (BeginsKnown (Stands sc k)) sc 0 (past_of sc 0 (own 0 h)) (Line number) refl refl (was_more.sites 0));
     }
 
-    bound : Each (BoundIs (Stands sc k)) (binding_of sc k).bound
+    bound : Each (BoundIs (Stands sc k)) (binding sc k).bound
     bound = let R : Binding → Type 0 = λ b. Each (BoundIs (Stands sc k)) b.bound in
-        subst R (sym (binding_push sc h e)) (bound_more (Stands sc h) (Stands sc k) (stands_more sc h e) (binding_of sc h).bound was.bound)
+        subst R (sym (binding_push sc h e)) (bound_more (Stands sc h) (Stands sc k) (stands_more sc h e) (binding sc h).bound was.bound)
 
 -- what a begin binds
 binds_are : (P : Mention → Type 0) (o : Option (List ℕ)) (events : List Told) → Each (BeginsKnown P) events → Each (BoundIs P) (binds o events)
@@ -403,8 +406,8 @@ pub step_holds : (sc : Scenario) (h : List Entry) (site : ℕ) (i : Input) → I
 step_holds sc h site i due was = record {
   now = step_said (Stands sc k) (AtHome site) (BeginsKnown (Stands sc k)) sc h site i was_more known_more keeps begun;
   bound = let R : Binding → Type 0 = λ b. Each (BoundIs (Stands sc k)) b.bound in
-      subst R (sym (binding_push sc h e)) (step_binds (Stands sc k) sc (binding_of sc h) site i made.records (numbered (suc (length (sent h))) made.outs) made.told
-      (bound_more (Stands sc h) (Stands sc k) (stands_more sc h e) (binding_of sc h).bound was.bound) begun);
+      subst R (sym (binding_push sc h e)) (step_binds (Stands sc k) sc (binding sc h) site i made.records (numbered (suc (length (sent h))) made.outs) made.told
+      (bound_more (Stands sc h) (Stands sc k) (stands_more sc h e) (binding sc h).bound was.bound) begun);
   line = let R : List Entry → Type 0 = LineIs (Stands sc k) sc in
       subst R (sym (to_push h e refl)) (line_more (Stands sc h) (Stands sc k) (stands_more sc h e) sc (to_line h) was.line);
 }

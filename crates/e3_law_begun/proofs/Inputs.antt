@@ -1,42 +1,32 @@
 -- What a step of a site sends, records and tells mentions only what its input, its steps and its log mention.
-use Rattle.std.proofs.Common.{◌≡◌, ◌==◌, ◌∷◌, [], ℕ, suc, Bool, true, false, List, Option, Some, None, refl, fold, length, count_by}
+use Rattle.std.proofs.Common.{◌≡◌, ◌==◌, ◌∷◌, [], ℕ, Bool, true, false, List, Option, Some, None, refl, subst}
 use Rattle.std.specs.List.{AllByRecursion as Each}
 use Rattle.e3_types.specs.declared.entries.Input.{Input}
 use Rattle.e3_types.specs.declared.entries.Input.TheVariants as input
 use Rattle.e3_types.specs.declared.entries.Refusal.{Refusal}
-use Rattle.e3_types.specs.declared.entries.Told.TheVariants as told
 use Rattle.e3_types.specs.declared.messages.Message.TheVariants as msg
 use Rattle.e3_types.specs.declared.transactions.Dir.{Dir}
-use Rattle.e3_types.specs.declared.transactions.Dir.TheVariants.{Abort, Commit}
+use Rattle.e3_types.specs.declared.transactions.Dir.TheVariants.{Abort}
 use Rattle.e3_types.specs.declared.transactions.State.{State}
 use Rattle.e3_types.specs.declared.transactions.State.TheVariants.{Q, W, Pc, Pa, C, A}
 use Rattle.e3_types.specs.declared.transactions.Txn.{Txn}
-use Rattle.e3_types.specs.Sets.{others}
-use Rattle.e3_world.specs.declared.gatherings.Election.{Election}
 use Rattle.e3_world.specs.declared.lives.At.{At}
-use Rattle.e3_world.specs.declared.lives.Expected.{Expected}
 use Rattle.e3_world.specs.declared.lives.Incarnation.{Incarnation}
 use Rattle.e3_world.specs.declared.lives.Made.{Made}
-use Rattle.e3_world.specs.Elections.{begun, next_call}
 use Rattle.e3_world.specs.Lives.{life_of}
-use Rattle.e3_world.specs.Logs.{decision, key_of}
-use Rattle.e3_world.specs.Making.{nothing, log_now, state_now, elected_now, attempt_now, is_present, may_abort, and_vote}
+use Rattle.e3_world.specs.Logs.{decision}
+use Rattle.e3_world.specs.Making.{nothing, log_now, state_now, attempt_now, is_present}
 use Rattle.e3_world.specs.Moves.{plain_input}
-use Rattle.e3_world.specs.Operations.{expected, issued, unanswered, kept_reason}
-use Rattle.e3_world.specs.Steps.{refuse_late, refuse, or_refused, is_begin, and_ask, on_commit, on_expire, on_input, step_of}
+use Rattle.e3_world.specs.Operations.{unanswered, kept_reason}
+use Rattle.e3_world.specs.Sound.{txn_in}
+use Rattle.e3_world.specs.Steps.{refuse_late, refuse, step_of}
+use Rattle.e3_law_steps.proofs.Each.{IfAny, each-of}
+use Rattle.e3_law_steps.proofs.Taking.{MayRefuse, Takes, keep_step, next_election, next_txn}
+use Rattle.e3_law_trails.proofs.Suits.Inputs.{place}
 use Rattle.e3_law_begun.specs.Mentions.{Mention, OfTxn, of_input}
-use Rattle.e3_law_begun.proofs.Lists.{IfAny}
 use Rattle.e3_law_begun.proofs.Reading.{RefusalIs, RecordIs, MomentIs, reasons_are}
-use Rattle.e3_law_begun.proofs.Keeping.{Keeps, Ready, keep_tell, keep_send, keep_cast, keep_decide, keep_abort, keep_attempt, keep_vote}
-use Rattle.e3_law_begun.proofs.Handling.{keep_grants, keep_join, keep_message, keep_settled}
-
--- the place of a step
-abbrev pub place : List ℕ → ℕ → Incarnation → Input → At
-place weights site now i = record { weights = weights; site = site; life = life_of now; input = plain_input i }
-
--- the transaction that a begin of these sites tells as begun
-abbrev pub next_txn : At → List ℕ → Txn
-next_txn a sites = record { site = a.site; inc = a.life.inc; seq = suc (count_by is_begin a.life.steps); sites = sites }
+use Rattle.e3_law_begun.proofs.Keeping.{Keeps, Ready, Sends, Tells, kept}
+use Rattle.e3_law_begun.proofs.Handling.{allows, casts, concludes, hears, joins, known, settles}
 
 -- a transaction that the input begins meets B
 abbrev pub BeginIs : (Txn → Type 0) → At → Input → Type 0
@@ -79,55 +69,25 @@ refuse_is P a t cancels made steps = by (decision t (log_now a made)) (kept_reas
     by (Some dir) (why ∷ more) c some kept all = rw (some, kept) all.0
 
 module _ (P : Mention → Type 0) (B : Txn → Type 0) where
-  start : (site : ℕ) → Keeps P B site nothing
-  start site = record { own = tt; outs = tt; records = tt; told = tt }
+  refused : (a : At) (t : Txn) (cancels : Bool) → P (OfTxn t) → Ready P a → MayRefuse a (Tells P B) t cancels
+  refused a t cancels this ready why is =
+      let Q : Option Refusal → Type 0 = IfAny (RefusalIs P) in ((this, subst Q is (refuse_is P a t cancels nothing ready.steps)), tt)
 
-  keep_refused : (a : At) (t : Txn) (o : Option Refusal) (made : Made) → P (OfTxn t) → IfAny (RefusalIs P) o → Keeps P B a.site made → Keeps P B a.site (or_refused t o made)
-  keep_refused a t None made known this kept = kept
-  keep_refused a t (Some why) made known this kept = keep_tell P B a.site (told.Refused t why) nothing ((known, this), tt) (start a.site)
-
-  keep_asked : (a : At) (t : Txn) (sites : List ℕ) (made : Made) → P (OfTxn t) → Keeps P B a.site made → Keeps P B a.site (fold (and_ask a t) made sites)
-  keep_asked a t [] made known kept = kept
-  keep_asked a t (s ∷ sites) made known kept =
-      let e : Expected = expected a.site a.life.inc t a.life.steps s in
-      keep_asked a t sites (and_ask a t made s) known (keep_send P B a s (msg.VoteReq t e.inc e.count) made (known, tt) kept)
-
-  keep_commit : (a : At) (t : Txn) (made : Made) → P (OfTxn t) → Ready P a → Keeps P B a.site made → Keeps P B a.site (on_commit a t made)
-  keep_commit a t made known ready kept = by (elected_now a t made == 1) refl
-    where
-      alone : (ss : List ℕ) → others a.site t.sites ≡ ss → (elected_now a t made == 1) ≡ true → Keeps P B a.site (on_commit a t made)
-      alone [] none is = rw (is, none) (keep_attempt P B a t 1 Commit t.sites (and_vote a t made) known (keep_vote P B a t made known ready kept))
-      alone (s ∷ ss) some is = rw (is, some) (keep_asked a t (s ∷ ss) (and_vote a t made) known (keep_vote P B a t made known ready kept))
-
-      by : (b : Bool) → (elected_now a t made == 1) ≡ b → Keeps P B a.site (on_commit a t made)
-      by true is = alone (others a.site t.sites) refl is
-      by false is = rw is (keep_abort P B a t made known kept)
-
-  keep_expire : (a : At) (t : Txn) (made : Made) → P (OfTxn t) → Keeps P B a.site made → Keeps P B a.site (on_expire a t made)
-  keep_expire a t made known kept = by (may_abort a t made) (state_now a t made) refl refl
-    where
-      by : (b : Bool) (st : State) → may_abort a t made ≡ b → state_now a t made ≡ st → Keeps P B a.site (on_expire a t made)
-      by true st may is = rw may (keep_abort P B a t made known kept)
-      by false Q may is = rw (may, is) (keep_decide P B a t Abort made known kept)
-      by false W may is = rw (may, is) (keep_tell P B a.site (told.Kept t W) made ((known, tt), tt) kept)
-      by false Pc may is = rw (may, is) (keep_tell P B a.site (told.Kept t Pc) made ((known, tt), tt) kept)
-      by false Pa may is = rw (may, is) (keep_tell P B a.site (told.Kept t Pa) made ((known, tt), tt) kept)
-      by false C may is = rw (may, is) (keep_tell P B a.site (told.Kept t C) made ((known, tt), tt) kept)
-      by false A may is = rw (may, is) (keep_tell P B a.site (told.Kept t A) made ((known, tt), tt) kept)
-
-  keep_input : (a : At) (i : Input) → Each P (of_input i) → BeginIs B a i → Ready P a → Keeps P B a.site (on_input a i nothing)
-  keep_input a (input.Begin sites) this begins ready = record { own = tt; outs = tt; records = tt; told = ((tt, (begins, tt)), tt) }
-  keep_input a (input.Do t op) this begins ready = keep_refused a t (refuse a t false nothing) _ this.0 (refuse_is P a t false nothing ready.steps)
-      (keep_send P B a (key_of op).site (msg.Do t (suc (length (issued t a.life.steps))) op) nothing this (start a.site))
-  keep_input a (input.Commit t) this begins ready =
-      keep_refused a t (refuse a t false nothing) _ this.0 (refuse_is P a t false nothing ready.steps) (keep_commit a t nothing this.0 ready (start a.site))
-  keep_input a (input.Cancel t) this begins ready =
-      keep_refused a t (refuse a t true nothing) _ this.0 (refuse_is P a t true nothing ready.steps) (keep_abort P B a t nothing this.0 (start a.site))
-  keep_input a (input.Expire t) this begins ready = keep_expire a t nothing this.0 (start a.site)
-  keep_input a (input.Elect t group) this begins ready =
-      let e : Election = begun a.site (next_call a.life.inc a.life.steps) group (elected_now a t nothing) in
-      keep_join P B a t e _ this.0 (keep_cast P B a group (msg.Ask t e.call) nothing (this.0, tt) (start a.site))
-  keep_input a (input.Deliver p) this begins ready = keep_message P B a p.«from» p.msg nothing this ready (start a.site)
+  takes : (a : At) (i : Input) → Each P (of_input i) → BeginIs B a i → Ready P a → Takes a (RecordIs P) (Tells P B) (Sends P) (Keeps P B a.site) i
+  takes a (input.Begin sites) this begins ready = (tt, (begins, tt))
+  takes a (input.Do t op) this begins ready = (refused a t false this.0 ready, (λ allowed. this))
+  takes a (input.Commit t) this begins ready = (
+    refused a t false this.0 ready,
+    record {
+      allows = allows P B a t this.0 ready;
+      asks = each-of (λ s. (s == a.site) ≡ false → P (OfTxn t) × Unit {0}) (λ s apart. (this.0, tt)) t.sites;
+      concludes = concludes P B a t t.sites this.0;
+    },
+  )
+  takes a (input.Cancel t) this begins ready = (refused a t true this.0 ready, allows P B a t this.0 ready, casts P B a (msg.Decide t Abort) t.sites (this.0, tt))
+  takes a (input.Expire t) this begins ready = (allows P B a t this.0 ready, casts P B a (msg.Decide t Abort) t.sites (this.0, tt))
+  takes a (input.Elect t group) this begins ready = (allows P B a t this.0 ready, casts P B a (msg.Ask t (next_election a t group).call) group (this.0, tt), joins P B a t (next_election a t group) this.0)
+  takes a (input.Deliver p) this begins ready = (allows P B a (txn_in p.msg) (known P B p.msg this) ready, hears P B a p.«from» p.msg this ready)
 
   plain_is : (i : Input) → Each P (of_input i) → Each P (of_input (plain_input i))
   plain_is (input.Deliver p) this = this
@@ -143,4 +103,4 @@ module _ (P : Mention → Type 0) (B : Txn → Type 0) where
   step_keeps weights site now i steps records this begins =
       let a : At = place weights site now i in
       let ready : Ready P a = record { steps = steps; input = plain_is i this; log = records } in
-      keep_settled P B 3 a _ ready (keep_grants P B a 0 (on_input a a.input nothing) ready (keep_input a a.input ready.input (plain_begins a i begins) ready))
+      keep_step (kept P B a) (settles P B a ready) (takes a a.input ready.input (plain_begins a i begins) ready) (record { own = tt; outs = tt; records = tt; told = tt })

@@ -16,15 +16,15 @@ use Rattle.e3_world.specs.Moves.{Tail, moves_of, log_of, open_tail}
 use Rattle.e3_world.specs.Packets.{sent, outs_of}
 use Rattle.e3_world.proofs.Pushes.{life_log_at, legal_front}
 use Rattle.e3_law_trails.specs.Claims.{tail_records, records_at}
-use Rattle.e3_law_trails.proofs.Each.{each-append, each-at, each-weaker}
+use Rattle.e3_law_steps.proofs.Each.{each-append, each-at, each-weaker, IfAny}
 use Rattle.e3_law_begun.specs.Mentions.{Mention, of_input, of_message, of_record, of_event, of_act, Stands}
 use Rattle.e3_law_begun.specs.Claims.{EntriesMentionWhatStands, DueMentionsWhatStands, StepsMentionWhatStands, RecordsMentionWhatStands, PacketsMentionWhatStands, PacketsAreTheirOwners}
-use Rattle.e3_law_begun.proofs.Lists.{IfAny, each-join}
+use Rattle.e3_law_begun.proofs.Lists.{each-join}
 use Rattle.e3_law_begun.proofs.Reading.{RecordIs, PacketIs, EventIs}
 use Rattle.e3_law_begun.proofs.Keeping.{Keeps, Goes, Tells}
-use Rattle.e3_law_begun.proofs.Inputs.{place}
 use Rattle.e3_law_begun.proofs.Due.{BeginsKnown, due_is}
 use Rattle.e3_law_begun.proofs.Holding.{Holds, FallIs, AnyTxn, AnyEvent, numbered_are, any_begins, keeps_at, fall_is, said_more, values_stand, legal_holds}
+use Rattle.e3_law_trails.proofs.Suits.Inputs.{place}
 
 pub due_mentions : DueMentionsWhatStands
 due_mentions sc h site i legal due =

@@ -1,14 +1,9 @@
 -- What holds of each element of lists that are put together or taken apart.
-use Rattle.std.proofs.Common.{◌≡◌, ◌∷◌, [], ℕ, zero, suc, Bool, true, false, List, Option, Some, None, map, subst, if◌then◌else◌}
+use Rattle.std.proofs.Common.{◌≡◌, ◌∷◌, [], ℕ, zero, suc, Bool, true, false, List, Option, Some, map, subst, if◌then◌else◌}
 use Rattle.std.specs.Prelude.{Contains, slice_get, find}
 use Rattle.std.specs.List.{flat_map, AllByRecursion as Each}
 use Rattle.std.proofs.lemmas.List.Elements.{All-contains_itself, recursion_from_All}
-use Rattle.e3_law_trails.proofs.Each.{each-append, each-left, each-right}
-
--- what holds of the one that there may be
-abbrev pub IfAny : {X : Type 0} → (X → Type 0) → Option X → Type 0
-IfAny P None = Unit {0}
-IfAny P (Some x) = P x
+use Rattle.e3_law_steps.proofs.Each.{each-append, each-left, each-right, IfAny}
 
 pub each-unmap : {X Y : Type 0} (P : Y → Type 0) (f : X → Y) (xs : List X) → Each P (map f xs) → Each (λ x. P (f x)) xs
 each-unmap P f [] all = tt
@@ -21,10 +16,6 @@ each-unflat P f (x ∷ xs) all = (each-left P (f x) (flat_map f xs) all, each-un
 pub each-join : {X Y : Type 0} (P : Y → Type 0) (f : X → List Y) (xs : List X) → Each (λ x. Each P (f x)) xs → Each P (flat_map f xs)
 each-join P f [] all = tt
 each-join P f (x ∷ xs) all = each-append P (f x) (flat_map f xs) all.0 (each-join P f xs all.1)
-
-pub each-both : {X : Type 0} (P Q : X → Type 0) (xs : List X) → Each P xs → Each Q xs → Each (λ x. P x × Q x) xs
-each-both P Q [] first second = tt
-each-both P Q (x ∷ xs) first second = ((first.0, second.0), each-both P Q xs first.1 second.1)
 
 pub any-get : {X : Type 0} (P : X → Type 0) (xs : List X) (n : ℕ) → Each P xs → IfAny P (slice_get xs n)
 any-get P [] n all = tt

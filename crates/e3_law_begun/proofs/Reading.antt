@@ -36,9 +36,9 @@ use Rattle.e3_world.specs.Logs.{key_of, is_undecided, ops_of_vote, voted_ops, se
 use Rattle.e3_world.specs.Making.{own_write}
 use Rattle.e3_world.specs.Moves.{rows_at}
 use Rattle.e3_world.specs.Operations.{Arrived, taken_up, and_arrived, is_fresh, arrived_by, arrivals, issued, issued_in, answer_told, answer_sent, answers, is_answered, performed_by, done, done_locks, holders, queue, reason_in, kept_reason}
-use Rattle.e3_law_trails.proofs.Each.{each-append, each-push, each-filter, each-flat, each-map}
+use Rattle.e3_law_steps.proofs.Each.{each-append, each-push, each-filter, each-flat, each-map, IfAny}
 use Rattle.e3_law_begun.specs.Mentions.{Mention, OfTxn, OfVal, of_op, of_answer, of_message, of_input, of_record, of_refusal, of_event}
-use Rattle.e3_law_begun.proofs.Lists.{IfAny, each-unmap, each-unflat, each-if}
+use Rattle.e3_law_begun.proofs.Lists.{each-unmap, each-unflat, each-if}
 
 -- an operation, an answer, a record, a packet, an event, a row and a lock that mention only what may be mentioned
 abbrev pub OpIs : (Mention → Type 0) → Op → Type 0

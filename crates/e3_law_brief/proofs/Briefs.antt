@@ -1,8 +1,8 @@
 -- A log reads as its brief does.
-use Rattle.std.proofs.Common.{◌≡◌, ◌≢◌, ◌≤◌, ◌∷◌, [], ◌++◌, ◌||◌, max, ℕ, Bool, true, false, cond, List, Option, Some, None, is_none, refl, sym, ap, subst, ◌∙◌, fold, append_assoc, append-nil, if◌then◌else◌, arith}
+use Rattle.std.proofs.Common.{◌≡◌, ◌≢◌, ◌∷◌, [], ◌++◌, ℕ, Bool, true, false, cond, List, Some, None, is_none, refl, sym, ap, subst, ◌∙◌, fold, append_assoc, append-nil, arith}
 use Rattle.std.specs.Prelude.{nat_lt}
 use Rattle.std.specs.List.{flat_map, list_any, AllByRecursion as Each}
-use Rattle.std.proofs.lemmas.Bool.{ltb-true, ltb-false}
+use Rattle.std.proofs.lemmas.Bool.{ltb-false}
 use Rattle.std.proofs.lemmas.Grind.{fold-append, flat_map-append}
 use Rattle.std.proofs.lemmas.List.Elements.{filter-append}
 use Rattle.e3_types.specs.declared.records.Record.{Record}
@@ -14,16 +14,18 @@ use Rattle.e3_types.specs.declared.transactions.Row.{Row}
 use Rattle.e3_types.specs.declared.transactions.Txn.{Txn}
 use Rattle.e3_types.specs.Same.{same_txn}
 use Rattle.e3_world.specs.Items.{add_txn, txn_of_record}
-use Rattle.e3_world.specs.Logs.{last_elected, last_attempt, attempted, decision, has_voted, install_op, is_undecided, logged_inc, logged_inc_by, table_by, table_of, voted_ops}
+use Rattle.e3_world.specs.Logs.{attempted, decision, install_op, is_undecided, logged_inc, logged_inc_by, table_by, table_of, voted_ops}
 use Rattle.e3_world.specs.Orderly.{weights_by, weights_in}
 use Rattle.e3_law_brief.specs.Alike.{ReadAlike}
 use Rattle.e3_law_brief.specs.Brief.{brief, born_by, born_in, inc_in, noted, open_ops, txns_of}
-use Rattle.e3_law_brief.specs.Orderly.{MayFollow, OrderlyAfter, IsOrderly}
-use Rattle.e3_law_brief.proofs.Lists.{each_append, each_map, fold_leaves, none_pass}
-use Rattle.e3_law_brief.proofs.Notes.{notes, kept_of, each_note, notes_of, said_notes, kept_fit, no_notes, some_notes, open_cases}
+use Rattle.e3_law_brief.specs.Orderly.{IsOrderly}
+use Rattle.e3_law_brief.proofs.Lists.{fold_leaves, none_pass}
+use Rattle.e3_law_brief.proofs.Notes.{kept_of, each_note, notes_of, said_notes, kept_fit, no_notes, some_notes, open_cases}
 use Rattle.e3_law_brief.proofs.Readings.{is_of, own_of, none_of, own_of_blocks, elected_from, attempt_from, attempted_from, decision_from, voted_from, ops_from}
-use Rattle.e3_law_brief.proofs.Shape.{Said, said_of, Fit, Heard, Shape, shape_of}
-use Rattle.e3_law_brief.proofs.Txns.{IsLater, Ascends, ascends_fold, each_fold, add_blocks, off_fold, same_self}
+use Rattle.e3_law_brief.proofs.Shape.{Said, said_of, Shape, shape_of}
+use Rattle.e3_law_steps.proofs.Ascending.{IsLater, Ascends, ascends_fold, each_fold, add_blocks, off_fold}
+use Rattle.e3_law_steps.proofs.Each.{each-of, each-append, each-weaker}
+use Rattle.e3_law_steps.proofs.Tests.{same_self}
 
 -- what a list of one transaction's own records says is what the log says
 pub said_from : (t : Txn) (l own : List Record) → own_of t l ≡ own → said_of t l ≡ said_of t own
@@ -71,11 +73,7 @@ each_inc P n one = by (nat_lt 0 n) refl
 
 pub each_flat : {A B : Type 0} (P : B → Type 0) (f : A → List B) → ((x : A) → Each P (f x)) → (xs : List A) → Each P (flat_map f xs)
 each_flat P f all [] = tt
-each_flat P f all (x ∷ xs) = each_append P (f x) (flat_map f xs) (all x) (each_flat P f all xs)
-
-each_always : {A : Type 0} (P : A → Type 0) → ((x : A) → P x) → (xs : List A) → Each P xs
-each_always P all [] = tt
-each_always P all (x ∷ xs) = (all x, each_always P all xs)
+each_flat P f all (x ∷ xs) = each-append P (f x) (flat_map f xs) (all x) (each_flat P f all xs)
 
 -- the notes of these transactions, and a brief that has these alone
 abbrev pub blocks : List Record → List Txn → List Record
@@ -120,7 +118,7 @@ none_born rows (x ∷ xs) each = ap (λ y. y ++ born_in rows xs) each.0 ∙ none
 each_rest : (P : Record → Type 0) (l : List Record) → ((n : ℕ) → P (log.Inc n)) → ((t : Txn) (ops : List NumOp) → P (log.Vote t ops)) → ((t : Txn) (n : ℕ) → P (log.Join t n))
     → ((t : Txn) (n : ℕ) (dir : Dir) → P (log.Attempt t n dir)) → ((t : Txn) (dir : Dir) → decision t l ≡ Some dir → P (log.Decision t dir)) → (ts : List Txn) → Each P (inc_in (logged_inc l) ++ blocks l ts)
 each_rest P l inc vote join attempt decide ts =
-    each_append P (inc_in (logged_inc l)) (blocks l ts) (each_inc P (logged_inc l) (inc (logged_inc l))) (each_block P l vote join attempt decide ts)
+    each-append P (inc_in (logged_inc l)) (blocks l ts) (each_inc P (logged_inc l) (inc (logged_inc l))) (each_block P l vote join attempt decide ts)
 
 born_again : (rows was : List Row) (l : List Record) → born_in rows (born_in was l) ≡ born_in rows l
 born_again rows was [] = refl
@@ -244,7 +242,7 @@ heard_here front (log.Decision t dir) rest = (own_here front (log.Decision t dir
 heard_all : (front back : List Record) → Each (λ t. own_of t (front ++ back) ≢ []) (flat_map txn_of_record back)
 heard_all front [] = tt
 heard_all front (r ∷ rs) =
-    each_append (λ t. own_of t (front ++ r ∷ rs) ≢ []) (txn_of_record r) (flat_map txn_of_record rs) (heard_here front r rs)
+    each-append (λ t. own_of t (front ++ r ∷ rs) ≢ []) (txn_of_record r) (flat_map txn_of_record rs) (heard_here front r rs)
     (subst (λ (x : List Record). Each (λ t. own_of t x ≢ []) (flat_map txn_of_record rs)) (append_assoc front (r ∷ []) rs) (heard_all (front ++ r ∷ []) rs))
 
 pub heard_txns : (l : List Record) → Each (λ t. own_of t l ≢ []) (txns_of l)
@@ -264,8 +262,8 @@ brief_txns site l orderly =
     ∙ flat_flat txn_of_record (noted l) (txns_of l) in
     ap (λ (x : List Txn). fold add_txn [] x) all
     ∙ add_blocks named (λ t. own_txns t (noted l t) (note_txns l t)) [] (txns_of l)
-    (each_map (λ t. own_of t l ≢ []) (λ t. named t ≢ []) some (txns_of l) (heard_txns l))
-    (each_always (λ v. Each (λ u. IsLater u v) []) (λ v. tt) (txns_of l)) (ascends_fold [] (flat_map txn_of_record l) tt)
+    (each-weaker (λ t. own_of t l ≢ []) (λ t. named t ≢ []) some (txns_of l) (heard_txns l))
+    (each-of (λ v. Each (λ u. IsLater u v) []) (λ v. tt) (txns_of l)) (ascends_fold [] (flat_map txn_of_record l) tt)
   where
     no_txn : (rs : List Record) → Each (λ r. txn_of_record r ≡ []) rs → flat_map txn_of_record rs ≡ []
     no_txn [] each = refl

@@ -1,5 +1,5 @@
 -- The notes of each transaction follow in order what a brief has before them.
-use Rattle.std.proofs.Common.{◌≡◌, ◌≢◌, ◌≤◌, ◌<◌, ◌∷◌, [], ◌++◌, max, ℕ, Bool, true, false, cond, List, Option, Some, None, is_none, refl, sym, ap, subst, ◌∙◌, fold, append_assoc, append-nil, arith}
+use Rattle.std.proofs.Common.{◌≡◌, ◌≢◌, ◌≤◌, ◌<◌, ◌∷◌, [], ◌++◌, max, ℕ, Bool, true, false, cond, List, Option, Some, None, is_none, refl, sym, ap, subst, ◌∙◌, append_assoc, append-nil, arith}
 use Rattle.std.specs.Prelude.{nat_lt}
 use Rattle.std.specs.List.{flat_map, list_any, list_all, AllByRecursion as Each}
 use Rattle.std.proofs.lemmas.Bool.{ltb-true, ltb-false, le-ltb, or_from}
@@ -8,15 +8,14 @@ use Rattle.std.proofs.lemmas.List.Elements.{filter-append}
 use Rattle.e3_types.specs.declared.records.Record.{Record}
 use Rattle.e3_types.specs.declared.records.Record.TheVariants as log
 use Rattle.e3_types.specs.declared.transactions.Dir.{Dir}
-use Rattle.e3_types.specs.declared.transactions.Dir.TheVariants.{Commit}
 use Rattle.e3_types.specs.declared.transactions.Row.{Row}
 use Rattle.e3_types.specs.declared.transactions.Txn.{Txn}
 use Rattle.e3_types.specs.Same.{same_txn}
 use Rattle.e3_world.specs.Items.{txn_of_record}
-use Rattle.e3_world.specs.Logs.{has_voted, is_undecided, last_attempt, last_elected, logged_inc, logged_inc_by, table_of}
+use Rattle.e3_world.specs.Logs.{last_attempt, last_elected, logged_inc, logged_inc_by, table_of}
 use Rattle.e3_world.specs.Orderly.{is_among, is_free, is_known, names_ascend, weights_by, weights_in}
 use Rattle.e3_law_brief.specs.Brief.{brief, born_in, inc_in, vote_in, attempt_in, join_in, decision_in, noted, txns_of}
-use Rattle.e3_law_brief.specs.Orderly.{MayFollow, OrderlyAfter, IsOrderly}
+use Rattle.e3_law_brief.specs.Orderly.{OrderlyAfter, IsOrderly}
 use Rattle.e3_law_brief.proofs.Briefs.{unsaid, said_from, each_born, own_of_front, front, blocks, front_weights, front_inc, heard_txns}
 use Rattle.e3_law_brief.proofs.Lists.{fold_leaves, all_pass, no_push}
 use Rattle.e3_law_brief.proofs.Locks.{state_alike}
@@ -25,7 +24,9 @@ use Rattle.e3_law_brief.proofs.Readings.{is_of, own_of}
 use Rattle.e3_law_brief.proofs.Shape.{Said, said_of, Fit, Shape, shape_of, known_parts, known_from}
 use Rattle.e3_law_brief.proofs.Standing.{orderly_append, vote_free}
 use Rattle.e3_law_brief.proofs.Tables.{table_ascends}
-use Rattle.e3_law_brief.proofs.Txns.{IsLater, Ascends, ascends_fold, other_way, same_self}
+use Rattle.e3_law_steps.proofs.Ascending.{IsLater, Ascends, ascends_fold, other_way}
+use Rattle.e3_law_steps.proofs.Each.{each-left}
+use Rattle.e3_law_steps.proofs.Tests.{same_self}
 
 -- what is said of the transaction here, and it is known
 record At (site : ℕ) (t : Txn) (x : List Record) (s : Said) : Type 0 where
@@ -243,13 +244,9 @@ each_at : {A : Type 0} (P : A → Type 0) (xs : List A) (x : A) (ys : List A) �
 each_at P [] x ys each = each.0
 each_at P (z ∷ xs) x ys each = each_at P xs x ys each.1
 
-each_front : {A : Type 0} (P : A → Type 0) (xs ys : List A) → Each P (xs ++ ys) → Each P xs
-each_front P [] ys each = tt
-each_front P (x ∷ xs) ys each = (each.0, each_front P xs ys each.1)
-
 ascends_front : (xs ys : List Txn) → Ascends (xs ++ ys) → Ascends xs
 ascends_front [] ys up = tt
-ascends_front (x ∷ xs) ys up = (each_front (IsLater x) xs ys up.0, ascends_front xs ys up.1)
+ascends_front (x ∷ xs) ys up = (each-left (IsLater x) xs ys up.0, ascends_front xs ys up.1)
 
 off_front : (t : Txn) (xs ys : List Txn) → Ascends (xs ++ t ∷ ys) → list_any (same_txn t) xs ≡ false
 off_front t [] ys up = refl

@@ -1,28 +1,25 @@
 -- Logs that read alike go on alike.
-use Rattle.std.proofs.Common.{◌≡◌, ◌≢◌, ◌≤◌, ◌<◌, ◌∷◌, [], ◌++◌, ◌&&◌, ◌||◌, ℕ, suc, nat_le, Bool, true, false, List, Option, Some, None, is_none, refl, sym, ap, subst, ◌∙◌, fold, append-nil, append_assoc}
-use Rattle.std.specs.List.{flat_map, list_all}
+use Rattle.std.proofs.Common.{◌≡◌, ◌≤◌, ◌<◌, ◌∷◌, [], ◌++◌, ◌&&◌, ◌||◌, ℕ, suc, nat_le, Bool, true, false, List, Option, Some, None, is_none, refl, sym, ap, subst, ◌∙◌, fold, append-nil, append_assoc}
+use Rattle.std.specs.List.{flat_map}
 use Rattle.std.proofs.lemmas.Grind.{fold-append, flat_map-append}
 use Rattle.e3_types.specs.declared.records.Record.{Record}
 use Rattle.e3_types.specs.declared.records.Record.TheVariants as log
 use Rattle.e3_types.specs.declared.transactions.Dir.{Dir}
 use Rattle.e3_types.specs.declared.transactions.Dir.TheVariants.{Abort, Commit}
-use Rattle.e3_types.specs.declared.transactions.NumOp.{NumOp}
 use Rattle.e3_types.specs.declared.transactions.Row.{Row}
-use Rattle.e3_types.specs.declared.transactions.State.{State}
-use Rattle.e3_types.specs.declared.transactions.State.TheVariants.{Q}
 use Rattle.e3_types.specs.declared.transactions.Txn.{Txn}
-use Rattle.e3_types.specs.Same.{same_txn}
 use Rattle.e3_world.specs.Items.{add_txn, txn_of_record}
-use Rattle.e3_world.specs.Logs.{last_elected_by, last_elected, last_attempt_by, last_attempt, attempted_by, attempted, decision_by, decision, has_voted, install_op, is_undecided, is_vote, logged_inc, logged_inc_by, ops_of_vote, state_of, table_by, table_of, voted_ops}
-use Rattle.e3_world.specs.Orderly.{is_among, is_free, is_known, weights_by, weights_in}
+use Rattle.e3_world.specs.Logs.{last_elected_by, last_attempt_by, attempted_by, attempted, decision_by, decision, install_op, is_undecided, is_vote, logged_inc_by, ops_of_vote, table_by, table_of}
+use Rattle.e3_world.specs.Orderly.{is_among, is_free, is_known, weights_by}
 use Rattle.e3_law_brief.specs.Alike.{ReadAlike}
 use Rattle.e3_law_brief.specs.Brief.{brief, born_by, born_in, inc_in, noted, open_ops, txns_of}
 use Rattle.e3_law_brief.specs.Orderly.{MayFollow, OrderlyAfter}
 use Rattle.e3_law_brief.proofs.Lists.{all_map, flat_alike, no_push}
 use Rattle.e3_law_brief.proofs.Locks.{free_alike, state_alike}
 use Rattle.e3_law_brief.proofs.Notes.{notes}
-use Rattle.e3_law_brief.proofs.Shape.{Said, ops_push, voted_push}
-use Rattle.e3_law_brief.proofs.Tables.{stays, table_push}
+use Rattle.e3_law_brief.proofs.Shape.{ops_push, voted_push}
+use Rattle.e3_law_brief.proofs.Tables.{table_push}
+use Rattle.e3_law_steps.proofs.Undecided.{stays}
 
 -- the same records may follow
 pub may_follow_alike : (site : ℕ) (a b : List Record) (r : Record) → ReadAlike a b → MayFollow site a r → MayFollow site b r

@@ -1,13 +1,11 @@
 -- The laws of briefs, put together.
-use Rattle.std.proofs.Common.{◌≡◌, ◌≢◌, ◌≤◌, ◌∷◌, [], ◌++◌, ℕ, suc, true, false, is_none, List, refl, sym, ap, subst, ◌∙◌, append_assoc, append-nil, arith}
+use Rattle.std.proofs.Common.{◌∷◌, [], ◌++◌, ℕ, is_none, List, sym, ap, subst, ◌∙◌, append_assoc, append-nil, arith}
 use Rattle.e3_types.specs.declared.records.Record.{Record}
 use Rattle.e3_types.specs.declared.records.Record.TheVariants as log
-use Rattle.e3_types.specs.declared.transactions.Txn.{Txn}
-use Rattle.e3_world.specs.Logs.{is_undecided, logged_inc, voted_ops}
 use Rattle.e3_world.specs.Orderly.{OrderlyAfter as OrderlyAfterFromOne, MayFollow as MayFollowFromOne}
 use Rattle.e3_law_brief.specs.Alike.{ReadAlike}
 use Rattle.e3_law_brief.specs.Brief.{brief}
-use Rattle.e3_law_brief.specs.Orderly.{MayFollow, OrderlyAfter, IsOrderly}
+use Rattle.e3_law_brief.specs.Orderly.{MayFollow, OrderlyAfter}
 use Rattle.e3_law_brief.specs.Laws.{BriefsAreBrief, BriefsGoOn, BriefsAreOrderly, BriefsReadAlike, SameBriefsReadAlike, AlikeHaveSameBrief, AlikeStandAlike, BriefsForget, BriefsAreNotEmpty, FirstLogsAreOrderly}
 use Rattle.e3_law_brief.proofs.Briefs.{brief_reads, forgotten, not_empty}
 use Rattle.e3_law_brief.proofs.Following.{brief_orderly}

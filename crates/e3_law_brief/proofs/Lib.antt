@@ -1,5 +1,4 @@
 pub mod Lists
-pub mod Txns
 pub mod Readings
 pub mod Shape
 pub mod Notes

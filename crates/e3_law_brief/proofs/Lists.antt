@@ -1,16 +1,8 @@
 -- Folds and filters over lists whose elements are alike.
-use Rattle.std.proofs.Common.{◌≡◌, ◌∷◌, [], ◌++◌, Bool, true, false, List, refl, sym, ap, ◌∙◌, fold, filter}
+use Rattle.std.proofs.Common.{◌≡◌, ◌∷◌, [], ◌++◌, Bool, true, false, List, refl, ap, ◌∙◌, fold, filter}
 use Rattle.std.specs.List.{flat_map, list_all, AllByRecursion as Each}
 use Rattle.std.proofs.lemmas.Bool.{and_parts, and_from}
 use Rattle.std.proofs.lemmas.Grind.{fold-append}
-
-pub each_append : {A : Type 0} (P : A → Type 0) (xs ys : List A) → Each P xs → Each P ys → Each P (xs ++ ys)
-each_append P [] ys first more = more
-each_append P (x ∷ xs) ys first more = (first.0, each_append P xs ys first.1 more)
-
-pub each_map : {A : Type 0} (P Q : A → Type 0) → ((x : A) → P x → Q x) → (xs : List A) → Each P xs → Each Q xs
-each_map P Q to [] each = tt
-each_map P Q to (x ∷ xs) each = (to x each.0, each_map P Q to xs each.1)
 
 -- all elements, or none, pass a test
 pub all_pass : {A : Type 0} (p : A → Bool) (xs : List A) → Each (λ x. p x ≡ true) xs → filter p xs ≡ xs

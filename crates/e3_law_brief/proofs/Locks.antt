@@ -1,5 +1,5 @@
 -- The locks by votes of logs that read alike.
-use Rattle.std.proofs.Common.{◌≡◌, ◌∷◌, [], ◌++◌, ◌||◌, ℕ, Bool, true, false, List, Option, Some, None, is_none, refl, sym, ap, subst, ◌∙◌, filter, map, if◌then◌else◌, cond}
+use Rattle.std.proofs.Common.{◌≡◌, ◌∷◌, [], ◌++◌, ◌||◌, ℕ, Bool, true, false, List, Option, Some, None, is_none, refl, sym, ap, subst, ◌∙◌, if◌then◌else◌}
 use Rattle.std.specs.Prelude.{not}
 use Rattle.std.specs.List.{flat_map, list_any, AllByRecursion as Each}
 use Rattle.std.proofs.lemmas.Bool.{true≢false, or_left, or_right}
@@ -18,8 +18,9 @@ use Rattle.e3_types.specs.Same.{same_txn, same_numbers}
 use Rattle.e3_world.specs.Logs.{attempted, decision, has_voted, is_undecided, key_of, lock_on, mode_of, ops_of_vote, state_of, vote_locks, voted_locks, voted_ops}
 use Rattle.e3_world.specs.Orderly.{is_free}
 use Rattle.e3_law_brief.specs.Alike.{ReadAlike, StandAlike, locks_by}
-use Rattle.e3_law_brief.proofs.Lists.{each_append, all_pass, none_pass}
-use Rattle.e3_law_brief.proofs.Txns.{same_is, same_self}
+use Rattle.e3_law_brief.proofs.Lists.{all_pass, none_pass}
+use Rattle.e3_law_steps.proofs.Each.{each-append}
+use Rattle.e3_law_steps.proofs.Tests.{same_is, same_self}
 
 -- the locks on a name that operations of a transaction take
 abbrev pub locks_for : List ℕ → Txn → List NumOp → List Lock
@@ -35,7 +36,7 @@ lock_pass name t u op b same = by (same_numbers name (key_of op).name) refl
 locks_pass : (name : List ℕ) (t u : Txn) (ops : List NumOp) (b : Bool) → same_txn t u ≡ b → Each (λ l. same_txn t l.txn ≡ b) (locks_for name u ops)
 locks_pass name t u [] b same = tt
 locks_pass name t u (o ∷ ops) b same =
-    each_append (λ l. same_txn t l.txn ≡ b) (lock_on name u o.op) (locks_for name u ops) (lock_pass name t u o.op b same) (locks_pass name t u ops b same)
+    each-append (λ l. same_txn t l.txn ≡ b) (lock_on name u o.op) (locks_for name u ops) (lock_pass name t u o.op b same) (locks_pass name t u ops b same)
 
 no_locks : (name : List ℕ) (t : Txn) (b : Bool) → [] ≡ (if b then locks_for name t [] else [])
 no_locks name t true = refl

@@ -1,8 +1,8 @@
 -- What the notes of a transaction say of it.
-use Rattle.std.proofs.Common.{◌≡◌, ◌≢◌, ◌≤◌, ◌∷◌, [], ◌++◌, ◌||◌, max, ℕ, Bool, true, false, List, Option, Some, None, refl, sym, ap, subst, ◌∙◌, fold, append-nil, if◌then◌else◌, arith}
+use Rattle.std.proofs.Common.{◌≡◌, ◌≢◌, ◌≤◌, ◌∷◌, [], ◌++◌, ◌||◌, max, ℕ, Bool, true, false, List, Option, Some, None, refl, sym, ap, ◌∙◌, fold, append-nil, if◌then◌else◌, arith}
 use Rattle.std.specs.Prelude.{nat_lt, nat_le}
 use Rattle.std.specs.List.{flat_map, list_any, list_all, AllByRecursion as Each}
-use Rattle.std.proofs.lemmas.Bool.{ltb-true, ltb-false, or_from, true≢false}
+use Rattle.std.proofs.lemmas.Bool.{ltb-true, ltb-false, or_from}
 use Rattle.std.proofs.lemmas.Grind.{flat_map-append}
 use Rattle.std.proofs.lemmas.List.Folds.{list_any-append}
 use Rattle.e3_types.specs.declared.records.Record.{Record}
@@ -11,14 +11,14 @@ use Rattle.e3_types.specs.declared.transactions.Dir.{Dir}
 use Rattle.e3_types.specs.declared.transactions.NumOp.{NumOp}
 use Rattle.e3_types.specs.declared.transactions.Txn.{Txn}
 use Rattle.e3_types.specs.Same.{same_txn}
-use Rattle.e3_world.specs.Items.{txn_of_record}
 use Rattle.e3_world.specs.Logs.{last_elected_by, last_elected, last_attempt_by, last_attempt, attempted_by, attempted, decision_by, decision, is_vote, has_voted, ops_of_vote, voted_ops, is_undecided}
 use Rattle.e3_world.specs.Orderly.{ops_ascend}
-use Rattle.e3_law_brief.specs.Brief.{vote_in, attempt_in, join_in, decision_in, open_ops, noted}
-use Rattle.e3_law_brief.proofs.Lists.{each_append, fold_four}
-use Rattle.e3_law_brief.proofs.Readings.{is_of, own_of}
+use Rattle.e3_law_brief.specs.Brief.{vote_in, attempt_in, join_in, decision_in, open_ops}
+use Rattle.e3_law_brief.proofs.Lists.{fold_four}
+use Rattle.e3_law_brief.proofs.Readings.{is_of}
 use Rattle.e3_law_brief.proofs.Shape.{Said, said_of, Fit, Heard}
-use Rattle.e3_law_brief.proofs.Txns.{same_self, same_is}
+use Rattle.e3_law_steps.proofs.Each.{each-append}
+use Rattle.e3_law_steps.proofs.Tests.{same_self}
 
 -- the notes of what is said
 abbrev pub notes : Txn → Said → List Record
@@ -36,8 +36,8 @@ behind_vote t s = attempt_in t s.attempted s.attempt ++ (join_in t s.attempt s.e
 each_behind : (P : Record → Type 0) (t : Txn) (s : Said) → ((n : ℕ) → P (log.Join t n)) → ((n : ℕ) (dir : Dir) → P (log.Attempt t n dir))
     → ((dir : Dir) → s.decided ≡ Some dir → P (log.Decision t dir)) → Each P (behind_vote t s)
 each_behind P t s join attempt decide =
-    each_append P (attempt_in t s.attempted s.attempt) (join_in t s.attempt s.elected ++ decision_in t s.decided) (tries s.attempted)
-    (each_append P (join_in t s.attempt s.elected) (decision_in t s.decided) (joins (nat_lt (max 1 s.attempt) s.elected) refl) (decides s.decided decide))
+    each-append P (attempt_in t s.attempted s.attempt) (join_in t s.attempt s.elected ++ decision_in t s.decided) (tries s.attempted)
+    (each-append P (join_in t s.attempt s.elected) (decision_in t s.decided) (joins (nat_lt (max 1 s.attempt) s.elected) refl) (decides s.decided decide))
   where
     tried : (dir : Dir) (b : Bool) → nat_lt 1 s.attempt ≡ b → Each P (attempt_in t (Some dir) s.attempt)
     tried dir true is = rw is (join s.attempt, (attempt s.attempt dir, tt))
@@ -58,7 +58,7 @@ each_behind P t s join attempt decide =
 pub each_note : (P : Record → Type 0) (t : Txn) (s : Said) → ((ops : List NumOp) → P (log.Vote t ops)) → ((n : ℕ) → P (log.Join t n)) → ((n : ℕ) (dir : Dir) → P (log.Attempt t n dir))
     → ((dir : Dir) → s.decided ≡ Some dir → P (log.Decision t dir)) → Each P (notes t s)
 each_note P t s vote join attempt decide =
-    each_append P (vote_in t s.voted s.ops) (behind_vote t s) (votes s.voted) (each_behind P t s join attempt decide)
+    each-append P (vote_in t s.voted s.ops) (behind_vote t s) (votes s.voted) (each_behind P t s join attempt decide)
   where
     votes : (v : Bool) → Each P (vote_in t v s.ops)
     votes true = (vote s.ops, tt)

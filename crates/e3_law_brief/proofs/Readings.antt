@@ -6,13 +6,13 @@ use Rattle.std.proofs.lemmas.List.Elements.{filter-append}
 use Rattle.e3_types.specs.declared.records.Record.{Record}
 use Rattle.e3_types.specs.declared.records.Record.TheVariants as log
 use Rattle.e3_types.specs.declared.transactions.Dir.{Dir}
-use Rattle.e3_types.specs.declared.transactions.NumOp.{NumOp}
 use Rattle.e3_types.specs.declared.transactions.Txn.{Txn}
 use Rattle.e3_types.specs.Same.{same_txn}
 use Rattle.e3_world.specs.Items.{txn_of_record}
 use Rattle.e3_world.specs.Logs.{last_elected_by, last_elected, last_attempt_by, last_attempt, attempted_by, attempted, decision_by, decision, is_vote, has_voted, ops_of_vote, voted_ops}
 use Rattle.e3_law_brief.proofs.Lists.{all_pass, none_pass}
-use Rattle.e3_law_brief.proofs.Txns.{IsLater, Ascends, same_is, off_later}
+use Rattle.e3_law_steps.proofs.Ascending.{Ascends, off_later}
+use Rattle.e3_law_steps.proofs.Tests.{same_is}
 
 -- the record is of this transaction
 abbrev pub is_of : Txn → Record → Bool

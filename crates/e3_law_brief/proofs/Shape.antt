@@ -1,6 +1,6 @@
 -- What an orderly log says of a transaction hangs together.
-use Rattle.std.proofs.Common.{◌≡◌, ◌≢◌, ◌≤◌, ◌<◌, ◌∷◌, [], ◌++◌, ◌||◌, ◌&&◌, max, ℕ, suc, nat_le, Bool, true, false, List, Option, Some, None, is_none, inl, inr, refl, sym, ap, subst, ◌∙◌, append-nil, append_assoc, if◌then◌else◌, arith}
-use Rattle.std.specs.List.{flat_map, list_any, list_all}
+use Rattle.std.proofs.Common.{◌≡◌, ◌≢◌, ◌≤◌, ◌<◌, ◌∷◌, [], ◌++◌, ◌||◌, max, ℕ, nat_le, Bool, true, false, List, Option, Some, None, is_none, inl, inr, refl, sym, ap, subst, ◌∙◌, append-nil, append_assoc, if◌then◌else◌, arith}
+use Rattle.std.specs.List.{list_all}
 use Rattle.std.proofs.lemmas.Bool.{cases_lt, and_parts, and_from, or_right, le-leb, leb-true, true≢false}
 use Rattle.std.proofs.lemmas.Grind.{fold-append, flat_map-append}
 use Rattle.std.proofs.lemmas.List.Elements.{filter-append}
@@ -13,11 +13,11 @@ use Rattle.e3_types.specs.declared.transactions.NumOp.{NumOp}
 use Rattle.e3_types.specs.declared.transactions.State.TheVariants.{Q}
 use Rattle.e3_types.specs.declared.transactions.Txn.{Txn}
 use Rattle.e3_types.specs.Same.{same_txn}
-use Rattle.e3_world.specs.Logs.{last_elected_by, last_elected, last_attempt_by, last_attempt, attempted_by, attempted, decision_by, decision, is_vote, has_voted, ops_of_vote, voted_ops, state_of, is_undecided, logged_inc, logged_inc_by}
+use Rattle.e3_world.specs.Logs.{last_elected_by, last_elected, last_attempt_by, last_attempt, attempted_by, attempted, decision_by, decision, is_vote, has_voted, ops_of_vote, voted_ops, state_of, logged_inc, logged_inc_by}
 use Rattle.e3_world.specs.Orderly.{is_among, is_known, ops_ascend, weights_by, weights_in}
 use Rattle.e3_law_brief.specs.Orderly.{MayFollow, OrderlyAfter, IsOrderly}
-use Rattle.e3_law_brief.proofs.Txns.{same_is}
 use Rattle.e3_law_brief.proofs.Readings.{is_of, own_of, elected_leaves, attempt_leaves, attempted_leaves, decision_leaves, vote_leaves, ops_leaves}
+use Rattle.e3_law_steps.proofs.Tests.{or_false, same_is}
 
 -- what a log says of a transaction
 pub record Said : Type 0 where
@@ -48,10 +48,6 @@ said_with t s r = record {
   elected = last_elected_by t s.elected r;
   decided = decision_by t s.decided r;
 }
-
-or_false : (b : Bool) → (b || false) ≡ b
-or_false true = refl
-or_false false = refl
 
 pub voted_push : (t : Txn) (l : List Record) (r : Record) → has_voted t (l ++ r ∷ []) ≡ (has_voted t l || is_vote t r)
 voted_push t l r = list_any-append (is_vote t) l (r ∷ []) ∙ ap (λ b. has_voted t l || b) (or_false (is_vote t r))

@@ -1,40 +1,33 @@
 -- The brief of an orderly log is orderly.
-use Rattle.std.proofs.Common.{◌≡◌, ◌≢◌, ◌≤◌, ◌<◌, ◌∷◌, [], ◌++◌, ◌||◌, ◌&&◌, max, ℕ, suc, nat_le, Bool, true, false, cond, List, Option, Some, None, is_none, ◌⊎◌, inl, inr, refl, sym, ap, subst, ◌∙◌, fold, append_assoc, append-nil, if◌then◌else◌, arith}
-use Rattle.std.specs.Prelude.{nat_lt, not}
-use Rattle.std.specs.List.{flat_map, list_any, list_all, AllByRecursion as Each}
-use Rattle.std.proofs.lemmas.Bool.{ltb-true, ltb-false, le-ltb, or_parts, or_from, and_from, and_parts, not-true, not_from_false, true≢false}
-use Rattle.std.proofs.lemmas.Grind.{fold-append, flat_map-append}
-use Rattle.std.proofs.lemmas.List.Elements.{filter-append}
+use Rattle.std.proofs.Common.{◌≡◌, ◌≢◌, ◌∷◌, [], ◌++◌, ◌||◌, ◌&&◌, ℕ, Bool, true, false, cond, List, ◌⊎◌, inl, inr, refl, sym, ap, subst, ◌∙◌, append_assoc, append-nil, if◌then◌else◌}
+use Rattle.std.specs.Prelude.{not}
+use Rattle.std.specs.List.{list_any, list_all, AllByRecursion as Each}
+use Rattle.std.proofs.lemmas.Bool.{or_parts, or_from, and_from, and_parts, not-true, not_from_false, true≢false}
 use Rattle.std.proofs.lemmas.List.Folds.{list_any-append}
 use Rattle.e3_types.specs.declared.locks.Lock.{Lock}
 use Rattle.e3_types.specs.declared.locks.Mode.{Mode}
 use Rattle.e3_types.specs.declared.locks.Mode.TheVariants.{Shared, Exclusive}
 use Rattle.e3_types.specs.declared.records.Record.{Record}
 use Rattle.e3_types.specs.declared.records.Record.TheVariants as log
-use Rattle.e3_types.specs.declared.transactions.Dir.{Dir}
-use Rattle.e3_types.specs.declared.transactions.Dir.TheVariants.{Abort, Commit}
 use Rattle.e3_types.specs.declared.transactions.NumOp.{NumOp}
-use Rattle.e3_types.specs.declared.transactions.Row.{Row}
-use Rattle.e3_types.specs.declared.transactions.State.TheVariants.{Q}
 use Rattle.e3_types.specs.declared.transactions.Txn.{Txn}
 use Rattle.e3_types.specs.Locks.{conflicts, opposes}
 use Rattle.e3_types.specs.Same.{same_numbers, same_txn}
 use Rattle.e3_types.proofs.SameSites.{same_numbers_eq, same_numbers_refl}
-use Rattle.e3_world.specs.Items.{txn_of_record}
-use Rattle.e3_world.specs.Logs.{decision, has_voted, is_undecided, is_vote, key_of, last_elected, lock_on, logged_inc, logged_inc_by, ops_of_vote, state_of, table_of, voted_locks, voted_ops}
-use Rattle.e3_world.specs.Orderly.{is_free, is_known, weights_by, weights_in}
+use Rattle.e3_world.specs.Logs.{has_voted, is_undecided, key_of, lock_on, ops_of_vote, voted_locks, voted_ops}
+use Rattle.e3_world.specs.Orderly.{is_free}
 use Rattle.e3_law_brief.specs.Alike.{locks_by}
-use Rattle.e3_law_brief.specs.Brief.{brief, born_by, born_in, inc_in, vote_in, attempt_in, join_in, decision_in, noted, open_ops, txns_of}
+use Rattle.e3_law_brief.specs.Brief.{noted, open_ops}
 use Rattle.e3_law_brief.specs.Orderly.{MayFollow, OrderlyAfter, IsOrderly}
-use Rattle.e3_law_brief.proofs.Briefs.{unsaid, said_from, own_of_front, front, blocks, front_weights, front_inc, heard_txns}
+use Rattle.e3_law_brief.proofs.Briefs.{said_from, own_of_front, front}
 use Rattle.e3_law_brief.proofs.Going.{open_before}
-use Rattle.e3_law_brief.proofs.Lists.{each_append, each_map, fold_leaves, all_pass, no_push}
-use Rattle.e3_law_brief.proofs.Locks.{any_back, free_is, lock_of, locks_for, locks_own, none_by, state_alike, equal_tests}
-use Rattle.e3_law_brief.proofs.Notes.{notes, kept_of, each_note, notes_of, said_notes, kept_fit, open_cases}
-use Rattle.e3_law_brief.proofs.Readings.{is_of, own_of}
-use Rattle.e3_law_brief.proofs.Shape.{Said, said_of, Fit, Shape, shape_of, Quiet, quiet_from, known_parts, known_from, ops_push}
-use Rattle.e3_law_brief.proofs.Tables.{table_ascends}
-use Rattle.e3_law_brief.proofs.Txns.{IsLater, Ascends, ascends_fold, other_way, same_is, same_from, same_self}
+use Rattle.e3_law_brief.proofs.Locks.{any_back, free_is, lock_of, locks_for, locks_own, none_by, equal_tests}
+use Rattle.e3_law_brief.proofs.Notes.{kept_of, said_notes, kept_fit}
+use Rattle.e3_law_brief.proofs.Readings.{own_of}
+use Rattle.e3_law_brief.proofs.Shape.{Said, shape_of, Quiet, quiet_from, ops_push}
+use Rattle.e3_law_steps.proofs.Ascending.{Ascends, same_from}
+use Rattle.e3_law_steps.proofs.Each.{each-weaker}
+use Rattle.e3_law_steps.proofs.Tests.{same_is}
 
 pub orderly_append : (site : ℕ) (before xs ys : List Record) → OrderlyAfter site before xs → OrderlyAfter site (before ++ xs) ys → OrderlyAfter site before (xs ++ ys)
 orderly_append site before [] ys first more = subst (λ (l : List Record). OrderlyAfter site l ys) (append-nil before) more
@@ -77,8 +70,8 @@ hits_sym t o u p free = by (same_numbers (key_of p.op).name (key_of o.op).name) 
 each_swap : {A B : Type 0} (R S : A → B → Type 0) → ((x : A) (y : B) → R x y → S x y) → (xs : List A) (ys : List B) → Each (λ x. Each (λ y. R x y) ys) xs → Each (λ y. Each (λ x. S x y) xs) ys
 each_swap R S to xs [] each = tt
 each_swap R S to xs (y ∷ ys) each = (
-  each_map (λ x. Each (λ z. R x z) (y ∷ ys)) (λ x. S x y) (λ x h. to x y h.0) xs each,
-  each_swap R S to xs ys (each_map (λ x. Each (λ z. R x z) (y ∷ ys)) (λ x. Each (λ z. R x z) ys) (λ x h. h.1) xs each),
+  each-weaker (λ x. Each (λ z. R x z) (y ∷ ys)) (λ x. S x y) (λ x h. to x y h.0) xs each,
+  each_swap R S to xs ys (each-weaker (λ x. Each (λ z. R x z) (y ∷ ys)) (λ x. Each (λ z. R x z) ys) (λ x h. h.1) xs each),
 )
 
 apart_sym : (t : Txn) (xs : List NumOp) (u : Txn) (ys : List NumOp) → Apart t xs u ys → Apart u ys t xs

@@ -1,12 +1,6 @@
 -- The table of a log with one more record.
-use Rattle.std.proofs.Common.{◌≡◌, ◌∷◌, [], ◌++◌, ℕ, Bool, true, false, List, Option, Some, None, is_none, refl, sym, ap, subst, ◌∙◌, fold, append_assoc, append-nil, if◌then◌else◌}
-use Rattle.std.specs.declared.cmp.Ordering.{Ordering}
-use Rattle.std.specs.declared.cmp.Ordering.TheVariants.{Less, Equal, Greater}
-use Rattle.std.specs.Ordering.{nat_cmp, match_ordering, ordering_reverse}
-use Rattle.std.specs.Cmp.Lexicographic.{slice_cmp}
+use Rattle.std.proofs.Common.{◌≡◌, ◌∷◌, [], ◌++◌, ℕ, true, false, List, Option, Some, None, is_none, refl, sym, ap, subst, ◌∙◌, fold, append_assoc, append-nil, if◌then◌else◌}
 use Rattle.std.specs.List.{AllByRecursion as Each}
-use Rattle.std.proofs.lemmas.Bool.{and_from, and_parts}
-use Rattle.std.proofs.lemmas.Cmp.{nat_list_cmp_total}
 use Rattle.std.proofs.lemmas.Grind.{fold-append}
 use Rattle.e3_types.specs.declared.records.Record.{Record}
 use Rattle.e3_types.specs.declared.records.Record.TheVariants as log
@@ -16,29 +10,18 @@ use Rattle.e3_types.specs.declared.transactions.NumOp.{NumOp}
 use Rattle.e3_types.specs.declared.transactions.Op.{Op}
 use Rattle.e3_types.specs.declared.transactions.Op.TheVariants.{Read, Write}
 use Rattle.e3_types.specs.declared.transactions.Row.{Row}
-use Rattle.e3_types.specs.declared.transactions.State.TheVariants.{Q}
 use Rattle.e3_types.specs.declared.transactions.Txn.{Txn}
 use Rattle.e3_types.specs.Same.{same_txn}
-use Rattle.e3_world.specs.Logs.{decision, decision_by, install_op, is_undecided, ops_of_vote, set_row, table_by, table_of, voted_ops}
+use Rattle.e3_world.specs.Logs.{decision, decision_by, install_op, is_undecided, ops_of_vote, table_by, table_of, voted_ops}
 use Rattle.e3_world.specs.Orderly.{names_ascend}
 use Rattle.e3_law_brief.specs.Orderly.{MayFollow, OrderlyAfter, IsOrderly}
-use Rattle.e3_law_brief.proofs.Lists.{each_map, fold_alike}
+use Rattle.e3_law_brief.proofs.Lists.{fold_alike}
 use Rattle.e3_law_brief.proofs.Shape.{ops_push, quiet_from, Quiet}
-use Rattle.e3_law_brief.proofs.Txns.{apart, other_way, same_self}
-
--- a decision stays
-pub stays : (t : Txn) (d : Dir) (l : List Record) → is_none (fold (decision_by t) (Some d) l) ≡ false
-stays t d [] = refl
-stays t d (log.Birth format site weights rows ∷ l) = stays t d l
-stays t d (log.Inc n ∷ l) = stays t d l
-stays t d (log.Vote u ops ∷ l) = stays t d l
-stays t d (log.Join u n ∷ l) = stays t d l
-stays t d (log.Attempt u n dir ∷ l) = stays t d l
-stays t d (log.Decision u e ∷ l) = by (λ x. stays t x l) (same_txn t u) refl
-  where
-    by : ((x : Dir) → is_none (fold (decision_by t) (Some x) l) ≡ false) → (b : Bool) → same_txn t u ≡ b → is_none (fold (decision_by t) (Some d) (log.Decision u e ∷ l)) ≡ false
-    by more true is = rw is (more e)
-    by more false is = rw is (more d)
+use Rattle.e3_law_steps.proofs.Ascending.{apart, other_way}
+use Rattle.e3_law_steps.proofs.Each.{each-weaker}
+use Rattle.e3_law_steps.proofs.Tests.{same_self}
+use Rattle.e3_law_steps.proofs.Rows.{set_ascends}
+use Rattle.e3_law_steps.proofs.Undecided.{stays}
 
 -- each decision of a log is of a transaction that it decides
 abbrev DecidedIn : List Record → Record → Type 0
@@ -102,44 +85,8 @@ table_push site l r may =
     fold-append (table_by (l ++ r ∷ [])) [] l (r ∷ [])
     ∙ ap (λ (rows : List Row). table_by (l ++ r ∷ []) rows r)
     (fold_alike (table_by (l ++ r ∷ [])) (table_by l) l
-    (each_map (DecidedIn l) (λ x. (rows : List Row) → table_by (l ++ r ∷ []) rows x ≡ table_by l rows x) (table_step l r (steady site l r may)) l (each_decided [] l)) [])
+    (each-weaker (DecidedIn l) (λ x. (rows : List Row) → table_by (l ++ r ∷ []) rows x ≡ table_by l rows x) (table_step l r (steady site l r may)) l (each_decided [] l)) [])
     ∙ last_step l r (table_of l)
-
--- rows that are set one by one ascend
-abbrev order : Row → Row → Ordering
-order a b = slice_cmp nat_cmp a.name b.name
-
-set_behind : (row new : Row) (rows : List Row) → order row new ≡ Less → names_ascend (row ∷ rows) ≡ true → names_ascend (set_row new rows) ≡ true →
-    names_ascend (row ∷ set_row new rows) ≡ true
-set_behind row new [] less up set = rw less refl
-set_behind row new (next ∷ more) less up set = by (order new next) refl
-  where
-    by : (o : Ordering) → order new next ≡ o → names_ascend (row ∷ set_row new (next ∷ more)) ≡ true
-    by Less is = rw (is, less) (rw is at set)
-    by Equal is = rw (is, less) (rw is at set)
-    by Greater is =
-        let first = and_parts (match_ordering (order row next) true false false) (names_ascend (next ∷ more)) up in
-        rw is (and_from _ _ first.0 (rw is at set))
-
-set_ascends : (new : Row) (rows : List Row) → names_ascend rows ≡ true → names_ascend (set_row new rows) ≡ true
-set_ascends new [] up = refl
-set_ascends new (row ∷ rows) up = by (set_ascends new rows (rest rows up)) (order new row) refl
-  where
-    rest : (l : List Row) → names_ascend (row ∷ l) ≡ true → names_ascend l ≡ true
-    rest [] h = refl
-    rest (next ∷ more) h = (and_parts _ _ h).1
-
-    tied : (l : List Row) → order new row ≡ Equal → names_ascend (row ∷ l) ≡ true → names_ascend (new ∷ l) ≡ true
-    tied [] is h = refl
-    tied (next ∷ more) is h =
-        let same : order new next ≡ order row next = nat_list_cmp_total.congr new.name row.name next.name is in rw same h
-
-    by : names_ascend (set_row new rows) ≡ true → (o : Ordering) → order new row ≡ o → names_ascend (set_row new (row ∷ rows)) ≡ true
-    by set Less is = rw (is, is) up
-    by set Equal is = rw is (tied rows is up)
-    by set Greater is =
-        let less : order row new ≡ Less = nat_list_cmp_total.antisymm row.name new.name ∙ ap ordering_reverse is in
-        rw is (set_behind row new rows less up set)
 
 install_ascends : (op : NumOp) (rows : List Row) → names_ascend rows ≡ true → names_ascend (install_op rows op) ≡ true
 install_ascends op rows up = by op.op refl

@@ -37,9 +37,8 @@ use Rattle.e3_world.proofs.Turns.{self}
 use Rattle.e3_net.specs.declared.waiting.Waiting.{Waiting}
 use Rattle.e3_net.specs.Stands.{waiting_of}
 use Rattle.e3_net.proofs.Pushing.{pending_waits}
-use Rattle.e3_law_numbers.proofs.Moving.{place, place_log}
-use Rattle.e3_law_rounds.proofs.Delivering.{same_self}
-use Rattle.e3_law_rounds.proofs.Rows.{mail, makes}
+use Rattle.e3_law_steps.proofs.Moving.{place, place_log}
+use Rattle.e3_law_rounds.proofs.Phases.Rows.{mail, makes}
 use Rattle.e3_law_commit.specs.Commits.{expected_of, may_vote, place_of}
 use Rattle.e3_law_commit.proofs.Beside.{Still, other_told}
 use Rattle.e3_law_commit.proofs.Effects.{OnceOnly, Stepped, comes, shapes_on, stepped, weight_on}
@@ -50,6 +49,7 @@ use Rattle.e3_law_commit.proofs.Shapes.{asks, is_shaped, other_shape, rest_of, w
 use Rattle.e3_law_commit.proofs.Sites.{asks_of}
 use Rattle.e3_law_commit.proofs.Stages.{Carries, Ground, Ready, Stage, carries_other, steps_at, votes_on, weight}
 use Rattle.e3_law_commit.proofs.Turns.{apart, member_of, turn_round}
+use Rattle.e3_law_steps.proofs.Tests.{same_self}
 
 -- the request to a site
 abbrev pub request : Txn → (ℕ → Expected) → ℕ → Packet

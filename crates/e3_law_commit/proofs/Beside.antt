@@ -1,10 +1,8 @@
 -- What a step leaves of a transaction beside what its rule makes: answers to operations of other transactions alone, as none of
 -- its own waits.
-use Rattle.std.proofs.Common.{◌≡◌, ◌==◌, ◌&&◌, ◌||◌, ◌∷◌, ◌++◌, [], ℕ, zero, suc, Bool, true, false, not, List, None, refl, ap, sym, subst, ◌∙◌, append-nil, append_assoc, if◌then◌else◌, fold, length, drop, eq-eqb, eqb-true, true≢false, arith, filter, inl, inr}
+use Rattle.std.proofs.Common.{◌≡◌, ◌==◌, ◌&&◌, ◌∷◌, ◌++◌, [], ℕ, zero, suc, Bool, true, false, not, List, None, refl, ap, sym, subst, ◌∙◌, append-nil, append_assoc, if◌then◌else◌, fold, length, drop, true≢false, filter, inl, inr}
 use Rattle.std.specs.List.{list_all, list_any, flat_map}
-use Rattle.std.proofs.lemmas.Grind.{common_steps}
-use Rattle.std.proofs.lemmas.Bool.{and_parts}
-use Rattle.std.proofs.lemmas.List.Folds.{list_all-append}
+use Rattle.std.proofs.lemmas.Bool.{and_parts, and_from, not_from_false}
 use Rattle.e3_types.specs.declared.entries.Input.{Input}
 use Rattle.e3_types.specs.declared.entries.Input.TheVariants as input
 use Rattle.e3_types.specs.declared.entries.Told.{Told}
@@ -16,23 +14,23 @@ use Rattle.e3_types.specs.declared.records.Record.{Record}
 use Rattle.e3_types.specs.declared.transactions.Answer.{Answer}
 use Rattle.e3_types.specs.declared.transactions.Txn.{Txn}
 use Rattle.e3_types.specs.Same.{same_txn}
-use Rattle.e3_types.proofs.SameSites.{same_numbers_eq}
 use Rattle.e3_world.specs.declared.lives.Asked.{Asked}
 use Rattle.e3_world.specs.declared.lives.At.{At}
-use Rattle.e3_world.specs.declared.lives.Expected.{Expected}
 use Rattle.e3_world.specs.declared.lives.Made.{Made}
 use Rattle.e3_world.specs.declared.lives.Moment.{Moment}
-use Rattle.e3_world.specs.declared.lives.Performed.{Performed}
 use Rattle.e3_world.specs.Logs.{is_undecided}
 use Rattle.e3_world.specs.Making.{nothing, is_coordinator, is_present, log_now, open_now, steps_now, and_grant, and_grants, and_send, and_tell, answer_now, decides, grants_after}
-use Rattle.e3_world.specs.Operations.{and_arrived, arrivals, done, expected, is_answered, performed_by, taken_up, waiting}
+use Rattle.e3_world.specs.Operations.{and_arrived, arrivals, done, is_answered, performed_by, taken_up, waiting}
 use Rattle.e3_world.specs.Steps.{handled, on_input, settle, step_at}
 use Rattle.e3_world.proofs.Turns.{self}
-use Rattle.e3_law_serial.proofs.Entries.{In}
-use Rattle.e3_law_serial.proofs.Arrivals.{answered_more, arrivals_push, performed_more}
-use Rattle.e3_law_serial.proofs.Steadying.{any_in, in_any}
-use Rattle.e3_law_serial.proofs.Stepping.{granted_waits, waits_parts}
+use Rattle.e3_law_serial.proofs.Lists.Entries.{In}
+use Rattle.e3_law_serial.proofs.Step.Arrivals.{answered_more, arrivals_push, performed_more}
+use Rattle.e3_law_serial.proofs.Step.Steadying.{any_in, in_any}
+use Rattle.e3_law_serial.proofs.Step.Stepping.{granted_waits, waits_parts}
 use Rattle.e3_law_rounds.proofs.Tail.{decided_more}
+use Rattle.e3_law_steps.proofs.Tests.{same_is}
+use Rattle.e3_law_steps.proofs.Lists.{one_more}
+use Rattle.e3_law_steps.proofs.Deciding.{present, no_grants}
 
 -- the message is an answer or a decision of another transaction
 abbrev pub is_other : Txn → Message → Bool
@@ -65,9 +63,6 @@ pub record Beside (t : Txn) (a : At) (was made : Made) : Type 0 where
   pub told : made.told ≡ was.told ++ ops
   pub tell_others : list_all (other_told t) ops ≡ true
   pub own : list_all (own_other t a.life.inc) made.own ≡ true
-
-one_more : {X : Type 0} (p : X → Bool) (xs : List X) (x : X) → list_all p xs ≡ true → p x ≡ true → list_all p (xs ++ x ∷ []) ≡ true
-one_more p xs x all this = rw (list_all-append, all, this) refl
 
 beside_send : (t : Txn) (a : At) (was made : Made) (to : ℕ) (u : Txn) (n : ℕ) (answer : Answer) → not (same_txn t u) ≡ true → Beside t a was made →
     Beside t a was (and_send a to (msg.Done u n a.life.inc answer) made)
@@ -128,32 +123,6 @@ beside_grants t a was seen made free f = by (list_any decides (drop seen made.re
     by : (b : Bool) → list_any decides (drop seen made.records) ≡ b → Beside t a was (and_grants a seen made)
     by true is = rw is (beside_granted t a was (grants_after a made) made free f)
     by false is = rw is f
-
-both_ways : (n m : ℕ) → (n == m) ≡ true → (m == n) ≡ true
-both_ways n m is = eq-eqb m n (sym (eqb-true n m is))
-
-or_true : (b : Bool) → (b || true) ≡ true
-or_true true = refl
-or_true false = refl
-
-present : (a : At) (t : Txn) (inc : ℕ) → (inc == a.life.inc) ≡ true →
-    ((expected a.site a.life.inc t a.life.steps a.site).count == 0 || (expected a.site a.life.inc t a.life.steps a.site).inc == inc) ≡ true
-present a t inc is = rw (self a.site) (by (done a.site t a.life.steps) refl)
-  where
-    own_answers : List Performed → Expected
-    own_answers [] = record { inc = 0; count = 0 }
-    own_answers (p ∷ ps) = record { inc = a.life.inc; count = length (p ∷ ps) }
-
-    by : (ps : List Performed) → done a.site t a.life.steps ≡ ps → ((own_answers ps).count == 0 || (own_answers ps).inc == inc) ≡ true
-    by [] none = refl
-    by (p ∷ ps) some = rw (both_ways inc a.life.inc is) (or_true (length (p ∷ ps) == 0))
-
-dropped : {X : Type 0} (xs : List X) → drop (length xs) xs ≡ []
-dropped [] = refl
-dropped (x ∷ xs) = dropped xs
-
-no_grants : (a : At) (made now : Made) → now.records ≡ made.records → and_grants a (length made.records) now ≡ now
-no_grants a made now same = rw (same, dropped made.records) refl
 
 beside_done : (t : Txn) (a : At) (was made : Made) (u : Txn) (n inc : ℕ) (answer : Answer) → (inc == a.life.inc) ≡ true → not (same_txn t u) ≡ true → Beside t a was made →
     Beside t a was (handled a made (msg.Done u n inc answer))
@@ -251,11 +220,6 @@ taken_none site steps m brings = by m.input refl brings
 pub same_arrivals : (site : ℕ) (steps : List Moment) (m : Moment) → brings_none m.input ≡ true → arrivals site (steps ++ m ∷ []) ≡ arrivals site steps
 same_arrivals site steps m brings = arrivals_push site steps m ∙ ap (and_arrived (arrivals site steps) m) (taken_none site steps m brings)
 
-pub same_is : (t u : Txn) → same_txn t u ≡ true → t ≡ u
-same_is t u e =
-    let sites = same_numbers_eq t.sites u.sites in
-    grind (arith, common_steps, sites, e)
-
 filtered : {X : Type 0} (p : X → Bool) (xs : List X) (x : X) → In x xs → p x ≡ true → In x (filter p xs)
 filtered p [] x h is = absurd h
 filtered p (y ∷ xs) x h is = by (p y) refl h (λ k. filtered p xs x k is)
@@ -270,15 +234,6 @@ not_both : (b : Bool) → (b ≡ true → ⊥) → b ≡ false
 not_both true brings = absurd (brings refl)
 not_both false brings = refl
 
-both : (a b : Bool) → a ≡ true → b ≡ true → (a && b) ≡ true
-both true true x y = refl
-both true false x y = absurd cc
-both false b x y = absurd cc
-
-flipped : (b : Bool) → b ≡ false → not b ≡ true
-flipped true is = absurd cc
-flipped false is = refl
-
 -- a step that brings no operation leaves it so
 pub still_push : (t : Txn) (site : ℕ) (l rs : List Record) (steps : List Moment) (m : Moment) → brings_none m.input ≡ true → Still t site l steps → Still t site (l ++ rs) (steps ++ m ∷ [])
 still_push t site l rs steps m brings was = not_both (list_any (λ q. same_txn t q.txn) (waiting site (l ++ rs) (steps ++ m ∷ []))) none
@@ -291,7 +246,7 @@ still_push t site l rs steps m brings was = not_both (list_any (λ q. same_txn t
         let unanswered : is_answered steps q.0 ≡ false = not_both (is_answered steps q.0) (λ holds. true≢false (sym (answered_more steps m q.0 holds) ∙ parts.2)) in
         let open_then : is_undecided q.0.txn l ≡ true = open_before q.0.txn (is_undecided q.0.txn l) refl parts.1 in
         let waits : In q.0 (waiting site l steps) = filtered (λ (a : Asked). is_undecided a.txn l && not (is_answered steps a)) (arrivals site steps) q.0 came
-        (both (is_undecided q.0.txn l) (not (is_answered steps q.0)) open_then (flipped (is_answered steps q.0) unanswered)) in
+        (and_from (is_undecided q.0.txn l) (not (is_answered steps q.0)) open_then (not_from_false (is_answered steps q.0) unanswered)) in
         true≢false (sym (in_any (λ (q : Asked). same_txn t q.txn) (waiting site l steps) q.0 waits q.2) ∙ was)
       where
         open_before : (u : Txn) (b : Bool) → is_undecided u l ≡ b → is_undecided u (l ++ rs) ≡ true → is_undecided u l ≡ true
@@ -307,7 +262,7 @@ free_grants t a made brings was = all_others (grants_after a made) (λ q k. not_
 
     all_others : (qs : List Asked) → ((q : Asked) → In q qs → same_txn t q.txn ≡ false) → list_all (other_asked t) qs ≡ true
     all_others [] each = refl
-    all_others (q ∷ qs) each = both (other_asked t q) (list_all (other_asked t) qs) (flipped (same_txn t q.txn) (each q (inl refl))) (all_others qs (λ x k. each x (inr k)))
+    all_others (q ∷ qs) each = and_from (other_asked t q) (list_all (other_asked t) qs) (not_from_false (same_txn t q.txn) (each q (inl refl))) (all_others qs (λ x k. each x (inr k)))
 
 -- a step of a site where none of its operations waits, and that brings none
 pub step_of_site : (t : Txn) (a : At) (made : Made) → on_input a a.input nothing ≡ made → made.own ≡ [] → brings_none a.input ≡ true → Still t a.site a.life.log a.life.steps →
@@ -329,7 +284,7 @@ done_push t site l steps m brings was undecided =
         by false is = absurd (
             let open_q : is_undecided q.txn l ≡ true = subst (λ (u : Txn). is_undecided u l ≡ true) (same_is t q.txn same) undecided in
             let waits : In q (waiting site l steps) = filtered (λ (a : Asked). is_undecided a.txn l && not (is_answered steps a)) (arrivals site steps) q k
-            (both (is_undecided q.txn l) (not (is_answered steps q)) open_q (flipped (is_answered steps q) is)) in
+            (and_from (is_undecided q.txn l) (not (is_answered steps q)) open_q (not_from_false (is_answered steps q) is)) in
             true≢false (sym (in_any (λ (q : Asked). same_txn t q.txn) (waiting site l steps) q waits same) ∙ was))
 
     same_all : (qs : List Asked) → ((q : Asked) → In q qs → In q (arrivals site steps)) →

@@ -22,13 +22,14 @@ use Rattle.e3_world.specs.Steps.{on_input}
 use Rattle.e3_net.specs.Stands.{waiting_of}
 use Rattle.e3_net.proofs.Pushing.{taken_push}
 use Rattle.e3_law_protocol.specs.Logs.{IsIn}
-use Rattle.e3_law_numbers.proofs.Gathering.{life_on, moment_of}
-use Rattle.e3_law_numbers.proofs.Moving.{log_on, place, place_log}
+use Rattle.e3_law_rounds.proofs.Deliveries.Gathering.{life_on, moment_of}
+use Rattle.e3_law_steps.proofs.Moving.{log_on, place, place_log}
 use Rattle.e3_law_rounds.specs.Queues.{IsCounted}
-use Rattle.e3_law_rounds.proofs.Tail.{both_all, pending_all}
+use Rattle.e3_law_rounds.proofs.Tail.{pending_all}
 use Rattle.e3_law_commit.specs.Commits.{is_once, is_packet_of}
 use Rattle.e3_law_commit.proofs.Beside.{Beside, Still, brings_none, other_packet, step_of_site, still_push}
 use Rattle.e3_law_commit.proofs.Packets.{another, load, load_off, load_on, numbered_low, pending_new, pending_stays, total}
+use Rattle.e3_law_steps.proofs.Lists.{both_all}
 
 -- the packets of the transaction among these have one copy each
 abbrev pub OnceOnly : Scenario → Txn → List Entry → Entry → Type 0

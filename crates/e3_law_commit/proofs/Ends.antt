@@ -1,7 +1,7 @@
 -- The walk from behind the Commit to the end of the step, and what stands there.
 use Rattle.std.proofs.Common.{◌≡◌, ◌==◌, ◌&&◌, ◌||◌, ◌+◌, ◌≤◌, ◌∷◌, ◌++◌, [], ℕ, zero, suc, Bool, true, false, not, List, Some, None, refl, ap, sym, subst, ◌∙◌, append-nil, append_assoc, length, eqb-true, true≢false, arith, inl, inr, count_by, filter_map, slice_get}
 use Rattle.std.specs.List.{list_all, list_any}
-use Rattle.std.proofs.lemmas.Bool.{and_parts}
+use Rattle.std.proofs.lemmas.Bool.{and_parts, or_parts}
 use Rattle.std.proofs.lemmas.List.Sums.{sum_by-append}
 use Rattle.e3_types.specs.declared.entries.Act.{Act}
 use Rattle.e3_types.specs.declared.entries.Act.TheVariants.{Step, Fall, Rise, RiseFall, Miss, Cut, Drop, Parts, Line}
@@ -31,12 +31,11 @@ use Rattle.e3_law_protocol.specs.Logs.{IsIn}
 use Rattle.e3_law_refinement.proofs.Following.{in_from_contains}
 use Rattle.e3_law_refinement.proofs.Lists.{in_left}
 use Rattle.e3_law_refinement.proofs.Voting.{contains_from_in}
-use Rattle.e3_law_trails.proofs.Laws.{was_sent}
-use Rattle.e3_law_numbers.proofs.Gathering.{life_on, moment_of}
-use Rattle.e3_law_numbers.proofs.Moving.{log_on, moves_still}
-use Rattle.e3_law_rounds.proofs.Counted.{is_counted}
-use Rattle.e3_law_rounds.proofs.Forced.{some_line}
-use Rattle.e3_law_rounds.proofs.Tail.{items_on, or_parts}
+use Rattle.e3_law_trails.proofs.Suits.Laws.{was_sent}
+use Rattle.e3_law_rounds.proofs.Deliveries.Gathering.{life_on, moment_of}
+use Rattle.e3_law_steps.proofs.Moving.{log_on, moves_still}
+use Rattle.e3_law_rounds.proofs.Deliveries.Counted.{is_counted}
+use Rattle.e3_law_rounds.proofs.Deliveries.Forced.{some_line}
 use Rattle.e3_law_commit.specs.Commits.{all_once, falls_at, is_entry_of, is_once, is_packet_of}
 use Rattle.e3_law_commit.proofs.Beside.{Still, brings_none, other_packet, still_push}
 use Rattle.e3_law_commit.proofs.Others.{stage_on, one_in}
@@ -52,6 +51,7 @@ use Rattle.e3_world.specs.Progress.{up_behind}
 use Rattle.e3_world.proofs.Guards.{up_some}
 use Rattle.e3_law_commit.proofs.Turns.{Turn}
 use Rattle.e3_law_commit.proofs.Walk.{Behind, delivered, drop_idle, fall_idle, goes_to}
+use Rattle.e3_law_rounds.proofs.Deliveries.Walking.{items_on}
 
 -- no site has an item left
 abbrev pub NoItems : Scenario → List Entry → Type 0

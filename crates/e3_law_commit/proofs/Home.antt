@@ -36,11 +36,10 @@ use Rattle.e3_world.specs.Votes.{yes_by, yes_votes}
 use Rattle.e3_world.proofs.Turns.{self}
 use Rattle.e3_law_protocol.specs.Logs.{IsIn}
 use Rattle.e3_law_refinement.proofs.Lists.{in_right}
-use Rattle.e3_law_numbers.proofs.Gathering.{moment_of}
-use Rattle.e3_law_numbers.proofs.Moving.{log_still, place, place_log}
-use Rattle.e3_law_rounds.proofs.Delivering.{same_self}
-use Rattle.e3_law_rounds.proofs.Rows.{mail, makes}
-use Rattle.e3_law_rounds.proofs.Votes.{attempt_has_votes}
+use Rattle.e3_law_rounds.proofs.Deliveries.Gathering.{moment_of}
+use Rattle.e3_law_steps.proofs.Moving.{log_still, place, place_log}
+use Rattle.e3_law_rounds.proofs.Phases.Rows.{mail, makes}
+use Rattle.e3_law_rounds.proofs.Verdict.Votes.{attempt_has_votes}
 use Rattle.e3_law_commit.proofs.Beside.{brings_none}
 use Rattle.e3_law_commit.proofs.Effects.{Stepped, comes, shapes_on, weaker, weight_off}
 use Rattle.e3_law_commit.proofs.Logs.{Says, decided_on, says_tried}
@@ -50,6 +49,8 @@ use Rattle.e3_law_commit.proofs.Shapes.{acks, asks, ends, is_shaped, later_shape
 use Rattle.e3_law_commit.proofs.Sites.{ends_of, prepares_of}
 use Rattle.e3_law_commit.proofs.Stages.{Carries, Committed, First, Keeps, Second, Stage, StageOne, StageThree, StageTwo, Voted, bound, carries_other, first_on, round_on, second_on, steps_at, third_on, votes_on, weight}
 use Rattle.e3_law_commit.proofs.Turns.{Turn, after, apart, keep, member_of, steps, turn_round}
+use Rattle.e3_law_steps.proofs.Tests.{same_self}
+use Rattle.e3_law_rounds.proofs.Phases.Acknowledged.{others_again}
 
 -- a step as it is kept, with this packet
 abbrev pub mom : List Record → List Record → List Packet → List Told → Packet → Moment
@@ -403,14 +404,6 @@ counts r f n_is dir_is to_is = by (has_site r.acked f) refl
           this = ap (λ (x : Round). has_site x.acked f) same ∙ has_last r.acked f;
         }
 
-others_twice : (s : ℕ) (xs : List ℕ) → others s (others s xs) ≡ others s xs
-others_twice s [] = refl
-others_twice s (x ∷ xs) = by (others_twice s xs) (x == s) refl
-  where
-    by : others s (others s xs) ≡ others s xs → (b : Bool) → (x == s) ≡ b → others s (others s (x ∷ xs)) ≡ others s (x ∷ xs)
-    by rest true is = rw is rest
-    by rest false is = rw (is, is) (ap (λ l. x ∷ l) rest)
-
 pub ack_two : (sc : Scenario) (t : Txn) (wants : ℕ → Expected) (h : List Entry) (p : Packet) (n : ℕ) → Home sc t h p → p.msg ≡ msg.Ack t 1 Commit → StageTwo sc t wants h n →
     Stage sc t wants (after sc h t.site p) (suc n)
 ack_two sc t wants h p n g is o = choose (is_quorum sc.weights (t.site ∷ q.acked) t.sites) refl
@@ -465,7 +458,7 @@ ack_two sc t wants h p n g is o = choose (is_quorum sc.weights (t.site ∷ q.ack
     choose true enough =
         let d : Decides t Commit (and_decide a t Commit nothing) = decides a t Commit in
         let was : Made = record (and_decide a t Commit nothing) { outs = (and_decide a t Commit nothing).outs ++ map (mail t.site (msg.Decide t Commit)) (others t.site q.to) } in
-        let goes : others t.site q.to ≡ rest_of t = ap (others t.site) (counted.to ∙ o.leads.to) ∙ others_twice t.site t.sites in
+        let goes : others t.site q.to ≡ rest_of t = ap (others t.site) (counted.to ∙ o.leads.to) ∙ others_again t.site t.sites in
         let sent : was.outs ≡ map (mail t.site (msg.Decide t Commit)) (rest_of t) = ap (λ z. z ++ map (mail t.site (msg.Decide t Commit)) (others t.site q.to)) d.outs ∙ ap (map (mail t.site (msg.Decide t Commit))) goes in
         let st : Stepped sc t h t.site (input.Deliver p) was = at_home sc t h p (msg.Ack t 1 Commit) was g is refl
         (row_win a p.«from» t o.round (Some Commit) o.leads.gathers (eq-eqb q.n 1 (counted.n ∙ o.leads.first)) (ap (λ x. same_dir x Commit) (counted.dir ∙ o.leads.commits)) says enough) d.own in

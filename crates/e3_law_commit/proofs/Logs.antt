@@ -11,7 +11,7 @@ use Rattle.e3_types.specs.declared.transactions.State.TheVariants.{Q, W, Pc, Pa,
 use Rattle.e3_types.specs.declared.transactions.Txn.{Txn}
 use Rattle.e3_types.specs.Same.{same_txn}
 use Rattle.e3_world.specs.Logs.{attempted, attempted_by, decision, decision_by, has_voted, is_vote, last_attempt, last_attempt_by, last_elected, last_elected_by, state_of}
-use Rattle.e3_law_rounds.proofs.Delivering.{same_self}
+use Rattle.e3_law_steps.proofs.Tests.{or_false, same_self}
 
 -- the decision, the direction of the last attempt, and whether the site voted; it joined no election
 pub record Says (t : Txn) (l : List Record) (d a : Option Dir) (v : Bool) : Type 0 where
@@ -19,10 +19,6 @@ pub record Says (t : Txn) (l : List Record) (d a : Option Dir) (v : Bool) : Type
   pub tried : attempted t l ≡ a
   pub voted : has_voted t l ≡ v
   pub joined : last_elected t l ≡ 1
-
-or_false : (b : Bool) → (b || false) ≡ b
-or_false true = refl
-or_false false = refl
 
 pub says_on : (t : Txn) (l : List Record) (d a : Option Dir) (v : Bool) (r : Record) → last_elected_by t 1 r ≡ 1 → Says t l d a v →
     Says t (l ++ r ∷ []) (decision_by t d r) (attempted_by t a r) (v || is_vote t r)

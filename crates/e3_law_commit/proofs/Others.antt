@@ -31,12 +31,13 @@ use Rattle.e3_world.specs.Lives.{life_at}
 use Rattle.e3_net.proofs.Pushing.{sent_push}
 use Rattle.e3_law_protocol.specs.Logs.{IsIn}
 use Rattle.e3_law_refinement.proofs.Lists.{in_right}
-use Rattle.e3_law_trails.proofs.Laws.{go_between}
+use Rattle.e3_law_trails.proofs.Suits.Laws.{go_between}
 use Rattle.e3_law_refinement.proofs.Voting.{contains_from_in}
-use Rattle.e3_law_numbers.proofs.Moving.{moves_still, place}
-use Rattle.e3_law_rounds.proofs.Deciding.{Follows, is_answer, is_answer_from, step_follows}
+use Rattle.e3_law_steps.proofs.Moving.{moves_still, place}
+use Rattle.e3_law_steps.specs.Waiting.{is_answer}
+use Rattle.e3_law_steps.proofs.Deciding.{AddsAnswers, is_answer_from, step_adds_answers}
 use Rattle.e3_law_commit.specs.Commits.{is_packet_of}
-use Rattle.e3_law_commit.proofs.Beside.{brings_none, other_packet, same_is}
+use Rattle.e3_law_commit.proofs.Beside.{brings_none, other_packet}
 use Rattle.e3_law_commit.proofs.Effects.{Sends, Stepped, low_delivery, sends_all, shapes_on, total_none, weaker, weight_off}
 use Rattle.e3_law_commit.proofs.Packets.{total}
 use Rattle.e3_law_commit.proofs.Home.{mom, said}
@@ -46,6 +47,7 @@ use Rattle.e3_law_commit.proofs.Shapes.{acks, asks, ends, is_shaped, other_not, 
 use Rattle.e3_law_commit.proofs.Sites.{acks_of, asks_of, ends_of, prepares_of, votes_of}
 use Rattle.e3_law_commit.proofs.Stages.{Carries, Gathers, Keeps, Shaped, Stage, Tries, bound, carries_foreign, carries_other, first_on, round_on, second_on, steps_at, third_on, votes_on, weight}
 use Rattle.e3_law_commit.proofs.Turns.{Turn, after, gathers_same, keep, member_of, steps, tries_same}
+use Rattle.e3_law_steps.proofs.Tests.{same_is}
 
 -- what an entry leaves as it was
 pub record Untouched (sc : Scenario) (t : Txn) (wants : ℕ → Expected) (h k : List Entry) : Type 0 where
@@ -190,8 +192,8 @@ outside sc t h s p was turn out foreign is = record {
   others = all_in (other_packet t) follows.dones each;
 }
   where
-    follows : Follows (place sc h s (input.Deliver p)) was (made_by sc h s (input.Deliver p))
-    follows = step_follows (place sc h s (input.Deliver p)) was is foreign.own
+    follows : AddsAnswers (place sc h s (input.Deliver p)) was (made_by sc h s (input.Deliver p))
+    follows = step_adds_answers (place sc h s (input.Deliver p)) was is foreign.own
 
     each : (d : Packet) → IsIn d follows.dones → other_packet t d ≡ true
     each d k = by d.msg refl

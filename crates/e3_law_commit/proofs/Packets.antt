@@ -1,7 +1,7 @@
 -- What an entry does to the packets that are pending: others stay, new ones come, and their weight.
 use Rattle.std.proofs.Common.{◌≡◌, ◌⊎◌, ◌==◌, ◌&&◌, ◌||◌, ◌+◌, ◌-◌, ◌≤◌, ◌<◌, ◌∷◌, ◌++◌, [], ℕ, zero, suc, Bool, true, false, not, List, refl, ap, sym, subst, ◌∙◌, if◌then◌else◌, length, map, eqb-true, true≢false, arith, inl, inr}
 use Rattle.std.specs.List.{list_all, list_any}
-use Rattle.std.proofs.lemmas.Bool.{and_parts, ne_eqb}
+use Rattle.std.proofs.lemmas.Bool.{and_parts, ne_eqb, or_left, or_right, not_from_false}
 use Rattle.std.proofs.lemmas.List.Folds.{list_any-append}
 use Rattle.e3_types.specs.declared.entries.Entry.{Entry}
 use Rattle.e3_types.specs.declared.messages.Packet.{Packet}
@@ -18,18 +18,11 @@ use Rattle.e3_net.proofs.Pushing.{pending_waits, waiting_climbs, waiting_live, w
 use Rattle.e3_law_rounds.specs.Queues.{IsCounted}
 use Rattle.e3_law_commit.specs.Commits.{is_once}
 use Rattle.e3_law_protocol.specs.Logs.{IsIn}
+use Rattle.e3_law_steps.proofs.Tests.{not_true}
 
 -- some packet that waits passes the test
 abbrev pub some_waits : (Packet → Bool) → List Waiting → Bool
 some_waits P ws = list_any (λ w. P w.packet) ws
-
-or_left : (a b : Bool) → a ≡ true → (a || b) ≡ true
-or_left true b is = refl
-or_left false b is = absurd cc
-
-or_right : (a b : Bool) → b ≡ true → (a || b) ≡ true
-or_right true b is = refl
-or_right false b is = is
 
 pub or_either : (a b : Bool) → (a || b) ≡ true → (a ≡ true) ⊎ (b ≡ true)
 or_either true b is = inl refl
@@ -105,19 +98,11 @@ higher low (w ∷ ws) high p climbs (inr k) =
     let above : low < w.packet.number = climbs.0 in
     (omega (arith, first, above), rest.1)
 
-turned : (b : Bool) → not b ≡ true → b ≡ false
-turned true is = absurd (true≢false (sym is))
-turned false is = refl
-
-flipped : (b : Bool) → b ≡ false → not b ≡ true
-flipped true is = absurd cc
-flipped false is = refl
-
 away : (P : Packet → Bool) (n : ℕ) (ws : List Waiting) → list_all (λ w. not (n == w.packet.number)) ws ≡ true → list_all (λ w. not (P w.packet) || (if n == w.packet.number then 1 else 0) == 0) ws ≡ true
 away P n [] all = refl
 away P n (v ∷ vs) all =
     let parts = and_parts (not (n == v.packet.number)) (list_all (λ w. not (n == w.packet.number)) vs) all in
-    let differs : (n == v.packet.number) ≡ false = turned (n == v.packet.number) parts.0 in
+    let differs : (n == v.packet.number) ≡ false = not_true (n == v.packet.number) parts.0 in
     rw (differs, or_right (not (P v.packet)) true refl) (away P n vs parts.1)
 
 one_number : (P : Packet → Bool) (low : ℕ) (ws : List Waiting) (high : ℕ) (p : Packet) → Climbs low ws high → IsIn p (map (λ w. w.packet) ws) → P p ≡ false →
@@ -125,7 +110,7 @@ one_number : (P : Packet → Bool) (low : ℕ) (ws : List Waiting) (high : ℕ) 
 one_number P low [] high p climbs has fails = refl
 one_number P low (w ∷ ws) high p climbs (inl e) fails =
     let n : p.number ≡ w.packet.number = ap (λ (x : Packet). x.number) e in
-    let here : not (P w.packet) ≡ true = flipped (P w.packet) (ap P (sym e) ∙ fails) in
+    let here : not (P w.packet) ≡ true = not_from_false (P w.packet) (ap P (sym e) ∙ fails) in
     rw here (away P p.number ws (above_low w.packet.number p.number ws high climbs.2 (omega (arith, n))))
 one_number P low (w ∷ ws) high p climbs (inr k) fails =
     let rest = one_number P w.packet.number ws high p climbs.2 k fails in

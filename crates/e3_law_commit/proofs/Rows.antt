@@ -27,12 +27,9 @@ use Rattle.e3_world.specs.Rounds.{count_ack, round_in_progress}
 use Rattle.e3_world.specs.VoteRules.{vote_rule}
 use Rattle.e3_world.specs.Votes.{yes_votes}
 use Rattle.e3_world.proofs.Turns.{self}
-use Rattle.e3_law_rounds.proofs.Rows.{cast_is, mail, makes, now_elected, now_state}
+use Rattle.e3_law_rounds.proofs.Phases.Rows.{cast_is, mail, makes, now_elected, now_state, no_win, now_open}
 use Rattle.e3_law_commit.proofs.Beside.{is_other, other_packet}
 use Rattle.e3_law_commit.proofs.Logs.{OfOther, Says, is_c, is_pa, is_pc, is_q, is_w}
-
-pub now_open : (a : At) (t : Txn) → open_now a t nothing ≡ is_undecided t a.life.log
-now_open a t = ap (is_undecided t) (append-nil a.life.log)
 
 pub open_says : (a : At) (t : Txn) (d : Option Dir) (v : Bool) → Says t a.life.log None d v → open_now a t nothing ≡ true
 open_says a t d v says = now_open a t ∙ rw (says.decided) refl
@@ -156,13 +153,6 @@ decides_more a t dir was = by (is_coordinator a t && is_present a t) refl
     by : (b : Bool) → (is_coordinator a t && is_present a t) ≡ b → DecidesMore t dir was (and_decide a t dir was)
     by true is = rw is (record { records = refl; outs = refl; own = refl })
     by false is = rw is (record { records = refl; outs = refl; own = refl })
-
--- acknowledgements
-no_win : (b c d : Bool) → (b && c && d && false) ≡ false
-no_win true true true = refl
-no_win true true false = refl
-no_win true false d = refl
-no_win false c d = refl
 
 closed_win : (b c d : Bool) → (b && c && false && d) ≡ false
 closed_win true true d = refl

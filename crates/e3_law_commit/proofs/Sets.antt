@@ -13,20 +13,17 @@ use Rattle.e3_types.specs.Same.{same_numbers}
 use Rattle.e3_types.specs.Sets.{has_site, is_set}
 use Rattle.e3_quorum.proofs.Sums.{weight_cons}
 use Rattle.e3_world.specs.declared.names.Bound.{Bound}
-use Rattle.e3_world.specs.Given.{IsGiven, SaidSoFar, close_step, exist, is_begun, is_group, is_step_form, items_keep, keeps_rules, say_item, steps_keep}
+use Rattle.e3_world.specs.Given.{IsGiven, SaidSoFar, close_step, is_begun, is_group, is_step_form, items_keep, keeps_rules, say_item, steps_keep}
 use Rattle.e3_world.specs.Items.{last_bound, since_line, to_line, txn_of}
 use Rattle.e3_world.specs.Legal.{IsLegal, LegalAfter}
 use Rattle.e3_world.specs.Packets.{all_sites, items_or, step_items}
 use Rattle.e3_world.proofs.Pushes.{legal_front}
 use Rattle.e3_law_protocol.specs.Logs.{IsIn}
-use Rattle.e3_law_trails.proofs.Holding.{split_from}
-use Rattle.e3_law_agreement.proofs.Counting.{Counted, binding, counted_on, counted_start}
+use Rattle.e3_law_trails.proofs.Suits.Holding.{split_from}
+use Rattle.e3_law_agreement.proofs.Counting.{Counted, counted_on, counted_start}
 use Rattle.e3_law_agreement.proofs.Named.{Names, names_of_steps}
-
--- each begin of the scenario is for a set of sites
-group_set : (sc : Scenario) (group : List ℕ) → is_group sc group ≡ true → is_set group ≡ true
-group_set sc [] is = refl
-group_set sc (s ∷ ss) is = (and_parts (is_set (s ∷ ss)) (exist sc (s ∷ ss)) is).0
+use Rattle.e3_law_steps.proofs.Items.{binding}
+use Rattle.e3_law_rounds.proofs.Deliveries.Steps.{group_set}
 
 begin_items : (sc : Scenario) (k : SaidSoFar) (items : List Item) (name sites : List ℕ) (site : ℕ) → items_keep sc k items ≡ true → IsIn (item.Begin name site sites) items → is_set sites ≡ true
 begin_items sc k [] name sites site keep has = absurd has

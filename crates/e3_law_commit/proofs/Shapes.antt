@@ -1,6 +1,6 @@
 -- The packets of a commit round, and what they weigh.
 use Rattle.std.proofs.Common.{◌≡◌, ◌==◌, ◌&&◌, ◌≤◌, ℕ, Bool, true, false, not, List, refl, ap, sym, ◌∙◌, if◌then◌else◌, eqb-true, true≢false, arith, nat_le}
-use Rattle.std.proofs.lemmas.Bool.{and_parts}
+use Rattle.std.proofs.lemmas.Bool.{and_parts, and_from}
 use Rattle.std.proofs.lemmas.Grind.{common_steps}
 use Rattle.e3_types.specs.declared.messages.Message.{Message}
 use Rattle.e3_types.specs.declared.messages.Message.TheVariants as msg
@@ -12,8 +12,9 @@ use Rattle.e3_types.specs.Same.{same_dir, same_txn}
 use Rattle.e3_types.specs.Sets.{has_site, others}
 use Rattle.e3_world.specs.declared.lives.Expected.{Expected}
 use Rattle.e3_law_commit.specs.Commits.{is_packet_of}
-use Rattle.e3_law_commit.proofs.Beside.{other_packet, same_is}
+use Rattle.e3_law_commit.proofs.Beside.{other_packet}
 use Rattle.e3_law_commit.proofs.Effects.{Weighs}
+use Rattle.e3_law_steps.proofs.Tests.{same_is, not_true}
 
 -- the sites of the transaction but its coordinator
 abbrev pub rest_of : Txn → List ℕ
@@ -111,17 +112,13 @@ weight_of t p = if is_packet_of t p then by p.msg else 0
     by (msg.Decide u dir) = 1
     by _ = 0
 
-not_same : (b : Bool) → not b ≡ true → b ≡ false
-not_same true is = absurd (true≢false (sym is))
-not_same false is = refl
-
 -- what is another's is none of the transaction
 pub other_not : (t : Txn) (p : Packet) → other_packet t p ≡ true → is_packet_of t p ≡ false
 other_not t p other = by p.msg refl
   where
     by : (m : Message) → p.msg ≡ m → is_packet_of t p ≡ false
-    by (msg.Done u n inc answer) is = let says : not (same_txn t u) ≡ other_packet t p = rw is refl in rw is (not_same (same_txn t u) (says ∙ other))
-    by (msg.Decide u dir) is = let says : not (same_txn t u) ≡ other_packet t p = rw is refl in rw is (not_same (same_txn t u) (says ∙ other))
+    by (msg.Done u n inc answer) is = let says : not (same_txn t u) ≡ other_packet t p = rw is refl in rw is (not_true (same_txn t u) (says ∙ other))
+    by (msg.Decide u dir) is = let says : not (same_txn t u) ≡ other_packet t p = rw is refl in rw is (not_true (same_txn t u) (says ∙ other))
     by m is = absurd (let off : other_packet t p ≡ false = rw is refl in true≢false (sym other ∙ off))
 
 pub weighs : (t : Txn) → Weighs t (weight_of t)
@@ -138,11 +135,6 @@ above b j k n less is =
     let more : nat_le n k ≡ true = grind (arith, common_steps, less, parts.1) in
     rw (parts.0, more) refl
 
-join : (a b : Bool) → a ≡ true → b ≡ true → (a && b) ≡ true
-join true true x y = refl
-join true false x y = absurd cc
-join false b x y = absurd cc
-
 pub later_shape : (t : Txn) (wants : ℕ → Expected) (j k : ℕ) (p : Packet) → j ≤ k → is_shaped t wants j p ≡ true → is_shaped t wants k p ≡ true
 later_shape t wants j k p less shaped = by p.msg refl
   where
@@ -150,18 +142,18 @@ later_shape t wants j k p less shaped = by p.msg refl
     by (msg.Pre u n dir) is =
         let says : ((same_txn t u && p.«from» == t.site && has_site (rest_of t) p.to) && (n == 1 && same_dir dir Commit && nat_le 2 j)) ≡ is_shaped t wants j p = rw is refl in
         let outer = and_parts (same_txn t u && p.«from» == t.site && has_site (rest_of t) p.to) (n == 1 && same_dir dir Commit && nat_le 2 j) (says ∙ shaped) in
-        rw is (join (same_txn t u && p.«from» == t.site && has_site (rest_of t) p.to) (n == 1 && same_dir dir Commit && nat_le 2 k) outer.0 (above (n == 1 && same_dir dir Commit) j k 2 less outer.1))
+        rw is (and_from (same_txn t u && p.«from» == t.site && has_site (rest_of t) p.to) (n == 1 && same_dir dir Commit && nat_le 2 k) outer.0 (above (n == 1 && same_dir dir Commit) j k 2 less outer.1))
     by (msg.Ack u n dir) is =
         let says : ((same_txn t u && p.to == t.site && has_site (rest_of t) p.«from») && (n == 1 && same_dir dir Commit && nat_le 2 j)) ≡ is_shaped t wants j p = rw is refl in
         let outer = and_parts (same_txn t u && p.to == t.site && has_site (rest_of t) p.«from») (n == 1 && same_dir dir Commit && nat_le 2 j) (says ∙ shaped) in
-        rw is (join (same_txn t u && p.to == t.site && has_site (rest_of t) p.«from») (n == 1 && same_dir dir Commit && nat_le 2 k) outer.0 (above (n == 1 && same_dir dir Commit) j k 2 less outer.1))
+        rw is (and_from (same_txn t u && p.to == t.site && has_site (rest_of t) p.«from») (n == 1 && same_dir dir Commit && nat_le 2 k) outer.0 (above (n == 1 && same_dir dir Commit) j k 2 less outer.1))
     by (msg.Decide u dir) is = choose (same_txn t u) refl
       where
         choose : (b : Bool) → same_txn t u ≡ b → is_shaped t wants k p ≡ true
         choose true same =
             let says : ((p.«from» == t.site && has_site (rest_of t) p.to) && (same_dir dir Commit && nat_le 3 j)) ≡ is_shaped t wants j p = rw is (rw same refl) in
             let outer = and_parts (p.«from» == t.site && has_site (rest_of t) p.to) (same_dir dir Commit && nat_le 3 j) (says ∙ shaped) in
-            rw is (rw same (join (p.«from» == t.site && has_site (rest_of t) p.to) (same_dir dir Commit && nat_le 3 k) outer.0 (above (same_dir dir Commit) j k 3 less outer.1)))
+            rw is (rw same (and_from (p.«from» == t.site && has_site (rest_of t) p.to) (same_dir dir Commit && nat_le 3 k) outer.0 (above (same_dir dir Commit) j k 3 less outer.1)))
         choose false same = rw is (rw same refl)
     by m is = let same : is_shaped t wants k p ≡ is_shaped t wants j p = rw is refl in same ∙ shaped
 
@@ -171,7 +163,7 @@ other_shape t wants k p other = by p.msg refl
   where
     by : (m : Message) → p.msg ≡ m → is_shaped t wants k p ≡ true
     by (msg.Done u n inc answer) is = let says : is_shaped t wants k p ≡ other_packet t p = rw is refl in says ∙ other
-    by (msg.Decide u dir) is = let says : not (same_txn t u) ≡ other_packet t p = rw is refl in rw is (rw (not_same (same_txn t u) (says ∙ other)) refl)
+    by (msg.Decide u dir) is = let says : not (same_txn t u) ≡ other_packet t p = rw is refl in rw is (rw (not_true (same_txn t u) (says ∙ other)) refl)
     by m is = absurd (let off : other_packet t p ≡ false = rw is refl in true≢false (sym other ∙ off))
 
 -- that a request to this site is pending, or its vote, or a preparation for it, or its acknowledgement, or a decision for it

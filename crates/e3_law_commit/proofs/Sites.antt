@@ -24,9 +24,8 @@ use Rattle.e3_world.specs.Moves.{log_of, moves_of}
 use Rattle.e3_world.specs.Operations.{done, waiting}
 use Rattle.e3_world.specs.VoteRules.{vote_rule}
 use Rattle.e3_world.proofs.Turns.{self}
-use Rattle.e3_law_numbers.proofs.Moving.{place, place_log}
-use Rattle.e3_law_rounds.proofs.Delivering.{same_self}
-use Rattle.e3_law_rounds.proofs.Rows.{mail, makes}
+use Rattle.e3_law_steps.proofs.Moving.{place, place_log}
+use Rattle.e3_law_rounds.proofs.Phases.Rows.{mail, makes}
 use Rattle.e3_law_commit.specs.Commits.{is_packet_of}
 use Rattle.e3_law_commit.proofs.Effects.{Stepped, comes}
 use Rattle.e3_law_commit.proofs.Logs.{Says, decided_on, says_tried, says_voted}
@@ -35,6 +34,7 @@ use Rattle.e3_law_commit.proofs.Rows.{Decides, decides, row_end, row_end_ended, 
 use Rattle.e3_law_commit.proofs.Shapes.{acks, asks, ends, is_shaped, prepares, votes, weight_of}
 use Rattle.e3_law_commit.proofs.Stages.{Committed, First, Fresh, Pends, Second, Stage, StageOne, StageThree, StageTwo, Third, Voted, steps_at}
 use Rattle.e3_law_commit.proofs.Turns.{AtSite, Given, ack_light, ack_shaped, after, at_place, away_from, decided_place, end_at, keep, logged, member_of, prepare_at, request_at, same_log, site_one, site_three, site_two, vote_light, vote_shaped, voted_same}
+use Rattle.e3_law_steps.proofs.Tests.{same_self}
 
 -- what passes these tests is the transaction's
 pub votes_of : (t : Txn) (y : ℕ) (q : Packet) → votes t y q ≡ true → is_packet_of t q ≡ true

@@ -29,8 +29,8 @@ use Rattle.e3_world.specs.Packets.{pending}
 use Rattle.e3_world.specs.Rounds.{round_by, round_in_progress}
 use Rattle.e3_world.specs.Votes.{yes_by, yes_votes}
 use Rattle.e3_net.specs.Stands.{waiting_of}
-use Rattle.e3_law_numbers.proofs.Gathering.{life_on, moment_of}
-use Rattle.e3_law_numbers.proofs.Moving.{moves_still}
+use Rattle.e3_law_rounds.proofs.Deliveries.Gathering.{life_on, moment_of}
+use Rattle.e3_law_steps.proofs.Moving.{moves_still}
 use Rattle.e3_law_rounds.specs.Queues.{IsCounted}
 use Rattle.e3_law_commit.proofs.Beside.{Still, brings_none, done_push}
 use Rattle.e3_law_commit.proofs.Effects.{Stepped}

@@ -25,16 +25,16 @@ use Rattle.e3_world.specs.Rounds.{round_in_progress}
 use Rattle.e3_world.specs.Votes.{yes_votes}
 use Rattle.e3_world.specs.Lives.{life_at}
 use Rattle.e3_law_protocol.specs.Logs.{IsIn}
-use Rattle.e3_law_serial.proofs.Steadying.{others_lack}
-use Rattle.e3_law_numbers.proofs.Moving.{moves_still, place, place_log}
-use Rattle.e3_law_rounds.proofs.Delivering.{same_self}
-use Rattle.e3_law_rounds.proofs.Rows.{mail}
+use Rattle.e3_law_serial.proofs.Step.Steadying.{others_lack}
+use Rattle.e3_law_steps.proofs.Moving.{moves_still, place, place_log}
+use Rattle.e3_law_rounds.proofs.Phases.Rows.{mail}
 use Rattle.e3_law_commit.proofs.Beside.{brings_none}
 use Rattle.e3_law_commit.proofs.Effects.{OnceOnly, Stepped, low_delivery, shapes_on, stays, stepped, weight_off}
 use Rattle.e3_law_commit.proofs.Logs.{Says}
 use Rattle.e3_law_commit.proofs.Packets.{total}
 use Rattle.e3_law_commit.proofs.Shapes.{acks, asks, ends, is_shaped, other_shape, prepares, rest_of, votes, weighs, weight_of}
 use Rattle.e3_law_commit.proofs.Stages.{Committed, First, Gathers, Ground, Keeps, Second, Stage, StageOne, StageThree, StageTwo, Third, Tries, Voted, bound, carries_other, first_on, second_on, third_on, weight}
+use Rattle.e3_law_steps.proofs.Tests.{same_self}
 
 abbrev pub after : Scenario → List Entry → ℕ → Packet → List Entry
 after sc h s p = h ++ entry_of sc h s (input.Deliver p) ∷ []

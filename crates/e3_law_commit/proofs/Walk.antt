@@ -1,5 +1,5 @@
 -- Each entry of the step behind its Commit, and the whole walk to its end.
-use Rattle.std.proofs.Common.{◌≡◌, ◌==◌, ◌||◌, ◌+◌, ◌≤◌, ◌∷◌, ◌++◌, [], ℕ, suc, Bool, true, false, not, List, refl, ap, sym, subst, ◌∙◌, if◌then◌else◌, length, eqb-true, eq-eqb, true≢false, arith, inl, inr, count_by}
+use Rattle.std.proofs.Common.{◌≡◌, ◌==◌, ◌||◌, ◌+◌, ◌≤◌, ◌∷◌, ◌++◌, [], ℕ, suc, Bool, true, false, not, List, refl, ap, sym, subst, ◌∙◌, if◌then◌else◌, length, eqb-true, eq-eqb, true≢false, arith, count_by}
 use Rattle.std.specs.List.{list_all}
 use Rattle.std.proofs.lemmas.Bool.{ne_eqb}
 use Rattle.std.proofs.lemmas.List.Elements.{Contains-append_right}
@@ -17,7 +17,7 @@ use Rattle.e3_types.specs.Sets.{has_site}
 use Rattle.e3_world.specs.declared.lives.Expected.{Expected}
 use Rattle.e3_world.specs.Given.{IsGiven}
 use Rattle.e3_world.specs.Items.{is_delivery, is_up_at}
-use Rattle.e3_world.specs.Legal.{AreDue, IsDue, IsLegal, entry_of, made_by, numbered}
+use Rattle.e3_world.specs.Legal.{AreDue, IsDue, IsLegal, entry_of, made_by}
 use Rattle.e3_world.specs.Moves.{moves_of, past_of, plain_input}
 use Rattle.e3_world.specs.Packets.{outs_of, pending, sent, taken_by, takes_input}
 use Rattle.e3_world.proofs.Guards.{guard_step, up_some}
@@ -45,7 +45,7 @@ use Rattle.e3_law_commit.proofs.Beside.{other_packet}
 use Rattle.e3_law_commit.proofs.Packets.{total}
 use Rattle.e3_law_commit.proofs.Others.{all_in}
 use Rattle.e3_law_commit.proofs.Turns.{turn_round}
-use Rattle.e3_law_rounds.proofs.Counted.{sent_away}
+use Rattle.e3_law_rounds.proofs.Deliveries.Counted.{sent_away}
 use Rattle.e3_law_rounds.proofs.Tail.{pending_all}
 use Rattle.e3_law_commit.specs.Commits.{is_packet_of}
 use Rattle.e3_law_commit.proofs.Home.{Home, ack_three, ack_two, voice_one, voice_three, voice_two}
@@ -55,6 +55,7 @@ use Rattle.e3_law_commit.proofs.Shapes.{Kind, is_shaped, kind_of, other_not, res
 use Rattle.e3_law_commit.proofs.Sites.{end_three, prepare_three, prepare_two, request_one, request_three, request_two}
 use Rattle.e3_law_commit.proofs.Stages.{Ground, Stage, StageOne, StageThree, StageTwo, carries_same, weight}
 use Rattle.e3_law_commit.proofs.Turns.{Turn, after, gathers_same, member_of, tries_same}
+use Rattle.e3_law_agreement.proofs.Standing.{numbered_from}
 
 -- a delivery of one of the transaction's packets
 reframe : (sc : Scenario) (t : Txn) (wants : ℕ → Expected) (h : List Entry) (p : Packet) (n : ℕ) → p.to ≡ t.site → Stage sc t wants (after sc h t.site p) n → Stage sc t wants (after sc h p.to p) n
@@ -156,11 +157,6 @@ sent_own sc h site i given legal due fits =
 
     some_txn : Txn
     some_txn = record { site = 0; inc = 0; seq = 0; sites = [] }
-
-numbered_from : (n : ℕ) (ps : List Packet) (p : Packet) → IsIn p (numbered n ps) → (q : Packet) × IsIn q ps × (p.«from» ≡ q.«from»)
-numbered_from n [] p k = absurd k
-numbered_from n (q ∷ ps) p (inl e) = (q, inl refl, ap (λ (z : Packet). z.«from») e)
-numbered_from n (q ∷ ps) p (inr k) = let t = numbered_from (suc n) ps p k in (t.0, inr t.1, t.2)
 
 takes_none : (sc : Scenario) (h : List Entry) (site n : ℕ) (i : Input) → list_all (Leaves site n) (pending sc h) ≡ true → IsDue sc h site i → takes_input n i ≡ false
 takes_none sc h site n (input.Deliver p) all due =

@@ -22,10 +22,8 @@ use Rattle.e3_world.proofs.Readings.{taken_same, to_push}
 use Rattle.e3_world.proofs.Turns.{self}
 use Rattle.e3_law_protocol.specs.Logs.{IsIn}
 use Rattle.e3_law_trails.specs.Bounds.{Suits}
-use Rattle.e3_law_trails.proofs.Laws.{inputs_suit}
-use Rattle.e3_law_rounds.proofs.Counted.{is_counted}
-use Rattle.e3_law_rounds.proofs.Delivering.{same_self}
-use Rattle.e3_law_rounds.proofs.Tail.{items_on}
+use Rattle.e3_law_trails.proofs.Suits.Laws.{inputs_suit}
+use Rattle.e3_law_rounds.proofs.Deliveries.Counted.{is_counted}
 use Rattle.e3_law_commit.specs.Commits.{CommitsEnd, all_once, commit_entry, expected_of, is_committed, is_entry_of, is_once, is_packet_of, may_vote}
 use Rattle.e3_law_commit.proofs.Begins.{begins, fits_of}
 use Rattle.e3_law_commit.proofs.Ends.{NoItems, Walked, ends_committed, still_on, up_on, walk}
@@ -33,10 +31,9 @@ use Rattle.e3_law_commit.proofs.Quorum.{covers}
 use Rattle.e3_law_commit.proofs.Sets.{sites_set, sites_weigh}
 use Rattle.e3_law_commit.proofs.Shapes.{rest_of}
 use Rattle.e3_law_commit.proofs.Stages.{Committed, Ground, Stage, bound, weight}
-
-after_split : (sc : Scenario) (before xs ys : List Entry) → LegalAfter sc before (xs ++ ys) → LegalAfter sc (before ++ xs) ys
-after_split sc before [] ys legal = subst (λ b. LegalAfter sc b ys) (sym (append-nil before)) legal
-after_split sc before (x ∷ xs) ys legal = subst (λ b. LegalAfter sc b ys) (append_assoc before (x ∷ []) xs) (after_split sc (before ++ x ∷ []) xs ys legal.1)
+use Rattle.e3_law_steps.proofs.Tests.{same_self}
+use Rattle.e3_law_rounds.proofs.Beginning.{legal_behind}
+use Rattle.e3_law_rounds.proofs.Deliveries.Walking.{items_on}
 
 after_front : (sc : Scenario) (before xs ys : List Entry) → LegalAfter sc before (xs ++ ys) → LegalAfter sc before xs
 after_front sc before [] ys legal = tt
@@ -58,7 +55,7 @@ record Parted (sc : Scenario) (xs : List Entry) (c : Entry) (more after : List E
 parted : (sc : Scenario) (xs : List Entry) (c : Entry) (more after : List Entry) → LegalAfter sc [] (xs ++ c ∷ more ++ after) → Parted sc xs c more after
 parted sc xs c more after legal =
     let up_to : LegalAfter sc [] (xs ++ c ∷ more) = after_front sc [] (xs ++ c ∷ more) after legal in
-    let behind = after_split sc [] xs (c ∷ more) up_to in
+    let behind = legal_behind sc [] xs (c ∷ more) up_to in
     let front : IsLegal sc xs = after_front sc [] xs (c ∷ more) up_to in
     let rest : LegalAfter sc (xs ++ c ∷ []) more = behind.1 in
     let then_legal : IsLegal sc (xs ++ c ∷ []) = legal_push sc xs c front behind.0 in

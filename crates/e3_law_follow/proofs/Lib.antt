@@ -1,3 +1,1 @@
-mod Keeping
-mod Handling
-mod Laws
+pub mod Laws

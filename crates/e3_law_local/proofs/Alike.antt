@@ -1,7 +1,6 @@
 -- What the guard of a site's entry reads of a history, and that it stands still behind entries of others.
-use Rattle.std.proofs.Common.{◌≡◌, ◌==◌, ◌&&◌, ◌+◌, ◌≤◌, ◌⊎◌, inl, inr, ℕ, zero, suc, Bool, true, false, not, List, [], ◌∷◌, ◌++◌, append-nil, append_assoc, ◌∙◌, ap, sym, subst, refl, length, Option, Some, None, count_by, nat_le, arith, eqb-true, eq-eqb, fold}
+use Rattle.std.proofs.Common.{◌≡◌, ◌==◌, ◌&&◌, ◌+◌, ◌≤◌, ◌⊎◌, inl, inr, ℕ, zero, suc, Bool, true, false, not, List, [], ◌∷◌, ◌++◌, append-nil, append_assoc, ◌∙◌, ap, sym, subst, refl, length, Option, Some, None, count_by, arith, eqb-true, eq-eqb, fold}
 use Rattle.std.specs.Prelude.{slice_get, filter_map}
-use Rattle.std.specs.List.{list_all}
 use Rattle.std.proofs.lemmas.Bool.{and_parts}
 use Rattle.std.proofs.lemmas.List.Sums.{sum_by-append}
 use Rattle.e3_types.specs.declared.entries.Act.{Act}
@@ -11,8 +10,8 @@ use Rattle.e3_types.specs.declared.entries.Input.{Input}
 use Rattle.e3_types.specs.declared.scenarios.Item.{Item}
 use Rattle.e3_types.specs.declared.scenarios.Item.TheVariants as item
 use Rattle.e3_types.specs.declared.scenarios.Scenario.{Scenario}
-use Rattle.e3_world.specs.Given.{IsGiven, SaidSoFar, say_item, items_keep, is_step_form, is_groupable, close_step, steps_keep}
-use Rattle.e3_world.specs.Items.{to_line, input_of, inputs_of, inputs_to, inputs_at, plan_of, is_delivery, taken_at, turn_of, is_up_at}
+use Rattle.e3_world.specs.Given.{IsGiven, SaidSoFar, say_item, items_keep, is_step_form, close_step, steps_keep}
+use Rattle.e3_world.specs.Items.{to_line, input_of, inputs_of, inputs_to, inputs_at, is_delivery, taken_at, turn_of, is_up_at}
 use Rattle.e3_world.specs.Legal.{Guard, LegalAfter, may_rise, entry_of, made_by}
 use Rattle.e3_world.specs.Lives.{incarnation_of}
 use Rattle.e3_world.specs.Moves.{own, past_of}
@@ -21,12 +20,11 @@ use Rattle.e3_world.specs.Progress.{NeverRises}
 use Rattle.e3_world.specs.Sound.{step_move}
 use Rattle.e3_world.specs.Steps.{step_of}
 use Rattle.e3_world.proofs.Guards.{lines_push}
-use Rattle.e3_world.proofs.Lines.{lines_to}
 use Rattle.e3_world.proofs.Numbers.{entered_move}
 use Rattle.e3_world.proofs.Pushes.{past_push}
 use Rattle.e3_world.proofs.Readings.{to_push, own_same, own_other, taken_same, taken_other, up_same, up_other}
-use Rattle.e3_world.proofs.Turns.{plan_push}
 use Rattle.e3_law_local.specs.Others.{AreOthers}
+use Rattle.e3_law_steps.proofs.Items.{single, inputs_push, plan_is}
 
 -- the site took all its items, where it is up
 abbrev pub DoneAt : Scenario → List Entry → ℕ → Type 0
@@ -57,9 +55,6 @@ counts i = not (is_delivery i)
 count_push : {X : Type 0} (p : X → Bool) (xs ys : List X) → count_by p (xs ++ ys) ≡ count_by p xs + count_by p ys
 count_push p xs ys = sum_by-append _ xs ys
 
-plan_is : (sc : Scenario) (h : List Entry) → plan_of sc h ≡ filter_map (input_of sc (to_line h)) (present_items sc h)
-plan_is sc h = ap (λ n. filter_map (input_of sc (to_line h)) (step_items sc n)) (lines_to h)
-
 -- in a scenario that keeps the rules each step has its form
 form_of : (sc : Scenario) (k : SaidSoFar) (steps : List (List Item)) (n : ℕ) (items : List Item) → steps_keep sc k steps ≡ true →
     slice_get steps n ≡ Some items → is_step_form items ≡ true
@@ -72,14 +67,6 @@ form_of sc k (x ∷ steps) zero items keep is =
 form_of sc k (x ∷ steps) (suc n) items keep is =
     let p = and_parts (is_step_form x && items_keep sc k x) (steps_keep sc (close_step (fold (say_item sc) k x)) steps) keep in
     form_of sc (close_step (fold (say_item sc) k x)) steps n items p.1 is
-
-single : (it : Item) (items : List Item) → is_step_form (it ∷ items) ≡ true → is_groupable it ≡ false → items ≡ []
-single it [] form is = refl
-single it (more ∷ items) form is =
-    let p = and_parts (list_all is_groupable (it ∷ more ∷ items)) (nat_le (length items) 14) form in
-    let q = and_parts (is_groupable it) (list_all is_groupable (more ∷ items)) p.0 in
-    let yes_it : is_groupable it ≡ true = q.0 in
-    cc
 
 -- where a site may rise, the present step asks nothing of the sites
 rise_bare : (sc : Scenario) (h : List Entry) (site s : ℕ) → IsGiven sc → may_rise sc h site ≡ true → inputs_at sc h s ≡ []
@@ -116,9 +103,6 @@ rises_or_not sc h o Cut given guard = inl (λ was is. absurd cc)
 rises_or_not sc h o (Drop packet) given guard = inl (λ was is. is)
 rises_or_not sc h o (Parts parts) given guard = inl (λ was is. is)
 rises_or_not sc h o (Line number) given guard = inl (λ was is. is)
-
-pub inputs_push : (sc : Scenario) (h : List Entry) (e : Entry) (u : ℕ) → is_line e ≡ false → inputs_at sc (h ++ e ∷ []) u ≡ inputs_at sc h u
-inputs_push sc h e u stays = ap (inputs_to u) (plan_push sc h e stays)
 
 -- who is through with its items stays so
 done_push : (sc : Scenario) (h : List Entry) (e : Entry) (u : ℕ) → IsGiven sc → Guard sc h e → is_line e ≡ false → DoneAt sc h u → DoneAt sc (h ++ e ∷ []) u

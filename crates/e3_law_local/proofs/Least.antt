@@ -20,7 +20,8 @@ use Rattle.e3_net.proofs.Pushing.{numbers_on, pending_waits, sent_push, waiting_
 use Rattle.e3_net.proofs.Taking.{away_by, one_more}
 use Rattle.e3_law_local.specs.Claims.{FirstIsLeast, LeastIsPending, LeastStays}
 use Rattle.e3_law_local.specs.Least.{AreOfSites, IsLeastTo}
-use Rattle.e3_law_local.proofs.Packets.{Among, among, contains, given_sent, with_copies}
+use Rattle.e3_law_local.proofs.Packets.{given_sent, with_copies}
+use Rattle.e3_law_steps.proofs.Packets.{Among, among, contains}
 
 -- packets that are numbered one after the other: no two have one number
 climbs : (n : ℕ) (ps : List Packet) (p : Packet) → ps ≡ numbered n ps → Among p ps → n ≤ p.number

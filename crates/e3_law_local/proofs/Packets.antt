@@ -1,8 +1,6 @@
 -- The packets that wait were sent.
-use Rattle.std.proofs.Common.{◌≡◌, ◌-◌, ◌⊎◌, inl, inr, ℕ, zero, suc, List, [], ◌∷◌, ◌++◌, ◌∙◌, ap, refl, map, arith}
-use Rattle.std.specs.Prelude.{Contains}
+use Rattle.std.proofs.Common.{◌≡◌, ◌-◌, inl, inr, ℕ, zero, suc, List, [], ◌∷◌, ◌++◌, ◌∙◌, ap, refl, map}
 use Rattle.std.proofs.lemmas.List.{map-append}
-use Rattle.std.proofs.lemmas.List.Elements.{Contains-append_right}
 use Rattle.e3_types.specs.declared.entries.Entry.{Entry}
 use Rattle.e3_types.specs.declared.messages.Packet.{Packet}
 use Rattle.e3_types.specs.declared.scenarios.Scenario.{Scenario}
@@ -10,21 +8,7 @@ use Rattle.e3_world.specs.Packets.{outs_of, sent}
 use Rattle.e3_net.specs.declared.waiting.Waiting.{Waiting}
 use Rattle.e3_net.specs.Traffic.{wait}
 use Rattle.e3_net.specs.Stands.{given, given_after, without}
-
--- the packet is one of these
-abbrev pub Among : Packet → List Packet → Type 0
-Among p [] = ⊥
-Among p (x ∷ xs) = (x ≡ p) ⊎ Among p xs
-
-pub among : (p : Packet) (xs : List Packet) → Contains xs p → Among p xs
-among p [] has = absurd (omega (arith, has.1))
-among p (x ∷ xs) (zero, low, is) = inl is
-among p (x ∷ xs) (suc k, low, is) = inr (among p xs (k, omega (arith, low), is))
-
-pub contains : (p : Packet) (xs : List Packet) → Among p xs → Contains xs p
-contains p [] has = absurd has
-contains p (x ∷ xs) (inl is) = (0, omega arith, is)
-contains p (x ∷ xs) (inr more) = Contains-append_right (x ∷ []) xs p (contains p xs more)
+use Rattle.e3_law_steps.proofs.Packets.{Among}
 
 -- the packets of these
 abbrev packets : List Waiting → List Packet

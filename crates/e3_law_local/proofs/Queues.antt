@@ -15,11 +15,12 @@ use Rattle.e3_net.proofs.Pushing.{waiting_climbs, waiting_live, waiting_push}
 use Rattle.e3_net.proofs.Queues.{queue_append, queue_first, queue_goes, queue_less, queue_wait_here, queue_wait_other}
 use Rattle.e3_net.proofs.Taking.{Waits, input_takes, input_waits}
 use Rattle.e3_law_local.specs.Claims.{FirstAreWaiting, FrontIsLeast, QueueGoesOn, QueueStays}
-use Rattle.e3_law_local.specs.Least.{AreFirstTo, AreOfSites, IsLeastTo, queue_to}
+use Rattle.e3_law_local.specs.Least.{AreOfSites, queue_to}
 use Rattle.e3_law_local.specs.Others.{AreOthers, AreWaiting}
 use Rattle.e3_law_local.proofs.Laws.{legal_behind}
 use Rattle.e3_law_local.proofs.Least.{act_other, front, least_is, least_is_pending, legal_numbers, numbers_push, outs_numbered}
-use Rattle.e3_law_local.proofs.Packets.{Among, given_sent, with_copies}
+use Rattle.e3_law_local.proofs.Packets.{given_sent, with_copies}
+use Rattle.e3_law_steps.proofs.Packets.{Among}
 
 -- where none of the packets to the site is away, its queue stays
 queue_without : (f : ℕ → ℕ) (site : ℕ) (ws : List Waiting) → ((q : Packet) → Among q (map (λ (w : Waiting). w.packet) ws) → q.to ≡ site → f q.number ≡ 0) →

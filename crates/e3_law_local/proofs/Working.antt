@@ -14,9 +14,10 @@ use Rattle.e3_world.proofs.Guards.{due}
 use Rattle.e3_world.proofs.Readings.{taken_same}
 use Rattle.e3_law_local.specs.Claims.{DueMayBeTaken, ItemsStay, NextItem, ReadingsStay}
 use Rattle.e3_law_local.specs.Drafts.{MayTake}
-use Rattle.e3_law_local.proofs.Alike.{Alike, all_on, inputs_push}
+use Rattle.e3_law_local.proofs.Alike.{Alike, all_on}
 use Rattle.e3_law_local.proofs.Due.{inputs_same, no_round, through_on, turn_same}
 use Rattle.e3_law_local.proofs.Laws.{legal_behind}
+use Rattle.e3_law_steps.proofs.Items.{inputs_push}
 
 pub readings_stay : ReadingsStay
 readings_stay sc site h more given legal others = record {

@@ -16,7 +16,7 @@ use Rattle.e3_world.specs.Orderly.{OrderlyAfter, MayFollow, weights_by, weights_
 use Rattle.e3_world.proofs.Pushes.{life_log_at}
 use Rattle.e3_law_trails.specs.Bounds.{SuitsLog}
 use Rattle.e3_law_trails.specs.Claims.{TrailsAreSound, LogsAreOfTrails}
-use Rattle.e3_law_trails.proofs.Holding.{Holds, legal_holds}
+use Rattle.e3_law_trails.proofs.Suits.Holding.{Holds, legal_holds}
 use Rattle.e3_law_serial.specs.Claims.{LogsAreOrdered}
 use Rattle.e3_law_orderly.specs.Orderly.{LogsAreOrderly}
 use Rattle.e3_law_orderly.specs.Turns.{ComesInTurn, InTurnAfter}

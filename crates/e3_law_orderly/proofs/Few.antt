@@ -25,15 +25,15 @@ use Rattle.e3_world.specs.Sound.{Fits, FitsDo, FitsMessage, FitsPacket, FitsIssu
 use Rattle.e3_world.specs.Steps.{step_at}
 use Rattle.e3_world.proofs.Pushes.{life_log_at}
 use Rattle.e3_law_refinement.proofs.Following.{moves_here, moves_there}
-use Rattle.e3_law_serial.proofs.Arrivals.{arrivals_push}
-use Rattle.e3_law_serial.proofs.Entries.{In}
-use Rattle.e3_law_serial.proofs.Keeping.{IsRising, next, no_vote}
-use Rattle.e3_law_serial.proofs.Members.{in_append, in_split}
-use Rattle.e3_law_serial.proofs.Recording.{VoteMade, rule_made, shaped_records, vote_done}
-use Rattle.e3_law_serial.proofs.Shapes.{FromAway, step_shape}
-use Rattle.e3_law_serial.proofs.Sites.{place, life_step, life_silent, life_rose, fits_plain, fits_away, rise_rising, run_in_turn, run_log}
-use Rattle.e3_law_serial.proofs.Steadying.{IsMoment, arrived_in, taken_own}
-use Rattle.e3_law_serial.proofs.Stepping.{moment, is_moment}
+use Rattle.e3_law_serial.proofs.Step.Arrivals.{arrivals_push}
+use Rattle.e3_law_serial.proofs.Lists.Entries.{In}
+use Rattle.e3_law_serial.proofs.Site.Keeping.{IsRising, next, no_vote}
+use Rattle.e3_law_serial.proofs.Lists.Members.{in_append, in_split}
+use Rattle.e3_law_serial.proofs.Site.Recording.{VoteMade, rule_made, shaped_records, vote_done}
+use Rattle.e3_law_serial.proofs.Step.Shapes.{FromAway, step_shape}
+use Rattle.e3_law_serial.proofs.Site.Sites.{place, life_step, life_silent, life_rose, fits_plain, fits_away, rise_rising, run_in_turn, run_log}
+use Rattle.e3_law_serial.proofs.Step.Steadying.{IsMoment, arrived_in, taken_own}
+use Rattle.e3_law_serial.proofs.Step.Stepping.{moment, is_moment}
 
 -- no operation of these has a number above 64
 abbrev pub OpsAreFew : List NumOp → Type 0

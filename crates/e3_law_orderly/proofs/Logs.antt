@@ -22,18 +22,18 @@ use Rattle.e3_law_refinement.specs.Rows.{Reads}
 use Rattle.e3_law_refinement.specs.Trails.{marks_in, silent_marks, IsMade, IsMadeMove, MadeAfter}
 use Rattle.e3_law_refinement.specs.Views.{notes_of, leader_of, letters_of}
 use Rattle.e3_law_refinement.proofs.Following.{TrailOk, trail_ok, start_ok, moves_here, moves_there}
-use Rattle.e3_law_refinement.proofs.Readings.{reads_more}
+use Rattle.e3_law_refinement.proofs.Readings.{reads_more, orderly_front}
 use Rattle.e3_law_agreement.proofs.Fitting.{given_fit}
 use Rattle.e3_law_agreement.proofs.Histories.{legal_made}
 use Rattle.e3_law_orderly.specs.Turns.{InTurnAfter}
-use Rattle.e3_law_orderly.proofs.Notes.{TurnsAfter, turns_append, front_orderly, turns_of, own_turns}
+use Rattle.e3_law_orderly.proofs.Notes.{TurnsAfter, turns_append, turns_of, own_turns}
 
 -- marks at a site keep the notes before them in front
 mark_orderly : (x : ℕ) (l : List Note) (m : Mark) → Orderly (log_by x l m) → Orderly l
 mark_orderly x l m = by (m.site == x)
   where
     by : (b : Bool) → Orderly (if b then behind l m.notes else l) → Orderly l
-    by true o = front_orderly l m.notes o
+    by true o = orderly_front l m.notes o
     by false o = o
 
 marks_orderly : (x : ℕ) (l : List Note) (marks : List Mark) → Orderly (fold (log_by x) l marks) → Orderly l

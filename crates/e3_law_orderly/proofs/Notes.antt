@@ -12,7 +12,7 @@ use Rattle.e3_law_protocol.proofs.Logs.{final_is}
 use Rattle.e3_law_refinement.specs.Rows.{Reads}
 use Rattle.e3_law_refinement.specs.Views.{note_of, notes_of, decided}
 use Rattle.e3_law_refinement.proofs.Lists.{same_from}
-use Rattle.e3_law_refinement.proofs.Readings.{reads_push, behind-append, decision_in, has_from_vote}
+use Rattle.e3_law_refinement.proofs.Readings.{reads_push, behind-append, decision_in, has_from_vote, orderly_front}
 use Rattle.e3_law_orderly.specs.Turns.{VoteInTurn, AttemptInTurn, DecisionInTurn, ComesInTurn, InTurnAfter}
 
 -- a record comes in turn, if it is of this transaction
@@ -32,11 +32,6 @@ turns_append t before [] ys first more = let P : List Record → Type 0 = λ l. 
 turns_append t before (x ∷ xs) ys first more =
     let P : List Record → Type 0 = λ l. TurnsAfter t l ys in
     (first.0, turns_append t (before ++ x ∷ []) xs ys first.1 (subst P (sym (append_assoc before (x ∷ []) xs)) more))
-
--- notes behind which others stand in order are in order
-pub front_orderly : (l ns : List Note) → Orderly (behind l ns) → Orderly l
-front_orderly l [] o = o
-front_orderly l (n ∷ ns) o = (front_orderly (n ∷ l) ns o).1
 
 -- nothing is decided in notes that are undecided
 open_notes : (l : List Note) → Orderly l → Undecided l → decided l ≡ None
@@ -93,7 +88,7 @@ pub turns_of : (t : Txn) (e : ℕ) (rs : List Record) (l : List Note) (more : Li
 turns_of t e rs l [] reads o = tt
 turns_of t e rs l (r ∷ more) reads o =
     let all : Orderly (behind (behind l (note_of t e r)) (notes_of t e more)) = subst Orderly (behind-append l (note_of t e r) (notes_of t e more)) o in (
-      turn_of t e rs l r reads (front_orderly (behind l (note_of t e r)) (notes_of t e more) all),
+      turn_of t e rs l r reads (orderly_front (behind l (note_of t e r)) (notes_of t e more) all),
       turns_of t e (rs ++ r ∷ []) (behind l (note_of t e r)) more (reads_push t e rs l r reads) all,
     )
 

@@ -1,7 +1,6 @@
 -- Where births and incarnations stand in the log of a site, also behind its open tail.
-use Rattle.std.proofs.Common.{◌≡◌, ◌≢◌, ◌≤◌, ◌==◌, ◌++◌, ◌∷◌, [], ℕ, zero, suc, Bool, true, false, List, Option, Some, None, refl, sym, subst, ap, ◌∙◌, append-nil, append_assoc, eqb-true, fold, length, arith}
+use Rattle.std.proofs.Common.{◌≡◌, ◌≢◌, ◌≤◌, ◌==◌, ◌++◌, ◌∷◌, [], ℕ, zero, suc, Bool, true, false, List, Option, Some, None, refl, sym, subst, ap, ◌∙◌, append-nil, append_assoc, eqb-true, length, arith}
 use Rattle.std.specs.List.{AllByRecursion as Each}
-use Rattle.std.proofs.lemmas.Grind.{fold-append, flat_map-append}
 use Rattle.std.proofs.lemmas.Option.{same_Some}
 use Rattle.e3_types.specs.declared.entries.Act.{Act}
 use Rattle.e3_types.specs.declared.entries.Act.TheVariants.{Step, Fall, Rise, RiseFall, Miss, Cut, Drop, Parts, Line}
@@ -15,14 +14,15 @@ use Rattle.e3_types.specs.declared.scenarios.Scenario.{Scenario}
 use Rattle.e3_world.specs.Given.{IsGiven}
 use Rattle.e3_world.specs.Items.{is_up_at}
 use Rattle.e3_world.specs.Legal.{Guard, IsLegal, LegalAfter, made_by}
-use Rattle.e3_world.specs.Logs.{logged_inc, logged_inc_by}
-use Rattle.e3_world.specs.Moves.{Move, Rose, Past, Tail, own, past_of, past_by, kept_moves, left_by, log_by, recorded, rise_records, birth, open_tail, moves_of}
+use Rattle.e3_world.specs.Logs.{logged_inc}
+use Rattle.e3_world.specs.Moves.{Move, Rose, Past, Tail, own, past_of, past_by, kept_moves, left_by, log_by, rise_records, birth, open_tail, moves_of}
 use Rattle.e3_world.specs.Progress.{up_behind}
 use Rattle.e3_world.proofs.Pushes.{past_push, legal_push}
 use Rattle.e3_world.proofs.Readings.{own_same, own_other, up_same, up_other}
-use Rattle.e3_law_trails.proofs.Holding.{Holds, legal_holds}
-use Rattle.e3_law_trails.proofs.Tracing.{OfTxn}
-use Rattle.e3_law_trails.proofs.Clocks.{due_says, says_records, fall_of_txn}
+use Rattle.e3_law_trails.proofs.Suits.Holding.{Holds, legal_holds}
+use Rattle.e3_law_trails.proofs.Operations.Tracing.{OfTxn}
+use Rattle.e3_law_trails.proofs.Sound.Clocks.{due_says, says_records, fall_of_txn, inc_more, inc_rise}
+use Rattle.e3_law_steps.proofs.Moving.{log_append}
 
 -- the site is one of the scenario's
 abbrev pub IsSite : Scenario → ℕ → Type 0
@@ -44,20 +44,6 @@ stand_append sc site before (x ∷ xs) ys first more =
     let P : List Record → Type 0 = λ l. StandAfter sc site l ys in
     (first.0, stand_append sc site (before ++ x ∷ []) xs ys first.1 (subst P (sym (append_assoc before (x ∷ []) xs)) more))
 
--- records of transactions leave the incarnation
-inc_from : (n : ℕ) (rs : List Record) → Each OfTxn rs → fold logged_inc_by n rs ≡ n
-inc_from n [] all = refl
-inc_from n (log.Birth format site weights rows ∷ rs) all = absurd all.0
-inc_from n (log.Inc m ∷ rs) all = absurd all.0
-inc_from n (r ∷ rs) all = inc_from n rs all.1
-
-inc_more : (was rs : List Record) → Each OfTxn rs → logged_inc (was ++ rs) ≡ logged_inc was
-inc_more was rs all = fold-append logged_inc_by 0 was rs ∙ inc_from (logged_inc was) rs all
-
-inc_rise : (sc : Scenario) (site inc : ℕ) (was log : List Record) → logged_inc (was ++ rise_records sc site inc log) ≡ inc
-inc_rise sc site inc was [] = fold-append logged_inc_by 0 was (rise_records sc site inc [])
-inc_rise sc site inc was (r ∷ rs) = fold-append logged_inc_by 0 was (rise_records sc site inc (r ∷ rs))
-
 stand_one : (sc : Scenario) (site : ℕ) (before : List Record) (r : Record) → OfTxn r → 1 ≤ logged_inc before → Stands sc site before r
 stand_one sc site before (log.Birth format number weights rows) is some = absurd is
 stand_one sc site before (log.Inc n) is some = absurd is
@@ -77,9 +63,6 @@ stand_txns sc site before (r ∷ rs) some all =
 stand_rise : (sc : Scenario) (site inc : ℕ) (rs : List Record) → IsSite sc site → inc ≡ suc (logged_inc rs) → StandAfter sc site rs (rise_records sc site inc rs)
 stand_rise sc site inc [] here next = ((refl, refl, here), (((λ e. absurd cc), next), tt))
 stand_rise sc site inc (r ∷ rs) here next = (((λ e. absurd cc), next), tt)
-
-pub log_append : (xs ys : List Move) → log_by (xs ++ ys) ≡ log_by xs ++ log_by ys
-log_append xs ys = flat_map-append recorded xs ys
 
 -- what holds of a site so far
 pub record Shaped (sc : Scenario) (site : ℕ) (w : Past) (up : Bool) : Type 0 where

@@ -15,32 +15,24 @@ use Rattle.e3_world.specs.Legal.{Guard, IsLegal, LegalAfter, AreDue, IsRise, ent
 use Rattle.e3_world.specs.Moves.{Move, Past, Tail, own, past_of, past_by, moves_of_act, kept_moves, left_by, log_by, rise_records, log_of, open_tail, moves_of}
 use Rattle.e3_world.specs.Progress.{up_behind}
 use Rattle.e3_world.proofs.Guards.{guard_step}
-use Rattle.e3_world.proofs.Numbers.{entered_move}
 use Rattle.e3_world.proofs.Pushes.{past_push, legal_push}
 use Rattle.e3_world.proofs.Readings.{own_same, own_other, up_same, up_other}
 use Rattle.e3_world.specs.Orderly.{IsOrderly}
 use Rattle.e3_law_trails.specs.Claims.{tail_records}
 use Rattle.e3_law_orderly.specs.Orderly.{LogsAreOrderly, TailsAreLogs, TailsAreOrderly}
-use Rattle.e3_law_orderly.proofs.Shape.{log_append}
+use Rattle.e3_law_steps.proofs.Moving.{log_append, log_on}
 
 -- some legal history has this log at the site
 abbrev pub IsLog : Scenario → ℕ → List Record → Type 0
 IsLog sc site records = (other : List Entry) × IsLegal sc other × (log_of sc other site ≡ records)
 
 -- the log behind one more entry of the site
-log_on : (sc : Scenario) (h : List Entry) (site : ℕ) (act : Act) →
+log_behind : (sc : Scenario) (h : List Entry) (site : ℕ) (act : Act) →
     log_of sc (h ++ record { owner = site; act = act } ∷ []) site ≡ log_of sc h site ++ log_by (moves_of_act sc site (past_of sc site (own site h)) act)
-log_on sc h site act =
+log_behind sc h site act =
     ap (λ l. log_by (past_of sc site l).moves) (own_same site h (record { owner = site; act = act }) (eq-eqb site site refl))
     ∙ ap (λ (p : Past). log_by p.moves) (past_push sc site (own site h) (record { owner = site; act = act }))
     ∙ log_append (moves_of sc h site) (moves_of_act sc site (past_of sc site (own site h)) act)
-
-step_log : (sc : Scenario) (h : List Entry) (site : ℕ) (i : Input) →
-    log_of sc (h ++ entry_of sc h site i ∷ []) site ≡ log_of sc h site ++ (made_by sc h site i).records
-step_log sc h site i =
-    log_on sc h site (entry_of sc h site i).act
-    ∙ ap (λ ms. log_of sc h site ++ log_by ms) (entered_move sc h site i)
-    ∙ ap (λ l. log_of sc h site ++ l) (append-nil (made_by sc h site i).records)
 
 -- the steps that a fall cut off
 steps_log : (sc : Scenario) (h : List Entry) (site : ℕ) (inputs : List Input) → 1 ≤ site → IsLegal sc h → is_up_at h site ≡ true → AreDue sc h site inputs →
@@ -52,7 +44,7 @@ steps_log sc h site (i ∷ inputs) here legal up due =
     (up_same h e site (eq-eqb site site refl) ∙ up) due.1 in (
       more.0,
       more.1,
-      more.2 ∙ ap (λ l. l ++ fall_records sc (h ++ e ∷ []) site inputs) (step_log sc h site i)
+      more.2 ∙ ap (λ l. l ++ fall_records sc (h ++ e ∷ []) site inputs) (log_on sc h site i)
           ∙ append_assoc (log_of sc h site) (made_by sc h site i).records (fall_records sc (h ++ e ∷ []) site inputs),
     )
 
@@ -67,7 +59,7 @@ rise_log sc h (suc o) kept inc here legal rise =
     let records : List Record = rise_records sc (suc o) inc (log_by (moves_of sc h (suc o) ++ silent)) in (
       h ++ record { owner = suc o; act = Rise kept inc } ∷ [],
       legal_push sc h (record { owner = suc o; act = Rise kept inc }) legal rise,
-      log_on sc h (suc o) (Rise kept inc)
+      log_behind sc h (suc o) (Rise kept inc)
           ∙ ap (λ l. log_of sc h (suc o) ++ l) (log_append silent _ ∙ ap (λ l. log_by silent ++ l) (append-nil records))
           ∙ sym (append_assoc (log_of sc h (suc o)) (log_by silent) records)
           ∙ ap (λ l. l ++ records) (sym (log_append (moves_of sc h (suc o)) silent)),

@@ -8,8 +8,8 @@ use Rattle.e3_types.specs.declared.transactions.NumOp.{NumOp}
 use Rattle.e3_types.specs.declared.transactions.Txn.{Txn}
 use Rattle.e3_world.specs.Orderly.{ops_ascend, is_free}
 use Rattle.e3_law_serial.specs.Ordered.{Follows, LogFollows}
-use Rattle.e3_law_serial.proofs.Entries.{In}
-use Rattle.e3_law_serial.proofs.Members.{in_back}
+use Rattle.e3_law_serial.proofs.Lists.Entries.{In}
+use Rattle.e3_law_serial.proofs.Lists.Members.{in_back}
 use Rattle.e3_law_orderly.proofs.Few.{OpsAreFew, VotesAreFew}
 
 -- what an orderly log asks of a vote's operations, over the records before it

@@ -18,7 +18,7 @@ pub folds_read : {B : Type 0} (read : List Note → B) (step : B → Note → B)
 folds_read read step h l [] = refl
 folds_read read step h l (r ∷ rs) = folds_read read step h (r ∷ l) rs ∙ ap (λ b. fold step b rs) (h r l)
 
-in_parts : {X : Type 0} (x : X) (xs ys : List X) → IsIn x (xs ++ ys) → IsIn x xs ⊎ IsIn x ys
+pub in_parts : {X : Type 0} (x : X) (xs ys : List X) → IsIn x (xs ++ ys) → IsIn x xs ⊎ IsIn x ys
 in_parts x [] ys h = inr h
 in_parts x (z ∷ zs) ys (inl e) = inl (inl e)
 in_parts x (z ∷ zs) ys (inr h) = elim (in_parts x zs ys h) [ inl a ↦ inl (inr a) | inr b ↦ inr b ]
@@ -57,10 +57,10 @@ notes_reach g s x l (r ∷ rs) e k may =
       },
     )
 
-log_more : (x : ℕ) (marks : List Mark) (m : Mark) → log_of x (marks ++ m ∷ []) ≡ log_by x (log_of x marks) m
+pub log_more : (x : ℕ) (marks : List Mark) (m : Mark) → log_of x (marks ++ m ∷ []) ≡ log_by x (log_of x marks) m
 log_more x marks m = fold-append (log_by x) [] marks (m ∷ [])
 
-sent_more : (marks : List Mark) (m : Mark) → sent_of (marks ++ m ∷ []) ≡ sent_of marks ++ m.sends
+pub sent_more : (marks : List Mark) (m : Mark) → sent_of (marks ++ m ∷ []) ≡ sent_of marks ++ m.sends
 sent_more marks m = flat_map-append (λ (k : Mark). k.sends) marks (m ∷ []) ∙ ap (λ ps. sent_of marks ++ ps) (append-nil m.sends)
 
 pub mark_reaches : (g : Party) (marks : List Mark) (m : Mark) → Reachable g (situation_of marks) → MayMark g (situation_of marks) m → Reachable g (situation_of (marks ++ m ∷ []))
@@ -108,7 +108,7 @@ said_stands s x y (Report n (Final f) a) d h e = subst (λ z. IsIn (Decision z) 
 said_stands s x y (Decide f) d h e = subst (λ z. IsIn (Decision z) (s.log x)) (let q : f ≡ d = cc in q) h
 said_stands s x y m d h e = cc
 
-in_behind : (r : Note) (l rs : List Note) → IsIn r l → IsIn r (behind l rs)
+pub in_behind : (r : Note) (l rs : List Note) → IsIn r l → IsIn r (behind l rs)
 in_behind r l [] h = h
 in_behind r l (q ∷ rs) h = in_behind r (q ∷ l) rs (inr h)
 

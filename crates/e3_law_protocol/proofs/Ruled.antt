@@ -19,7 +19,7 @@ use Rattle.e3_law_protocol.specs.Verdicts.{status_in, reply_of, TopAsks, HaveMos
 abbrev replies : List SiteReport → List Reply
 replies rs = map reply_of rs
 
-same_means : (st su : State) → same_state st su ≡ true → st ≡ su
+pub same_means : (st su : State) → same_state st su ≡ true → st ≡ su
 same_means Q Q h = refl
 same_means W W h = refl
 same_means Pc Pc h = refl

@@ -15,8 +15,9 @@ use Rattle.e3_law_protocol.proofs.Agree.{agrees}
 use Rattle.e3_law_protocol.proofs.Keep.{law}
 use Rattle.e3_law_protocol.proofs.Shares.{majorities_overlap}
 use Rattle.e3_law_refinement.specs.Trails.{marks_of, IsMade}
-use Rattle.e3_law_refinement.proofs.Lists.{in_parts, in_map, in_left, in_right, same_from}
+use Rattle.e3_law_refinement.proofs.Lists.{in_map, in_left, in_right, same_from}
 use Rattle.e3_law_refinement.proofs.Following.{TrailOk, made_ok, in_from_contains}
+use Rattle.e3_law_protocol.proofs.Reached.{in_parts}
 
 -- a record at a site
 abbrev pub put : ℕ → Record → Placed

@@ -22,11 +22,12 @@ use Rattle.e3_law_protocol.proofs.Shares.{in_from_has}
 use Rattle.std.proofs.lemmas.Bool.{cond-true}
 use Rattle.e3_law_protocol.specs.Marks.{behind}
 use Rattle.e3_law_refinement.specs.Rows.{Here, party, leader, notes_now, Stands, Good}
-use Rattle.e3_law_refinement.proofs.Lists.{has_from_in, same_is, same_from, only_one}
+use Rattle.e3_law_refinement.proofs.Lists.{has_from_in, same_from, only_one}
 use Rattle.e3_law_refinement.proofs.Sites.{within_in}
 use Rattle.e3_law_refinement.proofs.Makers.{MayLeave, now_push, first_stays, first_join, keep_record, keep_send, keep_cast}
 use Rattle.e3_law_refinement.proofs.Tests.{of_txn, open_means, elected_means, attempt_means, attempt_in, stands_as, reads_now}
 use Rattle.e3_law_refinement.proofs.Deciding.{only_word, keep_decide_cast}
+use Rattle.e3_law_steps.proofs.Tests.{same_is}
 
 -- the notes behind an attempt of the transaction
 pub attempt_now_is : (h : Here) (made : Made) (u : Txn) (n : ℕ) (d : Dir) → h.txn ≡ u → notes_now h (and_record (log.Attempt u n d) made) ≡ Attempt n d ∷ notes_now h made

@@ -19,8 +19,9 @@ use Rattle.e3_law_protocol.specs.Rules.{Word, Decide, MayWrite, MayDecide}
 use Rattle.e3_law_protocol.specs.Marks.{behind}
 use Rattle.e3_law_refinement.specs.Views.{word_if}
 use Rattle.e3_law_refinement.specs.Rows.{Here, party, notes_now, Good}
-use Rattle.e3_law_refinement.proofs.Lists.{same_is, only_one}
+use Rattle.e3_law_refinement.proofs.Lists.{only_one}
 use Rattle.e3_law_refinement.proofs.Makers.{MayLeave, now_push, first_stays, keep_record, keep_tell, keep_send, keep_cast}
+use Rattle.e3_law_steps.proofs.Tests.{same_is}
 
 -- the word of a message, where it is of the transaction
 pub only_word : (P : Word → Type 0) (b : Bool) (w : Word) → (b ≡ true → P w) → (v : Word) → IsIn v (word_if b w) → P v

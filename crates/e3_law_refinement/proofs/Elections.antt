@@ -21,7 +21,7 @@ use Rattle.e3_law_protocol.specs.Logs.{IsIn, Note, Join, elected, attempt, statu
 use Rattle.e3_law_protocol.specs.Rules.{Other, Elected, Report, Came, Replied, own_reply}
 use Rattle.e3_law_protocol.specs.Verdicts.{status_in, reply_of}
 use Rattle.e3_law_refinement.specs.Rows.{Here, leader, own_log, notes_now, Stands, Good}
-use Rattle.e3_law_refinement.proofs.Lists.{same_is, has_from_in}
+use Rattle.e3_law_refinement.proofs.Lists.{has_from_in}
 use Rattle.e3_law_refinement.proofs.Sites.{within_in}
 use Rattle.e3_law_refinement.proofs.Makers.{MayLeave, keep_cast}
 use Rattle.e3_law_refinement.proofs.Tests.{of_txn, reads_now, elected_means, attempt_means, stands_as}
@@ -30,6 +30,8 @@ use Rattle.e3_law_refinement.proofs.Attempts.{keep_join, join_now_is}
 use Rattle.e3_law_refinement.proofs.Gathered.{Reported, ElectionStands, ElectionOk, NumberedOk, hear_ok, take_ok, election_stands}
 use Rattle.e3_law_refinement.proofs.Inputs.{good_nothing}
 use Rattle.e3_law_refinement.proofs.Verdicts.{AtVerdict, row_verdict}
+use Rattle.e3_law_steps.proofs.Rules.{behind_join}
+use Rattle.e3_law_steps.proofs.Tests.{same_is}
 
 -- messages record nothing
 pub cast_records : (a : At) (sites : List ℕ) (m : Message) (made : Made) → (and_cast a sites m made).records ≡ made.records
@@ -81,11 +83,6 @@ row_report h u n r s member came = by (election_in_progress a.site a.life.inc u 
     by : (o : Option Election) → election_in_progress a.site a.life.inc u a.life.steps ≡ o → Good h (on_report a u n r nothing)
     by None is = rw is (good_nothing h)
     by (Some e) is = takes e is (take_report e n r) refl
-
--- what follows a join: alone in its group, the site concludes
-abbrev if_alone : At → Txn → ℕ → Election → SiteReport → List ℕ → Made → Made
-if_alone a u n e report [] more = and_verdict a u n e.group (report ∷ []) more
-if_alone a u n e report (s ∷ ss) more = more
 
 -- the whole group was heard: the site joins its own election, and alone it concludes at once
 pub row_join : (h : Here) (made : Made) (u : Txn) (e : Election) → Stands h → Good h made → made.records ≡ [] → leader h ≡ h.at.site → (h.txn ≡ u → has_site u.sites h.at.site ≡ true)
@@ -154,7 +151,7 @@ row_join h made u e s good bare led member ok = by (all_heard e && nat_lt (great
         only r (inl q) = subst (λ (z : SiteReport). Replied h.before.sent (Join n a.site ∷ own_log h) a.site n (reply_of z)) (sym q) (inr (own same))
         only r (inr q) = absurd q
 
-    alone : nat_le (elected_now a u made) (greatest_heard e) ≡ true → (l : List ℕ) → Good h (if_alone a u n e report l said)
+    alone : nat_le (elected_now a u made) (greatest_heard e) ≡ true → (l : List ℕ) → Good h (behind_join a u n e report l said)
     alone low [] =
         row_verdict h said u n e.group (report ∷ []) s (said_good low) member
         (λ same. subst (λ (v : Txn). is_within e.group v.sites ≡ true) same (ok same).within)

@@ -29,9 +29,10 @@ use Rattle.e3_law_protocol.specs.Weights.{party_of}
 use Rattle.e3_law_refinement.specs.Views.{notes_of, leader_of, words_of, letters_in, letters_of}
 use Rattle.e3_law_refinement.specs.Trails.{silent_marks, marks_in, marks_after, marks_of, TakenInTurn, IsMadeTail, IsMadeRise, IsMadeMove, MadeAfter, IsMade}
 use Rattle.e3_law_refinement.specs.Rows.{IsWell, MayTake, IsFromAway, Reads, WasHeard}
-use Rattle.e3_law_refinement.proofs.Lists.{in_parts, in_map, in_left, in_right}
+use Rattle.e3_law_refinement.proofs.Lists.{in_map, in_left, in_right}
 use Rattle.e3_law_refinement.proofs.Readings.{reads_more}
-use Rattle.e3_law_refinement.proofs.Growing.{here, SiteOk, sent_stays, sent_mark, site_stays, step_mark, site_step, Stepping, stepping}
+use Rattle.e3_law_refinement.proofs.Growing.{here, SiteOk, sent_stays, site_stays, step_mark, site_step, Stepping, stepping}
+use Rattle.e3_law_protocol.proofs.Reached.{in_parts, sent_more}
 
 pub in_from_contains : {X : Type 0} (xs : List X) (x : X) → Contains xs x → IsIn x xs
 in_from_contains [] x has = absurd (omega (arith, has.1))
@@ -359,7 +360,7 @@ step_ok sc t before marks x i ok fits was =
         by : IsIn p (flat_map sends before) ⊎ IsIn p (map plain made.outs) → IsIn q (sent_of (marks ++ mark ∷ []))
         by (inl old) = sent_stays marks mark q (ok.sent p old q j)
         by (inr new) =
-            subst (λ z. IsIn q z) (sym (sent_mark marks mark))
+            subst (λ z. IsIn q z) (sym (sent_more marks mark))
             (in_right q (sent_of marks) (letters_of t made.outs) (subst (λ z. IsIn q z) (letters_plain t made.outs) (in_letters t p (map plain made.outs) q new j)))
 
 move_ok : (sc : Scenario) (t : Txn) (before : List Move) (marks : List Mark) (x : ℕ) (d : Did) → TrailOk sc t before marks → IsMadeMove sc before (record { site = x; did = d })

@@ -25,9 +25,10 @@ use Rattle.e3_law_protocol.specs.Verdicts.{status_in, reply_of}
 use Rattle.e3_law_protocol.specs.Weights.{differ}
 use Rattle.e3_law_refinement.specs.Views.{words_of, leader_of}
 use Rattle.e3_law_refinement.specs.Rows.{Here, own_log, WasHeard, ElectFits, Left, Stands}
-use Rattle.e3_law_refinement.proofs.Lists.{in_parts, same_is}
 use Rattle.e3_law_refinement.proofs.Sites.{differ_push, within_push}
 use Rattle.e3_law_refinement.proofs.Gatherings.{in_word}
+use Rattle.e3_law_steps.proofs.Tests.{same_is}
+use Rattle.e3_law_protocol.proofs.Reached.{in_parts}
 
 abbrev pub reporters : List SiteReport → List ℕ
 reporters reports = map (λ r. r.site) reports

@@ -27,8 +27,10 @@ use Rattle.e3_law_protocol.specs.Rules.{Word, Yes, Ack, Came}
 use Rattle.e3_law_protocol.specs.Weights.{differ}
 use Rattle.e3_law_refinement.specs.Views.{words_of, word_if}
 use Rattle.e3_law_refinement.specs.Rows.{Here, own_log, WasHeard, ElectFits, Left, Stands}
-use Rattle.e3_law_refinement.proofs.Lists.{in_parts, same_is, same_dir_is}
+use Rattle.e3_law_refinement.proofs.Lists.{same_dir_is}
 use Rattle.e3_law_refinement.proofs.Sites.{within_others, away_others, differ_push, within_push, within_trans}
+use Rattle.e3_law_steps.proofs.Tests.{same_is}
+use Rattle.e3_law_protocol.proofs.Reached.{in_parts}
 
 -- the word of a message of the transaction
 pub in_word : (b : Bool) (w : Word) → b ≡ true → IsIn w (word_if b w)

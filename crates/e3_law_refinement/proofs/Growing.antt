@@ -1,8 +1,6 @@
 -- What stands at a site goes on to stand as marks are made.
-use Rattle.std.proofs.Common.{false, ◌≡◌, ◌⊎◌, inl, inr, ◌∷◌, [], ◌++◌, ◌==◌, ℕ, List, map, refl, sym, ap, subst, ◌∙◌, arith, eqb-true, eq-eqb, append-nil}
+use Rattle.std.proofs.Common.{false, ◌≡◌, ◌⊎◌, inl, inr, ◌∷◌, [], ◌++◌, ◌==◌, ℕ, List, map, refl, sym, ap, subst, ◌∙◌, arith, eqb-true, eq-eqb}
 use Rattle.std.proofs.lemmas.Bool.{cond-true, cond-false, false_from_ne_true}
-use Rattle.std.proofs.lemmas.List.Sums.{fold-append}
-use Rattle.std.proofs.lemmas.List.Concat.{flat_map-append}
 use Rattle.e3_types.specs.declared.entries.Input.{Input}
 use Rattle.e3_types.specs.declared.entries.Input.TheVariants as input
 use Rattle.e3_types.specs.declared.messages.Packet.{Packet}
@@ -19,17 +17,17 @@ use Rattle.e3_world.specs.Moves.{plain, plain_input}
 use Rattle.e3_world.specs.Steps.{step_at}
 use Rattle.e3_law_protocol.specs.Logs.{IsIn, Note, Vote, Join, Attempt, Decision, attempt, status, before_join, Orderly}
 use Rattle.e3_law_protocol.specs.Rules.{Party, Letter, letter, Came, MayWrite, Reachable}
-use Rattle.e3_law_protocol.specs.Marks.{Mark, behind, log_by, log_of, sent_of, situation_of, MayWriteAll, MayMark}
+use Rattle.e3_law_protocol.specs.Marks.{Mark, behind, log_of, sent_of, situation_of, MayWriteAll, MayMark}
 use Rattle.e3_law_protocol.specs.Verdicts.{status_in}
 use Rattle.e3_law_protocol.specs.Weights.{party_of}
 use Rattle.e3_law_protocol.proofs.Keep.{law}
 use Rattle.e3_law_protocol.proofs.Logs.{join_bound}
-use Rattle.e3_law_protocol.proofs.Reached.{mark_reaches}
+use Rattle.e3_law_protocol.proofs.Reached.{mark_reaches, in_parts, in_behind, log_more, sent_more}
 use Rattle.e3_law_protocol.proofs.Shares.{majorities_overlap}
 use Rattle.e3_law_refinement.specs.Views.{notes_of, leader_of, words_of, letters_of}
 use Rattle.e3_law_refinement.specs.Rows.{IsWell, MayTake, IsFromAway, Here, Reads, WasHeard, ElectFits, JoinStands, Left, Stands, Good}
-use Rattle.e3_law_refinement.proofs.Lists.{in_parts, in_left, in_right}
-use Rattle.e3_law_refinement.proofs.Readings.{reads_more, in_behind}
+use Rattle.e3_law_refinement.proofs.Lists.{in_left, in_right}
+use Rattle.e3_law_refinement.proofs.Readings.{reads_more}
 use Rattle.e3_law_refinement.proofs.Tests.{stands_as}
 use Rattle.e3_law_refinement.proofs.Whole.{good_step}
 
@@ -46,21 +44,15 @@ pub record SiteOk (sc : Scenario) (t : Txn) (marks : List Mark) (x : ℕ) (life 
   pub reads : Reads t life.log (log_of x marks)
   pub left : (i : Input) (m : Moment) → IsIn m life.steps → Left (here sc t marks x life i) m
 
-pub log_mark : (x : ℕ) (marks : List Mark) (m : Mark) → log_of x (marks ++ m ∷ []) ≡ log_by x (log_of x marks) m
-log_mark x marks m = fold-append (log_by x) [] marks (m ∷ [])
-
 pub log_here : (marks : List Mark) (m : Mark) → log_of m.site (marks ++ m ∷ []) ≡ behind (log_of m.site marks) m.notes
-log_here marks m = log_mark m.site marks m ∙ cond-true (m.site == m.site) (behind (log_of m.site marks) m.notes) (log_of m.site marks) (eq-eqb m.site m.site refl)
+log_here marks m = log_more m.site marks m ∙ cond-true (m.site == m.site) (behind (log_of m.site marks) m.notes) (log_of m.site marks) (eq-eqb m.site m.site refl)
 
 pub log_there : (x : ℕ) (marks : List Mark) (m : Mark) → (x ≡ m.site → ⊥) → log_of x (marks ++ m ∷ []) ≡ log_of x marks
 log_there x marks m other =
-    log_mark x marks m ∙ cond-false (m.site == x) (behind (log_of x marks) m.notes) (log_of x marks) (false_from_ne_true (m.site == x) (λ q. other (sym (eqb-true m.site x q))))
-
-pub sent_mark : (marks : List Mark) (m : Mark) → sent_of (marks ++ m ∷ []) ≡ sent_of marks ++ m.sends
-sent_mark marks m = flat_map-append (λ (k : Mark). k.sends) marks (m ∷ []) ∙ ap (λ z. sent_of marks ++ z) (append-nil m.sends)
+    log_more x marks m ∙ cond-false (m.site == x) (behind (log_of x marks) m.notes) (log_of x marks) (false_from_ne_true (m.site == x) (λ q. other (sym (eqb-true m.site x q))))
 
 pub sent_stays : (marks : List Mark) (m : Mark) (p : Letter) → IsIn p (sent_of marks) → IsIn p (sent_of (marks ++ m ∷ []))
-sent_stays marks m p k = subst (λ z. IsIn p z) (sym (sent_mark marks m)) (in_left p (sent_of marks) m.sends k)
+sent_stays marks m p k = subst (λ z. IsIn p z) (sym (sent_more marks m)) (in_left p (sent_of marks) m.sends k)
 
 -- one note more leaves what stood before an earlier join
 join_stays : (g : Party) (sent : List Letter) (l : List Note) (x n e : ℕ) (r : Note) → IsIn (Join n e) l → MayWrite g sent l x r → before_join n (r ∷ l) ≡ before_join n l
@@ -169,7 +161,7 @@ site_steps sc t g marks x life i made sends ok ordered heard fits may good = rec
     })
     left j m (inr (inr e)) = absurd e
 
-elect_fits : (x : ℕ) (i : Input) → MayTake x i → ElectFits x (plain_input i)
+pub elect_fits : (x : ℕ) (i : Input) → MayTake x i → ElectFits x (plain_input i)
 elect_fits x (input.Elect u group) fits = (fits.1, fits.2)
 elect_fits x (input.Begin sites) fits = tt
 elect_fits x (input.Do u op) fits = tt
@@ -178,7 +170,7 @@ elect_fits x (input.Cancel u) fits = tt
 elect_fits x (input.Expire u) fits = tt
 elect_fits x (input.Deliver packet) fits = tt
 
-takes_plain : (x : ℕ) (i : Input) → MayTake x i → MayTake x (plain_input i)
+pub takes_plain : (x : ℕ) (i : Input) → MayTake x i → MayTake x (plain_input i)
 takes_plain x (input.Deliver packet) fits = fits
 takes_plain x (input.Elect u group) fits = fits
 takes_plain x (input.Begin sites) fits = fits
@@ -200,7 +192,7 @@ pub stepping : (sc : Scenario) (t : Txn) (marks : List Mark) (x : ℕ) (life : L
     → ((p : Letter) → IsIn p sends → IsIn p (letters_of t (step_at (here sc t marks x life i).at).outs)) → Stepping sc t marks x life i sends
 stepping sc t marks x life i sends reach ok well fits heard away some = record {
   may = may;
-  well = λ p k. new_well p (in_parts p (sent_of marks) sends (subst (λ z. IsIn p z) (sent_mark marks (step_mark t x i made sends)) k));
+  well = λ p k. new_well p (in_parts p (sent_of marks) sends (subst (λ z. IsIn p z) (sent_more marks (step_mark t x i made sends)) k));
   outs = good.outs;
   reach = mark_reaches (party_of sc.weights t) marks (step_mark t x i made sends) reach may;
   site = site_steps sc t (party_of sc.weights t) marks x life i made sends ok (stands.kept.orderly x) heard stands.fits good.notes good;

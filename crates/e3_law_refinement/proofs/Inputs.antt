@@ -23,7 +23,7 @@ use Rattle.e3_world.specs.Steps.{refuse, refuse_late, or_refused, is_begin, on_b
 use Rattle.e3_law_protocol.specs.Logs.{IsIn}
 use Rattle.e3_law_protocol.specs.Rules.{Other, MovesOn, CallsOff, MayDecide}
 use Rattle.e3_law_refinement.specs.Rows.{Here, party, notes_now, Stands, Good}
-use Rattle.e3_law_refinement.proofs.Lists.{in_others, same_from, same_is, has_from_in}
+use Rattle.e3_law_refinement.proofs.Lists.{in_others, same_from, has_from_in}
 use Rattle.e3_law_refinement.proofs.Sites.{others_in, within_self}
 use Rattle.e3_law_refinement.proofs.Readings.{open_is}
 use Rattle.e3_law_refinement.proofs.Makers.{MayLeave, keep_tell, keep_send}
@@ -31,6 +31,7 @@ use Rattle.e3_law_refinement.proofs.Tests.{of_txn, reads_now, attempt_means, may
 use Rattle.e3_law_refinement.proofs.Deciding.{only_word, keep_abort, keep_decide}
 use Rattle.e3_law_refinement.proofs.Votes.{keep_vote, vote_stands, vote_now_waits}
 use Rattle.e3_law_refinement.proofs.Attempts.{keep_attempt}
+use Rattle.e3_law_steps.proofs.Tests.{same_is}
 
 pub good_nothing : (h : Here) → Good h nothing
 good_nothing h = record { notes = tt; outs = λ p k. absurd k; from_here = λ p k. absurd k; sends = λ p k. absurd k; own = refl; joins = λ n is. absurd (let none : None ≡ Some n = is in cc) }

@@ -1,5 +1,5 @@
 -- Members of lists, and transactions that are one.
-use Rattle.std.proofs.Common.{◌≡◌, ◌⊎◌, inl, inr, ◌∷◌, [], ◌++◌, ◌==◌, ℕ, Bool, true, false, List, refl, sym, ap, subst, ◌∙◌, if◌then◌else◌, map, eqb-true, eq-eqb, cond, ◌||◌}
+use Rattle.std.proofs.Common.{◌≡◌, inl, inr, ◌∷◌, [], ◌++◌, ◌==◌, ℕ, Bool, true, false, List, refl, sym, ap, subst, ◌∙◌, if◌then◌else◌, map, eqb-true, eq-eqb, cond, ◌||◌}
 use Rattle.std.specs.Prelude.{not}
 use Rattle.e3_types.specs.Sets.{has_site, others}
 use Rattle.e3_types.proofs.SameSites.{same_numbers_refl}
@@ -7,11 +7,10 @@ use Rattle.std.specs.List.{flat_map}
 use Rattle.std.proofs.lemmas.Bool.{and_parts}
 use Rattle.e3_types.specs.declared.transactions.Dir.{Dir}
 use Rattle.e3_types.specs.declared.transactions.Dir.TheVariants.{Abort, Commit}
-use Rattle.e3_types.specs.declared.transactions.State.{State}
-use Rattle.e3_types.specs.declared.transactions.State.TheVariants.{Q, W, Pc, Pa, C, A}
 use Rattle.e3_types.specs.declared.transactions.Txn.{Txn}
-use Rattle.e3_types.specs.Same.{same_txn, same_numbers, same_dir, same_state}
+use Rattle.e3_types.specs.Same.{same_txn, same_numbers, same_dir}
 use Rattle.e3_law_protocol.specs.Logs.{IsIn}
+use Rattle.e3_law_protocol.proofs.Reached.{in_parts}
 
 pub in_left : {X : Type 0} (x : X) (xs ys : List X) → IsIn x xs → IsIn x (xs ++ ys)
 in_left x [] ys h = absurd h
@@ -21,11 +20,6 @@ in_left x (z ∷ zs) ys (inr h) = inr (in_left x zs ys h)
 pub in_right : {X : Type 0} (x : X) (xs ys : List X) → IsIn x ys → IsIn x (xs ++ ys)
 in_right x [] ys h = h
 in_right x (z ∷ zs) ys h = inr (in_right x zs ys h)
-
-pub in_parts : {X : Type 0} (x : X) (xs ys : List X) → IsIn x (xs ++ ys) → IsIn x xs ⊎ IsIn x ys
-in_parts x [] ys h = inr h
-in_parts x (z ∷ zs) ys (inl e) = inl (inl e)
-in_parts x (z ∷ zs) ys (inr h) = elim (in_parts x zs ys h) [ inl a ↦ inl (inr a) | inr b ↦ inr b ]
 
 pub in_map : {X Y : Type 0} (f : X → Y) (y : Y) (xs : List X) → IsIn y (map f xs) → (x : X) × IsIn x xs × (y ≡ f x)
 in_map f y [] h = absurd h
@@ -46,31 +40,11 @@ same_numbers_are (x ∷ xs) (y ∷ ys) h =
 same_numbers_are [] (y ∷ ys) h = cc
 same_numbers_are (x ∷ xs) [] h = cc
 
-pub same_is : (t u : Txn) → same_txn t u ≡ true → t ≡ u
-same_is t u is =
-    let a : _ = and_parts _ _ is in
-    let b : _ = and_parts _ _ a.0 in
-    let c : _ = and_parts _ _ b.0 in
-    let site : t.site ≡ u.site = eqb-true t.site u.site c.0 in
-    let inc : t.inc ≡ u.inc = eqb-true t.inc u.inc c.1 in
-    let seq : t.seq ≡ u.seq = eqb-true t.seq u.seq b.1 in
-    let sites : t.sites ≡ u.sites = same_numbers_are t.sites u.sites a.1 in
-    λ i. record { site = site i; inc = inc i; seq = seq i; sites = sites i }
-
 pub same_dir_is : (d e : Dir) → same_dir d e ≡ true → d ≡ e
 same_dir_is Abort Abort h = refl
 same_dir_is Commit Commit h = refl
 same_dir_is Abort Commit h = cc
 same_dir_is Commit Abort h = cc
-
-pub same_state_is : (st su : State) → same_state st su ≡ true → st ≡ su
-same_state_is Q Q h = refl
-same_state_is W W h = refl
-same_state_is Pc Pc h = refl
-same_state_is Pa Pa h = refl
-same_state_is C C h = refl
-same_state_is A A h = refl
-same_state_is st su h = cc
 
 -- whatever is in a list of one, if it is there at all
 pub only_one : {X : Type 0} (P : X → Type 0) (b : Bool) (m : X) → (b ≡ true → P m) → (n : X) → IsIn n (if b then m ∷ [] else []) → P n

@@ -1,9 +1,7 @@
 -- What a rule adds to a step keeps the protocol's rules.
 use Rattle.std.proofs.Common.{◌≡◌, ◌⊎◌, inl, inr, ◌∷◌, [], ◌++◌, ◌==◌, ℕ, Bool, true, false, List, Option, Some, None, refl, sym, ap, subst, ◌∙◌, arith, if◌then◌else◌, append-nil}
-use Rattle.std.specs.List.{list_all}
 use Rattle.std.proofs.lemmas.Bool.{cond-false, eqb-true, false_from_ne_true}
 use Rattle.std.proofs.lemmas.List.Concat.{flat_map-append}
-use Rattle.std.proofs.lemmas.List.Folds.{list_all-append}
 use Rattle.e3_types.specs.declared.entries.Told.{Told}
 use Rattle.e3_types.specs.declared.messages.Message.{Message}
 use Rattle.e3_types.specs.declared.messages.Packet.{Packet}
@@ -21,8 +19,10 @@ use Rattle.e3_law_protocol.specs.Marks.{behind, MayWriteAll}
 use Rattle.e3_law_protocol.proofs.Logs.{join_bound}
 use Rattle.e3_law_refinement.specs.Views.{note_of, notes_of, words_of, letters_in, letters_of}
 use Rattle.e3_law_refinement.specs.Rows.{IsWell, is_for_members, Here, own_log, party, leader, notes_now, Good, JoinsFirst, waits_here}
-use Rattle.e3_law_refinement.proofs.Lists.{in_parts, in_map}
+use Rattle.e3_law_refinement.proofs.Lists.{in_map}
 use Rattle.e3_law_refinement.proofs.Readings.{behind-append}
+use Rattle.e3_law_steps.proofs.Lists.{one_more}
+use Rattle.e3_law_protocol.proofs.Reached.{in_parts}
 
 -- a record is one note of the transaction, or none
 one_or_none : (t : Txn) (e : ℕ) (r : Record) → (note_of t e r ≡ []) ⊎ ((n : Note) × (note_of t e r ≡ n ∷ []))
@@ -151,9 +151,6 @@ keep_record h made r good first may = by (one_or_none h.txn (leader h) r)
 
 pub keep_tell : (h : Here) (made : Made) (e : Told) → Good h made → Good h (and_tell e made)
 keep_tell h made e good = record { notes = good.notes; outs = good.outs; from_here = good.from_here; sends = good.sends; own = good.own; joins = good.joins }
-
-one_more : {X : Type 0} (p : X → Bool) (xs : List X) (x : X) → list_all p xs ≡ true → p x ≡ true → list_all p (xs ++ x ∷ []) ≡ true
-one_more p xs x all this = rw (list_all-append, all, this) refl
 
 letters_push : (t : Txn) (ps : List Packet) (p : Packet) → letters_of t (ps ++ p ∷ []) ≡ letters_of t ps ++ letters_in t p
 letters_push t ps p = flat_map-append (letters_in t) ps (p ∷ []) ∙ ap (λ z. letters_of t ps ++ z) (append-nil (letters_in t p))

@@ -19,16 +19,17 @@ use Rattle.e3_world.specs.declared.lives.At.{At}
 use Rattle.e3_world.specs.declared.lives.Expected.{Expected}
 use Rattle.e3_world.specs.declared.lives.Made.{Made}
 use Rattle.e3_world.specs.Logs.{key_of, mode_of}
-use Rattle.e3_world.specs.Making.{log_now, state_now, is_coordinator, is_present, open_now, may_abort, may_decide, and_tell, and_send, and_abort, and_abort_for, and_do, and_decide}
+use Rattle.e3_world.specs.Making.{log_now, state_now, is_coordinator, is_present, open_now, may_abort, may_decide, and_tell, and_send, and_abort, and_abort_for, and_decide}
 use Rattle.e3_world.specs.OperationRules.{on_do, on_done, on_died}
 use Rattle.e3_world.specs.Operations.{same_asked, answers, waiting, holders, queue, expected}
 use Rattle.e3_law_protocol.specs.Rules.{No, Decide, IsTold, Came}
 use Rattle.e3_law_refinement.specs.Rows.{Here, notes_now, Stands, Good}
-use Rattle.e3_law_refinement.proofs.Lists.{same_is}
 use Rattle.e3_law_refinement.proofs.Readings.{decision_in}
 use Rattle.e3_law_refinement.proofs.Makers.{MayLeave, keep_tell, keep_send}
 use Rattle.e3_law_refinement.proofs.Tests.{state_means, may_abort_means, may_refuse, may_decide_means}
 use Rattle.e3_law_refinement.proofs.Deciding.{only_word, MayHere, keep_decide, decide_stands, keep_abort, keep_abort_for, keep_do}
+use Rattle.e3_law_steps.proofs.Rules.{by_grant, dies}
+use Rattle.e3_law_steps.proofs.Tests.{same_is}
 
 -- a no of a site that aborted
 pub keep_no : (h : Here) (made : Made) (f : ℕ) (u : Txn) → Stands h → Good h made → state_now h.at u made ≡ A → Good h (and_send h.at f (msg.Vote u false) made)
@@ -36,15 +37,6 @@ keep_no h made f u s good is =
     keep_send h made f (msg.Vote u false) good (λ q. refl)
     (only_word (λ w. MayLeave h (notes_now h made) f w) (same_txn h.txn u) No
     (λ q. (decision_in Abort (notes_now h made) (state_means h made u s (same_is h.txn u q) A is), λ n. cc)))
-
-abbrev dies : At → Txn → ℕ → Made → Txn → Bool → Made
-dies a u n made older true = and_abort_for a u (told.Died u older) made
-dies a u n made older false = and_send a u.site (msg.Died u n older) (and_decide a u Abort made)
-
-abbrev by_grant : At → Txn → ℕ → Op → Made → Grant → Made
-by_grant a u n op made Held = and_do a u n op made
-by_grant a u n op made Waits = made
-by_grant a u n op made (Dies older) = dies a u n made older (is_coordinator a u)
 
 keep_grant : (h : Here) (made : Made) (u : Txn) (n : ℕ) (op : Op) (g : Grant) → Good h made → MayHere h made u Abort → Good h (by_grant h.at u n op made g)
 keep_grant h made u n op Held good may = keep_do h made u n op good

@@ -12,7 +12,8 @@ use Rattle.e3_law_protocol.specs.Logs.{Orderly, IsIn, Note, Vote, Join, Attempt,
 use Rattle.e3_law_protocol.specs.Marks.{behind}
 use Rattle.e3_law_refinement.specs.Views.{note_of, notes_of, decided, tried, has_vote}
 use Rattle.e3_law_refinement.specs.Rows.{Reads}
-use Rattle.e3_law_refinement.proofs.Lists.{in_parts}
+use Rattle.e3_law_steps.proofs.Tests.{or_false, or_true}
+use Rattle.e3_law_protocol.proofs.Reached.{in_parts, in_behind}
 
 elects_by : (t : Txn) (e : ℕ) (l : List Note) (r : Record) (n : ℕ) → n ≡ elected l → last_elected_by t n r ≡ elected (behind l (note_of t e r))
 elects_by t e l (log.Vote u ops) n k = go (same_txn t u)
@@ -110,14 +111,6 @@ tries_by t e l (log.Decision u d) n k = go (same_txn t u)
 tries_by t e l (log.Birth format site weights rows) n k = k
 tries_by t e l (log.Inc inc) n k = k
 
-or_false : (b : Bool) → (b || false) ≡ b
-or_false true = refl
-or_false false = refl
-
-or_true : (b : Bool) → (b || true) ≡ true
-or_true true = refl
-or_true false = refl
-
 votes_by : (t : Txn) (e : ℕ) (l : List Note) (r : Record) (b : Bool) → b ≡ has_vote l → (b || (is_vote t r || false)) ≡ has_vote (behind l (note_of t e r))
 votes_by t e l (log.Vote u ops) v k = go (same_txn t u)
   where
@@ -150,10 +143,6 @@ any_append t (x ∷ xs) ys = go (is_vote t x) (any_append t xs ys)
     go true h = refl
     go false h = h
 
-pub in_behind : (x : Note) (l ns : List Note) → IsIn x l → IsIn x (behind l ns)
-in_behind x l [] h = h
-in_behind x l (n ∷ ns) h = in_behind x (n ∷ l) ns (inr h)
-
 pub has_from_vote : (l : List Note) → IsIn Vote l → has_vote l ≡ true
 has_from_vote [] k = absurd k
 has_from_vote (Vote ∷ l) k = refl
@@ -164,7 +153,7 @@ has_from_vote (Attempt n d ∷ l) (inr k) = has_from_vote l k
 has_from_vote (Decision d ∷ l) (inl p) = cc
 has_from_vote (Decision d ∷ l) (inr k) = has_from_vote l k
 
-orderly_front : (l ns : List Note) → Orderly (behind l ns) → Orderly l
+pub orderly_front : (l ns : List Note) → Orderly (behind l ns) → Orderly l
 orderly_front l [] o = o
 orderly_front l (n ∷ ns) o = (orderly_front (n ∷ l) ns o).1
 

@@ -23,13 +23,15 @@ use Rattle.e3_law_protocol.specs.Rules.{MovesOn, Came, Ack, HasWon, MayDecide}
 use Rattle.e3_law_protocol.specs.Weights.{is_majority}
 use Rattle.e3_law_refinement.specs.Views.{notes_of}
 use Rattle.e3_law_refinement.specs.Rows.{Here, party, leader, own_log, notes_now, Stands, Good}
-use Rattle.e3_law_refinement.proofs.Lists.{has_from_in, in_others, same_state_is, same_dir_is}
+use Rattle.e3_law_refinement.proofs.Lists.{has_from_in, in_others, same_dir_is}
 use Rattle.e3_law_refinement.proofs.Sites.{within_self, within_in, within_trans, not_in}
-use Rattle.e3_law_refinement.proofs.Readings.{waiting_is, vote_is, in_behind}
+use Rattle.e3_law_refinement.proofs.Readings.{waiting_is, vote_is}
 use Rattle.e3_law_refinement.proofs.Tests.{of_txn, state_means, may_decide_means}
 use Rattle.e3_law_refinement.proofs.Deciding.{keep_decide_cast}
 use Rattle.e3_law_refinement.proofs.Attempts.{keep_attempt}
 use Rattle.e3_law_refinement.proofs.Gatherings.{SaidYes, yes_said, RoundStands, RoundOk, ack_counts, round_stands}
+use Rattle.e3_law_protocol.proofs.Ruled.{same_means}
+use Rattle.e3_law_protocol.proofs.Reached.{in_behind}
 
 -- a yes: with the last one the coordinator attempts to commit
 pub row_yes : (h : Here) (made : Made) (u : Txn) → Stands h → Good h made → (h.txn ≡ u → has_site u.sites h.at.site ≡ true) → Good h (on_yes h.at u made)
@@ -39,13 +41,13 @@ row_yes h made u s good member = by (is_coordinator a u && same_state (state_now
     a = h.at
 
     voted : same_state (state_now a u made) W ≡ true → h.txn ≡ u → IsIn Vote (notes_now h made)
-    voted is same = vote_is (notes_now h made) (state_means h made u s same W (same_state_is (state_now a u made) W is)).2
+    voted is same = vote_is (notes_now h made) (state_means h made u s same W (same_means (state_now a u made) W is)).2
 
     all : (came : List ℕ) → is_coordinator a u ≡ true → same_state (state_now a u made) W ≡ true → yes_votes u (steps_now a made) ≡ Some came
         → is_within (others a.site u.sites) came ≡ true → h.txn ≡ u → MovesOn (party h) h.before.sent (notes_now h made) a.site 1 Commit
     all came leads is votes enough same =
         let here : u.site ≡ a.site = eqb-true u.site a.site leads in
-        let k = state_means h made u s same W (same_state_is (state_now a u made) W is) in
+        let k = state_means h made u s same W (same_means (state_now a u made) W is) in
         let said : SaidYes h (Some came) = subst (λ o. SaidYes h o) (of_txn h u (λ v. yes_votes v (steps_now a made) ≡ Some came) same votes) (yes_said h made s) in
         inl (record {
           here = sym here ∙ sym (ap (λ (v : Txn). v.site) same);

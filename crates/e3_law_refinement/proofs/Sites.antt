@@ -6,7 +6,8 @@ use Rattle.e3_types.specs.Sets.{has_site, is_within, others}
 use Rattle.e3_law_protocol.specs.Logs.{IsIn}
 use Rattle.e3_law_protocol.specs.Weights.{differ}
 use Rattle.e3_law_protocol.proofs.Shares.{in_from_has}
-use Rattle.e3_law_refinement.proofs.Lists.{has_from_in, in_parts}
+use Rattle.e3_law_refinement.proofs.Lists.{has_from_in}
+use Rattle.e3_law_protocol.proofs.Reached.{in_parts}
 
 -- within, said of members
 pub within_from : (xs all : List ℕ) → ((x : ℕ) → IsIn x xs → IsIn x all) → is_within xs all ≡ true

@@ -33,8 +33,9 @@ use Rattle.e3_law_refinement.specs.Trails.{marks_of, IsMade}
 use Rattle.e3_law_refinement.specs.Views.{words_of, decided}
 use Rattle.e3_law_refinement.proofs.Following.{TrailOk, made_ok, in_from_contains, in_map_to}
 use Rattle.e3_law_refinement.proofs.Gatherings.{in_word}
-use Rattle.e3_law_refinement.proofs.Lists.{same_from, same_is}
+use Rattle.e3_law_refinement.proofs.Lists.{same_from}
 use Rattle.e3_law_refinement.proofs.Voting.{contains_from_in}
+use Rattle.e3_law_steps.proofs.Tests.{same_is}
 
 -- a decision among notes that are in order is the one that they read
 decided_from : (d : Dir) (l : List Note) → Orderly l → IsIn (Decision d) l → decided l ≡ Some d
@@ -49,7 +50,7 @@ decided_from d (Attempt n e ∷ l) o (inl p) = cc
 decided_from d (Attempt n e ∷ l) o (inr k) = decided_from d l o.1 k
 
 -- a decision that is read stands
-decision_found : (t : Txn) (d : Dir) (rs : List Record) (was : Option Dir) → fold (decision_by t) was rs ≡ Some d → (was ≡ Some d) ⊎ IsIn (log.Decision t d) rs
+pub decision_found : (t : Txn) (d : Dir) (rs : List Record) (was : Option Dir) → fold (decision_by t) was rs ≡ Some d → (was ≡ Some d) ⊎ IsIn (log.Decision t d) rs
 decision_found t d [] was is = inl is
 decision_found t d (r ∷ rs) was is = go (decision_found t d rs (decision_by t was r) is) r refl
   where

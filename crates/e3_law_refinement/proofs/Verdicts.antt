@@ -1,6 +1,6 @@
 -- A site with all reports of its election: what the verdict asks for keeps the rules.
-use Rattle.std.proofs.Common.{◌≡◌, ◌⊎◌, inl, inr, ◌∷◌, [], ◌*◌, ◌<◌, ℕ, Bool, true, false, List, map, Option, Some, None, refl, sym, ap, subst, ◌∙◌, arith, if◌then◌else◌}
-use Rattle.std.specs.Prelude.{is_none, nat_le}
+use Rattle.std.proofs.Common.{◌≡◌, ◌⊎◌, inl, inr, ◌∷◌, [], ◌*◌, ◌<◌, ℕ, Bool, true, false, List, map, refl, sym, ap, subst, ◌∙◌, arith, if◌then◌else◌}
+use Rattle.std.specs.Prelude.{nat_le}
 use Rattle.std.proofs.lemmas.Bool.{and_parts, and_cases, cond_both, leb-false, lt-ltb}
 use Rattle.e3_types.specs.declared.entries.Told.TheVariants as told
 use Rattle.e3_types.specs.declared.messages.Message.TheVariants as msg
@@ -28,7 +28,7 @@ use Rattle.e3_law_protocol.proofs.Logs.{final_is, before_join_backs}
 use Rattle.e3_law_protocol.proofs.Ruled.{verdicts_rule}
 use Rattle.e3_law_protocol.proofs.Shares.{in_from_has}
 use Rattle.e3_law_refinement.specs.Rows.{Here, party, own_log, notes_now, Stands, Good}
-use Rattle.e3_law_refinement.proofs.Lists.{in_map, same_is}
+use Rattle.e3_law_refinement.proofs.Lists.{in_map}
 use Rattle.e3_law_refinement.proofs.Sites.{within_trans}
 use Rattle.e3_law_refinement.proofs.Readings.{has_from_vote, decision_in}
 use Rattle.e3_law_refinement.proofs.Makers.{keep_tell}
@@ -36,6 +36,7 @@ use Rattle.e3_law_refinement.proofs.Tests.{of_txn, reads_now, open_means, may_de
 use Rattle.e3_law_refinement.proofs.Deciding.{keep_decide, decide_stands, keep_say_decide}
 use Rattle.e3_law_refinement.proofs.Attempts.{keep_attempt}
 use Rattle.e3_law_refinement.proofs.Gathered.{reporters, Reported}
+use Rattle.e3_law_steps.proofs.Tests.{some_is, same_is}
 
 -- the notes at a verdict are those before the step, perhaps with the site's own join
 pub record AtVerdict (h : Here) (l : List Note) (n : ℕ) : Type 0 where
@@ -44,16 +45,12 @@ pub record AtVerdict (h : Here) (l : List Note) (n : ℕ) : Type 0 where
   pub to_log : (r : Note) → IsIn r (own_log h) → IsIn r l
 
 -- also where there is no report
-rules_of : (weights sites : List ℕ) (reports : List SiteReport) → Rules weights sites reports (verdict_of weights sites reports)
+pub rules_of : (weights sites : List ℕ) (reports : List SiteReport) → Rules weights sites reports (verdict_of weights sites reports)
 rules_of weights sites (r ∷ rs) = verdicts_rule weights sites r rs
 rules_of weights sites [] =
     cond_both (nat_le (2 * weight_of weights []) (weight_of weights sites)) (verdict.Block (weight_of weights []) (weight_of weights sites)) verdict.PreCommit (Rules weights sites [])
     (λ e. tt)
     (λ e. absurd (let low : weight_of weights sites < 2 * weight_of weights [] = leb-false (2 * weight_of weights []) (weight_of weights sites) e in omega (arith, low)))
-
-some_is : {X : Type 0} (o : Option X) → is_none o ≡ false → (x : X) × (o ≡ Some x)
-some_is None is = absurd cc
-some_is (Some x) is = (x, refl)
 
 -- what a reply with a final state rests on: a decision in some log
 final_somewhere : (h : Here) (l : List Note) (n : ℕ) (d : Dir) (r : Reply) → Stands h → AtVerdict h l n → Replied h.before.sent l h.at.site n r → r.stood ≡ Final d

@@ -16,12 +16,13 @@ use Rattle.e3_law_protocol.specs.Logs.{IsIn, Vote, Waiting, status}
 use Rattle.e3_law_protocol.specs.Rules.{Yes, No, MayWrite}
 use Rattle.e3_law_protocol.specs.Marks.{behind}
 use Rattle.e3_law_refinement.specs.Rows.{Here, party, notes_now, Stands, Good}
-use Rattle.e3_law_refinement.proofs.Lists.{same_is, same_from, only_one}
+use Rattle.e3_law_refinement.proofs.Lists.{same_from, only_one}
 use Rattle.e3_law_refinement.proofs.Readings.{idle_is, vote_is}
 use Rattle.e3_law_refinement.proofs.Makers.{MayLeave, now_push, first_stays, keep_record, keep_send}
 use Rattle.e3_law_refinement.proofs.Tests.{state_means, elected_means, may_refuse}
 use Rattle.e3_law_refinement.proofs.Deciding.{only_word, keep_decide, decide_stands}
 use Rattle.e3_law_refinement.proofs.Operations.{keep_no}
+use Rattle.e3_law_steps.proofs.Tests.{same_is}
 
 -- a site in q that joined no election may vote
 pub keep_vote : (h : Here) (made : Made) (u : Txn) → Stands h → Good h made → state_now h.at u made ≡ Q → (elected_now h.at u made == 1) ≡ true → Good h (and_vote h.at u made)

@@ -26,8 +26,10 @@ use Rattle.e3_law_protocol.proofs.Shares.{majorities_overlap}
 use Rattle.e3_law_refinement.specs.Trails.{marks_of, IsMade, MadeAfter}
 use Rattle.e3_law_refinement.proofs.Agreeing.{put}
 use Rattle.e3_law_refinement.proofs.Following.{TrailOk, made_ok, in_from_contains, moves_here, moves_there}
-use Rattle.e3_law_refinement.proofs.Lists.{in_parts, in_left, in_right, same_from, same_is}
+use Rattle.e3_law_refinement.proofs.Lists.{in_left, in_right, same_from}
 use Rattle.e3_law_refinement.proofs.Readings.{has_from_vote}
+use Rattle.e3_law_steps.proofs.Tests.{same_is}
+use Rattle.e3_law_protocol.proofs.Reached.{in_parts}
 
 pub contains_from_in : {X : Type 0} (xs : List X) (x : X) → IsIn x xs → Contains xs x
 contains_from_in [] x k = absurd k
@@ -47,13 +49,13 @@ vote_in t (log.Decision u d ∷ rs) is = let k = vote_in t rs is in (k.0, inr k.
 vote_in t (log.Birth format site weights rows ∷ rs) is = let k = vote_in t rs is in (k.0, inr k.1)
 vote_in t (log.Inc inc ∷ rs) is = let k = vote_in t rs is in (k.0, inr k.1)
 
-in_map_put : (s : ℕ) (r : Record) (rs : List Record) → IsIn r rs → IsIn (put s r) (map (put s) rs)
+pub in_map_put : (s : ℕ) (r : Record) (rs : List Record) → IsIn r rs → IsIn (put s r) (map (put s) rs)
 in_map_put s r [] k = absurd k
 in_map_put s r (q ∷ rs) (inl e) = inl (ap (put s) e)
 in_map_put s r (q ∷ rs) (inr k) = inr (in_map_put s r rs k)
 
 -- a record of a site's log is placed in the trail
-placed_out : (trail : List Move) (s : ℕ) (r : Record) → IsIn r (log_by (moves_at s trail)) → IsIn (put s r) (all_records trail)
+pub placed_out : (trail : List Move) (s : ℕ) (r : Record) → IsIn r (log_by (moves_at s trail)) → IsIn (put s r) (all_records trail)
 placed_out [] s r k = absurd k
 placed_out (m ∷ trail) s r k = go (m.site == s) refl k (λ q. placed_out trail s r q)
   where

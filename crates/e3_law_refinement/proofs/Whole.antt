@@ -19,7 +19,7 @@ use Rattle.e3_law_protocol.specs.Rules.{Word, Yes, Elected, Report, Pre, Ack, De
 use Rattle.e3_law_protocol.specs.Verdicts.{status_in}
 use Rattle.e3_law_refinement.specs.Views.{words_of, word_if}
 use Rattle.e3_law_refinement.specs.Rows.{Here, notes_now, WasHeard, IsFromAway, MayTake, is_for_members, waits_here, Stands, Good}
-use Rattle.e3_law_refinement.proofs.Lists.{same_from, same_is}
+use Rattle.e3_law_refinement.proofs.Lists.{same_from}
 use Rattle.e3_law_refinement.proofs.Makers.{MayLeave, keep_send}
 use Rattle.e3_law_refinement.proofs.Deciding.{only_word, keep_grants}
 use Rattle.e3_law_refinement.proofs.Operations.{row_do, row_done, row_died, row_no, row_decide}
@@ -29,6 +29,7 @@ use Rattle.e3_law_refinement.proofs.Gatherings.{in_word}
 use Rattle.e3_law_refinement.proofs.Rounds.{row_yes, row_ack}
 use Rattle.e3_law_refinement.proofs.Inputs.{good_nothing, row_begin, row_issue, row_commits, row_cancel, row_expire}
 use Rattle.e3_law_refinement.proofs.Elections.{row_report, row_last, row_elect}
+use Rattle.e3_law_steps.proofs.Tests.{same_is}
 
 -- each message of a packet that the step takes
 good_delivery : (h : Here) (packet : Packet) → Stands h → h.at.input ≡ input.Deliver packet → (z : Message) → packet.msg ≡ z → Good h (on_message h.at packet.«from» z nothing)

@@ -17,13 +17,12 @@ use Rattle.e3_world.proofs.Pushes.{legal_front}
 use Rattle.e3_world.proofs.Turns.{self}
 use Rattle.e3_law_rounds.specs.Queues.{IsCounted}
 use Rattle.e3_law_rounds.specs.Rounds.{elect_entry, elects}
-use Rattle.e3_law_rounds.proofs.Counted.{is_counted}
-use Rattle.e3_law_rounds.proofs.Members.{IsShaped, due_shaped}
-use Rattle.e3_law_rounds.proofs.Parts.{group_in_one_part}
-use Rattle.e3_law_rounds.proofs.Tail.{items_on}
-use Rattle.e3_law_rounds.proofs.Due.{round_turns}
-use Rattle.e3_law_rounds.proofs.Walked.{Each, Turn}
-use Rattle.e3_law_rounds.proofs.Walking.{Rest}
+use Rattle.e3_law_rounds.proofs.Deliveries.Counted.{is_counted}
+use Rattle.e3_law_rounds.proofs.Phases.Members.{IsShaped, due_shaped}
+use Rattle.e3_law_rounds.proofs.Deliveries.Parts.{group_in_one_part}
+use Rattle.e3_law_rounds.proofs.Phases.Due.{round_turns}
+use Rattle.e3_law_rounds.proofs.Phases.Walked.{Each, Turn}
+use Rattle.e3_law_rounds.proofs.Deliveries.Walking.{Rest, items_on}
 
 -- a round is due in a recover step alone
 group_recovers : (items : List Item) (group : List ℕ) → recover_group items ≡ Some group → (rest : List Item) × (items ≡ item.Recover group ∷ rest)
@@ -99,7 +98,7 @@ in_one (part ∷ parts) group s u within first second = by (λ later. in_one par
     by rest false is = ap (λ b. (has_site part s && has_site part u) || b) (rest (ap (λ b. b || list_any (is_within group) parts) (sym is) ∙ within)) ∙ or_true (has_site part s && has_site part u)
 
 -- the entries behind some of a legal history
-legal_behind : (sc : Scenario) (before h more : List Entry) → LegalAfter sc before (h ++ more) → LegalAfter sc (before ++ h) more
+pub legal_behind : (sc : Scenario) (before h more : List Entry) → LegalAfter sc before (h ++ more) → LegalAfter sc (before ++ h) more
 legal_behind sc before [] more legal = subst (λ l. LegalAfter sc l more) (sym (append-nil before)) legal
 legal_behind sc before (x ∷ h) more legal = subst (λ l. LegalAfter sc l more) (append_assoc before (x ∷ []) h) (legal_behind sc (before ++ x ∷ []) h more legal.1)
 

@@ -2,10 +2,9 @@
 -- round's own packets none. So no entry is its own, no verdict is told, and it stays so.
 use Rattle.std.proofs.Common.{◌≡◌, ◌==◌, ◌&&◌, ◌||◌, ◌-◌, ℕ, zero, suc, Bool, true, false, not, List, [], ◌∷◌, ◌++◌, append-nil, append_assoc, Option, Some, None, is_none, ◌∙◌, ap, sym, subst, refl, fold, map, slice_get, if◌then◌else◌, arith, count_by, ◌+◌}
 use Rattle.std.specs.List.{list_all, list_any}
-use Rattle.std.proofs.lemmas.Bool.{and_parts}
-use Rattle.std.proofs.lemmas.Grind.{common_steps, fold-append, flat_map-append}
+use Rattle.std.proofs.lemmas.Bool.{and_parts, or_parts}
+use Rattle.std.proofs.lemmas.Grind.{fold-append, flat_map-append}
 use Rattle.std.proofs.lemmas.List.{map-append}
-use Rattle.std.proofs.lemmas.List.Folds.{list_all-append}
 use Rattle.e3_types.specs.declared.entries.Act.{Act}
 use Rattle.e3_types.specs.declared.entries.Act.TheVariants.{Step, Fall, Rise, RiseFall, Miss, Cut, Drop, Parts, Line}
 use Rattle.e3_types.specs.declared.entries.Entry.{Entry}
@@ -27,7 +26,6 @@ use Rattle.e3_types.specs.declared.transactions.Dir.TheVariants.{Abort}
 use Rattle.e3_types.specs.declared.transactions.Txn.{Txn}
 use Rattle.e3_types.specs.Same.{same_txn}
 use Rattle.e3_types.specs.Sets.{has_site, others}
-use Rattle.e3_types.proofs.SameSites.{same_numbers_eq}
 use Rattle.e3_world.specs.declared.lives.At.{At}
 use Rattle.e3_world.specs.declared.lives.Expected.{Expected}
 use Rattle.e3_world.specs.declared.lives.Made.{Made}
@@ -39,9 +37,8 @@ use Rattle.e3_world.specs.Making.{nothing, and_abort_for, and_decide, and_record
 use Rattle.e3_world.specs.Messages.{on_message}
 use Rattle.e3_world.specs.Moves.{Past, log_by, log_of, moves_of, moves_of_act, own, past_of, recorded}
 use Rattle.e3_world.specs.Operations.{expected}
-use Rattle.e3_world.specs.Packets.{is_calm, is_line, lines, step_items, outs_of, pending, present_items, taken, taken_by}
+use Rattle.e3_world.specs.Packets.{is_calm, is_line, outs_of, pending, present_items, taken, taken_by}
 use Rattle.e3_world.specs.Steps.{step_at}
-use Rattle.e3_world.proofs.Guards.{lines_push}
 use Rattle.e3_world.proofs.Pushes.{past_push}
 use Rattle.std.proofs.lemmas.List.Sums.{sum_by-append}
 use Rattle.e3_world.proofs.Readings.{own_other, own_same}
@@ -50,10 +47,14 @@ use Rattle.e3_net.specs.Traffic.{wait}
 use Rattle.e3_net.specs.Stands.{given, waiting_of, without}
 use Rattle.e3_net.proofs.Pushing.{pending_waits, waiting_push}
 use Rattle.e3_law_rounds.specs.Rounds.{elects, is_elect, is_of_round, is_own, said_at, said_in, verdicts_in}
-use Rattle.e3_law_rounds.proofs.Deciding.{Follows, is_answer, is_answer_from, step_follows, tells_answer}
-use Rattle.e3_law_rounds.proofs.Forced.{no_inputs}
-use Rattle.e3_law_numbers.proofs.Moving.{place, place_log}
-use Rattle.e3_law_rounds.proofs.Rows.{cast_is, mail}
+use Rattle.e3_law_steps.specs.Waiting.{is_answer}
+use Rattle.e3_law_steps.proofs.Deciding.{AddsAnswers, is_answer_from, step_adds_answers, tells_answer}
+use Rattle.e3_law_rounds.proofs.Deliveries.Forced.{no_inputs}
+use Rattle.e3_law_steps.proofs.Moving.{place, place_log}
+use Rattle.e3_law_rounds.proofs.Phases.Rows.{cast_is, mail}
+use Rattle.e3_law_steps.proofs.Lists.{both_all}
+use Rattle.e3_law_steps.proofs.Tests.{same_is}
+use Rattle.e3_law_rounds.proofs.Deliveries.Walking.{items_on}
 
 -- what may be pending then; a decision of the round's transaction is from no member
 abbrev pub is_late : RecoveryRound → Packet → Bool
@@ -85,9 +86,6 @@ all_without P f (w ∷ ws) all =
 packets_given : (sc : Scenario) (h : List Entry) (ps : List Packet) → map (λ w. w.packet) (map (given sc h) ps) ≡ ps
 packets_given sc h [] = refl
 packets_given sc h (p ∷ ps) = ap (λ l. p ∷ l) (packets_given sc h ps)
-
-pub both_all : {X : Type 0} (P : X → Bool) (xs ys : List X) → list_all P xs ≡ true → list_all P ys ≡ true → list_all P (xs ++ ys) ≡ true
-both_all P xs ys first second = rw (list_all-append, first, second) refl
 
 pub pending_all : (P : Packet → Bool) (sc : Scenario) (h : List Entry) (e : Entry) → list_all P (pending sc h) ≡ true → list_all P (outs_of e.act) ≡ true →
     list_all P (pending sc (h ++ e ∷ [])) ≡ true
@@ -191,11 +189,6 @@ quiet_doom r a u why plain_event not_ours =
     subst (Quiet r) (sym (cast_is a (msg.Decide u Abort) u.sites (and_tell why (and_record (log.Decision u Abort) nothing))))
     (record { own = refl; outs = late_mails r a.site u (others a.site u.sites) not_ours; says = rw plain_event refl })
 
-same_is : (t u : Txn) → same_txn t u ≡ true → t ≡ u
-same_is t u e =
-    let sites = same_numbers_eq t.sites u.sites in
-    grind (arith, common_steps, sites, e)
-
 -- what a site that decided, if it is a member, makes of a late packet
 quiet_done : (r : RecoveryRound) (a : At) (f : ℕ) (u : Txn) (n inc : ℕ) (answer : Answer) →
     (has_site r.members a.site ≡ true → is_undecided r.txn a.life.log ≡ false) → Quiet r (on_message a f (msg.Done u n inc answer) nothing)
@@ -269,13 +262,6 @@ no_verdicts (told.Refused u why ∷ events) all = absurd cc
 no_verdicts (told.Kept u st ∷ events) all = absurd cc
 no_verdicts (told.Verdict u n v ∷ events) all = absurd cc
 
-pub or_parts : (a b : Bool) → (a || b) ≡ false → (a ≡ false) × (b ≡ false)
-or_parts true b is = absurd cc
-or_parts false b is = (refl, is)
-
-pub items_on : (sc : Scenario) (h : List Entry) (e : Entry) → is_line e ≡ false → present_items sc (h ++ e ∷ []) ≡ present_items sc h
-items_on sc h e none = ap (step_items sc) (lines_push h e ∙ (let one : count_by is_line (e ∷ []) ≡ 0 = rw none refl in let same : lines h + count_by is_line (e ∷ []) ≡ lines h = omega (arith, one) in same))
-
 -- what an entry of the tail leaves
 record After (sc : Scenario) (r : RecoveryRound) (h : List Entry) (e : Entry) : Type 0 where
   tail : Tail sc r (h ++ e ∷ [])
@@ -335,8 +321,8 @@ delivered sc r h site p tail late = record {
     quiet : Quiet r first
     quiet = quiet_message r a p p.msg refl late (λ member. ap (is_undecided r.txn) (place_log sc h site (input.Deliver p)) ∙ tail.decided site member)
 
-    follows : Follows a first (step_at a)
-    follows = step_follows a first refl quiet.own
+    follows : AddsAnswers a first (step_at a)
+    follows = step_adds_answers a first refl quiet.own
 
     outs_late : list_all (is_late r) (made_by sc h site (input.Deliver p)).outs ≡ true
     outs_late = ap (list_all (is_late r)) follows.outs ∙ both_all (is_late r) first.outs follows.dones quiet.outs (late_answers r site follows.dones follows.are_answers)

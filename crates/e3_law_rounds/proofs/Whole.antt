@@ -14,15 +14,15 @@ use Rattle.e3_world.specs.Logs.{last_elected}
 use Rattle.e3_world.specs.Moves.{log_of}
 use Rattle.e3_world.proofs.Pushes.{legal_front}
 use Rattle.e3_world.proofs.Turns.{self}
-use Rattle.e3_law_numbers.proofs.Numbers.{numbers_stay_low}
+use Rattle.e3_law_rounds.proofs.Numbers.Entries.{numbers_stay_low}
 use Rattle.e3_law_rounds.specs.Rounds.{RoundsEnd}
 use Rattle.e3_law_rounds.specs.Rounds.{elect_entry, is_block, is_open}
 use Rattle.e3_law_rounds.proofs.Beginning.{Begun, round_begins}
-use Rattle.e3_law_rounds.proofs.Choosing.{heard_under, verdict_at}
-use Rattle.e3_law_rounds.proofs.Ending.{Outcome}
-use Rattle.e3_law_rounds.proofs.Several.{several_end}
-use Rattle.e3_law_rounds.proofs.Single.{alone_ends}
-use Rattle.e3_law_rounds.proofs.Verdicts.{blocked_is}
+use Rattle.e3_law_rounds.proofs.Verdict.Choosing.{heard_under, verdict_at}
+use Rattle.e3_law_rounds.proofs.Verdict.Ending.{Outcome}
+use Rattle.e3_law_rounds.proofs.Verdict.Several.{several_end}
+use Rattle.e3_law_rounds.proofs.Verdict.Single.{alone_ends}
+use Rattle.e3_law_rounds.proofs.Verdict.Reports.{blocked_is}
 
 -- a list that is not empty has a last member
 split_last : (x : ℕ) (xs : List ℕ) → (init : List ℕ) × (z : ℕ) × (x ∷ xs ≡ init ++ z ∷ [])

@@ -3,6 +3,7 @@
 #![tactic(auto)]
 
 ghost use Rattle.e3_law_rounds.specs.Claims.{DeliveryIsForced, DeliveryShifts, GroupInOnePart, HistoriesAreCounted, QueueBegins, QueueIsPending};
+ghost use Rattle.e3_law_rounds.specs.Numbers.{NumbersStayLow};
 ghost use Rattle.e3_law_rounds.specs.Rounds.{RoundsEnd};
 
 /// A recovery round that went on until nothing was pending, and in which no member fell: its elector, and nobody else, tells
@@ -30,4 +31,9 @@ pub fn delivery_is_forced()
 /// The group of a recovery step lies in one part of the network.
 pub fn group_in_one_part()
     ensures { GroupInOnePart }
+{}
+
+/// A site joins no number of an election above 1 and 18 for each entry of the history.
+pub fn numbers_stay_low()
+    ensures { NumbersStayLow }
 {}

@@ -1,2 +1,5 @@
 pub mod Ordered
 pub mod Claims
+pub mod Waiters
+pub mod Waits
+pub mod InLine

@@ -1,7 +1,10 @@
-//! One order over every legal history.
+//! One order over every legal history, and waits that never form a cycle.
 #![tactic(auto)]
 
 ghost use Rattle.e3_law_serial.specs.Claims.{LegalSerial, LegalTables, LegalVotes, LogsAreOrdered, OrderedTables, OrderedVotes};
+ghost use Rattle.e3_law_serial.specs.InLine.{in_line, middle_one, oldest_one, youngest_one};
+ghost use Rattle.e3_law_serial.specs.Waiters.{WaitsAt};
+ghost use Rattle.e3_law_serial.specs.Waits.{NoCycle, OlderWaits};
 
 use e3_law_agreement::histories_agree;
 use e3_law_trails::{records_suit_their_site, trails_are_sound};
@@ -44,3 +47,20 @@ pub fn one_order()
     histories_agree();
     legal_histories_replay();
 }
+
+/// In every legal history of a given scenario everyone whom a waiter waits for is younger, so the waits over all sites form
+/// no cycle: no transaction waits for itself, neither at once nor through others that wait at this site or at another.
+pub fn waits_never_cycle()
+    ensures older { OlderWaits }
+    ensures none { NoCycle }
+{
+    trails_are_sound();
+}
+
+/// A waiter waits for those that hold the record, and for those ahead of it too: where one has written a record, and another
+/// asked to write it, an older one that asks to read it waits for both.
+pub fn waiters_ahead_count()
+    ensures first { WaitsAt 3 in_line middle_one youngest_one }
+    ensures holder { WaitsAt 3 in_line oldest_one youngest_one }
+    ensures ahead { WaitsAt 3 in_line oldest_one middle_one }
+{}

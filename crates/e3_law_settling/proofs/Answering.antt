@@ -34,7 +34,7 @@ use Rattle.e3_law_steps.specs.Waiting.{is_answer, ranks_below}
 use Rattle.e3_law_steps.specs.Claims.{PacketRanksFall}
 use Rattle.e3_law_settling.specs.Claims.{AnswersEndOrDoom, PacketsSettle}
 use Rattle.e3_law_settling.specs.Dooms.{Dooms, is_last_word}
-use Rattle.e3_law_settling.proofs.Deciding.{Follows, is_answer_from, no_grants, step_follows}
+use Rattle.e3_law_steps.proofs.Deciding.{AddsAnswers, is_answer_from, no_grants, step_adds_answers}
 
 -- a rule that neither records nor sends
 record Calm (made : Made) : Type 0 where
@@ -145,8 +145,8 @@ doomed weights site now p t why is may some = record {
     cast : Casts (msg.Decide t Abort) (and_tell why (and_record (log.Decision t Abort) nothing)) (and_abort_for a t why nothing)
     cast = casts a (msg.Decide t Abort) t.sites (and_tell why (and_record (log.Decision t Abort) nothing))
 
-    follows : Follows a (and_abort_for a t why nothing) (step_at a)
-    follows = step_follows a (and_abort_for a t why nothing) is cast.own
+    follows : AddsAnswers a (and_abort_for a t why nothing) (step_at a)
+    follows = step_adds_answers a (and_abort_for a t why nothing) is cast.own
 
 -- a step that takes an answer
 pub answers_end_or_doom : AnswersEndOrDoom

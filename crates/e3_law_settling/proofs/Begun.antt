@@ -23,10 +23,10 @@ use Rattle.e3_world.specs.Items.{began_in, binding_by, binds}
 use Rattle.e3_world.specs.Legal.{IsDue, IsLegal, entry_of, made_by}
 use Rattle.e3_world.specs.Lives.{incarnation_of, life_of}
 use Rattle.e3_world.specs.Moves.{moves_of, plain_input}
-use Rattle.e3_law_trails.proofs.Clocks.{due_says}
-use Rattle.e3_law_trails.proofs.Each.{each-append, each-weaker}
-use Rattle.e3_law_trails.proofs.Holding.{legal_holds}
-use Rattle.e3_law_trails.proofs.Tracing.{Says, Tells}
+use Rattle.e3_law_trails.proofs.Sound.Clocks.{due_says}
+use Rattle.e3_law_steps.proofs.Each.{each-append, each-weaker}
+use Rattle.e3_law_trails.proofs.Suits.Holding.{legal_holds}
+use Rattle.e3_law_trails.proofs.Operations.Tracing.{Says, Tells}
 use Rattle.e3_law_settling.specs.Measures.{begun, begun_in}
 
 pub begun_push : (h : List Entry) (e : Entry) → begun (h ++ e ∷ []) ≡ begun h ++ begun_in e.act

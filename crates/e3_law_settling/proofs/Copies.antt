@@ -4,7 +4,6 @@ use Rattle.std.specs.Prelude.{Contains}
 use Rattle.std.specs.List.{list_all, AllByRecursion as Each}
 use Rattle.std.proofs.lemmas.Bool.{and_parts}
 use Rattle.e3_types.specs.declared.entries.Entry.{Entry}
-use Rattle.e3_types.specs.declared.messages.Message.{Message}
 use Rattle.e3_types.specs.declared.messages.Message.TheVariants as msg
 use Rattle.e3_types.specs.declared.messages.Packet.{Packet}
 use Rattle.e3_types.specs.declared.scenarios.Scenario.{Scenario}
@@ -17,9 +16,10 @@ use Rattle.e3_net.specs.Stands.{given, waiting_of, without}
 use Rattle.e3_net.specs.Traffic.{wait}
 use Rattle.e3_net.proofs.Copies.{Live}
 use Rattle.e3_net.proofs.Pushing.{pending_waits, waiting_live, waiting_push}
-use Rattle.e3_law_trails.proofs.Each.{each-at}
+use Rattle.e3_law_steps.proofs.Each.{each-at}
 use Rattle.e3_law_settling.specs.Measures.{copies_at, copies_if, down_from, is_below}
 use Rattle.e3_law_settling.proofs.Counting.{lower_from, total_append}
+use Rattle.e3_law_steps.proofs.Tests.{few_ranks}
 
 -- so many copies of a packet
 copies_wait : (p : Packet) (k r : ℕ) → copies_at (wait p k) r ≡ (if rank p.msg == r then k else 0)
@@ -109,21 +109,6 @@ numbered_below k n [] all = refl
 numbered_below k n (p ∷ ps) all =
     let parts = and_parts (nat_lt (rank p.msg) k) (list_all (λ p. nat_lt (rank p.msg) k) ps) all in
     rw (parts.0, numbered_below k (suc n) ps parts.1) refl
-
--- all ranks are at most eleven
-few_ranks : (x : Message) → rank x ≤ 11
-few_ranks (msg.Do t n op) = omega arith
-few_ranks (msg.Done t n inc answer) = omega arith
-few_ranks (msg.Died t n older) = omega arith
-few_ranks (msg.Ask t call) = omega arith
-few_ranks (msg.LastElected t call elected) = omega arith
-few_ranks (msg.Elected t n) = omega arith
-few_ranks (msg.Report t n st attempt) = omega arith
-few_ranks (msg.VoteReq t inc count) = omega arith
-few_ranks (msg.Vote t said) = omega arith
-few_ranks (msg.Pre t n dir) = omega arith
-few_ranks (msg.Ack t n dir) = omega arith
-few_ranks (msg.Decide t dir) = omega arith
 
 -- An entry that takes a copy of a pending packet, and sends only packets of lower rank, lowers the copies by rank.
 pub copies_lower : (sc : Scenario) (h : List Entry) (e : Entry) (p : Packet) → Contains (pending sc h) p → 1 ≤ taken_by p.number e.act →

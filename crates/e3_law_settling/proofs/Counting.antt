@@ -1,8 +1,9 @@
 -- Sums over lists, and lists that fall.
-use Rattle.std.proofs.Common.{◌≡◌, ◌⊎◌, inl, inr, ◌+◌, ◌≤◌, ◌<◌, ◌||◌, ◌∷◌, ◌++◌, [], ℕ, zero, suc, Bool, true, false, List, refl, subst, nat_lt, arith, lt-ltb, ltb-true, eq-eqb}
+use Rattle.std.proofs.Common.{◌≡◌, ◌⊎◌, inl, inr, ◌+◌, ◌≤◌, ◌<◌, ◌∷◌, ◌++◌, [], ℕ, zero, suc, Bool, true, false, List, refl, subst, nat_lt, arith, lt-ltb, ltb-true, eq-eqb}
 use Rattle.std.proofs.lemmas.Bool.Decides.{nat_tests}
 use Rattle.std.specs.List.{AllByRecursion as Each}
 use Rattle.e3_law_settling.specs.Measures.{total, down_from, is_below}
+use Rattle.e3_law_steps.proofs.Tests.{or_true}
 
 pub total_append : {X : Type 0} (f : X → ℕ) (xs ys : List X) → total f (xs ++ ys) ≡ total f xs + total f ys
 total_append f [] ys = omega arith
@@ -39,12 +40,8 @@ total_less {X} f g each (x ∷ xs) = by (le_cases (f x) (g x) (each x)) (total_l
 pub lower_first : (x y : ℕ) (xs ys : List ℕ) → x < y → is_below (x ∷ xs) (y ∷ ys) ≡ true
 lower_first x y xs ys less = rw (lt-ltb x y less) refl
 
-or_right : (b : Bool) → (b || true) ≡ true
-or_right true = refl
-or_right false = refl
-
 pub lower_rest : (x y : ℕ) (xs ys : List ℕ) → x ≡ y → is_below xs ys ≡ true → is_below (x ∷ xs) (y ∷ ys) ≡ true
-lower_rest x y xs ys same is = rw (eq-eqb x y same, is) (or_right (nat_lt x y))
+lower_rest x y xs ys same is = rw (eq-eqb x y same, is) (or_true (nat_lt x y))
 
 pub lower_or : (x y : ℕ) (xs ys : List ℕ) → x ≤ y → is_below xs ys ≡ true → is_below (x ∷ xs) (y ∷ ys) ≡ true
 lower_or x y xs ys most is = by (le_cases x y most)

@@ -27,8 +27,8 @@ use Rattle.e3_net.specs.Traffic.{wait}
 use Rattle.e3_net.proofs.Copies.{without_none}
 use Rattle.e3_net.proofs.Pushing.{pending_waits, waiting_live, waiting_push}
 use Rattle.e3_net.proofs.Taking.{away_by, one_more}
-use Rattle.e3_law_trails.proofs.Each.{each-append, each-at, each-weaker}
-use Rattle.e3_law_trails.proofs.Laws.{inputs_suit}
+use Rattle.e3_law_steps.proofs.Each.{each-append, each-at, each-weaker}
+use Rattle.e3_law_trails.proofs.Suits.Laws.{inputs_suit}
 use Rattle.e3_law_settling.proofs.Sources.{sends_own}
 
 -- the packet comes from the site

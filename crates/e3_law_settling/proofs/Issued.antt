@@ -1,8 +1,7 @@
 -- An operation that a site issued is of a transaction that was begun.
-use Rattle.std.proofs.Common.{◌≡◌, ◌≢◌, ◌==◌, ◌&&◌, ◌∷◌, ◌++◌, [], ℕ, zero, suc, Bool, true, false, List, Option, Some, None, refl, ap, sym, subst, ◌∙◌, fold, filter, eqb-true, append-nil, append_assoc, if◌then◌else◌}
+use Rattle.std.proofs.Common.{◌≡◌, ◌≢◌, ◌==◌, ◌∷◌, ◌++◌, [], ℕ, zero, suc, Bool, true, false, List, Option, Some, None, refl, ap, sym, subst, ◌∙◌, fold, filter, append-nil, append_assoc, if◌then◌else◌}
 use Rattle.std.specs.Prelude.{Contains, slice_get, filter_map, option_map}
 use Rattle.std.specs.List.{cons_option, AllByRecursion as Each}
-use Rattle.std.proofs.lemmas.Bool.{and_parts}
 use Rattle.std.proofs.lemmas.Option.{same_Some}
 use Rattle.e3_types.specs.declared.entries.Act.{Act}
 use Rattle.e3_types.specs.declared.entries.Act.TheVariants.{Step, Fall, Rise, RiseFall, Miss, Cut, Drop, Parts, Line}
@@ -16,7 +15,6 @@ use Rattle.e3_types.specs.declared.scenarios.Scenario.{Scenario}
 use Rattle.e3_types.specs.declared.transactions.Op.{Op}
 use Rattle.e3_types.specs.declared.transactions.Txn.{Txn}
 use Rattle.e3_types.specs.Same.{same_numbers, same_txn}
-use Rattle.e3_types.proofs.SameSites.{same_numbers_eq}
 use Rattle.e3_world.specs.declared.lives.Incarnation.{Incarnation}
 use Rattle.e3_world.specs.declared.lives.Life.{Life}
 use Rattle.e3_world.specs.declared.lives.Moment.{Moment}
@@ -31,10 +29,11 @@ use Rattle.e3_world.specs.Operations.{issued, issued_in}
 use Rattle.e3_world.specs.Packets.{present_items}
 use Rattle.e3_world.proofs.Pushes.{past_push}
 use Rattle.e3_world.proofs.Readings.{own_other, own_same}
-use Rattle.e3_law_trails.proofs.Each.{each-append, each-filter, each-map, each-push, each-weaker}
-use Rattle.e3_law_trails.proofs.Holding.{split_from}
+use Rattle.e3_law_steps.proofs.Each.{each-append, each-filter, each-map, each-push, each-weaker}
+use Rattle.e3_law_trails.proofs.Suits.Holding.{split_from}
 use Rattle.e3_law_settling.specs.Measures.{begun}
 use Rattle.e3_law_settling.proofs.Begun.{IsBegun, begun_later, begun_more, bound_begun, bound_in}
+use Rattle.e3_law_steps.proofs.Tests.{same_is}
 
 -- an operation is of a transaction among these
 abbrev KnownInput : List Txn → Input → Type 0
@@ -191,25 +190,11 @@ after_known sc before [] was legal s = let P : List Entry → Type 0 = λ l. Kno
 after_known sc before (e ∷ rest) was legal s = let P : List Entry → Type 0 = λ l. Known (begun l) (moves_of sc l s) in
     subst P (append_assoc before (e ∷ []) rest) (after_known sc (before ++ e ∷ []) rest (entry_known sc before e was legal.0) legal.1 s)
 
-txn_eq : (t u : Txn) → same_txn t u ≡ true → t ≡ u
-txn_eq t u same =
-    let third : _ = and_parts (t.site == u.site && t.inc == u.inc && t.seq == u.seq) (same_numbers t.sites u.sites) same in
-    let second : _ = and_parts (t.site == u.site && t.inc == u.inc) (t.seq == u.seq) third.0 in
-    let first : _ = and_parts (t.site == u.site) (t.inc == u.inc) second.0 in
-    let a : t.site ≡ u.site = eqb-true t.site u.site first.0 in
-    let b : t.inc ≡ u.inc = eqb-true t.inc u.inc first.1 in
-    let c : t.seq ≡ u.seq = eqb-true t.seq u.seq second.1 in
-    let d : t.sites ≡ u.sites = same_numbers_eq t.sites u.sites third.1 in
-    ap (λ x. record { site = x; inc = t.inc; seq = t.seq; sites = t.sites }) a
-    ∙ ap (λ x. record { site = u.site; inc = x; seq = t.seq; sites = t.sites }) b
-    ∙ ap (λ x. record { site = u.site; inc = u.inc; seq = x; sites = t.sites }) c
-    ∙ ap (λ x. record { site = u.site; inc = u.inc; seq = u.seq; sites = x }) d
-
 input_known : (txns : List Txn) (t : Txn) (i : Input) (events : List Told) → KnownInput txns i → (issued_in t i events ≢ []) → Contains txns t
 input_known txns t (input.Do u op) events known some = by (same_txn t u) refl
   where
     by : (b : Bool) → same_txn t u ≡ b → Contains txns t
-    by true is = let P : Txn → Type 0 = λ v. Contains txns v in subst P (sym (txn_eq t u is)) known
+    by true is = let P : Txn → Type 0 = λ v. Contains txns v in subst P (sym (same_is t u is)) known
     by false is = absurd (some (rw is refl))
 input_known txns t i events known some = absurd (some refl)
 

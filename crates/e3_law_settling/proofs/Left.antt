@@ -15,7 +15,7 @@ use Rattle.e3_types.specs.declared.records.Record.{Record}
 use Rattle.e3_types.specs.declared.scenarios.Scenario.{Scenario}
 use Rattle.e3_world.specs.Given.{IsGiven}
 use Rattle.e3_world.specs.Legal.{Guard, IsLegal, entry_of, first_pending, made_by}
-use Rattle.e3_law_trails.proofs.Each.{each-at}
+use Rattle.e3_law_steps.proofs.Each.{each-at}
 use Rattle.e3_law_settling.specs.Claims.{EntriesAreCounted, TakesFirst, TakingLowers}
 use Rattle.e3_law_settling.specs.Measures.{is_below, measure, total, takes_packet}
 use Rattle.e3_law_settling.proofs.Alike.{alike, entry_alike, made_alike, measure_alike, pending_alike}

@@ -1,4 +1,3 @@
-mod Deciding
 mod Answering
 mod Counting
 mod Copies

@@ -5,20 +5,19 @@ use Rattle.std.specs.Prelude.{Contains, is_none}
 use Rattle.std.specs.List.{AllByRecursion as Each}
 use Rattle.e3_types.specs.declared.entries.Entry.{Entry}
 use Rattle.e3_types.specs.declared.records.Record.{Record}
-use Rattle.e3_types.specs.declared.records.Record.TheVariants as log
 use Rattle.e3_types.specs.declared.scenarios.Scenario.{Scenario}
 use Rattle.e3_types.specs.declared.transactions.Dir.{Dir}
 use Rattle.e3_types.specs.declared.transactions.Txn.{Txn}
-use Rattle.e3_types.specs.Same.{same_txn}
 use Rattle.e3_types.specs.Sets.{has_site}
 use Rattle.e3_world.specs.Logs.{decision, decision_by, is_undecided}
 use Rattle.e3_world.specs.Moves.{log_by, log_of, moves_of_act, own, past_of}
 use Rattle.e3_world.proofs.Pushes.{past_push}
 use Rattle.e3_world.proofs.Readings.{own_other, own_same}
-use Rattle.e3_law_trails.proofs.Clocks.{log_append}
-use Rattle.e3_law_trails.proofs.Each.{each-at}
+use Rattle.e3_law_steps.proofs.Each.{each-at}
 use Rattle.e3_law_settling.specs.Measures.{is_open, open_pairs, begun, total}
 use Rattle.e3_law_settling.proofs.Counting.{total_le, total_less}
+use Rattle.e3_law_steps.proofs.Moving.{log_append}
+use Rattle.e3_law_steps.proofs.Undecided.{stays}
 
 -- a log grows
 pub log_grows : (sc : Scenario) (h : List Entry) (e : Entry) (s : ℕ) → (more : List Record) × (log_of sc (h ++ e ∷ []) s ≡ log_of sc h s ++ more)
@@ -31,17 +30,6 @@ log_grows sc h e s = by (e.owner == s) refl
           ∙ log_append (past_of sc s (own s h)).moves (moves_of_act sc s (past_of sc s (own s h)) e.act),
     )
     by false is = ([], ap (λ l. log_by (past_of sc s l).moves) (own_other s h e is) ∙ sym (append-nil (log_of sc h s)))
-
--- a decision stays
-stays : (t : Txn) (dir : Dir) (rs : List Record) → is_none (fold (decision_by t) (Some dir) rs) ≡ false
-stays t dir [] = refl
-stays t dir (log.Decision u d ∷ rs) = by (same_txn t u) refl (stays t d rs) (stays t dir rs)
-  where
-    by : (b : Bool) → same_txn t u ≡ b → is_none (fold (decision_by t) (Some d) rs) ≡ false → is_none (fold (decision_by t) (Some dir) rs) ≡ false →
-        is_none (fold (decision_by t) (if same_txn t u then Some d else Some dir) rs) ≡ false
-    by true is one other = rw is one
-    by false is one other = rw is other
-stays t dir (r ∷ rs) = stays t dir rs
 
 pub undecided_less : (t : Txn) (xs ys : List Record) → (if is_undecided t (xs ++ ys) then 1 else 0) ≤ (if is_undecided t xs then 1 else 0)
 undecided_less t xs ys =

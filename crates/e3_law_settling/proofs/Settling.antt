@@ -25,16 +25,13 @@ use Rattle.e3_world.specs.Items.{is_up_at}
 use Rattle.e3_world.specs.Legal.{Guard, IsDelivery, IsDrop, IsLegal, entry_of, made_by}
 use Rattle.e3_world.specs.Lives.{incarnation_of}
 use Rattle.e3_world.specs.Logs.{decision, decision_by, is_undecided}
-use Rattle.e3_world.specs.Moves.{log_by, log_of, moves_of, own, past_of}
+use Rattle.e3_world.specs.Moves.{log_of, moves_of}
 use Rattle.e3_world.specs.Packets.{sent}
-use Rattle.e3_world.specs.Sound.{step_move, txn_in}
-use Rattle.e3_world.proofs.Numbers.{entered_move}
-use Rattle.e3_world.proofs.Pushes.{log_push, past_push, present_is_log}
-use Rattle.e3_world.proofs.Readings.{own_same}
+use Rattle.e3_world.specs.Sound.{txn_in}
+use Rattle.e3_world.proofs.Pushes.{present_is_log}
 use Rattle.e3_net.specs.Stands.{waiting_of}
 use Rattle.e3_law_steps.specs.Waiting.{is_answer}
-use Rattle.e3_law_trails.proofs.Laws.{inputs_suit}
-use Rattle.e3_law_trails.proofs.Tracing.{same_self}
+use Rattle.e3_law_trails.proofs.Suits.Laws.{inputs_suit}
 use Rattle.e3_law_settling.specs.Claims.{DeliveriesBeginNothing, PacketsSettle, TakingLowers}
 use Rattle.e3_law_settling.specs.Dooms.{Dooms}
 use Rattle.e3_law_settling.specs.Measures.{begun, copies_at, down_from, is_below, measure, open_pairs, takes_packet}
@@ -44,9 +41,8 @@ use Rattle.e3_law_settling.proofs.Copies.{copies_lower, numbered_below}
 use Rattle.e3_law_settling.proofs.Counting.{lower_first, lower_or}
 use Rattle.e3_law_settling.proofs.Falling.{Takes, fall_takes}
 use Rattle.e3_law_settling.proofs.Logs.{pairs_le, pairs_less}
-
-self : (n : ℕ) → (n == n) ≡ true
-self n = eq-eqb n n refl
+use Rattle.e3_law_steps.proofs.Moving.{log_on}
+use Rattle.e3_law_steps.proofs.Tests.{same_self}
 
 abbrev Lower : Scenario → List Entry → Entry → Type 0
 Lower sc h e = is_below (measure sc (h ++ e ∷ [])) (measure sc h) ≡ true
@@ -60,14 +56,6 @@ by_pairs sc h e less = lower_first (open_pairs sc (h ++ e ∷ [])) (open_pairs s
 
 one_if : (n m : ℕ) → n ≡ m → 1 ≤ (if n == m then 1 else 0)
 one_if n m same = rw (eq-eqb n m same) (omega arith)
-
--- the log behind a step
-log_on : (sc : Scenario) (h : List Entry) (site : ℕ) (i : Input) → log_of sc (h ++ entry_of sc h site i ∷ []) site ≡ log_of sc h site ++ (made_by sc h site i).records
-log_on sc h site i =
-    ap log_by (ap (λ l. (past_of sc site l).moves) (own_same site h (entry_of sc h site i) (self site))
-    ∙ ap (λ p. p.moves) (past_push sc site (own site h) (entry_of sc h site i))
-    ∙ ap (λ l. moves_of sc h site ++ l) (entered_move sc h site i))
-    ∙ log_push (moves_of sc h site) (step_move sc site (moves_of sc h site) i)
 
 decided : (t : Txn) (dir : Dir) (xs : List Record) → is_undecided t (xs ++ log.Decision t dir ∷ []) ≡ false
 decided t dir xs =

@@ -1,57 +1,29 @@
 -- The messages that a step has for its own site end, and packets fall in rank.
-use Rattle.std.proofs.Common.{◌≡◌, ◌==◌, ◌&&◌, ◌||◌, ◌∷◌, [], ℕ, ◌≤◌, ◌<◌, Bool, true, false, List, refl, sym, if◌then◌else◌, fold, nat_lt, length, drop, arith, eq-eqb, eqb-true, lt-ltb, ltb-true}
+use Rattle.std.proofs.Common.{◌≡◌, ◌==◌, ◌&&◌, ◌∷◌, [], ℕ, ◌≤◌, ◌<◌, Bool, true, false, List, refl, if◌then◌else◌, fold, nat_lt, length, arith, lt-ltb, ltb-true}
 use Rattle.std.specs.List.{list_all}
 use Rattle.std.proofs.lemmas.Bool.{and_parts}
 use Rattle.e3_types.specs.declared.entries.Told.TheVariants as told
 use Rattle.e3_types.specs.declared.messages.Message.{Message}
 use Rattle.e3_types.specs.declared.messages.Message.TheVariants as msg
 use Rattle.e3_types.specs.declared.transactions.Answer.{Answer}
-use Rattle.e3_types.specs.declared.transactions.Dir.TheVariants.{Abort, Commit}
+use Rattle.e3_types.specs.declared.transactions.Dir.TheVariants.{Abort}
 use Rattle.e3_types.specs.declared.transactions.State.{State}
 use Rattle.e3_types.specs.declared.transactions.Txn.{Txn}
 use Rattle.e3_types.specs.Ranks.{rank}
 use Rattle.e3_world.specs.declared.lives.At.{At}
-use Rattle.e3_world.specs.declared.lives.Expected.{Expected}
 use Rattle.e3_world.specs.declared.lives.Made.{Made}
-use Rattle.e3_world.specs.declared.lives.Performed.{Performed}
-use Rattle.e3_world.specs.Making.{nothing, elected_now, is_coordinator, is_present, open_now, may_abort, may_decide, and_tell, and_grants}
+use Rattle.e3_world.specs.Making.{nothing, is_coordinator, is_present, open_now, and_tell, and_grants}
 use Rattle.e3_world.specs.Messages.{on_message}
-use Rattle.e3_world.specs.Operations.{done, expected}
+use Rattle.e3_world.specs.Operations.{done}
+use Rattle.e3_world.specs.Rounds.{count_ack}
+use Rattle.e3_world.specs.Sound.{txn_in}
 use Rattle.e3_world.specs.Steps.{handled, settle}
 use Rattle.e3_law_steps.specs.Waiting.{is_answer, may_wait, ranks_below}
-use Rattle.e3_law_steps.proofs.Keeping.{Keeps, Answers, keep_choice, keep_tell, keep_send, keep_decide, keep_abort, keep_grants}
-use Rattle.e3_law_steps.proofs.Handling.{keep_on_do, keep_on_died, keep_on_vote_req, keep_on_yes, keep_on_last, keep_on_elected, keep_on_report, keep_on_pre, keep_on_ack}
-
--- own answers are expected under the present incarnation
-both_ways : (n m : ℕ) → (n == m) ≡ true → (m == n) ≡ true
-both_ways n m is = eq-eqb m n (sym (eqb-true n m is))
-
-or_true : (b : Bool) → (b || true) ≡ true
-or_true true = refl
-or_true false = refl
-
-pub same_self : (n : ℕ) → (n == n) ≡ true
-same_self n = eq-eqb n n refl
-
-present : (a : At) (t : Txn) (inc : ℕ) → (inc == a.life.inc) ≡ true →
-    ((expected a.site a.life.inc t a.life.steps a.site).count == 0 || (expected a.site a.life.inc t a.life.steps a.site).inc == inc) ≡ true
-present a t inc is = rw (same_self a.site) (by (done a.site t a.life.steps) refl)
-  where
-    own_answers : List Performed → Expected
-    own_answers [] = record { inc = 0; count = 0 }
-    own_answers (p ∷ ps) = record { inc = a.life.inc; count = length (p ∷ ps) }
-
-    by : (ps : List Performed) → done a.site t a.life.steps ≡ ps → ((own_answers ps).count == 0 || (own_answers ps).inc == inc) ≡ true
-    by [] none = refl
-    by (p ∷ ps) some = rw (both_ways inc a.life.inc is) (or_true (length (p ∷ ps) == 0))
-
-dropped : {X : Type 0} (xs : List X) → drop (length xs) xs ≡ []
-dropped [] = refl
-dropped (x ∷ xs) = dropped xs
-
--- no grant follows where nothing was recorded
-no_grants : (a : At) (made now : Made) → now.records ≡ made.records → and_grants a (length made.records) now ≡ now
-no_grants a made now same = rw (same, dropped made.records) refl
+use Rattle.e3_law_steps.proofs.Keeping.{Keeps, Answers, AnyRecord, Passes, allows, casts, concludes, joins, kept, keep_grants, out}
+use Rattle.e3_law_steps.proofs.Rules.{Hears, keep_message as handles}
+use Rattle.e3_law_steps.proofs.Whatever.{AnyTold}
+use Rattle.e3_law_steps.proofs.Deciding.{present, no_grants}
+use Rattle.e3_world.proofs.Turns.{self}
 
 -- the answer to an operation of its own adds no message
 pub own_done : (O P : Message → Bool) (a : At) (made : Made) (t : Txn) (n inc : ℕ) (answer : Answer) → (inc == a.life.inc) ≡ true → Keeps O P made →
@@ -62,7 +34,7 @@ own_done O P a made t n inc answer is k = by (is_coordinator a t && is_present a
     told_it = and_tell (told.Op t n answer) made
 
     choice : (b : Bool) → Keeps O P (and_grants a (length made.records) (if b then told_it else made))
-    choice true = rw (no_grants a made told_it refl) (keep_tell O P (told.Op t n answer) made k)
+    choice true = rw (no_grants a made told_it refl) ((kept O P a).tells (told.Op t n answer) made tt k)
     choice false = rw (no_grants a made made refl) k
 
     by : (b : Bool) → (is_coordinator a t && is_present a t && open_now a t made) ≡ b → Keeps O P (handled a made (msg.Done t n inc answer))
@@ -87,37 +59,34 @@ pub record Replies (O P : Message → Bool) (a : At) (x : Message) : Type 0 wher
 answers_to : (O P : Message → Bool) (a : At) (x : Message) → nat_lt 0 (rank x) ≡ true → Replies O P a x → Answers O P a
 answers_to O P a x above may = record { own = may.done; out = λ t n answer. may.out (msg.Done t n a.life.inc answer) above }
 
+-- a message that is no answer
+pub hears : (O P : Message → Bool) (a : At) (f : ℕ) (x : Message) → is_answer x ≡ false → Replies O P a x → Hears a AnyRecord AnyTold (Passes O P a) (Keeps O P) f x
+hears O P a f (msg.Do t n op) asks may = record {
+  done = λ made k. ((λ is. may.done t n _), (λ apart. may.out (msg.Done t n a.life.inc _) refl));
+  again = λ answer more is. ((λ own. may.done t n answer), (λ apart. may.out (msg.Done t n a.life.inc answer) refl));
+  no = ((λ is. may.reply), (λ apart. may.out (msg.Vote t false) refl));
+  told = λ older made k is. tt;
+  died = λ older made k is other. out O P a t.site (msg.Died t n older) other (may.out (msg.Died t n older) refl);
+  abort = casts O P a (msg.Decide t Abort) t.sites (may.out (msg.Decide t Abort) refl);
+}
+hears O P a f (msg.Done t n inc answer) asks may = absurd cc
+hears O P a f (msg.Died t n older) asks may = (tt, casts O P a (msg.Decide t Abort) t.sites (may.out (msg.Decide t Abort) refl))
+hears O P a f (msg.Ask t call) asks may = λ n. ((λ is. may.reply n), (λ apart. may.out (msg.LastElected t call n) refl))
+hears O P a f (msg.LastElected t call n) asks may = λ e more is took.
+    joins O P a t more (λ n. may.out (msg.Elected t n) refl) (λ dir. may.out (msg.Decide t dir) refl) (λ n dir. may.out (msg.Pre t n dir) refl)
+hears O P a f (msg.Elected t n) asks may = (tt, (λ st attempt. ((λ is. may.reply st attempt), (λ apart. may.out (msg.Report t n st attempt) refl))))
+hears O P a f (msg.Report t n st attempt) asks may = λ e more is took.
+    concludes O P a t more.group (λ dir. may.out (msg.Decide t dir) refl) (λ n dir. may.out (msg.Pre t n dir) refl)
+hears O P a f (msg.VoteReq t inc count) asks may = λ said. ((λ is. may.reply said), (λ apart. may.out (msg.Vote t said) refl))
+hears O P a f (msg.Vote t true) asks may = concludes O P a t t.sites (λ dir. may.out (msg.Decide t dir) refl) (λ n dir. may.out (msg.Pre t n dir) refl)
+hears O P a f (msg.Vote t false) asks may = casts O P a (msg.Decide t Abort) t.sites (may.out (msg.Decide t Abort) refl)
+hears O P a f (msg.Pre t n dir) asks may = ((λ is. may.reply), (λ apart. may.out (msg.Ack t n dir) refl))
+hears O P a f (msg.Ack t n dir) asks may = λ r is. casts O P a (msg.Decide t dir) (count_ack r f n dir).to (may.out (msg.Decide t dir) refl)
+hears O P a f (msg.Decide t dir) asks may = tt
+
 pub keep_message : (O P : Message → Bool) (a : At) (f : ℕ) (x : Message) (made : Made) → is_answer x ≡ false → Replies O P a x → Keeps O P made →
     Keeps O P (on_message a f x made)
-keep_message O P a f (msg.Do t n op) made asks may k = keep_on_do O P a f t n op made (record {
-  answers = answers_to O P a (msg.Do t n op) refl may;
-  no_own = may.reply;
-  no_out = may.out (msg.Vote t false) refl;
-  died = λ older. may.out (msg.Died t n older) refl;
-  abort = may.out (msg.Decide t Abort) refl;
-}) k
-keep_message O P a f (msg.Done t n inc answer) made asks may k = absurd cc
-keep_message O P a f (msg.Died t n older) made asks may k = keep_on_died O P a t older made (may.out (msg.Decide t Abort) refl) k
-keep_message O P a f (msg.Ask t call) made asks may k =
-    keep_send O P a f (msg.LastElected t call (elected_now a t made)) made (may.reply (elected_now a t made)) (may.out (msg.LastElected t call (elected_now a t made)) refl) k
-keep_message O P a f (msg.LastElected t call elected) made asks may k =
-    keep_on_last O P a f t call elected made (λ n. may.out (msg.Elected t n) refl)
-    (record { decide = λ dir. may.out (msg.Decide t dir) refl; pre = λ n dir. may.out (msg.Pre t n dir) refl }) k
-keep_message O P a f (msg.Elected t n) made asks may k =
-    keep_on_elected O P a f t n made may.reply (λ st attempt. may.out (msg.Report t n st attempt) refl) k
-keep_message O P a f (msg.Report t n st attempt) made asks may k =
-    keep_on_report O P a t n (record { site = f; state = st; attempt = attempt }) made
-    (record { decide = λ dir. may.out (msg.Decide t dir) refl; pre = λ n dir. may.out (msg.Pre t n dir) refl }) k
-keep_message O P a f (msg.VoteReq t inc count) made asks may k =
-    keep_on_vote_req O P a f t inc count made may.reply (λ said. may.out (msg.Vote t said) refl) k
-keep_message O P a f (msg.Vote t true) made asks may k = keep_on_yes O P a t made (may.out (msg.Decide t Commit) refl) (may.out (msg.Pre t 1 Commit) refl) k
-keep_message O P a f (msg.Vote t false) made asks may k =
-    keep_choice O P (may_abort a t made) _ made (keep_abort O P a t made (may.out (msg.Decide t Abort) refl) k) k
-keep_message O P a f (msg.Pre t n dir) made asks may k =
-    keep_on_pre O P a f t n dir made may.reply (may.out (msg.Ack t n dir) refl) k
-keep_message O P a f (msg.Ack t n dir) made asks may k = keep_on_ack O P a f t n dir made (may.out (msg.Decide t dir) refl) k
-keep_message O P a f (msg.Decide t dir) made asks may k =
-    keep_choice O P (may_decide a t dir made) _ made (keep_decide O P a t dir made k) k
+keep_message O P a f x made asks may k = handles (kept O P a) f x made (allows a (txn_in x)) (hears O P a f x asks may) k
 
 grants_behind : (O P : Message → Bool) (a : At) (made : Made) (x : Message) → is_answer x ≡ false → nat_lt 0 (rank x) ≡ true → Replies O P a x → Keeps O P made →
     Keeps O P (handled a made x)
@@ -169,7 +138,7 @@ under n m k first second = lower n m k (let less : n < m = ltb-true n m first in
 
 replies_first : (a : At) (k : ℕ) (x : Message) → may_wait a x ≡ true → nat_lt (rank x) k ≡ true → Replies (waits_second a k) (below k) a x
 replies_first a k x waits few = record {
-  done = λ t n answer. rw (same_self a.life.inc, lower 0 (rank x) k (omega arith) few) refl;
+  done = λ t n answer. rw (self a.life.inc, lower 0 (rank x) k (omega arith) few) refl;
   reply = reply x waits few;
   out = λ n is. under (rank n) (rank x) k is few;
 }
@@ -202,7 +171,7 @@ handle_second a k x made is kept = let parts : _ = and_parts (is_late a x) (nat_
   where
     by : (x : Message) → is_late a x ≡ true → nat_lt (rank x) k ≡ true → Keeps (waits_third a) (below k) (handled a made x)
     by (msg.Vote t false) late few = keep_handled (waits_third a) (below k) a made (msg.Vote t false) refl (record {
-      done = λ u n answer. same_self a.life.inc;
+      done = λ u n answer. self a.life.inc;
       reply = tt;
       out = λ n is. under (rank n) 5 k is few;
     }) kept
@@ -280,7 +249,7 @@ settles a k made kept = record { own = none_left _ third.own; outs = third.outs 
 -- a message from anywhere, at the begin of a step
 pub replies_any : (a : At) (k : ℕ) (x : Message) → is_answer x ≡ false → nat_lt 0 k ≡ true → rank x ≤ k → Replies (waits_first a k) (below k) a x
 replies_any a k x asks some few = record {
-  done = λ t n answer. rw (same_self a.life.inc, some) refl;
+  done = λ t n answer. rw (self a.life.inc, some) refl;
   reply = reply x few;
   out = λ n is. let less : rank n < rank x = ltb-true (rank n) (rank x) is in lt-ltb (rank n) k (omega (arith, less, few));
 }

@@ -1,5 +1,18 @@
+pub mod Tests
+pub mod Lists
+pub mod Each
+pub mod Undecided
+pub mod Adding
+pub mod Rules
+pub mod Taking
+pub mod Whatever
+pub mod Ascending
+pub mod Rows
+pub mod Items
+pub mod Packets
+pub mod Deciding
+pub mod Moving
 mod Keeping
-mod Handling
 mod Ending
 mod Inputs
 mod Histories

@@ -31,11 +31,11 @@ use Rattle.e3_world.proofs.Pushes.{past_push, log_push, legal_push, legal_front}
 use Rattle.e3_world.proofs.Readings.{own_same, up_same}
 use Rattle.e3_law_trails.specs.Bounds.{SuitsLog, GoesBetween, Suits}
 use Rattle.e3_law_trails.specs.Claims.{AllDiffer, tail_records}
-use Rattle.e3_law_trails.proofs.Each.{each-append, each-left, each-right, each-at, each-weaker}
-use Rattle.e3_law_trails.proofs.Holding.{sent_push, legal_holds}
-use Rattle.e3_law_trails.proofs.Clocks.{says_records, due_says, fall_of_txn}
-use Rattle.e3_law_trails.proofs.Laws.{go_between, records_suit, inputs_suit, names_apart}
-use Rattle.e3_law_trails.proofs.Tracing.{OfTxn}
+use Rattle.e3_law_steps.proofs.Each.{each-append, each-left, each-right, each-at, each-weaker}
+use Rattle.e3_law_trails.proofs.Suits.Holding.{legal_holds}
+use Rattle.e3_law_trails.proofs.Sound.Clocks.{says_records, due_says, fall_of_txn}
+use Rattle.e3_law_trails.proofs.Suits.Laws.{go_between, records_suit, inputs_suit, names_apart}
+use Rattle.e3_law_trails.proofs.Operations.Tracing.{OfTxn}
 use Rattle.e3_law_begun.specs.Mentions.{Mention, OfTxn as Transaction, OfVal, of_input, of_message, of_record, of_event, begun_in, values_of, Stands}
 use Rattle.e3_law_begun.proofs.Lists.{each-unflat, each-within}
 use Rattle.e3_law_begun.proofs.Laws.{guard_at, entries_mention, packets_own}
@@ -48,6 +48,7 @@ use Rattle.e3_law_traces.specs.Typed.{InputTyped, ActTyped, AreTyped}
 use Rattle.e3_law_traces.proofs.Knowing.{begun_of, PacketFound, Knows, Below, Among, Heard, outs_known, numbered_low, among_found, events_heard, begun_has, trail_begins}
 use Rattle.e3_law_traces.proofs.Partitions.{due_parts}
 use Rattle.e3_law_traces.proofs.Telling.{Found, InputIs, HasSites, input_tells, records_tell, outs_tell}
+use Rattle.e3_law_steps.proofs.Moving.{sent_push}
 
 -- what is known behind the lines of a history
 record Along (h : List Entry) (known : Known) : Type 0 where

@@ -18,7 +18,7 @@ use Rattle.e3_world.specs.Legal.{numbered}
 use Rattle.e3_world.specs.Moves.{Past, Tail, own, past_of, moves_of_act, kept_moves, trail_after, trail_of}
 use Rattle.e3_world.specs.Sound.{tells}
 use Rattle.e3_law_trails.specs.Claims.{begun_by, DifferInName, AllDiffer}
-use Rattle.e3_law_trails.proofs.Each.{each-push, each-filter, each-at, each-weaker, each-right}
+use Rattle.e3_law_steps.proofs.Each.{each-push, each-filter, each-at, each-weaker, each-right}
 use Rattle.e3_law_begun.specs.Mentions.{Mention, OfTxn, OfVal, of_event, begun_in, WasBegun}
 use Rattle.e3_law_begun.proofs.Lists.{each-unflat, each-join, each-within}
 use Rattle.e3_trace.specs.Cuts.{feed}

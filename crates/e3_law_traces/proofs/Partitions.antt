@@ -13,8 +13,8 @@ use Rattle.e3_types.specs.Sets.{is_set, has_site}
 use Rattle.e3_world.specs.Given.{IsGiven, SaidSoFar, is_group, is_partition, say_item, items_keep, is_step_form, close_step, steps_keep, exist}
 use Rattle.e3_world.specs.Legal.{IsParts, parts_due}
 use Rattle.e3_world.specs.Packets.{sites_to, all_sites, items_or, step_items, present_items, lines}
-use Rattle.e3_law_begun.proofs.Lists.{IfAny}
 use Rattle.e3_trace.specs.Tellable.{is_some_set, AreParts}
+use Rattle.e3_law_steps.proofs.Each.{IfAny}
 
 -- a part of the network that has a site
 abbrev IsPart : List ℕ → Type 0

@@ -21,8 +21,8 @@ use Rattle.e3_types.specs.declared.transactions.Txn.{Txn}
 use Rattle.e3_types.specs.Sets.{is_set, has_site}
 use Rattle.e3_world.specs.Logs.{key_of}
 use Rattle.e3_law_trails.specs.Bounds.{SuitsLog, IsHere as OpIsHere}
-use Rattle.e3_law_trails.proofs.Tracing.{OfTxn}
-use Rattle.e3_law_trails.proofs.Each.{each-weaker}
+use Rattle.e3_law_trails.proofs.Operations.Tracing.{OfTxn}
+use Rattle.e3_law_steps.proofs.Each.{each-weaker}
 use Rattle.e3_law_begun.specs.Mentions.{Mention, OfTxn as Transaction, OfVal, of_op, of_answer, of_message, of_input, of_record, of_refusal, of_event}
 use Rattle.e3_law_begun.proofs.Lists.{each-unflat}
 use Rattle.e3_trace.specs.Cuts.{feed}

@@ -1,4 +1,4 @@
-use Rattle.e3_law_rounds.proofs.Parts.{group_in_one_part}
+use Rattle.e3_law_rounds.proofs.Deliveries.Parts.{group_in_one_part}
 use Rattle.e3_law_rounds.proofs.group_in_one_part.Goals as goal
 
 pub returns : goal.returns

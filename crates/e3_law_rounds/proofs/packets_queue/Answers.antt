@@ -1,5 +1,5 @@
-use Rattle.e3_law_rounds.proofs.Counted.{is_counted}
-use Rattle.e3_law_rounds.proofs.Queue.{queue_begins, queue_is_pending, delivery_shifts}
+use Rattle.e3_law_rounds.proofs.Deliveries.Counted.{is_counted}
+use Rattle.e3_law_rounds.proofs.Deliveries.Queue.{queue_begins, queue_is_pending, delivery_shifts}
 use Rattle.e3_law_rounds.proofs.packets_queue.Goals as goal
 
 pub returns-clause-counted : goal.returns-clause-counted

@@ -1,5 +1,5 @@
 use Rattle.e3_world.specs.Moves.{trail_of}
-use Rattle.e3_law_serial.proofs.Serial.{ordered, legal_members}
+use Rattle.e3_law_serial.proofs.Site.Serial.{ordered, legal_members}
 use Rattle.e3_law_serial.proofs.logs_are_ordered.Goals as goal
 
 pub returns : goal.returns

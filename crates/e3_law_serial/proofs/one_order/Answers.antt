@@ -1,5 +1,5 @@
 use Rattle.e3_world.specs.Moves.{trail_of}
-use Rattle.e3_law_serial.proofs.ToldReads.{one_order}
+use Rattle.e3_law_serial.proofs.Told.ToldReads.{one_order}
 use Rattle.e3_law_serial.proofs.one_order.Goals as goal
 
 pub returns : goal.returns

@@ -1,4 +1,4 @@
-use Rattle.e3_law_serial.proofs.Laws.{ordered_tables, ordered_votes}
+use Rattle.e3_law_serial.proofs.Lists.Laws.{ordered_tables, ordered_votes}
 use Rattle.e3_law_serial.proofs.ordered_logs_replay.Goals as goal
 
 pub returns-clause-tables : goal.returns-clause-tables

@@ -1,4 +1,4 @@
-use Rattle.e3_law_trails.proofs.Laws.{inputs_fit}
+use Rattle.e3_law_trails.proofs.Suits.Laws.{inputs_fit}
 use Rattle.e3_law_trails.proofs.due_inputs_fit.Goals as goal
 
 pub returns : goal.returns

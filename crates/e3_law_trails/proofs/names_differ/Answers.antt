@@ -1,4 +1,4 @@
-use Rattle.e3_law_trails.proofs.Laws.{names_apart}
+use Rattle.e3_law_trails.proofs.Suits.Laws.{names_apart}
 use Rattle.e3_law_trails.proofs.names_differ.Goals as goal
 
 pub returns : goal.returns

@@ -1,4 +1,4 @@
-use Rattle.e3_law_trails.proofs.Laws.{come_in_turn, numbers_ascend, waits_one}
+use Rattle.e3_law_trails.proofs.Suits.Laws.{come_in_turn, numbers_ascend, waits_one}
 use Rattle.e3_law_trails.proofs.operations_go_one_by_one.Goals as goal
 
 pub returns-clause-turns : goal.returns-clause-turns

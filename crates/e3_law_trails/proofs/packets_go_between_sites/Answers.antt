@@ -1,4 +1,4 @@
-use Rattle.e3_law_trails.proofs.Laws.{go_between, was_sent}
+use Rattle.e3_law_trails.proofs.Suits.Laws.{go_between, was_sent}
 use Rattle.e3_law_trails.proofs.packets_go_between_sites.Goals as goal
 
 pub returns-clause-between : goal.returns-clause-between

@@ -1,4 +1,4 @@
-use Rattle.e3_law_trails.proofs.Laws.{records_suit, votes_suit}
+use Rattle.e3_law_trails.proofs.Suits.Laws.{records_suit, votes_suit}
 use Rattle.e3_law_trails.proofs.records_suit_their_site.Goals as goal
 
 pub returns-clause-records : goal.returns-clause-records

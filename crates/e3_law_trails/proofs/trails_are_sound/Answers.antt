@@ -1,4 +1,4 @@
-use Rattle.e3_law_trails.proofs.Laws.{trails_sound, logs_of_trails, silent_end}
+use Rattle.e3_law_trails.proofs.Suits.Laws.{trails_sound, logs_of_trails, silent_end}
 use Rattle.e3_law_trails.proofs.trails_are_sound.Goals as goal
 
 pub returns-clause-sound : goal.returns-clause-sound
