@@ -23,14 +23,11 @@ fn add_records(alloc: Global, log: &mut List<Record>, entry: &Entry) -> Result<(
 }
 
 fn push_site(alloc: Global, out: &mut List<u8>, site: &Site) -> Result<(), NoMemory> {
-    let records = site.log()?.len();
     let open = site.open_txns()?.len();
     let (number, inc, inputs) = (site.site(), site.inc(), site.inputs());
     push_formatted(
         out,
-        format!(in alloc;
-            " site {number}, incarnation {inc}, inputs {inputs}, records {records}, open {open}"
-        ),
+        format!(in alloc; " site {number}, incarnation {inc}, inputs {inputs}, open {open}"),
     )
 }
 
@@ -91,8 +88,8 @@ fn push_behind(
     Ok(())
 }
 
-// The records of entries.
-fn log_of(alloc: Global, history: &[Entry]) -> Result<List<Record>, NoMemory> {
+/// The records of entries.
+pub fn log_of(alloc: Global, history: &[Entry]) -> Result<List<Record>, NoMemory> {
     let mut log = List::new(alloc);
     for entry in history {
         add_records(alloc, &mut log, entry)?;
@@ -100,8 +97,7 @@ fn log_of(alloc: Global, history: &[Entry]) -> Result<List<Record>, NoMemory> {
     Ok(log)
 }
 
-/// Adds what comes of the records up to the last line of the driver, and of each entry's behind them, each alone; and the site that
-/// rises with the first, with no tables of them.
+/// Adds what comes of the records up to the last line of the driver, and of each entry's behind them, each alone.
 pub fn push_logs(
     alloc: Global,
     out: &mut List<u8>,
@@ -110,11 +106,5 @@ pub fn push_logs(
 ) -> Result<(), NoMemory> {
     let log = log_of(alloc, to_line(history))?;
     push_log(alloc, out, site, log.as_slice())?;
-    push_behind(alloc, out, site, &log, since_line(history))?;
-    push_text(out, "; as it stands:")?;
-    push_site(
-        alloc,
-        out,
-        &Site::rise(alloc, List::new(alloc), site, log, None),
-    )
+    push_behind(alloc, out, site, &log, since_line(history))
 }

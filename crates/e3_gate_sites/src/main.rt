@@ -2,11 +2,13 @@
 //! scenario, and the trace of a history, which no run need have made. What it must print stands in the file of this program's
 //! output.
 //!
-//! The kinds: `log`, whether records are the site's log, and the site of it; `readings`, what is read off the site's log and
-//! steps; `step`, what the last step of a history makes; `history`, what is due and pending; `found`, two decisions that differ,
-//! and the order of the committed transactions; and `table`, the first rows of a site.
+//! The kinds: `log`, whether records are the site's log, and the site of it; `bodies`, the steps of the site by its tables and
+//! by the definitions; `readings`, what is read off the site's log and steps; `step`, what the last step of a history makes;
+//! `history`, what is due and pending; `found`, two decisions that differ, and the order of the committed transactions; and
+//! `table`, the first rows of a site.
 #![tactic(auto)]
 
+mod bodies;
 mod histories;
 mod logs;
 mod readings;
@@ -53,6 +55,7 @@ fn push_by(
     let entries = history.as_slice();
     match kind.first() {
         Some(b'l') => logs::push_logs(alloc, out, entries, site),
+        Some(b'b') => bodies::push_bodies(alloc, out, scenario, entries, site),
         Some(b'r') => readings::push_readings(alloc, out, scenario, entries, site),
         Some(b's') => histories::push_step(alloc, out, scenario, entries),
         Some(b'h') => histories::push_history(alloc, out, scenario, entries, site),

@@ -1,6 +1,6 @@
 -- Of which logs names are known.
 use Rattle.std.proofs.Common.{◌≡◌, ◌&&◌, ◌++◌, ◌∷◌, [], ℕ, Bool, true, false, List, length, refl, ap, sym, ◌∙◌, subst, append-nil, append_assoc, arith}
-use Rattle.std.specs.Prelude.{Option, Some, None, is_none, take}
+use Rattle.std.specs.Prelude.{◌==◌, Option, Some, None, is_none, take}
 use Rattle.std.specs.Option.{IsSome}
 use Rattle.std.proofs.lemmas.Bool.{and_parts}
 use Rattle.std.proofs.lemmas.Grind.{common_steps}
@@ -68,6 +68,10 @@ orderly_after site before (r ∷ rest) o =
 -- the names of a site's log are known
 pub orderly_known : (site inc : ℕ) (records : List Record) (read : Logged) → LoggedStand site read inc records → IsOrderly site records → IsSome read.places
 orderly_known site inc records read stand orderly = stand.places_known (orderly_after site [] records orderly)
+
+-- a log with one more record is not empty
+pub not_empty : (log : List Record) (r : Record) → false ≡ (length (log ++ r ∷ []) == 0)
+not_empty log r = grind (arith, common_steps)
 
 take_whole : (k : ℕ) (xs : List Record) → k ≡ length xs → take k xs ≡ xs
 take_whole k xs e = grind (arith, common_steps, e)

@@ -1,5 +1,4 @@
-mod Naming
 pub mod Recalled
-pub mod Rising
+pub mod Readying
 mod Undecided
 pub mod Known

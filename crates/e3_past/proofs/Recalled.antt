@@ -3,13 +3,13 @@ use Rattle.std.specs.Prelude.{◌≡◌, ◌∷◌, [], ℕ, List, Option, Some,
 use Rattle.std.proofs.Common.{refl, ap, sym, ◌∙◌}
 use Rattle.e3_types.specs.declared.entries.Input.{Input}
 use Rattle.e3_types.specs.declared.list.NoMemory.{NoMemory}
-use Rattle.e3_types.specs.declared.records.Record.{Record}
 use Rattle.e3_types.specs.declared.transactions.Op.{Op}
 use Rattle.e3_types.specs.declared.transactions.Txn.{Txn}
 use Rattle.e3_world.specs.declared.lives.At.{At}
+use Rattle.e3_world.specs.declared.lives.Incarnation.{Incarnation}
 use Rattle.e3_world.specs.declared.lives.Life.{Life}
 use Rattle.e3_world.specs.declared.lives.Made.{Made}
-use Rattle.e3_world.specs.declared.lives.SiteStep.{SiteStep}
+use Rattle.e3_world.specs.Lives.{life_of}
 use Rattle.e3_world.specs.Making.{log_now, steps_now}
 use Rattle.e3_world.specs.Moves.{plain_input}
 use Rattle.e3_world.specs.Operations.{issued, nth_op, unanswered}
@@ -19,19 +19,12 @@ use Rattle.e3_cards.specs.declared.cards.Cards.{Cards}
 use Rattle.e3_cards.specs.Cards.{card_of}
 use Rattle.e3_cards.specs.Readings.{first_of as cards_first, has_every_yes as cards_yes, is_awaited as cards_awaits}
 use Rattle.e3_cards.specs.Tables.{CardsStand}
-use Rattle.e3_plain.specs.declared.anew.Anew.{Anew}
 use Rattle.e3_step.specs.Reading.{first_of, has_every_yes, is_awaited}
-use Rattle.e3_past.specs.Standing.{life_from}
 
 -- a result with a value that equals another
 pub ok_is : {X : Type 0} (r : Result X NoMemory) (x y : X) → x ≡ y → IfOk r (λ out. out ≡ x) → IfOk r (λ out. out ≡ y)
 ok_is (Ok out) x y e h = h ∙ e
 ok_is (Err f) x y e h = tt
-
--- a past at a place that equals another
-pub ok_place : (r : Result Anew NoMemory) (a b : At) → a ≡ b → IfOk r (λ past. past.place ≡ a) → IfOk r (λ past. past.place ≡ b)
-ok_place (Ok past) a b e h = h ∙ e
-ok_place (Err f) a b e h = tt
 
 -- the first of a list is the same for cards and for rules
 pub first_is : {X : Type 0} (xs : List X) → cards_first xs ≡ first_of xs
@@ -67,10 +60,10 @@ own_stands site cards life h = record {
 }
 
 -- the step at the place of a site's input is the step of the site
-pub step_is : (weights : List ℕ) (site own : ℕ) (rose : List Record) (since : List SiteStep) (i j : Input) (r : Result Made NoMemory) → own ≡ site → j ≡ plain_input i
-    → IfOk r (λ made. made ≡ step_at (record { weights = weights; site = own; life = life_from rose since; input = j }))
-    → IfOk r (λ made. made ≡ step_of weights site (record { rose = rose; since = since }) i)
-step_is weights site own rose since i j r here plain h =
-    ok_is r (step_at (record { weights = weights; site = own; life = life_from rose since; input = j })) (step_of weights site (record { rose = rose; since = since }) i)
-    (ap (λ (s : ℕ). step_at (record { weights = weights; site = s; life = life_from rose since; input = j })) here
-    ∙ ap (λ (x : Input). step_at (record { weights = weights; site = site; life = life_from rose since; input = x })) plain) h
+pub step_is : (weights : List ℕ) (site own : ℕ) (now : Incarnation) (i j : Input) (r : Result Made NoMemory) → own ≡ site → j ≡ plain_input i
+    → IfOk r (λ made. made ≡ step_at (record { weights = weights; site = own; life = life_of now; input = j }))
+    → IfOk r (λ made. made ≡ step_of weights site now i)
+step_is weights site own now i j r here plain h =
+    ok_is r (step_at (record { weights = weights; site = own; life = life_of now; input = j })) (step_of weights site now i)
+    (ap (λ (s : ℕ). step_at (record { weights = weights; site = s; life = life_of now; input = j })) here
+    ∙ ap (λ (x : Input). step_at (record { weights = weights; site = site; life = life_of now; input = x })) plain) h

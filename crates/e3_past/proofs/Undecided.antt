@@ -1,11 +1,13 @@
 -- The open transactions of a site behind one more step.
-use Rattle.std.specs.Prelude.{◌≡◌, ◌&&◌, ◌++◌, ◌∷◌, [], if◌then◌else◌, not, ℕ, Bool, true, false, List, Option, Some, None, is_none, filter, fold, map}
+use Rattle.std.specs.Prelude.{◌≡◌, ◌+◌, ◌≤◌, ◌&&◌, ◌++◌, ◌∷◌, [], if◌then◌else◌, not, ℕ, Bool, true, false, List, Option, Some, None, Result, Ok, Err, IfOk, OnOk, is_none, filter, fold, length, map, vec_capacity}
 use Rattle.std.specs.List.{flat_map, list_any}
-use Rattle.std.proofs.Common.{refl, ap, sym, ◌∙◌}
+use Rattle.std.proofs.Common.{refl, ap, sym, subst, ◌∙◌}
 use Rattle.std.proofs.lemmas.List.{append-nil}
 use Rattle.std.proofs.lemmas.List.Concat.{flat_map-append}
 use Rattle.std.proofs.lemmas.List.Elements.{filter-append}
 use Rattle.std.proofs.lemmas.List.Sums.{fold-append}
+use Rattle.e3_types.specs.declared.entries.Told.{Told}
+use Rattle.e3_types.specs.declared.list.NoMemory.{NoMemory}
 use Rattle.e3_types.specs.declared.records.Record.{Record}
 use Rattle.e3_types.specs.declared.records.Record.TheVariants as log
 use Rattle.e3_types.specs.declared.transactions.Dir.{Dir}
@@ -16,15 +18,18 @@ use Rattle.e3_world.specs.declared.lives.Life.{Life}
 use Rattle.e3_world.specs.declared.lives.Moment.{Moment}
 use Rattle.e3_world.specs.declared.lives.SiteStep.{SiteStep}
 use Rattle.e3_world.specs.Elections.{is_decision}
-use Rattle.e3_world.specs.Items.{began_in, txn_of_record}
+use Rattle.e3_world.specs.Items.{add_txn, began_in, txn_of_record}
 use Rattle.e3_world.specs.Lives.{life_by}
 use Rattle.e3_world.specs.Logs.{decision, decision_by, is_undecided}
 use Rattle.e3_world.specs.Operations.{and_arrived, arrivals, is_fresh, taken_up}
 use Rattle.e3_cards.proofs.Arrivals.{arrivals_push}
 use Rattle.e3_cards.specs.Noting.{unstepped}
+use Rattle.e3_opens.specs.Opens.{open_in, undecided_in}
 use Rattle.e3_places.specs.Standing.{fresh_of, moment_of}
 use Rattle.e3_past.specs.declared.tables.Opens.{Opens}
-use Rattle.e3_past.specs.Opening.{OpensStand, decides, fresh_txns, undecided_among}
+use Rattle.e3_past.specs.declared.tables.Tables.{Tables}
+use Rattle.e3_past.specs.Opening.{AreAdded, HaveRoom, OpensStand, decides, fresh_txns, undecided_among}
+use Rattle.e3_past.specs.Standing.{TablesStand}
 
 -- a decision stays, whatever records come
 stays : (t : Txn) (x : Dir) (rs : List Record) → is_none (fold (decision_by t) (Some x) rs) ≡ false
@@ -99,47 +104,105 @@ begun_push steps m =
     ap (λ (l : List Txn). flat_map (λ m. flat_map began_in m.told) steps ++ l) (sym (append-nil (flat_map began_in m.told)))
     ∙ sym (flat_map-append (λ m. flat_map began_in m.told) steps (m ∷ []))
 
+-- the undecided ones of transactions that were open and of those that a step adds
+joined : (log : List Record) (known new was more : List Txn) → was ≡ undecided_among log known → more ≡ undecided_among log new
+    → was ++ more ≡ undecided_among log known ++ undecided_among log new
+joined log known new was more d e = ap (λ (l : List Txn). l ++ more) d ∙ ap (λ (l : List Txn). undecided_among log known ++ l) e
+
 -- what is open behind one more step
-pub opens_behind : (site : ℕ) (life : Life) (s : SiteStep) (rs : List Record) (was mid now : Opens) → rs ≡ s.records → OpensStand site was life
-    → mid.logged ≡ was.logged ++ undecided_among life.log (flat_map txn_of_record rs)
-    → mid.arrived ≡ was.arrived ++ undecided_among life.log (fresh_txns (fresh_of site life s))
-    → mid.begun ≡ was.begun ++ undecided_among life.log (flat_map began_in s.told)
-    → now.logged ≡ undecided_among rs mid.logged → now.arrived ≡ undecided_among rs mid.arrived → now.begun ≡ undecided_among rs mid.begun
+pub opens_behind : (site : ℕ) (life : Life) (s : SiteStep) (rs : List Record) (was more now : Opens) → rs ≡ s.records → OpensStand site was life → AreAdded site life s more
+    → now.logged.items ≡ undecided_among rs (was.logged.items ++ more.logged.items)
+    → now.arrived.items ≡ undecided_among rs (was.arrived.items ++ more.arrived.items)
+    → now.begun.items ≡ undecided_among rs (was.begun.items ++ more.begun.items)
     → OpensStand site now (life_by life s)
-opens_behind site life s rs was mid now same h d e f j k l =
+opens_behind site life s rs was more now same h m d e f =
     let known : List Txn = flat_map txn_of_record life.log in
     let came : List Txn = map (λ a. a.txn) (arrivals site life.steps) in
     let began : List Txn = flat_map (λ m. flat_map began_in m.told) life.steps in
     record {
       logged_are =
-          undecided_behind life.log rs known (flat_map txn_of_record rs) mid.logged now.logged (d ∙ ap (λ (x : List Txn). x ++ undecided_among life.log (flat_map txn_of_record rs)) h.logged_are) j
-          ∙ ap (λ (x : List Record). undecided_among (life.log ++ x) (known ++ flat_map txn_of_record x)) same
+          undecided_behind life.log rs known (flat_map txn_of_record s.records) (was.logged.items ++ more.logged.items) now.logged.items
+          (joined life.log known (flat_map txn_of_record s.records) was.logged.items more.logged.items h.logged_are m.logged_are) d
+          ∙ ap (λ (x : List Record). undecided_among (life.log ++ x) (known ++ flat_map txn_of_record s.records)) same
           ∙ ap (undecided_among (life.log ++ s.records)) (sym (flat_map-append txn_of_record life.log s.records));
       arrived_are =
-          undecided_behind life.log rs came (fresh_txns (fresh_of site life s)) mid.arrived now.arrived
-          (e ∙ ap (λ (x : List Txn). x ++ undecided_among life.log (fresh_txns (fresh_of site life s))) h.arrived_are) k
+          undecided_behind life.log rs came (fresh_txns (fresh_of site life s)) (was.arrived.items ++ more.arrived.items) now.arrived.items
+          (joined life.log came (fresh_txns (fresh_of site life s)) was.arrived.items more.arrived.items h.arrived_are m.arrived_are) e
           ∙ ap (λ (x : List Record). undecided_among (life.log ++ x) (came ++ fresh_txns (fresh_of site life s))) same
           ∙ ap (undecided_among (life.log ++ s.records)) (sym (arrived_push site life s));
       begun_are =
-          undecided_behind life.log rs began (flat_map began_in s.told) mid.begun now.begun (f ∙ ap (λ (x : List Txn). x ++ undecided_among life.log (flat_map began_in s.told)) h.begun_are) l
+          undecided_behind life.log rs began (flat_map began_in s.told) (was.begun.items ++ more.begun.items) now.begun.items
+          (joined life.log began (flat_map began_in s.told) was.begun.items more.begun.items h.begun_are m.begun_are) f
           ∙ ap (λ (x : List Record). undecided_among (life.log ++ x) (began ++ flat_map began_in s.told)) same
           ∙ ap (undecided_among (life.log ++ s.records)) (begun_push life.steps (moment_of life s));
     }
 
+-- what a step adds, put behind no transaction
+pub added_are : (site : ℕ) (life : Life) (s : SiteStep) (none more : Opens) (rs : List Record) (events : List Told) → OpensStand 0 none (unstepped 0 []) → rs ≡ s.records → events ≡ s.told
+    → more.logged.items ≡ none.logged.items ++ undecided_among life.log (flat_map txn_of_record rs)
+    → more.arrived.items ≡ none.arrived.items ++ undecided_among life.log (fresh_txns (fresh_of site life s))
+    → more.begun.items ≡ none.begun.items ++ undecided_among life.log (flat_map began_in events)
+    → AreAdded site life s more
+added_are site life s none more rs events h same told d e f = record {
+  logged_are =
+      d ∙ ap (λ (l : List Txn). l ++ undecided_among life.log (flat_map txn_of_record rs)) h.logged_are
+      ∙ ap (λ (x : List Record). undecided_among life.log (flat_map txn_of_record x)) same;
+  arrived_are = e ∙ ap (λ (l : List Txn). l ++ undecided_among life.log (fresh_txns (fresh_of site life s))) h.arrived_are;
+  begun_are =
+      f ∙ ap (λ (l : List Txn). l ++ undecided_among life.log (flat_map began_in events)) h.begun_are
+      ∙ ap (λ (x : List Told). undecided_among life.log (flat_map began_in x)) told;
+}
+
 -- the undecided ones of two lists
-pub undecided_both : (log : List Record) (xs ys : List Txn) → undecided_among log (xs ++ ys) ≡ undecided_among log xs ++ undecided_among log ys
+undecided_both : (log : List Record) (xs ys : List Txn) → undecided_among log (xs ++ ys) ≡ undecided_among log xs ++ undecided_among log ys
 undecided_both log xs ys = filter-append (λ t. is_undecided t log) xs ys
 
--- nothing is open at a site with an empty log that made no step
-pub none_open : (site inc : ℕ) (opens : Opens) → opens.logged ≡ [] → opens.arrived ≡ [] → opens.begun ≡ [] → OpensStand site opens (unstepped inc [])
-none_open site inc opens d e f = record { logged_are = d; arrived_are = e; begun_are = f }
+-- the same transactions are open
+pub same_open : (was now : Opens) → now.logged.items ≡ was.logged.items → now.arrived.items ≡ was.arrived.items → now.begun.items ≡ was.begun.items
+    → (site : ℕ) (life : Life) → OpensStand site was life → OpensStand site now life
+same_open was now d e f site life h = record {
+  logged_are = d ∙ h.logged_are;
+  arrived_are = e ∙ h.arrived_are;
+  begun_are = f ∙ h.begun_are;
+}
+
+-- there is room for each
+pub each_room : {X E : Type 0} (r : Result X E) (opens more : Opens) (xs ys zs : List Txn) → xs ≡ more.logged.items → ys ≡ more.arrived.items → zs ≡ more.begun.items
+    → length opens.logged.items + length xs ≤ vec_capacity opens.logged → length opens.arrived.items + length ys ≤ vec_capacity opens.arrived
+    → OnOk r (length opens.begun.items + length zs ≤ vec_capacity opens.begun) → OnOk r (HaveRoom opens more)
+each_room (Ok x) opens more xs ys zs d e f p q o = record {
+  logged = subst (λ (l : List Txn). length opens.logged.items + length l ≤ vec_capacity opens.logged) d p;
+  arrived = subst (λ (l : List Txn). length opens.arrived.items + length l ≤ vec_capacity opens.arrived) e q;
+  begun = subst (λ (l : List Txn). length opens.begun.items + length l ≤ vec_capacity opens.begun) f o;
+}
+each_room (Err x) opens more xs ys zs d e f p q o = tt
+
+-- all that is open
+all_open : (site : ℕ) (life : Life) (opens : Opens) → OpensStand site opens life → (opens.logged.items ++ opens.arrived.items) ++ opens.begun.items ≡ undecided_in site life
+all_open site life opens h =
+    let log : List Record = life.log in
+    let known : List Txn = flat_map txn_of_record life.log in
+    let came : List Txn = map (λ a. a.txn) (arrivals site life.steps) in
+    let began : List Txn = flat_map (λ m. flat_map began_in m.told) life.steps in
+    ap (λ (l : List Txn). (l ++ opens.arrived.items) ++ opens.begun.items) h.logged_are
+    ∙ ap (λ (l : List Txn). (undecided_among log known ++ l) ++ opens.begun.items) h.arrived_are
+    ∙ ap (λ (l : List Txn). (undecided_among log known ++ undecided_among log came) ++ l) h.begun_are
+    ∙ ap (λ (l : List Txn). l ++ undecided_among log began) (sym (undecided_both log known came))
+    ∙ sym (undecided_both log (known ++ came) began)
+
+-- it is listed, whatever life the tables stand for
+pub open_listed : (r : Result (List Txn) NoMemory) (tables : Tables) (txns : List Txn) → txns ≡ (tables.opens.logged.items ++ tables.opens.arrived.items) ++ tables.opens.begun.items
+    → IfOk r (λ out. out ≡ fold add_txn [] txns) → IfOk r (λ out. (site : ℕ) (life : Life) → TablesStand site life tables → out ≡ open_in site life)
+open_listed (Ok out) tables txns e h = λ site life stand. h ∙ ap (fold add_txn []) (e ∙ all_open site life tables.opens stand.opens_stand)
+open_listed (Err f) tables txns e h = tt
 
 -- what is open of a log behind one more record
-pub note_open : (site inc : ℕ) (log : List Record) (r : Record) (was now : Opens) (mid : List Txn) → OpensStand site was (unstepped inc log) → mid ≡ was.logged ++ undecided_among log (txn_of_record r)
-    → now.logged ≡ undecided_among (r ∷ []) mid → now.arrived ≡ was.arrived → now.begun ≡ was.begun → OpensStand site now (unstepped inc (log ++ r ∷ []))
+pub note_open : (site inc : ℕ) (log : List Record) (r : Record) (was now : Opens) (mid : List Txn) → OpensStand site was (unstepped inc log)
+    → mid ≡ was.logged.items ++ undecided_among log (txn_of_record r) → now.logged.items ≡ undecided_among (r ∷ []) mid → now.arrived.items ≡ was.arrived.items
+    → now.begun.items ≡ was.begun.items → OpensStand site now (unstepped inc (log ++ r ∷ []))
 note_open site inc log r was now mid h d e f g = record {
   logged_are =
-      undecided_behind log (r ∷ []) (flat_map txn_of_record log) (txn_of_record r) mid now.logged (d ∙ ap (λ (x : List Txn). x ++ undecided_among log (txn_of_record r)) h.logged_are) e
+      undecided_behind log (r ∷ []) (flat_map txn_of_record log) (txn_of_record r) mid now.logged.items (d ∙ ap (λ (x : List Txn). x ++ undecided_among log (txn_of_record r)) h.logged_are) e
       ∙ ap (λ (x : List Txn). undecided_among (log ++ r ∷ []) (flat_map txn_of_record log ++ x)) (sym (append-nil (txn_of_record r)))
       ∙ ap (undecided_among (log ++ r ∷ [])) (sym (flat_map-append txn_of_record log (r ∷ [])));
   arrived_are = f ∙ h.arrived_are;

@@ -2,13 +2,14 @@
 ghost use Rattle.std.specs.Prelude.{◌≡◌, ◌==◌, ◌++◌, ◌∷◌, [], ℕ, IfOk, List, length, true};
 ghost use Rattle.std.specs.Option.{IsSome};
 ghost use Rattle.e3_types.specs.declared.records.Record.{Record as SomeRecord};
-ghost use Rattle.e3_world.specs.declared.lives.SiteStep.{SiteStep as SomeStep};
 ghost use Rattle.e3_world.specs.Logs.{logged_inc};
 ghost use Rattle.e3_world.specs.Orderly.{IsOrderly};
 ghost use Rattle.e3_cards.specs.Noting.{unstepped};
 ghost use Rattle.e3_cards.specs.Tables.{CardsStand};
+ghost use Rattle.e3_names.specs.Knowing.{NamesStand};
+ghost use Rattle.e3_places.specs.Keeping.{PlacesStand};
 ghost use Rattle.e3_places.specs.Standing.{may_follow};
-ghost use Rattle.e3_past.specs.Standing.{LoggedStand, MayStand, PlacesMayStand, TablesStand, is_birth, may_be_read};
+ghost use Rattle.e3_past.specs.Standing.{LoggedStand, PlacesMayStand, TablesStand, is_birth, may_be_read};
 
 use crate::opening::{no_opens, note_opens};
 use crate::tables::{Opens, Tables};
@@ -97,16 +98,12 @@ fn no_cards(alloc: Global, site: u32, inc: u32) -> Cards
 }
 
 // Nothing waits at a site that made no step, so that no name is restless.
-fn known(alloc: Global, places: Option<Places>) -> Option<Names>
-    ensures stand { (site inc : ℕ) → (log : List SomeRecord) → PlacesMayStand site places (unstepped inc log) → MayStand site result (unstepped inc log) }
-    ensures known { IsSome places → IsSome result }
+fn known(alloc: Global, places: Places) -> Names
+    ensures { (site inc : ℕ) → (log : List SomeRecord) → PlacesStand site places (unstepped inc log) → NamesStand site result (unstepped inc log) }
 {
-    match places {
-        Some(places) => Some(Names {
-            places,
-            restless: List::new(alloc),
-        }),
-        None => None,
+    Names {
+        places,
+        restless: List::new(alloc),
     }
 }
 
@@ -131,7 +128,7 @@ impl Logged {
         let were = mem::replace(&mut self.places, None);
         let places = places_behind(alloc, self.is_empty, &self.cards, were, r)?;
         self.places = places;
-        note_opens(alloc, &self.cards, &mut self.opens, r)?;
+        note_opens(&self.cards, &mut self.opens, r)?;
         note(alloc, &mut self.cards, r)?;
         self.is_empty = false;
         Ok(())
@@ -150,17 +147,22 @@ impl Logged {
         Ok(read)
     }
 
-    /// The tables of a site that rose with the log and made no step that they count. Names are known where there are tables of
-    /// them.
+    /// The tables of a site that rose with the log and made no step since. The log of a site has tables of its names.
     pub fn into_tables(self, alloc: Global) -> Tables
-        ensures stand { (site : ℕ) → (rose : List SomeRecord) → LoggedStand site self (logged_inc rose) rose → (since : List SomeStep) → TablesStand site rose since result }
-        ensures known { IsSome self.places → IsSome result.names }
+        requires { IsSome self.places }
+        ensures { (site inc : ℕ) → (log : List SomeRecord) → LoggedStand site self inc log → TablesStand site (unstepped inc log) result }
     {
+        let Logged {
+            cards,
+            places,
+            opens,
+            ..
+        } = self;
+        let Some(places) = places else { unreachable!() };
         Tables {
-            steps: 0,
-            cards: self.cards,
-            names: known(alloc, self.places),
-            opens: self.opens,
+            cards,
+            names: known(alloc, places),
+            opens,
         }
     }
 }

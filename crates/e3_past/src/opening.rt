@@ -1,8 +1,9 @@
-// The transactions that are open at a site, kept beside its steps.
-ghost use Rattle.std.specs.Prelude.{◌≡◌, ◌++◌, ◌∷◌, [], ℕ, IfOk, List as Items};
+// The transactions that are open at a site.
+ghost use Rattle.std.specs.Prelude.{◌≡◌, ◌+◌, ◌≤◌, ◌++◌, ◌∷◌, [], ℕ, IfOk, OnOk, List as Items, length, vec_capacity};
 ghost use Rattle.std.specs.List.{flat_map, list_any};
 ghost use Rattle.e3_types.specs.declared.records.Record.{Record as SomeRecord};
 ghost use Rattle.e3_world.specs.declared.lives.At.{At};
+ghost use Rattle.e3_world.specs.declared.lives.Life.{Life};
 ghost use Rattle.e3_world.specs.Items.{began_in, txn_of_record};
 ghost use Rattle.e3_world.specs.Lives.{life_by};
 ghost use Rattle.e3_world.specs.Logs.{is_undecided};
@@ -10,44 +11,51 @@ ghost use Rattle.e3_cards.specs.Noting.{unstepped};
 ghost use Rattle.e3_cards.specs.Tables.{CardsStand};
 ghost use Rattle.e3_opens.specs.Opens.{open_in};
 ghost use Rattle.e3_places.specs.Standing.{fresh_of};
-ghost use Rattle.e3_past.specs.Opening.{OpensStand, decides, fresh_txns, undecided_among};
-ghost use Rattle.e3_past.specs.Standing.{AreUpToDate, TheyStand, life_from};
+ghost use Rattle.e3_past.specs.Opening.{AreAdded, HaveRoom, OpensStand, decides, fresh_txns, undecided_among};
+ghost use Rattle.e3_past.specs.Standing.{TablesStand};
 
-use crate::reader::are_up;
 use crate::tables::{Opens, Tables};
 use e3_cards::Cards;
 use e3_names::fresh;
-use e3_opens::{in_order, open_in};
+use e3_opens::in_order;
 use e3_places::Standing;
-use e3_readings::{is_decision, is_undecided, life_of};
+use e3_readings::{is_decision, is_undecided};
 use e3_types::{List, NoMemory, Record, Told, Txn};
 use e3_world::SiteStep;
 use std::alloc::Global;
-use std::mem;
 
 /// Nothing is open at a site with an empty log that made no step.
 pub(crate) fn no_opens(alloc: Global) -> Opens
     ensures { (site inc : ℕ) → OpensStand site result (unstepped inc []) }
 {
     Opens {
-        logged: List::new(alloc),
-        arrived: List::new(alloc),
-        begun: List::new(alloc),
+        logged: Vec::new(alloc),
+        arrived: Vec::new(alloc),
+        begun: Vec::new(alloc),
+    }
+}
+
+fn push(t: &Txn, out: &mut Vec<Txn>) -> Result<(), NoMemory>
+    ensures { OnOk result (out.new.items ≡ out.old.items ++ t.now ∷ []) }
+{
+    match out.push(*t) {
+        Ok(()) => Ok(()),
+        Err(_) => Err(NoMemory),
     }
 }
 
 // Adds the transaction, where the log leaves it undecided.
-fn add_one(cards: &Cards, t: &Txn, out: &mut List<Txn>) -> Result<(), NoMemory>
-    ensures { IfOk result (λ u. (a : At) → CardsStand a.site cards.now a.life → out.new ≡ out.old ++ undecided_among a.life.log (t.now ∷ [])) }
+fn add_one(cards: &Cards, t: &Txn, out: &mut Vec<Txn>) -> Result<(), NoMemory>
+    ensures { IfOk result (λ u. (a : At) → CardsStand a.site cards.now a.life → out.new.items ≡ out.old.items ++ undecided_among a.life.log (t.now ∷ [])) }
 {
     if cards.seen(t).decision.is_none() {
-        out.push(*t)?;
+        push(t, out)?;
     }
     Ok(())
 }
 
-fn add_recorded(cards: &Cards, r: &Record, out: &mut List<Txn>) -> Result<(), NoMemory>
-    ensures { IfOk result (λ u. (a : At) → CardsStand a.site cards.now a.life → out.new ≡ out.old ++ undecided_among a.life.log (txn_of_record r.now)) }
+fn add_recorded(cards: &Cards, r: &Record, out: &mut Vec<Txn>) -> Result<(), NoMemory>
+    ensures { IfOk result (λ u. (a : At) → CardsStand a.site cards.now a.life → out.new.items ≡ out.old.items ++ undecided_among a.life.log (txn_of_record r.now)) }
 {
     match r {
         Record::Vote { txn, .. }
@@ -59,8 +67,8 @@ fn add_recorded(cards: &Cards, r: &Record, out: &mut List<Txn>) -> Result<(), No
 }
 
 // Adds the transactions of these records that the log leaves undecided.
-fn add_logged(cards: &Cards, records: &[Record], out: &mut List<Txn>) -> Result<(), NoMemory>
-    ensures { IfOk result (λ u. (a : At) → CardsStand a.site cards.now a.life → out.new ≡ out.old ++ undecided_among a.life.log (flat_map txn_of_record records.now)) }
+fn add_logged(cards: &Cards, records: &[Record], out: &mut Vec<Txn>) -> Result<(), NoMemory>
+    ensures { IfOk result (λ u. (a : At) → CardsStand a.site cards.now a.life → out.new.items ≡ out.old.items ++ undecided_among a.life.log (flat_map txn_of_record records.now)) }
 {
     match records {
         [] => Ok(()),
@@ -71,8 +79,8 @@ fn add_logged(cards: &Cards, records: &[Record], out: &mut List<Txn>) -> Result<
     }
 }
 
-fn add_told(cards: &Cards, event: &Told, out: &mut List<Txn>) -> Result<(), NoMemory>
-    ensures { IfOk result (λ u. (a : At) → CardsStand a.site cards.now a.life → out.new ≡ out.old ++ undecided_among a.life.log (began_in event.now)) }
+fn add_told(cards: &Cards, event: &Told, out: &mut Vec<Txn>) -> Result<(), NoMemory>
+    ensures { IfOk result (λ u. (a : At) → CardsStand a.site cards.now a.life → out.new.items ≡ out.old.items ++ undecided_among a.life.log (began_in event.now)) }
 {
     match event {
         Told::Began { txn } => add_one(cards, txn, out),
@@ -81,8 +89,8 @@ fn add_told(cards: &Cards, event: &Told, out: &mut List<Txn>) -> Result<(), NoMe
 }
 
 // Adds the transactions that these events tell as begun and the log leaves undecided.
-fn add_begun(cards: &Cards, told: &[Told], out: &mut List<Txn>) -> Result<(), NoMemory>
-    ensures { IfOk result (λ u. (a : At) → CardsStand a.site cards.now a.life → out.new ≡ out.old ++ undecided_among a.life.log (flat_map began_in told.now)) }
+fn add_begun(cards: &Cards, told: &[Told], out: &mut Vec<Txn>) -> Result<(), NoMemory>
+    ensures { IfOk result (λ u. (a : At) → CardsStand a.site cards.now a.life → out.new.items ≡ out.old.items ++ undecided_among a.life.log (flat_map began_in told.now)) }
 {
     match told {
         [] => Ok(()),
@@ -93,8 +101,8 @@ fn add_begun(cards: &Cards, told: &[Told], out: &mut List<Txn>) -> Result<(), No
     }
 }
 
-fn add_fresh(cards: &Cards, new: &Option<Standing>, out: &mut List<Txn>) -> Result<(), NoMemory>
-    ensures { IfOk result (λ u. (a : At) → CardsStand a.site cards.now a.life → out.new ≡ out.old ++ undecided_among a.life.log (fresh_txns new.now)) }
+fn add_fresh(cards: &Cards, new: &Option<Standing>, out: &mut Vec<Txn>) -> Result<(), NoMemory>
+    ensures { IfOk result (λ u. (a : At) → CardsStand a.site cards.now a.life → out.new.items ≡ out.old.items ++ undecided_among a.life.log (fresh_txns new.now)) }
 {
     match new {
         Some(s) => add_one(cards, &s.asked.txn, out),
@@ -108,9 +116,9 @@ fn add_arrived(
     alloc: Global,
     cards: &Cards,
     step: &SiteStep,
-    out: &mut List<Txn>,
+    out: &mut Vec<Txn>,
 ) -> Result<(), NoMemory>
-    ensures { IfOk result (λ u. (a : At) → CardsStand a.site cards.now a.life → out.new ≡ out.old ++ undecided_among a.life.log (fresh_txns (fresh_of a.site a.life step.now))) }
+    ensures { IfOk result (λ u. (a : At) → CardsStand a.site cards.now a.life → out.new.items ≡ out.old.items ++ undecided_among a.life.log (fresh_txns (fresh_of a.site a.life step.now))) }
 {
     let new = fresh(alloc, cards, &step.input, step.told.as_slice())?;
     add_fresh(cards, &new, out)
@@ -132,24 +140,21 @@ fn have_decided(records: &[Record]) -> bool
     records.iter().any(|r| decides(r))
 }
 
-// Those of these transactions that the records leave undecided, of which one decides a transaction.
-fn sifted(records: &[Record], txns: List<Txn>) -> List<Txn>
-    ensures { result ≡ undecided_among records.now txns }
+// Takes those out that the records decide.
+fn sift_all(records: &[Record], txns: &mut Vec<Txn>)
+    ensures { txns.new.items ≡ undecided_among records.now txns.old.items }
 {
-    let mut txns = txns.into_vec();
     txns.retain(|t| is_undecided(t, records));
-    List::from_vec(txns)
 }
 
-// Those of these transactions that the records leave undecided. Where no record decides a transaction it looks at none of them,
-// so that most steps cost nothing for what is open.
-fn left(records: &[Record], txns: List<Txn>) -> List<Txn>
-    ensures { result ≡ undecided_among records.now txns }
+// The same. Where no record decides a transaction it looks at none of them, so that most steps cost nothing for what is open.
+fn sift(records: &[Record], txns: &mut Vec<Txn>)
+    ensures { txns.new.items ≡ undecided_among records.now txns.old.items }
 {
     if !have_decided(records) {
-        return txns;
+        return;
     }
-    sifted(records, txns)
+    sift_all(records, txns);
 }
 
 fn is_left(t: &Txn, r: &Record) -> bool
@@ -158,114 +163,101 @@ fn is_left(t: &Txn, r: &Record) -> bool
     !is_decision(t, r)
 }
 
-// Those of them that the record leaves undecided.
-fn sifted_by(r: &Record, txns: List<Txn>) -> List<Txn>
-    ensures { result ≡ undecided_among (r.now ∷ []) txns }
+// Takes those out that the record decides.
+fn sift_all_by(r: &Record, txns: &mut Vec<Txn>)
+    ensures { txns.new.items ≡ undecided_among (r.now ∷ []) txns.old.items }
 {
-    let mut txns = txns.into_vec();
     txns.retain(|t| is_left(t, r));
-    List::from_vec(txns)
 }
 
 // The same, at no cost where the record is no decision.
-fn left_by(r: &Record, txns: List<Txn>) -> List<Txn>
-    ensures { result ≡ undecided_among (r.now ∷ []) txns }
+fn sift_by(r: &Record, txns: &mut Vec<Txn>)
+    ensures { txns.new.items ≡ undecided_among (r.now ∷ []) txns.old.items }
 {
     if !decides(r) {
-        return txns;
+        return;
     }
-    sifted_by(r, txns)
+    sift_all_by(r, txns);
 }
 
-/// The open transactions behind one more step, by the cards before it. Want of memory is the only error; what they are then
-/// is left open.
-pub(crate) fn add_opens(
-    alloc: Global,
-    cards: &Cards,
-    opens: &mut Opens,
-    step: &SiteStep,
-) -> Result<(), NoMemory>
-    ensures { IfOk result (λ u. (a : At) → CardsStand a.site cards.now a.life → OpensStand a.site opens.old a.life → OpensStand a.site opens.new (life_by a.life step.now)) }
+/// The transactions that a step adds to those that are open, by the cards before it. Want of memory is the only error.
+pub(crate) fn added(alloc: Global, cards: &Cards, step: &SiteStep) -> Result<Opens, NoMemory>
+    ensures { IfOk result (λ more. (a : At) → CardsStand a.site cards.now a.life → AreAdded a.site a.life step.now more) }
+{
+    let mut more = no_opens(alloc);
+    add_logged(cards, step.records.as_slice(), &mut more.logged)?;
+    add_arrived(alloc, cards, step, &mut more.arrived)?;
+    add_begun(cards, step.told.as_slice(), &mut more.begun)?;
+    Ok(more)
+}
+
+fn reserve(txns: &mut Vec<Txn>, more: &[Txn]) -> Result<(), NoMemory>
+    ensures same { txns.new.items ≡ txns.old.items }
+    ensures ok { OnOk result (length txns.new.items + length more.now ≤ vec_capacity txns.new) }
+{
+    match txns.try_reserve(more.len()) {
+        Ok(()) => Ok(()),
+        Err(_) => Err(NoMemory),
+    }
+}
+
+/// Makes room for the transactions that a step adds. What is open stays, also where memory wants.
+pub(crate) fn ready_opens(opens: &mut Opens, more: &Opens) -> Result<(), NoMemory>
+    ensures stand { (site : ℕ) (life : Life) → OpensStand site opens.old life → OpensStand site opens.new life }
+    ensures ok { OnOk result (HaveRoom opens.new more.now) }
+{
+    reserve(&mut opens.logged, more.logged.as_slice())?;
+    reserve(&mut opens.arrived, more.arrived.as_slice())?;
+    reserve(&mut opens.begun, more.begun.as_slice())
+}
+
+// Puts these behind those that are open, and takes those out that the records decide.
+fn add_all(records: &[Record], more: &[Txn], txns: &mut Vec<Txn>)
+    requires { length txns.old.items + length more.now ≤ vec_capacity txns.old }
+    ensures { txns.new.items ≡ undecided_among records.now (txns.old.items ++ more.now) }
+{
+    let _ = txns.extend_from_slice(more);
+    sift(records, txns);
+}
+
+/// What is open behind a step, with the transactions that it adds and without those that it decides. It takes no memory.
+pub(crate) fn apply_opens(opens: &mut Opens, step: &SiteStep, more: Opens)
+    requires { HaveRoom opens.old more }
+    ensures { (site : ℕ) (life : Life) → OpensStand site opens.old life → AreAdded site life step.now more → OpensStand site opens.new (life_by life step.now) }
 {
     let records = step.records.as_slice();
-    add_logged(cards, records, &mut opens.logged)?;
-    add_arrived(alloc, cards, step, &mut opens.arrived)?;
-    add_begun(cards, step.told.as_slice(), &mut opens.begun)?;
-    let logged = mem::replace(&mut opens.logged, List::new(alloc));
-    let arrived = mem::replace(&mut opens.arrived, List::new(alloc));
-    let begun = mem::replace(&mut opens.begun, List::new(alloc));
-    opens.logged = left(records, logged);
-    opens.arrived = left(records, arrived);
-    opens.begun = left(records, begun);
-    Ok(())
+    add_all(records, more.logged.as_slice(), &mut opens.logged);
+    add_all(records, more.arrived.as_slice(), &mut opens.arrived);
+    add_all(records, more.begun.as_slice(), &mut opens.begun);
 }
 
 /// The open transactions of a log with one more record, at a site that made no step, by the cards of the log before it. Want
 /// of memory is the only error; what they are then is left open.
-pub(crate) fn note_opens(
-    alloc: Global,
-    cards: &Cards,
-    opens: &mut Opens,
-    r: &Record,
-) -> Result<(), NoMemory>
+pub(crate) fn note_opens(cards: &Cards, opens: &mut Opens, r: &Record) -> Result<(), NoMemory>
     ensures { IfOk result (λ u. (site inc : ℕ) → (log : Items SomeRecord) → CardsStand site cards.now (unstepped inc log) → OpensStand site opens.old (unstepped inc log)
         → OpensStand site opens.new (unstepped inc (log ++ r.now ∷ []))) }
 {
     add_recorded(cards, r, &mut opens.logged)?;
-    let logged = mem::replace(&mut opens.logged, List::new(alloc));
-    opens.logged = left_by(r, logged);
+    sift_by(r, &mut opens.logged);
     Ok(())
 }
 
-// The open transactions of tables that count every step. The log and the steps are passed on for the proof alone.
-fn open_over(
-    alloc: Global,
-    _site: u32,
-    _rose: &[Record],
-    _since: &[SiteStep],
-    tables: &Tables,
-) -> Result<List<Txn>, NoMemory>
-    requires { AreUpToDate _site _rose.now _since.now tables.now }
-    ensures { IfOk result (λ txns. txns ≡ open_in _site (life_from _rose.now _since.now)) }
+// All of them, those of the log first and those that the site began last.
+fn all_of(alloc: Global, opens: &Opens) -> Result<List<Txn>, NoMemory>
+    ensures { IfOk result (λ txns. txns ≡ (opens.now.logged.items ++ opens.now.arrived.items) ++ opens.now.begun.items) }
 {
-    let opens = &tables.opens;
     let mut txns = List::new(alloc);
     txns.extend(opens.logged.as_slice())?;
     txns.extend(opens.arrived.as_slice())?;
     txns.extend(opens.begun.as_slice())?;
+    Ok(txns)
+}
+
+/// The undecided transactions that a site knows for whose life the tables stand, each once and ascending. It costs what the
+/// operations and the records of open transactions are. Want of memory is the only error.
+pub fn open_with(alloc: Global, tables: &Tables) -> Result<List<Txn>, NoMemory>
+    ensures { IfOk result (λ txns. (site : ℕ) (life : Life) → TablesStand site life tables.now → txns ≡ open_in site life) }
+{
+    let txns = all_of(alloc, &tables.opens)?;
     in_order(alloc, txns.as_slice())
-}
-
-// The same, read off the log and all steps.
-fn open_anew(
-    alloc: Global,
-    site: u32,
-    rose: &[Record],
-    since: &[SiteStep],
-) -> Result<List<Txn>, NoMemory>
-    ensures { IfOk result (λ txns. txns ≡ open_in site (life_from rose.now since.now)) }
-{
-    let life = life_of(alloc, rose, since)?;
-    open_in(alloc, site, &life)
-}
-
-/// The undecided transactions that a site knows that rose with this log and made these steps since, each once and
-/// ascending. Where there are tables that count every step it reads them, at the cost of the operations and records of open
-/// transactions; else all of the site's past anew. Want of memory is the only error.
-pub fn open_with(
-    alloc: Global,
-    site: u32,
-    rose: &[Record],
-    since: &[SiteStep],
-    tables: &Option<Tables>,
-) -> Result<List<Txn>, NoMemory>
-    requires { TheyStand site rose.now since.now tables.now }
-    ensures { IfOk result (λ txns. txns ≡ open_in site (life_from rose.now since.now)) }
-{
-    match tables {
-        Some(tables) if are_up(site, rose, since, tables) => open_over(
-            alloc, site, rose, since, tables,
-        ),
-        _ => open_anew(alloc, site, rose, since),
-    }
 }

@@ -1,17 +1,19 @@
 // The past of a site as its tables have it.
-ghost use Rattle.std.specs.Prelude.{◌≡◌, IfOk, true};
+ghost use Rattle.std.specs.Prelude.{◌≡◌, IfOk};
 ghost use Rattle.e3_world.specs.declared.lives.At.{At as Place};
+ghost use Rattle.e3_world.specs.declared.lives.Incarnation.{Incarnation};
+ghost use Rattle.e3_world.specs.Lives.{life_of};
 ghost use Rattle.e3_world.specs.Steps.{step_at, step_of};
-ghost use Rattle.e3_past.specs.Standing.{AreUpToDate, ReadsAt, TablesStand, TheyStand};
+ghost use Rattle.e3_past.specs.Standing.{ReadsAt, TablesStand};
 
 use crate::tables::Tables;
 use e3_cards::Cards;
 use e3_names as names;
-use e3_names::{Names, follow};
-use e3_plain::{Anew, plain_input, step_of};
+use e3_names::Names;
+use e3_plain::plain_input;
 use e3_step::{Past, step_at};
-use e3_types::{Answer, Call, Dir, Grant, Input, List, Name, NoMemory, Record, Refusal, Txn};
-use e3_world::{Asked, Election, Expected, Made, Performed, Round, SiteStep};
+use e3_types::{Answer, Call, Dir, Grant, Input, List, Name, NoMemory, Refusal, Txn};
+use e3_world::{Asked, Election, Expected, Made, Performed, Round};
 use std::alloc::Global;
 use std::marker::{Brand, Model, PhantomData};
 
@@ -27,15 +29,13 @@ impl Whose for Brand {
     ghost place = { record { weights = []; site = 0; life = record { log = []; inc = 0; steps = [] }; input = Begin [] } };
 }
 
-// A past over tables that stand for it. Where names are not known, or the records of the step so far may not follow the log,
-// what is on a name is read anew from the log of the rise and the steps.
+// A past over tables that stand for it. Readings of names give NoMemory where the records of the step so far may not follow
+// the log. Those of the rules always may: `steps_may_follow_the_log` of e3_law_follow.
 #[derive(Drop)]
 struct Reader<'a, K: Whose> {
     weights: &'a [u32],
     cards: &'a Cards,
-    names: &'a Option<Names>,
-    rose: &'a [Record],
-    since: &'a [SiteStep],
+    names: &'a Names,
     input: &'a Input,
     of: PhantomData<K>,
 }
@@ -48,23 +48,7 @@ impl<'a, K: Whose> Model for Reader<'a, K> {
 
     ghost view = { λ r. r.cards.now.site };
 
-    ghost invariant = { λ r. ReadsAt K.place r.weights.now r.cards.now r.names.now r.rose.now r.since.now r.input.now };
-}
-
-impl<'a, K: Whose> Reader<'a, K> {
-    fn anew(&self, alloc: Global) -> Result<Anew, NoMemory>
-        ensures { IfOk result (λ past. past.place ≡ K.place) }
-    {
-        let cards = self.cards;
-        Anew::of(
-            alloc,
-            self.weights,
-            cards.site,
-            self.rose,
-            self.since,
-            self.input,
-        )
-    }
+    ghost invariant = { λ r. ReadsAt K.place r.weights.now r.cards.now r.names.now r.input.now };
 }
 
 impl<'a, K: Whose> Past for Reader<'a, K> {
@@ -163,13 +147,7 @@ impl<'a, K: Whose> Past for Reader<'a, K> {
     }
 
     fn row(&self, alloc: Global, name: &Name, made: &Made) -> Result<Answer, NoMemory> {
-        let cards = self.cards;
-        match self.names {
-            Some(names) if follow(cards, made.records.as_slice()) => names::row(
-                alloc, cards, names, name, made,
-            ),
-            _ => self.anew(alloc)?.row(alloc, name, made),
-        }
+        names::row(alloc, self.cards, self.names, name, made)
     }
 
     fn answer(&self, alloc: Global, q: &Asked) -> Result<Option<Answer>, NoMemory> {
@@ -188,23 +166,11 @@ impl<'a, K: Whose> Past for Reader<'a, K> {
     }
 
     fn lock(&self, alloc: Global, q: &Asked, made: &Made) -> Result<Grant, NoMemory> {
-        let cards = self.cards;
-        match self.names {
-            Some(names) if follow(cards, made.records.as_slice()) => names::lock(
-                alloc, cards, names, q, made,
-            ),
-            _ => self.anew(alloc)?.lock(alloc, q, made),
-        }
+        names::lock(alloc, self.cards, self.names, q, made)
     }
 
     fn grants_after(&self, alloc: Global, made: &Made) -> Result<List<Asked>, NoMemory> {
-        let cards = self.cards;
-        match self.names {
-            Some(names) if follow(cards, made.records.as_slice()) => names::grants_after(
-                alloc, cards, names, self.input, made,
-            ),
-            _ => self.anew(alloc)?.grants_after(alloc, made),
-        }
+        names::grants_after(alloc, self.cards, self.names, self.input, made)
     }
 
     fn has_every_yes(&self, alloc: Global, t: &Txn, made: &Made) -> Result<bool, NoMemory> {
@@ -237,94 +203,41 @@ fn step_at_place<K: Whose>(
     alloc: Global,
     weights: &[u32],
     cards: &Cards,
-    names: &Option<Names>,
-    rose: &[Record],
-    since: &[SiteStep],
+    names: &Names,
     input: &Input,
 ) -> Result<Made, NoMemory>
-    requires { ReadsAt K.place weights.now cards.now names.now rose.now since.now input.now }
+    requires { ReadsAt K.place weights.now cards.now names.now input.now }
     ensures { IfOk result (λ made. made ≡ step_at K.place) }
 {
     let reader: Reader<'_, K> = Reader {
         weights,
         cards,
         names,
-        rose,
-        since,
         input,
         of: PhantomData,
     };
     step_at(alloc, &reader)
 }
 
-fn step_by(
+/// What an input makes a site do for whose life its tables stand. The weights are those of all sites, that of site 1 first.
+/// The packets of the step have number 0, and the number of a delivered packet is nothing to it. Want of memory is the only
+/// error. The site's number is passed on for the proof alone.
+pub fn step_with(
     alloc: Global,
     weights: &[u32],
     _site: u32,
-    rose: &[Record],
-    since: &[SiteStep],
     tables: &Tables,
     input: &Input,
 ) -> Result<Made, NoMemory>
-    requires { AreUpToDate _site rose.now since.now tables.now }
-    ensures { IfOk result (λ made. made ≡ step_of weights.now _site (record { rose = rose.now; since = since.now }) input.now) }
+    ghost now: { Incarnation }
+    requires { TablesStand _site (life_of now) tables.now }
+    ensures { IfOk result (λ made. made ≡ step_of weights.now _site now input.now) }
 {
     step_at_place::<Brand>(
         alloc,
         weights,
         &tables.cards,
         &tables.names,
-        rose,
-        since,
         &plain_input(input),
     )
-}
-
-/// The tables count every step. The site and its log are passed on for the proof alone.
-pub(crate) fn are_up(_site: u32, _rose: &[Record], since: &[SiteStep], tables: &Tables) -> bool
-    requires { TablesStand _site _rose.now since.now tables.now }
-    ensures { result ≡ true → AreUpToDate _site _rose.now since.now tables.now }
-{
-    tables.steps == since.len() as u64
-}
-
-fn step_over(
-    alloc: Global,
-    weights: &[u32],
-    site: u32,
-    rose: &[Record],
-    since: &[SiteStep],
-    tables: &Tables,
-    input: &Input,
-) -> Result<Made, NoMemory>
-    requires { TablesStand site rose.now since.now tables.now }
-    ensures { IfOk result (λ made. made ≡ step_of weights.now site (record { rose = rose.now; since = since.now }) input.now) }
-{
-    if are_up(site, rose, since, tables) {
-        step_by(alloc, weights, site, rose, since, tables, input)
-    } else {
-        step_of(alloc, weights, site, rose, since, input)
-    }
-}
-
-/// What an input makes a site do that rose with this log, the records of the rise among it, and made these steps since, the
-/// oldest first. The weights are those of all sites, that of site 1 first. The packets of the step have number 0, and the
-/// number of a delivered packet is nothing to it. Where there are tables that count every step it reads them, else all of
-/// the site's past anew.
-pub fn step_with(
-    alloc: Global,
-    weights: &[u32],
-    site: u32,
-    rose: &[Record],
-    since: &[SiteStep],
-    tables: &Option<Tables>,
-    input: &Input,
-) -> Result<Made, NoMemory>
-    requires { TheyStand site rose.now since.now tables.now }
-    ensures { IfOk result (λ made. made ≡ step_of weights.now site (record { rose = rose.now; since = since.now }) input.now) }
-{
-    match tables {
-        Some(tables) => step_over(alloc, weights, site, rose, since, tables, input),
-        None => step_of(alloc, weights, site, rose, since, input),
-    }
 }

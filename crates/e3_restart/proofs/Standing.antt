@@ -3,10 +3,13 @@ use Rattle.std.proofs.Common.{◌≡◌, ◌≢◌, ◌<◌, ◌++◌, ◌∷◌
 use Rattle.e3_types.specs.declared.records.Record.{Record}
 use Rattle.e3_types.specs.declared.records.Record.TheVariants as log
 use Rattle.e3_types.specs.declared.scenarios.Scenario.{Scenario}
-use Rattle.e3_site.specs.SiteView.{SiteView}
+use Rattle.e3_past.specs.Standing.{TablesStand}
+use Rattle.e3_past.specs.declared.tables.Tables.{Tables}
+use Rattle.e3_site.specs.SiteView.{SiteView, Stands, risen_with}
 use Rattle.e3_site.specs.StandsFor.{StandsRisen}
+use Rattle.e3_world.specs.Lives.{life_of}
 use Rattle.e3_world.specs.Orderly.{IsOrderly, OrderlyAfter, MayFollow, weights_by, weights_in}
-use Rattle.e3_restart.specs.Rebuilt.{StandsForEach}
+use Rattle.e3_restart.specs.Rebuilt.{IsRebuilt, StandsForEach}
 use Rattle.e3_restart.proofs.Births.{IsBorn, log_born}
 
 pub some_records : (records : List Record) → 0 < length records → records ≢ []
@@ -41,9 +44,20 @@ weights_born : (sc : Scenario) (site : ℕ) (records : List Record) → records 
 weights_born sc site [] some all born = absurd (some refl)
 weights_born sc site (r ∷ rest) some all born = weights_first site r rest all ∙ ap (weights_by []) born
 
-pub stands_for_each : (site : ℕ) (records : List Record) (s : SiteView) → records ≢ [] → IsOrderly site records → s.site ≡ site →
-    s.weights ≡ weights_in records → StandsRisen records s → StandsForEach records s
-stands_for_each site records s some all own weights risen = λ sc h legal last.
+-- a site that rose with tables of a log
+pub is_rebuilt : (site : ℕ) (records : List Record) (weights : List ℕ) (tables : Tables) (s : SiteView) →
+    s ≡ record { weights = weights; site = site; inputs = 0; tables = tables } → weights ≡ weights_in records →
+    TablesStand site (life_of (risen_with records)) tables → IsRebuilt site records s
+is_rebuilt site records weights tables s is weighs stand = record {
+  weights_are = ap (λ (v : SiteView). v.weights) is ∙ weighs;
+  site_is = ap (λ (v : SiteView). v.site) is;
+  inputs_are = ap (λ (v : SiteView). v.inputs) is;
+  stands = subst (Stands (risen_with records)) (sym is) stand;
+}
+
+pub stands_for_each : (site : ℕ) (records : List Record) (s : SiteView) → records ≢ [] → IsOrderly site records → IsRebuilt site records s →
+    StandsRisen records s → StandsForEach records s
+stands_for_each site records s some all built risen = λ sc h legal last.
     let P : List Record → Type 0 = IsBorn sc s.site in
     let O : ℕ → Type 0 = λ x. IsOrderly x records in
-    risen sc h (weights ∙ weights_born sc s.site records some (subst O (sym own) all) (subst P (sym last.log_is) (log_born sc h s.site legal))) last
+    risen sc h (built.weights_are ∙ weights_born sc s.site records some (subst O (sym built.site_is) all) (subst P (sym last.log_is) (log_born sc h s.site legal))) last

@@ -9,4 +9,4 @@ mod order;
 mod rebuilding;
 
 pub use disorder::first_disorder;
-pub use rebuilding::{RebuildFault, rebuild, rise_with};
+pub use rebuilding::{RebuildFault, rebuild};

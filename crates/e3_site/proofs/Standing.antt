@@ -1,57 +1,92 @@
 -- What a site that stands for a history plans, and that it goes on standing for it.
-use Rattle.std.proofs.Common.{◌≡◌, ℕ, List, [], ◌∷◌, ◌++◌, refl, ap, sym, subst, ◌∙◌, Result, Ok, Err, IfOk}
+use Rattle.std.proofs.Common.{◌≡◌, ℕ, List, [], ◌∷◌, ◌++◌, refl, sym, subst, ap, ◌∙◌, fold, Result, Ok, Err, IfOk}
+use Rattle.std.proofs.lemmas.List.Sums.{fold-append}
+use Rattle.e3_opens.specs.Opens.{open_in}
+use Rattle.e3_past.specs.Standing.{TablesStand}
+use Rattle.e3_past.specs.Stepping.{ActAlike, IsBehind}
+use Rattle.e3_past.specs.declared.tables.Behind.{Behind}
+use Rattle.e3_past.specs.declared.tables.Tables.{Tables}
 use Rattle.e3_types.specs.declared.list.NoMemory.{NoMemory}
 use Rattle.e3_types.specs.declared.entries.Entry.{Entry}
 use Rattle.e3_types.specs.declared.entries.Input.{Input}
-use Rattle.e3_types.specs.declared.entries.Input.TheVariants as input
 use Rattle.e3_types.specs.declared.records.Record.{Record}
 use Rattle.e3_types.specs.declared.scenarios.Scenario.{Scenario}
 use Rattle.e3_types.specs.declared.transactions.Txn.{Txn}
 use Rattle.e3_world.specs.declared.lives.Incarnation.{Incarnation}
+use Rattle.e3_world.specs.declared.lives.Life.{Life}
+use Rattle.e3_world.specs.declared.lives.Made.{Made}
 use Rattle.e3_world.specs.declared.lives.SiteStep.{SiteStep}
 use Rattle.e3_world.specs.Legal.{entry_of, made_by}
-use Rattle.e3_world.specs.Lives.{incarnation_of}
-use Rattle.e3_world.specs.Moves.{Move, Past, Rose, past_of, moves_of, own, log_by, plain_input}
+use Rattle.e3_world.specs.Lives.{incarnation_of, life_by, life_of}
+use Rattle.e3_world.specs.Logs.{logged_inc}
+use Rattle.e3_world.specs.Moves.{Move, Past, Rose, past_of, moves_of, own, log_by}
+use Rattle.e3_world.specs.Steps.{step_of}
 use Rattle.e3_world.proofs.Numbers.{entered_move}
-use Rattle.e3_world.proofs.Pushes.{past_push, incarnation_push, log_push, present_is_log, step_plain}
+use Rattle.e3_world.proofs.Pushes.{past_push, incarnation_push, log_push, present_is_log}
 use Rattle.e3_world.proofs.Readings.{own_same}
 use Rattle.e3_world.proofs.Turns.{self}
-use Rattle.e3_site.specs.Opens.{open_txns}
-use Rattle.e3_site.specs.SiteView.{SiteView, IsPlanOf, step_kept, plan_of, with_step}
-use Rattle.e3_site.specs.StandsFor.{StandsFor, StandsRisen, PlansStep, StandsOn, ListsOpen}
+use Rattle.e3_site.specs.SiteView.{IsPlanOf, PlanView, SiteView, Stands, plan_of, risen_with, step_kept, with_step}
+use Rattle.e3_site.specs.StandsFor.{ListsOpen, PlansStep, StandsFor, StandsOn, StandsRisen, StandsStill}
 
--- an input that has no number any more keeps none
-plain_twice : (i : Input) → plain_input (plain_input i) ≡ plain_input i
-plain_twice (input.Begin sites) = refl
-plain_twice (input.Do t op) = refl
-plain_twice (input.Commit t) = refl
-plain_twice (input.Cancel t) = refl
-plain_twice (input.Expire t) = refl
-plain_twice (input.Elect t group) = refl
-plain_twice (input.Deliver packet) = refl
+-- the life of an incarnation with one more step
+pub life_push : (now : Incarnation) (step : SiteStep) → life_of (with_step now step) ≡ life_by (life_of now) step
+life_push now step = fold-append life_by _ now.since (step ∷ [])
 
--- a plan is one of its own input
-own_input : (s : SiteView) (i : Input) (plan : SiteStep) → plan ≡ plan_of s i → IsPlanOf plan s
-own_input s i plan made =
-    let P : SiteStep → Type 0 = λ p. IsPlanOf p s in
-    subst P (sym made) (record {
-      is =
-          ap (λ j. record { input = j; records = (plan_of s i).records; outs = (plan_of s i).outs; told = (plan_of s i).told }) (sym (plain_twice i))
-          ∙ ap (step_kept (plain_input i)) (sym (step_plain s.weights s.site s.incarnation i));
-    })
+-- tables of the life with a step are those of the incarnation with it
+pub tables_on : (now : Incarnation) (step : SiteStep) (site : ℕ) (tables : Tables) → TablesStand site (life_by (life_of now) step) tables
+    → TablesStand site (life_of (with_step now step)) tables
+tables_on now step site tables stand = subst (λ (life : Life). TablesStand site life tables) (sym (life_push now step)) stand
 
-pub plan_own : (s : SiteView) (i : Input) (r : Result SiteStep NoMemory) → IfOk r (λ plan. plan ≡ plan_of s i) → IfOk r (λ plan. IsPlanOf plan s)
-plan_own s i (Ok plan) made = own_input s i plan made
-plan_own s i (Err e) made = tt
+inc_from : (life : Life) (since : List SiteStep) → (fold life_by life since).inc ≡ life.inc
+inc_from life [] = refl
+inc_from life (step ∷ since) = inc_from (life_by life step) since
+
+-- the number of an incarnation's life is that of the log that it rose with
+pub inc_of_rise : (now : Incarnation) → (life_of now).inc ≡ logged_inc now.rose
+inc_of_rise now = inc_from _ now.since
 
 -- the step that the site makes is the one that its history makes
-made_is : (sc : Scenario) (h : List Entry) (s : SiteView) (i : Input) → StandsFor sc h s.site s →
-    plan_of s i ≡ step_kept i (made_by sc h s.site i)
-made_is sc h s i stands = rw (stands.weights_are, stands.incarnation_is) refl
+made_is : (sc : Scenario) (h : List Entry) (now : Incarnation) (s : SiteView) (i : Input) → StandsFor sc h s.site s
+    → incarnation_of (moves_of sc h s.site) ≡ now → plan_of now s i ≡ step_kept i (made_by sc h s.site i)
+made_is sc h now s i stands is =
+    ap (λ (n : Incarnation). plan_of n s i) (sym is)
+    ∙ ap (λ (ws : List ℕ). step_kept i (step_of ws s.site (incarnation_of (moves_of sc h s.site)) i)) stands.weights_are
 
-pub plans_step : (s : SiteView) (i : Input) (r : Result SiteStep NoMemory) → IfOk r (λ plan. plan ≡ plan_of s i) → IfOk r (PlansStep s i)
-plans_step s i (Ok plan) made = λ sc h stands. made ∙ made_is sc h s i stands
-plans_step s i (Err e) made = tt
+-- what is planned is kept of the step that is made
+pub planned_is : (now : Incarnation) (s : SiteView) (i : Input) (made : Made) (r : Result PlanView NoMemory) → made ≡ step_of s.weights s.site now i
+    → IfOk r (λ plan. plan.step ≡ step_kept i made) → IfOk r (λ plan. plan.step ≡ plan_of now s i)
+planned_is now s i made (Ok plan) is kept = kept ∙ ap (step_kept i) is
+planned_is now s i made (Err e) is kept = tt
+
+pub plans_step : (now : Incarnation) (s : SiteView) (i : Input) (r : Result PlanView NoMemory) → IfOk r (λ plan. plan.step ≡ plan_of now s i)
+    → IfOk r (λ plan. PlansStep now s i plan.step)
+plans_step now s i (Ok plan) made = λ sc h stands is. made ∙ made_is sc h now s i stands is
+plans_step now s i (Err e) made = tt
+
+-- a value with other tables stands where these do
+pub stands_still : (old new : SiteView) → new ≡ record old { tables = new.tables } → ((now : Incarnation) → Stands now old → Stands now new)
+    → StandsStill old new
+stands_still old new same still = λ sc h site stands. record {
+  weights_are = ap (λ (s : SiteView). s.weights) same ∙ stands.weights_are;
+  site_is = ap (λ (s : SiteView). s.site) same ∙ stands.site_is;
+  stands = still (incarnation_of (moves_of sc h site)) stands.stands;
+}
+
+-- room is made in tables that say the same: a plan of the old value is one of the new
+pub own_still : (old new : SiteView) (plan : PlanView) (behind : Behind) → behind ≡ plan.behind → ActAlike old.tables new.tables behind
+    → (now : Incarnation) → Stands now old → IsPlanOf plan old → IsPlanOf plan new
+own_still old new plan behind is alike now stands own =
+    let P : Behind → Type 0 = λ b. IsBehind old.tables plan.step b in
+    let Q : Behind → Type 0 = λ b. IsBehind new.tables plan.step b in
+    subst Q is (alike.are old.site (life_of now) plan.step stands (subst P (sym is) own))
+
+-- what is done is the plan's
+pub own_parts : (s : SiteView) (plan : PlanView) (step : SiteStep) (behind : Behind) → step ≡ plan.step → behind ≡ plan.behind → IsPlanOf plan s
+    → IsBehind s.tables step behind
+own_parts s plan step behind steps is own =
+    let P : SiteStep → Type 0 = λ m. IsBehind s.tables m behind in
+    let Q : Behind → Type 0 = λ b. IsBehind s.tables plan.step b in
+    subst P (sym steps) (subst Q (sym is) own)
 
 -- behind the entry of a step the site's incarnation has that step
 step_moves : (sc : Scenario) (h : List Entry) (site : ℕ) (i : Input) →
@@ -64,22 +99,19 @@ step_moves sc h site i =
     ∙ incarnation_push (moves_of sc h site) _
 
 -- so the value that did the planned step stands for the history with its entry
-pub stands_on : (old new : SiteView) (plan step : SiteStep) (inputs room : ℕ) → step ≡ plan →
-    new ≡ record old { incarnation = with_step old.incarnation step; inputs = inputs; room = room } → StandsOn old plan new
-stands_on old new plan step inputs room same done = λ sc h i stands made.
-    let P : SiteView → Type 0 = λ v. StandsFor sc (h ++ entry_of sc h old.site i ∷ []) old.site v in
-    subst P (sym done) (record {
-      weights_are = stands.weights_are;
-      site_is = refl;
-      incarnation_is =
-          ap (with_step old.incarnation) same
-          ∙ ap (λ (was : Incarnation). with_step was plan) stands.incarnation_is
-          ∙ ap (with_step (incarnation_of (moves_of sc h old.site))) (made ∙ made_is sc h old i stands)
-          ∙ sym (step_moves sc h old.site i);
-    })
+pub stands_on : (old new : SiteView) (step : SiteStep) (inputs : ℕ) → new ≡ record old { inputs = inputs; tables = new.tables }
+    → ((now : Incarnation) → Stands now old → Stands (with_step now step) new) → StandsOn old step new
+stands_on old new step inputs done on = λ sc h i stands made.
+    let was : Incarnation = incarnation_of (moves_of sc h old.site) in
+    record {
+      weights_are = ap (λ (s : SiteView). s.weights) done ∙ stands.weights_are;
+      site_is = ap (λ (s : SiteView). s.site) done;
+      stands =
+          subst (λ (n : Incarnation). Stands n new) (ap (with_step was) made ∙ sym (step_moves sc h old.site i)) (on was stands.stands);
+    }
 
 -- what a rise leaves is the log that it made
-pub stands_risen : (s : SiteView) (log : List Record) → s.incarnation ≡ record { rose = log; since = [] } → StandsRisen log s
+pub stands_risen : (s : SiteView) (log : List Record) → Stands (risen_with log) s → StandsRisen log s
 stands_risen s log now = λ sc h weights risen.
     let m : Move = record { site = s.site; did = Rose risen.inc risen.records } in
     let all : log ≡ log_by risen.before ++ risen.records = risen.log_is ∙ ap log_by risen.last ∙ log_push risen.before m in
@@ -89,9 +121,18 @@ stands_risen s log now = λ sc h weights risen.
     record {
       weights_are = weights;
       site_is = refl;
-      incarnation_is = now ∙ ap (λ (l : List Record). record { rose = l; since = [] }) all ∙ sym there;
+      stands = subst (λ (n : Incarnation). Stands n s) (ap risen_with all ∙ sym there) now;
     }
 
+-- what is open by the tables is open in each incarnation for which they stand
+pub opens_are : (s : SiteView) (r : Result (List Txn) NoMemory)
+    → IfOk r (λ txns. (site : ℕ) (life : Life) → TablesStand site life s.tables → txns ≡ open_in site life)
+    → IfOk r (λ txns. (now : Incarnation) → Stands now s → txns ≡ open_in s.site (life_of now))
+opens_are s (Ok txns) listed = λ now stands. listed s.site (life_of now) stands
+opens_are s (Err e) listed = tt
+
 -- what is open at the site is what is open in its history
-pub lists_open : (s : SiteView) (txns : List Txn) → txns ≡ open_txns s → ListsOpen s txns
-lists_open s txns listed = λ sc h stands. listed ∙ rw stands.incarnation_is refl
+pub lists_open : (s : SiteView) (r : Result (List Txn) NoMemory) → IfOk r (λ txns. (now : Incarnation) → Stands now s → txns ≡ open_in s.site (life_of now))
+    → IfOk r (ListsOpen s)
+lists_open s (Ok txns) listed = λ sc h stands. listed (incarnation_of (moves_of sc h s.site)) stands.stands
+lists_open s (Err e) listed = tt

@@ -1,3 +1,2 @@
 pub mod SiteView
-pub mod Opens
 pub mod StandsFor

@@ -1,38 +1,59 @@
--- What a site is: all that its steps depend on, how many inputs it took, and for how many steps more it has room.
-use Rattle.std.specs.Prelude.{◌≡◌, ◌++◌, ◌∷◌, [], if◌then◌else◌, ℕ, suc, nat_lt, List, map}
+-- What a site keeps, what it stands for, and what a plan of it is.
+use Rattle.std.specs.Prelude.{◌++◌, ◌∷◌, [], if◌then◌else◌, ℕ, suc, nat_lt, List, map}
+use Rattle.e3_past.specs.declared.tables.Behind.{Behind}
+use Rattle.e3_past.specs.declared.tables.Tables.{Tables}
+use Rattle.e3_past.specs.Standing.{TablesStand}
+use Rattle.e3_past.specs.Stepping.{HasRoom, IsBehind}
 use Rattle.e3_types.specs.declared.entries.Act.TheVariants.{Step}
 use Rattle.e3_types.specs.declared.entries.Entry.{Entry}
 use Rattle.e3_types.specs.declared.entries.Input.{Input}
+use Rattle.e3_types.specs.declared.records.Record.{Record}
 use Rattle.e3_world.specs.declared.lives.Incarnation.{Incarnation}
 use Rattle.e3_world.specs.declared.lives.Made.{Made}
 use Rattle.e3_world.specs.declared.lives.SiteStep.{SiteStep}
+use Rattle.e3_world.specs.Lives.{life_of}
 use Rattle.e3_world.specs.Moves.{plain, plain_input}
 use Rattle.e3_world.specs.Steps.{step_of}
 
--- the weights of all sites, that of site 1 first; the site's number; the log that it rose with and its steps since; the
--- inputs that it took; and the room
+-- the weights of all sites, that of site 1 first; the site's number; the inputs that it took; and its tables
 pub record SiteView : Type 0 where
   pub weights : List ℕ
   pub site : ℕ
-  pub incarnation : Incarnation
   pub inputs : ℕ
-  pub room : ℕ
+  pub tables : Tables
+
+-- the value stands for a site in this incarnation: its tables are those of the incarnation's life
+abbrev pub Stands : Incarnation → SiteView → Type 0
+Stands now s = TablesStand s.site (life_of now) s.tables
+
+-- the incarnation of a site that rose with this log and made no step since
+abbrev pub risen_with : List Record → Incarnation
+risen_with log = record { rose = log; since = [] }
+
+-- the site did the step last
+abbrev pub with_step : Incarnation → SiteStep → Incarnation
+with_step was step = record { rose = was.rose; since = was.since ++ step ∷ [] }
 
 -- a step as a site keeps it: its packets, and one that it took, have no number
 abbrev pub step_kept : Input → Made → SiteStep
 step_kept i made = record { input = plain_input i; records = made.records; outs = map plain made.outs; told = made.told }
 
--- what an input makes a site do, as the site keeps it
-abbrev pub plan_of : SiteView → Input → SiteStep
-plan_of s i = step_kept i (step_of s.weights s.site s.incarnation i)
+-- what an input makes a site in this incarnation do, as the site keeps it
+abbrev pub plan_of : Incarnation → SiteView → Input → SiteStep
+plan_of now s i = step_kept i (step_of s.weights s.site now i)
 
--- the plan is what its own input makes the site do
-pub record IsPlanOf (plan : SiteStep) (s : SiteView) : Type 0 where
-  pub is : plan ≡ plan_of s plan.input
+-- a plan: the step, and what it makes of the tables
+pub record PlanView : Type 0 where
+  pub step : SiteStep
+  pub behind : Behind
 
--- the site did the step last
-abbrev pub with_step : Incarnation → SiteStep → Incarnation
-with_step was step = record { rose = was.rose; since = was.since ++ step ∷ [] }
+-- what the plan makes of tables is what its step makes of the value's
+abbrev pub IsPlanOf : PlanView → SiteView → Type 0
+IsPlanOf plan s = IsBehind s.tables plan.step plan.behind
+
+-- the value's tables have room for what the plan makes of them
+abbrev pub HasRoomFor : PlanView → SiteView → Type 0
+HasRoomFor plan s = HasRoom s.tables plan.behind
 
 -- one more, up to the greatest number of the count's type
 abbrev pub count_on : ℕ → ℕ

@@ -1,28 +1,31 @@
 // A step that a site has planned and not done.
 ghost use Rattle.std.specs.Prelude.{◌≡◌, ◌<◌, ◌^◌, IfOk, length, map};
+ghost use Rattle.e3_past.specs.Stepping.{IsBehind};
 ghost use Rattle.e3_site.specs.SiteView.{entry_of_plan, step_kept};
 ghost use Rattle.e3_world.specs.Moves.{plain};
 
+use e3_past::{Behind, Tables, behind};
 use e3_plain::{plain, plain_input};
 use e3_types::{Act, Copied, Entry, Input, List, NoMemory, Packet, Record, Told};
 use e3_world::{Made, SiteStep};
 use std::alloc::Global;
 use std::marker::Model;
 
-/// A step that a site has planned: its input, its records, packets and events. The packets have number 0. It keeps the
-/// allocator that its lists came from.
+/// A step that a site has planned: its input, its records, packets and events, and what it makes of the site's tables. The
+/// packets have number 0. It keeps the allocator that its lists came from.
 #[derive(Drop)]
 pub struct Plan {
     alloc: Global,
     step: SiteStep,
+    behind: Behind,
 }
 
 impl Model for Plan {
-    ghost use Rattle.e3_world.specs.declared.lives.SiteStep.{SiteStep as KeptStep};
+    ghost use Rattle.e3_site.specs.SiteView.{PlanView};
 
-    ghost Value = { KeptStep };
+    ghost Value = { PlanView };
 
-    ghost view = { λ p. p.step };
+    ghost view = { λ p. record { step = p.step; behind = p.behind } };
 }
 
 // The packets without numbers, in a list with room for just these: a list that grows by pushes has room for four at least.
@@ -49,51 +52,68 @@ fn fitted<T: Drop>(items: List<T>) -> List<T>
     List::from_vec(items)
 }
 
+// The step as a site keeps it. No memory has 2^32 packets.
+fn kept(alloc: Global, input: &Input, made: Made) -> Result<SiteStep, NoMemory>
+    ensures kept { IfOk result (λ step. step ≡ step_kept input.now made) }
+    ensures few { IfOk result (λ step. length step.outs < 2 ^ 32) }
+{
+    let outs = plain_outs(alloc, made.outs.as_slice())?;
+    if outs.len() > 4294967295 {
+        return Err(NoMemory);
+    }
+    Ok(SiteStep {
+        input: plain_input(input),
+        outs,
+        records: fitted(made.records),
+        told: fitted(made.told),
+    })
+}
+
 impl Plan {
-    /// The plan to do what an input made. No memory has 2^32 packets.
-    pub(crate) fn new(alloc: Global, input: &Input, made: Made) -> Result<Plan, NoMemory>
-        ensures kept { IfOk result (λ plan. plan ≡ step_kept input.now made) }
-        ensures few { IfOk result (λ plan. length plan.outs < 2 ^ 32) }
+    /// The plan to do what an input made, at a site with these tables.
+    pub(crate) fn new(
+        alloc: Global,
+        tables: &Tables,
+        input: &Input,
+        made: Made,
+    ) -> Result<Plan, NoMemory>
+        ensures kept { IfOk result (λ plan. plan.step ≡ step_kept input.now made) }
+        ensures own { IfOk result (λ plan. IsBehind tables.now plan.step plan.behind) }
+        ensures few { IfOk result (λ plan. length plan.step.outs < 2 ^ 32) }
     {
-        let outs = plain_outs(alloc, made.outs.as_slice())?;
-        if outs.len() > 4294967295 {
-            return Err(NoMemory);
-        }
+        let step = kept(alloc, input, made)?;
+        let made_of_them = behind(alloc, tables, &step)?;
         Ok(Plan {
             alloc,
-            step: SiteStep {
-                input: plain_input(input),
-                outs,
-                records: fitted(made.records),
-                told: fitted(made.told),
-            },
+            step,
+            behind: made_of_them,
         })
     }
 
     /// The records that the step adds to the log, in their order.
     pub fn records(&self) -> &[Record]
-        ensures { result.now ≡ self.now.records }
+        ensures { result.now ≡ self.now.step.records }
     {
         self.step.records.as_slice()
     }
 
     /// The packets that the step sends, in their order.
     pub fn outs(&self) -> &[Packet]
-        ensures { result.now ≡ self.now.outs }
+        ensures { result.now ≡ self.now.step.outs }
     {
         self.step.outs.as_slice()
     }
 
     /// The events that the step tells, in their order.
     pub fn told(&self) -> &[Told]
-        ensures { result.now ≡ self.now.told }
+        ensures { result.now ≡ self.now.step.told }
     {
         self.step.told.as_slice()
     }
 
     /// The Step entry of this owner with this input and copies of the plan's records, packets and events.
     pub fn entry(&self, owner: u32, input: &Input) -> Result<Entry, NoMemory>
-        ensures { IfOk result (λ entry. entry ≡ entry_of_plan owner input.now self.now) }
+        ensures { IfOk result (λ entry. entry ≡ entry_of_plan owner input.now self.now.step) }
     {
         Ok(Entry {
             owner,
@@ -106,10 +126,25 @@ impl Plan {
         })
     }
 
-    /// The step itself.
-    pub(crate) fn into_step(self) -> SiteStep
-        ensures { result ≡ self }
+    /// What the step makes of the tables.
+    pub(crate) fn behind(&self) -> &Behind
+        ensures { result.now ≡ self.now.behind }
+    {
+        &self.behind
+    }
+
+    /// The step itself, where it is not done.
+    pub fn into_step(self) -> SiteStep
+        ensures { result ≡ self.step }
     {
         self.step
+    }
+
+    /// The step, and what it makes of the tables.
+    pub(crate) fn into_parts(self) -> (SiteStep, Behind)
+        ensures step { result.0 ≡ self.step }
+        ensures behind { result.1 ≡ self.behind }
+    {
+        (self.step, self.behind)
     }
 }

@@ -1,46 +1,42 @@
 // A site while it is up.
-ghost use Rattle.std.specs.Prelude.{◌≡◌, ◌≤◌, ◌<◌, ◌^◌, [], IfOk, OnOk, length};
-ghost use Rattle.e3_past.specs.Standing.{TheyStand};
-ghost use Rattle.e3_site.specs.Opens.{open_txns};
-ghost use Rattle.e3_site.specs.SiteView.{IsPlanOf, count_on, plan_of, with_step};
-ghost use Rattle.e3_site.specs.StandsFor.{ListsOpen, PlansStep, StandsOn, StandsRisen};
-ghost use Rattle.e3_world.specs.Lives.{present_log};
-ghost use Rattle.e3_world.specs.Logs.{logged_inc, table_of};
+ghost use Rattle.std.specs.Prelude.{◌≡◌, ◌<◌, ◌^◌, IfOk, OnOk, List as Items, length};
+ghost use Rattle.e3_opens.specs.Opens.{open_in};
+ghost use Rattle.e3_site.specs.SiteView.{HasRoomFor, IsPlanOf, Stands, count_on, plan_of, risen_with, with_step};
+ghost use Rattle.e3_site.specs.StandsFor.{ListsOpen, PlansStep, StandsOn, StandsRisen, StandsStill};
+ghost use Rattle.e3_types.specs.declared.records.Record.{Record};
+ghost use Rattle.e3_world.specs.declared.lives.Incarnation.{Incarnation};
+ghost use Rattle.e3_world.specs.Lives.{life_of};
+ghost use Rattle.e3_world.specs.Logs.{logged_inc};
 
 use crate::plan::Plan;
-use e3_past::{Tables, caught_up, open_with, step_with};
-use e3_readings::{logged_inc, present_log, table_of};
-use e3_types::{Input, List, NoMemory, Record, Row, Txn};
+use e3_past::{Tables, apply, open_with, ready, step_with};
+use e3_types::{Input, List, NoMemory, Txn};
 use e3_world::SiteStep;
 use std::alloc::Global;
 use std::marker::Model;
-use std::mem;
 
-/// A site while it is up: the weights of all sites, that of site 1 first; its own number; the log that it rose with, the
-/// records of the rise among it, and its steps since, the oldest first; how many inputs it took; and room for some steps
-/// more. It keeps the allocator that it was made with, and tables of what is read of the log and of the steps, or of the
-/// first of them.
+/// A site while it is up: the weights of all sites, that of site 1 first; its own number; how many inputs it took; and tables
+/// of what is read of the log that it rose with and of its steps since. It keeps none of them, and the allocator that it was
+/// made with.
 #[derive(Drop)]
 pub struct Site {
     alloc: Global,
     weights: List<u32>,
     site: u32,
-    rose: List<Record>,
-    since: Vec<SiteStep>,
     inputs: u32,
-    tables: Option<Tables>,
+    tables: Tables,
 }
 
 impl Model for Site {
-    ghost use Rattle.std.specs.Prelude.{◌-◌, vec_len, vec_capacity};
-    ghost use Rattle.e3_past.specs.Standing.{TheyStand};
+    ghost use Rattle.std.specs.Coded.{codes};
+    ghost use Rattle.e3_past.specs.contracts.tables.Tables as t;
     ghost use Rattle.e3_site.specs.SiteView.{SiteView};
 
     ghost Value = { SiteView };
 
-    ghost view = { λ s. record { weights = s.weights; site = s.site; incarnation = record { rose = s.rose; since = s.since.items }; inputs = s.inputs; room = vec_capacity s.since - vec_len s.since } };
+    ghost coded = { Prim.hlevel (codes, t.the_row.coded) };
 
-    ghost invariant = { λ s. TheyStand s.site s.rose s.since.items s.tables };
+    ghost view = { λ s. record { weights = s.weights; site = s.site; inputs = s.inputs; tables = s.tables } };
 }
 
 fn count_on(count: u32) -> u32
@@ -50,25 +46,15 @@ fn count_on(count: u32) -> u32
 }
 
 impl Site {
-    /// A site that rose with this log, the records of the rise among it, and made no step since. Tables of the log, if there
-    /// are any, spare reading it anew.
-    pub fn rise(
-        alloc: Global,
-        weights: List<u32>,
-        site: u32,
-        log: List<Record>,
-        tables: Option<Tables>,
-    ) -> Site
-        requires { TheyStand site log [] tables }
-        ensures risen { result ≡ record { weights = weights; site = site; incarnation = record { rose = log; since = [] }; inputs = 0; room = result.room } }
-        ensures stands { StandsRisen log result }
+    /// A site that took no input, with these tables. Where they are those of a log, it rose with it and made no step since.
+    pub fn rise(alloc: Global, weights: List<u32>, site: u32, tables: Tables) -> Site
+        ensures risen { result ≡ record { weights = weights; site = site; inputs = 0; tables = tables } }
+        ensures stands { (log : Items Record) → Stands (risen_with log) result → StandsRisen log result }
     {
         Site {
             alloc,
             weights,
             site,
-            rose: log,
-            since: Vec::new(alloc),
             inputs: 0,
             tables,
         }
@@ -81,89 +67,83 @@ impl Site {
         self.inputs
     }
 
-    /// Brings what the site keeps beside its steps up to the last of them, so that the next plan, or a list of what is open,
-    /// costs what it does. The site is what it was. Without it all steps are read anew.
-    pub fn catch_up(&mut self) -> Result<(), NoMemory>
-        ensures { self.new ≡ self.old }
-    {
-        let were = mem::replace(&mut self.tables, None);
-        let since = self.since.as_slice();
-        let tables = caught_up(self.alloc, self.site, self.rose.as_slice(), since, were)?;
-        self.tables = Some(tables);
-        Ok(())
-    }
-
     fn planned(&self, input: &Input) -> Result<Plan, NoMemory>
-        ensures made { IfOk result (λ plan. plan ≡ plan_of self.now input.now) }
-        ensures few { IfOk result (λ plan. length plan.outs < 2 ^ 32) }
+        ghost now: { Incarnation }
+        requires { Stands now self.now }
+        ensures made { IfOk result (λ plan. plan.step ≡ plan_of now self.now input.now) }
+        ensures own { IfOk result (λ plan. IsPlanOf plan self.now) }
+        ensures few { IfOk result (λ plan. length plan.step.outs < 2 ^ 32) }
     {
-        let steps = self.since.as_slice();
+        let tables = &self.tables;
         let made = step_with(
             self.alloc,
             self.weights.as_slice(),
             self.site,
-            self.rose.as_slice(),
-            steps,
-            &self.tables,
+            tables,
             input,
         )?;
-        Plan::new(self.alloc, input, made)
+        Plan::new(self.alloc, tables, input, made)
     }
 
     /// What an input makes the site do. The number of a delivered packet is nothing to it. Want of memory is the only
     /// error.
     pub fn plan(&self, input: &Input) -> Result<Plan, NoMemory>
-        ensures made { IfOk result (λ plan. plan ≡ plan_of self.now input.now) }
+        ghost now: { Incarnation }
+        requires { Stands now self.now }
+        ensures made { IfOk result (λ plan. plan.step ≡ plan_of now self.now input.now) }
         ensures own { IfOk result (λ plan. IsPlanOf plan self.now) }
-        ensures stands { IfOk result (PlansStep self.now input.now) }
-        ensures few { IfOk result (λ plan. length plan.outs < 2 ^ 32) }
+        ensures stands { IfOk result (λ plan. PlansStep now self.now input.now plan.step) }
+        ensures few { IfOk result (λ plan. length plan.step.outs < 2 ^ 32) }
     {
         self.planned(input)
     }
 
-    /// Makes room for the step of a plan. It changes nothing but spare room.
-    pub fn ready(&mut self, _plan: &Plan) -> Result<(), NoMemory>
-        ensures same { self.new ≡ record self.old { room = self.new.room } }
-        ensures ok { OnOk result (1 ≤ self.new.room) }
-        ensures own { IsPlanOf _plan.now self.old → IsPlanOf _plan.now self.new }
+    /// Makes room for what a plan makes of the tables. It changes nothing but spare room.
+    pub fn ready(&mut self, plan: &Plan) -> Result<(), NoMemory>
+        ensures same { self.new ≡ record self.old { tables = self.new.tables } }
+        ensures stand { (now : Incarnation) → Stands now self.old → Stands now self.new }
+        ensures stands { StandsStill self.old self.new }
+        ensures own { (now : Incarnation) → Stands now self.old → IsPlanOf plan.now self.old → IsPlanOf plan.now self.new }
+        ensures ok { OnOk result (HasRoomFor plan.now self.new) }
     {
-        match self.since.try_reserve(1) {
-            Ok(()) => Ok(()),
-            Err(_) => Err(NoMemory),
-        }
+        ready(self.alloc, &mut self.tables, plan.behind())
     }
 
-    fn keep(&mut self, step: SiteStep)
-        requires { 1 ≤ self.old.room }
-        ensures { self.new ≡ record self.old { incarnation = with_step self.old.incarnation step; inputs = count_on self.old.inputs; room = self.new.room } }
-    {
-        let _ = self.since.push(step);
-        self.inputs = count_on(self.inputs);
-    }
-
-    /// Does the step of a plan of this site. It takes no memory.
-    pub fn apply(&mut self, plan: Plan)
+    /// Does the step of a plan of this site, and gives it back. It takes no memory.
+    pub fn apply(&mut self, plan: Plan) -> SiteStep
         requires own { IsPlanOf plan self.old }
-        requires room { 1 ≤ self.old.room }
-        ensures done { self.new ≡ record self.old { incarnation = with_step self.old.incarnation plan; inputs = count_on self.old.inputs; room = self.new.room } }
-        ensures stands { StandsOn self.old plan self.new }
+        requires room { HasRoomFor plan self.old }
+        ensures step { result ≡ plan.step }
+        ensures done { self.new ≡ record self.old { inputs = count_on self.old.inputs; tables = self.new.tables } }
+        ensures stand { (now : Incarnation) → Stands now self.old → Stands (with_step now plan.step) self.new }
+        ensures stands { StandsOn self.old plan.step self.new }
     {
-        self.keep(plan.into_step());
+        let (step, behind) = plan.into_parts();
+        apply(&mut self.tables, &step, behind);
+        self.inputs = count_on(self.inputs);
+        step
     }
 
     /// The undecided transactions that the site knows, each once and ascending.
     pub fn open_txns(&self) -> Result<List<Txn>, NoMemory>
-        ensures listed { IfOk result (λ txns. txns ≡ open_txns self.now) }
+        ensures listed { IfOk result (λ txns. (now : Incarnation) → Stands now self.now → txns ≡ open_in self.now.site (life_of now)) }
         ensures stands { IfOk result (ListsOpen self.now) }
     {
-        let since = self.since.as_slice();
-        open_with(
-            self.alloc,
-            self.site,
-            self.rose.as_slice(),
-            since,
-            &self.tables,
-        )
+        open_with(self.alloc, &self.tables)
+    }
+
+    /// The weights of all sites, that of site 1 first.
+    pub fn weights(&self) -> &[u32]
+        ensures { result.now ≡ self.now.weights }
+    {
+        self.weights.as_slice()
+    }
+
+    /// The tables of the site.
+    pub fn tables(&self) -> &Tables
+        ensures { result.now ≡ self.now.tables }
+    {
+        &self.tables
     }
 
     /// The number of the site.
@@ -175,23 +155,8 @@ impl Site {
 
     /// The incarnation of the site: that of the last Inc of the log that it rose with, 0 where there is none.
     pub fn inc(&self) -> u32
-        ensures { result ≡ logged_inc self.now.incarnation.rose }
+        ensures { (now : Incarnation) → Stands now self.now → result ≡ logged_inc now.rose }
     {
-        logged_inc(self.rose.as_slice())
-    }
-
-    /// The log at present, the oldest record first.
-    pub fn log(&self) -> Result<List<Record>, NoMemory>
-        ensures { IfOk result (λ log. log ≡ present_log self.now.incarnation) }
-    {
-        present_log(self.alloc, self.rose.as_slice(), self.since.as_slice())
-    }
-
-    /// The rows that the log at present stands for, in byte order of their names.
-    pub fn table(&self) -> Result<List<Row>, NoMemory>
-        ensures { IfOk result (λ rows. rows ≡ table_of (present_log self.now.incarnation)) }
-    {
-        let log = self.log()?;
-        table_of(self.alloc, log.as_slice())
+        self.tables.cards.inc
     }
 }

@@ -1,12 +1,11 @@
-use Rattle.std.proofs.Common.{◌∷◌, [], ap, refl, ◌∙◌}
+use Rattle.std.proofs.Common.{[], refl}
 use Rattle.e3_types.specs.declared.entries.Input.TheVariants.{Begin}
 use Rattle.e3_cards.specs.Noting.{unstepped}
-use Rattle.e3_past.specs.Opening.{undecided_among}
 use Rattle.e3_past.proofs.Undecided.{note_open}
 use Rattle.e3_past.proofs.opening.note_opens.Goals as goal
 
 pub returns : goal.returns
 returns c = λ site inc log cards stand.
-    note_open site inc log c.args.r.now c.args.opens.now (record c.args.opens.now { logged = c.left_by.result }) c.add_recorded.new.out stand
+    note_open site inc log c.args.r.now c.args.opens.now (record c.args.opens.now { logged = c.sift_by.new.txns }) c.add_recorded.new.out.items stand
     (c.in_ok-add_recorded.ensures (record { weights = []; site = site; life = unstepped inc log; input = Begin [] }) cards)
-    (c.left_by.ensures ∙ ap (undecided_among (c.args.r.now ∷ [])) c.replace-logged.ensures.value) refl refl
+    c.sift_by.ensures refl refl

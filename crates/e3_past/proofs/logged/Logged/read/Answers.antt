@@ -3,8 +3,7 @@ use Rattle.std.specs.Option.{IsSome}
 use Rattle.e3_cards.specs.Noting.{unstepped}
 use Rattle.e3_places.specs.declared.places.Places.{Places}
 use Rattle.e3_past.specs.Standing.{PlacesMayStand}
-use Rattle.e3_past.proofs.Known.{read_push}
-use Rattle.e3_past.proofs.Rising.{not_empty}
+use Rattle.e3_past.proofs.Known.{not_empty, read_push}
 use Rattle.e3_past.proofs.logged.Logged.read.Goals as goal
 
 pub returns : goal.returns

@@ -1,0 +1,31 @@
+-- What a step makes of the tables of a site.
+use Rattle.std.specs.Prelude.{ℕ}
+use Rattle.e3_world.specs.declared.lives.Life.{Life}
+use Rattle.e3_world.specs.declared.lives.SiteStep.{SiteStep}
+use Rattle.e3_cards.specs.Tables.{AreChanges, CardsStand, HasRoom as HasCards}
+use Rattle.e3_names.specs.Knowing.{AreBehind, NamesStand}
+use Rattle.e3_places.specs.Keeping.{HasRoom as HasPlaces}
+use Rattle.e3_past.specs.declared.tables.Behind.{Behind}
+use Rattle.e3_past.specs.declared.tables.Tables.{Tables}
+use Rattle.e3_past.specs.Opening.{AreAdded, HaveRoom}
+use Rattle.e3_past.specs.Standing.{TablesStand}
+
+-- it is what the step makes of just these tables: of the cards, and at every life for which these stand, of what is known of
+-- names and of what is open
+pub record IsBehind (tables : Tables) (s : SiteStep) (behind : Behind) : Type 0 where
+  pub cards_are : AreChanges tables.cards s behind.cards
+  pub names_are : (site : ℕ) (life : Life) → CardsStand site tables.cards life → NamesStand site tables.names life
+      → AreBehind site tables.names life s behind.names
+  pub opens_are : (site : ℕ) (life : Life) → CardsStand site tables.cards life → AreAdded site life s behind.opens
+
+-- there is room for all of it
+pub record HasRoom (tables : Tables) (behind : Behind) : Type 0 where
+  pub cards : HasCards tables.cards.map.entries behind.cards.cards
+  pub names : HasPlaces tables.names.places behind.names.changes
+  pub opens : HaveRoom tables.opens behind.opens
+
+-- whatever life the first tables stand for, the second stand for; and what a step makes of the first, where they stand for
+-- any life, it makes of the second
+pub record ActAlike (old new : Tables) (behind : Behind) : Type 0 where
+  pub stand : (site : ℕ) (life : Life) → TablesStand site life old → TablesStand site life new
+  pub are : (site : ℕ) (life : Life) (s : SiteStep) → TablesStand site life old → IsBehind old s behind → IsBehind new s behind

@@ -1,0 +1,51 @@
+// What a step makes of the tables of a site.
+ghost use Rattle.std.specs.Prelude.{ℕ, IfOk, OnOk};
+ghost use Rattle.e3_world.specs.declared.lives.Life.{Life};
+ghost use Rattle.e3_world.specs.Lives.{life_by};
+ghost use Rattle.e3_past.specs.Standing.{TablesStand};
+ghost use Rattle.e3_past.specs.Stepping.{ActAlike, HasRoom, IsBehind};
+
+use crate::opening::{added, apply_opens, ready_opens};
+use crate::tables::{Behind, Tables};
+use e3_cards as cards;
+use e3_names as names;
+use e3_types::NoMemory;
+use e3_world::SiteStep;
+use std::alloc::Global;
+
+/// What a step makes of the tables. It reads them alone, and changes none. NoMemory comes also where the step's records may
+/// not follow the log. Those of the rules always may: `steps_may_follow_the_log` of e3_law_follow.
+pub fn behind(alloc: Global, tables: &Tables, step: &SiteStep) -> Result<Behind, NoMemory>
+    ensures { IfOk result (IsBehind tables.now step.now) }
+{
+    let cards = cards::changes(alloc, &tables.cards, step)?;
+    let names = names::behind(alloc, &tables.cards, &tables.names, step)?;
+    let opens = added(alloc, &tables.cards, step)?;
+    Ok(Behind {
+        cards,
+        names,
+        opens,
+    })
+}
+
+/// Makes room for what a step makes: afterwards it can be put in its place. What the tables say stays, also where memory
+/// wants.
+pub fn ready(alloc: Global, tables: &mut Tables, behind: &Behind) -> Result<(), NoMemory>
+    ensures same { ActAlike tables.old tables.new behind.now }
+    ensures ok { OnOk result (HasRoom tables.new behind.now) }
+{
+    cards::ready(alloc, &mut tables.cards.map, behind.cards.cards.as_slice())?;
+    names::ready(alloc, &mut tables.names, &behind.names)?;
+    ready_opens(&mut tables.opens, &behind.opens)
+}
+
+/// Puts what a step makes in its place: the tables are those of the life with that step. It takes no memory.
+pub fn apply(tables: &mut Tables, step: &SiteStep, behind: Behind)
+    requires are { IsBehind tables.old step.now behind }
+    requires room { HasRoom tables.old behind }
+    ensures { (site : ℕ) (life : Life) → TablesStand site life tables.old → TablesStand site (life_by life step.now) tables.new }
+{
+    names::apply(&mut tables.names, behind.names);
+    apply_opens(&mut tables.opens, step, behind.opens);
+    cards::apply(&mut tables.cards, step, behind.cards);
+}

@@ -1,0 +1,17 @@
+use Rattle.std.proofs.Common.{IfOk, ap, subst, sym, ◌∙◌, ℕ, List}
+use Rattle.e3_site.proofs.Standing.{planned_is}
+use Rattle.e3_site.specs.SiteView.{IsPlanOf, SiteView, Stands}
+use Rattle.e3_world.specs.Steps.{step_of}
+use Rattle.e3_site.proofs.site.Site.planned.Goals as goal
+
+pub step_with-requires : goal.step_with-requires
+step_with-requires g c = subst (λ (s : SiteView). Stands g.now s) (sym c.self.view_is) c.requires
+
+pub returns-clause-made : goal.returns-clause-made
+returns-clause-made g c =
+    planned_is g.now c.args.self.now c.args.input.now c.in_ok-made.made c.new.result
+    (c.in_ok-made.ensures ∙ ap (λ (ws : List ℕ). step_of ws c.self.inside.site g.now c.args.input.now) c.as_slice.ensures
+    ∙ ap (λ (s : SiteView). step_of s.weights s.site g.now c.args.input.now) c.self.view_is) c.new.ensures.kept
+
+pub returns-clause-own : goal.returns-clause-own
+returns-clause-own g c = subst (λ (s : SiteView). IfOk c.new.result (λ plan. IsPlanOf plan s)) c.self.view_is c.new.ensures.own
