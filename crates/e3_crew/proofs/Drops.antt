@@ -29,7 +29,8 @@ use Rattle.e3_types.specs.declared.scenarios.Scenario.{Scenario}
 use Rattle.e3_wire.specs.Claims.{APass, HasOwner, NothingPromised}
 use Rattle.e3_wire.specs.declared.marks.Mark.{Mark}
 use Rattle.e3_wire.specs.declared.marks.Mark.TheVariants as mark
-use Rattle.e3_wire.specs.Marks.{Note, belongs, entries_of, last_owner, most_of, note_by, note_of, nothing, scenario_of, used_of}
+use Rattle.e3_wire.specs.Marks.{NothingIsPromised, belongs, entries_of, last_owner, most_of, note_by, note_of, nothing, scenario_of, used_of}
+use Rattle.e3_wire.specs.declared.marks.Note.{Note}
 use Rattle.e3_wire.specs.Wires.{IsDroppedFor, IsPlayed}
 use Rattle.e3_wire.proofs.Foreign.{entries_append}
 use Rattle.e3_wire.proofs.Notes.{scenario_stays}
@@ -195,8 +196,8 @@ module _ {D : Type 0} (content : D → List ℕ) (image : D → List ℕ → Typ
     count = last_same ∙ was.count;
     played = played;
     restless = dropped_restless (seen_by p) (seen_by q) was.played d was.restless;
-    none = λ o low. ap (λ (l : List Mark). (note_of o l).places) d.is ∙ ap (λ (w : Note). w.places) (fold-append (note_by o) nothing (seen_by p) d.drops
-        ∙ drops_note o (note_of o (seen_by p)) d.drops d.are) ∙ was.none o (let l = last_same in omega (arith, l, low));
+    none = λ o low. ap (λ (l : List Mark). note_of o l) d.is ∙ fold-append (note_by o) nothing (seen_by p) d.drops
+        ∙ drops_note o (note_of o (seen_by p)) d.drops d.are ∙ was.none o (let l = last_same in omega (arith, l, low));
     each = λ i x low. (let rest = was.each i x low in record {
       site = rest.site;
       stands = (let P : Scenario → Type 0 = λ k. NodeStands content image meters k (history_seen q) (slice_index_or workers i x).node in
@@ -217,7 +218,7 @@ module _ {D : Type 0} (content : D → List ℕ) (image : D → List ℕ → Typ
   }
 
 -- the driver's refusal, at the bound
-pub drop_full : NothingPromised → (before now : List Mark) → IsPlayed before → IsPlayed now → HasDropped before now → ((o : ℕ) → o ≤ last_owner now → (note_of o now).places ≡ 0) →
+pub drop_full : NothingPromised → (before now : List Mark) → IsPlayed before → IsPlayed now → HasDropped before now → NothingIsPromised now →
     lines (entries_of before) ≢ 0 → Delivering (scenario_of before) (entries_of before) → DropHadNoRoom now →
     IsFullBefore IsPacketDue (scenario_of before) (entries_of now) (most_of before)
 drop_full nothing before now played after d none begun was had =

@@ -1,5 +1,5 @@
 -- What an answer of a node to an input comes to.
-use Rattle.std.proofs.Common.{◌≡◌, ◌↔◌, ◌≤◌, ◌++◌, ◌∷◌, [], inl, inr, ℕ, Bool, true, false, List, refl, sym, ap, subst, ◌∙◌}
+use Rattle.std.proofs.Common.{◌≡◌, ◌↔◌, ◌≤◌, ◌++◌, ◌∷◌, [], inl, inr, ℕ, Bool, true, false, List, refl, sym, ap, subst, ◌∙◌, arith}
 use Rattle.std.specs.Prelude.{Result, Ok, Err, OnOk}
 use Rattle.e3_disk.specs.Meters.{Keeps, Meters}
 use Rattle.e3_crew.specs.Turns.{AtStart, BehindFall, BehindOthers, BehindStep, WentOn, given}
@@ -18,7 +18,8 @@ use Rattle.e3_types.specs.declared.entries.Input.{Input}
 use Rattle.e3_types.specs.declared.entries.Why.{Why}
 use Rattle.e3_types.specs.declared.scenarios.Scenario.{Scenario}
 use Rattle.e3_wire.specs.declared.marks.Mark.{Mark}
-use Rattle.e3_wire.specs.Marks.{entries_of, most_of, note_of, scenario_of, used_of}
+use Rattle.e3_wire.specs.declared.marks.Note.{Note}
+use Rattle.e3_wire.specs.Marks.{entries_of, most_of, note_of, nothing, scenario_of, used_of}
 use Rattle.e3_wire.specs.Wires.{IsPlayed}
 use Rattle.e3_world.specs.Items.{is_up_at}
 use Rattle.e3_world.specs.Legal.{IsLegal, entry_of, made_by}
@@ -29,6 +30,15 @@ use Rattle.e3_world.specs.declared.lives.Made.{Made}
 use Rattle.e3_world.proofs.Pushes.{legal_front}
 use Rattle.e3_world.specs.Steps.{step_of}
 
+-- nothing stays promised where nothing was
+none_still : (was now : Note) → was ≡ nothing → now.places ≡ was.places → now.room ≤ was.room → now ≡ nothing
+none_still was now none places room =
+    let zero_places : now.places ≡ 0 = places ∙ ap (λ (w : Note). w.places) none in
+    let zero_before : was.room ≡ 0 = ap (λ (w : Note). w.room) none in
+    let zero_room : now.room ≡ 0 = omega (arith, room, zero_before) in
+    ap (λ (n : ℕ). let w : Note = record { places = n; room = now.room } in w) zero_places
+    ∙ ap (λ (n : ℕ). let w : Note = record { places = 0; room = n } in w) zero_room
+
 -- the clauses of the call
 pub record Answered {D : Type 0} (content : D → List ℕ) (image : D → List ℕ → Type 0) (meters : D → Meters)
     (before marks : List Mark) (old new : NodeView D) (i : Input) (answer : Result (Unit {0}) InputFault) : Type 0 where
@@ -36,6 +46,7 @@ pub record Answered {D : Type 0} (content : D → List ℕ) (image : D → List 
   pub scenario : scenario_of marks ≡ scenario_of before
   pub most : most_of marks ≡ most_of before
   pub promised : (note_of old.site marks).places ≡ (note_of old.site before).places
+  pub room : (note_of old.site marks).room ≤ (note_of old.site before).room
   pub stands : NodeStands content image meters (scenario_of marks) (entries_of marks) new
   pub site : new.site ≡ old.site
   pub stepped : OnOk answer ((now : List Entry) × Meanwhile old.site (entries_of before) now
@@ -117,7 +128,7 @@ module _ {D : Type 0} (content : D → List ℕ) (image : D → List ℕ → Typ
       played = a.played;
       restless = (let P : Scenario → Type 0 = λ k. is_calm (present_items k (entries_of marks)) ≡ false in
           subst P (sym a.scenario) (restless_on sc was (entries_of marks) (lines_meanwhile 0 was (entries_of marks) grew) knows.restless));
-      none = ap (λ (s : ℕ). (note_of s marks).places) a.site ∙ a.promised ∙ knows.none;
+      none = ap (λ (s : ℕ). note_of s marks) a.site ∙ none_still (note_of old.site before) (note_of old.site marks) knows.none a.promised a.room;
       stands = a.stands;
     };
     site = a.site;

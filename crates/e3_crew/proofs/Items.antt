@@ -30,7 +30,7 @@ use Rattle.e3_types.specs.declared.scenarios.Item.{Item}
 use Rattle.e3_types.specs.declared.scenarios.Scenario.{Scenario}
 use Rattle.e3_wire.specs.Claims.{APass, NothingPromised, UsedGrows}
 use Rattle.e3_wire.specs.declared.marks.Mark.{Mark}
-use Rattle.e3_wire.specs.Marks.{entries_of, last_owner, most_of, note_of, scenario_of, used_of}
+use Rattle.e3_wire.specs.Marks.{NothingIsPromised, entries_of, most_of, note_of, nothing, scenario_of, used_of}
 use Rattle.e3_wire.specs.Wires.{IsPlayed}
 use Rattle.e3_world.specs.Items.{input_of, inputs_at, inputs_to, is_delivery, is_up_at, taken_at, to_line}
 use Rattle.e3_world.specs.Legal.{IsLegal, IsNextItem}
@@ -72,7 +72,7 @@ any (x ∷ xs) low = x
 
 -- the history that is gathered has no room, where a worker had none
 pub no_room : UsedGrows → NothingPromised → (marks since all : List Mark) → IsPlayed marks → IsPlayed all → all ≡ marks ++ since → most_of all ≡ most_of marks →
-    ((o : ℕ) → o ≤ last_owner all → (note_of o all).places ≡ 0) → most_of marks ≤ used_of marks → (length (entries_of all) ≤ most_of all) × (most_of all ≤ length (entries_of all))
+    NothingIsPromised all → most_of marks ≤ used_of marks → (length (entries_of all) ≤ most_of all) × (most_of all ≤ length (entries_of all))
 no_room grows nothing marks since all played now is most none full =
     let more : used_of marks ≤ used_of all = (let P : List Mark → Type 0 = λ l. used_of marks ≤ used_of l in subst P (sym is) (grows marks since played)) in
     let just : used_of all ≡ length (entries_of all) = nothing all none in
@@ -90,7 +90,7 @@ module _ {D : Type 0} (content : D → List ℕ) (image : D → List ℕ → Typ
       subst P (sym dealt.seen) (subst Q (sym dealt.node) (record {
         played = crew.played;
         restless = crew.restless;
-        none = (let S : ℕ → Type 0 = λ s. (note_of s (seen_by p)).places ≡ 0 in
+        none = (let S : ℕ → Type 0 = λ s. note_of s (seen_by p) ≡ nothing in
             subst S (sym rest.site) (crew.none (i + 1) (let c = crew.count in omega (arith, c, low))));
         stands = rest.stands;
       }))

@@ -20,7 +20,7 @@ use Rattle.e3_types.specs.declared.entries.Entry.{Entry}
 use Rattle.e3_types.specs.declared.scenarios.Scenario.{Scenario}
 use Rattle.e3_wire.specs.Claims.{APass}
 use Rattle.e3_wire.specs.declared.marks.Mark.{Mark}
-use Rattle.e3_wire.specs.Marks.{AreForeign, last_owner, most_of, note_of, scenario_of}
+use Rattle.e3_wire.specs.Marks.{AreForeign, last_owner, most_of, note_of, nothing, scenario_of}
 use Rattle.e3_wire.specs.Wires.{IsPlayed}
 use Rattle.e3_wire.proofs.Foreign.{notes_stay}
 use Rattle.e3_wire.proofs.Notes.{scenario_stays}
@@ -85,19 +85,19 @@ module _ {D : Type 0} (content : D → List ℕ) (image : D → List ℕ → Typ
     same_last : last_owner (seen_by q) ≡ length olds
     same_last = ap (λ (sc : Scenario). length sc.weights) same_scenario ∙ r.was.count
 
-    none_for : (o : ℕ) → o ≤ length olds → (note_of o (seen_by q)).places ≡ 0
-    none_for zero low = ap (λ (l : List Mark). (note_of 0 l).places) r.driver.1 ∙ ap (λ w. w.places) (notes_stay 0 (seen_by p) r.driver.0 r.driver.2) ∙ r.was.none 0 (omega arith)
+    none_for : (o : ℕ) → o ≤ length olds → note_of o (seen_by q) ≡ nothing
+    none_for zero low = ap (λ (l : List Mark). note_of 0 l) r.driver.1 ∙ notes_stay 0 (seen_by p) r.driver.0 r.driver.2 ∙ r.was.none 0 (omega arith)
     none_for (suc k) low = some news refl
       where
         less : k < length olds
         less = omega (arith, low)
 
-        some : (ws : List (Worker D)) → ws ≡ news → (note_of (suc k) (seen_by q)).places ≡ 0
+        some : (ws : List (Worker D)) → ws ≡ news → note_of (suc k) (seen_by q) ≡ nothing
         some [] is = absurd (let none : length news ≡ 0 = ap length (sym is) in let c = r.count in omega (arith, none, c, less))
         some (d ∷ ws) is =
             let here : (slice_index_or news k d).node.site ≡ k + 1 = site_of k d less in
             let same : k + 1 ≡ suc k = omega arith in
-            let P : ℕ → Type 0 = λ s. (note_of s (seen_by q)).places ≡ 0 in
+            let P : ℕ → Type 0 = λ s. note_of s (seen_by q) ≡ nothing in
             subst P (here ∙ same) (each_worked k d less).knows.none
 
     pub crew_again : IsCrew content image meters wire q news

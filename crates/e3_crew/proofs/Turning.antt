@@ -68,7 +68,7 @@ module _ {D : Type 0} (content : D → List ℕ) (image : D → List ℕ → Typ
       played = played;
       restless = (let P : Scenario → Type 0 = λ k. is_calm (present_items k (entries_of marks)) ≡ false in
           subst P (sym same) (restless_on (scenario_of before) (entries_of before) (entries_of marks) (lines_meanwhile node.site (entries_of before) (entries_of marks) m) knows.restless));
-      none = ap (λ (l : List Mark). (note_of node.site l).places) is ∙ ap (λ w. w.places) (notes_stay node.site before since foreign) ∙ knows.none;
+      none = ap (λ (l : List Mark). note_of node.site l) is ∙ notes_stay node.site before since foreign ∙ knows.none;
       stands = (let P : Scenario → Type 0 = λ k. NodeStands content image meters k (entries_of marks) node in
           let Q : List Entry → Type 0 = λ k. NodeStands content image meters (scenario_of before) k node in
           subst P (sym same) (subst Q (sym m.is) (law (scenario_of before) (entries_of before) m.others node knows.stands m.of_others)));

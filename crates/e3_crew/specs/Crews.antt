@@ -14,7 +14,7 @@ use Rattle.e3_types.specs.declared.entries.Entry.{Entry}
 use Rattle.e3_types.specs.declared.scenarios.Scenario.{Scenario}
 use Rattle.e3_wire.specs.Claims.{APass}
 use Rattle.e3_wire.specs.declared.marks.Mark.{Mark}
-use Rattle.e3_wire.specs.Marks.{entries_of, last_owner, most_of, note_of, scenario_of}
+use Rattle.e3_wire.specs.Marks.{NothingIsPromised, entries_of, last_owner, most_of, scenario_of}
 use Rattle.e3_wire.specs.Wires.{IsPlayed}
 use Rattle.e3_world.specs.Packets.{is_calm, present_items}
 
@@ -24,7 +24,7 @@ pub record IsAtRest {D : Type 0} (content : D → List ℕ) (image : D → List 
   pub site : w.node.site ≡ at + 1
   pub stands : NodeStands content image meters sc history w.node
 
--- A pass of this wire rests and owns all, nothing is promised, and no recover step is on. There is a worker for each site.
+-- A pass of this wire rests and owns all, neither a place nor room is promised, and no recover step is on. There is a worker for each site.
 pub record IsCrew {D : Type 0} (content : D → List ℕ) (image : D → List ℕ → Type 0) (meters : D → Meters)
     (wire : TableId) (p : APass) (workers : List (Worker D)) : Type 0 where
   pub idle : IsIdle wire p
@@ -33,7 +33,7 @@ pub record IsCrew {D : Type 0} (content : D → List ℕ) (image : D → List �
   pub count : last_owner (seen_by p) ≡ length workers
   pub played : IsPlayed (seen_by p)
   pub restless : is_calm (present_items (scenario_seen p) (history_seen p)) ≡ false
-  pub none : (o : ℕ) → o ≤ last_owner (seen_by p) → (note_of o (seen_by p)).places ≡ 0
+  pub none : NothingIsPromised (seen_by p)
   pub each : (i : ℕ) (d : Worker D) → i < length workers → IsAtRest content image meters (scenario_seen p) (history_seen p) i (slice_index_or workers i d)
 
 -- What a crew came to within a step: the scenario and the bound stay, the step goes on, and each site and its disk went on.

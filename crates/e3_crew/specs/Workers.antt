@@ -16,7 +16,7 @@ use Rattle.e3_types.specs.declared.entries.Input.{Input}
 use Rattle.e3_types.specs.declared.messages.Packet.{Packet}
 use Rattle.e3_wire.specs.Claims.{APass}
 use Rattle.e3_wire.specs.declared.marks.Mark.{Mark}
-use Rattle.e3_wire.specs.Marks.{AreForeign, entries_of, most_of, note_of, scenario_of, used_of}
+use Rattle.e3_wire.specs.Marks.{AreForeign, entries_of, most_of, note_of, nothing, scenario_of, used_of}
 use Rattle.e3_wire.specs.Wires.{IsPlayed}
 use Rattle.e3_world.specs.Items.{inputs_to, is_delivery, is_up_at}
 use Rattle.e3_world.specs.Legal.{IsNextItem}
@@ -41,11 +41,11 @@ abbrev pub seen_of : {D : Type 0} → Worker D → List Mark
 seen_of w = seen_in w.pass
 
 -- What is true of a node and the marks that the pass for its site has seen: the node stands for their history, no recover
--- step is on, and nothing is promised to the site.
+-- step is on, and neither a place nor room is promised to the site.
 pub record Knows {D : Type 0} (content : D → List ℕ) (image : D → List ℕ → Type 0) (meters : D → Meters) (marks : List Mark) (node : NodeView D) : Type 0 where
   pub played : IsPlayed marks
   pub restless : is_calm (present_items (scenario_of marks) (entries_of marks)) ≡ false
-  pub none : (note_of node.site marks).places ≡ 0
+  pub none : note_of node.site marks ≡ nothing
   pub stands : NodeStands content image meters (scenario_of marks) (entries_of marks) node
 
 -- what a node and the marks that its pass has seen came to, while all sites worked

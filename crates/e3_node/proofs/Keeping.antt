@@ -12,7 +12,7 @@ use Rattle.e3_node.specs.NodeStands.{IsIn, is_step}
 use Rattle.e3_node.specs.NodeView.{disk_of, is_up_in}
 use Rattle.e3_node.specs.declared.state.State.{State}
 use Rattle.e3_node.specs.declared.state.State.TheVariants.{Down, Up}
-use Rattle.e3_site.specs.SiteView.{SiteView}
+use Rattle.e3_site.specs.SiteView.{SiteView, Stands as SiteStands}
 use Rattle.e3_site.specs.StandsFor.{StandsFor}
 use Rattle.e3_types.specs.declared.entries.Entry.{Entry}
 use Rattle.e3_types.specs.declared.scenarios.Scenario.{Scenario}
@@ -44,7 +44,9 @@ site_kept : (sc : Scenario) (h : List Entry) (e : Entry) (site : ℕ) (s : SiteV
 site_kept sc h e site s was other = record {
   weights_are = was.weights_are;
   site_is = was.site_is;
-  incarnation_is = was.incarnation_is ∙ ap incarnation_of (sym (moves_kept sc h e site other));
+  stands =
+      let P : List Move → Type 0 = λ moves. SiteStands (incarnation_of moves) s in
+      subst P (sym (moves_kept sc h e site other)) was.stands;
 }
 
 pub in_kept : {D : Type 0} (content : D → List ℕ) (image : D → List ℕ → Type 0) (meters : D → Meters)

@@ -22,7 +22,6 @@ use Rattle.e3_node.specs.declared.rising.Raised.{Raised}
 use Rattle.e3_node.specs.declared.rising.Raised.TheVariants.{Rose, Failed, Missed, NoMemory, Foreign}
 use Rattle.e3_node.specs.declared.state.State.{State}
 use Rattle.e3_node.specs.declared.state.State.TheVariants.{Down, Up}
-use Rattle.e3_site.specs.SiteView.{SiteView}
 use Rattle.e3_site.specs.StandsFor.{IsRisenWith, StandsFor}
 use Rattle.e3_types.specs.declared.entries.Entry.{Entry}
 use Rattle.e3_types.specs.declared.entries.Why.{Why}
@@ -186,7 +185,7 @@ raised {D} content image meters sc h wish bodies ready old new may is stands dis
               subst S (sym (bodies_push all.what.lists (recorded mine))) (subst R all.records_are (wrote all.what.lists (subst Q all.what.are stands)));
         });
     lit = lit;
-    inputs = let none : ready.up.inputs ≡ 0 = ap (λ (s : SiteView). s.inputs) is.risen in omega (arith, none);
+    inputs = let none : ready.up.inputs ≡ 0 = is.risen.inputs_are in omega (arith, none);
   };
   back = back_risen sc h wish.site ready.kept ready.inc ready.records may.back all.records_are is.fits;
 }
@@ -198,7 +197,7 @@ raised {D} content image meters sc h wish bodies ready old new may is stands dis
     all = gathered sc h wish bodies ready (content old.disk) may is (disk (content old.disk) at) stands.disk.reads
 
     site_is : ready.up.site ≡ wish.site
-    site_is = ap (λ (s : SiteView). s.site) is.risen
+    site_is = is.risen.site_is
 
     legal : IsLegal sc (h ++ e ∷ [])
     legal = legal_push sc h e may.legal (rise_guard sc h wish.site ready.kept ready.inc may.some all.allowed)

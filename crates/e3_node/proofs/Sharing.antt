@@ -1,5 +1,5 @@
 -- What is shared behind a claim, and behind the entry that it was made for.
-use Rattle.std.proofs.Common.{◌≡◌, ◌==◌, ◌||◌, ◌≤◌, ◌++◌, ◌∷◌, [], ℕ, true, false, List, length, refl, sym, subst, ap, ◌∙◌, append-nil, append_assoc, arith, eq-eqb}
+use Rattle.std.proofs.Common.{◌≡◌, ◌==◌, ◌||◌, ◌+◌, ◌-◌, ◌≤◌, ◌++◌, ◌∷◌, [], ℕ, suc, true, false, List, length, refl, sym, subst, ap, ◌∙◌, append-nil, append_assoc, arith, eq-eqb}
 use Rattle.std.specs.Prelude.{Bool, Result, Ok, Err, OnOk}
 use Rattle.std.proofs.lemmas.List.Elements.{All-nil, All-cons}
 use Rattle.e3_law_local.specs.Others.{Allows, numbered_on}
@@ -9,16 +9,21 @@ use Rattle.e3_node.specs.declared.rising.Raised.{Raised}
 use Rattle.e3_node.specs.declared.rising.Raised.TheVariants as raised
 use Rattle.e3_types.specs.declared.entries.Act.TheVariants as act
 use Rattle.e3_types.specs.declared.entries.Entry.{Entry}
+use Rattle.e3_types.specs.declared.entries.Input.{Input}
+use Rattle.e3_types.specs.declared.entries.Told.{Told}
 use Rattle.e3_types.specs.declared.entries.Why.{Why}
+use Rattle.e3_types.specs.declared.messages.Packet.{Packet}
+use Rattle.e3_types.specs.declared.records.Record.{Record}
 use Rattle.e3_wire.specs.declared.fault.WireFault.{WireFault}
 use Rattle.e3_wire.specs.Claims.{HasOwner, HaveGrown}
-use Rattle.e3_wire.specs.Marks.{NothingIsPromised, entries_of, last_owner, most_of, scenario_of, used_of}
+use Rattle.e3_wire.specs.Marks.{NothingIsPromised, UsesAll, entries_of, last_owner, most_of, note_of, nothing, scenario_of, used_by, used_of}
+use Rattle.e3_wire.specs.declared.marks.Note.{Note}
 use Rattle.e3_wire.specs.Wires.{IsPlayed, MayEnterBehind, TakesInTurn}
 use Rattle.e3_wire.specs.declared.marks.Mark.{Mark}
 use Rattle.e3_wire.specs.declared.marks.Mark.TheVariants as mark
 use Rattle.e3_wire.proofs.Claimed.{claimed_entries_may_enter}
 use Rattle.e3_wire.proofs.Foreign.{entries_append}
-use Rattle.e3_wire.proofs.Notes.{nothing_promised, scenario_stays}
+use Rattle.e3_wire.proofs.Notes.{claim_promises, nothing_promised, scenario_stays}
 use Rattle.e3_wire.proofs.Spending.{claims_are_used}
 use Rattle.e3_world.specs.Items.{inputs_of}
 use Rattle.e3_world.specs.Packets.{outs_of}
@@ -50,6 +55,28 @@ claimed_reads owner outs before now claim =
       entries = ap (λ (l : List Mark). entries_of l) claim.is ∙ entries_append before (m ∷ []) ∙ append-nil (entries_of before);
     }
 
+-- so much is promised to its owner, and an entry with so many packets uses all of it; a fall does, and what sends none
+pub claimed_note : (owner outs : ℕ) (before now : List Mark) → IsClaimed owner outs before now → note_of owner now ≡ record { places = 1; room = outs }
+claimed_note owner outs before now claim =
+    let plain : 0 + outs ≡ outs = omega arith in
+    ap (λ (l : List Mark). note_of owner l) claim.is ∙ claim_promises owner outs before
+    ∙ ap (λ (w : Note). let x : Note = record { places = suc w.places; room = w.room + outs } in x) (claim.stands.none owner claim.exists)
+    ∙ ap (λ (n : ℕ). let x : Note = record { places = 1; room = n } in x) plain
+
+pub step_used : (outs : ℕ) (i : Input) (records : List Record) (packets : List Packet) (told : List Told) → outs ≡ length packets →
+    used_by (record { places = 1; room = outs }) (act.Step i records packets told) ≡ nothing
+step_used outs i records packets told is =
+    let none : outs - length packets ≡ 0 = omega (arith, is) in ap (λ (n : ℕ). let x : Note = record { places = 0; room = n } in x) none
+
+pub step_uses : (owner outs : ℕ) (before now : List Mark) (i : Input) (records : List Record) (packets : List Packet) (told : List Told) →
+    IsClaimed owner outs before now → outs ≡ length packets → UsesAll now (record { owner = owner; act = act.Step i records packets told })
+step_uses owner outs before now i records packets told claim is =
+    ap (λ (w : Note). used_by w (act.Step i records packets told)) (claimed_note owner outs before now claim) ∙ step_used outs i records packets told is
+
+pub fall_uses : (owner outs : ℕ) (before now : List Mark) (inputs : List Input) (records : List Record) (why : Why) → IsClaimed owner outs before now →
+    UsesAll now (record { owner = owner; act = act.Fall inputs records why })
+fall_uses owner outs before now inputs records why claim = ap (λ (w : Note). used_by w (act.Fall inputs records why)) (claimed_note owner outs before now claim)
+
 -- an allowed entry may be entered behind its claim
 pub may_enter : (before now : List Mark) (outs : ℕ) (e : Entry) → IsClaimed e.owner outs before now → 1 ≤ e.owner → Allows (scenario_of before) (entries_of before) e →
     TakesInTurn (scenario_of before) (entries_of before) e.owner (inputs_of e.act) → length (outs_of e.act) ≤ outs → MayEnterBehind now e
@@ -57,15 +84,15 @@ may_enter before now outs e claim site may takes few =
     let P : List Mark → Type 0 = λ l. MayEnterBehind l e in
     subst P (sym claim.is) (claimed_entries_may_enter e outs before claim.stands.played site claim.exists may takes few)
 
-pub has_entered : (before now after : List Mark) (outs : ℕ) (e : Entry) → IsClaimed e.owner outs before now → MayEnterBehind now e →
+pub has_entered : (before now after : List Mark) (outs : ℕ) (e : Entry) → IsClaimed e.owner outs before now → UsesAll now e →
     after ≡ now ++ mark.Entered (numbered_on (entries_of now) e) ∷ [] → IsPlayed after → HasEntered e before after
-has_entered before now after outs e claim may is played = record {
+has_entered before now after outs e claim all_used is played = record {
   stands = record {
     played = played;
     within = under after played;
     none =
         let P : List Mark → Type 0 = λ l. NothingIsPromised l in
-        subst P (sym is) (claims_are_used before now outs e claim.is claim.stands.none may);
+        subst P (sym is) (claims_are_used before now outs e claim.is claim.stands.none all_used);
   };
   grew = (
     P ∷ E ∷ [],

@@ -11,7 +11,7 @@ use Rattle.e3_log.specs.Stands.{LogState, Stands}
 use Rattle.e3_law_local.specs.Others.{Allows, numbered_on}
 use Rattle.e3_node.specs.Bodies.{AllReadBack, DiskHolds, IsLogged, ReadsAfter, ReadsWith, bodies_in, body_of, tail_records}
 use Rattle.e3_node.specs.Counting.{count_of}
-use Rattle.e3_node.specs.Drafts.{IsDraft}
+use Rattle.e3_node.specs.Drafts.{IsAsBefore, IsDraft, IsReady}
 use Rattle.e3_node.specs.Ends.{FellOver, is_fall}
 use Rattle.e3_node.specs.NodeStands.{IsDown, IsIn, IsUp, NodeStands, is_step, steps_at}
 use Rattle.e3_node.specs.NodeView.{NodeView, disk_of, is_up_in}
@@ -23,9 +23,9 @@ use Rattle.e3_node.specs.declared.fault.InputFault.TheVariants as input_fault
 use Rattle.e3_node.specs.declared.state.State.{State}
 use Rattle.e3_node.specs.declared.state.State.TheVariants.{Down, Up}
 use Rattle.e3_sites.specs.Entering.{fall_of}
-use Rattle.e3_site.specs.SiteView.{IsPlanOf, SiteView, count_on, plan_of, step_kept}
+use Rattle.e3_site.specs.SiteView.{HasRoomFor, IsPlanOf, PlanView, SiteView, Stands as SiteStands, count_on, entry_of_plan, plan_of, step_kept}
 use Rattle.e3_site.specs.StandsFor.{StandsFor, StandsOn}
-use Rattle.e3_types.specs.declared.entries.Act.TheVariants.{Step, Fall, Cut}
+use Rattle.e3_types.specs.declared.entries.Act.TheVariants.{Fall, Cut}
 use Rattle.e3_types.specs.declared.entries.Entry.{Entry}
 use Rattle.e3_types.specs.declared.entries.Input.{Input}
 use Rattle.e3_types.specs.declared.entries.Why.{Why}
@@ -34,11 +34,13 @@ use Rattle.e3_types.specs.declared.records.Record.{Record}
 use Rattle.e3_types.specs.declared.scenarios.Scenario.{Scenario}
 use Rattle.e3_wire.specs.Wires.{TakesLeast, TakesInTurn}
 use Rattle.e3_world.specs.Items.{is_up_at}
-use Rattle.e3_world.specs.Legal.{Guard, IsDue, entry_of, made_by, numbered}
-use Rattle.e3_world.specs.Packets.{sent}
+use Rattle.e3_world.specs.Legal.{Guard, IsDue, entry_of, made_by}
+use Rattle.e3_world.specs.Lives.{incarnation_of}
+use Rattle.e3_world.specs.declared.lives.Incarnation.{Incarnation}
 use Rattle.e3_world.specs.declared.lives.SiteStep.{SiteStep}
-use Rattle.e3_world.specs.Moves.{Move, Past, Tail, left_by, log_by, log_of, moves_of, open_tail, own, plain, plain_input, recorded}
+use Rattle.e3_world.specs.Moves.{Move, Past, Tail, left_by, log_by, log_of, moves_of, open_tail, own, plain_input, recorded}
 use Rattle.e3_world.specs.Sound.{step_move}
+use Rattle.e3_world.specs.Steps.{step_of}
 use Rattle.e3_world.proofs.Guards.{guard_step}
 use Rattle.e3_world.proofs.Numbers.{entered_move}
 use Rattle.e3_world.proofs.Pushes.{log_push}
@@ -50,10 +52,16 @@ use Rattle.e3_node.proofs.Frames.{bodies_push, hold_push}
 use Rattle.e3_node.proofs.Keeping.{disk_in}
 use Rattle.e3_node.proofs.Pasts.{all_both, back_left, past_on}
 
--- the plan of a site that stands for a history is the step that the history makes
+-- a site that stands for a history does so in the incarnation of its own moves
+pub own_stands : (sc : Scenario) (h : List Entry) (site : ℕ) (s : SiteView) → StandsFor sc h site s → SiteStands (incarnation_of (moves_of sc h s.site)) s
+own_stands sc h site s was = let P : ℕ → Type 0 = λ n. SiteStands (incarnation_of (moves_of sc h n)) s in subst P (sym was.site_is) was.stands
+
+-- and what it plans in it is the step that the history makes
 pub plan_made : (sc : Scenario) (h : List Entry) (site : ℕ) (s : SiteView) (i : Input) → StandsFor sc h site s →
-    plan_of s i ≡ step_kept i (made_by sc h site i)
-plan_made sc h site s i stands = rw (stands.weights_are, stands.site_is, stands.incarnation_is) refl
+    plan_of (incarnation_of (moves_of sc h s.site)) s i ≡ step_kept i (made_by sc h site i)
+plan_made sc h site s i stands =
+    ap (λ (ws : List ℕ). step_kept i (step_of ws s.site (incarnation_of (moves_of sc h s.site)) i)) stands.weights_are
+    ∙ ap (λ (n : ℕ). step_kept i (step_of sc.weights n (incarnation_of (moves_of sc h n)) i)) stands.site_is
 
 pub step_moves : (sc : Scenario) (h : List Entry) (site : ℕ) (i : Input) →
     moves_of sc (h ++ entry_of sc h site i ∷ []) site ≡ moves_of sc h site ++ step_move sc site (moves_of sc h site) i ∷ []
@@ -115,81 +123,92 @@ inputs_on sc h site i old new few is =
     let more : steps_at (h ++ entry_of sc h site i ∷ []) site ≡ suc (steps_at h site) = one_step_more sc h site i in
     omega (arith, few, is, one, more)
 
--- a site that did the plan of its step stands for the history with it
-pub site_on : (sc : Scenario) (h : List Entry) (site : ℕ) (i : Input) (old new : SiteView) (plan : SiteStep) → StandsFor sc h site old →
-    plan ≡ plan_of old i → StandsOn old plan new → StandsFor sc (h ++ entry_of sc h site i ∷ []) site new
-site_on sc h site i old new plan stands is on =
+-- a site that did the step that the history makes stands for the history with it
+pub site_on : (sc : Scenario) (h : List Entry) (site : ℕ) (i : Input) (old new : SiteView) (step : SiteStep) → StandsFor sc h site old →
+    step ≡ step_kept i (made_by sc h site i) → StandsOn old step new → StandsFor sc (h ++ entry_of sc h site i ∷ []) site new
+site_on sc h site i old new step stands is on =
     let P : ℕ → Type 0 = λ n. StandsFor sc h n old in
     let Q : ℕ → Type 0 = λ n. StandsFor sc (h ++ entry_of sc h n i ∷ []) n new in
-    subst Q stands.site_is (on sc h i (subst P (sym stands.site_is) stands) is)
+    let R : ℕ → Type 0 = λ n. step ≡ step_kept i (made_by sc h n i) in
+    subst Q stands.site_is (on sc h i (subst P (sym stands.site_is) stands) (subst R (sym stands.site_is) is))
 
 -- what a draft has is what the history makes
 pub record IsMade (sc : Scenario) (h : List Entry) (site : ℕ) (i : Input) (d : Draft) : Type 0 where
-  pub records_are : d.records ≡ (made_by sc h site i).records
-  pub outs_are : d.outs ≡ map plain (made_by sc h site i).outs
-  pub told_is : d.told ≡ (made_by sc h site i).told
+  pub step_is : d.plan.step ≡ step_kept i (made_by sc h site i)
   pub inputs_are : d.inputs ≡ i ∷ []
-  pub fallen_are : d.fallen ≡ (made_by sc h site i).records
   pub back : Each (IsOwn site) (made_by sc h site i).records → AllCanBeReadBack site (made_by sc h site i).records
 
-pub draft_made : (sc : Scenario) (h : List Entry) (site : ℕ) (s : SiteView) (i : Input) (d : Draft) → StandsFor sc h site s → IsDraft (plan_of s i) i d →
-    IsMade sc h site i d
-draft_made sc h site s i d stands is = record {
-  records_are = is.records_are ∙ ap (λ (p : SiteStep). p.records) (plan_made sc h site s i stands);
-  outs_are = is.outs_are ∙ ap (λ (p : SiteStep). p.outs) (plan_made sc h site s i stands);
-  told_is = is.told_is ∙ ap (λ (p : SiteStep). p.told) (plan_made sc h site s i stands);
-  inputs_are = is.inputs_are;
-  fallen_are = is.fallen_are ∙ ap (λ (p : SiteStep). p.records) (plan_made sc h site s i stands);
+pub draft_made : (sc : Scenario) (h : List Entry) (site : ℕ) (s new : SiteView) (i : Input) (d : Draft) → StandsFor sc h site s →
+    IsReady (incarnation_of (moves_of sc h s.site)) i s new d → IsMade sc h site i d
+draft_made sc h site s new i d stands is = record {
+  step_is = is.made ∙ plan_made sc h site s i stands;
+  inputs_are = is.drafted.inputs_are;
   back =
-      subst (λ (p : SiteStep). Each (IsOwn site) p.records → AllCanBeReadBack site p.records) (plan_made sc h site s i stands) (is.back site);
+      subst (λ (p : SiteStep). Each (IsOwn site) p.records → AllCanBeReadBack site p.records) (is.made ∙ plan_made sc h site s i stands)
+      (is.drafted.back site);
 }
 
--- a plan that a draft has is the site's
-pub plan_own : (r : Result Draft NoMemory) (plan : SiteStep) (i : Input) (s : SiteView) → IfOk r (IsDraft plan i) → IsPlanOf plan s →
-    IfOk r (λ d. IsPlanOf d.plan s)
-plan_own (Ok d) plan i s is own = subst (λ (p : SiteStep). IsPlanOf p s) (sym is.plan_is) own
-plan_own (Err none) plan i s is own = tt
+-- a draft of a plan for which there is room is ready
+pub ready_draft : (now : Incarnation) (i : Input) (old new : SiteView) (r : Result Draft NoMemory) (plan : PlanView) → IfOk r (λ d. d.plan ≡ plan) →
+    IfOk r (IsDraft i) → plan.step ≡ plan_of now old i → length plan.step.outs < 2 ^ 32 → IsPlanOf plan new → HasRoomFor plan new →
+    IfOk r (IsReady now i old new)
+ready_draft now i old new (Ok d) plan is draft made few own room = record {
+  drafted = draft;
+  made = ap (λ (p : PlanView). p.step) is ∙ made;
+  few = subst (λ (p : PlanView). length p.step.outs < 2 ^ 32) (sym is) few;
+  own = subst (λ (p : PlanView). IsPlanOf p new) (sym is) own;
+  room = subst (λ (p : PlanView). HasRoomFor p new) (sym is) room;
+}
+ready_draft now i old new (Err none) plan is draft made few own room = tt
 
--- and it has no more packets than the plan
-pub plan_few : (r : Result Draft NoMemory) (plan : SiteStep) (i : Input) → IfOk r (IsDraft plan i) → length plan.outs < 2 ^ 32 → IfOk r (λ d. length d.outs < 2 ^ 32)
-plan_few (Ok d) plan i is few = let same : length d.outs ≡ length plan.outs = ap length is.outs_are in omega (arith, same, few)
-plan_few (Err none) plan i is few = tt
+-- a site at which nothing was done
+pub still_same : (s : SiteView) → IsAsBefore s s
+still_same s = record { same = refl; stands = λ sc h site was. was }
 
--- the entries of a draft
-pub draft_step : (sc : Scenario) (h : List Entry) (site : ℕ) (i : Input) (d : Draft) → IsMade sc h site i d →
-    record { owner = site; act = Step i d.records (numbered (suc (length (sent h))) d.outs) d.told } ≡ entry_of sc h site i
-draft_step sc h site i d made = step_entry sc h site i d.records d.outs d.told made.records_are made.outs_are made.told_is
+-- the records of a step that the history makes
+pub records_made : (sc : Scenario) (h : List Entry) (site : ℕ) (i : Input) (step : SiteStep) → step ≡ step_kept i (made_by sc h site i) →
+    step.records ≡ (made_by sc h site i).records
+records_made sc h site i step is = ap (λ (p : SiteStep). p.records) is
 
-pub draft_fall : (sc : Scenario) (h : List Entry) (site : ℕ) (i : Input) (d : Draft) (why : Why) → IsMade sc h site i d →
-    record { owner = site; act = Fall d.inputs d.fallen why } ≡ fall_of sc h site i why
-draft_fall sc h site i d why made =
-    ap (λ (l : List Input). record { owner = site; act = Fall l d.fallen why }) made.inputs_are
-    ∙ ap (λ (l : List Record). record { owner = site; act = Fall (i ∷ []) l why }) made.fallen_are
+-- the entries of a step that the history makes, and of the fall in its place
+pub made_step : (sc : Scenario) (h : List Entry) (site : ℕ) (i : Input) (step : SiteStep) → step ≡ step_kept i (made_by sc h site i) →
+    numbered_on h (entry_of_plan site i step) ≡ entry_of sc h site i
+made_step sc h site i step is =
+    step_entry sc h site i step.records step.outs step.told (ap (λ (p : SiteStep). p.records) is) (ap (λ (p : SiteStep). p.outs) is)
+    (ap (λ (p : SiteStep). p.told) is)
 
-pub step_allowed : (sc : Scenario) (h : List Entry) (site : ℕ) (i : Input) (d : Draft) → IsMade sc h site i d → 1 ≤ site → is_up_at h site ≡ true →
-    IsDue sc h site i → Allows sc h (record { owner = site; act = Step i d.records d.outs d.told })
-step_allowed sc h site i d made one up due =
+pub made_fall : (sc : Scenario) (h : List Entry) (site : ℕ) (i : Input) (inputs : List Input) (records : List Record) (why : Why) → inputs ≡ i ∷ [] →
+    records ≡ (made_by sc h site i).records → record { owner = site; act = Fall inputs records why } ≡ fall_of sc h site i why
+made_fall sc h site i inputs records why is rs =
+    ap (λ (l : List Input). record { owner = site; act = Fall l records why }) is
+    ∙ ap (λ (l : List Record). record { owner = site; act = Fall (i ∷ []) l why }) rs
+
+pub step_allowed : (sc : Scenario) (h : List Entry) (site : ℕ) (i : Input) (step : SiteStep) → step ≡ step_kept i (made_by sc h site i) → 1 ≤ site →
+    is_up_at h site ≡ true → IsDue sc h site i → Allows sc h (entry_of_plan site i step)
+step_allowed sc h site i step is one up due =
     let Q : Entry → Type 0 = λ e. Guard sc h e in
-    subst Q (sym (draft_step sc h site i d made)) (guard_step sc h site i one up due)
+    subst Q (sym (made_step sc h site i step is)) (guard_step sc h site i one up due)
 
-pub fall_allowed : (sc : Scenario) (h : List Entry) (site : ℕ) (i : Input) (d : Draft) (why : Why) → IsMade sc h site i d → 1 ≤ site → is_up_at h site ≡ true →
-    IsDue sc h site i → d.records ≢ [] → Allows sc h (record { owner = site; act = Fall d.inputs d.fallen why })
-fall_allowed sc h site i d why made one up due some =
+pub fall_allowed : (sc : Scenario) (h : List Entry) (site : ℕ) (i : Input) (inputs : List Input) (records : List Record) (why : Why) → inputs ≡ i ∷ [] →
+    records ≡ (made_by sc h site i).records → 1 ≤ site → is_up_at h site ≡ true → IsDue sc h site i → records ≢ [] →
+    Allows sc h (record { owner = site; act = Fall inputs records why })
+fall_allowed sc h site i inputs records why is rs one up due some =
     let Q : Entry → Type 0 = λ e. Guard sc h e in
-    subst Q (sym (draft_fall sc h site i d why made)) (fall_guard sc h site i why one up due (λ none. some (made.records_are ∙ none)))
+    subst Q (sym (made_fall sc h site i inputs records why is rs)) (fall_guard sc h site i why one up due (λ none. some (rs ∙ none)))
 
 -- the one input of a fall
 pub fall_takes : (sc : Scenario) (h : List Entry) (site : ℕ) (i : Input) (inputs : List Input) → inputs ≡ i ∷ [] → TakesLeast sc h site i → TakesInTurn sc h site inputs
 fall_takes sc h site i inputs is least = let P : List Input → Type 0 = λ l. TakesInTurn sc h site l in subst P (sym is) least
 
 -- what is entered is the step, or the fall
-pub step_entered : (sc : Scenario) (h more : List Entry) (site : ℕ) (i : Input) (d : Draft) → IsMade sc h site i d →
-    more ≡ h ++ numbered_on h (record { owner = site; act = Step i d.records d.outs d.told }) ∷ [] → more ≡ h ++ entry_of sc h site i ∷ []
-step_entered sc h more site i d made is = is ∙ ap (λ (x : Entry). h ++ x ∷ []) (draft_step sc h site i d made)
+pub step_entered : (sc : Scenario) (h more : List Entry) (site : ℕ) (i : Input) (step : SiteStep) → step ≡ step_kept i (made_by sc h site i) →
+    more ≡ h ++ numbered_on h (entry_of_plan site i step) ∷ [] → more ≡ h ++ entry_of sc h site i ∷ []
+step_entered sc h more site i step made is = is ∙ ap (λ (x : Entry). h ++ x ∷ []) (made_step sc h site i step made)
 
-pub fall_entered : (sc : Scenario) (h more : List Entry) (site : ℕ) (i : Input) (d : Draft) (why : Why) → IsMade sc h site i d →
-    more ≡ h ++ numbered_on h (record { owner = site; act = Fall d.inputs d.fallen why }) ∷ [] → more ≡ h ++ fall_of sc h site i why ∷ []
-fall_entered sc h more site i d why made is = is ∙ ap (λ (x : Entry). h ++ x ∷ []) (draft_fall sc h site i d why made)
+pub fall_entered : (sc : Scenario) (h more : List Entry) (site : ℕ) (i : Input) (inputs : List Input) (records : List Record) (why : Why) → inputs ≡ i ∷ [] →
+    records ≡ (made_by sc h site i).records → more ≡ h ++ numbered_on h (record { owner = site; act = Fall inputs records why }) ∷ [] →
+    more ≡ h ++ fall_of sc h site i why ∷ []
+fall_entered sc h more site i inputs records why one rs is = is ∙ ap (λ (x : Entry). h ++ x ∷ []) (made_fall sc h site i inputs records why one rs)
 
 -- the disk of a site that fell
 pub fallen_disk : {D : Type 0} (content : D → List ℕ) (image : D → List ℕ → Type 0) (sc : Scenario) (h : List Entry) (site : ℕ) (i : Input) (why : Why)
@@ -238,12 +257,17 @@ fall_back sc h site i why was back = record {
       (back_left site why (map plain_input (i ∷ [])) (made_by sc h site i).records back);
 }
 
--- room is nothing to what a site stands for
-pub room_same : (sc : Scenario) (h : List Entry) (site room : ℕ) (s new : SiteView) → StandsFor sc h site s → new ≡ record s { room = room } →
-    StandsFor sc h site new
-room_same sc h site room s new was is =
-    let P : SiteView → Type 0 = λ v. StandsFor sc h site v in
-    subst P (sym is) (record { weights_are = was.weights_are; site_is = was.site_is; incarnation_is = was.incarnation_is })
+-- a site that was made ready is up as before
+pub ready_up : {D : Type 0} (content : D → List ℕ) (image : D → List ℕ → Type 0) (meters : D → Meters)
+    (sc : Scenario) (h : List Entry) (site : ℕ) (s new : SiteView) (l : LogState D) → IsUp content image meters sc h site s l →
+    IsAsBefore s new → IsUp content image meters sc h site new l
+ready_up content image meters sc h site s new l was is = record {
+  up = was.up;
+  stands = is.stands sc h site was.stands;
+  logged = was.logged;
+  lit = was.lit;
+  inputs = let P : ℕ → Type 0 = λ n. n ≤ steps_at h site in subst P (sym (ap (λ (v : SiteView). v.inputs) is.same)) was.inputs;
+}
 
 still : {D : Type 0} (content : D → List ℕ) (image : D → List ℕ → Type 0) (meters : D → Meters)
     (sc : Scenario) (h more : List Entry) (site : ℕ) (mid new : State D) → (more ≡ h) × IsIn content image meters sc h site mid → new ≡ mid →

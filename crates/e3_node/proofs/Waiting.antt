@@ -1,6 +1,8 @@
 -- What a site's claim and entry made of what was seen, while others went on.
-use Rattle.std.proofs.Common.{◌≡◌, ◌≤◌, ◌<◌, ◌++◌, ◌∷◌, [], ◌+◌, ℕ, zero, suc, false, List, length, refl, sym, subst, ap, ◌∙◌, append-nil, append_assoc, arith}
+use Rattle.std.proofs.Common.{◌≡◌, ◌≤◌, ◌<◌, ◌++◌, ◌∷◌, [], ◌+◌, ◌-◌, ℕ, zero, suc, false, List, length, refl, sym, subst, ap, ◌∙◌, append-nil, append_assoc, arith}
+use Rattle.std.specs.List.{AllByRecursion as Each}
 use Rattle.atomic_table.specs.Seated.{TableId}
+use Rattle.e3_codec.specs.Fields.{AllCanBeReadBack}
 use Rattle.e3_disk.specs.Meters.{Meters}
 use Rattle.e3_law_local.specs.Least.{AreOfSites}
 use Rattle.e3_law_local.specs.Others.{Allows, AreOthers, numbered_on}
@@ -8,22 +10,27 @@ use Rattle.e3_law_local.proofs.Alike.{all_on}
 use Rattle.e3_law_local.proofs.Laws.{legal_behind}
 use Rattle.e3_node.specs.Bodies.{AllReadBack}
 use Rattle.e3_node.specs.Claims.{MovesStay, NodesKeptByOthers, NodesStandBehindOthers}
+use Rattle.e3_node.specs.Drafts.{IsAsBefore}
 use Rattle.e3_node.specs.Ends.{input_fault_of}
 use Rattle.e3_log.specs.Stands.{LogState}
-use Rattle.e3_node.specs.NodeStands.{IsIn, IsUp, NodeStands, steps_at}
+use Rattle.e3_node.specs.NodeStands.{IsIn, IsUp, NodeStands}
+use Rattle.e3_node.specs.Telling.{IsOwn}
 use Rattle.e3_node.specs.Turns.{HasSeenMore, HasTurned, Meanwhile, scenario_seen}
+use Rattle.e3_node.specs.declared.drafts.Draft.{Draft}
 use Rattle.e3_node.specs.declared.fault.InputFault.TheVariants as input_fault
 use Rattle.e3_node.specs.declared.state.State.{State}
 use Rattle.e3_node.specs.declared.state.State.TheVariants.{Up}
-use Rattle.e3_site.specs.SiteView.{SiteView}
+use Rattle.e3_site.specs.SiteView.{SiteView, step_kept}
 use Rattle.e3_turn.specs.Chronicles.{count_of}
 use Rattle.e3_turn.specs.Passes.{GrewByOthers, IsIdle, Owns, SameOwners, seen_by}
 use Rattle.e3_types.specs.declared.entries.Act.{Act}
 use Rattle.e3_types.specs.declared.entries.Act.TheVariants.{Step, Fall, Rise, RiseFall, Miss, Cut, Drop, Parts, Line}
 use Rattle.e3_types.specs.declared.entries.Entry.{Entry}
+use Rattle.e3_types.specs.declared.entries.Input.{Input}
 use Rattle.e3_types.specs.declared.scenarios.Scenario.{Scenario}
 use Rattle.e3_wire.specs.Claims.{APass}
-use Rattle.e3_wire.specs.Marks.{AreForeign, Note, belongs, entries_of, last_owner, most_of, note_of, scenario_of, used_by, used_of}
+use Rattle.e3_wire.specs.Marks.{AreForeign, belongs, entries_of, last_owner, most_of, note_of, nothing, scenario_of, used_by, used_of}
+use Rattle.e3_wire.specs.declared.marks.Note.{Note}
 use Rattle.e3_wire.specs.Wires.{IsPlayed, MayEnterBehind, TakesInTurn}
 use Rattle.e3_wire.specs.declared.fault.WireFault.{WireFault}
 use Rattle.e3_wire.specs.declared.fault.WireFault.TheVariants as wire_fault
@@ -32,15 +39,18 @@ use Rattle.e3_wire.specs.declared.marks.Mark.TheVariants as mark
 use Rattle.e3_wire.proofs.Claimed.{claimed_entries_stay}
 use Rattle.e3_wire.proofs.Foreign.{entries_append, foreign_are_others, foreign_of_sites, notes_stay}
 use Rattle.e3_wire.proofs.Notes.{claim_promises, entry_uses, scenario_stays}
-use Rattle.e3_wire.proofs.Spending.{fronts_are_played}
+use Rattle.e3_wire.proofs.Spending.{fronts_are_played, used_numbered}
 use Rattle.e3_wire.proofs.Staying.{are_others_marks}
 use Rattle.e3_world.specs.Items.{inputs_of}
-use Rattle.e3_world.specs.Legal.{IsLegal}
-use Rattle.e3_world.specs.Moves.{moves_of}
+use Rattle.e3_world.specs.Legal.{IsLegal, made_by}
+use Rattle.e3_world.specs.Lives.{incarnation_of}
+use Rattle.e3_world.specs.Moves.{Move, moves_of}
+use Rattle.e3_world.specs.Steps.{step_of}
+use Rattle.e3_world.specs.declared.lives.Made.{Made}
 use Rattle.e3_world.specs.Packets.{is_calm, lines, outs_of, present_items, step_items}
 use Rattle.e3_node.proofs.Apart.{one_more, other_one}
 use Rattle.e3_node.proofs.Keeping.{back_kept, in_kept, moves_kept, node_kept}
-use Rattle.e3_node.proofs.Steps.{room_same}
+use Rattle.e3_node.proofs.Steps.{IsMade, ready_up}
 
 pub moves_stay : MovesStay
 moves_stay sc site h [] others = ap (λ (l : List Entry). moves_of sc l site) (append-nil h)
@@ -125,6 +135,19 @@ uses sc h now (suc s) (Drop packet) w some may place = absurd may
 uses sc h now (suc s) (Parts parts) w some may place = absurd may
 uses sc h now (suc s) (Line number) w some may place = absurd may
 
+-- room for so many packets more is used, or given back, by an entry that uses all of such a claim
+room_used : (outs : ℕ) (act : Act) (w : Note) → used_by (record { places = 1; room = outs }) act ≡ nothing →
+    (used_by (record { places = suc w.places; room = w.room + outs }) act).room ≤ w.room
+room_used outs (Step i records packets told) w all = let none : outs - length packets ≡ 0 = ap (λ (x : Note). x.room) all in omega (arith, none)
+room_used outs (Fall inputs records why) w all = omega arith
+room_used outs (Rise kept inc) w all = let none : outs ≡ 0 = ap (λ (x : Note). x.room) all in omega (arith, none)
+room_used outs (RiseFall kept inc why) w all = let none : outs ≡ 0 = ap (λ (x : Note). x.room) all in omega (arith, none)
+room_used outs Miss w all = let none : outs ≡ 0 = ap (λ (x : Note). x.room) all in omega (arith, none)
+room_used outs Cut w all = let none : outs ≡ 0 = ap (λ (x : Note). x.room) all in omega (arith, none)
+room_used outs (Drop packet) w all = let none : outs ≡ 0 = ap (λ (x : Note). x.room) all in omega (arith, none)
+room_used outs (Parts parts) w all = let none : outs ≡ 0 = ap (λ (x : Note). x.room) all in omega (arith, none)
+room_used outs (Line number) w all = let none : outs ≡ 0 = ap (λ (x : Note). x.room) all in omega (arith, none)
+
 -- how the marks went from what was seen to an entry: others, the claim, others again, the entry
 pub record Behind (site outs : ℕ) (seen claimed between marks : List Mark) (e : Entry) : Type 0 where
   pub first : List Mark
@@ -185,6 +208,25 @@ module _ (site outs : ℕ) (seen claimed between marks : List Mark) (e : Entry) 
       let has : 1 ≤ (note_of site between).places = omega (arith, three, one) in
       let spent : suc ((used_by (note_of site between) y.act).places) ≡ (note_of site between).places = uses sc h (entries_of between) e.owner e.act (note_of site between) some may has in
       omega (arith, one, two, three, four, spent)
+
+  -- and no room stays promised that was not before
+  pub room_left : used_by (record { places = 1; room = outs }) e.act ≡ nothing → (note_of site marks).room ≤ (note_of site seen).room
+  room_left all =
+      let was_there : Note = note_of site seen in
+      let more : Note = record { places = suc was_there.places; room = was_there.room + outs } in
+      let claimed_is : note_of site claimed ≡ more =
+      ap (λ (l : List Mark). note_of site l) behind.claimed_is ∙ claim_promises site outs (seen ++ behind.first)
+      ∙ ap (λ (w : Note). let x : Note = record { places = suc w.places; room = w.room + outs } in x) (notes_stay site seen behind.first behind.firsts) in
+      let between_is : note_of site between ≡ more =
+      ap (λ (l : List Mark). note_of site l) behind.between_is ∙ notes_stay site claimed behind.second behind.seconds ∙ claimed_is in
+      let y : Entry = numbered_on (entries_of between) e in
+      let end_is : note_of site marks ≡ used_by more e.act =
+      ap (λ (l : List Mark). note_of site l) behind.marks_is ∙ ap (λ (n : ℕ). note_of n (between ++ mark.Entered y ∷ [])) (sym owner)
+      ∙ entry_uses y between ∙ ap (λ (n : ℕ). used_by (note_of n between) y.act) owner ∙ ap (λ (w : Note). used_by w y.act) between_is
+      ∙ used_numbered (entries_of between) e.owner e.act more in
+      let end_room : (note_of site marks).room ≡ (used_by more e.act).room = ap (λ (w : Note). w.room) end_is in
+      let few : (used_by more e.act).room ≤ was_there.room = room_used outs e.act was_there all in
+      omega (arith, end_room, few)
 
 -- what a pass saw of its claim and its entry
 pub behind_of : (p q r : APass) (site outs : ℕ) (e : Entry) → Owns p site → Owns q site → (between : List Mark) → GrewByOthers belongs p between →
@@ -255,6 +297,17 @@ back_meanwhile sc h now site m was =
     let P : List Entry → Type 0 = λ l. AllReadBack sc l site in
     subst P (sym m.is) (back_others sc h m.others site was m.of_others)
 
+-- and what a draft has is what it makes meanwhile
+pub made_meanwhile : (sc : Scenario) (h now : List Entry) (site : ℕ) (i : Input) (d : Draft) → Meanwhile site h now → IsMade sc h site i d → IsMade sc now site i d
+made_meanwhile sc h now site i d m made =
+    let same : moves_of sc now site ≡ moves_of sc h site = ap (λ (l : List Entry). moves_of sc l site) m.is ∙ moves_stay sc site h m.others m.of_others in
+    let step : made_by sc h site i ≡ made_by sc now site i = ap (λ (ms : List Move). step_of sc.weights site (incarnation_of ms) i) (sym same) in
+    record {
+      step_is = made.step_is ∙ ap (step_kept i) step;
+      inputs_are = made.inputs_are;
+      back = subst (λ (x : Made). Each (IsOwn site) x.records → AllCanBeReadBack site x.records) step made.back;
+    }
+
 -- nothing happened
 pub no_while : (site : ℕ) (h : List Entry) → Meanwhile site h h
 no_while site h = record { others = []; of_others = tt; of_sites = tt; is = sym (append-nil h) }
@@ -273,6 +326,10 @@ looked lock p q site between owns was played idle same grew is =
         played = played;
         seen = (one.0, all);
         promised = ap (λ (l : List Mark). (note_of site l).places) all ∙ ap (λ (w : Note). w.places) (notes_stay site (seen_by p) one.0 one.2);
+        room =
+            let same : (note_of site (seen_by q)).room ≡ (note_of site (seen_by p)).room =
+            ap (λ (l : List Mark). (note_of site l).room) all ∙ ap (λ (w : Note). w.room) (notes_stay site (seen_by p) one.0 one.2) in
+            omega (arith, same);
       },
       subst R (sym all) (one_while site (seen_by p) one.0 was (subst P all played) one.2),
     )
@@ -285,6 +342,7 @@ same_pass lock p site idle played = record {
   played = played;
   seen = ([], sym (append-nil (seen_by p)));
   promised = refl;
+  room = omega arith;
 }
 
 -- while a pass of the site rests, others leave a node standing
@@ -302,14 +360,15 @@ node_behind content image meters p marks node owns grew was played stands =
 
 -- a claim and its entry
 pub entered_turn : (lock : TableId) (p q r : APass) (site outs : ℕ) (e : Entry) (between : List Mark) → Behind site outs (seen_by p) (seen_by q) between (seen_by r) e →
-    e.owner ≡ site → IsPlayed (seen_by p) → IsPlayed (seen_by q) → IsPlayed (seen_by r) → 1 ≤ e.owner → (sc : Scenario) (h : List Entry) → Allows sc h e →
+    e.owner ≡ site → IsPlayed (seen_by p) → IsPlayed (seen_by q) → IsPlayed (seen_by r) → 1 ≤ e.owner → (sc : Scenario) (h : List Entry) → Allows sc h e → used_by (record { places = 1; room = outs }) e.act ≡ nothing →
     IsIdle lock r → SameOwners p q → SameOwners q r → HasTurned lock site p r
-entered_turn lock p q r site outs e between behind owner was at_claim played some sc h may idle one two = record {
+entered_turn lock p q r site outs e between behind owner was at_claim played some sc h may all_used idle one two = record {
   idle = idle;
   same = record { owners = two.owners ∙ one.owners; last = two.last ∙ one.last };
   played = played;
   seen = seen_more site outs (seen_by p) (seen_by q) between (seen_by r) e behind owner was at_claim played;
   promised = promised site outs (seen_by p) (seen_by q) between (seen_by r) e behind owner was at_claim played sc h some may;
+  room = room_left site outs (seen_by p) (seen_by q) between (seen_by r) e behind owner was at_claim played all_used;
 }
 
 -- a claim that was refused for a full history
@@ -320,17 +379,10 @@ full_told wire_fault.NoMemory between seen is full told = absurd cc
 
 -- a site that only made ready is up meanwhile
 pub still_up : {D : Type 0} (content : D → List ℕ) (image : D → List ℕ → Type 0) (meters : D → Meters)
-    (sc : Scenario) (h more : List Entry) (site room : ℕ) (s new : SiteView) (l : LogState D) → Meanwhile site h more → IsUp content image meters sc h site s l →
-    new ≡ record s { room = room } → IsUp content image meters sc more site new l
-still_up content image meters sc h more site room s new l m was is =
-    let up : IsUp content image meters sc more site s l = up_meanwhile content image meters sc h more site (Up s l) m was in
-    record {
-      up = up.up;
-      stands = room_same sc more site room s new up.stands is;
-      logged = up.logged;
-      lit = up.lit;
-      inputs = (let P : SiteView → Type 0 = λ v. v.inputs ≤ steps_at more site in subst P (sym is) up.inputs);
-    }
+    (sc : Scenario) (h more : List Entry) (site : ℕ) (s new : SiteView) (l : LogState D) → Meanwhile site h more → IsUp content image meters sc h site s l →
+    IsAsBefore s new → IsUp content image meters sc more site new l
+still_up content image meters sc h more site s new l m was is =
+    ready_up content image meters sc more site s new l (up_meanwhile content image meters sc h more site (Up s l) m was) is
 
 -- the scenario stays
 pub keys_stay : (p q : APass) → IsPlayed (seen_by p) → HasSeenMore p q → (scenario_seen q ≡ scenario_seen p) × (most_of (seen_by q) ≡ most_of (seen_by p))

@@ -1,21 +1,32 @@
 -- A step that is ready to be made.
-use Rattle.std.specs.Prelude.{◌≡◌, ◌∷◌, [], ℕ}
+use Rattle.std.specs.Prelude.{◌≡◌, ◌<◌, ◌^◌, ◌∷◌, [], ℕ, length}
 use Rattle.std.specs.List.{AllByRecursion as Each}
 use Rattle.e3_codec.specs.Fields.{AllCanBeReadBack}
 use Rattle.e3_node.specs.Telling.{IsOwn}
 use Rattle.e3_node.specs.declared.drafts.Draft.{Draft}
+use Rattle.e3_site.specs.SiteView.{HasRoomFor, IsPlanOf, SiteView, plan_of}
+use Rattle.e3_site.specs.StandsFor.{StandsStill}
 use Rattle.e3_types.specs.Spelling.{spelling}
 use Rattle.e3_types.specs.declared.entries.Input.{Input}
-use Rattle.e3_world.specs.declared.lives.SiteStep.{SiteStep}
+use Rattle.e3_world.specs.declared.lives.Incarnation.{Incarnation}
 
--- all that the step of a plan, and the fall that may stand in its place, take memory for; what it records can be read back
--- from the log of the site whose it is
-pub record IsDraft (plan : SiteStep) (i : Input) (draft : Draft) : Type 0 where
-  pub plan_is : draft.plan ≡ plan
-  pub records_are : draft.records ≡ plan.records
-  pub outs_are : draft.outs ≡ plan.outs
-  pub told_is : draft.told ≡ plan.told
-  pub body_is : draft.body ≡ spelling plan.records
-  pub back : (site : ℕ) → Each (IsOwn site) plan.records → AllCanBeReadBack site plan.records
+-- All that the step of an input, and the fall that may stand in its place, take memory for; what it records can be read
+-- back from the log of the site whose it is.
+pub record IsDraft (i : Input) (draft : Draft) : Type 0 where
+  pub body_is : draft.body ≡ spelling draft.plan.step.records
+  pub back : (site : ℕ) → Each (IsOwn site) draft.plan.step.records → AllCanBeReadBack site draft.plan.step.records
   pub inputs_are : draft.inputs ≡ i ∷ []
-  pub fallen_are : draft.fallen ≡ plan.records
+
+-- The draft is of what the input makes the site do in this incarnation, and the new value has room for it: it can be done
+-- there without memory.
+pub record IsReady (now : Incarnation) (i : Input) (old new : SiteView) (draft : Draft) : Type 0 where
+  pub drafted : IsDraft i draft
+  pub made : draft.plan.step ≡ plan_of now old i
+  pub few : length draft.plan.step.outs < 2 ^ 32
+  pub own : IsPlanOf draft.plan new
+  pub room : HasRoomFor draft.plan new
+
+-- the new value is the old one, but for spare room
+pub record IsAsBefore (old new : SiteView) : Type 0 where
+  pub same : new ≡ record old { tables = new.tables }
+  pub stands : StandsStill old new

@@ -8,7 +8,7 @@ use Rattle.e3_wire.specs.declared.marks.Mark.TheVariants as mark
 use Rattle.e3_wire.specs.Marks.{NothingIsPromised, entries_of, last_owner, most_of, scenario_of}
 use Rattle.e3_wire.specs.Wires.{IsPlayed}
 
--- The history of these marks is legal and no longer than it may be, and no place is promised. So it is full exactly where
+-- The history of these marks is legal and no longer than it may be, and neither a place nor room is promised. So it is full exactly where
 -- it has as many entries as it may have.
 pub record SharedStands (marks : List Mark) : Type 0 where
   pub played : IsPlayed marks

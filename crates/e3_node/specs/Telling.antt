@@ -1,5 +1,5 @@
 -- What makes records come back from their spelling: what they tell of themselves, and what a legal history gives.
-use Rattle.std.specs.Prelude.{◌≡◌, true, ℕ, List}
+use Rattle.std.specs.Prelude.{◌≡◌, true, ℕ}
 use Rattle.std.specs.List.{AllByRecursion as Each}
 use Rattle.e3_codec.specs.Fields.{IsShort, RowFits, TxnNumbersFit}
 use Rattle.e3_law_trails.specs.Bounds.{IsHere}

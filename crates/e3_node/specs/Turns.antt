@@ -1,5 +1,5 @@
 -- What a call of a site makes of what its pass has seen, while other sites go on.
-use Rattle.std.specs.Prelude.{◌≡◌, ◌++◌, ◌∷◌, [], ℕ, List, Result, Ok, Err}
+use Rattle.std.specs.Prelude.{◌≡◌, ◌≤◌, ◌++◌, ◌∷◌, [], ℕ, List, Result, Ok, Err}
 use Rattle.atomic_table.specs.Seated.{TableId}
 use Rattle.e3_disk.specs.Meters.{Meters}
 use Rattle.e3_law_local.specs.Least.{AreOfSites}
@@ -40,13 +40,14 @@ pub record Meanwhile (site : ℕ) (before now : List Entry) : Type 0 where
 abbrev pub HasSeenMore : APass → APass → Type 0
 HasSeenMore p q = (more : List Mark) × (seen_by q ≡ seen_by p ++ more)
 
--- what a call of the site made of its pass
+-- what a call of the site made of its pass: no place and no room are promised to the site that were not before
 pub record HasTurned (lock : TableId) (site : ℕ) (p q : APass) : Type 0 where
   pub idle : IsIdle lock q
   pub same : SameOwners p q
   pub played : IsPlayed (seen_by q)
   pub seen : HasSeenMore p q
   pub promised : (note_of site (seen_by q)).places ≡ (note_of site (seen_by p)).places
+  pub room : (note_of site (seen_by q)).room ≤ (note_of site (seen_by p)).room
 
 module _ {D : Type 0} (content : D → List ℕ) (image : D → List ℕ → Type 0) (meters : D → Meters) where
   -- the site made the step of an input behind what others entered

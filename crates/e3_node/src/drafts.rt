@@ -1,58 +1,68 @@
 // A step that is ready to be made.
-ghost use Rattle.std.specs.Prelude.{◌≡◌, ◌^◌, ◌<◌, ◌≤◌, length, IfOk, OnOk};
-ghost use Rattle.e3_node.specs.Drafts.{IsDraft};
-ghost use Rattle.e3_site.specs.SiteView.{IsPlanOf, plan_of};
+ghost use Rattle.std.specs.Prelude.{◌≡◌, IfOk};
+ghost use Rattle.e3_node.specs.Drafts.{IsAsBefore, IsDraft, IsReady};
+ghost use Rattle.e3_site.specs.SiteView.{Stands};
+ghost use Rattle.e3_world.specs.declared.lives.Incarnation.{Incarnation};
 
-use crate::copying::copied;
 use crate::fitting::spelled;
 use e3_site::{Plan, Site};
-use e3_types::{Input, List, NoMemory, Packet, Record, Told};
+use e3_types::{Input, List, NoMemory};
+use e3_wire::{Shared, WirePass};
 use std::alloc::Global;
 
-/// All that a step, and the fall that may stand in its place, take memory for: the plan, copies of what it records, sends and
-/// tells, the spelling of the records, and the inputs and records of the fall.
+/// All that a step, and the fall that may stand in its place, take memory for: the plan, whose lists the entry takes, the
+/// spelling of what it records, and the inputs of the fall.
 #[derive(Drop)]
 pub(crate) struct Draft {
     pub plan: Plan,
-    pub records: List<Record>,
-    pub outs: List<Packet>,
-    pub told: List<Told>,
     pub body: List<u8>,
     pub inputs: List<Input>,
-    pub fallen: List<Record>,
 }
 
 fn draft_of(alloc: Global, plan: Plan, input: &Input) -> Result<Draft, NoMemory>
-    ensures { IfOk result (IsDraft plan input.now) }
+    ensures plan { IfOk result (λ draft. draft.plan ≡ plan) }
+    ensures draft { IfOk result (IsDraft input.now) }
 {
-    let records = copied(alloc, plan.records())?;
-    let outs = copied(alloc, plan.outs())?;
-    let told = copied(alloc, plan.told())?;
     let body = spelled(alloc, plan.records())?;
     let mut inputs = List::new(alloc);
     inputs.push(input.copy())?;
-    let fallen = copied(alloc, plan.records())?;
-    Ok(Draft {
-        plan,
-        records,
-        outs,
-        told,
-        body,
-        inputs,
-        fallen,
-    })
+    Ok(Draft { plan, body, inputs })
 }
 
-/// Takes all memory that the step of an input may want at the site, and for its entry.
-pub(crate) fn prepare(alloc: Global, site: &mut Site, input: &Input) -> Result<Draft, NoMemory>
-    ensures draft { IfOk result (IsDraft (plan_of site.old input.now) input.now) }
-    ensures few { IfOk result (λ draft. length draft.outs < 2 ^ 32) }
-    ensures own { IfOk result (λ draft. IsPlanOf draft.plan site.new) }
-    ensures site { site.new ≡ record site.old { room = site.new.room } }
-    ensures site_room { OnOk result (1 ≤ site.new.room) }
+// Takes all memory that the step of an input may want at a site in this incarnation, and for its entry.
+fn planned(alloc: Global, site: &mut Site, input: &Input) -> Result<Draft, NoMemory>
+    ghost now: { Incarnation }
+    requires { Stands now site.old }
+    ensures ready { IfOk result (IsReady now input.now site.old site.new) }
+    ensures still { IsAsBefore site.old site.new }
 {
-    site.catch_up()?;
     let plan = site.plan(input)?;
     site.ready(&plan)?;
     draft_of(alloc, plan, input)
+}
+
+/// Takes all memory that the step of an input may want at the site, and for its entry. The history that is shared is passed on
+/// for the proof alone: it tells in which incarnation the site is.
+pub(crate) fn prepare(site: &mut Site, input: &Input, shared: &Shared) -> Result<Draft, NoMemory>
+    ghost now: { Incarnation }
+    requires { Stands now site.old }
+    ensures ready { IfOk result (IsReady now input.now site.old site.new) }
+    ensures still { IsAsBefore site.old site.new }
+{
+    planned(shared.alloc(), site, input)
+}
+
+/// The same by a worker, whose pass tells the history.
+pub(crate) fn prepare_by_turns(
+    alloc: Global,
+    site: &mut Site,
+    input: &Input,
+    _pass: &WirePass,
+) -> Result<Draft, NoMemory>
+    ghost now: { Incarnation }
+    requires { Stands now site.old }
+    ensures ready { IfOk result (IsReady now input.now site.old site.new) }
+    ensures still { IsAsBefore site.old site.new }
+{
+    planned(alloc, site, input)
 }

@@ -1,7 +1,8 @@
-// What is shared, while one thread alone goes on: each place that is claimed is used or given back before the call ends.
+// What is shared, while one thread alone goes on: each place and all room that is claimed is used or given back before the call
+// ends.
 ghost use Rattle.std.specs.Prelude.{◌≡◌, ◌≤◌, ◌↔◌, ℕ, List as Items, nat_le, length, OnOk, OnErr, Err};
 ghost use Rattle.e3_node.specs.SharedStands.{HasEntered, IsClaimed, SharedStands};
-ghost use Rattle.e3_wire.specs.Marks.{entries_of, last_owner, most_of};
+ghost use Rattle.e3_wire.specs.Marks.{UsesAll, entries_of, last_owner, most_of};
 ghost use Rattle.e3_wire.specs.Wires.{MayEnterBehind};
 ghost use Rattle.e3_wire.specs.declared.fault.WireFault.TheVariants.{HistoryFull};
 ghost use Rattle.e3_wire.specs.declared.marks.Mark.{Mark};
@@ -28,9 +29,10 @@ pub(crate) fn claim(shared: &mut Shared, owner: u32, outs: u32) -> Result<(), Wi
     shared.claim(owner, outs)
 }
 
-/// Enters the entry that the last claim was made for.
+/// Enters the entry that the last claim was made for. It uses all of it, so that neither a place nor room stays promised.
 pub(crate) fn enter(shared: &mut Shared, entry: Entry)
-    requires { MayEnterBehind shared.old entry }
+    requires may { MayEnterBehind shared.old entry }
+    requires all { UsesAll shared.old entry }
     ensures { (before : Items Mark) (outs : ℕ) → IsClaimed entry.owner outs before shared.old → HasEntered entry before shared.new }
 {
     shared.enter(entry);

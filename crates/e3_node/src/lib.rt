@@ -2,7 +2,6 @@
 //! a call, the disk stands for the history.
 #![tactic(auto)]
 
-mod copying;
 mod counting;
 mod drafts;
 mod entering;

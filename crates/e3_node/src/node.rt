@@ -32,7 +32,7 @@ use crate::counting::{Count, no_count};
 use crate::entering::{claim, enter, is_full};
 use crate::readying::wish_of;
 use crate::rising::{enter_rise, risen, told};
-use crate::state::{arm, into_disk, keep_up, unpowered};
+use crate::state::{arm, into_disk, unpowered};
 use crate::stepping::{settle, take_input};
 use crate::turning::take_by_turns;
 use crate::{CutFault, InputFault, RiseFault, State};
@@ -56,9 +56,13 @@ pub struct Node<D: Disk + Drill + Drop> {
 }
 
 impl<D: Disk + Drill + Drop> Model for Node<D> {
+    ghost use Rattle.std.specs.Coded.{codes};
     ghost use Rattle.e3_node.specs.NodeView.{NodeView};
+    ghost use Rattle.e3_site.specs.contracts.site.Site as s;
 
     ghost Value = { NodeView D };
+
+    ghost coded = { Prim.hlevel (codes, s.the_row.coded) };
 
     ghost view = { λ n. record { site = n.site; weights = n.weights; rows = n.rows; count = n.count; state = n.state } };
 }
@@ -204,10 +208,7 @@ impl<D: Disk + Drill + Drop> Node<D> {
     {
         let (state, count) = (&mut self.state, &mut self.count);
         match take_input(self.site, state, count, shared, input) {
-            Ok(()) => {
-                keep_up(&mut self.state);
-                Ok(())
-            }
+            Ok(()) => Ok(()),
             Err(fault) => {
                 settle(&mut self.state, fault);
                 Err(fault)
@@ -234,13 +235,15 @@ impl<D: Disk + Drill + Drop> Node<D> {
         requires due { is_up_at (history_seen pass.old) self.old.site ≡ true → MayTake (scenario_seen pass.old) (history_seen pass.old) self.old.site input }
         requires takes { is_up_at (history_seen pass.old) self.old.site ≡ true → TakesLeast (scenario_seen pass.old) (history_seen pass.old) self.old.site input }
 
-        // each claim is followed by its entry: between calls nothing is promised to the site
+        // each claim is followed by its entry, which uses it or gives it back: no place and no room are promised to the site that
+        // were not before
         ensures idle { IsIdle wire.now pass.new }
         ensures same { SameOwners pass.old pass.new }
         ensures played { IsPlayed (seen_by pass.new) }
         ensures seen { HasSeenMore pass.old pass.new }
         ensures scenario { (scenario_seen pass.new ≡ scenario_seen pass.old) × (most_of (seen_by pass.new) ≡ most_of (seen_by pass.old)) }
         ensures promised { (note_of self.old.site (seen_by pass.new)).places ≡ (note_of self.old.site (seen_by pass.old)).places }
+        ensures room { (note_of self.old.site (seen_by pass.new)).room ≤ (note_of self.old.site (seen_by pass.old)).room }
 
         ensures stands { NodeStands D.content D.image D.meters (scenario_seen pass.new) (history_seen pass.new) self.new }
         ensures site { self.new.site ≡ self.old.site }
@@ -266,10 +269,7 @@ impl<D: Disk + Drill + Drop> Node<D> {
     {
         let (state, count) = (&mut self.state, &mut self.count);
         match take_by_turns(rt, alloc, wire, pass, self.site, state, count, input) {
-            Ok(()) => {
-                keep_up(&mut self.state);
-                Ok(())
-            }
+            Ok(()) => Ok(()),
             Err(fault) => {
                 settle(&mut self.state, fault);
                 Err(fault)

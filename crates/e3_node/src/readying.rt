@@ -11,7 +11,7 @@ use crate::fitting::spelled;
 use crate::reading::{add_records, read_frames};
 use e3_log::Frame;
 use e3_readings::logged_inc;
-use e3_restart::{RebuildFault, rise_with};
+use e3_restart::{RebuildFault, rebuild};
 use e3_site::Site;
 use e3_types::{Copied, List, NoMemory, Record, Row};
 use std::alloc::Global;
@@ -114,13 +114,13 @@ fn records_by(wish: &Wish, inc: u32, log: &[Record]) -> Result<List<Record>, NoM
 
 // The site that rose with this log.
 #[tactic(auto, using(crate::proofs::Strange::disordered))]
-fn rebuilt(alloc: Global, site: u32, log: List<Record>) -> Result<Site, Unready>
-    requires some { 0 < length log }
-    ensures risen { IfOk result (IsRebuilt site log) }
-    ensures stands { IfOk result (StandsForEach log) }
-    ensures foreign { result ≡ Err unready.Foreign → ¬ IsOrderly site log }
+fn rebuilt(alloc: Global, site: u32, log: &[Record]) -> Result<Site, Unready>
+    requires some { 0 < length log.now }
+    ensures risen { IfOk result (IsRebuilt site log.now) }
+    ensures stands { IfOk result (StandsForEach log.now) }
+    ensures foreign { result ≡ Err unready.Foreign → ¬ IsOrderly site log.now }
 {
-    match rise_with(alloc, site, log) {
+    match rebuild(alloc, site, log) {
         Ok(up) => Ok(up),
         Err(RebuildFault::NoMemory) => Err(Unready::NoMemory),
         Err(RebuildFault::Order { .. }) => Err(Unready::Foreign),
@@ -139,7 +139,7 @@ pub(crate) fn ready(wish: &Wish, frames: &[Frame]) -> Result<Readied, Unready>
     let records = records_by(wish, inc, log.as_slice())?;
     let body = spelled(wish.alloc, records.as_slice())?;
     add_records(wish.alloc, records.as_slice(), &mut log)?;
-    let up = rebuilt(wish.alloc, wish.site, log)?;
+    let up = rebuilt(wish.alloc, wish.site, log.as_slice())?;
     Ok(Readied {
         up,
         records,

@@ -13,7 +13,7 @@ ghost use Rattle.e3_wire.specs.Wires.{MayEnterBehind};
 ghost use Rattle.e3_types.specs.Spelling.{spelling};
 ghost use Rattle.e3_types.specs.declared.entries.Entry.{Entry as Entries};
 ghost use Rattle.e3_types.specs.declared.scenarios.Scenario.{Scenario};
-ghost use Rattle.e3_wire.specs.Marks.{entries_of, scenario_of};
+ghost use Rattle.e3_wire.specs.Marks.{UsesAll, entries_of, scenario_of};
 ghost use Rattle.e3_wire.specs.declared.marks.Mark.{Mark as MarkValue};
 
 use crate::counting::{Count, count_on};
@@ -132,7 +132,8 @@ pub(crate) fn risen<D: Disk + Drill + Drop>(state: State<D>, wish: Wish) -> (Sta
 
 // What comes of a rise is counted and entered.
 fn enter_act(shared: &mut Shared, owner: u32, count: &mut Count, act: Act)
-    requires { MayEnterBehind shared.old (record { owner = owner; act = act }) }
+    requires may { MayEnterBehind shared.old (record { owner = owner; act = act }) }
+    requires all { UsesAll shared.old (record { owner = owner; act = act }) }
     ensures entered { (before : Items MarkValue) (outs : ℕ) → IsClaimed owner outs before shared.old →
         HasEntered (record { owner = owner; act = act }) before shared.new }
     ensures counted { count.new ≡ counted_by count.old act }
@@ -161,7 +162,7 @@ pub(crate) fn enter_rise(shared: &mut Shared, owner: u32, count: &mut Count, rai
             let act = Act::Miss;
             enter_act(shared, owner, count, act);
         }
-        Raised::NoMemory | Raised::Foreign => shared.withdraw(0),
+        Raised::NoMemory | Raised::Foreign => shared.withdraw(owner, 0),
     }
 }
 

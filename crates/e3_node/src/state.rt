@@ -53,16 +53,3 @@ pub(crate) fn arm<D: Disk + Drill + Drop>(state: &mut State<D>, calls: u32, leav
         State::Up(_site, log) => log.arm(calls, leave),
     }
 }
-
-/// Brings what a site that is up keeps beside its steps up to the last of them. Where memory wants for it, it waits for the
-/// next step.
-pub(crate) fn keep_up<D: Disk + Drop>(state: &mut State<D>)
-    ensures { state.new ≡ state.old }
-{
-    match state {
-        State::Down(_disk) => {}
-        State::Up(site, _log) => {
-            let _ = site.catch_up();
-        }
-    }
-}

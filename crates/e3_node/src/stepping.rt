@@ -9,6 +9,7 @@ ghost use Rattle.e3_node.specs.NodeView.{disk_of, end_of};
 ghost use Rattle.e3_node.specs.SharedStands.{SharedStands};
 ghost use Rattle.e3_node.specs.declared.fault.InputFault.{InputFault as InputFaults};
 ghost use Rattle.e3_node.specs.declared.fault.InputFault.TheVariants as input_fault;
+ghost use Rattle.e3_site.specs.SiteView.{entry_of_plan};
 ghost use Rattle.e3_sites.specs.Entering.{IsFirst};
 ghost use Rattle.e3_types.specs.declared.entries.Act.TheVariants as act;
 ghost use Rattle.e3_types.specs.declared.entries.Why.{Why as Whys};
@@ -29,32 +30,27 @@ use e3_law_begun::{begun_are_transactions, legal_histories_mention_what_stands};
 use e3_law_trails::records_suit_their_site;
 use e3_log::Log;
 use e3_site::Site;
-use e3_types::{Act, Entry, Input, List, Packet, Record, Told, Why};
+use e3_types::{Act, Entry, Input, List, Packet, Record, Why};
 use e3_wire::Shared;
+use e3_world::SiteStep;
 
 /// For how many packets there has to be room.
-pub(crate) fn room_for(outs: &List<Packet>) -> u32
+pub(crate) fn room_for(outs: &[Packet]) -> u32
     requires { length outs.now < 2 ^ 32 }
     ensures { result ≡ length outs.now }
 {
     outs.len() as u32
 }
 
-/// The entry of a step, its packets without numbers.
-pub(crate) fn step_of(
-    owner: u32,
-    input: Input,
-    records: List<Record>,
-    outs: List<Packet>,
-    told: List<Told>,
-) -> Entry
-    ensures { result ≡ record { owner = owner; act = act.Step input records outs told } }
+/// The entry of a step that a site made of an input, its packets without numbers.
+pub(crate) fn step_of(owner: u32, input: Input, made: SiteStep) -> Entry
+    ensures { result ≡ entry_of_plan owner input made }
 {
     let act = Act::Step {
         input,
-        records,
-        outs,
-        told,
+        records: made.records,
+        outs: made.outs,
+        told: made.told,
     };
     Entry { owner, act }
 }
@@ -118,19 +114,19 @@ fn step<D: Disk>(
     if is_full(shared) {
         return Err(InputFault::HistoryFull);
     }
-    let draft = prepare(shared.alloc(), site, &input)?;
-    let room = room_for(&draft.outs);
+    let draft = prepare(site, &input, shared)?;
+    let room = room_for(draft.plan.outs());
     claim(shared, number, room)?;
-    match write(log, draft.records.as_slice(), draft.body.as_slice()) {
+    match write(log, draft.plan.records(), draft.body.as_slice()) {
         Ok(()) => {
-            let step = step_of(number, input, draft.records, draft.outs, draft.told);
+            let step = step_of(number, input, site.apply(draft.plan));
             count_on(count, &step.act);
             enter(shared, step);
-            site.apply(draft.plan);
             Ok(())
         }
         Err(why) => {
-            let fall = fall_of(number, draft.inputs, draft.fallen, why);
+            let made = draft.plan.into_step();
+            let fall = fall_of(number, draft.inputs, made.records, why);
             count_on(count, &fall.act);
             enter(shared, fall);
             Err(InputFault::Fell { why })

@@ -1,8 +1,9 @@
 // An input of a site that is up, by its worker.
-ghost use Rattle.std.specs.Prelude.{◌≡◌, ◌≤◌, ◌↔◌, true, false, OnOk, Err};
+ghost use Rattle.std.specs.Prelude.{◌≡◌, ◌≢◌, ◌++◌, ◌≤◌, ◌↔◌, [], true, false, ℕ, List as Items, OnOk, IfErr, Err};
 ghost use Rattle.e3_disk.specs.Meters.{Keeps};
 ghost use Rattle.e3_law_local.specs.Drafts.{MayTake};
-ghost use Rattle.e3_node.specs.Bodies.{AllReadBack};
+ghost use Rattle.e3_log.specs.Stands.{Stands};
+ghost use Rattle.e3_node.specs.Bodies.{AllReadBack, Hold, ReadsAfter, bodies_in, body_of};
 ghost use Rattle.e3_node.specs.Counting.{count_of};
 ghost use Rattle.e3_node.specs.Ends.{EndsAt, IsReason, Takes, calls_for};
 ghost use Rattle.e3_node.specs.NodeStands.{IsIn, IsUp};
@@ -11,28 +12,57 @@ ghost use Rattle.e3_node.specs.Turns.{EndsSo, HasTurned, history_seen, scenario_
 ghost use Rattle.e3_node.specs.declared.fault.InputFault.TheVariants as input_fault;
 ghost use Rattle.e3_node.specs.declared.state.State.TheVariants as state;
 ghost use Rattle.e3_turn.specs.Passes.{IsIdle, Owns, seen_by};
-ghost use Rattle.e3_types.specs.declared.entries.Why.{Why};
+ghost use Rattle.e3_types.specs.Spelling.{spelling};
+ghost use Rattle.e3_types.specs.declared.entries.Why.{Why as Whys};
+ghost use Rattle.e3_types.specs.declared.records.Record.{Record as Records};
 ghost use Rattle.e3_wire.specs.Marks.{last_owner, most_of, used_of};
 ghost use Rattle.e3_wire.specs.Wires.{IsPlayed, TakesLeast};
 ghost use Rattle.e3_world.specs.Items.{is_up_at};
 ghost use Rattle.e3_world.specs.Legal.{made_by};
-ghost use Rattle.e3_world.specs.Moves.{log_size, moves_of};
+ghost use Rattle.e3_world.specs.Moves.{Move, log_size, moves_of};
 ghost use Rattle.e3_world.specs.Packets.{is_calm, present_items};
 
 use crate::counting::{Count, count_on};
-use crate::drafts::prepare;
+use crate::drafts::prepare_by_turns;
 use crate::stepping::{fall_of, room_for, step_of};
-use crate::writing::write;
-use crate::{InputFault, State};
+use crate::{InputFault, State, writing};
 use e3_disk::Disk;
 use e3_law_begun::{begun_are_transactions, legal_histories_mention_what_stands};
 use e3_law_trails::records_suit_their_site;
 use e3_log::Log;
 use e3_site::Site;
-use e3_types::Input;
+use e3_types::{Input, Record, Why};
 use e3_wire::{Wire, WirePass};
 use std::alloc::Global;
 use std::sync::Wait;
+
+// The frame of a step, by a worker: it is written outside of the turn, so that the others go on meanwhile.
+fn write<D: Disk>(
+    wire: &Wire,
+    pass: &WirePass,
+    log: &mut Log<D>,
+    records: &[Record],
+    body: &[u8],
+) -> Result<(), Why>
+    requires idle { IsIdle wire.now pass.now }
+    requires spelled { body.now ≡ spelling records.now }
+    requires lit { (D.meters log.old.disk).powered ≡ true }
+    ensures stands { (lists : Items (Items Records)) → Stands D.content D.image (bodies_in lists) log.old →
+        OnOk result (Stands D.content D.image (bodies_in lists ++ body_of records.now) log.new) }
+    ensures images { (lists : Items (Items Records)) → Stands D.content D.image (bodies_in lists) log.old →
+        IfErr result (λ why. (bytes : Items ℕ) → D.image log.new.disk bytes → ReadsAfter lists why records.now bytes) }
+    ensures reason { (moves : Items Move) (lists : Items (Items Records)) → Hold moves lists → Stands D.content D.image (bodies_in lists) log.old →
+        IfErr result (λ why. IsReason why (log_size moves) records.now (D.meters log.old.disk) (D.meters log.new.disk)) }
+    ensures need { IfErr result (EndsAt log.old.end records.now) }
+    ensures some { IfErr result (λ _. records.now ≢ []) }
+    ensures keeps { Keeps (D.meters log.old.disk) (D.meters log.new.disk) }
+    ensures lit { OnOk result ((D.meters log.new.disk).powered ≡ true) }
+    ensures takes { OnOk result (Takes (calls_for records.now) (D.meters log.old.disk) (D.meters log.new.disk)) }
+{
+    let _ = wire;
+    let _ = pass;
+    writing::write(log, records, body)
+}
 
 // A site that is up takes an input: its step is planned, a place is claimed for it, its frame is written outside of the
 // turn, and it is entered; or it falls.
@@ -63,10 +93,10 @@ fn step_by_turns<R: Wait, D: Disk>(
     ensures ended { EndsSo D.content D.image D.meters (scenario_seen pass.old) (history_seen pass.old) (history_seen pass.new) number input
         (state.Up site.old log.old) (state.Up site.new log.new) result }
     ensures never { result ≡ Err input_fault.Down → ⊥ }
-    ensures why { (why : Why) → result ≡ Err (input_fault.Fell why) →
+    ensures why { (why : Whys) → result ≡ Err (input_fault.Fell why) →
         IsReason why (log_size (moves_of (scenario_seen pass.old) (history_seen pass.old) number))
         (made_by (scenario_seen pass.old) (history_seen pass.old) number input).records (D.meters log.old.disk) (D.meters log.new.disk) }
-    ensures need { (why : Why) → result ≡ Err (input_fault.Fell why) →
+    ensures need { (why : Whys) → result ≡ Err (input_fault.Fell why) →
         EndsAt log.old.end (made_by (scenario_seen pass.old) (history_seen pass.old) number input).records why }
     ensures full { result ≡ Err input_fault.HistoryFull → most_of (seen_by pass.new) ≤ used_of (seen_by pass.new) }
     ensures keeps { Keeps (D.meters log.old.disk) (D.meters log.new.disk) }
@@ -76,19 +106,19 @@ fn step_by_turns<R: Wait, D: Disk>(
     legal_histories_mention_what_stands();
     begun_are_transactions();
     records_suit_their_site();
-    let draft = prepare(alloc, site, &input)?;
-    let room = room_for(&draft.outs);
+    let draft = prepare_by_turns(alloc, site, &input, pass)?;
+    let room = room_for(draft.plan.outs());
     wire.claim(rt, pass, number, room)?;
-    match write(log, draft.records.as_slice(), draft.body.as_slice()) {
+    match write(wire, pass, log, draft.plan.records(), draft.body.as_slice()) {
         Ok(()) => {
-            let step = step_of(number, input, draft.records, draft.outs, draft.told);
+            let step = step_of(number, input, site.apply(draft.plan));
             count_on(count, &step.act);
             wire.commit_entry(rt, pass, step);
-            site.apply(draft.plan);
             Ok(())
         }
         Err(why) => {
-            let fall = fall_of(number, draft.inputs, draft.fallen, why);
+            let made = draft.plan.into_step();
+            let fall = fall_of(number, draft.inputs, made.records, why);
             count_on(count, &fall.act);
             wire.commit_entry(rt, pass, fall);
             Err(InputFault::Fell { why })
@@ -123,10 +153,10 @@ pub(crate) fn take_by_turns<R: Wait, D: Disk + Drop>(
     ensures ended { EndsSo D.content D.image D.meters (scenario_seen pass.old) (history_seen pass.old) (history_seen pass.new) number input
         state.old state.new result }
     ensures down { (result ≡ Err input_fault.Down) ↔ (is_up_at (history_seen pass.old) number ≡ false) }
-    ensures why { (why : Why) → result ≡ Err (input_fault.Fell why) →
+    ensures why { (why : Whys) → result ≡ Err (input_fault.Fell why) →
         IsReason why (log_size (moves_of (scenario_seen pass.old) (history_seen pass.old) number))
         (made_by (scenario_seen pass.old) (history_seen pass.old) number input).records (D.meters (disk_of state.old)) (D.meters (disk_of state.new)) }
-    ensures need { (why : Why) → result ≡ Err (input_fault.Fell why) →
+    ensures need { (why : Whys) → result ≡ Err (input_fault.Fell why) →
         EndsAt (end_of state.old) (made_by (scenario_seen pass.old) (history_seen pass.old) number input).records why }
     ensures full { result ≡ Err input_fault.HistoryFull → most_of (seen_by pass.new) ≤ used_of (seen_by pass.new) }
     ensures keeps { Keeps (D.meters (disk_of state.old)) (D.meters (disk_of state.new)) }

@@ -12,7 +12,8 @@ use Rattle.e3_world.specs.Packets.{outs_of}
 use Rattle.e3_wire.specs.Claims.{ClaimedEntriesMayEnter, ClaimedEntriesStay, TakenIsDue}
 use Rattle.e3_wire.specs.declared.marks.Mark.{Mark}
 use Rattle.e3_wire.specs.declared.marks.Mark.TheVariants as mark
-use Rattle.e3_wire.specs.Marks.{Note, entries_of, scenario_of}
+use Rattle.e3_wire.specs.Marks.{entries_of, scenario_of}
+use Rattle.e3_wire.specs.declared.marks.Note.{Note}
 use Rattle.e3_wire.specs.Wires.{TakesInTurn}
 use Rattle.e3_wire.proofs.Foreign.{entries_append, foreign_are_others, foreign_of_sites}
 use Rattle.e3_wire.proofs.Notes.{claim_promises, scenario_stays}

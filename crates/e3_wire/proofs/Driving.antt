@@ -19,13 +19,15 @@ use Rattle.e3_net.proofs.Keeping.{drop_keeps, line_keeps, parts_keep}
 use Rattle.e3_net.proofs.Showing.{pending_are}
 use Rattle.e3_wire.specs.declared.marks.Mark.{Mark}
 use Rattle.e3_wire.specs.declared.marks.Mark.TheVariants as mark
+use Rattle.e3_wire.specs.declared.marks.Note.{Note}
 use Rattle.e3_wire.specs.declared.marks.Stored.{Stored}
 use Rattle.e3_wire.specs.declared.marks.Stored.TheVariants as stored
-use Rattle.e3_wire.specs.Marks.{Note, entries_of, note_by, promised, rooms, used_by, used_of}
+use Rattle.e3_wire.specs.Marks.{entries_of, note_by, promised, rooms, used_by, used_of}
 use Rattle.e3_wire.specs.Stores.{IsKept, count_stored, marks_from}
 use Rattle.e3_wire.specs.Wires.{IsInTurn, WireStands}
 use Rattle.e3_wire.proofs.Entering.{count_entry, marks_entry}
 use Rattle.e3_wire.proofs.Foreign.{entries_append}
+use Rattle.e3_wire.proofs.Noting.{notes_still}
 use Rattle.e3_wire.proofs.Sums.{stands_still}
 
 -- an entry of the driver uses nothing that is promised
@@ -41,19 +43,20 @@ pub own_marks : (sc : Scenario) (most : ℕ) (es : List Entry) (ms : List Stored
 own_marks sc most es ms e whole = ap (λ l. mark.Start sc most ∷ l) (marks_entry es ms e whole)
 
 -- what is shared stands behind one
-pub own_entered : (sc : Scenario) (most : ℕ) (es : List Entry) (ms : List Stored) (net : Traffic) (places room spare hr sr nr : ℕ) (net2 : Traffic) (act : Act) (spare2 hr2 sr2 nr2 : ℕ) →
-    IsKept sc most es ms net places room spare hr sr nr → ((w : Note) → used_by w act ≡ w) →
+pub own_entered : (sc : Scenario) (most : ℕ) (es : List Entry) (ms : List Stored) (net : Traffic) (notes : List Note) (places room spare hr sr nr : ℕ) (net2 : Traffic) (act : Act) (spare2 hr2 sr2 nr2 : ℕ) →
+    IsKept sc most es ms net notes places room spare hr sr nr → ((w : Note) → used_by w act ≡ w) →
     Guard sc (entries_of (marks_from sc most es ms)) (record { owner = 0; act = act }) →
     NetStands sc (entries_of (marks_from sc most es ms) ++ record { owner = 0; act = act } ∷ []) net2 → net2.sent ≡ net.sent →
     used_of (marks_from sc most es ms) < most → places ≤ spare2 → spare2 ≤ hr2 → length ms + (places + 1) ≤ sr2 → room ≤ nr2 →
-    IsKept sc most (es ++ record { owner = 0; act = act } ∷ []) (ms ++ stored.Entered ∷ []) net2 places room spare2 hr2 sr2 nr2
-own_entered sc most es ms net places room spare hr sr nr net2 act spare2 hr2 sr2 nr2 was free guard stands_net count few for_entries spare_is for_marks for_packets = record {
+    IsKept sc most (es ++ record { owner = 0; act = act } ∷ []) (ms ++ stored.Entered ∷ []) net2 notes places room spare2 hr2 sr2 nr2
+own_entered sc most es ms net notes places room spare hr sr nr net2 act spare2 hr2 sr2 nr2 was free guard stands_net count few for_entries spare_is for_marks for_packets = record {
   stands = subst (λ (l : List Mark). WireStands l net2) (sym marks_are) (record {
     played = record { given = was.stands.played.given; legal = subst (IsLegal sc) (sym same) (legal_push sc h e was.stands.played.legal guard); within = within };
     net = subst (λ k. NetStands sc k net2) (sym same) stands_net;
   });
   few = was.few;
   whole = length-append es (e ∷ []) ∙ (let one : length es + 1 ≡ suc (count_stored ms) = (let w = was.whole in omega (arith, w)) in one) ∙ sym (count_entry ms);
+  notes_are = rw marks_are (notes_still last M (mark.Entered e) notes was.notes_are (free_note act free));
   places_are = rw marks_are (was.places_are ∙ sym places_still);
   room_is = rw marks_are (was.room_is ∙ sym room_still);
   for_entries = for_entries;

@@ -1,5 +1,6 @@
 -- One more entry of a site.
-use Rattle.std.proofs.Common.{◌≡◌, ◌==◌, ◌+◌, ◌-◌, ◌^◌, ◌<◌, ◌≤◌, ℕ, suc, false, List, [], ◌∷◌, ◌++◌, length, ◌∙◌, ap, sym, subst, refl, arith, length-append}
+use Rattle.std.proofs.Common.{◌≡◌, ◌==◌, ◌+◌, ◌-◌, ◌^◌, ◌<◌, ◌≤◌, ℕ, suc, false, List, [], ◌∷◌, ◌++◌, length, set, ◌∙◌, ap, sym, subst, refl, arith, length-append}
+use Rattle.std.specs.Prelude.{slice_index_or}
 use Rattle.e3_types.specs.declared.entries.Act.{Act}
 use Rattle.e3_types.specs.declared.entries.Act.TheVariants.{Step, Fall, Rise, RiseFall, Miss, Cut, Drop, Parts, Line}
 use Rattle.e3_types.specs.declared.entries.Entry.{Entry}
@@ -17,12 +18,14 @@ use Rattle.e3_net.specs.Stands.{NetStands, behind_inputs}
 use Rattle.e3_net.specs.Traffic.{Traffic, sends, sends_all}
 use Rattle.e3_wire.specs.declared.marks.Mark.{Mark}
 use Rattle.e3_wire.specs.declared.marks.Mark.TheVariants as mark
+use Rattle.e3_wire.specs.declared.marks.Note.{Note}
 use Rattle.e3_wire.specs.declared.marks.Stored.{Stored}
 use Rattle.e3_wire.specs.declared.marks.Stored.TheVariants as stored
-use Rattle.e3_wire.specs.Marks.{Note, entries_of, note_by, note_of, promised, rooms, used_by}
-use Rattle.e3_wire.specs.Stores.{IsKept, count_stored, marks_from, marks_of}
+use Rattle.e3_wire.specs.Marks.{entries_of, note_by, note_of, nothing, promised, rooms, used_by}
+use Rattle.e3_wire.specs.Stores.{AreNotes, IsKept, count_stored, marks_from, marks_of}
 use Rattle.e3_wire.specs.Wires.{MayEnterBehind, WireStands, act_on}
 use Rattle.e3_wire.proofs.Foreign.{entries_append}
+use Rattle.e3_wire.proofs.Noting.{noted, notes_push}
 use Rattle.e3_wire.proofs.Sums.{changes, itself, one_of_all}
 use Rattle.e3_wire.proofs.Takes.{net_on, used}
 
@@ -51,9 +54,9 @@ sent_all : (net : Traffic) (outs : List Packet) → (sends_all net outs).sent �
 sent_all net [] = omega arith
 sent_all net (p ∷ ps) = let rest = sent_all (sends net p.«from» p.to p.msg) ps in rest ∙ (let plain : suc net.sent + length ps ≡ net.sent + suc (length ps) = omega arith in plain)
 
--- the room that an entry uses
+-- the room that an entry uses at least
 outs_on : (h : List Entry) (o : ℕ) (act : Act) (w : Note) → length (outs_of act) ≤ w.room →
-    (used_by w (numbered_on h (record { owner = o; act = act })).act).room + length (outs_of act) ≡ w.room
+    (used_by w (numbered_on h (record { owner = o; act = act })).act).room + length (outs_of act) ≤ w.room
 outs_on h o (Step i records outs events) w few = let same = numbered_long (suc (length (sent h))) outs in omega (arith, few, same)
 outs_on h o (Fall inputs records why) w few = omega arith
 outs_on h o (Rise kept inc) w few = omega arith
@@ -79,20 +82,27 @@ on_is h o (Line number) n is = refl
 sent_taken : (net : Traffic) (inputs : List Input) → (behind_inputs net inputs).sent ≡ net.sent
 sent_taken net inputs = ap (λ (t : Traffic). t.sent) (behind_all_rest net inputs)
 
+-- how much it uses of a note
+abbrev pub used_places : Note → Act → ℕ
+used_places w act = w.places - (used_by w act).places
+
+abbrev pub used_room : Note → Act → ℕ
+used_room w act = w.room - (used_by w act).room
+
 -- what an entry of a site does to the sums
 pub record Uses (marks : List Mark) (last : ℕ) (e y : Entry) : Type 0 where
-  pub place : 1 ≤ promised last marks
-  pub places : suc (promised last (marks ++ mark.Entered y ∷ [])) ≡ promised last marks
-  pub outs : length (outs_of e.act) ≤ rooms last marks
-  pub room : rooms last (marks ++ mark.Entered y ∷ []) + length (outs_of e.act) ≡ rooms last marks
+  pub place : used_places (note_of e.owner marks) y.act ≡ 1
+  pub places : promised last (marks ++ mark.Entered y ∷ []) + 1 ≡ promised last marks
+  pub outs : length (outs_of e.act) ≤ used_room (note_of e.owner marks) y.act
+  pub room : rooms last (marks ++ mark.Entered y ∷ []) + used_room (note_of e.owner marks) y.act ≡ rooms last marks
 
 uses : (sc : Scenario) (most : ℕ) (rest : List Mark) (e : Entry) → MayEnterBehind (mark.Start sc most ∷ rest) e →
     Uses (mark.Start sc most ∷ rest) (length sc.weights) e (numbered_on (entries_of (mark.Start sc most ∷ rest)) e)
 uses sc most rest e may = record {
-  place = (let p = may.place in omega (arith, p, own_place));
+  place = omega (arith, places_less);
   places = (let p = may.place in omega (arith, moved_places, places_less, p, own_place));
-  outs = (let r = may.room in omega (arith, r, own_room));
-  room = (let r = may.room in omega (arith, moved_room, room_less, r, own_room));
+  outs = omega (arith, room_less);
+  room = omega (arith, moved_room, room_less, own_room);
 }
   where
     M : List Mark
@@ -125,7 +135,7 @@ uses sc most rest e may = record {
     moved_room : rooms last (M ++ mark.Entered y ∷ []) + (note_of e.owner M).room ≡ rooms last M + (used_by (note_of e.owner M) y.act).room
     moved_room = changes (λ w. w.room) M (mark.Entered y) e.owner last may.exists apart_stays ∙ ap (λ w. rooms last M + w.room) after
 
-    room_less : (used_by (note_of e.owner M) y.act).room + length (outs_of e.act) ≡ (note_of e.owner M).room
+    room_less : (used_by (note_of e.owner M) y.act).room + length (outs_of e.act) ≤ (note_of e.owner M).room
     room_less = outs_on (entries_of M) e.owner e.act (note_of e.owner M) may.room
 
 -- what is shared stands behind it
@@ -159,43 +169,55 @@ entry_keeps sc most rest net e was may = record {
         let less = (uses sc most rest e may).places in
         omega (arith, less, long, was_within)
 
+-- the act as it is entered
+abbrev pub act_in : Traffic → Entry → Act
+act_in net e = act_on (suc net.sent) e.act
+
+-- what is noted of its owner
+abbrev pub note_in : List Note → Entry → Note
+note_in notes e = slice_index_or notes e.owner nothing
+
 -- what is known before the entry is made, and what holds behind it
-pub record Entered (sc : Scenario) (most : ℕ) (es : List Entry) (ms : List Stored) (net : Traffic) (places room spare hr sr nr : ℕ) (e : Entry) : Type 0 where
+pub record Entered (sc : Scenario) (most : ℕ) (es : List Entry) (ms : List Stored) (net : Traffic) (notes : List Note) (places room spare hr sr nr : ℕ) (e : Entry) : Type 0 where
   pub counts : net.sent + length (outs_of e.act) < 2 ^ 64
   pub packets : length (outs_of e.act) ≤ nr
   pub entry : 1 ≤ hr
   pub known : 1 ≤ spare
   pub mark_room : length ms < sr
-  pub place : 1 ≤ places
-  pub outs : length (outs_of e.act) ≤ room
-  pub marks : marks_from sc most (es ++ record { owner = e.owner; act = act_on (suc net.sent) e.act } ∷ []) (ms ++ stored.Entered ∷ [])
+  pub note : e.owner < length notes
+  pub place : used_places (note_in notes e) (act_in net e) ≤ places
+  pub outs : used_room (note_in notes e) (act_in net e) ≤ room
+  pub marks : marks_from sc most (es ++ record { owner = e.owner; act = act_in net e } ∷ []) (ms ++ stored.Entered ∷ [])
       ≡ marks_from sc most es ms ++ mark.Entered (numbered_on (entries_of (marks_from sc most es ms)) e) ∷ []
   pub kept : (hr2 nr2 : ℕ) → spare - 1 ≤ hr2 → nr ≤ nr2 + length (outs_of e.act) →
-      IsKept sc most (es ++ record { owner = e.owner; act = act_on (suc net.sent) e.act } ∷ []) (ms ++ stored.Entered ∷ [])
-      (sends_all (behind_inputs net (inputs_of e.act)) (outs_of e.act)) (places - 1) (room - length (outs_of e.act)) (spare - 1) hr2 sr nr2
+      IsKept sc most (es ++ record { owner = e.owner; act = act_in net e } ∷ []) (ms ++ stored.Entered ∷ [])
+      (sends_all (behind_inputs net (inputs_of e.act)) (outs_of e.act)) (set notes e.owner (used_by (note_in notes e) (act_in net e)))
+      (places - used_places (note_in notes e) (act_in net e)) (room - used_room (note_in notes e) (act_in net e)) (spare - 1) hr2 sr nr2
 
-pub entered : (sc : Scenario) (most : ℕ) (es : List Entry) (ms : List Stored) (net : Traffic) (places room spare hr sr nr : ℕ) (e : Entry) → IsKept sc most es ms net places room spare hr sr nr →
-    MayEnterBehind (marks_from sc most es ms) e → Entered sc most es ms net places room spare hr sr nr e
-entered sc most es ms net places room spare hr sr nr e was may = record {
-  counts = omega (arith, some_room, was.room_is, was.counted);
-  packets = omega (arith, some_room, was.room_is, was.for_packets);
-  entry = omega (arith, some_place, was.places_are, was.for_entries, was.spare_is);
-  known = omega (arith, some_place, was.places_are, was.for_entries);
-  mark_room = omega (arith, some_place, was.places_are, was.for_marks);
-  place = omega (arith, some_place, was.places_are);
-  outs = omega (arith, some_room, was.room_is);
+pub entered : (sc : Scenario) (most : ℕ) (es : List Entry) (ms : List Stored) (net : Traffic) (notes : List Note) (places room spare hr sr nr : ℕ) (e : Entry) →
+    IsKept sc most es ms net notes places room spare hr sr nr → MayEnterBehind (marks_from sc most es ms) e → Entered sc most es ms net notes places room spare hr sr nr e
+entered sc most es ms net notes places room spare hr sr nr e was may = record {
+  counts = omega (arith, some_room, less_room, was.room_is, was.counted);
+  packets = omega (arith, some_room, less_room, was.room_is, was.for_packets);
+  entry = omega (arith, less_places, was.places_are, was.for_entries, was.spare_is);
+  known = omega (arith, less_places, was.places_are, was.for_entries);
+  mark_room = omega (arith, less_places, was.places_are, was.for_marks);
+  note = noted last e.owner M notes may.exists was.notes_are;
+  place = omega (arith, one_place, less_places, was.places_are);
+  outs = omega (arith, less_room, was.room_is);
   marks = marks_are;
   kept = λ hr2 nr2 left packets. record {
     stands = stands;
     few = was.few;
     whole = length-append es (x ∷ []) ∙ (let one : length es + 1 ≡ suc (count_stored ms) = (let w = was.whole in omega (arith, w)) in one) ∙ sym (count_entry ms);
-    places_are = rw marks_are (let f = was.places_are in omega (arith, places_less, f));
-    room_is = rw marks_are (let f = was.room_is in omega (arith, room_less, f));
-    for_entries = (let f = was.for_entries in let g = was.places_are in omega (arith, f, g, some_place));
+    notes_are = rw marks_are all_noted;
+    places_are = rw marks_are (let f = was.places_are in omega (arith, one_place, less_places, f));
+    room_is = rw marks_are (let f = was.room_is in omega (arith, less_room, f));
+    for_entries = (let f = was.for_entries in let g = was.places_are in omega (arith, f, g, one_place, less_places));
     spare_is = left;
-    for_marks = (let f = was.for_marks in let g = was.places_are in let long = length-append ms (stored.Entered ∷ []) in omega (arith, f, g, long, some_place));
-    for_packets = (let f = was.for_packets in omega (arith, f, packets));
-    counted = (let f = was.counted in let g = was.room_is in let more = sent_all (behind_inputs net (inputs_of e.act)) (outs_of e.act) in let same = sent_taken net (inputs_of e.act) in omega (arith, f, g, more, same, some_room));
+    for_marks = (let f = was.for_marks in let g = was.places_are in let long = length-append ms (stored.Entered ∷ []) in omega (arith, f, g, long, one_place, less_places));
+    for_packets = (let f = was.for_packets in let g = was.room_is in omega (arith, f, g, packets, some_room, less_room));
+    counted = (let f = was.counted in let g = was.room_is in let more = sent_all (behind_inputs net (inputs_of e.act)) (outs_of e.act) in let same = sent_taken net (inputs_of e.act) in omega (arith, f, g, more, same, some_room, less_room));
   };
 }
   where
@@ -220,17 +242,35 @@ entered sc most es ms net places room spare hr sr nr e was may = record {
     does : Uses M last e y
     does = uses sc most (marks_of es ms) e may
 
-    some_place : 1 ≤ promised last M
-    some_place = does.place
+    -- what is noted, and used of it
+    note_is : note_in notes e ≡ note_of e.owner M
+    note_is = was.notes_are.each e.owner may.exists
 
-    places_less : suc (promised last (M ++ mark.Entered y ∷ [])) ≡ promised last M
-    places_less = does.places
+    same_places : used_places (note_in notes e) x.act ≡ used_places (note_of e.owner M) y.act
+    same_places = ap (λ (w : Note). used_places w x.act) note_is ∙ ap (λ (z : Entry). used_places (note_of e.owner M) z.act) x_is
 
-    some_room : length (outs_of e.act) ≤ rooms last M
-    some_room = does.outs
+    same_room : used_room (note_in notes e) x.act ≡ used_room (note_of e.owner M) y.act
+    same_room = ap (λ (w : Note). used_room w x.act) note_is ∙ ap (λ (z : Entry). used_room (note_of e.owner M) z.act) x_is
 
-    room_less : rooms last (M ++ mark.Entered y ∷ []) + length (outs_of e.act) ≡ rooms last M
-    room_less = does.room
+    one_place : used_places (note_in notes e) x.act ≡ 1
+    one_place = same_places ∙ does.place
+
+    less_places : promised last (M ++ mark.Entered y ∷ []) + 1 ≡ promised last M
+    less_places = does.places
+
+    some_room : length (outs_of e.act) ≤ used_room (note_in notes e) x.act
+    some_room = let o = does.outs in omega (arith, o, same_room)
+
+    less_room : rooms last (M ++ mark.Entered y ∷ []) + used_room (note_in notes e) x.act ≡ rooms last M
+    less_room = let r = does.room in omega (arith, r, same_room)
+
+    all_noted : AreNotes last (M ++ mark.Entered y ∷ []) (set notes e.owner (used_by (note_in notes e) x.act))
+    all_noted =
+        notes_push last e.owner M (mark.Entered y) notes (used_by (note_in notes e) x.act) may.exists was.notes_are
+        (ap (λ (z : Entry). used_by (note_in notes e) z.act) x_is ∙ here (note_in notes e)) (λ u v apart. rw apart refl)
+      where
+        here : (w : Note) → used_by w y.act ≡ note_by e.owner w (mark.Entered y)
+        here w = rw (itself e.owner) refl
 
     stands : WireStands (marks_from sc most (es ++ x ∷ []) (ms ++ stored.Entered ∷ [])) (sends_all (behind_inputs net (inputs_of e.act)) (outs_of e.act))
     stands =

@@ -12,7 +12,8 @@ use Rattle.e3_law_local.specs.Least.{AreOfSites}
 use Rattle.e3_law_local.proofs.Laws.{legal_behind}
 use Rattle.e3_wire.specs.declared.marks.Mark.{Mark}
 use Rattle.e3_wire.specs.declared.marks.Mark.TheVariants as mark
-use Rattle.e3_wire.specs.Marks.{AreForeign, Note, belongs, entries_of, note_by, note_of, nothing}
+use Rattle.e3_wire.specs.Marks.{AreForeign, belongs, entries_of, note_by, note_of, nothing}
+use Rattle.e3_wire.specs.declared.marks.Note.{Note}
 
 neither : (a b : Bool) → (a || b) ≡ false → (a ≡ false) × (b ≡ false)
 neither true b is = absurd cc

@@ -1,4 +1,5 @@
 pub mod Sums
+pub mod Noting
 pub mod Foreign
 pub mod Takes
 pub mod Entering

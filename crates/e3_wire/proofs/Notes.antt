@@ -1,15 +1,13 @@
 -- What one more mark says.
-use Rattle.std.proofs.Common.{◌≡◌, ◌≤◌, ℕ, zero, suc, List, [], ◌∷◌, ◌++◌, ◌∙◌, refl, arith}
-use Rattle.std.proofs.lemmas.Grind.{fold-append}
+use Rattle.std.proofs.Common.{◌≡◌, ◌≤◌, ℕ, zero, suc, List, [], ◌∷◌, ◌++◌, ◌∙◌, ap, refl, arith}
 use Rattle.e3_wire.specs.Claims.{ClaimPromises, EntriesFollow, EntryUses, NothingPromised, ScenarioStays}
 use Rattle.e3_wire.specs.declared.marks.Mark.{Mark}
 use Rattle.e3_wire.specs.declared.marks.Mark.TheVariants as mark
-use Rattle.e3_wire.specs.Marks.{last_owner, note_by, note_of, nothing, promised, total}
+use Rattle.e3_wire.specs.declared.marks.Note.{Note}
+use Rattle.e3_wire.specs.Marks.{last_owner, note_of, promised, total}
 use Rattle.e3_wire.proofs.Foreign.{entries_append}
+use Rattle.e3_wire.proofs.Noting.{note_push}
 use Rattle.e3_wire.proofs.Sums.{itself}
-
-note_push : (o : ℕ) (marks : List Mark) (m : Mark) → note_of o (marks ++ m ∷ []) ≡ note_by o (note_of o marks) m
-note_push o marks m = fold-append (note_by o) nothing marks (m ∷ [])
 
 pub entries_follow : EntriesFollow
 entries_follow seen since = entries_append seen since
@@ -35,5 +33,5 @@ all_none f (suc n) none =
 
 pub nothing_promised : NothingPromised
 nothing_promised marks none =
-    let places : promised (last_owner marks) marks ≡ 0 = all_none (λ o. (note_of o marks).places) (last_owner marks) none in
+    let places : promised (last_owner marks) marks ≡ 0 = all_none (λ o. (note_of o marks).places) (last_owner marks) (λ o low. ap (λ (w : Note). w.places) (none o low)) in
     omega (arith, places)

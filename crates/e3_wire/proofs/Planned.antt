@@ -14,7 +14,8 @@ use Rattle.e3_world.specs.Packets.{is_calm, lines, outs_of, step_items}
 use Rattle.e3_wire.specs.Claims.{ClaimedDraftsMayEnter}
 use Rattle.e3_wire.specs.declared.marks.Mark.{Mark}
 use Rattle.e3_wire.specs.declared.marks.Mark.TheVariants as mark
-use Rattle.e3_wire.specs.Marks.{Note, entries_of, note_of}
+use Rattle.e3_wire.specs.Marks.{entries_of, note_of}
+use Rattle.e3_wire.specs.declared.marks.Note.{Note}
 use Rattle.e3_wire.specs.Wires.{TakesInTurn}
 use Rattle.e3_wire.proofs.Foreign.{entries_append, foreign_are_others, foreign_of_sites}
 use Rattle.e3_wire.proofs.Notes.{claim_promises}

@@ -22,7 +22,7 @@ pub no_more : (last : ℕ) (owners : List ℕ) (seen chronicle now : List Mark) 
 no_more last owners seen chronicle now same is = ([], is ∙ sym same ∙ sym (append-nil seen), All-nil (IsOwn belongs last owners))
 
 -- an entry of a site
-own_entry : (last : ℕ) (owners : List ℕ) (e : Entry) → 1 ≤ e.owner → 0 < count_of e.owner owners → IsOwn belongs last owners (mark.Entered e)
+pub own_entry : (last : ℕ) (owners : List ℕ) (e : Entry) → 1 ≤ e.owner → 0 < count_of e.owner owners → IsOwn belongs last owners (mark.Entered e)
 own_entry last owners e some has = ((e.owner, has, here), λ o low b. there o b)
   where
     none : (e.owner == 0) ≡ false
@@ -42,7 +42,7 @@ pub grew_entry : (last : ℕ) (owners : List ℕ) (seen chronicle now : List Mar
 grew_entry last owners seen chronicle now e some has same is =
     one_more last owners seen chronicle now (mark.Entered (numbered_on (entries_of chronicle) e)) (own_entry last owners (numbered_on (entries_of chronicle) e) some has) same is
 
-own_place : (last : ℕ) (owners : List ℕ) (o outs : ℕ) → 0 < count_of o owners → IsOwn belongs last owners (mark.Place o outs)
+pub own_place : (last : ℕ) (owners : List ℕ) (o outs : ℕ) → 0 < count_of o owners → IsOwn belongs last owners (mark.Place o outs)
 own_place last owners o outs has =
     ((o, has, eq-eqb o o refl), λ p low b. (let P : ℕ → Type 0 = λ k. 0 < count_of k owners in subst P (eqb-true o p b) has))
 

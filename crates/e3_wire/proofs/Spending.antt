@@ -1,7 +1,6 @@
 -- What is used, and how a claim is used up.
-use Rattle.std.proofs.Common.{◌≡◌, ◌==◌, ◌+◌, ◌≤◌, ℕ, zero, suc, Bool, true, false, List, [], ◌∷◌, ◌++◌, append-nil, append_assoc, length, ◌∙◌, ap, sym, subst, refl, arith, length-append, eqb-true, eq-eqb}
+use Rattle.std.proofs.Common.{◌≡◌, ◌==◌, ◌+◌, ◌-◌, ◌≤◌, ℕ, zero, suc, Bool, true, false, List, [], ◌∷◌, ◌++◌, append-nil, append_assoc, length, ◌∙◌, ap, sym, subst, refl, arith, length-append, eqb-true, eq-eqb}
 use Rattle.std.specs.Prelude.{All, if◌then◌else◌}
-use Rattle.std.proofs.lemmas.Grind.{fold-append}
 use Rattle.std.proofs.lemmas.List.Elements.{All-append}
 use Rattle.e3_types.specs.declared.entries.Act.{Act}
 use Rattle.e3_types.specs.declared.entries.Act.TheVariants.{Step, Fall, Rise, RiseFall, Miss, Cut, Drop, Parts, Line}
@@ -9,19 +8,18 @@ use Rattle.e3_types.specs.declared.entries.Entry.{Entry}
 use Rattle.e3_types.specs.declared.scenarios.Scenario.{Scenario}
 use Rattle.e3_law_local.specs.Others.{numbered_on}
 use Rattle.e3_world.specs.Legal.{IsLegal}
+use Rattle.e3_world.specs.Packets.{sent}
 use Rattle.e3_world.proofs.Pushes.{legal_front}
 use Rattle.e3_wire.specs.Claims.{ClaimsAreUsed, EntriesPromiseNothing, FrontsArePlayed, GrowthAddsUp, HasOwner, UsedGrows}
 use Rattle.e3_wire.specs.declared.marks.Mark.{Mark}
 use Rattle.e3_wire.specs.declared.marks.Mark.TheVariants as mark
-use Rattle.e3_wire.specs.Marks.{Note, NothingIsPromised, entries_of, last_owner, note_by, note_of, nothing, promised, total, used_by, used_of}
-use Rattle.e3_wire.specs.Wires.{MayEnterBehind}
+use Rattle.e3_wire.specs.Marks.{NothingIsPromised, entries_of, last_owner, note_by, note_of, nothing, promised, total, used_by, used_of}
+use Rattle.e3_wire.specs.declared.marks.Note.{Note}
 use Rattle.e3_wire.proofs.Foreign.{entries_append}
 use Rattle.e3_wire.proofs.Notes.{scenario_stays}
+use Rattle.e3_wire.proofs.Noting.{note_push}
 use Rattle.e3_wire.proofs.Sums.{itself, same_total}
-use Rattle.e3_wire.proofs.Takes.{used}
-
-note_push : (o : ℕ) (marks : List Mark) (m : Mark) → note_of o (marks ++ m ∷ []) ≡ note_by o (note_of o marks) m
-note_push o marks m = fold-append (note_by o) nothing marks (m ∷ [])
+use Rattle.e3_net.proofs.Pushing.{numbered_length}
 
 -- an act uses one place at most
 used_least : (w : Note) (act : Act) → w.places ≤ suc ((used_by w act).places)
@@ -35,17 +33,31 @@ used_least w (Drop packet) = omega arith
 used_least w (Parts parts) = omega arith
 used_least w (Line number) = omega arith
 
--- and adds none
-used_most : (w : Note) (act : Act) → (used_by w act).places ≤ w.places
-used_most w (Step i records outs events) = omega arith
-used_most w (Fall inputs records why) = omega arith
-used_most w (Rise kept inc) = omega arith
-used_most w (RiseFall kept inc why) = omega arith
-used_most w Miss = omega arith
-used_most w Cut = omega arith
-used_most w (Drop packet) = omega arith
-used_most w (Parts parts) = omega arith
-used_most w (Line number) = omega arith
+-- what promises nothing does so behind an act
+used_none : (act : Act) → used_by nothing act ≡ nothing
+used_none (Step i records outs events) =
+    let less : 0 - length outs ≡ 0 = omega arith in ap (λ (n : ℕ). let w : Note = record { places = 0; room = n } in w) less
+used_none (Fall inputs records why) = refl
+used_none (Rise kept inc) = refl
+used_none (RiseFall kept inc why) = refl
+used_none Miss = refl
+used_none Cut = refl
+used_none (Drop packet) = refl
+used_none (Parts parts) = refl
+used_none (Line number) = refl
+
+-- the numbers of its packets change nothing of what an act uses
+pub used_numbered : (h : List Entry) (o : ℕ) (act : Act) (w : Note) → used_by w (numbered_on h (record { owner = o; act = act })).act ≡ used_by w act
+used_numbered h o (Step i records outs events) w =
+    ap (λ (n : ℕ). let x : Note = record { places = w.places - 1; room = w.room - n } in x) (numbered_length (suc (length (sent h))) outs)
+used_numbered h o (Fall inputs records why) w = refl
+used_numbered h o (Rise kept inc) w = refl
+used_numbered h o (RiseFall kept inc why) w = refl
+used_numbered h o Miss w = refl
+used_numbered h o Cut w = refl
+used_numbered h o (Drop packet) w = refl
+used_numbered h o (Parts parts) w = refl
+used_numbered h o (Line number) w = refl
 
 grown_total : (f g : ℕ → ℕ) (n : ℕ) → ((u : ℕ) → f u ≤ g u) → total f n ≤ total g n
 grown_total f g zero more = more 0
@@ -162,55 +174,40 @@ used_grows (mark.Place o outs ∷ seen) since played = absurd (let some = played
 pub entries_promise_nothing : EntriesPromiseNothing
 entries_promise_nothing marks e played none = λ o low.
     let few : o ≤ last_owner marks = (let P : Scenario → Type 0 = λ sc. o ≤ length sc.weights in subst P (scenario_stays marks (mark.Entered e ∷ []) played).0 low) in
-    let P : Note → Type 0 = λ w. w.places ≡ 0 in
-    subst P (sym (note_push o marks (mark.Entered e))) (by (note_of o marks) (none o few) (e.owner == o))
+    note_push o marks (mark.Entered e) ∙ by (note_of o marks) (none o few) (e.owner == o)
   where
-    by : (w : Note) → w.places ≡ 0 → (b : Bool) → (if b then used_by w e.act else w).places ≡ 0
-    by w is true = let most : (used_by w e.act).places ≤ w.places = used_most w e.act in let zero_now : (used_by w e.act).places ≡ 0 = omega (arith, most, is) in zero_now
+    by : (w : Note) → w ≡ nothing → (b : Bool) → (if b then used_by w e.act else w) ≡ nothing
+    by w is true = ap (λ (v : Note). used_by v e.act) is ∙ used_none e.act
     by w is false = is
+
+-- the owners stay those of the first mark
+last_is : (marks : List Mark) (o n : ℕ) (y : Entry) → last_owner ((marks ++ mark.Place o n ∷ []) ++ mark.Entered y ∷ []) ≡ last_owner marks
+last_is [] o n y = refl
+last_is (mark.Start sc most ∷ rest) o n y = refl
+last_is (mark.Entered x ∷ rest) o n y = refl
+last_is (mark.Place p k ∷ rest) o n y = refl
 
 -- a claim and its entry leave nothing promised
-left : (marks : List Mark) (outs : ℕ) (e y : Entry) → NothingIsPromised marks → y.owner ≡ e.owner →
-    ((w : Note) → 1 ≤ w.places → suc ((used_by w y.act).places) ≡ w.places) →
-    (o : ℕ) → o ≤ last_owner marks → (note_of o ((marks ++ mark.Place e.owner outs ∷ []) ++ mark.Entered y ∷ [])).places ≡ 0
-left marks outs e y none same uses o low =
-    let P : Note → Type 0 = λ w. w.places ≡ 0 in
-    subst P (sym (note_push o (marks ++ mark.Place e.owner outs ∷ []) (mark.Entered y) ∙ ap (λ (w : Note). note_by o w (mark.Entered y)) (note_push o marks (mark.Place e.owner outs))))
-    (rw same (by (note_of o marks) (none o low) (e.owner == o)))
-  where
-    by : (w : Note) → w.places ≡ 0 → (b : Bool) →
-        (if b then used_by (if b then (record { places = suc w.places; room = w.room + outs }) else w) y.act else (if b then (record { places = suc w.places; room = w.room + outs }) else w)).places ≡ 0
-    by w is true =
-        let v : Note = record { places = suc w.places; room = w.room + outs } in
-        let some : 1 ≤ suc w.places = omega arith in
-        let one : suc ((used_by v y.act).places) ≡ suc w.places = uses v some in
-        let zero_now : (used_by v y.act).places ≡ 0 = omega (arith, one, is) in
-        zero_now
-    by w is false = is
-
 pub claims_are_used : ClaimsAreUsed
-claims_are_used [] claimed outs e is none may = absurd (
-    let exists : e.owner ≤ 0 = (let P : List Mark → Type 0 = λ l. e.owner ≤ last_owner l in subst P is may.exists) in
-    let site : 1 ≤ e.owner = may.site in
-    omega (arith, exists, site))
-claims_are_used (mark.Entered x ∷ rest) claimed outs e is none may = absurd (
-    let exists : e.owner ≤ 0 = (let P : List Mark → Type 0 = λ l. e.owner ≤ last_owner l in subst P is may.exists) in
-    let site : 1 ≤ e.owner = may.site in
-    omega (arith, exists, site))
-claims_are_used (mark.Place p n ∷ rest) claimed outs e is none may = absurd (
-    let exists : e.owner ≤ 0 = (let P : List Mark → Type 0 = λ l. e.owner ≤ last_owner l in subst P is may.exists) in
-    let site : 1 ≤ e.owner = may.site in
-    omega (arith, exists, site))
-claims_are_used (mark.Start sc most ∷ rest) claimed outs e is none may =
-    let M : List Mark = mark.Start sc most ∷ rest in
-    let P : List Mark → Type 0 = λ l. NothingIsPromised (l ++ mark.Entered (numbered_on (entries_of claimed) e) ∷ []) in
-    let Q : List Mark → Type 0 = λ l. MayEnterBehind l e in
-    let there : MayEnterBehind (M ++ mark.Place e.owner outs ∷ []) e = subst Q is may in
-    let y : Entry = numbered_on (entries_of claimed) e in
-    let R : List Mark → Type 0 = λ l. (w : Note) → 1 ≤ w.places → suc ((used_by w (numbered_on (entries_of l) e).act).places) ≡ w.places in
-    let uses : (w : Note) → 1 ≤ w.places → suc ((used_by w y.act).places) ≡ w.places =
-    subst R (sym is) (λ w some. used sc (entries_of (M ++ mark.Place e.owner outs ∷ [])) e.owner e.act w there.site there.allowed some) in
-    subst P (sym is) (λ o low. left M outs e y none refl uses o low)
+claims_are_used marks claimed outs e is none all = λ o low.
+    note_push o claimed (mark.Entered y)
+    ∙ by o (none o (let same = last_same in omega (arith, same, low))) (e.owner == o) refl
+  where
+    y : Entry
+    y = numbered_on (entries_of claimed) e
+
+    last_same : last_owner (claimed ++ mark.Entered y ∷ []) ≡ last_owner marks
+    last_same = ap (λ (l : List Mark). last_owner (l ++ mark.Entered y ∷ [])) is ∙ last_is marks e.owner outs y
+
+    by : (o : ℕ) → note_of o marks ≡ nothing → (b : Bool) → (e.owner == o) ≡ b → note_by o (note_of o claimed) (mark.Entered y) ≡ nothing
+    by o was true at =
+        let same : e.owner ≡ o = eqb-true e.owner o at in
+        let uses : note_by o (note_of o claimed) (mark.Entered y) ≡ used_by (note_of o claimed) y.act = rw at refl in
+        uses ∙ ap (λ (k : ℕ). used_by (note_of k claimed) y.act) (sym same) ∙ used_numbered (entries_of claimed) e.owner e.act (note_of e.owner claimed) ∙ all
+    by o was false at =
+        let keeps : note_by o (note_of o claimed) (mark.Entered y) ≡ note_of o claimed = rw at refl in
+        let before : note_by o (note_of o marks) (mark.Place e.owner outs) ≡ note_of o marks = rw at refl in
+        keeps ∙ ap (λ (l : List Mark). note_of o l) is ∙ note_push o marks (mark.Place e.owner outs) ∙ before ∙ was
 
 -- what is a beginning of marks that are played is played
 pub fronts_are_played : FrontsArePlayed

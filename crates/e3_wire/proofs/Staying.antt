@@ -12,7 +12,8 @@ use Rattle.e3_world.specs.Packets.{is_calm, outs_of, present_items}
 use Rattle.e3_wire.specs.Claims.{AreOthersMarks, LeaveASite}
 use Rattle.e3_wire.specs.declared.marks.Mark.{Mark}
 use Rattle.e3_wire.specs.declared.marks.Mark.TheVariants as mark
-use Rattle.e3_wire.specs.Marks.{AreForeign, Note, belongs, entries_of, note_of, scenario_of}
+use Rattle.e3_wire.specs.Marks.{AreForeign, belongs, entries_of, note_of, scenario_of}
+use Rattle.e3_wire.specs.declared.marks.Note.{Note}
 use Rattle.e3_wire.specs.Wires.{IsPlayed, MayEnterBehind, TakesInTurn}
 use Rattle.e3_wire.proofs.Foreign.{entries_append, foreign_are_others, foreign_of_sites, notes_stay}
 use Rattle.e3_wire.proofs.Takes.{all_wait, turn_on}

@@ -3,7 +3,8 @@ use Rattle.std.proofs.Common.{◌≡◌, ◌≢◌, ◌==◌, ◌+◌, ◌≤◌
 use Rattle.std.proofs.lemmas.Bool.{ne_eqb}
 use Rattle.std.proofs.lemmas.Grind.{fold-append}
 use Rattle.e3_wire.specs.declared.marks.Mark.{Mark}
-use Rattle.e3_wire.specs.Marks.{Note, note_by, note_of, nothing, total}
+use Rattle.e3_wire.specs.Marks.{note_by, note_of, nothing, total}
+use Rattle.e3_wire.specs.declared.marks.Note.{Note}
 
 pub same_total : (f g : ℕ → ℕ) (n : ℕ) → ((u : ℕ) → u ≤ n → g u ≡ f u) → total g n ≡ total f n
 same_total f g zero same = same 0 (omega arith)

@@ -18,7 +18,8 @@ use Rattle.e3_law_local.proofs.Queues.{first_are_next, first_are_waiting, queue_
 use Rattle.e3_net.specs.Stands.{AreNext, IsNext, NetStands, behind_inputs}
 use Rattle.e3_net.specs.Traffic.{Traffic, packet_to, queue_in, sends_all}
 use Rattle.e3_net.proofs.Keeping.{fall_keeps, quiet_keeps, stands_waits, step_keeps}
-use Rattle.e3_wire.specs.Marks.{Note, used_by}
+use Rattle.e3_wire.specs.Marks.{used_by}
+use Rattle.e3_wire.specs.declared.marks.Note.{Note}
 use Rattle.e3_wire.specs.Wires.{TakesLeast, TakesInTurn}
 
 -- the least packet is the next of the network, and pending

@@ -1,5 +1,6 @@
 -- A promise that is taken back.
-use Rattle.std.proofs.Common.{◌≡◌, ◌+◌, ◌-◌, ◌≤◌, ℕ, suc, List, [], ◌∷◌, ◌++◌, append-nil, length, take, ◌∙◌, ap, sym, subst, refl, arith, length-append}
+use Rattle.std.proofs.Common.{◌≡◌, ◌+◌, ◌-◌, ◌<◌, ◌≤◌, ℕ, suc, List, [], ◌∷◌, ◌++◌, append-nil, length, set, take, ◌∙◌, ap, sym, subst, refl, arith, length-append}
+use Rattle.std.specs.Prelude.{slice_index_or}
 use Rattle.std.proofs.Math.Seq.{take-append_seam}
 use Rattle.e3_types.specs.declared.entries.Entry.{Entry}
 use Rattle.e3_types.specs.declared.scenarios.Scenario.{Scenario}
@@ -8,13 +9,15 @@ use Rattle.e3_net.specs.Stands.{NetStands}
 use Rattle.e3_net.specs.Traffic.{Traffic}
 use Rattle.e3_wire.specs.declared.marks.Mark.{Mark}
 use Rattle.e3_wire.specs.declared.marks.Mark.TheVariants as mark
+use Rattle.e3_wire.specs.declared.marks.Note.{Note}
 use Rattle.e3_wire.specs.declared.marks.Stored.{Stored}
 use Rattle.e3_wire.specs.declared.marks.Stored.TheVariants as stored
-use Rattle.e3_wire.specs.Marks.{entries_of, last_owner, note_by, note_of, promised, rooms}
-use Rattle.e3_wire.specs.Stores.{IsKept, count_stored, marks_from, marks_of}
+use Rattle.e3_wire.specs.Marks.{entries_of, last_owner, note_by, note_of, nothing, promised, rooms}
+use Rattle.e3_wire.specs.Stores.{AreNotes, IsKept, count_stored, marks_from, marks_of}
 use Rattle.e3_wire.specs.Wires.{WireStands}
 use Rattle.e3_wire.proofs.Claiming.{count_place, marks_claimed}
 use Rattle.e3_wire.proofs.Foreign.{entries_append}
+use Rattle.e3_wire.proofs.Noting.{noted, notes_withdrawn}
 use Rattle.e3_wire.proofs.Sums.{changes, itself}
 
 -- marks that end in a promise are stored so
@@ -71,10 +74,14 @@ front_is ms front x kept is count =
     let short : kept ≡ length front = omega (arith, count, long) in
     ap (λ (n : ℕ). take n ms) short ∙ ap (take (length front)) is ∙ take-append_seam front (x ∷ [])
 
-pub withdrawn : (sc : Scenario) (most : ℕ) (es : List Entry) (ms front : List Stored) (net : Traffic) (places room spare hr sr nr o n : ℕ) →
-    IsKept sc most es ms net places room spare hr sr nr → ms ≡ front ++ stored.Place o n ∷ [] → o ≤ length sc.weights →
-    (1 ≤ places) × (n ≤ room) × IsKept sc most es front net (places - 1) (room - n) spare hr sr nr
-withdrawn sc most es ms front net places room spare hr sr nr o n was is low = (
+-- the notes without it
+abbrev pub unnoted : List Note → ℕ → ℕ → List Note
+unnoted notes o n = set notes o (record { places = (slice_index_or notes o nothing).places - 1; room = (slice_index_or notes o nothing).room - n })
+
+pub withdrawn : (sc : Scenario) (most : ℕ) (es : List Entry) (ms front : List Stored) (net : Traffic) (notes : List Note) (places room spare hr sr nr o n : ℕ) →
+    IsKept sc most es ms net notes places room spare hr sr nr → ms ≡ front ++ stored.Place o n ∷ [] → o ≤ length sc.weights →
+    (1 ≤ places) × (n ≤ room) × IsKept sc most es front net (unnoted notes o n) (places - 1) (room - n) spare hr sr nr
+withdrawn sc most es ms front net notes places room spare hr sr nr o n was is low = (
   some,
   enough,
   record {
@@ -88,6 +95,7 @@ withdrawn sc most es ms front net places room spare hr sr nr o n was is low = (
     };
     few = kept.few;
     whole = kept.whole ∙ count_place front o n;
+    notes_are = notes_withdrawn last o n M notes _ low (let P : List Mark → Type 0 = λ l. AreNotes last l notes in subst P marks_are kept.notes_are) refl;
     places_are = (let f = places_were in omega (arith, f, moved_places, places_more));
     room_is = (let f = room_was in omega (arith, f, moved_room, room_more));
     for_entries = (let f = kept.for_entries in omega (arith, f));
@@ -98,8 +106,8 @@ withdrawn sc most es ms front net places room spare hr sr nr o n was is low = (
   },
 )
   where
-    kept : IsKept sc most es (front ++ stored.Place o n ∷ []) net places room spare hr sr nr
-    kept = subst (λ (l : List Stored). IsKept sc most es l net places room spare hr sr nr) is was
+    kept : IsKept sc most es (front ++ stored.Place o n ∷ []) net notes places room spare hr sr nr
+    kept = subst (λ (l : List Stored). IsKept sc most es l net notes places room spare hr sr nr) is was
 
     M : List Mark
     M = marks_from sc most es front
@@ -150,28 +158,30 @@ withdrawn sc most es ms front net places room spare hr sr nr o n was is low = (
         omega (arith, long, was_within, moved_places, places_more)
 
 -- all that a promise that is taken back asks for and leaves
-pub record Withdrawn (sc : Scenario) (most : ℕ) (es : List Entry) (new : List Stored) (net : Traffic) (places room spare hr sr nr n : ℕ) : Type 0 where
+pub record Withdrawn (sc : Scenario) (most : ℕ) (es : List Entry) (new : List Stored) (net : Traffic) (notes : List Note) (places room spare hr sr nr o n : ℕ) : Type 0 where
+  pub note : o < length notes
   pub some : 1 ≤ places
   pub enough : n ≤ room
-  pub kept : IsKept sc most es new net (places - 1) (room - n) spare hr sr nr
+  pub kept : IsKept sc most es new net (unnoted notes o n) (places - 1) (room - n) spare hr sr nr
 
-pub withdraws : (sc : Scenario) (most : ℕ) (es : List Entry) (ms new : List Stored) (net : Traffic) (places room spare hr sr nr o n : ℕ) (before now : List Mark)
-    (kept : ℕ) → IsKept sc most es ms net places room spare hr sr nr → marks_from sc most es ms ≡ now → o ≤ last_owner before → now ≡ before ++ mark.Place o n ∷ [] →
-    new ≡ take kept ms → kept ≡ length ms - 1 → Withdrawn sc most es new net places room spare hr sr nr n
-withdraws sc most es ms new net places room spare hr sr nr o n [] now kept was view low is short count = absurd (
+pub withdraws : (sc : Scenario) (most : ℕ) (es : List Entry) (ms new : List Stored) (net : Traffic) (notes : List Note) (places room spare hr sr nr o n : ℕ) (before now : List Mark)
+    (kept : ℕ) → IsKept sc most es ms net notes places room spare hr sr nr → marks_from sc most es ms ≡ now → o ≤ last_owner before → now ≡ before ++ mark.Place o n ∷ [] →
+    new ≡ take kept ms → kept ≡ length ms - 1 → Withdrawn sc most es new net notes places room spare hr sr nr o n
+withdraws sc most es ms new net notes places room spare hr sr nr o n [] now kept was view low is short count = absurd (
     let same : mark.Start sc most ∷ marks_of es ms ≡ mark.Place o n ∷ [] = view ∙ is in cc)
-withdraws sc most es ms new net places room spare hr sr nr o n (b ∷ rest) now kept was view low is short count =
+withdraws sc most es ms new net notes places room spare hr sr nr o n (b ∷ rest) now kept was view low is short count =
     let same : mark.Start sc most ∷ marks_of es ms ≡ b ∷ (rest ++ mark.Place o n ∷ []) = view ∙ is in
     let head : b ≡ mark.Start sc most = cc in
     let tail : marks_of es ms ≡ rest ++ mark.Place o n ∷ [] = cc in
     let end = ends es ms o n rest was.whole tail in
     let here : o ≤ length sc.weights = (let P : Mark → Type 0 = λ x. o ≤ last_owner (x ∷ rest) in subst P head low) in
     let front : new ≡ end.front = short ∙ front_is ms end.front (stored.Place o n) kept end.stored count in
-    let all = withdrawn sc most es ms end.front net places room spare hr sr nr o n was end.stored here in
+    let all = withdrawn sc most es ms end.front net notes places room spare hr sr nr o n was end.stored here in
     record {
+      note = noted (length sc.weights) o (marks_from sc most es ms) notes here was.notes_are;
       some = all.0;
       enough = all.1;
-      kept = (let P : List Stored → Type 0 = λ l. IsKept sc most es l net (places - 1) (room - n) spare hr sr nr in subst P (sym front) all.2);
+      kept = (let P : List Stored → Type 0 = λ l. IsKept sc most es l net (unnoted notes o n) (places - 1) (room - n) spare hr sr nr in subst P (sym front) all.2);
     }
 
 -- the marks that are left

@@ -9,7 +9,7 @@ use Rattle.e3_types.specs.declared.entries.Input.{Input}
 use Rattle.e3_types.specs.declared.scenarios.Scenario.{Scenario}
 use Rattle.e3_wire.specs.declared.marks.Mark.{Mark}
 use Rattle.e3_wire.specs.declared.marks.Mark.TheVariants as mark
-use Rattle.e3_wire.specs.Marks.{AreForeign, NothingIsPromised, belongs, entries_of, last_owner, most_of, note_of, scenario_of, used_by, used_of}
+use Rattle.e3_wire.specs.Marks.{AreForeign, NothingIsPromised, UsesAll, belongs, entries_of, last_owner, most_of, note_of, scenario_of, used_by, used_of}
 use Rattle.e3_wire.specs.Wires.{IsPlayed, MayEnterBehind, TakesLeast, TakesInTurn}
 use Rattle.e3_world.specs.Items.{inputs_of}
 use Rattle.e3_world.specs.Legal.{IsDue, IsLegal}
@@ -69,13 +69,13 @@ abbrev pub UsedGrows : Type 0
 UsedGrows = (seen since : List Mark) → IsPlayed seen → used_of seen ≤ used_of (seen ++ since)
 
 -- Where nothing is promised, an entry of the driver promises nothing, and the entry of a site that a place was claimed for
--- leaves nothing promised.
+-- leaves nothing promised, if it uses all of the claim.
 abbrev pub EntriesPromiseNothing : Type 0
 EntriesPromiseNothing = (marks : List Mark) (e : Entry) → IsPlayed marks → NothingIsPromised marks → NothingIsPromised (marks ++ mark.Entered e ∷ [])
 
 abbrev pub ClaimsAreUsed : Type 0
 ClaimsAreUsed = (marks claimed : List Mark) (outs : ℕ) (e : Entry) → claimed ≡ marks ++ mark.Place e.owner outs ∷ [] → NothingIsPromised marks →
-    MayEnterBehind claimed e → NothingIsPromised (claimed ++ mark.Entered (numbered_on (entries_of claimed) e) ∷ [])
+    UsesAll claimed e → NothingIsPromised (claimed ++ mark.Entered (numbered_on (entries_of claimed) e) ∷ [])
 
 -- the second marks are the first, and behind them marks that belong to owners
 abbrev pub HaveGrown : List Mark → List Mark → Type 0

@@ -2,11 +2,12 @@
 use Rattle.std.specs.Prelude.{◌≡◌, ◌≤◌, ◌==◌, ◌||◌, ◌+◌, ◌-◌, ◌∷◌, [], if◌then◌else◌, ℕ, zero, suc, Bool, true, false, List, length, fold}
 use Rattle.std.specs.List.{flat_map}
 use Rattle.e3_types.specs.declared.entries.Act.{Act}
-use Rattle.e3_types.specs.declared.entries.Act.TheVariants.{Step, Drop, Parts, Line}
+use Rattle.e3_types.specs.declared.entries.Act.TheVariants.{Step, Fall, Drop, Parts, Line}
 use Rattle.e3_types.specs.declared.entries.Entry.{Entry}
 use Rattle.e3_types.specs.declared.scenarios.Scenario.{Scenario}
 use Rattle.e3_wire.specs.declared.marks.Mark.{Mark}
 use Rattle.e3_wire.specs.declared.marks.Mark.TheVariants as mark
+use Rattle.e3_wire.specs.declared.marks.Note.{Note}
 
 -- the mark belongs to the owner; the first and an entry of the driver belong to all
 abbrev pub belongs : Mark → ℕ → Bool
@@ -45,18 +46,15 @@ entries_of marks = flat_map entry_in marks
 abbrev pub last_owner : List Mark → ℕ
 last_owner marks = length (scenario_of marks).weights
 
--- what is promised to an owner: places, and room for packets
-pub record Note : Type 0 where
-  pub places : ℕ
-  pub room : ℕ
-
 -- nothing is promised
 abbrev pub nothing : Note
 nothing = record { places = 0; room = 0 }
 
--- what an act leaves of a note: an entry of a site uses a place, and a step the room of its packets; the driver's use nothing
+-- what an act leaves of a note: an entry of a site uses a place, and a step the room of its packets; a fall gives all room
+-- back; the driver's use nothing
 abbrev pub used_by : Note → Act → Note
 used_by w (Step i records outs events) = record { places = w.places - 1; room = w.room - length outs }
+used_by w (Fall inputs records why) = record { places = w.places - 1; room = 0 }
 used_by w (Drop packet) = w
 used_by w (Parts parts) = w
 used_by w (Line number) = w
@@ -89,6 +87,10 @@ rooms last marks = total (λ o. (note_of o marks).room) last
 abbrev pub used_of : List Mark → ℕ
 used_of marks = length (entries_of marks) + promised (last_owner marks) marks
 
--- no place is promised to any owner
+-- neither a place nor room is promised to any owner
 abbrev pub NothingIsPromised : List Mark → Type 0
-NothingIsPromised marks = (o : ℕ) → o ≤ last_owner marks → (note_of o marks).places ≡ 0
+NothingIsPromised marks = (o : ℕ) → o ≤ last_owner marks → note_of o marks ≡ nothing
+
+-- this entry uses all that is promised to its owner
+abbrev pub UsesAll : List Mark → Entry → Type 0
+UsesAll marks e = used_by (note_of e.owner marks) e.act ≡ nothing

@@ -1,13 +1,14 @@
 -- How marks are stored, and what is always true of what is stored.
-use Rattle.std.specs.Prelude.{◌≡◌, ◌≤◌, ◌<◌, ◌+◌, ◌^◌, ◌∷◌, [], ℕ, suc, List, length}
+use Rattle.std.specs.Prelude.{◌≡◌, ◌≤◌, ◌<◌, ◌+◌, ◌^◌, ◌∷◌, [], ℕ, suc, List, length, slice_index_or}
 use Rattle.e3_types.specs.declared.entries.Entry.{Entry}
 use Rattle.e3_types.specs.declared.scenarios.Scenario.{Scenario}
 use Rattle.e3_net.specs.Traffic.{Traffic}
 use Rattle.e3_wire.specs.declared.marks.Mark.{Mark}
 use Rattle.e3_wire.specs.declared.marks.Mark.TheVariants as mark
+use Rattle.e3_wire.specs.declared.marks.Note.{Note}
 use Rattle.e3_wire.specs.declared.marks.Stored.{Stored}
 use Rattle.e3_wire.specs.declared.marks.Stored.TheVariants as stored
-use Rattle.e3_wire.specs.Marks.{promised, rooms}
+use Rattle.e3_wire.specs.Marks.{note_of, nothing, promised, rooms}
 use Rattle.e3_wire.specs.Wires.{WireStands}
 
 -- the marks behind the first, each entry from the history in its order
@@ -27,12 +28,19 @@ count_stored [] = 0
 count_stored (stored.Entered ∷ ms) = suc (count_stored ms)
 count_stored (stored.Place o n ∷ ms) = count_stored ms
 
--- What is shared stands, the marks have just the entries of the history, the numbers count what is promised, and there is
--- spare room for all of it.
-pub record IsKept (sc : Scenario) (most : ℕ) (es : List Entry) (ms : List Stored) (net : Traffic) (places room spare history_room stored_room net_room : ℕ) : Type 0 where
+-- these are the notes of the owners up to the last
+pub record AreNotes (last : ℕ) (marks : List Mark) (notes : List Note) : Type 0 where
+  pub count : length notes ≡ suc last
+  pub each : (o : ℕ) → o ≤ last → slice_index_or notes o nothing ≡ note_of o marks
+
+-- What is shared stands, the marks have just the entries of the history, the notes and the numbers tell what is promised, and
+-- there is spare room for all of it.
+pub record IsKept (sc : Scenario) (most : ℕ) (es : List Entry) (ms : List Stored) (net : Traffic) (notes : List Note)
+    (places room spare history_room stored_room net_room : ℕ) : Type 0 where
   pub stands : WireStands (marks_from sc most es ms) net
   pub few : most < 2 ^ 32
   pub whole : length es ≡ count_stored ms
+  pub notes_are : AreNotes (length sc.weights) (marks_from sc most es ms) notes
   pub places_are : places ≡ promised (length sc.weights) (marks_from sc most es ms)
   pub room_is : room ≡ rooms (length sc.weights) (marks_from sc most es ms)
   pub for_entries : places ≤ spare

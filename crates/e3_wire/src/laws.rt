@@ -27,8 +27,8 @@ pub fn marks_add_up()
     ensures fronts { FrontsArePlayed }
 {}
 
-/// Where nothing is promised, nothing is behind an entry of the driver, or behind a claim and the entry that it was made
-/// for.
+/// Where nothing is promised, neither a place nor room, nothing is behind an entry of the driver, or behind a claim and the
+/// entry that it was made for, if that uses all of it.
 pub fn claims_are_used()
     ensures driver { EntriesPromiseNothing }
     ensures site { ClaimsAreUsed }

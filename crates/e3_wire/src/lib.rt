@@ -8,6 +8,7 @@ mod growing;
 mod laws;
 mod marks;
 mod passing;
+mod promises;
 mod shared;
 mod wire;
 
@@ -16,6 +17,6 @@ pub use laws::{
     claimed_drafts_may_enter, claimed_entries_may_enter, claims_are_used, drivers_may_put_marks,
     marks_add_up, marks_of_others_leave_a_site,
 };
-pub use marks::{Mark, Stored};
+pub use marks::{Mark, Note, Stored};
 pub use shared::Shared;
 pub use wire::{Wire, WirePass};

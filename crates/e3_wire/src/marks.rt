@@ -1,4 +1,4 @@
-// Marks, and what is stored of them.
+// Marks, what is stored of them, and what is promised by them.
 use e3_types::{Entry, Scenario};
 
 /// A mark of what the workers share. No value of it is made: it is how contracts see that.
@@ -10,6 +10,13 @@ pub enum Mark {
     Entered { entry: Entry },
     /// A place for one entry is promised to the owner, and room for so many packets of it.
     Place { owner: u32, outs: u32 },
+}
+
+/// What is promised to an owner: places for entries, and room for packets.
+#[derive(Clone, Copy, Drop)]
+pub struct Note {
+    pub places: u64,
+    pub room: u64,
 }
 
 /// What is stored of a mark behind the first; of an entry nothing more, since it stands in the history.

@@ -75,16 +75,6 @@ pub(crate) fn pass_on(net: &mut Net, act: Act) -> Act
     }
 }
 
-// How many packets an act sends.
-pub(crate) fn count_outs(act: &Act) -> u64
-    ensures { result ≡ length (outs_of act.now) }
-{
-    match act {
-        Act::Step { outs, .. } => outs.len(),
-        _ => 0,
-    }
-}
-
 fn is_recover(items: &[Item]) -> bool
     ensures { result ≡ is_calm items.now }
 {

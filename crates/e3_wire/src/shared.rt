@@ -14,8 +14,9 @@ ghost use Rattle.e3_world.specs.Legal.{IsLine, IsParts, first_pending};
 ghost use Rattle.e3_world.specs.Packets.{pending};
 
 use crate::growing::{make_room, push};
-use crate::passing::{count_outs, is_calm_in, pass_on};
-use crate::{Mark, Stored, WireFault};
+use crate::passing::{is_calm_in, pass_on};
+use crate::promises::{no_notes, note_act, note_claim, unnote_claim};
+use crate::{Mark, Note, Stored, WireFault};
 use e3_net::Net;
 use e3_turn::Chronicle;
 use e3_types::{Act, Copied, Entry, List, NoMemory, Packet, Scenario, SiteSet};
@@ -32,7 +33,8 @@ pub struct Shared {
     net: Net,
     history: History,
     stored: Vec<Stored>,
-    // How many places are promised, and room for how many packets.
+    // What is promised to each owner, that of the driver first; and in all, how many places, and room for how many packets.
+    notes: Vec<Note>,
     places: u64,
     room: u64,
     // For how many more entries the history has room at least.
@@ -49,8 +51,8 @@ impl Model for Shared {
 
     ghost view = { λ s. marks_from s.scenario s.most s.history.entries s.stored.items };
 
-    ghost invariant = { λ s. IsKept s.scenario s.most s.history.entries s.stored.items s.net.traffic s.places s.room s.spare
-        s.history.room (vec_capacity s.stored) s.net.room };
+    ghost invariant = { λ s. IsKept s.scenario s.most s.history.entries s.stored.items s.net.traffic s.notes.items s.places s.room
+        s.spare s.history.room (vec_capacity s.stored) s.net.room };
 }
 
 impl Chronicle for Shared {
@@ -69,9 +71,11 @@ impl Shared {
         requires given { IsGiven scenario }
         ensures { IfOk result (λ s. s ≡ mark.Start scenario most ∷ []) }
     {
+        let sites = scenario.weights.len();
+        let notes = no_notes(alloc, sites as usize + 1)?;
         let net = Net::new(
             alloc,
-            scenario.weights.len() as u32,
+            sites as u32,
             scenario.luck,
             scenario.loss,
             scenario.repeat,
@@ -83,6 +87,7 @@ impl Shared {
             net,
             history: History::new(alloc),
             stored: Vec::new(alloc),
+            notes,
             places: 0,
             room: 0,
             spare: 0,
@@ -174,13 +179,14 @@ impl Shared {
             self.places,
         )?;
         self.stored.push_reserved(Stored::Place { owner, outs });
+        note_claim(&mut self.notes, owner, outs);
         self.places += 1;
         self.room = room;
         Ok(())
     }
 
-    /// Promises the owner a place for one entry, and room for so many packets of it, and takes all memory for them. What is
-    /// not used stays promised. `HistoryFull`: exactly where the entries and promised places are as many as there may be
+    /// Promises the owner a place for one entry, and room for so many packets of it, and takes all memory for them. Room that
+    /// a step does not use stays promised. `HistoryFull`: exactly where the entries and promised places are as many as there may be
     /// entries.
     pub fn claim(&mut self, owner: u32, outs: u32) -> Result<(), WireFault>
         requires { owner ≤ last_owner self.old }
@@ -195,34 +201,36 @@ impl Shared {
         Ok(())
     }
 
-    /// Takes back the promise that is the last mark, with its room: nothing was entered for it. It takes no memory.
-    pub fn withdraw(&mut self, outs: u32)
-        requires { (owner : ℕ) × (before : Items MarkValue) × EndsInPromise owner outs before self.old }
-        ensures { (owner : ℕ) (before : Items MarkValue) → self.old ≡ before ++ mark.Place owner outs ∷ [] → self.new ≡ before }
+    /// Takes back the promise to the owner that is the last mark, with its room: nothing was entered for it. It takes no
+    /// memory.
+    pub fn withdraw(&mut self, owner: u32, outs: u32)
+        requires { (before : Items MarkValue) × EndsInPromise owner outs before self.old }
+        ensures { (before : Items MarkValue) → self.old ≡ before ++ mark.Place owner outs ∷ [] → self.new ≡ before }
     {
         let kept = self.stored.as_slice().len() - 1;
         self.stored.truncate(kept);
+        unnote_claim(&mut self.notes, owner, outs);
         self.places -= 1;
         self.room -= u64::from(outs);
     }
 
     /// Enters an entry of a site: the packets that it takes leave the network, its packets are sent, with the next numbers,
-    /// and what was promised for it is used. It takes no memory.
+    /// and what was promised for it is used; a fall gives all room back that was promised to its site. It takes no memory.
     pub fn enter(&mut self, entry: Entry)
         requires { MayEnterBehind self.old entry }
         ensures { self.new ≡ self.old ++ mark.Entered (numbered_on (entries_of self.old) entry) ∷ [] }
     {
         let owner = entry.owner;
-        let outs = count_outs(&entry.act);
         let act = pass_on(&mut self.net, entry.act);
+        let used = note_act(&mut self.notes, owner, &act);
         push(
             &mut self.history,
             &mut self.spare,
             &mut self.stored,
             Entry { owner, act },
         );
-        self.places -= 1;
-        self.room -= outs;
+        self.places -= used.places;
+        self.room -= used.room;
     }
 
     /// Enters the line of the next step. The network is calm from now on exactly where the step is a recovery. `HistoryFull`:

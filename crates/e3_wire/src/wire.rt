@@ -86,8 +86,8 @@ impl Wire {
         self.lock.put(pass, shared);
     }
 
-    /// Promises an owner of the pass a place for one entry, and room for so many packets of it. What is not used stays
-    /// promised. `HistoryFull`: exactly where the entries and promised places are as many as there may be entries.
+    /// Promises an owner of the pass a place for one entry, and room for so many packets of it. Room that a step does not use
+    /// stays promised. `HistoryFull`: exactly where the entries and promised places are as many as there may be entries.
     pub fn claim<R: Wait>(
         &self,
         rt: &R,

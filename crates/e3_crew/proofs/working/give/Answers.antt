@@ -26,6 +26,7 @@ returns-clause-given g c =
       scenario = e.scenario.0;
       most = e.scenario.1;
       promised = e.promised;
+      room = e.room;
       stands = e.stands;
       site = e.site;
       stepped = e.stepped;

@@ -1,4 +1,4 @@
-use Rattle.std.proofs.Common.{◌≡◌, ◌++◌, ◌∷◌, [], ◌∙◌, ap, refl, sym, subst, List, arith}
+use Rattle.std.proofs.Common.{◌≡◌, ◌++◌, ◌∷◌, [], ◌∙◌, ap, refl, sym, subst, List, length, arith}
 use Rattle.e3_law_local.specs.Others.{numbered_on}
 use Rattle.e3_log.specs.Stands.{Stands}
 use Rattle.e3_node.specs.Bodies.{AllReadBack, DiskHolds, IsLogged, ReadsAfter, bodies_in, body_of}
@@ -7,9 +7,9 @@ use Rattle.e3_node.specs.Ends.{EndsAt, IsReason}
 use Rattle.e3_node.specs.NodeStands.{IsUp}
 use Rattle.e3_node.specs.Turns.{IsStill, history_seen, scenario_seen}
 use Rattle.e3_node.specs.declared.state.State.TheVariants.{Up}
-use Rattle.e3_site.specs.SiteView.{SiteView, count_on, plan_of}
+use Rattle.e3_site.specs.SiteView.{SiteView, count_on, entry_of_plan, step_kept}
 use Rattle.e3_turn.specs.Passes.{GrewByOthers, Owns, seen_by}
-use Rattle.e3_types.specs.declared.entries.Act.TheVariants.{Fall, Step}
+use Rattle.e3_types.specs.declared.entries.Act.TheVariants.{Fall}
 use Rattle.e3_types.specs.declared.entries.Entry.{Entry}
 use Rattle.e3_types.specs.declared.entries.Why.{Why}
 use Rattle.e3_types.specs.declared.records.Record.{Record}
@@ -20,12 +20,17 @@ use Rattle.e3_wire.specs.declared.marks.Mark.TheVariants as mark
 use Rattle.e3_wire.proofs.Claimed.{taken_is_due}
 use Rattle.e3_world.specs.Legal.{entry_of, made_by}
 use Rattle.e3_world.specs.Moves.{log_size, moves_of}
-use Rattle.e3_node.proofs.Steps.{draft_made, fall_allowed, fall_back, fall_entered, fall_takes, fallen_disk, inputs_on, room_same, site_on, step_back, step_allowed, step_entered, step_logged, stepped_up}
+use Rattle.e3_world.specs.declared.lives.SiteStep.{SiteStep}
+use Rattle.e3_node.proofs.Steps.{draft_made, fall_allowed, fall_back, fall_entered, fall_takes, fallen_disk, inputs_on, own_stands, records_made, site_on, step_back, step_allowed, step_entered, step_logged, stepped_up}
 use Rattle.e3_node.proofs.Counts.{count_fallen, count_meanwhile, count_stepped}
 use Rattle.e3_node.proofs.Owning.{made_own, own_meanwhile}
 use Rattle.e3_node.proofs.Turned.{refused}
-use Rattle.e3_node.proofs.Waiting.{back_meanwhile, behind_of, entered_turn, entries, looked, may_commit, meanwhile, still_owns, still_restless, still_up, up_meanwhile}
+use Rattle.e3_node.proofs.Sharing.{step_used}
+use Rattle.e3_node.proofs.Waiting.{back_meanwhile, behind_of, entered_turn, entries, looked, made_meanwhile, may_commit, meanwhile, still_owns, still_restless, still_up, up_meanwhile}
 use Rattle.e3_node.proofs.turning.step_by_turns.Goals as goal
+
+pub prepare_by_turns-requires : goal.prepare_by_turns-requires
+prepare_by_turns-requires g c = own_stands (scenario_seen c.args.pass.now) (history_seen c.args.pass.now) c.args.number c.args.site.now c.requires.up.stands
 
 pub commit_entry-requires-clause-owns : goal.commit_entry-requires-clause-owns
 commit_entry-requires-clause-owns g c =
@@ -40,14 +45,18 @@ commit_entry-requires-clause-may g c =
     let sc = scenario_seen p in
     let h = history_seen p in
     let d = c.in_ok-draft.draft in
-    let made = draft_made sc h c.args.number c.args.site.now c.args.input d c.requires.up.stands c.in_ok-draft.ensures.draft in
+    let made = draft_made sc h c.args.number c.args.site.now _ c.args.input d c.requires.up.stands c.in_ok-draft.ensures.ready in
     let due = taken_is_due sc h c.args.number c.args.input c.requires.restless c.requires.due c.requires.takes in
     let cl = c.in_ok-claim.ensures.claimed in
-    let e : Entry = record { owner = c.args.number; act = Step c.args.input d.records d.outs d.told } in
-    let allows = step_allowed sc h c.args.number c.args.input d made c.requires.some c.requires.up.up due in
+    let step : SiteStep = c.apply.result in
+    let is : step ≡ step_kept c.args.input (made_by sc h c.args.number c.args.input) = c.apply.ensures.step ∙ made.step_is in
+    let e : Entry = entry_of_plan c.args.number c.args.input step in
+    let allows = step_allowed sc h c.args.number c.args.input step is c.requires.some c.requires.up.up due in
+    let fits : length step.outs ≡ c.room_for-room.result =
+    ap (λ (p : SiteStep). length p.outs) c.apply.ensures.step ∙ sym (c.room_for-room.ensures ∙ ap length c.outs.ensures) in
     let may : MayEnterBehind (seen_by q) e =
     may_commit p (seen_by q) _ e cl.0 c.requires.owns cl.1 cl.2 c.requires.played c.claim.ensures.played c.requires.some c.requires.exists c.requires.restless allows
-    c.requires.takes (omega (arith, c.room_for-room.ensures)) in
+    c.requires.takes (omega (arith, fits)) in
     subst (λ (y : Entry). MayEnterBehind (seen_by q) y) (sym c.step_of-step.ensures) may
 
 pub commit_entry-requires-clause-alone : goal.commit_entry-requires-clause-alone
@@ -71,11 +80,15 @@ commit_entry-requires-in-Err-clause-may g c =
     let sc = scenario_seen p in
     let h = history_seen p in
     let d = c.in_ok-draft.draft in
-    let made = draft_made sc h c.args.number c.args.site.now c.args.input d c.requires.up.stands c.in_ok-draft.ensures.draft in
+    let made = draft_made sc h c.args.number c.args.site.now _ c.args.input d c.requires.up.stands c.in_ok-draft.ensures.ready in
     let due = taken_is_due sc h c.args.number c.args.input c.requires.restless c.requires.due c.requires.takes in
     let cl = c.in_ok-claim.ensures.claimed in
-    let e : Entry = record { owner = c.args.number; act = Fall d.inputs d.fallen c.in-Err.why } in
-    let allows = fall_allowed sc h c.args.number c.args.input d c.in-Err.why made c.requires.some c.requires.up.up due (λ none. c.in-Err.ensures.some (c.as_slice.ensures ∙ none)) in
+    let records : List Record = c.into_step-made.result.records in
+    let rs : records ≡ (made_by sc h c.args.number c.args.input).records =
+    records_made sc h c.args.number c.args.input c.into_step-made.result (c.into_step-made.ensures ∙ made.step_is) in
+    let e : Entry = record { owner = c.args.number; act = Fall d.inputs records c.in-Err.why } in
+    let allows = fall_allowed sc h c.args.number c.args.input d.inputs records c.in-Err.why made.inputs_are rs c.requires.some c.requires.up.up due
+    (λ none. c.in-Err.ensures.some (c.records.ensures ∙ records_made sc h c.args.number c.args.input d.plan.step made.step_is ∙ sym rs ∙ none)) in
     let may : MayEnterBehind (seen_by q) e =
     may_commit p (seen_by q) _ e cl.0 c.requires.owns cl.1 cl.2 c.requires.played c.claim.ensures.played c.requires.some c.requires.exists c.requires.restless allows
     (fall_takes sc h c.args.number c.args.input d.inputs made.inputs_are c.requires.takes) (omega arith) in
@@ -96,17 +109,22 @@ returns-in-Ok-clause-turned g c =
     let sc = scenario_seen p in
     let h = history_seen p in
     let d = c.in_ok-draft.draft in
-    let made = draft_made sc h c.args.number c.args.site.now c.args.input d c.requires.up.stands c.in_ok-draft.ensures.draft in
+    let made = draft_made sc h c.args.number c.args.site.now _ c.args.input d c.requires.up.stands c.in_ok-draft.ensures.ready in
     let due = taken_is_due sc h c.args.number c.args.input c.requires.restless c.requires.due c.requires.takes in
     let cl = c.in_ok-claim.ensures.claimed in
-    let e : Entry = record { owner = c.args.number; act = Step c.args.input d.records d.outs d.told } in
-    let allows = step_allowed sc h c.args.number c.args.input d made c.requires.some c.requires.up.up due in
+    let step : SiteStep = c.apply.result in
+    let is : step ≡ step_kept c.args.input (made_by sc h c.args.number c.args.input) = c.apply.ensures.step ∙ made.step_is in
+    let e : Entry = entry_of_plan c.args.number c.args.input step in
+    let fits : length step.outs ≡ c.room_for-room.result =
+    ap (λ (p : SiteStep). length p.outs) c.apply.ensures.step ∙ sym (c.room_for-room.ensures ∙ ap length c.outs.ensures) in
+    let allows = step_allowed sc h c.args.number c.args.input step is c.requires.some c.requires.up.up due in
     let r = c.commit_entry.new.pass in
     let P : Entry → Type 0 = λ y. (later : List Mark) × GrewByOthers belongs q later × (seen_by r ≡ later ++ mark.Entered (numbered_on (entries_of later) y) ∷ []) in
     let ent : P e = subst P c.step_of-step.ensures c.commit_entry.ensures.entered in
     let owns = still_owns p q c.args.number c.claim.ensures.same c.requires.owns in
     let b = behind_of p q r c.args.number _ e c.requires.owns owns cl.0 cl.1 cl.2 ent.0 ent.1 ent.2 in
     entered_turn c.args.wire.now p q r c.args.number _ e ent.0 b refl c.requires.played c.claim.ensures.played c.commit_entry.ensures.played c.requires.some sc h allows
+    (step_used _ c.args.input step.records step.outs step.told (sym fits))
     c.commit_entry.ensures.idle c.claim.ensures.same c.commit_entry.ensures.same
 
 pub returns-in-Ok-clause-ended : goal.returns-in-Ok-clause-ended
@@ -116,11 +134,13 @@ returns-in-Ok-clause-ended g c =
     let sc = scenario_seen p in
     let h = history_seen p in
     let d = c.in_ok-draft.draft in
-    let made = draft_made sc h c.args.number c.args.site.now c.args.input d c.requires.up.stands c.in_ok-draft.ensures.draft in
+    let made = draft_made sc h c.args.number c.args.site.now _ c.args.input d c.requires.up.stands c.in_ok-draft.ensures.ready in
     let due = taken_is_due sc h c.args.number c.args.input c.requires.restless c.requires.due c.requires.takes in
     let cl = c.in_ok-claim.ensures.claimed in
-    let e : Entry = record { owner = c.args.number; act = Step c.args.input d.records d.outs d.told } in
-    let allows = step_allowed sc h c.args.number c.args.input d made c.requires.some c.requires.up.up due in
+    let step : SiteStep = c.apply.result in
+    let is : step ≡ step_kept c.args.input (made_by sc h c.args.number c.args.input) = c.apply.ensures.step ∙ made.step_is in
+    let e : Entry = entry_of_plan c.args.number c.args.input step in
+    let allows = step_allowed sc h c.args.number c.args.input step is c.requires.some c.requires.up.up due in
     let r = c.commit_entry.new.pass in
     let P : Entry → Type 0 = λ y. (later : List Mark) × GrewByOthers belongs q later × (seen_by r ≡ later ++ mark.Entered (numbered_on (entries_of later) y) ∷ []) in
     let ent : P e = subst P c.step_of-step.ensures c.commit_entry.ensures.entered in
@@ -131,17 +151,15 @@ returns-in-Ok-clause-ended g c =
     let up : IsUp g.D.Disk.content g.D.Disk.image g.D.Disk.meters sc now c.args.number c.args.site.now c.args.log.now =
     up_meanwhile g.D.Disk.content g.D.Disk.image g.D.Disk.meters sc h now c.args.number (Up c.args.site.now c.args.log.now) m c.requires.up in
     let back = back_meanwhile sc h now c.args.number m c.requires.back in
-    let here = draft_made sc now c.args.number c.args.site.now c.args.input d up.stands c.in_ok-draft.ensures.draft in
-    let is = entries c.args.number _ (seen_by p) (seen_by q) ent.0 (seen_by r) e b refl c.requires.played c.claim.ensures.played c.commit_entry.ensures.played in
+    let here = made_meanwhile sc h now c.args.number c.args.input d m made in
+    let all = entries c.args.number _ (seen_by p) (seen_by q) ent.0 (seen_by r) e b refl c.requires.played c.claim.ensures.played c.commit_entry.ensures.played in
     let more = history_seen r in
-    let entered = step_entered sc now more c.args.number c.args.input d here is in
-    let ready = room_same sc now c.args.number _ c.args.site.now c.prepare.new.site up.stands c.in_ok-draft.ensures.site in
-    let planned : d.plan ≡ plan_of c.prepare.new.site c.args.input =
-    c.in_ok-draft.ensures.draft.plan_is ∙ sym (ap (λ (s : SiteView). plan_of s c.args.input) c.in_ok-draft.ensures.site) in
+    let entered = step_entered sc now more c.args.number c.args.input step (c.apply.ensures.step ∙ here.step_is) all in
+    let ready = c.in_ok-draft.ensures.still.stands sc now c.args.number up.stands in
     let logged : IsLogged g.D.Disk.content g.D.Disk.image (moves_of sc (now ++ entry_of sc now c.args.number c.args.input ∷ []) c.args.number) c.write.new.log =
     step_logged g.D.Disk.content g.D.Disk.image sc now c.args.number c.args.input c.args.log.now c.write.new.log up.logged
     (λ lists before. subst (λ (rs : List Record). Stands g.D.Disk.content g.D.Disk.image (bodies_in lists ++ body_of rs) c.write.new.log)
-    (c.as_slice.ensures ∙ here.records_are) (c.in-Ok.ensures.stands lists before)) in
+    (c.records.ensures ∙ records_made sc now c.args.number c.args.input d.plan.step here.step_is) (c.in-Ok.ensures.stands lists before)) in
     record {
       now = now;
       meanwhile = m;
@@ -149,10 +167,10 @@ returns-in-Ok-clause-ended g c =
       stands =
           subst (λ (l : List Entry). IsUp g.D.Disk.content g.D.Disk.image g.D.Disk.meters sc l c.args.number c.apply.new.self c.write.new.log) (sym entered)
           (stepped_up g.D.Disk.content g.D.Disk.image g.D.Disk.meters sc now c.args.number c.args.input c.apply.new.self c.write.new.log up.up
-          (site_on sc now c.args.number c.args.input c.prepare.new.site c.apply.new.self d.plan ready planned c.apply.ensures.stands)
+          (site_on sc now c.args.number c.args.input c.prepare_by_turns.new.site c.apply.new.self d.plan.step ready here.step_is c.apply.ensures.stands)
           logged c.in-Ok.ensures.lit
           (inputs_on sc now c.args.number c.args.input c.args.site.now.inputs _ up.inputs
-          (ap (λ (s : SiteView). s.inputs) c.apply.ensures.done ∙ ap (λ (s : SiteView). count_on s.inputs) c.in_ok-draft.ensures.site)));
+          (ap (λ (s : SiteView). s.inputs) c.apply.ensures.done ∙ ap (λ (s : SiteView). count_on s.inputs) c.in_ok-draft.ensures.still.same)));
       back = subst (λ (l : List Entry). AllReadBack sc l c.args.number) (sym entered) (step_back sc now c.args.number c.args.input back (here.back (own_meanwhile sc h now c.args.number c.args.input m (made_own c.legal_histories_mention_what_stands.ensures.records c.begun_are_transactions.ensures c.records_suit_their_site.ensures.votes sc h c.args.number c.args.input
           c.requires.played.given c.requires.played.legal c.requires.some c.requires.up.up due))));
     }
@@ -164,17 +182,21 @@ returns-in-Err-clause-turned g c =
     let sc = scenario_seen p in
     let h = history_seen p in
     let d = c.in_ok-draft.draft in
-    let made = draft_made sc h c.args.number c.args.site.now c.args.input d c.requires.up.stands c.in_ok-draft.ensures.draft in
+    let made = draft_made sc h c.args.number c.args.site.now _ c.args.input d c.requires.up.stands c.in_ok-draft.ensures.ready in
     let due = taken_is_due sc h c.args.number c.args.input c.requires.restless c.requires.due c.requires.takes in
     let cl = c.in_ok-claim.ensures.claimed in
-    let e : Entry = record { owner = c.args.number; act = Fall d.inputs d.fallen c.in-Err.why } in
-    let allows = fall_allowed sc h c.args.number c.args.input d c.in-Err.why made c.requires.some c.requires.up.up due (λ none. c.in-Err.ensures.some (c.as_slice.ensures ∙ none)) in
+    let records : List Record = c.into_step-made.result.records in
+    let rs : records ≡ (made_by sc h c.args.number c.args.input).records =
+    records_made sc h c.args.number c.args.input c.into_step-made.result (c.into_step-made.ensures ∙ made.step_is) in
+    let e : Entry = record { owner = c.args.number; act = Fall d.inputs records c.in-Err.why } in
+    let allows = fall_allowed sc h c.args.number c.args.input d.inputs records c.in-Err.why made.inputs_are rs c.requires.some c.requires.up.up due
+    (λ none. c.in-Err.ensures.some (c.records.ensures ∙ records_made sc h c.args.number c.args.input d.plan.step made.step_is ∙ sym rs ∙ none)) in
     let r = c.commit_entry-in-Err.new.pass in
     let P : Entry → Type 0 = λ y. (later : List Mark) × GrewByOthers belongs q later × (seen_by r ≡ later ++ mark.Entered (numbered_on (entries_of later) y) ∷ []) in
     let ent : P e = subst P c.fall_of-fall.ensures c.commit_entry-in-Err.ensures.entered in
     let owns = still_owns p q c.args.number c.claim.ensures.same c.requires.owns in
     let b = behind_of p q r c.args.number _ e c.requires.owns owns cl.0 cl.1 cl.2 ent.0 ent.1 ent.2 in
-    entered_turn c.args.wire.now p q r c.args.number _ e ent.0 b refl c.requires.played c.claim.ensures.played c.commit_entry-in-Err.ensures.played c.requires.some sc h allows
+    entered_turn c.args.wire.now p q r c.args.number _ e ent.0 b refl c.requires.played c.claim.ensures.played c.commit_entry-in-Err.ensures.played c.requires.some sc h allows refl
     c.commit_entry-in-Err.ensures.idle c.claim.ensures.same c.commit_entry-in-Err.ensures.same
 
 pub returns-in-Err-clause-ended : goal.returns-in-Err-clause-ended
@@ -184,11 +206,15 @@ returns-in-Err-clause-ended g c =
     let sc = scenario_seen p in
     let h = history_seen p in
     let d = c.in_ok-draft.draft in
-    let made = draft_made sc h c.args.number c.args.site.now c.args.input d c.requires.up.stands c.in_ok-draft.ensures.draft in
+    let made = draft_made sc h c.args.number c.args.site.now _ c.args.input d c.requires.up.stands c.in_ok-draft.ensures.ready in
     let due = taken_is_due sc h c.args.number c.args.input c.requires.restless c.requires.due c.requires.takes in
     let cl = c.in_ok-claim.ensures.claimed in
-    let e : Entry = record { owner = c.args.number; act = Fall d.inputs d.fallen c.in-Err.why } in
-    let allows = fall_allowed sc h c.args.number c.args.input d c.in-Err.why made c.requires.some c.requires.up.up due (λ none. c.in-Err.ensures.some (c.as_slice.ensures ∙ none)) in
+    let records : List Record = c.into_step-made.result.records in
+    let rs : records ≡ (made_by sc h c.args.number c.args.input).records =
+    records_made sc h c.args.number c.args.input c.into_step-made.result (c.into_step-made.ensures ∙ made.step_is) in
+    let e : Entry = record { owner = c.args.number; act = Fall d.inputs records c.in-Err.why } in
+    let allows = fall_allowed sc h c.args.number c.args.input d.inputs records c.in-Err.why made.inputs_are rs c.requires.some c.requires.up.up due
+    (λ none. c.in-Err.ensures.some (c.records.ensures ∙ records_made sc h c.args.number c.args.input d.plan.step made.step_is ∙ sym rs ∙ none)) in
     let r = c.commit_entry-in-Err.new.pass in
     let P : Entry → Type 0 = λ y. (later : List Mark) × GrewByOthers belongs q later × (seen_by r ≡ later ++ mark.Entered (numbered_on (entries_of later) y) ∷ []) in
     let ent : P e = subst P c.fall_of-fall.ensures c.commit_entry-in-Err.ensures.entered in
@@ -199,20 +225,21 @@ returns-in-Err-clause-ended g c =
     let up : IsUp g.D.Disk.content g.D.Disk.image g.D.Disk.meters sc now c.args.number c.args.site.now c.args.log.now =
     up_meanwhile g.D.Disk.content g.D.Disk.image g.D.Disk.meters sc h now c.args.number (Up c.args.site.now c.args.log.now) m c.requires.up in
     let back = back_meanwhile sc h now c.args.number m c.requires.back in
-    let here = draft_made sc now c.args.number c.args.site.now c.args.input d up.stands c.in_ok-draft.ensures.draft in
-    let is = entries c.args.number _ (seen_by p) (seen_by q) ent.0 (seen_by r) e b refl c.requires.played c.claim.ensures.played c.commit_entry-in-Err.ensures.played in
+    let here = made_meanwhile sc h now c.args.number c.args.input d m made in
+    let all = entries c.args.number _ (seen_by p) (seen_by q) ent.0 (seen_by r) e b refl c.requires.played c.claim.ensures.played c.commit_entry-in-Err.ensures.played in
     let more = history_seen r in
-    let entered = fall_entered sc now more c.args.number c.args.input d c.in-Err.why here is in
+    let there = records_made sc now c.args.number c.args.input c.into_step-made.result (c.into_step-made.ensures ∙ here.step_is) in
+    let entered = fall_entered sc now more c.args.number c.args.input d.inputs records c.in-Err.why here.inputs_are there all in
     let image = g.D.Disk.image c.write.new.log.disk in
     record {
       now = now;
       meanwhile = m;
-      fell = record { some = (λ none. c.in-Err.ensures.some (c.as_slice.ensures ∙ here.records_are ∙ none)); entered = entered };
+      fell = record { some = (λ none. c.in-Err.ensures.some (c.records.ensures ∙ records_made sc now c.args.number c.args.input d.plan.step here.step_is ∙ none)); entered = entered };
       stands =
           subst (λ (l : List Entry). DiskHolds sc l c.args.number image) (sym entered)
           (fallen_disk g.D.Disk.content g.D.Disk.image sc now c.args.number c.args.input c.in-Err.why c.args.log.now c.write.new.log up.logged
           (λ lists before bytes at. subst (λ (rs : List Record). ReadsAfter lists c.in-Err.why rs bytes)
-          (c.as_slice.ensures ∙ here.records_are) (c.in-Err.ensures.images lists before bytes at)));
+          (c.records.ensures ∙ records_made sc now c.args.number c.args.input d.plan.step here.step_is) (c.in-Err.ensures.images lists before bytes at)));
       back = subst (λ (l : List Entry). AllReadBack sc l c.args.number) (sym entered) (fall_back sc now c.args.number c.args.input c.in-Err.why back (here.back (own_meanwhile sc h now c.args.number c.args.input m (made_own c.legal_histories_mention_what_stands.ensures.records c.begun_are_transactions.ensures c.records_suit_their_site.ensures.votes sc h c.args.number c.args.input
           c.requires.played.given c.requires.played.legal c.requires.some c.requires.up.up due))));
     }
@@ -233,10 +260,10 @@ returns-in_err-claim-clause-ended g c =
     let more = history_seen q in
     let cl = c.in_err-claim.ensures.claimed in
     let m = (looked c.args.wire.now p q c.args.number cl.0 c.requires.owns c.requires.played c.claim.ensures.played c.claim.ensures.idle c.claim.ensures.same cl.1 cl.3).1 in
-    let up = still_up g.D.Disk.content g.D.Disk.image g.D.Disk.meters sc h more c.args.number _ c.args.site.now c.prepare.new.site c.args.log.now m c.requires.up c.in_ok-draft.ensures.site in
-    let still : IsStill g.D.Disk.content g.D.Disk.image g.D.Disk.meters sc h more c.args.number (Up c.args.site.now c.args.log.now) (Up c.prepare.new.site c.args.log.now) =
+    let up = still_up g.D.Disk.content g.D.Disk.image g.D.Disk.meters sc h more c.args.number c.args.site.now c.prepare_by_turns.new.site c.args.log.now m c.requires.up c.in_ok-draft.ensures.still in
+    let still : IsStill g.D.Disk.content g.D.Disk.image g.D.Disk.meters sc h more c.args.number (Up c.args.site.now c.args.log.now) (Up c.prepare_by_turns.new.site c.args.log.now) =
     record { meanwhile = m; disk = refl; stands = up; back = back_meanwhile sc h more c.args.number m c.requires.back } in
-    refused g.D.Disk.content g.D.Disk.image g.D.Disk.meters sc h more c.args.number c.args.input (Up c.args.site.now c.args.log.now) (Up c.prepare.new.site c.args.log.now)
+    refused g.D.Disk.content g.D.Disk.image g.D.Disk.meters sc h more c.args.number c.args.input (Up c.args.site.now c.args.log.now) (Up c.prepare_by_turns.new.site c.args.log.now)
     c.in_err-claim.field-0.0 c.from_residual-in_err-claim.result c.from_residual-in_err-claim.ensures.1 still
 
 pub returns-in-Ok-clause-counted : goal.returns-in-Ok-clause-counted
@@ -246,11 +273,13 @@ returns-in-Ok-clause-counted g c =
     let sc = scenario_seen p in
     let h = history_seen p in
     let d = c.in_ok-draft.draft in
-    let made = draft_made sc h c.args.number c.args.site.now c.args.input d c.requires.up.stands c.in_ok-draft.ensures.draft in
+    let made = draft_made sc h c.args.number c.args.site.now _ c.args.input d c.requires.up.stands c.in_ok-draft.ensures.ready in
     let due = taken_is_due sc h c.args.number c.args.input c.requires.restless c.requires.due c.requires.takes in
     let cl = c.in_ok-claim.ensures.claimed in
-    let e : Entry = record { owner = c.args.number; act = Step c.args.input d.records d.outs d.told } in
-    let allows = step_allowed sc h c.args.number c.args.input d made c.requires.some c.requires.up.up due in
+    let step : SiteStep = c.apply.result in
+    let is : step ≡ step_kept c.args.input (made_by sc h c.args.number c.args.input) = c.apply.ensures.step ∙ made.step_is in
+    let e : Entry = entry_of_plan c.args.number c.args.input step in
+    let allows = step_allowed sc h c.args.number c.args.input step is c.requires.some c.requires.up.up due in
     let r = c.commit_entry.new.pass in
     let P : Entry → Type 0 = λ y. (later : List Mark) × GrewByOthers belongs q later × (seen_by r ≡ later ++ mark.Entered (numbered_on (entries_of later) y) ∷ []) in
     let ent : P e = subst P c.step_of-step.ensures c.commit_entry.ensures.entered in
@@ -261,11 +290,12 @@ returns-in-Ok-clause-counted g c =
     let up : IsUp g.D.Disk.content g.D.Disk.image g.D.Disk.meters sc now c.args.number c.args.site.now c.args.log.now =
     up_meanwhile g.D.Disk.content g.D.Disk.image g.D.Disk.meters sc h now c.args.number (Up c.args.site.now c.args.log.now) m c.requires.up in
     let back = back_meanwhile sc h now c.args.number m c.requires.back in
-    let here = draft_made sc now c.args.number c.args.site.now c.args.input d up.stands c.in_ok-draft.ensures.draft in
-    let is = entries c.args.number _ (seen_by p) (seen_by q) ent.0 (seen_by r) e b refl c.requires.played c.claim.ensures.played c.commit_entry.ensures.played in
+    let here = made_meanwhile sc h now c.args.number c.args.input d m made in
+    let all = entries c.args.number _ (seen_by p) (seen_by q) ent.0 (seen_by r) e b refl c.requires.played c.claim.ensures.played c.commit_entry.ensures.played in
     let more = history_seen r in
-    let entered = step_entered sc now more c.args.number c.args.input d here is in
-    count_stepped sc c.args.number now more c.args.input d.records d.outs d.told c.args.count.now c.count_on.new.count here.records_are entered
+    let entered = step_entered sc now more c.args.number c.args.input step (c.apply.ensures.step ∙ here.step_is) all in
+    count_stepped sc c.args.number now more c.args.input step.records step.outs step.told c.args.count.now c.count_on.new.count
+    (records_made sc now c.args.number c.args.input step (c.apply.ensures.step ∙ here.step_is)) entered
     (c.requires.counted ∙ sym (count_meanwhile c.args.number h now m)) (c.count_on.ensures ∙ ap (λ (y : Entry). counted_by c.args.count.now y.act) c.step_of-step.ensures)
 
 pub returns-in-Err-clause-counted : goal.returns-in-Err-clause-counted
@@ -275,11 +305,15 @@ returns-in-Err-clause-counted g c =
     let sc = scenario_seen p in
     let h = history_seen p in
     let d = c.in_ok-draft.draft in
-    let made = draft_made sc h c.args.number c.args.site.now c.args.input d c.requires.up.stands c.in_ok-draft.ensures.draft in
+    let made = draft_made sc h c.args.number c.args.site.now _ c.args.input d c.requires.up.stands c.in_ok-draft.ensures.ready in
     let due = taken_is_due sc h c.args.number c.args.input c.requires.restless c.requires.due c.requires.takes in
     let cl = c.in_ok-claim.ensures.claimed in
-    let e : Entry = record { owner = c.args.number; act = Fall d.inputs d.fallen c.in-Err.why } in
-    let allows = fall_allowed sc h c.args.number c.args.input d c.in-Err.why made c.requires.some c.requires.up.up due (λ none. c.in-Err.ensures.some (c.as_slice.ensures ∙ none)) in
+    let records : List Record = c.into_step-made.result.records in
+    let rs : records ≡ (made_by sc h c.args.number c.args.input).records =
+    records_made sc h c.args.number c.args.input c.into_step-made.result (c.into_step-made.ensures ∙ made.step_is) in
+    let e : Entry = record { owner = c.args.number; act = Fall d.inputs records c.in-Err.why } in
+    let allows = fall_allowed sc h c.args.number c.args.input d.inputs records c.in-Err.why made.inputs_are rs c.requires.some c.requires.up.up due
+    (λ none. c.in-Err.ensures.some (c.records.ensures ∙ records_made sc h c.args.number c.args.input d.plan.step made.step_is ∙ sym rs ∙ none)) in
     let r = c.commit_entry-in-Err.new.pass in
     let P : Entry → Type 0 = λ y. (later : List Mark) × GrewByOthers belongs q later × (seen_by r ≡ later ++ mark.Entered (numbered_on (entries_of later) y) ∷ []) in
     let ent : P e = subst P c.fall_of-fall.ensures c.commit_entry-in-Err.ensures.entered in
@@ -290,11 +324,12 @@ returns-in-Err-clause-counted g c =
     let up : IsUp g.D.Disk.content g.D.Disk.image g.D.Disk.meters sc now c.args.number c.args.site.now c.args.log.now =
     up_meanwhile g.D.Disk.content g.D.Disk.image g.D.Disk.meters sc h now c.args.number (Up c.args.site.now c.args.log.now) m c.requires.up in
     let back = back_meanwhile sc h now c.args.number m c.requires.back in
-    let here = draft_made sc now c.args.number c.args.site.now c.args.input d up.stands c.in_ok-draft.ensures.draft in
-    let is = entries c.args.number _ (seen_by p) (seen_by q) ent.0 (seen_by r) e b refl c.requires.played c.claim.ensures.played c.commit_entry-in-Err.ensures.played in
+    let here = made_meanwhile sc h now c.args.number c.args.input d m made in
+    let all = entries c.args.number _ (seen_by p) (seen_by q) ent.0 (seen_by r) e b refl c.requires.played c.claim.ensures.played c.commit_entry-in-Err.ensures.played in
     let more = history_seen r in
-    let entered = fall_entered sc now more c.args.number c.args.input d c.in-Err.why here is in
-    count_fallen sc c.args.number now more c.args.input d.inputs d.fallen c.in-Err.why c.args.count.now c.count_on-in-Err.new.count here.fallen_are entered
+    let there = records_made sc now c.args.number c.args.input c.into_step-made.result (c.into_step-made.ensures ∙ here.step_is) in
+    let entered = fall_entered sc now more c.args.number c.args.input d.inputs records c.in-Err.why here.inputs_are there all in
+    count_fallen sc c.args.number now more c.args.input d.inputs records c.in-Err.why c.args.count.now c.count_on-in-Err.new.count there entered
     (c.requires.counted ∙ sym (count_meanwhile c.args.number h now m)) (c.count_on-in-Err.ensures ∙ ap (λ (y : Entry). counted_by c.args.count.now y.act) c.fall_of-fall.ensures)
 
 pub returns-in_err-claim-clause-counted : goal.returns-in_err-claim-clause-counted
@@ -310,13 +345,13 @@ returns-in-Err-clause-why g c = λ why is.
     let sc = scenario_seen c.args.pass.now in
     let h = history_seen c.args.pass.now in
     let d = c.in_ok-draft.draft in
-    let made = draft_made sc h c.args.number c.args.site.now c.args.input d c.requires.up.stands c.in_ok-draft.ensures.draft in
+    let made = draft_made sc h c.args.number c.args.site.now _ c.args.input d c.requires.up.stands c.in_ok-draft.ensures.ready in
     let old = g.D.Disk.meters c.args.log.now.disk in
     let new = g.D.Disk.meters c.write.new.log.disk in
     let logged = c.requires.up.logged in
     let same : c.in-Err.why ≡ why = cc in
     subst (λ (w : Why). IsReason w (log_size (moves_of sc h c.args.number)) (made_by sc h c.args.number c.args.input).records old new) same
-    (subst (λ (rs : List Record). IsReason c.in-Err.why (log_size (moves_of sc h c.args.number)) rs old new) (c.as_slice.ensures ∙ made.records_are)
+    (subst (λ (rs : List Record). IsReason c.in-Err.why (log_size (moves_of sc h c.args.number)) rs old new) (c.records.ensures ∙ records_made sc h c.args.number c.args.input d.plan.step made.step_is)
     (c.in-Err.ensures.reason (moves_of sc h c.args.number) logged.lists logged.hold logged.stands))
 
 pub returns-in-Err-clause-need : goal.returns-in-Err-clause-need
@@ -324,7 +359,7 @@ returns-in-Err-clause-need g c = λ why is.
     let sc = scenario_seen c.args.pass.now in
     let h = history_seen c.args.pass.now in
     let d = c.in_ok-draft.draft in
-    let made = draft_made sc h c.args.number c.args.site.now c.args.input d c.requires.up.stands c.in_ok-draft.ensures.draft in
+    let made = draft_made sc h c.args.number c.args.site.now _ c.args.input d c.requires.up.stands c.in_ok-draft.ensures.ready in
     let same : c.in-Err.why ≡ why = cc in
     subst (EndsAt c.args.log.now.end (made_by sc h c.args.number c.args.input).records) same
-    (subst (λ (rs : List Record). EndsAt c.args.log.now.end rs c.in-Err.why) (c.as_slice.ensures ∙ made.records_are) c.in-Err.ensures.need)
+    (subst (λ (rs : List Record). EndsAt c.args.log.now.end rs c.in-Err.why) (c.records.ensures ∙ records_made sc h c.args.number c.args.input d.plan.step made.step_is) c.in-Err.ensures.need)

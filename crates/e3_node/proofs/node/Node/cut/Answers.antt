@@ -6,13 +6,14 @@ use Rattle.e3_node.specs.NodeView.{NodeView}
 use Rattle.e3_node.specs.SharedStands.{HasEntered}
 use Rattle.e3_types.specs.declared.entries.Act.TheVariants.{Cut}
 use Rattle.e3_types.specs.declared.entries.Entry.{Entry}
-use Rattle.e3_wire.specs.Marks.{entries_of, last_owner, scenario_of}
+use Rattle.e3_wire.specs.Marks.{entries_of, last_owner, scenario_of, used_by}
+use Rattle.e3_wire.specs.declared.marks.Note.{Note}
 use Rattle.e3_world.specs.Items.{is_up_at}
 use Rattle.e3_world.specs.Legal.{IsCut}
 use Rattle.e3_node.proofs.Counts.{count_own}
 use Rattle.e3_node.proofs.Guarding.{cut_guard}
 use Rattle.e3_node.proofs.Pasts.{back_quiet}
-use Rattle.e3_node.proofs.Sharing.{may_enter}
+use Rattle.e3_node.proofs.Sharing.{claimed_note, may_enter}
 use Rattle.e3_node.proofs.Steps.{cut_in, node_with}
 use Rattle.e3_node.proofs.node.Node.cut.Goals as goal
 
@@ -20,8 +21,8 @@ pub claim-requires-clause-exists : goal.claim-requires-clause-exists
 claim-requires-clause-exists g c =
     subst (λ (x : NodeView _). x.site ≤ last_owner c.args.shared.now) (sym c.self.view_is) c.requires.standing.exists
 
-pub enter-requires : goal.enter-requires
-enter-requires g c =
+pub enter-requires-clause-may : goal.enter-requires-clause-may
+enter-requires-clause-may g c =
     let was = c.args.shared.now in
     let sc = scenario_of was in
     let h = entries_of was in
@@ -30,6 +31,10 @@ enter-requires g c =
     let some : 1 ≤ c.self.inside.site = subst (λ (x : NodeView _). 1 ≤ x.site) (sym c.self.view_is) c.requires.standing.some in
     let e : Entry = record { owner = c.self.inside.site; act = Cut } in
     may_enter was c.claim.new.shared 0 e c.in_ok-claim.ensures.claimed some (cut_guard sc h c.self.inside.site some crash) tt (omega arith)
+
+pub enter-requires-clause-all : goal.enter-requires-clause-all
+enter-requires-clause-all g c =
+    ap (λ (w : Note). used_by w Cut) (claimed_note c.self.inside.site 0 c.args.shared.now c.claim.new.shared c.in_ok-claim.ensures.claimed)
 
 pub returns-clause-stands : goal.returns-clause-stands
 returns-clause-stands g c =

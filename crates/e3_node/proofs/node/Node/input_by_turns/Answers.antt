@@ -5,7 +5,6 @@ use Rattle.e3_node.specs.Ends.{EndsAt, Takes, calls_for}
 use Rattle.e3_node.specs.NodeStands.{IsIn}
 use Rattle.e3_node.specs.NodeView.{NodeView, disk_of, end_of}
 use Rattle.e3_node.specs.Turns.{history_seen, scenario_seen}
-use Rattle.e3_node.specs.declared.state.State.{State}
 use Rattle.e3_world.specs.Legal.{made_by}
 use Rattle.e3_node.proofs.Steps.{node_with}
 use Rattle.e3_node.proofs.Turned.{in_told}
@@ -20,11 +19,8 @@ pub returns-in-Ok-clause-takes : goal.returns-in-Ok-clause-takes
 returns-in-Ok-clause-takes g c =
     let sc = scenario_seen c.args.pass.now in
     let h = history_seen c.args.pass.now in
-    let node = c.args.self.now in
-    subst (λ (s : State _). Takes (calls_for (made_by sc h node.site c.args.input).records) (g.D.Disk.meters (disk_of node.state)) (g.D.Disk.meters (disk_of s)))
-    (sym c.keep_up.ensures)
-    (subst (λ (x : NodeView _). Takes (calls_for (made_by sc h x.site c.args.input).records) (g.D.Disk.meters (disk_of x.state)) (g.D.Disk.meters (disk_of c.take_by_turns.new.state)))
-    c.self.view_is c.in-Ok.ensures.takes)
+    subst (λ (x : NodeView _). Takes (calls_for (made_by sc h x.site c.args.input).records) (g.D.Disk.meters (disk_of x.state)) (g.D.Disk.meters (disk_of c.take_by_turns.new.state)))
+    c.self.view_is c.in-Ok.ensures.takes
 
 pub returns-in-Err-clause-need : goal.returns-in-Err-clause-need
 returns-in-Err-clause-need g c = λ why is.

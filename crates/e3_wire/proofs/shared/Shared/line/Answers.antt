@@ -11,7 +11,7 @@ use Rattle.e3_wire.proofs.Driving.{net_line, own_entered, own_marks}
 use Rattle.e3_wire.proofs.shared.Shared.line.Goals as goal
 
 pub make_room-requires-clause-few : goal.make_room-requires-clause-few
-make_room-requires-clause-few c = few_are _ _ _ _ _ _ _ _ _ _ _ c.self.invariant
+make_room-requires-clause-few c = few_are _ _ _ _ _ _ _ _ _ _ _ _ c.self.invariant
 
 pub invariant_of-self-2 : goal.invariant_of-self-2
 invariant_of-self-2 c =
@@ -26,7 +26,7 @@ invariant_of-self-2 c =
     let packets = c.self.invariant.for_packets in
     let room = c.calm.ensures.room in
     rw (c.push.ensures.entries, c.push.ensures.marks, c.in_ok-make_room.ensures.entries, c.in_ok-make_room.ensures.marks)
-    (own_entered s.scenario s.most s.history.entries s.stored.items s.net.traffic s.places s.room s.spare _ _ _ c.calm.new.self.traffic (Line c.args.number) _ _ _ _ c.self.invariant (λ w. refl) guard
+    (own_entered s.scenario s.most s.history.entries s.stored.items s.net.traffic s.notes.items s.places s.room s.spare _ _ _ c.calm.new.self.traffic (Line c.args.number) _ _ _ _ c.self.invariant (λ w. refl) guard
     net (ap (λ (t : Traffic). t.sent) c.calm.ensures.traffic) few (omega (arith, spare, entry)) c.push.ensures.known (omega (arith, capacity, marks)) (omega (arith, packets, room)))
 
 pub returns-clause-entered : goal.returns-clause-entered

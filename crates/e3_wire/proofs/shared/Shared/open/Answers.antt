@@ -1,8 +1,9 @@
-use Rattle.std.proofs.Common.{arith}
+use Rattle.std.proofs.Common.{◌+◌, ℕ, replicate, ◌∙◌, ap, arith}
+use Rattle.e3_wire.specs.Marks.{nothing}
 use Rattle.e3_wire.proofs.Claiming.{opened}
 use Rattle.e3_wire.proofs.shared.Shared.open.Goals as goal
 
 pub invariant_of-result : goal.invariant_of-result
 invariant_of-result c =
-    rw (c.new-2.ensures, c.new-3.ensures.items, c.in_ok-net.ensures, c.len.ensures)
-    (opened c.args.scenario c.args.most _ _ _ c.requires.given (omega (arith, c.ranges.most.fits)))
+    rw (c.new-2.ensures, c.new-3.ensures.items, c.in_ok-net.ensures, c.len-sites.ensures)
+    (opened c.args.scenario c.args.most _ _ _ _ c.requires.given (omega (arith, c.ranges.most.fits)) (c.in_ok-notes.ensures ∙ ap (λ (n : ℕ). replicate (n + 1) nothing) c.len-sites.ensures))

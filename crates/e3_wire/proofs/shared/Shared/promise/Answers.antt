@@ -2,19 +2,34 @@ use Rattle.std.proofs.Common.{rules, ◌≤◌, ◌<◌, ◌++◌, ◌∷◌, []
 use Rattle.e3_wire.specs.declared.marks.Mark.{Mark}
 use Rattle.e3_wire.specs.declared.marks.Mark.TheVariants as mark
 use Rattle.e3_wire.specs.Marks.{last_owner, most_of, used_of}
-use Rattle.e3_wire.proofs.Claiming.{claimed, few_are, marks_claimed}
+use Rattle.e3_wire.proofs.Claiming.{can_be_noted, claimed, few_are, marks_claimed}
 use Rattle.e3_wire.proofs.shared.Shared.promise.Goals as goal
 
 pub make_room-requires-clause-few : goal.make_room-requires-clause-few
-make_room-requires-clause-few c = few_are _ _ _ _ _ _ _ _ _ _ _ c.self.invariant
+make_room-requires-clause-few c = few_are _ _ _ _ _ _ _ _ _ _ _ _ c.self.invariant
+
+pub note_claim-requires-clause-owner : goal.note_claim-requires-clause-owner
+note_claim-requires-clause-owner c =
+    let owner = subst (λ (l : List Mark). c.args.owner ≤ last_owner l) (sym c.self.view_is) c.requires.owner in
+    (can_be_noted _ _ _ _ _ _ _ _ _ _ _ _ c.args.owner c.args.outs c.self.invariant owner (search rules)).note
+
+pub note_claim-requires-clause-places : goal.note_claim-requires-clause-places
+note_claim-requires-clause-places c =
+    let owner = subst (λ (l : List Mark). c.args.owner ≤ last_owner l) (sym c.self.view_is) c.requires.owner in
+    (can_be_noted _ _ _ _ _ _ _ _ _ _ _ _ c.args.owner c.args.outs c.self.invariant owner (search rules)).places
+
+pub note_claim-requires-clause-room : goal.note_claim-requires-clause-room
+note_claim-requires-clause-room c =
+    let owner = subst (λ (l : List Mark). c.args.owner ≤ last_owner l) (sym c.self.view_is) c.requires.owner in
+    (can_be_noted _ _ _ _ _ _ _ _ _ _ _ _ c.args.owner c.args.outs c.self.invariant owner (search rules)).room
 
 pub invariant_of-self-2 : goal.invariant_of-self-2
 invariant_of-self-2 c =
     let s = c.self.inside in
     let owner = subst (λ (l : List Mark). c.args.owner ≤ last_owner l) (sym c.self.view_is) c.requires.owner in
     let few = subst (λ (l : List Mark). used_of l < most_of l) (sym c.self.view_is) c.requires.few in
-    rw (c.in_ok-make_room.ensures.entries, c.push_reserved.ensures.items, c.in_ok-make_room.ensures.marks, c.in_ok-reserve.ensures.traffic)
-    (claimed s.scenario s.most s.history.entries s.stored.items s.net.traffic s.places s.room s.spare _ _ _ _ _ _ _ c.args.owner c.args.outs c.in-Some.room c.self.invariant owner few
+    rw (c.in_ok-make_room.ensures.entries, c.push_reserved.ensures.items, c.in_ok-make_room.ensures.marks, c.in_ok-reserve.ensures.traffic, c.note_claim.ensures)
+    (claimed s.scenario s.most s.history.entries s.stored.items s.net.traffic s.notes.items s.places s.room s.spare _ _ _ _ _ _ _ c.args.owner c.args.outs c.in-Some.room c.self.invariant owner few
     (search rules) (search rules) (search rules) (search rules) (search rules) (omega arith))
 
 pub returns-clause-ok : goal.returns-clause-ok

@@ -1,6 +1,0 @@
--- the copies of the items so far
-use Rattle.std.proofs.Common.{◌≡◌, take}
-use Rattle.e3_node.proofs.copying.copied.Given as goal
-
-abbrev pub invariant-loop-item : goal.invariant-loop-item
-invariant-loop-item g l = l.copies.items ≡ take l.item-index l.items

@@ -1,0 +1,16 @@
+use Rattle.e3_node.proofs.Steps.{ready_draft, still_same}
+use Rattle.e3_node.proofs.drafts.planned.Goals as goal
+
+pub returns-clause-ready : goal.returns-clause-ready
+returns-clause-ready g c =
+    ready_draft g.now c.args.input.now c.args.site.now c.ready.new.self c.draft_of.result _ c.draft_of.ensures.plan c.draft_of.ensures.draft
+    c.in_ok-plan.ensures.made c.in_ok-plan.ensures.few (c.ready.ensures.own g.now c.requires c.in_ok-plan.ensures.own) c.in_ok-ready.ensures.ok
+
+pub returns-clause-still : goal.returns-clause-still
+returns-clause-still g c = record { same = c.ready.ensures.same; stands = c.ready.ensures.stands }
+
+pub returns-in_err-ready-clause-still : goal.returns-in_err-ready-clause-still
+returns-in_err-ready-clause-still g c = record { same = c.ready.ensures.same; stands = c.ready.ensures.stands }
+
+pub returns-in_err-plan-clause-still : goal.returns-in_err-plan-clause-still
+returns-in_err-plan-clause-still g c = still_same c.args.site.now

@@ -1,0 +1,4 @@
+use Rattle.e3_node.proofs.drafts.prepare.Given as goal
+
+abbrev pub ghost-planned : goal.ghost-planned
+ghost-planned g a = g.now
