@@ -25,9 +25,9 @@ use Rattle.e3_scenario.specs.Parts.{name_of, value_of, site_of, sites_of, key_of
 use Rattle.e3_scenario.specs.Scenarios.{or_range, repeat_with, numbers_in, base_in, nothing_said, fields_in, by_kind, by_document, scenario_of}
 use Rattle.e3_scenario.specs.Steps.{and_read, or_fault, judged, item_in, StepSoFar, items_read, read_of, step_read, steps_read}
 use Rattle.e3_scenario.specs.Words.{is_printable, space, before, after, rest, word}
-use Rattle.e3_law_trails.proofs.Each.{each-append, each-push, each-map}
+use Rattle.e3_law_steps.proofs.Each.{each-append, each-push, each-map, IfAny}
 use Rattle.e3_law_begun.specs.Mentions.{values_in}
-use Rattle.e3_law_begun.proofs.Lists.{IfAny, each-join}
+use Rattle.e3_law_begun.proofs.Lists.{each-join}
 use Rattle.e3_law_traces.specs.Claims.{ValuesAreLines}
 use Rattle.e3_trace.specs.Cuts.{feed}
 use Rattle.e3_trace.specs.Tellable.{lacks}

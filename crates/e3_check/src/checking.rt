@@ -5,7 +5,8 @@ ghost use Rattle.e3_check.specs.Findings.{by_trace, finding_text, found_in, hist
 ghost use Rattle.e3_trace.specs.Trace.{history_of};
 
 use crate::texts::finding_text;
-use e3_judge::{Breach, checks_are_exact, is_whole, judge};
+use e3_audit::{Audited, audit};
+use e3_judge::{Breach, checks_are_exact};
 use e3_law_agreement::histories_agree;
 use e3_law_serial::one_order;
 use e3_law_traces::legal_traces_read_back;
@@ -71,15 +72,13 @@ fn nothing(alloc: Global, finding: Finding) -> Found
 fn judged(alloc: Global, scenario: &Scenario, history: &History) -> Result<Finding, NoMemory>
     ensures { IfOk result (λ f. f ≡ by_trace scenario.now (Ok history.now.entries)) }
 {
-    match judge(alloc, scenario, history)? {
+    let Audited { breach, whole } = audit(alloc, scenario, history)?;
+    match breach {
         Some(breach) => Ok(Finding::Illegal { breach }),
-        None => {
-            let whole = is_whole(alloc, scenario, history)?;
-            Ok(Finding::Legal {
-                count: history.len(),
-                whole,
-            })
-        }
+        None => Ok(Finding::Legal {
+            count: history.len(),
+            whole,
+        }),
     }
 }
 

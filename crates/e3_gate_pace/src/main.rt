@@ -1,7 +1,7 @@
 //! How long a report takes: `e3_gate_pace report N` makes a history of about N entries, and prints how many it has and how
 //! many bytes its report and its trace have; `e3_gate_pace make N` only makes it. The history is not legal; it has entries of
 //! all that a report looks up. And how long a run takes: `e3_gate_pace play N` plays the scenario on standard input in at most N
-//! threads, and prints how many entries its history has.
+//! threads, and prints how many entries its history has; `e3_gate_pace judge N` does so, and judges the history too.
 #![tactic(auto)]
 
 mod course;
@@ -24,12 +24,13 @@ const NO_OUTPUT: u8 = 4;
 
 const NO_MEMORY: u8 = 5;
 
-/// What is asked for: a history of so many entries, its report too, or a run in at most so many threads.
+/// What is asked for: a history of so many entries, its report too, a run in at most so many threads, or its verdict too.
 #[derive(Clone, Copy)]
 enum Asked {
     Make(u32),
     Report(u32),
     Play(u32),
+    Judge(u32),
 }
 
 fn entries_of(word: &String) -> Option<u32> {
@@ -47,6 +48,7 @@ fn read_words(words: &[String]) -> Option<Asked> {
         "report" => Some(Asked::Report(count)),
         "make" => Some(Asked::Make(count)),
         "play" => Some(Asked::Play(count)),
+        "judge" => Some(Asked::Judge(count)),
         _ => None,
     }
 }
@@ -60,6 +62,13 @@ fn course_of(alloc: Global, entries: u32) -> Result<Course, NoMemory> {
         }
     }
     Ok(course)
+}
+
+fn entered(played: Option<u64>) -> Result<(u64, u64), NoMemory> {
+    match played {
+        Some(entries) => Ok((entries, 0)),
+        None => Err(NoMemory),
+    }
 }
 
 /// How many entries the history has, and how long its report is.
@@ -79,10 +88,8 @@ fn paced<S: Source, R: Wait + Threads + Sync>(
             let text = report(alloc, &course.scenario, &course.history, true)?;
             Ok((course.history.len(), text.len()))
         }
-        Asked::Play(threads) => match play(rt, alloc, source, threads as usize) {
-            Some(entered) => Ok((entered, 0)),
-            None => Err(NoMemory),
-        },
+        Asked::Play(threads) => entered(play(rt, alloc, source, threads as usize, false)),
+        Asked::Judge(threads) => entered(play(rt, alloc, source, threads as usize, true)),
     }
 }
 

@@ -1,5 +1,6 @@
 -- No breach is found exactly where the history is legal, and what is found is one.
-use Rattle.std.proofs.Common.{◌≡◌, ◌++◌, ◌∷◌, [], ℕ, List, length, Option, Some, None, refl, ap, sym, ◌∙◌, subst, append_assoc, take}
+use Rattle.std.proofs.Common.{◌≡◌, ◌++◌, ◌∷◌, [], ℕ, List, length, Option, Some, None, refl, ap, sym, ◌∙◌, subst, append_assoc, append-nil, take, drop}
+use Rattle.std.proofs.lemmas.List.{take-append-drop}
 use Rattle.std.specs.Prelude.{slice_get}
 use Rattle.std.proofs.lemmas.Bool.Decides.{Decides-eqb, Decides-and, Decides-like}
 use Rattle.e3_types.specs.declared.entries.Entry.{Entry}
@@ -40,6 +41,19 @@ legal_none sc before (x ∷ h) was legal =
 
 pub no_breach_is_legal : NoBreachIsLegal
 no_breach_is_legal sc h = (no_breach sc [] h, legal_none sc [] h tt)
+
+-- legal entries are no breach: it is looked for behind them
+skips : (sc : Scenario) (done before h : List Entry) → IsLegal sc done → LegalAfter sc done before →
+    breach_after sc done (before ++ h) ≡ breach_after sc (done ++ before) h
+skips sc done [] h was legal = ap (λ l. breach_after sc l h) (sym (append-nil done))
+skips sc done (x ∷ before) h was legal =
+    ap (λ o. answer (length done) o (breach_after sc (done ++ x ∷ []) (before ++ h))) (checks_from_guard sc done x was legal.0)
+    ∙ skips sc (done ++ x ∷ []) before h (legal_push sc done x was legal.0) legal.1
+    ∙ ap (λ l. breach_after sc l h) (append_assoc done (x ∷ []) before)
+
+pub breach_behind : (sc : Scenario) (h : List Entry) (n : ℕ) → IsLegal sc (take n h) →
+    breach_after sc (take n h) (drop n h) ≡ first_breach sc h
+breach_behind sc h n legal = sym (skips sc [] (take n h) (drop n h) tt legal) ∙ ap (first_breach sc) (take-append-drop n h)
 
 -- the entries before a place, and the entry at it
 take_before : (before more : List Entry) → take (length before) (before ++ more) ≡ before

@@ -115,8 +115,8 @@ fn is_numbered(packet: &Packet, sent: u64, at: u64, made: &Packet) -> bool
         && packet.msg.is_same(&made.msg)
 }
 
-// The packets are those that were made, numbered behind so many that were sent before.
-fn are_numbered(packets: &[Packet], sent: u64, made: &[Packet]) -> bool
+/// The packets are those that were made, numbered behind so many that were sent before.
+pub fn are_numbered(packets: &[Packet], sent: u64, made: &[Packet]) -> bool
     ensures { result ≡ same_list same_packet packets.now (numbered (suc sent) made.now) }
 {
     if packets.len() != made.len() {
@@ -381,8 +381,8 @@ fn drop_breach(
     Ok(None)
 }
 
-/// The first guard that an entry fails behind these entries.
-pub(crate) fn entry_breach(
+/// The first guard that an entry fails behind these entries, none where it may come there. They are read anew.
+pub fn entry_breach(
     alloc: Global,
     scenario: &Scenario,
     before: &[Entry],

@@ -8,7 +8,8 @@ use e3_types::{
 };
 
 /// A value that can be compared with another of its type, part by part.
-pub(crate) trait Same {
+pub trait Same {
+    /// The test of two.
     ghost same: { Self → Self → Bool };
 
     /// The two are one.
@@ -17,7 +18,7 @@ pub(crate) trait Same {
 }
 
 /// The two lists are one.
-pub(crate) fn same_list<T: Same>(xs: &[T], ys: &[T]) -> bool
+pub fn same_list<T: Same>(xs: &[T], ys: &[T]) -> bool
     ensures { result ≡ same_list T.same xs.now ys.now }
 {
     if xs.len() != ys.len() {

@@ -99,8 +99,8 @@ fn delivery_is_due(
     Ok(is_in_order(scenario, before, waiting.as_slice(), packet))
 }
 
-// The round is this transaction's, with this group and this elector.
-fn is_round(round: &RecoveryRound, txn: &Txn, group: SiteSet, site: u32) -> bool
+/// The round is this transaction's, with this group and this elector.
+pub fn is_round(round: &RecoveryRound, txn: &Txn, group: SiteSet, site: u32) -> bool
     ensures { result ≡ same_round round.now (record { txn = txn.now; members = group; elector = site }) }
 {
     round.txn.is_same(txn) && round.members.is_same(group) && round.elector == site

@@ -1,7 +1,7 @@
 // The judge: the first entry of a history that breaks the rules, and whether a history went through its scenario.
-ghost use Rattle.std.specs.Prelude.{◌≡◌, ◌↔◌, IfOk, IfSome, None, IsTrue};
+ghost use Rattle.std.specs.Prelude.{◌≡◌, ◌≤◌, ◌↔◌, IfOk, IfSome, None, IsTrue, length, take, drop};
 ghost use Rattle.e3_world.specs.Legal.{IsLegal, IsWhole};
-ghost use Rattle.e3_judge.specs.Checks.{first_breach, is_whole};
+ghost use Rattle.e3_judge.specs.Checks.{breach_after, first_breach, is_whole};
 ghost use Rattle.e3_judge.specs.Claims.{IsBreach};
 
 use crate::Breach;
@@ -11,15 +11,17 @@ use e3_types::{Entry, NoMemory, Scenario};
 use e3_world::History;
 use std::alloc::Global;
 
-// The first of these entries that breaks the rules.
+// The first of these entries from a place on that breaks the rules behind those before it.
 fn breach_of(
     alloc: Global,
     scenario: &Scenario,
     history: &[Entry],
+    from: usize,
 ) -> Result<Option<Breach>, NoMemory>
-    ensures { IfOk result (λ b. b ≡ first_breach scenario.now history.now) }
+    requires { from ≤ length history.now }
+    ensures { IfOk result (λ b. b ≡ breach_after scenario.now (take from history.now) (drop from history.now)) }
 {
-    for i in 0..history.len() {
+    for i in from..history.len() {
         if let Some(guard) = entry_breach(alloc, scenario, &history[..i], &history[i])? {
             return Ok(Some(Breach {
                 at: i as u64,
@@ -28,6 +30,20 @@ fn breach_of(
         }
     }
     Ok(None)
+}
+
+// The first of these entries that breaks the rules, where those before a place break none.
+fn breach_behind(
+    alloc: Global,
+    scenario: &Scenario,
+    history: &[Entry],
+    from: usize,
+) -> Result<Option<Breach>, NoMemory>
+    requires within { from ≤ length history.now }
+    requires legal { IsLegal scenario.now (take from history.now) }
+    ensures { IfOk result (λ b. b ≡ first_breach scenario.now history.now) }
+{
+    breach_of(alloc, scenario, history, from)
 }
 
 /// The first entry of a history that breaks the rules, and the first of its guards that fails; none where the history is
@@ -43,14 +59,31 @@ pub fn judge(
     ensures legal { IfOk result (λ b. (b ≡ None) ↔ IsLegal scenario.now history.now.entries) }
     ensures broken { IfOk result (λ b. IfSome b (λ x. IsBreach scenario.now history.now.entries x)) }
 {
-    breach_of(alloc, scenario, history.as_slice())
+    breach_of(alloc, scenario, history.as_slice(), 0)
+}
+
+/// The same where the entries before this place are known to be legal: they are read, and not judged anew.
+#[tactic(auto, using(crate::proofs::Breaches::no_breach_is_legal, crate::proofs::Breaches::breach_is_broken))]
+pub fn judge_behind(
+    alloc: Global,
+    scenario: &Scenario,
+    history: &History,
+    from: usize,
+) -> Result<Option<Breach>, NoMemory>
+    requires within { from ≤ length history.now.entries }
+    requires legal { IsLegal scenario.now (take from history.now.entries) }
+    ensures found { IfOk result (λ b. b ≡ first_breach scenario.now history.now.entries) }
+    ensures legal { IfOk result (λ b. (b ≡ None) ↔ IsLegal scenario.now history.now.entries) }
+    ensures broken { IfOk result (λ b. IfSome b (λ x. IsBreach scenario.now history.now.entries x)) }
+{
+    breach_behind(alloc, scenario, history.as_slice(), from)
 }
 
 // The entries are legal and went through the whole scenario.
 fn are_whole(alloc: Global, scenario: &Scenario, history: &[Entry]) -> Result<bool, NoMemory>
     ensures { IfOk result (λ b. b ≡ is_whole scenario.now history.now) }
 {
-    let breach = breach_of(alloc, scenario, history)?;
+    let breach = breach_of(alloc, scenario, history, 0)?;
     if breach.is_some() || lines(history) != scenario.steps.len() {
         return Ok(false);
     }

@@ -9,5 +9,8 @@ mod judging;
 mod laws;
 
 pub use breach::{Breach, Guard};
-pub use judging::{is_whole, judge};
+pub use checks::{are_numbered, entry_breach};
+pub use equal::{Same, same_list};
+pub use inputs::is_round;
+pub use judging::{is_whole, judge, judge_behind};
 pub use laws::checks_are_exact;

@@ -1,6 +1,6 @@
 ghost use Rattle.std.specs.Prelude.{◌≡◌, ◌∷◌, [], false, codes};
 ghost use Rattle.e3_report.specs.Report.{report_of};
-ghost use Rattle.e3_law_waits.specs.Waiters.{WaitsFor};
+ghost use Rattle.e3_law_serial.specs.Waiters.{WaitsFor};
 ghost use Rattle.e3_world.specs.Legal.{IsLegal};
 ghost use Rattle.e3_world.specs.Given.{IsGiven};
 ghost use Rattle.e3_world.specs.Logs.{table_of};

@@ -1,0 +1,6 @@
+use Rattle.e3_world.specs.Lives.{incarnation_of}
+use Rattle.e3_world.specs.Moves.{moves_of}
+use Rattle.e3_audit.proofs.falling.records_so.Given as goal
+
+abbrev pub ghost-plan_at : goal.ghost-plan_at
+ghost-plan_at a = incarnation_of (moves_of a._scenario.now a._before.now a._site)

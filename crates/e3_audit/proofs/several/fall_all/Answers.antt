@@ -1,0 +1,11 @@
+use Rattle.std.proofs.Common.{◌∙◌, ap, fold}
+use Rattle.std.proofs.lemmas.Result.{IfOk-weaker}
+use Rattle.e3_audit.specs.Seats.{noted}
+use Rattle.e3_audit.specs.declared.seat.Seat.{Seat}
+use Rattle.e3_audit.proofs.Seats.{seat_falls}
+use Rattle.e3_audit.proofs.several.fall_all.Goals as goal
+
+pub returns : goal.returns
+returns c = IfOk-weaker c.note_all.result _ _ (λ u is.
+    seat_falls c.args._scenario.now c.args._before.now c.args._site c.args.inputs.now c.args._records.now c.args._why c.args.seat.now _ c.requires
+    (is ∙ ap (λ (s : Seat). fold noted s c.args.inputs.now) c.lie.ensures)) c.note_all.ensures

@@ -1,0 +1,120 @@
+// Rises of sites, also those that fail or are missed, and cuts. They are few, and their guards are read anew.
+ghost use Rattle.std.specs.Prelude.{◌≡◌, ◌++◌, ◌∷◌, [], true, IfOk, IfSome, is_none};
+ghost use Rattle.e3_audit.specs.Seats.{IsUp, RoseLast, SeatStands, Stands};
+ghost use Rattle.e3_judge.specs.Checks.{checks, first_failing};
+ghost use Rattle.e3_net.specs.Stands.{is_quiet};
+ghost use Rattle.e3_world.specs.Legal.{IsLegal};
+
+use crate::auditor::Auditor;
+use crate::seat::Seat;
+use e3_histories::log_at;
+use e3_judge::entry_breach;
+use e3_restart::{RebuildFault, rebuild};
+use e3_site::Site;
+use e3_types::{Act, Entry, NoMemory, Scenario};
+use std::alloc::Global;
+
+/// The entry may come here, by plain readings of these.
+pub(crate) fn may_come(
+    alloc: Global,
+    scenario: &Scenario,
+    before: &[Entry],
+    entry: &Entry,
+) -> Result<bool, NoMemory>
+    ensures { IfOk result (λ b. b ≡ is_none (first_failing (checks scenario.now before.now entry.now))) }
+{
+    Ok(entry_breach(alloc, scenario, before, entry)?.is_none())
+}
+
+// The site that rose by the last of these entries. Its log is in order, so there is one; that is not proved here, but seen.
+fn risen(
+    alloc: Global,
+    scenario: &Scenario,
+    after: &[Entry],
+    site: u32,
+) -> Result<Option<Site>, NoMemory>
+    requires legal { IsLegal scenario.now after.now }
+    requires rose { RoseLast after.now site }
+    ensures { IfOk result (λ risen. IfSome risen (IsUp scenario.now after.now site)) }
+{
+    let log = log_at(alloc, scenario, after, site)?;
+    if log.is_empty() {
+        return Ok(None);
+    }
+    match rebuild(alloc, site, log.as_slice()) {
+        Ok(up) => Ok(Some(up)),
+        Err(RebuildFault::NoMemory) => Err(NoMemory),
+        Err(_) => Ok(None),
+    }
+}
+
+// What is kept of a site goes on over its rise, over one that failed or was missed, and over its cut. No other entry is any
+// of these.
+fn turn(
+    alloc: Global,
+    scenario: &Scenario,
+    _before: &[Entry],
+    after: &[Entry],
+    entry: &Entry,
+    seat: &mut Seat,
+) -> Result<bool, NoMemory>
+    requires legal { IsLegal scenario.now after.now }
+    requires stands { SeatStands scenario.now _before.now entry.now.owner seat.old }
+    requires after { after.now ≡ _before.now ++ entry.now ∷ [] }
+    ensures quiet { IfOk result (λ on. on ≡ true → is_quiet entry.now.act ≡ true) }
+    ensures stands { IfOk result (λ on. on ≡ true → SeatStands scenario.now after.now entry.now.owner seat.new) }
+{
+    match &entry.act {
+        Act::Rise { .. } => match risen(alloc, scenario, after, entry.owner)? {
+            Some(up) => {
+                seat.stand(up);
+                Ok(true)
+            }
+            None => Ok(false),
+        },
+        Act::RiseFall { .. } => {
+            seat.stay_down();
+            Ok(true)
+        }
+        Act::Miss => {
+            seat.stay_down();
+            Ok(true)
+        }
+        Act::Cut => {
+            seat.lie();
+            Ok(true)
+        }
+        _ => Ok(false),
+    }
+}
+
+impl Auditor {
+    /// Goes on over a rise, one that failed or was missed, or a cut, where it may come here.
+    pub(crate) fn turn(
+        &mut self,
+        alloc: Global,
+        scenario: &Scenario,
+        before: &[Entry],
+        after: &[Entry],
+        entry: &Entry,
+    ) -> Result<bool, NoMemory>
+        requires stands { Stands scenario.now before.now self.old }
+        requires after { after.now ≡ before.now ++ entry.now ∷ [] }
+        ensures { IfOk result (λ on. on ≡ true → Stands scenario.now after.now self.new) }
+    {
+        let owner = entry.owner;
+        if owner < 1 || owner as u64 > scenario.weights.len() {
+            return Ok(false);
+        }
+        let may = may_come(alloc, scenario, before, entry)?;
+        if !may {
+            return Ok(false);
+        }
+        let seat = &mut self.seats[owner as usize - 1];
+        let on = turn(alloc, scenario, before, after, entry, seat)?;
+        if !on {
+            return Ok(false);
+        }
+        Ok(true)
+    }
+}

@@ -1,0 +1,198 @@
+// A step of a site.
+ghost use Rattle.std.specs.Prelude.{◌≡◌, ◌≤◌, ◌&&◌, ◌++◌, ◌∷◌, [], true, suc, length, IfOk};
+ghost use Rattle.e3_audit.specs.Seats.{BeingStands, SeatStands, Stands};
+ghost use Rattle.e3_judge.specs.Equal.{same_list, same_packet, same_record, same_told};
+ghost use Rattle.e3_net.specs.Stands.{behind_input};
+ghost use Rattle.e3_net.specs.Traffic.{sends_all};
+ghost use Rattle.e3_site.specs.SiteView.{IsPlanOf, step_kept};
+ghost use Rattle.e3_site.specs.StandsFor.{StandsFor};
+ghost use Rattle.e3_types.specs.declared.entries.Act.TheVariants as act;
+ghost use Rattle.e3_world.specs.Items.{is_up_at};
+ghost use Rattle.e3_world.specs.Legal.{entry_of, made_by, numbered};
+ghost use Rattle.e3_world.specs.Lives.{incarnation_of};
+ghost use Rattle.e3_world.specs.Moves.{moves_of};
+ghost use Rattle.e3_world.specs.declared.lives.Incarnation.{Incarnation};
+ghost use Rattle.e3_world.specs.Packets.{sent as sent_in};
+
+use crate::auditor::Auditor;
+use crate::falling::leave;
+use crate::seat::{Being, Seat};
+use e3_judge::{are_numbered, same_list};
+use e3_net::Net;
+use e3_site::{Plan, Site};
+use e3_types::{Entry, Input, List, NoMemory, Packet, Record, Scenario, Told};
+use std::alloc::Global;
+
+// What a step has is what is planned, its packets numbered behind so many that were sent.
+fn is_as_planned(plan: &Plan, sent: u64, records: &[Record], outs: &[Packet], told: &[Told]) -> bool
+    ensures { result ≡ (same_list same_record records.now plan.now.step.records
+        && same_list same_packet outs.now (numbered (suc sent) plan.now.step.outs) && same_list same_told told.now plan.now.step.told) }
+{
+    same_list(records, plan.records())
+        && are_numbered(outs, sent, plan.outs())
+        && same_list(told, plan.told())
+}
+
+/// What the input makes the site do that this value stands for.
+pub(crate) fn plan_at(
+    up: &Site,
+    _scenario: &Scenario,
+    _before: &[Entry],
+    _site: u32,
+    input: &Input,
+) -> Result<Plan, NoMemory>
+    ghost now: { Incarnation }
+    requires stands { StandsFor _scenario.now _before.now _site up.now }
+    requires now { now ≡ incarnation_of (moves_of _scenario.now _before.now _site) }
+    ensures made { IfOk result (λ plan. plan.step ≡ step_kept input.now (made_by _scenario.now _before.now _site input.now)) }
+    ensures own { IfOk result (λ plan. IsPlanOf plan up.now) }
+{
+    up.plan(input)
+}
+
+// The site does what it plans, where that is what the step has.
+fn take(
+    up: &mut Site,
+    scenario: &Scenario,
+    before: &[Entry],
+    site: u32,
+    sent: u64,
+    input: &Input,
+    records: &[Record],
+    outs: &[Packet],
+    told: &[Told],
+) -> Result<bool, NoMemory>
+    requires stands { StandsFor scenario.now before.now site up.old }
+    requires sent { sent ≡ length (sent_in before.now) }
+    ensures made { IfOk result (λ on. on ≡ true → record { owner = site; act = act.Step input.now records.now outs.now told.now } ≡ entry_of scenario.now before.now site input.now) }
+    ensures stands { IfOk result (λ on. on ≡ true → StandsFor scenario.now (before.now ++ entry_of scenario.now before.now site input.now ∷ []) site up.new) }
+{
+    let plan = plan_at(up, scenario, before, site, input)?;
+    if !is_as_planned(&plan, sent, records, outs, told) {
+        return Ok(false);
+    }
+    up.ready(&plan)?;
+    let _step = up.apply(plan);
+    Ok(true)
+}
+
+// The site does so, where it is up.
+fn act(
+    being: &mut Being,
+    scenario: &Scenario,
+    before: &[Entry],
+    site: u32,
+    sent: u64,
+    input: &Input,
+    records: &[Record],
+    outs: &[Packet],
+    told: &[Told],
+) -> Result<bool, NoMemory>
+    requires stands { BeingStands scenario.now before.now site being.old }
+    requires sent { sent ≡ length (sent_in before.now) }
+    ensures up { IfOk result (λ on. on ≡ true → is_up_at before.now site ≡ true) }
+    ensures made { IfOk result (λ on. on ≡ true → record { owner = site; act = act.Step input.now records.now outs.now told.now } ≡ entry_of scenario.now before.now site input.now) }
+    ensures stands { IfOk result (λ on. on ≡ true → BeingStands scenario.now (before.now ++ entry_of scenario.now before.now site input.now ∷ []) site being.new) }
+{
+    match being {
+        Being::Up(up) => take(up, scenario, before, site, sent, input, records, outs, told),
+        Being::Down => Ok(false),
+    }
+}
+
+// The site takes a step, and what is kept of it goes on.
+fn step_at(
+    seat: &mut Seat,
+    scenario: &Scenario,
+    before: &[Entry],
+    site: u32,
+    sent: u64,
+    input: &Input,
+    records: &[Record],
+    outs: &[Packet],
+    told: &[Told],
+) -> Result<bool, NoMemory>
+    requires stands { SeatStands scenario.now before.now site seat.old }
+    requires sent { sent ≡ length (sent_in before.now) }
+    ensures up { IfOk result (λ on. on ≡ true → is_up_at before.now site ≡ true) }
+    ensures made { IfOk result (λ on. on ≡ true → record { owner = site; act = act.Step input.now records.now outs.now told.now } ≡ entry_of scenario.now before.now site input.now) }
+    ensures stands { IfOk result (λ on. on ≡ true → SeatStands scenario.now (before.now ++ entry_of scenario.now before.now site input.now ∷ []) site seat.new) }
+{
+    let being = &mut seat.being;
+    if !act(
+        being, scenario, before, site, sent, input, records, outs, told,
+    )? {
+        return Ok(false);
+    }
+    seat.note(input)?;
+    Ok(true)
+}
+
+fn copies_of(alloc: Global, packets: &[Packet]) -> Result<List<Packet>, NoMemory>
+    ensures { IfOk result (λ copies. copies ≡ packets.now) }
+{
+    let mut copies = List::new(alloc);
+    for packet in packets {
+        copies.push(packet.copy())?;
+    }
+    Ok(copies)
+}
+
+// The packets are sent, one after the other.
+fn send_all(alloc: Global, net: &mut Net, outs: &[Packet]) -> Result<(), NoMemory>
+    ensures { IfOk result (λ u. net.new.traffic ≡ sends_all net.old.traffic outs.now) }
+{
+    let Ok(count) = u32::try_from(outs.len()) else {
+        return Err(NoMemory);
+    };
+    if net.sent() > u64::MAX - u64::from(count) {
+        return Err(NoMemory);
+    }
+    net.reserve(count)?;
+    let _sent = net.send_all(copies_of(alloc, outs)?);
+    Ok(())
+}
+
+// The packet that the input takes leaves the network, and these packets are sent.
+fn pass(alloc: Global, net: &mut Net, input: &Input, outs: &[Packet]) -> Result<(), NoMemory>
+    ensures { IfOk result (λ u. net.new.traffic ≡ sends_all (behind_input net.old.traffic input.now) outs.now) }
+{
+    leave(net, input);
+    send_all(alloc, net, outs)
+}
+
+impl Auditor {
+    /// Goes on over a step of a site of the scenario, where it is seen to be what its input makes the site do, and the input to
+    /// be due.
+    pub(crate) fn step(
+        &mut self,
+        alloc: Global,
+        scenario: &Scenario,
+        before: &[Entry],
+        site: u32,
+        input: &Input,
+        records: &[Record],
+        outs: &[Packet],
+        told: &[Told],
+    ) -> Result<bool, NoMemory>
+        requires stands { Stands scenario.now before.now self.old }
+        requires some { 1 ≤ site }
+        requires exists { site ≤ length scenario.now.weights }
+        ensures { IfOk result (λ on. on ≡ true →
+            Stands scenario.now (before.now ++ record { owner = site; act = act.Step input.now records.now outs.now told.now } ∷ []) self.new) }
+    {
+        let due = self.input_is_due(alloc, scenario, before, site, input)?;
+        if !due {
+            return Ok(false);
+        }
+        let sent = self.net.sent();
+        let seat = &mut self.seats[site as usize - 1];
+        if !step_at(
+            seat, scenario, before, site, sent, input, records, outs, told,
+        )? {
+            return Ok(false);
+        }
+        pass(alloc, &mut self.net, input, outs)?;
+        Ok(true)
+    }
+}

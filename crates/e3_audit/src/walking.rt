@@ -1,0 +1,127 @@
+// A walk over a history, entry by entry.
+ghost use Rattle.std.specs.Prelude.{◌≡◌, ◌++◌, ◌∷◌, [], true, IfOk};
+ghost use Rattle.e3_audit.specs.Seats.{Stands};
+ghost use Rattle.e3_audit.specs.Walks.{IsWalked};
+ghost use Rattle.e3_items.specs.Bindings.{bound_behind};
+
+use crate::auditor::Auditor;
+use e3_items::{bind, nothing_bound};
+use e3_types::{Act, Entry, NoMemory, Scenario};
+use e3_world::Binding;
+use std::alloc::Global;
+
+/// How many entries were passed, which are legal; and whether that is all of them, and all before the next line is through.
+/// What is not passed, or not through, may be so all the same.
+#[derive(Clone, Copy)]
+pub(crate) struct Walked {
+    pub passed: usize,
+    pub through: bool,
+}
+
+impl Auditor {
+    // Goes on over an entry, where it is seen to be legal.
+    fn enter(
+        &mut self,
+        alloc: Global,
+        scenario: &Scenario,
+        before: &[Entry],
+        after: &[Entry],
+        binding: &Binding,
+        entry: &Entry,
+    ) -> Result<bool, NoMemory>
+        requires stands { Stands scenario.now before.now self.old }
+        requires after { after.now ≡ before.now ++ entry.now ∷ [] }
+        requires bound { binding.now ≡ bound_behind scenario.now before.now }
+        ensures { IfOk result (λ on. on ≡ true → Stands scenario.now (before.now ++ entry.now ∷ []) self.new) }
+    {
+        let owner = entry.owner;
+        match &entry.act {
+            Act::Line { number } => {
+                if owner != 0 {
+                    return Ok(false);
+                }
+                self.line(alloc, scenario, before, binding, *number)
+            }
+            Act::Step {
+                input,
+                records,
+                outs,
+                told,
+            } => {
+                if owner < 1 || owner as u64 > scenario.weights.len() {
+                    return Ok(false);
+                }
+                self.step(
+                    alloc,
+                    scenario,
+                    before,
+                    owner,
+                    input,
+                    records.as_slice(),
+                    outs.as_slice(),
+                    told.as_slice(),
+                )
+            }
+            Act::Fall {
+                inputs,
+                records,
+                why,
+            } => {
+                if owner < 1 || owner as u64 > scenario.weights.len() {
+                    return Ok(false);
+                }
+                self.fall(
+                    alloc,
+                    scenario,
+                    before,
+                    owner,
+                    inputs.as_slice(),
+                    records.as_slice(),
+                    *why,
+                    entry,
+                )
+            }
+            Act::Drop { packet } => {
+                if owner != 0 {
+                    return Ok(false);
+                }
+                Ok(self.lose(scenario, before, *packet))
+            }
+            Act::Parts { .. } => self.part(alloc, scenario, before, entry),
+            _ => self.turn(alloc, scenario, before, after, entry),
+        }
+    }
+}
+
+/// Walks over a history with what is kept of it, up to the first entry that is not seen to be legal.
+pub(crate) fn walk(
+    alloc: Global,
+    scenario: &Scenario,
+    history: &[Entry],
+) -> Result<Walked, NoMemory>
+    ensures { IfOk result (IsWalked scenario.now history.now) }
+{
+    let Some(mut auditor) = Auditor::start(alloc, scenario)? else {
+        return Ok(Walked {
+            passed: 0,
+            through: false,
+        });
+    };
+    let mut binding = nothing_bound(alloc);
+    for at in 0..history.len() {
+        let before = &history[..at];
+        let after = &history[..at + 1];
+        if !auditor.enter(alloc, scenario, before, after, &binding, &history[at])? {
+            return Ok(Walked {
+                passed: at,
+                through: false,
+            });
+        }
+        bind(alloc, scenario, &history[at..at + 1], &mut binding)?;
+    }
+    let through = auditor.is_through(alloc, scenario, history)?;
+    Ok(Walked {
+        passed: history.len(),
+        through,
+    })
+}
