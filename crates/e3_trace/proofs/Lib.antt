@@ -1,6 +1,8 @@
 pub mod Places
 pub mod Names
 pub mod Lines
+pub mod Standing
+pub mod Knowing
 pub mod Fronts
 pub mod Cutting
 pub mod Numbers

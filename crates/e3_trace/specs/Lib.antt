@@ -4,6 +4,7 @@ pub mod Inputs
 pub mod Messages
 pub mod Events
 pub mod Drafts
+pub mod Past
 pub mod Entries
 pub mod Trace
 pub mod Tellable

@@ -1,12 +1,16 @@
 // The entry whose lines are being read.
-ghost use Rattle.std.specs.Prelude.{◌≡◌, ◌++◌, ◌∷◌, [], OnOk, option_to_list};
+ghost use Rattle.std.specs.Prelude.{◌≡◌, ◌+◌, ◌++◌, ◌∷◌, [], OnOk, option_to_list};
 ghost use Rattle.e3_trace.specs.Cuts.{Gives, Leaves};
 ghost use Rattle.e3_trace.specs.Drafts.{grown, records_of, ops_due, is_complete, is_step, act_by, entry_from, draft_of, growing_with, with_record, takes_records, takes_packets, takes_told, with_input, with_packet, with_told};
+ghost use Rattle.e3_trace.specs.Past.{SameOuts, knowing};
 ghost use Rattle.e3_trace.specs.declared.drafts.Growing.TheVariants as growing;
+ghost use Rattle.e3_world.specs.Packets.{sent};
 
 use crate::faults::Fault;
 use crate::inputs::input;
 use crate::known::Known;
+use crate::past::Past;
+use crate::spare::{add, fitted};
 use e3_types::{Act, Entry, Input, List, NoMemory, NumOp, Packet, Record, Row, Told, Txn, Why};
 use std::alloc::Global;
 use std::mem;
@@ -62,9 +66,12 @@ fn grown(site: u32, growing: Growing) -> Option<Record>
             format,
             site,
             weights,
-            rows,
+            rows: fitted(rows),
         }),
-        Growing::Vote { txn, ops, .. } => Some(Record::Vote { txn, ops }),
+        Growing::Vote { txn, ops, .. } => Some(Record::Vote {
+            txn,
+            ops: fitted(ops),
+        }),
     }
 }
 
@@ -162,31 +169,31 @@ impl Draft {
     }
 
     // The record that grows is one of the others from now on.
-    fn close_record(&mut self) -> Result<(), NoMemory>
+    fn close_record(&mut self, alloc: Global) -> Result<(), NoMemory>
         ensures { OnOk result (self.new ≡ record self.old { records = records_of self.old; growing = growing.Nothing }) }
     {
         let last = mem::replace(&mut self.growing, Growing::Nothing);
         match grown(self.owner, last) {
             None => Ok(()),
-            Some(record) => self.records.push(record),
+            Some(record) => add(alloc, &mut self.records, record),
         }
     }
 
     /// A record that may have more lines comes behind the others.
-    pub(crate) fn grow(&mut self, growing: Growing) -> Result<(), NoMemory>
+    pub(crate) fn grow(&mut self, alloc: Global, growing: Growing) -> Result<(), NoMemory>
         ensures { OnOk result (self.new ≡ growing_with self.old growing) }
     {
-        self.close_record()?;
+        self.close_record(alloc)?;
         self.growing = growing;
         Ok(())
     }
 
     /// A record of one line comes behind the others.
-    pub(crate) fn add_record(&mut self, added: Record) -> Result<(), NoMemory>
+    pub(crate) fn add_record(&mut self, alloc: Global, added: Record) -> Result<(), NoMemory>
         ensures { OnOk result (self.new ≡ with_record self.old added) }
     {
-        self.close_record()?;
-        self.records.push(added)
+        self.close_record(alloc)?;
+        add(alloc, &mut self.records, added)
     }
 
     /// An input of a fall: `i INPUT`.
@@ -195,50 +202,53 @@ impl Draft {
         &mut self,
         alloc: Global,
         known: &Known,
+        past: &Past,
         text: &[u8],
     ) -> Result<(), Fault>
-        ensures { Leaves result self.new (with_input known.now self.old text.now) }
+        ensures leaves { Leaves result self.new (with_input (knowing known.now (sent past.now)) self.old text.now) }
+        ensures same { OnOk result (SameOuts self.old self.new) }
+        ensures due { OnOk result (self.new.due + 1 ≡ self.old.due) }
     {
         if self.due == 0 {
             return Err(Fault::Bad);
         }
-        let input = input(alloc, known, text)?;
-        self.inputs.push(input)?;
+        let input = input(alloc, known, past, text)?;
+        add(alloc, &mut self.inputs, input)?;
         self.due -= 1;
         Ok(())
     }
 
     /// A packet that the step sent.
-    pub(crate) fn add_packet(&mut self, packet: Packet) -> Result<(), NoMemory>
+    pub(crate) fn add_packet(&mut self, alloc: Global, packet: Packet) -> Result<(), NoMemory>
         ensures { OnOk result (self.new ≡ with_packet self.old packet) }
     {
-        self.outs.push(packet)
+        add(alloc, &mut self.outs, packet)
     }
 
     /// What the step told.
-    pub(crate) fn add_told(&mut self, event: Told) -> Result<(), NoMemory>
+    pub(crate) fn add_told(&mut self, alloc: Global, event: Told) -> Result<(), NoMemory>
         ensures { OnOk result (self.new ≡ with_told self.old event) }
     {
-        self.told.push(event)
+        add(alloc, &mut self.told, event)
     }
 
-    /// The entry, where no line of it is due.
+    /// The entry, where no line of it is due. Its lists have room for just their items.
     #[tactic(auto, unfolding(crate::specs::Drafts::entry_from))]
-    pub(crate) fn entry(self) -> Result<Entry, Fault>
+    pub(crate) fn entry(self, alloc: Global) -> Result<Entry, Fault>
         ensures { Gives result (entry_from self) }
     {
         if !self.is_complete() {
             return Err(Fault::Bad);
         }
         let mut draft = self;
-        draft.close_record()?;
+        draft.close_record(alloc)?;
         let owner = draft.owner;
         let act = act(
             draft.head,
-            draft.inputs,
-            draft.records,
-            draft.outs,
-            draft.told,
+            fitted(draft.inputs),
+            fitted(draft.records),
+            fitted(draft.outs),
+            fitted(draft.told),
         );
         Ok(Entry { owner, act })
     }

@@ -1,8 +1,10 @@
 // The first lines of entries, read behind what earlier lines tell.
-ghost use Rattle.std.specs.Prelude.{◌≡◌, IfErr};
-ghost use Rattle.e3_trace.specs.Cuts.{Gives};
+ghost use Rattle.std.specs.Prelude.{◌≡◌, [], IfErr, IfOk, codes};
+ghost use Rattle.e3_trace.specs.Cuts.{space, pair_of, behind, Gives};
 ghost use Rattle.e3_trace.specs.Entries.{full_and, why_and, why_of, kept_of, rise_of, kept_why_of, failed_rise_of, fall_of, act_by, draft_by, form_of};
 ghost use Rattle.e3_trace.specs.Fields.{u64_of};
+ghost use Rattle.e3_trace.specs.Past.{knowing, sends};
+ghost use Rattle.e3_world.specs.Packets.{outs_of, sent};
 
 use crate::cuts::{SPACE, behind, cut, is_text};
 use crate::drafts::{Draft, Head};
@@ -11,6 +13,7 @@ use crate::faults::Fault;
 use crate::fields::{long, parts, short};
 use crate::inputs::input;
 use crate::known::Known;
+use crate::past::Past;
 use e3_types::{Act, Why};
 use std::alloc::Global;
 
@@ -24,17 +27,34 @@ fn kept(text: &[u8]) -> Result<bool, Fault>
     }
 }
 
+fn of_count(text: &[u8]) -> Result<(u64, u64), Fault>
+    ensures { Gives result (behind (codes "of") (pair_of space u64_of u64_of) text.now) }
+{
+    let rest = behind(text, "of")?;
+    let (word, rest) = cut(rest, SPACE)?;
+    let room = long(word)?;
+    let count = long(rest)?;
+    Ok((room, count))
+}
+
 fn full_count(text: &[u8]) -> Result<(Why, u64), Fault>
     ensures { Gives result (full_and u64_of text.now) }
 {
     let rest = behind(text, "full")?;
     let (word, rest) = cut(rest, SPACE)?;
     let need = long(word)?;
-    let rest = behind(rest, "of")?;
+    let (room, count) = of_count(rest)?;
+    Ok((Why::Full { need, room }, count))
+}
+
+fn of_kept(text: &[u8]) -> Result<(u64, bool), Fault>
+    ensures { Gives result (behind (codes "of") (pair_of space u64_of kept_of) text.now) }
+{
+    let rest = behind(text, "of")?;
     let (word, rest) = cut(rest, SPACE)?;
     let room = long(word)?;
-    let count = long(rest)?;
-    Ok((Why::Full { need, room }, count))
+    let kept = kept(rest)?;
+    Ok((room, kept))
 }
 
 fn full_kept(text: &[u8]) -> Result<(Why, bool), Fault>
@@ -43,10 +63,7 @@ fn full_kept(text: &[u8]) -> Result<(Why, bool), Fault>
     let rest = behind(text, "full")?;
     let (word, rest) = cut(rest, SPACE)?;
     let need = long(word)?;
-    let rest = behind(rest, "of")?;
-    let (word, rest) = cut(rest, SPACE)?;
-    let room = long(word)?;
-    let kept = kept(rest)?;
+    let (room, kept) = of_kept(rest)?;
     Ok((Why::Full { need, room }, kept))
 }
 
@@ -92,7 +109,8 @@ fn why(text: &[u8]) -> Result<Why, Fault>
 // A rise: its incarnation, and whether an open frame was kept.
 #[tactic(auto, unfolding(crate::specs::Entries::rise_of))]
 fn rise(text: &[u8]) -> Result<Act, Fault>
-    ensures { Gives result (rise_of text.now) }
+    ensures gives { Gives result (rise_of text.now) }
+    ensures outs { IfOk result (λ a. outs_of a ≡ []) }
 {
     match cut(text, SPACE) {
         Err(_) => {
@@ -122,7 +140,8 @@ fn kept_why(text: &[u8]) -> Result<(bool, Why), Fault>
 
 #[tactic(auto, unfolding(crate::specs::Entries::failed_rise_of))]
 fn failed_rise(text: &[u8]) -> Result<Act, Fault>
-    ensures { Gives result (failed_rise_of text.now) }
+    ensures gives { Gives result (failed_rise_of text.now) }
+    ensures outs { IfOk result (λ a. outs_of a ≡ []) }
 {
     let (word, rest) = cut(text, SPACE)?;
     let inc = short(word)?;
@@ -133,7 +152,8 @@ fn failed_rise(text: &[u8]) -> Result<Act, Fault>
 // An entry of one line.
 #[tactic(auto, unfolding(crate::specs::Entries::act_by))]
 fn act_by(alloc: Global, verb: &[u8], text: &[u8]) -> Result<Act, Fault>
-    ensures { Gives result (act_by verb.now text.now) }
+    ensures gives { Gives result (act_by verb.now text.now) }
+    ensures outs { IfOk result (λ a. outs_of a ≡ []) }
 {
     if is_text(verb, "line") {
         let number = short(text)?;
@@ -157,14 +177,16 @@ fn act_by(alloc: Global, verb: &[u8], text: &[u8]) -> Result<Act, Fault>
 fn draft_by(
     alloc: Global,
     known: &Known,
+    past: &Past,
     owner: u32,
     verb: &[u8],
     text: &[u8],
 ) -> Result<Draft, Fault>
-    ensures { Gives result (draft_by known.now owner verb.now text.now) }
+    ensures gives { Gives result (draft_by (knowing known.now (sent past.now)) owner verb.now text.now) }
+    ensures outs { IfOk result (λ d. sends d ≡ []) }
 {
     if is_text(verb, "step") {
-        let input = input(alloc, known, text)?;
+        let input = input(alloc, known, past, text)?;
         Ok(Draft::new(alloc, owner, Head::Step(input), 0))
     } else if is_text(verb, "fall") {
         let (why, due) = fall(text)?;
@@ -175,10 +197,17 @@ fn draft_by(
     }
 }
 
-/// The form of an entry of the owner.
+/// The form of an entry of the owner. It has sent no packet yet.
 #[tactic(auto, unfolding(crate::specs::Entries::form_of))]
-pub(crate) fn form(alloc: Global, known: &Known, owner: u32, text: &[u8]) -> Result<Draft, Fault>
-    ensures { Gives result (form_of known.now owner text.now) }
+pub(crate) fn form(
+    alloc: Global,
+    known: &Known,
+    past: &Past,
+    owner: u32,
+    text: &[u8],
+) -> Result<Draft, Fault>
+    ensures gives { Gives result (form_of (knowing known.now (sent past.now)) owner text.now) }
+    ensures outs { IfOk result (λ d. sends d ≡ []) }
 {
     if is_text(text, "miss") {
         Ok(Draft::new(alloc, owner, Head::Whole(Act::Miss), 0))
@@ -186,6 +215,6 @@ pub(crate) fn form(alloc: Global, known: &Known, owner: u32, text: &[u8]) -> Res
         Ok(Draft::new(alloc, owner, Head::Whole(Act::Cut), 0))
     } else {
         let (verb, rest) = cut(text, SPACE)?;
-        draft_by(alloc, known, owner, verb, rest)
+        draft_by(alloc, known, past, owner, verb, rest)
     }
 }

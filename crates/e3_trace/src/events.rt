@@ -1,13 +1,13 @@
 // What steps tell, read behind what earlier lines tell.
 ghost use Rattle.std.specs.Prelude.{◌≡◌, IfErr};
 ghost use Rattle.e3_trace.specs.Cuts.{space, made_of, pair_of, behind, Gives};
-ghost use Rattle.e3_trace.specs.Events.{of_of, verdict_of, doom_of, refusal_by, refusal_of, event_by, event_of, began_of, told_by, told_of};
+ghost use Rattle.e3_trace.specs.Events.{of_of, verdict_of, refusal_by, refusal_of, event_by, event_of, began_of, told_by, told_of};
 ghost use Rattle.e3_trace.specs.Fields.{u32_of, answer_of};
 ghost use Rattle.e3_types.specs.declared.entries.Told.TheVariants as told;
 
 use crate::cuts::{SPACE, behind, cut, is_text};
 use crate::faults::Fault;
-use crate::fields::{TxnName, answer, dir, long, short, sites, state, txn_name};
+use crate::fields::{TxnName, answer, dir, long, short, sites, state, three_shorts, txn_name};
 use crate::known::Known;
 use e3_types::{Dir, Refusal, Told, Txn, Verdict};
 use std::alloc::Global;
@@ -44,18 +44,6 @@ fn verdict(text: &[u8]) -> Result<Verdict, Fault>
     }
 }
 
-// A site, the incarnation that it had, and the one that it has.
-fn doom(text: &[u8]) -> Result<(u32, (u32, u32)), Fault>
-    ensures { Gives result (doom_of text.now) }
-{
-    let (word, rest) = cut(text, SPACE)?;
-    let site = short(word)?;
-    let (word, rest) = cut(rest, SPACE)?;
-    let had = short(word)?;
-    let now = short(rest)?;
-    Ok((site, (had, now)))
-}
-
 #[tactic(auto, unfolding(crate::specs::Events::refusal_by))]
 fn refusal_by(known: &Known, verb: &[u8], text: &[u8]) -> Result<Refusal, Fault>
     ensures { Gives result (refusal_by known.now verb.now text.now) }
@@ -70,7 +58,7 @@ fn refusal_by(known: &Known, verb: &[u8], text: &[u8]) -> Result<Refusal, Fault>
         let older = known.txn(text)?;
         Ok(Refusal::Died { older })
     } else if is_text(verb, "doomed") {
-        let (site, (had, now)) = doom(text)?;
+        let (site, (had, now)) = three_shorts(text)?;
         Ok(Refusal::Doomed { site, had, now })
     } else if is_text(verb, "too-late") {
         let attempt = short(text)?;
@@ -121,7 +109,7 @@ fn event_by(known: &Known, txn: Txn, verb: &[u8], text: &[u8]) -> Result<Told, F
         let older = known.txn(rest)?;
         Ok(Told::Died { txn, older })
     } else if is_text(verb, "doomed") {
-        let (site, (had, now)) = doom(text)?;
+        let (site, (had, now)) = three_shorts(text)?;
         Ok(Told::Doomed {
             txn,
             site,

@@ -59,6 +59,26 @@ pub(crate) fn long(text: &[u8]) -> Result<u64, Fault>
     number(text, 18446744073709551615).ok_or(Fault::Bad)
 }
 
+/// Two numbers of 32 bits.
+pub(crate) fn two_shorts(text: &[u8]) -> Result<(u32, u32), Fault>
+    ensures { Gives result (pair_of space u32_of u32_of text.now) }
+{
+    let (word, rest) = cut(text, SPACE)?;
+    let first = short(word)?;
+    let second = short(rest)?;
+    Ok((first, second))
+}
+
+/// Three numbers of 32 bits.
+pub(crate) fn three_shorts(text: &[u8]) -> Result<(u32, (u32, u32)), Fault>
+    ensures { Gives result (pair_of space u32_of (pair_of space u32_of u32_of) text.now) }
+{
+    let (word, rest) = cut(text, SPACE)?;
+    let first = short(word)?;
+    let others = two_shorts(rest)?;
+    Ok((first, others))
+}
+
 /// A name.
 fn name_or_none(text: &[u8]) -> Option<Name>
     ensures { result ≡ name_of text.now }
@@ -183,6 +203,16 @@ pub(crate) fn state(text: &[u8]) -> Result<State, Fault>
     } else {
         Err(Fault::Bad)
     }
+}
+
+/// A number and a direction.
+pub(crate) fn short_and_dir(text: &[u8]) -> Result<(u32, Dir), Fault>
+    ensures { Gives result (pair_of space u32_of dir_of text.now) }
+{
+    let (word, rest) = cut(text, SPACE)?;
+    let n = short(word)?;
+    let dir = dir(rest)?;
+    Ok((n, dir))
 }
 
 fn write(text: &[u8]) -> Result<Op, Fault>

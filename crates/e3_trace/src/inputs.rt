@@ -2,11 +2,14 @@
 ghost use Rattle.e3_trace.specs.Cuts.{space, made_of, pair_of, Gives};
 ghost use Rattle.e3_trace.specs.Fields.{sites_of, op_of, txn_of};
 ghost use Rattle.e3_trace.specs.Inputs.{do_from, elect_from, input_by, input_of};
+ghost use Rattle.e3_trace.specs.Past.{knowing};
+ghost use Rattle.e3_world.specs.Packets.{sent};
 
 use crate::cuts::{SPACE, cut, is_text};
 use crate::faults::Fault;
 use crate::fields::{op, sites};
 use crate::known::Known;
+use crate::past::Past;
 use e3_types::Input;
 use std::alloc::Global;
 
@@ -28,9 +31,15 @@ fn elect(alloc: Global, known: &Known, text: &[u8]) -> Result<Input, Fault>
     Ok(Input::Elect { txn, group })
 }
 
-#[tactic(auto, unfolding(crate::specs::Inputs::input_by))]
-fn input_by(alloc: Global, known: &Known, verb: &[u8], text: &[u8]) -> Result<Input, Fault>
-    ensures { Gives result (input_by known.now verb.now text.now) }
+#[tactic(auto, unfolding(crate::specs::Inputs::input_by, crate::specs::Fields::txn_of, crate::specs::Fields::named, crate::specs::Fields::sent_of, crate::specs::Fields::packet_at))]
+fn input_by(
+    alloc: Global,
+    known: &Known,
+    past: &Past,
+    verb: &[u8],
+    text: &[u8],
+) -> Result<Input, Fault>
+    ensures { Gives result (input_by (knowing known.now (sent past.now)) verb.now text.now) }
 {
     if is_text(verb, "begin") {
         let sites = sites(alloc, text)?;
@@ -49,18 +58,18 @@ fn input_by(alloc: Global, known: &Known, verb: &[u8], text: &[u8]) -> Result<In
     } else if is_text(verb, "elect") {
         elect(alloc, known, text)
     } else if is_text(verb, "deliver") {
-        let packet = known.packet(text)?;
+        let packet = past.packet(text)?;
         Ok(Input::Deliver { packet })
     } else {
         Err(Fault::Bad)
     }
 }
 
-/// An input. A packet that is delivered is named by its number.
+/// An input. A packet that is delivered is named by its number, and stands in the entries that are read.
 #[tactic(auto, unfolding(crate::specs::Inputs::input_of))]
-pub(crate) fn input(alloc: Global, known: &Known, text: &[u8]) -> Result<Input, Fault>
-    ensures { Gives result (input_of known.now text.now) }
+pub(crate) fn input(alloc: Global, known: &Known, past: &Past, text: &[u8]) -> Result<Input, Fault>
+    ensures { Gives result (input_of (knowing known.now (sent past.now)) text.now) }
 {
     let (verb, rest) = cut(text, SPACE)?;
-    input_by(alloc, known, verb, rest)
+    input_by(alloc, known, past, verb, rest)
 }

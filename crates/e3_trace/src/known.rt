@@ -1,29 +1,30 @@
-// What earlier lines tell: the transactions that began, and the packets that were sent.
-ghost use Rattle.std.specs.Prelude.{◌≡◌, [], ℕ, OnOk, option_copied, option_and_then};
-ghost use Rattle.e3_trace.specs.Cuts.{Gives};
-ghost use Rattle.e3_trace.specs.Fields.{named, packet_at, txn_of, sent_of, known_sent, known_told};
+// What earlier lines tell of transactions: those that began.
+ghost use Rattle.std.specs.Prelude.{◌≡◌, [], OnOk, option_copied};
+ghost use Rattle.e3_trace.specs.Cuts.{space, pair_of, Gives};
+ghost use Rattle.e3_trace.specs.Fields.{u32_of, dir_of, named, txn_of, known_told};
 
+use crate::cuts::{SPACE, cut};
 use crate::faults::Fault;
-use crate::fields::{TxnName, long, txn_name};
-use e3_types::{NoMemory, Packet, SiteSet, Told, Txn};
+use crate::fields::{TxnName, short, short_and_dir, txn_name};
+use e3_types::{Dir, NoMemory, SiteSet, Told, Txn};
 use std::alloc::Global;
 use std::collections::BTreeMap;
 use std::marker::Model;
 
-/// The sites of each transaction that was told as begun, and each packet that was sent. Maps find them, so that a trace
-/// of many entries is read in little time.
+/// The sites of each transaction that was told as begun. A map finds them, so that a trace of many entries is read in
+/// little time. It knows no packet: those stand in the entries that are read.
 #[derive(Drop)]
 pub(crate) struct Known {
     begun: BTreeMap<TxnName, SiteSet>,
-    sent: BTreeMap<u64, Packet>,
 }
 
 impl Model for Known {
+    ghost use Rattle.std.specs.Prelude.{[]};
     ghost use Rattle.e3_trace.specs.Fields.{Known as Told};
 
     ghost Value = { Told };
 
-    ghost view = { λ k. record { begun = k.begun.entries; sent = k.sent.entries } };
+    ghost view = { λ k. record { begun = k.begun.entries; sent = [] } };
 }
 
 impl Known {
@@ -33,7 +34,6 @@ impl Known {
     {
         Known {
             begun: BTreeMap::new(alloc),
-            sent: BTreeMap::new(alloc),
         }
     }
 
@@ -51,17 +51,6 @@ impl Known {
         })
     }
 
-    /// The packet of this number that was sent.
-    #[tactic(auto, unfolding(crate::specs::Fields::packet_at))]
-    fn packet_at(&self, number: u64) -> Option<Packet>
-        ensures { result ≡ packet_at self.now number }
-    {
-        match self.sent.get(&number) {
-            Some(packet) => Some(packet.copy()),
-            None => None,
-        }
-    }
-
     /// A transaction that began.
     #[tactic(auto, unfolding(crate::specs::Fields::txn_of))]
     pub(crate) fn txn(&self, text: &[u8]) -> Result<Txn, Fault>
@@ -71,23 +60,24 @@ impl Known {
         self.named(name).ok_or(Fault::Bad)
     }
 
-    /// A packet that was sent, by its number.
-    #[tactic(auto, unfolding(crate::specs::Fields::sent_of))]
-    pub(crate) fn packet(&self, text: &[u8]) -> Result<Packet, Fault>
-        ensures { Gives result (sent_of self.now text.now) }
+    /// A transaction that began, and a number.
+    pub(crate) fn numbered(&self, text: &[u8]) -> Result<(Txn, u32), Fault>
+        ensures { Gives result (pair_of space (txn_of self.now) u32_of text.now) }
     {
-        let number = long(text)?;
-        self.packet_at(number).ok_or(Fault::Bad)
+        let (word, rest) = cut(text, SPACE)?;
+        let txn = self.txn(word)?;
+        let n = short(rest)?;
+        Ok((txn, n))
     }
 
-    /// A packet is sent. Want of memory is the only error.
-    pub(crate) fn send(&mut self, packet: &Packet) -> Result<(), NoMemory>
-        ensures { OnOk result (self.new ≡ known_sent self.old packet.now) }
+    /// A transaction that began, a number and a direction.
+    pub(crate) fn attempted(&self, text: &[u8]) -> Result<(Txn, (u32, Dir)), Fault>
+        ensures { Gives result (pair_of space (txn_of self.now) (pair_of space u32_of dir_of) text.now) }
     {
-        match self.sent.insert(packet.number, packet.copy()) {
-            Ok(_) => Ok(()),
-            Err(_) => Err(NoMemory),
-        }
+        let (word, rest) = cut(text, SPACE)?;
+        let txn = self.txn(word)?;
+        let attempt = short_and_dir(rest)?;
+        Ok((txn, attempt))
     }
 
     /// An event is told, which may be a begin. Want of memory is the only error.

@@ -14,8 +14,10 @@ mod inputs;
 mod known;
 mod laws;
 mod messages;
+mod past;
 mod reading;
 mod records;
+mod spare;
 mod trace;
 
 pub use faults::TraceFault;

@@ -1,12 +1,13 @@
 // The messages of sites, read behind what earlier lines tell. Reading one takes no memory of its own.
-ghost use Rattle.e3_trace.specs.Cuts.{Gives};
+ghost use Rattle.e3_trace.specs.Cuts.{space, pair_of, Gives};
+ghost use Rattle.e3_trace.specs.Fields.{u32_of, state_of, op_of, answer_of, txn_of};
 ghost use Rattle.e3_trace.specs.Messages.{yes_of, do_of, done_of, died_of, ask_of, last_of, elected_of, report_of, votereq_of, vote_of, pre_of, ack_of, decide_of, deciding_by, message_by, message_of};
 
 use crate::cuts::{SPACE, cut, is_text};
 use crate::faults::Fault;
-use crate::fields::{answer, dir, op, short, state};
+use crate::fields::{answer, dir, op, short, state, three_shorts, two_shorts};
 use crate::known::Known;
-use e3_types::{Call, Message};
+use e3_types::{Answer, Call, Message, Op, State, Txn};
 
 fn yes(text: &[u8]) -> Result<bool, Fault>
     ensures { Gives result (yes_of text.now) }
@@ -20,16 +21,41 @@ fn yes(text: &[u8]) -> Result<bool, Fault>
     }
 }
 
+fn short_and_op(text: &[u8]) -> Result<(u32, Op), Fault>
+    ensures { Gives result (pair_of space u32_of op_of text.now) }
+{
+    let (word, rest) = cut(text, SPACE)?;
+    let n = short(word)?;
+    let op = op(rest)?;
+    Ok((n, op))
+}
+
 #[tactic(auto, unfolding(crate::specs::Messages::do_of))]
 fn asked(known: &Known, text: &[u8]) -> Result<Message, Fault>
     ensures { Gives result (do_of known.now text.now) }
 {
     let (word, rest) = cut(text, SPACE)?;
     let txn = known.txn(word)?;
-    let (word, rest) = cut(rest, SPACE)?;
-    let n = short(word)?;
-    let op = op(rest)?;
+    let (n, op) = short_and_op(rest)?;
     Ok(Message::Do { txn, n, op })
+}
+
+fn short_and_answer(text: &[u8]) -> Result<(u32, Answer), Fault>
+    ensures { Gives result (pair_of space u32_of answer_of text.now) }
+{
+    let (word, rest) = cut(text, SPACE)?;
+    let inc = short(word)?;
+    let answer = answer(rest)?;
+    Ok((inc, answer))
+}
+
+fn shorts_and_answer(text: &[u8]) -> Result<(u32, (u32, Answer)), Fault>
+    ensures { Gives result (pair_of space u32_of (pair_of space u32_of answer_of) text.now) }
+{
+    let (word, rest) = cut(text, SPACE)?;
+    let n = short(word)?;
+    let answered = short_and_answer(rest)?;
+    Ok((n, answered))
 }
 
 #[tactic(auto, unfolding(crate::specs::Messages::done_of))]
@@ -38,11 +64,7 @@ fn done(known: &Known, text: &[u8]) -> Result<Message, Fault>
 {
     let (word, rest) = cut(text, SPACE)?;
     let txn = known.txn(word)?;
-    let (word, rest) = cut(rest, SPACE)?;
-    let n = short(word)?;
-    let (word, rest) = cut(rest, SPACE)?;
-    let inc = short(word)?;
-    let answer = answer(rest)?;
+    let (n, (inc, answer)) = shorts_and_answer(rest)?;
     Ok(Message::Done {
         txn,
         n,
@@ -51,15 +73,22 @@ fn done(known: &Known, text: &[u8]) -> Result<Message, Fault>
     })
 }
 
+fn short_and_txn(known: &Known, text: &[u8]) -> Result<(u32, Txn), Fault>
+    ensures { Gives result (pair_of space u32_of (txn_of known.now) text.now) }
+{
+    let (word, rest) = cut(text, SPACE)?;
+    let n = short(word)?;
+    let txn = known.txn(rest)?;
+    Ok((n, txn))
+}
+
 #[tactic(auto, unfolding(crate::specs::Messages::died_of))]
 fn died(known: &Known, text: &[u8]) -> Result<Message, Fault>
     ensures { Gives result (died_of known.now text.now) }
 {
     let (word, rest) = cut(text, SPACE)?;
     let txn = known.txn(word)?;
-    let (word, rest) = cut(rest, SPACE)?;
-    let n = short(word)?;
-    let older = known.txn(rest)?;
+    let (n, older) = short_and_txn(known, rest)?;
     Ok(Message::Died { txn, n, older })
 }
 
@@ -69,9 +98,7 @@ fn ask(known: &Known, text: &[u8]) -> Result<Message, Fault>
 {
     let (word, rest) = cut(text, SPACE)?;
     let txn = known.txn(word)?;
-    let (word, rest) = cut(rest, SPACE)?;
-    let inc = short(word)?;
-    let seq = short(rest)?;
+    let (inc, seq) = two_shorts(rest)?;
     Ok(Message::Ask {
         txn,
         call: Call { inc, seq },
@@ -84,11 +111,7 @@ fn last(known: &Known, text: &[u8]) -> Result<Message, Fault>
 {
     let (word, rest) = cut(text, SPACE)?;
     let txn = known.txn(word)?;
-    let (word, rest) = cut(rest, SPACE)?;
-    let inc = short(word)?;
-    let (word, rest) = cut(rest, SPACE)?;
-    let seq = short(word)?;
-    let elected = short(rest)?;
+    let (inc, (seq, elected)) = three_shorts(rest)?;
     Ok(Message::LastElected {
         txn,
         call: Call { inc, seq },
@@ -100,10 +123,26 @@ fn last(known: &Known, text: &[u8]) -> Result<Message, Fault>
 fn elected(known: &Known, text: &[u8]) -> Result<Message, Fault>
     ensures { Gives result (elected_of known.now text.now) }
 {
-    let (word, rest) = cut(text, SPACE)?;
-    let txn = known.txn(word)?;
-    let n = short(rest)?;
+    let (txn, n) = known.numbered(text)?;
     Ok(Message::Elected { txn, n })
+}
+
+fn state_and_short(text: &[u8]) -> Result<(State, u32), Fault>
+    ensures { Gives result (pair_of space state_of u32_of text.now) }
+{
+    let (word, rest) = cut(text, SPACE)?;
+    let state = state(word)?;
+    let attempt = short(rest)?;
+    Ok((state, attempt))
+}
+
+fn reported(text: &[u8]) -> Result<(u32, (State, u32)), Fault>
+    ensures { Gives result (pair_of space u32_of (pair_of space state_of u32_of) text.now) }
+{
+    let (word, rest) = cut(text, SPACE)?;
+    let n = short(word)?;
+    let standing = state_and_short(rest)?;
+    Ok((n, standing))
 }
 
 #[tactic(auto, unfolding(crate::specs::Messages::report_of))]
@@ -112,11 +151,7 @@ fn report(known: &Known, text: &[u8]) -> Result<Message, Fault>
 {
     let (word, rest) = cut(text, SPACE)?;
     let txn = known.txn(word)?;
-    let (word, rest) = cut(rest, SPACE)?;
-    let n = short(word)?;
-    let (word, rest) = cut(rest, SPACE)?;
-    let state = state(word)?;
-    let attempt = short(rest)?;
+    let (n, (state, attempt)) = reported(rest)?;
     Ok(Message::Report {
         txn,
         n,
@@ -131,9 +166,7 @@ fn votereq(known: &Known, text: &[u8]) -> Result<Message, Fault>
 {
     let (word, rest) = cut(text, SPACE)?;
     let txn = known.txn(word)?;
-    let (word, rest) = cut(rest, SPACE)?;
-    let inc = short(word)?;
-    let count = short(rest)?;
+    let (inc, count) = two_shorts(rest)?;
     Ok(Message::VoteReq { txn, inc, count })
 }
 
@@ -151,11 +184,7 @@ fn vote(known: &Known, text: &[u8]) -> Result<Message, Fault>
 fn pre(known: &Known, text: &[u8]) -> Result<Message, Fault>
     ensures { Gives result (pre_of known.now text.now) }
 {
-    let (word, rest) = cut(text, SPACE)?;
-    let txn = known.txn(word)?;
-    let (word, rest) = cut(rest, SPACE)?;
-    let n = short(word)?;
-    let dir = dir(rest)?;
+    let (txn, (n, dir)) = known.attempted(text)?;
     Ok(Message::Pre { txn, n, dir })
 }
 
@@ -163,11 +192,7 @@ fn pre(known: &Known, text: &[u8]) -> Result<Message, Fault>
 fn ack(known: &Known, text: &[u8]) -> Result<Message, Fault>
     ensures { Gives result (ack_of known.now text.now) }
 {
-    let (word, rest) = cut(text, SPACE)?;
-    let txn = known.txn(word)?;
-    let (word, rest) = cut(rest, SPACE)?;
-    let n = short(word)?;
-    let dir = dir(rest)?;
+    let (txn, (n, dir)) = known.attempted(text)?;
     Ok(Message::Ack { txn, n, dir })
 }
 

@@ -1,8 +1,10 @@
 // Reading line by line.
-ghost use Rattle.std.specs.Prelude.{◌≡◌, option_map, None};
-ghost use Rattle.e3_trace.specs.Cuts.{Gives, Leaves, Shows};
-ghost use Rattle.e3_trace.specs.Drafts.{packet_of, packet_line, told_line, line_behind};
+ghost use Rattle.std.specs.Prelude.{◌≡◌, ◌++◌, option_map, None, IfOk, OnOk, if◌then◌else◌};
+ghost use Rattle.e3_trace.specs.Cuts.{Gives, Leaves, Shows, made_of};
+ghost use Rattle.e3_trace.specs.Drafts.{packet_of, takes_packets, told_line, line_behind, with_packet};
+ghost use Rattle.e3_trace.specs.Past.{IsFitting, knowing, sends};
 ghost use Rattle.e3_trace.specs.Trace.{nothing_read, closed, entry_line, marked_line, is_mark, line_by, next_line, is_over};
+ghost use Rattle.e3_world.specs.Packets.{sent};
 
 use crate::cuts::{SPACE, cut, is_text};
 use crate::drafts::Draft;
@@ -12,27 +14,32 @@ use crate::faults::Fault;
 use crate::fields::{long, short};
 use crate::known::Known;
 use crate::messages::message;
+use crate::past::Past;
 use crate::records::add_record_line;
-use e3_types::Packet;
+use e3_types::{NoMemory, Packet};
 use e3_world::History;
 use std::alloc::Global;
 use std::marker::Model;
 use std::mem;
 
-/// What the lines so far spell: what they tell, the entries that are read, and the one whose lines are being read.
+/// What the lines so far spell: the transactions that they tell, the entries that are read, and the one whose lines are
+/// being read. Packets are found in the entries.
 #[derive(Drop)]
 pub(crate) struct Reading {
     known: Known,
-    done: History,
+    past: Past,
     draft: Option<Draft>,
 }
 
 impl Model for Reading {
+    ghost use Rattle.e3_trace.specs.Past.{Fits, known_at};
     ghost use Rattle.e3_trace.specs.Trace.{Reading as Read};
 
     ghost Value = { Read };
 
-    ghost view = { λ r. record { known = r.known; done = r.done.entries; draft = r.draft } };
+    ghost view = { λ r. record { known = known_at r.known r.past r.draft; done = r.past; draft = r.draft } };
+
+    ghost invariant = { λ r. Fits r.draft };
 }
 
 #[tactic(auto, unfolding(crate::specs::Drafts::packet_of))]
@@ -52,16 +59,15 @@ fn packet(known: &Known, site: u32, text: &[u8]) -> Result<Packet, Fault>
     })
 }
 
-#[tactic(auto, unfolding(crate::specs::Drafts::packet_line))]
-fn add_packet(known: &mut Known, draft: &mut Draft, text: &[u8]) -> Result<(), Fault>
-    ensures { Leaves result (known.new, draft.new) (packet_line known.old draft.old text.now) }
+// A packet that a step sent. From here on it is found in the entry.
+fn add_packet(alloc: Global, known: &Known, draft: &mut Draft, text: &[u8]) -> Result<(), Fault>
+    ensures { Leaves result draft.new (if takes_packets draft.old then made_of (with_packet draft.old) (packet_of known.now draft.old.owner) text.now else None) }
 {
     if !draft.takes_packets() {
         return Err(Fault::Bad);
     }
     let packet = packet(known, draft.owner, text)?;
-    known.send(&packet)?;
-    draft.add_packet(packet)?;
+    draft.add_packet(alloc, packet)?;
     Ok(())
 }
 
@@ -74,26 +80,30 @@ fn add_told(alloc: Global, known: &mut Known, draft: &mut Draft, text: &[u8]) ->
     }
     let event = told(alloc, known, text)?;
     known.tell(&event)?;
-    draft.add_told(event)?;
+    draft.add_told(alloc, event)?;
     Ok(())
 }
 
-#[tactic(auto, unfolding(crate::specs::Drafts::line_behind))]
+// A line behind the first of an entry, by the word that marks it.
 fn add_line(
     alloc: Global,
     known: &mut Known,
+    past: &Past,
     draft: &mut Draft,
     word: &[u8],
     text: &[u8],
 ) -> Result<(), Fault>
-    ensures { Leaves result (known.new, draft.new) (line_behind known.old draft.old word.now text.now) }
+    requires { IsFitting draft.old }
+    ensures leaves { Leaves result (knowing known.new (sent past.now ++ sends draft.new), draft.new)
+        (line_behind (knowing known.old (sent past.now ++ sends draft.old)) draft.old word.now text.now) }
+    ensures fits { OnOk result (IsFitting draft.new) }
 {
     if is_text(word, "i") {
-        draft.add_input(alloc, known, text)
+        draft.add_input(alloc, known, past, text)
     } else if is_text(word, "r") {
         add_record_line(alloc, known, draft, text)
     } else if is_text(word, "o") {
-        add_packet(known, draft, text)
+        add_packet(alloc, known, draft, text)
     } else {
         add_told(alloc, known, draft, text)
     }
@@ -106,28 +116,30 @@ fn is_mark(word: &[u8]) -> bool
 }
 
 impl Reading {
-    /// Nothing is read yet.
-    pub(crate) fn nothing(alloc: Global) -> Reading
-        ensures { result ≡ nothing_read }
+    /// Nothing is read yet, and there is room for so many entries.
+    pub(crate) fn roomy(alloc: Global, entries: u64) -> Result<Reading, NoMemory>
+        ensures { IfOk result (λ r. r ≡ nothing_read) }
     {
-        Reading {
+        let mut past = Past::nothing(alloc);
+        past.reserve(entries)?;
+        Ok(Reading {
             known: Known::nothing(alloc),
-            done: History::new(alloc),
+            past,
             draft: None,
-        }
+        })
     }
 
     // The entry whose lines are being read is read.
     #[tactic(auto, unfolding(crate::specs::Trace::closed))]
-    fn close(&mut self) -> Result<(), Fault>
+    fn close(&mut self, alloc: Global) -> Result<(), Fault>
         ensures { Leaves result self.new (option_map (λ entries. record self.old { done = entries; draft = None }) (closed self.old)) }
     {
         match self.draft.take() {
             None => Ok(()),
             Some(draft) => {
-                let entry = draft.entry()?;
-                self.done.reserve(1)?;
-                self.done.push(entry);
+                let entry = draft.entry(alloc)?;
+                let past = mem::replace(&mut self.past, Past::nothing(alloc));
+                self.past = past.with(entry)?;
                 Ok(())
             }
         }
@@ -137,9 +149,9 @@ impl Reading {
     fn begin_entry(&mut self, alloc: Global, word: &[u8], text: &[u8]) -> Result<(), Fault>
         ensures { Leaves result self.new (entry_line self.old word.now text.now) }
     {
-        self.close()?;
+        self.close(alloc)?;
         let owner = short(word)?;
-        let draft = form(alloc, &self.known, owner, text)?;
+        let draft = form(alloc, &self.known, &self.past, owner, text)?;
         self.draft = Some(draft);
         Ok(())
     }
@@ -148,9 +160,14 @@ impl Reading {
     fn add_line(&mut self, alloc: Global, word: &[u8], text: &[u8]) -> Result<(), Fault>
         ensures { Leaves result self.new (marked_line self.old word.now text.now) }
     {
-        match &mut self.draft {
+        match self.draft.take() {
             None => Err(Fault::Bad),
-            Some(draft) => add_line(alloc, &mut self.known, draft, word, text),
+            Some(draft) => {
+                let mut draft = draft;
+                add_line(alloc, &mut self.known, &self.past, &mut draft, word, text)?;
+                self.draft = Some(draft);
+                Ok(())
+            }
         }
     }
 
@@ -171,7 +188,7 @@ impl Reading {
     pub(crate) fn is_over(&self) -> bool
         ensures { result ≡ is_over self.now }
     {
-        let done = self.done.len();
+        let done = self.past.len();
         2000000 < done || (done == 2000000 && self.draft.is_some())
     }
 
@@ -179,7 +196,8 @@ impl Reading {
     pub(crate) fn end(&mut self, alloc: Global) -> Result<History, Fault>
         ensures { Shows (λ h. h.entries) result (closed self.old) }
     {
-        self.close()?;
-        Ok(mem::replace(&mut self.done, History::new(alloc)))
+        self.close(alloc)?;
+        let past = mem::replace(&mut self.past, Past::nothing(alloc));
+        Ok(past.into_history())
     }
 }

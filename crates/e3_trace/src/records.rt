@@ -1,8 +1,9 @@
 // The lines of records, read behind what earlier lines tell.
-ghost use Rattle.std.specs.Prelude.{ℕ};
+ghost use Rattle.std.specs.Prelude.{◌≡◌, ℕ, OnOk};
 ghost use Rattle.e3_trace.specs.Cuts.{space, made_of, pair_of, Gives, Leaves};
 ghost use Rattle.e3_trace.specs.Drafts.{row_of, with_row, vote_op_by, vote_op_of, with_op, read_from, write_from, birth_of, votes_of, record_by, first_by, first_of, with_record_line};
 ghost use Rattle.e3_trace.specs.Fields.{u32_of, name_of, value_of, dir_of, txn_of};
+ghost use Rattle.e3_trace.specs.Past.{SameOuts};
 ghost use Rattle.e3_types.specs.declared.records.Record.TheVariants as log;
 
 use crate::cuts::{SPACE, cut, is_text};
@@ -10,6 +11,7 @@ use crate::drafts::{Draft, Growing};
 use crate::faults::Fault;
 use crate::fields::{dir, long, name, numbers, short, value};
 use crate::known::Known;
+use crate::spare::add;
 use e3_types::{Key, List, NumOp, Op, Record, Row};
 use std::alloc::Global;
 
@@ -24,13 +26,14 @@ fn row(text: &[u8]) -> Result<Row, Fault>
 }
 
 #[tactic(auto, unfolding(crate::specs::Drafts::with_row))]
-fn add_row(draft: &mut Draft, text: &[u8]) -> Result<(), Fault>
-    ensures { Leaves result draft.new (with_row draft.old text.now) }
+fn add_row(alloc: Global, draft: &mut Draft, text: &[u8]) -> Result<(), Fault>
+    ensures same { OnOk result (SameOuts draft.old draft.new × (draft.new.due ≡ draft.old.due)) }
+    ensures leaves { Leaves result draft.new (with_row draft.old text.now) }
 {
     match &mut draft.growing {
         Growing::Birth { rows, .. } => {
             let row = row(text)?;
-            rows.push(row)?;
+            add(alloc, rows, row)?;
             Ok(())
         }
         _ => Err(Fault::Bad),
@@ -75,14 +78,15 @@ fn vote_op(site: u32, text: &[u8]) -> Result<NumOp, Fault>
 }
 
 #[tactic(auto, unfolding(crate::specs::Drafts::with_op))]
-fn add_op(draft: &mut Draft, text: &[u8]) -> Result<(), Fault>
-    ensures { Leaves result draft.new (with_op draft.old text.now) }
+fn add_op(alloc: Global, draft: &mut Draft, text: &[u8]) -> Result<(), Fault>
+    ensures same { OnOk result (SameOuts draft.old draft.new × (draft.new.due ≡ draft.old.due)) }
+    ensures leaves { Leaves result draft.new (with_op draft.old text.now) }
 {
     let site = draft.owner;
     match &mut draft.growing {
         Growing::Vote { ops, due, .. } => {
             let op = vote_op(site, text)?;
-            ops.push(op)?;
+            add(alloc, ops, op)?;
             *due = due.saturating_sub(1);
             Ok(())
         }
@@ -121,20 +125,14 @@ fn vote(alloc: Global, known: &Known, text: &[u8]) -> Result<Growing, Fault>
 fn join(known: &Known, text: &[u8]) -> Result<Record, Fault>
     ensures { Gives result (made_of (λ p. log.Join p.0 p.1) (pair_of space (txn_of known.now) u32_of) text.now) }
 {
-    let (word, rest) = cut(text, SPACE)?;
-    let txn = known.txn(word)?;
-    let n = short(rest)?;
+    let (txn, n) = known.numbered(text)?;
     Ok(Record::Join { txn, n })
 }
 
 fn attempt(known: &Known, text: &[u8]) -> Result<Record, Fault>
     ensures { Gives result (made_of (λ p. log.Attempt p.0 p.1.0 p.1.1) (pair_of space (txn_of known.now) (pair_of space u32_of dir_of)) text.now) }
 {
-    let (word, rest) = cut(text, SPACE)?;
-    let txn = known.txn(word)?;
-    let (word, rest) = cut(rest, SPACE)?;
-    let n = short(word)?;
-    let dir = dir(rest)?;
+    let (txn, (n, dir)) = known.attempted(text)?;
     Ok(Record::Attempt { txn, n, dir })
 }
 
@@ -174,21 +172,22 @@ fn add_first(
     verb: &[u8],
     text: &[u8],
 ) -> Result<(), Fault>
-    ensures { Leaves result draft.new (first_by known.now draft.old verb.now text.now) }
+    ensures same { OnOk result (SameOuts draft.old draft.new × (draft.new.due ≡ draft.old.due)) }
+    ensures leaves { Leaves result draft.new (first_by known.now draft.old verb.now text.now) }
 {
     if is_text(verb, "row") {
-        add_row(draft, text)
+        add_row(alloc, draft, text)
     } else if is_text(verb, "birth") {
         let growing = birth(alloc, text)?;
-        draft.grow(growing)?;
+        draft.grow(alloc, growing)?;
         Ok(())
     } else if is_text(verb, "vote") {
         let growing = vote(alloc, known, text)?;
-        draft.grow(growing)?;
+        draft.grow(alloc, growing)?;
         Ok(())
     } else {
         let record = record_by(known, verb, text)?;
-        draft.add_record(record)?;
+        draft.add_record(alloc, record)?;
         Ok(())
     }
 }
@@ -201,13 +200,14 @@ pub(crate) fn add_record_line(
     draft: &mut Draft,
     text: &[u8],
 ) -> Result<(), Fault>
-    ensures { Leaves result draft.new (with_record_line known.now draft.old text.now) }
+    ensures same { OnOk result (SameOuts draft.old draft.new × (draft.new.due ≡ draft.old.due)) }
+    ensures leaves { Leaves result draft.new (with_record_line known.now draft.old text.now) }
 {
     if !draft.takes_records() {
         return Err(Fault::Bad);
     }
     if 0 < draft.ops_due() {
-        return add_op(draft, text);
+        return add_op(alloc, draft, text);
     }
     let (verb, rest) = cut(text, SPACE)?;
     add_first(alloc, known, draft, verb, rest)

@@ -77,12 +77,27 @@ fn one_on(alloc: Global, at: u64, reading: &mut Reading, line: &[u8]) -> Result<
     }
 }
 
+// How many lines begin an entry, as far as a history may have them: their first byte is a digit.
+fn entries_in(text: &[u8]) -> u64
+    ensures { result ≤ 2000001 }
+{
+    let mut count = 0u64;
+    let mut before = FEED;
+    for byte in text {
+        if before == FEED && byte.is_ascii_digit() && count <= 2000000 {
+            count += 1;
+        }
+        before = *byte;
+    }
+    count
+}
+
 #[tactic(auto, using(crate::proofs::Lines::read_none, crate::proofs::Lines::read_end, crate::proofs::Lines::read_on))]
 fn lines(alloc: Global, text: &[u8]) -> Result<History, TraceFault>
     requires { length text.now ≤ 268435456 }
     ensures { Spells (λ h. h.entries) result (lines_read 1 nothing_read (pieces feed text.now)) }
 {
-    let mut reading = Reading::nothing(alloc);
+    let mut reading = Reading::roomy(alloc, entries_in(text))?;
     let mut left = text;
     let mut at = 1u64;
     'lines: loop {
