@@ -23,6 +23,8 @@ pub enum Command {
     Power,
     /// The bodies are records of site 1, and their brief takes the place of all of them, as the one body.
     Brief,
+    /// The bodies are records of site 1: whether a site that rises with them tells their brief.
+    Site,
     /// No word of these.
     Unknown,
 }
@@ -102,6 +104,7 @@ pub fn read_command(alloc: Global, word: &[u8]) -> Result<Command, NoMemory> {
         },
         b"power" => Command::Power,
         b"brief" => Command::Brief,
+        b"site" => Command::Site,
         _ => Command::Unknown,
     })
 }

@@ -5,7 +5,8 @@ use e3_codec::{put_records, read_records};
 use e3_disk::{Disk, DiskFault, Drill, MemDisk};
 use e3_lines::{push_labelled, push_text};
 use e3_regions::{AppendFault, Frame, Log, TurnFault};
-use e3_snapshot::brief;
+use e3_restart::{RebuildFault, rebuild};
+use e3_snapshot::{brief, of_site};
 use e3_types::{Leave, List, NoMemory, Record};
 use std::alloc::Global;
 
@@ -128,6 +129,33 @@ fn turn_to_brief(
     Ok(Held::Log(log, bodies))
 }
 
+// Adds whether a site that rises with these records, as its tables have them, tells their brief.
+fn push_site(alloc: Global, out: &mut List<u8>, records: &[Record]) -> Result<(), NoMemory> {
+    if records.is_empty() {
+        return push_text(out, "no records");
+    }
+    match rebuild(alloc, 1, records) {
+        Ok(site) => {
+            let told = put_records(alloc, of_site(alloc, &site)?.as_slice())?;
+            let short = put_records(alloc, brief(alloc, records)?.as_slice())?;
+            if told.as_slice() == short.as_slice() {
+                return push_text(out, "as its brief");
+            }
+            push_bytes(out, told.as_slice())
+        }
+        Err(RebuildFault::Order { at }) => push_labelled(out, "out of order at ", at),
+        Err(RebuildFault::NoMemory) => Err(NoMemory),
+    }
+}
+
+// Adds whether a site that rises with the records of these bodies tells their brief.
+fn rise(alloc: Global, out: &mut List<u8>, bodies: &[List<u8>]) -> Result<(), NoMemory> {
+    match records(alloc, bodies)? {
+        None => push_text(out, "no records"),
+        Some(records) => push_site(alloc, out, records.as_slice()),
+    }
+}
+
 fn arm<D: Drill>(log: &mut Log<D>, calls: u32, leave: Leave) {
     log.arm(calls.max(1), leave);
 }
@@ -226,6 +254,10 @@ fn done_to_log(
 ) -> Result<Held, NoMemory> {
     if matches!(command, Command::Brief) {
         return turn_to_brief(alloc, out, log, bodies);
+    }
+    if matches!(command, Command::Site) {
+        rise(alloc, out, bodies.as_slice())?;
+        return Ok(Held::Log(log, bodies));
     }
     if matches!(command, Command::Power) {
         push_text(out, "ok")?;

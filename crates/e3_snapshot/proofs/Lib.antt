@@ -1,0 +1,7 @@
+mod Merging
+mod Rows
+mod Cards
+mod Fronts
+mod Telling
+mod Sets
+mod Legal

@@ -3,5 +3,9 @@
 
 mod briefs;
 mod notes;
+mod sites;
+mod tables;
 
 pub use briefs::brief;
+pub use sites::of_site;
+pub use tables::of_tables;

@@ -1,7 +1,9 @@
 // What a brief has of one transaction.
 ghost use Rattle.std.specs.Prelude.{◌≡◌, ◌++◌, IfOk};
 ghost use Rattle.e3_law_brief.specs.Brief.{attempt_in, decision_in, join_in, noted, open_ops, vote_in};
+ghost use Rattle.e3_snapshot.specs.Tables.{seen_notes};
 
+use e3_cards::Seen;
 use e3_readings::{
     attempted, decision, has_voted, is_undecided, last_attempt, last_elected, voted_ops,
 };
@@ -73,6 +75,21 @@ fn add_decision(t: &Txn, decided: Option<Dir>, out: &mut List<Record>) -> Result
     }
 }
 
+/// Adds what a brief has of a transaction of which the log says this, and which has these operations open.
+pub(crate) fn add_seen(
+    t: &Txn,
+    seen: &Seen,
+    ops: List<NumOp>,
+    out: &mut List<Record>,
+) -> Result<(), NoMemory>
+    ensures { IfOk result (λ u. out.new ≡ out.old ++ seen_notes t.now seen.now ops) }
+{
+    add_vote(t, seen.voted, ops, out)?;
+    add_attempt(t, seen.attempted, seen.attempt, out)?;
+    add_join(t, seen.attempt, seen.elected, out)?;
+    add_decision(t, seen.decision, out)
+}
+
 /// Adds what the brief of these records has of the transaction.
 pub(crate) fn add_noted(
     alloc: Global,
@@ -83,9 +100,12 @@ pub(crate) fn add_noted(
     ensures { IfOk result (λ u. out.new ≡ out.old ++ noted records.now t.now) }
 {
     let ops = open_ops(alloc, t, records)?;
-    let attempt = last_attempt(t, records);
-    add_vote(t, has_voted(t, records), ops, out)?;
-    add_attempt(t, attempted(t, records), attempt, out)?;
-    add_join(t, attempt, last_elected(t, records), out)?;
-    add_decision(t, decision(t, records), out)
+    let seen = Seen {
+        elected: last_elected(t, records),
+        attempt: last_attempt(t, records),
+        decision: decision(t, records),
+        attempted: attempted(t, records),
+        voted: has_voted(t, records),
+    };
+    add_seen(t, &seen, ops, out)
 }
