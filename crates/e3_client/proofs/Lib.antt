@@ -1,1 +1,5 @@
 pub mod Due
+pub mod Numbered
+pub mod Beside
+pub mod Answering
+pub mod Refusing

@@ -1,11 +1,11 @@
 -- A transaction as its coordinator keeps it for the client: its operations, and what a call or an answer comes to.
-use Rattle.std.specs.Prelude.{◌==◌, ◌&&◌, ◌||◌, ◌∷◌, [], if◌then◌else◌, ℕ, zero, suc, Bool, true, false, not, List, length, fold, map, Option, Some, None, is_none, slice_get, slice_set, ◌-◌}
+use Rattle.std.specs.Prelude.{◌==◌, ◌&&◌, ◌||◌, ◌∷◌, [], if◌then◌else◌, ℕ, zero, suc, Bool, false, not, List, fold, Option, Some, None, is_none, slice_get, slice_set, ◌-◌}
 use Rattle.e3_types.specs.declared.entries.Refusal.{Refusal}
 use Rattle.e3_types.specs.declared.entries.Refusal.TheVariants.{Busy, Died, Doomed as DoomedFor, Over, TooLate}
 use Rattle.e3_types.specs.declared.transactions.Dir.{Dir}
 use Rattle.e3_types.specs.declared.transactions.Dir.TheVariants.{Abort, Commit}
 use Rattle.e3_types.specs.declared.transactions.State.{State}
-use Rattle.e3_types.specs.declared.transactions.State.TheVariants.{Q, W, Pc, Pa, C, A}
+use Rattle.e3_types.specs.declared.transactions.State.TheVariants.{Q, C, A}
 use Rattle.e3_types.specs.declared.transactions.Txn.{Txn}
 use Rattle.e3_world.specs.declared.lives.Expected.{Expected}
 use Rattle.e3_client.specs.declared.client.Issued.{Issued}

@@ -1,7 +1,18 @@
 // A transaction's client side: what is issued, answered and refused.
-ghost use Rattle.std.specs.Prelude.{◌≡◌, ◌<◌, ◌≤◌, ◌-◌, slice_set, ◌++◌, ◌∷◌, ◌+◌, [], IsTrue, IfOk, MatchResult, Some, None, length};
+ghost use Rattle.std.specs.Prelude.{◌≡◌, ◌==◌, ◌<◌, ◌≤◌, ◌-◌, slice_set, ◌++◌, ◌∷◌, ◌+◌, [], ℕ, suc, List as Items, IsTrue, IfOk, MatchResult, Some, None, length, true, false};
+ghost use Rattle.e3_types.specs.declared.entries.Told.{Told};
+ghost use Rattle.e3_types.specs.declared.entries.Told.TheVariants as told;
+ghost use Rattle.e3_types.specs.declared.transactions.Answer.{Answer};
+ghost use Rattle.e3_types.specs.declared.transactions.Op.{Op};
 ghost use Rattle.e3_types.specs.Sets.{has_site};
+ghost use Rattle.e3_world.specs.declared.lives.At.{At};
+ghost use Rattle.e3_world.specs.declared.lives.Made.{Made};
+ghost use Rattle.e3_world.specs.declared.lives.Moment.{Moment};
+ghost use Rattle.e3_world.specs.Logs.{key_of};
+ghost use Rattle.e3_world.specs.Operations.{expected as expected_at, issued as issued_at, issued_in, reason_in};
+ghost use Rattle.e3_world.specs.Steps.{refuse as refuse_at};
 ghost use Rattle.e3_client.specs.declared.client.Heard.TheVariants.{Taken};
+ghost use Rattle.e3_client.specs.Rule.{IsKept, IsQuiet, StandsAt, and_told, brings};
 ghost use Rattle.e3_client.specs.Clients.{unanswered, unanswered_from, expected, expected_with, is_issued_to, is_due, heard_of, with_answer, refuse, refuse_cancel, refuse_decided, or_kept};
 
 use e3_types::{Dir, NoMemory, Refusal, State, Txn};
@@ -82,7 +93,8 @@ fn expected_with(site: u32, was: Expected, op: &Issued) -> Expected
 impl Client {
     /// A transaction that begins now. Want of memory is the only error; no other call takes any.
     pub fn begin(alloc: Global, txn: Txn) -> Result<Client, NoMemory>
-        ensures { IfOk result (λ client. client ≡ record { txn = txn; ops = []; why = None }) }
+        ensures begun { IfOk result (λ client. client ≡ record { txn = txn; ops = []; why = None }) }
+        ensures rule { IfOk result (λ client. (own : ℕ) → IsKept own [] client) }
     {
         match Vec::with_capacity(alloc, 64) {
             Ok(ops) => Ok(Client {
@@ -130,13 +142,24 @@ impl Client {
     /// is too late: the first of these.
     pub fn next_op(&self, state: State, attempt: u32) -> Result<u32, Refusal>
         requires { length self.now.ops < 64 }
-        ensures { MatchResult result (λ n. (refuse state attempt self.now ≡ None) × (n ≡ length self.now.ops + 1))
+        ensures next { MatchResult result (λ n. (refuse state attempt self.now ≡ None) × (n ≡ length self.now.ops + 1))
             (λ why. refuse state attempt self.now ≡ Some why) }
+        ensures rule { (a : At) (made : Made) → StandsAt a made self.now state attempt →
+            MatchResult result (λ n. (refuse_at a self.now.txn false made ≡ None) × (n ≡ suc (length (issued_at self.now.txn a.life.steps))))
+            (λ why. refuse_at a self.now.txn false made ≡ Some why) }
     {
         match self.refuse(state, attempt) {
             Some(why) => Err(why),
-            None => Ok(self.ops.len() as u32 + 1),
+            None => Ok(self.issued() + 1),
         }
+    }
+
+    // One more operation.
+    fn push(&mut self, op: Issued)
+        requires { length self.old.ops < 64 }
+        ensures { self.new ≡ record self.old { ops = self.old.ops ++ op ∷ [] } }
+    {
+        self.ops.push_reserved(op);
     }
 
     /// The next operation is issued, to this site.
@@ -144,9 +167,11 @@ impl Client {
         requires free { unanswered self.old.ops ≡ None }
         requires few { length self.old.ops < 64 }
         requires within { IsTrue (has_site self.old.txn.sites site) }
-        ensures { self.new ≡ record self.old { ops = self.old.ops ++ record { site = site; answered = None } ∷ [] } }
+        ensures issued { self.new ≡ record self.old { ops = self.old.ops ++ record { site = site; answered = None } ∷ [] } }
+        ensures rule { (own : ℕ) (steps : Items Moment) (m : Moment) (op : Op) → IsKept own steps self.old → m.told ≡ [] →
+            issued_in self.old.txn m.input [] ≡ op ∷ [] → (key_of op).site ≡ site → IsKept own (steps ++ m ∷ []) self.new }
     {
-        self.ops.push_reserved(Issued {
+        self.push(Issued {
             site,
             answered: None,
         });
@@ -157,6 +182,8 @@ impl Client {
     pub fn expected(&self, site: u32) -> (u32, u32)
         ensures inc { result.0 ≡ (expected site self.now.ops).inc }
         ensures count { result.1 ≡ (expected site self.now.ops).count }
+        ensures rule { (own inc : ℕ) (steps : Items Moment) → IsKept own steps self.now → (own == site) ≡ false →
+            (result.0 ≡ (expected_at own inc self.now.txn steps site).inc) × (result.1 ≡ (expected_at own inc self.now.txn steps site).count) }
     {
         let mut so_far = Expected { inc: 0, count: 0 };
         for op in &self.ops {
@@ -204,6 +231,8 @@ impl Client {
         ensures heard { result ≡ heard_of from n inc self.old.ops }
         ensures taken { result ≡ Taken → self.new ≡ record self.old { ops = with_answer from n inc self.old.ops } }
         ensures others { (result ≡ Taken → ⊥) → self.new ≡ self.old }
+        ensures rule { (own : ℕ) (steps : Items Moment) (m : Moment) (x : Answer) → result ≡ Taken → IsKept own (steps ++ m ∷ []) self.old →
+            brings own from inc self.old.txn n m.input ≡ true → IsKept own (steps ++ and_told m (told.Op self.old.txn n x) ∷ []) self.new }
     {
         if !self.is_due(from, n) {
             return Heard::Stale;
@@ -228,7 +257,9 @@ impl Client {
 
     /// The transaction may commit. It is refused as an operation is.
     pub fn ready(&self, state: State, attempt: u32) -> Result<(), Refusal>
-        ensures { MatchResult result (λ u. refuse state attempt self.now ≡ None) (λ why. refuse state attempt self.now ≡ Some why) }
+        ensures refused { MatchResult result (λ u. refuse state attempt self.now ≡ None) (λ why. refuse state attempt self.now ≡ Some why) }
+        ensures rule { (a : At) (made : Made) → StandsAt a made self.now state attempt →
+            MatchResult result (λ u. refuse_at a self.now.txn false made ≡ None) (λ why. refuse_at a self.now.txn false made ≡ Some why) }
     {
         match self.refuse(state, attempt) {
             Some(why) => Err(why),
@@ -236,19 +267,31 @@ impl Client {
         }
     }
 
-    /// The transaction may be cancelled. It is refused where it is decided, or was attempted.
-    pub fn may_cancel(&self, state: State, attempt: u32) -> Result<(), Refusal>
-        ensures { MatchResult result (λ u. refuse_cancel state attempt self.now ≡ None) (λ why. refuse_cancel state attempt self.now ≡ Some why) }
+    // The refusal of a cancel.
+    fn refuse_cancel(&self, state: State, attempt: u32) -> Option<Refusal>
+        ensures { result ≡ refuse_cancel state attempt self.now }
     {
         match state {
-            State::C => Err(self.decided(Dir::Commit)),
-            State::A => Err(self.decided(Dir::Abort)),
+            State::C => Some(self.decided(Dir::Commit)),
+            State::A => Some(self.decided(Dir::Abort)),
             _ => {
                 if attempt == 0 {
-                    return Ok(());
+                    return None;
                 }
-                Err(Refusal::TooLate { attempt })
+                Some(Refusal::TooLate { attempt })
             }
+        }
+    }
+
+    /// The transaction may be cancelled. It is refused where it is decided, or was attempted.
+    pub fn may_cancel(&self, state: State, attempt: u32) -> Result<(), Refusal>
+        ensures refused { MatchResult result (λ u. refuse_cancel state attempt self.now ≡ None) (λ why. refuse_cancel state attempt self.now ≡ Some why) }
+        ensures rule { (a : At) (made : Made) → StandsAt a made self.now state attempt →
+            MatchResult result (λ u. refuse_at a self.now.txn true made ≡ None) (λ why. refuse_at a self.now.txn true made ≡ Some why) }
+    {
+        match self.refuse_cancel(state, attempt) {
+            Some(why) => Err(why),
+            None => Ok(()),
         }
     }
 
@@ -267,13 +310,28 @@ impl Client {
         }
     }
 
-    /// The transaction was ended for this reason, which is kept; an earlier one stays. Where it is aborted, calls are refused for
-    /// a request that died and for its doom; any other reason says no more than that it is over.
-    pub fn end(&mut self, why: Refusal)
+    // The reason that is kept, with a new one.
+    fn keep(&mut self, why: Refusal)
         ensures { self.new ≡ record self.old { why = or_kept self.old.why why } }
     {
         if self.why.is_none() {
             self.why = Some(why);
         }
     }
+
+    /// The transaction was ended for this reason, which is kept; an earlier one stays. Where it is aborted, calls are refused for
+    /// a request that died and for its doom; any other reason says no more than that it is over.
+    pub fn end(&mut self, why: Refusal)
+        ensures ended { self.new ≡ record self.old { why = or_kept self.old.why why } }
+        ensures rule { (own : ℕ) (steps : Items Moment) (m : Moment) (e : Told) → IsKept own (steps ++ m ∷ []) self.old →
+            reason_in self.old.txn e ≡ why ∷ [] → IsKept own (steps ++ and_told m e ∷ []) self.new }
+    {
+        self.keep(why);
+    }
 }
+
+/// The law that a client stays what its coordinator's steps say, behind a step that issues no operation of its transaction and
+/// tells none of its answers and no reason.
+pub fn quiet_steps_pass(_client: &Client)
+    ensures { (own : ℕ) (steps : Items Moment) (m : Moment) → IsKept own steps _client.now → IsQuiet _client.now.txn m → IsKept own (steps ++ m ∷ []) _client.now }
+{}

@@ -3,4 +3,4 @@
 
 mod client;
 
-pub use client::{Client, Heard, Issued};
+pub use client::{Client, Heard, Issued, quiet_steps_pass};

@@ -1,10 +1,11 @@
 // Quorums, the rule of a decision, votes and acknowledgements, and elections.
-ghost use Rattle.std.specs.Prelude.{◌≡◌, IfOk};
+ghost use Rattle.std.specs.Prelude.{◌≡◌, IfOk, IsTrue};
+ghost use Rattle.e3_elect.specs.Calling.{is_own};
 
 use crate::texts::{flag, push_formatted, push_known, push_word};
 use e3_commit::{Round, Votes};
 use e3_elect::Election;
-use e3_lines::{push_labelled, push_text};
+use e3_lines::{push_labelled, push_number, push_text};
 use e3_quorum::{WeightFault, Weights};
 use e3_rule::decide;
 use e3_types::{Call, Dir, List, NoMemory, SiteReport, SiteSet, State, Verdict};
@@ -178,12 +179,74 @@ fn push_answers(alloc: Global, out: &mut List<u8>) -> Result<(), NoMemory> {
     Ok(())
 }
 
-// Adds the lines of a commit, and of elections.
+// An answer to the call of an election: what it joined stays, and so does that it is one of site 2.
+fn hear(election: &mut Election, from: u32, call: Call, elected: u32) -> bool
+    ensures number { election.new.number ≡ election.old.number }
+    ensures own { IsTrue (is_own election.old 2) → IsTrue (is_own election.new 2) }
+{
+    election.heard(from, call, elected)
+}
+
+// Adds whether the whole group has reported, then of each report whether it is taken and whether all have reported with it, and how
+// many have at the end.
+fn push_taken(
+    out: &mut List<u8>,
+    election: &mut Election,
+    reports: &[(u32, u32)],
+) -> Result<(), NoMemory> {
+    push_word(out, flag(election.complete()))?;
+    for (from, n) in reports {
+        push_word(
+            out,
+            flag(election.reported(*n, report(*from, State::Pc, 1))),
+        )?;
+        push_word(out, flag(election.complete()))?;
+    }
+    push_text(out, "; of ")?;
+    push_number(out, election.group().count() as u64)?;
+    push_text(out, " sites ")?;
+    push_number(out, election.reports().len() as u64)
+}
+
+// Adds what an election of site 2 takes of these reports, each by its site and under its number, once it heard site 3 and joined.
+fn push_reported(
+    alloc: Global,
+    out: &mut List<u8>,
+    group: SiteSet,
+    reports: &[(u32, u32)],
+) -> Result<(), NoMemory> {
+    if !group.has(2) {
+        return Ok(());
+    }
+    let call = Call { inc: 1, seq: 1 };
+    let mut election = Election::start(alloc, call, group, 2, 4)?;
+    hear(&mut election, 3, call, 6);
+    if election.number().is_none() {
+        return Ok(());
+    }
+    election.joined(SiteReport {
+        site: 2,
+        state: State::W,
+        attempt: 0,
+    });
+    push_text(out, "reported:")?;
+    push_taken(out, &mut election, reports)?;
+    push_text(out, "\n")
+}
+
+// Adds the lines of a commit, and of elections; the reports are one under another number, a stranger's, one that counts, the same
+// once more, and the elector's own.
 fn push_gathered(alloc: Global, out: &mut List<u8>) -> Result<(), NoMemory> {
     let sites = SiteSet::one(1).with(2).with(3);
     push_votes(out, sites)?;
     push_acknowledged(out, sites)?;
-    push_answers(alloc, out)
+    push_answers(alloc, out)?;
+    push_reported(
+        alloc,
+        out,
+        SiteSet::one(2).with(3),
+        &[(3, 6), (4, 7), (3, 7), (3, 7), (2, 7)],
+    )
 }
 
 /// Adds the lines of these parts.
