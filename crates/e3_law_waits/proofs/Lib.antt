@@ -1,7 +1,0 @@
-pub mod Clashing
-pub mod Taking
-pub mod Holders
-pub mod Granting
-pub mod Standing
-pub mod Cycles
-pub mod Waiting

@@ -1,3 +1,0 @@
-pub mod Waiters
-pub mod Claims
-pub mod Example
