@@ -1,0 +1,104 @@
+-- What a site that stands for an alike incarnation does, and that it goes on standing so.
+use Rattle.std.proofs.Common.{◌≡◌, ◌++◌, ◌∷◌, [], ℕ, List, refl, sym, ap, subst, ◌∙◌}
+use Rattle.std.specs.List.{AllByRecursion as Each}
+use Rattle.e3_types.specs.declared.entries.Entry.{Entry}
+use Rattle.e3_types.specs.declared.entries.Input.{Input}
+use Rattle.e3_types.specs.declared.records.Record.{Record}
+use Rattle.e3_types.specs.declared.scenarios.Scenario.{Scenario}
+use Rattle.e3_world.specs.declared.lives.Incarnation.{Incarnation}
+use Rattle.e3_world.specs.declared.lives.Made.{Made}
+use Rattle.e3_world.specs.declared.lives.SiteStep.{SiteStep}
+use Rattle.e3_world.specs.Legal.{entry_of, made_by}
+use Rattle.e3_world.specs.Lives.{incarnation_of, present_log}
+use Rattle.e3_world.specs.Moves.{Move, Past, Rose, log_by, log_of, moves_of, own, past_of}
+use Rattle.e3_world.specs.Steps.{step_of}
+use Rattle.e3_world.proofs.Numbers.{entered_move}
+use Rattle.e3_world.proofs.Pushes.{incarnation_push, log_push, past_push, present_is_log}
+use Rattle.e3_world.proofs.Readings.{own_same}
+use Rattle.e3_world.proofs.Turns.{self}
+use Rattle.e3_law_brief.specs.Brief.{txns_of}
+use Rattle.e3_law_brief.specs.Orderly.{IsOrderly}
+use Rattle.e3_law_alike.specs.Alike.{AlikeNow, IsInOrder, IsKnown}
+use Rattle.e3_law_alike.proofs.Laws.{opens_alike, rises_alike, self_alike, steps_alike, turned_alike}
+use Rattle.e3_law_stands.specs.Laws.{ExactIsAlike, GoesOnAlike, ListsOpenAlike, PlansAlike, RisesAlike, StillAlike}
+use Rattle.e3_law_stands.specs.StandsAlike.{IsLogInOrder}
+use Rattle.e3_site.specs.SiteView.{risen_with, step_kept, with_step}
+
+-- the incarnation that a site's moves make
+abbrev theirs : Scenario → List Entry → ℕ → Incarnation
+theirs sc h site = incarnation_of (moves_of sc h site)
+
+-- its log at present is the site's
+log_is : (sc : Scenario) (h : List Entry) (site : ℕ) → log_of sc h site ≡ present_log (theirs sc h site)
+log_is sc h site = sym (present_is_log (moves_of sc h site))
+
+in_order : (sc : Scenario) (h : List Entry) (site : ℕ) → IsLogInOrder site (log_of sc h site) → IsInOrder site (theirs sc h site)
+in_order sc h site order = record {
+  orderly = subst (λ (l : List Record). IsOrderly site l) (log_is sc h site) order.orderly;
+  known = subst (λ (l : List Record). Each IsKnown (txns_of l)) (log_is sc h site) order.known;
+}
+
+pub exact : ExactIsAlike
+exact sc h site s stands = record {
+  weights_are = stands.weights_are;
+  site_is = stands.site_is;
+  now = theirs sc h site;
+  stands = stands.stands;
+  alike = self_alike (theirs sc h site);
+}
+
+pub rises : RisesAlike
+rises sc h s records log weights stands risen mine others same =
+    let m : Move = record { site = s.site; did = Rose risen.inc risen.records } in
+    let all : log ≡ log_by risen.before ++ risen.records = risen.log_is ∙ ap log_by risen.last ∙ log_push risen.before m in
+    let there : theirs sc h s.site ≡ record { rose = log_by risen.before ++ risen.records; since = [] } =
+    ap incarnation_of risen.last ∙ incarnation_push risen.before m
+    ∙ ap (λ (l : List Record). record { rose = l ++ risen.records; since = [] }) (present_is_log risen.before) in
+    record {
+      weights_are = weights;
+      site_is = refl;
+      now = risen_with records;
+      stands = stands;
+      alike = subst (λ (n : Incarnation). AlikeNow (risen_with records) n) (ap risen_with all ∙ sym there) (rises_alike s.site records log mine others same);
+    }
+
+pub plans : PlansAlike
+plans sc h s i stands order =
+    ap (λ (ws : List ℕ). step_kept i (step_of ws s.site stands.now i)) stands.weights_are
+    ∙ ap (λ (made : Made). step_kept i made)
+    (sym (steps_alike sc.weights s.site (theirs sc h s.site) stands.now i (in_order sc h s.site order) (turned_alike stands.now (theirs sc h s.site) stands.alike)))
+
+pub opens : ListsOpenAlike
+opens sc h s stands orderly = sym (opens_alike s.site (theirs sc h s.site) stands.now
+    (subst (λ (l : List Record). IsOrderly s.site l) (log_is sc h s.site) orderly) (turned_alike stands.now (theirs sc h s.site) stands.alike))
+
+pub still : StillAlike
+still sc h k site old new stands same weights number on = record {
+  weights_are = weights ∙ stands.weights_are;
+  site_is = number ∙ stands.site_is;
+  now = stands.now;
+  stands = on;
+  alike = subst (λ (ms : List Move). AlikeNow stands.now (incarnation_of ms)) same stands.alike;
+}
+
+-- behind the entry of a step the site's incarnation has that step
+step_moves : (sc : Scenario) (h : List Entry) (site : ℕ) (i : Input) →
+    theirs sc (h ++ entry_of sc h site i ∷ []) site ≡ with_step (theirs sc h site) (step_kept i (made_by sc h site i))
+step_moves sc h site i =
+    ap (λ l. incarnation_of (past_of sc site l).moves) (own_same site h (entry_of sc h site i) (self site))
+    ∙ ap (λ (p : Past). incarnation_of p.moves) (past_push sc site (own site h) (entry_of sc h site i))
+    ∙ ap (λ ms. incarnation_of (moves_of sc h site ++ ms)) (entered_move sc h site i)
+    ∙ incarnation_push (moves_of sc h site) _
+
+pub on : GoesOnAlike
+on sc h i old new step stands made weights number behind =
+    let was : Incarnation = theirs sc h old.site in
+    let both : AlikeNow (with_step stands.now step) (with_step was step) =
+    record { rose = stands.alike.rose; since = ap (λ (ss : List SiteStep). ss ++ step ∷ []) stands.alike.since } in
+    record {
+      weights_are = weights ∙ stands.weights_are;
+      site_is = number;
+      now = with_step stands.now step;
+      stands = behind;
+      alike = subst (λ (n : Incarnation). AlikeNow (with_step stands.now step) n) (ap (with_step was) made ∙ sym (step_moves sc h old.site i)) both;
+    }

@@ -1,0 +1,8 @@
+use Rattle.e3_law_stands.proofs.Standing as laws
+use Rattle.e3_law_stands.proofs.alike_sites_do_the_same.Goals as goal
+
+pub returns-clause-plans : goal.returns-clause-plans
+returns-clause-plans c = laws.plans
+
+pub returns-clause-opens : goal.returns-clause-opens
+returns-clause-opens c = laws.opens

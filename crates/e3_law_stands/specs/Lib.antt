@@ -1,0 +1,2 @@
+pub mod StandsAlike
+pub mod Laws
