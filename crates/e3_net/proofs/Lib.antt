@@ -5,7 +5,13 @@ pub mod Taking
 pub mod Keeping
 pub mod Showing
 pub mod AllSites
-pub mod Places
 pub mod Sending
 pub mod Entering
 pub mod Queues
+pub mod Chains
+pub mod Leaving
+pub mod Rows
+pub mod Standing
+pub mod Queueing
+pub mod Parting
+pub mod Walking

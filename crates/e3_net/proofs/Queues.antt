@@ -1,8 +1,6 @@
 -- The packets to a site, as often as each has copies left.
-use Rattle.std.proofs.Common.{◌≡◌, ◌≢◌, ◌==◌, ◌-◌, ◌+◌, ◌<◌, ◌≤◌, ℕ, zero, suc, Bool, true, false, List, [], ◌∷◌, ◌++◌, append-nil, append_assoc, length, get_or, take, drop, ◌∙◌, ap, sym, refl, arith, eq-eqb, eqb-true, Some}
+use Rattle.std.proofs.Common.{◌≡◌, ◌==◌, ◌-◌, ◌≤◌, ℕ, zero, suc, Bool, true, false, List, [], ◌∷◌, ◌++◌, append_assoc, take, ◌∙◌, ap, sym, refl, arith, eqb-true, Some}
 use Rattle.std.specs.Prelude.{find, option_map, replicate}
-use Rattle.std.proofs.lemmas.Bool.{ne_eqb}
-use Rattle.std.proofs.lemmas.List.{take-append-drop, take_more}
 use Rattle.e3_types.specs.declared.messages.Packet.{Packet}
 use Rattle.e3_net.specs.declared.waiting.Waiting.{Waiting}
 use Rattle.e3_net.specs.Traffic.{goes_to, less_one_to, queue_in, wait}
@@ -13,12 +11,6 @@ pub take_take : {X : Type 0} (n : ℕ) (xs ys : List X) → take n (take n xs ++
 take_take zero xs ys = refl
 take_take (suc n) [] ys = refl
 take_take (suc n) (x ∷ xs) ys = ap (λ l. x ∷ l) (take_take n xs ys)
-
--- where so many are there, more change nothing
-pub take_full : {X : Type 0} (n : ℕ) (xs ys : List X) → n ≤ length (take n xs) → take n (xs ++ ys) ≡ take n xs
-take_full zero xs ys full = refl
-take_full (suc n) [] ys full = absurd (omega (arith, full))
-take_full (suc n) (x ∷ xs) ys full = ap (λ l. x ∷ l) (take_full n xs ys (omega (arith, full)))
 
 -- the queue of more
 pub queue_append : (site : ℕ) (xs ys : List Waiting) → queue_in site (xs ++ ys) ≡ queue_in site xs ++ queue_in site ys
@@ -91,33 +83,3 @@ queue_less site (w ∷ ws) p rest live is = by (goes_to site w) refl w.copies re
     by false other c is_c more =
         let there : queue_in site ws ≡ p ∷ rest = sym (let q : queue_in site (w ∷ ws) ≡ queue_in site ws = rw other refl in q) ∙ is in
         (let less : queue_in site (less_one_to site (w ∷ ws)) ≡ queue_in site (less_one_to site ws) = rw other (rw other refl) in less) ∙ more there
-
--- one packet more
-queue_one_here : (site : ℕ) (w : Waiting) → goes_to site w ≡ true → queue_in site (w ∷ []) ≡ replicate w.copies w.packet
-queue_one_here site w here = (let q : queue_in site (w ∷ []) ≡ replicate w.copies w.packet ++ [] = rw here refl in q) ∙ append-nil (replicate w.copies w.packet)
-
-queue_one_other : (site : ℕ) (w : Waiting) → goes_to site w ≡ false → queue_in site (w ∷ []) ≡ []
-queue_one_other site w other = rw other refl
-
-next_queue : (site : ℕ) (ws : List Waiting) (at : ℕ) (w : Waiting) → at < length ws → w ≡ get_or ws at w →
-    queue_in site (take (at + 1) ws) ≡ queue_in site (take at ws) ++ queue_in site (w ∷ [])
-next_queue site ws at w low is =
-    ap (queue_in site) (take_more ws at w low ∙ ap (λ (x : Waiting). take at ws ++ x ∷ []) (sym is)) ∙ queue_append site (take at ws) (w ∷ [])
-
-pub few_here : (n site : ℕ) (ws : List Waiting) (at : ℕ) (w : Waiting) (few new : List Packet) → at < length ws → w ≡ get_or ws at w → w.packet.to ≡ site →
-    few ≡ take n (queue_in site (take at ws)) → new ≡ take n (few ++ replicate w.copies w.packet) → new ≡ take n (queue_in site (take (at + 1) ws))
-few_here n site ws at w few new low is here was added =
-    added ∙ ap (λ (l : List Packet). take n (l ++ replicate w.copies w.packet)) was ∙ take_take n (queue_in site (take at ws)) (replicate w.copies w.packet)
-    ∙ sym (ap (λ (l : List Packet). take n l) (next_queue site ws at w low is ∙ ap (λ (l : List Packet). queue_in site (take at ws) ++ l) (queue_one_here site w (eq-eqb w.packet.to site here))))
-
-pub few_other : (n site : ℕ) (ws : List Waiting) (at : ℕ) (w : Waiting) (few : List Packet) → at < length ws → w ≡ get_or ws at w → w.packet.to ≢ site →
-    few ≡ take n (queue_in site (take at ws)) → few ≡ take n (queue_in site (take (at + 1) ws))
-few_other n site ws at w few low is other was =
-    was ∙ sym (ap (λ (l : List Packet). take n l) (next_queue site ws at w low is ∙ ap (λ (l : List Packet). queue_in site (take at ws) ++ l) (queue_one_other site w (ne_eqb w.packet.to site other)) ∙ append-nil (queue_in site (take at ws))))
-
--- where there are as many as there may be, more change nothing
-pub few_all : (n site : ℕ) (ws : List Waiting) (at : ℕ) (few : List Packet) → few ≡ take n (queue_in site (take at ws)) → n ≤ length few → few ≡ take n (queue_in site ws)
-few_all n site ws at few was full =
-    let long : length few ≡ length (take n (queue_in site (take at ws))) = ap length was in
-    was ∙ sym (take_full n (queue_in site (take at ws)) (queue_in site (drop at ws)) (omega (arith, full, long)))
-    ∙ sym (ap (λ (l : List Packet). take n l) (ap (queue_in site) (sym (take-append-drop at ws)) ∙ queue_append site (take at ws) (drop at ws)))

@@ -1,3 +1,4 @@
 pub mod Traffic
 pub mod Stands
 pub mod Claims
+pub mod Chains

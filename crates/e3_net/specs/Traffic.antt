@@ -70,12 +70,6 @@ abbrev pub less_one_to : ℕ → List Waiting → List Waiting
 less_one_to site [] = []
 less_one_to site (w ∷ ws) = if goes_to site w then wait w.packet (w.copies - 1) ++ ws else w ∷ less_one_to site ws
 
--- one copy less of the packet at this place, counted from 0
-abbrev pub less_one_at : ℕ → List Waiting → List Waiting
-less_one_at at [] = []
-less_one_at zero (w ∷ ws) = wait w.packet (w.copies - 1) ++ ws
-less_one_at (suc at) (w ∷ ws) = w ∷ less_one_at at ws
-
 -- a copy of the pending packet to the site with the least number is taken
 abbrev pub takes : ℕ → Traffic → Traffic
 takes site net = record net { waiting = less_one_to site net.waiting }

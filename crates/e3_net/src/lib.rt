@@ -5,6 +5,7 @@
 mod laws;
 mod net;
 mod queue;
+mod slots;
 mod waiting;
 
 pub use laws::{each_entry_keeps_the_net, net_shows_what_is_pending};

@@ -4,11 +4,10 @@ ghost use Rattle.e3_net.specs.Traffic.{copies_now, fresh, packet_to, queue_in, s
 ghost use Rattle.e3_world.specs.Legal.{numbered};
 ghost use Rattle.e3_world.specs.Packets.{sites_to};
 
-use crate::{Waiting, queue};
+use crate::queue::{self, Queue};
 use e3_types::{List, Message, NoMemory, Packet, SiteSet};
 use e3_world::fate_word;
 use std::alloc::Global;
-use std::collections::VecDeque;
 use std::marker::Model;
 
 /// The network. Of each packet that is pending it keeps one, with the count of its copies.
@@ -20,12 +19,11 @@ pub struct Net {
     parts: List<SiteSet>,
     calm: bool,
     sent: u64,
-    waiting: VecDeque<Waiting>,
+    waiting: Queue,
 }
 
 impl Model for Net {
-    ghost use Rattle.std.specs.Prelude.{◌+◌, ◌-◌, ◌≤◌};
-    ghost use Rattle.std.specs.VecDeque.{deque_len, deque_capacity};
+    ghost use Rattle.std.specs.Prelude.{◌+◌, ◌≤◌};
     ghost use Rattle.e3_net.specs.Traffic.{NetView};
 
     ghost Value = { NetView };
@@ -40,10 +38,10 @@ impl Model for Net {
         sent = n.sent;
         waiting = n.waiting.items;
       };
-      room = deque_capacity n.waiting - deque_len n.waiting;
+      room = n.waiting.room;
     } };
 
-    ghost invariant = { λ n. n.loss + n.repeat ≤ 100 };
+    ghost invariant = { λ n. (n.loss + n.repeat ≤ 100) × (n.waiting.given ≤ n.sent) };
 }
 
 // All sites up to this one.
@@ -82,7 +80,7 @@ impl Net {
             parts,
             calm: false,
             sent: 0,
-            waiting: VecDeque::new(alloc),
+            waiting: Queue::new(alloc)?,
         })
     }
 
@@ -92,15 +90,13 @@ impl Net {
         ensures grows { self.old.room ≤ self.new.room }
         ensures ok { OnOk result (outs ≤ self.new.room) }
     {
-        match self.waiting.try_reserve(outs as usize) {
-            Ok(()) => Ok(()),
-            Err(_) => Err(NoMemory),
-        }
+        self.waiting.reserve(outs)
     }
 
-    // How many copies of a packet are to be delivered.
+    // How many copies of a packet are to be delivered. None go to a site above 64.
     fn copies(&self, packet: &Packet) -> u8
-        ensures { result ≡ copies_now self.now.traffic packet.now }
+        ensures number { result ≡ copies_now self.now.traffic packet.now }
+        ensures low { 0 < result → packet.now.to ≤ 64 }
     {
         if !queue::same_part(self.parts.as_slice(), packet.from, packet.to) {
             return 0;
@@ -132,7 +128,7 @@ impl Net {
         };
         let copies = self.copies(&packet);
         self.sent = number;
-        queue::add(&mut self.waiting, packet, copies);
+        self.waiting.add(packet, copies);
         number
     }
 
@@ -153,24 +149,20 @@ impl Net {
     }
 
     /// Takes a copy of the pending packet to this site with the least number. None exactly where none is pending to it.
-    /// The packet is looked for from the least number on, and what lies before it moves up: no time where it is the least
-    /// of all, else in proportion to those that wait before it.
+    /// What waits before it is not looked at: it takes about the same time however many wait.
     pub fn take(&mut self, site: u32) -> Option<Packet>
         ensures packet { result ≡ packet_to site self.old.traffic }
         ensures traffic { self.new.traffic ≡ takes site self.old.traffic }
         ensures room { self.old.room ≤ self.new.room }
     {
-        queue::take(&mut self.waiting, site)
+        self.waiting.take(site)
     }
 
     /// The pending packet to this site with the least number; it stays pending. None exactly where none is pending to it.
     pub fn next_to(&self, site: u32) -> Option<&Packet>
         ensures { option_copied result ≡ packet_to site self.now.traffic }
     {
-        match self.waiting.iter().find(|w| w.packet.to == site) {
-            Some(w) => Some(&w.packet),
-            None => None,
-        }
+        self.waiting.first_to(site)
     }
 
     /// The pending packets to this site, so many at most, each as often as it has copies left, that of least number first:
@@ -178,17 +170,14 @@ impl Net {
     pub fn next_few(&self, alloc: Global, site: u32, most: u32) -> Result<List<Packet>, NoMemory>
         ensures { IfOk result (λ few. few ≡ take most (queue_in site self.now.traffic.waiting)) }
     {
-        queue::first_few(alloc, &self.waiting, site, most)
+        self.waiting.first_few(alloc, site, most)
     }
 
     /// The pending packet with the least number. None exactly where none is pending.
     pub fn first_pending(&self) -> Option<&Packet>
         ensures { option_copied result ≡ option_map (λ w. w.packet) (slice_get self.now.traffic.waiting 0) }
     {
-        match self.waiting.front() {
-            Some(first) => Some(&first.packet),
-            None => None,
-        }
+        self.waiting.first()
     }
 
     /// The receiver of the pending packet with the least number. None exactly where none is pending.
@@ -205,7 +194,7 @@ impl Net {
     pub fn pending(&self) -> u64
         ensures { result ≡ length self.now.traffic.waiting }
     {
-        self.waiting.len() as u64
+        self.waiting.len()
     }
 
     /// How many packets were sent.
