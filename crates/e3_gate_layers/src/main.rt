@@ -8,14 +8,14 @@ mod damage;
 mod disks;
 mod logs;
 mod nets;
-mod page;
 mod streams;
+mod texts;
 mod values;
 mod verdicts;
 
 use e3_outside::{StdSource, read_up_to};
-use e3_types::{List, NoMemory};
-use page::Page;
+use e3_page::Page;
+use e3_types::List;
 use std::alloc::Global;
 use std::io::{self, Write};
 use std::process::ExitCode;
@@ -29,28 +29,18 @@ const NO_MEMORY: u8 = 5;
 /// More bytes than the bodies have.
 const MOST: u64 = 65_536;
 
-fn lines(alloc: Global, input: &[u8]) -> Result<List<u8>, NoMemory> {
+// All lines; none without memory.
+fn lines(alloc: Global, input: &[u8]) -> Option<List<u8>> {
     let mut page = Page::new(alloc);
-    push_lines(alloc, &mut page, input)?;
+    values::push_lines(alloc, &mut page);
+    bodies::push_lines(alloc, &mut page, input);
+    disks::push_lines(alloc, &mut page);
+    logs::push_lines(alloc, &mut page);
+    damage::push_lines(alloc, &mut page);
+    streams::push_lines(alloc, &mut page);
+    nets::push_lines(alloc, &mut page);
+    verdicts::push_lines(&mut page);
     page.done()
-}
-
-// Adds all lines.
-fn push_lines(alloc: Global, page: &mut Page, input: &[u8]) -> Result<(), NoMemory> {
-    values::push_lines(alloc, page)?;
-    bodies::push_lines(alloc, page, input)?;
-    push_stored(alloc, page)?;
-    streams::push_lines(alloc, page)?;
-    nets::push_lines(alloc, page)?;
-    verdicts::push_lines(page);
-    Ok(())
-}
-
-// Adds the lines of disks and of logs on them.
-fn push_stored(alloc: Global, page: &mut Page) -> Result<(), NoMemory> {
-    disks::push_lines(alloc, page)?;
-    logs::push_lines(alloc, page)?;
-    damage::push_lines(alloc, page)
 }
 
 fn main(rt: HostRuntime) -> ExitCode {
@@ -58,7 +48,7 @@ fn main(rt: HostRuntime) -> ExitCode {
     let Ok(input) = read_up_to(rt.alloc(), &mut source, MOST) else {
         return ExitCode::from(NO_INPUT);
     };
-    let Ok(text) = lines(rt.alloc(), input.as_slice()) else {
+    let Some(text) = lines(rt.alloc(), input.as_slice()) else {
         return ExitCode::from(NO_MEMORY);
     };
     match io::writer(&rt).write_all(text.as_slice()) {

@@ -1,7 +1,8 @@
 // The values of which all is made: sets of sites, the age of transactions, names, values, lists and their copies, fronts of
 // queues, the generator's words, and histories.
-use crate::page::Page;
+use crate::texts::{push_flag, push_known, push_numbers};
 use e3_locks::front;
+use e3_page::Page;
 use e3_types::{Act, Copied, Entry, List, Lock, Mode, Name, NoMemory, Record, SiteSet, Txn, Val};
 use e3_world::{History, fate_word};
 use std::alloc::Global;
@@ -14,27 +15,33 @@ fn push_order(page: &mut Page, label: &str, rising: bool) {
     let mut before = SiteSet::empty();
     for sites in RISING {
         let set = SiteSet::of(sites).unwrap_or(before);
-        page.flag(if rising { before < set } else { set < before });
+        push_flag(page, if rising { before < set } else { set < before });
         before = set;
     }
     page.text("\n");
 }
 
 // Adds how many sites the greatest set has, and whether it is the set of their list.
-fn push_all_sites(alloc: Global, page: &mut Page) -> Result<(), NoMemory> {
+fn push_all_sites(alloc: Global, page: &mut Page) {
     let all = SiteSet::of_bits(u64::MAX);
-    let list = all.list(alloc)?;
-    page.labelled("sites of all bits: ", list.len());
-    page.flag(SiteSet::of(list.as_slice()).is_some_and(|set| set.is_same(all)));
-    page.text("\n");
-    Ok(())
+    match all.list(alloc) {
+        Ok(list) => {
+            page.labelled("sites of all bits: ", list.len());
+            push_flag(
+                page,
+                SiteSet::of(list.as_slice()).is_some_and(|set| set.is_same(all)),
+            );
+            page.text("\n");
+        }
+        Err(NoMemory) => page.lack(),
+    }
 }
 
 // Adds which lists are sets.
 fn push_are_sets(page: &mut Page) {
     page.text("are sets:");
     for sites in [[0].as_slice(), &[65], &[2, 1], &[1, 1], &[0, 1], &[1, 64]] {
-        page.flag(SiteSet::of(sites).is_some());
+        push_flag(page, SiteSet::of(sites).is_some());
     }
     page.text("\n");
 }
@@ -61,8 +68,8 @@ fn push_ages(page: &mut Page) {
     for first in &rising {
         page.text("older than each:");
         for second in &rising {
-            page.flag(first.is_older(second));
-            page.flag(*first < *second);
+            push_flag(page, first.is_older(second));
+            push_flag(page, *first < *second);
         }
         page.text("\n");
     }
@@ -72,7 +79,10 @@ fn push_ages(page: &mut Page) {
 fn push_are_txns(page: &mut Page) {
     page.text("are transactions:");
     for (site, inc, seq) in [(1, 1, 1), (3, 1, 1), (1, 0, 1), (1, 1, 0)] {
-        page.flag(Txn::new(site, inc, seq, SiteSet::one(1).with(2)).is_some());
+        push_flag(
+            page,
+            Txn::new(site, inc, seq, SiteSet::one(1).with(2)).is_some(),
+        );
     }
     page.text("\n");
 }
@@ -89,31 +99,45 @@ fn push_texts(page: &mut Page) {
         b"a-b",
         b"a b",
     ] {
-        page.flag(Name::new(bytes).is_some());
+        push_flag(page, Name::new(bytes).is_some());
     }
     page.text("\nare values:");
     for bytes in [[255; 256].as_slice(), &[0; 257], b""] {
-        page.flag(Val::new(bytes).is_some());
+        push_flag(page, Val::new(bytes).is_some());
     }
     page.text("\n");
 }
 
-// Adds a list, whether there is no memory for a list that is too long, and whether a copy is the same record.
-fn push_lists(alloc: Global, page: &mut Page) -> Result<(), NoMemory> {
+// A list of three numbers.
+fn three_numbers(alloc: Global) -> Option<List<u64>> {
     let mut list = List::new(alloc);
-    list.push(7)?;
-    list.extend(&[8, 9])?;
-    page.text("a list:");
-    page.numbers(list.as_slice());
-    page.text(", without memory");
-    page.flag(list.reserve(u64::MAX).is_err());
-    page.text(", a record's copy");
-    page.flag(matches!(
+    list.push(7).ok()?;
+    list.extend(&[8, 9]).ok()?;
+    Some(list)
+}
+
+// Whether a copy is the same record.
+fn is_copied(alloc: Global) -> bool {
+    matches!(
         (Record::Inc { inc: 1 }).copied(alloc),
         Ok(Record::Inc { inc: 1 })
-    ));
-    page.text("\n");
-    Ok(())
+    )
+}
+
+// Adds a list, whether there is no memory for a list that is too long, and whether a copy is the same record.
+fn push_lists(alloc: Global, page: &mut Page) {
+    match three_numbers(alloc) {
+        Some(mut list) => {
+            page.text("a list:");
+            push_numbers(page, list.as_slice());
+            page.text(", without memory");
+            push_flag(page, list.reserve(u64::MAX).is_err());
+            page.text(", a record's copy");
+            push_flag(page, is_copied(alloc));
+            page.text("\n");
+        }
+        None => page.lack(),
+    }
 }
 
 // Adds how many requests of one transaction are granted where none is held.
@@ -139,40 +163,54 @@ fn line_at(history: &History, at: u64) -> Option<u64> {
     }
 }
 
-// Adds a history of three lines, of the owners 1, 0 and 1.
-fn push_history(alloc: Global, page: &mut Page) -> Result<(), NoMemory> {
+// A history of three lines, of the owners 1, 0 and 1.
+fn three_lines(alloc: Global) -> Option<History> {
     let mut history = History::new(alloc);
     for number in 1..4u32 {
-        history.reserve(1)?;
+        history.reserve(1).ok()?;
         history.push(Entry {
             owner: number % 2,
             act: Act::Line { number },
         });
     }
+    Some(history)
+}
+
+// Adds its entries, those of site 1, and the line at each place.
+fn push_history(page: &mut Page, history: &History) {
     page.labelled("entries ", history.len());
     page.labelled(", of site 1 ", history.own_count(1));
     page.text(", lines");
     for at in 0..4 {
-        page.known(line_at(&history, at));
+        push_known(page, line_at(history, at));
     }
     page.text("\n");
-    Ok(())
 }
 
-/// Adds the lines of values. The generator's published demonstration has the first word 2,707,161,783 for 42 on the stream 54.
-pub fn push_lines(alloc: Global, page: &mut Page) -> Result<(), NoMemory> {
+// Adds the lines of sets, transactions and texts.
+fn push_plain(alloc: Global, page: &mut Page) {
     push_order(page, "sets below those before:", false);
     push_order(page, "sets above those before:", true);
     push_are_sets(page);
-    push_all_sites(alloc, page)?;
+    push_all_sites(alloc, page);
     push_ages(page);
     push_are_txns(page);
     push_texts(page);
-    push_lists(alloc, page)?;
+}
+
+/// Adds the lines of values. The generator's published demonstration has the first word 2,707,161,783 for 42 on the stream 54.
+pub fn push_lines(alloc: Global, page: &mut Page) {
+    push_plain(alloc, page);
+    push_lists(alloc, page);
     for mode in [Mode::Shared, Mode::Exclusive] {
-        push_front(alloc, page, mode)?;
+        if push_front(alloc, page, mode).is_err() {
+            page.lack();
+        }
     }
     page.labelled("the first word of 42 on 54: ", u64::from(fate_word(42, 54)));
     page.text("\n");
-    push_history(alloc, page)
+    match three_lines(alloc) {
+        Some(history) => push_history(page, &history),
+        None => page.lack(),
+    }
 }

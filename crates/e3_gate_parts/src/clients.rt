@@ -1,11 +1,11 @@
 // A client's transaction: what is refused and why, and how answers are taken.
-ghost use Rattle.std.specs.Prelude.{◌≡◌, IsTrue};
+ghost use Rattle.std.specs.Prelude.{◌≡◌, IfSome, IsTrue};
 ghost use Rattle.e3_types.specs.Sets.{has_site};
 
-use crate::texts::{push_formatted, push_refused, push_word};
+use crate::texts::{push_refused, push_word};
 use e3_client::{Client, Heard};
-use e3_lines::{push_labelled, push_text};
-use e3_types::{List, NoMemory, Refusal, SiteSet, State, Txn};
+use e3_page::Page;
+use e3_types::{NoMemory, Refusal, SiteSet, State, Txn};
 use std::alloc::Global;
 
 // The transaction of these clients, and an older one.
@@ -18,60 +18,54 @@ fn txn(seq: u32) -> Txn {
     }
 }
 
-fn push_next(
-    out: &mut List<u8>,
-    client: &Client,
-    state: State,
-    attempt: u32,
-) -> Result<(), NoMemory> {
-    push_text(out, " operation")?;
+fn push_next(page: &mut Page, client: &Client, state: State, attempt: u32) {
+    page.text(" operation");
     if client.issued() >= 64 {
-        return Ok(());
+        return;
     }
     match client.next_op(state, attempt) {
-        Ok(n) => push_labelled(out, " ", n as u64),
-        Err(why) => push_refused(out, txn(2), why),
+        Ok(n) => page.labelled(" ", u64::from(n)),
+        Err(why) => push_refused(page, txn(2), why),
     }
 }
 
-fn push_told(out: &mut List<u8>, answer: Result<(), Refusal>) -> Result<(), NoMemory> {
+fn push_told(page: &mut Page, answer: Result<(), Refusal>) {
     match answer {
-        Ok(()) => push_word(out, "goes"),
-        Err(why) => push_refused(out, txn(2), why),
+        Ok(()) => push_word(page, "goes"),
+        Err(why) => push_refused(page, txn(2), why),
     }
 }
 
 // Adds whether the transaction may commit, and whether it may be cancelled.
-fn push_ends(
-    out: &mut List<u8>,
-    client: &Client,
-    state: State,
-    attempt: u32,
-) -> Result<(), NoMemory> {
-    push_text(out, ", commit")?;
-    push_told(out, client.ready(state, attempt))?;
-    push_text(out, ", cancel")?;
-    push_told(out, client.may_cancel(state, attempt))?;
-    push_text(out, "\n")
+fn push_ends(page: &mut Page, client: &Client, state: State, attempt: u32) {
+    page.text(", commit");
+    push_told(page, client.ready(state, attempt));
+    page.text(", cancel");
+    push_told(page, client.may_cancel(state, attempt));
+    page.text("\n");
 }
 
 // Adds what the client is answered to each call, where its transaction has this state and this last attempt.
-fn push_calls(
-    alloc: Global,
-    out: &mut List<u8>,
-    label: &str,
-    client: &Client,
-    state: State,
-    attempt: u32,
-) -> Result<(), NoMemory> {
-    push_formatted(out, format!(in alloc; "client, {label}:"))?;
-    push_next(out, client, state, attempt)?;
-    push_ends(out, client, state, attempt)
+fn push_calls(page: &mut Page, label: &str, client: &Client, state: State, attempt: u32) {
+    page.text("client, ");
+    page.text(label);
+    page.text(":");
+    push_next(page, client, state, attempt);
+    push_ends(page, client, state, attempt);
+}
+
+// The client of a transaction; none without memory.
+fn begun(alloc: Global, txn: Txn) -> Option<Client>
+    ensures { IfSome result (λ client. client.txn ≡ txn) }
+{
+    match Client::begin(alloc, txn) {
+        Ok(client) => Some(client),
+        Err(NoMemory) => None,
+    }
 }
 
 // Adds what a client is refused that waits for no answer.
-fn push_states(alloc: Global, out: &mut List<u8>) -> Result<(), NoMemory> {
-    let client = Client::begin(alloc, txn(2))?;
+fn push_idle(page: &mut Page, client: &Client) {
     for (label, state, attempt) in [
         ("begun", State::Q, 0),
         ("voted", State::W, 0),
@@ -80,9 +74,15 @@ fn push_states(alloc: Global, out: &mut List<u8>) -> Result<(), NoMemory> {
         ("committed", State::C, 1),
         ("aborted", State::A, 0),
     ] {
-        push_calls(alloc, out, label, &client, state, attempt)?;
+        push_calls(page, label, client, state, attempt);
     }
-    Ok(())
+}
+
+fn push_states(alloc: Global, page: &mut Page) {
+    match begun(alloc, txn(2)) {
+        Some(client) => push_idle(page, &client),
+        None => page.lack(),
+    }
 }
 
 // Issues an operation, where one may be.
@@ -96,13 +96,7 @@ fn issue(client: &mut Client, site: u32)
 }
 
 // Adds what a client is refused that waits for an answer: an end comes before that, and that before too late.
-fn push_busy(alloc: Global, out: &mut List<u8>) -> Result<(), NoMemory> {
-    let txn = txn(2);
-    if !txn.sites.has(2) {
-        return Ok(());
-    }
-    let mut client = Client::begin(alloc, txn)?;
-    issue(&mut client, 2);
+fn push_waiting(page: &mut Page, client: &Client) {
     for (label, state, attempt) in [
         ("unanswered", State::Q, 0),
         ("unanswered and voted", State::W, 0),
@@ -110,9 +104,22 @@ fn push_busy(alloc: Global, out: &mut List<u8>) -> Result<(), NoMemory> {
         ("unanswered and committed", State::C, 1),
         ("unanswered and aborted", State::A, 0),
     ] {
-        push_calls(alloc, out, label, &client, state, attempt)?;
+        push_calls(page, label, client, state, attempt);
     }
-    Ok(())
+}
+
+fn push_busy(alloc: Global, page: &mut Page) {
+    let txn = txn(2);
+    if !txn.sites.has(2) {
+        return;
+    }
+    match begun(alloc, txn) {
+        Some(mut client) => {
+            issue(&mut client, 2);
+            push_waiting(page, &client);
+        }
+        None => page.lack(),
+    }
 }
 
 fn died() -> Refusal {
@@ -127,113 +134,117 @@ fn doomed() -> Refusal {
     }
 }
 
-// Adds what a client is told of a transaction that ended so, with these reasons, one after the other.
-fn push_ended(
-    alloc: Global,
-    out: &mut List<u8>,
-    label: &str,
-    state: State,
-    reasons: &[Refusal],
-) -> Result<(), NoMemory> {
-    let mut client = Client::begin(alloc, txn(2))?;
+fn end_all(client: &mut Client, reasons: &[Refusal]) {
     for why in reasons {
         client.end(*why);
     }
-    push_calls(alloc, out, label, &client, state, 0)
 }
 
-fn push_answer(
-    alloc: Global,
-    out: &mut List<u8>,
-    client: &mut Client,
-    from: u32,
-    n: u32,
-    inc: u32,
-) -> Result<(), NoMemory>
+// Adds what a client is told of a transaction that ended so, with these reasons, one after the other.
+fn push_ended(alloc: Global, page: &mut Page, label: &str, state: State, reasons: &[Refusal]) {
+    match begun(alloc, txn(2)) {
+        Some(mut client) => {
+            end_all(&mut client, reasons);
+            push_calls(page, label, &client, state, 0);
+        }
+        None => page.lack(),
+    }
+}
+
+fn push_doom(page: &mut Page, site: u32, had: u32, now: u32) {
+    page.labelled(" doomed at ", u64::from(site));
+    page.labelled(", had ", u64::from(had));
+    page.labelled(", now ", u64::from(now));
+}
+
+fn push_answer(page: &mut Page, client: &mut Client, from: u32, n: u32, inc: u32)
     ensures { client.new.txn ≡ client.old.txn }
 {
     match client.answer(from, n, inc) {
-        Heard::Taken => push_word(out, "taken"),
-        Heard::Stale => push_word(out, "stale"),
-        Heard::Doomed { site, had, now } => push_formatted(
-            out,
-            format!(in alloc; " doomed at {site}, had {had}, now {now}"),
-        ),
+        Heard::Taken => push_word(page, "taken"),
+        Heard::Stale => push_word(page, "stale"),
+        Heard::Doomed { site, had, now } => push_doom(page, site, had, now),
     }
 }
 
 // Adds the incarnation and the number of answers that are expected of each site.
-fn push_expected(alloc: Global, out: &mut List<u8>, client: &Client) -> Result<(), NoMemory> {
-    push_text(out, "; expected")?;
+fn push_expected(page: &mut Page, client: &Client) {
+    page.text("; expected");
     for site in [1, 2] {
         let (inc, count) = client.expected(site);
-        push_formatted(out, format!(in alloc; " incarnation {inc} count {count}"))?;
+        page.labelled(" incarnation ", u64::from(inc));
+        page.labelled(" count ", u64::from(count));
     }
-    push_text(out, "\n")
+    page.text("\n");
 }
 
 // Adds how answers to a first operation at site 2 are taken, while it is awaited: from another site, to another operation, to none.
-fn push_awaited(alloc: Global, out: &mut List<u8>, client: &mut Client) -> Result<(), NoMemory>
+fn push_awaited(page: &mut Page, client: &mut Client)
     requires { IsTrue (has_site client.old.txn.sites 2) }
     ensures { client.new.txn ≡ client.old.txn }
 {
     issue(client, 2);
-    push_answer(alloc, out, client, 1, 1, 3)?;
-    push_answer(alloc, out, client, 2, 2, 3)?;
-    push_answer(alloc, out, client, 2, 0, 3)
+    push_answer(page, client, 1, 1, 3);
+    push_answer(page, client, 2, 2, 3);
+    push_answer(page, client, 2, 0, 3);
 }
 
 // Adds how answers to a first operation at site 2 are taken: none is awaited, one that does not fit, the right one, once more.
-fn push_first(alloc: Global, out: &mut List<u8>, client: &mut Client) -> Result<(), NoMemory>
+fn push_first(page: &mut Page, client: &mut Client)
     requires { IsTrue (has_site client.old.txn.sites 2) }
     ensures { client.new.txn ≡ client.old.txn }
 {
-    push_text(out, "answers:")?;
-    push_answer(alloc, out, client, 2, 1, 3)?;
-    push_awaited(alloc, out, client)?;
-    push_answer(alloc, out, client, 2, 1, 3)?;
-    push_answer(alloc, out, client, 2, 1, 3)
+    page.text("answers:");
+    push_answer(page, client, 2, 1, 3);
+    push_awaited(page, client);
+    push_answer(page, client, 2, 1, 3);
+    push_answer(page, client, 2, 1, 3);
 }
 
 // Adds how answers to a second operation at site 2 are taken, from a later incarnation and from the same one; and that another
 // site answers under an incarnation of its own.
-fn push_second(alloc: Global, out: &mut List<u8>, client: &mut Client) -> Result<(), NoMemory>
+fn push_second(page: &mut Page, client: &mut Client)
     requires first { IsTrue (has_site client.old.txn.sites 1) }
     requires second { IsTrue (has_site client.old.txn.sites 2) }
 {
     issue(client, 2);
-    push_text(out, "answers:")?;
-    push_answer(alloc, out, client, 2, 2, 4)?;
-    push_answer(alloc, out, client, 2, 2, 3)?;
+    page.text("answers:");
+    push_answer(page, client, 2, 2, 4);
+    push_answer(page, client, 2, 2, 3);
     issue(client, 1);
-    push_answer(alloc, out, client, 1, 3, 9)
+    push_answer(page, client, 1, 3, 9);
 }
 
 // Adds what is expected of each site, and what the client is answered then.
-fn push_answered(
-    alloc: Global,
-    out: &mut List<u8>,
-    label: &str,
-    client: &Client,
-) -> Result<(), NoMemory> {
-    push_expected(alloc, out, client)?;
-    push_calls(alloc, out, label, client, State::Q, 0)
+fn push_answered(page: &mut Page, label: &str, client: &Client) {
+    push_expected(page, client);
+    push_calls(page, label, client, State::Q, 0);
 }
 
-fn push_answers(alloc: Global, out: &mut List<u8>) -> Result<(), NoMemory> {
+// Adds how answers to two operations are taken, and what is expected behind each.
+fn push_both(page: &mut Page, client: &mut Client)
+    requires first { IsTrue (has_site client.old.txn.sites 1) }
+    requires second { IsTrue (has_site client.old.txn.sites 2) }
+{
+    push_first(page, client);
+    push_answered(page, "answered", client);
+    push_second(page, client);
+    push_answered(page, "answered by both sites", client);
+}
+
+fn push_answers(alloc: Global, page: &mut Page) {
     let txn = txn(2);
     if !txn.sites.has(1) || !txn.sites.has(2) {
-        return Ok(());
+        return;
     }
-    let mut client = Client::begin(alloc, txn)?;
-    push_first(alloc, out, &mut client)?;
-    push_answered(alloc, out, "answered", &client)?;
-    push_second(alloc, out, &mut client)?;
-    push_answered(alloc, out, "answered by both sites", &client)
+    match begun(alloc, txn) {
+        Some(mut client) => push_both(page, &mut client),
+        None => page.lack(),
+    }
 }
 
 // Adds what clients are told whose transaction ended with a reason, beside a commit too, and with what is no reason.
-fn push_reasons(alloc: Global, out: &mut List<u8>) -> Result<(), NoMemory> {
+fn push_reasons(alloc: Global, page: &mut Page) {
     let busy = Refusal::Busy { op: 1 };
     for (label, state, reasons) in [
         ("died", State::A, [died()].as_slice()),
@@ -243,15 +254,14 @@ fn push_reasons(alloc: Global, out: &mut List<u8>) -> Result<(), NoMemory> {
         ("committed, with a doom", State::C, &[doomed()]),
         ("ended as busy", State::A, &[busy]),
     ] {
-        push_ended(alloc, out, label, state, reasons)?;
+        push_ended(alloc, page, label, state, reasons);
     }
-    Ok(())
 }
 
 /// Adds the lines of a client.
-pub fn push_lines(alloc: Global, out: &mut List<u8>) -> Result<(), NoMemory> {
-    push_states(alloc, out)?;
-    push_busy(alloc, out)?;
-    push_reasons(alloc, out)?;
-    push_answers(alloc, out)
+pub fn push_lines(alloc: Global, page: &mut Page) {
+    push_states(alloc, page);
+    push_busy(alloc, page);
+    push_reasons(alloc, page);
+    push_answers(alloc, page);
 }

@@ -1,9 +1,9 @@
 // What the two tables of locks answer to the same calls, of several modes and names. The transactions are numbered in the order in
 // which they began: the first is the oldest.
-use crate::texts::{push_formatted, push_found, push_grant, push_word};
-use e3_lines::{push_text, push_txn};
+use crate::texts::{push_found, push_grant, push_word};
 use e3_locks::{Granted, ListLocks, LockCall, LockTable, Locks, replay_locks};
-use e3_types::{List, Mode, Name, NoMemory, SiteSet, Txn};
+use e3_page::Page;
+use e3_types::{Grant, List, Mode, Name, NoMemory, SiteSet, Txn};
 use std::alloc::Global;
 
 // The transaction that begins as the n-th.
@@ -16,109 +16,122 @@ fn txn(seq: u32) -> Txn {
     }
 }
 
-fn push_mode(out: &mut List<u8>, mode: Mode) -> Result<(), NoMemory> {
+fn push_mode(page: &mut Page, mode: Mode) {
     match mode {
-        Mode::Shared => push_word(out, "shared"),
-        Mode::Exclusive => push_word(out, "exclusive"),
+        Mode::Shared => push_word(page, "shared"),
+        Mode::Exclusive => push_word(page, "exclusive"),
     }
 }
 
 // Adds a name behind a space.
-fn push_name(out: &mut List<u8>, name: &Name) -> Result<(), NoMemory> {
-    push_text(out, " ")?;
-    out.extend(name.bytes())
+fn push_name(page: &mut Page, name: &Name) {
+    page.text(" ");
+    page.bytes(name.bytes());
 }
 
 // Adds how the middle one of five transactions would be answered on each name, in each mode.
-fn push_would<L: Locks>(out: &mut List<u8>, locks: &L, names: &[Name]) -> Result<(), NoMemory> {
-    push_text(out, "\n  asked by 1.1.3:")?;
+fn push_would<L: Locks>(page: &mut Page, locks: &L, names: &[Name]) {
+    page.text("\n  asked by 1.1.3:");
     for name in names {
-        push_name(out, name)?;
+        push_name(page, name);
         for mode in [Mode::Shared, Mode::Exclusive] {
-            push_grant(out, &locks.would(txn(3), name, mode))?;
+            push_grant(page, &locks.would(txn(3), name, mode));
         }
     }
-    Ok(())
 }
 
 // Adds for whom a transaction waits.
-fn push_waits_of(out: &mut List<u8>, waiter: &Txn, others: &[Txn]) -> Result<(), NoMemory> {
-    push_text(out, "\n  ")?;
-    push_txn(out, waiter)?;
-    push_text(out, " waits for")?;
+fn push_waits_of(page: &mut Page, waiter: &Txn, others: &[Txn]) {
+    page.text("\n  ");
+    page.txn(waiter);
+    page.text(" waits for");
     for other in others {
-        push_found(out, Some(*other))?;
+        push_found(page, Some(*other));
     }
-    Ok(())
+}
+
+fn waits_for<L: Locks>(locks: &L, waiter: Txn) -> Result<List<Txn>, NoMemory> {
+    locks.waits_for(waiter)
 }
 
 // Adds for whom each transaction waits that waits for any.
-fn push_waits<L: Locks>(out: &mut List<u8>, locks: &L) -> Result<(), NoMemory> {
+fn push_waits<L: Locks>(page: &mut Page, locks: &L) {
     for seq in 1..6 {
-        let others = locks.waits_for(txn(seq))?;
-        if !others.is_empty() {
-            push_waits_of(out, &txn(seq), others.as_slice())?;
+        match waits_for(locks, txn(seq)) {
+            Ok(others) => {
+                if !others.is_empty() {
+                    push_waits_of(page, &txn(seq), others.as_slice());
+                }
+            }
+            Err(NoMemory) => page.lack(),
         }
     }
-    Ok(())
 }
 
-fn push_granted(out: &mut List<u8>, granted: &[Granted]) -> Result<(), NoMemory> {
+fn push_granted(page: &mut Page, granted: &[Granted]) {
     for lock in granted {
-        push_found(out, Some(lock.txn))?;
-        push_name(out, &lock.name)?;
-        push_mode(out, lock.mode)?;
+        push_found(page, Some(lock.txn));
+        push_name(page, &lock.name);
+        push_mode(page, lock.mode);
     }
-    Ok(())
 }
 
 // Adds who holds the name.
-fn push_holders<L: Locks>(out: &mut List<u8>, locks: &L, name: &Name) -> Result<(), NoMemory> {
-    push_name(out, name)?;
+fn push_holders<L: Locks>(page: &mut Page, locks: &L, name: &Name) {
+    push_name(page, name);
     for seq in 1..6 {
         if let Some(mode) = locks.holds(txn(seq), name) {
-            push_found(out, Some(txn(seq)))?;
-            push_mode(out, mode)?;
+            push_found(page, Some(txn(seq)));
+            push_mode(page, mode);
         }
     }
-    Ok(())
+}
+
+fn grants_after<L: Locks>(locks: &L, leaver: Txn) -> Result<List<Granted>, NoMemory> {
+    locks.grants_after(leaver)
+}
+
+fn release<L: Locks>(locks: &mut L, leaver: Txn) {
+    locks.release(leaver);
 }
 
 // Adds what the leave of a transaction grants, and lets it leave.
-fn push_leave<L: Locks>(
-    alloc: Global,
-    out: &mut List<u8>,
-    locks: &mut L,
-    leaver: u32,
-) -> Result<(), NoMemory> {
-    let granted = locks.grants_after(txn(leaver))?;
-    push_formatted(out, format!(in alloc; "\n  without 1.1.{leaver}:"))?;
-    push_granted(out, granted.as_slice())?;
-    locks.release(txn(leaver));
-    Ok(())
+fn push_leave<L: Locks>(page: &mut Page, locks: &mut L, leaver: u32) {
+    page.labelled("\n  without 1.1.", u64::from(leaver));
+    page.text(":");
+    match grants_after(locks, txn(leaver)) {
+        Ok(granted) => push_granted(page, granted.as_slice()),
+        Err(NoMemory) => page.lack(),
+    }
+    release(locks, txn(leaver));
 }
 
 // Adds who holds each name.
-fn push_held<L: Locks>(out: &mut List<u8>, locks: &L, names: &[Name]) -> Result<(), NoMemory> {
-    push_text(out, "\n  held then:")?;
+fn push_held<L: Locks>(page: &mut Page, locks: &L, names: &[Name]) {
+    page.text("\n  held then:");
     for name in names {
-        push_holders(out, locks, name)?;
+        push_holders(page, locks, name);
     }
-    Ok(())
 }
 
-// How these calls are answered.
-fn answered<L: Locks>(
+fn grants<L: Locks>(
     alloc: Global,
     locks: &mut L,
     calls: &[LockCall],
-) -> Result<List<u8>, NoMemory> {
-    let mut out = List::new(alloc);
-    let grants = replay_locks(alloc, locks, calls)?;
-    for grant in grants.as_slice() {
-        push_grant(&mut out, grant)?;
+) -> Result<List<Grant>, NoMemory> {
+    replay_locks(alloc, locks, calls)
+}
+
+// Adds how these calls are answered.
+fn push_grants<L: Locks>(alloc: Global, page: &mut Page, locks: &mut L, calls: &[LockCall]) {
+    match grants(alloc, locks, calls) {
+        Ok(grants) => {
+            for grant in grants.as_slice() {
+                push_grant(page, grant);
+            }
+        }
+        Err(NoMemory) => page.lack(),
     }
-    Ok(out)
 }
 
 // How these calls are answered, what stands then, what the leave of a transaction grants, and who holds each name behind it.
@@ -128,44 +141,60 @@ fn answers<L: Locks + Drop>(
     calls: &[LockCall],
     leaver: u32,
     names: &[Name],
-) -> Result<List<u8>, NoMemory> {
-    let mut out = answered(alloc, &mut locks, calls)?;
-    push_would(&mut out, &locks, names)?;
-    push_waits(&mut out, &locks)?;
-    push_leave(alloc, &mut out, &mut locks, leaver)?;
-    push_held(&mut out, &locks, names)?;
-    Ok(out)
+) -> Page {
+    let mut page = Page::new(alloc);
+    push_grants(alloc, &mut page, &mut locks, calls);
+    push_would(&mut page, &locks, names);
+    push_waits(&mut page, &locks);
+    push_leave(&mut page, &mut locks, leaver);
+    push_held(&mut page, &locks, names);
+    page
 }
 
-fn push_answers(
-    out: &mut List<u8>,
-    label: &[u8],
-    table: &str,
-    answers: &[u8],
-) -> Result<(), NoMemory> {
-    push_text(out, "locks, ")?;
-    out.extend(label)?;
-    push_text(out, table)?;
-    out.extend(answers)?;
-    push_text(out, "\n")
+fn push_answers(page: &mut Page, label: &[u8], table: &str, answers: &Page) {
+    page.text("locks, ");
+    page.bytes(label);
+    page.text(table);
+    page.page(answers);
+    page.text("\n");
 }
 
-// Adds what both tables answer to these calls and to the leave of a transaction behind them: once where they agree.
+// What the table of names answers.
+fn answers_by_names(
+    alloc: Global,
+    calls: &[LockCall],
+    leaver: u32,
+    names: &[Name],
+) -> Option<Page> {
+    match LockTable::new(alloc) {
+        Ok(table) => Some(answers(alloc, table, calls, leaver, names)),
+        Err(NoMemory) => None,
+    }
+}
+
+// Adds what both tables answer: once where they agree.
+fn push_compared(page: &mut Page, label: &[u8], plain: &Page, table: &Page) {
+    if plain.as_slice() == table.as_slice() {
+        return push_answers(page, label, ", both tables:", plain);
+    }
+    push_answers(page, label, ", in lists:", plain);
+    push_answers(page, label, ", by names:", table);
+}
+
+// Adds what both tables answer to these calls and to the leave of a transaction behind them.
 fn push_case(
     alloc: Global,
-    out: &mut List<u8>,
+    page: &mut Page,
     label: &[u8],
     calls: &[LockCall],
     leaver: u32,
     names: &[Name],
-) -> Result<(), NoMemory> {
-    let plain = answers(alloc, ListLocks::new(alloc), calls, leaver, names)?;
-    let table = answers(alloc, LockTable::new(alloc)?, calls, leaver, names)?;
-    if plain.as_slice() == table.as_slice() {
-        return push_answers(out, label, ", both tables:", plain.as_slice());
+) {
+    let plain = answers(alloc, ListLocks::new(alloc), calls, leaver, names);
+    match answers_by_names(alloc, calls, leaver, names) {
+        Some(table) => push_compared(page, label, &plain, &table),
+        None => page.lack(),
     }
-    push_answers(out, label, ", in lists:", plain.as_slice())?;
-    push_answers(out, label, ", by names:", table.as_slice())
 }
 
 // The number that a digit spells.
@@ -202,35 +231,38 @@ fn calls_of(alloc: Global, words: &[u8]) -> Result<List<LockCall>, NoMemory> {
 }
 
 // The names that are looked at behind the calls.
-fn names(alloc: Global) -> Result<List<Name>, NoMemory> {
+fn names(alloc: Global) -> Option<List<Name>> {
     let mut names = List::new(alloc);
     for bytes in [b"a".as_slice(), b"ab", b"b"] {
-        names.push(Name::new(bytes).ok_or(NoMemory)?)?;
+        names.push(Name::new(bytes)?).ok()?;
     }
-    Ok(names)
+    Some(names)
 }
 
 // Adds the lines of a case: what it shows, who leaves behind the calls, and the calls.
-fn push_line(
-    alloc: Global,
-    out: &mut List<u8>,
-    line: &[u8],
-    names: &[Name],
-) -> Result<(), NoMemory> {
+fn push_line(alloc: Global, page: &mut Page, line: &[u8], names: &[Name]) {
     let mut parts = line.split(|byte| *byte == b'|');
     let label = parts.next().unwrap_or(b"");
     let Some([leaver]) = parts.next() else {
-        return Ok(());
+        return;
     };
-    let calls = calls_of(alloc, parts.next().unwrap_or(b""))?;
-    push_case(alloc, out, label, calls.as_slice(), number(*leaver), names)
+    match calls_of(alloc, parts.next().unwrap_or(b"")) {
+        Ok(calls) => push_case(alloc, page, label, calls.as_slice(), number(*leaver), names),
+        Err(NoMemory) => page.lack(),
+    }
+}
+
+// Adds the lines of all cases.
+fn push_cases(alloc: Global, page: &mut Page, input: &[u8], names: &[Name]) {
+    for line in input.split(|byte| *byte == b'\n') {
+        push_line(alloc, page, line, names);
+    }
 }
 
 /// Adds the lines of locks.
-pub fn push_lines(alloc: Global, out: &mut List<u8>, input: &[u8]) -> Result<(), NoMemory> {
-    let names = names(alloc)?;
-    for line in input.split(|byte| *byte == b'\n') {
-        push_line(alloc, out, line, names.as_slice())?;
+pub fn push_lines(alloc: Global, page: &mut Page, input: &[u8]) {
+    match names(alloc) {
+        Some(names) => push_cases(alloc, page, input, names.as_slice()),
+        None => page.lack(),
     }
-    Ok(())
 }

@@ -9,7 +9,8 @@ mod rows;
 mod texts;
 
 use e3_outside::{StdSource, read_up_to};
-use e3_types::{List, NoMemory};
+use e3_page::Page;
+use e3_types::List;
 use std::alloc::Global;
 use std::io::{self, Write};
 use std::process::ExitCode;
@@ -23,13 +24,14 @@ const NO_MEMORY: u8 = 5;
 /// More bytes than the calls have.
 const MOST: u64 = 65_536;
 
-fn lines(alloc: Global, input: &[u8]) -> Result<List<u8>, NoMemory> {
-    let mut out = List::new(alloc);
-    parts::push_lines(alloc, &mut out)?;
-    clients::push_lines(alloc, &mut out)?;
-    locks::push_lines(alloc, &mut out, input)?;
-    rows::push_lines(alloc, &mut out)?;
-    Ok(out)
+// All lines; none without memory.
+fn lines(alloc: Global, input: &[u8]) -> Option<List<u8>> {
+    let mut page = Page::new(alloc);
+    parts::push_lines(alloc, &mut page);
+    clients::push_lines(alloc, &mut page);
+    locks::push_lines(alloc, &mut page, input);
+    rows::push_lines(alloc, &mut page);
+    page.done()
 }
 
 fn main(rt: HostRuntime) -> ExitCode {
@@ -37,7 +39,7 @@ fn main(rt: HostRuntime) -> ExitCode {
     let Ok(input) = read_up_to(rt.alloc(), &mut source, MOST) else {
         return ExitCode::from(NO_INPUT);
     };
-    let Ok(text) = lines(rt.alloc(), input.as_slice()) else {
+    let Some(text) = lines(rt.alloc(), input.as_slice()) else {
         return ExitCode::from(NO_MEMORY);
     };
     match io::writer(&rt).write_all(text.as_slice()) {

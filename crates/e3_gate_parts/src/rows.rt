@@ -2,27 +2,26 @@
 ghost use Rattle.std.specs.Prelude.{◌≡◌, nat_lt};
 ghost use Rattle.std.specs.List.{list_all};
 
-use crate::texts::push_formatted;
-use e3_lines::{push_answer, push_labelled, push_text};
+use e3_page::Page;
 use e3_tables::{Tables, Workspace};
-use e3_types::{Key, List, Name, NoMemory, NumOp, Op, Row, SiteSet, Txn, Val};
+use e3_types::{Key, List, Name, NumOp, Op, Row, SiteSet, Txn, Val};
 use std::alloc::Global;
 
 const NAMES: [&[u8]; 4] = [b"a", b"ab", b"b", b"c"];
 
-fn name(bytes: &[u8]) -> Result<Name, NoMemory> {
-    Name::new(bytes).ok_or(NoMemory)
+fn name(bytes: &[u8]) -> Option<Name> {
+    Name::new(bytes)
 }
 
-fn val(bytes: &[u8]) -> Result<Val, NoMemory> {
-    Val::new(bytes).ok_or(NoMemory)
+fn val(bytes: &[u8]) -> Option<Val> {
+    Val::new(bytes)
 }
 
-fn key(bytes: &[u8]) -> Result<Key, NoMemory> {
-    Ok(Key {
-        site: 1,
-        name: name(bytes)?,
-    })
+fn key(bytes: &[u8]) -> Option<Key> {
+    match name(bytes) {
+        Some(name) => Some(Key { site: 1, name }),
+        None => None,
+    }
 }
 
 // A workspace of the transaction that began as the n-th.
@@ -45,103 +44,126 @@ fn is_next(work: &Workspace, n: u32) -> bool
     work.ops().iter().all(|op| op.n < n)
 }
 
-fn note(work: &mut Workspace, n: u32, op: Op) -> Result<(), NoMemory> {
-    if !is_next(work, n) {
-        return Ok(());
-    }
-    work.note(NumOp { n, op })
+// Notes an operation, where its number comes next; whether there was memory for it.
+fn note(work: &mut Workspace, n: u32, op: Op) -> bool {
+    !is_next(work, n) || work.note(NumOp { n, op }).is_ok()
 }
 
 // An operation: its number, its name, and the value of a write.
 type Noted = (u32, &'static [u8], Option<&'static [u8]>);
 
-// The workspace of the transaction that began as the n-th, behind these operations.
-fn noted(alloc: Global, seq: u32, ops: &[Noted]) -> Result<Workspace, NoMemory> {
-    let mut work = work_of(alloc, seq);
-    for (n, name, bytes) in ops {
-        let key = key(name)?;
-        let op = match bytes {
-            Some(bytes) => Op::Write(key, val(bytes)?),
-            None => Op::Read(key),
-        };
-        note(&mut work, *n, op)?;
+fn op_of(named: &[u8], written: Option<&'static [u8]>) -> Option<Op> {
+    let key = key(named)?;
+    match written {
+        Some(bytes) => Some(Op::Write(key, val(bytes)?)),
+        None => Some(Op::Read(key)),
     }
-    Ok(work)
 }
 
-fn rows(alloc: Global, all: &[(&[u8], &[u8])]) -> Result<List<Row>, NoMemory> {
+// Notes operations; whether there was memory for them.
+fn note_all(work: &mut Workspace, ops: &[Noted]) -> bool {
+    let mut are_noted = true;
+    for (n, named, written) in ops {
+        are_noted = match op_of(named, *written) {
+            Some(op) => note(work, *n, op) && are_noted,
+            None => false,
+        };
+    }
+    are_noted
+}
+
+// The workspace of the transaction that began as the n-th, behind these operations; none without memory.
+fn noted(alloc: Global, seq: u32, ops: &[Noted]) -> Option<Workspace> {
+    let mut work = work_of(alloc, seq);
+    if note_all(&mut work, ops) {
+        Some(work)
+    } else {
+        None
+    }
+}
+
+fn row(named: &[u8], bytes: &[u8]) -> Option<Row> {
+    let name = name(named)?;
+    match val(bytes) {
+        Some(val) => Some(Row { name, val }),
+        None => None,
+    }
+}
+
+fn rows(alloc: Global, all: &[(&[u8], &[u8])]) -> Option<List<Row>> {
     let mut out = List::new(alloc);
     for (named, bytes) in all {
-        out.push(Row {
-            name: name(named)?,
-            val: val(bytes)?,
-        })?;
+        out.push(row(named, bytes)?).ok()?;
     }
-    Ok(out)
+    Some(out)
 }
 
 // Adds the value of a name in the table.
-fn push_value(out: &mut List<u8>, named: &[u8], tables: &Tables) -> Result<(), NoMemory> {
-    push_text(out, " ")?;
-    out.extend(named)?;
-    match tables.value(&name(named)?) {
-        None => push_text(out, " none"),
+fn push_value_of(page: &mut Page, name: &Name, tables: &Tables) {
+    match tables.value(name) {
+        None => page.text(" none"),
         Some(val) => {
-            push_text(out, "=")?;
-            out.extend(val.bytes())
+            page.text("=");
+            page.bytes(val.bytes());
         }
     }
 }
 
-// Adds the value of each name in the table.
-fn push_values(
-    alloc: Global,
-    out: &mut List<u8>,
-    label: &str,
-    tables: &Tables,
-) -> Result<(), NoMemory> {
-    push_formatted(out, format!(in alloc; "rows, {label}:"))?;
-    for named in NAMES {
-        push_value(out, named, tables)?;
+fn push_value(page: &mut Page, named: &[u8], tables: &Tables) {
+    page.text(" ");
+    page.bytes(named);
+    match name(named) {
+        Some(name) => push_value_of(page, &name, tables),
+        None => page.lack(),
     }
-    push_text(out, "\n")
+}
+
+// Adds the value of each name in the table.
+fn push_values(page: &mut Page, label: &str, tables: &Tables) {
+    page.text("rows, ");
+    page.text(label);
+    page.text(":");
+    for named in NAMES {
+        push_value(page, named, tables);
+    }
+    page.text("\n");
 }
 
 // Adds what a read of a name answers inside the transaction.
-fn push_read(
-    out: &mut List<u8>,
-    named: &[u8],
-    work: &Workspace,
-    tables: &Tables,
-) -> Result<(), NoMemory> {
-    let answer = work.work(tables, &name(named)?);
-    push_text(out, " ")?;
-    out.extend(named)?;
-    push_text(out, " ")?;
-    push_answer(out, &answer)
+fn push_read(page: &mut Page, named: &[u8], work: &Workspace, tables: &Tables) {
+    page.text(" ");
+    page.bytes(named);
+    page.text(" ");
+    match name(named) {
+        Some(name) => page.answer(&work.work(tables, &name)),
+        None => page.lack(),
+    }
 }
 
 // Adds what a read of each name answers inside the transaction, and the numbers of its operations.
-fn push_reads(out: &mut List<u8>, work: &Workspace, tables: &Tables) -> Result<(), NoMemory> {
-    push_text(out, "  read behind operations")?;
+fn push_reads(page: &mut Page, work: &Workspace, tables: &Tables) {
+    page.text("  read behind operations");
     for op in work.ops() {
-        push_labelled(out, " ", u64::from(op.n))?;
+        page.labelled(" ", u64::from(op.n));
     }
-    push_text(out, ":")?;
+    page.text(":");
     for named in NAMES {
-        push_read(out, named, work, tables)?;
+        push_read(page, named, work, tables);
     }
-    push_text(out, "\n")
+    page.text("\n");
 }
 
-fn install(tables: &mut Tables, work: Workspace) -> Result<(), NoMemory> {
+// Installs the writes of a workspace of few operations; whether there was memory for them.
+fn install(tables: &mut Tables, work: Workspace) -> bool {
     let count = work.ops().len();
     if count > 64 {
-        return Ok(());
+        return true;
     }
-    tables.reserve(count as u32)?;
+    if tables.reserve(count as u32).is_err() {
+        return false;
+    }
     tables.install(work);
-    Ok(())
+    true
 }
 
 // The operations of the first transaction.
@@ -153,33 +175,43 @@ const FIRST: [Noted; 5] = [
     (6, b"a", Some(b"5")),
 ];
 
-// Adds what is read in the first transaction, behind none, two and five of its operations, and beside it.
-fn push_writes(alloc: Global, out: &mut List<u8>, tables: &Tables) -> Result<(), NoMemory> {
-    for count in [0, 2, 5] {
-        let ops = FIRST.get(..count).unwrap_or(&[]);
-        push_reads(out, &noted(alloc, 1, ops)?, tables)?;
+// Adds what is read in the first transaction behind these operations.
+fn push_noted(alloc: Global, page: &mut Page, tables: &Tables, ops: &[Noted]) {
+    match noted(alloc, 1, ops) {
+        Some(work) => push_reads(page, &work, tables),
+        None => page.lack(),
     }
-    push_reads(out, &work_of(alloc, 2), tables)?;
-    push_values(alloc, out, "before the commit", tables)
+}
+
+// Adds what is read in the first transaction, behind none, two and five of its operations, and beside it.
+fn push_writes(alloc: Global, page: &mut Page, tables: &Tables) {
+    for count in [0, 2, 5] {
+        push_noted(alloc, page, tables, FIRST.get(..count).unwrap_or(&[]));
+    }
+    push_reads(page, &work_of(alloc, 2), tables);
+    push_values(page, "before the commit", tables);
+}
+
+// Adds what is read in a transaction, and lets it commit.
+fn push_commit(page: &mut Page, tables: &mut Tables, work: Workspace) {
+    push_reads(page, &work, tables);
+    if !install(tables, work) {
+        page.lack();
+    }
 }
 
 // Adds what is read in a transaction, and what stands behind its commit.
-fn push_installed(
-    alloc: Global,
-    out: &mut List<u8>,
-    tables: &mut Tables,
-    label: &str,
-    ops: &[Noted],
-) -> Result<(), NoMemory> {
-    let work = noted(alloc, 1, ops)?;
-    push_reads(out, &work, tables)?;
-    install(tables, work)?;
-    push_values(alloc, out, label, tables)
+fn push_installed(alloc: Global, page: &mut Page, tables: &mut Tables, label: &str, ops: &[Noted]) {
+    match noted(alloc, 1, ops) {
+        Some(work) => push_commit(page, tables, work),
+        None => page.lack(),
+    }
+    push_values(page, label, tables);
 }
 
 // Adds what stands behind the first transaction, behind commits that write nothing, and behind one that puts a row in the place of an
 // old one.
-fn push_later(alloc: Global, out: &mut List<u8>, tables: &mut Tables) -> Result<(), NoMemory> {
+fn push_later(alloc: Global, page: &mut Page, tables: &mut Tables) {
     let cases: [(&str, &[Noted]); 4] = [
         ("several names installed", &FIRST),
         ("nothing installed", &[]),
@@ -190,34 +222,35 @@ fn push_later(alloc: Global, out: &mut List<u8>, tables: &mut Tables) -> Result<
         ),
     ];
     for (label, ops) in cases {
-        push_installed(alloc, out, tables, label, ops)?;
+        push_installed(alloc, page, tables, label, ops);
     }
-    Ok(())
 }
 
 // Adds a table that has no rows, and the rows that come into it in descending order.
-fn push_first(alloc: Global, out: &mut List<u8>) -> Result<(), NoMemory> {
+fn push_first(alloc: Global, page: &mut Page) {
     let mut tables = Tables::new(List::new(alloc));
-    push_values(alloc, out, "no rows", &tables)?;
+    push_values(page, "no rows", &tables);
     let ops: [Noted; 3] = [
         (1, b"c", Some(b"1")),
         (2, b"ab", Some(b"2")),
         (3, b"a", Some(b"3")),
     ];
-    push_installed(alloc, out, &mut tables, "the first rows", &ops)
+    push_installed(alloc, page, &mut tables, "the first rows", &ops);
 }
 
-// Adds the lines of a table that is born with rows out of order, and with a name twice.
-fn push_born(alloc: Global, out: &mut List<u8>) -> Result<(), NoMemory> {
-    let born = rows(alloc, &[(b"b", b"1"), (b"ab", b"3"), (b"b", b"2")])?;
+// Adds the lines of a table that is born with these rows.
+fn push_born(alloc: Global, page: &mut Page, born: List<Row>) {
     let mut tables = Tables::new(born);
-    push_values(alloc, out, "born", &tables)?;
-    push_writes(alloc, out, &tables)?;
-    push_later(alloc, out, &mut tables)
+    push_values(page, "born", &tables);
+    push_writes(alloc, page, &tables);
+    push_later(alloc, page, &mut tables);
 }
 
-/// Adds the lines of records.
-pub fn push_lines(alloc: Global, out: &mut List<u8>) -> Result<(), NoMemory> {
-    push_born(alloc, out)?;
-    push_first(alloc, out)
+/// Adds the lines of records. The first rows are out of order, and a name comes twice among them.
+pub fn push_lines(alloc: Global, page: &mut Page) {
+    match rows(alloc, &[(b"b", b"1"), (b"ab", b"3"), (b"b", b"2")]) {
+        Some(born) => push_born(alloc, page, born),
+        None => page.lack(),
+    }
+    push_first(alloc, page);
 }

@@ -1,23 +1,11 @@
 // What several cases print.
-use e3_lines::{push_number, push_text, push_told_text, push_txn};
-use e3_types::{Grant, List, NoMemory, Refusal, Told, Txn};
-use std::alloc::AllocError;
-
-/// Adds a text that was formatted.
-pub fn push_formatted(
-    out: &mut List<u8>,
-    text: Result<String, AllocError>,
-) -> Result<(), NoMemory> {
-    match text {
-        Ok(text) => out.extend(text.as_bytes()),
-        Err(_) => Err(NoMemory),
-    }
-}
+use e3_page::Page;
+use e3_types::{Grant, Refusal, Told, Txn};
 
 /// Adds a word behind a space.
-pub fn push_word(out: &mut List<u8>, word: &str) -> Result<(), NoMemory> {
-    push_text(out, " ")?;
-    push_text(out, word)
+pub fn push_word(page: &mut Page, word: &str) {
+    page.text(" ");
+    page.text(word);
 }
 
 /// Whether something holds.
@@ -26,37 +14,36 @@ pub fn flag(holds: bool) -> &'static str {
 }
 
 /// Adds a number behind a space, or a dash for none.
-pub fn push_known(out: &mut List<u8>, number: Option<u32>) -> Result<(), NoMemory> {
-    push_text(out, " ")?;
+pub fn push_known(page: &mut Page, number: Option<u32>) {
     match number {
-        Some(number) => push_number(out, number as u64),
-        None => push_text(out, "-"),
+        Some(number) => page.labelled(" ", u64::from(number)),
+        None => page.text(" -"),
     }
 }
 
 /// Adds a transaction behind a space, or a dash for none.
-pub fn push_found(out: &mut List<u8>, found: Option<Txn>) -> Result<(), NoMemory> {
-    push_text(out, " ")?;
+pub fn push_found(page: &mut Page, found: Option<Txn>) {
+    page.text(" ");
     match found {
-        Some(txn) => push_txn(out, &txn),
-        None => push_text(out, "-"),
+        Some(txn) => page.txn(&txn),
+        None => page.text("-"),
     }
 }
 
 /// Adds why a transaction's client is refused, as a report says it.
-pub fn push_refused(out: &mut List<u8>, txn: Txn, refusal: Refusal) -> Result<(), NoMemory> {
-    push_text(out, " ")?;
-    push_told_text(out, &Told::Refused { txn, refusal })
+pub fn push_refused(page: &mut Page, txn: Txn, refusal: Refusal) {
+    page.text(" ");
+    page.told(&Told::Refused { txn, refusal });
 }
 
 /// Adds how a lock's request is answered.
-pub fn push_grant(out: &mut List<u8>, grant: &Grant) -> Result<(), NoMemory> {
+pub fn push_grant(page: &mut Page, grant: &Grant) {
     match grant {
-        Grant::Held => push_word(out, "held"),
-        Grant::Waits => push_word(out, "waits"),
+        Grant::Held => push_word(page, "held"),
+        Grant::Waits => push_word(page, "waits"),
         Grant::Dies { older } => {
-            push_word(out, "dies for")?;
-            push_found(out, Some(*older))
+            push_word(page, "dies for");
+            push_found(page, Some(*older));
         }
     }
 }
