@@ -8,7 +8,7 @@ use Rattle.e3_node.specs.Bodies.{tail_records}
 use Rattle.e3_node.specs.Counting.{born_on, count_of, counted, counted_by, counted_on, doubted_by, kept_on, no_count}
 use Rattle.e3_node.specs.Turns.{Meanwhile}
 use Rattle.e3_node.specs.declared.counting.Count.{Count}
-use Rattle.e3_sites.specs.Entering.{fall_of}
+use Rattle.e3_play.specs.Entering.{fall_of}
 use Rattle.e3_types.specs.declared.entries.Act.{Act}
 use Rattle.e3_types.specs.declared.entries.Act.TheVariants.{Step, Fall, Rise, RiseFall, Miss, Cut, Drop, Parts, Line}
 use Rattle.e3_types.specs.declared.entries.Entry.{Entry}

@@ -14,14 +14,14 @@ use Rattle.e3_world.specs.Moves.{Move, frame_size, log_by, log_size, recorded}
 use Rattle.e3_world.proofs.Pushes.{log_push}
 
 -- all records of these lists
-abbrev joined : List (List Record) → List Record
+abbrev pub joined : List (List Record) → List Record
 joined lists = flat_map (λ rs. rs) lists
 
 pub bodies_push : (lists : List (List Record)) (rs : List Record) → bodies_in (lists ++ rs ∷ []) ≡ bodies_in lists ++ body_of rs
 bodies_push lists rs =
     flat_map-append body_of lists (rs ∷ []) ∙ ap (λ (l : List (List ℕ)). bodies_in lists ++ l) (append-nil (body_of rs))
 
-joined_push : (lists : List (List Record)) (rs : List Record) → joined (lists ++ rs ∷ []) ≡ joined lists ++ rs
+pub joined_push : (lists : List (List Record)) (rs : List Record) → joined (lists ++ rs ∷ []) ≡ joined lists ++ rs
 joined_push lists rs = flat_map-append (λ l. l) lists (rs ∷ []) ∙ ap (λ (l : List Record). joined lists ++ l) (append-nil rs)
 
 frame_length : (body : List ℕ) → length (frame body) ≡ 5 + length body

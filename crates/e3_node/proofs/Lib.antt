@@ -16,3 +16,11 @@ pub mod Appends
 pub mod Waiting
 pub mod Turned
 pub mod Owning
+pub mod Several
+pub mod Batches
+pub mod Bundles
+pub mod Adding
+pub mod Outcomes
+pub mod Planning
+pub mod Results
+pub mod Ended

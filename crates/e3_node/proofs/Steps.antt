@@ -22,7 +22,7 @@ use Rattle.e3_node.specs.declared.fault.InputFault.{InputFault}
 use Rattle.e3_node.specs.declared.fault.InputFault.TheVariants as input_fault
 use Rattle.e3_node.specs.declared.state.State.{State}
 use Rattle.e3_node.specs.declared.state.State.TheVariants.{Down, Up}
-use Rattle.e3_sites.specs.Entering.{fall_of}
+use Rattle.e3_play.specs.Entering.{fall_of}
 use Rattle.e3_site.specs.SiteView.{HasRoomFor, IsPlanOf, PlanView, SiteView, Stands as SiteStands, count_on, entry_of_plan, plan_of, step_kept}
 use Rattle.e3_site.specs.StandsFor.{StandsFor, StandsOn}
 use Rattle.e3_types.specs.declared.entries.Act.TheVariants.{Fall, Cut}
@@ -100,7 +100,7 @@ stepped_up content image meters sc h site i s l up stands logged lit few = recor
 }
 
 -- the steps of a site with one more
-one_step_more : (sc : Scenario) (h : List Entry) (site : ℕ) (i : Input) → steps_at (h ++ entry_of sc h site i ∷ []) site ≡ suc (steps_at h site)
+pub one_step_more : (sc : Scenario) (h : List Entry) (site : ℕ) (i : Input) → steps_at (h ++ entry_of sc h site i ∷ []) site ≡ suc (steps_at h site)
 one_step_more sc h site i =
     let e : Entry = entry_of sc h site i in
     let front : List Entry = filter is_step (own site h) in
@@ -109,7 +109,7 @@ one_step_more sc h site i =
     let more : length (front ++ e ∷ []) ≡ length front + 1 = length-append front (e ∷ []) in
     omega (arith, all, more)
 
-counted_once : (n : ℕ) → count_on n ≤ suc n
+pub counted_once : (n : ℕ) → count_on n ≤ suc n
 counted_once n = by (nat_lt n 4294967295)
   where
     by : (b : Bool) → (if b then suc n else n) ≤ suc n

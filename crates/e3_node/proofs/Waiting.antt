@@ -82,11 +82,11 @@ node_others content image meters sc h (e ∷ more) node was others =
     subst P (one_more h more e) (node_others content image meters sc (h ++ e ∷ []) more node
     (node_kept content image meters sc h e node was (other_one node.site e others.0)) others.2)
 
-both_others : (site : ℕ) (xs ys : List Entry) → AreOthers site xs → AreOthers site ys → AreOthers site (xs ++ ys)
+pub both_others : (site : ℕ) (xs ys : List Entry) → AreOthers site xs → AreOthers site ys → AreOthers site (xs ++ ys)
 both_others site [] ys first second = second
 both_others site (e ∷ xs) ys first second = (first.0, first.1, both_others site xs ys first.2 second)
 
-both_sites : (xs ys : List Entry) → AreOfSites xs → AreOfSites ys → AreOfSites (xs ++ ys)
+pub both_sites : (xs ys : List Entry) → AreOfSites xs → AreOfSites ys → AreOfSites (xs ++ ys)
 both_sites [] ys first second = second
 both_sites (e ∷ xs) ys first second = (first.0, both_sites xs ys first.1 second)
 

@@ -10,7 +10,7 @@ use Rattle.e3_node.specs.declared.fault.InputFault.{InputFault}
 use Rattle.e3_node.specs.declared.fault.InputFault.TheVariants as input_fault
 use Rattle.e3_node.specs.declared.fault.RiseFault.{RiseFault}
 use Rattle.e3_node.specs.declared.fault.RiseFault.TheVariants as rise_fault
-use Rattle.e3_sites.specs.Entering.{fall_of}
+use Rattle.e3_play.specs.Entering.{fall_of}
 use Rattle.e3_types.specs.Spelling.{spelling}
 use Rattle.e3_types.specs.declared.entries.Act.TheVariants.{Rise, RiseFall}
 use Rattle.e3_types.specs.declared.entries.Entry.{Entry}

@@ -9,3 +9,7 @@ pub mod Rising
 pub mod Telling
 pub mod Drafts
 pub mod Turns
+pub mod Several
+pub mod Batches
+pub mod Batched
+pub mod Ending

@@ -20,7 +20,7 @@ use Rattle.e3_node.specs.declared.rising.Raised.TheVariants.{Rose, Failed, Misse
 use Rattle.e3_node.specs.declared.state.State.{State}
 use Rattle.e3_node.specs.declared.state.State.TheVariants.{Down, Up}
 use Rattle.e3_log.specs.Stands.{LogState}
-use Rattle.e3_restart.specs.Rebuilt.{IsRebuilt, StandsForEach}
+use Rattle.e3_site.specs.Rebuilt.{IsRebuilt, StandsForEach}
 use Rattle.e3_site.specs.SiteView.{SiteView}
 use Rattle.e3_types.specs.Spelling.{spelling}
 use Rattle.e3_types.specs.declared.entries.Act.TheVariants as act

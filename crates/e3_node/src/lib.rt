@@ -2,6 +2,7 @@
 //! a call, the disk stands for the history.
 #![tactic(auto)]
 
+mod batching;
 mod counting;
 mod drafts;
 mod entering;
@@ -14,6 +15,7 @@ mod readying;
 mod rising;
 mod state;
 mod stepping;
+mod taking;
 mod turning;
 mod writing;
 

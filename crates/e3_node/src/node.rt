@@ -1,9 +1,11 @@
 // A site of a run over its disk.
-ghost use Rattle.std.specs.Prelude.{◌≡◌, ◌⊎◌, ◌≤◌, ◌<◌, ◌++◌, ◌∷◌, ◌↔◌, [], true, false, length, fold, List as Items, OnOk, OnErr, IfOk, Err};
+ghost use Rattle.std.specs.Prelude.{◌≡◌, ◌⊎◌, ◌+◌, ◌≤◌, ◌<◌, ◌++◌, ◌∷◌, ◌↔◌, [], true, false, length, fold, List as Items, OnOk, OnErr, IfOk, Err};
 ghost use Rattle.e3_disk.specs.Images.{IsBlank};
 ghost use Rattle.e3_disk.specs.Leaves.{code_of};
 ghost use Rattle.e3_disk.specs.Meters.{Keeps, Rose, armed, cut};
-ghost use Rattle.e3_law_local.specs.Drafts.{MayTake};
+ghost use Rattle.e3_law_local.specs.Drafts.{MayTake, MayTakeAll};
+ghost use Rattle.e3_law_local.specs.Least.{AreFirstTo};
+ghost use Rattle.e3_node.specs.Batches.{BatchEnded};
 ghost use Rattle.e3_node.specs.Bodies.{DiskStands};
 ghost use Rattle.e3_node.specs.Ends.{EndsAt, FellOver, HasFailedToRise, HasRisen, IsReason, Takes, calls_for, is_fall};
 ghost use Rattle.e3_node.specs.NodeStands.{NodeStands};
@@ -14,7 +16,7 @@ ghost use Rattle.e3_node.specs.declared.fault.CutFault.TheVariants as cut_fault;
 ghost use Rattle.e3_node.specs.declared.fault.InputFault.{InputFault as InputFaults};
 ghost use Rattle.e3_node.specs.declared.fault.InputFault.TheVariants as input_fault;
 ghost use Rattle.e3_node.specs.declared.fault.RiseFault.TheVariants as rise_fault;
-ghost use Rattle.e3_sites.specs.Entering.{IsFirst};
+ghost use Rattle.e3_play.specs.Entering.{IsFirst};
 ghost use Rattle.e3_turn.specs.Passes.{IsIdle, Owns, SameOwners, seen_by};
 ghost use Rattle.e3_types.specs.declared.entries.Act.TheVariants as act;
 ghost use Rattle.e3_types.specs.declared.entries.Entry.{Entry as Entries};
@@ -34,6 +36,7 @@ use crate::readying::wish_of;
 use crate::rising::{enter_rise, risen, told};
 use crate::state::{arm, into_disk, unpowered};
 use crate::stepping::{settle, take_input};
+use crate::taking::take_all;
 use crate::turning::take_by_turns;
 use crate::{CutFault, InputFault, RiseFault, State};
 use core::mem::replace_with;
@@ -275,6 +278,50 @@ impl<D: Disk + Drill + Drop> Node<D> {
                 Err(fault)
             }
         }
+    }
+
+    /// One to eight packets for the site, by a worker whose pass speaks for it, outside of a recover step: what `input_by_turns`
+    /// does with each of them in their order, but that all their records are one frame, and their steps are entered in one
+    /// turn. They are the first packets to the site. A site that falls over them has one fall over all of them. Where memory
+    /// runs out, or the history is full, behind the first of them, those have their frame and their steps, or one fall, and the
+    /// rest have nothing. All memory is taken before the frame is written.
+    pub fn batch<R: Wait>(
+        &mut self,
+        rt: &R,
+        alloc: Global,
+        wire: &Wire,
+        pass: &mut WirePass,
+        inputs: List<Input>,
+    ) -> Result<(), InputFault>
+        requires idle { IsIdle wire.now pass.old }
+        requires owns { Owns pass.old self.old.site }
+        requires played { IsPlayed (seen_by pass.old) }
+        requires standing { NodeStands D.content D.image D.meters (scenario_seen pass.old) (history_seen pass.old) self.old }
+        requires restless { is_calm (present_items (scenario_seen pass.old) (history_seen pass.old)) ≡ false }
+        requires few { (1 ≤ length inputs) × (length inputs ≤ 8) }
+        requires due { is_up_at (history_seen pass.old) self.old.site ≡ true → MayTakeAll (scenario_seen pass.old) (history_seen pass.old) self.old.site inputs }
+        requires takes { is_up_at (history_seen pass.old) self.old.site ≡ true → AreFirstTo (scenario_seen pass.old) (history_seen pass.old) self.old.site inputs }
+
+        // what is promised to a site that is up is as it was; a site that fell over a batch keeps fewer places than it had inputs
+        ensures idle { IsIdle wire.now pass.new }
+        ensures same { SameOwners pass.old pass.new }
+        ensures played { IsPlayed (seen_by pass.new) }
+        ensures seen { HasSeenMore pass.old pass.new }
+        ensures scenario { (scenario_seen pass.new ≡ scenario_seen pass.old) × (most_of (seen_by pass.new) ≡ most_of (seen_by pass.old)) }
+        ensures promised { is_up_in self.new.state ≡ true → note_of self.old.site (seen_by pass.new) ≡ note_of self.old.site (seen_by pass.old) }
+        ensures places { (note_of self.old.site (seen_by pass.new)).places < (note_of self.old.site (seen_by pass.old)).places + length inputs }
+        ensures room { (note_of self.old.site (seen_by pass.new)).room ≤ (note_of self.old.site (seen_by pass.old)).room }
+
+        // how it ended, and what the disk has of it
+        ensures stands { NodeStands D.content D.image D.meters (scenario_seen pass.new) (history_seen pass.new) self.new }
+        ensures site { self.new.site ≡ self.old.site }
+        ensures ended { BatchEnded D.meters (scenario_seen pass.old) (history_seen pass.old) (history_seen pass.new) self.old.site inputs self.old.state self.new.state result }
+        ensures down { (result ≡ Err input_fault.Down) ↔ (is_up_at (history_seen pass.old) self.old.site ≡ false) }
+        ensures full { result ≡ Err input_fault.HistoryFull → most_of (seen_by pass.new) ≤ used_of (seen_by pass.new) }
+        ensures meters { Keeps (D.meters (disk_of self.old.state)) (D.meters (disk_of self.new.state)) }
+    {
+        let (state, count) = (&mut self.state, &mut self.count);
+        take_all(rt, alloc, wire, pass, self.site, state, count, inputs)
     }
 
     /// The power of a site that is up is cut: the site is down.

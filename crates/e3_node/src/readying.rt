@@ -3,7 +3,7 @@ ghost use Rattle.std.specs.Prelude.{◌≡◌, ◌<◌, suc, length, Err, IfOk};
 ghost use Rattle.e3_log.specs.Found.{bodies_of};
 ghost use Rattle.e3_node.specs.Rising.{IsForeign, IsReady, IsWish, born_by, records_by};
 ghost use Rattle.e3_node.specs.declared.readying.Unready.TheVariants as unready;
-ghost use Rattle.e3_restart.specs.Rebuilt.{IsRebuilt, StandsForEach};
+ghost use Rattle.e3_site.specs.Rebuilt.{IsRebuilt, StandsForEach};
 ghost use Rattle.e3_world.specs.Logs.{logged_inc};
 ghost use Rattle.e3_world.specs.Orderly.{IsOrderly};
 
@@ -11,8 +11,7 @@ use crate::fitting::spelled;
 use crate::reading::{add_records, read_frames};
 use e3_log::Frame;
 use e3_readings::logged_inc;
-use e3_restart::{RebuildFault, rebuild};
-use e3_site::Site;
+use e3_site::{RebuildFault, Site, rebuild};
 use e3_types::{Copied, List, NoMemory, Record, Row};
 use std::alloc::Global;
 

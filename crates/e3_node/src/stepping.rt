@@ -10,7 +10,7 @@ ghost use Rattle.e3_node.specs.SharedStands.{SharedStands};
 ghost use Rattle.e3_node.specs.declared.fault.InputFault.{InputFault as InputFaults};
 ghost use Rattle.e3_node.specs.declared.fault.InputFault.TheVariants as input_fault;
 ghost use Rattle.e3_site.specs.SiteView.{entry_of_plan};
-ghost use Rattle.e3_sites.specs.Entering.{IsFirst};
+ghost use Rattle.e3_play.specs.Entering.{IsFirst};
 ghost use Rattle.e3_types.specs.declared.entries.Act.TheVariants as act;
 ghost use Rattle.e3_types.specs.declared.entries.Why.{Why as Whys};
 ghost use Rattle.e3_wire.specs.Claims.{HaveGrown};
@@ -181,7 +181,7 @@ pub(crate) fn take_input<D: Disk + Drop>(
     }
 }
 
-fn laid_down<D: Disk + Drop>(state: State<D>, _unit: ()) -> (State<D>, ())
+pub(crate) fn laid_down<D: Disk + Drop>(state: State<D>, _unit: ()) -> (State<D>, ())
     ensures { result.0 ≡ State.Down (disk_of state) }
 {
     match state {

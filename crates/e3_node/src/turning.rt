@@ -37,7 +37,7 @@ use std::alloc::Global;
 use std::sync::Wait;
 
 // The frame of a step, by a worker: it is written outside of the turn, so that the others go on meanwhile.
-fn write<D: Disk>(
+pub(crate) fn write<D: Disk>(
     wire: &Wire,
     pass: &WirePass,
     log: &mut Log<D>,

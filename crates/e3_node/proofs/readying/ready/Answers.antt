@@ -2,7 +2,7 @@ use Rattle.std.proofs.Common.{◌≡◌, ◌++◌, ◌∙◌, ap, sym, subst, su
 use Rattle.std.specs.Prelude.{nat_lt}
 use Rattle.e3_codec.specs.Fields.{AllCanBeReadBack}
 use Rattle.e3_node.specs.Rising.{records_by}
-use Rattle.e3_restart.specs.Rebuilt.{IsRebuilt, StandsForEach}
+use Rattle.e3_site.specs.Rebuilt.{IsRebuilt, StandsForEach}
 use Rattle.e3_types.specs.Spelling.{spelling}
 use Rattle.e3_types.specs.declared.records.Record.{Record}
 use Rattle.e3_world.specs.Logs.{logged_inc}

@@ -1,0 +1,166 @@
+-- What is told of a batch, and how its site stands behind it.
+use Rattle.std.proofs.Common.{◌≡◌, ◌+◌, ◌<◌, ◌≤◌, ◌++◌, [], inl, inr, ℕ, true, false, List, length, take, refl, sym, subst, ap, ◌∙◌, append-nil, arith}
+use Rattle.std.proofs.Math.Seq.{take-length}
+use Rattle.std.specs.Prelude.{None, Option, Result, Some, Ok, Err}
+use Rattle.atomic_table.specs.Seated.{TableId}
+use Rattle.e3_disk.specs.Meters.{Keeps, Meters}
+use Rattle.e3_node.specs.Batched.{NeverFell}
+use Rattle.e3_node.specs.Batches.{BatchEnded, HasFallenOverAll, HasSteppedAll, fall_over}
+use Rattle.e3_node.specs.Bodies.{AllReadBack}
+use Rattle.e3_node.specs.Ending.{Came, EndsIn, EndsWith, HasGone, Promised, answer_by}
+use Rattle.e3_node.specs.NodeStands.{IsDown, IsIn}
+use Rattle.e3_node.specs.NodeView.{disk_of, is_up_in}
+use Rattle.e3_node.specs.declared.fault.InputFault.{InputFault}
+use Rattle.e3_node.specs.declared.fault.InputFault.TheVariants as input_fault
+use Rattle.e3_node.specs.declared.state.State.{State}
+use Rattle.e3_node.specs.declared.state.State.TheVariants.{Down}
+use Rattle.e3_turn.specs.Passes.{IsIdle, seen_by}
+use Rattle.e3_types.specs.declared.entries.Entry.{Entry}
+use Rattle.e3_types.specs.declared.entries.Input.{Input}
+use Rattle.e3_types.specs.declared.entries.Why.{Why}
+use Rattle.e3_types.specs.declared.scenarios.Scenario.{Scenario}
+use Rattle.e3_wire.specs.Claims.{APass}
+use Rattle.e3_wire.specs.Marks.{most_of, used_of}
+use Rattle.e3_wire.specs.Wires.{IsPlayed}
+use Rattle.e3_wire.specs.declared.marks.Mark.{Mark}
+use Rattle.e3_wire.specs.declared.marks.Note.{Note}
+use Rattle.e3_wire.proofs.Notes.{scenario_stays}
+use Rattle.e3_wire.proofs.Spending.{used_grows}
+use Rattle.e3_world.specs.Items.{is_up_at}
+use Rattle.e3_world.proofs.Readings.{up_same}
+use Rattle.e3_world.proofs.Turns.{self}
+
+-- a refusal of an input is no answer of a site that was down
+pub never_down : (r : Result (Unit {0}) InputFault) → NeverFell r → r ≡ Err input_fault.Down → ⊥
+never_down (Ok done) never is = absurd cc
+never_down (Err input_fault.HistoryFull) never is = absurd cc
+never_down (Err input_fault.NoMemory) never is = absurd cc
+never_down (Err input_fault.Down) never is = never
+never_down (Err (input_fault.Fell why)) never is = never
+
+-- what is answered is what was refused
+pub refused_down : (r : Result (Unit {0}) InputFault) (fell : Option Why) → answer_by r fell ≡ Err input_fault.Down → r ≡ Err input_fault.Down
+refused_down (Ok done) None is = absurd cc
+refused_down (Ok done) (Some why) is = absurd cc
+refused_down (Err fault) fell is = is
+
+pub refused_full : (r : Result (Unit {0}) InputFault) (fell : Option Why) → answer_by r fell ≡ Err input_fault.HistoryFull → r ≡ Err input_fault.HistoryFull
+refused_full (Ok done) None is = absurd cc
+refused_full (Ok done) (Some why) is = absurd cc
+refused_full (Err fault) fell is = is
+
+-- what is promised
+pub promised_up : {D : Type 0} (fell : Option Why) (inputs : ℕ) (old new : Note) (mid state : State D) → Promised fell inputs old new →
+    ((why : Why) → fell ≡ Some why → state ≡ Down (disk_of mid)) → is_up_in state ≡ true → new ≡ old
+promised_up None inputs old new mid state is down up = is
+promised_up (Some why) inputs old new mid state is down up = absurd (let both : is_up_in state ≡ false = ap is_up_in (down why refl) in let never = sym up ∙ both in cc)
+
+pub promised_places : (fell : Option Why) (inputs : ℕ) (old new : Note) → Promised fell inputs old new → 1 ≤ inputs → new.places < old.places + inputs
+promised_places None inputs old new is some = let same : new.places ≡ old.places = ap (λ (w : Note). w.places) is in omega (arith, same, some)
+promised_places (Some why) inputs old new is some = is.0
+
+pub promised_room : (fell : Option Why) (inputs : ℕ) (old new : Note) → Promised fell inputs old new → new.room ≤ old.room
+promised_room None inputs old new is = let same : new.room ≡ old.room = ap (λ (w : Note). w.room) is in omega (arith, same)
+promised_room (Some why) inputs old new is = let none : new.room ≡ 0 = is.1 in omega (arith, none)
+
+-- nothing was seen
+pub same_gone : (lock : TableId) (p : APass) → IsIdle lock p → IsPlayed (seen_by p) → HasGone lock p p
+same_gone lock p idle played = record {
+  idle = idle;
+  same = record { owners = refl; last = refl };
+  played = played;
+  seen = ([], sym (append-nil (seen_by p)));
+}
+
+-- a history that was full stays so
+pub full_on : (seen more now : List Mark) → IsPlayed seen → now ≡ seen ++ more → most_of seen ≤ used_of seen → most_of now ≤ used_of now
+full_on seen more now played is full =
+    let P : List Mark → Type 0 = λ l. most_of l ≤ used_of l in
+    let most : most_of (seen ++ more) ≡ most_of seen = (scenario_stays seen more played).1 in
+    let grows : used_of seen ≤ used_of (seen ++ more) = used_grows seen more played in
+    let there : most_of (seen ++ more) ≤ used_of (seen ++ more) = omega (arith, most, grows, full) in
+    subst P (sym is) there
+
+-- all inputs
+all_of : (n : ℕ) (inputs : List Input) → n ≡ length inputs → take n inputs ≡ inputs
+all_of n inputs is = ap (λ (k : ℕ). take k inputs) is ∙ take-length inputs
+
+module _ {D : Type 0} (content : D → List ℕ) (image : D → List ℕ → Type 0) (meters : D → Meters) (sc : Scenario) (before more : List Entry) (site : ℕ) (inputs : List Input)
+    (old : State D) where
+  -- how a batch of a site that was up ended is how one of any site does
+  pub ends_up : (mid : State D) (r : Result (Unit {0}) InputFault) (fell : Option Why) → NeverFell r →
+      EndsWith content image meters sc before more site inputs old mid r fell → EndsIn content image meters sc before more site inputs old mid r fell
+  ends_up mid (Ok done) fell never ends = ends
+  ends_up mid (Err input_fault.HistoryFull) fell never ends = ends
+  ends_up mid (Err input_fault.NoMemory) fell never ends = ends
+  ends_up mid (Err input_fault.Down) fell never ends = absurd never
+  ends_up mid (Err (input_fault.Fell why)) fell never ends = absurd never
+
+  -- with its steps, or a fall over them
+  steps_told : (mid new : State D) (done : List Input) → Came content image meters sc before more site done old mid None → new ≡ mid →
+      HasSteppedAll meters sc before more site done old new
+  steps_told mid new done came same = subst (λ (s : State D). HasSteppedAll meters sc before more site done old s) (sym same) came.0
+
+  fall_told : (mid new : State D) (done : List Input) (why : Why) → Came content image meters sc before more site done old mid (Some why) → new ≡ Down (disk_of mid) →
+      HasFallenOverAll meters sc before more site done why old (disk_of new)
+  fall_told mid new done why came down =
+      let same : disk_of new ≡ disk_of mid = ap (λ (s : State D). disk_of s) down in
+      subst (λ (d : D). HasFallenOverAll meters sc before more site done why old d) (sym same) came.0
+
+  pub ended_told : (mid new : State D) (r : Result (Unit {0}) InputFault) (fell : Option Why) → EndsIn content image meters sc before more site inputs old mid r fell →
+      ((why : Why) → fell ≡ Some why → new ≡ Down (disk_of mid)) → (fell ≡ None → new ≡ mid) → BatchEnded meters sc before more site inputs old new (answer_by r fell)
+  ended_told mid new (Ok done) None ends down kept =
+      subst (λ (l : List Input). HasSteppedAll meters sc before more site l old new) (all_of ends.count inputs ends.all)
+      (steps_told mid new (take ends.count inputs) ends.came (kept refl))
+  ended_told mid new (Ok done) (Some why) ends down kept =
+      subst (λ (l : List Input). HasFallenOverAll meters sc before more site l why old (disk_of new)) (all_of ends.count inputs ends.all)
+      (fall_told mid new (take ends.count inputs) why ends.came (down why refl))
+  ended_told mid new (Err input_fault.Down) fell ends down kept = (ends.history, kept ends.none ∙ ends.state)
+  ended_told mid new (Err (input_fault.Fell why)) fell ends down kept = absurd ends
+  ended_told mid new (Err input_fault.HistoryFull) None ends down kept = (ends.count, ends.short, inl (steps_told mid new (take ends.count inputs) ends.came (kept refl)))
+  ended_told mid new (Err input_fault.HistoryFull) (Some why) ends down kept =
+      (ends.count, ends.short, inr (why, fall_told mid new (take ends.count inputs) why ends.came (down why refl)))
+  ended_told mid new (Err input_fault.NoMemory) None ends down kept = (ends.count, ends.short, inl (steps_told mid new (take ends.count inputs) ends.came (kept refl)))
+  ended_told mid new (Err input_fault.NoMemory) (Some why) ends down kept =
+      (ends.count, ends.short, inr (why, fall_told mid new (take ends.count inputs) why ends.came (down why refl)))
+
+  -- and how the site stands
+  came_in : (mid new : State D) (done : List Input) (fell : Option Why) → Came content image meters sc before more site done old mid fell →
+      ((why : Why) → fell ≡ Some why → new ≡ Down (disk_of mid)) → (fell ≡ None → new ≡ mid) → IsIn content image meters sc more site new
+  came_in mid new done None came down kept = subst (λ (s : State D). IsIn content image meters sc more site s) (sym (kept refl)) came.1
+  came_in mid new done (Some why) came down kept =
+      let fallen = came.0 in
+      let gone : is_up_at more site ≡ false = ap (λ (l : List Entry). is_up_at l site) fallen.fell.entered ∙ up_same fallen.now (fall_over sc fallen.now site done why) site (self site) in
+      let there : IsDown image sc more site (disk_of mid) = record { down = gone; stands = came.1 } in
+      subst (λ (s : State D). IsIn content image meters sc more site s) (sym (down why refl)) there
+
+  came_disk : (mid new : State D) (fell : Option Why) → ((why : Why) → fell ≡ Some why → new ≡ Down (disk_of mid)) → (fell ≡ None → new ≡ mid) → disk_of new ≡ disk_of mid
+  came_disk mid new None down kept = ap (λ (s : State D). disk_of s) (kept refl)
+  came_disk mid new (Some why) down kept = ap (λ (s : State D). disk_of s) (down why refl)
+
+  pub record StandsBehind (new : State D) : Type 0 where
+    pub stands : IsIn content image meters sc more site new
+    pub back : AllReadBack sc more site
+    pub keeps : Keeps (meters (disk_of old)) (meters (disk_of new))
+
+  ended_up : (mid new : State D) (r : Result (Unit {0}) InputFault) (fell : Option Why) → EndsWith content image meters sc before more site inputs old mid r fell →
+      ((why : Why) → fell ≡ Some why → new ≡ Down (disk_of mid)) → (fell ≡ None → new ≡ mid) → StandsBehind new
+  ended_up mid new r fell ends down kept = record {
+    stands = came_in mid new (take ends.count inputs) fell ends.came down kept;
+    back = ends.back;
+    keeps = subst (λ (d : D). Keeps (meters (disk_of old)) (meters d)) (sym (came_disk mid new fell down kept)) ends.keeps;
+  }
+
+  pub ended_in : (mid new : State D) (r : Result (Unit {0}) InputFault) (fell : Option Why) → EndsIn content image meters sc before more site inputs old mid r fell →
+      ((why : Why) → fell ≡ Some why → new ≡ Down (disk_of mid)) → (fell ≡ None → new ≡ mid) → StandsBehind new
+  ended_in mid new (Ok done) fell ends down kept = ended_up mid new (Ok done) fell ends down kept
+  ended_in mid new (Err input_fault.HistoryFull) fell ends down kept = ended_up mid new (Err input_fault.HistoryFull) fell ends down kept
+  ended_in mid new (Err input_fault.NoMemory) fell ends down kept = ended_up mid new (Err input_fault.NoMemory) fell ends down kept
+  ended_in mid new (Err (input_fault.Fell why)) fell ends down kept = absurd ends
+  ended_in mid new (Err input_fault.Down) fell ends down kept =
+      let same : new ≡ mid = kept ends.none in
+      record {
+        stands = subst (λ (s : State D). IsIn content image meters sc more site s) (sym same) ends.stands;
+        back = ends.back;
+        keeps = subst (λ (s : State D). Keeps (meters (disk_of old)) (meters (disk_of s))) (sym same) ends.keeps;
+      }

@@ -1,0 +1,90 @@
+-- A batch before its first input, and behind what others put.
+use Rattle.std.proofs.Common.{◌≡◌, ◌<◌, ◌≤◌, ◌++◌, [], ℕ, List, length, take, sym, subst, append-nil, arith}
+use Rattle.std.specs.Prelude.{Result, OnOk, OnErr}
+use Rattle.e3_node.specs.Batched.{HasPlanned, IsBatch}
+use Rattle.e3_node.specs.Batches.{plain_steps}
+use Rattle.e3_node.specs.Several.{AreOwned, claims_for, marks_in}
+use Rattle.e3_node.specs.Turns.{Meanwhile}
+use Rattle.e3_node.specs.declared.batching.Batch.{Batch}
+use Rattle.e3_node.specs.declared.fault.InputFault.{InputFault}
+use Rattle.e3_site.specs.SiteView.{SiteView}
+use Rattle.e3_site.specs.StandsFor.{StandsFor}
+use Rattle.e3_turn.specs.Chronicles.{count_of}
+use Rattle.e3_turn.specs.Passes.{GrewByOthers, GrewByOwners, Owns, SameOwners, last_of, owners_of, seen_by}
+use Rattle.e3_types.specs.declared.entries.Entry.{Entry}
+use Rattle.e3_types.specs.declared.entries.Input.{Input}
+use Rattle.e3_types.specs.declared.scenarios.Scenario.{Scenario}
+use Rattle.e3_wire.specs.Claims.{APass}
+use Rattle.e3_wire.specs.Marks.{belongs, entries_of, scenario_of}
+use Rattle.e3_wire.specs.Wires.{IsPlayed}
+use Rattle.e3_wire.specs.declared.marks.Mark.{Mark}
+use Rattle.e3_wire.proofs.Notes.{scenario_stays}
+use Rattle.e3_wire.proofs.Staying.{are_others_marks}
+use Rattle.e3_node.proofs.Bundles.{plain_own}
+use Rattle.e3_node.proofs.Outcomes.{moves_meanwhile, stands_same}
+use Rattle.e3_node.proofs.Several.{grew_own, own_claims, own_marks}
+use Rattle.e3_node.proofs.Waiting.{one_while}
+
+-- before its first input
+pub no_batch : (sc : Scenario) (h : List Entry) (site : ℕ) (marks : List Mark) (batch : Batch) (s : SiteView) → StandsFor sc h site s →
+    batch.steps.items ≡ [] → batch.records ≡ [] → batch.body ≡ [] → IsBatch sc h site marks s.inputs [] batch s marks
+no_batch sc h site marks batch s stands steps records body = record {
+  steps_are = steps;
+  records_are = records;
+  body_is = body;
+  back = λ own. tt;
+  stands = stands;
+  inputs = omega arith;
+  claimed = sym (append-nil marks);
+}
+
+-- a site that stands does so behind what others put while its pass rested
+pub stands_taken : (p : APass) (site : ℕ) (marks : List Mark) (s : SiteView) → Owns p site → GrewByOthers belongs p marks → IsPlayed (seen_by p) → IsPlayed marks →
+    StandsFor (scenario_of (seen_by p)) (entries_of (seen_by p)) site s → StandsFor (scenario_of marks) (entries_of marks) site s
+stands_taken p site marks s owns grew was played stands =
+    let one = are_others_marks p site marks owns grew in
+    let P : List Mark → Type 0 = λ l. IsPlayed l in
+    let m : Meanwhile site (entries_of (seen_by p)) (entries_of (seen_by p ++ one.0)) = one_while site (seen_by p) one.0 was (subst P one.1 played) one.2 in
+    let there : StandsFor (scenario_of (seen_by p)) (entries_of (seen_by p ++ one.0)) site s =
+    stands_same (scenario_of (seen_by p)) (entries_of (seen_by p)) (entries_of (seen_by p ++ one.0)) site s (moves_meanwhile (scenario_of (seen_by p)) (entries_of (seen_by p)) (entries_of (seen_by p ++ one.0)) site m) stands in
+    let R : Scenario → Type 0 = λ sc. StandsFor sc (entries_of (seen_by p ++ one.0)) site s in
+    let S : List Mark → Type 0 = λ l. StandsFor (scenario_of l) (entries_of l) site s in
+    subst S (sym one.1) (subst R (sym (scenario_stays (seen_by p) one.0 was).0) there)
+
+-- what was added to a batch
+abbrev pub Added : Scenario → List Entry → ℕ → List Mark → ℕ → List Input → Result (Unit {0}) InputFault → Batch → SiteView → List Mark → Type 0
+Added sc h site marks first inputs answer batch s now =
+    (n : ℕ) × (n ≤ length inputs) × OnOk answer (n ≡ length inputs) × OnErr answer (n < length inputs) × IsBatch sc h site marks first (take n inputs) batch s now
+
+pub planned : (p : APass) (site first : ℕ) (inputs : List Input) (answer : Result (Unit {0}) InputFault) (batch : Batch) (s : SiteView) (marks shared now : List Mark) →
+    GrewByOthers belongs p marks → IsPlayed marks → now ≡ shared → Added (scenario_of marks) (entries_of marks) site marks first inputs answer batch s shared →
+    HasPlanned p site first inputs answer batch s now
+planned p site first inputs answer batch s marks shared now grew played is added =
+    let P : List Mark → Type 0 = λ l. IsBatch (scenario_of marks) (entries_of marks) site marks first (take added.0 inputs) batch s l in
+    record {
+      between = marks;
+      grew = grew;
+      played = played;
+      count = added.0;
+      within = added.1;
+      all = added.2;
+      short = added.3;
+      made = subst P (sym is) added.4;
+    }
+
+-- the claims are of the pass
+pub claims_grew : (p q : APass) (site first : ℕ) (inputs : List Input) (answer : Result (Unit {0}) InputFault) (batch : Batch) (s : SiteView) (marks now : List Mark) →
+    Owns p site → SameOwners p q → seen_by q ≡ marks → Added (scenario_of marks) (entries_of marks) site marks first inputs answer batch s now → GrewByOwners belongs q now
+claims_grew p q site first inputs answer batch s marks now owns same seen added =
+    let steps : List Entry = plain_steps (scenario_of marks) (entries_of marks) site (take added.0 inputs) in
+    let has : 0 < count_of site (owners_of q) = subst (λ (l : List ℕ). 0 < count_of site l) (sym same.owners) owns in
+    grew_own (last_of q) (owners_of q) (seen_by q) marks now (claims_for steps) seen added.4.claimed
+    (own_claims (last_of q) site (owners_of q) steps has (plain_own (scenario_of marks) (entries_of marks) site (take added.0 inputs)))
+
+-- so are the entries
+pub entries_grew : (p q : APass) (marks now : List Mark) (steps : List Entry) → (owned : AreOwned p steps) → SameOwners p q → seen_by q ≡ marks →
+    now ≡ marks ++ marks_in (entries_of marks) steps → GrewByOwners belongs q now
+entries_grew p q marks now steps owned same seen is =
+    let has : 0 < count_of owned.site (owners_of q) = subst (λ (l : List ℕ). 0 < count_of owned.site l) (sym same.owners) owned.owns in
+    grew_own (last_of q) (owners_of q) (seen_by q) marks now (marks_in (entries_of marks) steps) seen is
+    (own_marks (last_of q) owned.site (owners_of q) (entries_of marks) steps owned.some has owned.are)

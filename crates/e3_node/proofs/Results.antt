@@ -1,0 +1,441 @@
+-- A batch that was planned, behind what others put since.
+use Rattle.std.proofs.Common.{◌≡◌, ◌≢◌, ◌+◌, ◌-◌, ◌≤◌, ◌++◌, ◌∷◌, [], ℕ, zero, suc, true, false, List, length, take, refl, sym, subst, ap, ◌∙◌, append-nil, append_assoc, arith}
+use Rattle.std.proofs.lemmas.List.{length-take-le}
+use Rattle.std.specs.Prelude.{None, Result, Some, fold}
+use Rattle.atomic_table.specs.Seated.{TableId}
+use Rattle.e3_codec.specs.Fields.{AllCanBeReadBack}
+use Rattle.e3_disk.specs.Meters.{Keeps, Meters}
+use Rattle.e3_law_begun.specs.Claims.{BegunAreTransactions, RecordsMentionWhatStands}
+use Rattle.e3_law_local.specs.Drafts.{MayTakeAll}
+use Rattle.e3_law_local.specs.Least.{AreFirstTo}
+use Rattle.e3_law_local.specs.Others.{Allows, numbered_on}
+use Rattle.e3_law_trails.specs.Claims.{VotesAtTheirSite}
+use Rattle.e3_log.specs.Frames.{frames}
+use Rattle.e3_log.specs.Stands.{LogState, Stands}
+use Rattle.e3_log.proofs.Append.{new_end}
+use Rattle.e3_node.specs.Batched.{HasPlanned, IsBatch}
+use Rattle.e3_node.specs.Batches.{fall_over, plain_steps, stepped}
+use Rattle.e3_node.specs.Bodies.{AllReadBack, DiskHolds, Hold, ReadsAfter, bodies_in, body_of}
+use Rattle.e3_node.specs.Ending.{EndsWith, HasGone, Promised}
+use Rattle.e3_node.specs.Ends.{EndsAt, IsReason, Takes, calls_for}
+use Rattle.e3_node.specs.Counting.{count_of, counted_by}
+use Rattle.e3_node.specs.NodeStands.{IsUp, steps_at}
+use Rattle.e3_node.specs.Several.{MayEnterAll, claims_for, marks_in}
+use Rattle.e3_node.specs.Turns.{Meanwhile}
+use Rattle.e3_node.specs.declared.batching.Batch.{Batch}
+use Rattle.e3_node.specs.declared.counting.Count.{Count}
+use Rattle.e3_node.specs.declared.fault.InputFault.{InputFault}
+use Rattle.e3_node.specs.declared.state.State.TheVariants.{Up}
+use Rattle.e3_site.specs.SiteView.{SiteView}
+use Rattle.e3_turn.specs.Passes.{GrewByOthers, IsIdle, OwnsAll, Owns, SameOwners, seen_by}
+use Rattle.e3_types.specs.Spelling.{spelling}
+use Rattle.e3_types.specs.declared.entries.Act.TheVariants.{Fall}
+use Rattle.e3_types.specs.declared.entries.Entry.{Entry}
+use Rattle.e3_types.specs.declared.entries.Input.{Input}
+use Rattle.e3_types.specs.declared.entries.Why.{Why}
+use Rattle.e3_types.specs.declared.records.Record.{Record}
+use Rattle.e3_types.specs.declared.scenarios.Scenario.{Scenario}
+use Rattle.e3_wire.specs.Claims.{APass}
+use Rattle.e3_wire.specs.Marks.{belongs, entries_of, note_of, scenario_of, used_by}
+use Rattle.e3_wire.specs.Wires.{IsPlayed, MayEnterBehind, TakesInTurn}
+use Rattle.e3_wire.specs.declared.marks.Mark.{Mark}
+use Rattle.e3_wire.specs.declared.marks.Mark.TheVariants as mark
+use Rattle.e3_wire.specs.declared.marks.Note.{Note}
+use Rattle.e3_wire.proofs.Foreign.{entries_append, notes_stay}
+use Rattle.e3_wire.proofs.Notes.{entry_uses, scenario_stays}
+use Rattle.e3_wire.proofs.Spending.{fronts_are_played}
+use Rattle.e3_wire.proofs.Staying.{are_others_marks}
+use Rattle.e3_world.specs.Items.{is_up_at}
+use Rattle.e3_world.specs.Legal.{AreDue, Guard, IsLegal, records_by}
+use Rattle.e3_world.specs.Moves.{Move, log_size, moves_of}
+use Rattle.e3_world.specs.Packets.{is_calm, present_items}
+use Rattle.e3_node.proofs.Batches.{plain_same, records_own, records_same, stepped_same, stepped_up}
+use Rattle.e3_node.proofs.Bundles.{all_due_first, plain_length, plain_list, plain_own, stepped_count, steps_back, steps_counted, steps_logged, steps_use}
+use Rattle.e3_node.proofs.Counts.{count_meanwhile, count_own}
+use Rattle.e3_node.proofs.Outcomes.{due_meanwhile, fall_all_back, fallen_all_disk, first_of_all, first_turn, may_all, may_take_front, meanwhile_then, moves_meanwhile, stands_same}
+use Rattle.e3_node.proofs.Several.{entries_claimed, entries_in, note_claimed, note_entered, outs_in, used_all}
+use Rattle.e3_node.proofs.Waiting.{back_meanwhile, one_while, up_meanwhile}
+
+-- the guard of a fall over several inputs
+fall_all_guard : (sc : Scenario) (h : List Entry) (site : ℕ) (inputs : List Input) (records : List Record) (why : Why) → 1 ≤ site → is_up_at h site ≡ true →
+    AreDue sc h site inputs → records ≢ [] → records ≡ records_by sc h site inputs → Guard sc h (record { owner = site; act = Fall inputs records why })
+fall_all_guard sc h zero inputs records why one up due some is = absurd (omega (arith, one))
+fall_all_guard sc h (suc n) inputs records why one up due some is = record { up = up; due = due; some = some; made = is }
+
+-- no inputs record nothing
+some_inputs : (sc : Scenario) (h : List Entry) (site : ℕ) (inputs : List Input) → records_by sc h site inputs ≢ [] → 1 ≤ length inputs
+some_inputs sc h site [] some = absurd (some refl)
+some_inputs sc h site (i ∷ inputs) some = omega arith
+
+-- the place behind one frame more
+one_end : (bodies : List (List ℕ)) (body : List ℕ) (old new : ℕ) → old ≡ length (frames bodies) → new ≡ length (frames (bodies ++ body ∷ [])) →
+    new ≡ old + length (frames (body ∷ []))
+one_end bodies body old new was is =
+    let one : 0 + 5 + length body ≡ length (frames ([] ++ body ∷ [])) = new_end [] body 0 refl in
+    let all : old + 5 + length body ≡ length (frames (bodies ++ body ∷ [])) = new_end bodies body old was in
+    omega (arith, one, all, is)
+
+-- and behind the frame of records, or none
+records_end : (bodies : List (List ℕ)) (records : List Record) (old new : ℕ) → old ≡ length (frames bodies) → new ≡ length (frames (bodies ++ body_of records)) →
+    new ≡ old + length (frames (body_of records))
+records_end bodies [] old new was is =
+    let same : length (frames (bodies ++ [])) ≡ length (frames bodies) = ap (λ (l : List (List ℕ)). length (frames l)) (append-nil bodies) in
+    let plain : old + 0 ≡ old = omega arith in
+    is ∙ same ∙ sym was ∙ sym plain
+records_end bodies (r ∷ rs) old new was is = one_end bodies (spelling (r ∷ rs)) old new was is
+
+-- what was played with more marks behind it was played
+pub between_played : (q : APass) (between now tail : List Mark) → GrewByOthers belongs q between → IsPlayed (seen_by q) → now ≡ between ++ tail → IsPlayed now →
+    IsPlayed between
+between_played q between now tail grew was is played =
+    let P : List Mark → Type 0 = λ l. IsPlayed l in
+    subst P (sym grew.1) (fronts_are_played (seen_by q) grew.0 tail was (subst P (is ∙ ap (λ (l : List Mark). l ++ tail) grew.1) played))
+
+-- what was seen, and marks of others behind it
+module _ (p : APass) (site : ℕ) (owns : Owns p site) (was : IsPlayed (seen_by p)) where
+  pub seen_while : (marks : List Mark) → GrewByOthers belongs p marks → IsPlayed marks → Meanwhile site (entries_of (seen_by p)) (entries_of marks)
+  seen_while marks grew played =
+      let one = are_others_marks p site marks owns grew in
+      let P : List Mark → Type 0 = λ l. IsPlayed l in
+      let R : List Mark → Type 0 = λ l. Meanwhile site (entries_of (seen_by p)) (entries_of l) in
+      subst R (sym one.1) (one_while site (seen_by p) one.0 was (subst P one.1 played) one.2)
+
+  pub keys : (marks : List Mark) → GrewByOthers belongs p marks → scenario_of marks ≡ scenario_of (seen_by p)
+  keys marks grew = ap (λ (l : List Mark). scenario_of l) grew.1 ∙ (scenario_stays (seen_by p) grew.0 was).0
+
+  pub note_same : (marks : List Mark) → GrewByOthers belongs p marks → note_of site marks ≡ note_of site (seen_by p)
+  note_same marks grew =
+      let one = are_others_marks p site marks owns grew in
+      ap (λ (l : List Mark). note_of site l) one.1 ∙ notes_stay site (seen_by p) one.0 one.2
+
+module _ (p q : APass) (site first : ℕ) (inputs : List Input) (answer : Result (Unit {0}) InputFault) (batch : Batch) (s : SiteView)
+    (plan : HasPlanned p site first inputs answer batch s (seen_by q)) (owns : Owns p site) (owns_q : Owns q site)
+    (was : IsPlayed (seen_by p)) (played_q : IsPlayed (seen_by q)) where
+  abbrev sc : Scenario
+  sc = scenario_of (seen_by p)
+
+  abbrev h : List Entry
+  h = entries_of (seen_by p)
+
+  abbrev b : List Mark
+  b = plan.between
+
+  abbrev h1 : List Entry
+  h1 = entries_of b
+
+  abbrev done : List Input
+  done = take plan.count inputs
+
+  abbrev steps : List Entry
+  steps = plain_steps sc h1 site done
+
+  pub first_while : Meanwhile site h h1
+  first_while = seen_while p site owns was b plan.grew plan.played
+
+  pub first_keys : scenario_of b ≡ sc
+  first_keys = keys p site owns was b plan.grew
+
+  pub made : IsBatch sc h1 site b first done batch s (seen_by q)
+  made = let P : Scenario → Type 0 = λ k. IsBatch k h1 site b first done batch s (seen_by q) in subst P first_keys plan.made
+
+  pub claimed : seen_by q ≡ b ++ claims_for steps
+  claimed = made.claimed
+
+  pub entries_q : entries_of (seen_by q) ≡ h1
+  entries_q = ap (λ (l : List Mark). entries_of l) claimed ∙ entries_claimed b steps
+
+  pub keys_q : scenario_of (seen_by q) ≡ sc
+  keys_q = ap (λ (l : List Mark). scenario_of l) claimed ∙ (scenario_stays b (claims_for steps) plan.played).0 ∙ first_keys
+
+  pub note_q : note_of site (seen_by q) ≡ record { places = (note_of site (seen_by p)).places + length steps; room = (note_of site (seen_by p)).room + outs_in steps }
+  note_q =
+      ap (λ (l : List Mark). note_of site l) claimed ∙ note_claimed site b steps (plain_own sc h1 site done)
+      ∙ ap (λ (w : Note). let v : Note = record { places = w.places + length steps; room = w.room + outs_in steps } in v) (note_same p site owns was b plan.grew)
+
+  pub count_is : length done ≡ plan.count
+  count_is = length-take-le plan.count inputs plan.within
+
+  pub steps_are : length batch.steps.items ≡ plan.count
+  steps_are = ap (λ (l : List Entry). length l) made.steps_are ∙ plain_length sc h1 site done ∙ count_is
+
+  pub seen_b : (more : List Mark) × (seen_by q ≡ seen_by p ++ more)
+  seen_b = (
+    plan.grew.0 ++ claims_for steps,
+    claimed ∙ ap (λ (l : List Mark). l ++ claims_for steps) plan.grew.1 ∙ append_assoc (seen_by p) plan.grew.0 (claims_for steps),
+  )
+
+  -- a site that was up is so behind what others put
+  pub up_first : {D : Type 0} (content : D → List ℕ) (image : D → List ℕ → Type 0) (meters : D → Meters) (s0 : SiteView) (old : LogState D) →
+      IsUp content image meters sc h site s0 old → is_up_at h1 site ≡ true
+  up_first content image meters s0 old stood =
+      let there : IsUp content image meters sc h1 site s0 old = up_meanwhile content image meters sc h h1 site (Up s0 old) first_while stood in there.up
+
+  module _ (some : 1 ≤ site) (up : is_up_at h site ≡ true) (calm : is_calm (present_items sc h) ≡ false) (may : MayTakeAll sc h site inputs)
+      (firsts : AreFirstTo sc h site inputs) where
+    due_h : AreDue sc h site done
+    due_h = all_due_first sc h site done was.legal some up calm (may_take_front sc h site plan.count inputs may) (first_of_all sc h site plan.count inputs firsts)
+
+    legal_1 : IsLegal sc h1
+    legal_1 = let P : Scenario → Type 0 = λ k. IsLegal k h1 in subst P first_keys plan.played.legal
+
+    pub all_1 : AreFirstTo sc h1 site done × AreDue sc h1 site done × (is_calm (present_items sc h1) ≡ false)
+    all_1 = due_meanwhile sc h h1 site done was.given legal_1 first_while calm (first_of_all sc h site plan.count inputs firsts) due_h
+
+    -- no recover step is on
+    pub restless_q : is_calm (present_items (scenario_of (seen_by q)) (entries_of (seen_by q))) ≡ false
+    restless_q =
+        ap (λ (x : Scenario). is_calm (present_items x (entries_of (seen_by q)))) keys_q ∙ ap (λ (l : List Entry). is_calm (present_items sc l)) entries_q ∙ all_1.2
+
+    pub alone : is_calm (present_items (scenario_of (seen_by q)) (entries_of (seen_by q))) ≡ true → OwnsAll q
+    alone calm_q = absurd (let both = sym calm_q ∙ restless_q in cc)
+
+    -- a fall over them may be entered
+    pub fall_may : (over : List Input) (why : Why) → over ≡ done → batch.records ≢ [] → is_up_at h1 site ≡ true → site ≤ length sc.weights →
+        MayEnterBehind (seen_by q) (record { owner = site; act = Fall over batch.records why })
+    fall_may over why is recorded up_1 exists = record {
+      site = some;
+      exists = (let P : Scenario → Type 0 = λ x. site ≤ length x.weights in subst P (sym keys_q) exists);
+      allowed =
+          (let P : Scenario → Type 0 = λ x. Allows x (entries_of (seen_by q)) e in
+          let Q : List Entry → Type 0 = λ l. Allows sc l e in
+          subst P (sym keys_q) (subst Q (sym entries_q) (fall_all_guard sc h1 site over batch.records why some up_1 (subst (λ (l : List Input). AreDue sc h1 site l) (sym is) all_1.1)
+          recorded (made.records_are ∙ ap (λ (l : List Input). records_by sc h1 site l) (sym is)))));
+      takes =
+          (let P : Scenario → Type 0 = λ x. TakesInTurn x (entries_of (seen_by q)) site over in
+          let Q : List Entry → Type 0 = λ l. TakesInTurn sc l site over in
+          subst P (sym keys_q) (subst Q (sym entries_q) (subst (λ (l : List Input). TakesInTurn sc h1 site l) (sym is) (first_turn sc h1 site done all_1.0))));
+      place =
+          (let n : 1 ≤ length done = some_inputs sc h1 site done (λ none. recorded (made.records_are ∙ none)) in
+          let long : length steps ≡ length done = plain_length sc h1 site done in
+          let there : (note_of site (seen_by q)).places ≡ (note_of site (seen_by p)).places + length steps = ap (λ (w : Note). w.places) note_q in
+          omega (arith, n, long, there));
+      room = (let none : 0 ≤ (note_of site (seen_by q)).room = omega arith in none);
+    }
+      where
+        e : Entry
+        e = record { owner = site; act = Fall over batch.records why }
+
+    -- behind what others put since
+    module _ (marks : List Mark) (grew : GrewByOthers belongs q marks) (played : IsPlayed marks) where
+      abbrev k : List Entry
+      k = entries_of marks
+
+      pub keys_2 : scenario_of marks ≡ sc
+      keys_2 = keys q site owns_q played_q marks grew ∙ keys_q
+
+      pub legal_2 : IsLegal sc k
+      legal_2 = let P : Scenario → Type 0 = λ x. IsLegal x k in subst P keys_2 played.legal
+
+      pub second_while : Meanwhile site h1 k
+      second_while = let P : List Entry → Type 0 = λ l. Meanwhile site l k in subst P entries_q (seen_while q site owns_q played_q marks grew played)
+
+      pub all_while : Meanwhile site h k
+      all_while = meanwhile_then site h h1 k first_while second_while
+
+      pub all_2 : AreFirstTo sc k site done × AreDue sc k site done × (is_calm (present_items sc k) ≡ false)
+      all_2 = due_meanwhile sc h1 k site done was.given legal_2 second_while all_1.2 all_1.0 all_1.1
+
+      pub same_steps : batch.steps.items ≡ plain_steps sc k site done
+      same_steps = made.steps_are ∙ sym (plain_same sc site h1 k done (moves_meanwhile sc h1 k site second_while))
+
+      pub same_records : batch.records ≡ records_by sc k site done
+      same_records = made.records_are ∙ sym (records_same sc site h1 k done (moves_meanwhile sc h1 k site second_while))
+
+      pub may_all_enter : site ≤ length sc.weights → is_up_at k site ≡ true → MayEnterAll marks batch.steps.items
+      may_all_enter exists up_k =
+          let one = are_others_marks q site marks owns_q grew in
+          let P : List Entry → Type 0 = λ l. MayEnterAll marks l in
+          let now : marks ≡ (b ++ claims_for steps) ++ one.0 = one.1 ∙ ap (λ (l : List Mark). l ++ one.0) claimed in
+          subst P (sym made.steps_are)
+          (may_all sc h1 site first done (note_of site (seen_by p)).places (note_of site (seen_by p)).room b one.0 marks plan.played played now one.2 keys_2 k refl second_while
+          some exists up_k all_2.0 all_2.1 (note_same p site owns was b plan.grew))
+
+      pub seen_records : batch.records ≡ records_by sc h site done
+      seen_records = made.records_are ∙ records_same sc site h h1 done (moves_meanwhile sc h h1 site first_while)
+
+      -- the records can be read back
+      pub records_back : RecordsMentionWhatStands → BegunAreTransactions → VotesAtTheirSite → is_up_at h1 site ≡ true → AllCanBeReadBack site (records_by sc k site done)
+      records_back mentions begun votes up_1 =
+          let P : List Record → Type 0 = λ rs. AllCanBeReadBack site rs in
+          subst P (sym made.records_are ∙ same_records)
+          (made.back (records_own mentions begun votes sc h1 site done was.given legal_1 some up_1 all_1.1))
+
+      -- once the steps are entered
+      pub history_stepped : (now : List Mark) → now ≡ marks ++ marks_in k batch.steps.items → entries_of now ≡ stepped sc k site done
+      history_stepped now is =
+          ap (λ (l : List Mark). entries_of l) is ∙ ap (λ (l : List Entry). entries_of (marks ++ marks_in k l)) same_steps
+          ∙ entries_in marks (plain_steps sc k site done) ∙ plain_list sc k site done
+
+      pub note_stepped : (now : List Mark) → now ≡ marks ++ marks_in k batch.steps.items → note_of site now ≡ note_of site (seen_by p)
+      note_stepped now is =
+          let w : Note = note_of site (seen_by p) in
+          let mine : List Entry = plain_steps sc k site done in
+          let same : steps ≡ mine = sym made.steps_are ∙ same_steps in
+          let there : note_of site marks ≡ record { places = w.places + length mine; room = w.room + outs_in mine } =
+          note_same q site owns_q played_q marks grew ∙ note_q
+          ∙ ap (λ (es : List Entry). let v : Note = record { places = w.places + length es; room = w.room + outs_in es } in v) same in
+          ap (λ (l : List Mark). note_of site l) is ∙ ap (λ (l : List Entry). note_of site (marks ++ marks_in k l)) same_steps
+          ∙ note_entered site marks mine (plain_own sc k site done) ∙ ap (λ (v : Note). used_all v mine) there ∙ steps_use sc k site done w.places w.room
+
+      pub counted_stepped : (c d : Count) → c ≡ count_of site h → d ≡ fold (λ (x : Count) (e : Entry). counted_by x e.act) c batch.steps.items →
+          (more : List Entry) → more ≡ stepped sc k site done → d ≡ count_of site more
+      counted_stepped c d before is more entered =
+          is ∙ ap (λ (x : Count). fold (λ (y : Count) (e : Entry). counted_by y e.act) x batch.steps.items) (before ∙ sym (count_meanwhile site h k all_while))
+          ∙ ap (λ (l : List Entry). fold (λ (y : Count) (e : Entry). counted_by y e.act) (count_of site k) l) same_steps
+          ∙ steps_counted sc k site done ∙ ap (λ (l : List Entry). count_of site l) (sym entered)
+
+      -- what was entered is the fall
+      pub history_fallen : (over : List Input) (why : Why) (now : List Mark) → over ≡ done →
+          now ≡ marks ++ mark.Entered (numbered_on k (record { owner = site; act = Fall over batch.records why })) ∷ [] → entries_of now ≡ k ++ fall_over sc k site done why ∷ []
+      history_fallen over why now is now_is =
+          ap (λ (l : List Mark). entries_of l) now_is ∙ entries_append marks (mark.Entered (record { owner = site; act = Fall over batch.records why }) ∷ [])
+          ∙ ap (λ (l : List Input). let e : Entry = record { owner = site; act = Fall l batch.records why } in k ++ e ∷ []) is
+          ∙ ap (λ (rs : List Record). let e : Entry = record { owner = site; act = Fall done rs why } in k ++ e ∷ []) same_records
+
+      pub counted_fallen : (over : List Input) (why : Why) (c d : Count) → over ≡ done → c ≡ count_of site h → d ≡ counted_by c (Fall over batch.records why) →
+          (more : List Entry) → more ≡ k ++ fall_over sc k site done why ∷ [] → d ≡ count_of site more
+      counted_fallen over why c d is before counts more entered =
+          counts ∙ ap (λ (x : Count). counted_by x (Fall over batch.records why)) (before ∙ sym (count_meanwhile site h k all_while))
+          ∙ ap (λ (rs : List Record). counted_by (count_of site k) (Fall over rs why)) same_records
+          ∙ sym (ap (λ (l : List Entry). count_of site l) entered ∙ count_own site k (fall_over sc k site done why) refl)
+
+      pub note_fallen : (over : List Input) (why : Why) (now : List Mark) → batch.records ≢ [] →
+          now ≡ marks ++ mark.Entered (numbered_on k (record { owner = site; act = Fall over batch.records why })) ∷ [] →
+          Promised (Some why) (length inputs) (note_of site (seen_by p)) (note_of site now)
+      note_fallen over why now recorded now_is =
+          let e : Entry = record { owner = site; act = Fall over batch.records why } in
+          let here : note_of site now ≡ used_by (note_of site marks) e.act = ap (λ (l : List Mark). note_of site l) now_is ∙ entry_uses e marks in
+          let places : (note_of site now).places ≡ (note_of site marks).places - 1 = ap (λ (w : Note). w.places) here in
+          let room : (note_of site now).room ≡ 0 = ap (λ (w : Note). w.room) here in
+          let there : (note_of site marks).places ≡ (note_of site (seen_by p)).places + length steps = ap (λ (w : Note). w.places) (note_same q site owns_q played_q marks grew ∙ note_q) in
+          let long : length steps ≡ plan.count = plain_length sc h1 site done ∙ count_is in
+          let few : plan.count ≤ length inputs = plan.within in
+          let one : 1 ≤ length done = some_inputs sc h1 site done (λ none. recorded (made.records_are ∙ none)) in
+          let many : length done ≡ plan.count = count_is in
+          (omega (arith, places, there, long, few, one, many), room)
+
+      -- what a pass has seen that put more behind it
+      pub seen_on : (now tail : List Mark) → now ≡ marks ++ tail → (more : List Mark) × (now ≡ seen_by p ++ more)
+      seen_on now tail is = (
+        (seen_b.0 ++ grew.0) ++ tail,
+        is ∙ ap (λ (l : List Mark). l ++ tail) (grew.1 ∙ ap (λ (l : List Mark). l ++ grew.0) seen_b.1 ∙ append_assoc (seen_by p) seen_b.0 grew.0)
+            ∙ append_assoc (seen_by p) (seen_b.0 ++ grew.0) tail,
+      )
+
+      pub seen_since : (now tail : List Mark) → now ≡ marks ++ tail → (more : List Mark) × (now ≡ seen_by q ++ more)
+      seen_since now tail is = (
+        grew.0 ++ tail,
+        is ∙ ap (λ (l : List Mark). l ++ tail) grew.1 ∙ append_assoc (seen_by q) grew.0 tail,
+      )
+
+      pub gone : (lock : TableId) (r : APass) (tail : List Mark) → seen_by r ≡ marks ++ tail → IsIdle lock r → SameOwners p q → SameOwners q r → IsPlayed (seen_by r) →
+          HasGone lock p r
+      gone lock r tail is idle one two now = record {
+        idle = idle;
+        same = record { owners = two.owners ∙ one.owners; last = two.last ∙ one.last };
+        played = now;
+        seen = seen_on (seen_by r) tail is;
+      }
+
+      -- the site is up behind that
+      pub up_second : {D : Type 0} (content : D → List ℕ) (image : D → List ℕ → Type 0) (meters : D → Meters) (s0 : SiteView) (old : LogState D) →
+          IsUp content image meters sc h site s0 old → is_up_at k site ≡ true
+      up_second content image meters s0 old stood =
+          let there : IsUp content image meters sc k site s0 old = up_meanwhile content image meters sc h k site (Up s0 old) all_while stood in there.up
+
+      module _ {D : Type 0} (content : D → List ℕ) (image : D → List ℕ → Type 0) (meters : D → Meters) (s0 : SiteView) (old new : LogState D)
+          (stood : IsUp content image meters sc h site s0 old) (begins : first ≡ s0.inputs) where
+        pub up_2 : IsUp content image meters sc k site s0 old
+        up_2 = up_meanwhile content image meters sc h k site (Up s0 old) all_while stood
+
+        pub stepped_stands : ((lists : List (List Record)) → Stands content image (bodies_in lists) old → Stands content image (bodies_in lists ++ body_of batch.records) new) →
+            (meters new.disk).powered ≡ true → (more : List Entry) → more ≡ stepped sc k site done → IsUp content image meters sc more site s new
+        stepped_stands wrote lit more entered =
+            let Q : List Record → Type 0 = λ rs. (lists : List (List Record)) → Stands content image (bodies_in lists) old → Stands content image (bodies_in lists ++ body_of rs) new in
+            let R : List Entry → Type 0 = λ l. IsUp content image meters sc l site s new in
+            subst R (sym entered) (record {
+              up = stepped_up sc k site done up_2.up;
+              stands = stands_same sc (stepped sc h1 site done) (stepped sc k site done) site s
+                  (stepped_same sc site h1 k done (moves_meanwhile sc h1 k site second_while)) made.stands;
+              logged = steps_logged content image sc k site done old new up_2.logged (subst Q same_records wrote);
+              lit = lit;
+              inputs =
+                  let few : s.inputs ≤ first + length done = made.inputs in
+                  let before : s0.inputs ≤ steps_at k site = up_2.inputs in
+                  let all : steps_at (stepped sc k site done) site ≡ steps_at k site + length done = stepped_count sc k site done in
+                  omega (arith, few, before, all, begins);
+            })
+
+        -- or once a fall is
+        pub fallen_holds : (why : Why) → ((lists : List (List Record)) → Stands content image (bodies_in lists) old →
+            (bytes : List ℕ) → image new.disk bytes → ReadsAfter lists why batch.records bytes) → DiskHolds sc (k ++ fall_over sc k site done why ∷ []) site (image new.disk)
+        fallen_holds why reads =
+            let Q : List Record → Type 0 = λ rs. (lists : List (List Record)) → Stands content image (bodies_in lists) old →
+            (bytes : List ℕ) → image new.disk bytes → ReadsAfter lists why rs bytes in
+            fallen_all_disk content image sc k site done why old new up_2.logged (subst Q same_records reads)
+
+        -- the steps are its end
+        pub steps_end : RecordsMentionWhatStands → BegunAreTransactions → VotesAtTheirSite → AllReadBack sc h site → is_up_at h1 site ≡ true →
+            ((lists : List (List Record)) → Stands content image (bodies_in lists) old → Stands content image (bodies_in lists ++ body_of batch.records) new) →
+            (meters new.disk).powered ≡ true → Takes (calls_for batch.records) (meters old.disk) (meters new.disk) → Keeps (meters old.disk) (meters new.disk) →
+            (now : List Mark) → now ≡ marks ++ marks_in k batch.steps.items →
+            EndsWith content image meters sc h (entries_of now) site inputs (Up s0 old) (Up s new) answer None
+        steps_end mentions begun votes back up_1 wrote lit takes keeps now is =
+            let entered : entries_of now ≡ stepped sc k site done = history_stepped now is in
+            let A : List Entry → Type 0 = λ l. AllReadBack sc l site in
+            let T : List Record → Type 0 = λ rs. Takes (calls_for rs) (meters old.disk) (meters new.disk) in
+            let F : List Record → Type 0 = λ rs. new.end ≡ old.end + length (frames (body_of rs)) in
+            let logged = stood.logged in
+            let behind = wrote logged.lists logged.stands in
+            record {
+              count = plan.count;
+              within = plan.within;
+              all = plan.all;
+              short = plan.short;
+              came = (
+                record {
+                  now = k;
+                  meanwhile = all_while;
+                  entered = entered;
+                  takes = subst T seen_records takes;
+                  frame = subst F seen_records (records_end (bodies_in logged.lists) batch.records old.end new.end logged.stands.disk.end_is behind.disk.end_is);
+                },
+                stepped_stands wrote lit (entries_of now) entered,
+              );
+              back = subst A (sym entered) (steps_back sc k site done (back_meanwhile sc h k site all_while back) (records_back mentions begun votes up_1));
+              keeps = keeps;
+            }
+
+        -- or the fall is
+        pub fall_end : RecordsMentionWhatStands → BegunAreTransactions → VotesAtTheirSite → AllReadBack sc h site → is_up_at h1 site ≡ true → (why : Why) → batch.records ≢ [] →
+            ((lists : List (List Record)) → Stands content image (bodies_in lists) old →
+            (bytes : List ℕ) → image new.disk bytes → ReadsAfter lists why batch.records bytes) →
+            ((moves : List Move) (lists : List (List Record)) → Hold moves lists → Stands content image (bodies_in lists) old →
+            IsReason why (log_size moves) batch.records (meters old.disk) (meters new.disk)) → EndsAt old.end batch.records why → Keeps (meters old.disk) (meters new.disk) →
+            (over : List Input) → over ≡ done → (now : List Mark) →
+            now ≡ marks ++ mark.Entered (numbered_on k (record { owner = site; act = Fall over batch.records why })) ∷ [] →
+            EndsWith content image meters sc h (entries_of now) site inputs (Up s0 old) (Up s new) answer (Some why)
+        fall_end mentions begun votes back up_1 why some_records reads reason need keeps over over_is now is =
+            let entered : entries_of now ≡ k ++ fall_over sc k site done why ∷ [] = history_fallen over why now over_is is in
+            let A : List Entry → Type 0 = λ l. AllReadBack sc l site in
+            let H : List Entry → Type 0 = λ l. DiskHolds sc l site (image new.disk) in
+            let R : List Record → Type 0 = λ rs. IsReason why (log_size (moves_of sc h site)) rs (meters old.disk) (meters new.disk) in
+            let N : List Record → Type 0 = λ rs. EndsAt old.end rs why in
+            record {
+              count = plan.count;
+              within = plan.within;
+              all = plan.all;
+              short = plan.short;
+              came = (
+                record {
+                  now = k;
+                  meanwhile = all_while;
+                  fell = record { some = λ none. some_records (same_records ∙ none); entered = entered };
+                  reason = subst R seen_records (reason (moves_of sc h site) stood.logged.lists stood.logged.hold stood.logged.stands);
+                  need = subst N seen_records need;
+                },
+                subst H (sym entered) (fallen_holds why reads),
+              );
+              back = subst A (sym entered) (fall_all_back sc k site done why (back_meanwhile sc h k site all_while back) (records_back mentions begun votes up_1));
+              keeps = keeps;
+            }

@@ -1,0 +1,67 @@
+-- The steps of some inputs, made and not yet entered.
+use Rattle.std.specs.Prelude.{◌≡◌, ◌+◌, ◌≤◌, ◌<◌, ◌++◌, ℕ, List, Result, Ok, Err, OnErr, OnOk, length, take}
+use Rattle.std.specs.List.{AllByRecursion as Each}
+use Rattle.e3_codec.specs.Fields.{AllCanBeReadBack}
+use Rattle.e3_node.specs.Batches.{plain_steps, stepped}
+use Rattle.e3_node.specs.Several.{claims_for}
+use Rattle.e3_node.specs.Telling.{IsOwn}
+use Rattle.e3_node.specs.declared.batching.Batch.{Batch}
+use Rattle.e3_node.specs.declared.fault.InputFault.{InputFault}
+use Rattle.e3_node.specs.declared.fault.InputFault.TheVariants as input_fault
+use Rattle.e3_site.specs.SiteView.{SiteView}
+use Rattle.e3_site.specs.StandsFor.{StandsFor}
+use Rattle.e3_turn.specs.Passes.{GrewByOthers}
+use Rattle.e3_types.specs.Spelling.{spelling}
+use Rattle.e3_types.specs.declared.entries.Entry.{Entry}
+use Rattle.e3_types.specs.declared.entries.Input.{Input}
+use Rattle.e3_types.specs.declared.scenarios.Scenario.{Scenario}
+use Rattle.e3_wire.specs.Claims.{APass}
+use Rattle.e3_wire.specs.Marks.{belongs, entries_of, scenario_of}
+use Rattle.e3_wire.specs.Wires.{IsPlayed}
+use Rattle.e3_wire.specs.declared.marks.Mark.{Mark}
+use Rattle.e3_world.specs.Legal.{records_by}
+
+-- where a batch is made, behind this history and these marks, at a site that had counted so many inputs; and its inputs so far
+pub record BatchAt : Type 0 where
+  pub scenario : Scenario
+  pub history : List Entry
+  pub site : ℕ
+  pub marks : List Mark
+  pub first : ℕ
+  pub done : List Input
+
+-- A batch has the steps of these inputs behind a history, and the site stands behind them. It counted no more inputs since
+-- the first. Behind the marks of the history a place and the room of its packets are claimed for each.
+pub record IsBatch (sc : Scenario) (history : List Entry) (site : ℕ) (marks : List Mark) (first : ℕ) (done : List Input) (batch : Batch)
+    (s : SiteView) (now : List Mark) : Type 0 where
+  pub steps_are : batch.steps.items ≡ plain_steps sc history site done
+  pub records_are : batch.records ≡ records_by sc history site done
+  pub body_is : batch.body ≡ spelling (records_by sc history site done)
+  pub back : Each (IsOwn site) (records_by sc history site done) → AllCanBeReadBack site (records_by sc history site done)
+  pub stands : StandsFor sc (stepped sc history site done) site s
+  pub inputs : s.inputs ≤ first + length done
+  pub claimed : now ≡ marks ++ claims_for (plain_steps sc history site done)
+
+-- a refusal that comes of no disk
+abbrev pub NeverFell : Result (Unit {0}) InputFault → Type 0
+NeverFell (Ok done) = Unit {0}
+NeverFell (Err input_fault.HistoryFull) = Unit {0}
+NeverFell (Err input_fault.NoMemory) = Unit {0}
+NeverFell (Err fault) = ⊥
+
+-- a batch made there
+abbrev pub IsBatchAt : BatchAt → Batch → SiteView → List Mark → Type 0
+IsBatchAt at batch s now = IsBatch at.scenario at.history at.site at.marks at.first at.done batch s now
+
+-- What others put is behind what the pass had seen, and behind that a batch has the first of the inputs, all of them where
+-- none was refused.
+pub record HasPlanned (p : APass) (site first : ℕ) (inputs : List Input) (answer : Result (Unit {0}) InputFault) (batch : Batch) (s : SiteView)
+    (now : List Mark) : Type 0 where
+  pub between : List Mark
+  pub grew : GrewByOthers belongs p between
+  pub played : IsPlayed between
+  pub count : ℕ
+  pub within : count ≤ length inputs
+  pub all : OnOk answer (count ≡ length inputs)
+  pub short : OnErr answer (count < length inputs)
+  pub made : IsBatch (scenario_of between) (entries_of between) site between first (take count inputs) batch s now

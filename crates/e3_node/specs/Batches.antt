@@ -1,0 +1,81 @@
+-- What a call with several packets makes of a history.
+use Rattle.std.specs.Prelude.{◌≡◌, ◌≢◌, ◌⊎◌, ◌+◌, ◌<◌, ◌++◌, ◌∷◌, [], ℕ, List, Result, Ok, Err, length, map, take}
+use Rattle.e3_disk.specs.Meters.{Meters}
+use Rattle.e3_log.specs.Frames.{frames}
+use Rattle.e3_node.specs.Bodies.{body_of}
+use Rattle.e3_node.specs.Ends.{EndsAt, IsReason, Takes, calls_for}
+use Rattle.e3_node.specs.NodeView.{disk_of, end_of}
+use Rattle.e3_node.specs.Turns.{Meanwhile}
+use Rattle.e3_node.specs.declared.fault.InputFault.{InputFault}
+use Rattle.e3_node.specs.declared.fault.InputFault.TheVariants as input_fault
+use Rattle.e3_node.specs.declared.state.State.{State}
+use Rattle.e3_types.specs.declared.entries.Act.TheVariants.{Fall, Step}
+use Rattle.e3_types.specs.declared.entries.Entry.{Entry}
+use Rattle.e3_types.specs.declared.entries.Input.{Input}
+use Rattle.e3_types.specs.declared.entries.Why.{Why}
+use Rattle.e3_types.specs.declared.scenarios.Scenario.{Scenario}
+use Rattle.e3_world.specs.declared.lives.Made.{Made}
+use Rattle.e3_world.specs.Items.{inputs_of}
+use Rattle.e3_world.specs.Legal.{entry_of, made_by, records_by}
+use Rattle.e3_world.specs.Moves.{log_size, moves_of, plain}
+
+-- the history with the steps of these inputs, each behind those before it
+abbrev pub stepped : Scenario → List Entry → ℕ → List Input → List Entry
+stepped sc history site [] = history
+stepped sc history site (i ∷ inputs) = stepped sc (history ++ entry_of sc history site i ∷ []) site inputs
+
+-- the inputs of steps
+abbrev pub inputs_in : List Entry → List Input
+inputs_in [] = []
+inputs_in (e ∷ es) = inputs_of e.act ++ inputs_in es
+
+-- the entry of a step, its packets without numbers
+abbrev pub plain_of : ℕ → Input → Made → Entry
+plain_of site i made = record { owner = site; act = Step i made.records (map plain made.outs) made.told }
+
+-- the entries of these steps
+abbrev pub plain_steps : Scenario → List Entry → ℕ → List Input → List Entry
+plain_steps sc history site [] = []
+plain_steps sc history site (i ∷ inputs) =
+    plain_of site i (made_by sc history site i) ∷ plain_steps sc (history ++ entry_of sc history site i ∷ []) site inputs
+
+-- the fall over these inputs
+abbrev pub fall_over : Scenario → List Entry → ℕ → List Input → Why → Entry
+fall_over sc history site inputs why = record { owner = site; act = Fall inputs (records_by sc history site inputs) why }
+
+-- the site fell over these inputs for this reason: their steps record something, and the fall is entered in their place
+pub record FellOverAll (sc : Scenario) (history : List Entry) (site : ℕ) (inputs : List Input) (why : Why) (more : List Entry) : Type 0 where
+  pub some : records_by sc history site inputs ≢ []
+  pub entered : more ≡ history ++ fall_over sc history site inputs why ∷ []
+
+module _ {D : Type 0} (meters : D → Meters) where
+  -- The site made the steps of these inputs behind what others entered: their records are one frame behind those before it,
+  -- or none where they record nothing, and it took its calls of an arm.
+  pub record HasSteppedAll (sc : Scenario) (before more : List Entry) (site : ℕ) (inputs : List Input) (old new : State D) : Type 0 where
+    pub now : List Entry
+    pub meanwhile : Meanwhile site before now
+    pub entered : more ≡ stepped sc now site inputs
+    pub takes : Takes (calls_for (records_by sc before site inputs)) (meters (disk_of old)) (meters (disk_of new))
+    pub frame : end_of new ≡ end_of old + length (frames (body_of (records_by sc before site inputs)))
+
+  -- or it fell over them, and the reason is true
+  pub record HasFallenOverAll (sc : Scenario) (before more : List Entry) (site : ℕ) (inputs : List Input) (why : Why) (old : State D) (disk : D) : Type 0 where
+    pub now : List Entry
+    pub meanwhile : Meanwhile site before now
+    pub fell : FellOverAll sc now site inputs why more
+    pub reason : IsReason why (log_size (moves_of sc before site)) (records_by sc before site inputs) (meters (disk_of old)) (meters disk)
+    pub need : EndsAt (end_of old) (records_by sc before site inputs) why
+
+  -- It did so with the first of these inputs alone: the one behind those was refused.
+  abbrev pub EndedShort : Scenario → List Entry → List Entry → ℕ → List Input → State D → State D → Type 0
+  EndedShort sc before more site inputs old new = (n : ℕ) × (n < length inputs)
+      × (HasSteppedAll sc before more site (take n inputs) old new
+      ⊎ ((why : Why) × HasFallenOverAll sc before more site (take n inputs) why old (disk_of new)))
+
+  -- How a batch ended: with the steps of all its inputs, or a fall over all of them; or so with those before the one that was
+  -- refused. A site that was down did nothing.
+  abbrev pub BatchEnded : Scenario → List Entry → List Entry → ℕ → List Input → State D → State D → Result (Unit {0}) InputFault → Type 0
+  BatchEnded sc before more site inputs old new (Ok done) = HasSteppedAll sc before more site inputs old new
+  BatchEnded sc before more site inputs old new (Err (input_fault.Fell why)) = HasFallenOverAll sc before more site inputs why old (disk_of new)
+  BatchEnded sc before more site inputs old new (Err input_fault.Down) = (more ≡ before) × (new ≡ old)
+  BatchEnded sc before more site inputs old new (Err fault) = EndedShort sc before more site inputs old new

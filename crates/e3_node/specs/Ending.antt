@@ -1,0 +1,72 @@
+-- How a batch of a site that was up ends.
+use Rattle.std.specs.Prelude.{◌≡◌, ◌≤◌, ◌+◌, ◌<◌, ℕ, List, Option, Some, None, Result, Ok, Err, OnErr, OnOk, length, take}
+use Rattle.atomic_table.specs.Seated.{TableId}
+use Rattle.e3_disk.specs.Meters.{Keeps, Meters}
+use Rattle.e3_node.specs.Batches.{HasFallenOverAll, HasSteppedAll}
+use Rattle.e3_node.specs.Bodies.{AllReadBack, DiskHolds}
+use Rattle.e3_node.specs.NodeStands.{IsIn}
+use Rattle.e3_node.specs.NodeView.{disk_of}
+use Rattle.e3_node.specs.Turns.{HasSeenMore}
+use Rattle.e3_node.specs.declared.fault.InputFault.{InputFault}
+use Rattle.e3_node.specs.declared.fault.InputFault.TheVariants as input_fault
+use Rattle.e3_node.specs.declared.state.State.{State}
+use Rattle.e3_turn.specs.Passes.{IsIdle, SameOwners, seen_by}
+use Rattle.e3_types.specs.declared.entries.Entry.{Entry}
+use Rattle.e3_types.specs.declared.entries.Input.{Input}
+use Rattle.e3_types.specs.declared.entries.Why.{Why}
+use Rattle.e3_types.specs.declared.scenarios.Scenario.{Scenario}
+use Rattle.e3_wire.specs.Claims.{APass}
+use Rattle.e3_wire.specs.Wires.{IsPlayed}
+use Rattle.e3_wire.specs.declared.marks.Note.{Note}
+
+-- what each call of a site makes of its pass
+pub record HasGone (lock : TableId) (p q : APass) : Type 0 where
+  pub idle : IsIdle lock q
+  pub same : SameOwners p q
+  pub played : IsPlayed (seen_by q)
+  pub seen : HasSeenMore p q
+
+-- What is promised behind a batch of so many inputs: what was before it. A fall gives all room back, and keeps places for its
+-- other inputs at most.
+abbrev pub Promised : Option Why → ℕ → Note → Note → Type 0
+Promised None inputs old new = new ≡ old
+Promised (Some why) inputs old new = (new.places < old.places + inputs) × (new.room ≡ 0)
+
+-- what is answered: a refusal before a fall
+abbrev pub answer_by : Result (Unit {0}) InputFault → Option Why → Result (Unit {0}) InputFault
+answer_by (Ok done) None = Ok done
+answer_by (Ok done) (Some why) = Err (input_fault.Fell why)
+answer_by (Err fault) fell = Err fault
+
+module _ {D : Type 0} (content : D → List ℕ) (image : D → List ℕ → Type 0) (meters : D → Meters) where
+  -- with the steps of these inputs, or with a fall over them
+  abbrev pub Came : Scenario → List Entry → List Entry → ℕ → List Input → State D → State D → Option Why → Type 0
+  Came sc before more site done old new None =
+      HasSteppedAll meters sc before more site done old new × IsIn content image meters sc more site new
+  Came sc before more site done old new (Some why) =
+      HasFallenOverAll meters sc before more site done why old (disk_of new) × DiskHolds sc more site (image (disk_of new))
+
+  -- It did so with as many inputs as were not refused.
+  pub record EndsWith (sc : Scenario) (before more : List Entry) (site : ℕ) (inputs : List Input) (old new : State D)
+      (refused : Result (Unit {0}) InputFault) (fell : Option Why) : Type 0 where
+    pub count : ℕ
+    pub within : count ≤ length inputs
+    pub all : OnOk refused (count ≡ length inputs)
+    pub short : OnErr refused (count < length inputs)
+    pub came : Came sc before more site (take count inputs) old new fell
+    pub back : AllReadBack sc more site
+    pub keeps : Keeps (meters (disk_of old)) (meters (disk_of new))
+
+  -- a site that was down did nothing
+  pub record DidNothing (sc : Scenario) (before more : List Entry) (site : ℕ) (old new : State D) (fell : Option Why) : Type 0 where
+    pub history : more ≡ before
+    pub state : new ≡ old
+    pub stands : IsIn content image meters sc more site new
+    pub back : AllReadBack sc more site
+    pub keeps : Keeps (meters (disk_of old)) (meters (disk_of new))
+    pub none : fell ≡ None
+
+  abbrev pub EndsIn : Scenario → List Entry → List Entry → ℕ → List Input → State D → State D → Result (Unit {0}) InputFault → Option Why → Type 0
+  EndsIn sc before more site inputs old new (Err input_fault.Down) fell = DidNothing sc before more site old new fell
+  EndsIn sc before more site inputs old new (Err (input_fault.Fell why)) fell = ⊥
+  EndsIn sc before more site inputs old new refused fell = EndsWith sc before more site inputs old new refused fell

@@ -1,0 +1,186 @@
+// Several packets of a site that is up, by its worker: their steps have one frame.
+ghost use Rattle.std.specs.Prelude.{◌≡◌, ◌≤◌, ◌<◌, ◌++◌, ◌∷◌, [], ℕ, length, take, fold, vec_capacity, IfOk, OnOk, OnErr, Err, List as Items};
+ghost use Rattle.e3_node.specs.Batched.{BatchAt, HasPlanned, IsBatchAt, NeverFell};
+ghost use Rattle.e3_node.specs.Counting.{counted_by};
+ghost use Rattle.e3_node.specs.Several.{AreOwned, MayEnterAll, marks_in};
+ghost use Rattle.e3_node.specs.Turns.{history_seen, scenario_seen};
+ghost use Rattle.e3_node.specs.declared.fault.InputFault.TheVariants as input_fault;
+ghost use Rattle.e3_site.specs.StandsFor.{StandsFor};
+ghost use Rattle.e3_turn.specs.Passes.{GrewByOthers, IsIdle, Owns, SameOwners, seen_by};
+ghost use Rattle.e3_wire.specs.Marks.{belongs, entries_of, last_owner, most_of, used_of};
+ghost use Rattle.e3_wire.specs.Wires.{IsPlayed};
+ghost use Rattle.e3_wire.specs.declared.marks.Mark.{Mark};
+
+use crate::InputFault;
+use crate::counting::{Count, count_on};
+use crate::drafts::prepare;
+use crate::reading::add_records;
+use crate::stepping::{room_for, step_of};
+use e3_site::Site;
+use e3_types::{Entry, Input, List, NoMemory, Record};
+use e3_wire::{Shared, Wire, WirePass};
+use std::alloc::Global;
+use std::sync::Wait;
+
+/// The steps of a batch, made and not yet entered: their entries without numbers for their packets, all that they record, and
+/// the spelling of that.
+#[derive(Drop)]
+pub(crate) struct Batch {
+    pub steps: Vec<Entry>,
+    pub records: List<Record>,
+    pub body: List<u8>,
+}
+
+// No batch has more than eight inputs, so what is recorded is copied from one list into a longer one.
+fn both_records(
+    alloc: Global,
+    first: &[Record],
+    second: &[Record],
+) -> Result<List<Record>, NoMemory>
+    ensures { IfOk result (λ both. both ≡ first.now ++ second.now) }
+{
+    let mut both = List::new(alloc);
+    add_records(alloc, first, &mut both)?;
+    add_records(alloc, second, &mut both)?;
+    Ok(both)
+}
+
+fn both_bodies(alloc: Global, first: &[u8], second: &[u8]) -> Result<List<u8>, NoMemory>
+    ensures { IfOk result (λ both. both ≡ first.now ++ second.now) }
+{
+    let mut both = List::new(alloc);
+    both.extend(first)?;
+    both.extend(second)?;
+    Ok(both)
+}
+
+// Room for one step more.
+fn reserve(steps: &mut Vec<Entry>) -> Result<(), NoMemory>
+    ensures items { steps.new.items ≡ steps.old.items }
+    ensures room { OnOk result (length steps.old.items < vec_capacity steps.new) }
+{
+    match steps.try_reserve(1) {
+        Ok(()) => Ok(()),
+        Err(_) => Err(NoMemory),
+    }
+}
+
+// One input more: it is planned behind those before it, and its place is claimed. All memory is taken before the site does
+// the step; behind that nothing is refused.
+fn add_one(
+    shared: &mut Shared,
+    number: u32,
+    site: &mut Site,
+    batch: &mut Batch,
+    input: &Input,
+) -> Result<(), InputFault>
+    ghost at: { BatchAt }
+    requires owner { number ≤ last_owner shared.old }
+    requires site { number ≡ at.site }
+    requires made { IsBatchAt at batch.old site.old shared.old }
+    ensures owners { last_owner shared.new ≡ last_owner shared.old }
+    ensures added { OnOk result (IsBatchAt (record at { done = at.done ++ input.now ∷ [] }) batch.new site.new shared.new) }
+    ensures kept { OnErr result (IsBatchAt at batch.new site.new shared.new) }
+    ensures refused { NeverFell result }
+    ensures full { result ≡ Err input_fault.HistoryFull → most_of shared.new ≤ used_of shared.new }
+{
+    let alloc = shared.alloc();
+    let draft = prepare(site, input, shared)?;
+    let room = room_for(draft.plan.outs());
+    let records = both_records(alloc, batch.records.as_slice(), draft.plan.records())?;
+    let body = both_bodies(alloc, batch.body.as_slice(), draft.body.as_slice())?;
+    reserve(&mut batch.steps)?;
+    shared.claim(number, room)?;
+    let step = step_of(number, input.copy(), site.apply(draft.plan));
+    batch.steps.push_reserved(step);
+    batch.records = records;
+    batch.body = body;
+    Ok(())
+}
+
+// These inputs, one behind the other, up to the first that is refused.
+fn add_all(
+    shared: &mut Shared,
+    number: u32,
+    site: &mut Site,
+    batch: &mut Batch,
+    inputs: &[Input],
+) -> Result<(), InputFault>
+    ghost at: { BatchAt }
+    requires owner { number ≤ last_owner shared.old }
+    requires site { number ≡ at.site }
+    requires made { IsBatchAt (record at { done = [] }) batch.old site.old shared.old }
+    ensures added { (n : ℕ) × (n ≤ length inputs.now) × OnOk result (n ≡ length inputs.now) × OnErr result (n < length inputs.now)
+        × IsBatchAt (record at { done = take n inputs.now }) batch.new site.new shared.new }
+    ensures refused { NeverFell result }
+    ensures full { result ≡ Err input_fault.HistoryFull → most_of shared.new ≤ used_of shared.new }
+{
+    for input in inputs {
+        add_one(shared, number, site, batch, input)?;
+    }
+    Ok(())
+}
+
+/// In one turn, the steps of these inputs are made, up to the first that is refused, and a place is claimed for each.
+pub(crate) fn plan_all<R: Wait>(
+    rt: &R,
+    wire: &Wire,
+    pass: &mut WirePass,
+    number: u32,
+    site: &mut Site,
+    batch: &mut Batch,
+    inputs: &[Input],
+) -> Result<(), InputFault>
+    requires idle { IsIdle wire.now pass.old }
+    requires owns { Owns pass.old number }
+    requires played { IsPlayed (seen_by pass.old) }
+    requires exists { number ≤ last_owner (seen_by pass.old) }
+    requires stands { StandsFor (scenario_seen pass.old) (history_seen pass.old) number site.old }
+    requires empty { (batch.old.steps.items ≡ []) × (batch.old.records ≡ []) × (batch.old.body ≡ []) }
+    ensures idle { IsIdle wire.now pass.new }
+    ensures same { SameOwners pass.old pass.new }
+    ensures played { IsPlayed (seen_by pass.new) }
+    ensures planned { HasPlanned pass.old number site.old.inputs inputs.now result batch.new site.new (seen_by pass.new) }
+    ensures refused { NeverFell result }
+    ensures full { result ≡ Err input_fault.HistoryFull → most_of (seen_by pass.new) ≤ used_of (seen_by pass.new) }
+{
+    let mut shared = wire.take(rt, pass);
+    let added = add_all(&mut shared, number, site, batch, inputs);
+    wire.put(pass, shared);
+    added
+}
+
+// The steps are entered, one behind the other.
+fn enter_all(shared: &mut Shared, count: &mut Count, steps: Vec<Entry>)
+    requires { MayEnterAll shared.old steps.items }
+    ensures entered { shared.new ≡ shared.old ++ marks_in (entries_of shared.old) steps.items }
+    ensures counted { count.new ≡ fold (λ c e. counted_by c e.act) count.old steps.items }
+{
+    for step in steps {
+        count_on(count, &step.act);
+        shared.enter(step);
+    }
+}
+
+/// In one turn, steps of the site of a pass are entered: nothing of others comes between them.
+pub(crate) fn enter_steps<R: Wait>(
+    rt: &R,
+    wire: &Wire,
+    pass: &mut WirePass,
+    count: &mut Count,
+    steps: Vec<Entry>,
+)
+    requires idle { IsIdle wire.now pass.old }
+    requires owned { AreOwned pass.old steps.items }
+    requires may { (marks : Items Mark) → GrewByOthers belongs pass.old marks → IsPlayed marks → MayEnterAll marks steps.items }
+    ensures idle { IsIdle wire.now pass.new }
+    ensures same { SameOwners pass.old pass.new }
+    ensures played { IsPlayed (seen_by pass.new) }
+    ensures entered { (between : Items Mark) × GrewByOthers belongs pass.old between × IsPlayed between
+        × (seen_by pass.new ≡ between ++ marks_in (entries_of between) steps.items) }
+    ensures counted { count.new ≡ fold (λ c e. counted_by c e.act) count.old steps.items }
+{
+    let mut shared = wire.take(rt, pass);
+    enter_all(&mut shared, count, steps);
+    wire.put(pass, shared);
+}

@@ -1,0 +1,225 @@
+// Several packets, by the worker of their site: one frame, and then their steps in one turn; or a fall over all of them.
+ghost use Rattle.std.specs.Prelude.{◌≡◌, ◌≤◌, ◌<◌, ◌+◌, ◌↔◌, true, false, length, take, None, Some, Err};
+ghost use Rattle.e3_disk.specs.Meters.{Keeps};
+ghost use Rattle.e3_law_local.specs.Drafts.{MayTakeAll};
+ghost use Rattle.e3_law_local.specs.Least.{AreFirstTo};
+ghost use Rattle.e3_node.specs.Batched.{NeverFell};
+ghost use Rattle.e3_node.specs.Batches.{BatchEnded};
+ghost use Rattle.e3_node.specs.Bodies.{AllReadBack};
+ghost use Rattle.e3_node.specs.Counting.{count_of};
+ghost use Rattle.e3_node.specs.Ending.{EndsIn, EndsWith, HasGone, Promised, answer_by};
+ghost use Rattle.e3_node.specs.NodeStands.{IsIn, IsUp};
+ghost use Rattle.e3_node.specs.NodeView.{disk_of, is_up_in};
+ghost use Rattle.e3_node.specs.Turns.{history_seen, scenario_seen};
+ghost use Rattle.e3_node.specs.declared.fault.InputFault.TheVariants as input_fault;
+ghost use Rattle.e3_node.specs.declared.state.State.TheVariants as state;
+ghost use Rattle.e3_turn.specs.Passes.{IsIdle, Owns, seen_by};
+ghost use Rattle.e3_types.specs.declared.entries.Why.{Why as Whys};
+ghost use Rattle.e3_wire.specs.Marks.{last_owner, most_of, note_of, used_of};
+ghost use Rattle.e3_wire.specs.Wires.{IsPlayed};
+ghost use Rattle.e3_world.specs.Items.{is_up_at};
+ghost use Rattle.e3_world.specs.Packets.{is_calm, present_items};
+
+use crate::batching::{Batch, enter_steps, plan_all};
+use crate::counting::{Count, count_on};
+use crate::stepping::{fall_of, laid_down};
+use crate::turning::write;
+use crate::{InputFault, State};
+use core::mem::replace_with;
+use e3_disk::Disk;
+use e3_law_begun::{begun_are_transactions, legal_histories_mention_what_stands};
+use e3_law_trails::records_suit_their_site;
+use e3_log::Log;
+use e3_site::Site;
+use e3_types::{Entry, Input, List, Why};
+use e3_wire::{Wire, WirePass};
+use std::alloc::Global;
+use std::sync::Wait;
+
+/// How a batch ended: whether one of its inputs was refused, and whether the site fell over those before that.
+#[derive(Clone, Copy)]
+pub(crate) struct BatchEnd {
+    pub refused: Result<(), InputFault>,
+    pub fell: Option<Why>,
+}
+
+// What is answered of it.
+fn answer_of(end: BatchEnd) -> Result<(), InputFault>
+    ensures { result ≡ answer_by end.refused end.fell }
+{
+    match end.refused {
+        Err(fault) => Err(fault),
+        Ok(()) => match end.fell {
+            None => Ok(()),
+            Some(why) => Err(InputFault::Fell { why }),
+        },
+    }
+}
+
+// The first of these inputs, one for each of the steps.
+fn first_of(inputs: List<Input>, steps: &[Entry]) -> List<Input>
+    ensures { result ≡ take (length steps.now) inputs }
+{
+    let mut first = inputs.into_vec();
+    first.truncate(steps.len());
+    List::from_vec(first)
+}
+
+// A site that is up takes several packets: their steps are planned and their places claimed in one turn, one frame is
+// written outside of it, and the steps are entered in another; or the site falls over all of them.
+fn step_all<R: Wait, D: Disk>(
+    rt: &R,
+    alloc: Global,
+    wire: &Wire,
+    pass: &mut WirePass,
+    number: u32,
+    site: &mut Site,
+    log: &mut Log<D>,
+    count: &mut Count,
+    inputs: List<Input>,
+) -> BatchEnd
+    requires counted { count.old ≡ count_of number (history_seen pass.old) }
+    requires idle { IsIdle wire.now pass.old }
+    requires owns { Owns pass.old number }
+    requires played { IsPlayed (seen_by pass.old) }
+    requires some { 1 ≤ number }
+    requires exists { number ≤ last_owner (seen_by pass.old) }
+    requires up { IsUp D.content D.image D.meters (scenario_seen pass.old) (history_seen pass.old) number site.old log.old }
+    requires restless { is_calm (present_items (scenario_seen pass.old) (history_seen pass.old)) ≡ false }
+    requires due { MayTakeAll (scenario_seen pass.old) (history_seen pass.old) number inputs }
+    requires takes { AreFirstTo (scenario_seen pass.old) (history_seen pass.old) number inputs }
+    requires back { AllReadBack (scenario_seen pass.old) (history_seen pass.old) number }
+    ensures counted { count.new ≡ count_of number (history_seen pass.new) }
+    ensures gone { HasGone wire.now pass.old pass.new }
+    ensures promised { Promised result.fell (length inputs) (note_of number (seen_by pass.old)) (note_of number (seen_by pass.new)) }
+    ensures ended { EndsWith D.content D.image D.meters (scenario_seen pass.old) (history_seen pass.old) (history_seen pass.new) number inputs
+        (state.Up site.old log.old) (state.Up site.new log.new) result.refused result.fell }
+    ensures refused { NeverFell result.refused }
+    ensures never { result.refused ≡ Err input_fault.Down → ⊥ }
+    ensures full { result.refused ≡ Err input_fault.HistoryFull → most_of (seen_by pass.new) ≤ used_of (seen_by pass.new) }
+{
+    legal_histories_mention_what_stands();
+    begun_are_transactions();
+    records_suit_their_site();
+    let mut batch = Batch {
+        steps: Vec::new(alloc),
+        records: List::new(alloc),
+        body: List::new(alloc),
+    };
+    let refused = plan_all(rt, wire, pass, number, site, &mut batch, inputs.as_slice());
+    match write(
+        wire,
+        pass,
+        log,
+        batch.records.as_slice(),
+        batch.body.as_slice(),
+    ) {
+        Ok(()) => {
+            enter_steps(rt, wire, pass, count, batch.steps);
+            BatchEnd {
+                refused,
+                fell: None,
+            }
+        }
+        Err(why) => {
+            let over = first_of(inputs, batch.steps.as_slice());
+            let fall = fall_of(number, over, batch.records, why);
+            count_on(count, &fall.act);
+            wire.commit_entry(rt, pass, fall);
+            BatchEnd {
+                refused,
+                fell: Some(why),
+            }
+        }
+    }
+}
+
+// The packets go to the site where it is up.
+fn step_or_not<R: Wait, D: Disk + Drop>(
+    rt: &R,
+    alloc: Global,
+    wire: &Wire,
+    pass: &mut WirePass,
+    number: u32,
+    state: &mut State<D>,
+    count: &mut Count,
+    inputs: List<Input>,
+) -> BatchEnd
+    requires counted { count.old ≡ count_of number (history_seen pass.old) }
+    requires idle { IsIdle wire.now pass.old }
+    requires owns { Owns pass.old number }
+    requires played { IsPlayed (seen_by pass.old) }
+    requires some { 1 ≤ number }
+    requires exists { number ≤ last_owner (seen_by pass.old) }
+    requires stands { IsIn D.content D.image D.meters (scenario_seen pass.old) (history_seen pass.old) number state.old }
+    requires restless { is_calm (present_items (scenario_seen pass.old) (history_seen pass.old)) ≡ false }
+    requires due { is_up_at (history_seen pass.old) number ≡ true → MayTakeAll (scenario_seen pass.old) (history_seen pass.old) number inputs }
+    requires takes { is_up_at (history_seen pass.old) number ≡ true → AreFirstTo (scenario_seen pass.old) (history_seen pass.old) number inputs }
+    requires back { AllReadBack (scenario_seen pass.old) (history_seen pass.old) number }
+    ensures counted { count.new ≡ count_of number (history_seen pass.new) }
+    ensures gone { HasGone wire.now pass.old pass.new }
+    ensures promised { Promised result.fell (length inputs) (note_of number (seen_by pass.old)) (note_of number (seen_by pass.new)) }
+    ensures ended { EndsIn D.content D.image D.meters (scenario_seen pass.old) (history_seen pass.old) (history_seen pass.new) number inputs
+        state.old state.new result.refused result.fell }
+    ensures down { (result.refused ≡ Err input_fault.Down) ↔ (is_up_at (history_seen pass.old) number ≡ false) }
+    ensures full { result.refused ≡ Err input_fault.HistoryFull → most_of (seen_by pass.new) ≤ used_of (seen_by pass.new) }
+{
+    match state {
+        State::Down(_) => BatchEnd {
+            refused: Err(InputFault::Down),
+            fell: None,
+        },
+        State::Up(site, log) => step_all(rt, alloc, wire, pass, number, site, log, count, inputs),
+    }
+}
+
+// A site that fell is down, over the disk of its log.
+fn settle_batch<D: Disk + Drop>(state: &mut State<D>, fell: Option<Why>)
+    ensures fell { (why : Whys) → fell ≡ Some why → state.new ≡ State.Down (disk_of state.old) }
+    ensures kept { fell ≡ None → state.new ≡ state.old }
+{
+    match fell {
+        None => {}
+        Some(_) => replace_with(state, (), laid_down::<D>),
+    }
+}
+
+/// Several packets go to the site where it is up, by its worker.
+pub(crate) fn take_all<R: Wait, D: Disk + Drop>(
+    rt: &R,
+    alloc: Global,
+    wire: &Wire,
+    pass: &mut WirePass,
+    number: u32,
+    state: &mut State<D>,
+    count: &mut Count,
+    inputs: List<Input>,
+) -> Result<(), InputFault>
+    requires counted { count.old ≡ count_of number (history_seen pass.old) }
+    requires idle { IsIdle wire.now pass.old }
+    requires owns { Owns pass.old number }
+    requires played { IsPlayed (seen_by pass.old) }
+    requires some { 1 ≤ number }
+    requires exists { number ≤ last_owner (seen_by pass.old) }
+    requires stands { IsIn D.content D.image D.meters (scenario_seen pass.old) (history_seen pass.old) number state.old }
+    requires restless { is_calm (present_items (scenario_seen pass.old) (history_seen pass.old)) ≡ false }
+    requires inputs { 1 ≤ length inputs }
+    requires due { is_up_at (history_seen pass.old) number ≡ true → MayTakeAll (scenario_seen pass.old) (history_seen pass.old) number inputs }
+    requires takes { is_up_at (history_seen pass.old) number ≡ true → AreFirstTo (scenario_seen pass.old) (history_seen pass.old) number inputs }
+    requires back { AllReadBack (scenario_seen pass.old) (history_seen pass.old) number }
+    ensures counted { count.new ≡ count_of number (history_seen pass.new) }
+    ensures gone { HasGone wire.now pass.old pass.new }
+    ensures promised { is_up_in state.new ≡ true → note_of number (seen_by pass.new) ≡ note_of number (seen_by pass.old) }
+    ensures places { (note_of number (seen_by pass.new)).places < (note_of number (seen_by pass.old)).places + length inputs }
+    ensures room { (note_of number (seen_by pass.new)).room ≤ (note_of number (seen_by pass.old)).room }
+    ensures stands { IsIn D.content D.image D.meters (scenario_seen pass.old) (history_seen pass.new) number state.new }
+    ensures back { AllReadBack (scenario_seen pass.old) (history_seen pass.new) number }
+    ensures ended { BatchEnded D.meters (scenario_seen pass.old) (history_seen pass.old) (history_seen pass.new) number inputs state.old state.new result }
+    ensures down { (result ≡ Err input_fault.Down) ↔ (is_up_at (history_seen pass.old) number ≡ false) }
+    ensures full { result ≡ Err input_fault.HistoryFull → most_of (seen_by pass.new) ≤ used_of (seen_by pass.new) }
+    ensures keeps { Keeps (D.meters (disk_of state.old)) (D.meters (disk_of state.new)) }
+{
+    let end = step_or_not(rt, alloc, wire, pass, number, state, count, inputs);
+    settle_batch(state, end.fell);
+    answer_of(end)
+}
