@@ -1,6 +1,14 @@
 // What one more step makes of a card.
-ghost use Rattle.std.specs.Prelude.{◌≡◌, IfOk, suc};
-ghost use Rattle.e3_cards.specs.Cards.{card_by};
+ghost use Rattle.std.specs.Prelude.{◌≡◌, ◌++◌, IfOk, fold, suc};
+ghost use Rattle.std.specs.List.{flat_map};
+ghost use Rattle.e3_world.specs.Operations.{issued_in, reason_in};
+ghost use Rattle.e3_world.specs.Rounds.{round_by};
+ghost use Rattle.e3_world.specs.Votes.{yes_by};
+ghost use Rattle.e3_cards.specs.Arriving.{came_by, heard_in, taken_now};
+ghost use Rattle.e3_cards.specs.Cards.{card_by, moment_of, moment_with};
+ghost use Rattle.e3_cards.specs.Electing.{election_now};
+ghost use Rattle.e3_cards.specs.Issued.{counted_in, number_told};
+ghost use Rattle.e3_cards.specs.Seeing.{seen_by};
 
 use crate::arriving::{add_came, add_heard, taken_now};
 use crate::card::Card;
@@ -9,8 +17,95 @@ use crate::gathering::{rounds_now, yes_now};
 use crate::issued::{add_counted, add_issued, add_numbers, add_reasons};
 use crate::seen::seen_behind;
 use e3_types::{NoMemory, Txn};
-use e3_world::SiteStep;
+use e3_world::{Rounds, SiteStep};
 use std::alloc::Global;
+
+// The operation that a step takes up.
+fn and_came(site: u32, t: &Txn, step: &SiteStep, card: &mut Card) -> Result<(), NoMemory>
+    ensures { IfOk result (λ u. card.new ≡ record card.old {
+      came = came_by card.old.seen card.old.came (taken_now site t.now card.old.issued step.now.input step.now.told);
+    }) }
+{
+    let seen = card.seen;
+    let taken = taken_now(
+        site,
+        t,
+        card.issued.as_slice(),
+        &step.input,
+        step.told.as_slice(),
+    )?;
+    add_came(&seen, taken, &mut card.came)
+}
+
+// The operation that a step takes up, and the answers that it shows.
+fn and_arrived(site: u32, t: &Txn, step: &SiteStep, card: &mut Card) -> Result<(), NoMemory>
+    ensures { IfOk result (λ u. card.new ≡ record card.old {
+      came = came_by card.old.seen card.old.came (taken_now site t.now card.old.issued step.now.input step.now.told);
+      heard = card.old.heard ++ heard_in t.now step.now.told step.now.outs;
+    }) }
+{
+    and_came(site, t, step, card)?;
+    add_heard(
+        t,
+        step.told.as_slice(),
+        step.outs.as_slice(),
+        &mut card.heard,
+    )
+}
+
+// The operation that a step issues, the answers that it tells and that count, and the reasons that it tells.
+fn and_issued(t: &Txn, step: &SiteStep, card: &mut Card) -> Result<(), NoMemory>
+    ensures { IfOk result (λ u. card.new ≡ record card.old {
+      issued = card.old.issued ++ issued_in t.now step.now.input step.now.told;
+      answered = card.old.answered ++ flat_map (number_told t.now) step.now.told;
+      counted = card.old.counted ++ counted_in t.now step.now.input step.now.told;
+      reasons = card.old.reasons ++ flat_map (reason_in t.now) step.now.told;
+    }) }
+{
+    let events = step.told.as_slice();
+    add_issued(t, &step.input, events, &mut card.issued)?;
+    add_numbers(t, events, &mut card.answered)?;
+    add_counted(t, &step.input, events, &mut card.counted)?;
+    add_reasons(t, events, &mut card.reasons)
+}
+
+// What the log says behind a step, and the votes, the election and the round in progress.
+fn and_gathered(
+    alloc: Global,
+    site: u32,
+    inc: u32,
+    calls: u32,
+    t: &Txn,
+    step: &SiteStep,
+    card: &mut Card,
+) -> Result<(), NoMemory>
+    ensures { IfOk result (λ u. card.new ≡ record card.old {
+      seen = fold (seen_by t.now) card.old.seen step.now.records;
+      yes = yes_by t.now card.old.yes (moment_with step.now.input step.now.told);
+      election = election_now site (record { inc = inc; seq = suc calls }) t.now card.old.seen card.old.election step.now;
+      rounds = round_by site t.now card.old.rounds (moment_of step.now);
+    }) }
+{
+    let seen = card.seen;
+    let rounds = Rounds {
+        group: card.rounds.group,
+        now: card.rounds.now.take(),
+    };
+    card.yes = yes_now(alloc, t, card.yes.take(), &step.input, step.told.as_slice())?;
+    card.election = election_now(
+        alloc,
+        site,
+        inc,
+        calls,
+        t,
+        &seen,
+        card.election.take(),
+        step,
+    )?;
+    card.rounds = rounds_now(alloc, site, t, rounds, step)?;
+    card.seen = seen_behind(t, seen, step.records.as_slice());
+    Ok(())
+}
 
 /// What a step makes of a card, where a site of this incarnation took so many Elects before.
 pub fn step_card(
@@ -24,26 +119,9 @@ pub fn step_card(
 ) -> Result<Card, NoMemory>
     ensures { IfOk result (λ card. card ≡ card_by site (record { inc = inc; seq = suc calls }) t.now was step.now) }
 {
-    let events = step.told.as_slice();
     let mut card = was;
-    let seen = card.seen;
-    let taken = taken_now(site, t, card.issued.as_slice(), &step.input, events)?;
-    add_came(&seen, taken, &mut card.came)?;
-    add_issued(t, &step.input, events, &mut card.issued)?;
-    add_numbers(t, events, &mut card.answered)?;
-    add_counted(t, &step.input, events, &mut card.counted)?;
-    add_reasons(t, events, &mut card.reasons)?;
-    add_heard(t, events, step.outs.as_slice(), &mut card.heard)?;
-    Ok(Card {
-        seen: seen_behind(t, seen, step.records.as_slice()),
-        issued: card.issued,
-        answered: card.answered,
-        counted: card.counted,
-        reasons: card.reasons,
-        came: card.came,
-        heard: card.heard,
-        yes: yes_now(alloc, t, card.yes, &step.input, events)?,
-        election: election_now(alloc, site, inc, calls, t, &seen, card.election, step)?,
-        rounds: rounds_now(alloc, site, t, card.rounds, step)?,
-    })
+    and_arrived(site, t, step, &mut card)?;
+    and_issued(t, step, &mut card)?;
+    and_gathered(alloc, site, inc, calls, t, step, &mut card)?;
+    Ok(card)
 }

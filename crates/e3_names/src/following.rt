@@ -1,9 +1,9 @@
-// Whether records may follow a log, by the cards.
+// Whether a record may follow a log, by the cards.
 ghost use Rattle.std.specs.Prelude.{◌≡◌};
 ghost use Rattle.e3_world.specs.declared.lives.At.{At};
 ghost use Rattle.e3_world.specs.Logs.{is_undecided};
 ghost use Rattle.e3_cards.specs.Tables.{CardsStand};
-ghost use Rattle.e3_places.specs.Standing.{may_follow, follow};
+ghost use Rattle.e3_places.specs.Standing.{may_follow};
 
 use e3_cards::Cards;
 use e3_types::{Record, Txn};
@@ -23,15 +23,5 @@ pub fn may_follow(cards: &Cards, r: &Record) -> bool
         Record::Vote { txn, .. } => is_open(cards, txn),
         Record::Decision { txn, .. } => is_open(cards, txn),
         _ => true,
-    }
-}
-
-/// The records may follow the log: none is a birth, and none votes for or decides a transaction that the log decides.
-pub fn follow(cards: &Cards, records: &[Record]) -> bool
-    ensures { (a : At) → CardsStand a.site cards.now a.life → result ≡ follow a.life.log records.now }
-{
-    match records {
-        [] => true,
-        [r, rest @ ..] => may_follow(cards, r) && follow(cards, rest),
     }
 }

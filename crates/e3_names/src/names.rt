@@ -1,5 +1,5 @@
 // What a site knows of names, read and changed with what its cards tell.
-ghost use Rattle.std.specs.Prelude.{◌≡◌, ℕ, IfOk, OnOk};
+ghost use Rattle.std.specs.Prelude.{◌≡◌, ℕ, IfOk, OnOk, true};
 ghost use Rattle.e3_types.specs.Locks.{lock_grant};
 ghost use Rattle.e3_world.specs.declared.lives.At.{At};
 ghost use Rattle.e3_world.specs.declared.lives.Life.{Life};
@@ -9,12 +9,11 @@ ghost use Rattle.e3_world.specs.Logs.{key_of, table_of, row_value};
 ghost use Rattle.e3_world.specs.Making.{grants_after, log_now};
 ghost use Rattle.e3_world.specs.Operations.{holders, queue, waiting};
 ghost use Rattle.e3_cards.specs.Tables.{CardsStand};
-ghost use Rattle.e3_places.specs.Standing.{lock_for};
+ghost use Rattle.e3_places.specs.Standing.{follow, lock_for};
 ghost use Rattle.e3_places.specs.Keeping.{HasRoom};
 ghost use Rattle.e3_names.specs.Knowing.{NamesStand, AreBehind};
 
 use crate::arriving::fresh;
-use crate::following::follow;
 use e3_cards::Cards;
 use e3_places as places;
 use e3_places::{Changes, Places};
@@ -36,47 +35,28 @@ pub struct NamesBehind {
     pub restless: List<Name>,
 }
 
-/// What the lock rule answers to a request, with the step's records. NoMemory comes also where these may not follow the log.
-pub fn lock(
-    alloc: Global,
-    cards: &Cards,
-    names: &Names,
-    q: &Asked,
-    made: &Made,
-) -> Result<Grant, NoMemory>
+/// What the lock rule answers to a request, with the step's records.
+pub fn lock(alloc: Global, names: &Names, q: &Asked, made: &Made) -> Result<Grant, NoMemory>
     ghost a: { At }
-    requires cards { CardsStand a.site cards.now a.life }
     requires names { NamesStand a.site names.now a.life }
+    requires follow { follow a.life.log made.now.records ≡ true }
     ensures { IfOk result (λ g. g ≡ lock_grant (lock_for q.now) (holders a.site (key_of q.now.op).name (log_now a made.now) a.life.steps)
         (queue (key_of q.now.op).name (waiting a.site (log_now a made.now) a.life.steps))) }
 {
-    if !follow(cards, made.records.as_slice()) {
-        return Err(NoMemory);
-    }
     places::lock(alloc, &names.places, q, made)
 }
 
-/// The value of a name in the table, with the step's records. NoMemory comes also where these may not follow the log.
-pub fn row(
-    alloc: Global,
-    cards: &Cards,
-    names: &Names,
-    name: &Name,
-    made: &Made,
-) -> Result<Answer, NoMemory>
+/// The value of a name in the table, with the step's records.
+pub fn row(alloc: Global, names: &Names, name: &Name, made: &Made) -> Result<Answer, NoMemory>
     ghost a: { At }
-    requires cards { CardsStand a.site cards.now a.life }
     requires names { NamesStand a.site names.now a.life }
+    requires follow { follow a.life.log made.now.records ≡ true }
     ensures { IfOk result (λ x. x ≡ row_value name.now (table_of (log_now a made.now))) }
 {
-    if !follow(cards, made.records.as_slice()) {
-        return Err(NoMemory);
-    }
     places::row(alloc, &names.places, name, made)
 }
 
-/// The requests that are granted behind the step so far, where a decision has freed locks. NoMemory comes also where the
-/// step's records may not follow the log.
+/// The requests that are granted behind the step so far, where a decision has freed locks.
 pub fn grants_after(
     alloc: Global,
     cards: &Cards,
@@ -88,27 +68,23 @@ pub fn grants_after(
     requires cards { CardsStand a.site cards.now a.life }
     requires names { NamesStand a.site names.now a.life }
     requires input { input.now ≡ a.input }
+    requires follow { follow a.life.log made.now.records ≡ true }
     ensures { IfOk result (λ out. out ≡ grants_after a made.now) }
 {
-    if !follow(cards, made.records.as_slice()) {
-        return Err(NoMemory);
-    }
     let new = fresh(alloc, cards, input, made.told.as_slice())?;
     places::grants_after(alloc, &names.places, names.restless.as_slice(), &new, made)
 }
 
-/// What a step makes of what is known of names. NoMemory comes also where the step's records may not follow the log.
+/// What a step makes of what is known of names, where its records may follow the log.
 pub fn behind(
     alloc: Global,
     cards: &Cards,
     names: &Names,
     step: &SiteStep,
 ) -> Result<NamesBehind, NoMemory>
-    ensures { IfOk result (λ b. (a : At) → CardsStand a.site cards.now a.life → NamesStand a.site names.now a.life → AreBehind a.site names.now a.life step.now b) }
+    ensures { IfOk result (λ b. (a : At) → CardsStand a.site cards.now a.life → NamesStand a.site names.now a.life → follow a.life.log step.now.records ≡ true
+        → AreBehind a.site names.now a.life step.now b) }
 {
-    if !follow(cards, step.records.as_slice()) {
-        return Err(NoMemory);
-    }
     let new = fresh(alloc, cards, &step.input, step.told.as_slice())?;
     let changes = places::changes_of(
         alloc,

@@ -2,3 +2,4 @@ pub mod Recalled
 pub mod Readying
 mod Undecided
 pub mod Known
+pub mod Following

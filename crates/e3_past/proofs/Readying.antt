@@ -88,8 +88,8 @@ act_alike old new behind same names are opens = record {
   };
   are = λ site life s h b. record {
     cards_are = same_changes old.cards new.cards s behind.cards same b.cards_are;
-    names_are = λ n l cards known.
-        are n l s (b.names_are n l (stood_too n old.cards new.cards l same cards) (names_stood old.names new.names names site life h.names_stand n l known));
+    names_are = λ n l cards known may.
+        are n l s (b.names_are n l (stood_too n old.cards new.cards l same cards) (names_stood old.names new.names names site life h.names_stand n l known) may);
     opens_are = λ n l cards. b.opens_are n l (stood_too n old.cards new.cards l same cards);
   };
 }

@@ -1,21 +1,22 @@
 -- What a step makes of the tables of a site.
-use Rattle.std.specs.Prelude.{ℕ}
+use Rattle.std.specs.Prelude.{◌≡◌, ℕ, true}
 use Rattle.e3_world.specs.declared.lives.Life.{Life}
 use Rattle.e3_world.specs.declared.lives.SiteStep.{SiteStep}
 use Rattle.e3_cards.specs.Tables.{AreChanges, CardsStand, HasRoom as HasCards}
 use Rattle.e3_names.specs.Knowing.{AreBehind, NamesStand}
 use Rattle.e3_places.specs.Keeping.{HasRoom as HasPlaces}
+use Rattle.e3_places.specs.Standing.{follow}
 use Rattle.e3_past.specs.declared.tables.Behind.{Behind}
 use Rattle.e3_past.specs.declared.tables.Tables.{Tables}
 use Rattle.e3_past.specs.Opening.{AreAdded, HaveRoom}
 use Rattle.e3_past.specs.Standing.{TablesStand}
 
 -- it is what the step makes of just these tables: of the cards, and at every life for which these stand, of what is known of
--- names and of what is open
+-- names, where the step's records may follow the log, and of what is open
 pub record IsBehind (tables : Tables) (s : SiteStep) (behind : Behind) : Type 0 where
   pub cards_are : AreChanges tables.cards s behind.cards
   pub names_are : (site : ℕ) (life : Life) → CardsStand site tables.cards life → NamesStand site tables.names life
-      → AreBehind site tables.names life s behind.names
+      → follow life.log s.records ≡ true → AreBehind site tables.names life s behind.names
   pub opens_are : (site : ℕ) (life : Life) → CardsStand site tables.cards life → AreAdded site life s behind.opens
 
 -- there is room for all of it

@@ -29,8 +29,8 @@ impl Whose for Brand {
     ghost place = { record { weights = []; site = 0; life = record { log = []; inc = 0; steps = [] }; input = Begin [] } };
 }
 
-// A past over tables that stand for it. Readings of names give NoMemory where the records of the step so far may not follow
-// the log. Those of the rules always may: `steps_may_follow_the_log` of e3_law_follow.
+// A past over tables that stand for it. Readings of names ask that the records of the step so far may follow the log, as those
+// of each step of the definitions may: `steps_may_follow_the_log` of e3_law_follow.
 #[derive(Drop)]
 struct Reader<'a, K: Whose> {
     weights: &'a [u32],
@@ -147,7 +147,7 @@ impl<'a, K: Whose> Past for Reader<'a, K> {
     }
 
     fn row(&self, alloc: Global, name: &Name, made: &Made) -> Result<Answer, NoMemory> {
-        names::row(alloc, self.cards, self.names, name, made)
+        names::row(alloc, self.names, name, made)
     }
 
     fn answer(&self, alloc: Global, q: &Asked) -> Result<Option<Answer>, NoMemory> {
@@ -166,7 +166,7 @@ impl<'a, K: Whose> Past for Reader<'a, K> {
     }
 
     fn lock(&self, alloc: Global, q: &Asked, made: &Made) -> Result<Grant, NoMemory> {
-        names::lock(alloc, self.cards, self.names, q, made)
+        names::lock(alloc, self.names, q, made)
     }
 
     fn grants_after(&self, alloc: Global, made: &Made) -> Result<List<Asked>, NoMemory> {

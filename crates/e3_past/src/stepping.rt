@@ -1,7 +1,8 @@
 // What a step makes of the tables of a site.
-ghost use Rattle.std.specs.Prelude.{ℕ, IfOk, OnOk};
+ghost use Rattle.std.specs.Prelude.{◌≡◌, ℕ, IfOk, OnOk, true};
 ghost use Rattle.e3_world.specs.declared.lives.Life.{Life};
 ghost use Rattle.e3_world.specs.Lives.{life_by};
+ghost use Rattle.e3_places.specs.Standing.{follow};
 ghost use Rattle.e3_past.specs.Standing.{TablesStand};
 ghost use Rattle.e3_past.specs.Stepping.{ActAlike, HasRoom, IsBehind};
 
@@ -13,8 +14,7 @@ use e3_types::NoMemory;
 use e3_world::SiteStep;
 use std::alloc::Global;
 
-/// What a step makes of the tables. It reads them alone, and changes none. NoMemory comes also where the step's records may
-/// not follow the log. Those of the rules always may: `steps_may_follow_the_log` of e3_law_follow.
+/// What a step makes of the tables. It reads them alone, and changes none.
 pub fn behind(alloc: Global, tables: &Tables, step: &SiteStep) -> Result<Behind, NoMemory>
     ensures { IfOk result (IsBehind tables.now step.now) }
 {
@@ -39,11 +39,13 @@ pub fn ready(alloc: Global, tables: &mut Tables, behind: &Behind) -> Result<(), 
     ready_opens(&mut tables.opens, &behind.opens)
 }
 
-/// Puts what a step makes in its place: the tables are those of the life with that step. It takes no memory.
+/// Puts what a step makes in its place: the tables are those of the life with that step, where the step's records may follow
+/// the log. Those of the rules always may: `steps_may_follow_the_log` of e3_law_follow. It takes no memory.
 pub fn apply(tables: &mut Tables, step: &SiteStep, behind: Behind)
     requires are { IsBehind tables.old step.now behind }
     requires room { HasRoom tables.old behind }
-    ensures { (site : ℕ) (life : Life) → TablesStand site life tables.old → TablesStand site (life_by life step.now) tables.new }
+    ensures { (site : ℕ) (life : Life) → TablesStand site life tables.old → follow life.log step.now.records ≡ true
+        → TablesStand site (life_by life step.now) tables.new }
 {
     names::apply(&mut tables.names, behind.names);
     apply_opens(&mut tables.opens, step, behind.opens);

@@ -49,7 +49,7 @@ fn has_quorum<P: Past>(alloc: Global, p: &P, t: &Txn, r: &Round) -> Result<bool,
     ensures { IfOk result (λ b. b ≡ is_quorum (P.at p.now).weights ((P.at p.now).site ∷ r.now.acked) t.now.sites) }
 {
     let members = with_own(alloc, p.site(), r.acked.as_slice())?;
-    is_quorum(p.weights(), members.as_slice(), t.sites)
+    Ok(is_quorum(p.weights(), members.as_slice(), t.sites))
 }
 
 /// An acknowledgement of site f in the round in progress: with a quorum the site decides.

@@ -2,6 +2,7 @@
 ghost use Rattle.std.specs.Prelude.{◌≡◌, IfOk, drop, fold};
 ghost use Rattle.std.specs.List.{list_any};
 ghost use Rattle.e3_world.specs.Making.{decides, and_grant, and_grants};
+ghost use Rattle.e3_step.specs.SoFar.{IsSoFar};
 
 use crate::making::and_do;
 use crate::past::Past;
@@ -28,6 +29,7 @@ fn grant_all<P: Past>(
     asked: &[Asked],
     made: &mut Made,
 ) -> Result<(), NoMemory>
+    requires { IsSoFar (P.at p.now) made.old }
     ensures { IfOk result (λ u. made.new ≡ fold (and_grant (P.at p.now)) made.old asked.now) }
 {
     for q in asked {
@@ -38,6 +40,7 @@ fn grant_all<P: Past>(
 
 /// Where a rule recorded a decision behind the first so many records, the requests that this grants are done.
 pub fn and_grants<P: Past>(alloc: Global, p: &P, seen: u64, made: &mut Made) -> Result<(), NoMemory>
+    requires { IsSoFar (P.at p.now) made.old }
     ensures { IfOk result (λ u. made.new ≡ and_grants (P.at p.now) seen made.old) }
 {
     if has_decision(made.records.as_slice(), seen) {

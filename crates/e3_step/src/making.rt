@@ -4,6 +4,7 @@ ghost use Rattle.e3_types.specs.Quorums.{is_quorum};
 ghost use Rattle.e3_types.specs.Sets.{others};
 ghost use Rattle.e3_world.specs.Logs.{decision, attempted, has_voted};
 ghost use Rattle.e3_world.specs.Making.{nothing, log_now, steps_now, state_now, open_now, elected_now, attempt_now, is_coordinator, is_present, may_abort, may_decide, may_attempt, and_record, and_tell, and_send, and_cast, and_decide, and_abort, and_abort_for, go_on, and_attempt, and_vote, own_write, answer_now, and_do};
+ghost use Rattle.e3_step.specs.SoFar.{IsSoFar};
 
 use crate::past::Past;
 use crate::weights::is_quorum;
@@ -248,7 +249,7 @@ pub fn go_on<P: Past>(
 ) -> Result<(), NoMemory>
     ensures { IfOk result (λ u. made.new ≡ go_on (P.at p.now) t.now n dir to made.old) }
 {
-    if is_quorum(p.weights(), &[p.site()], t.sites)? {
+    if is_quorum(p.weights(), &[p.site()], t.sites) {
         and_decide(p, t, dir, made)?;
         and_cast(p, to, &Message::Decide { txn: *t, dir }, made)
     } else {
@@ -304,6 +305,7 @@ pub fn answer_now<P: Past>(
     op: &Op,
     made: &Made,
 ) -> Result<Answer, NoMemory>
+    requires { IsSoFar (P.at p.now) made.now }
     ensures { IfOk result (λ x. x ≡ answer_now (P.at p.now) t.now op.now made.now) }
 {
     match op {
@@ -324,6 +326,7 @@ pub fn and_do<P: Past>(
     op: &Op,
     made: &mut Made,
 ) -> Result<(), NoMemory>
+    requires { IsSoFar (P.at p.now) made.old }
     ensures { IfOk result (λ u. made.new ≡ and_do (P.at p.now) t.now n op.now made.old) }
 {
     let answer = answer_now(alloc, p, t, op, made)?;

@@ -2,6 +2,7 @@
 ghost use Rattle.std.specs.Prelude.{◌≡◌, IfOk};
 ghost use Rattle.e3_types.specs.declared.messages.Message.TheVariants as msg;
 ghost use Rattle.e3_world.specs.Messages.{on_message};
+ghost use Rattle.e3_step.specs.SoFar.{IsSoFar};
 
 use crate::attempt_rules::{on_ack, on_pre};
 use crate::election_rules::{on_elected, on_last, on_report};
@@ -65,6 +66,7 @@ pub fn on_message<P: Past>(
     m: &Message,
     made: &mut Made,
 ) -> Result<(), NoMemory>
+    requires { IsSoFar (P.at p.now) made.old }
     ensures { IfOk result (λ u. made.new ≡ on_message (P.at p.now) f m.now made.old) }
 {
     match m {

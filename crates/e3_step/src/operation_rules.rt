@@ -4,6 +4,7 @@ ghost use Rattle.e3_types.specs.declared.entries.Told.TheVariants as told;
 ghost use Rattle.e3_types.specs.declared.messages.Message.TheVariants as msg;
 ghost use Rattle.e3_types.specs.declared.transactions.Dir.TheVariants.{Abort};
 ghost use Rattle.e3_step.specs.Asking.{by_grant, asked_by, on_asked};
+ghost use Rattle.e3_step.specs.SoFar.{IsSoFar};
 ghost use Rattle.e3_world.specs.Making.{is_coordinator, may_abort, and_tell, and_send, and_decide, and_abort_for};
 ghost use Rattle.e3_world.specs.OperationRules.{on_do, on_done, on_died};
 
@@ -35,6 +36,7 @@ fn by_grant<P: Past>(
     grant: Grant,
     made: &mut Made,
 ) -> Result<(), NoMemory>
+    requires { IsSoFar (P.at p.now) made.old }
     ensures { IfOk result (λ u. made.new ≡ by_grant (P.at p.now) q.now made.old grant) }
 {
     match grant {
@@ -52,6 +54,7 @@ fn unless_waiting<P: Past>(
     grant: Grant,
     made: &mut Made,
 ) -> Result<(), NoMemory>
+    requires { IsSoFar (P.at p.now) made.old }
     ensures { IfOk result (λ u. made.new ≡ (if waits then made.old else by_grant (P.at p.now) q.now made.old grant)) }
 {
     if waits {
@@ -70,6 +73,7 @@ fn asked_by<P: Past>(
     grant: Grant,
     made: &mut Made,
 ) -> Result<(), NoMemory>
+    requires { IsSoFar (P.at p.now) made.old }
     ensures { IfOk result (λ u. made.new ≡ asked_by (P.at p.now) q.now made.old found waits grant) }
 {
     match found {
@@ -89,6 +93,7 @@ fn asked_by<P: Past>(
 }
 
 fn on_asked<P: Past>(alloc: Global, p: &P, q: &Asked, made: &mut Made) -> Result<(), NoMemory>
+    requires { IsSoFar (P.at p.now) made.old }
     ensures { IfOk result (λ u. made.new ≡ on_asked (P.at p.now) q.now made.old) }
 {
     let found = p.answer(alloc, q)?;
@@ -107,6 +112,7 @@ pub fn on_do<P: Past>(
     op: &Op,
     made: &mut Made,
 ) -> Result<(), NoMemory>
+    requires { IsSoFar (P.at p.now) made.old }
     ensures { IfOk result (λ u. made.new ≡ on_do (P.at p.now) f t.now n op.now made.old) }
 {
     match state_now(p, t, made) {

@@ -11,6 +11,7 @@ ghost use Rattle.e3_world.specs.Rounds.{round_in_progress};
 ghost use Rattle.e3_world.specs.Steps.{is_begin};
 ghost use Rattle.e3_step.specs.Asking.{is_waiting, lock_now, waits_now};
 ghost use Rattle.e3_step.specs.Reading.{first_of, has_every_yes, is_awaited, own_value, row_now};
+ghost use Rattle.e3_step.specs.SoFar.{IsSoFar};
 
 use e3_types::{Answer, Call, Dir, Grant, Input, List, Name, NoMemory, Refusal, Txn};
 use e3_world::{Asked, Election, Expected, Made, Performed, Round};
@@ -18,7 +19,7 @@ use std::alloc::Global;
 
 /// What the rules of a step read of a site's past, each reading as the definitions have it at one place, which `at`
 /// names: the site with its life before the step, and the input. Where a reading takes the step so far, its records and
-/// answers count too. Want of memory is the only error; a number past the greatest of its type is want of memory too.
+/// answers count too; those of names ask that it be the step that is made at this place, as far as it is made. Want of memory is the only error; a number past the greatest of its type is want of memory too.
 pub trait Past {
     /// The place where the step is made.
     ghost at: { Self → At };
@@ -103,6 +104,7 @@ pub trait Past {
 
     /// The value of the name in the table, with the step's records.
     fn row(&self, alloc: Global, name: &Name, made: &Made) -> Result<Answer, NoMemory>
+        requires { IsSoFar (at self.now) made.now }
         ensures { IfOk result (λ x. x ≡ row_now (at self.now) name.now made.now) };
 
     /// The first answer to this operation before the step, if it was answered.
@@ -119,10 +121,12 @@ pub trait Past {
 
     /// What the lock rule answers to this request, with the step's records.
     fn lock(&self, alloc: Global, q: &Asked, made: &Made) -> Result<Grant, NoMemory>
+        requires { IsSoFar (at self.now) made.now }
         ensures { IfOk result (λ g. g ≡ lock_now (at self.now) q.now made.now) };
 
     /// The requests that are granted now, name by name, where a decision has freed locks.
     fn grants_after(&self, alloc: Global, made: &Made) -> Result<List<Asked>, NoMemory>
+        requires { IsSoFar (at self.now) made.now }
         ensures { IfOk result (λ out. out ≡ grants_after (at self.now) made.now) };
 
     /// The votes of the transaction are being gathered, and with the step so far the yes of every other site came.

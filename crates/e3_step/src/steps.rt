@@ -1,10 +1,12 @@
 // What a step of a site does: the records, packets and events of an input, read off the site's own past alone.
 ghost use Rattle.std.specs.Prelude.{◌≡◌, ◌∷◌, [], IfOk, Option, fold, suc, length};
 ghost use Rattle.e3_world.specs.Making.{nothing, and_send};
+ghost use Rattle.e3_types.specs.declared.entries.Input.TheVariants as input;
 ghost use Rattle.e3_types.specs.declared.messages.Message.TheVariants as msg;
 ghost use Rattle.e3_world.specs.Logs.{key_of};
 ghost use Rattle.e3_world.specs.Operations.{issued};
 ghost use Rattle.e3_world.specs.Steps.{refuse_late, refuse, or_refused, on_begin, and_ask, on_commit, on_expire, on_elect, on_input, handled, settle, step_at};
+ghost use Rattle.e3_step.specs.SoFar.{IsSoFar};
 
 use crate::election_rules::and_join;
 use crate::grants::and_grants;
@@ -209,34 +211,67 @@ fn on_operation<P: Past>(
     )
 }
 
+// A call for an operation, by a step that made nothing yet.
+fn take_do<P: Past>(alloc: Global, p: &P, t: &Txn, op: &Op, made: &mut Made) -> Result<(), NoMemory>
+    requires { made.old ≡ nothing }
+    ensures { IfOk result (λ u. made.new ≡ on_input (P.at p.now) (input.Do t.now op.now) nothing) }
+{
+    match refuse(alloc, p, t, false, made)? {
+        Some(refusal) => and_tell(Told::Refused { txn: *t, refusal }, made),
+        None => on_operation(alloc, p, t, op, made),
+    }
+}
+
+// A call for a commit.
+fn take_commit<P: Past>(alloc: Global, p: &P, t: &Txn, made: &mut Made) -> Result<(), NoMemory>
+    requires { made.old ≡ nothing }
+    ensures { IfOk result (λ u. made.new ≡ on_input (P.at p.now) (input.Commit t.now) nothing) }
+{
+    match refuse(alloc, p, t, false, made)? {
+        Some(refusal) => and_tell(Told::Refused { txn: *t, refusal }, made),
+        None => on_commit(alloc, p, t, made),
+    }
+}
+
+// A call for a cancel.
+fn take_cancel<P: Past>(alloc: Global, p: &P, t: &Txn, made: &mut Made) -> Result<(), NoMemory>
+    requires { made.old ≡ nothing }
+    ensures { IfOk result (λ u. made.new ≡ on_input (P.at p.now) (input.Cancel t.now) nothing) }
+{
+    match refuse(alloc, p, t, true, made)? {
+        Some(refusal) => and_tell(Told::Refused { txn: *t, refusal }, made),
+        None => and_abort(p, t, made),
+    }
+}
+
+// Any input.
+fn take<P: Past>(alloc: Global, p: &P, input: &Input, made: &mut Made) -> Result<(), NoMemory>
+    requires { made.old ≡ nothing }
+    ensures { IfOk result (λ u. made.new ≡ on_input (P.at p.now) input.now nothing) }
+{
+    match input {
+        Input::Begin { sites } => on_begin(p, *sites, made),
+        Input::Do { txn, op } => take_do(alloc, p, txn, op, made),
+        Input::Commit { txn } => take_commit(alloc, p, txn, made),
+        Input::Cancel { txn } => take_cancel(alloc, p, txn, made),
+        Input::Expire { txn } => on_expire(p, txn, made),
+        Input::Elect { txn, group } => on_elect(alloc, p, txn, *group, made),
+        Input::Deliver { packet } => on_message(alloc, p, packet.from, &packet.msg, made),
+    }
+}
+
 /// Each input, by a step that made nothing yet.
 pub fn on_input<P: Past>(alloc: Global, p: &P, input: &Input) -> Result<Made, NoMemory>
     ensures { IfOk result (λ made. made ≡ on_input (P.at p.now) input.now nothing) }
 {
     let mut made = nothing(alloc);
-    match input {
-        Input::Begin { sites } => on_begin(p, *sites, &mut made)?,
-        Input::Do { txn, op } => match refuse(alloc, p, txn, false, &made)? {
-            Some(refusal) => and_tell(Told::Refused { txn: *txn, refusal }, &mut made)?,
-            None => on_operation(alloc, p, txn, op, &mut made)?,
-        },
-        Input::Commit { txn } => match refuse(alloc, p, txn, false, &made)? {
-            Some(refusal) => and_tell(Told::Refused { txn: *txn, refusal }, &mut made)?,
-            None => on_commit(alloc, p, txn, &mut made)?,
-        },
-        Input::Cancel { txn } => match refuse(alloc, p, txn, true, &made)? {
-            Some(refusal) => and_tell(Told::Refused { txn: *txn, refusal }, &mut made)?,
-            None => and_abort(p, txn, &mut made)?,
-        },
-        Input::Expire { txn } => on_expire(p, txn, &mut made)?,
-        Input::Elect { txn, group } => on_elect(alloc, p, txn, *group, &mut made)?,
-        Input::Deliver { packet } => on_message(alloc, p, packet.from, &packet.msg, &mut made)?,
-    }
+    take(alloc, p, input, &mut made)?;
     Ok(made)
 }
 
 /// One message of a step to its own site.
 pub fn handled<P: Past>(alloc: Global, p: &P, m: &Message, made: &mut Made) -> Result<(), NoMemory>
+    requires { IsSoFar (P.at p.now) (handled (P.at p.now) made.old m.now) }
     ensures { IfOk result (λ u. made.new ≡ handled (P.at p.now) made.old m.now) }
 {
     let seen = made.records.len();
@@ -247,6 +282,7 @@ pub fn handled<P: Past>(alloc: Global, p: &P, m: &Message, made: &mut Made) -> R
 
 /// The messages that wait in the step, the first first; those that they make wait behind them.
 pub fn settle_once<P: Past>(alloc: Global, p: &P, made: &mut Made) -> Result<(), NoMemory>
+    requires { IsSoFar (P.at p.now) (fold (handled (P.at p.now)) (record made.old { own = [] }) made.old.own) }
     ensures { IfOk result (λ u. made.new ≡ fold (handled (P.at p.now)) (record made.old { own = [] }) made.old.own) }
 {
     let own = mem::replace(&mut made.own, List::new(alloc));

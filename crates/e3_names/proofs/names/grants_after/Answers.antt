@@ -1,16 +1,12 @@
 use Rattle.std.proofs.Common.{sym, subst, ℕ, List}
 use Rattle.e3_places.specs.Granting.{RestlessStand, step_so_far}
-use Rattle.e3_names.proofs.Knowing.{may_be}
 use Rattle.e3_names.proofs.names.grants_after.Goals as goal
 
 pub grants_after-requires : goal.grants_after-requires
 grants_after-requires g c = (
   c.requires.1.0.places_stand,
   (
-    subst (λ (l : List (List ℕ)). RestlessStand g.a.site l g.a.life) (sym c.as_slice-3.ensures) c.requires.1.0.restless_stand,
-    (
-      c.in_ok-new.ensures g.a (step_so_far g.a c.args.made.now) c.requires.0 (sym c.requires.1.1) (sym c.as_slice-2.ensures),
-      may_be c.args.cards.now c.as_slice.result.now c.args.made.now.records c.follow.result c.follow.ensures c.as_slice.ensures c.if-not-follow.false g.a c.requires.0,
-    ),
+    subst (λ (l : List (List ℕ)). RestlessStand g.a.site l g.a.life) (sym c.as_slice-2.ensures) c.requires.1.0.restless_stand,
+    (c.in_ok-new.ensures g.a (step_so_far g.a c.args.made.now) c.requires.0 (sym c.requires.1.1.0) (sym c.as_slice.ensures), c.requires.1.1.1),
   ),
 )
