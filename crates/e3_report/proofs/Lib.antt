@@ -1,4 +1,5 @@
 pub mod Maps
+pub mod KeyOrder
 pub mod Naming
 pub mod Ordering
 pub mod Tabling

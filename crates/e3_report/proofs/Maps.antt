@@ -99,6 +99,7 @@ four false b c d = refl
 
 -- transactions of the same numbers
 pub txn_same : (q t : Txn) → same_numbers (numbers_of q) (numbers_of t) ≡ same_txn q t
+unfolding numbers_of
 txn_same q t = four (q.site == t.site) (q.inc == t.inc) (q.seq == t.seq) (same_numbers q.sites t.sites)
 
 -- one more transaction of a set

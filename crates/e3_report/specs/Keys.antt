@@ -9,7 +9,7 @@ use Rattle.std.specs.Ordering.{nat_cmp}
 use Rattle.e3_types.specs.declared.transactions.Txn.{Txn}
 
 -- the numbers that make a transaction, its sites last
-abbrev pub numbers_of : Txn → List ℕ
+unfoldable pub numbers_of : Txn → List ℕ
 numbers_of t = t.site ∷ t.inc ∷ t.seq ∷ t.sites
 
 -- the transaction is one of these

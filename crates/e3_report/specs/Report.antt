@@ -15,7 +15,7 @@ use Rattle.e3_world.specs.Serial.{commit_order}
 use Rattle.e3_lines.specs.Records.{record_lines, row_line}
 use Rattle.e3_report.specs.Steps.{start_lines, steps_after}
 use Rattle.e3_lines.specs.Texts.{line_end, txn_text}
-use Rattle.e3_trace_lines.specs.Entries.{trace_of}
+use Rattle.e3_lines.specs.Entries.{trace_of}
 
 -- a transaction's line
 unfoldable pub txn_line : Txn → List ℕ

@@ -16,6 +16,8 @@ use Rattle.e3_types.specs.Same.{same_txn}
 use Rattle.e3_world.specs.Moves.{Placed, trail_of, all_records}
 use Rattle.e3_world.specs.Serial.{commit_order}
 use Rattle.e3_lines.specs.Texts.{line_end}
+use Rattle.e3_report.specs.declared.summing.Kind.{Kind}
+use Rattle.e3_report.specs.declared.summing.Kind.TheVariants as kind
 
 -- these transactions, each once
 abbrev pub each_once : List Txn → List Txn
@@ -65,6 +67,13 @@ abbrev pub is_rise : Act → Bool
 is_rise (Rise kept inc) = true
 is_rise _ = false
 
+-- whether an act is of a kind
+abbrev pub is_kind : Kind → Act → Bool
+is_kind kind.Step act = is_step act
+is_kind kind.Cut act = is_cut act
+is_kind kind.Fall act = is_fall act
+is_kind kind.Rise act = is_rise act
+
 -- how many entries of a kind there are
 abbrev pub count_of : (Act → Bool) → List Entry → ℕ
 count_of is history = count_by (λ e. is e.act) history
@@ -73,16 +82,20 @@ count_of is history = count_by (λ e. is e.act) history
 unfoldable pub count_line : List ℕ → ℕ → List ℕ
 count_line word number = word ++ codes " " ++ decimal number ++ line_end
 
+-- The summary with this number and these counts of transactions: how many are committed, are aborted, and were begun.
+abbrev pub summary_with : ℕ → ℕ → ℕ → ℕ → List Entry → List ℕ
+summary_with n ended stopped started history =
+    count_line (codes "drill") n ++ count_line (codes "steps") (count_of is_step history)
+    ++ count_line (codes "committed") ended ++ count_line (codes "aborted") stopped
+    ++ count_line (codes "undecided") (started - (ended + stopped))
+    ++ count_line (codes "cuts") (count_of is_cut history) ++ count_line (codes "falls") (count_of is_fall history)
+    ++ count_line (codes "rises") (count_of is_rise history) ++ codes "end" ++ line_end
+
 -- The summary of the drill with this number, where these are the records of all logs: its number; how many steps began;
 -- how many transactions are committed, are aborted, and were begun and are neither; how many cuts, falls and rises there
 -- were; and `end`.
 abbrev pub summary_over : ℕ → List Placed → List Entry → List ℕ
-summary_over n records history =
-    count_line (codes "drill") n ++ count_line (codes "steps") (count_of is_step history)
-    ++ count_line (codes "committed") (committed records) ++ count_line (codes "aborted") (aborted records)
-    ++ count_line (codes "undecided") (begun history - (committed records + aborted records))
-    ++ count_line (codes "cuts") (count_of is_cut history) ++ count_line (codes "falls") (count_of is_fall history)
-    ++ count_line (codes "rises") (count_of is_rise history) ++ codes "end" ++ line_end
+summary_over n records history = summary_with n (committed records) (aborted records) (begun history) history
 
 -- the summary of the drill with this number, and with this scenario and history
 abbrev pub summary_of : ℕ → Scenario → List Entry → List ℕ

@@ -1,7 +1,8 @@
 -- How the records of all logs are gathered in one walk over a history.
-use Rattle.std.specs.Prelude.{◌++◌, ◌∷◌, [], ◌==◌, List, ℕ, Bool, true, false, fold, map, filter, unwrap_or}
+use Rattle.std.specs.Prelude.{◌++◌, ◌∷◌, [], ◌==◌, List, ℕ, Bool, true, false, codes, fold, map, filter, unwrap_or}
 use Rattle.std.specs.BTreeMap.{insert_entry}
 use Rattle.std.specs.BTreeSet.{insert_key}
+use Rattle.std.specs.List.{flat_map}
 use Rattle.std.specs.Ordering.{nat_cmp}
 use Rattle.e3_types.specs.declared.entries.Act.{Act}
 use Rattle.e3_types.specs.declared.entries.Act.TheVariants.{Step, Fall, Rise, RiseFall}
@@ -12,8 +13,11 @@ use Rattle.e3_types.specs.declared.records.Record.{Record}
 use Rattle.e3_types.specs.declared.records.Record.TheVariants as log
 use Rattle.e3_types.specs.declared.scenarios.Scenario.{Scenario}
 use Rattle.e3_world.specs.Moves.{Placed, own, birth}
+use Rattle.e3_world.specs.Packets.{all_sites}
+use Rattle.e3_lines.specs.Texts.{line_end}
 use Rattle.e3_report.specs.Keys.{at_number, has_number}
-use Rattle.e3_report.specs.Report.{present_inc, site_heading, log_lines}
+use Rattle.e3_report.specs.Report.{present_inc, site_heading, log_lines, order_lines}
+use Rattle.e3_report.specs.Steps.{start_lines, steps_after}
 
 -- the records of all logs in the order of their places, the records in doubt at the sites, and the sites whose logs have
 -- records
@@ -97,3 +101,9 @@ walk_of sc history = fold (λ w e. walk_act sc e.owner w e.act) no_walk history
 -- how a site stands, read off the records of all logs
 unfoldable pub site_by : List Entry → List Placed → ℕ → List ℕ
 site_by history placed site = site_heading site (present_inc (own site history)) ++ log_lines (log_in site placed)
+
+-- the report, read off the records of all logs
+unfoldable pub report_by : Scenario → List Entry → List Placed → List ℕ
+report_by sc history placed =
+    start_lines sc history ++ steps_after sc [] history ++ order_lines placed
+    ++ flat_map (site_by history placed) (all_sites sc) ++ codes "end" ++ line_end

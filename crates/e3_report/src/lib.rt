@@ -2,6 +2,7 @@
 #![tactic(auto)]
 
 mod counts;
+mod ends;
 mod keys;
 mod logs;
 mod names;

@@ -1,6 +1,7 @@
 // The committed transactions, in the order of their last votes.
-ghost use Rattle.std.specs.Prelude.{◌≡◌, ◌++◌, IfOk, OnOk};
+ghost use Rattle.std.specs.Prelude.{◌≡◌, ◌++◌, IfOk, OnOk, codes};
 ghost use Rattle.std.specs.List.{flat_map};
+ghost use Rattle.e3_lines.specs.Texts.{line_end};
 ghost use Rattle.e3_world.specs.Serial.{commit_order};
 ghost use Rattle.e3_report.specs.Orders.{with_commit, commits_of, with_vote, last_vote, backward};
 ghost use Rattle.e3_report.specs.Report.{txn_line, order_lines};
@@ -12,14 +13,14 @@ use e3_types::{Dir, List, NoMemory, Record, Txn};
 use std::alloc::Global;
 
 /// One more record, which may be a commit.
-fn note_commit(alloc: Global, committed: &mut TxnSet, r: &Record) -> Result<(), NoMemory>
+fn note_commit(committed: &mut TxnSet, r: &Record) -> Result<(), NoMemory>
     ensures { OnOk result (committed.new ≡ with_commit committed.old r.now) }
 {
     match r {
         Record::Decision {
             txn,
             dir: Dir::Commit,
-        } => committed.add(alloc, txn),
+        } => committed.add(txn),
         _ => Ok(()),
     }
 }
@@ -30,7 +31,7 @@ fn commits_of(alloc: Global, placed: &[SiteRecord]) -> Result<TxnSet, NoMemory>
 {
     let mut committed = TxnSet::new(alloc);
     for p in placed {
-        note_commit(alloc, &mut committed, p.entered())?;
+        note_commit(&mut committed, p.entered())?;
     }
     Ok(committed)
 }
@@ -38,7 +39,6 @@ fn commits_of(alloc: Global, placed: &[SiteRecord]) -> Result<TxnSet, NoMemory>
 /// One more record before those that were seen. The transaction of a vote is found where it is committed and this is its
 /// last vote.
 fn note_vote(
-    alloc: Global,
     committed: &TxnSet,
     later: &mut TxnSet,
     found: &mut List<Txn>,
@@ -49,10 +49,10 @@ fn note_vote(
 {
     match r {
         Record::Vote { txn, .. } => {
-            if committed.has(alloc, txn)? && !later.has(alloc, txn)? {
+            if committed.has(txn) && !later.has(txn) {
                 found.push(*txn)?;
             }
-            later.add(alloc, txn)
+            later.add(txn)
         }
         _ => Ok(()),
     }
@@ -65,13 +65,7 @@ fn backward(alloc: Global, committed: &TxnSet, placed: &[SiteRecord]) -> Result<
     let mut later = TxnSet::new(alloc);
     let mut found = List::new(alloc);
     for at in (0..placed.len()).rev() {
-        note_vote(
-            alloc,
-            committed,
-            &mut later,
-            &mut found,
-            placed[at].entered(),
-        )?;
+        note_vote(committed, &mut later, &mut found, placed[at].entered())?;
     }
     Ok(found)
 }
@@ -104,6 +98,15 @@ fn push_txns(out: &mut List<u8>, txns: &[Txn]) -> Result<(), NoMemory>
     Ok(())
 }
 
+/// Adds `order` and these transactions.
+fn push_ordered(out: &mut List<u8>, txns: &[Txn]) -> Result<(), NoMemory>
+    ensures { OnOk result (out.new ≡ out.old ++ (codes "order" ++ line_end ++ flat_map txn_line txns.now)) }
+{
+    push_text(out, "order")?;
+    push_line_end(out)?;
+    push_txns(out, txns)
+}
+
 /// Adds the committed transactions.
 #[tactic(auto, unfolding(crate::specs::Report::order_lines))]
 pub(crate) fn push_order(
@@ -114,7 +117,5 @@ pub(crate) fn push_order(
     ensures { OnOk result (out.new ≡ out.old ++ order_lines placed.now) }
 {
     let txns = commit_order(alloc, placed)?;
-    push_text(out, "order")?;
-    push_line_end(out)?;
-    push_txns(out, txns.as_slice())
+    push_ordered(out, txns.as_slice())
 }

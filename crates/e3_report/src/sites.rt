@@ -1,11 +1,14 @@
 // The part of a report that tells how each site stands.
-ghost use Rattle.std.specs.Prelude.{◌≡◌, ◌++◌, Option, OnOk, fold};
+ghost use Rattle.std.specs.Prelude.{◌≡◌, ◌++◌, [], Option, OnOk, codes, fold};
+ghost use Rattle.std.specs.List.{flat_map};
+ghost use Rattle.e3_lines.specs.Records.{record_lines, row_line};
+ghost use Rattle.e3_lines.specs.Texts.{line_end};
 ghost use Rattle.e3_world.specs.Moves.{own};
 ghost use Rattle.e3_report.specs.Report.{inc_by, present_inc, site_heading, log_lines};
 
 use crate::tables::table_of;
 use e3_lines::{push_labelled, push_line_end, push_number, push_records, push_rows, push_text};
-use e3_types::{Act, Entry, List, NoMemory, Record};
+use e3_types::{Act, Entry, List, NoMemory, Record, Row};
 use std::alloc::Global;
 
 fn inc_by(was: Option<u32>, act: &Act) -> Option<u32>
@@ -57,16 +60,30 @@ pub(crate) fn push_site_heading(
     }
 }
 
+/// Adds `log` and these records.
+fn push_logged(out: &mut List<u8>, log: &[Record]) -> Result<(), NoMemory>
+    ensures { OnOk result (out.new ≡ out.old ++ (codes "log" ++ line_end ++ flat_map (record_lines []) log.now)) }
+{
+    push_text(out, "log")?;
+    push_line_end(out)?;
+    push_records(out, "", log)
+}
+
+/// Adds `rows` and these rows.
+fn push_table(out: &mut List<u8>, table: &[Row]) -> Result<(), NoMemory>
+    ensures { OnOk result (out.new ≡ out.old ++ (codes "rows" ++ line_end ++ flat_map row_line table.now)) }
+{
+    push_text(out, "rows")?;
+    push_line_end(out)?;
+    push_rows(out, table)
+}
+
 /// Adds a log and its table.
 #[tactic(auto, unfolding(crate::specs::Report::log_lines))]
 pub(crate) fn push_log(alloc: Global, out: &mut List<u8>, log: &[Record]) -> Result<(), NoMemory>
     ensures { OnOk result (out.new ≡ out.old ++ log_lines log.now) }
 {
+    push_logged(out, log)?;
     let table = table_of(alloc, log)?;
-    push_text(out, "log")?;
-    push_line_end(out)?;
-    push_records(out, "", log)?;
-    push_text(out, "rows")?;
-    push_line_end(out)?;
-    push_rows(out, table.as_slice())
+    push_table(out, table.as_slice())
 }

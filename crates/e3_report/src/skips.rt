@@ -147,6 +147,37 @@ fn add_site(earlier: &mut List<u32>, taker: &Taker) -> Result<(), NoMemory>
     }
 }
 
+/// Adds a line where an item with this taker is skipped, and its site to those of the items before.
+fn push_taken(
+    out: &mut List<u8>,
+    during: &[Entry],
+    earlier: &mut List<u32>,
+    taker: &Taker,
+) -> Result<(), NoMemory>
+    ensures text { OnOk result (out.new ≡ out.old ++ input_skip during.now earlier.old taker.now) }
+    ensures sites { OnOk result (earlier.new ≡ earlier.old ++ sites_of taker.now) }
+{
+    push_input_skip(out, during, earlier.as_slice(), taker)?;
+    add_site(earlier, taker)
+}
+
+/// Adds a line where this item is skipped, and its site to those of the items before.
+fn push_skip(
+    out: &mut List<u8>,
+    names: &Names,
+    ups: &BTreeSet<u32>,
+    during: &[Entry],
+    earlier: &mut List<u32>,
+    item: &Item,
+) -> Result<(), NoMemory>
+    ensures text { OnOk result (out.new ≡ out.old ++ (power_skip (up_in ups.now.keys) item.now ++ input_skip during.now earlier.old (taker_of (meant names.now) item.now))) }
+    ensures sites { OnOk result (earlier.new ≡ earlier.old ++ sites_of (taker_of (meant names.now) item.now)) }
+{
+    push_power_skip(out, ups, item)?;
+    let taker = taker_of(names, item);
+    push_taken(out, during, earlier, &taker)
+}
+
 /// Adds a line for each item that is skipped, where these names are bound and these sites are up.
 pub(crate) fn push_skips(
     alloc: Global,
@@ -160,10 +191,7 @@ pub(crate) fn push_skips(
 {
     let mut earlier = List::new(alloc);
     for item in items {
-        let taker = taker_of(names, item);
-        push_power_skip(out, ups, item)?;
-        push_input_skip(out, during, earlier.as_slice(), &taker)?;
-        add_site(&mut earlier, &taker)?;
+        push_skip(out, names, ups, during, &mut earlier, item)?;
     }
     Ok(())
 }

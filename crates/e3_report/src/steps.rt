@@ -1,9 +1,9 @@
 // The part of a report that tells of the start and of the steps.
-ghost use Rattle.std.specs.Prelude.{◌≡◌, ◌++◌, [], ◌∷◌, OnOk};
+ghost use Rattle.std.specs.Prelude.{◌≡◌, ◌++◌, [], ◌∷◌, ℕ, OnOk};
 ghost use Rattle.std.specs.List.{flat_map};
 ghost use Rattle.e3_world.specs.Packets.{is_line};
-ghost use Rattle.e3_report.specs.Names.{meant};
-ghost use Rattle.e3_report.specs.Ups.{up_in};
+ghost use Rattle.e3_report.specs.Names.{meant, naming_by};
+ghost use Rattle.e3_report.specs.Ups.{up_in, up_with};
 ghost use Rattle.e3_report.specs.Steps.{until_line, site_events, event_lines, start_lines, step_heading, step_lines, lines_by, steps_after};
 
 use crate::names::{Names, step_items};
@@ -127,6 +127,25 @@ fn push_by_line(
     }
 }
 
+/// One more entry, which may bind a name and take a site up or down: adds the step that it begins.
+fn push_entered(
+    alloc: Global,
+    out: &mut List<u8>,
+    scenario: &Scenario,
+    names: &mut Names,
+    ups: &mut BTreeSet<u32>,
+    entry: &Entry,
+    rest: &[Entry],
+) -> Result<(), NoMemory>
+    ensures names { OnOk result (names.new ≡ naming_by scenario.now names.old entry.now) }
+    ensures ups { OnOk result ((site : ℕ) → up_in ups.new.keys site ≡ up_with site entry.now (up_in ups.old.keys site)) }
+    ensures text { OnOk result (out.new ≡ out.old ++ lines_by (meant names.new) (up_in ups.new.keys) scenario.now entry.now.act rest.now) }
+{
+    names.enter(alloc, scenario, entry)?;
+    enter_up(ups, entry)?;
+    push_by_line(alloc, out, scenario, names, ups, &entry.act, rest)
+}
+
 /// Adds all steps.
 pub(crate) fn push_steps(
     alloc: Global,
@@ -140,15 +159,13 @@ pub(crate) fn push_steps(
     let mut ups = BTreeSet::new(alloc);
     for at in 0..history.len() {
         let entry = &history[at];
-        names.enter(alloc, scenario, entry)?;
-        enter_up(&mut ups, entry)?;
-        push_by_line(
+        push_entered(
             alloc,
             out,
             scenario,
-            &names,
-            &ups,
-            &entry.act,
+            &mut names,
+            &mut ups,
+            entry,
             &history[at + 1..],
         )?;
     }

@@ -1,9 +1,10 @@
 // The summary of a drill.
-ghost use Rattle.std.specs.Prelude.{◌≡◌, ◌++◌, ◌+◌, ◌-◌, IfOk, OnOk, codes, count_by};
+ghost use Rattle.std.specs.Prelude.{◌≡◌, ◌++◌, ◌+◌, ◌-◌, IfOk, OnOk, codes};
 ghost use Rattle.e3_world.specs.Moves.{all_records, trail_of};
-ghost use Rattle.e3_report.specs.Summary.{is_step, is_cut, is_fall, is_rise, count_of, committed, aborted, begun, count_line, summary_over, summary_of};
+ghost use Rattle.e3_report.specs.Summary.{is_cut, is_fall, is_rise, is_kind, count_of, committed, aborted, begun, count_line, summary_with, summary_over, summary_of};
 
 use crate::counts::one_more;
+use crate::ends::push_end;
 use crate::logs::{SiteRecord, walk_of};
 use crate::orders::commit_order;
 use crate::tallies::{aborted, begun};
@@ -12,72 +13,33 @@ use e3_types::{Act, Entry, List, NoMemory, Scenario};
 use e3_world::History;
 use std::alloc::Global;
 
-fn is_step(act: &Act) -> bool
-    ensures { result ≡ is_step act.now }
-{
-    matches!(act, Act::Line { .. })
+/// The kinds of entries that are counted.
+#[derive(Clone, Copy)]
+pub(crate) enum Kind {
+    Step,
+    Cut,
+    Fall,
+    Rise,
 }
 
-fn is_cut(act: &Act) -> bool
-    ensures { result ≡ is_cut act.now }
+fn is_kind(kind: Kind, act: &Act) -> bool
+    ensures { result ≡ is_kind kind act.now }
 {
-    matches!(act, Act::Cut)
-}
-
-fn is_fall(act: &Act) -> bool
-    ensures { result ≡ is_fall act.now }
-{
-    matches!(act, Act::Fall { .. })
-}
-
-fn is_rise(act: &Act) -> bool
-    ensures { result ≡ is_rise act.now }
-{
-    matches!(act, Act::Rise { .. })
-}
-
-fn steps_in(history: &[Entry]) -> Result<u64, NoMemory>
-    ensures { IfOk result (λ n. n ≡ count_of is_step history.now) }
-{
-    let mut n = 0;
-    for e in history {
-        if is_step(&e.act) {
-            n = one_more(n)?;
-        }
+    match kind {
+        Kind::Step => matches!(act, Act::Line { .. }),
+        Kind::Cut => matches!(act, Act::Cut),
+        Kind::Fall => matches!(act, Act::Fall { .. }),
+        Kind::Rise => matches!(act, Act::Rise { .. }),
     }
-    Ok(n)
 }
 
-fn cuts_in(history: &[Entry]) -> Result<u64, NoMemory>
-    ensures { IfOk result (λ n. n ≡ count_of is_cut history.now) }
+/// How many entries of a kind there are.
+fn count_of(kind: Kind, history: &[Entry]) -> Result<u64, NoMemory>
+    ensures { IfOk result (λ n. n ≡ count_of (is_kind kind) history.now) }
 {
     let mut n = 0;
     for e in history {
-        if is_cut(&e.act) {
-            n = one_more(n)?;
-        }
-    }
-    Ok(n)
-}
-
-fn falls_in(history: &[Entry]) -> Result<u64, NoMemory>
-    ensures { IfOk result (λ n. n ≡ count_of is_fall history.now) }
-{
-    let mut n = 0;
-    for e in history {
-        if is_fall(&e.act) {
-            n = one_more(n)?;
-        }
-    }
-    Ok(n)
-}
-
-fn rises_in(history: &[Entry]) -> Result<u64, NoMemory>
-    ensures { IfOk result (λ n. n ≡ count_of is_rise history.now) }
-{
-    let mut n = 0;
-    for e in history {
-        if is_rise(&e.act) {
+        if is_kind(kind, &e.act) {
             n = one_more(n)?;
         }
     }
@@ -109,6 +71,56 @@ fn push_count(out: &mut List<u8>, word: &str, number: u64) -> Result<(), NoMemor
     push_line_end(out)
 }
 
+/// Adds how many entries of a kind there are, behind a word.
+fn push_kind(out: &mut List<u8>, word: &str, kind: Kind, history: &[Entry]) -> Result<(), NoMemory>
+    ensures { OnOk result (out.new ≡ out.old ++ count_line word.now (count_of (is_kind kind) history.now)) }
+{
+    push_count(out, word, count_of(kind, history)?)
+}
+
+/// Adds how many transactions are committed, are aborted, and were begun and are neither.
+fn push_transactions(
+    out: &mut List<u8>,
+    committed: u64,
+    aborted: u64,
+    begun: u64,
+) -> Result<(), NoMemory>
+    ensures { OnOk result (out.new ≡ out.old ++ (count_line (codes "committed") committed ++ count_line (codes "aborted") aborted
+        ++ count_line (codes "undecided") (begun - (committed + aborted)))) }
+{
+    push_count(out, "committed", committed)?;
+    push_count(out, "aborted", aborted)?;
+    push_count(out, "undecided", undecided(begun, committed, aborted))
+}
+
+/// Adds how many cuts, falls and rises there were.
+fn push_faults(out: &mut List<u8>, history: &[Entry]) -> Result<(), NoMemory>
+    ensures { OnOk result (out.new ≡ out.old ++ (count_line (codes "cuts") (count_of is_cut history.now)
+        ++ count_line (codes "falls") (count_of is_fall history.now) ++ count_line (codes "rises") (count_of is_rise history.now))) }
+{
+    push_kind(out, "cuts", Kind::Cut, history)?;
+    push_kind(out, "falls", Kind::Fall, history)?;
+    push_kind(out, "rises", Kind::Rise, history)
+}
+
+/// Adds the summary, where this is what is counted of transactions.
+fn push_summary(
+    out: &mut List<u8>,
+    n: u32,
+    committed: u64,
+    aborted: u64,
+    begun: u64,
+    history: &[Entry],
+) -> Result<(), NoMemory>
+    ensures { OnOk result (out.new ≡ out.old ++ summary_with n committed aborted begun history.now) }
+{
+    push_count(out, "drill", n as u64)?;
+    push_kind(out, "steps", Kind::Step, history)?;
+    push_transactions(out, committed, aborted, begun)?;
+    push_faults(out, history)?;
+    push_end(out)
+}
+
 fn summary_over(
     alloc: Global,
     n: u32,
@@ -121,16 +133,7 @@ fn summary_over(
     let aborted = aborted(alloc, placed)?;
     let begun = begun(alloc, history)?;
     let mut out = List::new(alloc);
-    push_count(&mut out, "drill", n as u64)?;
-    push_count(&mut out, "steps", steps_in(history)?)?;
-    push_count(&mut out, "committed", committed)?;
-    push_count(&mut out, "aborted", aborted)?;
-    push_count(&mut out, "undecided", undecided(begun, committed, aborted))?;
-    push_count(&mut out, "cuts", cuts_in(history)?)?;
-    push_count(&mut out, "falls", falls_in(history)?)?;
-    push_count(&mut out, "rises", rises_in(history)?)?;
-    push_text(&mut out, "end")?;
-    push_line_end(&mut out)?;
+    push_summary(&mut out, n, committed, aborted, begun, history)?;
     Ok(out)
 }
 

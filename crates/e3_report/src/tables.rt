@@ -133,7 +133,7 @@ impl Table {
                 txn,
                 dir: Dir::Commit,
             } => {
-                self.install(votes.ops_of(alloc, txn)?)?;
+                self.install(votes.ops_of(txn))?;
                 Ok(true)
             }
             _ => Ok(true),
@@ -175,13 +175,13 @@ impl Votes {
     }
 
     /// The operations of all votes of a transaction.
-    fn ops_of(&self, alloc: Global, txn: &Txn) -> Result<&[NumOp], NoMemory>
-        ensures { IfOk result (λ ops. ops.now ≡ ops_in self.now txn.now) }
+    fn ops_of(&self, txn: &Txn) -> &[NumOp]
+        ensures { result.now ≡ ops_in self.now txn.now }
     {
-        let key = TxnKey::of(alloc, txn)?;
+        let key = TxnKey::of(txn);
         match self.ops.get(&key) {
-            Some(ops) => Ok(ops.as_slice()),
-            None => Ok(&[]),
+            Some(ops) => ops.as_slice(),
+            None => &[],
         }
     }
 
@@ -200,7 +200,7 @@ impl Votes {
     fn vote(&mut self, alloc: Global, txn: &Txn, ops: &[NumOp]) -> Result<(), NoMemory>
         ensures { OnOk result ((key : List ℕ) → ops_at self.new key ≡ ops_with txn.now ops.now key (ops_at self.old key)) }
     {
-        let key = TxnKey::of(alloc, txn)?;
+        let key = TxnKey::of(txn);
         let mut all = self.take(alloc, &key);
         add_ops(alloc, &mut all, ops)?;
         match self.ops.insert(key, all) {

@@ -36,53 +36,53 @@ impl Tally {
         }
     }
 
-    fn add(&mut self, alloc: Global, txn: &Txn) -> Result<(), NoMemory>
+    fn add(&mut self, txn: &Txn) -> Result<(), NoMemory>
         ensures { OnOk result (self.new ≡ tallied self.old txn.now) }
     {
-        if self.seen.has(alloc, txn)? {
+        if self.seen.has(txn) {
             return Ok(());
         }
-        self.seen.add(alloc, txn)?;
+        self.seen.add(txn)?;
         self.count = one_more(self.count)?;
         Ok(())
     }
 
-    fn add_abort(&mut self, alloc: Global, r: &Record) -> Result<(), NoMemory>
+    fn add_abort(&mut self, r: &Record) -> Result<(), NoMemory>
         ensures { OnOk result (self.new ≡ all_tallied self.old (aborted_by r.now)) }
     {
         match r {
             Record::Decision {
                 txn,
                 dir: Dir::Abort,
-            } => self.add(alloc, txn),
+            } => self.add(txn),
             _ => Ok(()),
         }
     }
 
-    fn add_begun(&mut self, alloc: Global, event: &Told) -> Result<(), NoMemory>
+    fn add_begun(&mut self, event: &Told) -> Result<(), NoMemory>
         ensures { OnOk result (self.new ≡ all_tallied self.old (begun_by event.now)) }
     {
         match event {
-            Told::Began { txn } => self.add(alloc, txn),
+            Told::Began { txn } => self.add(txn),
             _ => Ok(()),
         }
     }
 
     #[tactic(auto, using(crate::proofs::Tallying::tallied_each))]
-    fn add_all_begun(&mut self, alloc: Global, events: &[Told]) -> Result<(), NoMemory>
+    fn add_all_begun(&mut self, events: &[Told]) -> Result<(), NoMemory>
         ensures { OnOk result (self.new ≡ all_tallied self.old (flat_map begun_by events.now)) }
     {
         for event in events {
-            self.add_begun(alloc, event)?;
+            self.add_begun(event)?;
         }
         Ok(())
     }
 
-    fn add_act(&mut self, alloc: Global, act: &Act) -> Result<(), NoMemory>
+    fn add_act(&mut self, act: &Act) -> Result<(), NoMemory>
         ensures { OnOk result (self.new ≡ all_tallied self.old (flat_map begun_by (events_of act.now))) }
     {
         match act {
-            Act::Step { told, .. } => self.add_all_begun(alloc, told.as_slice()),
+            Act::Step { told, .. } => self.add_all_begun(told.as_slice()),
             _ => Ok(()),
         }
     }
@@ -95,7 +95,7 @@ pub(crate) fn aborted(alloc: Global, placed: &[SiteRecord]) -> Result<u64, NoMem
 {
     let mut tally = Tally::new(alloc);
     for p in placed {
-        tally.add_abort(alloc, p.entered())?;
+        tally.add_abort(p.entered())?;
     }
     Ok(tally.count)
 }
@@ -107,7 +107,7 @@ pub(crate) fn begun(alloc: Global, history: &[Entry]) -> Result<u64, NoMemory>
 {
     let mut tally = Tally::new(alloc);
     for e in history {
-        tally.add_act(alloc, &e.act)?;
+        tally.add_act(&e.act)?;
     }
     Ok(tally.count)
 }

@@ -3,14 +3,14 @@ ghost use Rattle.std.specs.Prelude.{◌≡◌, ◌++◌, IfOk, OnOk};
 ghost use Rattle.std.specs.List.{flat_map};
 ghost use Rattle.e3_world.specs.Packets.{all_sites};
 ghost use Rattle.e3_report.specs.Report.{plain_report_of, trace_lines, report_of};
-ghost use Rattle.e3_report.specs.Walk.{site_by};
+ghost use Rattle.e3_report.specs.Walk.{site_by, report_by};
 
+use crate::ends::push_end;
 use crate::logs::{SiteRecord, log_in, walk_of};
 use crate::orders::push_order;
 use crate::sites::{present_inc, push_log, push_site_heading};
 use crate::steps::{push_start, push_steps};
-use e3_lines::{push_line_end, push_text};
-use e3_trace_lines::push_trace;
+use e3_lines::push_trace;
 use e3_types::{Entry, List, NoMemory, Scenario};
 use e3_world::History;
 use std::alloc::Global;
@@ -26,8 +26,8 @@ fn push_site(
 ) -> Result<(), NoMemory>
     ensures { OnOk result (out.new ≡ out.old ++ site_by history.now placed.now site) }
 {
-    let log = log_in(alloc, site, placed)?;
     push_site_heading(out, site, present_inc(site, history))?;
+    let log = log_in(alloc, site, placed)?;
     push_log(alloc, out, log.as_slice())
 }
 
@@ -49,18 +49,30 @@ fn push_all_sites(
     Ok(())
 }
 
+/// Adds the report, where these are the records of all logs.
+#[tactic(auto, unfolding(crate::specs::Walk::report_by))]
+fn push_report(
+    alloc: Global,
+    out: &mut List<u8>,
+    scenario: &Scenario,
+    history: &[Entry],
+    placed: &[SiteRecord],
+) -> Result<(), NoMemory>
+    ensures { OnOk result (out.new ≡ out.old ++ report_by scenario.now history.now placed.now) }
+{
+    push_start(out, scenario, history)?;
+    push_steps(alloc, out, scenario, history)?;
+    push_order(alloc, out, placed)?;
+    push_all_sites(alloc, out, scenario, history, placed)?;
+    push_end(out)
+}
+
 fn plain_report(alloc: Global, scenario: &Scenario, history: &[Entry]) -> Result<List<u8>, NoMemory>
     ensures { IfOk result (λ text. text ≡ plain_report_of scenario.now history.now) }
 {
     let walk = walk_of(alloc, scenario, history)?;
-    let placed = walk.placed();
     let mut out = List::new(alloc);
-    push_start(&mut out, scenario, history)?;
-    push_steps(alloc, &mut out, scenario, history)?;
-    push_order(alloc, &mut out, placed)?;
-    push_all_sites(alloc, &mut out, scenario, history, placed)?;
-    push_text(&mut out, "end")?;
-    push_line_end(&mut out)?;
+    push_report(alloc, &mut out, scenario, history, walk.placed())?;
     Ok(out)
 }
 
@@ -71,8 +83,7 @@ fn push_trace_lines(out: &mut List<u8>, history: &[Entry], trace: bool) -> Resul
 {
     if trace {
         push_trace(out, history)?;
-        push_text(out, "end")?;
-        push_line_end(out)
+        push_end(out)
     } else {
         Ok(())
     }
