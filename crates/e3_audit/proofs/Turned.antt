@@ -18,7 +18,7 @@ use Rattle.e3_net.specs.Traffic.{Traffic, packet_to, takes}
 use Rattle.e3_net.proofs.Keeping.{drop_keeps, fall_keeps, parts_keep, quiet_keeps}
 use Rattle.e3_net.proofs.Showing.{taken_is_pending}
 use Rattle.e3_site.specs.SiteView.{SiteView}
-use Rattle.e3_restart.specs.Rebuilt.{StandsForEach}
+use Rattle.e3_site.specs.Rebuilt.{StandsForEach}
 use Rattle.e3_site.specs.StandsFor.{StandsFor}
 use Rattle.e3_world.specs.Items.{is_up_at}
 use Rattle.e3_world.specs.Legal.{Guard, IsDrop, IsDue, IsLegal, made_by}

@@ -12,9 +12,8 @@ ghost use Rattle.e3_world.specs.Packets.{is_calm, step_items};
 
 use crate::auditor::Auditor;
 use crate::seat::{Seat, are_done};
-use e3_histories::{due_round, is_calm};
 use e3_items::step_items;
-use e3_judge::{Same, is_round};
+use e3_judge::{Same, due_round, is_calm, is_round};
 use e3_net::Net;
 use e3_types::{Entry, Input, NoMemory, Packet, Scenario, SiteSet, Txn};
 use std::alloc::Global;

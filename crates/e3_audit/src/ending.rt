@@ -7,8 +7,8 @@ ghost use Rattle.e3_world.specs.Legal.{begins_with_parts, is_made, is_through};
 
 use crate::auditor::Auditor;
 use crate::seat::{are_done, have_risen};
-use e3_histories::{due_round, is_up_at, may_rise, since_line};
 use e3_items::step_items;
+use e3_judge::{due_round, is_up_at, may_rise, since_line};
 use e3_types::{Act, Entry, Item, NoMemory, Scenario};
 use std::alloc::Global;
 

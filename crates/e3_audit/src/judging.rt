@@ -5,8 +5,7 @@ ghost use Rattle.e3_judge.specs.Claims.{IsBreach};
 ghost use Rattle.e3_world.specs.Legal.{IsLegal, IsWhole, is_through};
 
 use crate::walking::{Walked, walk};
-use e3_histories::{is_through, lines};
-use e3_judge::{Breach, judge_behind};
+use e3_judge::{Breach, is_through, judge_behind, lines};
 use e3_types::{Entry, NoMemory, Scenario};
 use e3_world::History;
 use std::alloc::Global;

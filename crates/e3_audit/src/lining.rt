@@ -7,10 +7,10 @@ ghost use Rattle.e3_world.specs.Legal.{IsLine};
 
 use crate::auditor::Auditor;
 use crate::seat::Seat;
-use e3_histories::is_calm;
-use e3_items::{inputs_asked, inputs_to, step_items};
+use e3_items::{BoundNames, inputs_asked, inputs_to, step_items};
+use e3_judge::is_calm;
 use e3_types::{Entry, Input, List, NoMemory, Scenario};
-use e3_world::{Addressed, Binding};
+use e3_world::Addressed;
 use std::alloc::Global;
 
 // A step begins, which asks these inputs of the site.
@@ -86,7 +86,7 @@ impl Auditor {
         alloc: Global,
         scenario: &Scenario,
         before: &[Entry],
-        binding: &Binding,
+        binding: &BoundNames,
         number: u32,
     ) -> Result<bool, NoMemory>
         requires stands { Stands scenario.now before.now self.old }
@@ -98,7 +98,7 @@ impl Auditor {
             return Ok(false);
         }
         let items = step_items(scenario, number as u64);
-        let asked = inputs_asked(alloc, binding.bound.as_slice(), items)?;
+        let asked = inputs_asked(alloc, binding, items)?;
         self.begin(alloc, scenario, before, number, asked.as_slice())?;
         Ok(true)
     }

@@ -7,10 +7,8 @@ ghost use Rattle.e3_world.specs.Legal.{IsLegal};
 
 use crate::auditor::Auditor;
 use crate::seat::Seat;
-use e3_histories::log_at;
-use e3_judge::entry_breach;
-use e3_restart::{RebuildFault, rebuild};
-use e3_site::Site;
+use e3_judge::{entry_breach, log_at};
+use e3_site::{RebuildFault, Site, rebuild};
 use e3_types::{Act, Entry, NoMemory, Scenario};
 use std::alloc::Global;
 

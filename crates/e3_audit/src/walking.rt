@@ -5,9 +5,8 @@ ghost use Rattle.e3_audit.specs.Walks.{IsWalked};
 ghost use Rattle.e3_items.specs.Bindings.{bound_behind};
 
 use crate::auditor::Auditor;
-use e3_items::{bind, nothing_bound};
+use e3_items::{BoundNames, bind, nothing_bound};
 use e3_types::{Act, Entry, NoMemory, Scenario};
-use e3_world::Binding;
 use std::alloc::Global;
 
 /// How many entries were passed, which are legal; and whether that is all of them, and all before the next line is through.
@@ -26,7 +25,7 @@ impl Auditor {
         scenario: &Scenario,
         before: &[Entry],
         after: &[Entry],
-        binding: &Binding,
+        binding: &BoundNames,
         entry: &Entry,
     ) -> Result<bool, NoMemory>
         requires stands { Stands scenario.now before.now self.old }

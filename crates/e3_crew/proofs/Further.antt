@@ -10,9 +10,9 @@ use Rattle.e3_disk.specs.Meters.{Meters}
 use Rattle.e3_node.specs.NodeStands.{NodeStands}
 use Rattle.e3_node.specs.NodeView.{NodeView, disk_of}
 use Rattle.e3_node.specs.Turns.{history_seen, scenario_seen}
-use Rattle.e3_sites.specs.Delivered.{IsFullBefore}
-use Rattle.e3_sites.specs.Settled.{StaysInStep}
-use Rattle.e3_sites.proofs.Steps.{same_step, stays_none, stays_on}
+use Rattle.e3_play.specs.Delivered.{IsFullBefore}
+use Rattle.e3_play.specs.Settled.{StaysInStep}
+use Rattle.e3_play.proofs.SameSteps.{same_step, stays_none, stays_on}
 use Rattle.e3_types.specs.declared.entries.Entry.{Entry}
 use Rattle.e3_types.specs.declared.scenarios.Scenario.{Scenario}
 use Rattle.e3_wire.specs.Claims.{APass}

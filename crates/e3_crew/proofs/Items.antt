@@ -17,12 +17,12 @@ use Rattle.e3_law_local.proofs.Due.{next_on}
 use Rattle.e3_node.specs.Claims.{NodesKeptByOthers}
 use Rattle.e3_node.specs.NodeView.{NodeView}
 use Rattle.e3_node.specs.Turns.{Meanwhile, history_seen, scenario_seen}
-use Rattle.e3_sites.specs.Delivered.{IsFullBefore, IsItemDue}
-use Rattle.e3_sites.specs.Settled.{is_asking}
-use Rattle.e3_sites.specs.declared.sites.RunFault.{RunFault}
-use Rattle.e3_sites.specs.declared.sites.RunFault.TheVariants.{HistoryFull}
-use Rattle.e3_sites.proofs.Open.{item_full, up_within}
-use Rattle.e3_sites.proofs.Steps.{same_step}
+use Rattle.e3_play.specs.Delivered.{IsFullBefore, IsItemDue}
+use Rattle.e3_play.specs.Settled.{is_asking}
+use Rattle.e3_play.specs.declared.sites.RunFault.{RunFault}
+use Rattle.e3_play.specs.declared.sites.RunFault.TheVariants.{HistoryFull}
+use Rattle.e3_play.proofs.Open.{item_full, up_within}
+use Rattle.e3_play.proofs.SameSteps.{same_step}
 use Rattle.e3_turn.specs.Passes.{seen_by}
 use Rattle.e3_types.specs.declared.entries.Entry.{Entry}
 use Rattle.e3_types.specs.declared.entries.Input.{Input}

@@ -15,10 +15,10 @@ use Rattle.e3_law_local.proofs.Least.{least_stays}
 use Rattle.e3_node.specs.Claims.{NodesKeptByOthers}
 use Rattle.e3_node.specs.NodeView.{NodeView}
 use Rattle.e3_node.specs.Turns.{Meanwhile, history_seen, scenario_seen}
-use Rattle.e3_sites.specs.Delivered.{IsFullBefore, IsPacketDue}
-use Rattle.e3_sites.specs.declared.sites.RunFault.TheVariants.{HistoryFull}
-use Rattle.e3_sites.proofs.Bounds.{packet_full, packet_owed}
-use Rattle.e3_sites.proofs.Steps.{same_step}
+use Rattle.e3_play.specs.Delivered.{IsFullBefore, IsPacketDue}
+use Rattle.e3_play.specs.declared.sites.RunFault.TheVariants.{HistoryFull}
+use Rattle.e3_play.proofs.Bounds.{packet_full, packet_owed}
+use Rattle.e3_play.proofs.SameSteps.{same_step}
 use Rattle.e3_turn.specs.Passes.{seen_by}
 use Rattle.e3_types.specs.declared.entries.Entry.{Entry}
 use Rattle.e3_types.specs.declared.messages.Packet.{Packet}

@@ -14,7 +14,7 @@ use Rattle.e3_law_local.specs.Others.{AreOthers}
 use Rattle.e3_node.specs.Claims.{NodesKeptByOthers}
 use Rattle.e3_node.specs.NodeView.{NodeView, disk_of}
 use Rattle.e3_node.specs.Turns.{Meanwhile, history_seen, scenario_seen}
-use Rattle.e3_sites.specs.Settled.{StaysInStep}
+use Rattle.e3_play.specs.Settled.{StaysInStep}
 use Rattle.e3_turn.specs.Passes.{IsIdle, Owns, last_of, seen_by}
 use Rattle.e3_types.specs.declared.entries.Entry.{Entry}
 use Rattle.e3_types.specs.declared.scenarios.Scenario.{Scenario}

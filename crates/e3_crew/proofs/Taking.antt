@@ -15,9 +15,9 @@ use Rattle.e3_law_local.proofs.Least.{least_is_pending, least_stays}
 use Rattle.e3_law_local.proofs.Working.{items_stay, next_item}
 use Rattle.e3_node.specs.NodeView.{NodeView}
 use Rattle.e3_node.specs.Turns.{Meanwhile}
-use Rattle.e3_sites.specs.Entering.{AfterInput, fall_of}
-use Rattle.e3_sites.specs.declared.sites.RunFault.{RunFault}
-use Rattle.e3_sites.specs.declared.sites.RunFault.TheVariants.{HistoryFull}
+use Rattle.e3_play.specs.Entering.{AfterInput, fall_of}
+use Rattle.e3_play.specs.declared.sites.RunFault.{RunFault}
+use Rattle.e3_play.specs.declared.sites.RunFault.TheVariants.{HistoryFull}
 use Rattle.e3_types.specs.declared.entries.Entry.{Entry}
 use Rattle.e3_types.specs.declared.entries.Input.{Input}
 use Rattle.e3_types.specs.declared.entries.Input.TheVariants as input

@@ -7,8 +7,8 @@ use Rattle.e3_disk.specs.Meters.{Meters}
 use Rattle.e3_node.specs.NodeStands.{NodeStands}
 use Rattle.e3_node.specs.NodeView.{disk_of}
 use Rattle.e3_node.specs.Turns.{history_seen, scenario_seen}
-use Rattle.e3_sites.specs.Settled.{StaysInStep}
-use Rattle.e3_sites.specs.declared.sites.RunFault.{RunFault}
+use Rattle.e3_play.specs.Settled.{StaysInStep}
+use Rattle.e3_play.specs.declared.sites.RunFault.{RunFault}
 use Rattle.e3_turn.specs.Passes.{IsIdle, OwnsAll, last_of, seen_by}
 use Rattle.e3_types.specs.declared.entries.Entry.{Entry}
 use Rattle.e3_types.specs.declared.scenarios.Scenario.{Scenario}

@@ -7,9 +7,9 @@ use Rattle.e3_node.specs.Ends.{FellOver, IsReason, Takes, calls_for}
 use Rattle.e3_node.specs.Turns.{Meanwhile}
 use Rattle.e3_node.specs.declared.fault.InputFault.{InputFault}
 use Rattle.e3_node.specs.declared.fault.InputFault.TheVariants as input_fault
-use Rattle.e3_sites.specs.Entering.{AfterInput}
-use Rattle.e3_sites.specs.declared.sites.RunFault.{RunFault}
-use Rattle.e3_sites.specs.declared.sites.RunFault.TheVariants as run_fault
+use Rattle.e3_play.specs.Entering.{AfterInput}
+use Rattle.e3_play.specs.declared.sites.RunFault.{RunFault}
+use Rattle.e3_play.specs.declared.sites.RunFault.TheVariants as run_fault
 use Rattle.e3_types.specs.declared.entries.Entry.{Entry}
 use Rattle.e3_types.specs.declared.entries.Input.{Input}
 use Rattle.e3_types.specs.declared.entries.Why.{Why}

@@ -9,8 +9,8 @@ use Rattle.e3_law_local.specs.Least.{IsLeastTo}
 use Rattle.e3_node.specs.NodeStands.{NodeStands}
 use Rattle.e3_node.specs.NodeView.{NodeView, disk_of}
 use Rattle.e3_node.specs.Turns.{Meanwhile}
-use Rattle.e3_sites.specs.declared.sites.RunFault.{RunFault}
-use Rattle.e3_sites.specs.declared.sites.RunFault.TheVariants.{HistoryFull}
+use Rattle.e3_play.specs.declared.sites.RunFault.{RunFault}
+use Rattle.e3_play.specs.declared.sites.RunFault.TheVariants.{HistoryFull}
 use Rattle.e3_turn.specs.Passes.{IsIdle, owners_of, seen_by}
 use Rattle.e3_types.specs.declared.entries.Input.{Input}
 use Rattle.e3_types.specs.declared.messages.Packet.{Packet}

@@ -5,7 +5,7 @@ ghost use Rattle.e3_turn.specs.Passes.{seen_by};
 
 use e3_disk::{Disk, Drill};
 use e3_node::Node;
-use e3_sites::RunFault;
+use e3_play::RunFault;
 use e3_types::{Input, List};
 use e3_wire::{Wire, WirePass};
 use std::alloc::Global;

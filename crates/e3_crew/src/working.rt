@@ -6,7 +6,7 @@ ghost use Rattle.e3_crew.specs.Workers.{CanTakeItems, CanTakePackets, HasGiven, 
 ghost use Rattle.e3_law_local.specs.Drafts.{MayTake};
 ghost use Rattle.e3_law_local.specs.Least.{IsLeastTo};
 ghost use Rattle.e3_node.specs.Turns.{history_seen, scenario_seen};
-ghost use Rattle.e3_sites.specs.declared.sites.RunFault.TheVariants.{HistoryFull};
+ghost use Rattle.e3_play.specs.declared.sites.RunFault.TheVariants.{HistoryFull};
 ghost use Rattle.e3_turn.specs.Passes.{seen_by};
 ghost use Rattle.e3_wire.specs.Wires.{TakesLeast};
 ghost use Rattle.e3_world.specs.Items.{is_delivery, is_up_at};
@@ -17,7 +17,7 @@ use crate::worker::take_pass;
 use e3_disk::{Disk, Drill};
 use e3_node::{InputFault, Node, others_leave_nodes};
 use e3_outside::Gate;
-use e3_sites::RunFault;
+use e3_play::RunFault;
 use e3_types::{Input, Packet};
 use e3_wire::{Wire, WirePass};
 use std::alloc::Global;

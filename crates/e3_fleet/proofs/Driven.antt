@@ -7,8 +7,8 @@ use Rattle.e3_law_local.specs.Least.{IsLeastTo}
 use Rattle.e3_law_local.proofs.Least.{first_is_least}
 use Rattle.e3_node.specs.SharedStands.{SharedStands}
 use Rattle.e3_node.proofs.Sharing.{no_growth, under, used_is}
-use Rattle.e3_sites.specs.declared.sites.RunFault.{RunFault}
-use Rattle.e3_sites.specs.declared.sites.RunFault.TheVariants as run_fault
+use Rattle.e3_play.specs.declared.sites.RunFault.{RunFault}
+use Rattle.e3_play.specs.declared.sites.RunFault.TheVariants as run_fault
 use Rattle.e3_types.specs.declared.entries.Act.TheVariants.{Drop}
 use Rattle.e3_types.specs.declared.entries.Entry.{Entry}
 use Rattle.e3_types.specs.declared.messages.Packet.{Packet}

@@ -11,8 +11,8 @@ use Rattle.e3_fleet.specs.Fleets.{FleetIsHeld, FleetStands, IsFleetOn, IsTaken, 
 use Rattle.e3_node.specs.NodeStands.{NodeStands}
 use Rattle.e3_node.specs.NodeView.{NodeView}
 use Rattle.e3_node.proofs.Sharing.{no_growth}
-use Rattle.e3_sites.specs.Settled.{is_asking}
-use Rattle.e3_sites.proofs.Open.{asking_is_no_recovery}
+use Rattle.e3_play.specs.Settled.{is_asking}
+use Rattle.e3_play.proofs.Open.{asking_is_no_recovery}
 use Rattle.e3_turn.specs.Chronicles.{count_of, down_from, IsForeign}
 use Rattle.e3_turn.specs.Passes.{GrewByOthers, GrewByOwners, HasTurn, IsIdle, Owns, OwnsAll, SameOwners, last_of, owners_of, seen_by}
 use Rattle.e3_turn.proofs.Totals.{count_of_below}

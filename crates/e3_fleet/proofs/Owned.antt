@@ -17,8 +17,8 @@ use Rattle.e3_node.specs.declared.fault.InputFault.{InputFault}
 use Rattle.e3_node.specs.declared.fault.InputFault.TheVariants as input_fault
 use Rattle.e3_node.specs.declared.fault.RiseFault.{RiseFault}
 use Rattle.e3_node.specs.declared.fault.RiseFault.TheVariants as rise_fault
-use Rattle.e3_sites.specs.Entering.{AfterInput, AfterRise, fall_of}
-use Rattle.e3_sites.specs.declared.sites.RunFault.TheVariants as run_fault
+use Rattle.e3_play.specs.Entering.{AfterInput, AfterRise, fall_of}
+use Rattle.e3_play.specs.declared.sites.RunFault.TheVariants as run_fault
 use Rattle.e3_types.specs.declared.entries.Act.{Act}
 use Rattle.e3_types.specs.declared.entries.Act.TheVariants.{Rise, RiseFall, Miss, Cut, Line}
 use Rattle.e3_types.specs.declared.entries.Entry.{Entry}

@@ -12,8 +12,8 @@ use Rattle.e3_node.specs.declared.fault.InputFault.{InputFault}
 use Rattle.e3_node.specs.declared.fault.InputFault.TheVariants as input_fault
 use Rattle.e3_node.specs.declared.fault.RiseFault.{RiseFault}
 use Rattle.e3_node.specs.declared.fault.RiseFault.TheVariants as rise_fault
-use Rattle.e3_sites.specs.declared.sites.RunFault.{RunFault}
-use Rattle.e3_sites.specs.declared.sites.RunFault.TheVariants as run_fault
+use Rattle.e3_play.specs.declared.sites.RunFault.{RunFault}
+use Rattle.e3_play.specs.declared.sites.RunFault.TheVariants as run_fault
 use Rattle.e3_node.specs.NodeView.{NodeView, disk_of}
 use Rattle.e3_node.specs.SharedStands.{SharedStands}
 use Rattle.e3_turn.specs.Passes.{HasTurn, OwnsAll, last_of, seen_by}

@@ -3,10 +3,10 @@ use Rattle.std.specs.Prelude.{◌≡◌, ◌≢◌, [], ℕ, true, List, OnOk, R
 use Rattle.e3_disk.specs.Meters.{Meters}
 use Rattle.e3_fleet.specs.Fleets.{FleetIsHeld, HaveKept, IsFleetOn, nodes_of}
 use Rattle.e3_fleet.specs.declared.fleet.Fleet.{Fleet}
-use Rattle.e3_sites.specs.Delivered.{IsFullBefore, IsItemOrPacket}
-use Rattle.e3_sites.specs.Settled.{StaysInStep, is_asking}
-use Rattle.e3_sites.specs.declared.sites.RunFault.{RunFault}
-use Rattle.e3_sites.specs.declared.sites.RunFault.TheVariants.{HistoryFull}
+use Rattle.e3_play.specs.Delivered.{IsFullBefore, IsItemOrPacket}
+use Rattle.e3_play.specs.Settled.{StaysInStep, is_asking}
+use Rattle.e3_play.specs.declared.sites.RunFault.{RunFault}
+use Rattle.e3_play.specs.declared.sites.RunFault.TheVariants.{HistoryFull}
 use Rattle.e3_types.specs.declared.entries.Entry.{Entry}
 use Rattle.e3_types.specs.declared.scenarios.Scenario.{Scenario}
 use Rattle.e3_wire.specs.Marks.{entries_of, most_of, scenario_of}

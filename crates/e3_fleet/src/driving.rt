@@ -2,14 +2,14 @@
 ghost use Rattle.std.specs.Prelude.{◌≡◌, ◌≤◌, ◌++◌, ◌∷◌, ◌↔◌, [], false, length, OnOk, OnErr, Err, Some};
 ghost use Rattle.e3_fleet.specs.Fleets.{drop_answer, wire_answer};
 ghost use Rattle.e3_node.specs.SharedStands.{SharedStands};
-ghost use Rattle.e3_sites.specs.declared.sites.RunFault.TheVariants.{HistoryFull};
+ghost use Rattle.e3_play.specs.declared.sites.RunFault.TheVariants.{HistoryFull};
 ghost use Rattle.e3_types.specs.declared.entries.Act.TheVariants as act;
 ghost use Rattle.e3_wire.specs.Claims.{HaveGrown};
 ghost use Rattle.e3_wire.specs.Marks.{entries_of, most_of, scenario_of};
 ghost use Rattle.e3_world.specs.Items.{is_up_at};
 ghost use Rattle.e3_world.specs.Legal.{IsLine, IsParts, first_pending};
 
-use e3_sites::RunFault;
+use e3_play::RunFault;
 use e3_types::{List, Packet, SiteSet};
 use e3_wire::{Shared, WireFault};
 

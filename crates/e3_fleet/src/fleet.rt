@@ -7,7 +7,7 @@ use crate::driving::{enter_drop, enter_line, enter_parts};
 use crate::held::Held;
 use e3_disk::{Disk, Drill};
 use e3_node::other_entries_keep_nodes;
-use e3_sites::{RunFault, Sites};
+use e3_play::{RunFault, Sites};
 use e3_types::{Entry, Input, Leave, List, NoMemory, Packet, SiteSet, Txn};
 use e3_wire::{Wire, WirePass};
 use std::alloc::Global;

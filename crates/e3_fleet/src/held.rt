@@ -2,8 +2,8 @@
 // place.
 ghost use Rattle.std.specs.Prelude.{◌≡◌, ◌≤◌, ◌<◌, ◌++◌, ◌∷◌, [], suc, true, fold, length, IfOk, OnOk, OnErr, Err};
 ghost use Rattle.e3_fleet.specs.Fleets.{FleetStands, IsFleetOn, cut_answer, input_answer, nodes_of, rise_answer};
-ghost use Rattle.e3_sites.specs.Entering.{AfterInput, AfterRise, IsFirst};
-ghost use Rattle.e3_sites.specs.declared.sites.RunFault.TheVariants.{HistoryFull};
+ghost use Rattle.e3_play.specs.Entering.{AfterInput, AfterRise, IsFirst};
+ghost use Rattle.e3_play.specs.declared.sites.RunFault.TheVariants.{HistoryFull};
 ghost use Rattle.e3_types.specs.declared.entries.Act.TheVariants as act;
 ghost use Rattle.e3_types.specs.declared.scenarios.Item.TheVariants as item;
 ghost use Rattle.e3_wire.specs.Claims.{HaveGrown};
@@ -16,7 +16,7 @@ use crate::driving::enter_line;
 use e3_crew::Worker;
 use e3_disk::{Disk, Drill};
 use e3_node::{CutFault, InputFault, RiseFault, other_entries_keep_nodes};
-use e3_sites::RunFault;
+use e3_play::RunFault;
 use e3_types::{Input, Leave, List, NoMemory, Txn};
 use e3_wire::Shared;
 use std::alloc::Global;

@@ -4,8 +4,8 @@ ghost use Rattle.e3_fleet.specs.Settling.{Since, Stands, history_in, most_in, sc
 ghost use Rattle.e3_fleet.specs.declared.fleet.Fleet.{Fleet as Fleets};
 ghost use Rattle.e3_play.specs.Known.{KnowsNames};
 ghost use Rattle.e3_play.specs.Played.{IsSettled};
-ghost use Rattle.e3_sites.specs.Delivered.{IsFull};
-ghost use Rattle.e3_sites.specs.declared.sites.RunFault.TheVariants.{HistoryFull};
+ghost use Rattle.e3_play.specs.Delivered.{IsFull};
+ghost use Rattle.e3_play.specs.declared.sites.RunFault.TheVariants.{HistoryFull};
 ghost use Rattle.e3_world.specs.Given.{IsGiven};
 ghost use Rattle.e3_world.specs.Legal.{IsWhole};
 
@@ -13,8 +13,7 @@ use crate::fleet::Fleet;
 use crate::settling::settle_fleet;
 use e3_disk::{Disk, Drill};
 use e3_outside::Gate;
-use e3_play::{Names, begin_step, rise_all};
-use e3_sites::RunFault;
+use e3_play::{Names, RunFault, begin_step, rise_all};
 use e3_types::Scenario;
 use std::sync::Wait;
 use std::thread::Threads;

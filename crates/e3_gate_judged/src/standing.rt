@@ -1,7 +1,7 @@
 // What the disks of a run read as, beside the logs of its history.
 use e3_codec::put_records;
 use e3_disk::{Drill, MemDisk};
-use e3_histories::{log_at, tail_at};
+use e3_judge::{log_at, tail_at};
 use e3_log::{Frame, Log, OpenCause, OpenRefused};
 use e3_types::{Entry, List, Scenario};
 use std::alloc::Global;

@@ -5,7 +5,7 @@ use e3_codec::{put_records, read_records};
 use e3_disk::{Disk, DiskFault, Drill, MemDisk};
 use e3_lines::{push_labelled, push_text};
 use e3_regions::{AppendFault, Frame, Log, TurnFault};
-use e3_restart::{RebuildFault, rebuild};
+use e3_site::{RebuildFault, rebuild};
 use e3_snapshot::{brief, of_site};
 use e3_types::{Leave, List, NoMemory, Record};
 use std::alloc::Global;

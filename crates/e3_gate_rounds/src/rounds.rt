@@ -1,6 +1,7 @@
 // The recovery rounds of a history: how many entries of its own each took, beside its bound, and what `recover` reports of it.
+use e3_items::RecoveryRound;
 use e3_lines::{push_labelled, push_sites, push_text, push_txn};
-use e3_round::{RecoveryRound, report_of};
+use e3_play::report_of;
 use e3_types::{Act, Entry, Input, Item, List, Message, NoMemory, Scenario, Txn, Verdict};
 
 // The step of this number is a recovery.

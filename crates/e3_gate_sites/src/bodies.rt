@@ -1,18 +1,15 @@
 // The steps of a site by its tables, beside those that the definitions make of its log and of its steps so far.
 ghost use Rattle.std.specs.Prelude.{◌≡◌, IfOk, OnOk};
-ghost use Rattle.e3_site.specs.SiteView.{IsPlanOf, Stands, risen_with};
+ghost use Rattle.e3_site.specs.SiteView.{IsPlanOf, Stands, plan_of, risen_with};
 ghost use Rattle.e3_world.specs.declared.lives.Incarnation.{Incarnation};
 
 use crate::logs::log_of;
 use crate::texts::push_one;
-use e3_histories::{since_line, to_line};
-use e3_lines::push_text;
-use e3_opens::open_in;
+use e3_judge::{since_line, to_line};
+use e3_lines::{push_text, push_trace};
 use e3_plain::step_of;
-use e3_readings::life_of;
-use e3_restart::{RebuildFault, rebuild};
-use e3_site::{Plan, Site};
-use e3_trace_lines::push_trace;
+use e3_readings::{life_of, open_in};
+use e3_site::{Plan, RebuildFault, Site, rebuild};
 use e3_types::{Act, Entry, Input, List, NoMemory, Record, Scenario, Txn};
 use e3_world::{Made, SiteStep};
 use std::alloc::Global;
@@ -66,7 +63,8 @@ fn planned(
 ) -> Result<Plan, NoMemory>
     ghost now: { Incarnation }
     requires { Stands now site.now }
-    ensures { IfOk result (λ plan. IsPlanOf plan site.now) }
+    ensures made { IfOk result (λ plan. plan.step ≡ plan_of now site.now input.now) }
+    ensures own { IfOk result (λ plan. IsPlanOf plan site.now) }
 {
     site.plan(input)
 }
@@ -103,14 +101,16 @@ fn push_open(
     push_text(out, "\n")
 }
 
-// Does the step of a plan, which is the site's last one then. The log is passed on for the proof alone.
+// Does the step of a plan, which is the site's last one then. The log and the input are passed on for the proof alone.
 fn done(
     site: &mut Site,
     plan: Plan,
     _rose: &[Record],
     since: &mut List<SiteStep>,
+    _input: &Input,
 ) -> Result<(), NoMemory>
     requires stand { Stands (record { rose = _rose.now; since = since.old }) site.old }
+    requires made { plan.step ≡ plan_of (record { rose = _rose.now; since = since.old }) site.old _input.now }
     requires own { IsPlanOf plan site.old }
     ensures { OnOk result (Stands (record { rose = _rose.now; since = since.new }) site.new) }
 {
@@ -134,7 +134,7 @@ fn push_step(
     let plan = planned(site, rose, since.as_slice(), input)?;
     let made = step_of(alloc, weights, site.site(), rose, since.as_slice(), input)?;
     push_plan(alloc, out, &plan, site.site(), input, made)?;
-    done(site, plan, rose, since)
+    done(site, plan, rose, since, input)
 }
 
 // The input of a step of this site.

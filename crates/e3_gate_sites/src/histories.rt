@@ -1,12 +1,9 @@
 // What is due in a history, what its last step makes, what is found in it, and the rows of a site.
 use crate::texts::{push_formatted, push_one};
-use e3_agree::clash;
-use e3_histories::{due_round, entry_of, incarnation_at, pending, turn_of};
-use e3_lines::{push_rows, push_sites, push_text};
-use e3_order::order;
+use e3_judge::{clash, due_round, entry_of, incarnation_at, order, pending, turn_of};
+use e3_lines::{push_rows, push_sites, push_text, push_trace};
 use e3_plain::plain_input;
 use e3_readings::rows_at;
-use e3_trace_lines::push_trace;
 use e3_types::{Act, Copied, Entry, Input, Key, KeyRow, List, NoMemory, Scenario};
 use e3_world::History;
 use std::alloc::Global;

@@ -1,9 +1,8 @@
 // Records that are the log of a site, or are out of order.
 use crate::texts::push_formatted;
-use e3_histories::{since_line, to_line};
+use e3_judge::{since_line, to_line};
 use e3_lines::push_text;
-use e3_restart::{RebuildFault, first_disorder, rebuild};
-use e3_site::Site;
+use e3_site::{RebuildFault, Site, first_disorder, rebuild};
 use e3_types::{Act, Copied, Entry, List, NoMemory, Record};
 use std::alloc::Global;
 

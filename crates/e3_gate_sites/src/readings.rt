@@ -1,6 +1,6 @@
 // What is read off the log and the steps of a site, of each transaction that was begun.
 use crate::texts::push_formatted;
-use e3_histories::incarnation_at;
+use e3_judge::incarnation_at;
 use e3_lines::{push_answer, push_dir, push_rows, push_state, push_text, push_txn};
 use e3_readings::*;
 use e3_types::{Act, Entry, List, Mode, Name, NoMemory, Record, Row, Scenario, SiteSet, Told, Txn};

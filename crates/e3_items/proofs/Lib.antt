@@ -1,3 +1,4 @@
 pub mod ByName
 pub mod Counting
 pub mod Planned
+pub mod Lasting

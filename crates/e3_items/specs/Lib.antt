@@ -1,2 +1,4 @@
 pub mod Bindings
 pub mod Inputs
+pub mod RoundOf
+pub mod Lasts

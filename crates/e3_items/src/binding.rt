@@ -1,11 +1,11 @@
 // Which names the begins of a history bind.
-ghost use Rattle.std.specs.Prelude.{◌≡◌, ◌==◌, ◌++◌, fold, count_by, IfOk, option_copied};
+ghost use Rattle.std.specs.Prelude.{◌≡◌, fold, IfOk};
 ghost use Rattle.e3_items.specs.Bindings.{nothing_bound};
-ghost use Rattle.e3_world.specs.Items.{begin_names, binding_by, binds};
+ghost use Rattle.e3_world.specs.Items.{begin_names, binding_by};
 
+use crate::names::BoundNames;
 use crate::steps::step_items;
-use e3_types::{Act, Entry, Input, Item, List, Name, NoMemory, Scenario, Told};
-use e3_world::{Binding, Bound};
+use e3_types::{Act, Entry, Input, Item, List, Name, NoMemory, Scenario};
 use std::alloc::Global;
 
 // The names of the begin items of a step that go to this site.
@@ -22,39 +22,18 @@ fn begin_names(alloc: Global, site: u32, items: &[Item]) -> Result<List<Name>, N
     Ok(names)
 }
 
-// How many of these sites are this one.
-fn count_of(site: u32, sites: &[u32]) -> usize
-    ensures { result ≡ count_by (λ s. s == site) sites.now }
-{
-    sites.iter().filter(|s| **s == site).count()
-}
-
-// The name that a begin binds, where its step tells the transaction that it began.
-fn add_bound(name: Option<&Name>, told: &[Told], bound: &mut List<Bound>) -> Result<(), NoMemory>
-    ensures { IfOk result (λ u. bound.new ≡ bound.old ++ binds (option_copied name.entry) told.now) }
-{
-    match (name, told) {
-        (Some(name), [Told::Began { txn }, ..]) => bound.push(Bound {
-            name: name.copy(),
-            txn: *txn,
-        }),
-        _ => Ok(()),
-    }
-}
-
 // What is bound behind one more entry.
 fn bind_one(
     alloc: Global,
     scenario: &Scenario,
     entry: &Entry,
-    was: &mut Binding,
+    was: &mut BoundNames,
 ) -> Result<(), NoMemory>
     ensures { IfOk result (λ u. was.new ≡ binding_by scenario.now was.old entry.now) }
 {
     match &entry.act {
         Act::Line { number } => {
-            was.number = *number;
-            was.begun_at = List::new(alloc);
+            was.begin_step(alloc, *number);
             Ok(())
         }
         Act::Step {
@@ -62,24 +41,21 @@ fn bind_one(
             told,
             ..
         } => {
-            let names = begin_names(alloc, entry.owner, step_items(scenario, was.number as u64))?;
-            let turn = count_of(entry.owner, was.begun_at.as_slice());
-            add_bound(names.as_slice().get(turn), told.as_slice(), &mut was.bound)?;
-            was.begun_at.push(entry.owner)
+            let items = step_items(scenario, was.number() as u64);
+            let names = begin_names(alloc, entry.owner, items)?;
+            let turn = was.begins(entry.owner);
+            was.add(names.as_slice().get(turn), told.as_slice())?;
+            was.begin_at(entry.owner)
         }
         _ => Ok(()),
     }
 }
 
 /// Before the first entry.
-pub fn nothing_bound(alloc: Global) -> Binding
+pub fn nothing_bound(alloc: Global) -> BoundNames
     ensures { result ≡ nothing_bound }
 {
-    Binding {
-        number: 0,
-        begun_at: List::new(alloc),
-        bound: List::new(alloc),
-    }
+    BoundNames::none(alloc)
 }
 
 /// The binding behind these further entries. With an error it may be anything.
@@ -87,7 +63,7 @@ pub fn bind(
     alloc: Global,
     scenario: &Scenario,
     entries: &[Entry],
-    binding: &mut Binding,
+    binding: &mut BoundNames,
 ) -> Result<(), NoMemory>
     ensures { IfOk result (λ u. binding.new ≡ fold (binding_by scenario.now) binding.old entries.now) }
 {

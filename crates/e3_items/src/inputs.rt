@@ -1,24 +1,12 @@
 // The inputs of items, and which of them go to a site.
-ghost use Rattle.std.specs.Prelude.{◌≡◌, ◌++◌, ◌∷◌, [], None, fold, filter_map, IfOk, option_copied};
+ghost use Rattle.std.specs.Prelude.{◌≡◌, ◌++◌, ◌∷◌, [], filter_map, IfOk, option_copied};
 ghost use Rattle.e3_items.specs.Inputs.{input_by_name, input_for, input_with, name_in};
-ghost use Rattle.e3_world.specs.Items.{inputs_to, last_bound};
+ghost use Rattle.e3_world.specs.Items.{inputs_to};
 
+use crate::names::BoundNames;
 use e3_types::{Input, Item, List, Name, NoMemory, Op, Txn};
-use e3_world::{Addressed, Bound};
+use e3_world::Addressed;
 use std::alloc::Global;
-
-// The last transaction that is bound to a name.
-fn last_of(name: &Name, bound: &[Bound]) -> Option<Txn>
-    ensures { result ≡ fold (last_bound name.now) None bound.now }
-{
-    let mut last = None;
-    for b in bound {
-        if name.is_same(&b.name) {
-            last = Some(b.txn);
-        }
-    }
-    last
-}
 
 // The input of a transaction's coordinator.
 fn to_coordinator(txn: &Txn, input: Input) -> Addressed
@@ -82,18 +70,18 @@ fn input_for(item: &Item, txn: &Txn) -> Option<Addressed>
 }
 
 // The input of an item that is no begin.
-fn input_by_name(bound: &[Bound], item: &Item) -> Option<Addressed>
-    ensures { result ≡ input_by_name bound.now item.now }
+fn input_by_name(bound: &BoundNames, item: &Item) -> Option<Addressed>
+    ensures { result ≡ input_by_name bound.now.bound item.now }
 {
     let name = name_in(item)?;
-    let txn = last_of(name, bound)?;
+    let txn = bound.meant(name)?;
     input_for(item, &txn)
 }
 
 // The input of an item and the site that takes it; none for an item of another kind, and where its name is not bound.
 #[tactic(auto, using(crate::proofs::ByName::input_later))]
-fn input_with(bound: &[Bound], item: &Item) -> Option<Addressed>
-    ensures { result ≡ input_with bound.now item.now }
+fn input_with(bound: &BoundNames, item: &Item) -> Option<Addressed>
+    ensures { result ≡ input_with bound.now.bound item.now }
 {
     match item {
         Item::Begin { site, sites, .. } => Some(Addressed {
@@ -105,8 +93,8 @@ fn input_with(bound: &[Bound], item: &Item) -> Option<Addressed>
 }
 
 // Adds the input of an item, where it has one.
-fn add_input(bound: &[Bound], item: &Item, inputs: &mut List<Addressed>) -> Result<(), NoMemory>
-    ensures { IfOk result (λ u. inputs.new ≡ inputs.old ++ filter_map (input_with bound.now) (item.now ∷ [])) }
+fn add_input(bound: &BoundNames, item: &Item, inputs: &mut List<Addressed>) -> Result<(), NoMemory>
+    ensures { IfOk result (λ u. inputs.new ≡ inputs.old ++ filter_map (input_with bound.now.bound) (item.now ∷ [])) }
 {
     match input_with(bound, item) {
         Some(a) => inputs.push(a),
@@ -117,10 +105,10 @@ fn add_input(bound: &[Bound], item: &Item, inputs: &mut List<Addressed>) -> Resu
 /// What these items ask of the sites, in their order. An item whose name is not bound asks nothing.
 pub fn inputs_asked(
     alloc: Global,
-    bound: &[Bound],
+    bound: &BoundNames,
     items: &[Item],
 ) -> Result<List<Addressed>, NoMemory>
-    ensures { IfOk result (λ inputs. inputs ≡ filter_map (input_with bound.now) items.now) }
+    ensures { IfOk result (λ inputs. inputs ≡ filter_map (input_with bound.now.bound) items.now) }
 {
     let mut inputs = List::new(alloc);
     for item in items {

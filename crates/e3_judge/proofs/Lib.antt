@@ -5,3 +5,11 @@ pub mod Owners
 pub mod Passing
 pub mod Breaches
 pub mod Stepping
+pub mod AllSites
+pub mod CopiesLeft
+pub mod Numbering
+pub mod Splitting
+pub mod Standings
+pub mod Adding
+pub mod Placing
+pub mod Finding

@@ -10,12 +10,11 @@ ghost use Rattle.e3_judge.specs.declared.breach.Guard.TheVariants as guard;
 ghost use Rattle.e3_judge.specs.Checks.{Check, is_site, line_is_due, parts_are_due, may_drop, drop_is_due, is_crash, is_next_inc, step_checks, fall_checks, rising_checks, rise_checks, checks, first_failing};
 ghost use Rattle.e3_judge.specs.Equal.{is_some, same_list, same_packet, same_record, same_told};
 
-use crate::Guard;
 use crate::equal::{Same, same_list};
 use crate::inputs::{add_copies, input_is_due, inputs_are_due, is_empty, is_in_order, records_by};
-use e3_histories::{
-    Tail, is_site, is_through, is_up_at, lines, log_at, made_by, may_rise, parts_due, pending,
-    present_items, sent_count, since_line, tail_at,
+use crate::{
+    Guard, Tail, is_site, is_through, is_up_at, lines, log_at, made_by, may_rise, parts_due,
+    pending, present_items, sent_count, since_line, tail_at,
 };
 use e3_readings::logged_inc;
 use e3_types::{Act, Entry, Input, Item, List, NoMemory, Packet, Record, Scenario, SiteSet, Told};

@@ -7,10 +7,11 @@ ghost use Rattle.e3_judge.specs.Checks.{is_in_order, is_next_item, delivery_is_d
 ghost use Rattle.e3_judge.specs.Equal.{is_some, same_input, same_packet};
 
 use crate::equal::Same;
-use e3_histories::{
-    RecoveryRound, due_round, entry_of, has_delivery, inputs_at, is_calm, items_through, made_by,
-    pending, present_items, turn_of,
+use crate::{
+    due_round, entry_of, has_delivery, inputs_at, is_calm, items_through, made_by, pending,
+    present_items, turn_of,
 };
+use e3_items::RecoveryRound;
 use e3_types::{Copied, Entry, Input, List, NoMemory, Packet, Record, Scenario, SiteSet, Txn};
 use std::alloc::Global;
 

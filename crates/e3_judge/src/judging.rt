@@ -4,9 +4,8 @@ ghost use Rattle.e3_world.specs.Legal.{IsLegal, IsWhole};
 ghost use Rattle.e3_judge.specs.Checks.{breach_after, first_breach, is_whole};
 ghost use Rattle.e3_judge.specs.Claims.{IsBreach};
 
-use crate::Breach;
 use crate::checks::entry_breach;
-use e3_histories::{is_through, lines};
+use crate::{Breach, is_through, lines};
 use e3_types::{Entry, NoMemory, Scenario};
 use e3_world::History;
 use std::alloc::Global;

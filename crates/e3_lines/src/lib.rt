@@ -2,11 +2,15 @@
 //! a site. Each function adds to the end of a text.
 #![tactic(auto)]
 
+mod entries;
 mod events;
+mod inputs;
 mod items;
+mod messages;
 mod records;
 mod texts;
 
+pub use entries::push_trace;
 pub use events::{push_answer, push_entry, push_plain, push_told_text, push_why};
 pub use items::{push_item, push_items};
 pub use records::{push_records, push_rows};

@@ -7,9 +7,9 @@ use Rattle.e3_world.specs.Legal.{Guard, IsLegal, IsRising, LegalAfter}
 use Rattle.e3_world.specs.Packets.{pending}
 use Rattle.e3_world.proofs.Rises.{Rising, rise_one, miss_one, next_rise}
 use Rattle.e3_play.proofs.Quiet.{none_pending}
-use Rattle.e3_sites.specs.Entering.{AfterRise}
-use Rattle.e3_sites.specs.Settled.{StaysInStep}
-use Rattle.e3_sites.proofs.Steps.{stays_one}
+use Rattle.e3_play.specs.Entering.{AfterRise}
+use Rattle.e3_play.specs.Settled.{StaysInStep}
+use Rattle.e3_play.proofs.SameSteps.{stays_one}
 
 -- the last entry of a legal history meets its guard
 last_guard : (sc : Scenario) (before h : List Entry) (e : Entry) → LegalAfter sc before (h ++ e ∷ []) → Guard sc (before ++ h) e

@@ -12,7 +12,7 @@ use Rattle.e3_world.specs.Given.{IsGiven, SaidSoFar, close_step, exist, is_group
 use Rattle.e3_world.specs.Packets.{all_sites, items_or, sites_to, step_items}
 use Rattle.e3_play.specs.Kinds.{kind_by, kind_of}
 use Rattle.e3_play.specs.Played.{IsStep, StandsAlone}
-use Rattle.e3_sites.specs.Settled.{is_asking}
+use Rattle.e3_play.specs.Settled.{is_asking}
 use Rattle.e3_play.specs.declared.kinds.Kind.TheVariants as kind
 use Rattle.e3_types.specs.declared.scenarios.Leave.{Leave}
 

@@ -14,12 +14,12 @@ use Rattle.e3_world.specs.Packets.{step_items}
 use Rattle.e3_world.proofs.Lines.{lines_to}
 use Rattle.e3_world.specs.declared.names.Addressed.{Addressed}
 use Rattle.e3_world.specs.declared.names.Bound.{Bound}
-use Rattle.e3_round.proofs.Making.{both_parts}
+use Rattle.e3_play.proofs.Making.{both_parts}
 use Rattle.e3_play.specs.Known.{KnowsNames}
 use Rattle.e3_play.specs.Played.{IsFresh}
 use Rattle.e3_play.specs.declared.names.Names.{Names}
-use Rattle.e3_sites.specs.Settled.{StaysInStep}
-use Rattle.e3_sites.proofs.Steps.{same_step}
+use Rattle.e3_play.specs.Settled.{StaysInStep}
+use Rattle.e3_play.proofs.SameSteps.{same_step}
 
 pub knows_more : (sc : Scenario) (h next more : List Entry) (names : Names) → KnowsNames sc h names → next ≡ h ++ more → KnowsNames sc next names
 knows_more sc h next more names was is = record {

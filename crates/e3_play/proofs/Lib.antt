@@ -6,3 +6,16 @@ pub mod Steps
 pub mod Settling
 pub mod Forms
 pub mod Knowing
+pub mod Packets
+pub mod Bounds
+pub mod SameSteps
+pub mod Open
+pub mod Order
+pub mod InParts
+pub mod Left
+pub mod Electing
+pub mod Making
+pub mod Told
+pub mod Falling
+pub mod Turning
+mod NoRoom

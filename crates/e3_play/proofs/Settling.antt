@@ -2,7 +2,7 @@
 use Rattle.std.proofs.Common.{◌≡◌, ◌≢◌, ◌==◌, ◌&&◌, ◌||◌, ◌++◌, ◌∷◌, [], ◌≤◌, inl, inr, ℕ, zero, suc, Bool, true, false, not, List, length, None, refl, sym, subst, ap, ◌∙◌, arith}
 use Rattle.std.specs.Prelude.{nat_lt}
 use Rattle.std.specs.List.{list_all}
-use Rattle.e3_round.specs.Reports.{IsRecovered}
+use Rattle.e3_play.specs.Reports.{IsRecovered}
 use Rattle.e3_types.specs.declared.entries.Act.TheVariants.{Cut, Line, Miss, Rise, RiseFall}
 use Rattle.e3_types.specs.declared.entries.Entry.{Entry}
 use Rattle.e3_types.specs.declared.scenarios.Item.{Item}
@@ -20,11 +20,11 @@ use Rattle.e3_world.proofs.Turns.{self, true_not_false}
 use Rattle.e3_play.specs.Played.{IsAsked, IsFresh, IsSettled}
 use Rattle.e3_play.proofs.Quiet.{none_pending}
 use Rattle.e3_play.proofs.Steps.{step_settles}
-use Rattle.e3_sites.proofs.Bounds.{bounded, full_too, some_line, whole_parts}
-use Rattle.e3_sites.proofs.Steps.{same_step}
-use Rattle.e3_sites.specs.Delivered.{ACut, ARise, IsFull, IsFullBefore, IsOwed, IsPacketOrRound, OfRecovery}
-use Rattle.e3_sites.specs.Entering.{AfterRise}
-use Rattle.e3_sites.specs.Settled.{StaysInStep, is_asking}
+use Rattle.e3_play.proofs.Bounds.{bounded, full_too, some_line, whole_parts}
+use Rattle.e3_play.proofs.SameSteps.{same_step}
+use Rattle.e3_play.specs.Delivered.{ACut, ARise, IsFull, IsFullBefore, IsOwed, IsPacketOrRound, OfRecovery}
+use Rattle.e3_play.specs.Entering.{AfterRise}
+use Rattle.e3_play.specs.Settled.{StaysInStep, is_asking}
 use Rattle.e3_world.specs.Progress.{Delivering}
 
 -- behind the line of a step

@@ -1,3 +1,8 @@
 pub mod Kinds
 pub mod Known
 pub mod Played
+pub mod Entering
+pub mod Delivered
+pub mod Settled
+pub mod Rounds
+pub mod Reports

@@ -1,14 +1,13 @@
 // Steps that stand alone: a crash, a restart and a recovery. Each is passed over where it has nothing to do.
 ghost use Rattle.std.specs.Prelude.{◌≡◌, ◌≤◌, ◌∷◌, [], length, OnOk, Err};
 ghost use Rattle.e3_play.specs.Played.{IsFresh, IsSettled};
-ghost use Rattle.e3_sites.specs.Delivered.{IsFull};
-ghost use Rattle.e3_sites.specs.Settled.{StaysInStep};
-ghost use Rattle.e3_sites.specs.declared.sites.RunFault.TheVariants.{HistoryFull};
+ghost use Rattle.e3_play.specs.Delivered.{IsFull};
+ghost use Rattle.e3_play.specs.Settled.{StaysInStep};
+ghost use Rattle.e3_play.specs.declared.sites.RunFault.TheVariants.{HistoryFull};
 ghost use Rattle.e3_types.specs.declared.scenarios.Item.TheVariants as item;
 ghost use Rattle.e3_world.specs.Packets.{lines};
 
-use e3_round::recover;
-use e3_sites::{RunFault, Sites};
+use crate::{RunFault, Sites, recover};
 use e3_types::SiteSet;
 use std::alloc::Global;
 

@@ -3,12 +3,21 @@
 #![tactic(auto)]
 
 mod alone;
+mod delivering;
 mod kinds;
+mod listing;
 mod names;
 mod parting;
 mod playing;
+mod recovering;
+mod reporting;
 mod rising;
+mod sites;
 
+pub use delivering::deliver_all;
 pub use names::Names;
 pub use playing::{begin_recovery, begin_step};
+pub use recovering::recover;
+pub use reporting::{RoundReport, report_of};
 pub use rising::rise_all;
+pub use sites::{RunFault, Sites};

@@ -3,15 +3,14 @@ ghost use Rattle.std.specs.Prelude.{◌≡◌, IfOk, length};
 ghost use Rattle.e3_items.specs.Bindings.{bound_behind, nothing_bound};
 ghost use Rattle.e3_play.specs.Known.{KnowsNames};
 
-use e3_items::{bind, nothing_bound};
+use e3_items::{BoundNames, bind, nothing_bound};
 use e3_types::{Entry, NoMemory, Scenario};
-use e3_world::Binding;
 use std::alloc::Global;
 
 /// What names stand for behind the entries that were read so far: each entry is read once.
 #[derive(Drop)]
 pub struct Names {
-    pub binding: Binding,
+    pub binding: BoundNames,
     pub read: usize,
 }
 

@@ -2,9 +2,9 @@
 ghost use Rattle.std.specs.Prelude.{◌≡◌, ◌≤◌, ◌<◌, ◌^◌, ◌⊎◌, ◌∷◌, [], ℕ, List as Items, suc, true, length, IfOk, IfSome, IsErr, MatchOption, OnOk, OnErr, Ok, Err, None};
 ghost use Rattle.e3_play.specs.Known.{KnowsNames};
 ghost use Rattle.e3_play.specs.Played.{IsAsked, IsFresh, IsReady, IsSettled};
-ghost use Rattle.e3_sites.specs.Delivered.{IsFull};
-ghost use Rattle.e3_sites.specs.Settled.{is_asking};
-ghost use Rattle.e3_sites.specs.declared.sites.RunFault.TheVariants.{HistoryFull};
+ghost use Rattle.e3_play.specs.Delivered.{IsFull};
+ghost use Rattle.e3_play.specs.Settled.{is_asking};
+ghost use Rattle.e3_play.specs.declared.sites.RunFault.TheVariants.{HistoryFull};
 ghost use Rattle.e3_world.specs.Given.{IsGiven};
 ghost use Rattle.e3_types.specs.declared.scenarios.Item.TheVariants as item;
 ghost use Rattle.e3_world.specs.Packets.{lines, step_items};
@@ -13,8 +13,8 @@ use crate::alone::{crash, recovery, restart};
 use crate::kinds::{Kind, kind_of};
 use crate::names::Names;
 use crate::parting::parts_asked;
+use crate::{RunFault, Sites};
 use e3_items::{inputs_asked, step_items};
-use e3_sites::{RunFault, Sites};
 use e3_types::{Item, List, Scenario, SiteSet};
 use e3_world::Addressed;
 use std::alloc::Global;
@@ -65,7 +65,7 @@ fn exchange<S: Sites>(
     ensures full { result ≡ Err HistoryFull → IsFull scenario.now (S.entries sites.new) (S.most sites.old) }
 {
     names.read_on(alloc, scenario, sites.history())?;
-    let inputs = inputs_asked(alloc, names.binding.bound.as_slice(), items)?;
+    let inputs = inputs_asked(alloc, &names.binding, items)?;
     set_parts(alloc, scenario, sites, items)?;
     Ok(inputs)
 }

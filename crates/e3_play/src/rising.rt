@@ -1,10 +1,10 @@
 // The first rises.
 ghost use Rattle.std.specs.Prelude.{◌≡◌, [], length, OnOk, Err};
 ghost use Rattle.e3_play.specs.Played.{IsSettled};
-ghost use Rattle.e3_sites.specs.Delivered.{IsFull};
-ghost use Rattle.e3_sites.specs.declared.sites.RunFault.TheVariants.{HistoryFull};
+ghost use Rattle.e3_play.specs.Delivered.{IsFull};
+ghost use Rattle.e3_play.specs.declared.sites.RunFault.TheVariants.{HistoryFull};
 
-use e3_sites::{RunFault, Sites};
+use crate::{RunFault, Sites};
 
 /// Each site rises once, in ascending order.
 pub fn rise_all<S: Sites>(sites: &mut S, count: u32) -> Result<(), RunFault>

@@ -7,6 +7,7 @@ mod counts;
 mod elections;
 mod lives;
 mod logs;
+mod opens;
 mod operations;
 mod rounds;
 mod tables;
@@ -22,6 +23,7 @@ pub use logs::{
     last_attempt, last_attempt_by, last_elected, last_elected_by, lock_on, logged_inc, mode_of,
     state_of, voted_locks, voted_ops,
 };
+pub use opens::{add_undecided_in, in_order, open_in};
 pub use operations::{
     answers, arrivals, done, done_locks, expected, expected_by, holders, holds, is_among,
     is_answered, issued, kept_reason, nth_op, op_told, performed_by, queue, same_asked, taken_up,

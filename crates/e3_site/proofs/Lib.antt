@@ -1,1 +1,7 @@
 pub mod Standing
+mod Freedom
+mod Follows
+mod Firsts
+mod Walking
+mod Births
+mod Risen

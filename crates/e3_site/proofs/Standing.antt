@@ -1,11 +1,13 @@
 -- What a site that stands for a history plans, and that it goes on standing for it.
-use Rattle.std.proofs.Common.{◌≡◌, ℕ, List, [], ◌∷◌, ◌++◌, refl, sym, subst, ap, ◌∙◌, fold, Result, Ok, Err, IfOk}
+use Rattle.std.proofs.Common.{◌≡◌, true, ℕ, List, [], ◌∷◌, ◌++◌, refl, sym, subst, ap, ◌∙◌, fold, Result, Ok, Err, IfOk}
 use Rattle.std.proofs.lemmas.List.Sums.{fold-append}
-use Rattle.e3_opens.specs.Opens.{open_in}
+use Rattle.e3_readings.specs.Opens.{open_in}
+use Rattle.e3_past.proofs.Following.{step_follows}
 use Rattle.e3_past.specs.Standing.{TablesStand}
 use Rattle.e3_past.specs.Stepping.{ActAlike, IsBehind}
 use Rattle.e3_past.specs.declared.tables.Behind.{Behind}
 use Rattle.e3_past.specs.declared.tables.Tables.{Tables}
+use Rattle.e3_places.specs.Standing.{follow}
 use Rattle.e3_types.specs.declared.list.NoMemory.{NoMemory}
 use Rattle.e3_types.specs.declared.entries.Entry.{Entry}
 use Rattle.e3_types.specs.declared.entries.Input.{Input}
@@ -51,6 +53,10 @@ made_is : (sc : Scenario) (h : List Entry) (now : Incarnation) (s : SiteView) (i
 made_is sc h now s i stands is =
     ap (λ (n : Incarnation). plan_of n s i) (sym is)
     ∙ ap (λ (ws : List ℕ). step_kept i (step_of ws s.site (incarnation_of (moves_of sc h s.site)) i)) stands.weights_are
+
+-- the records of what an input makes the site do may follow its log
+pub plan_follows : (now : Incarnation) (s : SiteView) (i : Input) (step : SiteStep) → step ≡ plan_of now s i → follow (life_of now).log step.records ≡ true
+plan_follows now s i step is = ap (λ (m : SiteStep). follow (life_of now).log m.records) is ∙ step_follows s.weights s.site now i
 
 -- what is planned is kept of the step that is made
 pub planned_is : (now : Incarnation) (s : SiteView) (i : Input) (made : Made) (r : Result PlanView NoMemory) → made ≡ step_of s.weights s.site now i
@@ -100,14 +106,15 @@ step_moves sc h site i =
 
 -- so the value that did the planned step stands for the history with its entry
 pub stands_on : (old new : SiteView) (step : SiteStep) (inputs : ℕ) → new ≡ record old { inputs = inputs; tables = new.tables }
-    → ((now : Incarnation) → Stands now old → Stands (with_step now step) new) → StandsOn old step new
+    → ((now : Incarnation) (i : Input) → Stands now old → step ≡ plan_of now old i → Stands (with_step now step) new) → StandsOn old step new
 stands_on old new step inputs done on = λ sc h i stands made.
     let was : Incarnation = incarnation_of (moves_of sc h old.site) in
     record {
       weights_are = ap (λ (s : SiteView). s.weights) done ∙ stands.weights_are;
       site_is = ap (λ (s : SiteView). s.site) done;
       stands =
-          subst (λ (n : Incarnation). Stands n new) (ap (with_step was) made ∙ sym (step_moves sc h old.site i)) (on was stands.stands);
+          subst (λ (n : Incarnation). Stands n new) (ap (with_step was) made ∙ sym (step_moves sc h old.site i))
+          (on was i stands.stands (made ∙ sym (made_is sc h was old i stands refl)));
     }
 
 -- what a rise leaves is the log that it made

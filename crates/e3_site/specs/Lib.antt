@@ -1,2 +1,5 @@
 pub mod SiteView
 pub mod StandsFor
+pub mod Orderly
+pub mod Reading
+pub mod Rebuilt

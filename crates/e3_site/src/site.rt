@@ -1,8 +1,9 @@
 // A site while it is up.
 ghost use Rattle.std.specs.Prelude.{◌≡◌, ◌<◌, ◌^◌, IfOk, OnOk, List as Items, length};
-ghost use Rattle.e3_opens.specs.Opens.{open_in};
+ghost use Rattle.e3_readings.specs.Opens.{open_in};
 ghost use Rattle.e3_site.specs.SiteView.{HasRoomFor, IsPlanOf, Stands, count_on, plan_of, risen_with, with_step};
 ghost use Rattle.e3_site.specs.StandsFor.{ListsOpen, PlansStep, StandsOn, StandsRisen, StandsStill};
+ghost use Rattle.e3_types.specs.declared.entries.Input.{Input as Taken};
 ghost use Rattle.e3_types.specs.declared.records.Record.{Record};
 ghost use Rattle.e3_world.specs.declared.lives.Incarnation.{Incarnation};
 ghost use Rattle.e3_world.specs.Lives.{life_of};
@@ -109,13 +110,14 @@ impl Site {
         ready(self.alloc, &mut self.tables, plan.behind())
     }
 
-    /// Does the step of a plan of this site, and gives it back. It takes no memory.
+    /// Does the step of a plan of this site, and gives it back. The site stands for the incarnation with that step, if the step
+    /// is what some input makes it do there. It takes no memory.
     pub fn apply(&mut self, plan: Plan) -> SiteStep
         requires own { IsPlanOf plan self.old }
         requires room { HasRoomFor plan self.old }
         ensures step { result ≡ plan.step }
         ensures done { self.new ≡ record self.old { inputs = count_on self.old.inputs; tables = self.new.tables } }
-        ensures stand { (now : Incarnation) → Stands now self.old → Stands (with_step now plan.step) self.new }
+        ensures stand { (now : Incarnation) (input : Taken) → Stands now self.old → plan.step ≡ plan_of now self.old input → Stands (with_step now plan.step) self.new }
         ensures stands { StandsOn self.old plan.step self.new }
     {
         let (step, behind) = plan.into_parts();

@@ -5,8 +5,7 @@ ghost use Rattle.e3_law_brief.specs.Brief.{born_by, born_in, brief, inc_in, note
 ghost use Rattle.e3_world.specs.Items.{txn_of_record};
 
 use crate::notes::add_noted;
-use e3_opens::in_order;
-use e3_readings::{logged_inc, table_of};
+use e3_readings::{in_order, logged_inc, table_of};
 use e3_types::{Copied, List, NoMemory, Record, Row, Txn};
 use std::alloc::Global;
 

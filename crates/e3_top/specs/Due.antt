@@ -9,7 +9,7 @@ use Rattle.e3_law_commit.specs.Commits.{CommitRoundsEnd}
 use Rattle.e3_law_rounds.specs.Rounds.{RoundsAreBounded}
 use Rattle.e3_report.specs.Report.{report_of}
 use Rattle.e3_report.specs.Summary.{summary_of}
-use Rattle.e3_sites.specs.Delivered.{IsFull, IsOwed}
+use Rattle.e3_play.specs.Delivered.{IsFull, IsOwed}
 use Rattle.e3_scenario.specs.Faults.{fault_text}
 use Rattle.e3_scenario.specs.Scenarios.{scenario_of}
 use Rattle.e3_scenario.specs.declared.faults.ScenarioFault.{ScenarioFault}

@@ -1,7 +1,7 @@
 // All of a run but the writing of its text.
 ghost use Rattle.std.specs.Prelude.{Ok, Err, ◌≡◌, ◌≢◌, ◌≤◌, ◌⊎◌, [], IfErr, IfOk, OnOk, length};
 ghost use Rattle.e3_fleet.specs.Over.{AreBlank};
-ghost use Rattle.e3_sites.specs.Delivered.{IsFull};
+ghost use Rattle.e3_play.specs.Delivered.{IsFull};
 ghost use Rattle.e3_gen.specs.Generated.{generated_scenario};
 ghost use Rattle.e3_report.specs.Report.{report_of};
 ghost use Rattle.e3_report.specs.Summary.{summary_of};
@@ -24,9 +24,9 @@ use e3_law_commit::commits_end;
 use e3_law_rounds::rounds_end;
 use e3_law_serial::one_order;
 use e3_outside::{Gate, ReadFault, Source, read_up_to};
+use e3_play::RunFault;
 use e3_report::{report, summary};
 use e3_scenario::{ScenarioFault, fault_line, read_scenario};
-use e3_sites::RunFault;
 use e3_types::{List, NoMemory, Scenario};
 use e3_words::{Command, read_words};
 use e3_world::History;

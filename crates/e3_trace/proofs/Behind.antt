@@ -21,9 +21,9 @@ use Rattle.e3_types.specs.declared.transactions.Txn.{Txn}
 use Rattle.e3_lines.specs.Events.{told_text}
 use Rattle.e3_lines.specs.Records.{row_line, birth_row_line, birth_lines, read_line, write_line, op_line, vote_lines, inc_line, join_line, attempt_line, decision_line, record_lines}
 use Rattle.e3_lines.specs.Texts.{line_end, commas, txn_text, dir_text}
-use Rattle.e3_trace_lines.specs.Entries.{input_line, marked_record, packet_line as packet_text, told_mark_line}
-use Rattle.e3_trace_lines.specs.Inputs.{input_text}
-use Rattle.e3_trace_lines.specs.Messages.{message_text}
+use Rattle.e3_lines.specs.Entries.{input_line, marked_record, packet_line as packet_text, told_mark_line}
+use Rattle.e3_lines.specs.Inputs.{input_text}
+use Rattle.e3_lines.specs.Messages.{message_text}
 use Rattle.e3_trace.specs.declared.drafts.Draft.{Draft}
 use Rattle.e3_trace.specs.declared.drafts.Growing.{Growing}
 use Rattle.e3_trace.specs.declared.drafts.Growing.TheVariants as growing

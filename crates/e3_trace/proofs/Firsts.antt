@@ -10,8 +10,8 @@ use Rattle.e3_types.specs.declared.entries.Why.{Why}
 use Rattle.e3_types.specs.declared.entries.Why.TheVariants.{Fault, Full}
 use Rattle.e3_lines.specs.Texts.{parts_text, kept_text}
 use Rattle.e3_lines.specs.Events.{why_text}
-use Rattle.e3_trace_lines.specs.Inputs.{input_text}
-use Rattle.e3_trace_lines.specs.Entries.{parts_form, step_form, fall_form, rise_form, failed_rise_form, form_text}
+use Rattle.e3_lines.specs.Inputs.{input_text}
+use Rattle.e3_lines.specs.Entries.{parts_form, step_form, fall_form, rise_form, failed_rise_form, form_text}
 use Rattle.e3_trace.specs.declared.drafts.Draft.{Draft}
 use Rattle.e3_trace.specs.declared.drafts.Head.TheVariants as head
 use Rattle.e3_trace.specs.Cuts.{space, Form, made_of, pair_of, behind}

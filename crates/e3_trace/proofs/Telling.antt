@@ -13,7 +13,7 @@ use Rattle.e3_types.specs.declared.entries.Why.{Why}
 use Rattle.e3_types.specs.declared.messages.Packet.{Packet}
 use Rattle.e3_types.specs.declared.records.Record.{Record}
 use Rattle.e3_lines.specs.Texts.{line_end}
-use Rattle.e3_trace_lines.specs.Entries.{input_line, marked_record, packet_line as packet_text, told_mark_line, form_text, lines_behind, entry_trace, trace_of}
+use Rattle.e3_lines.specs.Entries.{input_line, marked_record, packet_line as packet_text, told_mark_line, form_text, lines_behind, entry_trace, trace_of}
 use Rattle.e3_trace.specs.declared.drafts.Draft.{Draft}
 use Rattle.e3_trace.specs.declared.drafts.Head.TheVariants as head
 use Rattle.e3_trace.specs.declared.faults.TraceFault.TheVariants as fault

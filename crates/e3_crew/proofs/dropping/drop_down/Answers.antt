@@ -4,7 +4,7 @@ use Rattle.e3_crew.specs.Drops.{DropHadNoRoom}
 use Rattle.e3_crew.proofs.Drops.{alone, came, crew_dropped, drop_full, dropped_gone_on, dropped_through, drops_owned, same_owners}
 use Rattle.e3_crew.proofs.Further.{settled_on}
 use Rattle.e3_node.specs.NodeStands.{NodeStands}
-use Rattle.e3_sites.specs.declared.sites.RunFault.TheVariants.{HistoryFull}
+use Rattle.e3_play.specs.declared.sites.RunFault.TheVariants.{HistoryFull}
 use Rattle.e3_turn.specs.Passes.{last_of, seen_by}
 use Rattle.e3_turn.specs.Chronicles.{count_of}
 use Rattle.e3_wire.specs.declared.marks.Mark.{Mark}

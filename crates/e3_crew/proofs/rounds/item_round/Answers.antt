@@ -2,7 +2,7 @@ use Rattle.std.proofs.Common.{◌<◌, ◌∙◌, List, sym, ap, subst, arith, l
 use Rattle.std.specs.Prelude.{slice_index_or}
 use Rattle.e3_crew.specs.Workers.{AddedByOthers}
 use Rattle.e3_node.specs.NodeView.{NodeView}
-use Rattle.e3_sites.specs.declared.sites.RunFault.TheVariants.{HistoryFull}
+use Rattle.e3_play.specs.declared.sites.RunFault.TheVariants.{HistoryFull}
 use Rattle.e3_turn.specs.Passes.{seen_by}
 use Rattle.e3_wire.specs.declared.marks.Mark.{Mark}
 use Rattle.e3_wire.specs.Wires.{IsPlayed}

@@ -1,8 +1,8 @@
 use Rattle.std.proofs.Common.{rules, ◌≡◌, Err, refl}
 use Rattle.e3_crew.proofs.Further.{begun_on, delivering_back, delivering_on, full_on, gone_further, gone_none, settled_on}
 use Rattle.e3_node.specs.Turns.{history_seen, scenario_seen}
-use Rattle.e3_sites.specs.Delivered.{IsPacketDue}
-use Rattle.e3_sites.specs.declared.sites.RunFault.TheVariants.{HistoryFull}
+use Rattle.e3_play.specs.Delivered.{IsPacketDue}
+use Rattle.e3_play.specs.declared.sites.RunFault.TheVariants.{HistoryFull}
 use Rattle.e3_turn.specs.Passes.{seen_by}
 use Rattle.e3_crew.proofs.settling.deliver.Goals as goal
 

@@ -2,8 +2,8 @@ use Rattle.std.proofs.Common.{◌≡◌, ◌+◌, ◌<◌, ◌∙◌, [], ℕ, a
 use Rattle.std.specs.Prelude.{OnOk}
 use Rattle.e3_crew.proofs.Further.{begun_on, crew_same, delivering_back, delivering_on, full_on, gone_further, gone_none, ok_of}
 use Rattle.e3_node.specs.Turns.{history_seen, scenario_seen}
-use Rattle.e3_sites.specs.Delivered.{IsFullBefore, IsItemDue, IsItemOrPacket, IsPacketDue}
-use Rattle.e3_sites.proofs.Bounds.{full_too}
+use Rattle.e3_play.specs.Delivered.{IsFullBefore, IsItemDue, IsItemOrPacket, IsPacketDue}
+use Rattle.e3_play.proofs.Bounds.{full_too}
 use Rattle.e3_turn.specs.Passes.{seen_by}
 use Rattle.e3_types.specs.declared.scenarios.Scenario.{Scenario}
 use Rattle.e3_wire.specs.Marks.{most_of}

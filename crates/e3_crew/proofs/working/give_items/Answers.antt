@@ -4,7 +4,7 @@ use Rattle.e3_crew.specs.Workers.{ItemHadNoRoom}
 use Rattle.e3_crew.proofs.Taking.{at_index, item_may, item_refused, next_given, plain_at}
 use Rattle.e3_crew.proofs.Turning.{worked_none, worked_on}
 use Rattle.e3_node.specs.Turns.{history_seen, scenario_seen}
-use Rattle.e3_sites.specs.declared.sites.RunFault.TheVariants.{HistoryFull}
+use Rattle.e3_play.specs.declared.sites.RunFault.TheVariants.{HistoryFull}
 use Rattle.e3_turn.specs.Passes.{seen_by}
 use Rattle.e3_crew.proofs.working.give_items.Goals as goal
 

@@ -3,7 +3,7 @@ use Rattle.e3_crew.specs.Workers.{PacketHadNoRoom}
 use Rattle.e3_crew.proofs.Taking.{packet_may, packet_refused, through_worked}
 use Rattle.e3_crew.proofs.Turning.{worked_none, worked_on}
 use Rattle.e3_node.specs.Turns.{history_seen, scenario_seen}
-use Rattle.e3_sites.specs.declared.sites.RunFault.TheVariants.{HistoryFull}
+use Rattle.e3_play.specs.declared.sites.RunFault.TheVariants.{HistoryFull}
 use Rattle.e3_turn.specs.Passes.{seen_by}
 use Rattle.e3_crew.proofs.working.give_packets.Goals as goal
 

@@ -4,7 +4,7 @@ use Rattle.e3_fleet.specs.Fleets.{nodes_of}
 use Rattle.e3_fleet.proofs.Ending.{came_back, never_began, room_left, unarmed}
 use Rattle.e3_fleet.proofs.Holding.{nodes_length}
 use Rattle.e3_fleet.proofs.flying.play_over.Goals as goal
-use Rattle.e3_sites.specs.Delivered.{IsFull}
+use Rattle.e3_play.specs.Delivered.{IsFull}
 use Rattle.e3_types.specs.declared.entries.Entry.{Entry}
 use Rattle.e3_types.specs.declared.scenarios.Scenario.{Scenario}
 

@@ -5,10 +5,10 @@ use Rattle.e3_fleet.proofs.playing.play_step.Goals as goal
 use Rattle.e3_play.specs.Played.{IsReady, IsSettled}
 use Rattle.e3_play.proofs.Answered.{always, on_ok_two}
 use Rattle.e3_play.proofs.Knowing.{knows_step}
-use Rattle.e3_sites.specs.Delivered.{IsFull, IsFullBefore, IsItemOrPacket, IsOwed, OfSites}
-use Rattle.e3_sites.specs.Settled.{StaysInStep, is_asking}
-use Rattle.e3_sites.proofs.Bounds.{full_too}
-use Rattle.e3_sites.proofs.Steps.{same_step}
+use Rattle.e3_play.specs.Delivered.{IsFull, IsFullBefore, IsItemOrPacket, IsOwed, OfSites}
+use Rattle.e3_play.specs.Settled.{StaysInStep, is_asking}
+use Rattle.e3_play.proofs.Bounds.{full_too}
+use Rattle.e3_play.proofs.SameSteps.{same_step}
 use Rattle.e3_types.specs.declared.entries.Entry.{Entry}
 use Rattle.e3_types.specs.declared.scenarios.Scenario.{Scenario}
 use Rattle.e3_world.specs.Items.{plan_of}

@@ -6,9 +6,9 @@ use Rattle.e3_fleet.specs.Fleets.{FleetStands, IsFleetOn, nodes_of}
 use Rattle.e3_fleet.proofs.Holding.{crew_of, filled, may_put, nothing_added, taken_again, told_of}
 use Rattle.e3_fleet.proofs.Working.{crew_on}
 use Rattle.e3_fleet.proofs.settling.settled_by.Goals as goal
-use Rattle.e3_sites.specs.Delivered.{IsFullBefore, IsItemOrPacket}
-use Rattle.e3_sites.specs.Settled.{StaysInStep, is_asking}
-use Rattle.e3_sites.specs.declared.sites.RunFault.TheVariants.{HistoryFull}
+use Rattle.e3_play.specs.Delivered.{IsFullBefore, IsItemOrPacket}
+use Rattle.e3_play.specs.Settled.{StaysInStep, is_asking}
+use Rattle.e3_play.specs.declared.sites.RunFault.TheVariants.{HistoryFull}
 use Rattle.e3_turn.specs.Passes.{seen_by}
 use Rattle.e3_wire.specs.declared.marks.Mark.{Mark}
 use Rattle.e3_wire.specs.Marks.{entries_of, most_of, scenario_of}

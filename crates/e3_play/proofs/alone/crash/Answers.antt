@@ -2,10 +2,10 @@ use Rattle.std.proofs.Common.{◌∙◌, List, refl, sym, subst}
 use Rattle.e3_types.specs.declared.entries.Entry.{Entry}
 use Rattle.e3_types.specs.declared.scenarios.Scenario.{Scenario}
 use Rattle.e3_world.specs.Legal.{IsLegal}
-use Rattle.e3_sites.specs.Delivered.{IsFull}
-use Rattle.e3_sites.specs.declared.sites.RunFault.TheVariants.{HistoryFull}
+use Rattle.e3_play.specs.Delivered.{IsFull}
+use Rattle.e3_play.specs.declared.sites.RunFault.TheVariants.{HistoryFull}
 use Rattle.e3_types.specs.declared.entries.Act.TheVariants as act
-use Rattle.e3_sites.proofs.Steps.{stays_kept, stays_none, stays_one}
+use Rattle.e3_play.proofs.SameSteps.{stays_kept, stays_none, stays_one}
 use Rattle.e3_play.proofs.Answered.{of_both, of_err, on_ok}
 use Rattle.e3_play.proofs.Settling.{crash_full, cut_settles}
 use Rattle.e3_play.proofs.alone.crash.Goals as goal

@@ -1,6 +1,6 @@
 use Rattle.std.proofs.Common.{rules}
 use Rattle.e3_play.proofs.Settling.{recovery_full, recovery_settles}
-use Rattle.e3_sites.specs.Delivered.{IsFullBefore, IsPacketOrRound}
+use Rattle.e3_play.specs.Delivered.{IsFullBefore, IsPacketOrRound}
 use Rattle.e3_play.proofs.alone.recovery.Goals as goal
 
 pub returns-clause-settles : goal.returns-clause-settles

@@ -1,7 +1,7 @@
 use Rattle.std.proofs.Common.{◌≡◌, ◌∙◌, [], ℕ, sym, subst, ap}
 use Rattle.e3_items.specs.Bindings.{bound_behind}
-use Rattle.e3_sites.specs.Settled.{is_asking}
-use Rattle.e3_sites.proofs.Steps.{same_step}
+use Rattle.e3_play.specs.Settled.{is_asking}
+use Rattle.e3_play.proofs.SameSteps.{same_step}
 use Rattle.e3_play.specs.Known.{KnowsNames}
 use Rattle.e3_play.specs.declared.names.Names.{Names}
 use Rattle.e3_play.proofs.Knowing.{asks_plan, knows_all, knows_step}
@@ -17,8 +17,8 @@ returns-clause-ready g c =
     record {
       begun = λ none. c.requires.fresh.begun (sym (same_step sc start asked c.in_ok-set_parts.ensures.asked.grown).at ∙ none);
       form = ap is_asking ((same_step sc start asked c.in_ok-set_parts.ensures.asked.grown).present ∙ c.requires.fresh.present) ∙ c.requires.form;
-      asked = asks_plan sc start asked c.args.items.now c.as_slice.result.now c.in_ok-inputs.inputs c.requires.fresh
-          (c.as_slice.ensures ∙ ap (λ (n : Names). n.binding.bound) c.in_ok-read_on.ensures ∙ ap (λ h. (bound_behind sc h).bound) c.history.ensures)
+      asked = asks_plan sc start asked c.args.items.now c.read_on.new.self.binding.bound c.in_ok-inputs.inputs c.requires.fresh
+          (ap (λ (n : Names). n.binding.bound) c.in_ok-read_on.ensures ∙ ap (λ h. (bound_behind sc h).bound) c.history.ensures)
           c.in_ok-inputs.ensures c.in_ok-set_parts.ensures.asked.grown;
       fresh = c.in_ok-set_parts.ensures.asked.fresh;
       settles = λ now grown done none. exchange_settles sc start asked now c.args.items.now c.requires.fresh c.requires.form c.in_ok-set_parts.ensures.asked grown done none;

@@ -2,8 +2,8 @@ use Rattle.std.proofs.Common.{◌∙◌, sym, subst, List}
 use Rattle.e3_types.specs.declared.entries.Entry.{Entry}
 use Rattle.e3_types.specs.declared.scenarios.Scenario.{Scenario}
 use Rattle.e3_world.specs.Legal.{IsParts}
-use Rattle.e3_sites.specs.Delivered.{IsFull}
-use Rattle.e3_sites.specs.declared.sites.RunFault.TheVariants.{HistoryFull}
+use Rattle.e3_play.specs.Delivered.{IsFull}
+use Rattle.e3_play.specs.declared.sites.RunFault.TheVariants.{HistoryFull}
 use Rattle.e3_play.proofs.Answered.{of_err, on_ok}
 use Rattle.e3_play.proofs.Steps.{no_parts, parts_are_due, parts_entered, parts_full}
 use Rattle.e3_play.proofs.playing.set_parts.Goals as goal

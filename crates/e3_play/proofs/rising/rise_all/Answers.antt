@@ -1,6 +1,6 @@
 use Rattle.std.proofs.Common.{◌≡◌, ◌∙◌, ◌+◌, ◌≤◌, [], ℕ, suc, List, sym, subst, ap, length, add-one, arith, rules}
-use Rattle.e3_sites.specs.Delivered.{IsFull}
-use Rattle.e3_sites.specs.Entering.{AfterRise}
+use Rattle.e3_play.specs.Delivered.{IsFull}
+use Rattle.e3_play.specs.Entering.{AfterRise}
 use Rattle.e3_world.specs.Packets.{pending}
 use Rattle.e3_world.proofs.Rises.{Rising}
 use Rattle.e3_types.specs.declared.entries.Entry.{Entry}

@@ -1,5 +1,4 @@
-use Rattle.std.proofs.Common.{◌∙◌, ap, List}
-use Rattle.e3_world.specs.declared.names.Bound.{Bound}
+use Rattle.std.proofs.Common.{◌∙◌, ap}
 use Rattle.std.specs.Prelude.{filter_map}
 use Rattle.e3_items.specs.Inputs.{input_with}
 use Rattle.e3_world.specs.Packets.{step_items}
@@ -9,6 +8,6 @@ use Rattle.e3_audit.proofs.auditor.Auditor.line.Goals as goal
 pub begin-requires-clause-asked : goal.begin-requires-clause-asked
 begin-requires-clause-asked c =
     asks c.args.scenario.now c.args.before.now c.args.number _ (c.in_ok-due.ensures c.if-not-due.false).next
-    (c.as_slice-2.ensures ∙ c.in_ok-asked.ensures ∙ ap (λ (b : List Bound). filter_map (input_with b) c.step_items-items.result.now) c.as_slice.ensures
+    (c.as_slice.ensures ∙ c.in_ok-asked.ensures
     ∙ ap (λ items. filter_map (input_with c.args.binding.now.bound) items) c.step_items-items.ensures
     ∙ ap (λ b. filter_map (input_with b.bound) (step_items c.args.scenario.now c.args.number)) c.requires.bound)

@@ -7,7 +7,7 @@ use Rattle.e3_fleet.proofs.Going.{Went, node_on}
 use Rattle.e3_fleet.proofs.Owned.{input_entered, input_kept, input_went, takes_so}
 use Rattle.e3_fleet.proofs.Holding.{node_there, worker_on}
 use Rattle.e3_fleet.proofs.held.Held.input_at.Goals as goal
-use Rattle.e3_sites.specs.Entering.{AfterInput}
+use Rattle.e3_play.specs.Entering.{AfterInput}
 use Rattle.e3_world.specs.Legal.{IsDue}
 use Rattle.e3_wire.specs.Marks.{entries_of, scenario_of}
 

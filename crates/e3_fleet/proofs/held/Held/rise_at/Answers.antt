@@ -7,7 +7,7 @@ use Rattle.e3_fleet.proofs.Going.{Went, node_on}
 use Rattle.e3_fleet.proofs.Owned.{rise_kept, rise_rose, rise_went}
 use Rattle.e3_fleet.proofs.Holding.{node_there, worker_on}
 use Rattle.e3_fleet.proofs.held.Held.rise_at.Goals as goal
-use Rattle.e3_sites.specs.Entering.{AfterRise}
+use Rattle.e3_play.specs.Entering.{AfterRise}
 use Rattle.e3_world.specs.Items.{is_up_at}
 use Rattle.e3_world.specs.Legal.{IsRising}
 use Rattle.e3_world.proofs.Turns.{true_not_false}

@@ -1,5 +1,5 @@
 use Rattle.std.proofs.Common.{◌≡◌, IfOk, subst}
-use Rattle.e3_opens.specs.Opens.{open_in}
+use Rattle.e3_readings.specs.Opens.{open_in}
 use Rattle.e3_site.proofs.Standing.{lists_open, opens_are}
 use Rattle.e3_site.specs.SiteView.{SiteView, Stands}
 use Rattle.e3_world.specs.Lives.{life_of}

@@ -1,3 +1,0 @@
-pub mod LeftOf
-pub mod RoundOf
-pub mod Standing

@@ -1,0 +1,175 @@
+// The rounds of a recover step: for each transaction that is open at a member of the group that is up, in ascending order.
+ghost use Rattle.std.specs.Prelude.{◌≡◌, ◌++◌, [], ◌∷◌, fold, filter, map, find, length, option_copied, IfOk};
+ghost use Rattle.std.specs.List.{flat_map};
+ghost use Rattle.e3_types.specs.Sets.{has_site};
+ghost use Rattle.e3_world.specs.Items.{add_txn, began_in, due_round, elected_txn, inputs_of, is_up_at, known_txns, listed, open_at, recover_group, rounds_left, since_line, txn_of_record};
+ghost use Rattle.e3_world.specs.Logs.{is_undecided};
+ghost use Rattle.e3_world.specs.Operations.{arrivals};
+
+use crate::items::{is_up_at, since_line, to_line};
+use crate::packets::present_items;
+use crate::sites::incarnation_at;
+use e3_items::{RecoveryRound, rounds_of};
+use e3_readings::{add_undecided_in, in_order, life_of};
+use e3_types::{Act, Entry, Input, Item, List, NoMemory, Record, Scenario, SiteSet, Told, Txn};
+use e3_world::{Life, Moment};
+use std::alloc::Global;
+
+// Adds the undecided transactions that a site knows.
+fn add_open(
+    alloc: Global,
+    sc: &Scenario,
+    history: &[Entry],
+    site: u32,
+    out: &mut List<Txn>,
+) -> Result<(), NoMemory>
+    ensures { IfOk result (λ u. out.new ≡ out.old ++ open_at sc.now history.now site) }
+{
+    let incarnation = incarnation_at(alloc, sc, history, site)?;
+    let life = life_of(
+        alloc,
+        incarnation.rose.as_slice(),
+        incarnation.since.as_slice(),
+    )?;
+    add_undecided_in(alloc, site, &life, out)
+}
+
+/// The undecided transactions that these sites know, some more than once.
+pub(crate) fn open_of(
+    alloc: Global,
+    sc: &Scenario,
+    history: &[Entry],
+    sites: &[u32],
+) -> Result<List<Txn>, NoMemory>
+    ensures { IfOk result (λ txns. txns ≡ flat_map (open_at sc.now history.now) sites.now) }
+{
+    let mut txns = List::new(alloc);
+    for site in sites {
+        add_open(alloc, sc, history, *site, &mut txns)?;
+    }
+    Ok(txns)
+}
+
+// Those of the group that are up.
+fn up_in(alloc: Global, history: &[Entry], group: SiteSet) -> Result<List<u32>, NoMemory>
+    ensures { IfOk result (λ up. up ≡ filter (is_up_at history.now) group) }
+{
+    let mut up = List::new(alloc);
+    for site in group.iter() {
+        if is_up_at(history, site) {
+            up.push(site)?;
+        }
+    }
+    Ok(up)
+}
+
+// The rounds that a recover step with this group lists at its start.
+fn listed(
+    alloc: Global,
+    sc: &Scenario,
+    start: &[Entry],
+    group: SiteSet,
+) -> Result<List<RecoveryRound>, NoMemory>
+    ensures { IfOk result (λ rounds. rounds ≡ listed sc.now start.now group) }
+{
+    let up = up_in(alloc, start, group)?;
+    let open = open_of(alloc, sc, start, up.as_slice())?;
+    let txns = in_order(alloc, open.as_slice())?;
+    rounds_of(alloc, txns.as_slice(), up.as_slice())
+}
+
+// The group of a recover step.
+fn recover_group(items: &[Item]) -> Option<SiteSet>
+    ensures { result ≡ recover_group items.now }
+{
+    match items {
+        [Item::Recover { sites }, ..] => Some(*sites),
+        _ => None,
+    }
+}
+
+// Adds the transactions of the Elects among these inputs.
+fn add_elects(inputs: &[Input], txns: &mut List<Txn>) -> Result<(), NoMemory>
+    ensures { IfOk result (λ u. txns.new ≡ txns.old ++ flat_map elected_txn inputs.now) }
+{
+    for i in inputs {
+        if let Input::Elect { txn, .. } = i {
+            txns.push(*txn)?;
+        }
+    }
+    Ok(())
+}
+
+// Adds the transactions of the Elects of an act.
+fn add_elected(act: &Act, txns: &mut List<Txn>) -> Result<(), NoMemory>
+    ensures { IfOk result (λ u. txns.new ≡ txns.old ++ flat_map elected_txn (inputs_of act.now)) }
+{
+    match act {
+        Act::Step { input, .. } => match input {
+            Input::Elect { txn, .. } => txns.push(*txn),
+            _ => Ok(()),
+        },
+        Act::Fall { inputs, .. } => add_elects(inputs.as_slice(), txns),
+        _ => Ok(()),
+    }
+}
+
+// The transactions of the Elects of the present step, in turn.
+fn made_txns(alloc: Global, history: &[Entry]) -> Result<List<Txn>, NoMemory>
+    ensures { IfOk result (λ txns. txns ≡ flat_map elected_txn (flat_map (λ e. inputs_of e.act) (since_line history.now))) }
+{
+    let mut txns = List::new(alloc);
+    for e in since_line(history) {
+        add_elected(&e.act, &mut txns)?;
+    }
+    Ok(txns)
+}
+
+// The rounds that are left behind the Elects of these transactions.
+fn rounds_left<'a>(made: &[Txn], rounds: &'a [RecoveryRound]) -> &'a [RecoveryRound]
+    ensures { result.now ≡ rounds_left made.now rounds.now }
+{
+    match made {
+        [] => rounds,
+        [t, later @ ..] => match rounds {
+            [] => rounds,
+            [r, rest @ ..] => {
+                if t.is_same(&r.txn) {
+                    rounds_left(later, rest)
+                } else {
+                    rounds_left(made, rest)
+                }
+            }
+        },
+    }
+}
+
+// The first of these rounds whose elector is up.
+fn first_up(history: &[Entry], rounds: &[RecoveryRound]) -> Option<RecoveryRound>
+    ensures { result ≡ find (λ r. is_up_at history.now r.elector) rounds.now }
+{
+    for r in rounds {
+        if is_up_at(history, r.elector) {
+            return Some(r.copy());
+        }
+    }
+    None
+}
+
+/// The next round to be made: the first that is left whose elector is up.
+pub fn due_round(
+    alloc: Global,
+    sc: &Scenario,
+    history: &[Entry],
+) -> Result<Option<RecoveryRound>, NoMemory>
+    ensures { IfOk result (λ due. due ≡ due_round sc.now history.now) }
+{
+    match recover_group(present_items(sc, history)) {
+        None => Ok(None),
+        Some(group) => {
+            let made = made_txns(alloc, history)?;
+            let rounds = listed(alloc, sc, to_line(history), group)?;
+            Ok(first_up(history, rounds_left(made.as_slice(), rounds.as_slice())))
+        }
+    }
+}

@@ -1,0 +1,77 @@
+// The inputs of sites, as a trace has them.
+ghost use Rattle.std.specs.Prelude.{◌≡◌, ◌++◌, OnOk};
+ghost use Rattle.e3_lines.specs.Texts.{txn_text};
+ghost use Rattle.e3_lines.specs.Inputs.{operation_text, begin_input, do_input, elect_input, input_text};
+
+use crate::{push_key, push_labelled, push_sites, push_text, push_txn};
+use e3_types::{Input, List, NoMemory, Op, SiteSet, Txn};
+
+/// Adds an operation.
+#[tactic(auto, unfolding(crate::specs::Inputs::operation_text))]
+pub(crate) fn push_operation(out: &mut List<u8>, op: &Op) -> Result<(), NoMemory>
+    ensures { OnOk result (out.new ≡ out.old ++ operation_text op.now) }
+{
+    match op {
+        Op::Read(key) => {
+            push_text(out, "read ")?;
+            push_key(out, key)
+        }
+        Op::Write(key, val) => {
+            push_text(out, "write ")?;
+            push_key(out, key)?;
+            push_text(out, " ")?;
+            out.extend(val.bytes())
+        }
+    }
+}
+
+#[tactic(auto, unfolding(crate::specs::Inputs::begin_input))]
+fn push_begin(out: &mut List<u8>, sites: SiteSet) -> Result<(), NoMemory>
+    ensures { OnOk result (out.new ≡ out.old ++ begin_input sites) }
+{
+    push_text(out, "begin ")?;
+    push_sites(out, sites)
+}
+
+#[tactic(auto, unfolding(crate::specs::Inputs::do_input))]
+fn push_do(out: &mut List<u8>, txn: &Txn, op: &Op) -> Result<(), NoMemory>
+    ensures { OnOk result (out.new ≡ out.old ++ do_input txn.now op.now) }
+{
+    push_text(out, "do ")?;
+    push_txn(out, txn)?;
+    push_text(out, " ")?;
+    push_operation(out, op)
+}
+
+#[tactic(auto, unfolding(crate::specs::Inputs::elect_input))]
+fn push_elect(out: &mut List<u8>, txn: &Txn, sites: SiteSet) -> Result<(), NoMemory>
+    ensures { OnOk result (out.new ≡ out.old ++ elect_input txn.now sites) }
+{
+    push_text(out, "elect ")?;
+    push_txn(out, txn)?;
+    push_text(out, " ")?;
+    push_sites(out, sites)
+}
+
+fn push_word_and_txn(out: &mut List<u8>, word: &str, txn: &Txn) -> Result<(), NoMemory>
+    ensures { OnOk result (out.new ≡ out.old ++ (word.now ++ txn_text txn.now)) }
+{
+    push_text(out, word)?;
+    push_txn(out, txn)
+}
+
+/// Adds an input.
+#[tactic(auto, unfolding(crate::specs::Inputs::input_text))]
+pub(crate) fn push_input(out: &mut List<u8>, input: &Input) -> Result<(), NoMemory>
+    ensures { OnOk result (out.new ≡ out.old ++ input_text input.now) }
+{
+    match input {
+        Input::Begin { sites } => push_begin(out, *sites),
+        Input::Do { txn, op } => push_do(out, txn, op),
+        Input::Commit { txn } => push_word_and_txn(out, "commit ", txn),
+        Input::Cancel { txn } => push_word_and_txn(out, "cancel ", txn),
+        Input::Expire { txn } => push_word_and_txn(out, "expire ", txn),
+        Input::Elect { txn, group } => push_elect(out, txn, *group),
+        Input::Deliver { packet } => push_labelled(out, "deliver ", packet.number),
+    }
+}

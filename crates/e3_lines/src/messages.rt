@@ -1,0 +1,200 @@
+// The messages of sites, as a trace has them.
+ghost use Rattle.std.specs.Prelude.{◌≡◌, ◌++◌, OnOk, codes};
+ghost use Rattle.e3_lines.specs.Messages.{txn_and_number, txn_and_call, txn_and_attempt, do_message, done_message, died_message, last_message, report_message, votereq_message, yes_text, vote_message, decide_message, message_text};
+
+use crate::inputs::push_operation;
+use crate::{push_answer, push_dir, push_number, push_state, push_text, push_txn};
+use e3_types::{Answer, Call, Dir, List, Message, NoMemory, Op, State, Txn};
+
+#[tactic(auto, unfolding(crate::specs::Messages::txn_and_number))]
+fn push_txn_and_number(out: &mut List<u8>, txn: &Txn, n: u32) -> Result<(), NoMemory>
+    ensures { OnOk result (out.new ≡ out.old ++ txn_and_number txn.now n) }
+{
+    push_txn(out, txn)?;
+    push_text(out, " ")?;
+    push_number(out, n as u64)
+}
+
+#[tactic(auto, unfolding(crate::specs::Messages::txn_and_call))]
+fn push_txn_and_call(out: &mut List<u8>, txn: &Txn, call: Call) -> Result<(), NoMemory>
+    ensures { OnOk result (out.new ≡ out.old ++ txn_and_call txn.now call) }
+{
+    push_txn(out, txn)?;
+    push_text(out, " ")?;
+    push_number(out, call.inc as u64)?;
+    push_text(out, " ")?;
+    push_number(out, call.seq as u64)
+}
+
+#[tactic(auto, unfolding(crate::specs::Messages::txn_and_attempt))]
+fn push_txn_and_attempt(out: &mut List<u8>, txn: &Txn, n: u32, dir: Dir) -> Result<(), NoMemory>
+    ensures { OnOk result (out.new ≡ out.old ++ txn_and_attempt txn.now n dir) }
+{
+    push_txn_and_number(out, txn, n)?;
+    push_text(out, " ")?;
+    push_dir(out, dir)
+}
+
+#[tactic(auto, unfolding(crate::specs::Messages::do_message))]
+fn push_do(out: &mut List<u8>, txn: &Txn, n: u32, op: &Op) -> Result<(), NoMemory>
+    ensures { OnOk result (out.new ≡ out.old ++ do_message txn.now n op.now) }
+{
+    push_text(out, "do ")?;
+    push_txn_and_number(out, txn, n)?;
+    push_text(out, " ")?;
+    push_operation(out, op)
+}
+
+#[tactic(auto, unfolding(crate::specs::Messages::done_message))]
+fn push_done(
+    out: &mut List<u8>,
+    txn: &Txn,
+    n: u32,
+    inc: u32,
+    answer: &Answer,
+) -> Result<(), NoMemory>
+    ensures { OnOk result (out.new ≡ out.old ++ done_message txn.now n inc answer.now) }
+{
+    push_text(out, "done ")?;
+    push_txn_and_number(out, txn, n)?;
+    push_text(out, " ")?;
+    push_number(out, inc as u64)?;
+    push_text(out, " ")?;
+    push_answer(out, answer)
+}
+
+#[tactic(auto, unfolding(crate::specs::Messages::died_message))]
+fn push_died(out: &mut List<u8>, txn: &Txn, n: u32, older: &Txn) -> Result<(), NoMemory>
+    ensures { OnOk result (out.new ≡ out.old ++ died_message txn.now n older.now) }
+{
+    push_text(out, "died ")?;
+    push_txn_and_number(out, txn, n)?;
+    push_text(out, " ")?;
+    push_txn(out, older)
+}
+
+fn push_ask(out: &mut List<u8>, txn: &Txn, call: Call) -> Result<(), NoMemory>
+    ensures { OnOk result (out.new ≡ out.old ++ (codes "ask " ++ txn_and_call txn.now call)) }
+{
+    push_text(out, "ask ")?;
+    push_txn_and_call(out, txn, call)
+}
+
+#[tactic(auto, unfolding(crate::specs::Messages::last_message))]
+fn push_last(out: &mut List<u8>, txn: &Txn, call: Call, elected: u32) -> Result<(), NoMemory>
+    ensures { OnOk result (out.new ≡ out.old ++ last_message txn.now call elected) }
+{
+    push_text(out, "last ")?;
+    push_txn_and_call(out, txn, call)?;
+    push_text(out, " ")?;
+    push_number(out, elected as u64)
+}
+
+#[tactic(auto, unfolding(crate::specs::Messages::report_message))]
+fn push_report(
+    out: &mut List<u8>,
+    txn: &Txn,
+    n: u32,
+    state: State,
+    attempt: u32,
+) -> Result<(), NoMemory>
+    ensures { OnOk result (out.new ≡ out.old ++ report_message txn.now n state attempt) }
+{
+    push_text(out, "report ")?;
+    push_txn_and_number(out, txn, n)?;
+    push_text(out, " ")?;
+    push_state(out, state)?;
+    push_text(out, " ")?;
+    push_number(out, attempt as u64)
+}
+
+#[tactic(auto, unfolding(crate::specs::Messages::votereq_message))]
+fn push_votereq(out: &mut List<u8>, txn: &Txn, inc: u32, count: u32) -> Result<(), NoMemory>
+    ensures { OnOk result (out.new ≡ out.old ++ votereq_message txn.now inc count) }
+{
+    push_text(out, "votereq ")?;
+    push_txn_and_number(out, txn, inc)?;
+    push_text(out, " ")?;
+    push_number(out, count as u64)
+}
+
+#[tactic(auto, unfolding(crate::specs::Messages::yes_text))]
+fn push_yes(out: &mut List<u8>, agreed: bool) -> Result<(), NoMemory>
+    ensures { OnOk result (out.new ≡ out.old ++ yes_text agreed) }
+{
+    if agreed {
+        push_text(out, " yes")
+    } else {
+        push_text(out, " no")
+    }
+}
+
+#[tactic(auto, unfolding(crate::specs::Messages::vote_message))]
+fn push_vote(out: &mut List<u8>, txn: &Txn, agreed: bool) -> Result<(), NoMemory>
+    ensures { OnOk result (out.new ≡ out.old ++ vote_message txn.now agreed) }
+{
+    push_text(out, "vote ")?;
+    push_txn(out, txn)?;
+    push_yes(out, agreed)
+}
+
+fn push_word_and_number(out: &mut List<u8>, word: &str, txn: &Txn, n: u32) -> Result<(), NoMemory>
+    ensures { OnOk result (out.new ≡ out.old ++ (word.now ++ txn_and_number txn.now n)) }
+{
+    push_text(out, word)?;
+    push_txn_and_number(out, txn, n)
+}
+
+fn push_word_and_attempt(
+    out: &mut List<u8>,
+    word: &str,
+    txn: &Txn,
+    n: u32,
+    dir: Dir,
+) -> Result<(), NoMemory>
+    ensures { OnOk result (out.new ≡ out.old ++ (word.now ++ txn_and_attempt txn.now n dir)) }
+{
+    push_text(out, word)?;
+    push_txn_and_attempt(out, txn, n, dir)
+}
+
+#[tactic(auto, unfolding(crate::specs::Messages::decide_message))]
+fn push_decide(out: &mut List<u8>, txn: &Txn, dir: Dir) -> Result<(), NoMemory>
+    ensures { OnOk result (out.new ≡ out.old ++ decide_message txn.now dir) }
+{
+    push_text(out, "decide ")?;
+    push_txn(out, txn)?;
+    push_text(out, " ")?;
+    push_dir(out, dir)
+}
+
+/// Adds a message.
+#[tactic(auto, unfolding(crate::specs::Messages::message_text))]
+pub(crate) fn push_message(out: &mut List<u8>, msg: &Message) -> Result<(), NoMemory>
+    ensures { OnOk result (out.new ≡ out.old ++ message_text msg.now) }
+{
+    match msg {
+        Message::Do { txn, n, op } => push_do(out, txn, *n, op),
+        Message::Done {
+            txn,
+            n,
+            inc,
+            answer,
+        } => push_done(out, txn, *n, *inc, answer),
+        Message::Died { txn, n, older } => push_died(out, txn, *n, older),
+        Message::Ask { txn, call } => push_ask(out, txn, *call),
+        Message::LastElected { txn, call, elected } => push_last(out, txn, *call, *elected),
+        Message::Elected { txn, n } => push_word_and_number(out, "elected ", txn, *n),
+        Message::Report {
+            txn,
+            n,
+            state,
+            attempt,
+        } => push_report(out, txn, *n, *state, *attempt),
+        Message::VoteReq { txn, inc, count } => push_votereq(out, txn, *inc, *count),
+        Message::Vote { txn, yes } => push_vote(out, txn, *yes),
+        Message::Pre { txn, n, dir } => push_word_and_attempt(out, "pre ", txn, *n, *dir),
+        Message::Ack { txn, n, dir } => push_word_and_attempt(out, "ack ", txn, *n, *dir),
+        Message::Decide { txn, dir } => push_decide(out, txn, *dir),
+    }
+}

@@ -1,0 +1,155 @@
+use Rattle.std.proofs.Common.{◌≡◌, ◌∙◌, ◌++◌, ◌∷◌, [], ◌+◌, ◌≤◌, ℕ, zero, suc, get_or, List, length, drop, take, refl, sym, subst, ap, drop-cons, arith, rules}
+use Rattle.std.proofs.lemmas.List.{take_more}
+use Rattle.e3_play.specs.Delivered.{IsFullBefore, IsPacketOrRound}
+use Rattle.e3_types.specs.declared.scenarios.Scenario.{Scenario}
+use Rattle.e3_world.specs.Given.{IsGiven}
+use Rattle.e3_world.specs.Items.{RecoveryRound, due_round, listed}
+use Rattle.e3_world.specs.Legal.{IsLegal}
+use Rattle.e3_play.specs.Reports.{HadTurns, IsTurn}
+use Rattle.e3_play.specs.Rounds.{AfterRound}
+use Rattle.e3_play.specs.declared.reporting.RoundReport.{RoundReport}
+use Rattle.e3_play.proofs.Falling.{UpOrFell, WereUp, listed_were_up}
+use Rattle.e3_play.proofs.Left.{first_due}
+use Rattle.e3_play.proofs.Making.{InRounds, begin_rounds, round_on, rounds_end}
+use Rattle.e3_play.proofs.Turning.{had_turn, is_turn, turn_up}
+use Rattle.e3_play.proofs.SameSteps.{stays_none, stays_on}
+use Rattle.e3_play.proofs.recovering.recover.Goals as goal
+
+pub loop-round-init : goal.loop-round-init
+loop-round-init g c =
+    let S = g.S.Sites in
+    let sites = c.args.sites.now in
+    let all : listed (S.scenario sites) (S.entries sites) c.args.group ≡ c.as_slice-round-items.result.now =
+    sym (c.as_slice-round-items.ensures ∙ c.in_ok-rounds.ensures) in
+    record {
+      stands = c.requires.standing;
+      since = λ start before. before;
+      scenario = refl;
+      most = refl;
+      rounds = subst (λ (rounds : List RecoveryRound). InRounds (S.scenario sites) (S.entries sites) c.args.group rounds (S.entries sites)) all
+          (begin_rounds (S.scenario sites) (S.entries sites) c.args.group (g.met.S.Sites.is_legal sites c.requires.standing)
+          c.requires.step c.requires.fresh c.requires.settled);
+      were = subst (λ (rounds : List RecoveryRound). WereUp (S.entries sites) rounds) all (listed_were_up (S.scenario sites) (S.entries sites) c.args.group);
+      up = λ m up none. up;
+      grown = stays_none (S.entries sites);
+      had = subst (λ (reports : List RoundReport). HadTurns (S.scenario sites) (S.entries sites) (S.entries sites) [] reports) (sym c.new-reports.ensures) refl;
+    }
+
+-- the round at its turn is the first of those that are left
+first_left : (rounds : List RecoveryRound) (k : ℕ) (r : RecoveryRound) → k + 1 ≤ length rounds → r ≡ get_or rounds k r → drop k rounds ≡ r ∷ drop (suc k) rounds
+first_left rounds k r low is = drop-cons rounds k r (omega (arith, low)) ∙ ap (λ q. q ∷ drop (suc k) rounds) (sym is)
+
+pub take_turn-requires-clause-turn : goal.take_turn-requires-clause-turn
+take_turn-requires-clause-turn g c = λ up.
+    let S = g.S.Sites in
+    let start = c.args.sites.now in
+    let was = c.loop-round.invariant in
+    let r = c.round-item.result in
+    let k = c.loop-round.round-index in
+    let rounds = c.as_slice-round-items.result.now in
+    let here : drop k rounds ≡ r ∷ drop (suc k) rounds = first_left rounds k r (omega (arith, c.loop-round-test.true, c.loop-round.auto.round-index-end)) c.round-item.is in
+    let now : InRounds (S.scenario start) (S.entries start) c.args.group (r ∷ drop (suc k) rounds) (S.entries c.loop-round.sites) =
+    subst (λ (rest : List RecoveryRound). InRounds (S.scenario start) (S.entries start) c.args.group rest (S.entries c.loop-round.sites)) here was.rounds in
+    ap (λ (sc : Scenario). due_round sc (S.entries c.loop-round.sites)) was.scenario
+    ∙ first_due (S.scenario start) (S.entries c.loop-round.sites) c.args.group (drop (suc k) rounds) r now.step now.at up
+
+pub loop-round-preserved : goal.loop-round-preserved
+loop-round-preserved g c =
+    let S = g.S.Sites in
+    let start = c.args.sites.now in
+    let was = c.loop-round.invariant in
+    let now = c.in_ok-report.ensures in
+    let sc = S.scenario start in
+    let line = S.entries start in
+    let h = S.entries c.loop-round.sites in
+    let more = S.entries c.take_turn.new.sites in
+    let r = c.round-item.result in
+    let k = c.loop-round.round-index in
+    let rounds = c.as_slice-round-items.result.now in
+    let rest : List RecoveryRound = drop (suc k) rounds in
+    let low : k + 1 ≤ length rounds = omega (arith, c.loop-round-test.true) in
+    let here : drop k rounds ≡ r ∷ rest = first_left rounds k r low c.round-item.is in
+    let left : InRounds sc line c.args.group (r ∷ rest) h = subst (λ (l : List RecoveryRound). InRounds sc line c.args.group l h) here was.rounds in
+    let were : WereUp line (r ∷ rest) = subst (λ (l : List RecoveryRound). WereUp line l) here was.were in
+    let after : AfterRound sc h r more = subst (λ (s : Scenario). AfterRound s h r more) was.scenario now.made in
+    let up : UpOrFell line more = turn_up sc line h more r was.up after in
+    let on : suc k ≡ k + 1 = omega arith in
+    let same : S.scenario c.take_turn.new.sites ≡ sc = now.same.0 ∙ was.scenario in
+    let most : S.most c.take_turn.new.sites ≡ S.most start = now.same.1 ∙ was.most in
+    let given : IsGiven sc = subst (λ (s : Scenario). IsGiven s) same (g.met.S.Sites.is_given c.take_turn.new.sites now.stands) in
+    let legal : IsLegal sc more = subst (λ (s : Scenario). IsLegal s more) same (g.met.S.Sites.is_legal c.take_turn.new.sites now.stands) in
+    let within : length more ≤ S.most start = subst (λ (n : ℕ). length more ≤ n) most (g.met.S.Sites.within c.take_turn.new.sites now.stands) in
+    let turn : IsTurn sc h more r c.in_ok-report.report = is_turn sc line h more c.args.group r rest c.in_ok-report.report (record {
+      given = given;
+      rounds = left;
+      was = were.0;
+      up = up;
+      after = after;
+      legal = legal;
+      few = omega (arith, within, c.requires.few);
+      told = now.told;
+    }) in
+    let taken : take (k + 1) rounds ≡ take k rounds ++ r ∷ [] = take_more rounds k r (omega (arith, low)) ∙ ap (λ q. take k rounds ++ q ∷ []) (sym c.round-item.is) in
+    let had : HadTurns sc line more (take k rounds ++ r ∷ []) (c.loop-round.reports ++ c.in_ok-report.report ∷ []) =
+    had_turn sc line h more (take k rounds) c.loop-round.reports r c.in_ok-report.report was.had turn in
+    record {
+      stands = now.stands;
+      since = λ first before. now.since first (was.since first before);
+      scenario = same;
+      most = most;
+      rounds = subst (λ (j : ℕ). InRounds sc line c.args.group (drop j rounds) more) on (round_on sc line h more c.args.group r rest left after);
+      were = subst (λ (j : ℕ). WereUp line (drop j rounds)) on were.1;
+      up = up;
+      grown = stays_on line h more was.grown now.grown;
+      had = subst (λ (reports : List RoundReport). HadTurns sc line more (take (k + 1) rounds) reports) (sym c.in_ok-push.ensures.ok)
+          (subst (λ (l : List RecoveryRound). HadTurns sc line more l (c.loop-round.reports ++ c.in_ok-report.report ∷ [])) (sym taken) had);
+    }
+
+-- nothing is left behind the last round
+none_left : (rounds : List RecoveryRound) (k : ℕ) → length rounds ≤ k → drop k rounds ≡ []
+none_left [] zero all = refl
+none_left [] (suc k) all = refl
+none_left (r ∷ rounds) zero all = absurd (omega (arith, all))
+none_left (r ∷ rounds) (suc k) all = none_left rounds k (omega (arith, all))
+
+all_taken : (rounds : List RecoveryRound) (k : ℕ) → length rounds ≤ k → take k rounds ≡ rounds
+all_taken [] zero all = refl
+all_taken [] (suc k) all = refl
+all_taken (r ∷ rounds) zero all = absurd (omega (arith, all))
+all_taken (r ∷ rounds) (suc k) all = ap (λ l. r ∷ l) (all_taken rounds k (omega (arith, all)))
+
+pub returns-clause-recovered : goal.returns-clause-recovered
+returns-clause-recovered g c =
+    let S = g.S.Sites in
+    let start = c.args.sites.now in
+    let h = S.entries c.loop-round.sites in
+    rounds_end (S.scenario start) (S.entries start) h c.args.group
+    (subst (λ (rest : List RecoveryRound). InRounds (S.scenario start) (S.entries start) c.args.group rest h)
+    (none_left c.as_slice-round-items.result.now c.loop-round.round-index c.loop-round-test.false) c.loop-round.invariant.rounds)
+
+pub returns-clause-rounds : goal.returns-clause-rounds
+returns-clause-rounds g c =
+    let S = g.S.Sites in
+    let start = c.args.sites.now in
+    let h = S.entries c.loop-round.sites in
+    let all : take c.loop-round.round-index c.as_slice-round-items.result.now ≡ listed (S.scenario start) (S.entries start) c.args.group =
+    all_taken c.as_slice-round-items.result.now c.loop-round.round-index c.loop-round-test.false ∙ c.as_slice-round-items.ensures ∙ c.in_ok-rounds.ensures in
+    subst (λ (rounds : List RecoveryRound). HadTurns (S.scenario start) (S.entries start) h rounds c.loop-round.reports) all c.loop-round.invariant.had
+
+pub returns-in_err-report-clause-full : goal.returns-in_err-report-clause-full
+returns-in_err-report-clause-full g c = λ is.
+    let S = g.S.Sites in
+    let was = c.loop-round.invariant in
+    let more = S.entries c.take_turn.new.sites in
+    let full : IsFullBefore IsPacketOrRound (S.scenario c.loop-round.sites) more (S.most c.loop-round.sites) = search rules in
+    let P : Scenario → Type 0 = λ sc. IsFullBefore IsPacketOrRound sc more (S.most c.args.sites.now) in
+    let Q : ℕ → Type 0 = λ most. IsFullBefore IsPacketOrRound (S.scenario c.loop-round.sites) more most in
+    subst P was.scenario (subst Q was.most full)
+
+pub returns-in_err-report-clause-grown : goal.returns-in_err-report-clause-grown
+returns-in_err-report-clause-grown g c =
+    let S = g.S.Sites in
+    stays_on (S.entries c.args.sites.now) (S.entries c.loop-round.sites) (S.entries c.take_turn.new.sites) c.loop-round.invariant.grown c.take_turn.ensures.grown
+
+pub returns-in_err-rounds-clause-grown : goal.returns-in_err-rounds-clause-grown
+returns-in_err-rounds-clause-grown g c = stays_none (g.S.Sites.entries c.args.sites.now)

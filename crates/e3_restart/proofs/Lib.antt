@@ -1,6 +1,0 @@
-mod Freedom
-mod Follows
-mod Firsts
-mod Walking
-mod Births
-mod Standing

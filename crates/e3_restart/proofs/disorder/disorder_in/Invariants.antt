@@ -1,6 +1,0 @@
-use Rattle.std.proofs.Common.{◌≡◌, take, drop}
-use Rattle.e3_restart.specs.Orderly.{disorder_in, disorder_after}
-use Rattle.e3_restart.proofs.disorder.disorder_in.Given as goal
-
-abbrev pub invariant-loop-k : goal.invariant-loop-k
-invariant-loop-k l = disorder_in l.site l.records ≡ disorder_after l.site (take l.k l.records) (drop l.k l.records)

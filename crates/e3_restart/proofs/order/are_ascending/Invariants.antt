@@ -1,6 +1,0 @@
-use Rattle.std.proofs.Common.{◌≡◌, drop}
-use Rattle.e3_world.specs.Orderly.{ops_ascend}
-use Rattle.e3_restart.proofs.order.are_ascending.Given as goal
-
-abbrev pub invariant-loop-o : goal.invariant-loop-o
-invariant-loop-o l = ops_ascend 0 l.ops ≡ ops_ascend l.last (drop l.o-index l.ops)

@@ -1,3 +1,0 @@
-pub mod Orderly
-pub mod Reading
-pub mod Rebuilt

@@ -1,6 +1,0 @@
-use Rattle.std.proofs.Common.{◌≡◌, take}
-use Rattle.e3_round.specs.Reports.{verdict_of}
-use Rattle.e3_round.proofs.reporting.report_of.Given as goal
-
-abbrev pub invariant-loop-entry : goal.invariant-loop-entry
-invariant-loop-entry l = l.verdict ≡ verdict_of l.round (take l.entry-index l.entered)

@@ -1,4 +1,0 @@
-pub mod Packets
-pub mod Bounds
-pub mod Steps
-pub mod Open
