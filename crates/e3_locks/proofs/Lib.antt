@@ -7,3 +7,8 @@ pub mod Requests
 pub mod Splitting
 pub mod Tables
 pub mod Awaiting
+pub mod Still
+pub mod Pairing
+pub mod Releasing
+pub mod Merging
+pub mod Gathering

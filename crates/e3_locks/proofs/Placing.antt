@@ -22,8 +22,11 @@ abbrev pub lists : List Standing → ℕ → LockLists
 lists items room = record { held = all_held items; queue = all_queued items; room = room }
 
 module _ (items : List Standing) (at : ℕ) (n : List ℕ) (a : IsAt name_of n items at) (x : Standing) (is : x ≡ slice_index_or items at x) where
-  here_is : x ≡ a.here
+  pub here_is : x ≡ a.here
   here_is = is ∙ get_parts items a.before a.behind at a.here x a.parts a.place
+
+  pub found_name : x.name ≡ n
+  found_name = ap (λ (s : Standing). s.name) here_is ∙ a.named
 
   pub found_is : place_in n items ≡ x.place
   found_is = ap (place_in n) a.parts ∙ in_found a.before a.behind a.here n a.under a.named ∙ ap (λ (s : Standing). s.place) (sym here_is)

@@ -106,7 +106,7 @@ in_gap [] (s ∷ behind) n u o = let other : same_numbers n s.name ≡ false = a
 in_gap (s ∷ before) behind n u o = let other : same_numbers n s.name ≡ false = apart_back n s.name u.0 in rw other (in_gap before behind n u.1 o)
 
 -- another place for one name, or one more: every other name keeps its own
-in_set : (before behind : List Standing) (x y : Standing) (n m : List ℕ) → x.name ≡ n → y.name ≡ n → same_numbers n m ≡ false → place_in m (before ++ y ∷ behind) ≡ place_in m (before ++ x ∷ behind)
+pub in_set : (before behind : List Standing) (x y : Standing) (n m : List ℕ) → x.name ≡ n → y.name ≡ n → same_numbers n m ≡ false → place_in m (before ++ y ∷ behind) ≡ place_in m (before ++ x ∷ behind)
 in_set [] behind x y n m e f q =
     let back : same_numbers m n ≡ false = same_turned m n ∙ q in
     let ox : same_numbers m x.name ≡ false = ap (λ (j : List ℕ). same_numbers m j) e ∙ back in
@@ -295,7 +295,7 @@ own_places n p items [] o e = tt
 own_places n p items (s ∷ rest) o e =
     (rw (apart_back s.name n o.0) e.0, own_places n p items rest o.1 e.1)
 
-each_own : (items : List Standing) → IsAscending name_of items → Each (λ s. place_in s.name items ≡ s.place) items
+pub each_own : (items : List Standing) → IsAscending name_of items → Each (λ s. place_in s.name items ≡ s.place) items
 each_own [] a = tt
 each_own (s ∷ items) a = (rw (same_numbers_refl s.name) refl, own_places s.name s.place items items a.0 (each_own items a.1))
 

@@ -5,3 +5,4 @@ pub mod Fronts
 pub mod Replays
 pub mod Waiting
 pub mod Standing
+pub mod Pairs

@@ -2,10 +2,13 @@
 #![tactic(auto)]
 
 mod fronts;
+mod gathers;
 mod granted;
 mod list_locks;
 mod locks;
+mod pairs;
 mod place;
+mod releases;
 mod replays;
 mod rule;
 mod table;

@@ -7,10 +7,13 @@ ghost use Rattle.e3_sorted.specs.Sorted.{IsAt, IsGap};
 ghost use Rattle.e3_locks.specs.LockLists.{place, named};
 ghost use Rattle.e3_locks.specs.Places.{would, requested, without};
 ghost use Rattle.e3_locks.specs.Replays.{with_request};
-ghost use Rattle.e3_locks.specs.Standing.{IsTable, count_at, place_in, released_at};
+ghost use Rattle.e3_locks.specs.Standing.{IsTable, count_at, place_in};
 ghost use Rattle.e3_locks.specs.Waiting.{awaited_at};
 
+use crate::gathers::{awaited_on, granted_on};
+use crate::pairs::{Pair, add_put, known, pairs_of};
 use crate::place::NameLocks;
+use crate::releases::release_all;
 use crate::{Granted, Locks};
 use e3_sorted::place_of;
 use e3_types::{Grant, List, Lock, Mode, Name, NoMemory, Txn};
@@ -18,10 +21,13 @@ use std::alloc::Global;
 use std::marker::Model;
 
 /// A table of locks with one place for each name that was ever locked, in byte order of the names. A request, and the
-/// question after one, look at the locks of one name; a release passes over the places.
+/// question after one, look at the locks of one name; a release at those of the names that the transaction has, which are
+/// found by halving too.
 #[derive(Drop)]
 pub struct LockTable {
     places: Vec<NameLocks>,
+    // each transaction with the names on which it has a lock or waits, in the order of transactions
+    pairs: Vec<Pair>,
     // room into which the locks of any one name can move
     spare: Vec<Lock>,
     // no name has more locks
@@ -32,6 +38,7 @@ pub struct LockTable {
 impl Model for LockTable {
     ghost use Rattle.std.specs.Prelude.{◌≡◌, ◌-◌, [], min, vec_len, vec_capacity};
     ghost use Rattle.e3_locks.specs.LockLists.{LockLists};
+    ghost use Rattle.e3_locks.specs.Pairs.{IsIndex};
     ghost use Rattle.e3_locks.specs.Standing.{IsTable, all_held, all_queued};
 
     ghost Value = { LockLists };
@@ -39,10 +46,10 @@ impl Model for LockTable {
     ghost view = { λ a. record {
       held = all_held a.places.items;
       queue = all_queued a.places.items;
-      room = min (vec_capacity a.places - vec_len a.places) (vec_capacity a.spare - a.most);
+      room = min (min (vec_capacity a.places - vec_len a.places) (vec_capacity a.spare - a.most)) (vec_capacity a.pairs - vec_len a.pairs);
     } };
 
-    ghost invariant = { λ a. IsTable a.places.items a.most × (a.spare.items ≡ []) };
+    ghost invariant = { λ a. IsTable a.places.items a.most × (a.spare.items ≡ []) × IsIndex a.places.items a.pairs.items };
 }
 
 // A request at a name.
@@ -120,40 +127,29 @@ fn request_first(
     Ok(Grant::Held)
 }
 
-// At each name the transaction's locks and requests leave, and what that grants is held.
-fn release_all(places: &mut Vec<NameLocks>, t: &Txn)
-    ensures items { places.new.items ≡ map (released_at t.now) places.old.items }
-    ensures len { vec_len places.new ≡ vec_len places.old }
-    ensures room { vec_capacity places.new ≡ vec_capacity places.old }
+// A request on a name.
+fn request_on(
+    alloc: Global,
+    places: &mut Vec<NameLocks>,
+    name: &Name,
+    wanted: &Lock,
+    spare: &mut Vec<Lock>,
+    most: &mut usize,
+) -> Result<Grant, NoMemory>
+    requires table { IsTable places.old.items most.old }
+    requires spare { spare.old.items ≡ [] }
+    ensures grant { IfOk result (λ g. g ≡ would wanted.now (place_in name.now places.old.items)) }
+    ensures ok { IfOk result (λ g. (n : Items ℕ) → place_in n places.new.items
+        ≡ with_request name.now wanted.now g (λ k. place_in k places.old.items) n) }
+    ensures err { OnErr result (places.new.items ≡ places.old.items) }
+    ensures table { IsTable places.new.items most.new }
+    ensures spare { spare.new.items ≡ [] }
+    ensures full { OnErr result (min (vec_capacity places.old - vec_len places.old) (vec_capacity spare.old - most.old) ≡ 0) }
 {
-    let mut k = 0;
-    'places: while k < places.len() {
-        places[k].release(t);
-        k += 1;
+    match place_of(places, name) {
+        Ok(at) => request_at(places, at, name, wanted, spare, most),
+        Err(at) => request_first(alloc, places, at, name, wanted, spare, most),
     }
-}
-
-// What a release of all that the transaction has would grant at these places, in their order.
-fn granted_at(alloc: Global, t: &Txn, places: &[NameLocks]) -> Result<List<Granted>, NoMemory>
-    ensures { IfOk result (λ out. out ≡ flat_map
-        (λ s. map (named s.name) (front (without t.now s.place).held (without t.now s.place).queue)) places.now) }
-{
-    let mut out = List::new(alloc);
-    for place in places {
-        place.push_granted(alloc, t, &mut out)?;
-    }
-    Ok(out)
-}
-
-// Those that the transaction waits for at these places.
-fn awaited_in(alloc: Global, t: &Txn, places: &[NameLocks]) -> Result<List<Txn>, NoMemory>
-    ensures { IfOk result (λ out. out ≡ fold add_txn [] (flat_map (λ s. awaited_at t.now s.place) places.now)) }
-{
-    let mut out = Vec::new(alloc);
-    for place in places {
-        place.add_awaited(t, &mut out)?;
-    }
-    Ok(List::from_vec(out))
 }
 
 impl LockTable {
@@ -164,6 +160,7 @@ impl LockTable {
     {
         let mut table = LockTable {
             places: Vec::new(alloc),
+            pairs: Vec::new(alloc),
             spare: Vec::new(alloc),
             most: 0,
             alloc,
@@ -184,30 +181,30 @@ impl Locks for LockTable {
     }
 
     fn request(&mut self, txn: Txn, name: &Name, mode: Mode) -> Result<Grant, NoMemory> {
-        let wanted = Lock { txn, mode };
-        match place_of(&self.places, name) {
-            Ok(at) => request_at(
-                &mut self.places,
-                at,
-                name,
-                &wanted,
-                &mut self.spare,
-                &mut self.most,
-            ),
-            Err(at) => request_first(
-                self.alloc,
-                &mut self.places,
-                at,
-                name,
-                &wanted,
-                &mut self.spare,
-                &mut self.most,
-            ),
+        match self.pairs.reserve(1) {
+            Ok(()) => {}
+            Err(_) => return Err(NoMemory),
         }
+        known(&txn);
+        let wanted = Lock { txn, mode };
+        let grant = request_on(
+            self.alloc,
+            &mut self.places,
+            name,
+            &wanted,
+            &mut self.spare,
+            &mut self.most,
+        )?;
+        add_put(&mut self.pairs, &grant, &txn, name);
+        Ok(grant)
     }
 
     fn reserve(&mut self) -> Result<(), NoMemory> {
         match self.places.reserve(1) {
+            Ok(()) => {}
+            Err(_) => return Err(NoMemory),
+        }
+        match self.pairs.reserve(1) {
             Ok(()) => {}
             Err(_) => return Err(NoMemory),
         }
@@ -218,11 +215,11 @@ impl Locks for LockTable {
     }
 
     fn grants_after(&self, txn: Txn) -> Result<List<Granted>, NoMemory> {
-        granted_at(self.alloc, &txn, &self.places)
+        granted_on(self.alloc, &txn, &self.places, pairs_of(&self.pairs, &txn))
     }
 
     fn release(&mut self, txn: Txn) {
-        release_all(&mut self.places, &txn);
+        release_all(&mut self.places, &mut self.pairs, &txn);
     }
 
     fn holds(&self, txn: Txn, name: &Name) -> Option<Mode> {
@@ -233,6 +230,6 @@ impl Locks for LockTable {
     }
 
     fn waits_for(&self, txn: Txn) -> Result<List<Txn>, NoMemory> {
-        awaited_in(self.alloc, &txn, &self.places)
+        awaited_on(self.alloc, &txn, &self.places, pairs_of(&self.pairs, &txn))
     }
 }
