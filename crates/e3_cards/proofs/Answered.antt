@@ -18,10 +18,10 @@ use Rattle.e3_world.specs.declared.lives.Moment.{Moment}
 use Rattle.e3_world.specs.declared.lives.Performed.{Performed}
 use Rattle.e3_world.specs.Logs.{is_undecided}
 use Rattle.e3_world.specs.Operations.{answers, answer_told, answer_sent, is_answered, performed_by, done, arrivals, same_asked}
+use Rattle.e3_readings.proofs.Equal.{same_txn_eq}
 use Rattle.e3_cards.specs.declared.card.Heard.{Heard}
 use Rattle.e3_cards.specs.Arriving.{came_of, heard_of, heard_in, heard_told, heard_sent, performed_in, has_heard, answer_in}
 use Rattle.e3_cards.specs.Readings.{first_of}
-use Rattle.e3_cards.proofs.Arrivals.{same_txn_eq}
 
 abbrev theirs : Asked → List Heard → List Answer
 theirs a hs = map (λ h. h.answer) (filter (λ h. a.n == h.n) hs)
@@ -45,30 +45,14 @@ one a n answer false false e = refl
 
 told_is : (a : Asked) (e : Told) → answer_told a e ≡ theirs a (heard_told a.txn e)
 told_is a (told.Op u n answer) = one a n answer (a.n == n) (same_txn a.txn u) refl
-told_is a (told.Began u) = refl
-told_is a (told.Ended u dir) = refl
-told_is a (told.Died u older) = refl
-told_is a (told.Doomed u site had now) = refl
-told_is a (told.Refused u why) = refl
-told_is a (told.Kept u st) = refl
-told_is a (told.Verdict u n v) = refl
+told_is a _ = refl
 
 sent_is : (a : Asked) (p : Packet) → answer_sent a p ≡ theirs a (heard_sent a.txn p)
-sent_is a p = by p.msg refl
+sent_is a p = by p.msg
   where
-    by : (k : Message) → p.msg ≡ k → answer_sent a p ≡ theirs a (heard_sent a.txn p)
-    by (msg.Done u n inc answer) is = rw is (one a n answer (a.n == n) (same_txn a.txn u) refl)
-    by (msg.Do u n op) is = rw is refl
-    by (msg.Died u n older) is = rw is refl
-    by (msg.Ask u call) is = rw is refl
-    by (msg.LastElected u call n) is = rw is refl
-    by (msg.Elected u n) is = rw is refl
-    by (msg.Report u n st n2) is = rw is refl
-    by (msg.VoteReq u inc count) is = rw is refl
-    by (msg.Vote u says) is = rw is refl
-    by (msg.Pre u n dir) is = rw is refl
-    by (msg.Ack u n dir) is = rw is refl
-    by (msg.Decide u dir) is = rw is refl
+    by : (k : Message) → answer_sent a (record p { msg = k }) ≡ theirs a (heard_sent a.txn (record p { msg = k }))
+    by (msg.Done u n inc answer) = one a n answer (a.n == n) (same_txn a.txn u) refl
+    by _ = refl
 
 moment_is : (a : Asked) (m : Moment) → flat_map (answer_told a) m.told ++ flat_map (answer_sent a) m.outs ≡ theirs a (heard_in a.txn m.told m.outs)
 moment_is a m =

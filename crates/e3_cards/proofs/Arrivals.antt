@@ -1,10 +1,9 @@
 -- The operations of a transaction that came to a site, behind one more step.
-use Rattle.std.specs.Prelude.{◌≡◌, ◌==◌, ◌&&◌, ◌||◌, ◌++◌, ◌∷◌, [], if◌then◌else◌, ℕ, suc, Bool, true, false, not, List, length, filter, fold, Option, Some, None}
+use Rattle.std.specs.Prelude.{◌≡◌, ◌==◌, ◌&&◌, ◌||◌, ◌++◌, ◌∷◌, [], if◌then◌else◌, ℕ, suc, Bool, true, false, not, List, length, filter, Option, Some, None}
 use Rattle.std.specs.List.{list_any}
 use Rattle.std.proofs.Common.{refl, ap, sym, subst, ◌∙◌, arith}
 use Rattle.std.proofs.lemmas.Grind.{common_steps}
 use Rattle.std.proofs.lemmas.List.Elements.{filter-append}
-use Rattle.std.proofs.lemmas.List.Sums.{fold-append}
 use Rattle.e3_types.specs.declared.entries.Input.{Input}
 use Rattle.e3_types.specs.declared.messages.Message.{Message}
 use Rattle.e3_types.specs.declared.messages.Packet.{Packet}
@@ -18,23 +17,14 @@ use Rattle.e3_types.specs.declared.transactions.Txn.{Txn}
 use Rattle.e3_types.specs.declared.entries.Input.TheVariants as input
 use Rattle.e3_types.specs.declared.messages.Message.TheVariants as msg
 use Rattle.e3_types.specs.Same.{same_txn, same_state}
-use Rattle.e3_types.proofs.SameSites.{same_numbers_refl, same_numbers_eq}
 use Rattle.e3_world.specs.declared.lives.Asked.{Asked}
 use Rattle.e3_world.specs.declared.lives.Moment.{Moment}
 use Rattle.e3_world.specs.Logs.{key_of, state_of, decision, attempted, has_voted}
-use Rattle.e3_world.specs.Operations.{is_refusal, issued, taken_up, arrivals, arrived_by, and_arrived, Arrived, same_asked, is_fresh}
+use Rattle.e3_world.specs.Operations.{is_refusal, issued, taken_up, arrivals, and_arrived, same_asked, is_fresh}
+pub use Rattle.e3_readings.proofs.Arriving.{arrivals_push}
+pub use Rattle.e3_readings.proofs.Equal.{same_txn_refl, same_txn_eq}
 use Rattle.e3_cards.specs.Seeing.{seen_of, seen_state}
 use Rattle.e3_cards.specs.Arriving.{came_of, came_by, taken_now}
-
--- a transaction is one with itself
-pub same_txn_refl : (t : Txn) → same_txn t t ≡ true
-same_txn_refl t = let e = same_numbers_refl t.sites in grind (arith, common_steps, e)
-
--- two that are one are equal
-pub same_txn_eq : (t u : Txn) → same_txn t u ≡ true → t ≡ u
-same_txn_eq t u e =
-    let sites = same_numbers_eq t.sites u.sites in
-    grind (arith, common_steps, sites, e)
 
 -- the state that was seen is the log's
 pub state_seen : (t : Txn) (log : List Record) → seen_state (seen_of t log) ≡ state_of t log
@@ -47,22 +37,6 @@ state_seen t log = by (decision t log) (attempted t log) (has_voted t log) refl 
     by None (Some Abort) v p q r = rw (p, q) refl
     by None None true p q r = rw (p, q, r) refl
     by None None false p q r = rw (p, q, r) refl
-
--- the fold over steps keeps them
-arrived_steps : (site : ℕ) (was : Arrived) (steps : List Moment) → (fold (arrived_by site) was steps).steps ≡ was.steps ++ steps
-arrived_steps site was [] = grind (arith, common_steps)
-arrived_steps site was (m ∷ ms) = arrived_steps site (arrived_by site was m) ms ∙ grind (arith, common_steps)
-
-start : Arrived
-start = record { steps = []; asked = [] }
-
--- the arrivals behind one more step
-pub arrivals_push : (site : ℕ) (steps : List Moment) (m : Moment) → arrivals site (steps ++ m ∷ []) ≡ and_arrived (arrivals site steps) m (taken_up site steps m)
-unfolding start
-arrivals_push site steps m =
-    let was : Arrived = record { steps = []; asked = [] } in
-    ap (λ (a : Arrived). a.asked) (fold-append (arrived_by site) was steps (m ∷ []))
-    ∙ ap (λ (ss : List Moment). and_arrived (arrivals site steps) m (taken_up site ss m)) (arrived_steps site was steps)
 
 -- the operation, where it is this transaction's
 abbrev pub mine : Txn → Option Asked → Option Asked
@@ -110,41 +84,28 @@ came_mine t asked m (Some a) = by (same_txn t a.txn) refl
 
 -- what a step takes up of the transaction
 pub taken_mine : (site : ℕ) (t : Txn) (steps : List Moment) (m : Moment) → mine t (taken_up site steps m) ≡ taken_now site t (issued t steps) m.input m.told
-taken_mine site t steps m = by m.input refl
+taken_mine site t steps m = by m.input
   where
-    told_by : (u : Txn) (op : Op) (r c k : Bool) → m.input ≡ input.Do u op → list_any is_refusal m.told ≡ r → same_txn t u ≡ c → ((key_of op).site == site) ≡ k
-        → mine t (taken_up site steps m) ≡ taken_now site t (issued t steps) m.input m.told
-    told_by u op true true k is e f g = rw (is, same_txn_refl u, e, f) refl
-    told_by u op true false k is e f g = rw (is, same_txn_refl u, e, f) refl
-    told_by u op false true true is e f g =
+    told_by : (u : Txn) (op : Op) (r c k : Bool) → list_any is_refusal m.told ≡ r → same_txn t u ≡ c → ((key_of op).site == site) ≡ k
+        → mine t (taken_up site steps (record m { input = input.Do u op })) ≡ taken_now site t (issued t steps) (input.Do u op) m.told
+    told_by u op true true k e f g = rw (same_txn_refl u, e, f) refl
+    told_by u op true false k e f g = rw (same_txn_refl u, e, f) refl
+    told_by u op false true true e f g =
         let other : Option Asked = Some (record { txn = u; n = suc (length (issued u steps)); op = op }) in
-        rw (is, same_txn_refl u, e, f, g) (rw f (ap (λ (v : Txn). Some (record { txn = u; n = suc (length (issued v steps)); op = op })) (sym (same_txn_eq t u f))))
-    told_by u op false true false is e f g = rw (is, same_txn_refl u, e, f, g) refl
-    told_by u op false false true is e f g = rw (is, same_txn_refl u, e, f, g) (rw f refl)
-    told_by u op false false false is e f g = rw (is, same_txn_refl u, e, f, g) refl
+        rw (same_txn_refl u, e, f, g) (rw f (ap (λ (v : Txn). Some (record { txn = u; n = suc (length (issued v steps)); op = op })) (sym (same_txn_eq t u f))))
+    told_by u op false true false e f g = rw (same_txn_refl u, e, f, g) refl
+    told_by u op false false true e f g = rw (same_txn_refl u, e, f, g) (rw f refl)
+    told_by u op false false false e f g = rw (same_txn_refl u, e, f, g) refl
 
-    sent_by : (packet : Packet) (k : Message) → m.input ≡ input.Deliver packet → packet.msg ≡ k → mine t (taken_up site steps m) ≡ taken_now site t (issued t steps) m.input m.told
-    sent_by packet (msg.Do u n op) is e = rw (is, e) refl
-    sent_by packet (msg.Done u n inc answer) is e = rw (is, e) refl
-    sent_by packet (msg.Died u n older) is e = rw (is, e) refl
-    sent_by packet (msg.Ask u call) is e = rw (is, e) refl
-    sent_by packet (msg.LastElected u call n) is e = rw (is, e) refl
-    sent_by packet (msg.Elected u n) is e = rw (is, e) refl
-    sent_by packet (msg.Report u n st n2) is e = rw (is, e) refl
-    sent_by packet (msg.VoteReq u inc count) is e = rw (is, e) refl
-    sent_by packet (msg.Vote u says) is e = rw (is, e) refl
-    sent_by packet (msg.Pre u n dir) is e = rw (is, e) refl
-    sent_by packet (msg.Ack u n dir) is e = rw (is, e) refl
-    sent_by packet (msg.Decide u dir) is e = rw (is, e) refl
+    sent_by : (packet : Packet) (k : Message)
+        → mine t (taken_up site steps (record m { input = input.Deliver (record packet { msg = k }) })) ≡ taken_now site t (issued t steps) (input.Deliver (record packet { msg = k })) m.told
+    sent_by packet (msg.Do u n op) = refl
+    sent_by packet _ = refl
 
-    by : (i : Input) → m.input ≡ i → mine t (taken_up site steps m) ≡ taken_now site t (issued t steps) m.input m.told
-    by (input.Begin sites) is = rw is refl
-    by (input.Do u op) is = told_by u op (list_any is_refusal m.told) (same_txn t u) ((key_of op).site == site) is refl refl refl
-    by (input.Commit u) is = rw is refl
-    by (input.Cancel u) is = rw is refl
-    by (input.Expire u) is = rw is refl
-    by (input.Elect u group) is = rw is refl
-    by (input.Deliver packet) is = sent_by packet packet.msg is refl
+    by : (i : Input) → mine t (taken_up site steps (record m { input = i })) ≡ taken_now site t (issued t steps) i m.told
+    by (input.Do u op) = told_by u op (list_any is_refusal m.told) (same_txn t u) ((key_of op).site == site) refl refl refl
+    by (input.Deliver packet) = sent_by packet packet.msg
+    by _ = refl
 
 -- the operations of the transaction that came, behind one more moment
 pub came_push : (site : ℕ) (t : Txn) (steps : List Moment) (m : Moment)

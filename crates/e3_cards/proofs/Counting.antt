@@ -39,13 +39,7 @@ number_is t n (told.Op u m answer) = by (same_txn t u) (n == m) refl refl
     by true false e f = rw (e, f) refl
     by false true e f = rw (e, f) refl
     by false false e f = rw (e, f) refl
-number_is t n (told.Began u) = refl
-number_is t n (told.Ended u dir) = refl
-number_is t n (told.Died u older) = refl
-number_is t n (told.Doomed u site had now) = refl
-number_is t n (told.Refused u why) = refl
-number_is t n (told.Kept u st) = refl
-number_is t n (told.Verdict u k v) = refl
+number_is t n _ = refl
 
 -- an answer was told where its number is kept
 pub told_is : (t : Txn) (n : ℕ) (steps : List Moment) → list_any (λ m. n == m) (numbers_told t steps) ≡ op_told t n steps
@@ -64,7 +58,7 @@ unanswered_is t log steps = by (length (issued t steps)) refl
 
 -- what one step makes expected
 counted_is : (t : Txn) (site : ℕ) (was : Expected) (m : Moment) → expected_by t site was m ≡ fold (expect_by site) was (counted_in t m.input m.told)
-counted_is t site was m = by m.input refl
+counted_is t site was m = by m.input
   where
     by_done : (packet : Packet) (u : Txn) (n inc : ℕ) (b c : Bool) → (packet.«from» == site) ≡ b → (same_txn t u && list_any (tells_op t n) m.told) ≡ c
         → (if packet.«from» == site then (if same_txn t u && list_any (tells_op t n) m.told then record { inc = inc; count = suc was.count } else was) else was)
@@ -78,28 +72,14 @@ counted_is t site was m = by m.input refl
     same true = refl
     same false = refl
 
-    by_msg : (packet : Packet) (k : Message) → m.input ≡ input.Deliver packet → packet.msg ≡ k → expected_by t site was m ≡ fold (expect_by site) was (counted_in t m.input m.told)
-    by_msg packet (msg.Done u n inc answer) is e = rw (is, e) (by_done packet u n inc (packet.«from» == site) (same_txn t u && list_any (tells_op t n) m.told) refl refl)
-    by_msg packet (msg.Do u n op) is e = rw (is, e) (same (packet.«from» == site))
-    by_msg packet (msg.Died u n older) is e = rw (is, e) (same (packet.«from» == site))
-    by_msg packet (msg.Ask u call) is e = rw (is, e) (same (packet.«from» == site))
-    by_msg packet (msg.LastElected u call n) is e = rw (is, e) (same (packet.«from» == site))
-    by_msg packet (msg.Elected u n) is e = rw (is, e) (same (packet.«from» == site))
-    by_msg packet (msg.Report u n st n2) is e = rw (is, e) (same (packet.«from» == site))
-    by_msg packet (msg.VoteReq u inc count) is e = rw (is, e) (same (packet.«from» == site))
-    by_msg packet (msg.Vote u says) is e = rw (is, e) (same (packet.«from» == site))
-    by_msg packet (msg.Pre u n dir) is e = rw (is, e) (same (packet.«from» == site))
-    by_msg packet (msg.Ack u n dir) is e = rw (is, e) (same (packet.«from» == site))
-    by_msg packet (msg.Decide u dir) is e = rw (is, e) (same (packet.«from» == site))
+    by_msg : (packet : Packet) (k : Message) → expected_by t site was (record m { input = input.Deliver (record packet { msg = k }) })
+        ≡ fold (expect_by site) was (counted_in t (input.Deliver (record packet { msg = k })) m.told)
+    by_msg packet (msg.Done u n inc answer) = by_done packet u n inc (packet.«from» == site) (same_txn t u && list_any (tells_op t n) m.told) refl refl
+    by_msg packet _ = same (packet.«from» == site)
 
-    by : (i : Input) → m.input ≡ i → expected_by t site was m ≡ fold (expect_by site) was (counted_in t m.input m.told)
-    by (input.Begin sites) is = rw is refl
-    by (input.Do u op) is = rw is refl
-    by (input.Commit u) is = rw is refl
-    by (input.Cancel u) is = rw is refl
-    by (input.Expire u) is = rw is refl
-    by (input.Elect u group) is = rw is refl
-    by (input.Deliver packet) is = by_msg packet packet.msg is refl
+    by : (i : Input) → expected_by t site was (record m { input = i }) ≡ fold (expect_by site) was (counted_in t i m.told)
+    by (input.Deliver packet) = by_msg packet packet.msg
+    by _ = refl
 
 counted_all : (t : Txn) (site : ℕ) (was : Expected) (steps : List Moment) → fold (expect_by site) was (counted_of t steps) ≡ fold (expected_by t site) was steps
 counted_all t site was [] = refl

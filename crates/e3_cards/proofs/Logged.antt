@@ -1,30 +1,22 @@
 -- One more record of a log, where the card of its transaction is changed in its place.
-use Rattle.std.specs.Prelude.{◌≡◌, ◌||◌, ◌++◌, ◌∷◌, [], if◌then◌else◌, cond, ℕ, Bool, true, false, List, Option, Some, unwrap_or}
+use Rattle.std.specs.Prelude.{◌≡◌, ◌||◌, ◌++◌, ◌∷◌, [], if◌then◌else◌, ℕ, Bool, true, false, List}
 use Rattle.std.specs.List.{list_any}
-use Rattle.std.specs.Map.{lookup}
-use Rattle.std.specs.BTreeMap.{is_at}
 use Rattle.std.proofs.Common.{refl, ap, sym, ◌∙◌}
-use Rattle.std.proofs.lemmas.List.{append-nil}
-use Rattle.e3_types.specs.declared.entries.Input.TheVariants.{Begin}
 use Rattle.e3_types.specs.declared.records.Record.{Record}
 use Rattle.e3_types.specs.declared.transactions.Txn.{Txn}
 use Rattle.e3_types.specs.Same.{same_txn}
+use Rattle.e3_readings.proofs.Equal.{same_txn_eq}
 use Rattle.e3_cards.specs.declared.card.Card.{Card}
 use Rattle.e3_cards.specs.declared.cards.Cards.{Cards}
 use Rattle.e3_cards.specs.declared.keys.TxnKey.{TxnKey}
 use Rattle.e3_cards.specs.declared.seen.Seen.{Seen}
-use Rattle.e3_cards.specs.Cards.{blank, card_of}
+use Rattle.e3_cards.specs.Cards.{card_of}
 use Rattle.e3_cards.specs.Noting.{noted, unstepped}
-use Rattle.e3_cards.specs.Seeing.{seen_by, seen_of}
-use Rattle.e3_cards.specs.Tables.{CardsStand, IsKnown, card_at, key_cmp, record_txns, txn_key}
-use Rattle.e3_cards.proofs.Arrivals.{same_txn_eq}
-use Rattle.e3_cards.proofs.Putting.{put_step}
+use Rattle.e3_cards.specs.Seeing.{seen_of}
+use Rattle.e3_cards.specs.Tables.{CardsStand, IsKnown, card_at, record_txns, txn_key}
+use Rattle.e3_cards.proofs.Putting.{Inserts, put_step, same_turned}
 use Rattle.e3_cards.proofs.Seeing.{seen_push}
-use Rattle.e3_cards.proofs.Untouched.{untouched}
-
--- behind an insert
-abbrev Inserts : List (TxnKey × Card) → List (TxnKey × Card) → TxnKey → Card → Type 0
-Inserts ms ns k c = (q : TxnKey) → lookup (is_at (key_cmp q)) ns ≡ cond (is_at (key_cmp k) q) (Some c) (lookup (is_at (key_cmp q)) ms)
+use Rattle.e3_cards.proofs.Untouched.{seen_one}
 
 -- the transaction has the card, and the others have theirs
 pub put_at : (ms ns : List (TxnKey × Card)) (t : Txn) (card : Card) (k : TxnKey) → IsKnown t → k ≡ txn_key t → Inserts ms ns k card
@@ -46,29 +38,13 @@ turned_at ms mid ns t card rest done u known = done u known ∙ by (same_txn t u
     by true e = refl
     by false e = rest u known e
 
-turned : (t u : Txn) → same_txn u t ≡ same_txn t u
-turned t u = by (same_txn u t) (same_txn t u) refl refl
-  where
-    by : (b c : Bool) → same_txn u t ≡ b → same_txn t u ≡ c → same_txn u t ≡ same_txn t u
-    by true c e f = ap (λ (v : Txn). same_txn v t) (same_txn_eq u t e) ∙ ap (λ (v : Txn). same_txn t v) (sym (same_txn_eq u t e))
-    by false true e f = ap (λ (v : Txn). same_txn v t) (sym (same_txn_eq t u f)) ∙ ap (λ (v : Txn). same_txn t v) (same_txn_eq t u f)
-    by false false e f = e ∙ sym f
-
--- a record of other transactions says nothing of this one
-seen_still : (t : Txn) (s : Seen) (r : Record) → list_any (same_txn t) (record_txns r) ≡ false → seen_by t s r ≡ s
-seen_still t s r e =
-    ap (λ (c : Card). c.seen)
-    (untouched 0 (record { inc = 0; seq = 0 }) t (record blank { seen = s }) (record { input = Begin []; records = r ∷ []; outs = []; told = [] })
-    (ap (λ (l : List Txn). list_any (same_txn t) ((l ++ []) ++ [])) (append-nil (record_txns r)) ∙ ap (λ (l : List Txn). list_any (same_txn t) (l ++ [])) (append-nil (record_txns r))
-    ∙ ap (list_any (same_txn t)) (append-nil (record_txns r)) ∙ e))
-
 seen_card : (site inc : ℕ) (log : List Record) (u : Txn) (r : Record) → noted u r (card_of site u (unstepped inc log)) ≡ card_of site u (unstepped inc (log ++ r ∷ []))
 seen_card site inc log u r = ap (λ (s : Seen). record (card_of site u (unstepped inc log)) { seen = s }) (sym (seen_push u log r))
 
 other_card : (site inc : ℕ) (log : List Record) (u : Txn) (r : Record) → list_any (same_txn u) (record_txns r) ≡ false
     → card_of site u (unstepped inc log) ≡ card_of site u (unstepped inc (log ++ r ∷ []))
 other_card site inc log u r none =
-    ap (λ (s : Seen). record (card_of site u (unstepped inc log)) { seen = s }) (sym (seen_push u log r ∙ seen_still u (seen_of u log) r none))
+    ap (λ (s : Seen). record (card_of site u (unstepped inc log)) { seen = s }) (sym (seen_push u log r ∙ seen_one u (seen_of u log) r none))
 
 -- the cards of a log with a record of this transaction
 pub note_stands : (was now : Cards) (t : Txn) (r : Record) → record_txns r ≡ t ∷ [] → now.site ≡ was.site → now.inc ≡ was.inc → now.begins ≡ was.begins → now.calls ≡ was.calls
@@ -86,7 +62,7 @@ note_stands was now t r is s i b c change site inc log stands = record {
         → (if b then noted t r (card_at was.map.entries t) else card_at was.map.entries u) ≡ card_of site u (unstepped inc (log ++ r ∷ []))
     by u known true e = ap (λ (v : Txn). noted v r (card_at was.map.entries v)) (same_txn_eq t u e) ∙ ap (noted u r) (stands.cards_are u known) ∙ seen_card site inc log u r
     by u known false e =
-        let none : list_any (same_txn u) (t ∷ []) ≡ false = ap (λ (b : Bool). b || false) (turned t u ∙ e) in
+        let none : list_any (same_txn u) (t ∷ []) ≡ false = ap (λ (b : Bool). b || false) (same_turned t u ∙ e) in
         stands.cards_are u known ∙ other_card site inc log u r (ap (list_any (same_txn u)) is ∙ none)
 
 -- and with a record of none

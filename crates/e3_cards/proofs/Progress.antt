@@ -32,31 +32,17 @@ lived life s = record { before = life.log; input = s.input; records = s.records;
 
 -- the log before a step is nothing to the votes
 yes_plain : (t : Txn) (was : Option (List ℕ)) (life : Life) (s : SiteStep) → yes_by t was (lived life s) ≡ yes_by t was (moment_with s.input s.told)
-yes_plain t was life s = by s.input refl
+yes_plain t was life s = by s.input
   where
-    by_msg : (packet : Packet) (k : Message) → s.input ≡ input.Deliver packet → packet.msg ≡ k → yes_by t was (lived life s) ≡ yes_by t was (moment_with s.input s.told)
-    by_msg packet (msg.Vote u true) is e = rw (is, e) refl
-    by_msg packet (msg.Vote u false) is e = rw (is, e) refl
-    by_msg packet (msg.Do u n op) is e = rw (is, e) refl
-    by_msg packet (msg.Done u n inc answer) is e = rw (is, e) refl
-    by_msg packet (msg.Died u n older) is e = rw (is, e) refl
-    by_msg packet (msg.Ask u call) is e = rw (is, e) refl
-    by_msg packet (msg.LastElected u call n) is e = rw (is, e) refl
-    by_msg packet (msg.Elected u n) is e = rw (is, e) refl
-    by_msg packet (msg.Report u n st n2) is e = rw (is, e) refl
-    by_msg packet (msg.VoteReq u inc count) is e = rw (is, e) refl
-    by_msg packet (msg.Pre u n dir) is e = rw (is, e) refl
-    by_msg packet (msg.Ack u n dir) is e = rw (is, e) refl
-    by_msg packet (msg.Decide u dir) is e = rw (is, e) refl
+    by_msg : (packet : Packet) (k : Message)
+        → yes_by t was (lived life (record s { input = input.Deliver (record packet { msg = k }) })) ≡ yes_by t was (moment_with (input.Deliver (record packet { msg = k })) s.told)
+    by_msg packet (msg.Vote u true) = refl
+    by_msg packet (msg.Vote u false) = refl
+    by_msg packet _ = refl
 
-    by : (i : Input) → s.input ≡ i → yes_by t was (lived life s) ≡ yes_by t was (moment_with s.input s.told)
-    by (input.Begin sites) is = rw is refl
-    by (input.Do u op) is = rw is refl
-    by (input.Commit u) is = rw is refl
-    by (input.Cancel u) is = rw is refl
-    by (input.Expire u) is = rw is refl
-    by (input.Elect u group) is = rw is refl
-    by (input.Deliver packet) is = by_msg packet packet.msg is refl
+    by : (i : Input) → yes_by t was (lived life (record s { input = i })) ≡ yes_by t was (moment_with i s.told)
+    by (input.Deliver packet) = by_msg packet packet.msg
+    by _ = refl
 
 -- the votes behind one more step
 pub yes_step : (t : Txn) (life : Life) (s : SiteStep) → yes_votes t (life.steps ++ lived life s ∷ []) ≡ yes_by t (yes_votes t life.steps) (moment_with s.input s.told)
@@ -66,30 +52,16 @@ yes_step t life s =
 
 -- nor to the round
 round_plain : (site : ℕ) (t : Txn) (was : Rounds) (life : Life) (s : SiteStep) → round_by site t was (lived life s) ≡ round_by site t was (moment_of s)
-round_plain site t was life s = by s.input refl
+round_plain site t was life s = by s.input
   where
-    by_msg : (packet : Packet) (k : Message) → s.input ≡ input.Deliver packet → packet.msg ≡ k → round_by site t was (lived life s) ≡ round_by site t was (moment_of s)
-    by_msg packet (msg.Vote u says) is e = rw (is, e) refl
-    by_msg packet (msg.Do u n op) is e = rw (is, e) refl
-    by_msg packet (msg.Done u n inc answer) is e = rw (is, e) refl
-    by_msg packet (msg.Died u n older) is e = rw (is, e) refl
-    by_msg packet (msg.Ask u call) is e = rw (is, e) refl
-    by_msg packet (msg.LastElected u call n) is e = rw (is, e) refl
-    by_msg packet (msg.Elected u n) is e = rw (is, e) refl
-    by_msg packet (msg.Report u n st n2) is e = rw (is, e) refl
-    by_msg packet (msg.VoteReq u inc count) is e = rw (is, e) refl
-    by_msg packet (msg.Pre u n dir) is e = rw (is, e) refl
-    by_msg packet (msg.Ack u n dir) is e = rw (is, e) refl
-    by_msg packet (msg.Decide u dir) is e = rw (is, e) refl
+    by_msg : (packet : Packet) (k : Message)
+        → round_by site t was (lived life (record s { input = input.Deliver (record packet { msg = k }) })) ≡ round_by site t was (moment_of (record s { input = input.Deliver (record packet { msg = k }) }))
+    by_msg packet (msg.Ack u n dir) = refl
+    by_msg packet _ = refl
 
-    by : (i : Input) → s.input ≡ i → round_by site t was (lived life s) ≡ round_by site t was (moment_of s)
-    by (input.Begin sites) is = rw is refl
-    by (input.Do u op) is = rw is refl
-    by (input.Commit u) is = rw is refl
-    by (input.Cancel u) is = rw is refl
-    by (input.Expire u) is = rw is refl
-    by (input.Elect u group) is = rw is refl
-    by (input.Deliver packet) is = by_msg packet packet.msg is refl
+    by : (i : Input) → round_by site t was (lived life (record s { input = i })) ≡ round_by site t was (moment_of (record s { input = i }))
+    by (input.Deliver packet) = by_msg packet packet.msg
+    by _ = refl
 
 -- the round behind one more step
 pub rounds_step : (site : ℕ) (t : Txn) (life : Life) (s : SiteStep) → rounds_of site t (life.steps ++ lived life s ∷ []) ≡ round_by site t (rounds_of site t life.steps) (moment_of s)
@@ -116,54 +88,37 @@ heard_one_is site t m e (Some more) = heard_all_is site t m more
 taking_is : (site : ℕ) (t : Txn) (m : Moment) (e : Election) (f : ℕ) (k : Message) → election_with site t m e f k ≡ election_taking site t (seen_of t m.before) m.records f k e
 taking_is site t m e f (msg.LastElected u call n) =
     ap (λ (o : Option Election). if same_txn t u then o else Some e) (heard_one_is site t m e (hear e f call n))
-taking_is site t m e f (msg.Report u n st a) = refl
-taking_is site t m e f (msg.Elected u n) = refl
-taking_is site t m e f (msg.Do u n op) = refl
-taking_is site t m e f (msg.Done u n inc answer) = refl
-taking_is site t m e f (msg.Died u n older) = refl
-taking_is site t m e f (msg.Ask u call) = refl
-taking_is site t m e f (msg.VoteReq u inc count) = refl
-taking_is site t m e f (msg.Vote u says) = refl
-taking_is site t m e f (msg.Pre u n dir) = refl
-taking_is site t m e f (msg.Ack u n dir) = refl
-taking_is site t m e f (msg.Decide u dir) = refl
+taking_is site t m e f _ = refl
 
 -- the elections behind one more moment
 election_one : (site inc : ℕ) (t : Txn) (was : Elections) (life : Life) (s : SiteStep)
     → (election_by site inc t was (lived life s)).now ≡ election_now site (record { inc = inc; seq = suc was.calls }) t (seen_of t life.log) was.now s
-election_one site inc t was life s = by s.input refl
+election_one site inc t was life s = by s.input
   where
     still : Option Election → Option Election
     still e = if ends_election t (lived life s) then None else e
 
-    by_packet : (packet : Packet) (now : Option Election) → s.input ≡ input.Deliver packet → was.now ≡ now
-        → (election_by site inc t was (lived life s)).now ≡ election_now site (record { inc = inc; seq = suc was.calls }) t (seen_of t life.log) was.now s
-    by_packet packet None is e = rw (is, e) refl
-    by_packet packet (Some n) is e = rw (is, e) (ap still (taking_is site t (lived life s) n packet.«from» packet.msg))
+    by_packet : (packet : Packet) (now : Option Election)
+        → (election_by site inc t (record was { now = now }) (lived life (record s { input = input.Deliver packet }))).now
+        ≡ election_now site (record { inc = inc; seq = suc was.calls }) t (seen_of t life.log) now (record s { input = input.Deliver packet })
+    by_packet packet None = refl
+    by_packet packet (Some n) = ap still (taking_is site t (lived life (record s { input = input.Deliver packet })) n packet.«from» packet.msg)
 
-    by : (i : Input) → s.input ≡ i → (election_by site inc t was (lived life s)).now ≡ election_now site (record { inc = inc; seq = suc was.calls }) t (seen_of t life.log) was.now s
-    by (input.Begin sites) is = rw is refl
-    by (input.Do u op) is = rw is refl
-    by (input.Commit u) is = rw is refl
-    by (input.Cancel u) is = rw is refl
-    by (input.Expire u) is = rw is refl
-    by (input.Elect u group) is =
+    by : (i : Input) → (election_by site inc t was (lived life (record s { input = i }))).now
+        ≡ election_now site (record { inc = inc; seq = suc was.calls }) t (seen_of t life.log) was.now (record s { input = i })
+    by (input.Elect u group) =
         let anew : Option Election → Option Election = λ o. still (if same_txn t u then o else was.now) in
-        rw is (ap anew (heard_all_is site t (lived life s) (begun site (record { inc = inc; seq = suc was.calls }) group (last_elected t life.log))))
-    by (input.Deliver packet) is = by_packet packet was.now is refl
+        ap anew (heard_all_is site t (lived life (record s { input = input.Elect u group })) (begun site (record { inc = inc; seq = suc was.calls }) group (last_elected t life.log)))
+    by (input.Deliver packet) = by_packet packet was.now
+    by _ = refl
 
 -- the calls are counted alike
 one_call : (site inc : ℕ) (t : Txn) (was : Elections) (m : Moment) → (election_by site inc t was m).calls ≡ was.calls + count_by is_elect (m ∷ [])
-one_call site inc t was m = by m.input refl
+one_call site inc t was m = by m.input
   where
-    by : (i : Input) → m.input ≡ i → (election_by site inc t was m).calls ≡ was.calls + count_by is_elect (m ∷ [])
-    by (input.Elect u group) is = rw is (omega arith)
-    by (input.Begin sites) is = rw is (omega arith)
-    by (input.Do u op) is = rw is (omega arith)
-    by (input.Commit u) is = rw is (omega arith)
-    by (input.Cancel u) is = rw is (omega arith)
-    by (input.Expire u) is = rw is (omega arith)
-    by (input.Deliver packet) is = rw is (omega arith)
+    by : (i : Input) → (election_by site inc t was (record m { input = i })).calls ≡ was.calls + count_by is_elect (record m { input = i } ∷ [])
+    by (input.Elect u group) = omega arith
+    by _ = omega arith
 
 calls_from : (site inc : ℕ) (t : Txn) (was : Elections) (steps : List Moment) →
     (fold (election_by site inc t) was steps).calls ≡ was.calls + count_by is_elect steps

@@ -19,6 +19,7 @@ use Rattle.e3_world.specs.Elections.{is_elect}
 use Rattle.e3_world.specs.Lives.{life_by}
 use Rattle.e3_world.specs.Steps.{is_begin}
 use Rattle.e3_world.proofs.Turns.{true_not_false}
+use Rattle.e3_readings.proofs.Equal.{same_txn_eq}
 use Rattle.e3_cards.specs.declared.card.Card.{Card}
 use Rattle.e3_cards.specs.declared.card.Change.{Change}
 use Rattle.e3_cards.specs.declared.keys.TxnKey.{TxnKey}
@@ -26,7 +27,6 @@ use Rattle.e3_cards.specs.declared.cards.Cards.{Cards}
 use Rattle.e3_cards.specs.declared.cards.Changes.{Changes}
 use Rattle.e3_cards.specs.Cards.{card_of, card_by, blank, moment_of}
 use Rattle.e3_cards.specs.Tables.{txn_key, key_cmp, IsKnown, CardsStand, card_at, call_now, named, add_txn, touched, change_of, put, AreChanges, HasCard, HasRoom, IsRoomier}
-use Rattle.e3_cards.proofs.Arrivals.{same_txn_eq}
 use Rattle.e3_cards.proofs.Keeping.{card_step}
 use Rattle.e3_cards.proofs.Progress.{lived, count_push}
 use Rattle.e3_cards.proofs.Untouched.{same_key, untouched}
@@ -43,7 +43,8 @@ put_step ms ns c k t p q key e was is =
     by true = refl
     by false = is
 
-same_turned : (t u : Txn) → same_txn u t ≡ same_txn t u
+-- equal the other way round
+pub same_turned : (t u : Txn) → same_txn u t ≡ same_txn t u
 same_turned t u = by (same_txn u t) (same_txn t u) refl refl
   where
     by : (b c : Bool) → same_txn u t ≡ b → same_txn t u ≡ c → same_txn u t ≡ same_txn t u
@@ -109,28 +110,18 @@ are_changes cards s begins calls cs b c are = record {
 }
 
 begin_same : (life : Life) (s : SiteStep) → is_begin (lived life s) ≡ is_begin (moment_of s)
-begin_same life s = by s.input refl
+begin_same life s = by s.input
   where
-    by : (i : Input) → s.input ≡ i → is_begin (lived life s) ≡ is_begin (moment_of s)
-    by (input.Begin sites) is = rw is refl
-    by (input.Do u op) is = rw is refl
-    by (input.Commit u) is = rw is refl
-    by (input.Cancel u) is = rw is refl
-    by (input.Expire u) is = rw is refl
-    by (input.Elect u group) is = rw is refl
-    by (input.Deliver packet) is = rw is refl
+    by : (i : Input) → is_begin (lived life (record s { input = i })) ≡ is_begin (moment_of (record s { input = i }))
+    by (input.Begin sites) = refl
+    by _ = refl
 
 elect_same : (life : Life) (s : SiteStep) → is_elect (lived life s) ≡ is_elect (moment_of s)
-elect_same life s = by s.input refl
+elect_same life s = by s.input
   where
-    by : (i : Input) → s.input ≡ i → is_elect (lived life s) ≡ is_elect (moment_of s)
-    by (input.Begin sites) is = rw is refl
-    by (input.Do u op) is = rw is refl
-    by (input.Commit u) is = rw is refl
-    by (input.Cancel u) is = rw is refl
-    by (input.Expire u) is = rw is refl
-    by (input.Elect u group) is = rw is refl
-    by (input.Deliver packet) is = rw is refl
+    by : (i : Input) → is_elect (lived life (record s { input = i })) ≡ is_elect (moment_of (record s { input = i }))
+    by (input.Elect u group) = refl
+    by _ = refl
 
 counted : (p : Moment → Bool) (life : Life) (s : SiteStep) (n k : ℕ) → p (lived life s) ≡ p (moment_of s) → n ≡ count_by p life.steps → k ≡ (if p (moment_of s) then suc n else n)
     → k ≡ count_by p (life.steps ++ lived life s ∷ [])
@@ -157,7 +148,7 @@ stands_on was now s changes are site_kept inc_kept begins calls done site life s
 }
 
 -- behind an insert
-abbrev Inserts : List (TxnKey × Card) → List (TxnKey × Card) → TxnKey → Card → Type 0
+abbrev pub Inserts : List (TxnKey × Card) → List (TxnKey × Card) → TxnKey → Card → Type 0
 Inserts ms ns k c = (q : TxnKey) → lookup (is_at (key_cmp q)) ns ≡ cond (is_at (key_cmp k) q) (Some c) (lookup (is_at (key_cmp q)) ms)
 
 pub keys_stay : (ms ns : List (TxnKey × Card)) (k q : TxnKey) (c : Card) → Inserts ms ns k c → HasCard ms q → HasCard ns q

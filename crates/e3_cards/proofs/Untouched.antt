@@ -29,13 +29,15 @@ use Rattle.e3_world.specs.declared.lives.SiteStep.{SiteStep}
 use Rattle.e3_world.specs.Elections.{is_decision, is_join, tells_verdict}
 use Rattle.e3_world.specs.Operations.{issued_in, reason_in}
 use Rattle.e3_world.specs.Rounds.{round_by, round_by_record}
+use Rattle.e3_world.specs.Sound.{txn_in}
 use Rattle.e3_world.specs.Votes.{yes_by}
+use Rattle.e3_readings.proofs.Tests.{none_left, none_right}
 use Rattle.e3_cards.specs.declared.card.Card.{Card}
 use Rattle.e3_cards.specs.declared.card.Counted.{Counted}
 use Rattle.e3_cards.specs.declared.seen.Seen.{Seen}
 use Rattle.e3_cards.specs.Arriving.{came_by, taken_now, heard_in, heard_told, heard_sent}
 use Rattle.e3_cards.specs.Cards.{card_by, moment_of, moment_with}
-use Rattle.e3_cards.specs.Electing.{election_now}
+use Rattle.e3_cards.specs.Electing.{election_now, election_upon, election_behind, election_taking}
 use Rattle.e3_cards.specs.Issued.{number_told, counted_in}
 use Rattle.e3_cards.specs.Seeing.{seen_by}
 use Rattle.e3_cards.specs.Tables.{txn_key, key_cmp, IsKnown, named, input_txns, record_txns, told_txns, sent_txns}
@@ -52,28 +54,16 @@ same_known t u p q =
 pub same_key : (t u : Txn) → IsKnown t → IsKnown u → is_at (key_cmp (txn_key t)) (txn_key u) ≡ same_txn t u
 same_key t u p q = let e = same_known t u p q in grind (arith, common_steps, e)
 
--- no test passes in either part
-none_left : (b c : Bool) → (b || c) ≡ false → b ≡ false
-none_left false c e = refl
-none_left true c e = e
+unvoted : (s : Seen) → record s { voted = s.voted || false } ≡ s
+unvoted s = let v : (s.voted || false) ≡ s.voted = grind (arith, common_steps) in λ i. record s { voted = v i }
 
-none_right : (b c : Bool) → (b || c) ≡ false → c ≡ false
-none_right false c e = e
-none_right true c e = grind (arith, common_steps, e)
-
-seen_one : (t : Txn) (s : Seen) (r : Record) → list_any (same_txn t) (record_txns r) ≡ false → seen_by t s r ≡ s
-seen_one t s (log.Vote u ops) e =
-    let n = none_left (same_txn t u) false e in
-    let v : (s.voted || same_txn t u) ≡ s.voted = grind (arith, common_steps, n) in
-    λ i. record s { voted = v i }
-seen_one t s (log.Join u n) e = rw (none_left (same_txn t u) false e) (plain s)
-  where
-    plain : (s : Seen) → record s { voted = s.voted || false } ≡ s
-    plain s = let v : (s.voted || false) ≡ s.voted = grind (arith, common_steps) in λ i. record s { voted = v i }
-seen_one t s (log.Attempt u n dir) e = rw (none_left (same_txn t u) false e) (let v : (s.voted || false) ≡ s.voted = grind (arith, common_steps) in λ i. record s { voted = v i })
-seen_one t s (log.Decision u dir) e = rw (none_left (same_txn t u) false e) (let v : (s.voted || false) ≡ s.voted = grind (arith, common_steps) in λ i. record s { voted = v i })
-seen_one t s (log.Birth format site weights rows) e = let v : (s.voted || false) ≡ s.voted = grind (arith, common_steps) in λ i. record s { voted = v i }
-seen_one t s (log.Inc inc) e = let v : (s.voted || false) ≡ s.voted = grind (arith, common_steps) in λ i. record s { voted = v i }
+-- a record of other transactions says nothing of this one
+pub seen_one : (t : Txn) (s : Seen) (r : Record) → list_any (same_txn t) (record_txns r) ≡ false → seen_by t s r ≡ s
+seen_one t s (log.Vote u ops) e = rw (none_left (same_txn t u) false e) (unvoted s)
+seen_one t s (log.Join u n) e = rw (none_left (same_txn t u) false e) (unvoted s)
+seen_one t s (log.Attempt u n dir) e = rw (none_left (same_txn t u) false e) (unvoted s)
+seen_one t s (log.Decision u dir) e = rw (none_left (same_txn t u) false e) (unvoted s)
+seen_one t s _ e = unvoted s
 
 seen_all : (t : Txn) (s : Seen) (rs : List Record) → list_any (same_txn t) (flat_map record_txns rs) ≡ false → fold (seen_by t) s rs ≡ s
 seen_all t s [] e = refl
@@ -94,143 +84,64 @@ none_flat p f g h (x ∷ xs) e =
 
 told_one : (t : Txn) (e : Told) → list_any (same_txn t) (told_txns e) ≡ false → heard_told t e ≡ []
 told_one t (told.Op u n answer) e = rw (none_left (same_txn t u) false e) refl
-told_one t (told.Began u) e = refl
-told_one t (told.Ended u dir) e = refl
-told_one t (told.Died u older) e = refl
-told_one t (told.Doomed u site had now) e = refl
-told_one t (told.Refused u why) e = refl
-told_one t (told.Kept u st) e = refl
-told_one t (told.Verdict u n v) e = refl
+told_one t _ e = refl
 
 sent_one : (t : Txn) (p : Packet) → list_any (same_txn t) (sent_txns p) ≡ false → heard_sent t p ≡ []
-sent_one t p e = by p.msg refl
+sent_one t p e = by p.msg e
   where
-    by : (k : Message) → p.msg ≡ k → heard_sent t p ≡ []
-    by (msg.Done u n inc answer) is = rw (is, none_left (same_txn t u) false (rw is at e)) refl
-    by (msg.Do u n op) is = rw is refl
-    by (msg.Died u n older) is = rw is refl
-    by (msg.Ask u call) is = rw is refl
-    by (msg.LastElected u call n) is = rw is refl
-    by (msg.Elected u n) is = rw is refl
-    by (msg.Report u n st n2) is = rw is refl
-    by (msg.VoteReq u inc count) is = rw is refl
-    by (msg.Vote u says) is = rw is refl
-    by (msg.Pre u n dir) is = rw is refl
-    by (msg.Ack u n dir) is = rw is refl
-    by (msg.Decide u dir) is = rw is refl
+    by : (k : Message) → list_any (same_txn t) (sent_txns (record p { msg = k })) ≡ false → heard_sent t (record p { msg = k }) ≡ []
+    by (msg.Done u n inc answer) e = rw (none_left (same_txn t u) false e) refl
+    by _ e = refl
 
 issued_one : (t : Txn) (i : Input) (events : List Told) → list_any (same_txn t) (input_txns i) ≡ false → issued_in t i events ≡ []
-issued_one t (input.Begin sites) events e = refl
 issued_one t (input.Do u op) events e = rw (none_left (same_txn t u) false e) refl
-issued_one t (input.Commit u) events e = refl
-issued_one t (input.Cancel u) events e = refl
-issued_one t (input.Expire u) events e = refl
-issued_one t (input.Elect u group) events e = refl
-issued_one t (input.Deliver packet) events e = refl
+issued_one t _ events e = refl
 
 taken_one : (site : ℕ) (t : Txn) (ops : List Op) (i : Input) (events : List Told) → list_any (same_txn t) (input_txns i) ≡ false → taken_now site t ops i events ≡ None
-taken_one site t ops (input.Begin sites) events e = refl
 taken_one site t ops (input.Do u op) events e = rw (none_left (same_txn t u) false e) refl
-taken_one site t ops (input.Commit u) events e = refl
-taken_one site t ops (input.Cancel u) events e = refl
-taken_one site t ops (input.Expire u) events e = refl
-taken_one site t ops (input.Elect u group) events e = refl
-taken_one site t ops (input.Deliver packet) events e = by packet.msg refl
+taken_one site t ops (input.Deliver packet) events e = by packet.msg e
   where
-    by : (k : Message) → packet.msg ≡ k → taken_now site t ops (input.Deliver packet) events ≡ None
-    by (msg.Do u n op) is = rw (is, none_left (same_txn t u) false (rw is at e)) refl
-    by (msg.Done u n inc answer) is = rw is refl
-    by (msg.Died u n older) is = rw is refl
-    by (msg.Ask u call) is = rw is refl
-    by (msg.LastElected u call n) is = rw is refl
-    by (msg.Elected u n) is = rw is refl
-    by (msg.Report u n st n2) is = rw is refl
-    by (msg.VoteReq u inc count) is = rw is refl
-    by (msg.Vote u says) is = rw is refl
-    by (msg.Pre u n dir) is = rw is refl
-    by (msg.Ack u n dir) is = rw is refl
-    by (msg.Decide u dir) is = rw is refl
+    by : (k : Message) → list_any (same_txn t) (input_txns (input.Deliver (record packet { msg = k }))) ≡ false → taken_now site t ops (input.Deliver (record packet { msg = k })) events ≡ None
+    by (msg.Do u n op) e = rw (none_left (same_txn t u) false e) refl
+    by _ e = refl
+taken_one site t ops _ events e = refl
 
 counted_one : (t : Txn) (i : Input) (events : List Told) → list_any (same_txn t) (input_txns i) ≡ false → counted_in t i events ≡ []
-counted_one t (input.Begin sites) events e = refl
-counted_one t (input.Do u op) events e = refl
-counted_one t (input.Commit u) events e = refl
-counted_one t (input.Cancel u) events e = refl
-counted_one t (input.Expire u) events e = refl
-counted_one t (input.Elect u group) events e = refl
-counted_one t (input.Deliver packet) events e = by packet.msg refl
+counted_one t (input.Deliver packet) events e = by packet.msg e
   where
-    by : (k : Message) → packet.msg ≡ k → counted_in t (input.Deliver packet) events ≡ []
-    by (msg.Do u n op) is = rw is refl
-    by (msg.Done u n inc answer) is = rw (is, none_left (same_txn t u) false (rw is at e)) refl
-    by (msg.Died u n older) is = rw is refl
-    by (msg.Ask u call) is = rw is refl
-    by (msg.LastElected u call n) is = rw is refl
-    by (msg.Elected u n) is = rw is refl
-    by (msg.Report u n st n2) is = rw is refl
-    by (msg.VoteReq u inc count) is = rw is refl
-    by (msg.Vote u says) is = rw is refl
-    by (msg.Pre u n dir) is = rw is refl
-    by (msg.Ack u n dir) is = rw is refl
-    by (msg.Decide u dir) is = rw is refl
+    by : (k : Message) → list_any (same_txn t) (input_txns (input.Deliver (record packet { msg = k }))) ≡ false → counted_in t (input.Deliver (record packet { msg = k })) events ≡ []
+    by (msg.Done u n inc answer) e = rw (none_left (same_txn t u) false e) refl
+    by _ e = refl
+counted_one t _ events e = refl
 
 number_one : (t : Txn) (e : Told) → list_any (same_txn t) (told_txns e) ≡ false → number_told t e ≡ []
 number_one t (told.Op u n answer) e = rw (none_left (same_txn t u) false e) refl
-number_one t (told.Began u) e = refl
-number_one t (told.Ended u dir) e = refl
-number_one t (told.Died u older) e = refl
-number_one t (told.Doomed u site had now) e = refl
-number_one t (told.Refused u why) e = refl
-number_one t (told.Kept u st) e = refl
-number_one t (told.Verdict u n v) e = refl
+number_one t _ e = refl
 
 reason_one : (t : Txn) (e : Told) → list_any (same_txn t) (told_txns e) ≡ false → reason_in t e ≡ []
 reason_one t (told.Died u older) e = rw (none_left (same_txn t u) false e) refl
 reason_one t (told.Doomed u site had now) e = rw (none_left (same_txn t u) false e) refl
-reason_one t (told.Op u n answer) e = refl
-reason_one t (told.Began u) e = refl
-reason_one t (told.Ended u dir) e = refl
-reason_one t (told.Refused u why) e = refl
-reason_one t (told.Kept u st) e = refl
-reason_one t (told.Verdict u n v) e = refl
+reason_one t _ e = refl
 
 yes_one : (t : Txn) (was : Option (List ℕ)) (s : SiteStep) → list_any (same_txn t) (input_txns s.input) ≡ false → yes_by t was (moment_with s.input s.told) ≡ was
-yes_one t was s e = by_input s.input refl
+yes_one t was s e = by s.input e
   where
-    by_packet : (packet : Packet) → s.input ≡ input.Deliver packet → list_any (same_txn t) (input_txns (input.Deliver packet)) ≡ false → yes_by t was (moment_with s.input s.told) ≡ was
-    by_packet packet here e = by packet.msg refl
-      where
-        by : (k : Message) → packet.msg ≡ k → yes_by t was (moment_with s.input s.told) ≡ was
-        by (msg.Do u n op) is = rw (here, is) refl
-        by (msg.Done u n inc answer) is = rw (here, is) refl
-        by (msg.Died u n older) is = rw (here, is) refl
-        by (msg.Ask u call) is = rw (here, is) refl
-        by (msg.LastElected u call n) is = rw (here, is) refl
-        by (msg.Elected u n) is = rw (here, is) refl
-        by (msg.Report u n st n2) is = rw (here, is) refl
-        by (msg.VoteReq u inc count) is = rw (here, is) refl
-        by (msg.Vote u true) is = rw (here, is, none_left (same_txn t u) false (rw is at e)) refl
-        by (msg.Vote u false) is = rw (here, is) refl
-        by (msg.Pre u n dir) is = rw (here, is) refl
-        by (msg.Ack u n dir) is = rw (here, is) refl
-        by (msg.Decide u dir) is = rw (here, is) refl
+    by_msg : (packet : Packet) (k : Message) → list_any (same_txn t) (input_txns (input.Deliver (record packet { msg = k }))) ≡ false
+        → yes_by t was (moment_with (input.Deliver (record packet { msg = k })) s.told) ≡ was
+    by_msg packet (msg.Vote u true) e = rw (none_left (same_txn t u) false e) refl
+    by_msg packet (msg.Vote u false) e = refl
+    by_msg packet _ e = refl
 
-    by_input : (i : Input) → s.input ≡ i → yes_by t was (moment_with s.input s.told) ≡ was
-    by_input (input.Begin sites) is = rw is refl
-    by_input (input.Do u op) is = rw is refl
-    by_input (input.Commit u) is = rw (is, none_left (same_txn t u) false (rw is at e)) refl
-    by_input (input.Cancel u) is = rw is refl
-    by_input (input.Expire u) is = rw is refl
-    by_input (input.Elect u group) is = rw is refl
-    by_input (input.Deliver packet) is = by_packet packet is (rw is at e)
+    by : (i : Input) → list_any (same_txn t) (input_txns i) ≡ false → yes_by t was (moment_with i s.told) ≡ was
+    by (input.Commit u) e = rw (none_left (same_txn t u) false e) refl
+    by (input.Deliver packet) e = by_msg packet packet.msg e
+    by _ e = refl
 
 round_one : (site : ℕ) (t : Txn) (group : List ℕ) (was : Option Round) (r : Record) → list_any (same_txn t) (record_txns r) ≡ false → round_by_record site t group was r ≡ was
 round_one site t group was (log.Attempt u n dir) e = rw (none_left (same_txn t u) false e) refl
 round_one site t group was (log.Join u n) e = rw (none_left (same_txn t u) false e) refl
 round_one site t group was (log.Decision u dir) e = rw (none_left (same_txn t u) false e) refl
-round_one site t group was (log.Vote u ops) e = refl
-round_one site t group was (log.Birth format own weights rows) e = refl
-round_one site t group was (log.Inc inc) e = refl
+round_one site t group was _ e = refl
 
 round_all : (site : ℕ) (t : Txn) (group : List ℕ) (was : Option Round) (rs : List Record) → list_any (same_txn t) (flat_map record_txns rs) ≡ false
     → fold (round_by_record site t group) was rs ≡ was
@@ -242,7 +153,7 @@ round_all site t group was (r ∷ rs) e =
 
 rounds_one : (site : ℕ) (t : Txn) (was : Rounds) (s : SiteStep) → list_any (same_txn t) (input_txns s.input) ≡ false → list_any (same_txn t) (flat_map record_txns s.records) ≡ false
     → round_by site t was (moment_of s) ≡ was
-rounds_one site t was s e none = by_input s.input refl
+rounds_one site t was s e none = by s.input e
   where
     now_same : fold (round_by_record site t was.group) was.now s.records ≡ was.now
     now_same = round_all site t was.group was.now s.records none
@@ -250,31 +161,16 @@ rounds_one site t was s e none = by_input s.input refl
     same : record { group = was.group; now = fold (round_by_record site t was.group) was.now s.records } ≡ was
     same = λ i. record { group = was.group; now = now_same i }
 
-    by_packet : (packet : Packet) → s.input ≡ input.Deliver packet → list_any (same_txn t) (input_txns (input.Deliver packet)) ≡ false → round_by site t was (moment_of s) ≡ was
-    by_packet packet here e = by packet.msg refl
-      where
-        by : (k : Message) → packet.msg ≡ k → round_by site t was (moment_of s) ≡ was
-        by (msg.Do u n op) is = rw (here, is) same
-        by (msg.Done u n inc answer) is = rw (here, is) same
-        by (msg.Died u n older) is = rw (here, is) same
-        by (msg.Ask u call) is = rw (here, is) same
-        by (msg.LastElected u call n) is = rw (here, is) same
-        by (msg.Elected u n) is = rw (here, is) same
-        by (msg.Report u n st n2) is = rw (here, is) same
-        by (msg.VoteReq u inc count) is = rw (here, is) same
-        by (msg.Vote u says) is = rw (here, is) same
-        by (msg.Pre u n dir) is = rw (here, is) refl
-        by (msg.Ack u n dir) is = rw (here, is, none_left (same_txn t u) false (rw is at e)) same
-        by (msg.Decide u dir) is = rw (here, is) same
+    by_msg : (packet : Packet) (k : Message) → list_any (same_txn t) (input_txns (input.Deliver (record packet { msg = k }))) ≡ false
+        → round_by site t was (moment_of (record s { input = input.Deliver (record packet { msg = k }) })) ≡ was
+    by_msg packet (msg.Pre u n dir) e = refl
+    by_msg packet (msg.Ack u n dir) e = rw (none_left (same_txn t u) false e) same
+    by_msg packet _ e = same
 
-    by_input : (i : Input) → s.input ≡ i → round_by site t was (moment_of s) ≡ was
-    by_input (input.Begin sites) is = rw is same
-    by_input (input.Do u op) is = rw is same
-    by_input (input.Commit u) is = rw is same
-    by_input (input.Cancel u) is = rw is same
-    by_input (input.Expire u) is = rw is same
-    by_input (input.Elect u group) is = rw (is, none_left (same_txn t u) false (rw is at e)) same
-    by_input (input.Deliver packet) is = by_packet packet is (rw is at e)
+    by : (i : Input) → list_any (same_txn t) (input_txns i) ≡ false → round_by site t was (moment_of (record s { input = i })) ≡ was
+    by (input.Elect u group) e = rw (none_left (same_txn t u) false e) same
+    by (input.Deliver packet) e = by_msg packet packet.msg e
+    by _ e = same
 
 none_any : {X : Type 0} (p : Txn → Bool) (f : X → Bool) (g : X → List Txn) → ((x : X) → list_any p (g x) ≡ false → f x ≡ false) → (xs : List X)
     → list_any p (flat_map g xs) ≡ false → list_any f xs ≡ false
@@ -287,34 +183,20 @@ none_any p f g h (x ∷ xs) e =
 
 decision_one : (t : Txn) (r : Record) → list_any (same_txn t) (record_txns r) ≡ false → is_decision t r ≡ false
 decision_one t (log.Decision u dir) e = none_left (same_txn t u) false e
-decision_one t (log.Attempt u n dir) e = refl
-decision_one t (log.Join u n) e = refl
-decision_one t (log.Vote u ops) e = refl
-decision_one t (log.Birth format site weights rows) e = refl
-decision_one t (log.Inc inc) e = refl
+decision_one t _ e = refl
 
 join_one : (t : Txn) (r : Record) → list_any (same_txn t) (record_txns r) ≡ false → is_join t r ≡ false
 join_one t (log.Join u n) e = none_left (same_txn t u) false e
-join_one t (log.Decision u dir) e = refl
-join_one t (log.Attempt u n dir) e = refl
-join_one t (log.Vote u ops) e = refl
-join_one t (log.Birth format site weights rows) e = refl
-join_one t (log.Inc inc) e = refl
+join_one t _ e = refl
 
 verdict_one : (t : Txn) (e : Told) → list_any (same_txn t) (told_txns e) ≡ false → tells_verdict t e ≡ false
 verdict_one t (told.Verdict u n v) e = none_left (same_txn t u) false e
-verdict_one t (told.Op u n answer) e = refl
-verdict_one t (told.Died u older) e = refl
-verdict_one t (told.Doomed u site had now) e = refl
-verdict_one t (told.Began u) e = refl
-verdict_one t (told.Ended u dir) e = refl
-verdict_one t (told.Refused u why) e = refl
-verdict_one t (told.Kept u st) e = refl
+verdict_one t _ e = refl
 
 election_one : (site : ℕ) (call : Call) (t : Txn) (seen : Seen) (was : Option Election) (s : SiteStep) → list_any (same_txn t) (input_txns s.input) ≡ false
     → list_any (same_txn t) (flat_map record_txns s.records) ≡ false → list_any (same_txn t) (flat_map told_txns s.told) ≡ false
     → election_now site call t seen was s ≡ was
-election_one site call t seen was s e records events = by_input s.input refl
+election_one site call t seen was s e records events = upon ∙ by s.input e
   where
     undecided : list_any (is_decision t) s.records ≡ false
     undecided = none_any (same_txn t) (is_decision t) record_txns (decision_one t) s.records records
@@ -325,33 +207,23 @@ election_one site call t seen was s e records events = by_input s.input refl
     no_verdict : list_any (tells_verdict t) s.told ≡ false
     no_verdict = none_any (same_txn t) (tells_verdict t) told_txns (verdict_one t) s.told events
 
-    by_packet : (packet : Packet) (o : Option Election) → s.input ≡ input.Deliver packet → list_any (same_txn t) (input_txns (input.Deliver packet)) ≡ false → was ≡ o
-        → election_now site call t seen was s ≡ was
-    by_packet packet None here e is = rw (undecided, no_verdict, here, is) refl
-    by_packet packet (Some x) here e now = by packet.msg refl
-      where
-        by : (k : Message) → packet.msg ≡ k → election_now site call t seen was s ≡ was
-        by (msg.Do u n op) is = rw (undecided, no_verdict, here, now, is) refl
-        by (msg.Done u n inc answer) is = rw (undecided, no_verdict, here, now, is) refl
-        by (msg.Died u n older) is = rw (undecided, no_verdict, here, now, is) refl
-        by (msg.Ask u call) is = rw (undecided, no_verdict, here, now, is) refl
-        by (msg.LastElected u call n) is = rw (undecided, no_verdict, here, now, is, none_left (same_txn t u) false (rw is at e)) refl
-        by (msg.Elected u n) is = rw (undecided, no_verdict, here, now, is, no_join) refl
-        by (msg.Report u n st n2) is = rw (undecided, no_verdict, here, now, is, none_left (same_txn t u) false (rw is at e)) refl
-        by (msg.VoteReq u inc count) is = rw (undecided, no_verdict, here, now, is) refl
-        by (msg.Vote u says) is = rw (undecided, no_verdict, here, now, is) refl
-        by (msg.Pre u n dir) is = rw (undecided, no_verdict, here, now, is) refl
-        by (msg.Ack u n dir) is = rw (undecided, no_verdict, here, now, is) refl
-        by (msg.Decide u dir) is = rw (undecided, no_verdict, here, now, is) refl
+    upon : election_now site call t seen was s ≡ election_upon site call t seen s.records was s.input
+    upon = rw (undecided, no_verdict) refl
 
-    by_input : (i : Input) → s.input ≡ i → election_now site call t seen was s ≡ was
-    by_input (input.Begin sites) is = rw (undecided, no_verdict, is) refl
-    by_input (input.Do u op) is = rw (undecided, no_verdict, is) refl
-    by_input (input.Commit u) is = rw (undecided, no_verdict, is) refl
-    by_input (input.Cancel u) is = rw (undecided, no_verdict, is) refl
-    by_input (input.Expire u) is = rw (undecided, no_verdict, is) refl
-    by_input (input.Elect u group) is = rw (undecided, no_verdict, is, none_left (same_txn t u) false (rw is at e)) refl
-    by_input (input.Deliver packet) is = by_packet packet was is (rw is at e) refl
+    taking : (f : ℕ) (k : Message) (x : Election) → list_any (same_txn t) (txn_in k ∷ []) ≡ false → election_taking site t seen s.records f k x ≡ Some x
+    taking f (msg.LastElected u call n) x e = rw (none_left (same_txn t u) false e) refl
+    taking f (msg.Report u n st n2) x e = rw (none_left (same_txn t u) false e) refl
+    taking f (msg.Elected u n) x e = rw no_join refl
+    taking f _ x e = refl
+
+    behind : (packet : Packet) (o : Option Election) → list_any (same_txn t) (input_txns (input.Deliver packet)) ≡ false → election_behind site t seen s.records packet o ≡ o
+    behind packet None e = refl
+    behind packet (Some x) e = taking packet.«from» packet.msg x e
+
+    by : (i : Input) → list_any (same_txn t) (input_txns i) ≡ false → election_upon site call t seen s.records was i ≡ was
+    by (input.Elect u group) e = rw (none_left (same_txn t u) false e) refl
+    by (input.Deliver packet) e = behind packet was e
+    by _ e = refl
 
 -- a transaction that a step does not name keeps its card
 pub untouched : (site : ℕ) (call : Call) (t : Txn) (c : Card) (s : SiteStep) → list_any (same_txn t) (named s) ≡ false → card_by site call t c s ≡ c

@@ -1,25 +1,13 @@
 // The operations of a transaction that came to the site, and their answers, behind one more step.
-ghost use Rattle.std.specs.Prelude.{◌≡◌, ◌++◌, ◌∷◌, [], IfOk, suc};
+ghost use Rattle.std.specs.Prelude.{◌≡◌, ◌++◌, ◌∷◌, [], IfOk};
 ghost use Rattle.std.specs.List.{flat_map};
 ghost use Rattle.e3_cards.specs.Arriving.{came_by, taken_now, heard_told, heard_sent, heard_in};
 
 use crate::card::Heard;
-use crate::issued::has_refusal;
 use crate::seen::{Seen, seen_state};
-use e3_readings::{is_among, key_of};
+use e3_readings::{has_refusal, is_among, key_of, number_behind};
 use e3_types::{Input, List, Message, NoMemory, Op, Packet, State, Told, Txn};
 use e3_world::Asked;
-
-/// One more. What is counted stands in memory, so a count that passes 32 bits is want of memory too.
-pub(crate) fn next(count: u64) -> Result<u32, NoMemory>
-    ensures { IfOk result (λ n. n ≡ suc count) }
-{
-    if count < 4294967295 {
-        Ok(count as u32 + 1)
-    } else {
-        Err(NoMemory)
-    }
-}
 
 /// The operation of the transaction that a step takes up at its site.
 pub(crate) fn taken_now(
@@ -44,7 +32,7 @@ pub(crate) fn taken_now(
             if t.is_same(txn) && !has_refusal(events) && key_of(op).site == site {
                 Ok(Some(Asked {
                     txn: *txn,
-                    n: next(issued.len() as u64)?,
+                    n: number_behind(issued.len() as u64)?,
                     op: op.copy(),
                 }))
             } else {

@@ -9,13 +9,13 @@ ghost use Rattle.e3_cards.specs.declared.keys.TxnKey.{TxnKey as KeptKey};
 ghost use Rattle.e3_cards.specs.Cards.{moment_of};
 ghost use Rattle.e3_cards.specs.Tables.{card_at, call_now, txn_key, touched, change_of, put, IsKnown, CardsStand, AreChanges, HasCard, HasRoom, IsRoomier};
 
-use crate::arriving::next;
 use crate::card::{Card, Change, blank};
 use crate::cards::{Cards, Changes};
 use crate::copying::copy_at;
 use crate::keys::{TxnKey, known, txn_key};
 use crate::stepping::step_card;
 use crate::touched::touched;
+use e3_readings::next;
 use e3_types::{Input, List, NoMemory, Txn};
 use e3_world::SiteStep;
 use std::alloc::Global;
@@ -44,7 +44,7 @@ fn begins_behind(begins: u32, step: &SiteStep) -> Result<u32, NoMemory>
     ensures { IfOk result (λ n. n ≡ (if is_begin (moment_of step.now) then suc begins else begins)) }
 {
     match step.input {
-        Input::Begin { .. } => next(begins as u64),
+        Input::Begin { .. } => next(begins),
         _ => Ok(begins),
     }
 }
@@ -53,7 +53,7 @@ fn calls_behind(calls: u32, step: &SiteStep) -> Result<u32, NoMemory>
     ensures { IfOk result (λ n. n ≡ (if is_elect (moment_of step.now) then suc calls else calls)) }
 {
     match step.input {
-        Input::Elect { .. } => next(calls as u64),
+        Input::Elect { .. } => next(calls),
         _ => Ok(calls),
     }
 }

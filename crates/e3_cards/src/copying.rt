@@ -5,6 +5,7 @@ ghost use Rattle.e3_cards.specs.Tables.{card_at};
 use crate::card::{Card, Heard, blank};
 use crate::cards::card_or;
 use crate::keys::TxnKey;
+use e3_readings::add_asked;
 use e3_types::{List, NoMemory, Op, Txn};
 use e3_world::{Asked, Election, Round, Rounds};
 use std::alloc::Global;
@@ -35,13 +36,7 @@ pub(crate) fn copy_came(alloc: Global, came: &[Asked]) -> Result<List<Asked>, No
     ensures { IfOk result (λ out. out ≡ came.now) }
 {
     let mut out = List::new(alloc);
-    for x in came {
-        out.push(Asked {
-            txn: x.txn,
-            n: x.n,
-            op: x.op.copy(),
-        })?;
-    }
+    add_asked(came, &mut out)?;
     Ok(out)
 }
 

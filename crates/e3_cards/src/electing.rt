@@ -1,98 +1,26 @@
 // The election of a transaction in progress, behind one more step.
-ghost use Rattle.std.specs.Prelude.{◌≡◌, ◌++◌, ◌∷◌, [], ◌==◌, ◌&&◌, ◌||◌, not, IfOk, Option, suc};
-ghost use Rattle.std.specs.List.{list_any};
-ghost use Rattle.e3_types.specs.Same.{same_call};
-ghost use Rattle.e3_types.specs.Sets.{has_site};
-ghost use Rattle.e3_world.specs.Elections.{is_decision, is_join, tells_verdict, begun, or_same, take_report};
+ghost use Rattle.std.specs.Prelude.{◌≡◌, IfOk, suc};
+ghost use Rattle.e3_world.specs.Elections.{begun};
 ghost use Rattle.e3_cards.specs.Electing.{heard_all, election_taking, election_behind, election_upon, election_now};
 ghost use Rattle.e3_cards.specs.Seeing.{seen_state};
 
-use crate::arriving::next;
 use crate::seen::{Seen, seen_state};
-use e3_readings::{all_heard, begun, is_decision, is_join, joined_in};
-use e3_types::{
-    Call, Input, List, Message, NoMemory, Packet, Record, SiteReport, SiteSet, Told, Txn,
+use e3_readings::{
+    all_heard, and_heard, begun, has_decision, has_join, has_verdict, is_awaited, joined,
+    joined_in, next, with_report,
 };
-use e3_world::{Election, Named, SiteStep};
+use e3_types::{Call, Input, Message, NoMemory, Packet, Record, SiteReport, SiteSet, Txn};
+use e3_world::{Election, SiteStep};
 use std::alloc::Global;
 
-fn is_heard(f: u32, heard: &[Named]) -> bool
-    ensures { result ≡ list_any (λ h. h.site == f) heard.now }
+fn own_report(site: u32, seen: &Seen) -> SiteReport
+    ensures { result ≡ record { site = site; state = seen_state seen.now; attempt = seen.now.attempt } }
 {
-    heard.iter().any(|h| h.site == f)
-}
-
-fn is_awaited(e: &Election, f: u32, call: Call) -> bool
-    ensures { result ≡ (same_call e.now.call call && has_site e.now.group f && not (list_any (λ h. h.site == f) e.now.heard)) }
-{
-    e.call.is_same(call) && e.group.has(f) && !is_heard(f, e.heard.as_slice())
-}
-
-fn and_heard(e: Election, f: u32, elected: u32) -> Result<Election, NoMemory>
-    ensures { IfOk result (λ more. more ≡ record e { heard = e.heard ++ record { site = f; elected = elected } ∷ [] }) }
-{
-    let mut heard = e.heard;
-    heard.push(Named { site: f, elected })?;
-    Ok(Election {
-        call: e.call,
-        group: e.group,
-        heard,
-        number: e.number,
-        reports: e.reports,
-    })
-}
-
-fn has_reported(site: u32, reports: &[SiteReport]) -> bool
-    ensures { result ≡ list_any (λ r. r.site == site) reports.now }
-{
-    reports.iter().any(|r| r.site == site)
-}
-
-fn is_owed(e: &Election, site: u32) -> bool
-    ensures { result ≡ (has_site e.now.group site && not (list_any (λ r. r.site == site) e.now.reports)) }
-{
-    e.group.has(site) && !has_reported(site, e.reports.as_slice())
-}
-
-fn and_reported(e: Election, report: SiteReport) -> Result<Election, NoMemory>
-    ensures { IfOk result (λ more. more ≡ record e { reports = e.reports ++ report ∷ [] }) }
-{
-    let mut reports = e.reports;
-    reports.push(report)?;
-    Ok(Election {
-        call: e.call,
-        group: e.group,
-        heard: e.heard,
-        number: e.number,
-        reports,
-    })
-}
-
-fn with_report(e: Election, n: u32, report: SiteReport) -> Result<Option<Election>, NoMemory>
-    ensures { IfOk result (λ o. o ≡ or_same e (take_report e n report)) }
-{
-    match e.number {
-        Some(k) if n == k && is_owed(&e, report.site) => Ok(Some(and_reported(e, report)?)),
-        _ => Ok(Some(e)),
-    }
-}
-
-fn joins(alloc: Global, site: u32, seen: &Seen, e: Election, n: u32) -> Result<Election, NoMemory>
-    ensures { IfOk result (λ more. more ≡ record e { number = Some n; reports = record { site = site; state = seen_state seen.now; attempt = seen.now.attempt } ∷ [] }) }
-{
-    let mut reports = List::new(alloc);
-    reports.push(SiteReport {
+    SiteReport {
         site,
         state: seen_state(seen),
         attempt: seen.attempt,
-    })?;
-    Ok(Election {
-        call: e.call,
-        group: e.group,
-        heard: e.heard,
-        number: Some(n),
-        reports,
-    })
+    }
 }
 
 fn heard_all(
@@ -109,15 +37,9 @@ fn heard_all(
         return Ok(Some(e));
     }
     match joined_in(t, records) {
-        Some(n) => Ok(Some(joins(alloc, site, seen, e, n)?)),
+        Some(n) => Ok(Some(joined(alloc, e, n, own_report(site, seen))?)),
         None => Ok(None),
     }
-}
-
-fn has_join(t: &Txn, records: &[Record]) -> bool
-    ensures { result ≡ list_any (is_join t.now) records.now }
-{
-    records.iter().any(|r| is_join(t, r))
 }
 
 fn election_taking(
@@ -203,34 +125,13 @@ fn election_upon(
         Input::Elect { txn, group } if t.is_same(txn) => {
             let call = Call {
                 inc,
-                seq: next(calls as u64)?,
+                seq: next(calls)?,
             };
             election_anew(alloc, site, call, t, seen, records, *group)
         }
         Input::Deliver { packet } => election_behind(alloc, site, t, seen, records, packet, was),
         _ => Ok(was),
     }
-}
-
-fn has_decision(t: &Txn, records: &[Record]) -> bool
-    ensures { result ≡ list_any (is_decision t.now) records.now }
-{
-    records.iter().any(|r| is_decision(t, r))
-}
-
-fn tells_verdict(t: &Txn, e: &Told) -> bool
-    ensures { result ≡ tells_verdict t.now e.now }
-{
-    match e {
-        Told::Verdict { txn, .. } => t.is_same(txn),
-        _ => false,
-    }
-}
-
-fn has_verdict(t: &Txn, events: &[Told]) -> bool
-    ensures { result ≡ list_any (tells_verdict t.now) events.now }
-{
-    events.iter().any(|e| tells_verdict(t, e))
 }
 
 /// The election behind one more step. An Elect of the transaction has the call behind the calls so far.

@@ -8,12 +8,12 @@ ghost use Rattle.e3_cards.specs.Issued.{expect_by, number_told};
 ghost use Rattle.e3_cards.specs.Readings.{is_number, is_at_site, unanswered_of, expected_of, own_expected, done_of, done_with};
 ghost use Rattle.e3_cards.specs.Seeing.{seen_by};
 
-use crate::arriving::{add_came, add_heard, next, taken_now};
+use crate::arriving::{add_came, add_heard, taken_now};
 use crate::card::{Card, Counted, Heard};
 use crate::copying::{copy_all, copy_came, copy_heard, copy_ops};
-use crate::issued::{add_issued, add_numbers};
+use crate::issued::add_numbers;
 use crate::seen::seen_behind;
-use e3_readings::{is_among, key_of, nth_op};
+use e3_readings::{is_among, issued_in, key_of, next, nth_op, number_behind};
 use e3_types::{Answer, Input, List, Name, NoMemory, Op, Txn};
 use e3_world::{Asked, Expected, Made, Performed};
 use std::alloc::Global;
@@ -148,7 +148,7 @@ fn unanswered_of(count: u64, told: &[u32], undecided: bool) -> Result<Option<u32
     if count == 0 {
         return Ok(None);
     }
-    let n = next(count - 1)?;
+    let n = number_behind(count - 1)?;
     if undecided && !has_number(n, told) {
         Ok(Some(n))
     } else {
@@ -194,7 +194,7 @@ pub(crate) fn awaits(
 {
     let events = made.told.as_slice();
     let mut ops = copy_ops(alloc, card.issued.as_slice())?;
-    add_issued(t, input, events, &mut ops)?;
+    issued_in(t, input, events, &mut ops)?;
     let mut told = copy_all(alloc, card.answered.as_slice())?;
     add_numbers(t, events, &mut told)?;
     let last = unanswered_of(ops.len(), told.as_slice(), is_open(t, card, made))?;
@@ -207,7 +207,7 @@ fn expect_by(site: u32, was: Expected, c: &Counted) -> Result<Expected, NoMemory
     if c.site == site {
         Ok(Expected {
             inc: c.inc,
-            count: next(was.count as u64)?,
+            count: next(was.count)?,
         })
     } else {
         Ok(was)
@@ -233,7 +233,7 @@ pub(crate) fn own_expected(inc: u32, done: &[Performed]) -> Result<Expected, NoM
         [] => Ok(Expected { inc: 0, count: 0 }),
         [_, ..] => Ok(Expected {
             inc,
-            count: next(done.len() as u64 - 1)?,
+            count: number_behind(done.len() as u64 - 1)?,
         }),
     }
 }

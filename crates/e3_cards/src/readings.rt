@@ -15,7 +15,6 @@ ghost use Rattle.e3_cards.specs.Readings.{first_of, is_awaited, have_come, has_e
 ghost use Rattle.e3_cards.specs.Seeing.{seen_of};
 ghost use Rattle.e3_cards.specs.Tables.{CardsStand, card_at, call_now};
 
-use crate::arriving::next;
 use crate::card::{Card, blank};
 use crate::cards::{Cards, card_or};
 use crate::copying::{copy_election, copy_round, copy_yes};
@@ -26,6 +25,7 @@ use crate::operations::{
     unanswered_now, waits_now,
 };
 use crate::seen::{Seen, unseen};
+use e3_readings::next;
 use e3_types::{Answer, Call, Input, List, Name, NoMemory, Refusal, SiteSet, Txn};
 use e3_world::{Asked, Election, Expected, Made, Performed, Round};
 use std::alloc::Global;
@@ -286,6 +286,6 @@ fn call_next(cards: &Cards) -> Result<Call, NoMemory>
 {
     Ok(Call {
         inc: cards.inc,
-        seq: next(cards.calls as u64)?,
+        seq: next(cards.calls)?,
     })
 }

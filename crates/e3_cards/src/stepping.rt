@@ -14,8 +14,9 @@ use crate::arriving::{add_came, add_heard, taken_now};
 use crate::card::Card;
 use crate::electing::election_now;
 use crate::gathering::{rounds_now, yes_now};
-use crate::issued::{add_counted, add_issued, add_numbers, add_reasons};
+use crate::issued::{add_counted, add_numbers};
 use crate::seen::seen_behind;
+use e3_readings::{issued_in, reasons_in};
 use e3_types::{NoMemory, Txn};
 use e3_world::{Rounds, SiteStep};
 use std::alloc::Global;
@@ -63,10 +64,10 @@ fn and_issued(t: &Txn, step: &SiteStep, card: &mut Card) -> Result<(), NoMemory>
     }) }
 {
     let events = step.told.as_slice();
-    add_issued(t, &step.input, events, &mut card.issued)?;
+    issued_in(t, &step.input, events, &mut card.issued)?;
     add_numbers(t, events, &mut card.answered)?;
     add_counted(t, &step.input, events, &mut card.counted)?;
-    add_reasons(t, events, &mut card.reasons)
+    reasons_in(t, events, &mut card.reasons)
 }
 
 // What the log says behind a step, and the votes, the election and the round in progress.

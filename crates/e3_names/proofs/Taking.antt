@@ -21,47 +21,36 @@ use Rattle.e3_world.specs.declared.lives.Moment.{Moment}
 use Rattle.e3_world.specs.declared.lives.SiteStep.{SiteStep}
 use Rattle.e3_world.specs.Logs.{key_of, state_of}
 use Rattle.e3_world.specs.Operations.{taken_up, is_refusal, arrivals, answers, is_answered, same_asked}
+use Rattle.e3_readings.proofs.Equal.{same_txn_refl}
 use Rattle.e3_cards.specs.declared.card.Card.{Card}
 use Rattle.e3_cards.specs.declared.cards.Cards.{Cards}
 use Rattle.e3_cards.specs.Readings.{first_of}
 use Rattle.e3_cards.specs.Seeing.{seen_state}
 use Rattle.e3_cards.specs.Tables.{CardsStand, card_at, IsKnown}
-use Rattle.e3_cards.proofs.Arrivals.{same_txn_refl, state_seen, among_own}
+use Rattle.e3_cards.proofs.Arrivals.{state_seen, among_own}
 use Rattle.e3_places.specs.declared.places.Standing.{Standing}
 use Rattle.e3_places.specs.Standing.{fresh_of, moment_of, stand}
 use Rattle.e3_names.specs.Fresh.{count_in, taken, is_new, fresh_as}
 
 taken_is : (site : ℕ) (steps : List Moment) (m : Moment) → taken_up site steps m ≡ taken site (count_in m.input steps) m.input m.told
-taken_is site steps m = by m.input refl
+taken_is site steps m = by m.input
   where
-    told_by : (u : Txn) (op : Op) (r k : Bool) → m.input ≡ input.Do u op → list_any is_refusal m.told ≡ r → ((key_of op).site == site) ≡ k
-        → taken_up site steps m ≡ taken site (count_in m.input steps) m.input m.told
-    told_by u op true k is e g = rw (is, same_txn_refl u, e) refl
-    told_by u op false true is e g = rw (is, same_txn_refl u, e, g) refl
-    told_by u op false false is e g = rw (is, same_txn_refl u, e, g) refl
+    told_by : (u : Txn) (op : Op) (r k : Bool) → list_any is_refusal m.told ≡ r → ((key_of op).site == site) ≡ k
+        → taken_up site steps (record m { input = input.Do u op }) ≡ taken site (count_in (input.Do u op) steps) (input.Do u op) m.told
+    told_by u op true k e g = rw (same_txn_refl u, e) refl
+    told_by u op false true e g = rw (same_txn_refl u, e, g) refl
+    told_by u op false false e g = rw (same_txn_refl u, e, g) refl
 
-    sent_by : (packet : Packet) (k : Message) → m.input ≡ input.Deliver packet → packet.msg ≡ k → taken_up site steps m ≡ taken site (count_in m.input steps) m.input m.told
-    sent_by packet (msg.Do u n op) is e = rw (is, e) refl
-    sent_by packet (msg.Done u n inc answer) is e = rw (is, e) refl
-    sent_by packet (msg.Died u n older) is e = rw (is, e) refl
-    sent_by packet (msg.Ask u call) is e = rw (is, e) refl
-    sent_by packet (msg.LastElected u call n) is e = rw (is, e) refl
-    sent_by packet (msg.Elected u n) is e = rw (is, e) refl
-    sent_by packet (msg.Report u n st n2) is e = rw (is, e) refl
-    sent_by packet (msg.VoteReq u inc count) is e = rw (is, e) refl
-    sent_by packet (msg.Vote u says) is e = rw (is, e) refl
-    sent_by packet (msg.Pre u n dir) is e = rw (is, e) refl
-    sent_by packet (msg.Ack u n dir) is e = rw (is, e) refl
-    sent_by packet (msg.Decide u dir) is e = rw (is, e) refl
+    sent_by : (packet : Packet) (k : Message)
+        → taken_up site steps (record m { input = input.Deliver (record packet { msg = k }) })
+        ≡ taken site (count_in (input.Deliver (record packet { msg = k })) steps) (input.Deliver (record packet { msg = k })) m.told
+    sent_by packet (msg.Do u n op) = refl
+    sent_by packet _ = refl
 
-    by : (i : Input) → m.input ≡ i → taken_up site steps m ≡ taken site (count_in m.input steps) m.input m.told
-    by (input.Begin sites) is = rw is refl
-    by (input.Do u op) is = told_by u op (list_any is_refusal m.told) ((key_of op).site == site) is refl refl
-    by (input.Commit u) is = rw is refl
-    by (input.Cancel u) is = rw is refl
-    by (input.Expire u) is = rw is refl
-    by (input.Elect u group) is = rw is refl
-    by (input.Deliver packet) is = sent_by packet packet.msg is refl
+    by : (i : Input) → taken_up site steps (record m { input = i }) ≡ taken site (count_in i steps) i m.told
+    by (input.Do u op) = told_by u op (list_any is_refusal m.told) ((key_of op).site == site) refl refl
+    by (input.Deliver packet) = sent_by packet packet.msg
+    by _ = refl
 
 -- what stands from now on, by what is taken up
 abbrev by_taken : ℕ → Life → Option Asked → Option Standing

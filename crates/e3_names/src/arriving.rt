@@ -1,11 +1,11 @@
 // The operation that a step takes up, where it did not come before.
-ghost use Rattle.std.specs.Prelude.{◌≡◌, ◌&&◌, not, suc, IfOk};
+ghost use Rattle.std.specs.Prelude.{◌≡◌, ◌&&◌, not, IfOk};
 ghost use Rattle.std.specs.List.{list_any};
 ghost use Rattle.e3_types.specs.Same.{same_state};
 ghost use Rattle.e3_types.specs.declared.transactions.State.TheVariants.{Q};
 ghost use Rattle.e3_world.specs.declared.lives.At.{At};
 ghost use Rattle.e3_world.specs.declared.lives.SiteStep.{SiteStep};
-ghost use Rattle.e3_world.specs.Operations.{is_refusal, same_asked};
+ghost use Rattle.e3_world.specs.Operations.{same_asked};
 ghost use Rattle.e3_cards.specs.Seeing.{seen_state};
 ghost use Rattle.e3_cards.specs.Tables.{CardsStand};
 ghost use Rattle.e3_places.specs.Standing.{fresh_of};
@@ -13,26 +13,10 @@ ghost use Rattle.e3_names.specs.Fresh.{count_in, taken, is_new, fresh_as};
 
 use e3_cards::{Card, Cards, blank, card_or, known, seen_state};
 use e3_places::Standing;
-use e3_readings::{is_among, key_of};
+use e3_readings::{has_refusal, is_among, key_of, number_behind};
 use e3_types::{Input, Message, NoMemory, State, Told};
 use e3_world::Asked;
 use std::alloc::Global;
-
-fn next(count: u64) -> Result<u32, NoMemory>
-    ensures { IfOk result (λ n. n ≡ suc count) }
-{
-    if count < 4294967295 {
-        Ok(count as u32 + 1)
-    } else {
-        Err(NoMemory)
-    }
-}
-
-fn has_refusal(events: &[Told]) -> bool
-    ensures { result ≡ list_any is_refusal events.now }
-{
-    events.iter().any(|e| matches!(e, Told::Refused { .. }))
-}
 
 fn count_in(alloc: Global, cards: &Cards, input: &Input) -> u64
     ensures { (a : At) → CardsStand a.site cards.now a.life → result ≡ count_in input.now a.life.steps }
@@ -59,7 +43,7 @@ fn taken(site: u32, count: u64, input: &Input, events: &[Told]) -> Result<Option
             if !has_refusal(events) && key_of(op).site == site {
                 Ok(Some(Asked {
                     txn: *txn,
-                    n: next(count)?,
+                    n: number_behind(count)?,
                     op: op.copy(),
                 }))
             } else {

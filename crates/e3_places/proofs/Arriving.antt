@@ -15,28 +15,16 @@ use Rattle.e3_types.specs.declared.transactions.Txn.{Txn}
 use Rattle.e3_types.specs.Same.{same_txn, same_state}
 use Rattle.e3_world.specs.declared.lives.Asked.{Asked}
 use Rattle.e3_world.specs.declared.lives.Life.{Life}
-use Rattle.e3_world.specs.declared.lives.Moment.{Moment}
 use Rattle.e3_world.specs.declared.lives.SiteStep.{SiteStep}
 use Rattle.e3_world.specs.Elections.{is_decision}
 use Rattle.e3_world.specs.Lives.{life_by}
 use Rattle.e3_world.specs.Logs.{is_undecided, decision, decision_by, state_of}
-use Rattle.e3_world.specs.Operations.{taken_up, arrivals, arrived_by, and_arrived, Arrived, is_fresh, is_answered}
+use Rattle.e3_world.specs.Operations.{taken_up, arrivals, and_arrived, is_fresh, is_answered}
 use Rattle.e3_world.proofs.Turns.{true_not_false}
+use Rattle.e3_readings.proofs.Arriving.{arrivals_push}
 use Rattle.e3_places.specs.declared.places.Standing.{Standing}
 use Rattle.e3_places.specs.Standing.{stand, standing_one, standing_of, decided_in, is_heard, again, moment_of, fresh_of, newly, standing_by}
 use Rattle.e3_places.proofs.Hearing.{answered_more}
-
--- the fold over steps keeps them
-arrived_steps : (site : ℕ) (was : Arrived) (steps : List Moment) → (fold (arrived_by site) was steps).steps ≡ was.steps ++ steps
-arrived_steps site was [] = grind (arith, common_steps)
-arrived_steps site was (m ∷ ms) = arrived_steps site (arrived_by site was m) ms ∙ grind (arith, common_steps)
-
--- the arrivals behind one more step
-pub arrivals_push : (site : ℕ) (steps : List Moment) (m : Moment) → arrivals site (steps ++ m ∷ []) ≡ and_arrived (arrivals site steps) m (taken_up site steps m)
-arrivals_push site steps m =
-    let was : Arrived = record { steps = []; asked = [] } in
-    ap (λ (a : Arrived). a.asked) (fold-append (arrived_by site) was steps (m ∷ []))
-    ∙ ap (λ (ss : List Moment). and_arrived (arrivals site steps) m (taken_up site ss m)) (arrived_steps site was steps)
 
 -- a decision among more records
 decided_more : (t : Txn) (d : Option Dir) (rs : List Record) → is_none (fold (decision_by t) d rs) ≡ (is_none d && not (decided_in rs t))

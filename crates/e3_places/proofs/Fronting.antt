@@ -26,6 +26,7 @@ use Rattle.e3_world.specs.Logs.{key_of}
 use Rattle.e3_world.specs.Making.{add_name, names_of, asked_on, granted_on, grants_after, log_now, steps_now}
 use Rattle.e3_world.specs.Operations.{waiting, holders, queue}
 use Rattle.e3_world.proofs.Turns.{true_not_false}
+use Rattle.e3_readings.proofs.Tests.{none_left, none_right}
 use Rattle.e3_places.specs.declared.places.Claims.{Claims}
 use Rattle.e3_places.specs.declared.places.Place.{Place}
 use Rattle.e3_places.specs.declared.places.Places.{Places}
@@ -37,7 +38,7 @@ use Rattle.e3_places.specs.Granting.{given, given_behind, is_restless, RestlessS
 use Rattle.e3_places.proofs.Ascending.{Below, Ascending, IsOne, Covered, cmp, below_more, turned, same_given}
 use Rattle.e3_places.proofs.Locking.{holders_are, waits_are, wanted_parts}
 use Rattle.e3_places.proofs.Putting.{place_step}
-use Rattle.e3_places.proofs.Reaching.{name_quiet, none_left, none_right}
+use Rattle.e3_places.proofs.Reaching.{name_quiet}
 
 -- names in byte order
 add_below : (k new : List ℕ) (ns : List (List ℕ)) → cmp k new ≡ Less → Below k ns → Below k (add_name ns new)

@@ -36,30 +36,14 @@ some_if false answer = refl
 
 told_one : (a : Asked) (e : Told) → some_of (answer_told a e) ≡ is_told a e
 told_one a (told.Op t n answer) = some_if (a.n == n && same_txn a.txn t) answer
-told_one a (told.Began u) = refl
-told_one a (told.Ended u dir) = refl
-told_one a (told.Died u older) = refl
-told_one a (told.Doomed u site had now) = refl
-told_one a (told.Refused u why) = refl
-told_one a (told.Kept u st) = refl
-told_one a (told.Verdict u n v) = refl
+told_one a _ = refl
 
 sent_one : (a : Asked) (p : Packet) → some_of (answer_sent a p) ≡ is_sent a p
-sent_one a p = by p.msg refl
+sent_one a p = by p.msg
   where
-    by : (k : Message) → p.msg ≡ k → some_of (answer_sent a p) ≡ is_sent a p
-    by (msg.Done t n inc answer) is = rw is (some_if (a.n == n && same_txn a.txn t) answer)
-    by (msg.Do u n op) is = rw is refl
-    by (msg.Died u n older) is = rw is refl
-    by (msg.Ask u call) is = rw is refl
-    by (msg.LastElected u call n) is = rw is refl
-    by (msg.Elected u n) is = rw is refl
-    by (msg.Report u n st n2) is = rw is refl
-    by (msg.VoteReq u inc count) is = rw is refl
-    by (msg.Vote u says) is = rw is refl
-    by (msg.Pre u n dir) is = rw is refl
-    by (msg.Ack u n dir) is = rw is refl
-    by (msg.Decide u dir) is = rw is refl
+    by : (k : Message) → some_of (answer_sent a (record p { msg = k })) ≡ is_sent a (record p { msg = k })
+    by (msg.Done t n inc answer) = some_if (a.n == n && same_txn a.txn t) answer
+    by _ = refl
 
 abbrev answers_in : Asked → Moment → List Answer
 answers_in a m = flat_map (answer_told a) m.told ++ flat_map (answer_sent a) m.outs

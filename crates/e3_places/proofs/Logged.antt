@@ -1,14 +1,11 @@
 -- One more record of a log, where what it touches is changed in its place.
-use Rattle.std.specs.Prelude.{◌≡◌, ◌<◌, ◌+◌, ◌||◌, ◌++◌, ◌∷◌, [], if◌then◌else◌, cond, not, ℕ, Bool, true, false, List, filter, map, fold, take, length, Option, Some, None, unwrap_or}
+use Rattle.std.specs.Prelude.{◌≡◌, ◌<◌, ◌+◌, ◌||◌, ◌++◌, ◌∷◌, [], if◌then◌else◌, not, ℕ, Bool, true, false, List, filter, map, fold, take, length, None}
 use Rattle.std.specs.List.{list_any, flat_map}
-use Rattle.std.specs.Map.{lookup}
 use Rattle.std.proofs.Common.{refl, ap, sym, ◌∙◌, get_or}
 use Rattle.std.proofs.lemmas.List.{append-nil}
-use Rattle.std.proofs.lemmas.List.Folds.{list_any-append}
 use Rattle.std.proofs.lemmas.List.Sums.{fold-append}
 use Rattle.e3_types.specs.declared.records.Record.{Record}
 use Rattle.e3_types.specs.declared.records.Record.TheVariants as log
-use Rattle.e3_types.specs.declared.transactions.Answer.{Answer}
 use Rattle.e3_types.specs.declared.transactions.Dir.{Dir}
 use Rattle.e3_types.specs.declared.transactions.Dir.TheVariants.{Abort, Commit}
 use Rattle.e3_types.specs.declared.transactions.NumOp.{NumOp}
@@ -17,18 +14,19 @@ use Rattle.e3_types.specs.Same.{same_numbers, same_txn}
 use Rattle.e3_types.proofs.SameSites.{same_numbers_eq}
 use Rattle.e3_world.specs.declared.lives.Asked.{Asked}
 use Rattle.e3_world.specs.declared.lives.Life.{Life}
+use Rattle.e3_readings.proofs.Equal.{same_txn_eq}
+use Rattle.e3_readings.proofs.Tests.{none_left, none_right}
 use Rattle.e3_places.specs.declared.keys.TxnKey.{TxnKey}
 use Rattle.e3_places.specs.declared.places.Claims.{Claims}
 use Rattle.e3_places.specs.declared.places.Place.{Place}
 use Rattle.e3_places.specs.declared.places.Places.{Places}
-use Rattle.e3_places.specs.Keeping.{PlacesStand, at_key, at_name, bare, claims_at, is_key, no_claims, place_at, txn_key, value_at}
+use Rattle.e3_places.specs.Keeping.{PlacesStand, at_key, at_name, bare, claims_at, is_key, no_claims, place_at, txn_key}
 use Rattle.e3_places.specs.Noting.{cast_more, ended, left_by, with_vote}
 use Rattle.e3_places.specs.Rising.{risen}
 use Rattle.e3_places.specs.Standing.{cast_in, cast_of, claims_by, claims_of, decided_in, follow, has_key, is_left, is_of, is_on, place_by, place_of, row_with, voted, votes_by, written}
 use Rattle.e3_places.specs.Touching.{decided_txns, keys_touched, moved_names, name_of, names_touched}
-use Rattle.e3_places.proofs.Alike.{same_txn_refl, same_txn_eq}
 use Rattle.e3_places.proofs.Putting.{keys_eq, keys_turned}
-use Rattle.e3_places.proofs.Reaching.{key_quiet, name_quiet, none_left, none_right}
+use Rattle.e3_places.proofs.Reaching.{key_quiet, name_quiet}
 use Rattle.e3_places.proofs.Rowing.{row_more}
 use Rattle.e3_places.proofs.Turning.{any_next, take_next, turned_at, turned_by}
 use Rattle.e3_places.proofs.Voting.{votes_more}

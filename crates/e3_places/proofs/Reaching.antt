@@ -23,22 +23,15 @@ use Rattle.e3_world.specs.Elections.{is_decision}
 use Rattle.e3_world.specs.Logs.{is_undecided}
 use Rattle.e3_world.specs.Operations.{arrivals}
 use Rattle.e3_world.proofs.Turns.{true_not_false}
+use Rattle.e3_readings.proofs.Equal.{same_txn_refl, same_txn_eq}
+use Rattle.e3_readings.proofs.Tests.{none_left, none_right}
 use Rattle.e3_places.specs.declared.keys.TxnKey.{TxnKey}
 use Rattle.e3_places.specs.declared.places.Claims.{Claims}
 use Rattle.e3_places.specs.declared.places.Standing.{Standing}
 use Rattle.e3_places.specs.Standing.{is_on, is_of, has_key, stand, standing_one, standing_of, cast_of, is_open, votes_of, claims_of, place_of, row_of, decided_in, is_told, is_sent, is_heard, is_left, again, newly, standing_by, with_cast, votes_by, claims_by, written, row_with, row_by, place_by}
 use Rattle.e3_places.specs.Keeping.{txn_key, is_key, claims_at}
 use Rattle.e3_places.specs.Touching.{name_of, decided_txns, told_txns, sent_txns, reached, is_moved, moved_names, added, names_touched, keys_touched}
-use Rattle.e3_places.proofs.Alike.{same_txn_refl, same_txn_eq}
 use Rattle.e3_places.proofs.Voting.{filter_both}
-
-pub none_left : (b c : Bool) → (b || c) ≡ false → b ≡ false
-none_left false c e = refl
-none_left true c e = e
-
-pub none_right : (b c : Bool) → (b || c) ≡ false → c ≡ false
-none_right false c e = e
-none_right true c e = absurd (true_not_false e)
 
 -- a test of the items of lists
 any_flat : {X Y : Type 0} (p : Y → Bool) (f : X → List Y) (xs : List X) → list_any p (flat_map f xs) ≡ list_any (λ x. list_any p (f x)) xs
@@ -110,11 +103,7 @@ decided_one u (log.Decision t dir) = by (same_txn u t)
     by : (b : Bool) → (b || false) ≡ b
     by true = refl
     by false = refl
-decided_one u (log.Birth format site weights rows) = refl
-decided_one u (log.Inc inc) = refl
-decided_one u (log.Vote t ops) = refl
-decided_one u (log.Join t n) = refl
-decided_one u (log.Attempt t n dir) = refl
+decided_one u _ = refl
 
 abbrev Implies : Bool → Bool → Type 0
 Implies b c = b ≡ true → c ≡ true
@@ -138,30 +127,14 @@ or_false false = refl
 
 told_one : (a : Asked) (e : Told) → Implies (is_told a e) (list_any (same_txn a.txn) (told_txns e))
 told_one a (told.Op t n answer) h = or_false (same_txn a.txn t) ∙ and_right (a.n == n) (same_txn a.txn t) h
-told_one a (told.Began u) h = h
-told_one a (told.Ended u dir) h = h
-told_one a (told.Died u older) h = h
-told_one a (told.Doomed u site had now) h = h
-told_one a (told.Refused u why) h = h
-told_one a (told.Kept u st) h = h
-told_one a (told.Verdict u n v) h = h
+told_one a _ h = h
 
 sent_one : (a : Asked) (p : Packet) → Implies (is_sent a p) (list_any (same_txn a.txn) (sent_txns p))
-sent_one a p h = by p.msg refl
+sent_one a p = by p.msg
   where
-    by : (k : Message) → p.msg ≡ k → list_any (same_txn a.txn) (sent_txns p) ≡ true
-    by (msg.Done t n inc answer) is = rw is (or_false (same_txn a.txn t) ∙ and_right (a.n == n) (same_txn a.txn t) (rw is at h))
-    by (msg.Do u n op) is = absurd (true_not_false (sym (rw is at h)))
-    by (msg.Died u n older) is = absurd (true_not_false (sym (rw is at h)))
-    by (msg.Ask u call) is = absurd (true_not_false (sym (rw is at h)))
-    by (msg.LastElected u call n) is = absurd (true_not_false (sym (rw is at h)))
-    by (msg.Elected u n) is = absurd (true_not_false (sym (rw is at h)))
-    by (msg.Report u n st n2) is = absurd (true_not_false (sym (rw is at h)))
-    by (msg.VoteReq u inc count) is = absurd (true_not_false (sym (rw is at h)))
-    by (msg.Vote u says) is = absurd (true_not_false (sym (rw is at h)))
-    by (msg.Pre u n dir) is = absurd (true_not_false (sym (rw is at h)))
-    by (msg.Ack u n dir) is = absurd (true_not_false (sym (rw is at h)))
-    by (msg.Decide u dir) is = absurd (true_not_false (sym (rw is at h)))
+    by : (k : Message) → Implies (is_sent a (record p { msg = k })) (list_any (same_txn a.txn) (sent_txns (record p { msg = k })))
+    by (msg.Done t n inc answer) h = or_false (same_txn a.txn t) ∙ and_right (a.n == n) (same_txn a.txn t) h
+    by _ h = absurd (true_not_false (sym h))
 
 or_three : (b c d e : Bool) → Implies b c → Implies d e → Implies (b || d) (c || e)
 or_three true c d e f g h = ap (λ (x : Bool). x || e) (f refl)

@@ -23,8 +23,9 @@ use Rattle.e3_world.specs.declared.lives.Asked.{Asked}
 use Rattle.e3_world.specs.Elections.{is_decision}
 use Rattle.e3_world.specs.Logs.{is_undecided, voted_ops, ops_of_vote, set_row, install_op, table_by, table_of, row_value}
 use Rattle.e3_world.proofs.Turns.{true_not_false}
+use Rattle.e3_readings.proofs.Equal.{same_txn_refl, same_txn_eq}
 use Rattle.e3_places.specs.Standing.{is_on, voted, cast_in, cast_of, is_open, votes_of, decided_in, with_cast, written, row_with, row_of, follow}
-use Rattle.e3_places.proofs.Alike.{same_txn_refl, same_txn_eq, ties}
+use Rattle.e3_places.proofs.Alike.{ties}
 use Rattle.e3_places.proofs.Arriving.{undecided_is}
 use Rattle.e3_places.proofs.Voting.{both_true}
 

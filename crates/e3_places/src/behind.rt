@@ -6,7 +6,7 @@ ghost use Rattle.e3_places.specs.Standing.{passes, is_told, is_sent, is_heard, d
 
 use crate::picks::Pick;
 use crate::places::{Claims, Place, Standing};
-use e3_readings::is_decision;
+use e3_readings::{copy_asked, is_decision};
 use e3_types::{Answer, Dir, List, Message, Name, NoMemory, NumOp, Op, Packet, Record, Told, Txn};
 use e3_world::Asked;
 use std::alloc::Global;
@@ -53,17 +53,6 @@ pub fn is_heard(events: &[Told], outs: &[Packet], a: &Asked) -> bool
     ensures { result ≡ is_heard events.now outs.now a.now }
 {
     any_told(events, a) || any_sent(outs, a)
-}
-
-/// An equal operation.
-pub fn copy_asked(a: &Asked) -> Asked
-    ensures { result ≡ a.now }
-{
-    Asked {
-        txn: a.txn,
-        n: a.n,
-        op: a.op.copy(),
-    }
 }
 
 fn add_again(

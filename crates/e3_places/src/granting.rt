@@ -8,16 +8,15 @@ ghost use Rattle.e3_places.specs.Standing.{fresh_of, follow, waits_by, waits_wit
 ghost use Rattle.e3_places.specs.Keeping.{PlacesStand};
 ghost use Rattle.e3_places.specs.Granting.{given, given_behind, is_restless, stirred, restless_by, in_order, granted_by, RestlessStand, step_so_far};
 
-use crate::behind::copy_asked;
 use crate::changing::place_behind;
 use crate::holding::{held, wanted};
 use crate::places::{Claims, Place, Places, Standing};
 use crate::touching::names_touched;
 use e3_locks::front;
+use e3_readings::{add_asked, add_name, add_names, copy_asked, first_asked};
 use e3_types::{List, Name, NoMemory, Packet, Record, Told};
 use e3_world::{Asked, Made, SiteStep};
 use std::alloc::Global;
-use std::cmp::Ordering;
 use std::collections::BTreeMap;
 
 fn add_waiting(s: &Standing, out: &mut List<Asked>) -> Result<(), NoMemory>
@@ -39,14 +38,6 @@ fn waits(alloc: Global, claims: &Claims) -> Result<List<Asked>, NoMemory>
     Ok(out)
 }
 
-fn taken(count: u64, asked: List<Asked>) -> List<Asked>
-    ensures { result ≡ take count asked }
-{
-    let mut items = asked.into_vec();
-    items.truncate(count as usize);
-    List::from_vec(items)
-}
-
 fn given(alloc: Global, name: &Name, claims: &Claims) -> Result<List<Asked>, NoMemory>
     ensures { IfOk result (λ out. out ≡ given name.now claims.now) }
 {
@@ -54,7 +45,7 @@ fn given(alloc: Global, name: &Name, claims: &Claims) -> Result<List<Asked>, NoM
     let queue = wanted(alloc, claims, &[])?;
     let first = front(alloc, holders.as_slice(), queue.as_slice())?;
     let asked = waits(alloc, claims)?;
-    Ok(taken(first.len(), asked))
+    Ok(first_asked(first.len(), asked))
 }
 
 fn given_behind(
@@ -90,15 +81,6 @@ fn is_restless(
     }
 }
 
-fn add_names(names: &[Name], out: &mut List<Name>) -> Result<(), NoMemory>
-    ensures { IfOk result (λ u. out.new ≡ out.old ++ names.now) }
-{
-    for name in names {
-        out.push(name.copy())?;
-    }
-    Ok(())
-}
-
 fn stirred(
     alloc: Global,
     places: &Places,
@@ -115,50 +97,14 @@ fn stirred(
     Ok(out)
 }
 
-fn put_name(names: &[Name], new: &Name, out: &mut List<Name>) -> Result<(), NoMemory>
-    ensures { IfOk result (λ u. out.new ≡ out.old ++ add_name names.now new.now) }
-{
-    match names {
-        [] => out.push(new.copy()),
-        [name, rest @ ..] => match new.bytes().cmp(name.bytes()) {
-            Ordering::Less => {
-                out.push(new.copy())?;
-                add_names(names, out)
-            }
-            Ordering::Equal => add_names(names, out),
-            Ordering::Greater => {
-                out.push(name.copy())?;
-                put_name(rest, new, out)
-            }
-        },
-    }
-}
-
-fn with_name(alloc: Global, names: &[Name], new: &Name) -> Result<List<Name>, NoMemory>
-    ensures { IfOk result (λ out. out ≡ add_name names.now new.now) }
-{
-    let mut out = List::new(alloc);
-    put_name(names, new, &mut out)?;
-    Ok(out)
-}
-
 fn in_order(alloc: Global, names: &[Name]) -> Result<List<Name>, NoMemory>
     ensures { IfOk result (λ out. out ≡ in_order names.now) }
 {
     let mut out = List::new(alloc);
     for name in names {
-        out = with_name(alloc, out.as_slice(), name)?;
+        out = add_name(alloc, out.as_slice(), name)?;
     }
     Ok(out)
-}
-
-fn add_asked(asked: &[Asked], out: &mut List<Asked>) -> Result<(), NoMemory>
-    ensures { IfOk result (λ u. out.new ≡ out.old ++ asked.now) }
-{
-    for q in asked {
-        out.push(copy_asked(q))?;
-    }
-    Ok(())
 }
 
 fn add_given(

@@ -10,12 +10,12 @@ ghost use Rattle.e3_places.specs.Rising.{risen};
 ghost use Rattle.e3_places.specs.Standing.{cast_in, follow, has_key, is_left, is_on, voted};
 ghost use Rattle.e3_places.specs.Touching.{decided_txns};
 
-use crate::behind::{copy_asked, row_with};
+use crate::behind::row_with;
 use crate::keys::{TxnKey, txn_key};
 use crate::places::{Claims, Place, Places};
 use crate::taking::{put_claims, put_place, take_claims, take_place};
 use crate::touching::add_ops;
-use e3_readings::{is_decision, key_of};
+use e3_readings::{copy_asked, is_decision, key_of};
 use e3_types::{Dir, List, Name, NoMemory, NumOp, Record, Txn};
 use e3_world::Asked;
 use std::alloc::Global;

@@ -5,10 +5,10 @@ ghost use Rattle.e3_places.specs.Keeping.{txn_key, claims_at};
 ghost use Rattle.e3_places.specs.Standing.{decided_in, cast_in, cast_of, voted};
 ghost use Rattle.e3_places.specs.Touching.{name_of, decided_txns, told_txns, sent_txns, reached, is_moved, moved_names, added, names_touched, keys_touched};
 
-use crate::behind::{copy_asked, decided_in, is_heard};
+use crate::behind::{decided_in, is_heard};
 use crate::keys::{TxnKey, txn_key};
 use crate::places::{Claims, Standing, no_claims};
-use e3_readings::key_of;
+use e3_readings::{copy_asked, key_of};
 use e3_types::{List, Message, Name, NoMemory, NumOp, Packet, Record, Told, Txn};
 use e3_world::Asked;
 use std::alloc::Global;

@@ -83,13 +83,15 @@ fn is_heard(f: u32, heard: &[Named]) -> bool
     heard.iter().any(|h| h.site == f)
 }
 
-fn is_awaited(e: &Election, f: u32, call: Call) -> bool
+/// The site is a member that the election's call has not heard yet, and this is that call.
+pub fn is_awaited(e: &Election, f: u32, call: Call) -> bool
     ensures { result ≡ (same_call e.now.call call && has_site e.now.group f && not (list_any (λ h. h.site == f) e.now.heard)) }
 {
     e.call.is_same(call) && e.group.has(f) && !is_heard(f, e.heard.as_slice())
 }
 
-fn and_heard(e: Election, f: u32, elected: u32) -> Result<Election, NoMemory>
+/// The election with an answer of a member.
+pub fn and_heard(e: Election, f: u32, elected: u32) -> Result<Election, NoMemory>
     ensures { IfOk result (λ more. more ≡ record e { heard = e.heard ++ record { site = f; elected = elected } ∷ [] }) }
 {
     let mut heard = e.heard;
@@ -172,13 +174,15 @@ fn tells_verdict(t: &Txn, e: &Told) -> bool
     }
 }
 
-fn has_decision(t: &Txn, records: &[Record]) -> bool
+/// Some record among these is a decision of the transaction.
+pub fn has_decision(t: &Txn, records: &[Record]) -> bool
     ensures { result ≡ list_any (is_decision t.now) records.now }
 {
     records.iter().any(|r| is_decision(t, r))
 }
 
-fn has_verdict(t: &Txn, events: &[Told]) -> bool
+/// Some event among these tells a verdict over the transaction.
+pub fn has_verdict(t: &Txn, events: &[Told]) -> bool
     ensures { result ≡ list_any (tells_verdict t.now) events.now }
 {
     events.iter().any(|e| tells_verdict(t, e))
@@ -191,23 +195,22 @@ pub fn ends_election(t: &Txn, m: &Moment) -> bool
     has_decision(t, m.records.as_slice()) || has_verdict(t, m.told.as_slice())
 }
 
-fn joins(
-    alloc: Global,
-    site: u32,
-    t: &Txn,
-    m: &Moment,
-    e: Election,
-    n: u32,
-) -> Result<Election, NoMemory>
-    ensures { IfOk result (λ more. more ≡ record e { number = Some n; reports = record { site = site; state = state_of t.now m.now.before; attempt = last_attempt t.now m.now.before } ∷ [] }) }
+fn own_report(site: u32, t: &Txn, before: &[Record]) -> SiteReport
+    ensures { result ≡ record { site = site; state = state_of t.now before.now; attempt = last_attempt t.now before.now } }
 {
-    let before = m.before.as_slice();
-    let mut reports = List::new(alloc);
-    reports.push(SiteReport {
+    SiteReport {
         site,
         state: state_of(t, before),
         attempt: last_attempt(t, before),
-    })?;
+    }
+}
+
+/// The election whose site joins under a number, with its own report.
+pub fn joined(alloc: Global, e: Election, n: u32, own: SiteReport) -> Result<Election, NoMemory>
+    ensures { IfOk result (λ more. more ≡ record e { number = Some n; reports = own ∷ [] }) }
+{
+    let mut reports = List::new(alloc);
+    reports.push(own)?;
     Ok(Election {
         call: e.call,
         group: e.group,
@@ -232,12 +235,16 @@ pub fn after_heard(
         return Ok(Some(e));
     }
     match joined_in(t, m.records.as_slice()) {
-        Some(n) => Ok(Some(joins(alloc, site, t, m, e, n)?)),
+        Some(n) => {
+            let own = own_report(site, t, m.before.as_slice());
+            Ok(Some(joined(alloc, e, n, own)?))
+        }
         None => Ok(None),
     }
 }
 
-fn with_report(e: Election, n: u32, report: SiteReport) -> Result<Option<Election>, NoMemory>
+/// The election with a report of its number by a member that has not reported yet, or as it was where it is no such report.
+pub fn with_report(e: Election, n: u32, report: SiteReport) -> Result<Option<Election>, NoMemory>
     ensures { IfOk result (λ o. o ≡ or_same e (take_report e n report)) }
 {
     match e.number {
@@ -246,7 +253,8 @@ fn with_report(e: Election, n: u32, report: SiteReport) -> Result<Option<Electio
     }
 }
 
-fn has_join(t: &Txn, records: &[Record]) -> bool
+/// Some record among these is a join of the transaction.
+pub fn has_join(t: &Txn, records: &[Record]) -> bool
     ensures { result ≡ list_any (is_join t.now) records.now }
 {
     records.iter().any(|r| is_join(t, r))

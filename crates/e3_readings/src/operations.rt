@@ -5,7 +5,8 @@ ghost use Rattle.e3_types.specs.Same.{same_txn};
 ghost use Rattle.e3_world.specs.Logs.{is_undecided, key_of, lock_on};
 ghost use Rattle.e3_world.specs.Operations.{is_refusal, issued_in, issued, nth_op, taken_up, same_asked, is_fresh, and_arrived, arrived_by, arrivals, answer_told, answer_sent, answers, is_answered, performed_by, done, waiting, done_locks, holders, stronger, holds, queue, tells_op, op_told, unanswered, expected_with, expected_by, expected, reason_in, kept_reason};
 
-use crate::counts::{next, small};
+use crate::asked::copy_asked;
+use crate::counts::{next, number_behind, small};
 use crate::logs::{is_undecided, key_of, lock_on, state_of, voted_locks};
 use e3_types::{
     Answer, Input, List, Lock, Message, Mode, Name, NoMemory, Op, Packet, Record, Refusal, State,
@@ -21,13 +22,14 @@ fn is_refusal(e: &Told) -> bool
 }
 
 /// Some event among these is a refusal.
-pub(crate) fn has_refusal(events: &[Told]) -> bool
+pub fn has_refusal(events: &[Told]) -> bool
     ensures { result ≡ list_any is_refusal events.now }
 {
     events.iter().any(|e| is_refusal(e))
 }
 
-fn issued_in(t: &Txn, input: &Input, told: &[Told], out: &mut List<Op>) -> Result<(), NoMemory>
+/// Adds the operation that a step issues, if it issues one of the transaction.
+pub fn issued_in(t: &Txn, input: &Input, told: &[Told], out: &mut List<Op>) -> Result<(), NoMemory>
     ensures { IfOk result (λ u. out.new ≡ out.old ++ issued_in t.now input.now told.now) }
 {
     match input {
@@ -82,7 +84,7 @@ pub fn taken_up(
                 let earlier = issued(alloc, txn, steps)?;
                 Ok(Some(Asked {
                     txn: *txn,
-                    n: next(small(earlier.len())?)?,
+                    n: number_behind(earlier.len())?,
                     op: op.copy(),
                 }))
             } else {
@@ -248,16 +250,6 @@ pub fn done(
     Ok(out)
 }
 
-fn copy_asked(a: &Asked) -> Asked
-    ensures { result ≡ a.now }
-{
-    Asked {
-        txn: a.txn,
-        n: a.n,
-        op: a.op.copy(),
-    }
-}
-
 fn is_waiting(alloc: Global, log: &[Record], steps: &[Moment], a: &Asked) -> Result<bool, NoMemory>
     ensures { IfOk result (λ b. b ≡ (is_undecided a.now.txn log.now && not (is_answered steps.now a.now))) }
 {
@@ -414,7 +406,8 @@ pub fn unanswered(
     }
 }
 
-fn tells_own(t: &Txn, u: &Txn, n: u32, events: &[Told]) -> bool
+/// The answer to an operation of transaction u counts: u is t, and its answer is told among these events.
+pub fn tells_own(t: &Txn, u: &Txn, n: u32, events: &[Told]) -> bool
     ensures { result ≡ (same_txn t.now u.now && list_any (tells_op t.now n) events.now) }
 {
     t.is_same(u) && tell_op(t, n, events)
@@ -523,7 +516,8 @@ fn reason_in(t: &Txn, e: &Told, out: &mut List<Refusal>) -> Result<(), NoMemory>
     }
 }
 
-fn reasons_in(t: &Txn, events: &[Told], out: &mut List<Refusal>) -> Result<(), NoMemory>
+/// Adds the reasons for an abort of the transaction that these events tell.
+pub fn reasons_in(t: &Txn, events: &[Told], out: &mut List<Refusal>) -> Result<(), NoMemory>
     ensures { IfOk result (λ u. out.new ≡ out.old ++ flat_map (reason_in t.now) events.now) }
 {
     for e in events {

@@ -1,5 +1,8 @@
 // The round in which an attempt gathers its acknowledgements, read off the steps of the present incarnation.
-ghost use Rattle.std.specs.Prelude.{◌≡◌, ◌==◌, ◌&&◌, not, Option, IfOk, fold, option_map};
+ghost use Rattle.std.specs.Prelude.{◌≡◌, ◌==◌, ◌&&◌, not, Option, IfOk, fold, option_map, List as Items};
+ghost use Rattle.e3_types.specs.declared.entries.Told.{Told};
+ghost use Rattle.e3_types.specs.declared.messages.Packet.{Packet};
+ghost use Rattle.e3_types.specs.declared.records.Record.{Record as SomeRecord};
 ghost use Rattle.e3_types.specs.Same.{same_dir};
 ghost use Rattle.e3_types.specs.Sets.{has_site};
 ghost use Rattle.e3_world.specs.Rounds.{count_ack, receivers, round_by_record, round_by, round_in_progress};
@@ -98,18 +101,19 @@ fn and_ack(was: Option<Round>, f: u32, n: u32, dir: Dir) -> Result<Option<Round>
     }
 }
 
-/// The rounds behind one more step. An attempt that a Pre brought begins none.
-pub fn round_by(
+/// The rounds behind one more step, of which its input and its records are read. An attempt that a Pre brought begins none.
+pub fn rounds_upon(
     alloc: Global,
     site: u32,
     t: &Txn,
     was: Rounds,
-    m: &Moment,
+    input: &Input,
+    records: &[Record],
 ) -> Result<Rounds, NoMemory>
-    ensures { IfOk result (λ r. r ≡ round_by site t.now was m.now) }
+    ensures { IfOk result (λ r. (before : Items SomeRecord) → (outs : Items Packet) → (told : Items Told)
+        → r ≡ round_by site t.now was (record { before = before; input = input.now; records = records.now; outs = outs; told = told })) }
 {
-    let records = m.records.as_slice();
-    match &m.input {
+    match input {
         Input::Elect { txn, group: new } => {
             let group = if t.is_same(txn) { *new } else { was.group };
             let now = by_records(alloc, site, t, group, was.now, records);
@@ -141,6 +145,19 @@ pub fn round_by(
             })
         }
     }
+}
+
+/// The rounds behind one more step.
+pub fn round_by(
+    alloc: Global,
+    site: u32,
+    t: &Txn,
+    was: Rounds,
+    m: &Moment,
+) -> Result<Rounds, NoMemory>
+    ensures { IfOk result (λ r. r ≡ round_by site t.now was m.now) }
+{
+    rounds_upon(alloc, site, t, was, &m.input, m.records.as_slice())
 }
 
 /// The round of a transaction in progress at a site.

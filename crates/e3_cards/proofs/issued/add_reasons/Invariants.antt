@@ -1,7 +1,0 @@
-use Rattle.std.proofs.Common.{◌≡◌, ◌++◌, take}
-use Rattle.std.specs.List.{flat_map}
-use Rattle.e3_world.specs.Operations.{reason_in}
-use Rattle.e3_cards.proofs.issued.add_reasons.Given as goal
-
-abbrev pub invariant-loop-e : goal.invariant-loop-e
-invariant-loop-e l = l.out ≡ l.initial.out ++ flat_map (reason_in l.t) (take l.e-index l.events)
