@@ -7,22 +7,23 @@ use Rattle.e3_types.specs.declared.records.Record.{Record}
 use Rattle.e3_types.specs.declared.scenarios.Scenario.{Scenario}
 use Rattle.e3_world.specs.declared.lives.Incarnation.{Incarnation}
 use Rattle.e3_world.specs.declared.lives.Made.{Made}
-use Rattle.e3_world.specs.declared.lives.SiteStep.{SiteStep}
 use Rattle.e3_world.specs.Legal.{entry_of, made_by}
-use Rattle.e3_world.specs.Lives.{incarnation_of, present_log}
+use Rattle.e3_world.specs.Lives.{incarnation_of, life_of, present_log}
 use Rattle.e3_world.specs.Moves.{Move, Past, Rose, log_by, log_of, moves_of, own, past_of}
 use Rattle.e3_world.specs.Steps.{step_of}
 use Rattle.e3_world.proofs.Numbers.{entered_move}
 use Rattle.e3_world.proofs.Pushes.{incarnation_push, log_push, past_push, present_is_log}
 use Rattle.e3_world.proofs.Readings.{own_same}
 use Rattle.e3_world.proofs.Turns.{self}
+use Rattle.e3_readings.specs.Opens.{open_in}
+use Rattle.e3_law_brief.specs.Alike.{ReadAlike}
 use Rattle.e3_law_brief.specs.Brief.{txns_of}
 use Rattle.e3_law_brief.specs.Orderly.{IsOrderly}
 use Rattle.e3_law_alike.specs.Alike.{AlikeNow, IsInOrder, IsKnown}
 use Rattle.e3_law_alike.proofs.Laws.{opens_alike, rises_alike, self_alike, steps_alike, turned_alike}
 use Rattle.e3_law_stands.specs.Laws.{ExactIsAlike, GoesOnAlike, ListsOpenAlike, PlansAlike, RisesAlike, StillAlike}
-use Rattle.e3_law_stands.specs.StandsAlike.{IsLogInOrder}
-use Rattle.e3_site.specs.SiteView.{risen_with, step_kept, with_step}
+use Rattle.e3_law_stands.specs.StandsAlike.{IsLogInOrder, StandsAlike, now_with}
+use Rattle.e3_site.specs.SiteView.{SiteView, Stands, risen_with, step_kept, with_step}
 
 -- the incarnation that a site's moves make
 abbrev theirs : Scenario → List Entry → ℕ → Incarnation
@@ -38,47 +39,54 @@ in_order sc h site order = record {
   known = subst (λ (l : List Record). Each IsKnown (txns_of l)) (log_is sc h site) order.known;
 }
 
+-- the incarnation of the value is alike to the site's
+alike_now : (sc : Scenario) (h : List Entry) (site : ℕ) (rose : List Record) (s : SiteView) → StandsAlike sc h site rose s → AlikeNow (now_with rose sc h site) (theirs sc h site)
+alike_now sc h site rose s stands = record { rose = stands.alike; since = refl }
+
 pub exact : ExactIsAlike
 exact sc h site s stands = record {
   weights_are = stands.weights_are;
   site_is = stands.site_is;
-  now = theirs sc h site;
   stands = stands.stands;
-  alike = self_alike (theirs sc h site);
+  alike = (self_alike (theirs sc h site)).rose;
 }
 
 pub rises : RisesAlike
-rises sc h s records log weights stands risen mine others same =
-    let m : Move = record { site = s.site; did = Rose risen.inc risen.records } in
+rises sc h site s records log weights number stands risen mine others same =
+    let m : Move = record { site = site; did = Rose risen.inc risen.records } in
     let all : log ≡ log_by risen.before ++ risen.records = risen.log_is ∙ ap log_by risen.last ∙ log_push risen.before m in
-    let there : theirs sc h s.site ≡ record { rose = log_by risen.before ++ risen.records; since = [] } =
+    let there : theirs sc h site ≡ record { rose = log_by risen.before ++ risen.records; since = [] } =
     ap incarnation_of risen.last ∙ incarnation_push risen.before m
     ∙ ap (λ (l : List Record). record { rose = l ++ risen.records; since = [] }) (present_is_log risen.before) in
+    let is : risen_with log ≡ theirs sc h site = ap risen_with all ∙ sym there in
     record {
       weights_are = weights;
-      site_is = refl;
-      now = risen_with records;
-      stands = stands;
-      alike = subst (λ (n : Incarnation). AlikeNow (risen_with records) n) (ap risen_with all ∙ sym there) (rises_alike s.site records log mine others same);
+      site_is = number;
+      stands = subst (λ (n : Incarnation). Stands (record { rose = records; since = n.since }) s) is stands;
+      alike = subst (λ (n : Incarnation). ReadAlike records n.rose) is (rises_alike site records log mine others same).rose;
     }
 
 pub plans : PlansAlike
-plans sc h s i stands order =
-    ap (λ (ws : List ℕ). step_kept i (step_of ws s.site stands.now i)) stands.weights_are
+plans sc h site rose s i stands order =
+    let now : Incarnation = now_with rose sc h site in
+    ap (λ (ws : List ℕ). step_kept i (step_of ws s.site now i)) stands.weights_are
+    ∙ ap (λ (n : ℕ). step_kept i (step_of sc.weights n now i)) stands.site_is
     ∙ ap (λ (made : Made). step_kept i made)
-    (sym (steps_alike sc.weights s.site (theirs sc h s.site) stands.now i (in_order sc h s.site order) (turned_alike stands.now (theirs sc h s.site) stands.alike)))
+    (sym (steps_alike sc.weights site (theirs sc h site) now i (in_order sc h site order) (turned_alike now (theirs sc h site) (alike_now sc h site rose s stands))))
 
 pub opens : ListsOpenAlike
-opens sc h s stands orderly = sym (opens_alike s.site (theirs sc h s.site) stands.now
-    (subst (λ (l : List Record). IsOrderly s.site l) (log_is sc h s.site) orderly) (turned_alike stands.now (theirs sc h s.site) stands.alike))
+opens sc h site rose s stands orderly =
+    let now : Incarnation = now_with rose sc h site in
+    ap (λ (n : ℕ). open_in n (life_of now)) stands.site_is
+    ∙ sym (opens_alike site (theirs sc h site) now
+    (subst (λ (l : List Record). IsOrderly site l) (log_is sc h site) orderly) (turned_alike now (theirs sc h site) (alike_now sc h site rose s stands)))
 
 pub still : StillAlike
-still sc h k site old new stands same weights number on = record {
+still sc h k site rose old new stands same weights number on = record {
   weights_are = weights ∙ stands.weights_are;
   site_is = number ∙ stands.site_is;
-  now = stands.now;
-  stands = on;
-  alike = subst (λ (ms : List Move). AlikeNow stands.now (incarnation_of ms)) same stands.alike;
+  stands = subst (λ (ms : List Move). Stands (record { rose = rose; since = (incarnation_of ms).since }) new) same on;
+  alike = subst (λ (ms : List Move). ReadAlike rose (incarnation_of ms).rose) same stands.alike;
 }
 
 -- behind the entry of a step the site's incarnation has that step
@@ -91,14 +99,12 @@ step_moves sc h site i =
     ∙ incarnation_push (moves_of sc h site) _
 
 pub on : GoesOnAlike
-on sc h i old new step stands made weights number behind =
-    let was : Incarnation = theirs sc h old.site in
-    let both : AlikeNow (with_step stands.now step) (with_step was step) =
-    record { rose = stands.alike.rose; since = ap (λ (ss : List SiteStep). ss ++ step ∷ []) stands.alike.since } in
+on sc h site rose i old new step stands made weights number behind =
+    let is : with_step (theirs sc h site) step ≡ theirs sc (h ++ entry_of sc h site i ∷ []) site =
+    ap (with_step (theirs sc h site)) made ∙ sym (step_moves sc h site i) in
     record {
       weights_are = weights ∙ stands.weights_are;
-      site_is = number;
-      now = with_step stands.now step;
-      stands = behind;
-      alike = subst (λ (n : Incarnation). AlikeNow (with_step stands.now step) n) (ap (with_step was) made ∙ sym (step_moves sc h old.site i)) both;
+      site_is = number ∙ stands.site_is;
+      stands = subst (λ (n : Incarnation). Stands (record { rose = rose; since = n.since }) new) is behind;
+      alike = subst (λ (n : Incarnation). ReadAlike rose n.rose) is stands.alike;
     }

@@ -8,19 +8,23 @@ use Rattle.e3_types.specs.declared.scenarios.Scenario.{Scenario}
 use Rattle.e3_world.specs.declared.lives.Incarnation.{Incarnation}
 use Rattle.e3_world.specs.Lives.{incarnation_of}
 use Rattle.e3_world.specs.Moves.{moves_of}
-use Rattle.e3_law_alike.specs.Alike.{AlikeNow, IsKnown}
+use Rattle.e3_law_alike.specs.Alike.{IsKnown}
+use Rattle.e3_law_brief.specs.Alike.{ReadAlike}
 use Rattle.e3_law_brief.specs.Brief.{txns_of}
 use Rattle.e3_law_brief.specs.Orderly.{IsOrderly}
 use Rattle.e3_site.specs.SiteView.{SiteView, Stands}
 
--- the value has the site's number and the scenario's weights, and stands for an incarnation that is alike to the one that the
--- site's moves make
-pub record StandsAlike (sc : Scenario) (history : List Entry) (site : ℕ) (s : SiteView) : Type 0 where
+-- the incarnation of a site that rose with these records, and made the steps that the history's site made since its rise
+abbrev pub now_with : List Record → Scenario → List Entry → ℕ → Incarnation
+now_with rose sc history site = record { rose = rose; since = (incarnation_of (moves_of sc history site)).since }
+
+-- the value has the site's number and the scenario's weights; it stands for a site that rose with these records, which read
+-- as the log that the history's site rose with
+pub record StandsAlike (sc : Scenario) (history : List Entry) (site : ℕ) (rose : List Record) (s : SiteView) : Type 0 where
   pub weights_are : s.weights ≡ sc.weights
   pub site_is : s.site ≡ site
-  pub now : Incarnation
-  pub stands : Stands now s
-  pub alike : AlikeNow now (incarnation_of (moves_of sc history site))
+  pub stands : Stands (now_with rose sc history site) s
+  pub alike : ReadAlike rose (incarnation_of (moves_of sc history site)).rose
 
 -- the log is orderly, and the sites of each transaction that it has are a set
 pub record IsLogInOrder (site : ℕ) (log : List Record) : Type 0 where

@@ -1,6 +1,7 @@
 -- The test of a record over those before it is what a log asks of it.
 use Rattle.std.proofs.Common.{◌≡◌, ◌≢◌, ◌<◌, ◌≤◌, ◌==◌, ◌||◌, ◌∷◌, [], ℕ, suc, Bool, true, false, not, List, length, nat_lt, nat_le, refl, sym, ap, ◌∙◌, arith, eq-eqb}
 use Rattle.std.proofs.lemmas.Bool.{and_parts, and_from, false≢true, eqb-true, ne_eqb, ltb-true, lt-ltb, leb-true, le-leb}
+use Rattle.std.proofs.lemmas.Grind.{common_steps}
 use Rattle.e3_types.specs.declared.records.Record.{Record}
 use Rattle.e3_types.specs.declared.records.Record.TheVariants as log
 use Rattle.e3_types.specs.declared.transactions.Dir.{Dir}
@@ -13,7 +14,8 @@ use Rattle.e3_types.specs.declared.transactions.Txn.{Txn}
 use Rattle.e3_types.specs.Same.{same_dir, same_state}
 use Rattle.e3_types.specs.Sets.{has_site}
 use Rattle.e3_world.specs.Logs.{last_elected, state_of, logged_inc}
-use Rattle.e3_world.specs.Orderly.{MayFollow, IsBirth, IsInc, IsVote, IsJoin, IsAttempt, IsDecision, is_among}
+use Rattle.e3_world.specs.Orderly.{IsBirth, IsVote, IsJoin, IsAttempt, IsDecision, is_among}
+use Rattle.e3_law_brief.specs.Orderly.{MayFollow, IsInc}
 use Rattle.e3_site.specs.Orderly.{is_weighed, is_birth, is_next_inc, is_first_vote, is_next_join, is_next_attempt, is_first_decision, is_orderly_next}
 
 -- a list is empty where its length is 0
@@ -99,13 +101,38 @@ follows-birth site before format number weights rows b =
     and_from _ _ (and_from _ _ (and_from _ _ (and_from _ _ (and_from _ _ first (eq-eqb format 1 b.one)) (eq-eqb number site b.own))
     (sym (among-weighed site weights) ∙ b.known)) (and_from _ _ (le-to _ _ b.few) b.weighed)) b.ascending
 
+-- a later incarnation is one more than the last, and the first is any
+next-inc : (n inc : ℕ) → (n == 0 || inc == suc n) ≡ true → 1 ≤ n → inc ≡ suc n
+next-inc n inc h some = by (n == 0) refl h
+  where
+    by : (b : Bool) → (n == 0) ≡ b → (b || inc == suc n) ≡ true → inc ≡ suc n
+    by true is k = absurd (let none : n ≡ 0 = eqb-true n 0 is in omega (arith, none, some))
+    by false is k = eqb-true inc (suc n) k
+
+inc-next : (n inc : ℕ) → (n ≡ 0 → 1 ≤ inc) → (1 ≤ n → inc ≡ suc n) → (0 < inc) × ((n == 0 || inc == suc n) ≡ true)
+inc-next n inc first next = by (n == 0) refl
+  where
+    by : (b : Bool) → (n == 0) ≡ b → (0 < inc) × ((n == 0 || inc == suc n) ≡ true)
+    by true is = (first (eqb-true n 0 is), rw is refl)
+    by false is =
+        let some : 1 ≤ n = grind (arith, common_steps, is) in
+        let e : inc ≡ suc n = next some in
+        (omega (arith, e), rw is (eq-eqb inc (suc n) e))
+
 inc-follows : (before : List Record) (inc : ℕ) → is_next_inc before inc ≡ true → IsInc before inc
 inc-follows before inc h =
-    let both = and_parts _ _ h in
-    record { born = some-length before both.0; next = eqb-true inc (suc (logged_inc before)) both.1 }
+    let all = and_parts _ _ h in
+    let both = and_parts _ _ all.0 in
+    record {
+      born = some-length before both.0;
+      first = λ none. lt-from 0 inc both.1;
+      next = λ some. next-inc (logged_inc before) inc all.1 some;
+    }
 
 follows-inc : (before : List Record) (inc : ℕ) → IsInc before inc → is_next_inc before inc ≡ true
-follows-inc before inc i = and_from _ _ (length-some before i.born) (eq-eqb inc (suc (logged_inc before)) i.next)
+follows-inc before inc i =
+    let is = inc-next (logged_inc before) inc i.first i.next in
+    and_from _ _ (and_from _ _ (length-some before i.born) (lt-to 0 inc is.0)) is.1
 
 vote-follows : (site : ℕ) (before : List Record) (t : Txn) (ops : List NumOp) →
     is_first_vote site before t ops ≡ true → IsVote site before t ops

@@ -8,7 +8,8 @@ use Rattle.e3_past.specs.declared.tables.Tables.{Tables}
 use Rattle.e3_site.specs.SiteView.{SiteView, Stands, risen_with}
 use Rattle.e3_site.specs.StandsFor.{StandsRisen}
 use Rattle.e3_world.specs.Lives.{life_of}
-use Rattle.e3_world.specs.Orderly.{IsOrderly, OrderlyAfter, MayFollow, weights_by, weights_in}
+use Rattle.e3_world.specs.Orderly.{weights_by, weights_in}
+use Rattle.e3_law_brief.specs.Orderly.{IsOrderly, OrderlyAfter, MayFollow}
 use Rattle.e3_site.specs.Rebuilt.{IsRebuilt, StandsForEach}
 use Rattle.e3_site.proofs.Births.{IsBorn, log_born}
 

@@ -27,7 +27,7 @@ use Rattle.e3_world.proofs.Numbers.{entered_move}
 use Rattle.e3_world.proofs.Pushes.{past_push, incarnation_push, log_push, present_is_log}
 use Rattle.e3_world.proofs.Readings.{own_same}
 use Rattle.e3_world.proofs.Turns.{self}
-use Rattle.e3_site.specs.SiteView.{IsPlanOf, PlanView, SiteView, Stands, plan_of, risen_with, step_kept, with_step}
+use Rattle.e3_site.specs.SiteView.{IsPlanOf, PlanView, SiteView, Stands, planned_step, risen_with, step_kept, with_step}
 use Rattle.e3_site.specs.StandsFor.{ListsOpen, PlansStep, StandsFor, StandsOn, StandsRisen, StandsStill}
 
 -- the life of an incarnation with one more step
@@ -49,22 +49,22 @@ inc_of_rise now = inc_from _ now.since
 
 -- the step that the site makes is the one that its history makes
 made_is : (sc : Scenario) (h : List Entry) (now : Incarnation) (s : SiteView) (i : Input) → StandsFor sc h s.site s
-    → incarnation_of (moves_of sc h s.site) ≡ now → plan_of now s i ≡ step_kept i (made_by sc h s.site i)
+    → incarnation_of (moves_of sc h s.site) ≡ now → planned_step now s i ≡ step_kept i (made_by sc h s.site i)
 made_is sc h now s i stands is =
-    ap (λ (n : Incarnation). plan_of n s i) (sym is)
+    ap (λ (n : Incarnation). planned_step n s i) (sym is)
     ∙ ap (λ (ws : List ℕ). step_kept i (step_of ws s.site (incarnation_of (moves_of sc h s.site)) i)) stands.weights_are
 
 -- the records of what an input makes the site do may follow its log
-pub plan_follows : (now : Incarnation) (s : SiteView) (i : Input) (step : SiteStep) → step ≡ plan_of now s i → follow (life_of now).log step.records ≡ true
+pub plan_follows : (now : Incarnation) (s : SiteView) (i : Input) (step : SiteStep) → step ≡ planned_step now s i → follow (life_of now).log step.records ≡ true
 plan_follows now s i step is = ap (λ (m : SiteStep). follow (life_of now).log m.records) is ∙ step_follows s.weights s.site now i
 
 -- what is planned is kept of the step that is made
 pub planned_is : (now : Incarnation) (s : SiteView) (i : Input) (made : Made) (r : Result PlanView NoMemory) → made ≡ step_of s.weights s.site now i
-    → IfOk r (λ plan. plan.step ≡ step_kept i made) → IfOk r (λ plan. plan.step ≡ plan_of now s i)
+    → IfOk r (λ plan. plan.step ≡ step_kept i made) → IfOk r (λ plan. plan.step ≡ planned_step now s i)
 planned_is now s i made (Ok plan) is kept = kept ∙ ap (step_kept i) is
 planned_is now s i made (Err e) is kept = tt
 
-pub plans_step : (now : Incarnation) (s : SiteView) (i : Input) (r : Result PlanView NoMemory) → IfOk r (λ plan. plan.step ≡ plan_of now s i)
+pub plans_step : (now : Incarnation) (s : SiteView) (i : Input) (r : Result PlanView NoMemory) → IfOk r (λ plan. plan.step ≡ planned_step now s i)
     → IfOk r (λ plan. PlansStep now s i plan.step)
 plans_step now s i (Ok plan) made = λ sc h stands is. made ∙ made_is sc h now s i stands is
 plans_step now s i (Err e) made = tt
@@ -106,7 +106,7 @@ step_moves sc h site i =
 
 -- so the value that did the planned step stands for the history with its entry
 pub stands_on : (old new : SiteView) (step : SiteStep) (inputs : ℕ) → new ≡ record old { inputs = inputs; tables = new.tables }
-    → ((now : Incarnation) (i : Input) → Stands now old → step ≡ plan_of now old i → Stands (with_step now step) new) → StandsOn old step new
+    → ((now : Incarnation) (i : Input) → Stands now old → step ≡ planned_step now old i → Stands (with_step now step) new) → StandsOn old step new
 stands_on old new step inputs done on = λ sc h i stands made.
     let was : Incarnation = incarnation_of (moves_of sc h old.site) in
     record {

@@ -5,13 +5,14 @@ use Rattle.std.proofs.lemmas.Grind.{common_steps}
 use Rattle.std.proofs.lemmas.List.Sums.{fold-append}
 use Rattle.e3_types.specs.declared.records.Record.{Record}
 use Rattle.e3_world.specs.Logs.{logged_inc, logged_inc_by}
-use Rattle.e3_world.specs.Orderly.{IsOrderly, weights_by}
+use Rattle.e3_world.specs.Orderly.{weights_by}
+use Rattle.e3_law_brief.specs.Orderly.{IsOrderly}
 use Rattle.e3_past.specs.declared.logged.Logged.{Logged}
 use Rattle.e3_past.specs.Standing.{LoggedStand}
 use Rattle.e3_site.specs.Orderly.{IsFirstDisorder, disorder_after, disorder_in, is_orderly_next}
-use Rattle.e3_past.proofs.Known.{orderly_known}
 use Rattle.e3_site.specs.Reading.{AreRead, IsLogRead}
 use Rattle.e3_site.proofs.Firsts.{disorder_found}
+use Rattle.e3_site.proofs.Known.{orderly_known}
 
 take_more : (xs : List Record) (k : ℕ) (x : Record) → k < length xs → x ≡ get_or xs k x → take (k + 1) xs ≡ take k xs ++ x ∷ []
 take_more xs k x lt is = grind (arith, common_steps, lt, is)

@@ -11,7 +11,8 @@ use Rattle.e3_types.specs.declared.transactions.State.TheVariants.{Q}
 use Rattle.e3_types.specs.declared.transactions.Txn.{Txn}
 use Rattle.e3_types.specs.Same.{same_dir, same_state}
 use Rattle.e3_world.specs.Logs.{last_elected, last_attempt, has_voted, state_of, is_undecided, logged_inc}
-use Rattle.e3_world.specs.Orderly.{IsOrderly, names_ascend, ops_ascend, is_known, is_free}
+use Rattle.e3_world.specs.Orderly.{names_ascend, ops_ascend, is_known, is_free}
+use Rattle.e3_law_brief.specs.Orderly.{IsOrderly}
 
 -- the site has a weight among these
 abbrev pub is_weighed : List ℕ → ℕ → Bool
@@ -26,9 +27,9 @@ abbrev pub is_birth : ℕ → List Record → ℕ → ℕ → List ℕ → List 
 is_birth site before format number weights rows =
     length before == 0 && format == 1 && number == site && is_weighed weights site && are_weights weights && names_ascend rows
 
--- the incarnation is one more than the last, behind a birth
+-- the incarnation stands behind a birth; the first may be any, each later one is one more than the last
 abbrev pub is_next_inc : List Record → ℕ → Bool
-is_next_inc before inc = not (length before == 0) && inc == suc (logged_inc before)
+is_next_inc before inc = not (length before == 0) && nat_lt 0 inc && (logged_inc before == 0 || inc == suc (logged_inc before))
 
 -- the numbers of the operations ascend strictly, from 1 to 64
 abbrev pub are_numbered : List NumOp → Bool

@@ -6,7 +6,8 @@ use Rattle.e3_types.specs.declared.scenarios.Scenario.{Scenario}
 use Rattle.e3_site.specs.SiteView.{SiteView, Stands, risen_with}
 use Rattle.e3_site.specs.StandsFor.{StandsFor, IsRisenWith}
 use Rattle.e3_world.specs.Legal.{IsLegal}
-use Rattle.e3_world.specs.Orderly.{IsOrderly, weights_in}
+use Rattle.e3_world.specs.Orderly.{weights_in}
+use Rattle.e3_law_brief.specs.Orderly.{IsOrderly}
 use Rattle.e3_site.specs.declared.rebuilding.RebuildFault.{RebuildFault}
 use Rattle.e3_site.specs.declared.rebuilding.RebuildFault.TheVariants.{Order, NoMemory}
 use Rattle.e3_site.specs.Orderly.{IsFirstDisorder}

@@ -39,8 +39,8 @@ abbrev pub step_kept : Input → Made → SiteStep
 step_kept i made = record { input = plain_input i; records = made.records; outs = map plain made.outs; told = made.told }
 
 -- what an input makes a site in this incarnation do, as the site keeps it
-abbrev pub plan_of : Incarnation → SiteView → Input → SiteStep
-plan_of now s i = step_kept i (step_of s.weights s.site now i)
+abbrev pub planned_step : Incarnation → SiteView → Input → SiteStep
+planned_step now s i = step_kept i (step_of s.weights s.site now i)
 
 -- a plan: the step, and what it makes of the tables
 pub record PlanView : Type 0 where

@@ -65,7 +65,7 @@ fn is_birth<B: Before>(
 fn is_next_inc<B: Before>(before: &B, inc: u32) -> bool
     ensures { result ≡ is_next_inc (B.log before.now) inc }
 {
-    !before.is_empty() && inc > 0 && inc - 1 == before.inc()
+    !before.is_empty() && inc > 0 && (before.inc() == 0 || inc - 1 == before.inc())
 }
 
 fn are_weighed(weights: &[u32], sites: SiteSet) -> bool

@@ -4,7 +4,8 @@ ghost use Rattle.e3_past.specs.Standing.{TablesStand};
 ghost use Rattle.e3_site.specs.Rebuilt.{IsFaultOf, IsRebuilt, StandsForEach};
 ghost use Rattle.e3_site.specs.SiteView.{risen_with};
 ghost use Rattle.e3_world.specs.Lives.{life_of};
-ghost use Rattle.e3_world.specs.Orderly.{IsOrderly, weights_in};
+ghost use Rattle.e3_law_brief.specs.Orderly.{IsOrderly};
+ghost use Rattle.e3_world.specs.Orderly.{weights_in};
 
 use crate::Site;
 use crate::disorder::{Walk, first_disorder, read_in_order};

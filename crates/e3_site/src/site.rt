@@ -1,7 +1,7 @@
 // A site while it is up.
 ghost use Rattle.std.specs.Prelude.{◌≡◌, ◌<◌, ◌^◌, IfOk, OnOk, List as Items, length};
 ghost use Rattle.e3_readings.specs.Opens.{open_in};
-ghost use Rattle.e3_site.specs.SiteView.{HasRoomFor, IsPlanOf, Stands, count_on, plan_of, risen_with, with_step};
+ghost use Rattle.e3_site.specs.SiteView.{HasRoomFor, IsPlanOf, Stands, count_on, planned_step, risen_with, with_step};
 ghost use Rattle.e3_site.specs.StandsFor.{ListsOpen, PlansStep, StandsOn, StandsRisen, StandsStill};
 ghost use Rattle.e3_types.specs.declared.entries.Input.{Input as Taken};
 ghost use Rattle.e3_types.specs.declared.records.Record.{Record};
@@ -71,7 +71,7 @@ impl Site {
     fn planned(&self, input: &Input) -> Result<Plan, NoMemory>
         ghost now: { Incarnation }
         requires { Stands now self.now }
-        ensures made { IfOk result (λ plan. plan.step ≡ plan_of now self.now input.now) }
+        ensures made { IfOk result (λ plan. plan.step ≡ planned_step now self.now input.now) }
         ensures own { IfOk result (λ plan. IsPlanOf plan self.now) }
         ensures few { IfOk result (λ plan. length plan.step.outs < 2 ^ 32) }
     {
@@ -91,7 +91,7 @@ impl Site {
     pub fn plan(&self, input: &Input) -> Result<Plan, NoMemory>
         ghost now: { Incarnation }
         requires { Stands now self.now }
-        ensures made { IfOk result (λ plan. plan.step ≡ plan_of now self.now input.now) }
+        ensures made { IfOk result (λ plan. plan.step ≡ planned_step now self.now input.now) }
         ensures own { IfOk result (λ plan. IsPlanOf plan self.now) }
         ensures stands { IfOk result (λ plan. PlansStep now self.now input.now plan.step) }
         ensures few { IfOk result (λ plan. length plan.step.outs < 2 ^ 32) }
@@ -117,7 +117,7 @@ impl Site {
         requires room { HasRoomFor plan self.old }
         ensures step { result ≡ plan.step }
         ensures done { self.new ≡ record self.old { inputs = count_on self.old.inputs; tables = self.new.tables } }
-        ensures stand { (now : Incarnation) (input : Taken) → Stands now self.old → plan.step ≡ plan_of now self.old input → Stands (with_step now plan.step) self.new }
+        ensures stand { (now : Incarnation) (input : Taken) → Stands now self.old → plan.step ≡ planned_step now self.old input → Stands (with_step now plan.step) self.new }
         ensures stands { StandsOn self.old plan.step self.new }
     {
         let (step, behind) = plan.into_parts();

@@ -27,7 +27,7 @@ use Rattle.e3_law_trails.specs.Claims.{TrailsAreSound}
 use Rattle.e3_cards.specs.Tables.{IsKnown}
 use Rattle.e3_snapshot.specs.Tables.{IsInOrder}
 use Rattle.e3_snapshot.proofs.Fronts.{rest_weights}
-use Rattle.e3_snapshot.proofs.Sets.{txns_known}
+use Rattle.e3_law_sets.proofs.Sets.{txns_known}
 
 -- a log that is not empty begins with the site's birth and an incarnation
 abbrev Begun : Scenario → ℕ → List Record → Type 0

@@ -3,5 +3,4 @@ mod Rows
 mod Cards
 mod Fronts
 mod Telling
-mod Sets
 mod Legal

@@ -35,7 +35,7 @@ use Rattle.e3_law_begun.proofs.Laws.{due_mentions, records_mention}
 use Rattle.e3_law_begun.proofs.Lists.{any-get, each-join, each-within, held}
 use Rattle.e3_law_brief.specs.Brief.{txns_of}
 use Rattle.e3_law_steps.proofs.Ascending.{each_fold}
-use Rattle.e3_cards.specs.Tables.{IsKnown}
+use Rattle.e3_law_alike.specs.Alike.{IsKnown}
 
 -- a set is that of some bits
 record IsOfBits (sites : List ℕ) : Type 0 where
