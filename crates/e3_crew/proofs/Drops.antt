@@ -1,6 +1,6 @@
 -- Drops of the driver, and what they leave.
 use Rattle.std.proofs.Common.{◌≡◌, ◌≢◌, ◌==◌, ◌+◌, ◌<◌, ◌≤◌, ◌++◌, ◌∷◌, [], ℕ, Bool, true, false, List, length, refl, sym, ap, subst, ◌∙◌, arith, append-nil, append_assoc, fold, Some}
-use Rattle.std.specs.Prelude.{All, None, Option, find, slice_get, slice_index_or}
+use Rattle.std.specs.Prelude.{All, None, Option, find, is_some, slice_get, slice_index_or}
 use Rattle.std.specs.List.{list_any}
 use Rattle.std.proofs.lemmas.Bool.{ne_eqb}
 use Rattle.std.proofs.lemmas.Grind.{fold-append}
@@ -242,6 +242,12 @@ pub no_drop_room : (marks : List Mark) (site : ℕ) → (most_of marks ≤ used_
 no_drop_room marks site both =
     let first = some_first site (pending (scenario_of marks) (entries_of marks)) both.1 in
     record { full = both.0; packet = first.0; first = first.1 }
+
+-- a history is full where a packet is pending
+pub full_and_first : (marks : List Mark) (first : Option Packet) → most_of marks ≤ used_of marks → first ≡ first_pending (scenario_of marks) (entries_of marks) →
+    is_some first ≡ true → DropHadNoRoom marks
+full_and_first marks None full is some = absurd cc
+full_and_first marks (Some packet) full is some = record { full = full; packet = packet; first = sym is }
 
 site_some : (s : ℕ) → 1 ≤ s → (0 == s) ≡ false
 site_some s some = ne_eqb 0 s (λ is. omega (arith, is, some))

@@ -31,7 +31,7 @@ use Rattle.e3_world.proofs.Pushes.{legal_front}
 use Rattle.e3_world.specs.Steps.{step_of}
 
 -- nothing stays promised where nothing was
-none_still : (was now : Note) → was ≡ nothing → now.places ≡ was.places → now.room ≤ was.room → now ≡ nothing
+pub none_still : (was now : Note) → was ≡ nothing → now.places ≡ was.places → now.room ≤ was.room → now ≡ nothing
 none_still was now none places room =
     let zero_places : now.places ≡ 0 = places ∙ ap (λ (w : Note). w.places) none in
     let zero_before : was.room ≡ 0 = ap (λ (w : Note). w.room) none in

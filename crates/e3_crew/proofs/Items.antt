@@ -1,5 +1,5 @@
 -- A round of items.
-use Rattle.std.proofs.Common.{◌≡◌, ◌≢◌, ◌==◌, ◌+◌, ◌<◌, ◌≤◌, ◌++◌, ◌∷◌, [], ℕ, zero, suc, Bool, true, false, List, length, refl, sym, ap, subst, ◌∙◌, arith, Option, Some, None}
+use Rattle.std.proofs.Common.{◌≡◌, ◌≢◌, ◌==◌, ◌+◌, ◌<◌, ◌≤◌, ◌∷◌, [], ℕ, zero, suc, Bool, true, false, List, length, refl, sym, ap, subst, ◌∙◌, arith, Option, Some, None}
 use Rattle.std.specs.Prelude.{Result, Ok, Err, OnOk, filter_map, slice_index_or}
 use Rattle.std.specs.List.{list_any}
 use Rattle.atomic_table.specs.Seated.{TableId}
@@ -28,7 +28,7 @@ use Rattle.e3_types.specs.declared.entries.Entry.{Entry}
 use Rattle.e3_types.specs.declared.entries.Input.{Input}
 use Rattle.e3_types.specs.declared.scenarios.Item.{Item}
 use Rattle.e3_types.specs.declared.scenarios.Scenario.{Scenario}
-use Rattle.e3_wire.specs.Claims.{APass, NothingPromised, UsedGrows}
+use Rattle.e3_wire.specs.Claims.{APass, NothingPromised}
 use Rattle.e3_wire.specs.declared.marks.Mark.{Mark}
 use Rattle.e3_wire.specs.Marks.{NothingIsPromised, entries_of, most_of, note_of, nothing, scenario_of, used_of}
 use Rattle.e3_wire.specs.Wires.{IsPlayed}
@@ -70,14 +70,13 @@ pub any : {A : Type 0} (xs : List A) → 0 < length xs → A
 any [] low = absurd (omega (arith, low))
 any (x ∷ xs) low = x
 
--- the history that is gathered has no room, where a worker had none
-pub no_room : UsedGrows → NothingPromised → (marks since all : List Mark) → IsPlayed marks → IsPlayed all → all ≡ marks ++ since → most_of all ≡ most_of marks →
-    NothingIsPromised all → most_of marks ≤ used_of marks → (length (entries_of all) ≤ most_of all) × (most_of all ≤ length (entries_of all))
-no_room grows nothing marks since all played now is most none full =
-    let more : used_of marks ≤ used_of all = (let P : List Mark → Type 0 = λ l. used_of marks ≤ used_of l in subst P (sym is) (grows marks since played)) in
+-- a history that is full where nothing is promised has as many entries as it may have
+pub at_bound : NothingPromised → (all : List Mark) → IsPlayed all → NothingIsPromised all → most_of all ≤ used_of all →
+    (length (entries_of all) ≤ most_of all) × (most_of all ≤ length (entries_of all))
+at_bound nothing all now none full =
     let just : used_of all ≡ length (entries_of all) = nothing all none in
     let within = now.within in
-    (omega (arith, just, within), omega (arith, just, more, full, most))
+    (omega (arith, just, within), omega (arith, just, full))
 
 module _ {D : Type 0} (content : D → List ℕ) (image : D → List ℕ → Type 0) (meters : D → Meters) where
   -- what a worker knows once it has its pass
@@ -161,8 +160,8 @@ module _ {D : Type 0} (content : D → List ℕ) (image : D → List ℕ → Typ
         omega (arith, asked, turn)
 
     -- a worker that was refused for a full history had an item that is due
-    pub items_full : UsedGrows → NothingPromised → OneWasRefused news HistoryFull → IsFullBefore IsItemDue sc last (most_of (seen_by p))
-    items_full grows nothing one =
+    pub items_full : NothingPromised → most_of (seen_by q) ≤ used_of (seen_by q) → OneWasRefused news HistoryFull → IsFullBefore IsItemDue sc last (most_of (seen_by p))
+    items_full nothing full one =
         let d : Worker D = any news (let w = one.within in omega (arith, w)) in
         let i = one.at in
         let low : i < length olds = (let c = r.count in let w = one.within in omega (arith, c, w)) in
@@ -177,10 +176,8 @@ module _ {D : Type 0} (content : D → List ℕ) (image : D → List ℕ → Typ
         let N : ℕ → Type 0 = λ s. IsNextItem (scenario_of (seen_of a)) (entries_of (seen_of a)) s had.item in
         let M : Scenario → Type 0 = λ k. IsNextItem k (entries_of (seen_of a)) (i + 1) had.item in
         let step = same_step sc (history_seen p) last (gone_on content image meters law wire p q olds dealts turned news r).grown in
-        let most_there : most_of (seen_of a) ≡ most_of (seen_by p) = (took i d low).worked.most ∙ ap most_of (r.dealt i d low).seen in
         let most_last : most_of (seen_by q) ≡ most_of (seen_by p) = (gone_on content image meters law wire p q olds dealts turned news r).most in
-        let room = no_room grows nothing (seen_of a) (r.each i d low).0 (seen_by q) (took i d low).worked.knows.played r.played (r.each i d low).1 (most_last ∙ sym most_there)
-        (crew_again content image meters law wire p q olds dealts turned news r).none had.full in
+        let room = at_bound nothing (seen_by q) r.played (crew_again content image meters law wire p q olds dealts turned news r).none full in
         item_full sc last (most_of (seen_by p)) (record {
           site = i + 1;
           item = had.item;

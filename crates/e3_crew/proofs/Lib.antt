@@ -9,3 +9,5 @@ pub mod Items
 pub mod Packets
 pub mod Drops
 pub mod Further
+pub mod Batching
+pub mod Few

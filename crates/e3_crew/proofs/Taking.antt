@@ -1,17 +1,19 @@
 -- Items and packets of a worker.
-use Rattle.std.proofs.Common.{◌≡◌, ◌||◌, ◌<◌, ◌++◌, ◌∷◌, [], inl, inr, ℕ, zero, suc, Bool, true, false, List, length, refl, sym, ap, subst, ◌∙◌, arith, eq-eqb, Some}
+use Rattle.std.proofs.Common.{◌≡◌, ◌||◌, ◌<◌, ◌≤◌, ◌++◌, ◌∷◌, [], inl, inr, ℕ, zero, suc, Bool, true, false, List, length, map, refl, sym, ap, subst, ◌∙◌, append_assoc, arith, eq-eqb, Some}
 use Rattle.std.specs.Prelude.{Result, Ok, Err, OnOk, get_or, slice_get}
 use Rattle.std.specs.List.{list_any}
 use Rattle.atomic_table.specs.Seated.{TableId}
 use Rattle.e3_crew.specs.Turns.{AreDone, HasTaken}
-use Rattle.e3_crew.specs.Workers.{HasGiven, HasTakenItems, HasWorked, IsPassFor, ItemHadNoRoom, Knows, PacketHadNoRoom, seen_of}
+use Rattle.e3_crew.specs.Workers.{HasGiven, HasTakenItems, HasWorked, IsPassFor, ItemHadNoRoom, Knows, seen_of}
 use Rattle.e3_crew.specs.declared.worker.Worker.{Worker}
-use Rattle.e3_crew.proofs.Growing.{alike_meanwhile, through_meanwhile}
+use Rattle.e3_crew.proofs.Growing.{alike_meanwhile, meanwhile_own, through_meanwhile}
 use Rattle.e3_disk.specs.Meters.{Meters}
-use Rattle.e3_law_local.specs.Drafts.{MayTake}
-use Rattle.e3_law_local.specs.Least.{IsLeastTo}
+use Rattle.e3_law_local.specs.Drafts.{MayTake, MayTakeAll}
+use Rattle.e3_law_local.specs.Least.{IsLeastTo, queue_to}
 use Rattle.e3_law_local.specs.Workers.{AtItems}
-use Rattle.e3_law_local.proofs.Least.{least_is_pending, least_stays}
+use Rattle.e3_law_local.proofs.Due.{calm_on}
+use Rattle.e3_law_local.proofs.Least.{least_is_pending}
+use Rattle.e3_law_local.proofs.Queues.{front_is_least, queue_goes_on}
 use Rattle.e3_law_local.proofs.Working.{items_stay, next_item}
 use Rattle.e3_node.specs.NodeView.{NodeView}
 use Rattle.e3_node.specs.Turns.{Meanwhile}
@@ -30,9 +32,12 @@ use Rattle.e3_wire.specs.Marks.{entries_of, scenario_of}
 use Rattle.e3_wire.specs.Wires.{TakesLeast}
 use Rattle.e3_world.specs.Given.{IsGiven}
 use Rattle.e3_world.specs.Items.{is_delivery, is_up_at, turn_of}
-use Rattle.e3_world.specs.Legal.{IsLegal, IsNextItem, entry_of}
+use Rattle.e3_wire.proofs.Claimed.{taken_is_due}
+use Rattle.e3_world.specs.Legal.{IsDue, IsLegal, IsNextItem, entry_of}
+use Rattle.e3_world.specs.Packets.{is_calm, present_items}
 use Rattle.e3_world.specs.Progress.{Through}
-use Rattle.e3_world.proofs.Pushes.{legal_front}
+use Rattle.e3_world.proofs.Guards.{guard_step}
+use Rattle.e3_world.proofs.Pushes.{legal_front, legal_push}
 use Rattle.e3_world.proofs.Readings.{up_same}
 use Rattle.e3_world.proofs.Turns.{through}
 
@@ -122,7 +127,6 @@ module _ {D : Type 0} (content : D → List ℕ) (image : D → List ℕ → Typ
       HasGiven content image meters before old i marks new answer → answer ≡ Err HistoryFull → ItemHadNoRoom marks old.site
   item_refused before marks old new i items k (Ok done) got knows at gave is = absurd cc
   item_refused before marks old new i items k (Err fault) got knows at gave is = record {
-    full = gave.full is;
     up = up_meanwhile sc old.site (entries_of before) (entries_of marks) knows.played.given legal gave.kept ∙ gave.up;
     item = i;
     due = (let P : Scenario → Type 0 = λ k. IsNextItem k (entries_of marks) old.site i in subst P (sym gave.worked.scenario) (record {
@@ -140,26 +144,6 @@ module _ {D : Type 0} (content : D → List ℕ) (image : D → List ℕ → Typ
       here : AtItems sc (entries_of marks) old.site items k
       here = items_meanwhile sc old.site (entries_of before) (entries_of marks) items k knows.played.given legal gave.kept (at gave.up)
 
-  -- and so is a packet
-  pub packet_refused : (before marks : List Mark) (old new : NodeView D) (p : Packet) (answer : Result (Unit {0}) RunFault) →
-      IsLeastTo (scenario_of before) (entries_of before) old.site p →
-      HasGiven content image meters before old (input.Deliver p) marks new answer → answer ≡ Err HistoryFull → PacketHadNoRoom marks old.site
-  packet_refused before marks old new p (Ok done) least gave is = absurd cc
-  packet_refused before marks old new p (Err fault) least gave is = record {
-    full = gave.full is;
-    packet = p;
-    least = (let P : Scenario → Type 0 = λ k. IsLeastTo k (entries_of marks) old.site p in
-        let Q : List Entry → Type 0 = λ k. IsLeastTo (scenario_of before) k old.site p in
-        subst P (sym gave.worked.scenario) (subst Q (sym m.is) (least_stays (scenario_of before) (entries_of before) m.others old.site p
-        (subst (IsLegal (scenario_of before)) m.is legal) m.of_others m.of_sites least)));
-  }
-    where
-      m : Meanwhile old.site (entries_of before) (entries_of marks)
-      m = gave.kept
-
-      legal : IsLegal (scenario_of before) (entries_of marks)
-      legal = let P : Scenario → Type 0 = λ k. IsLegal k (entries_of marks) in subst P gave.worked.scenario gave.worked.knows.played.legal
-
   -- all items stay through
   pub through_worked : (before marks : List Mark) (old new : NodeView D) → IsGiven (scenario_of before) → HasWorked content image meters before old marks new →
       Through (scenario_of before) (entries_of before) → Through (scenario_of marks) (entries_of marks)
@@ -172,6 +156,23 @@ module _ {D : Type 0} (content : D → List ℕ) (image : D → List ℕ → Typ
 -- the least packet may be taken
 pub packet_may : (sc : Scenario) (h : List Entry) (site : ℕ) (p : Packet) → IsLeastTo sc h site p → Through sc h → MayTake sc h site (input.Deliver p)
 packet_may sc h site p least all = ((least_is_pending sc h site p least).1, through sc h all)
+
+-- and the first ones, one behind the other
+pub packets_may : (sc : Scenario) (h : List Entry) (site : ℕ) (few rest : List Packet) → IsGiven sc → IsLegal sc h → 1 ≤ site → is_up_at h site ≡ true →
+    is_calm (present_items sc h) ≡ false → Through sc h → queue_to sc h site ≡ few ++ rest → MayTakeAll sc h site (map input.Deliver few)
+packets_may sc h site [] rest given legal some up calm all queue = tt
+packets_may sc h site (p ∷ few) rest given legal some up calm all queue =
+    let i : Input = input.Deliver p in
+    let e : Entry = entry_of sc h site i in
+    let least : IsLeastTo sc h site p = front_is_least sc h site p (few ++ rest) queue in
+    let may : MayTake sc h site i = packet_may sc h site p least all in
+    let due : IsDue sc h site i = taken_is_due sc h site i calm may least in
+    let now : IsLegal sc (h ++ e ∷ []) = legal_push sc h e legal (guard_step sc h site i some up due) in
+    let on = queue_goes_on sc h site p (few ++ rest) legal queue in (
+      may,
+      packets_may sc (h ++ e ∷ []) site few (rest ++ on.0) given now some (up_same h e site (eq-eqb site site refl) ∙ up) (calm_on sc h site i calm)
+          (through_meanwhile sc 0 h (h ++ e ∷ []) given now (meanwhile_own h (h ++ e ∷ []) e some refl refl) all) (on.1 ∙ append_assoc few rest on.0),
+    )
 
 -- a turn with items, once the worker has its pass again
 pub took_items : {D : Type 0} (content : D → List ℕ) (image : D → List ℕ → Type 0) (meters : D → Meters) (wire : TableId) (before : Worker D) (marks : List Mark) (old : NodeView D)

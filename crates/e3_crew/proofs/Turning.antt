@@ -1,7 +1,7 @@
 -- What workers know stays true while others go on, and turns follow one another.
 use Rattle.std.proofs.Common.{◌≡◌, ◌<◌, ◌++◌, ◌∷◌, [], ℕ, false, List, refl, sym, ap, subst, ◌∙◌, arith}
 use Rattle.e3_disk.specs.Meters.{Meters}
-use Rattle.e3_crew.specs.Turns.{AtStart, BehindFall, BehindOthers, BehindStep, WentOn}
+use Rattle.e3_crew.specs.Turns.{AtStart, BehindFall, BehindFallOver, BehindOthers, BehindStep, BehindSteps, WentOn}
 use Rattle.e3_crew.specs.Workers.{HasWorked, Knows}
 use Rattle.e3_crew.proofs.Growing.{lines_meanwhile, meanwhile_all, meanwhile_none, meanwhile_on, restless_on}
 use Rattle.e3_node.specs.Claims.{NodesKeptByOthers}
@@ -25,6 +25,8 @@ went_on sc site a b l m c n first AtStart = first
 went_on sc site a b l m c n first (BehindOthers before more now k second others is) = BehindOthers before more c n (went_on sc site a b l m before n first second) others is
 went_on sc site a b l m c n first (BehindStep before now i k o second step) = BehindStep before c i k n (went_on sc site a b l m before k first second) step
 went_on sc site a b l m c n first (BehindFall before now i why k o second fall) = BehindFall before c i why k n (went_on sc site a b l m before k first second) fall
+went_on sc site a b l m c n first (BehindSteps before now is k o second steps) = BehindSteps before c is k n (went_on sc site a b l m before k first second) steps
+went_on sc site a b l m c n first (BehindFallOver before now is why k o second fall) = BehindFallOver before c is why k n (went_on sc site a b l m before k first second) fall
 
 -- marks of others, as entries
 pub meanwhile_foreign : (site : ℕ) (before since marks : List Mark) → IsPlayed marks → AreForeign site since → marks ≡ before ++ since →

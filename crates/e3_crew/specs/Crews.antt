@@ -1,5 +1,5 @@
 -- All workers, while their passes are with the driver.
-use Rattle.std.specs.Prelude.{◌≡◌, ◌+◌, ◌≤◌, ◌<◌, ℕ, false, List, length, Ok, Err, slice_index_or}
+use Rattle.std.specs.Prelude.{◌≡◌, ◌+◌, ◌<◌, ℕ, false, List, length, Ok, Err, slice_index_or}
 use Rattle.atomic_table.specs.Seated.{TableId}
 use Rattle.e3_crew.specs.Turns.{WentOn}
 use Rattle.e3_crew.specs.declared.worker.Worker.{Worker}

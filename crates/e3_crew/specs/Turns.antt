@@ -1,8 +1,9 @@
 -- What a site and its disk came to while others went on.
-use Rattle.std.specs.Prelude.{◌≡◌, ◌++◌, ◌∷◌, [], ℕ, true, false, List, Result, Ok, Err}
+use Rattle.std.specs.Prelude.{◌≡◌, ◌≤◌, ◌++◌, ◌∷◌, [], ℕ, true, false, List, Result, Ok, Err, length}
 use Rattle.e3_disk.specs.Meters.{Keeps, Meters}
 use Rattle.e3_law_local.specs.Others.{AreOthers}
 use Rattle.e3_law_local.specs.Workers.{AtItems}
+use Rattle.e3_node.specs.Batches.{FellOverAll, stepped}
 use Rattle.e3_node.specs.Ends.{FellOver, IsReason, Takes, calls_for}
 use Rattle.e3_node.specs.Turns.{Meanwhile}
 use Rattle.e3_node.specs.declared.fault.InputFault.{InputFault}
@@ -15,7 +16,7 @@ use Rattle.e3_types.specs.declared.entries.Input.{Input}
 use Rattle.e3_types.specs.declared.entries.Why.{Why}
 use Rattle.e3_types.specs.declared.scenarios.Scenario.{Scenario}
 use Rattle.e3_world.specs.Items.{is_up_at}
-use Rattle.e3_world.specs.Legal.{entry_of, made_by}
+use Rattle.e3_world.specs.Legal.{entry_of, made_by, records_by}
 use Rattle.e3_world.specs.Moves.{log_size, moves_of}
 
 -- a step of a site that was up: what was left of an arm of its disk pays for the frame
@@ -32,8 +33,23 @@ pub record IsFallBy (sc : Scenario) (history : List Entry) (site : ℕ) (i : Inp
   pub keeps : Keeps old new
   pub reason : IsReason why (log_size (moves_of sc history site)) (made_by sc history site i).records old new
 
--- The history came of the first, and the numbers of the site's disk of the first numbers, by steps and falls of the site and
--- by entries of others, which leave the disk as it is.
+-- the steps of a batch of a site that was up, of eight inputs at most: what was left of an arm pays for their one frame
+pub record AreStepsBy (sc : Scenario) (history : List Entry) (site : ℕ) (inputs : List Input) (now : List Entry) (old new : Meters) : Type 0 where
+  pub up : is_up_at history site ≡ true
+  pub few : length inputs ≤ 8
+  pub entered : now ≡ stepped sc history site inputs
+  pub keeps : Keeps old new
+  pub takes : Takes (calls_for (records_by sc history site inputs)) old new
+
+-- a fall over a batch, for this reason
+pub record IsFallOver (sc : Scenario) (history : List Entry) (site : ℕ) (inputs : List Input) (why : Why) (now : List Entry) (old new : Meters) : Type 0 where
+  pub up : is_up_at history site ≡ true
+  pub entered : FellOverAll sc history site inputs why now
+  pub keeps : Keeps old new
+  pub reason : IsReason why (log_size (moves_of sc history site)) (records_by sc history site inputs) old new
+
+-- The history came of the first, and the numbers of the site's disk of the first numbers, by steps and falls of the site, one
+-- by one or in batches, and by entries of others, which leave the disk as it is.
 pub data WentOn (sc : Scenario) (site : ℕ) (start : List Entry) (first : Meters) : List Entry → Meters → Type 0 where
   AtStart : WentOn sc site start first start first
   BehindOthers : (before more now : List Entry) (m : Meters) → WentOn sc site start first before m → AreOthers site more →
@@ -42,6 +58,10 @@ pub data WentOn (sc : Scenario) (site : ℕ) (start : List Entry) (first : Meter
       IsStepBy sc before site i now m n → WentOn sc site start first now n
   BehindFall : (before now : List Entry) (i : Input) (why : Why) (m n : Meters) → WentOn sc site start first before m →
       IsFallBy sc before site i why now m n → WentOn sc site start first now n
+  BehindSteps : (before now : List Entry) (inputs : List Input) (m n : Meters) → WentOn sc site start first before m →
+      AreStepsBy sc before site inputs now m n → WentOn sc site start first now n
+  BehindFallOver : (before now : List Entry) (inputs : List Input) (why : Why) (m n : Meters) → WentOn sc site start first before m →
+      IsFallOver sc before site inputs why now m n → WentOn sc site start first now n
 
 -- what an input is to a worker: its site may fall over it, or be down and pass it over, and the worker goes on
 abbrev pub given : Result (Unit {0}) InputFault → Result (Unit {0}) RunFault

@@ -1,11 +1,11 @@
 -- What workers have, know and do.
-use Rattle.std.specs.Prelude.{◌≡◌, ◌≤◌, ◌<◌, ◌++◌, ◌∷◌, [], ℕ, true, false, List, length, Option, Some, None, Result, Err, OnErr, OnOk, slice_index_or}
+use Rattle.std.specs.Prelude.{◌≡◌, ◌≤◌, ◌++◌, ◌∷◌, [], ℕ, true, false, List, length, Option, Some, None, Result, Err, OnErr, OnOk}
 use Rattle.std.specs.List.{list_any}
 use Rattle.atomic_table.specs.Seated.{TableId}
 use Rattle.e3_crew.specs.Turns.{AreDone, HasTaken, WentOn}
 use Rattle.e3_crew.specs.declared.worker.Worker.{Worker}
 use Rattle.e3_disk.specs.Meters.{Meters}
-use Rattle.e3_law_local.specs.Least.{IsLeastTo}
+use Rattle.e3_law_local.specs.Least.{IsLeastTo, queue_to}
 use Rattle.e3_node.specs.NodeStands.{NodeStands}
 use Rattle.e3_node.specs.NodeView.{NodeView, disk_of}
 use Rattle.e3_node.specs.Turns.{Meanwhile}
@@ -68,18 +68,18 @@ pub record HasGiven {D : Type 0} (content : D → List ℕ) (image : D → List 
   pub up : OnErr answer (is_up_at (entries_of before) old.site ≡ true)
   pub full : answer ≡ Err HistoryFull → most_of marks ≤ used_of marks
 
--- There is no room for one more entry, though the next item of a site that is up is due.
+-- The next item of a site that is up is due, and was refused for a full history.
 pub record ItemHadNoRoom (marks : List Mark) (site : ℕ) : Type 0 where
-  pub full : most_of marks ≤ used_of marks
   pub up : is_up_at (entries_of marks) site ≡ true
   pub item : Input
   pub due : IsNextItem (scenario_of marks) (entries_of marks) site item
 
--- There is none, though a packet to a site that is up is pending.
-pub record PacketHadNoRoom (marks : List Mark) (site : ℕ) : Type 0 where
-  pub full : most_of marks ≤ used_of marks
-  pub packet : Packet
-  pub least : IsLeastTo (scenario_of marks) (entries_of marks) site packet
+-- These are the first packets to a site that is up, eight at most.
+pub record AreTheFirst (marks : List Mark) (site : ℕ) (few : List Packet) : Type 0 where
+  pub up : is_up_at (entries_of marks) site ≡ true
+  pub most : length few ≤ 8
+  pub rest : List Packet
+  pub queue : queue_to (scenario_of marks) (entries_of marks) site ≡ few ++ rest
 
 -- no packet to the site is pending, where it is up
 abbrev pub NonePending : List Mark → ℕ → Type 0
@@ -105,12 +105,12 @@ pub record CanTakePackets {D : Type 0} (content : D → List ℕ) (image : D →
   pub knows : Knows content image meters (seen_of w) w.node
   pub through : Through (scenario_of (seen_of w)) (entries_of (seen_of w))
 
--- It gave packets to its node, until none was pending where it was not refused.
+-- It gave packets to its node, until none was pending where it was not refused. Where it was, the driver looks whether the
+-- history is full.
 pub record HasTakenPackets {D : Type 0} (content : D → List ℕ) (image : D → List ℕ → Type 0) (meters : D → Meters) (wire : TableId) (before after : Worker D) : Type 0 where
   pub pass : HasPass wire after
   pub worked : HasWorked content image meters (seen_of before) before.node (seen_of after) after.node
   pub done : OnOk after.ended (NonePending (seen_of after) before.node.site)
-  pub full : after.ended ≡ Err HistoryFull → PacketHadNoRoom (seen_of after) before.node.site
 
 -- behind these marks others than the owner put some
 abbrev pub AddedByOthers : ℕ → List Mark → List Mark → Type 0

@@ -32,6 +32,8 @@ pub struct Round {
     pub alloc: Global,
     pub turn: Turn,
     pub busy: SiteSet,
+    /// How many packets a worker takes for one turn of work at most: from 1 to 8, and 8 for every other number.
+    pub packets: u32,
 }
 
 // A worker's turn.
@@ -41,6 +43,7 @@ fn take_turn<D: Disk + Drill + Drop, G: Gate, R: Wait>(
     wire: &Wire,
     gate: &G,
     turn: Turn,
+    packets: u32,
     worker: &mut Worker<D>,
 )
     requires { CanTake turn D.content D.image D.meters wire.now worker.old }
@@ -48,7 +51,7 @@ fn take_turn<D: Disk + Drill + Drop, G: Gate, R: Wait>(
 {
     match turn {
         Turn::Items => take_items(rt, alloc, wire, worker),
-        Turn::Packets => take_packets(rt, alloc, wire, gate, worker),
+        Turn::Packets => take_packets(rt, alloc, wire, gate, packets, worker),
     }
 }
 
@@ -59,6 +62,7 @@ fn take_in_order<D: Disk + Drill + Drop + Send, G: Gate + Sync, R: Wait + Thread
     wire: &Wire,
     gate: &G,
     turn: Turn,
+    packets: u32,
     workers: &mut [Worker<D>],
 )
     requires { All (CanTake turn D.content D.image D.meters wire.now) workers.old }
@@ -68,7 +72,7 @@ fn take_in_order<D: Disk + Drill + Drop + Send, G: Gate + Sync, R: Wait + Thread
         rt,
         workers,
         1,
-        &|_, worker| take_turn(rt, alloc, wire, gate, turn, worker),
+        &|_, worker| take_turn(rt, alloc, wire, gate, turn, packets, worker),
     );
 }
 
@@ -112,7 +116,8 @@ pub fn all_take<D: Disk + Drill + Drop + Send, G: Gate + Sync, R: Wait + Threads
     ensures { AllTook round.now.turn D.content D.image D.meters wire.now workers.old workers.new }
 {
     if threads < 2 || workers.len() < 2 || busy_among(workers, round.busy) < 2 {
-        take_in_order(rt, round.alloc, wire, gate, round.turn, workers);
+        let (turn, packets) = (round.turn, round.packets);
+        take_in_order(rt, round.alloc, wire, gate, turn, packets, workers);
         return;
     }
     let few = threads / 2;

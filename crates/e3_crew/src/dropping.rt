@@ -70,8 +70,21 @@ fn drop_to<D: Disk + Drill + Drop, R: Wait>(
     drop_all_for(rt, shared, worker.node.site())
 }
 
+// `HistoryFull` where a packet is pending and the history has no room for one more entry.
+fn room_for_first(shared: &Shared) -> Result<(), RunFault>
+    ensures { result ≡ Err HistoryFull → DropHadNoRoom shared.now }
+{
+    let full = shared.is_full();
+    let first = shared.first();
+    if full && first.is_some() {
+        Err(RunFault::HistoryFull)
+    } else {
+        Ok(())
+    }
+}
+
 // Drops the packets that are pending to sites that are down, in what the driver took of the wire. `HistoryFull` comes where
-// one is pending and the history has no room for its drop.
+// one is pending, to any site, and the history has no room for one more entry.
 fn drop_in<D: Disk + Drill + Drop, R: Wait>(
     rt: &R,
     shared: &mut Shared,
@@ -89,7 +102,7 @@ fn drop_in<D: Disk + Drill + Drop, R: Wait>(
         shared.tell();
         drop_to(rt, shared, worker)?;
     }
-    Ok(())
+    room_for_first(shared)
 }
 
 // The sites that packets are pending to; none only where none is pending at all.

@@ -1,14 +1,15 @@
 // Rounds of all workers: passes are dealt, the workers work, and the passes are gathered again.
-ghost use Rattle.std.specs.Prelude.{◌≡◌, ◌≢◌, ◌+◌, ◌<◌, [], ℕ, true, length, slice_index_or, OnOk, Err};
+ghost use Rattle.std.specs.Prelude.{◌≡◌, ◌≢◌, ◌+◌, ◌<◌, ◌≤◌, [], ℕ, true, length, slice_index_or, Ok, OnOk, Err};
 ghost use Rattle.e3_crew.specs.Crews.{AllEndedWell, HasGoneOn, IsCrew, OneWasRefused};
 ghost use Rattle.e3_crew.specs.declared.worker.Worker.{Worker as Workers};
 ghost use Rattle.e3_node.specs.Turns.{history_seen, scenario_seen};
-ghost use Rattle.e3_play.specs.Delivered.{IsFullBefore, IsItemDue, IsPacketDue};
+ghost use Rattle.e3_play.specs.Delivered.{IsFullBefore, IsItemDue};
 ghost use Rattle.e3_play.specs.Settled.{is_asking};
 ghost use Rattle.e3_play.specs.declared.sites.RunFault.{RunFault as Faults};
 ghost use Rattle.e3_play.specs.declared.sites.RunFault.TheVariants.{HistoryFull};
-ghost use Rattle.e3_turn.specs.Passes.{seen_by};
-ghost use Rattle.e3_wire.specs.Marks.{most_of};
+ghost use Rattle.e3_turn.specs.Passes.{IsIdle, OwnsAll, SameOwners, seen_by};
+ghost use Rattle.e3_wire.specs.Marks.{most_of, used_of};
+ghost use Rattle.e3_wire.specs.Wires.{IsPlayed};
 ghost use Rattle.e3_world.specs.Items.{inputs_at, taken_at};
 ghost use Rattle.e3_world.specs.Packets.{lines, present_items};
 ghost use Rattle.e3_world.specs.Progress.{Delivering};
@@ -56,6 +57,66 @@ fn asked_sites<D: Disk + Drill + Drop>(workers: &[Worker<D>]) -> SiteSet {
     asked
 }
 
+// What a refusal for a full history is, where the history is full, and where it is not.
+fn fault_of(full: bool) -> RunFault
+    ensures { result ≡ HistoryFull → full ≡ true }
+{
+    if full {
+        RunFault::HistoryFull
+    } else {
+        RunFault::NoMemory
+    }
+}
+
+// What a worker's refusal for a full history is to the step, once all passes are joined. A fall over several packets gives places
+// back, so the history is looked at again; no such fall comes while items are taken, so it is full still, but no contract
+// tells that of what others did.
+fn full_or_not<R: Wait>(rt: &R, wire: &Wire, pass: &mut WirePass) -> RunFault
+    requires idle { IsIdle wire.now pass.old }
+    requires all { OwnsAll pass.old }
+    ensures idle { IsIdle wire.now pass.new }
+    ensures same { SameOwners pass.old pass.new }
+    ensures seen { seen_by pass.new ≡ seen_by pass.old }
+    ensures played { IsPlayed (seen_by pass.new) }
+    ensures full { result ≡ HistoryFull → most_of (seen_by pass.new) ≤ used_of (seen_by pass.new) }
+{
+    let full = wire.is_full(rt, pass);
+    fault_of(full)
+}
+
+// How a round of items ended.
+fn told_items<R: Wait>(
+    rt: &R,
+    wire: &Wire,
+    pass: &mut WirePass,
+    told: Result<(), RunFault>,
+) -> Result<(), RunFault>
+    requires idle { IsIdle wire.now pass.old }
+    requires all { OwnsAll pass.old }
+    requires played { IsPlayed (seen_by pass.old) }
+    ensures idle { IsIdle wire.now pass.new }
+    ensures same { SameOwners pass.old pass.new }
+    ensures seen { seen_by pass.new ≡ seen_by pass.old }
+    ensures well { OnOk result (told ≡ Ok tt) }
+    ensures full { result ≡ Err HistoryFull → (told ≡ Err HistoryFull) × (most_of (seen_by pass.new) ≤ used_of (seen_by pass.new)) }
+{
+    match told {
+        Ok(()) => Ok(()),
+        Err(RunFault::HistoryFull) => Err(full_or_not(rt, wire, pass)),
+        Err(fault) => Err(fault),
+    }
+}
+
+// How a round of packets ended: a full history is looked for by the driver.
+fn without_full(told: Result<(), RunFault>) -> Result<(), RunFault>
+    ensures { result ≡ Err HistoryFull → ⊥ }
+{
+    match told {
+        Err(RunFault::HistoryFull) => Ok(()),
+        told => told,
+    }
+}
+
 /// Each site takes its items of the present step, in their order. A step that asks one site alone starts no thread.
 pub(crate) fn item_round<D: Disk + Drill + Drop + Send, G: Gate + Sync, R: Wait + Threads + Sync>(
     rt: &R,
@@ -83,14 +144,17 @@ pub(crate) fn item_round<D: Disk + Drill + Drop + Send, G: Gate + Sync, R: Wait 
         alloc,
         turn: Turn::Items,
         busy: asked_sites(workers),
+        packets: 1,
     };
     deal(wire, workers, pass);
     all_take(rt, wire, gate, &round, most_threads, workers);
     gather(wire, workers, pass);
-    ended(workers)
+    told_items(rt, wire, pass, ended(workers))
 }
 
-/// Each site takes packets, the least to it first, until none is pending to it. At first some are pending to the busy ones.
+/// Each site takes packets, the first to it, so many for one turn of work, until none is pending to it. At first some are
+/// pending to the busy ones. A worker that is refused for a full history ends, and no more is made of that here: the driver
+/// looks whether it is full before the next round.
 pub(crate) fn packet_round<D: Disk + Drill + Drop + Send, G: Gate + Sync, R: Wait + Threads + Sync>(
     rt: &R,
     alloc: Global,
@@ -98,6 +162,7 @@ pub(crate) fn packet_round<D: Disk + Drill + Drop + Send, G: Gate + Sync, R: Wai
     gate: &G,
     busy: SiteSet,
     most_threads: usize,
+    most_packets: u32,
     pass: &mut WirePass,
     workers: &mut [Worker<D>],
 ) -> Result<(), RunFault>
@@ -107,7 +172,7 @@ pub(crate) fn packet_round<D: Disk + Drill + Drop + Send, G: Gate + Sync, R: Wai
     ensures crew { IsCrew D.content D.image D.meters wire.now pass.new workers.new }
     ensures on { HasGoneOn D.meters (seen_by pass.old) workers.old (seen_by pass.new) workers.new }
     ensures delivering { Delivering (scenario_seen pass.old) (history_seen pass.new) }
-    ensures full { result ≡ Err HistoryFull → IsFullBefore IsPacketDue (scenario_seen pass.old) (history_seen pass.new) (most_of (seen_by pass.old)) }
+    ensures never { result ≡ Err HistoryFull → ⊥ }
 {
     others_leave_nodes::<D>();
     marks_add_up();
@@ -115,9 +180,10 @@ pub(crate) fn packet_round<D: Disk + Drill + Drop + Send, G: Gate + Sync, R: Wai
         alloc,
         turn: Turn::Packets,
         busy,
+        packets: most_packets,
     };
     deal(wire, workers, pass);
     all_take(rt, wire, gate, &round, most_threads, workers);
     gather(wire, workers, pass);
-    ended(workers)
+    without_full(ended(workers))
 }

@@ -51,6 +51,7 @@ fn deliver<D: Disk + Drill + Drop + Send, G: Gate + Sync, R: Wait + Threads + Sy
     wire: &Wire,
     gate: &G,
     most_threads: usize,
+    most_packets: u32,
     pass: &mut WirePass,
     workers: &mut [Worker<D>],
 ) -> Result<(), RunFault>
@@ -67,14 +68,25 @@ fn deliver<D: Disk + Drill + Drop + Send, G: Gate + Sync, R: Wait + Threads + Sy
         let Some(busy) = drop_down(rt, wire, pass, workers)? else {
             return Ok(());
         };
-        packet_round(rt, alloc, wire, gate, busy, most_threads, pass, workers)?;
+        packet_round(
+            rt,
+            alloc,
+            wire,
+            gate,
+            busy,
+            most_threads,
+            most_packets,
+            pass,
+            workers,
+        )?;
     }
     unreachable!()
 }
 
 /// What the present step asks of the sites, and the packets that come of it: each site takes its own inputs, in their order,
 /// and then packets are delivered or dropped until none is pending. Workers of several sites are at work at once, in at most
-/// so many threads; where one site alone has something to take, none is started. An input of a site that is down is passed
+/// so many threads; where one site alone has something to take, none is started. A worker takes so many packets at most for
+/// one turn of work, from 1 to 8, and 8 for every other number: they have one frame. An input of a site that is down is passed
 /// over, and a site may fall in the midst of it. Whatever it answers, the pass owns all again.
 pub fn settle<D: Disk + Drill + Drop + Send, G: Gate + Sync, R: Wait + Threads + Sync>(
     rt: &R,
@@ -82,6 +94,7 @@ pub fn settle<D: Disk + Drill + Drop + Send, G: Gate + Sync, R: Wait + Threads +
     wire: &Wire,
     gate: &G,
     most_threads: usize,
+    most_packets: u32,
     pass: &mut WirePass,
     workers: &mut [Worker<D>],
     inputs: &[Addressed],
@@ -99,5 +112,14 @@ pub fn settle<D: Disk + Drill + Drop + Send, G: Gate + Sync, R: Wait + Threads +
 {
     hand_out(alloc, workers, inputs)?;
     item_round(rt, alloc, wire, gate, most_threads, pass, workers)?;
-    deliver(rt, alloc, wire, gate, most_threads, pass, workers)
+    deliver(
+        rt,
+        alloc,
+        wire,
+        gate,
+        most_threads,
+        most_packets,
+        pass,
+        workers,
+    )
 }

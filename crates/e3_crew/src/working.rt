@@ -1,13 +1,13 @@
 // What a worker gives to its node.
-ghost use Rattle.std.specs.Prelude.{◌≡◌, true, false, length, IfSome, None, OnOk, Err};
+ghost use Rattle.std.specs.Prelude.{◌≡◌, ◌≢◌, ◌≤◌, [], true, false, length, map, IfOk, OnOk, Err};
 ghost use Rattle.std.specs.List.{list_any};
 ghost use Rattle.e3_crew.specs.Turns.{AreDone, given};
-ghost use Rattle.e3_crew.specs.Workers.{CanTakeItems, CanTakePackets, HasGiven, HasPass, HasTakenItems, HasTakenPackets, HasWorked, IsPassFor, ItemHadNoRoom, Knows, NonePending, PacketHadNoRoom, seen_of};
+ghost use Rattle.e3_crew.specs.Workers.{AreTheFirst, CanTakeItems, CanTakePackets, HasGiven, HasPass, HasTakenItems, HasTakenPackets, HasWorked, IsPassFor, ItemHadNoRoom, Knows, NonePending, seen_of};
 ghost use Rattle.e3_law_local.specs.Drafts.{MayTake};
-ghost use Rattle.e3_law_local.specs.Least.{IsLeastTo};
 ghost use Rattle.e3_node.specs.Turns.{history_seen, scenario_seen};
 ghost use Rattle.e3_play.specs.declared.sites.RunFault.TheVariants.{HistoryFull};
 ghost use Rattle.e3_turn.specs.Passes.{seen_by};
+ghost use Rattle.e3_types.specs.declared.entries.Input.TheVariants as input;
 ghost use Rattle.e3_wire.specs.Wires.{TakesLeast};
 ghost use Rattle.e3_world.specs.Items.{is_delivery, is_up_at};
 ghost use Rattle.e3_world.specs.Progress.{Through};
@@ -18,7 +18,7 @@ use e3_disk::{Disk, Drill};
 use e3_node::{InputFault, Node, others_leave_nodes};
 use e3_outside::Gate;
 use e3_play::RunFault;
-use e3_types::{Input, Packet};
+use e3_types::{Input, List, NoMemory, Packet};
 use e3_wire::{Wire, WirePass};
 use std::alloc::Global;
 use std::sync::Wait;
@@ -82,28 +82,106 @@ fn give_items<D: Disk + Drill + Drop, R: Wait>(
     Ok(())
 }
 
-// The least packet to a node's site, if its site is up and one is pending to it.
-fn next_packet<D: Disk + Drill + Drop, R: Wait>(
+// How many packets a worker takes for one turn at most.
+fn few_of(packets: u32) -> u32
+    ensures some { 1 ≤ result }
+    ensures most { result ≤ 8 }
+{
+    if packets == 0 || packets > 8 {
+        8
+    } else {
+        packets
+    }
+}
+
+// The first packets to a node's site, so many at most, if its site is up; none only where none is pending to it.
+fn next_packets<D: Disk + Drill + Drop, R: Wait>(
     rt: &R,
+    alloc: Global,
     wire: &Wire,
     pass: &mut WirePass,
     node: &Node<D>,
-) -> Option<Packet>
+    most: u32,
+) -> Result<List<Packet>, NoMemory>
     requires pass { IsPassFor wire.now node.now.site pass.old }
     requires knows { Knows D.content D.image D.meters (seen_by pass.old) node.now }
+    requires some { 1 ≤ most }
+    requires most { most ≤ 8 }
     ensures pass { IsPassFor wire.now node.now.site pass.new }
     ensures worked { HasWorked D.content D.image D.meters (seen_by pass.old) node.now (seen_by pass.new) node.now }
-    ensures some { IfSome result (λ p. IsLeastTo (scenario_seen pass.new) (history_seen pass.new) node.now.site p) }
-    ensures none { result ≡ None → NonePending (seen_by pass.new) node.now.site }
+    ensures some { IfOk result (λ few. few ≢ [] → AreTheFirst (seen_by pass.new) node.now.site few) }
+    ensures none { IfOk result (λ few. few ≡ [] → NonePending (seen_by pass.new) node.now.site) }
 {
     others_leave_nodes::<D>();
     if !node.is_up() {
-        return None;
+        return Ok(List::new(alloc));
     }
-    wire.next_to(rt, pass, node.site())
+    wire.next_few(rt, alloc, pass, node.site(), most)
 }
 
-// Gives packets to a node, the least to its site first, until none is pending to it.
+// Their deliveries.
+fn deliveries(alloc: Global, few: List<Packet>) -> Result<List<Input>, NoMemory>
+    ensures { IfOk result (λ inputs. inputs ≡ map input.Deliver few) }
+{
+    let mut inputs = List::new(alloc);
+    for packet in few.into_vec() {
+        inputs.push(Input::Deliver { packet })?;
+    }
+    Ok(inputs)
+}
+
+// Gives packets to a node that is up: the first to its site, in one batch, while others go on.
+fn give_few<D: Disk + Drill + Drop, R: Wait>(
+    rt: &R,
+    alloc: Global,
+    wire: &Wire,
+    pass: &mut WirePass,
+    node: &mut Node<D>,
+    few: List<Packet>,
+) -> Result<(), RunFault>
+    requires pass { IsPassFor wire.now node.old.site pass.old }
+    requires knows { Knows D.content D.image D.meters (seen_by pass.old) node.old }
+    requires some { few ≢ [] }
+    requires first { AreTheFirst (seen_by pass.old) node.old.site few }
+    requires through { Through (scenario_seen pass.old) (history_seen pass.old) }
+    ensures pass { IsPassFor wire.now node.new.site pass.new }
+    ensures worked { HasWorked D.content D.image D.meters (seen_by pass.old) node.old (seen_by pass.new) node.new }
+{
+    others_leave_nodes::<D>();
+    let inputs = deliveries(alloc, few)?;
+    let answer = node.batch(rt, alloc, wire, pass, inputs);
+    given(answer)
+}
+
+// A turn of work: the first packets to a node, so many at most. It tells whether there were any.
+fn take_few<D: Disk + Drill + Drop, G: Gate, R: Wait>(
+    rt: &R,
+    alloc: Global,
+    wire: &Wire,
+    gate: &G,
+    pass: &mut WirePass,
+    node: &mut Node<D>,
+    most: u32,
+) -> Result<bool, RunFault>
+    requires pass { IsPassFor wire.now node.old.site pass.old }
+    requires knows { Knows D.content D.image D.meters (seen_by pass.old) node.old }
+    requires through { Through (scenario_seen pass.old) (history_seen pass.old) }
+    requires some { 1 ≤ most }
+    requires most { most ≤ 8 }
+    ensures pass { IsPassFor wire.now node.new.site pass.new }
+    ensures worked { HasWorked D.content D.image D.meters (seen_by pass.old) node.old (seen_by pass.new) node.new }
+    ensures done { IfOk result (λ some. some ≡ false → NonePending (seen_by pass.new) node.old.site) }
+{
+    let few = next_packets(rt, alloc, wire, pass, node, most)?;
+    if few.is_empty() {
+        return Ok(false);
+    }
+    gate.enter(node.site());
+    give_few(rt, alloc, wire, pass, node, few)?;
+    Ok(true)
+}
+
+// Gives packets to a node, the first to its site, so many in one turn of work, until none is pending to it.
 fn give_packets<D: Disk + Drill + Drop, G: Gate, R: Wait>(
     rt: &R,
     alloc: Global,
@@ -111,6 +189,7 @@ fn give_packets<D: Disk + Drill + Drop, G: Gate, R: Wait>(
     gate: &G,
     pass: &mut WirePass,
     node: &mut Node<D>,
+    packets: u32,
 ) -> Result<(), RunFault>
     requires pass { IsPassFor wire.now node.old.site pass.old }
     requires knows { Knows D.content D.image D.meters (seen_by pass.old) node.old }
@@ -118,14 +197,12 @@ fn give_packets<D: Disk + Drill + Drop, G: Gate, R: Wait>(
     ensures pass { IsPassFor wire.now node.new.site pass.new }
     ensures worked { HasWorked D.content D.image D.meters (seen_by pass.old) node.old (seen_by pass.new) node.new }
     ensures done { OnOk result (NonePending (seen_by pass.new) node.old.site) }
-    ensures full { result ≡ Err HistoryFull → PacketHadNoRoom (seen_by pass.new) node.old.site }
 {
+    let most = few_of(packets);
     for _ in rt.forever() {
-        let Some(packet) = next_packet(rt, wire, pass, node) else {
+        if !take_few(rt, alloc, wire, gate, pass, node, most)? {
             return Ok(());
-        };
-        gate.enter(node.site());
-        give(rt, alloc, wire, pass, node, Input::Deliver { packet })?;
+        }
     }
     unreachable!()
 }
@@ -152,18 +229,19 @@ pub(crate) fn take_items<D: Disk + Drill + Drop, R: Wait>(
     worker.pass = Some(pass);
 }
 
-/// A worker's turn with packets.
+/// A worker's turn with packets, so many for one turn of work.
 pub(crate) fn take_packets<D: Disk + Drill + Drop, G: Gate, R: Wait>(
     rt: &R,
     alloc: Global,
     wire: &Wire,
     gate: &G,
+    packets: u32,
     worker: &mut Worker<D>,
 )
     requires { CanTakePackets D.content D.image D.meters wire.now worker.old }
     ensures { HasTakenPackets D.content D.image D.meters wire.now worker.old worker.new }
 {
     let mut pass = take_pass(worker, wire);
-    worker.ended = give_packets(rt, alloc, wire, gate, &mut pass, &mut worker.node);
+    worker.ended = give_packets(rt, alloc, wire, gate, &mut pass, &mut worker.node, packets);
     worker.pass = Some(pass);
 }

@@ -1,10 +1,12 @@
 -- Arms, cuts and faults over one more entry.
-use Rattle.std.proofs.Common.{◌≡◌, ◌==◌, ◌||◌, inl, inr, ◌⊎◌, ◌≤◌, ◌+◌, ◌++◌, ◌∷◌, [], ℕ, Bool, true, false, List, length, min, refl, sym, ap, ◌∙◌, arith}
+use Rattle.std.proofs.Common.{◌≡◌, ◌==◌, ◌||◌, inl, inr, ◌⊎◌, ◌≤◌, ◌+◌, ◌*◌, ◌++◌, ◌∷◌, [], ℕ, Bool, true, false, List, length, min, refl, sym, ap, ◌∙◌, arith}
 use Rattle.std.specs.Prelude.{count_by, if◌then◌else◌}
 use Rattle.std.proofs.lemmas.Grind.{flat_map-append}
 use Rattle.std.proofs.lemmas.List.Sums.{sum_by-append}
 use Rattle.e3_disk.specs.Meters.{LAST, raised}
-use Rattle.e3_fleet.specs.Stops.{Arm, arm_by, arms_of, calls_in, codes_in, ends_arm, is_over, takes_of, used_by}
+use Rattle.e3_fleet.specs.Stops.{Arm, PayFor, arm_by, arms_of, calls_in, calls_of, codes_in, counted_by, ends_arm, is_over, part_of, rises_of, steps_of, takes_of}
+use Rattle.e3_types.specs.declared.entries.Act.{Act}
+use Rattle.e3_types.specs.declared.entries.Act.TheVariants.{Step, Fall, Rise, RiseFall, Miss, Cut, Drop, Parts, Line}
 use Rattle.e3_types.specs.declared.entries.Entry.{Entry}
 use Rattle.e3_types.specs.declared.scenarios.Scenario.{Scenario}
 use Rattle.e3_world.specs.Moves.{own}
@@ -124,37 +126,101 @@ at_place {X} (y ∷ xs) (b ∷ before) after x last is =
     by (inl k) same = let front : before ≡ xs = k.front in inl (record { front = cc; this = k.this; rest = k.rest })
     by (inr k) same = let parts : xs ≡ before ++ x ∷ k.rest = k.parts in inr (record { rest = k.rest; parts = cc; more = k.more })
 
--- what is taken of an arm, with one more entry: all the same once it is over
-pub used_over : (sc : Scenario) (site : ℕ) (es : List Entry) (x : Entry) → is_over sc site es ≡ true → used_by sc site (es ++ x ∷ []) ≡ used_by sc site es
-used_over sc site [] x over = absurd cc
-used_over sc site (e ∷ es) x over = by (λ rest. used_over sc site es x rest) (ends_arm sc site e) refl
+-- what is counted, with one more entry: all the same once the arm is over
+counted_over : (f : Act → ℕ) (sc : Scenario) (site : ℕ) (es : List Entry) (x : Entry) → is_over sc site es ≡ true → counted_by f sc site (es ++ x ∷ []) ≡ counted_by f sc site es
+counted_over f sc site [] x over = absurd cc
+counted_over f sc site (e ∷ es) x over = by (λ rest. counted_over f sc site es x rest) (ends_arm sc site e) refl
   where
-    by : (is_over sc site es ≡ true → used_by sc site (es ++ x ∷ []) ≡ used_by sc site es) → (b : Bool) → ends_arm sc site e ≡ b → used_by sc site ((e ∷ es) ++ x ∷ []) ≡ used_by sc site (e ∷ es)
+    by : (is_over sc site es ≡ true → counted_by f sc site (es ++ x ∷ []) ≡ counted_by f sc site es) → (b : Bool) → ends_arm sc site e ≡ b →
+        counted_by f sc site ((e ∷ es) ++ x ∷ []) ≡ counted_by f sc site (e ∷ es)
     by next true is = rw is refl
     by next false is = let rest : is_over sc site es ≡ true = sym (let same : is_over sc site (e ∷ es) ≡ is_over sc site es = rw is refl in same) ∙ over in
-        let more = next rest in rw is (ap (λ n. takes_of site e + n) more)
+        let more = next rest in rw is (ap (λ n. part_of f site e + n) more)
 
--- an entry that ends it takes nothing, and another takes its own
-pub used_end : (sc : Scenario) (site : ℕ) (es : List Entry) (x : Entry) → ends_arm sc site x ≡ true → used_by sc site (es ++ x ∷ []) ≡ used_by sc site es
-used_end sc site [] x ends = rw ends refl
-used_end sc site (e ∷ es) x ends = by (used_end sc site es x ends) (ends_arm sc site e) refl
+-- an entry that ends it counts nothing, and another its own
+counted_end : (f : Act → ℕ) (sc : Scenario) (site : ℕ) (es : List Entry) (x : Entry) → ends_arm sc site x ≡ true → counted_by f sc site (es ++ x ∷ []) ≡ counted_by f sc site es
+counted_end f sc site [] x ends = rw ends refl
+counted_end f sc site (e ∷ es) x ends = by (counted_end f sc site es x ends) (ends_arm sc site e) refl
   where
-    by : used_by sc site (es ++ x ∷ []) ≡ used_by sc site es → (b : Bool) → ends_arm sc site e ≡ b → used_by sc site ((e ∷ es) ++ x ∷ []) ≡ used_by sc site (e ∷ es)
+    by : counted_by f sc site (es ++ x ∷ []) ≡ counted_by f sc site es → (b : Bool) → ends_arm sc site e ≡ b → counted_by f sc site ((e ∷ es) ++ x ∷ []) ≡ counted_by f sc site (e ∷ es)
     by more true is = rw is refl
-    by more false is = rw is (ap (λ n. takes_of site e + n) more)
+    by more false is = rw is (ap (λ n. part_of f site e + n) more)
 
-pub used_more : (sc : Scenario) (site : ℕ) (es : List Entry) (x : Entry) → is_over sc site es ≡ false → ends_arm sc site x ≡ false →
-    used_by sc site (es ++ x ∷ []) ≡ used_by sc site es + takes_of site x
-used_more sc site [] x over goes = rw goes (let n = takes_of site x in omega arith)
-used_more sc site (e ∷ es) x over goes = by (λ rest. used_more sc site es x rest goes) (ends_arm sc site e) refl
+counted_more : (f : Act → ℕ) (sc : Scenario) (site : ℕ) (es : List Entry) (x : Entry) → is_over sc site es ≡ false → ends_arm sc site x ≡ false →
+    counted_by f sc site (es ++ x ∷ []) ≡ counted_by f sc site es + part_of f site x
+counted_more f sc site [] x over goes = rw goes (let n = part_of f site x in omega arith)
+counted_more f sc site (e ∷ es) x over goes = by (λ rest. counted_more f sc site es x rest goes) (ends_arm sc site e) refl
   where
-    by : (is_over sc site es ≡ false → used_by sc site (es ++ x ∷ []) ≡ used_by sc site es + takes_of site x) → (b : Bool) → ends_arm sc site e ≡ b → used_by sc site ((e ∷ es) ++ x ∷ []) ≡ used_by sc site (e ∷ es) + takes_of site x
+    by : (is_over sc site es ≡ false → counted_by f sc site (es ++ x ∷ []) ≡ counted_by f sc site es + part_of f site x) → (b : Bool) → ends_arm sc site e ≡ b →
+        counted_by f sc site ((e ∷ es) ++ x ∷ []) ≡ counted_by f sc site (e ∷ es) + part_of f site x
     by next true is = absurd (true_not_false (sym (let same : is_over sc site (e ∷ es) ≡ true = rw is refl in same) ∙ over))
     by next false is = let rest : is_over sc site es ≡ false = sym (let same : is_over sc site (e ∷ es) ≡ is_over sc site es = rw is refl in same) ∙ over in
-        let more : used_by sc site (es ++ x ∷ []) ≡ used_by sc site es + takes_of site x = next rest in
-        let one : used_by sc site ((e ∷ es) ++ x ∷ []) ≡ takes_of site e + used_by sc site (es ++ x ∷ []) = rw is refl in
-        let two : used_by sc site (e ∷ es) ≡ takes_of site e + used_by sc site es = rw is refl in
+        let more : counted_by f sc site (es ++ x ∷ []) ≡ counted_by f sc site es + part_of f site x = next rest in
+        let one : counted_by f sc site ((e ∷ es) ++ x ∷ []) ≡ part_of f site e + counted_by f sc site (es ++ x ∷ []) = rw is refl in
+        let two : counted_by f sc site (e ∷ es) ≡ part_of f site e + counted_by f sc site es = rw is refl in
         omega (arith, more, one, two)
+
+-- so with what pays for them
+pub pay_over : (spare : ℕ) (sc : Scenario) (site : ℕ) (es : List Entry) (x : Entry) (calls : ℕ) → is_over sc site es ≡ true → PayFor spare sc site es calls →
+    PayFor spare sc site (es ++ x ∷ []) calls
+pay_over spare sc site es x calls over (frames, steps, all) =
+    let same_steps = counted_over steps_of sc site es x over in
+    let same_rises = counted_over rises_of sc site es x over in
+    (frames, omega (arith, steps, same_steps), omega (arith, all, same_rises))
+
+pub pay_end : (spare : ℕ) (sc : Scenario) (site : ℕ) (es : List Entry) (x : Entry) (calls : ℕ) → ends_arm sc site x ≡ true → PayFor spare sc site es calls →
+    PayFor spare sc site (es ++ x ∷ []) calls
+pay_end spare sc site es x calls ends (frames, steps, all) =
+    let same_steps = counted_end steps_of sc site es x ends in
+    let same_rises = counted_end rises_of sc site es x ends in
+    (frames, omega (arith, steps, same_steps), omega (arith, all, same_rises))
+
+-- What one more entry costs: a frame for its step, or room in the frame of those before it.
+pub record Costs (spare left : ℕ) (site : ℕ) (x : Entry) (calls : ℕ) : Type 0 where
+  pub frames : ℕ
+  pub steps : part_of steps_of site x + left ≤ 8 * frames + spare
+  pub all : 4 * frames + 5 * part_of rises_of site x ≤ calls
+
+pub pay_more : (spare left : ℕ) (sc : Scenario) (site : ℕ) (es : List Entry) (x : Entry) (calls cost : ℕ) → is_over sc site es ≡ false → ends_arm sc site x ≡ false →
+    Costs spare left site x cost → PayFor spare sc site es calls → PayFor left sc site (es ++ x ∷ []) (calls + cost)
+pay_more spare left sc site es x calls cost opens goes one (frames, steps, all) =
+    let more_steps = counted_more steps_of sc site es x opens goes in
+    let more_rises = counted_more rises_of sc site es x opens goes in
+    let step = one.steps in
+    let cost_is = one.all in
+    (frames + one.frames, omega (arith, steps, step, more_steps), omega (arith, all, cost_is, more_rises))
+
+-- room in a frame need not be used
+pub pay_less : (spare : ℕ) (sc : Scenario) (site : ℕ) (es : List Entry) (calls : ℕ) → PayFor spare sc site es calls → PayFor 0 sc site es calls
+pay_less spare sc site es calls (frames, steps, all) = (frames, omega (arith, steps), all)
+
+-- an entry by itself: what it takes pays for a frame of its own
+pub costs_own : (site : ℕ) (x : Entry) → Costs 0 0 site x (takes_of site x)
+costs_own site x = by (x.owner == site) refl
+  where
+    acts : (act : Act) → 4 * steps_of act + 5 * rises_of act ≤ calls_of act
+    acts (Step i [] outs events) = omega arith
+    acts (Step i (r ∷ rs) outs events) = omega arith
+    acts (Fall inputs records why) = omega arith
+    acts (Rise kept inc) = omega arith
+    acts (RiseFall kept inc why) = omega arith
+    acts Miss = omega arith
+    acts Cut = omega arith
+    acts (Drop packet) = omega arith
+    acts (Parts parts) = omega arith
+    acts (Line number) = omega arith
+
+    by : (b : Bool) → (x.owner == site) ≡ b → Costs 0 0 site x (takes_of site x)
+    by true is =
+        let s : part_of steps_of site x ≡ steps_of x.act = rw is refl in
+        let r : part_of rises_of site x ≡ rises_of x.act = rw is refl in
+        let t : takes_of site x ≡ calls_of x.act = rw is refl in
+        let low : 4 * steps_of x.act + 5 * rises_of x.act ≤ calls_of x.act = acts x.act in
+        record { frames = part_of steps_of site x; steps = omega arith; all = omega (arith, s, r, t, low) }
+    by false is =
+        let s : part_of steps_of site x ≡ 0 = rw is refl in
+        let r : part_of rises_of site x ≡ 0 = rw is refl in
+        record { frames = 0; steps = omega (arith, s); all = omega (arith, r) }
 
 -- it is over where it was, or where the entry ends it
 pub over_push : (sc : Scenario) (site : ℕ) (es : List Entry) (x : Entry) → is_over sc site (es ++ x ∷ []) ≡ false →

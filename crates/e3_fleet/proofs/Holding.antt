@@ -1,5 +1,5 @@
 -- What the driver took of the wire, and the nodes of workers by their places.
-use Rattle.std.proofs.Common.{◌≡◌, ◌<◌, ◌≤◌, ◌+◌, ◌++◌, ◌∷◌, [], ℕ, zero, suc, true, false, List, length, Some, refl, sym, ap, subst, ◌∙◌, append-nil, arith, take, drop}
+use Rattle.std.proofs.Common.{◌≡◌, ◌<◌, ◌+◌, ◌++◌, ◌∷◌, [], ℕ, zero, suc, true, false, List, length, Some, refl, sym, ap, subst, ◌∙◌, append-nil, arith, take, drop}
 use Rattle.std.specs.Prelude.{All, slice_get, slice_index_or, slice_set, option_map}
 use Rattle.std.proofs.lemmas.List.Elements.{All-head}
 use Rattle.std.proofs.lemmas.Option.{slice_get-get_or, slice_get-map}
@@ -14,7 +14,7 @@ use Rattle.e3_node.proofs.Sharing.{no_growth}
 use Rattle.e3_play.specs.Settled.{is_asking}
 use Rattle.e3_play.proofs.Open.{asking_is_no_recovery}
 use Rattle.e3_turn.specs.Chronicles.{count_of, down_from, IsForeign}
-use Rattle.e3_turn.specs.Passes.{GrewByOthers, GrewByOwners, HasTurn, IsIdle, Owns, OwnsAll, SameOwners, last_of, owners_of, seen_by}
+use Rattle.e3_turn.specs.Passes.{GrewByOthers, GrewByOwners, HasTurn, IsIdle, OwnsAll, SameOwners, last_of, owners_of, seen_by}
 use Rattle.e3_turn.proofs.Totals.{count_of_below}
 use Rattle.e3_types.specs.declared.scenarios.Scenario.{Scenario}
 use Rattle.e3_wire.specs.Claims.{APass, HasOwner, HaveGrown}

@@ -1,10 +1,10 @@
 -- What the numbers of a disk came to, over one more entry.
 use Rattle.std.proofs.Common.{◌≡◌, ◌≢◌, ◌==◌, inl, inr, ◌⊎◌, ◌≤◌, ◌<◌, ◌+◌, ◌++◌, ◌∷◌, [], ℕ, suc, Bool, true, false, List, length, refl, sym, ap, subst, ◌∙◌, arith, eqb-true, eq-eqb}
-use Rattle.e3_disk.specs.Meters.{Meters, LAST, IsCounted, Rose, raised}
+use Rattle.e3_disk.specs.Meters.{Meters, LAST, IsCounted, HasFailed, raised}
 use Rattle.e3_fleet.specs.Over.{HasServed, RoseBy, faults_at, is_fault}
-use Rattle.e3_fleet.specs.Stops.{Arm, arm_by, arms_of, calls_in, codes_in, cuts_at, ends_arm, is_cut, is_over, takes_of, used_by}
-use Rattle.e3_fleet.specs.Fleets.{HasKept}
-use Rattle.e3_fleet.proofs.Arming.{IsAll, IsBefore, IsLast, IsPart, at_place, calls_push, codes_push, counted_if, in_two, length_push, over_push, own_push, raised_more, raised_none, used_end, used_more, used_over}
+use Rattle.e3_fleet.specs.Stops.{Arm, PayFor, arm_by, arms_of, calls_in, codes_in, cuts_at, ends_arm, is_cut, is_over, takes_of}
+use Rattle.e3_fleet.specs.Fleets.{HasKept, HasKeptWith}
+use Rattle.e3_fleet.proofs.Arming.{Costs, IsAll, IsBefore, IsLast, IsPart, at_place, calls_push, codes_push, counted_if, in_two, length_push, costs_own, over_push, own_push, pay_end, pay_less, pay_more, pay_over, raised_more, raised_none}
 use Rattle.e3_types.specs.declared.entries.Entry.{Entry}
 use Rattle.e3_types.specs.declared.scenarios.Scenario.{Scenario}
 use Rattle.e3_world.proofs.Turns.{true_not_false}
@@ -29,7 +29,7 @@ pub record Goes (x y : Meters) : Type 0 where
 -- how the numbers of a site's disk go with one more entry
 pub record GoesWith (sc : Scenario) (site : ℕ) (e : Entry) (x y : Meters) : Type 0 where
   pub goes : Goes x y
-  pub rose : counted_if is_fault site e ≡ 0 ⊎ ((counted_if is_fault site e ≡ 1) × Rose x.faults y.faults)
+  pub rose : counted_if is_fault site e ≡ 0 ⊎ ((counted_if is_fault site e ≡ 1) × HasFailed x.faults y.faults)
   pub stops : y.stops < LAST → StopsGo (length (arm_by sc site e)) x y
   pub arms : y.arms ≡ raised x.arms (length (arm_by sc site e))
   pub calls : y.calls ≡ raised x.calls (calls_in (arm_by sc site e))
@@ -37,6 +37,36 @@ pub record GoesWith (sc : Scenario) (site : ℕ) (e : Entry) (x y : Meters) : Ty
   pub cuts : y.cuts ≡ raised x.cuts (counted_if is_cut site e)
   pub waits : ends_arm sc site e ≡ false → Took (takes_of site e) x y
   pub starts : (arm : Arm) → arm_by sc site e ≡ arm ∷ [] → (0 < y.calls_left) × (y.calls_left ≤ arm.calls)
+
+-- an arm that waits pays for one more entry
+abbrev pub Pays : ℕ → ℕ → ℕ → Entry → Meters → Meters → Type 0
+Pays spare left site e x y = (cost : ℕ) × Costs spare left site e cost × Took cost x y
+
+-- How they go with one more step of a batch: it may have room in the frame of those before it, and leave room for those behind
+-- it. Of an entry by itself neither is so.
+pub record GoesInBatch (spare left : ℕ) (sc : Scenario) (site : ℕ) (e : Entry) (x y : Meters) : Type 0 where
+  pub goes : Goes x y
+  pub rose : counted_if is_fault site e ≡ 0 ⊎ ((counted_if is_fault site e ≡ 1) × HasFailed x.faults y.faults)
+  pub stops : y.stops < LAST → StopsGo (length (arm_by sc site e)) x y
+  pub arms : y.arms ≡ raised x.arms (length (arm_by sc site e))
+  pub calls : y.calls ≡ raised x.calls (calls_in (arm_by sc site e))
+  pub codes : y.codes ≡ raised x.codes (codes_in (arm_by sc site e))
+  pub cuts : y.cuts ≡ raised x.cuts (counted_if is_cut site e)
+  pub waits : ends_arm sc site e ≡ false → Pays spare left site e x y
+  pub starts : (arm : Arm) → arm_by sc site e ≡ arm ∷ [] → (left ≡ 0) × (0 < y.calls_left) × (y.calls_left ≤ arm.calls)
+
+pub by_itself : (sc : Scenario) (site : ℕ) (e : Entry) (x y : Meters) → GoesWith sc site e x y → GoesInBatch 0 0 sc site e x y
+by_itself sc site e x y g = record {
+  goes = g.goes;
+  rose = g.rose;
+  stops = g.stops;
+  arms = g.arms;
+  calls = g.calls;
+  codes = g.codes;
+  cuts = g.cuts;
+  waits = λ not_end. (takes_of site e, costs_own site e, g.waits not_end);
+  starts = λ arm asks. (let s = g.starts arm asks in (refl, s.0, s.1));
+}
 
 -- and without one
 pub record GoesOn (x y : Meters) : Type 0 where
@@ -53,7 +83,7 @@ raise : (o x y n k m : ℕ) → x ≡ raised o n → y ≡ raised x k → m ≡ 
 raise o x y n k m was is all = is ∙ ap (λ z. raised z k) was ∙ raised_more o n k ∙ ap (λ z. raised o z) (sym all)
 
 -- the faults
-rises_on : (o x y n k m : ℕ) → y ≤ LAST → x ≤ y → RoseBy n o x → (k ≡ 0) ⊎ ((k ≡ 1) × Rose x y) → m ≡ n + k → RoseBy m o y
+rises_on : (o x y n k m : ℕ) → y ≤ LAST → x ≤ y → RoseBy n o x → (k ≡ 0) ⊎ ((k ≡ 1) × HasFailed x y) → m ≡ n + k → RoseBy m o y
 rises_on o x y n k m counted up (inr last) rose all = inr (omega (arith, last, counted, up))
 rises_on o x y n k m counted up (inl low) (inl none) all = inl (omega (arith, low, none, all, up))
 rises_on o x y n k m counted up (inl low) (inr rose) all = by (y == LAST) refl
@@ -110,7 +140,7 @@ kept_on sc h site o x y counted goes was = record {
   };
   spent = λ few. (stops few).0;
   left = λ few armed. (stops few).1 armed;
-  waits = λ before after e arm is asks goes_on. wait (used_by sc site after) arm.calls (was.waits before after e arm is asks goes_on);
+  waits = λ before after e arm is asks goes_on. wait after arm.calls (was.waits before after e arm is asks goes_on);
 }
   where
     n : ℕ
@@ -120,13 +150,14 @@ kept_on sc h site o x y counted goes was = record {
     stops few = let rises : x.stops ≤ y.stops = goes.goes.rises in let low : x.stops < LAST = omega (arith, rises, few) in
         stops_on n 0 n o.stops x y (omega arith) (goes.stops few) (was.spent low) (was.left low)
 
-    wait : (u k : ℕ) → (0 < x.calls_left) × (u + x.calls_left ≤ k) → (0 < y.calls_left) × (u + y.calls_left ≤ k)
-    wait u k w = let took = goes.waits w.0 in let less = took.1 in let low = w.1 in (took.0, omega (arith, less, low))
+    wait : (after : List Entry) (k : ℕ) → (0 < x.calls_left) × ((calls : ℕ) × PayFor 0 sc site after calls × (calls + x.calls_left ≤ k)) →
+        (0 < y.calls_left) × ((calls : ℕ) × PayFor 0 sc site after calls × (calls + y.calls_left ≤ k))
+    wait after k (some, (calls, paid, low)) = let took = goes.waits some in let less = took.1 in (took.0, (calls, paid, omega (arith, less, low)))
 
 -- one more entry
-pub kept_more : (sc : Scenario) (h : List Entry) (e : Entry) (site : ℕ) (o x y : Meters) → IsCounted y → GoesWith sc site e x y →
-    HasKept sc h site o x → HasKept sc (h ++ e ∷ []) site o y
-kept_more sc h e site o x y counted goes was = record {
+pub kept_in : (spare left : ℕ) (sc : Scenario) (h : List Entry) (e : Entry) (site : ℕ) (o x y : Meters) → IsCounted y → GoesInBatch spare left sc site e x y →
+    HasKeptWith spare sc h site o x → HasKeptWith left sc (h ++ e ∷ []) site o y
+kept_in spare left sc h e site o x y counted goes was = record {
   served = record {
     faults = faults;
     grows = let one : o.faults ≤ x.faults = was.served.grows in let two : x.faults ≤ y.faults = goes.goes.grows in omega (arith, one, two);
@@ -164,42 +195,51 @@ kept_more sc h e site o x y counted goes was = record {
         (λ faults stops. was.served.fell before part.rest part.parts faults stops)
 
     -- what waited has been taken from, or is over now
-    go : (rest : List Entry) (arm : Arm) → (0 < x.calls_left) × (used_by sc site rest + x.calls_left ≤ arm.calls) → is_over sc site rest ≡ false → ends_arm sc site e ≡ false →
-        (0 < y.calls_left) × (used_by sc site (rest ++ e ∷ []) + y.calls_left ≤ arm.calls)
-    go rest arm w opens not_end =
-        let took = goes.waits not_end w.0 in let less : y.calls_left + takes_of site e ≤ x.calls_left = took.1 in
-        let low : used_by sc site rest + x.calls_left ≤ arm.calls = w.1 in
-        let used : used_by sc site (rest ++ e ∷ []) ≡ used_by sc site rest + takes_of site e = used_more sc site rest e opens not_end in
-        (took.0, omega (arith, less, low, used))
+    go : (rest : List Entry) (arm : Arm) → (0 < x.calls_left) × ((calls : ℕ) × PayFor spare sc site rest calls × (calls + x.calls_left ≤ arm.calls)) →
+        is_over sc site rest ≡ false → ends_arm sc site e ≡ false →
+        (0 < y.calls_left) × ((calls : ℕ) × PayFor left sc site (rest ++ e ∷ []) calls × (calls + y.calls_left ≤ arm.calls))
+    go rest arm (some, (calls, paid, low)) opens not_end =
+        let pays = goes.waits not_end in
+        let took = pays.2 some in let less : y.calls_left + pays.0 ≤ x.calls_left = took.1 in
+        (took.0, (calls + pays.0, pay_more spare left sc site rest e calls pays.0 opens not_end pays.1 paid, omega (arith, less, low)))
 
     waits : (before after : List Entry) (d : Entry) (arm : Arm) → arm_by sc site d ≡ arm ∷ [] → is_over sc site after ≡ false →
-        IsLast h before after d e ⊎ IsBefore h before after d e → (0 < y.calls_left) × (used_by sc site after + y.calls_left ≤ arm.calls)
+        IsLast h before after d e ⊎ IsBefore h before after d e →
+        (0 < y.calls_left) × ((calls : ℕ) × PayFor left sc site after calls × (calls + y.calls_left ≤ arm.calls))
     waits before after d arm asks opens (inl k) =
-        let starts = goes.starts arm (subst (λ (z : Entry). arm_by sc site z ≡ arm ∷ []) k.this asks) in
-        (let low = starts.1 in (starts.0, subst (λ (a : List Entry). used_by sc site a + y.calls_left ≤ arm.calls) (sym k.rest) (omega (arith, low))))
+        let starts = goes.starts arm (subst (λ (z : Entry). arm_by sc site z ≡ arm ∷ []) k.this asks) in let zero = starts.0 in let low = starts.2 in
+        subst (λ (a : List Entry). (0 < y.calls_left) × ((calls : ℕ) × PayFor left sc site a calls × (calls + y.calls_left ≤ arm.calls))) (sym k.rest)
+        (starts.1, (0, (0, omega (arith, zero), omega arith), omega (arith, low)))
     waits before after d arm asks opens (inr k) =
         let parts = over_push sc site k.rest e (subst (λ (a : List Entry). is_over sc site a ≡ false) k.more opens) in
-        subst (λ (a : List Entry). (0 < y.calls_left) × (used_by sc site a + y.calls_left ≤ arm.calls)) (sym k.more)
+        subst (λ (a : List Entry). (0 < y.calls_left) × ((calls : ℕ) × PayFor left sc site a calls × (calls + y.calls_left ≤ arm.calls))) (sym k.more)
         (go k.rest arm (was.waits before k.rest d arm k.parts asks parts.0) parts.0 parts.1)
 
     stopped : (before after : List Entry) (d : Entry) (arm : Arm) → arm_by sc site d ≡ arm ∷ [] →
-        IsLast h before after d e ⊎ IsBefore h before after d e → used_by sc site after < arm.calls
+        IsLast h before after d e ⊎ IsBefore h before after d e → (calls : ℕ) × PayFor 0 sc site after calls × (calls < arm.calls)
     stopped before after d arm asks (inl k) =
-        let starts = goes.starts arm (subst (λ (z : Entry). arm_by sc site z ≡ arm ∷ []) k.this asks) in let some = starts.0 in let low = starts.1 in
-        subst (λ (a : List Entry). used_by sc site a < arm.calls) (sym k.rest) (omega (arith, some, low))
+        let starts = goes.starts arm (subst (λ (z : Entry). arm_by sc site z ≡ arm ∷ []) k.this asks) in let some = starts.1 in let low = starts.2 in
+        subst (λ (a : List Entry). (calls : ℕ) × PayFor 0 sc site a calls × (calls < arm.calls)) (sym k.rest) (0, (0, omega arith, omega arith), omega (arith, some, low))
     stopped before after d arm asks (inr k) =
-        subst (λ (a : List Entry). used_by sc site a < arm.calls) (sym k.more) (by (is_over sc site k.rest) refl)
+        subst (λ (a : List Entry). (calls : ℕ) × PayFor 0 sc site a calls × (calls < arm.calls)) (sym k.more) (by (is_over sc site k.rest) refl)
       where
-        old : used_by sc site k.rest < arm.calls
+        old : (calls : ℕ) × PayFor 0 sc site k.rest calls × (calls < arm.calls)
         old = was.served.stopped before k.rest d arm k.parts asks
 
-        by : (b : Bool) → is_over sc site k.rest ≡ b → used_by sc site (k.rest ++ e ∷ []) < arm.calls
-        by true over = let same = used_over sc site k.rest e over in omega (arith, same, old)
+        by : (b : Bool) → is_over sc site k.rest ≡ b → (calls : ℕ) × PayFor 0 sc site (k.rest ++ e ∷ []) calls × (calls < arm.calls)
+        by true over = (old.0, pay_over 0 sc site k.rest e old.0 over old.1, old.2)
         by false opens = end (ends_arm sc site e) refl
           where
-            end : (b : Bool) → ends_arm sc site e ≡ b → used_by sc site (k.rest ++ e ∷ []) < arm.calls
-            end true is = let same = used_end sc site k.rest e is in omega (arith, same, old)
-            end false is = let w = go k.rest arm (was.waits before k.rest d arm k.parts asks opens) opens is in let some = w.0 in let low = w.1 in omega (arith, some, low)
+            end : (b : Bool) → ends_arm sc site e ≡ b → (calls : ℕ) × PayFor 0 sc site (k.rest ++ e ∷ []) calls × (calls < arm.calls)
+            end true is = (old.0, pay_end 0 sc site k.rest e old.0 is old.1, old.2)
+            end false is =
+                let w = go k.rest arm (was.waits before k.rest d arm k.parts asks opens) opens is in let some = w.0 in let low = w.1.2 in
+                (w.1.0, pay_less left sc site (k.rest ++ e ∷ []) w.1.0 w.1.1, omega (arith, some, low))
+
+-- one more entry by itself
+pub kept_more : (sc : Scenario) (h : List Entry) (e : Entry) (site : ℕ) (o x y : Meters) → IsCounted y → GoesWith sc site e x y →
+    HasKept sc h site o x → HasKept sc (h ++ e ∷ []) site o y
+kept_more sc h e site o x y counted goes was = kept_in 0 0 sc h e site o x y counted (by_itself sc site e x y goes) was
 
 no_place : {X : Type 0} (before after : List X) (x : X) → [] ≡ before ++ x ∷ after → ⊥
 no_place [] after x is = absurd cc
@@ -229,4 +269,14 @@ kept_start sc site m counted unarmed = record {
   spent = λ few. omega arith;
   left = λ few armed. absurd (omega (arith, unarmed, armed));
   waits = λ before after e arm is asks opens. absurd (no_place before after e is);
+}
+
+-- a batch is through: the room in its frame is left
+pub kept_through : (spare : ℕ) (sc : Scenario) (h : List Entry) (site : ℕ) (o x : Meters) → HasKeptWith spare sc h site o x → HasKept sc h site o x
+kept_through spare sc h site o x was = record {
+  served = was.served;
+  spent = was.spent;
+  left = was.left;
+  waits = λ before after e arm is asks opens.
+      (let w = was.waits before after e arm is asks opens in (w.0, (w.1.0, pay_less spare sc site after w.1.0 w.1.1, w.1.2)));
 }

@@ -10,4 +10,5 @@ pub mod Ending
 pub mod Seats
 pub mod Driven
 pub mod Holding
+pub mod Together
 pub mod Working

@@ -2,7 +2,7 @@
 use Rattle.std.proofs.Common.{◌≡◌, inl, inr, ◌≤◌, ◌++◌, ◌∷◌, [], ℕ, suc, true, false, List, Ok, Err, Result, refl, sym, ap, subst, ◌∙◌, arith}
 use Rattle.std.specs.Prelude.{OnOk, OnErr, IfOk}
 use Rattle.e3_disk.specs.Leaves.{code_of}
-use Rattle.e3_disk.specs.Meters.{Meters, IsCounted, Keeps, Rose, armed, cut}
+use Rattle.e3_disk.specs.Meters.{Meters, IsCounted, Keeps, HasFailed, armed, cut}
 use Rattle.e3_fleet.specs.Over.{HadNoRoom, is_fault}
 use Rattle.e3_fleet.specs.Fleets.{cut_answer, input_answer, rise_answer}
 use Rattle.e3_fleet.specs.Stops.{arm_by, calls_of, is_cut, is_end}
@@ -38,7 +38,7 @@ use Rattle.e3_world.proofs.Turns.{true_not_false}
 own_next : (sc : Scenario) (h more : List Entry) (site : ℕ) (act : Act) (old new : Meters) → IsCounted old → Keeps old new →
     more ≡ h ++ record { owner = site; act = act } ∷ [] →
     ((k : ℕ) → arm_by sc k (record { owner = site; act = act }) ≡ []) → is_cut (record { owner = site; act = act }) ≡ false →
-    (is_fault (record { owner = site; act = act }) ≡ true → Rose old.faults new.faults) → (is_end act ≡ false → Took (calls_of act) old new) →
+    (is_fault (record { owner = site; act = act }) ≡ true → HasFailed old.faults new.faults) → (is_end act ≡ false → Took (calls_of act) old new) →
     HadNoRoom sc h site old.capacity act → Went sc h more site old new
 own_next sc h more site act old new counted keeps entered none no_cut rose took room = inr (record {
   e = record { owner = site; act = act };
@@ -61,7 +61,7 @@ pub rise_went : (sc : Scenario) (h more : List Entry) (site : ℕ) (old new : Me
     IfOk answer (λ inc. HasRisen sc h site inc more image) → OnOk answer (Took 5 old new) →
     ((why : Why) → answer ≡ Err (rise_fault.Failed why) → HasFailedToRise sc h site why more old new image) →
     (answer ≡ Err rise_fault.Missed → more ≡ h ++ record { owner = site; act = Miss } ∷ []) →
-    (answer ≡ Err rise_fault.Missed → Rose old.faults new.faults) →
+    (answer ≡ Err rise_fault.Missed → HasFailed old.faults new.faults) →
     (answer ≡ Err rise_fault.NoMemory → (more ≡ h) × Took 0 old new) →
     (answer ≡ Err rise_fault.HistoryFull → (more ≡ h) × (new ≡ old)) →
     (answer ≡ Err rise_fault.Up → (more ≡ h) × (new ≡ old)) → Went sc h more site old new

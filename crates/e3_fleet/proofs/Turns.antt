@@ -1,11 +1,11 @@
 -- How the numbers of a disk go with each kind of entry.
 use Rattle.std.proofs.Common.{◌≡◌, ◌≢◌, ◌==◌, ◌&&◌, ◌||◌, inl, inr, ◌⊎◌, ◌≤◌, ◌<◌, ◌+◌, ◌∷◌, [], ℕ, suc, Bool, true, false, List, length, refl, sym, ap, subst, ◌∙◌, arith, min, eqb-true, eq-eqb}
 use Rattle.e3_disk.specs.Leaves.{code_of}
-use Rattle.e3_disk.specs.Meters.{Meters, LAST, IsCounted, Keeps, Rose, armed, cut, raised}
+use Rattle.e3_disk.specs.Meters.{Meters, LAST, IsCounted, Keeps, HasFailed, armed, cut, raised}
 use Rattle.e3_fleet.specs.Over.{is_fault}
 use Rattle.e3_fleet.specs.Stops.{Arm, arm_by, arm_in, calls_in, calls_of, codes_in, ends_arm, is_cut, is_end, is_some, takes_of}
 use Rattle.e3_fleet.proofs.Arming.{counted_if, one_if, raised_none}
-use Rattle.e3_fleet.proofs.Kept.{Goes, GoesOn, GoesWith, StopsGo, Took}
+use Rattle.e3_fleet.proofs.Kept.{Goes, GoesInBatch, GoesOn, GoesWith, Pays, StopsGo, Took}
 use Rattle.e3_types.specs.declared.entries.Act.TheVariants.{Cut, Line}
 use Rattle.e3_types.specs.declared.entries.Entry.{Entry}
 use Rattle.e3_types.specs.declared.scenarios.Item.{Item}
@@ -118,7 +118,7 @@ goes_other sc site e m counted other none = record {
 
 -- an entry of the site's own that is neither a line nor a cut, with the calls of its disk
 pub goes_own : (sc : Scenario) (site : ℕ) (e : Entry) (x y : Meters) → IsCounted x → e.owner ≡ site → arm_by sc site e ≡ [] → is_cut e ≡ false →
-    Keeps x y → (is_fault e ≡ true → Rose x.faults y.faults) → (is_end e.act ≡ false → Took (calls_of e.act) x y) → GoesWith sc site e x y
+    Keeps x y → (is_fault e ≡ true → HasFailed x.faults y.faults) → (is_end e.act ≡ false → Took (calls_of e.act) x y) → GoesWith sc site e x y
 goes_own sc site e x y counted owner none no_cut keeps rose took = record {
   goes = keeps_goes x y counted keeps;
   rose = by (is_fault e) refl;
@@ -140,7 +140,7 @@ goes_own sc site e x y counted owner none no_cut keeps rose took = record {
     takes : takes_of site e ≡ calls_of e.act
     takes = rw mine refl
 
-    by : (b : Bool) → is_fault e ≡ b → (counted_if is_fault site e ≡ 0) ⊎ ((counted_if is_fault site e ≡ 1) × Rose x.faults y.faults)
+    by : (b : Bool) → is_fault e ≡ b → (counted_if is_fault site e ≡ 0) ⊎ ((counted_if is_fault site e ≡ 1) × HasFailed x.faults y.faults)
     by true is = inr (counts is_fault ∙ ap one_if is, rose is)
     by false is = inl (counts is_fault ∙ ap one_if is)
 
@@ -150,6 +150,27 @@ goes_own sc site e x y counted owner none no_cut keeps rose took = record {
         at : (b : Bool) → (b || is_some (arm_by sc site e)) ≡ false → b ≡ false
         at true is = absurd cc
         at false is = refl
+
+-- a step of a batch, by what it costs
+pub goes_in : (spare left : ℕ) (sc : Scenario) (site : ℕ) (e : Entry) (x y : Meters) → IsCounted x → e.owner ≡ site → arm_by sc site e ≡ [] → is_cut e ≡ false → is_fault e ≡ false →
+    Keeps x y → (ends_arm sc site e ≡ false → Pays spare left site e x y) → GoesInBatch spare left sc site e x y
+goes_in spare left sc site e x y counted owner none no_cut no_fault keeps pays = record {
+  goes = keeps_goes x y counted keeps;
+  rose = inl (counts is_fault ∙ ap one_if no_fault);
+  stops = λ few. stops_go (length (arm_by sc site e)) x y keeps few;
+  arms = stands x.arms y.arms (length (arm_by sc site e)) counted.arms keeps.arms (ap length none);
+  calls = stands x.calls y.calls (calls_in (arm_by sc site e)) counted.calls keeps.calls (ap calls_in none);
+  codes = stands x.codes y.codes (codes_in (arm_by sc site e)) counted.codes keeps.codes (ap codes_in none);
+  cuts = stands x.cuts y.cuts (counted_if is_cut site e) counted.cuts keeps.cuts (counts is_cut ∙ ap one_if no_cut);
+  waits = pays;
+  starts = λ arm asks. absurd (let both : arm ∷ [] ≡ [] = sym asks ∙ none in cc);
+}
+  where
+    mine : (e.owner == site) ≡ true
+    mine = eq-eqb e.owner site owner
+
+    counts : (p : Entry → Bool) → counted_if p site e ≡ one_if (p e)
+    counts p = rw mine refl
 
 -- the cut of the site's power
 pub goes_cut : (sc : Scenario) (site : ℕ) (x y : Meters) → IsCounted x → y ≡ cut x → GoesWith sc site (record { owner = site; act = Cut }) x y

@@ -1,10 +1,10 @@
 -- What the numbers of a site's disk came to while the workers of all sites were at work.
-use Rattle.std.proofs.Common.{◌≡◌, ◌≢◌, ◌==◌, inl, inr, ◌⊎◌, ◌≤◌, ◌<◌, ◌+◌, ◌++◌, ◌∷◌, [], ℕ, suc, true, false, List, length, min, Some, Ok, Err, refl, sym, ap, subst, ◌∙◌, append-nil, append_assoc, arith, eq-eqb}
-use Rattle.std.specs.Prelude.{get_or, slice_get, slice_index_or}
+use Rattle.std.proofs.Common.{◌≡◌, ◌≢◌, ◌==◌, inl, inr, ◌⊎◌, ◌≤◌, ◌<◌, ◌+◌, ◌++◌, ◌∷◌, [], ℕ, suc, false, List, length, min, Some, Ok, Err, refl, sym, ap, subst, ◌∙◌, append-nil, append_assoc, arith, eq-eqb}
+use Rattle.std.specs.Prelude.{slice_get, slice_index_or}
 use Rattle.std.proofs.lemmas.Option.{get_or_from_slice_get, slice_get_within}
 use Rattle.atomic_table.specs.Seated.{TableId}
 use Rattle.e3_crew.specs.Crews.{HasGoneOn, IsCrew}
-use Rattle.e3_crew.specs.Turns.{AtStart, BehindFall, BehindOthers, BehindStep, IsFallBy, IsStepBy, WentOn}
+use Rattle.e3_crew.specs.Turns.{AtStart, BehindFall, BehindFallOver, BehindOthers, BehindStep, BehindSteps, IsFallBy, IsStepBy, WentOn}
 use Rattle.e3_crew.specs.declared.worker.Worker.{Worker}
 use Rattle.e3_disk.specs.Meters.{IsCounted, Keeps, LAST, Meters, raised}
 use Rattle.e3_fleet.specs.Fleets.{FleetStands, HasKept, HaveKept, IsFleetOn, Seated, nodes_of}
@@ -16,6 +16,7 @@ use Rattle.e3_fleet.proofs.Kept.{kept_more, kept_on}
 use Rattle.e3_fleet.proofs.Owned.{input_went, takes_so}
 use Rattle.e3_fleet.proofs.Places.{get_some}
 use Rattle.e3_fleet.proofs.Rooms.{rooms_push}
+use Rattle.e3_fleet.proofs.Together.{batch_kept, batch_rooms, fall_kept, fall_rooms}
 use Rattle.e3_fleet.proofs.Turns.{goes_other}
 use Rattle.e3_law_local.specs.Others.{AreOthers}
 use Rattle.e3_node.specs.Ends.{FellOver, IsReason, is_fall}
@@ -32,8 +33,7 @@ use Rattle.e3_types.specs.declared.entries.Input.{Input}
 use Rattle.e3_types.specs.declared.entries.Why.{Why}
 use Rattle.e3_types.specs.declared.scenarios.Scenario.{Scenario}
 use Rattle.e3_wire.specs.Claims.{APass}
-use Rattle.e3_wire.specs.declared.marks.Mark.{Mark}
-use Rattle.e3_wire.specs.Marks.{entries_of, most_of, scenario_of}
+use Rattle.e3_wire.specs.Marks.{entries_of, scenario_of}
 use Rattle.e3_world.specs.Legal.{made_by}
 use Rattle.e3_world.specs.Moves.{log_size, moves_of}
 use Rattle.e3_world.specs.Packets.{is_line}
@@ -150,6 +150,25 @@ worked sc site start first now m counted low (BehindFall before end i why k n we
       counted = news;
       kept = λ o was. went_keeps sc before now site o k m news more (old.kept o was);
       rooms = λ was. went_rooms sc before now site k m more (old.rooms was);
+    }
+worked sc site start first now m counted low (BehindSteps before end is k n went steps) =
+    let old = worked sc site start first before k counted (less_faults k.faults m.faults LAST steps.keeps.faults low) went in
+    let news : IsCounted m = counted_on k m old.counted steps.keeps low in
+    record {
+      counted = news;
+      kept = λ o was. batch_kept sc before now site is o k m old.counted news steps (old.kept o was);
+      rooms = λ was.
+          (let P : ℕ → Type 0 = λ c. HadNoRooms sc now site c in
+          let Q : List Entry → Type 0 = λ l. HadNoRooms sc l site k.capacity in
+          subst P (sym steps.keeps.capacity) (subst Q (sym steps.entered) (batch_rooms sc before site is k.capacity (old.rooms was))));
+    }
+worked sc site start first now m counted low (BehindFallOver before end is why k n went fall) =
+    let old = worked sc site start first before k counted (less_faults k.faults m.faults LAST fall.keeps.faults low) went in
+    let news : IsCounted m = counted_on k m old.counted fall.keeps low in
+    record {
+      counted = news;
+      kept = λ o was. fall_kept sc before now site is why o k m old.counted news fall (old.kept o was);
+      rooms = λ was. fall_rooms sc before now site is why k m fall (old.rooms was);
     }
 
 module _ {D : Type 0} (content : D → List ℕ) (image : D → List ℕ → Type 0) (meters : D → Meters) where

@@ -4,7 +4,7 @@ use Rattle.atomic_table.specs.Seated.{TableId}
 use Rattle.e3_crew.specs.declared.worker.Worker.{Worker}
 use Rattle.e3_disk.specs.Meters.{Meters, LAST}
 use Rattle.e3_fleet.specs.Over.{HadNoRooms, HasServed}
-use Rattle.e3_fleet.specs.Stops.{Arm, arm_by, arms_of, is_over, used_by}
+use Rattle.e3_fleet.specs.Stops.{Arm, PayFor, arm_by, arms_of, is_over}
 use Rattle.e3_node.specs.NodeStands.{NodeStands}
 use Rattle.e3_node.specs.declared.fault.CutFault.{CutFault}
 use Rattle.e3_node.specs.declared.fault.CutFault.TheVariants as cut_fault
@@ -68,19 +68,24 @@ pub record FleetIsHeld {D : Type 0} (content : D → List ℕ) (image : D → Li
   pub fleet : FleetStands content image meters shared nodes
   pub taken : IsTaken wire p shared
 
--- While a stop may still come: where no entry behind the line of a stop ended its arm, the disk is armed, and what these
--- entries took and the calls that are left are together no more than the calls of that arm.
-abbrev pub StopWaits : Scenario → List Entry → ℕ → Meters → Type 0
-StopWaits sc history site now = (before after : List Entry) (e : Entry) (arm : Arm) → history ≡ before ++ e ∷ after →
-    arm_by sc site e ≡ arm ∷ [] → is_over sc site after ≡ false → (0 < now.calls_left) × (used_by sc site after + now.calls_left ≤ arm.calls)
+-- While a stop may still come: where no entry behind the line of a stop ended its arm, the disk is armed, and what pays for
+-- these entries, with room for so many steps more in their frames, and the calls that are left are together no more than the
+-- calls of that arm.
+abbrev pub StopWaits : ℕ → Scenario → List Entry → ℕ → Meters → Type 0
+StopWaits spare sc history site now = (before after : List Entry) (e : Entry) (arm : Arm) → history ≡ before ++ e ∷ after →
+    arm_by sc site e ≡ arm ∷ [] → is_over sc site after ≡ false →
+    (0 < now.calls_left) × ((calls : ℕ) × PayFor spare sc site after calls × (calls + now.calls_left ≤ arm.calls))
 
 -- What the numbers of a site's disk came to so far, from where nothing had happened: each stop that came had an arm of its
--- own, while the disk is armed one arm is left, and no stop is passed over.
-pub record HasKept (sc : Scenario) (history : List Entry) (site : ℕ) (start now : Meters) : Type 0 where
+-- own, while the disk is armed one arm is left, and no stop is passed over. Within a batch its frame has room for more steps.
+pub record HasKeptWith (spare : ℕ) (sc : Scenario) (history : List Entry) (site : ℕ) (start now : Meters) : Type 0 where
   pub served : HasServed sc history site start now
   pub spent : now.stops < LAST → now.stops ≤ start.stops + length (arms_of sc history site)
   pub left : now.stops < LAST → 0 < now.calls_left → now.stops < start.stops + length (arms_of sc history site)
-  pub waits : StopWaits sc history site now
+  pub waits : StopWaits spare sc history site now
+
+abbrev pub HasKept : Scenario → List Entry → ℕ → Meters → Meters → Type 0
+HasKept sc history site start now = HasKeptWith 0 sc history site start now
 
 -- so did the disks of all these nodes
 pub record HaveKept {D : Type 0} (meters : D → Meters) (sc : Scenario) (history : List Entry) (starts nows : List (NodeView D)) : Type 0 where

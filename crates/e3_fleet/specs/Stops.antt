@@ -1,5 +1,5 @@
 -- What the stops of a scenario ask of the disk of a site, and what a site takes of an arm.
-use Rattle.std.specs.Prelude.{◌≡◌, ◌+◌, ◌<◌, ◌==◌, ◌&&◌, ◌||◌, ◌++◌, ◌∷◌, [], if◌then◌else◌, ℕ, Bool, true, false, List, count_by}
+use Rattle.std.specs.Prelude.{◌≡◌, ◌+◌, ◌*◌, ◌≤◌, ◌<◌, ◌==◌, ◌&&◌, ◌||◌, ◌++◌, ◌∷◌, [], if◌then◌else◌, ℕ, Bool, true, false, List, count_by}
 use Rattle.std.specs.List.{flat_map, sum_by}
 use Rattle.e3_disk.specs.Leaves.{code_of}
 use Rattle.e3_types.specs.declared.entries.Act.{Act}
@@ -82,18 +82,38 @@ ends_arm sc site e = ((e.owner == site) && is_end e.act) || is_some (arm_by sc s
 abbrev pub takes_of : ℕ → Entry → ℕ
 takes_of site e = if e.owner == site then calls_of e.act else 0
 
--- what these entries take of a site's arm, up to the first that ends it
-abbrev pub used_by : Scenario → ℕ → List Entry → ℕ
-used_by sc site [] = 0
-used_by sc site (e ∷ more) = if ends_arm sc site e then 0 else takes_of site e + used_by sc site more
+-- a step that records something, and a rise
+abbrev pub steps_of : Act → ℕ
+steps_of (Step i (r ∷ rs) outs events) = 1
+steps_of _ = 0
+
+abbrev pub rises_of : Act → ℕ
+rises_of (Rise kept inc) = 1
+rises_of _ = 0
+
+-- how many such an entry of a site is
+abbrev pub part_of : (Act → ℕ) → ℕ → Entry → ℕ
+part_of f site e = if e.owner == site then f e.act else 0
+
+-- how many such these entries have, up to the first that ends the site's arm
+abbrev pub counted_by : (Act → ℕ) → Scenario → ℕ → List Entry → ℕ
+counted_by f sc site [] = 0
+counted_by f sc site (e ∷ more) = if ends_arm sc site e then 0 else part_of f site e + counted_by f sc site more
+
+-- So many calls pay for these entries of a site, at least: four for each frame, which holds eight steps at most that record
+-- something, and five for each rise. In the frames there may be room for so many steps more.
+abbrev pub PayFor : ℕ → Scenario → ℕ → List Entry → ℕ → Type 0
+PayFor spare sc site entries calls = (frames : ℕ) × (counted_by steps_of sc site entries + spare ≤ 8 * frames)
+    × (4 * frames + 5 * counted_by rises_of sc site entries ≤ calls)
 
 -- one of these entries ends it
 abbrev pub is_over : Scenario → ℕ → List Entry → Bool
 is_over sc site [] = false
 is_over sc site (e ∷ more) = ends_arm sc site e || is_over sc site more
 
--- No stop of the site is passed over: what its entries behind the line of a stop take of the arm is less than the calls
--- of that arm. At the call of that number it would have stopped.
+-- No stop of the site is passed over: what its entries behind the line of a stop take of the arm, four calls for each eight
+-- steps that record something, a begun eight counted as a whole one, and five for each rise, is less than the calls of that
+-- arm. At the call of that number it would have stopped.
 abbrev pub NoStopIsPassed : Scenario → List Entry → ℕ → Type 0
 NoStopIsPassed sc history site = (before after : List Entry) (e : Entry) (arm : Arm) → history ≡ before ++ e ∷ after →
-    arm_by sc site e ≡ arm ∷ [] → used_by sc site after < arm.calls
+    arm_by sc site e ≡ arm ∷ [] → (calls : ℕ) × PayFor 0 sc site after calls × (calls < arm.calls)

@@ -145,6 +145,7 @@ fn fly<D: Disk + Drill + Drop + Send, G: Gate + Sync, R: Wait + Threads + Sync>(
     scenario: &Scenario,
     gate: &G,
     threads: usize,
+    packets: u32,
     opened: Opened,
     workers: Vec<Worker<D>>,
 ) -> Flown<D>
@@ -171,7 +172,7 @@ fn fly<D: Disk + Drill + Drop + Send, G: Gate + Sync, R: Wait + Threads + Sync>(
         pass,
         held: Held { shared, workers },
     };
-    let ended = play(rt, scenario, gate, threads, &mut fleet);
+    let ended = play(rt, scenario, gate, threads, packets, &mut fleet);
     let Fleet { held, .. } = fleet;
     let Held { shared, workers } = held;
     Flown {
@@ -183,7 +184,8 @@ fn fly<D: Disk + Drill + Drop + Send, G: Gate + Sync, R: Wait + Threads + Sync>(
 
 /// Plays a scenario over disks from its first rises to its end, with so many entries at most, 2,000,000 or fewer. Site k has
 /// the k-th disk; those past the sites of the scenario are not touched, and all come back in their order. The sites work side
-/// by side, in at most so many threads, each behind the gate before each packet that it takes.
+/// by side, in at most so many threads, each behind the gate before each turn of work, in which it takes so many packets at most,
+/// from 1 to 8, and 8 for every other number.
 pub fn play_over<D: Disk + Drill + Drop + Send, G: Gate + Sync, R: Wait + Threads + Sync>(
     rt: &R,
     alloc: Global,
@@ -191,6 +193,7 @@ pub fn play_over<D: Disk + Drill + Drop + Send, G: Gate + Sync, R: Wait + Thread
     disks: Vec<D>,
     gate: &G,
     threads: usize,
+    packets: u32,
     most: u32,
 ) -> Played<D>
     requires given { IsGiven scenario.now }
@@ -213,7 +216,7 @@ pub fn play_over<D: Disk + Drill + Drop + Send, G: Gate + Sync, R: Wait + Thread
                 ended,
                 history,
                 workers,
-            } = fly(rt, alloc, scenario, gate, threads, opened, workers);
+            } = fly(rt, alloc, scenario, gate, threads, packets, opened, workers);
             unseat_all(workers, &mut disks);
             Played {
                 ended,

@@ -24,6 +24,7 @@ fn play_step<D: Disk + Drill + Drop + Send, G: Gate + Sync, R: Wait + Threads + 
     scenario: &Scenario,
     gate: &G,
     threads: usize,
+    packets: u32,
     fleet: &mut Fleet<D>,
     names: &mut Names,
     done: u32,
@@ -46,7 +47,7 @@ fn play_step<D: Disk + Drill + Drop + Send, G: Gate + Sync, R: Wait + Threads + 
     let alloc = fleet.alloc;
     let asked = begin_step(alloc, scenario, fleet, names, done)?;
     match asked {
-        Some(inputs) => settle_fleet(rt, gate, threads, fleet, inputs),
+        Some(inputs) => settle_fleet(rt, gate, threads, packets, fleet, inputs),
         None => Ok(()),
     }
 }
@@ -58,6 +59,7 @@ pub fn play_first<D: Disk + Drill + Drop + Send, G: Gate + Sync, R: Wait + Threa
     scenario: &Scenario,
     gate: &G,
     threads: usize,
+    packets: u32,
     fleet: &mut Fleet<D>,
     count: u32,
 ) -> Result<(), RunFault>
@@ -77,7 +79,9 @@ pub fn play_first<D: Disk + Drill + Drop + Send, G: Gate + Sync, R: Wait + Threa
     rise_all(fleet, scenario.weights.len() as u32)?;
     let mut names = Names::new(fleet.alloc);
     for done in 0..count {
-        play_step(rt, scenario, gate, threads, fleet, &mut names, done)?;
+        play_step(
+            rt, scenario, gate, threads, packets, fleet, &mut names, done,
+        )?;
     }
     Ok(())
 }
@@ -88,6 +92,7 @@ pub(crate) fn play<D: Disk + Drill + Drop + Send, G: Gate + Sync, R: Wait + Thre
     scenario: &Scenario,
     gate: &G,
     threads: usize,
+    packets: u32,
     fleet: &mut Fleet<D>,
 ) -> Result<(), RunFault>
     requires played { scenario_in fleet.old ≡ scenario.now }
@@ -104,6 +109,6 @@ pub(crate) fn play<D: Disk + Drill + Drop + Send, G: Gate + Sync, R: Wait + Thre
     let Ok(steps) = u32::try_from(scenario.steps.len()) else {
         return Err(RunFault::NoMemory);
     };
-    play_first(rt, scenario, gate, threads, fleet, steps)?;
+    play_first(rt, scenario, gate, threads, packets, fleet, steps)?;
     Ok(())
 }

@@ -32,6 +32,7 @@ fn settled_by<D: Disk + Drill + Drop + Send, R: Wait + Threads + Sync, G: Gate +
     alloc: Global,
     gate: &G,
     threads: usize,
+    packets: u32,
     wire: &Wire,
     pass: &mut WirePass,
     held: Held<D>,
@@ -62,6 +63,7 @@ fn settled_by<D: Disk + Drill + Drop + Send, R: Wait + Threads + Sync, G: Gate +
         wire,
         gate,
         threads,
+        packets,
         pass,
         workers.as_mut_slice(),
         inputs,
@@ -75,6 +77,7 @@ fn settled<D: Disk + Drill + Drop + Send, G: Gate + Sync, R: Wait + Threads + Sy
     rt: &R,
     gate: &G,
     threads: usize,
+    packets: u32,
     fleet: Fleet<D>,
     inputs: List<Addressed>,
 ) -> (Fleet<D>, Result<(), RunFault>)
@@ -92,6 +95,7 @@ fn settled<D: Disk + Drill + Drop + Send, G: Gate + Sync, R: Wait + Threads + Sy
         alloc,
         gate,
         threads,
+        packets,
         &wire,
         &mut pass,
         held,
@@ -113,6 +117,7 @@ pub(crate) fn settle_fleet<D: Disk + Drill + Drop + Send, G: Gate + Sync, R: Wai
     rt: &R,
     gate: &G,
     threads: usize,
+    packets: u32,
     fleet: &mut Fleet<D>,
     inputs: List<Addressed>,
 ) -> Result<(), RunFault>
@@ -124,6 +129,6 @@ pub(crate) fn settle_fleet<D: Disk + Drill + Drop + Send, G: Gate + Sync, R: Wai
         inputs,
         |fleet: Fleet<D>, inputs: List<Addressed>| -> (Fleet<D>, Result<(), RunFault>)
             requires { CanSettle D.content D.image D.meters fleet inputs }
-        { settled(rt, gate, threads, fleet, inputs) },
+        { settled(rt, gate, threads, packets, fleet, inputs) },
     )
 }

@@ -1,6 +1,6 @@
 -- What an append leaves, by the records of its frame.
 use Rattle.std.proofs.Common.{◌≡◌, ◌≢◌, ◌⊎◌, ◌+◌, ◌<◌, ◌≤◌, ◌++◌, ◌∷◌, [], inl, inr, ℕ, true, List, length, refl, sym, subst, ap, ◌∙◌, arith}
-use Rattle.e3_disk.specs.Meters.{Meters, Rose}
+use Rattle.e3_disk.specs.Meters.{Meters, HasFailed}
 use Rattle.e3_log.specs.Frames.{Reads, frames}
 use Rattle.e3_log.specs.Stands.{LogState, Stands, ReadsBeforeOrAfter}
 use Rattle.e3_log.specs.declared.fault.AppendFault.{AppendFault}
@@ -67,7 +67,7 @@ end_told records body end (Full need room) is full = full need room refl ∙ ap 
 
 -- why it was not added
 pub reason_of : (moves : List Move) (lists : List (List Record)) (records : List Record) (body : List ℕ) (end : ℕ) (old new : Meters) (fault : AppendFault) →
-    Hold moves lists → body ≡ spelling records → end ≡ length (frames (bodies_in lists)) → (fault ≡ Failed → Rose old.faults new.faults) →
+    Hold moves lists → body ≡ spelling records → end ≡ length (frames (bodies_in lists)) → (fault ≡ Failed → HasFailed old.faults new.faults) →
     ((need room : ℕ) → fault ≡ Full need room →
     (old.capacity < end + 6 + length body) × (need ≡ end + 6 + length body) × (room ≡ old.capacity)) →
     IsReason (why_of fault) (log_size moves) records old new

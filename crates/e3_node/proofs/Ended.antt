@@ -1,31 +1,22 @@
 -- What is told of a batch, and how its site stands behind it.
-use Rattle.std.proofs.Common.{◌≡◌, ◌+◌, ◌<◌, ◌≤◌, ◌++◌, [], inl, inr, ℕ, true, false, List, length, take, refl, sym, subst, ap, ◌∙◌, append-nil, arith}
+use Rattle.std.proofs.Common.{◌≡◌, inl, inr, ℕ, false, List, length, take, refl, sym, subst, ap, ◌∙◌}
 use Rattle.std.proofs.Math.Seq.{take-length}
 use Rattle.std.specs.Prelude.{None, Option, Result, Some, Ok, Err}
-use Rattle.atomic_table.specs.Seated.{TableId}
 use Rattle.e3_disk.specs.Meters.{Keeps, Meters}
 use Rattle.e3_node.specs.Batched.{NeverFell}
 use Rattle.e3_node.specs.Batches.{BatchEnded, HasFallenOverAll, HasSteppedAll, fall_over}
 use Rattle.e3_node.specs.Bodies.{AllReadBack}
-use Rattle.e3_node.specs.Ending.{Came, EndsIn, EndsWith, HasGone, Promised, answer_by}
+use Rattle.e3_node.specs.Ending.{Came, EndsIn, EndsWith, answer_by}
 use Rattle.e3_node.specs.NodeStands.{IsDown, IsIn}
-use Rattle.e3_node.specs.NodeView.{disk_of, is_up_in}
+use Rattle.e3_node.specs.NodeView.{disk_of}
 use Rattle.e3_node.specs.declared.fault.InputFault.{InputFault}
 use Rattle.e3_node.specs.declared.fault.InputFault.TheVariants as input_fault
 use Rattle.e3_node.specs.declared.state.State.{State}
 use Rattle.e3_node.specs.declared.state.State.TheVariants.{Down}
-use Rattle.e3_turn.specs.Passes.{IsIdle, seen_by}
 use Rattle.e3_types.specs.declared.entries.Entry.{Entry}
 use Rattle.e3_types.specs.declared.entries.Input.{Input}
 use Rattle.e3_types.specs.declared.entries.Why.{Why}
 use Rattle.e3_types.specs.declared.scenarios.Scenario.{Scenario}
-use Rattle.e3_wire.specs.Claims.{APass}
-use Rattle.e3_wire.specs.Marks.{most_of, used_of}
-use Rattle.e3_wire.specs.Wires.{IsPlayed}
-use Rattle.e3_wire.specs.declared.marks.Mark.{Mark}
-use Rattle.e3_wire.specs.declared.marks.Note.{Note}
-use Rattle.e3_wire.proofs.Notes.{scenario_stays}
-use Rattle.e3_wire.proofs.Spending.{used_grows}
 use Rattle.e3_world.specs.Items.{is_up_at}
 use Rattle.e3_world.proofs.Readings.{up_same}
 use Rattle.e3_world.proofs.Turns.{self}
@@ -48,38 +39,6 @@ pub refused_full : (r : Result (Unit {0}) InputFault) (fell : Option Why) → an
 refused_full (Ok done) None is = absurd cc
 refused_full (Ok done) (Some why) is = absurd cc
 refused_full (Err fault) fell is = is
-
--- what is promised
-pub promised_up : {D : Type 0} (fell : Option Why) (inputs : ℕ) (old new : Note) (mid state : State D) → Promised fell inputs old new →
-    ((why : Why) → fell ≡ Some why → state ≡ Down (disk_of mid)) → is_up_in state ≡ true → new ≡ old
-promised_up None inputs old new mid state is down up = is
-promised_up (Some why) inputs old new mid state is down up = absurd (let both : is_up_in state ≡ false = ap is_up_in (down why refl) in let never = sym up ∙ both in cc)
-
-pub promised_places : (fell : Option Why) (inputs : ℕ) (old new : Note) → Promised fell inputs old new → 1 ≤ inputs → new.places < old.places + inputs
-promised_places None inputs old new is some = let same : new.places ≡ old.places = ap (λ (w : Note). w.places) is in omega (arith, same, some)
-promised_places (Some why) inputs old new is some = is.0
-
-pub promised_room : (fell : Option Why) (inputs : ℕ) (old new : Note) → Promised fell inputs old new → new.room ≤ old.room
-promised_room None inputs old new is = let same : new.room ≡ old.room = ap (λ (w : Note). w.room) is in omega (arith, same)
-promised_room (Some why) inputs old new is = let none : new.room ≡ 0 = is.1 in omega (arith, none)
-
--- nothing was seen
-pub same_gone : (lock : TableId) (p : APass) → IsIdle lock p → IsPlayed (seen_by p) → HasGone lock p p
-same_gone lock p idle played = record {
-  idle = idle;
-  same = record { owners = refl; last = refl };
-  played = played;
-  seen = ([], sym (append-nil (seen_by p)));
-}
-
--- a history that was full stays so
-pub full_on : (seen more now : List Mark) → IsPlayed seen → now ≡ seen ++ more → most_of seen ≤ used_of seen → most_of now ≤ used_of now
-full_on seen more now played is full =
-    let P : List Mark → Type 0 = λ l. most_of l ≤ used_of l in
-    let most : most_of (seen ++ more) ≡ most_of seen = (scenario_stays seen more played).1 in
-    let grows : used_of seen ≤ used_of (seen ++ more) = used_grows seen more played in
-    let there : most_of (seen ++ more) ≤ used_of (seen ++ more) = omega (arith, most, grows, full) in
-    subst P (sym is) there
 
 -- all inputs
 all_of : (n : ℕ) (inputs : List Input) → n ≡ length inputs → take n inputs ≡ inputs

@@ -2,7 +2,7 @@
 use Rattle.std.proofs.Common.{◌≡◌, ◌⊎◌, ◌+◌, ◌-◌, ◌<◌, ◌≤◌, inl, inr, ℕ, refl, ap, ◌∙◌, arith}
 use Rattle.std.proofs.Math.Nat.{min-le_left, min-le_right, le-min}
 use Rattle.std.specs.Prelude.{min}
-use Rattle.e3_disk.specs.Meters.{LAST, Keeps, Meters, Rose, lit, raised}
+use Rattle.e3_disk.specs.Meters.{LAST, Keeps, Meters, HasFailed, lit, raised}
 use Rattle.e3_log.specs.Opening.{TakesOne}
 use Rattle.e3_node.specs.Ends.{Takes}
 use Rattle.e3_node.specs.Rising.{RiseTakes}
@@ -44,7 +44,7 @@ keeps_both a b c first none left second = record {
     by (inl same) = inl (same ∙ none)
     by (inr stopped) = inr (stopped.0 ∙ ap (λ (n : ℕ). raised n 1) none, (let some : 0 < b.calls_left = stopped.1 in omega (arith, some, left)), stopped.2)
 
-pub rose_since : (a b c : ℕ) → a ≤ b → Rose b c → Rose a c
+pub rose_since : (a b c : ℕ) → a ≤ b → HasFailed b c → HasFailed a c
 rose_since a b c below rose =
     let low : min (a + 1) LAST ≤ a + 1 = min-le_left (a + 1) LAST in
     let last : min (a + 1) LAST ≤ LAST = min-le_right (a + 1) LAST in

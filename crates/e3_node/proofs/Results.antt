@@ -16,12 +16,12 @@ use Rattle.e3_log.proofs.Append.{new_end}
 use Rattle.e3_node.specs.Batched.{HasPlanned, IsBatch}
 use Rattle.e3_node.specs.Batches.{fall_over, plain_steps, stepped}
 use Rattle.e3_node.specs.Bodies.{AllReadBack, DiskHolds, Hold, ReadsAfter, bodies_in, body_of}
-use Rattle.e3_node.specs.Ending.{EndsWith, HasGone, Promised}
+use Rattle.e3_node.specs.Ending.{EndsWith, WasFull}
 use Rattle.e3_node.specs.Ends.{EndsAt, IsReason, Takes, calls_for}
 use Rattle.e3_node.specs.Counting.{count_of, counted_by}
 use Rattle.e3_node.specs.NodeStands.{IsUp, steps_at}
 use Rattle.e3_node.specs.Several.{MayEnterAll, claims_for, marks_in}
-use Rattle.e3_node.specs.Turns.{Meanwhile}
+use Rattle.e3_node.specs.Turns.{HasTurned, Meanwhile}
 use Rattle.e3_node.specs.declared.batching.Batch.{Batch}
 use Rattle.e3_node.specs.declared.counting.Count.{Count}
 use Rattle.e3_node.specs.declared.fault.InputFault.{InputFault}
@@ -36,14 +36,13 @@ use Rattle.e3_types.specs.declared.entries.Why.{Why}
 use Rattle.e3_types.specs.declared.records.Record.{Record}
 use Rattle.e3_types.specs.declared.scenarios.Scenario.{Scenario}
 use Rattle.e3_wire.specs.Claims.{APass}
-use Rattle.e3_wire.specs.Marks.{belongs, entries_of, note_of, scenario_of, used_by}
+use Rattle.e3_wire.specs.Marks.{belongs, entries_of, most_of, note_of, scenario_of, used_by, used_of}
 use Rattle.e3_wire.specs.Wires.{IsPlayed, MayEnterBehind, TakesInTurn}
 use Rattle.e3_wire.specs.declared.marks.Mark.{Mark}
 use Rattle.e3_wire.specs.declared.marks.Mark.TheVariants as mark
 use Rattle.e3_wire.specs.declared.marks.Note.{Note}
 use Rattle.e3_wire.proofs.Foreign.{entries_append, notes_stay}
 use Rattle.e3_wire.proofs.Notes.{entry_uses, scenario_stays}
-use Rattle.e3_wire.proofs.Spending.{fronts_are_played}
 use Rattle.e3_wire.proofs.Staying.{are_others_marks}
 use Rattle.e3_world.specs.Items.{is_up_at}
 use Rattle.e3_world.specs.Legal.{AreDue, Guard, IsLegal, records_by}
@@ -83,13 +82,6 @@ records_end bodies [] old new was is =
     let plain : old + 0 ≡ old = omega arith in
     is ∙ same ∙ sym was ∙ sym plain
 records_end bodies (r ∷ rs) old new was is = one_end bodies (spelling (r ∷ rs)) old new was is
-
--- what was played with more marks behind it was played
-pub between_played : (q : APass) (between now tail : List Mark) → GrewByOthers belongs q between → IsPlayed (seen_by q) → now ≡ between ++ tail → IsPlayed now →
-    IsPlayed between
-between_played q between now tail grew was is played =
-    let P : List Mark → Type 0 = λ l. IsPlayed l in
-    subst P (sym grew.1) (fronts_are_played (seen_by q) grew.0 tail was (subst P (is ∙ ap (λ (l : List Mark). l ++ tail) grew.1) played))
 
 -- what was seen, and marks of others behind it
 module _ (p : APass) (site : ℕ) (owns : Owns p site) (was : IsPlayed (seen_by p)) where
@@ -299,20 +291,17 @@ module _ (p q : APass) (site first : ℕ) (inputs : List Input) (answer : Result
           ∙ ap (λ (rs : List Record). counted_by (count_of site k) (Fall over rs why)) same_records
           ∙ sym (ap (λ (l : List Entry). count_of site l) entered ∙ count_own site k (fall_over sc k site done why) refl)
 
-      pub note_fallen : (over : List Input) (why : Why) (now : List Mark) → batch.records ≢ [] →
+      pub note_fallen : (over : List Input) (why : Why) (now : List Mark) → over ≡ done →
           now ≡ marks ++ mark.Entered (numbered_on k (record { owner = site; act = Fall over batch.records why })) ∷ [] →
-          Promised (Some why) (length inputs) (note_of site (seen_by p)) (note_of site now)
-      note_fallen over why now recorded now_is =
+          ((note_of site now).places ≡ (note_of site (seen_by p)).places) × ((note_of site now).room ≤ (note_of site (seen_by p)).room)
+      note_fallen over why now is now_is =
           let e : Entry = record { owner = site; act = Fall over batch.records why } in
           let here : note_of site now ≡ used_by (note_of site marks) e.act = ap (λ (l : List Mark). note_of site l) now_is ∙ entry_uses e marks in
-          let places : (note_of site now).places ≡ (note_of site marks).places - 1 = ap (λ (w : Note). w.places) here in
+          let places : (note_of site now).places ≡ (note_of site marks).places - length over = ap (λ (w : Note). w.places) here in
           let room : (note_of site now).room ≡ 0 = ap (λ (w : Note). w.room) here in
           let there : (note_of site marks).places ≡ (note_of site (seen_by p)).places + length steps = ap (λ (w : Note). w.places) (note_same q site owns_q played_q marks grew ∙ note_q) in
-          let long : length steps ≡ plan.count = plain_length sc h1 site done ∙ count_is in
-          let few : plan.count ≤ length inputs = plan.within in
-          let one : 1 ≤ length done = some_inputs sc h1 site done (λ none. recorded (made.records_are ∙ none)) in
-          let many : length done ≡ plan.count = count_is in
-          (omega (arith, places, there, long, few, one, many), room)
+          let long : length steps ≡ length over = plain_length sc h1 site done ∙ ap (λ (l : List Input). length l) (sym is) in
+          (omega (arith, places, there, long), omega (arith, room))
 
       -- what a pass has seen that put more behind it
       pub seen_on : (now tail : List Mark) → now ≡ marks ++ tail → (more : List Mark) × (now ≡ seen_by p ++ more)
@@ -328,14 +317,20 @@ module _ (p q : APass) (site first : ℕ) (inputs : List Input) (answer : Result
         is ∙ ap (λ (l : List Mark). l ++ tail) grew.1 ∙ append_assoc (seen_by q) grew.0 tail,
       )
 
-      pub gone : (lock : TableId) (r : APass) (tail : List Mark) → seen_by r ≡ marks ++ tail → IsIdle lock r → SameOwners p q → SameOwners q r → IsPlayed (seen_by r) →
-          HasGone lock p r
-      gone lock r tail is idle one two now = record {
+      pub turned : (lock : TableId) (r : APass) (tail : List Mark) → seen_by r ≡ marks ++ tail → IsIdle lock r → SameOwners p q → SameOwners q r → IsPlayed (seen_by r) →
+          (note_of site (seen_by r)).places ≡ (note_of site (seen_by p)).places → (note_of site (seen_by r)).room ≤ (note_of site (seen_by p)).room → HasTurned lock site p r
+      turned lock r tail is idle one two now places room = record {
         idle = idle;
         same = record { owners = two.owners ∙ one.owners; last = two.last ∙ one.last };
         played = now;
         seen = seen_on (seen_by r) tail is;
+        promised = places;
+        room = room;
       }
+
+      -- a batch that was refused for a full history
+      pub was_full : (r : APass) (tail : List Mark) → seen_by r ≡ marks ++ tail → most_of (seen_by q) ≤ used_of (seen_by q) → WasFull p r
+      was_full r tail is full = record { met = seen_by q; before = seen_b; behind = seen_since (seen_by r) tail is; full = full }
 
       -- the site is up behind that
       pub up_second : {D : Type 0} (content : D → List ℕ) (image : D → List ℕ → Type 0) (meters : D → Meters) (s0 : SiteView) (old : LogState D) →

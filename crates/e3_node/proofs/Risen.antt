@@ -1,7 +1,7 @@
 -- The whole node behind a rise, and what is told of it.
 use Rattle.std.proofs.Common.{◌≡◌, ◌++◌, ◌∷◌, [], ◌≤◌, ℕ, false, List, Result, Err, refl, sym, subst, ap, ◌∙◌, append-nil}
 use Rattle.std.specs.Prelude.{IfOk, fold}
-use Rattle.e3_disk.specs.Meters.{Meters, Rose as RoseBy}
+use Rattle.e3_disk.specs.Meters.{Meters, HasFailed}
 use Rattle.e3_node.specs.Bodies.{AllReadBack, DiskHolds, ReadsWith}
 use Rattle.e3_node.specs.Counting.{count_of, counted_on}
 use Rattle.e3_node.specs.declared.counting.Count.{Count}
@@ -166,7 +166,7 @@ failed_told content image meters sc h more site old (Down new) Foreign made ente
 
 pub missed_told : {D : Type 0} (content : D → List ℕ) (image : D → List ℕ → Type 0) (meters : D → Meters) (sc : Scenario) (h : List Entry)
     (site : ℕ) (old : D) (state : State D) (r : Raised) → RiseMakes content image meters sc h site old state r →
-    told_of r ≡ Err rise_fault.Missed → RoseBy (meters old).faults (meters (disk_of state)).faults
+    told_of r ≡ Err rise_fault.Missed → HasFailed (meters old).faults (meters (disk_of state)).faults
 missed_told content image meters sc h site old (Up s l) (Rose kept inc) made is = absurd cc
 missed_told content image meters sc h site old (Up s l) (Failed kept inc why) made is = absurd made
 missed_told content image meters sc h site old (Up s l) Missed made is = absurd made

@@ -5,7 +5,7 @@ use Rattle.std.specs.Prelude.{nat_lt}
 use Rattle.std.specs.List.{flat_map}
 use Rattle.e3_codec.proofs.Records.{one_list}
 use Rattle.e3_disk.specs.Images.{Within}
-use Rattle.e3_disk.specs.Meters.{Keeps, Meters, Rose as RoseBy}
+use Rattle.e3_disk.specs.Meters.{Keeps, Meters, HasFailed}
 use Rattle.e3_log.specs.declared.fault.OpenCause.{OpenCause}
 use Rattle.e3_log.specs.declared.fault.OpenCause.TheVariants as causes
 use Rattle.e3_log.specs.Frames.{Reads}
@@ -313,7 +313,7 @@ disk_within image sc h site old new within stands = λ bytes at. stands bytes (w
 -- what a log that could not be opened makes of a rise, where the disk is not damaged
 pub not_opened : {D : Type 0} (content : D → List ℕ) (image : D → List ℕ → Type 0) (meters : D → Meters) (sc : Scenario) (h : List Entry)
     (site : ℕ) (old new : D) (cause : OpenCause) → Within (image old) (image new) → DiskHolds sc h site (image old) →
-    (cause ≡ causes.Failed → RoseBy (meters old).faults (meters new).faults) → ((at : ℕ) → cause ≡ causes.Damaged at → ⊥) →
+    (cause ≡ causes.Failed → HasFailed (meters old).faults (meters new).faults) → ((at : ℕ) → cause ≡ causes.Damaged at → ⊥) →
     RiseMakes content image meters sc h site old (Down new) (raised_of cause)
 not_opened content image meters sc h site old new causes.Failed within holds rose sound = (disk_within image sc h site old new within holds, rose refl)
 not_opened content image meters sc h site old new (causes.Damaged at) within holds rose sound = absurd (sound at refl)

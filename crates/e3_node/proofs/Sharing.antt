@@ -73,9 +73,15 @@ pub step_uses : (owner outs : ℕ) (before now : List Mark) (i : Input) (records
 step_uses owner outs before now i records packets told claim is =
     ap (λ (w : Note). used_by w (act.Step i records packets told)) (claimed_note owner outs before now claim) ∙ step_used outs i records packets told is
 
-pub fall_uses : (owner outs : ℕ) (before now : List Mark) (inputs : List Input) (records : List Record) (why : Why) → IsClaimed owner outs before now →
+pub fall_used : (outs : ℕ) (inputs : List Input) (records : List Record) (why : Why) → length inputs ≡ 1 →
+    used_by (record { places = 1; room = outs }) (act.Fall inputs records why) ≡ nothing
+fall_used outs inputs records why one =
+    let none : 1 - length inputs ≡ 0 = omega (arith, one) in ap (λ (n : ℕ). let x : Note = record { places = n; room = 0 } in x) none
+
+pub fall_uses : (owner outs : ℕ) (before now : List Mark) (inputs : List Input) (records : List Record) (why : Why) → length inputs ≡ 1 → IsClaimed owner outs before now →
     UsesAll now (record { owner = owner; act = act.Fall inputs records why })
-fall_uses owner outs before now inputs records why claim = ap (λ (w : Note). used_by w (act.Fall inputs records why)) (claimed_note owner outs before now claim)
+fall_uses owner outs before now inputs records why one claim =
+    ap (λ (w : Note). used_by w (act.Fall inputs records why)) (claimed_note owner outs before now claim) ∙ fall_used outs inputs records why one
 
 -- an allowed entry may be entered behind its claim
 pub may_enter : (before now : List Mark) (outs : ℕ) (e : Entry) → IsClaimed e.owner outs before now → 1 ≤ e.owner → Allows (scenario_of before) (entries_of before) e →

@@ -23,7 +23,7 @@ use Rattle.e3_node.specs.declared.fault.InputFault.TheVariants as input_fault
 use Rattle.e3_node.specs.declared.state.State.{State}
 use Rattle.e3_node.specs.declared.state.State.TheVariants.{Down, Up}
 use Rattle.e3_play.specs.Entering.{fall_of}
-use Rattle.e3_site.specs.SiteView.{HasRoomFor, IsPlanOf, PlanView, SiteView, Stands as SiteStands, count_on, entry_of_plan, plan_of, step_kept}
+use Rattle.e3_site.specs.SiteView.{HasRoomFor, IsPlanOf, PlanView, SiteView, Stands as SiteStands, count_on, entry_of_plan, planned_step, step_kept}
 use Rattle.e3_site.specs.StandsFor.{StandsFor, StandsOn}
 use Rattle.e3_types.specs.declared.entries.Act.TheVariants.{Fall, Cut}
 use Rattle.e3_types.specs.declared.entries.Entry.{Entry}
@@ -58,7 +58,7 @@ own_stands sc h site s was = let P : ℕ → Type 0 = λ n. SiteStands (incarnat
 
 -- and what it plans in it is the step that the history makes
 pub plan_made : (sc : Scenario) (h : List Entry) (site : ℕ) (s : SiteView) (i : Input) → StandsFor sc h site s →
-    plan_of (incarnation_of (moves_of sc h s.site)) s i ≡ step_kept i (made_by sc h site i)
+    planned_step (incarnation_of (moves_of sc h s.site)) s i ≡ step_kept i (made_by sc h site i)
 plan_made sc h site s i stands =
     ap (λ (ws : List ℕ). step_kept i (step_of ws s.site (incarnation_of (moves_of sc h s.site)) i)) stands.weights_are
     ∙ ap (λ (n : ℕ). step_kept i (step_of sc.weights n (incarnation_of (moves_of sc h n)) i)) stands.site_is
@@ -150,7 +150,7 @@ draft_made sc h site s new i d stands is = record {
 
 -- a draft of a plan for which there is room is ready
 pub ready_draft : (now : Incarnation) (i : Input) (old new : SiteView) (r : Result Draft NoMemory) (plan : PlanView) → IfOk r (λ d. d.plan ≡ plan) →
-    IfOk r (IsDraft i) → plan.step ≡ plan_of now old i → length plan.step.outs < 2 ^ 32 → IsPlanOf plan new → HasRoomFor plan new →
+    IfOk r (IsDraft i) → plan.step ≡ planned_step now old i → length plan.step.outs < 2 ^ 32 → IsPlanOf plan new → HasRoomFor plan new →
     IfOk r (IsReady now i old new)
 ready_draft now i old new (Ok d) plan is draft made few own room = record {
   drafted = draft;

@@ -17,7 +17,8 @@ use Rattle.e3_types.specs.declared.scenarios.Scenario.{Scenario}
 use Rattle.e3_world.specs.Legal.{IsLegal, IsRise}
 use Rattle.e3_world.specs.Logs.{logged_inc}
 use Rattle.e3_world.specs.Moves.{Move, Rose as DidRise, Tail, log_by, log_of, moves_of, open_tail, rise_records}
-use Rattle.e3_world.specs.Orderly.{IsOrderly, OrderlyAfter}
+use Rattle.e3_law_brief.specs.Orderly.{IsOrderly, OrderlyAfter}
+use Rattle.e3_law_brief.proofs.Laws.{first_logs}
 use Rattle.e3_world.proofs.Pushes.{legal_push, log_push}
 use Rattle.e3_node.proofs.Guarding.{rise_guard}
 use Rattle.e3_node.proofs.Pasts.{back_with, rise_moves, with_log}
@@ -64,7 +65,7 @@ module _ (sc : Scenario) (h : List Entry) (wish : Wish) (bodies : List (List ℕ
       (subst (λ (bs : List (List ℕ)). SomeIsBad wish.site bs) are bad)
 
   is_ordered : LogsAreOrderly → IsDisordered wish bodies → ⊥
-  is_ordered law not_so = not_so.breaks (subst (λ (l : List Record). IsOrderly wish.site l) log_is (law sc (h ++ e ∷ []) wish.site may.given legal))
+  is_ordered law not_so = not_so.breaks (subst (λ (l : List Record). IsOrderly wish.site l) log_is (first_logs wish.site (log_of sc (h ++ e ∷ []) wish.site) (law sc (h ++ e ∷ []) wish.site may.given legal)))
     where
       some : (k : Bool) × Found (moves_of sc h wish.site) wish.site (open_tail sc h wish.site) bodies not_so.read k
       some =

@@ -39,7 +39,7 @@ use Rattle.e3_wire.specs.declared.marks.Mark.TheVariants as mark
 use Rattle.e3_wire.proofs.Claimed.{claimed_entries_stay}
 use Rattle.e3_wire.proofs.Foreign.{entries_append, foreign_are_others, foreign_of_sites, notes_stay}
 use Rattle.e3_wire.proofs.Notes.{claim_promises, entry_uses, scenario_stays}
-use Rattle.e3_wire.proofs.Spending.{fronts_are_played, used_numbered}
+use Rattle.e3_wire.proofs.Spending.{used_numbered}
 use Rattle.e3_wire.proofs.Staying.{are_others_marks}
 use Rattle.e3_world.specs.Items.{inputs_of}
 use Rattle.e3_world.specs.Legal.{IsLegal, made_by}
@@ -103,10 +103,10 @@ one_while site seen since was played foreign = record {
 }
 
 -- and behind a promise and more of them
-pub both_while : (site outs : ℕ) (seen first second : List Mark) → IsPlayed seen → IsPlayed (((seen ++ first) ++ mark.Place site outs ∷ []) ++ second) →
+pub both_while : (site outs : ℕ) (seen first second : List Mark) → IsPlayed seen → IsPlayed (seen ++ first) → IsPlayed (((seen ++ first) ++ mark.Place site outs ∷ []) ++ second) →
     IsPlayed ((seen ++ first) ++ mark.Place site outs ∷ []) → AreForeign site first → AreForeign site second →
     Meanwhile site (entries_of seen) (entries_of (((seen ++ first) ++ mark.Place site outs ∷ []) ++ second))
-both_while site outs seen first second was played claimed firsts seconds = record {
+both_while site outs seen first second was front played claimed firsts seconds = record {
   others = one.others ++ two.others;
   of_others = both_others site one.others two.others one.of_others two.of_others;
   of_sites = both_sites one.others two.others one.of_sites two.of_sites;
@@ -116,24 +116,29 @@ both_while site outs seen first second was played claimed firsts seconds = recor
 }
   where
     one : Meanwhile site (entries_of seen) (entries_of (seen ++ first))
-    one = one_while site seen first was (fronts_are_played seen first (mark.Place site outs ∷ []) was claimed) firsts
+    one = one_while site seen first was front firsts
 
     two : Meanwhile site (entries_of ((seen ++ first) ++ mark.Place site outs ∷ [])) (entries_of (((seen ++ first) ++ mark.Place site outs ∷ []) ++ second))
     two = one_while site ((seen ++ first) ++ mark.Place site outs ∷ []) second claimed played seconds
 
+-- an act of a site uses one place, unless it is a fall over several inputs
+abbrev pub UsesOne : Act → Type 0
+UsesOne (Fall inputs records why) = length inputs ≡ 1
+UsesOne act = Unit {0}
+
 -- an entry that is allowed somewhere uses a place, whatever its packets' numbers
-uses : (sc : Scenario) (h now : List Entry) (o : ℕ) (act : Act) (w : Note) → 1 ≤ o → Allows sc h (record { owner = o; act = act }) → 1 ≤ w.places →
+uses : (sc : Scenario) (h now : List Entry) (o : ℕ) (act : Act) (w : Note) → 1 ≤ o → Allows sc h (record { owner = o; act = act }) → 1 ≤ w.places → UsesOne act →
     suc ((used_by w (numbered_on now (record { owner = o; act = act })).act).places) ≡ w.places
-uses sc h now zero act w some may place = absurd (omega (arith, some))
-uses sc h now (suc s) (Step i records outs events) w some may place = omega (arith, place)
-uses sc h now (suc s) (Fall inputs records why) w some may place = omega (arith, place)
-uses sc h now (suc s) (Rise kept inc) w some may place = omega (arith, place)
-uses sc h now (suc s) (RiseFall kept inc why) w some may place = omega (arith, place)
-uses sc h now (suc s) Miss w some may place = omega (arith, place)
-uses sc h now (suc s) Cut w some may place = omega (arith, place)
-uses sc h now (suc s) (Drop packet) w some may place = absurd may
-uses sc h now (suc s) (Parts parts) w some may place = absurd may
-uses sc h now (suc s) (Line number) w some may place = absurd may
+uses sc h now zero act w some may place one = absurd (omega (arith, some))
+uses sc h now (suc s) (Step i records outs events) w some may place one = omega (arith, place)
+uses sc h now (suc s) (Fall inputs records why) w some may place one = omega (arith, place, one)
+uses sc h now (suc s) (Rise kept inc) w some may place one = omega (arith, place)
+uses sc h now (suc s) (RiseFall kept inc why) w some may place one = omega (arith, place)
+uses sc h now (suc s) Miss w some may place one = omega (arith, place)
+uses sc h now (suc s) Cut w some may place one = omega (arith, place)
+uses sc h now (suc s) (Drop packet) w some may place one = absurd may
+uses sc h now (suc s) (Parts parts) w some may place one = absurd may
+uses sc h now (suc s) (Line number) w some may place one = absurd may
 
 -- room for so many packets more is used, or given back, by an entry that uses all of such a claim
 room_used : (outs : ℕ) (act : Act) (w : Note) → used_by (record { places = 1; room = outs }) act ≡ nothing →
@@ -157,6 +162,8 @@ pub record Behind (site outs : ℕ) (seen claimed between marks : List Mark) (e 
   pub claimed_is : claimed ≡ (seen ++ first) ++ mark.Place site outs ∷ []
   pub between_is : between ≡ claimed ++ second
   pub marks_is : marks ≡ between ++ mark.Entered (numbered_on (entries_of between) e) ∷ []
+  pub before_claim : IsPlayed (seen ++ first)
+  pub before_entry : IsPlayed between
 
 module _ (site outs : ℕ) (seen claimed between marks : List Mark) (e : Entry) (behind : Behind site outs seen claimed between marks e)
     (owner : e.owner ≡ site) (was : IsPlayed seen) (at_claim : IsPlayed claimed) (played : IsPlayed marks) where
@@ -167,17 +174,13 @@ module _ (site outs : ℕ) (seen claimed between marks : List Mark) (e : Entry) 
   all_is = behind.between_is ∙ ap (λ (l : List Mark). l ++ behind.second) behind.claimed_is
 
   pub between_played : IsPlayed between
-  between_played =
-      let P : List Mark → Type 0 = λ l. IsPlayed l in
-      let end : IsPlayed ((claimed ++ behind.second) ++ mark.Entered (numbered_on (entries_of between) e) ∷ []) =
-      subst P (behind.marks_is ∙ ap (λ (l : List Mark). l ++ mark.Entered (numbered_on (entries_of between) e) ∷ []) behind.between_is) played in
-      subst P (sym behind.between_is) (fronts_are_played claimed behind.second (mark.Entered (numbered_on (entries_of between) e) ∷ []) at_claim end)
+  between_played = behind.before_entry
 
   pub meanwhile : Meanwhile site (entries_of seen) (entries_of between)
   meanwhile =
       let P : List Mark → Type 0 = λ l. Meanwhile site (entries_of seen) (entries_of l) in
       let Q : List Mark → Type 0 = λ l. IsPlayed l in
-      subst P (sym all_is) (both_while site outs seen behind.first behind.second was (subst Q all_is between_played) claim_played behind.firsts behind.seconds)
+      subst P (sym all_is) (both_while site outs seen behind.first behind.second was behind.before_claim (subst Q all_is between_played) claim_played behind.firsts behind.seconds)
 
   pub entries : entries_of marks ≡ entries_of between ++ numbered_on (entries_of between) e ∷ []
   entries = ap (λ (l : List Mark). entries_of l) behind.marks_is ∙ entries_append between (mark.Entered (numbered_on (entries_of between) e) ∷ [])
@@ -191,8 +194,8 @@ module _ (site outs : ℕ) (seen claimed between marks : List Mark) (e : Entry) 
   )
 
   -- the claim and its entry leave what was promised
-  pub promised : (sc : Scenario) (h : List Entry) → 1 ≤ e.owner → Allows sc h e → (note_of site marks).places ≡ (note_of site seen).places
-  promised sc h some may =
+  pub promised : (sc : Scenario) (h : List Entry) → 1 ≤ e.owner → Allows sc h e → UsesOne e.act → (note_of site marks).places ≡ (note_of site seen).places
+  promised sc h some may single =
       let y : Entry = numbered_on (entries_of between) e in
       let claim_note : note_of site claimed ≡ record { places = suc (note_of site (seen ++ behind.first)).places; room = (note_of site (seen ++ behind.first)).room + outs } =
       ap (λ (l : List Mark). note_of site l) behind.claimed_is ∙ claim_promises site outs (seen ++ behind.first) in
@@ -206,7 +209,7 @@ module _ (site outs : ℕ) (seen claimed between marks : List Mark) (e : Entry) 
       ∙ entry_uses y between ∙ ap (λ (n : ℕ). used_by (note_of n between) y.act) owner in
       let four : (note_of site marks).places ≡ (used_by (note_of site between) y.act).places = ap (λ (w : Note). w.places) end_note in
       let has : 1 ≤ (note_of site between).places = omega (arith, three, one) in
-      let spent : suc ((used_by (note_of site between) y.act).places) ≡ (note_of site between).places = uses sc h (entries_of between) e.owner e.act (note_of site between) some may has in
+      let spent : suc ((used_by (note_of site between) y.act).places) ≡ (note_of site between).places = uses sc h (entries_of between) e.owner e.act (note_of site between) some may has single in
       omega (arith, one, two, three, four, spent)
 
   -- and no room stays promised that was not before
@@ -231,10 +234,12 @@ module _ (site outs : ℕ) (seen claimed between marks : List Mark) (e : Entry) 
 -- what a pass saw of its claim and its entry
 pub behind_of : (p q r : APass) (site outs : ℕ) (e : Entry) → Owns p site → Owns q site → (between : List Mark) → GrewByOthers belongs p between →
     seen_by q ≡ between ++ mark.Place site outs ∷ [] → (later : List Mark) → GrewByOthers belongs q later →
-    seen_by r ≡ later ++ mark.Entered (numbered_on (entries_of later) e) ∷ [] → Behind site outs (seen_by p) (seen_by q) later (seen_by r) e
-behind_of p q r site outs e owns still between grew claimed later grew_later entered =
+    seen_by r ≡ later ++ mark.Entered (numbered_on (entries_of later) e) ∷ [] → IsPlayed between → IsPlayed later →
+    Behind site outs (seen_by p) (seen_by q) later (seen_by r) e
+behind_of p q r site outs e owns still between grew claimed later grew_later entered front front_later =
     let one = are_others_marks p site between owns grew in
     let two = are_others_marks q site later still grew_later in
+    let P : List Mark → Type 0 = λ l. IsPlayed l in
     record {
       first = one.0;
       second = two.0;
@@ -243,35 +248,37 @@ behind_of p q r site outs e owns still between grew claimed later grew_later ent
       claimed_is = claimed ∙ ap (λ (l : List Mark). l ++ mark.Place site outs ∷ []) one.1;
       between_is = two.1;
       marks_is = entered;
+      before_claim = subst P one.1 front;
+      before_entry = front_later;
     }
 
 pub still_owns : (p q : APass) (site : ℕ) → SameOwners p q → Owns p site → Owns q site
 still_owns p q site same owns = subst (λ (l : List ℕ). 0 < count_of site l) (sym same.owners) owns
 
 -- an entry that is allowed behind what was seen may be entered behind its claim
-pub may_commit : (p : APass) (claimed : List Mark) (outs : ℕ) (e : Entry) (between : List Mark) → Owns p e.owner → GrewByOthers belongs p between →
+pub may_commit : (p : APass) (claimed : List Mark) (outs : ℕ) (e : Entry) (between : List Mark) → Owns p e.owner → GrewByOthers belongs p between → IsPlayed between →
     claimed ≡ between ++ mark.Place e.owner outs ∷ [] → IsPlayed (seen_by p) → IsPlayed claimed → 1 ≤ e.owner → e.owner ≤ last_owner (seen_by p) →
     is_calm (present_items (scenario_of (seen_by p)) (entries_of (seen_by p))) ≡ false → Allows (scenario_of (seen_by p)) (entries_of (seen_by p)) e →
     TakesInTurn (scenario_of (seen_by p)) (entries_of (seen_by p)) e.owner (inputs_of e.act) → length (outs_of e.act) ≤ outs → MayEnterBehind claimed e
-may_commit p claimed outs e between owns grew is was at_claim some exists restless may takes few =
+may_commit p claimed outs e between owns grew front is was at_claim some exists restless may takes few =
     let one = are_others_marks p e.owner between owns grew in
     let all : claimed ≡ (seen_by p ++ one.0) ++ mark.Place e.owner outs ∷ [] = is ∙ ap (λ (l : List Mark). l ++ mark.Place e.owner outs ∷ []) one.1 in
     let P : List Mark → Type 0 = λ l. IsPlayed l in
     let Q : List Mark → Type 0 = λ l. MayEnterBehind l e in
-    let first : IsPlayed (seen_by p ++ one.0) = fronts_are_played (seen_by p) one.0 (mark.Place e.owner outs ∷ []) was (subst P all at_claim) in
+    let first : IsPlayed (seen_by p ++ one.0) = subst P one.1 front in
     subst Q (sym all) (claimed_entries_stay e outs (seen_by p) one.0 first one.2 some exists restless may takes few)
 
 -- no recover step begins meanwhile
-pub still_restless : (p : APass) (claimed between : List Mark) (site outs : ℕ) → Owns p site → GrewByOthers belongs p between → claimed ≡ between ++ mark.Place site outs ∷ [] →
-    IsPlayed (seen_by p) → IsPlayed claimed → is_calm (present_items (scenario_of (seen_by p)) (entries_of (seen_by p))) ≡ false →
+pub still_restless : (p : APass) (claimed between : List Mark) (site outs : ℕ) → Owns p site → GrewByOthers belongs p between → IsPlayed between →
+    claimed ≡ between ++ mark.Place site outs ∷ [] → IsPlayed (seen_by p) → IsPlayed claimed → is_calm (present_items (scenario_of (seen_by p)) (entries_of (seen_by p))) ≡ false →
     is_calm (present_items (scenario_of claimed) (entries_of claimed)) ≡ false
-still_restless p claimed between site outs owns grew is was at_claim restless =
+still_restless p claimed between site outs owns grew front is was at_claim restless =
     let one = are_others_marks p site between owns grew in
     let sc = scenario_of (seen_by p) in
     let h = entries_of (seen_by p) in
     let all : claimed ≡ (seen_by p ++ one.0) ++ mark.Place site outs ∷ [] = is ∙ ap (λ (l : List Mark). l ++ mark.Place site outs ∷ []) one.1 in
     let P : List Mark → Type 0 = λ l. IsPlayed l in
-    let first : IsPlayed (seen_by p ++ one.0) = fronts_are_played (seen_by p) one.0 (mark.Place site outs ∷ []) was (subst P all at_claim) in
+    let first : IsPlayed (seen_by p ++ one.0) = subst P one.1 front in
     let m : Meanwhile site h (entries_of (seen_by p ++ one.0)) = one_while site (seen_by p) one.0 was first one.2 in
     let keys : scenario_of claimed ≡ sc =
     ap (λ (l : List Mark). scenario_of l) (all ∙ append_assoc (seen_by p) one.0 (mark.Place site outs ∷ [])) ∙ (scenario_stays (seen_by p) (one.0 ++ mark.Place site outs ∷ []) was).0 in
@@ -360,14 +367,14 @@ node_behind content image meters p marks node owns grew was played stands =
 
 -- a claim and its entry
 pub entered_turn : (lock : TableId) (p q r : APass) (site outs : ℕ) (e : Entry) (between : List Mark) → Behind site outs (seen_by p) (seen_by q) between (seen_by r) e →
-    e.owner ≡ site → IsPlayed (seen_by p) → IsPlayed (seen_by q) → IsPlayed (seen_by r) → 1 ≤ e.owner → (sc : Scenario) (h : List Entry) → Allows sc h e → used_by (record { places = 1; room = outs }) e.act ≡ nothing →
+    e.owner ≡ site → IsPlayed (seen_by p) → IsPlayed (seen_by q) → IsPlayed (seen_by r) → 1 ≤ e.owner → (sc : Scenario) (h : List Entry) → Allows sc h e → UsesOne e.act → used_by (record { places = 1; room = outs }) e.act ≡ nothing →
     IsIdle lock r → SameOwners p q → SameOwners q r → HasTurned lock site p r
-entered_turn lock p q r site outs e between behind owner was at_claim played some sc h may all_used idle one two = record {
+entered_turn lock p q r site outs e between behind owner was at_claim played some sc h may single all_used idle one two = record {
   idle = idle;
   same = record { owners = two.owners ∙ one.owners; last = two.last ∙ one.last };
   played = played;
   seen = seen_more site outs (seen_by p) (seen_by q) between (seen_by r) e behind owner was at_claim played;
-  promised = promised site outs (seen_by p) (seen_by q) between (seen_by r) e behind owner was at_claim played sc h some may;
+  promised = promised site outs (seen_by p) (seen_by q) between (seen_by r) e behind owner was at_claim played sc h some may single;
   room = room_left site outs (seen_by p) (seen_by q) between (seen_by r) e behind owner was at_claim played all_used;
 }
 

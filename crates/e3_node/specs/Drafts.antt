@@ -4,7 +4,7 @@ use Rattle.std.specs.List.{AllByRecursion as Each}
 use Rattle.e3_codec.specs.Fields.{AllCanBeReadBack}
 use Rattle.e3_node.specs.Telling.{IsOwn}
 use Rattle.e3_node.specs.declared.drafts.Draft.{Draft}
-use Rattle.e3_site.specs.SiteView.{HasRoomFor, IsPlanOf, SiteView, plan_of}
+use Rattle.e3_site.specs.SiteView.{HasRoomFor, IsPlanOf, SiteView, planned_step}
 use Rattle.e3_site.specs.StandsFor.{StandsStill}
 use Rattle.e3_types.specs.Spelling.{spelling}
 use Rattle.e3_types.specs.declared.entries.Input.{Input}
@@ -21,7 +21,7 @@ pub record IsDraft (i : Input) (draft : Draft) : Type 0 where
 -- there without memory.
 pub record IsReady (now : Incarnation) (i : Input) (old new : SiteView) (draft : Draft) : Type 0 where
   pub drafted : IsDraft i draft
-  pub made : draft.plan.step ≡ plan_of now old i
+  pub made : draft.plan.step ≡ planned_step now old i
   pub few : length draft.plan.step.outs < 2 ^ 32
   pub own : IsPlanOf draft.plan new
   pub room : HasRoomFor draft.plan new

@@ -1,36 +1,28 @@
 -- How a batch of a site that was up ends.
-use Rattle.std.specs.Prelude.{◌≡◌, ◌≤◌, ◌+◌, ◌<◌, ℕ, List, Option, Some, None, Result, Ok, Err, OnErr, OnOk, length, take}
-use Rattle.atomic_table.specs.Seated.{TableId}
+use Rattle.std.specs.Prelude.{◌≡◌, ◌≤◌, ◌<◌, ◌++◌, ℕ, List, Option, Some, None, Result, Ok, Err, OnErr, OnOk, length, take}
 use Rattle.e3_disk.specs.Meters.{Keeps, Meters}
 use Rattle.e3_node.specs.Batches.{HasFallenOverAll, HasSteppedAll}
 use Rattle.e3_node.specs.Bodies.{AllReadBack, DiskHolds}
 use Rattle.e3_node.specs.NodeStands.{IsIn}
 use Rattle.e3_node.specs.NodeView.{disk_of}
-use Rattle.e3_node.specs.Turns.{HasSeenMore}
 use Rattle.e3_node.specs.declared.fault.InputFault.{InputFault}
 use Rattle.e3_node.specs.declared.fault.InputFault.TheVariants as input_fault
 use Rattle.e3_node.specs.declared.state.State.{State}
-use Rattle.e3_turn.specs.Passes.{IsIdle, SameOwners, seen_by}
+use Rattle.e3_turn.specs.Passes.{seen_by}
 use Rattle.e3_types.specs.declared.entries.Entry.{Entry}
 use Rattle.e3_types.specs.declared.entries.Input.{Input}
 use Rattle.e3_types.specs.declared.entries.Why.{Why}
 use Rattle.e3_types.specs.declared.scenarios.Scenario.{Scenario}
 use Rattle.e3_wire.specs.Claims.{APass}
-use Rattle.e3_wire.specs.Wires.{IsPlayed}
-use Rattle.e3_wire.specs.declared.marks.Note.{Note}
+use Rattle.e3_wire.specs.Marks.{most_of, used_of}
+use Rattle.e3_wire.specs.declared.marks.Mark.{Mark}
 
--- what each call of a site makes of its pass
-pub record HasGone (lock : TableId) (p q : APass) : Type 0 where
-  pub idle : IsIdle lock q
-  pub same : SameOwners p q
-  pub played : IsPlayed (seen_by q)
-  pub seen : HasSeenMore p q
-
--- What is promised behind a batch of so many inputs: what was before it. A fall gives all room back, and keeps places for its
--- other inputs at most.
-abbrev pub Promised : Option Why → ℕ → Note → Note → Type 0
-Promised None inputs old new = new ≡ old
-Promised (Some why) inputs old new = (new.places < old.places + inputs) × (new.room ≡ 0)
+-- At some moment between these the entries and promised places were as many as there may be entries.
+pub record WasFull (p q : APass) : Type 0 where
+  pub met : List Mark
+  pub before : (more : List Mark) × (met ≡ seen_by p ++ more)
+  pub behind : (more : List Mark) × (seen_by q ≡ met ++ more)
+  pub full : most_of met ≤ used_of met
 
 -- what is answered: a refusal before a fall
 abbrev pub answer_by : Result (Unit {0}) InputFault → Option Why → Result (Unit {0}) InputFault

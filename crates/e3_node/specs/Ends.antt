@@ -1,6 +1,6 @@
 -- How the calls of a node end.
 use Rattle.std.specs.Prelude.{◌≡◌, ◌≢◌, ◌+◌, ◌<◌, ◌≤◌, ◌++◌, ◌∷◌, [], ℕ, Bool, true, false, List, length}
-use Rattle.e3_disk.specs.Meters.{Meters, Rose}
+use Rattle.e3_disk.specs.Meters.{Meters, HasFailed}
 use Rattle.e3_log.specs.Frames.{frames}
 use Rattle.e3_log.specs.declared.fault.AppendFault.{AppendFault}
 use Rattle.e3_log.specs.declared.fault.AppendFault.TheVariants as append_fault
@@ -28,7 +28,7 @@ use Rattle.e3_node.specs.Bodies.{IsRead, bodies_in, moves_with}
 -- The reason is true: the disk's count of faults rose; or the frame of the records passes the disk's capacity, and the numbers
 -- are its end, with the closed gate behind it, and that capacity. The end is no further than a log of this size has it.
 abbrev pub IsReason : Why → ℕ → List Record → Meters → Meters → Type 0
-IsReason Fault size records old new = Rose old.faults new.faults
+IsReason Fault size records old new = HasFailed old.faults new.faults
 IsReason (Full need room) size records old new =
     (old.capacity < need) × (need ≤ size + 6 + length (spelling records)) × (room ≡ old.capacity)
 

@@ -3,7 +3,7 @@ use Rattle.std.specs.Prelude.{◌≡◌, ◌⊎◌, ◌<◌, ◌≤◌, ◌^◌,
 use Rattle.std.specs.List.{flat_map}
 use Rattle.e3_codec.specs.Fields.{AllCanBeReadBack}
 use Rattle.e3_codec.specs.Places.{FirstBad}
-use Rattle.e3_disk.specs.Meters.{Meters, Rose as RoseBy}
+use Rattle.e3_disk.specs.Meters.{Meters, HasFailed}
 use Rattle.e3_log.specs.Frames.{frames}
 use Rattle.e3_log.specs.declared.fault.OpenCause.{OpenCause}
 use Rattle.e3_log.specs.declared.fault.OpenCause.TheVariants as causes
@@ -37,7 +37,7 @@ use Rattle.e3_wire.specs.declared.marks.Mark.{Mark}
 use Rattle.e3_world.specs.Given.{IsGiven}
 use Rattle.e3_world.specs.Legal.{IsLegal, IsRise, IsRising}
 use Rattle.e3_world.specs.Logs.{logged_inc}
-use Rattle.e3_world.specs.Orderly.{IsOrderly}
+use Rattle.e3_law_brief.specs.Orderly.{IsOrderly}
 use Rattle.e3_world.specs.Moves.{log_by, log_of, log_size, rise_records, rows_at}
 
 -- what a rise takes with it to the disk is this site's, and its log has so many records
@@ -134,7 +134,7 @@ abbrev pub RiseMakes : {D : Type 0} → (D → List ℕ) → (D → List ℕ →
 RiseMakes content image meters sc history site old (Up s l) (Rose kept inc) = HasRaised content image meters sc history site old s l kept inc
 RiseMakes content image meters sc history site old (Down new) (Failed kept inc why) = HasNotRaised image meters sc history site old new kept inc why
 RiseMakes content image meters sc history site old (Down new) Missed =
-    DiskHolds sc history site (image new) × RoseBy (meters old).faults (meters new).faults
+    DiskHolds sc history site (image new) × HasFailed (meters old).faults (meters new).faults
 RiseMakes content image meters sc history site old (Down new) NoMemory = DiskHolds sc history site (image new)
 RiseMakes content image meters sc history site old _ _ = ⊥
 

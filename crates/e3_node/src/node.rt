@@ -1,12 +1,13 @@
 // A site of a run over its disk.
-ghost use Rattle.std.specs.Prelude.{◌≡◌, ◌⊎◌, ◌+◌, ◌≤◌, ◌<◌, ◌++◌, ◌∷◌, ◌↔◌, [], true, false, length, fold, List as Items, OnOk, OnErr, IfOk, Err};
+ghost use Rattle.std.specs.Prelude.{◌≡◌, ◌⊎◌, ◌≤◌, ◌<◌, ◌++◌, ◌∷◌, ◌↔◌, [], true, false, length, fold, List as Items, OnOk, OnErr, IfOk, Err};
 ghost use Rattle.e3_disk.specs.Images.{IsBlank};
 ghost use Rattle.e3_disk.specs.Leaves.{code_of};
-ghost use Rattle.e3_disk.specs.Meters.{Keeps, Rose, armed, cut};
+ghost use Rattle.e3_disk.specs.Meters.{Keeps, HasFailed, armed, cut};
 ghost use Rattle.e3_law_local.specs.Drafts.{MayTake, MayTakeAll};
 ghost use Rattle.e3_law_local.specs.Least.{AreFirstTo};
 ghost use Rattle.e3_node.specs.Batches.{BatchEnded};
 ghost use Rattle.e3_node.specs.Bodies.{DiskStands};
+ghost use Rattle.e3_node.specs.Ending.{WasFull};
 ghost use Rattle.e3_node.specs.Ends.{EndsAt, FellOver, HasFailedToRise, HasRisen, IsReason, Takes, calls_for, is_fall};
 ghost use Rattle.e3_node.specs.NodeStands.{NodeStands};
 ghost use Rattle.e3_node.specs.NodeView.{disk_of, end_of, is_up_in};
@@ -156,7 +157,7 @@ impl<D: Disk + Drill + Drop> Node<D> {
 
         // a rise that was missed has a fault of the disk as its cause; no call arms or cuts the disk, and what is left of an
         // arm pays for the calls: a sync and the four of a frame
-        ensures cause { result ≡ Err rise_fault.Missed → Rose (D.meters (disk_of self.old.state)).faults (D.meters (disk_of self.new.state)).faults }
+        ensures cause { result ≡ Err rise_fault.Missed → HasFailed (D.meters (disk_of self.old.state)).faults (D.meters (disk_of self.new.state)).faults }
         ensures meters { Keeps (D.meters (disk_of self.old.state)) (D.meters (disk_of self.new.state)) }
         ensures takes { OnOk result (Takes 5 (D.meters (disk_of self.old.state)) (D.meters (disk_of self.new.state))) }
         ensures spares { result ≡ Err rise_fault.NoMemory → Takes 0 (D.meters (disk_of self.old.state)) (D.meters (disk_of self.new.state)) }
@@ -302,14 +303,13 @@ impl<D: Disk + Drill + Drop> Node<D> {
         requires due { is_up_at (history_seen pass.old) self.old.site ≡ true → MayTakeAll (scenario_seen pass.old) (history_seen pass.old) self.old.site inputs }
         requires takes { is_up_at (history_seen pass.old) self.old.site ≡ true → AreFirstTo (scenario_seen pass.old) (history_seen pass.old) self.old.site inputs }
 
-        // what is promised to a site that is up is as it was; a site that fell over a batch keeps fewer places than it had inputs
+        // as of `input_by_turns`: each claim is followed by its step, or by the fall, which uses a place for each of its inputs
         ensures idle { IsIdle wire.now pass.new }
         ensures same { SameOwners pass.old pass.new }
         ensures played { IsPlayed (seen_by pass.new) }
         ensures seen { HasSeenMore pass.old pass.new }
         ensures scenario { (scenario_seen pass.new ≡ scenario_seen pass.old) × (most_of (seen_by pass.new) ≡ most_of (seen_by pass.old)) }
-        ensures promised { is_up_in self.new.state ≡ true → note_of self.old.site (seen_by pass.new) ≡ note_of self.old.site (seen_by pass.old) }
-        ensures places { (note_of self.old.site (seen_by pass.new)).places < (note_of self.old.site (seen_by pass.old)).places + length inputs }
+        ensures promised { (note_of self.old.site (seen_by pass.new)).places ≡ (note_of self.old.site (seen_by pass.old)).places }
         ensures room { (note_of self.old.site (seen_by pass.new)).room ≤ (note_of self.old.site (seen_by pass.old)).room }
 
         // how it ended, and what the disk has of it
@@ -317,7 +317,7 @@ impl<D: Disk + Drill + Drop> Node<D> {
         ensures site { self.new.site ≡ self.old.site }
         ensures ended { BatchEnded D.meters (scenario_seen pass.old) (history_seen pass.old) (history_seen pass.new) self.old.site inputs self.old.state self.new.state result }
         ensures down { (result ≡ Err input_fault.Down) ↔ (is_up_at (history_seen pass.old) self.old.site ≡ false) }
-        ensures full { result ≡ Err input_fault.HistoryFull → most_of (seen_by pass.new) ≤ used_of (seen_by pass.new) }
+        ensures full { result ≡ Err input_fault.HistoryFull → WasFull pass.old pass.new }
         ensures meters { Keeps (D.meters (disk_of self.old.state)) (D.meters (disk_of self.new.state)) }
     {
         let (state, count) = (&mut self.state, &mut self.count);

@@ -91,8 +91,8 @@ used_room w act = w.room - (used_by w act).room
 
 -- what an entry of a site does to the sums
 pub record Uses (marks : List Mark) (last : ℕ) (e y : Entry) : Type 0 where
-  pub place : used_places (note_of e.owner marks) y.act ≡ 1
-  pub places : promised last (marks ++ mark.Entered y ∷ []) + 1 ≡ promised last marks
+  pub place : 1 ≤ used_places (note_of e.owner marks) y.act
+  pub places : promised last (marks ++ mark.Entered y ∷ []) + used_places (note_of e.owner marks) y.act ≡ promised last marks
   pub outs : length (outs_of e.act) ≤ used_room (note_of e.owner marks) y.act
   pub room : rooms last (marks ++ mark.Entered y ∷ []) + used_room (note_of e.owner marks) y.act ≡ rooms last marks
 
@@ -100,7 +100,7 @@ uses : (sc : Scenario) (most : ℕ) (rest : List Mark) (e : Entry) → MayEnterB
     Uses (mark.Start sc most ∷ rest) (length sc.weights) e (numbered_on (entries_of (mark.Start sc most ∷ rest)) e)
 uses sc most rest e may = record {
   place = omega (arith, places_less);
-  places = (let p = may.place in omega (arith, moved_places, places_less, p, own_place));
+  places = omega (arith, moved_places, places_less, own_place);
   outs = omega (arith, room_less);
   room = omega (arith, moved_room, room_less, own_room);
 }
@@ -129,7 +129,7 @@ uses sc most rest e may = record {
     moved_places : promised last (M ++ mark.Entered y ∷ []) + (note_of e.owner M).places ≡ promised last M + (used_by (note_of e.owner M) y.act).places
     moved_places = changes (λ w. w.places) M (mark.Entered y) e.owner last may.exists apart_stays ∙ ap (λ w. promised last M + w.places) after
 
-    places_less : suc ((used_by (note_of e.owner M) y.act).places) ≡ (note_of e.owner M).places
+    places_less : suc ((used_by (note_of e.owner M) y.act).places) ≤ (note_of e.owner M).places
     places_less = used sc (entries_of M) e.owner e.act (note_of e.owner M) may.site may.allowed may.place
 
     moved_room : rooms last (M ++ mark.Entered y ∷ []) + (note_of e.owner M).room ≡ rooms last M + (used_by (note_of e.owner M) y.act).room
@@ -167,7 +167,8 @@ entry_keeps sc most rest net e was may = record {
         let long : length (entries_of (M ++ mark.Entered y ∷ [])) ≡ length h + 1 = ap length same ∙ length-append h (y ∷ []) in
         let was_within : length h + promised (length sc.weights) M ≤ most = was.played.within in
         let less = (uses sc most rest e may).places in
-        omega (arith, less, long, was_within)
+        let some = (uses sc most rest e may).place in
+        omega (arith, less, some, long, was_within)
 
 -- the act as it is entered
 abbrev pub act_in : Traffic → Entry → Act
@@ -199,11 +200,11 @@ pub entered : (sc : Scenario) (most : ℕ) (es : List Entry) (ms : List Stored) 
 entered sc most es ms net notes places room spare hr sr nr e was may = record {
   counts = omega (arith, some_room, less_room, was.room_is, was.counted);
   packets = omega (arith, some_room, less_room, was.room_is, was.for_packets);
-  entry = omega (arith, less_places, was.places_are, was.for_entries, was.spare_is);
-  known = omega (arith, less_places, was.places_are, was.for_entries);
-  mark_room = omega (arith, less_places, was.places_are, was.for_marks);
+  entry = omega (arith, some_place, less_places, was.places_are, was.for_entries, was.spare_is);
+  known = omega (arith, some_place, less_places, was.places_are, was.for_entries);
+  mark_room = omega (arith, some_place, less_places, was.places_are, was.for_marks);
   note = noted last e.owner M notes may.exists was.notes_are;
-  place = omega (arith, one_place, less_places, was.places_are);
+  place = omega (arith, less_places, was.places_are);
   outs = omega (arith, less_room, was.room_is);
   marks = marks_are;
   kept = λ hr2 nr2 left packets. record {
@@ -211,11 +212,11 @@ entered sc most es ms net notes places room spare hr sr nr e was may = record {
     few = was.few;
     whole = length-append es (x ∷ []) ∙ (let one : length es + 1 ≡ suc (count_stored ms) = (let w = was.whole in omega (arith, w)) in one) ∙ sym (count_entry ms);
     notes_are = rw marks_are all_noted;
-    places_are = rw marks_are (let f = was.places_are in omega (arith, one_place, less_places, f));
+    places_are = rw marks_are (let f = was.places_are in omega (arith, less_places, f));
     room_is = rw marks_are (let f = was.room_is in omega (arith, less_room, f));
-    for_entries = (let f = was.for_entries in let g = was.places_are in omega (arith, f, g, one_place, less_places));
+    for_entries = (let f = was.for_entries in let g = was.places_are in omega (arith, f, g, some_place, less_places));
     spare_is = left;
-    for_marks = (let f = was.for_marks in let g = was.places_are in let long = length-append ms (stored.Entered ∷ []) in omega (arith, f, g, long, one_place, less_places));
+    for_marks = (let f = was.for_marks in let g = was.places_are in let long = length-append ms (stored.Entered ∷ []) in omega (arith, f, g, long, some_place, less_places));
     for_packets = (let f = was.for_packets in let g = was.room_is in omega (arith, f, g, packets, some_room, less_room));
     counted = (let f = was.counted in let g = was.room_is in let more = sent_all (behind_inputs net (inputs_of e.act)) (outs_of e.act) in let same = sent_taken net (inputs_of e.act) in omega (arith, f, g, more, same, some_room, less_room));
   };
@@ -252,11 +253,11 @@ entered sc most es ms net notes places room spare hr sr nr e was may = record {
     same_room : used_room (note_in notes e) x.act ≡ used_room (note_of e.owner M) y.act
     same_room = ap (λ (w : Note). used_room w x.act) note_is ∙ ap (λ (z : Entry). used_room (note_of e.owner M) z.act) x_is
 
-    one_place : used_places (note_in notes e) x.act ≡ 1
-    one_place = same_places ∙ does.place
+    some_place : 1 ≤ used_places (note_in notes e) x.act
+    some_place = let one = does.place in omega (arith, one, same_places)
 
-    less_places : promised last (M ++ mark.Entered y ∷ []) + 1 ≡ promised last M
-    less_places = does.places
+    less_places : promised last (M ++ mark.Entered y ∷ []) + used_places (note_in notes e) x.act ≡ promised last M
+    less_places = let all = does.places in omega (arith, all, same_places)
 
     some_room : length (outs_of e.act) ≤ used_room (note_in notes e) x.act
     some_room = let o = does.outs in omega (arith, o, same_room)

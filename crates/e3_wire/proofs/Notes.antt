@@ -1,7 +1,6 @@
 -- What one more mark says.
-use Rattle.std.proofs.Common.{◌≡◌, ◌≤◌, ℕ, zero, suc, List, [], ◌∷◌, ◌++◌, ◌∙◌, ap, refl, arith}
+use Rattle.std.proofs.Common.{◌≡◌, ◌≤◌, ℕ, zero, suc, [], ◌∷◌, ◌∙◌, ap, refl, arith}
 use Rattle.e3_wire.specs.Claims.{ClaimPromises, EntriesFollow, EntryUses, NothingPromised, ScenarioStays}
-use Rattle.e3_wire.specs.declared.marks.Mark.{Mark}
 use Rattle.e3_wire.specs.declared.marks.Mark.TheVariants as mark
 use Rattle.e3_wire.specs.declared.marks.Note.{Note}
 use Rattle.e3_wire.specs.Marks.{last_owner, note_of, promised, total}

@@ -1,12 +1,14 @@
 -- What entries take of the network, and that the network goes on to stand for the history.
-use Rattle.std.proofs.Common.{◌≡◌, ◌≤◌, ℕ, zero, suc, List, [], ◌∷◌, ◌++◌, append_assoc, ◌∙◌, ap, sym, subst, refl, arith}
+use Rattle.std.proofs.Common.{◌≡◌, ◌≤◌, ℕ, zero, suc, List, [], ◌∷◌, ◌++◌, append_assoc, length, ◌∙◌, ap, sym, subst, refl, arith}
 use Rattle.std.specs.Prelude.{Some}
 use Rattle.e3_types.specs.declared.entries.Act.{Act}
 use Rattle.e3_types.specs.declared.entries.Act.TheVariants.{Step, Fall, Rise, RiseFall, Miss, Cut, Drop, Parts, Line}
 use Rattle.e3_types.specs.declared.entries.Entry.{Entry}
 use Rattle.e3_types.specs.declared.entries.Input.{Input}
 use Rattle.e3_types.specs.declared.entries.Input.TheVariants as input
+use Rattle.e3_types.specs.declared.entries.Why.{Why}
 use Rattle.e3_types.specs.declared.messages.Packet.{Packet}
+use Rattle.e3_types.specs.declared.records.Record.{Record}
 use Rattle.e3_types.specs.declared.scenarios.Scenario.{Scenario}
 use Rattle.e3_world.specs.Items.{inputs_of}
 use Rattle.e3_world.specs.Legal.{IsLegal}
@@ -94,12 +96,18 @@ net_on sc h net (suc s) (Drop packet) some was may takes = absurd may
 net_on sc h net (suc s) (Parts parts) some was may takes = absurd may
 net_on sc h net (suc s) (Line number) some was may takes = absurd may
 
--- an entry of a site uses one place
+-- a fall has an input
+some_input : (sc : Scenario) (h : List Entry) (s : ℕ) (inputs : List Input) (records : List Record) (why : Why) →
+    Allows sc h (record { owner = suc s; act = Fall inputs records why }) → 1 ≤ length inputs
+some_input sc h s [] records why may = absurd (may.some may.made)
+some_input sc h s (i ∷ inputs) records why may = omega arith
+
+-- an entry of a site uses one place at least
 pub used : (sc : Scenario) (h : List Entry) (o : ℕ) (act : Act) (w : Note) → 1 ≤ o → Allows sc h (record { owner = o; act = act }) → 1 ≤ w.places →
-    suc ((used_by w (numbered_on h (record { owner = o; act = act })).act).places) ≡ w.places
+    suc ((used_by w (numbered_on h (record { owner = o; act = act })).act).places) ≤ w.places
 used sc h zero act w some may place = absurd (omega (arith, some))
 used sc h (suc s) (Step i records outs events) w some may place = omega (arith, place)
-used sc h (suc s) (Fall inputs records why) w some may place = omega (arith, place)
+used sc h (suc s) (Fall inputs records why) w some may place = omega (arith, place, some_input sc h s inputs records why may)
 used sc h (suc s) (Rise kept inc) w some may place = omega (arith, place)
 used sc h (suc s) (RiseFall kept inc why) w some may place = omega (arith, place)
 used sc h (suc s) Miss w some may place = omega (arith, place)

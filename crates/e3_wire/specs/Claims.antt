@@ -60,14 +60,6 @@ EntryUses = (e : Entry) (marks : List Mark) → note_of e.owner (marks ++ mark.E
 abbrev pub NothingPromised : Type 0
 NothingPromised = (marks : List Mark) → NothingIsPromised marks → used_of marks ≡ length (entries_of marks)
 
--- what marks that are played began with, from some of them that were played on, was played
-abbrev pub FrontsArePlayed : Type 0
-FrontsArePlayed = (seen since more : List Mark) → IsPlayed seen → IsPlayed ((seen ++ since) ++ more) → IsPlayed (seen ++ since)
-
--- what is used never grows less
-abbrev pub UsedGrows : Type 0
-UsedGrows = (seen since : List Mark) → IsPlayed seen → used_of seen ≤ used_of (seen ++ since)
-
 -- Where nothing is promised, an entry of the driver promises nothing, and the entry of a site that a place was claimed for
 -- leaves nothing promised, if it uses all of the claim.
 abbrev pub EntriesPromiseNothing : Type 0

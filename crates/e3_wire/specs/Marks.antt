@@ -50,11 +50,11 @@ last_owner marks = length (scenario_of marks).weights
 abbrev pub nothing : Note
 nothing = record { places = 0; room = 0 }
 
--- what an act leaves of a note: an entry of a site uses a place, and a step the room of its packets; a fall gives all room
--- back; the driver's use nothing
+-- what an act leaves of a note: an entry of a site uses a place, and a step the room of its packets; a fall uses a place for
+-- each of its inputs, and gives all room back; the driver's use nothing
 abbrev pub used_by : Note → Act → Note
 used_by w (Step i records outs events) = record { places = w.places - 1; room = w.room - length outs }
-used_by w (Fall inputs records why) = record { places = w.places - 1; room = 0 }
+used_by w (Fall inputs records why) = record { places = w.places - length inputs; room = 0 }
 used_by w (Drop packet) = w
 used_by w (Parts parts) = w
 used_by w (Line number) = w

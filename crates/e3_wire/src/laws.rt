@@ -1,5 +1,5 @@
 // What a pass may conclude of marks.
-ghost use Rattle.e3_wire.specs.Claims.{AreOthersMarks, ClaimPromises, ClaimedDraftsMayEnter, ClaimedEntriesMayEnter, ClaimedEntriesStay, ClaimsAreUsed, DriversMayPut, EntriesFollow, EntriesPromiseNothing, EntryUses, FrontsArePlayed, GrowthAddsUp, LeaveASite, NothingPromised, ScenarioStays, TakenIsDue, UsedGrows};
+ghost use Rattle.e3_wire.specs.Claims.{AreOthersMarks, ClaimPromises, ClaimedDraftsMayEnter, ClaimedEntriesMayEnter, ClaimedEntriesStay, ClaimsAreUsed, DriversMayPut, EntriesFollow, EntriesPromiseNothing, EntryUses, GrowthAddsUp, LeaveASite, NothingPromised, ScenarioStays, TakenIsDue};
 
 /// Marks that were put while a pass rested belong to none of its owners. For a site of its own they are entries of other
 /// sites, none of the driver's and no line, and they leave what is promised to it.
@@ -15,16 +15,14 @@ pub fn drivers_may_put_marks()
 
 /// What more marks say: their entries follow those before, and the scenario stays. A claim adds to its owner's note what an
 /// entry of the owner uses. Where nothing is promised, the history is full exactly where it has as many entries as it may
-/// have. What is used never grows less, growth adds up, and a beginning of marks that are played is played.
+/// have. Growth adds up.
 pub fn marks_add_up()
     ensures entries { EntriesFollow }
     ensures scenario { ScenarioStays }
     ensures claim { ClaimPromises }
     ensures entry { EntryUses }
     ensures none { NothingPromised }
-    ensures used { UsedGrows }
     ensures growth { GrowthAddsUp }
-    ensures fronts { FrontsArePlayed }
 {}
 
 /// Where nothing is promised, neither a place nor room, nothing is behind an entry of the driver, or behind a claim and the

@@ -60,7 +60,10 @@ fn used_by(note: Note, act: &Act) -> Note
             places,
             room: note.room.saturating_sub(outs.len()),
         },
-        Act::Fall { .. } => Note { places, room: 0 },
+        Act::Fall { inputs, .. } => Note {
+            places: note.places.saturating_sub(inputs.len()),
+            room: 0,
+        },
         Act::Drop { .. } | Act::Parts { .. } | Act::Line { .. } => note,
         _ => Note {
             places,

@@ -1,5 +1,5 @@
 // The wire, in turns.
-ghost use Rattle.std.specs.Prelude.{◌≡◌, ◌<◌, ◌≤◌, ◌++◌, ◌∷◌, ◌==◌, ◌↔◌, [], ℕ, List as Items, length, true, false, IfOk, OnOk, OnErr, Err, find, slice_get, take};
+ghost use Rattle.std.specs.Prelude.{◌≡◌, ◌<◌, ◌≤◌, ◌++◌, ◌∷◌, ◌==◌, ◌↔◌, [], ℕ, List as Items, length, nat_le, true, false, IfOk, OnOk, OnErr, Err, find, slice_get, take};
 ghost use Rattle.e3_law_local.specs.Least.{queue_to};
 ghost use Rattle.e3_law_local.specs.Others.{numbered_on};
 ghost use Rattle.e3_turn.specs.Chronicles.{down_from, longer, without};
@@ -102,7 +102,7 @@ impl Wire {
         ensures same { SameOwners pass.old pass.new }
         ensures claimed { (between : Items Mark) × GrewByOthers belongs pass.old between
             × OnOk result (seen_by pass.new ≡ between ++ mark.Place owner outs ∷ []) × OnErr result (seen_by pass.new ≡ between)
-            × ((result ≡ Err HistoryFull) ↔ (most_of between ≤ used_of between)) }
+            × ((result ≡ Err HistoryFull) ↔ (most_of between ≤ used_of between)) × IsPlayed between }
         ensures played { IsPlayed (seen_by pass.new) }
     {
         let mut shared = self.take(rt, pass);
@@ -166,6 +166,21 @@ impl Wire {
         found
     }
 
+    /// The entries and promised places that the pass has seen then are as many as there may be entries.
+    pub fn is_full<R: Wait>(&self, rt: &R, pass: &mut WirePass) -> bool
+        requires { IsIdle self.now pass.old }
+        ensures idle { IsIdle self.now pass.new }
+        ensures same { SameOwners pass.old pass.new }
+        ensures grew { GrewByOthers belongs pass.old (seen_by pass.new) }
+        ensures is { result ≡ nat_le (most_of (seen_by pass.new)) (used_of (seen_by pass.new)) }
+        ensures played { IsPlayed (seen_by pass.new) }
+    {
+        let shared = self.take(rt, pass);
+        let full = shared.is_full();
+        self.put(pass, shared);
+        full
+    }
+
     /// The number of entries of the history that the pass has seen then.
     pub fn len<R: Wait>(&self, rt: &R, pass: &mut WirePass) -> u64
         requires { IsIdle self.now pass.old }
@@ -214,7 +229,7 @@ impl Wire {
         ensures idle { IsIdle self.now pass.new }
         ensures same { SameOwners pass.old pass.new }
         ensures entered { (between : Items Mark) × GrewByOthers belongs pass.old between
-            × (seen_by pass.new ≡ between ++ mark.Entered (numbered_on (entries_of between) entry) ∷ []) }
+            × (seen_by pass.new ≡ between ++ mark.Entered (numbered_on (entries_of between) entry) ∷ []) × IsPlayed between }
         ensures played { IsPlayed (seen_by pass.new) }
     {
         let mut shared = self.take(rt, pass);

@@ -2,11 +2,10 @@ use Rattle.std.proofs.Common.{◌<◌, ◌∙◌, List, sym, ap, subst, arith, l
 use Rattle.std.specs.Prelude.{slice_index_or}
 use Rattle.e3_crew.specs.Workers.{AddedByOthers}
 use Rattle.e3_node.specs.NodeView.{NodeView}
-use Rattle.e3_play.specs.declared.sites.RunFault.TheVariants.{HistoryFull}
 use Rattle.e3_turn.specs.Passes.{seen_by}
 use Rattle.e3_wire.specs.declared.marks.Mark.{Mark}
 use Rattle.e3_wire.specs.Wires.{IsPlayed}
-use Rattle.e3_crew.proofs.Packets.{can_take, packets_full, still_delivering}
+use Rattle.e3_crew.proofs.Packets.{can_take, still_delivering}
 use Rattle.e3_crew.proofs.Rounding.{crew_again, gone_on}
 use Rattle.e3_crew.proofs.rounds.packet_round.Goals as goal
 
@@ -85,22 +84,3 @@ returns-clause-delivering g c = still_delivering g.D.Disk.content g.D.Disk.image
       last = c.gather.ensures.last ∙ c.deal.ensures.last;
       played = c.gather.ensures.played;
     }) c.requires.delivering.done
-
-pub returns-clause-full : goal.returns-clause-full
-returns-clause-full g c = λ is. packets_full g.D.Disk.content g.D.Disk.image g.D.Disk.meters c.others_leave_nodes.ensures.nodes c.args.wire.now c.args.pass.now c.gather.new.pass c.args.workers.now c.deal.new.workers c.all_take.new.workers c.gather.new.workers
-    (record {
-      was = c.requires.crew;
-      dealt_count = c.deal.auto.workers;
-      turned_count = c.all_take.auto.workers ∙ c.deal.auto.workers;
-      count = c.gather.auto.workers ∙ c.all_take.auto.workers ∙ c.deal.auto.workers;
-      dealt = c.deal.ensures.dealt;
-      worked = λ i d low. (c.all_take.ensures i d (omega (arith, low, c.deal.auto.workers))).worked;
-      same = λ i d low. c.gather.ensures.same i d (omega (arith, low, c.deal.auto.workers, c.all_take.auto.workers));
-      each = λ i d low. c.gather.ensures.each i d (omega (arith, low, c.deal.auto.workers, c.all_take.auto.workers));
-      driver = (let P : List Mark → Type 0 = λ l. AddedByOthers 0 l (seen_by c.gather.new.pass) in subst P c.deal.ensures.seen c.gather.ensures.driver);
-      idle = c.gather.ensures.idle;
-      owns = λ o low. c.gather.ensures.all o (omega (arith, low, c.deal.auto.workers, c.all_take.auto.workers));
-      last = c.gather.ensures.last ∙ c.deal.ensures.last;
-      played = c.gather.ensures.played;
-    }) c.requires.begun c.requires.delivering.done
-    (λ i d low. c.all_take.ensures i d (omega (arith, low, c.deal.auto.workers))) c.marks_add_up.ensures.used c.marks_add_up.ensures.none (c.ended.ensures.refused HistoryFull is)

@@ -67,6 +67,5 @@ returns-in_err-packet_round-clause-delivering g c =
 
 pub returns-in_err-packet_round-clause-full : goal.returns-in_err-packet_round-clause-full
 returns-in_err-packet_round-clause-full g c = λ is.
-    let on = (gone_further g.D.Disk.meters (seen_by c.args.pass.now) (seen_by c.loop.pass) (seen_by c.drop_down.new.pass) c.args.workers.now c.loop.workers c.loop.workers c.loop.invariant.on c.drop_down.ensures.on) in
     let full : c.packet_round.result ≡ Err HistoryFull = search rules in
-    full_on IsPacketDue (seen_by c.args.pass.now) (seen_by c.drop_down.new.pass) on.scenario on.most (history_seen c.packet_round.new.pass) (c.packet_round.ensures.full full)
+    absurd (c.packet_round.ensures.never full)

@@ -1,9 +1,5 @@
-use Rattle.std.proofs.Common.{rules, ◌≡◌, ℕ, Err, subst}
-use Rattle.e3_crew.specs.Workers.{PacketHadNoRoom}
-use Rattle.e3_crew.proofs.Taking.{packet_may, packet_refused, through_worked}
+use Rattle.e3_crew.proofs.Taking.{through_worked}
 use Rattle.e3_crew.proofs.Turning.{worked_none, worked_on}
-use Rattle.e3_node.specs.Turns.{history_seen, scenario_seen}
-use Rattle.e3_play.specs.declared.sites.RunFault.TheVariants.{HistoryFull}
 use Rattle.e3_turn.specs.Passes.{seen_by}
 use Rattle.e3_crew.proofs.working.give_packets.Goals as goal
 
@@ -13,37 +9,24 @@ loop-init g c = record {
   worked = worked_none g.D.Disk.content g.D.Disk.image g.D.Disk.meters (seen_by c.args.pass.now) c.args.node.now c.requires.knows;
 }
 
-pub returns-in_default-clause-worked : goal.returns-in_default-clause-worked
-returns-in_default-clause-worked g c =
-    worked_on g.D.Disk.content g.D.Disk.image g.D.Disk.meters (seen_by c.args.pass.now) (seen_by c.loop.pass) (seen_by c.next_packet.new.pass)
-    c.args.node.now c.loop.node c.loop.node c.loop.invariant.worked c.next_packet.ensures.worked
-
-pub give-requires-clause-due : goal.give-requires-clause-due
-give-requires-clause-due g c = λ up.
-    packet_may (scenario_seen c.next_packet.new.pass) (history_seen c.next_packet.new.pass) c.loop.node.site c.in-Some-next_packet.packet c.in-Some-next_packet.ensures.some
-    (through_worked g.D.Disk.content g.D.Disk.image g.D.Disk.meters (seen_by c.args.pass.now) (seen_by c.next_packet.new.pass) c.args.node.now c.loop.node c.requires.knows.played.given
-    (worked_on g.D.Disk.content g.D.Disk.image g.D.Disk.meters (seen_by c.args.pass.now) (seen_by c.loop.pass) (seen_by c.next_packet.new.pass)
-    c.args.node.now c.loop.node c.loop.node c.loop.invariant.worked c.next_packet.ensures.worked) c.requires.through)
+pub take_few-requires-clause-through : goal.take_few-requires-clause-through
+take_few-requires-clause-through g c =
+    through_worked g.D.Disk.content g.D.Disk.image g.D.Disk.meters (seen_by c.args.pass.now) (seen_by c.loop.pass) c.args.node.now c.loop.node c.requires.knows.played.given
+    c.loop.invariant.worked c.requires.through
 
 pub loop-preserved : goal.loop-preserved
 loop-preserved g c = record {
-  pass = c.in_ok-give.ensures.pass;
-  worked = worked_on g.D.Disk.content g.D.Disk.image g.D.Disk.meters (seen_by c.args.pass.now) (seen_by c.next_packet.new.pass) (seen_by c.give.new.pass)
-      c.args.node.now c.loop.node c.give.new.node
-      (worked_on g.D.Disk.content g.D.Disk.image g.D.Disk.meters (seen_by c.args.pass.now) (seen_by c.loop.pass) (seen_by c.next_packet.new.pass)
-      c.args.node.now c.loop.node c.loop.node c.loop.invariant.worked c.next_packet.ensures.worked) c.give.ensures.given.worked;
+  pass = c.take_few.ensures.pass;
+  worked = worked_on g.D.Disk.content g.D.Disk.image g.D.Disk.meters (seen_by c.args.pass.now) (seen_by c.loop.pass) (seen_by c.take_few.new.pass)
+      c.args.node.now c.loop.node c.take_few.new.node c.loop.invariant.worked c.take_few.ensures.worked;
 }
 
-pub returns-in_err-give-clause-worked : goal.returns-in_err-give-clause-worked
-returns-in_err-give-clause-worked g c =
-    worked_on g.D.Disk.content g.D.Disk.image g.D.Disk.meters (seen_by c.args.pass.now) (seen_by c.next_packet.new.pass) (seen_by c.give.new.pass)
-    c.args.node.now c.loop.node c.give.new.node
-    (worked_on g.D.Disk.content g.D.Disk.image g.D.Disk.meters (seen_by c.args.pass.now) (seen_by c.loop.pass) (seen_by c.next_packet.new.pass)
-    c.args.node.now c.loop.node c.loop.node c.loop.invariant.worked c.next_packet.ensures.worked) c.give.ensures.given.worked
+pub returns-then-not-branch-clause-worked : goal.returns-then-not-branch-clause-worked
+returns-then-not-branch-clause-worked g c =
+    worked_on g.D.Disk.content g.D.Disk.image g.D.Disk.meters (seen_by c.args.pass.now) (seen_by c.loop.pass) (seen_by c.take_few.new.pass)
+    c.args.node.now c.loop.node c.take_few.new.node c.loop.invariant.worked c.take_few.ensures.worked
 
-pub returns-in_err-give-clause-full : goal.returns-in_err-give-clause-full
-returns-in_err-give-clause-full g c = λ is.
-    let full : c.give.result ≡ Err HistoryFull = search rules in
-    let P : ℕ → Type 0 = λ site. PacketHadNoRoom (seen_by c.give.new.pass) site in
-    subst P c.loop.invariant.worked.site (packet_refused g.D.Disk.content g.D.Disk.image g.D.Disk.meters (seen_by c.next_packet.new.pass) (seen_by c.give.new.pass)
-    c.loop.node c.give.new.node c.in-Some-next_packet.packet c.give.result c.in-Some-next_packet.ensures.some c.give.ensures.given full)
+pub returns-in_err-take_few-clause-worked : goal.returns-in_err-take_few-clause-worked
+returns-in_err-take_few-clause-worked g c =
+    worked_on g.D.Disk.content g.D.Disk.image g.D.Disk.meters (seen_by c.args.pass.now) (seen_by c.loop.pass) (seen_by c.take_few.new.pass)
+    c.args.node.now c.loop.node c.take_few.new.node c.loop.invariant.worked c.take_few.ensures.worked

@@ -1,4 +1,4 @@
-use Rattle.std.proofs.Common.{List, length, ◌∷◌, [], ap, sym, ◌∙◌}
+use Rattle.std.proofs.Common.{List, ◌∷◌, [], ap, sym, ◌∙◌}
 use Rattle.e3_fleet.proofs.Holding.{owns_from}
 use Rattle.e3_fleet.proofs.flying.open_wire.Goals as goal
 use Rattle.e3_types.specs.declared.scenarios.Scenario.{Scenario}

@@ -72,7 +72,8 @@ pub enter-requires-in-Err-clause-all : goal.enter-requires-in-Err-clause-all
 enter-requires-in-Err-clause-all g c =
     let d = c.in_ok-draft.draft in
     subst (λ (x : Entry). UsesAll c.claim.new.shared x) (sym c.fall_of-fall.ensures)
-    (fall_uses c.args.number _ c.args.shared.now c.claim.new.shared d.inputs c.into_step-made.result.records c.in-Err.why c.in_ok-claim.ensures.claimed)
+    (fall_uses c.args.number _ c.args.shared.now c.claim.new.shared d.inputs c.into_step-made.result.records c.in-Err.why
+    (ap length c.in_ok-draft.ensures.ready.drafted.inputs_are) c.in_ok-claim.ensures.claimed)
 
 pub returns-in-Ok-clause-shared : goal.returns-in-Ok-clause-shared
 returns-in-Ok-clause-shared g c =

@@ -1,4 +1,4 @@
-use Rattle.std.proofs.Common.{◌≡◌, ◌++◌, ◌∷◌, [], ℕ, List, length, take, refl, sym, subst, ap, ◌∙◌}
+use Rattle.std.proofs.Common.{◌≡◌, ◌++◌, ◌∷◌, [], ℕ, List, length, take, refl, sym, subst, ap, ◌∙◌, arith}
 use Rattle.e3_law_local.specs.Others.{numbered_on}
 use Rattle.e3_log.specs.Stands.{Stands}
 use Rattle.e3_node.specs.Batched.{HasPlanned}
@@ -12,14 +12,15 @@ use Rattle.e3_types.specs.declared.entries.Act.TheVariants.{Fall}
 use Rattle.e3_types.specs.declared.entries.Entry.{Entry}
 use Rattle.e3_types.specs.declared.entries.Input.{Input}
 use Rattle.e3_types.specs.declared.records.Record.{Record}
-use Rattle.e3_wire.specs.Marks.{belongs, entries_of, scenario_of}
-use Rattle.e3_wire.specs.Wires.{MayEnterBehind}
+use Rattle.e3_wire.specs.Marks.{belongs, entries_of, note_of, scenario_of}
+use Rattle.e3_wire.specs.Wires.{IsPlayed, MayEnterBehind}
 use Rattle.e3_wire.specs.declared.marks.Mark.{Mark}
 use Rattle.e3_wire.specs.declared.marks.Mark.TheVariants as mark
+use Rattle.e3_wire.specs.declared.marks.Note.{Note}
 use Rattle.e3_world.specs.Moves.{log_size}
 use Rattle.e3_node.proofs.Bundles.{plain_own}
-use Rattle.e3_node.proofs.Ended.{full_on, never_down}
-use Rattle.e3_node.proofs.Results.{alone, between_played, counted_fallen, counted_stepped, fall_end, fall_may, gone, history_fallen, history_stepped, made, may_all_enter, note_fallen, note_stepped, seen_since, steps_are, steps_end, up_first, up_second}
+use Rattle.e3_node.proofs.Ended.{never_down}
+use Rattle.e3_node.proofs.Results.{alone, counted_fallen, counted_stepped, fall_end, fall_may, history_fallen, history_stepped, made, may_all_enter, note_fallen, note_stepped, steps_are, steps_end, turned, up_first, up_second, was_full}
 use Rattle.e3_node.proofs.Waiting.{still_owns}
 use Rattle.e3_node.proofs.taking.step_all.Goals as goal
 
@@ -56,7 +57,12 @@ enter_steps-requires-clause-owned g c =
     subst (λ (l : List Input). HasPlanned p n s0.inputs l answer b s1 (seen_by q)) c.as_slice.ensures c.plan_all-refused.ensures.planned in
     let mine = still_owns p q n c.plan_all-refused.ensures.same c.requires.owns in
     let is = made p q n s0.inputs c.args.inputs answer b s1 plan c.requires.owns mine c.requires.played c.plan_all-refused.ensures.played in
-    record { site = n; some = c.requires.some; owns = mine; are = subst (λ (l : List Entry). AreOf n l) (sym is.steps_are) (plain_own (scenario_of (seen_by p)) (entries_of plan.between) n (take plan.count c.args.inputs)) }
+    record {
+      site = n;
+      some = c.requires.some;
+      owns = mine;
+      are = subst (λ (l : List Entry). AreOf n l) (sym is.steps_are) (plain_own (scenario_of (seen_by p)) (entries_of plan.between) n (take plan.count c.args.inputs));
+    }
 
 pub enter_steps-requires-clause-may : goal.enter_steps-requires-clause-may
 enter_steps-requires-clause-may g c =
@@ -149,8 +155,8 @@ returns-in-Ok-clause-counted g c =
     c.args.count.now c.enter_steps.new.count c.requires.counted c.enter_steps.ensures.counted (entries_of (seen_by r))
     (history_stepped p q n s0.inputs c.args.inputs answer b s1 plan c.requires.owns mine c.requires.played c.plan_all-refused.ensures.played c.requires.some c.requires.up.up c.requires.restless c.requires.due c.requires.takes ent.0 ent.1 ent.2 (seen_by r) ent.3)
 
-pub returns-in-Ok-clause-gone : goal.returns-in-Ok-clause-gone
-returns-in-Ok-clause-gone g c =
+pub returns-in-Ok-clause-turned : goal.returns-in-Ok-clause-turned
+returns-in-Ok-clause-turned g c =
     let p = c.args.pass.now in
     let q = c.plan_all-refused.new.pass in
     let n = c.args.number in
@@ -166,27 +172,11 @@ returns-in-Ok-clause-gone g c =
     let r = c.enter_steps.new.pass in
     let ent = c.enter_steps.ensures.entered in
     let tail = marks_in (entries_of ent.0) b.steps.items in
-    gone p q n s0.inputs c.args.inputs answer b s1 plan c.requires.owns mine c.requires.played c.plan_all-refused.ensures.played c.requires.some c.requires.up.up c.requires.restless c.requires.due c.requires.takes ent.0 ent.1 ent.2
+    let note = note_stepped p q n s0.inputs c.args.inputs answer b s1 plan c.requires.owns mine c.requires.played c.plan_all-refused.ensures.played c.requires.some c.requires.up.up c.requires.restless c.requires.due c.requires.takes ent.0 ent.1 ent.2 (seen_by r) ent.3 in
+    turned p q n s0.inputs c.args.inputs answer b s1 plan c.requires.owns mine c.requires.played c.plan_all-refused.ensures.played c.requires.some c.requires.up.up c.requires.restless c.requires.due c.requires.takes ent.0 ent.1 ent.2
     c.args.wire.now r tail ent.3 c.enter_steps.ensures.idle c.plan_all-refused.ensures.same c.enter_steps.ensures.same c.enter_steps.ensures.played
-
-pub returns-in-Ok-clause-promised : goal.returns-in-Ok-clause-promised
-returns-in-Ok-clause-promised g c =
-    let p = c.args.pass.now in
-    let q = c.plan_all-refused.new.pass in
-    let n = c.args.number in
-    let s0 = c.args.site.now in
-    let l0 = c.args.log.now in
-    let l1 = c.write.new.log in
-    let b = c.plan_all-refused.new.batch in
-    let s1 = c.plan_all-refused.new.site in
-    let answer = c.plan_all-refused.result in
-    let plan : HasPlanned p n s0.inputs c.args.inputs answer b s1 (seen_by q) =
-    subst (λ (l : List Input). HasPlanned p n s0.inputs l answer b s1 (seen_by q)) c.as_slice.ensures c.plan_all-refused.ensures.planned in
-    let mine = still_owns p q n c.plan_all-refused.ensures.same c.requires.owns in
-    let r = c.enter_steps.new.pass in
-    let ent = c.enter_steps.ensures.entered in
-    let tail = marks_in (entries_of ent.0) b.steps.items in
-    note_stepped p q n s0.inputs c.args.inputs answer b s1 plan c.requires.owns mine c.requires.played c.plan_all-refused.ensures.played c.requires.some c.requires.up.up c.requires.restless c.requires.due c.requires.takes ent.0 ent.1 ent.2 (seen_by r) ent.3
+    (ap (λ (w : Note). w.places) note)
+    (let room : (note_of n (seen_by r)).room ≡ (note_of n (seen_by p)).room = ap (λ (w : Note). w.room) note in omega (arith, room))
 
 pub returns-in-Ok-clause-ended : goal.returns-in-Ok-clause-ended
 returns-in-Ok-clause-ended g c =
@@ -234,9 +224,7 @@ returns-in-Ok-clause-full g c =
     let r = c.enter_steps.new.pass in
     let ent = c.enter_steps.ensures.entered in
     let tail = marks_in (entries_of ent.0) b.steps.items in
-    λ is.
-    let more = seen_since p q n s0.inputs c.args.inputs answer b s1 plan c.requires.owns mine c.requires.played c.plan_all-refused.ensures.played c.requires.some c.requires.up.up c.requires.restless c.requires.due c.requires.takes ent.0 ent.1 ent.2 (seen_by r) tail ent.3 in
-    full_on (seen_by q) more.0 (seen_by r) c.plan_all-refused.ensures.played more.1 (c.plan_all-refused.ensures.full is)
+    λ is. was_full p q n s0.inputs c.args.inputs answer b s1 plan c.requires.owns mine c.requires.played c.plan_all-refused.ensures.played c.requires.some c.requires.up.up c.requires.restless c.requires.due c.requires.takes ent.0 ent.1 ent.2 r tail ent.3 (c.plan_all-refused.ensures.full is)
 
 pub returns-in-Err-clause-counted : goal.returns-in-Err-clause-counted
 returns-in-Err-clause-counted g c =
@@ -256,18 +244,18 @@ returns-in-Err-clause-counted g c =
     let over = c.first_of-over.result in
     let why = c.in-Err.why in
     let e : Entry = record { owner = n; act = Fall over b.records why } in
-    let P : Entry → Type 0 = λ y. (later : List Mark) × GrewByOthers belongs q later × (seen_by r ≡ later ++ mark.Entered (numbered_on (entries_of later) y) ∷ []) in
+    let P : Entry → Type 0 = λ y. (later : List Mark) × GrewByOthers belongs q later
+    × (seen_by r ≡ later ++ mark.Entered (numbered_on (entries_of later) y) ∷ []) × IsPlayed later in
     let ent : P e = subst P c.fall_of-fall.ensures c.commit_entry.ensures.entered in
     let tail : List Mark = mark.Entered (numbered_on (entries_of ent.0) e) ∷ [] in
-    let between = between_played q ent.0 (seen_by r) tail ent.1 c.plan_all-refused.ensures.played ent.2 c.commit_entry.ensures.played in
-    counted_fallen p q n s0.inputs c.args.inputs answer b s1 plan c.requires.owns mine c.requires.played c.plan_all-refused.ensures.played c.requires.some c.requires.up.up c.requires.restless c.requires.due c.requires.takes ent.0 ent.1 between
+    counted_fallen p q n s0.inputs c.args.inputs answer b s1 plan c.requires.owns mine c.requires.played c.plan_all-refused.ensures.played c.requires.some c.requires.up.up c.requires.restless c.requires.due c.requires.takes ent.0 ent.1 ent.3
     over why c.args.count.now c.count_on.new.count (c.first_of-over.ensures ∙ ap (λ (k : ℕ). take k c.args.inputs) (ap length c.as_slice-in-Err.ensures.value ∙ steps_are p q n s0.inputs c.args.inputs answer b s1 plan c.requires.owns mine c.requires.played c.plan_all-refused.ensures.played)) c.requires.counted
     (c.count_on.ensures ∙ ap (λ (y : Entry). counted_by c.args.count.now y.act) c.fall_of-fall.ensures) (entries_of (seen_by r))
-    (history_fallen p q n s0.inputs c.args.inputs answer b s1 plan c.requires.owns mine c.requires.played c.plan_all-refused.ensures.played c.requires.some c.requires.up.up c.requires.restless c.requires.due c.requires.takes ent.0 ent.1 between over why (seen_by r)
+    (history_fallen p q n s0.inputs c.args.inputs answer b s1 plan c.requires.owns mine c.requires.played c.plan_all-refused.ensures.played c.requires.some c.requires.up.up c.requires.restless c.requires.due c.requires.takes ent.0 ent.1 ent.3 over why (seen_by r)
     (c.first_of-over.ensures ∙ ap (λ (k : ℕ). take k c.args.inputs) (ap length c.as_slice-in-Err.ensures.value ∙ steps_are p q n s0.inputs c.args.inputs answer b s1 plan c.requires.owns mine c.requires.played c.plan_all-refused.ensures.played)) ent.2)
 
-pub returns-in-Err-clause-gone : goal.returns-in-Err-clause-gone
-returns-in-Err-clause-gone g c =
+pub returns-in-Err-clause-turned : goal.returns-in-Err-clause-turned
+returns-in-Err-clause-turned g c =
     let p = c.args.pass.now in
     let q = c.plan_all-refused.new.pass in
     let n = c.args.number in
@@ -284,37 +272,14 @@ returns-in-Err-clause-gone g c =
     let over = c.first_of-over.result in
     let why = c.in-Err.why in
     let e : Entry = record { owner = n; act = Fall over b.records why } in
-    let P : Entry → Type 0 = λ y. (later : List Mark) × GrewByOthers belongs q later × (seen_by r ≡ later ++ mark.Entered (numbered_on (entries_of later) y) ∷ []) in
+    let P : Entry → Type 0 = λ y. (later : List Mark) × GrewByOthers belongs q later
+    × (seen_by r ≡ later ++ mark.Entered (numbered_on (entries_of later) y) ∷ []) × IsPlayed later in
     let ent : P e = subst P c.fall_of-fall.ensures c.commit_entry.ensures.entered in
     let tail : List Mark = mark.Entered (numbered_on (entries_of ent.0) e) ∷ [] in
-    let between = between_played q ent.0 (seen_by r) tail ent.1 c.plan_all-refused.ensures.played ent.2 c.commit_entry.ensures.played in
-    gone p q n s0.inputs c.args.inputs answer b s1 plan c.requires.owns mine c.requires.played c.plan_all-refused.ensures.played c.requires.some c.requires.up.up c.requires.restless c.requires.due c.requires.takes ent.0 ent.1 between
-    c.args.wire.now r tail ent.2 c.commit_entry.ensures.idle c.plan_all-refused.ensures.same c.commit_entry.ensures.same c.commit_entry.ensures.played
-
-pub returns-in-Err-clause-promised : goal.returns-in-Err-clause-promised
-returns-in-Err-clause-promised g c =
-    let p = c.args.pass.now in
-    let q = c.plan_all-refused.new.pass in
-    let n = c.args.number in
-    let s0 = c.args.site.now in
-    let l0 = c.args.log.now in
-    let l1 = c.write.new.log in
-    let b = c.plan_all-refused.new.batch in
-    let s1 = c.plan_all-refused.new.site in
-    let answer = c.plan_all-refused.result in
-    let plan : HasPlanned p n s0.inputs c.args.inputs answer b s1 (seen_by q) =
-    subst (λ (l : List Input). HasPlanned p n s0.inputs l answer b s1 (seen_by q)) c.as_slice.ensures c.plan_all-refused.ensures.planned in
-    let mine = still_owns p q n c.plan_all-refused.ensures.same c.requires.owns in
-    let r = c.commit_entry.new.pass in
-    let over = c.first_of-over.result in
-    let why = c.in-Err.why in
-    let e : Entry = record { owner = n; act = Fall over b.records why } in
-    let P : Entry → Type 0 = λ y. (later : List Mark) × GrewByOthers belongs q later × (seen_by r ≡ later ++ mark.Entered (numbered_on (entries_of later) y) ∷ []) in
-    let ent : P e = subst P c.fall_of-fall.ensures c.commit_entry.ensures.entered in
-    let tail : List Mark = mark.Entered (numbered_on (entries_of ent.0) e) ∷ [] in
-    let between = between_played q ent.0 (seen_by r) tail ent.1 c.plan_all-refused.ensures.played ent.2 c.commit_entry.ensures.played in
-    note_fallen p q n s0.inputs c.args.inputs answer b s1 plan c.requires.owns mine c.requires.played c.plan_all-refused.ensures.played c.requires.some c.requires.up.up c.requires.restless c.requires.due c.requires.takes ent.0 ent.1 between over why (seen_by r)
-    (λ none. c.in-Err.ensures.some (c.as_slice-2.ensures ∙ none)) ent.2
+    let note = note_fallen p q n s0.inputs c.args.inputs answer b s1 plan c.requires.owns mine c.requires.played c.plan_all-refused.ensures.played c.requires.some c.requires.up.up c.requires.restless c.requires.due c.requires.takes ent.0 ent.1 ent.3 over why (seen_by r)
+    (c.first_of-over.ensures ∙ ap (λ (k : ℕ). take k c.args.inputs) (ap length c.as_slice-in-Err.ensures.value ∙ steps_are p q n s0.inputs c.args.inputs answer b s1 plan c.requires.owns mine c.requires.played c.plan_all-refused.ensures.played)) ent.2 in
+    turned p q n s0.inputs c.args.inputs answer b s1 plan c.requires.owns mine c.requires.played c.plan_all-refused.ensures.played c.requires.some c.requires.up.up c.requires.restless c.requires.due c.requires.takes ent.0 ent.1 ent.3
+    c.args.wire.now r tail ent.2 c.commit_entry.ensures.idle c.plan_all-refused.ensures.same c.commit_entry.ensures.same c.commit_entry.ensures.played note.0 note.1
 
 pub returns-in-Err-clause-ended : goal.returns-in-Err-clause-ended
 returns-in-Err-clause-ended g c =
@@ -334,11 +299,11 @@ returns-in-Err-clause-ended g c =
     let over = c.first_of-over.result in
     let why = c.in-Err.why in
     let e : Entry = record { owner = n; act = Fall over b.records why } in
-    let P : Entry → Type 0 = λ y. (later : List Mark) × GrewByOthers belongs q later × (seen_by r ≡ later ++ mark.Entered (numbered_on (entries_of later) y) ∷ []) in
+    let P : Entry → Type 0 = λ y. (later : List Mark) × GrewByOthers belongs q later
+    × (seen_by r ≡ later ++ mark.Entered (numbered_on (entries_of later) y) ∷ []) × IsPlayed later in
     let ent : P e = subst P c.fall_of-fall.ensures c.commit_entry.ensures.entered in
     let tail : List Mark = mark.Entered (numbered_on (entries_of ent.0) e) ∷ [] in
-    let between = between_played q ent.0 (seen_by r) tail ent.1 c.plan_all-refused.ensures.played ent.2 c.commit_entry.ensures.played in
-    fall_end p q n s0.inputs c.args.inputs answer b s1 plan c.requires.owns mine c.requires.played c.plan_all-refused.ensures.played c.requires.some c.requires.up.up c.requires.restless c.requires.due c.requires.takes ent.0 ent.1 between
+    fall_end p q n s0.inputs c.args.inputs answer b s1 plan c.requires.owns mine c.requires.played c.plan_all-refused.ensures.played c.requires.some c.requires.up.up c.requires.restless c.requires.due c.requires.takes ent.0 ent.1 ent.3
     g.D.Disk.content g.D.Disk.image g.D.Disk.meters s0 l0 l1 c.requires.up refl c.legal_histories_mention_what_stands.ensures.records c.begun_are_transactions.ensures c.records_suit_their_site.ensures.votes c.requires.back
     (up_first p q n s0.inputs c.args.inputs answer b s1 plan c.requires.owns mine c.requires.played c.plan_all-refused.ensures.played g.D.Disk.content g.D.Disk.image g.D.Disk.meters s0 l0 c.requires.up) why
     (λ none. c.in-Err.ensures.some (c.as_slice-2.ensures ∙ none))
@@ -369,10 +334,8 @@ returns-in-Err-clause-full g c =
     let over = c.first_of-over.result in
     let why = c.in-Err.why in
     let e : Entry = record { owner = n; act = Fall over b.records why } in
-    let P : Entry → Type 0 = λ y. (later : List Mark) × GrewByOthers belongs q later × (seen_by r ≡ later ++ mark.Entered (numbered_on (entries_of later) y) ∷ []) in
+    let P : Entry → Type 0 = λ y. (later : List Mark) × GrewByOthers belongs q later
+    × (seen_by r ≡ later ++ mark.Entered (numbered_on (entries_of later) y) ∷ []) × IsPlayed later in
     let ent : P e = subst P c.fall_of-fall.ensures c.commit_entry.ensures.entered in
     let tail : List Mark = mark.Entered (numbered_on (entries_of ent.0) e) ∷ [] in
-    let between = between_played q ent.0 (seen_by r) tail ent.1 c.plan_all-refused.ensures.played ent.2 c.commit_entry.ensures.played in
-    λ is.
-    let more = seen_since p q n s0.inputs c.args.inputs answer b s1 plan c.requires.owns mine c.requires.played c.plan_all-refused.ensures.played c.requires.some c.requires.up.up c.requires.restless c.requires.due c.requires.takes ent.0 ent.1 between (seen_by r) tail ent.2 in
-    full_on (seen_by q) more.0 (seen_by r) c.plan_all-refused.ensures.played more.1 (c.plan_all-refused.ensures.full is)
+    λ is. was_full p q n s0.inputs c.args.inputs answer b s1 plan c.requires.owns mine c.requires.played c.plan_all-refused.ensures.played c.requires.some c.requires.up.up c.requires.restless c.requires.due c.requires.takes ent.0 ent.1 ent.3 r tail ent.2 (c.plan_all-refused.ensures.full is)

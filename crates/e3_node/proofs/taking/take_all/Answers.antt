@@ -1,37 +1,11 @@
-use Rattle.std.proofs.Common.{ap, subst, sym, ◌∙◌, length}
+use Rattle.std.proofs.Common.{ap, subst, sym, ◌∙◌}
 use Rattle.std.specs.Prelude.{Result}
 use Rattle.e3_node.specs.Batches.{BatchEnded}
 use Rattle.e3_node.specs.Ending.{answer_by}
 use Rattle.e3_node.specs.Turns.{history_seen, scenario_seen}
 use Rattle.e3_node.specs.declared.fault.InputFault.{InputFault}
-use Rattle.e3_turn.specs.Passes.{seen_by}
-use Rattle.e3_wire.specs.Marks.{note_of}
-use Rattle.e3_node.proofs.Ended.{ended_in, ended_told, promised_places, promised_room, promised_up, refused_down, refused_full}
+use Rattle.e3_node.proofs.Ended.{ended_in, ended_told, refused_down, refused_full}
 use Rattle.e3_node.proofs.taking.take_all.Goals as goal
-
-pub returns-clause-promised : goal.returns-clause-promised
-returns-clause-promised g c =
-    let e = c.step_or_not-end.result in
-    let mid = c.step_or_not-end.new.state in
-    let new = c.settle_batch.new.state in
-    λ up. promised_up e.fell (length c.args.inputs) (note_of c.args.number (seen_by c.args.pass.now)) (note_of c.args.number (seen_by c.step_or_not-end.new.pass)) mid new
-    c.step_or_not-end.ensures.promised c.settle_batch.ensures.fell up
-
-pub returns-clause-places : goal.returns-clause-places
-returns-clause-places g c =
-    let e = c.step_or_not-end.result in
-    let mid = c.step_or_not-end.new.state in
-    let new = c.settle_batch.new.state in
-    promised_places e.fell (length c.args.inputs) (note_of c.args.number (seen_by c.args.pass.now)) (note_of c.args.number (seen_by c.step_or_not-end.new.pass))
-    c.step_or_not-end.ensures.promised c.requires.inputs
-
-pub returns-clause-room : goal.returns-clause-room
-returns-clause-room g c =
-    let e = c.step_or_not-end.result in
-    let mid = c.step_or_not-end.new.state in
-    let new = c.settle_batch.new.state in
-    promised_room e.fell (length c.args.inputs) (note_of c.args.number (seen_by c.args.pass.now)) (note_of c.args.number (seen_by c.step_or_not-end.new.pass))
-    c.step_or_not-end.ensures.promised
 
 pub returns-clause-stands : goal.returns-clause-stands
 returns-clause-stands g c =

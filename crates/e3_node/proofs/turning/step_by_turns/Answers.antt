@@ -14,7 +14,7 @@ use Rattle.e3_types.specs.declared.entries.Entry.{Entry}
 use Rattle.e3_types.specs.declared.entries.Why.{Why}
 use Rattle.e3_types.specs.declared.records.Record.{Record}
 use Rattle.e3_wire.specs.Marks.{belongs, entries_of}
-use Rattle.e3_wire.specs.Wires.{MayEnterBehind}
+use Rattle.e3_wire.specs.Wires.{IsPlayed, MayEnterBehind}
 use Rattle.e3_wire.specs.declared.marks.Mark.{Mark}
 use Rattle.e3_wire.specs.declared.marks.Mark.TheVariants as mark
 use Rattle.e3_wire.proofs.Claimed.{taken_is_due}
@@ -25,7 +25,7 @@ use Rattle.e3_node.proofs.Steps.{draft_made, fall_allowed, fall_back, fall_enter
 use Rattle.e3_node.proofs.Counts.{count_fallen, count_meanwhile, count_stepped}
 use Rattle.e3_node.proofs.Owning.{made_own, own_meanwhile}
 use Rattle.e3_node.proofs.Turned.{refused}
-use Rattle.e3_node.proofs.Sharing.{step_used}
+use Rattle.e3_node.proofs.Sharing.{fall_used, step_used}
 use Rattle.e3_node.proofs.Waiting.{back_meanwhile, behind_of, entered_turn, entries, looked, made_meanwhile, may_commit, meanwhile, still_owns, still_restless, still_up, up_meanwhile}
 use Rattle.e3_node.proofs.turning.step_by_turns.Goals as goal
 
@@ -55,7 +55,7 @@ commit_entry-requires-clause-may g c =
     let fits : length step.outs ≡ c.room_for-room.result =
     ap (λ (p : SiteStep). length p.outs) c.apply.ensures.step ∙ sym (c.room_for-room.ensures ∙ ap length c.outs.ensures) in
     let may : MayEnterBehind (seen_by q) e =
-    may_commit p (seen_by q) _ e cl.0 c.requires.owns cl.1 cl.2 c.requires.played c.claim.ensures.played c.requires.some c.requires.exists c.requires.restless allows
+    may_commit p (seen_by q) _ e cl.0 c.requires.owns cl.1 cl.5 cl.2 c.requires.played c.claim.ensures.played c.requires.some c.requires.exists c.requires.restless allows
     c.requires.takes (omega (arith, fits)) in
     subst (λ (y : Entry). MayEnterBehind (seen_by q) y) (sym c.step_of-step.ensures) may
 
@@ -64,7 +64,7 @@ commit_entry-requires-clause-alone g c = λ calm.
     let p = c.args.pass.now in
     let q = c.claim.new.pass in
     let cl = c.in_ok-claim.ensures.claimed in
-    let restless = still_restless p (seen_by q) cl.0 c.args.number _ c.requires.owns cl.1 cl.2 c.requires.played c.claim.ensures.played c.requires.restless in
+    let restless = still_restless p (seen_by q) cl.0 c.args.number _ c.requires.owns cl.1 cl.5 cl.2 c.requires.played c.claim.ensures.played c.requires.restless in
     absurd (let both = sym calm ∙ restless in cc)
 
 pub commit_entry-requires-in-Err-clause-owns : goal.commit_entry-requires-in-Err-clause-owns
@@ -90,7 +90,7 @@ commit_entry-requires-in-Err-clause-may g c =
     let allows = fall_allowed sc h c.args.number c.args.input d.inputs records c.in-Err.why made.inputs_are rs c.requires.some c.requires.up.up due
     (λ none. c.in-Err.ensures.some (c.records.ensures ∙ records_made sc h c.args.number c.args.input d.plan.step made.step_is ∙ sym rs ∙ none)) in
     let may : MayEnterBehind (seen_by q) e =
-    may_commit p (seen_by q) _ e cl.0 c.requires.owns cl.1 cl.2 c.requires.played c.claim.ensures.played c.requires.some c.requires.exists c.requires.restless allows
+    may_commit p (seen_by q) _ e cl.0 c.requires.owns cl.1 cl.5 cl.2 c.requires.played c.claim.ensures.played c.requires.some c.requires.exists c.requires.restless allows
     (fall_takes sc h c.args.number c.args.input d.inputs made.inputs_are c.requires.takes) (omega arith) in
     subst (λ (y : Entry). MayEnterBehind (seen_by q) y) (sym c.fall_of-fall.ensures) may
 
@@ -99,7 +99,7 @@ commit_entry-requires-in-Err-clause-alone g c = λ calm.
     let p = c.args.pass.now in
     let q = c.claim.new.pass in
     let cl = c.in_ok-claim.ensures.claimed in
-    let restless = still_restless p (seen_by q) cl.0 c.args.number _ c.requires.owns cl.1 cl.2 c.requires.played c.claim.ensures.played c.requires.restless in
+    let restless = still_restless p (seen_by q) cl.0 c.args.number _ c.requires.owns cl.1 cl.5 cl.2 c.requires.played c.claim.ensures.played c.requires.restless in
     absurd (let both = sym calm ∙ restless in cc)
 
 pub returns-in-Ok-clause-turned : goal.returns-in-Ok-clause-turned
@@ -119,11 +119,11 @@ returns-in-Ok-clause-turned g c =
     ap (λ (p : SiteStep). length p.outs) c.apply.ensures.step ∙ sym (c.room_for-room.ensures ∙ ap length c.outs.ensures) in
     let allows = step_allowed sc h c.args.number c.args.input step is c.requires.some c.requires.up.up due in
     let r = c.commit_entry.new.pass in
-    let P : Entry → Type 0 = λ y. (later : List Mark) × GrewByOthers belongs q later × (seen_by r ≡ later ++ mark.Entered (numbered_on (entries_of later) y) ∷ []) in
+    let P : Entry → Type 0 = λ y. (later : List Mark) × GrewByOthers belongs q later × (seen_by r ≡ later ++ mark.Entered (numbered_on (entries_of later) y) ∷ []) × IsPlayed later in
     let ent : P e = subst P c.step_of-step.ensures c.commit_entry.ensures.entered in
     let owns = still_owns p q c.args.number c.claim.ensures.same c.requires.owns in
-    let b = behind_of p q r c.args.number _ e c.requires.owns owns cl.0 cl.1 cl.2 ent.0 ent.1 ent.2 in
-    entered_turn c.args.wire.now p q r c.args.number _ e ent.0 b refl c.requires.played c.claim.ensures.played c.commit_entry.ensures.played c.requires.some sc h allows
+    let b = behind_of p q r c.args.number _ e c.requires.owns owns cl.0 cl.1 cl.2 ent.0 ent.1 ent.2 cl.5 ent.3 in
+    entered_turn c.args.wire.now p q r c.args.number _ e ent.0 b refl c.requires.played c.claim.ensures.played c.commit_entry.ensures.played c.requires.some sc h allows tt
     (step_used _ c.args.input step.records step.outs step.told (sym fits))
     c.commit_entry.ensures.idle c.claim.ensures.same c.commit_entry.ensures.same
 
@@ -142,10 +142,10 @@ returns-in-Ok-clause-ended g c =
     let e : Entry = entry_of_plan c.args.number c.args.input step in
     let allows = step_allowed sc h c.args.number c.args.input step is c.requires.some c.requires.up.up due in
     let r = c.commit_entry.new.pass in
-    let P : Entry → Type 0 = λ y. (later : List Mark) × GrewByOthers belongs q later × (seen_by r ≡ later ++ mark.Entered (numbered_on (entries_of later) y) ∷ []) in
+    let P : Entry → Type 0 = λ y. (later : List Mark) × GrewByOthers belongs q later × (seen_by r ≡ later ++ mark.Entered (numbered_on (entries_of later) y) ∷ []) × IsPlayed later in
     let ent : P e = subst P c.step_of-step.ensures c.commit_entry.ensures.entered in
     let owns = still_owns p q c.args.number c.claim.ensures.same c.requires.owns in
-    let b = behind_of p q r c.args.number _ e c.requires.owns owns cl.0 cl.1 cl.2 ent.0 ent.1 ent.2 in
+    let b = behind_of p q r c.args.number _ e c.requires.owns owns cl.0 cl.1 cl.2 ent.0 ent.1 ent.2 cl.5 ent.3 in
     let now = entries_of ent.0 in
     let m = meanwhile c.args.number _ (seen_by p) (seen_by q) ent.0 (seen_by r) e b refl c.requires.played c.claim.ensures.played c.commit_entry.ensures.played in
     let up : IsUp g.D.Disk.content g.D.Disk.image g.D.Disk.meters sc now c.args.number c.args.site.now c.args.log.now =
@@ -192,11 +192,12 @@ returns-in-Err-clause-turned g c =
     let allows = fall_allowed sc h c.args.number c.args.input d.inputs records c.in-Err.why made.inputs_are rs c.requires.some c.requires.up.up due
     (λ none. c.in-Err.ensures.some (c.records.ensures ∙ records_made sc h c.args.number c.args.input d.plan.step made.step_is ∙ sym rs ∙ none)) in
     let r = c.commit_entry-in-Err.new.pass in
-    let P : Entry → Type 0 = λ y. (later : List Mark) × GrewByOthers belongs q later × (seen_by r ≡ later ++ mark.Entered (numbered_on (entries_of later) y) ∷ []) in
+    let P : Entry → Type 0 = λ y. (later : List Mark) × GrewByOthers belongs q later × (seen_by r ≡ later ++ mark.Entered (numbered_on (entries_of later) y) ∷ []) × IsPlayed later in
     let ent : P e = subst P c.fall_of-fall.ensures c.commit_entry-in-Err.ensures.entered in
     let owns = still_owns p q c.args.number c.claim.ensures.same c.requires.owns in
-    let b = behind_of p q r c.args.number _ e c.requires.owns owns cl.0 cl.1 cl.2 ent.0 ent.1 ent.2 in
-    entered_turn c.args.wire.now p q r c.args.number _ e ent.0 b refl c.requires.played c.claim.ensures.played c.commit_entry-in-Err.ensures.played c.requires.some sc h allows refl
+    let b = behind_of p q r c.args.number _ e c.requires.owns owns cl.0 cl.1 cl.2 ent.0 ent.1 ent.2 cl.5 ent.3 in
+    entered_turn c.args.wire.now p q r c.args.number _ e ent.0 b refl c.requires.played c.claim.ensures.played c.commit_entry-in-Err.ensures.played c.requires.some sc h allows (ap length made.inputs_are)
+    (fall_used c.room_for-room.result d.inputs records c.in-Err.why (ap length made.inputs_are))
     c.commit_entry-in-Err.ensures.idle c.claim.ensures.same c.commit_entry-in-Err.ensures.same
 
 pub returns-in-Err-clause-ended : goal.returns-in-Err-clause-ended
@@ -216,10 +217,10 @@ returns-in-Err-clause-ended g c =
     let allows = fall_allowed sc h c.args.number c.args.input d.inputs records c.in-Err.why made.inputs_are rs c.requires.some c.requires.up.up due
     (λ none. c.in-Err.ensures.some (c.records.ensures ∙ records_made sc h c.args.number c.args.input d.plan.step made.step_is ∙ sym rs ∙ none)) in
     let r = c.commit_entry-in-Err.new.pass in
-    let P : Entry → Type 0 = λ y. (later : List Mark) × GrewByOthers belongs q later × (seen_by r ≡ later ++ mark.Entered (numbered_on (entries_of later) y) ∷ []) in
+    let P : Entry → Type 0 = λ y. (later : List Mark) × GrewByOthers belongs q later × (seen_by r ≡ later ++ mark.Entered (numbered_on (entries_of later) y) ∷ []) × IsPlayed later in
     let ent : P e = subst P c.fall_of-fall.ensures c.commit_entry-in-Err.ensures.entered in
     let owns = still_owns p q c.args.number c.claim.ensures.same c.requires.owns in
-    let b = behind_of p q r c.args.number _ e c.requires.owns owns cl.0 cl.1 cl.2 ent.0 ent.1 ent.2 in
+    let b = behind_of p q r c.args.number _ e c.requires.owns owns cl.0 cl.1 cl.2 ent.0 ent.1 ent.2 cl.5 ent.3 in
     let now = entries_of ent.0 in
     let m = meanwhile c.args.number _ (seen_by p) (seen_by q) ent.0 (seen_by r) e b refl c.requires.played c.claim.ensures.played c.commit_entry-in-Err.ensures.played in
     let up : IsUp g.D.Disk.content g.D.Disk.image g.D.Disk.meters sc now c.args.number c.args.site.now c.args.log.now =
@@ -281,10 +282,10 @@ returns-in-Ok-clause-counted g c =
     let e : Entry = entry_of_plan c.args.number c.args.input step in
     let allows = step_allowed sc h c.args.number c.args.input step is c.requires.some c.requires.up.up due in
     let r = c.commit_entry.new.pass in
-    let P : Entry → Type 0 = λ y. (later : List Mark) × GrewByOthers belongs q later × (seen_by r ≡ later ++ mark.Entered (numbered_on (entries_of later) y) ∷ []) in
+    let P : Entry → Type 0 = λ y. (later : List Mark) × GrewByOthers belongs q later × (seen_by r ≡ later ++ mark.Entered (numbered_on (entries_of later) y) ∷ []) × IsPlayed later in
     let ent : P e = subst P c.step_of-step.ensures c.commit_entry.ensures.entered in
     let owns = still_owns p q c.args.number c.claim.ensures.same c.requires.owns in
-    let b = behind_of p q r c.args.number _ e c.requires.owns owns cl.0 cl.1 cl.2 ent.0 ent.1 ent.2 in
+    let b = behind_of p q r c.args.number _ e c.requires.owns owns cl.0 cl.1 cl.2 ent.0 ent.1 ent.2 cl.5 ent.3 in
     let now = entries_of ent.0 in
     let m = meanwhile c.args.number _ (seen_by p) (seen_by q) ent.0 (seen_by r) e b refl c.requires.played c.claim.ensures.played c.commit_entry.ensures.played in
     let up : IsUp g.D.Disk.content g.D.Disk.image g.D.Disk.meters sc now c.args.number c.args.site.now c.args.log.now =
@@ -315,10 +316,10 @@ returns-in-Err-clause-counted g c =
     let allows = fall_allowed sc h c.args.number c.args.input d.inputs records c.in-Err.why made.inputs_are rs c.requires.some c.requires.up.up due
     (λ none. c.in-Err.ensures.some (c.records.ensures ∙ records_made sc h c.args.number c.args.input d.plan.step made.step_is ∙ sym rs ∙ none)) in
     let r = c.commit_entry-in-Err.new.pass in
-    let P : Entry → Type 0 = λ y. (later : List Mark) × GrewByOthers belongs q later × (seen_by r ≡ later ++ mark.Entered (numbered_on (entries_of later) y) ∷ []) in
+    let P : Entry → Type 0 = λ y. (later : List Mark) × GrewByOthers belongs q later × (seen_by r ≡ later ++ mark.Entered (numbered_on (entries_of later) y) ∷ []) × IsPlayed later in
     let ent : P e = subst P c.fall_of-fall.ensures c.commit_entry-in-Err.ensures.entered in
     let owns = still_owns p q c.args.number c.claim.ensures.same c.requires.owns in
-    let b = behind_of p q r c.args.number _ e c.requires.owns owns cl.0 cl.1 cl.2 ent.0 ent.1 ent.2 in
+    let b = behind_of p q r c.args.number _ e c.requires.owns owns cl.0 cl.1 cl.2 ent.0 ent.1 ent.2 cl.5 ent.3 in
     let now = entries_of ent.0 in
     let m = meanwhile c.args.number _ (seen_by p) (seen_by q) ent.0 (seen_by r) e b refl c.requires.played c.claim.ensures.played c.commit_entry-in-Err.ensures.played in
     let up : IsUp g.D.Disk.content g.D.Disk.image g.D.Disk.meters sc now c.args.number c.args.site.now c.args.log.now =

@@ -1,5 +1,5 @@
 use Rattle.e3_wire.proofs.Notes.{claim_promises, entries_follow, entry_uses, nothing_promised, scenario_stays}
-use Rattle.e3_wire.proofs.Spending.{fronts_are_played, growth_adds_up, used_grows}
+use Rattle.e3_wire.proofs.Spending.{growth_adds_up}
 use Rattle.e3_wire.proofs.laws.marks_add_up.Goals as goal
 
 pub returns-clause-entries : goal.returns-clause-entries
@@ -17,11 +17,5 @@ returns-clause-entry c = entry_uses
 pub returns-clause-none : goal.returns-clause-none
 returns-clause-none c = nothing_promised
 
-pub returns-clause-used : goal.returns-clause-used
-returns-clause-used c = used_grows
-
 pub returns-clause-growth : goal.returns-clause-growth
 returns-clause-growth c = growth_adds_up
-
-pub returns-clause-fronts : goal.returns-clause-fronts
-returns-clause-fronts c = fronts_are_played

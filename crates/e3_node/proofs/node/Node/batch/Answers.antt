@@ -21,7 +21,7 @@ returns-clause-stands g c =
     let h = history_seen p in
     let more = history_seen q in
     node_with g.D.Disk.content g.D.Disk.image g.D.Disk.meters sc (scenario_seen q) h more c.args.self.now _ c.take_all.new.state c.take_all.new.count c.requires.standing
-    (keys_stay p q c.requires.played c.take_all.ensures.gone.seen).0
+    (keys_stay p q c.requires.played c.take_all.ensures.turned.seen).0
     (subst (λ (x : NodeView _). IsIn g.D.Disk.content g.D.Disk.image g.D.Disk.meters sc more x.site c.take_all.new.state) c.self.view_is c.take_all.ensures.stands)
     (subst (λ (x : NodeView _). AllReadBack sc more x.site) c.self.view_is c.take_all.ensures.back)
     (subst (λ (x : NodeView _). c.take_all.new.count ≡ count_of x.site more) c.self.view_is c.take_all.ensures.counted)
