@@ -20,7 +20,7 @@ use Rattle.e3_scenario.specs.Faults.{fault_text}
 use Rattle.e3_scenario.specs.Scenarios.{scenario_of}
 use Rattle.e3_scenario.specs.declared.faults.ScenarioFault.{ScenarioFault}
 use Rattle.e3_scenario.specs.declared.faults.ScenarioFault.TheVariants as fault
-use Rattle.e3_top.specs.Due.{IsDue, IsRunOf, IsTextOf, Plays, Succeeds}
+use Rattle.e3_top.specs.Due.{IsOutcome, IsRunOf, IsTextOf, Plays, Succeeds}
 use Rattle.e3_top.specs.Ends.{IsPrepared}
 use Rattle.e3_top.proofs.Spelled.{run_no_check, run_no_drill, run_no_gen, gen_no_check, plays_no_check}
 use Rattle.e3_top.proofs.Statuses.{neither}
@@ -76,7 +76,7 @@ done_drill image meters before now words n sc most h text drill same safe whole 
 -- the text of a scenario that was played is due: what is told of a history that went through it, or the line of a full history
 pub played_text : {D : Type 0} (image : D → List ℕ → Type 0) (meters : D → Meters) (before now : List D) (words : List (String Global)) (bytes : List ℕ) (sc : Scenario) (most status : ℕ) (h : List Entry) (told text : List ℕ) →
     Plays words bytes sc → IsRunOf image meters before now sc most h → (IsWhole sc h → text ≡ told → Succeeds image meters before now words bytes most h text) → IsTextOf sc most h told status text →
-    IsDue image meters before now words bytes most status h text
+    IsOutcome image meters before now words bytes most status h text
 played_text image meters before now words bytes sc most status h told text plays safe succeeds (inl done) = record {
   known = let zero = done.0 in inl (omega (arith, zero));
   done = λ e. succeeds done.1 done.2;
@@ -107,7 +107,7 @@ played_text image meters before now words bytes sc most status h told text plays
 -- so it is where it was made
 pub run_due : {D : Type 0} (image : D → List ℕ → Type 0) (meters : D → Meters) (before now : List D) (words : List (String Global)) (trace : Bool) (bytes : List ℕ) (sc : Scenario) (most : ℕ) (h : List Entry) (r : Result Due Stop) →
     Spell words (Run trace) → scenario_of bytes ≡ Ok sc → IsRunOf image meters before now sc most h → IfOk r (λ due. IsTextOf sc most h (report_of sc h trace) due.status due.text) →
-    IfOk r (λ due. IsDue image meters before now words bytes most due.status h due.text)
+    IfOk r (λ due. IsOutcome image meters before now words bytes most due.status h due.text)
 run_due image meters before now words trace bytes sc most h (Err fault) run spelled safe made = tt
 run_due image meters before now words trace bytes sc most h (Ok due) run spelled safe made =
     played_text image meters before now words bytes sc most due.status h (report_of sc h trace) due.text (inl (record { trace = trace; spelled = run }, spelled)) safe
@@ -115,7 +115,7 @@ run_due image meters before now words trace bytes sc most h (Ok due) run spelled
 
 pub drill_due : {D : Type 0} (image : D → List ℕ → Type 0) (meters : D → Meters) (before now : List D) (words : List (String Global)) (n : ℕ) (sc : Scenario) (most : ℕ) (h : List Entry) (r : Result Due Stop) →
     Spell words (Drill n) → sc ≡ generated_scenario n → IsRunOf image meters before now sc most h → IfOk r (λ due. IsTextOf sc most h (summary_of n sc h) due.status due.text) →
-    IfOk r (λ due. IsDue image meters before now words [] most due.status h due.text)
+    IfOk r (λ due. IsOutcome image meters before now words [] most due.status h due.text)
 drill_due image meters before now words n sc most h (Err fault) drill same safe made = tt
 drill_due image meters before now words n sc most h (Ok due) drill same safe made =
     played_text image meters before now words [] sc most due.status h (summary_of n sc h) due.text (inr (record { drill = record { n = n; spelled = drill }; unread = refl; same = same })) safe
@@ -123,7 +123,7 @@ drill_due image meters before now words n sc most h (Ok due) drill same safe mad
 
 -- the line for other words is due
 pub refused_run : {D : Type 0} (image : D → List ℕ → Type 0) (meters : D → Meters) (before now : List D) (words : List (String Global)) (most : ℕ) (h : List Entry) (text : List ℕ) → ¬ IsCommand words → h ≡ [] → now ≡ before →
-    text ≡ refused_words → IsDue image meters before now words [] most 1 h text
+    text ≡ refused_words → IsOutcome image meters before now words [] most 1 h text
 refused_run image meters before now words most h text other empty same says = record {
   known = inl (omega arith);
   done = λ e. absurd (omega (arith, e));
@@ -136,7 +136,7 @@ refused_run image meters before now words most h text other empty same says = re
 
 -- the text of a generated scenario is due
 pub told_run : {D : Type 0} (image : D → List ℕ → Type 0) (meters : D → Meters) (before now : List D) (words : List (String Global)) (n most : ℕ) (h : List Entry) (text : List ℕ) → Spell words (Gen n) → h ≡ [] → now ≡ before →
-    text ≡ generated n → IsDue image meters before now words [] most 0 h text
+    text ≡ generated n → IsOutcome image meters before now words [] most 0 h text
 told_run image meters before now words n most h text gen empty same says = record {
   known = inl (omega arith);
   done = λ e. inr (inr (inl (record { gen = record { n = n; spelled = gen }; unread = refl; empty = empty; untouched = same; says = says })));
@@ -149,7 +149,7 @@ told_run image meters before now words n most h text gen empty same says = recor
 
 -- the line of a fault is due
 pub no_scenario : {D : Type 0} (image : D → List ℕ → Type 0) (meters : D → Meters) (before now : List D) (words : List (String Global)) (bytes : List ℕ) (most : ℕ) (fault : ScenarioFault) (h : List Entry) (text : List ℕ) → IsRun words →
-    scenario_of bytes ≡ Err fault → h ≡ [] → now ≡ before → text ≡ fault_text fault → IsDue image meters before now words bytes most 2 h text
+    scenario_of bytes ≡ Err fault → h ≡ [] → now ≡ before → text ≡ fault_text fault → IsOutcome image meters before now words bytes most 2 h text
 no_scenario image meters before now words bytes most fault h text run spelled empty same says = record {
   known = inl (omega arith);
   done = λ e. absurd (omega (arith, e));
@@ -201,18 +201,18 @@ of_ok {T} {E} P r is holds = subst (λ (q : Result T E). IfOk q P) is holds
 -- the line for other words, where it was made
 pub refused_due : {D : Type 0} (image : D → List ℕ → Type 0) (meters : D → Meters) (before now : List D) (words : List (String Global)) (most : ℕ) (h : List Entry) (r : Result Due Stop) (text : Result (List ℕ) NoMemory) → ¬ IsCommand words → h ≡ [] → now ≡ before →
     IfOk text (λ line. line ≡ refused_words) → IfOk r (λ due. (due.status ≡ 1) × (text ≡ Ok due.text)) →
-    IfOk r (λ due. IsDue image meters before now words [] most due.status h due.text)
+    IfOk r (λ due. IsOutcome image meters before now words [] most due.status h due.text)
 refused_due image meters before now words most h (Err fault) text other empty same says made = tt
 refused_due image meters before now words most h (Ok due) text other empty same says made =
-    subst (λ (n : ℕ). IsDue image meters before now words [] most n h due.text) (sym made.0) (refused_run image meters before now words most h due.text other empty same (of_ok (λ line. line ≡ refused_words) text made.1 says))
+    subst (λ (n : ℕ). IsOutcome image meters before now words [] most n h due.text) (sym made.0) (refused_run image meters before now words most h due.text other empty same (of_ok (λ line. line ≡ refused_words) text made.1 says))
 
 -- the text of a generated scenario, where it was made
 pub told_due : {D : Type 0} (image : D → List ℕ → Type 0) (meters : D → Meters) (before now : List D) (words : List (String Global)) (n most : ℕ) (h : List Entry) (r : Result Due Stop) (text : Result (List ℕ) NoMemory) → Spell words (Gen n) → h ≡ [] → now ≡ before →
     IfOk text (λ t. t ≡ generated n) → IfOk r (λ due. (due.status ≡ 0) × (text ≡ Ok due.text)) →
-    IfOk r (λ due. IsDue image meters before now words [] most due.status h due.text)
+    IfOk r (λ due. IsOutcome image meters before now words [] most due.status h due.text)
 told_due image meters before now words n most h (Err fault) text gen empty same says made = tt
 told_due image meters before now words n most h (Ok due) text gen empty same says made =
-    subst (λ (s : ℕ). IsDue image meters before now words [] most s h due.text) (sym made.0) (told_run image meters before now words n most h due.text gen empty same (of_ok (λ t. t ≡ generated n) text made.1 says))
+    subst (λ (s : ℕ). IsOutcome image meters before now words [] most s h due.text) (sym made.0) (told_run image meters before now words n most h due.text gen empty same (of_ok (λ t. t ≡ generated n) text made.1 says))
 
 -- a drill of a number plays its generated scenario
 pub drill_plays : {words : List (String Global)} (n : ℕ) (sc : Scenario) → Spell words (Drill n) → sc ≡ generated_scenario n → Plays words [] sc
@@ -221,14 +221,14 @@ drill_plays n sc drill same = inr (record { drill = record { n = n; spelled = dr
 -- the line of a fault, where it was made
 pub fault_due : {D : Type 0} (image : D → List ℕ → Type 0) (meters : D → Meters) (before now : List D) (words : List (String Global)) (trace : Bool) (bytes : List ℕ) (f : ScenarioFault) (most : ℕ) (h : List Entry) (r : Result Due Stop) (text : Result (List ℕ) NoMemory) →
     Spell words (Run trace) → (f ≡ fault.NoMemory) ⊎ (scenario_of bytes ≡ Err f) → h ≡ [] → now ≡ before → IfOk text (λ line. (f ≢ fault.NoMemory) × (line ≡ fault_text f)) →
-    IfOk r (λ due. (due.status ≡ 2) × (text ≡ Ok due.text)) → IfOk r (λ due. IsDue image meters before now words bytes most due.status h due.text)
+    IfOk r (λ due. (due.status ≡ 2) × (text ≡ Ok due.text)) → IfOk r (λ due. IsOutcome image meters before now words bytes most due.status h due.text)
 fault_due image meters before now words trace bytes f most h (Err stop) text run cause empty same says made = tt
 fault_due image meters before now words trace bytes f most h (Ok due) text run cause empty same says made = by cause
   where
     line : (f ≢ fault.NoMemory) × (due.text ≡ fault_text f)
     line = of_ok (λ line. (f ≢ fault.NoMemory) × (line ≡ fault_text f)) text made.1 says
 
-    by : (f ≡ fault.NoMemory) ⊎ (scenario_of bytes ≡ Err f) → IsDue image meters before now words bytes most due.status h due.text
+    by : (f ≡ fault.NoMemory) ⊎ (scenario_of bytes ≡ Err f) → IsOutcome image meters before now words bytes most due.status h due.text
     by (inl e) = absurd (line.0 e)
-    by (inr spelled) = subst (λ (n : ℕ). IsDue image meters before now words bytes most n h due.text) (sym made.0)
+    by (inr spelled) = subst (λ (n : ℕ). IsOutcome image meters before now words bytes most n h due.text) (sym made.0)
         (no_scenario image meters before now words bytes most f h due.text (record { trace = trace; spelled = run }) spelled empty same line.1)

@@ -3,9 +3,9 @@ use Rattle.std.proofs.Common.{◌≡◌, ◌≤◌, ◌<◌, ◌⊎◌, inl, inr
 use Rattle.std.specs.Io.KnownBytes.{Consumes, IsAtEnd}
 use Rattle.std.specs.Prelude.{IfOk, Result}
 use Rattle.e3_disk.specs.Meters.{Meters}
-use Rattle.e3_outside.specs.Faults.{Rose}
+use Rattle.e3_outside.specs.Faults.{HasFailed}
 use Rattle.e3_top.proofs.Spelled.{same_most}
-use Rattle.e3_top.specs.Due.{IsDue}
+use Rattle.e3_top.specs.Due.{IsOutcome}
 use Rattle.e3_top.specs.Ends.{IsCutShort, IsHistoryOf, IsPrepared, IsRead, IsTaken, SourceFails}
 use Rattle.e3_top.specs.Words.{IsRun, IsCheck, most_bytes}
 use Rattle.e3_top.specs.declared.preparing.Due.{Due}
@@ -55,7 +55,7 @@ other_read words had other = record {
 
 -- what is due for bytes that were read is prepared
 pub prepared_of : {D : Type 0} (image : D → List ℕ → Type 0) (meters : D → Meters) (before now : List D) (words : List (String Global)) (had left : Option (List ℕ)) (bytes : List ℕ) (most : ℕ) (h : List Entry) (r : Result Due Stop) →
-    IsRead words had left bytes → IfOk r (λ due. IsDue image meters before now words bytes most due.status h due.text) →
+    IsRead words had left bytes → IfOk r (λ due. IsOutcome image meters before now words bytes most due.status h due.text) →
     IfOk r (λ due. IsPrepared image meters before now words had left most due.status h due.text)
 prepared_of image meters before now words had left bytes most h (Err stop) read due = tt
 prepared_of image meters before now words had left bytes most h (Ok made) read due = record { bytes = bytes; read = read; due = due }
@@ -82,7 +82,7 @@ nothing_cut image meters before now words had most h none same = record { bytes 
 
 -- where the source failed
 pub fails_reading : {D : Type 0} (before now : List D) (words : List (String Global)) (had left : Option (List ℕ)) (faults_before faults_now : ℕ) (h : List Entry) (c : Command) → Spell words c → IsRun words ⊎ IsCheck words →
-    ((bytes : List ℕ) × (length bytes < most_bytes c) × Consumes had left bytes) → Rose faults_before faults_now → h ≡ [] → now ≡ before →
+    ((bytes : List ℕ) × (length bytes < most_bytes c) × Consumes had left bytes) → HasFailed faults_before faults_now → h ≡ [] → now ≡ before →
     SourceFails before now words had left faults_before faults_now h
 fails_reading before now words had left faults_before faults_now h c spelled reads some rose none same = record {
   reads = reads;

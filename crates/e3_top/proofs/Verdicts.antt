@@ -3,7 +3,7 @@ use Rattle.std.proofs.Common.{◌≡◌, ◌≢◌, ◌<◌, ◌⊎◌, inl, inr
 use Rattle.std.specs.Io.KnownBytes.{IsAtEnd}
 use Rattle.e3_check.specs.Claims.{IsFor, IsVerdict, HasLegal, HasIllegal, HasNoScenario}
 use Rattle.e3_disk.specs.Meters.{Meters}
-use Rattle.e3_top.specs.Due.{HasText, IsDue, IsChecked}
+use Rattle.e3_top.specs.Due.{HasText, IsOutcome, IsChecked}
 use Rattle.e3_top.specs.Ends.{IsPrepared}
 use Rattle.e3_top.specs.Words.{IsCheck}
 use Rattle.e3_types.specs.declared.entries.Entry.{Entry}
@@ -24,7 +24,7 @@ has_text status (inr (inr e)) = inr (inr e)
 
 -- the text of a verdict is due
 pub checked_due : {D : Type 0} (image : D → List ℕ → Type 0) (meters : D → Meters) (disks : List D) (words : List (String Global)) (bytes : List ℕ) (most status : ℕ) (h : List Entry) (text : List ℕ) → Spell words Check →
-    IsVerdict bytes status h text → IsDue image meters disks disks words bytes most status h text
+    IsVerdict bytes status h text → IsOutcome image meters disks disks words bytes most status h text
 checked_due {D} image meters disks words bytes most status h text check verdict = record {
   known = has_text status verdict.cause.known;
   done = λ e. inr (inr (inr (checked_as e)));

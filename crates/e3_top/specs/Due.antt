@@ -136,7 +136,7 @@ HasText status = (status ≤ 2) ⊎ (status ≡ 6) ⊎ (status ≡ 8) ⊎ (statu
 
 -- The text is due, with status 0, 1, 2, 6, 8 or 9. For the words `check` it is that of the verdict on the bytes, and so is the
 -- status; 8 and 9 come for these words alone.
-pub record IsDue {D : Type 0} (image : D → List ℕ → Type 0) (meters : D → Meters) (disks_before disks_now : List D)
+pub record IsOutcome {D : Type 0} (image : D → List ℕ → Type 0) (meters : D → Meters) (disks_before disks_now : List D)
     (words : List (String Global)) (bytes : List ℕ) (most status : ℕ) (history : List Entry) (text : List ℕ) : Type 0 where
   pub known : HasText status
   pub done : status ≡ 0 → Succeeds image meters disks_before disks_now words bytes most history text

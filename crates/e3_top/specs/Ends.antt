@@ -3,8 +3,8 @@ use Rattle.std.specs.Prelude.{◌≡◌, ◌≤◌, ◌<◌, ◌⊎◌, ℕ, Lis
 use Rattle.std.specs.Io.KnownBytes.{Appends, Consumes, IsAtEnd}
 use Rattle.std.specs.declared.alloc.Global.{Global}
 use Rattle.e3_disk.specs.Meters.{Meters}
-use Rattle.e3_outside.specs.Faults.{Rose}
-use Rattle.e3_top.specs.Due.{IsDue, IsRunOf, Plays}
+use Rattle.e3_outside.specs.Faults.{HasFailed}
+use Rattle.e3_top.specs.Due.{IsOutcome, IsRunOf, Plays}
 use Rattle.e3_top.specs.Words.{IsRun, IsCheck, most_bytes}
 use Rattle.e3_types.specs.declared.entries.Entry.{Entry}
 use Rattle.e3_types.specs.declared.scenarios.Scenario.{Scenario}
@@ -29,18 +29,18 @@ pub record Finishes {D : Type 0} (image : D → List ℕ → Type 0) (meters : D
   pub bytes : List ℕ
   pub read : IsRead words had left bytes
   pub text : List ℕ
-  pub due : IsDue image meters disks_before disks_now words bytes most status history text
+  pub due : IsOutcome image meters disks_before disks_now words bytes most status history text
   pub written : Appends written_before written_now text
 
 -- The sink failed in this call: a front of the text of 0, 1, 2, 6, 8 or 9 was written.
 pub record SinkFails {D : Type 0} (image : D → List ℕ → Type 0) (meters : D → Meters) (disks_before disks_now : List D)
     (words : List (String Global)) (had left written_before written_now : Option (List ℕ)) (faults_before faults_now most : ℕ) (history : List Entry) : Type 0 where
-  pub counted : Rose faults_before faults_now
+  pub counted : HasFailed faults_before faults_now
   pub bytes : List ℕ
   pub read : IsRead words had left bytes
   pub text : List ℕ
   pub status : ℕ
-  pub due : IsDue image meters disks_before disks_now words bytes most status history text
+  pub due : IsOutcome image meters disks_before disks_now words bytes most status history text
   pub count : ℕ
   pub short : count < length text
   pub written : Appends written_before written_now (take count text)
@@ -49,7 +49,7 @@ pub record SinkFails {D : Type 0} (image : D → List ℕ → Type 0) (meters : 
 pub record SourceFails {D : Type 0} (disks_before disks_now : List D)
     (words : List (String Global)) (had left : Option (List ℕ)) (faults_before faults_now : ℕ) (history : List Entry) : Type 0 where
   pub reads : IsRun words ⊎ IsCheck words
-  pub counted : Rose faults_before faults_now
+  pub counted : HasFailed faults_before faults_now
   pub bytes : List ℕ
   pub taken : Consumes had left bytes
   pub few : (command : Command) → Spell words command → length bytes < most_bytes command
@@ -77,4 +77,4 @@ pub record IsPrepared {D : Type 0} (image : D → List ℕ → Type 0) (meters :
     (words : List (String Global)) (had left : Option (List ℕ)) (most status : ℕ) (history : List Entry) (text : List ℕ) : Type 0 where
   pub bytes : List ℕ
   pub read : IsRead words had left bytes
-  pub due : IsDue image meters disks_before disks_now words bytes most status history text
+  pub due : IsOutcome image meters disks_before disks_now words bytes most status history text

@@ -1,3 +1,4 @@
 pub mod Words
 pub mod Due
 pub mod Ends
+pub mod Ran

@@ -1,6 +1,6 @@
 // The verdict on a printed history, up to the writing of its text.
 ghost use Rattle.std.specs.Prelude.{Err, ◌≡◌, ◌≤◌, [], IfErr, IfOk};
-ghost use Rattle.e3_top.specs.Due.{IsDue};
+ghost use Rattle.e3_top.specs.Due.{IsOutcome};
 ghost use Rattle.e3_top.specs.Ends.{IsCutShort, IsPrepared, SourceFails};
 ghost use Rattle.e3_top.specs.Words.{MayEnd};
 ghost use Rattle.e3_words.specs.Words.{Spell};
@@ -26,7 +26,7 @@ fn judge_bytes<D: Disk + Drill + Drop>(
     most: u32,
 ) -> Prepared<D>
     requires { Spell words.now Check }
-    ensures due { IfOk result.due (λ due. IsDue D.image D.meters disks.items result.disks.items words.now bytes.now most due.status result.history.entries due.text) }
+    ensures due { IfOk result.due (λ due. IsOutcome D.image D.meters disks.items result.disks.items words.now bytes.now most due.status result.history.entries due.text) }
     ensures status { IfOk result.due (λ due. MayEnd words.now due.status) }
     ensures only_memory { IfErr result.due (λ e. e ≡ Stop.NoMemory) }
     ensures history { result.due ≡ Err Stop.NoMemory → result.history.entries ≡ [] }

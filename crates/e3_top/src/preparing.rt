@@ -7,7 +7,7 @@ ghost use Rattle.e3_report.specs.Report.{report_of};
 ghost use Rattle.e3_report.specs.Summary.{summary_of};
 ghost use Rattle.e3_scenario.specs.Faults.{fault_text};
 ghost use Rattle.e3_scenario.specs.Scenarios.{scenario_of};
-ghost use Rattle.e3_top.specs.Due.{IsDue, IsRunOf, IsTextOf};
+ghost use Rattle.e3_top.specs.Due.{IsOutcome, IsRunOf, IsTextOf};
 ghost use Rattle.e3_top.specs.Ends.{IsCutShort, IsHistoryOf, IsPrepared, SourceFails};
 ghost use Rattle.e3_top.specs.Words.{IsCheck, IsGen, IsRun, MayEnd, refused_history_full};
 ghost use Rattle.e3_words.specs.Words.{IsCommand, Spell};
@@ -39,6 +39,9 @@ const MOST: u64 = 4_194_305;
 
 /// In how many threads sites work at most: one for each site that there may be.
 const MOST_THREADS: usize = 16;
+
+/// How many packets a worker takes in one turn of work at most: their records are one frame.
+const MOST_PACKETS: u32 = 8;
 
 /// A text that is due, and the status that the run ends with when it is written.
 #[derive(Drop)]
@@ -152,7 +155,16 @@ fn play<D: Disk + Drill + Drop + Send, G: Gate + Sync, R: Wait + Threads + Sync>
     one_order();
     rounds_end();
     commits_end();
-    play_over(rt, alloc, scenario, disks, gate, MOST_THREADS, most)
+    play_over(
+        rt,
+        alloc,
+        scenario,
+        disks,
+        gate,
+        MOST_THREADS,
+        MOST_PACKETS,
+        most,
+    )
 }
 
 // The run of a scenario.
@@ -173,7 +185,7 @@ fn prepare_run<D: Disk + Drill + Drop + Send, G: Gate + Sync, R: Wait + Threads 
     requires enough { length scenario.now.weights ≤ length disks.items }
     requires blank { AreBlank D.content D.image D.meters disks.items }
     requires most { most ≤ 2000000 }
-    ensures due { IfOk result.due (λ due. IsDue D.image D.meters disks.items result.disks.items words.now bytes.now most due.status result.history.entries due.text) }
+    ensures due { IfOk result.due (λ due. IsOutcome D.image D.meters disks.items result.disks.items words.now bytes.now most due.status result.history.entries due.text) }
     ensures status { IfOk result.due (λ due. MayEnd words.now due.status) }
     ensures only_memory { IfErr result.due (λ e. e ≡ Stop.NoMemory) }
     ensures history { IsRunOf D.image D.meters disks.items result.disks.items scenario.now most result.history.entries }
@@ -207,7 +219,7 @@ fn prepare_drill<D: Disk + Drill + Drop + Send, G: Gate + Sync, R: Wait + Thread
     requires enough { length scenario.now.weights ≤ length disks.items }
     requires blank { AreBlank D.content D.image D.meters disks.items }
     requires most { most ≤ 2000000 }
-    ensures due { IfOk result.due (λ due. IsDue D.image D.meters disks.items result.disks.items words.now [] most due.status result.history.entries due.text) }
+    ensures due { IfOk result.due (λ due. IsOutcome D.image D.meters disks.items result.disks.items words.now [] most due.status result.history.entries due.text) }
     ensures status { IfOk result.due (λ due. MayEnd words.now due.status) }
     ensures only_memory { IfErr result.due (λ e. e ≡ Stop.NoMemory) }
     ensures history { IsRunOf D.image D.meters disks.items result.disks.items scenario.now most result.history.entries }
@@ -267,7 +279,7 @@ fn refuse_words<D: Disk + Drill + Drop>(
     most: u32,
 ) -> Prepared<D>
     requires { ¬ IsCommand words.now }
-    ensures due { IfOk result.due (λ due. IsDue D.image D.meters disks.items result.disks.items words.now [] most due.status result.history.entries due.text) }
+    ensures due { IfOk result.due (λ due. IsOutcome D.image D.meters disks.items result.disks.items words.now [] most due.status result.history.entries due.text) }
     ensures status { IfOk result.due (λ due. MayEnd words.now due.status) }
     ensures only_memory { IfErr result.due (λ e. e ≡ Stop.NoMemory) }
     ensures history { result.history.entries ≡ [] }
@@ -288,7 +300,7 @@ fn tell_generated<D: Disk + Drill + Drop>(
     requires spelled { Spell words.now (Gen n) }
     requires least { 1 ≤ n }
     requires most { n ≤ 1000 }
-    ensures due { IfOk result.due (λ due. IsDue D.image D.meters disks.items result.disks.items words.now [] most due.status result.history.entries due.text) }
+    ensures due { IfOk result.due (λ due. IsOutcome D.image D.meters disks.items result.disks.items words.now [] most due.status result.history.entries due.text) }
     ensures status { IfOk result.due (λ due. MayEnd words.now due.status) }
     ensures only_memory { IfErr result.due (λ e. e ≡ Stop.NoMemory) }
     ensures history { result.history.entries ≡ [] }
@@ -320,7 +332,7 @@ fn refuse_scenario<D: Disk + Drill + Drop>(
 ) -> Prepared<D>
     requires run { Spell words.now (Run trace) }
     requires refused { (fault.now ≡ ScenarioFault.NoMemory) ⊎ (scenario_of bytes.now ≡ Err fault.now) }
-    ensures due { IfOk result.due (λ due. IsDue D.image D.meters disks.items result.disks.items words.now bytes.now most due.status result.history.entries due.text) }
+    ensures due { IfOk result.due (λ due. IsOutcome D.image D.meters disks.items result.disks.items words.now bytes.now most due.status result.history.entries due.text) }
     ensures status { IfOk result.due (λ due. MayEnd words.now due.status) }
     ensures only_memory { IfErr result.due (λ e. e ≡ Stop.NoMemory) }
     ensures history { result.history.entries ≡ [] }
@@ -345,7 +357,7 @@ fn prepare_bytes<D: Disk + Drill + Drop + Send, G: Gate + Sync, R: Wait + Thread
     requires sixteen { length disks.items ≡ 16 }
     requires blank { AreBlank D.content D.image D.meters disks.items }
     requires most { most ≤ 2000000 }
-    ensures due { IfOk result.due (λ due. IsDue D.image D.meters disks.items result.disks.items words.now bytes.now most due.status result.history.entries due.text) }
+    ensures due { IfOk result.due (λ due. IsOutcome D.image D.meters disks.items result.disks.items words.now bytes.now most due.status result.history.entries due.text) }
     ensures status { IfOk result.due (λ due. MayEnd words.now due.status) }
     ensures only_memory { IfErr result.due (λ e. e ≡ Stop.NoMemory) }
     ensures cut_short { ((result.history.entries ≡ []) × (result.disks.items ≡ disks.items))
@@ -412,7 +424,7 @@ fn generate_and_play<D: Disk + Drill + Drop + Send, G: Gate + Sync, R: Wait + Th
     requires sixteen { length disks.items ≡ 16 }
     requires blank { AreBlank D.content D.image D.meters disks.items }
     requires bound { most ≤ 2000000 }
-    ensures due { IfOk result.due (λ due. IsDue D.image D.meters disks.items result.disks.items words.now [] most due.status result.history.entries due.text) }
+    ensures due { IfOk result.due (λ due. IsOutcome D.image D.meters disks.items result.disks.items words.now [] most due.status result.history.entries due.text) }
     ensures status { IfOk result.due (λ due. MayEnd words.now due.status) }
     ensures only_memory { IfErr result.due (λ e. e ≡ Stop.NoMemory) }
     ensures cut_short { ((result.history.entries ≡ []) × (result.disks.items ≡ disks.items))

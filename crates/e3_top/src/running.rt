@@ -1,11 +1,10 @@
 // The run.
-ghost use Rattle.std.specs.Prelude.{◌≡◌, ◌≢◌, ◌≤◌, ◌<◌, ◌⊎◌, [], ℕ, length, take};
-ghost use Rattle.std.specs.Io.KnownBytes.{Appends, IsAtEnd};
+ghost use Rattle.std.specs.Prelude.{◌≡◌, ◌≢◌, ◌≤◌, ◌<◌, ◌⊎◌, ℕ, length, take};
+ghost use Rattle.std.specs.Io.KnownBytes.{Appends};
 ghost use Rattle.e3_fleet.specs.Over.{AreBlank};
-ghost use Rattle.e3_outside.specs.Faults.{Rose};
-ghost use Rattle.e3_top.specs.Ends.{Finishes, IsCutShort, SinkFails, SourceFails};
+ghost use Rattle.e3_outside.specs.Faults.{HasFailed};
 ghost use Rattle.e3_top.specs.Due.{HasText};
-ghost use Rattle.e3_top.specs.Words.{IsCheck, IsDrill, IsGen, IsRun, MayEnd};
+ghost use Rattle.e3_top.specs.Ran.{HasRun};
 
 use crate::preparing::{Due, Prepared, Stop, prepare};
 use e3_disk::{Disk, Drill};
@@ -34,7 +33,7 @@ fn finish<K: Sink, D: Drop>(due: Due, history: History, disks: Vec<D>, sink: &mu
     ensures history { result.history.entries ≡ history.entries }
     ensures disks { result.disks.items ≡ disks.items }
     ensures written { result.status ≢ 4 → (result.status ≡ due.status) × Appends (K.written sink.old) (K.written sink.new) due.text }
-    ensures failed { result.status ≡ 4 → Rose (K.faults sink.old) (K.faults sink.new) × ((count : ℕ) × (count < length due.text)
+    ensures failed { result.status ≡ 4 → HasFailed (K.faults sink.old) (K.faults sink.new) × ((count : ℕ) × (count < length due.text)
         × Appends (K.written sink.old) (K.written sink.new) (take count due.text)) }
     ensures known { HasText result.status ⊎ (result.status ≡ 4) }
     ensures status { (result.status ≡ due.status) ⊎ (result.status ≡ 4) }
@@ -60,9 +59,9 @@ fn finish<K: Sink, D: Drop>(due: Due, history: History, disks: Vec<D>, sink: &mu
 ///
 /// The words are those of the command line behind the program's name. The order is: the words; for a run the source and the
 /// scenario; for a run and a drill the play; for a verdict the source, the scenario, the trace and the judge; at last the sink.
-/// Each text is whole before its first byte is written. Want of memory, status 5, may come at any time before. Site k has the k-th disk; there are sixteen, each blank, powered and not
-/// armed, and they come back in their order. The sites work side by side, in threads; each passes the gate before each packet
-/// that it takes.
+/// Each text is whole before its first byte is written. Want of memory, status 5, may come at any time before. Site k has the
+/// k-th disk; there are sixteen, each blank, powered and not armed, and they come back in their order. The sites work side by
+/// side, in threads; each passes the gate before each turn of work, in which it takes one packet or a few.
 pub fn run_within<
     S: Source,
     K: Sink,
@@ -83,60 +82,9 @@ pub fn run_within<
     requires blank { AreBlank D.content D.image D.meters disks.items }
     requires least { 1 ≤ most }
     requires most { most ≤ 2000000 }
-    // 0, 1, 2, 6, 8 and 9: the text that words, bytes and history give was written, all of it and nothing else. Where anything
-    // happened, each disk of a site stands for the site's log, and its numbers tell how often it failed, was armed and was cut.
-    ensures finished { HasText result.status →
-        Finishes D.image D.meters disks.items result.disks.items words.now (S.left source.old) (S.left source.new) (K.written sink.old) (K.written sink.new) most result.status result.history.entries }
-
-    // 3 only where the source's count of faults rose; nothing is written, and no disk is touched.
-    ensures source_failed { result.status ≡ 3 →
-        SourceFails disks.items result.disks.items words.now (S.left source.old) (S.left source.new) (S.faults source.old) (S.faults source.new) result.history.entries
-        × (sink.new ≡ sink.old) }
-
-    // 4 only where the sink's count of faults rose; a front of the text of 0, 1, 2, 6, 8 or 9 was written.
-    ensures sink_failed { result.status ≡ 4 →
-        SinkFails D.image D.meters disks.items result.disks.items words.now (S.left source.old) (S.left source.new) (K.written sink.old) (K.written sink.new)
-        (K.faults sink.old) (K.faults sink.new) most result.history.entries }
-
-    // 5 is free; the history is legal and safe as far as it goes, and nothing is written.
-    ensures no_memory { result.status ≡ 5 →
-        IsCutShort D.image D.meters disks.items result.disks.items words.now (S.left source.old) (S.left source.new) most result.history.entries × (sink.new ≡ sink.old) }
-
-    // A run, and no fault of source or sink: it is done, or memory ran out, unless the bytes spell no scenario, or the history
-    // is full.
-    ensures complete_run { IsRun words.now → ¬ Rose (S.faults source.old) (S.faults source.new) → ¬ Rose (K.faults sink.old) (K.faults sink.new) →
-        (result.status ≡ 0) ⊎ (result.status ≡ 5) ⊎ (result.status ≡ 2) ⊎ (result.status ≡ 6) }
-
-    // A drill, and no fault of the sink: it is done, or memory ran out, unless the history is full.
-    ensures complete_drill { IsDrill words.now → ¬ Rose (K.faults sink.old) (K.faults sink.new) →
-        (result.status ≡ 0) ⊎ (result.status ≡ 5) ⊎ (result.status ≡ 6) }
-
-    // A generated scenario, and no fault of the sink: it is told, or memory ran out.
-    ensures complete_gen { IsGen words.now → ¬ Rose (K.faults sink.old) (K.faults sink.new) → (result.status ≡ 0) ⊎ (result.status ≡ 5) }
-
-    // A verdict, and no fault of source or sink: it is given, or memory ran out.
-    ensures complete_check { IsCheck words.now → ¬ Rose (S.faults source.old) (S.faults source.new) → ¬ Rose (K.faults sink.old) (K.faults sink.new) →
-        (result.status ≡ 0) ⊎ (result.status ≡ 5) ⊎ (result.status ≡ 2) ⊎ (result.status ≡ 8) ⊎ (result.status ≡ 9) }
-
-    // There is no other status, and each comes only for words that may have it.
-    ensures statuses { MayEnd words.now result.status }
-
-    // With a generated scenario nothing happens, whatever the status is.
-    ensures told { IsGen words.now → (result.history.entries ≡ []) × (result.disks.items ≡ disks.items) }
-
-    // A verdict touches no disk, whatever the status is.
-    ensures untouched { IsCheck words.now → result.disks.items ≡ disks.items }
-
-    // Only a run and a verdict touch the source: nothing of it is left for a run with 0 and 6, and for a verdict with 0, 2 and
-    // 8. Neither a generated scenario nor a drill reads it.
-    ensures unread { ¬ IsRun words.now → ¬ IsCheck words.now → source.new ≡ source.old }
-    ensures not_read { IsGen words.now ⊎ IsDrill words.now → source.new ≡ source.old }
-    ensures drained { IsRun words.now → (result.status ≡ 0) ⊎ (result.status ≡ 6) → IsAtEnd (S.left source.new) }
-    ensures drained_check { IsCheck words.now → (result.status ≡ 0) ⊎ (result.status ≡ 2) ⊎ (result.status ≡ 8) → IsAtEnd (S.left source.new) }
-
-    // The counts of faults never fall.
-    ensures source_counts { S.faults source.old ≤ S.faults source.new }
-    ensures sink_counts { K.faults sink.old ≤ K.faults sink.new }
+    ensures ran { HasRun D.image D.meters S.left S.faults K.written K.faults words.now most
+        (record { disks = disks.items; source = source.old; sink = sink.old }) (record { disks = result.disks.items; source = source.new; sink = sink.new })
+        result.status result.history.entries }
 {
     let Prepared {
         due,
@@ -176,60 +124,9 @@ pub fn run<
 ) -> Ended<D>
     requires sixteen { length disks.items ≡ 16 }
     requires blank { AreBlank D.content D.image D.meters disks.items }
-    // 0, 1, 2, 6, 8 and 9: the text that words, bytes and history give was written, all of it and nothing else. Where anything
-    // happened, each disk of a site stands for the site's log, and its numbers tell how often it failed, was armed and was cut.
-    ensures finished { HasText result.status →
-        Finishes D.image D.meters disks.items result.disks.items words.now (S.left source.old) (S.left source.new) (K.written sink.old) (K.written sink.new) 2000000 result.status result.history.entries }
-
-    // 3 only where the source's count of faults rose; nothing is written, and no disk is touched.
-    ensures source_failed { result.status ≡ 3 →
-        SourceFails disks.items result.disks.items words.now (S.left source.old) (S.left source.new) (S.faults source.old) (S.faults source.new) result.history.entries
-        × (sink.new ≡ sink.old) }
-
-    // 4 only where the sink's count of faults rose; a front of the text of 0, 1, 2, 6, 8 or 9 was written.
-    ensures sink_failed { result.status ≡ 4 →
-        SinkFails D.image D.meters disks.items result.disks.items words.now (S.left source.old) (S.left source.new) (K.written sink.old) (K.written sink.new)
-        (K.faults sink.old) (K.faults sink.new) 2000000 result.history.entries }
-
-    // 5 is free; the history is legal and safe as far as it goes, and nothing is written.
-    ensures no_memory { result.status ≡ 5 →
-        IsCutShort D.image D.meters disks.items result.disks.items words.now (S.left source.old) (S.left source.new) 2000000 result.history.entries × (sink.new ≡ sink.old) }
-
-    // A run, and no fault of source or sink: it is done, or memory ran out, unless the bytes spell no scenario, or the history
-    // is full.
-    ensures complete_run { IsRun words.now → ¬ Rose (S.faults source.old) (S.faults source.new) → ¬ Rose (K.faults sink.old) (K.faults sink.new) →
-        (result.status ≡ 0) ⊎ (result.status ≡ 5) ⊎ (result.status ≡ 2) ⊎ (result.status ≡ 6) }
-
-    // A drill, and no fault of the sink: it is done, or memory ran out, unless the history is full.
-    ensures complete_drill { IsDrill words.now → ¬ Rose (K.faults sink.old) (K.faults sink.new) →
-        (result.status ≡ 0) ⊎ (result.status ≡ 5) ⊎ (result.status ≡ 6) }
-
-    // A generated scenario, and no fault of the sink: it is told, or memory ran out.
-    ensures complete_gen { IsGen words.now → ¬ Rose (K.faults sink.old) (K.faults sink.new) → (result.status ≡ 0) ⊎ (result.status ≡ 5) }
-
-    // A verdict, and no fault of source or sink: it is given, or memory ran out.
-    ensures complete_check { IsCheck words.now → ¬ Rose (S.faults source.old) (S.faults source.new) → ¬ Rose (K.faults sink.old) (K.faults sink.new) →
-        (result.status ≡ 0) ⊎ (result.status ≡ 5) ⊎ (result.status ≡ 2) ⊎ (result.status ≡ 8) ⊎ (result.status ≡ 9) }
-
-    // There is no other status, and each comes only for words that may have it.
-    ensures statuses { MayEnd words.now result.status }
-
-    // With a generated scenario nothing happens, whatever the status is.
-    ensures told { IsGen words.now → (result.history.entries ≡ []) × (result.disks.items ≡ disks.items) }
-
-    // A verdict touches no disk, whatever the status is.
-    ensures untouched { IsCheck words.now → result.disks.items ≡ disks.items }
-
-    // Only a run and a verdict touch the source: nothing of it is left for a run with 0 and 6, and for a verdict with 0, 2 and
-    // 8. Neither a generated scenario nor a drill reads it.
-    ensures unread { ¬ IsRun words.now → ¬ IsCheck words.now → source.new ≡ source.old }
-    ensures not_read { IsGen words.now ⊎ IsDrill words.now → source.new ≡ source.old }
-    ensures drained { IsRun words.now → (result.status ≡ 0) ⊎ (result.status ≡ 6) → IsAtEnd (S.left source.new) }
-    ensures drained_check { IsCheck words.now → (result.status ≡ 0) ⊎ (result.status ≡ 2) ⊎ (result.status ≡ 8) → IsAtEnd (S.left source.new) }
-
-    // The counts of faults never fall.
-    ensures source_counts { S.faults source.old ≤ S.faults source.new }
-    ensures sink_counts { K.faults sink.old ≤ K.faults sink.new }
+    ensures ran { HasRun D.image D.meters S.left S.faults K.written K.faults words.now 2000000
+        (record { disks = disks.items; source = source.old; sink = sink.old }) (record { disks = result.disks.items; source = source.new; sink = sink.new })
+        result.status result.history.entries }
 {
     run_within(rt, alloc, words, source, sink, disks, gate, MOST_ENTRIES)
 }
