@@ -1,7 +1,8 @@
 //! How long a report takes: `e3_gate_pace report N` makes a history of about N entries, and prints how many it has and how
 //! many bytes its report and its trace have; `e3_gate_pace make N` only makes it. The history is not legal; it has entries of
 //! all that a report looks up. And how long a run takes: `e3_gate_pace play N` plays the scenario on standard input in at most N
-//! threads, and prints how many entries its history has; `e3_gate_pace judge N` does so, and judges the history too.
+//! threads, and prints how many entries its history has, and how many turns of work its sites had with packets; `judge N` judges
+//! the history too, and `batched N` counts the frames on the disks, as `single N` does where a turn of work has one packet.
 #![tactic(auto)]
 
 mod course;
@@ -11,7 +12,7 @@ use course::{Course, MOST};
 use e3_outside::{Source, StdSource};
 use e3_report::report;
 use e3_types::NoMemory;
-use playing::play;
+use playing::{Behind, Pace, play};
 use std::alloc::Global;
 use std::process::ExitCode;
 use std::sync::Wait;
@@ -24,12 +25,15 @@ const NO_OUTPUT: u8 = 4;
 
 const NO_MEMORY: u8 = 5;
 
-/// What is asked for: a history of so many entries, its report too, a run in at most so many threads, or its verdict too.
+/// What is asked for: a history of so many entries, its report too; a run in at most so many threads, its frames with eight
+/// packets or one in each turn of work, or a verdict on it.
 #[derive(Clone, Copy)]
 enum Asked {
     Make(u32),
     Report(u32),
     Play(u32),
+    Batched(u32),
+    Single(u32),
     Judge(u32),
 }
 
@@ -48,6 +52,8 @@ fn read_words(words: &[String]) -> Option<Asked> {
         "report" => Some(Asked::Report(count)),
         "make" => Some(Asked::Make(count)),
         "play" => Some(Asked::Play(count)),
+        "batched" => Some(Asked::Batched(count)),
+        "single" => Some(Asked::Single(count)),
         "judge" => Some(Asked::Judge(count)),
         _ => None,
     }
@@ -64,32 +70,46 @@ fn course_of(alloc: Global, entries: u32) -> Result<Course, NoMemory> {
     Ok(course)
 }
 
-fn entered(played: Option<u64>) -> Result<(u64, u64), NoMemory> {
+/// What came of it: a history of so many entries, and so many bytes of its report; or a run.
+#[derive(Clone, Copy)]
+enum Told {
+    Made { entries: u64, bytes: u64 },
+    Ran(Pace),
+}
+
+fn ran(played: Option<Pace>) -> Result<Told, NoMemory> {
     match played {
-        Some(entries) => Ok((entries, 0)),
+        Some(pace) => Ok(Told::Ran(pace)),
         None => Err(NoMemory),
     }
 }
 
-/// How many entries the history has, and how long its report is.
 fn paced<S: Source, R: Wait + Threads + Sync>(
     rt: &R,
     alloc: Global,
     source: &mut S,
     asked: Asked,
-) -> Result<(u64, u64), NoMemory> {
+) -> Result<Told, NoMemory> {
     match asked {
-        Asked::Make(entries) => {
-            let course = course_of(alloc, entries)?;
-            Ok((course.history.len(), 0))
+        Asked::Make(count) => {
+            let course = course_of(alloc, count)?;
+            let entries = course.history.len();
+            Ok(Told::Made { entries, bytes: 0 })
         }
-        Asked::Report(entries) => {
-            let course = course_of(alloc, entries)?;
+        Asked::Report(count) => {
+            let course = course_of(alloc, count)?;
             let text = report(alloc, &course.scenario, &course.history, true)?;
-            Ok((course.history.len(), text.len()))
+            let (entries, bytes) = (course.history.len(), text.len());
+            Ok(Told::Made { entries, bytes })
         }
-        Asked::Play(threads) => entered(play(rt, alloc, source, threads as usize, false)),
-        Asked::Judge(threads) => entered(play(rt, alloc, source, threads as usize, true)),
+        Asked::Play(threads) => ran(play(rt, alloc, source, threads as usize, 8, Behind::Nothing)),
+        Asked::Batched(threads) => {
+            ran(play(rt, alloc, source, threads as usize, 8, Behind::CountFrames))
+        }
+        Asked::Single(threads) => {
+            ran(play(rt, alloc, source, threads as usize, 1, Behind::CountFrames))
+        }
+        Asked::Judge(threads) => ran(play(rt, alloc, source, threads as usize, 8, Behind::Judge)),
     }
 }
 
@@ -102,17 +122,37 @@ fn words_of(rt: &HostRuntime, alloc: Global) -> Result<Vec<String>, NoMemory> {
     Ok(words)
 }
 
-// What is printed: how many entries, and how many bytes; none for other words.
+// What is asked for is done; none for other words.
 fn run<S: Source, R: Wait + Threads + Sync>(
     rt: &R,
     alloc: Global,
     source: &mut S,
     words: &[String],
-) -> Result<Option<(u64, u64)>, NoMemory> {
+) -> Result<Option<Told>, NoMemory> {
     let Some(asked) = read_words(words) else {
         return Ok(None);
     };
-    Ok(Some(paced(rt, alloc, source, asked)?))
+    let told = paced(rt, alloc, source, asked)?;
+    Ok(Some(told))
+}
+
+fn print_told<R: Print>(rt: &R, told: Told) -> io::Result<()> {
+    match told {
+        Told::Made { entries, bytes } => println!(rt; "{entries} entries, {bytes} bytes"),
+        Told::Ran(pace) => {
+            let Pace {
+                entries,
+                turns,
+                frames,
+            } = pace;
+            match frames {
+                Some(frames) => {
+                    println!(rt; "{entries} entries, {turns} turns of work, {frames} frames")
+                }
+                None => println!(rt; "{entries} entries, {turns} turns of work"),
+            }
+        }
+    }
 }
 
 fn main(rt: HostRuntime) -> ExitCode {
@@ -122,7 +162,7 @@ fn main(rt: HostRuntime) -> ExitCode {
     };
     let mut source = StdSource::new(rt.reader());
     match run(&rt, alloc, &mut source, &words) {
-        Ok(Some((entered, bytes))) => match println!(rt; "{entered} entries, {bytes} bytes") {
+        Ok(Some(told)) => match print_told(&rt, told) {
             Ok(()) => ExitCode::SUCCESS,
             Err(_) => ExitCode::from(NO_OUTPUT),
         },

@@ -1,16 +1,12 @@
-//! Worked cases of the parts: quorums, the rule of a decision, votes, elections, a client's transaction, locks and records. The
-//! standard input has the calls on tables of locks. What it must print stands in the file of this program's output.
+//! Worked cases of the layers below a run, and of its parts.
+//! Each part stands behind a line `== NAME`, in the standard input where it reads any, and in the file of this program's output.
 #![tactic(auto)]
 
-mod clients;
-mod locks;
+mod layers;
 mod parts;
-mod rows;
-mod texts;
 
 use e3_outside::{StdSource, read_up_to};
-use e3_page::Page;
-use e3_types::List;
+use e3_page::{Page, part_of};
 use std::alloc::Global;
 use std::io::{self, Write};
 use std::process::ExitCode;
@@ -21,17 +17,17 @@ const NO_OUTPUT: u8 = 4;
 
 const NO_MEMORY: u8 = 5;
 
-/// More bytes than the calls have.
+/// More bytes than the input has.
 const MOST: u64 = 65_536;
 
-// All lines; none without memory.
-fn lines(alloc: Global, input: &[u8]) -> Option<List<u8>> {
+// All lines, each part behind its name.
+fn lines(alloc: Global, input: &[u8]) -> Page {
     let mut page = Page::new(alloc);
-    parts::push_lines(alloc, &mut page);
-    clients::push_lines(alloc, &mut page);
-    locks::push_lines(alloc, &mut page, input);
-    rows::push_lines(alloc, &mut page);
-    page.done()
+    page.text("== layers\n");
+    layers::push_lines(alloc, &mut page, &part_of(alloc, input, b"layers"));
+    page.text("== parts\n");
+    parts::push_lines(alloc, &mut page, &part_of(alloc, input, b"parts"));
+    page
 }
 
 fn main(rt: HostRuntime) -> ExitCode {
@@ -39,7 +35,7 @@ fn main(rt: HostRuntime) -> ExitCode {
     let Ok(input) = read_up_to(rt.alloc(), &mut source, MOST) else {
         return ExitCode::from(NO_INPUT);
     };
-    let Some(text) = lines(rt.alloc(), input.as_slice()) else {
+    let Some(text) = lines(rt.alloc(), input.as_slice()).done() else {
         return ExitCode::from(NO_MEMORY);
     };
     match io::writer(&rt).write_all(text.as_slice()) {

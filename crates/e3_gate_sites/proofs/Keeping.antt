@@ -1,6 +1,6 @@
 -- The steps that are kept of a site, for the proof alone.
 use Rattle.std.proofs.Common.{◌≡◌, ◌++◌, ◌∷◌, [], List, Result, Ok, Err, OnOk, ap, subst, sym, ◌∙◌}
-use Rattle.e3_site.specs.SiteView.{SiteView, Stands, plan_of, with_step}
+use Rattle.e3_site.specs.SiteView.{SiteView, Stands, planned_step, with_step}
 use Rattle.e3_types.specs.declared.entries.Input.{Input}
 use Rattle.e3_types.specs.declared.list.NoMemory.{NoMemory}
 use Rattle.e3_types.specs.declared.records.Record.{Record}
@@ -15,6 +15,6 @@ kept (Ok u) rose was since step last s is same stands =
 kept (Err e) rose was since step last s is same stands = tt
 
 -- a step that is planned behind equal steps
-pub made_here : (rose : List Record) (was since : List SiteStep) (s : SiteView) (i : Input) (step : SiteStep) → step ≡ plan_of (record { rose = rose; since = was }) s i → was ≡ since
-    → step ≡ plan_of (record { rose = rose; since = since }) s i
-made_here rose was since s i step made same = made ∙ ap (λ (l : List SiteStep). plan_of (record { rose = rose; since = l }) s i) same
+pub made_here : (rose : List Record) (was since : List SiteStep) (s : SiteView) (i : Input) (step : SiteStep) → step ≡ planned_step (record { rose = rose; since = was }) s i → was ≡ since
+    → step ≡ planned_step (record { rose = rose; since = since }) s i
+made_here rose was since s i step made same = made ∙ ap (λ (l : List SiteStep). planned_step (record { rose = rose; since = l }) s i) same

@@ -3,5 +3,7 @@
 #![tactic(auto)]
 
 mod page;
+mod parts;
 
 pub use page::Page;
+pub use parts::part_of;

@@ -1,0 +1,36 @@
+// What several cases print.
+use e3_page::Page;
+
+const DIGITS: &[u8; 16] = b"0123456789ABCDEF";
+
+fn digit(value: u8) -> u8 {
+    DIGITS.get(usize::from(value)).copied().unwrap_or(b'?')
+}
+
+/// Adds bytes as two digits each, and ends the line.
+pub fn push_hex(page: &mut Page, bytes: &[u8]) {
+    for byte in bytes {
+        page.bytes(&[digit(*byte / 16), digit(*byte % 16)]);
+    }
+    page.text("\n");
+}
+
+/// Adds whether something holds.
+pub fn push_flag(page: &mut Page, holds: bool) {
+    page.text(if holds { " yes" } else { " no" });
+}
+
+/// Adds a number behind a space, or a dash for none.
+pub fn push_known(page: &mut Page, number: Option<u64>) {
+    match number {
+        Some(number) => page.labelled(" ", number),
+        None => page.text(" -"),
+    }
+}
+
+/// Adds numbers, each behind a space.
+pub fn push_numbers(page: &mut Page, numbers: &[u64]) {
+    for number in numbers {
+        page.labelled(" ", *number);
+    }
+}

@@ -1,0 +1,267 @@
+// Quorums, the rule of a decision, votes and acknowledgements, and elections.
+ghost use Rattle.std.specs.Prelude.{◌≡◌, IfSome, IsTrue, None};
+ghost use Rattle.e3_elect.specs.Calling.{is_own};
+
+use crate::parts::texts::{flag, push_known, push_word};
+use e3_commit::{Round, Votes};
+use e3_elect::Election;
+use e3_page::Page;
+use e3_quorum::{WeightFault, Weights};
+use e3_rule::decide;
+use e3_types::{Call, Dir, NoMemory, SiteReport, SiteSet, State, Verdict};
+use std::alloc::Global;
+
+fn set(sites: &[u32]) -> Option<SiteSet>
+    ensures { IfSome result (λ set. set ≡ sites.now) }
+{
+    SiteSet::of(sites)
+}
+
+fn weights_of(alloc: Global, weights: &[u32]) -> Result<Weights, WeightFault> {
+    Weights::new(alloc, weights)
+}
+
+fn push_weights(alloc: Global, page: &mut Page, weights: &[u32]) {
+    page.labelled("weights, ", weights.len() as u64);
+    match weights_of(alloc, weights) {
+        Ok(_) => page.text(": made"),
+        Err(WeightFault::Count { count }) => page.labelled(": a count of ", count),
+        Err(WeightFault::Range { site, weight }) => {
+            page.labelled(": site ", u64::from(site));
+            page.labelled(" weighs ", u64::from(weight));
+        }
+        Err(WeightFault::NoMemory) => page.lack(),
+    }
+    page.text("\n");
+}
+
+// What sites that weigh 2, 1 and 1 weigh together, whether the first is a quorum, and which site two quorums share.
+fn shared(alloc: Global) -> Option<(u64, bool, u32)> {
+    let Ok(weights) = Weights::new(alloc, &[2, 1, 1]) else {
+        return None;
+    };
+    let all = set(&[1, 2, 3])?;
+    let two = set(&[1, 2])?;
+    let others = set(&[1, 3])?;
+    let shared = weights.shared_site(two, others, all);
+    let weight = weights.weight_of(all);
+    let is_quorum = weights.is_quorum(SiteSet::one(1), all);
+    Some((weight, is_quorum, shared))
+}
+
+fn push_shared(alloc: Global, page: &mut Page) {
+    match shared(alloc) {
+        Some((weight, is_quorum, shared)) => {
+            page.labelled("weight ", weight);
+            push_word(page, flag(is_quorum));
+            page.labelled(" ", u64::from(shared));
+            page.text("\n");
+        }
+        None => page.lack(),
+    }
+}
+
+fn push_quorums(alloc: Global, page: &mut Page) {
+    for weights in [
+        [].as_slice(),
+        [1; 17].as_slice(),
+        [1000, 0].as_slice(),
+        [1001].as_slice(),
+        [1; 16].as_slice(),
+    ] {
+        push_weights(alloc, page, weights);
+    }
+    push_shared(alloc, page);
+}
+
+// What a site of this number reports.
+fn report(site: u32, state: State, attempt: u32) -> SiteReport {
+    SiteReport {
+        site,
+        state,
+        attempt,
+    }
+}
+
+fn push_verdict(page: &mut Page, reports: &[SiteReport], have: u64, total: u64) {
+    if reports.is_empty() {
+        return;
+    }
+    match decide(reports, have, total) {
+        Verdict::Abort => page.text("rule: abort"),
+        Verdict::Commit => page.text("rule: commit"),
+        Verdict::PreCommit => page.text("rule: pre-commit"),
+        Verdict::PreAbort => page.text("rule: pre-abort"),
+        Verdict::Block { have, total } => {
+            page.labelled("rule: block, ", have);
+            page.labelled(" of ", total);
+        }
+    }
+    page.text("\n");
+}
+
+// The verdicts in the order of the rule, and by the reports of the greatest attempt those of a quorum.
+fn push_rules(page: &mut Page) {
+    let voted = report(1, State::W, 0);
+    let late = report(2, State::Pc, 3);
+    let old = report(3, State::Pa, 2);
+    let ended = report(4, State::C, 2);
+    let off = report(5, State::A, 0);
+    let first = report(6, State::Pc, 1);
+    for (reports, have, total) in [
+        ([late, ended, off].as_slice(), 1, 9),
+        (&[voted, ended], 1, 9),
+        (&[voted, late], 2, 4),
+        (&[late, old], 3, 4),
+        (&[first, voted], 3, 4),
+        (&[voted, old], 3, 4),
+        (&[first, old], 3, 4),
+        (&[voted, voted], 3, 4),
+    ] {
+        push_verdict(page, reports, have, total);
+    }
+}
+
+// Adds the votes of a commit of three sites, each behind the one before.
+fn push_votes(page: &mut Page, sites: SiteSet) {
+    let mut votes = Votes::start(sites, 1);
+    page.text("all said yes:");
+    for from in [2, 2, 4, 3] {
+        push_word(page, flag(votes.yes(from)));
+    }
+    page.text("\n");
+}
+
+// Adds the acknowledgements of an attempt of site 1, each behind the one before.
+fn push_acknowledged(page: &mut Page, sites: SiteSet) {
+    let mut round = Round::attempt(1, Dir::Commit, sites.without(1), 1);
+    page.text("acknowledged by:");
+    for (from, n, dir) in [
+        (2, 2, Dir::Commit),
+        (2, 1, Dir::Abort),
+        (4, 1, Dir::Commit),
+        (2, 1, Dir::Commit),
+        (2, 1, Dir::Commit),
+        (3, 1, Dir::Commit),
+    ] {
+        push_known(page, Some(round.ack(from, n, dir).count()));
+    }
+    page.text("\n");
+}
+
+// Adds what an election hears, and which number it comes to.
+fn push_calls(page: &mut Page, election: &mut Election, answers: &[(u32, Call, u32)]) {
+    page.text("elected:");
+    push_known(page, election.number());
+    for (from, call, elected) in answers {
+        push_word(page, flag(election.heard(*from, *call, *elected)));
+        push_known(page, election.number());
+    }
+    page.text("\n");
+}
+
+// Adds what an election of site 2 hears, whose own number is 4.
+fn push_heard(alloc: Global, page: &mut Page, group: SiteSet, answers: &[(u32, Call, u32)]) {
+    if !group.has(2) {
+        return;
+    }
+    match Election::start(alloc, Call { inc: 1, seq: 1 }, group, 2, 4) {
+        Ok(mut election) => push_calls(page, &mut election, answers),
+        Err(NoMemory) => page.lack(),
+    }
+}
+
+// Adds what an election hears in two groups: a stranger, another call, an answer, and one more; of three sites an answer twice; and
+// a number that is the greatest of all.
+fn push_answers(alloc: Global, page: &mut Page) {
+    let call = Call { inc: 1, seq: 1 };
+    let other = Call { inc: 1, seq: 2 };
+    let two = SiteSet::one(2).with(3);
+    for (group, answers) in [
+        (
+            two,
+            [(4, call, 9), (3, other, 9), (3, call, 6), (3, call, 9)].as_slice(),
+        ),
+        (two.with(4), &[(3, call, 6), (3, call, 6), (4, call, 5)]),
+        (two, &[(3, call, 4_294_967_295)]),
+    ] {
+        push_heard(alloc, page, group, answers);
+    }
+}
+
+// An answer to the call of an election: what it joined stays, and so does that it is one of site 2.
+fn hear(election: &mut Election, from: u32, call: Call, elected: u32) -> bool
+    ensures number { election.new.number ≡ election.old.number }
+    ensures own { IsTrue (is_own election.old 2) → IsTrue (is_own election.new 2) }
+{
+    election.heard(from, call, elected)
+}
+
+// Adds whether the whole group has reported, then of each report whether it is taken and whether all have reported with it, and how
+// many have at the end.
+fn push_taken(page: &mut Page, election: &mut Election, reports: &[(u32, u32)]) {
+    push_word(page, flag(election.complete()));
+    for (from, n) in reports {
+        push_word(
+            page,
+            flag(election.reported(*n, report(*from, State::Pc, 1))),
+        );
+        push_word(page, flag(election.complete()));
+    }
+    page.text("; of ");
+    page.labelled("", election.group().count() as u64);
+    page.text(" sites ");
+    page.labelled("", election.reports().len() as u64);
+}
+
+// Adds what an election of site 2 takes of these reports, each by its site and under its number, once it heard site 3 and joined.
+fn push_joined(page: &mut Page, election: &mut Election, call: Call, reports: &[(u32, u32)])
+    requires none { election.old.number ≡ None }
+    requires own { IsTrue (is_own election.old 2) }
+{
+    hear(election, 3, call, 6);
+    if election.number().is_none() {
+        return;
+    }
+    election.joined(SiteReport {
+        site: 2,
+        state: State::W,
+        attempt: 0,
+    });
+    page.text("reported:");
+    push_taken(page, election, reports);
+    page.text("\n");
+}
+
+fn push_reported(alloc: Global, page: &mut Page, group: SiteSet, reports: &[(u32, u32)]) {
+    if !group.has(2) {
+        return;
+    }
+    let call = Call { inc: 1, seq: 1 };
+    match Election::start(alloc, call, group, 2, 4) {
+        Ok(mut election) => push_joined(page, &mut election, call, reports),
+        Err(NoMemory) => page.lack(),
+    }
+}
+
+// Adds the lines of a commit, and of elections; the reports are one under another number, a stranger's, one that counts, the same
+// once more, and the elector's own.
+fn push_gathered(alloc: Global, page: &mut Page) {
+    let sites = SiteSet::one(1).with(2).with(3);
+    push_votes(page, sites);
+    push_acknowledged(page, sites);
+    push_answers(alloc, page);
+    push_reported(
+        alloc,
+        page,
+        SiteSet::one(2).with(3),
+        &[(3, 6), (4, 7), (3, 7), (3, 7), (2, 7)],
+    )
+}
+
+/// Adds the lines of these parts.
+pub fn push_lines(alloc: Global, page: &mut Page) {
+    push_quorums(alloc, page);
+    push_rules(page);
+    push_gathered(alloc, page);
+}

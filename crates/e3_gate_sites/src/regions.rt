@@ -1,0 +1,56 @@
+// Logs in two regions over disks in memory. Each line of the input is the capacity of a disk and what is done with it,
+// word by word; it is printed with what came of each word.
+
+mod answers;
+mod commands;
+mod held;
+
+use e3_page::Page;
+use e3_types::NoMemory;
+use held::{Held, blank};
+use std::alloc::Global;
+
+// Does what a word says, and adds what came of it; nothing is left where memory was lacking.
+fn did(alloc: Global, page: &mut Page, held: Held, word: &[u8]) -> Held {
+    page.text("\n  ");
+    page.bytes(word);
+    page.text(": ");
+    match commands::read_command(alloc, word) {
+        Ok(command) => held::done(alloc, page, held, &command),
+        Err(NoMemory) => {
+            page.lack();
+            Held::Nothing
+        }
+    }
+}
+
+// Does what the words behind the capacity say, each behind the one before.
+fn push_words(alloc: Global, page: &mut Page, line: &[u8], capacity: &[u8]) {
+    let Ok(mut held) = blank(alloc, commands::number(capacity)) else {
+        return page.lack();
+    };
+    for word in line.split(|byte| *byte == b' ').skip(1) {
+        held = did(alloc, page, held, word);
+    }
+    page.text("\n");
+}
+
+// Adds the lines of a disk.
+fn push_line(alloc: Global, page: &mut Page, line: &[u8]) {
+    let capacity = line.split(|byte| *byte == b' ').next().unwrap_or(&[]);
+    page.text("disk of ");
+    page.bytes(capacity);
+    push_words(alloc, page, line, capacity);
+}
+
+/// Adds all lines.
+pub fn push_lines(alloc: Global, page: &mut Page, input: &Page) {
+    if !input.is_whole() {
+        page.lack();
+    }
+    for line in input.as_slice().split(|byte| *byte == b'\n') {
+        if !line.is_empty() {
+            push_line(alloc, page, line);
+        }
+    }
+}

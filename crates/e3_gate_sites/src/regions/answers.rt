@@ -1,0 +1,69 @@
+// What came of a call, as text.
+use e3_disk::DiskFault;
+use e3_page::Page;
+use e3_regions::{AppendFault, Frame, OpenCause, TurnFault};
+
+const DIGITS: &[u8; 16] = b"0123456789ABCDEF";
+
+fn digit(value: u8) -> u8 {
+    DIGITS.get(usize::from(value)).copied().unwrap_or(b'?')
+}
+
+/// Adds bytes as two digits each.
+pub fn push_bytes(page: &mut Page, bytes: &[u8]) {
+    for byte in bytes {
+        page.bytes(&[digit(*byte / 16), digit(*byte % 16)]);
+    }
+}
+
+fn push_full(page: &mut Page, need: u64, room: u64) {
+    page.labelled("full ", need);
+    page.labelled(" of ", room);
+}
+
+/// Adds how a call of a disk ended.
+pub fn push_write(page: &mut Page, end: Result<(), DiskFault>) {
+    match end {
+        Ok(()) => page.text("ok"),
+        Err(DiskFault::Failed) => page.text("failed"),
+        Err(DiskFault::Full { need, room }) => push_full(page, need, room),
+    }
+}
+
+/// Adds how an append ended, or a region was closed.
+pub fn push_append(page: &mut Page, end: Result<(), AppendFault>) {
+    match end {
+        Ok(()) => page.text("ok"),
+        Err(AppendFault::Failed) => page.text("failed"),
+        Err(AppendFault::Full { need, room }) => push_full(page, need, room),
+    }
+}
+
+/// Adds how a turn ended.
+pub fn push_turn(page: &mut Page, end: Result<(), TurnFault>) {
+    match end {
+        Ok(()) => page.text("ok"),
+        Err(TurnFault::Failed) => page.text("failed"),
+        Err(TurnFault::Full { need, room }) => push_full(page, need, room),
+        Err(TurnFault::NoMemory) => page.text("no memory"),
+    }
+}
+
+/// Adds why no log was opened.
+pub fn push_cause(page: &mut Page, cause: OpenCause) {
+    match cause {
+        OpenCause::Failed => page.text("failed"),
+        OpenCause::Damaged { at } => page.labelled("damaged ", at),
+        OpenCause::NoMemory => page.text("no memory"),
+    }
+}
+
+/// Adds the frames that a log was opened with, each by its place and its body.
+pub fn push_frames(page: &mut Page, frames: &[Frame]) {
+    page.labelled("frames ", frames.len() as u64);
+    for frame in frames {
+        page.labelled(", at ", frame.place);
+        page.text(" ");
+        push_bytes(page, frame.body.as_slice());
+    }
+}

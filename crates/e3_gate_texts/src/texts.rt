@@ -1,0 +1,55 @@
+// Worked cases of texts, which stand in the input: texts of scenarios, with the line of the fault of each; and a scenario with the
+// trace of a history that has each form, whose report and trace are printed.
+
+mod scenarios;
+
+use e3_page::Page;
+use e3_report::report;
+use e3_scenario::read_scenario;
+use e3_trace::{before_mark, read_trace};
+use e3_types::NoMemory;
+use std::alloc::Global;
+
+// Adds the report, and the trace, of the scenario on this line and of the history whose trace stands in the input.
+fn push_report(alloc: Global, page: &mut Page, input: &[u8], line: &[u8]) {
+    let text = scenarios::text_of(alloc, line);
+    let Ok(scenario) = read_scenario(alloc, text.as_slice()) else {
+        return page.text("no scenario\n");
+    };
+    let Ok(history) = read_trace(alloc, &scenario, input) else {
+        return page.text("no trace\n");
+    };
+    match report(alloc, &scenario, &history, true) {
+        Ok(text) => page.bytes(text.as_slice()),
+        Err(NoMemory) => page.lack(),
+    }
+}
+
+// Adds the lines of a case: the first letter of the line says what is done with what stands behind its first word.
+fn push_case(alloc: Global, page: &mut Page, input: &[u8], line: &[u8]) {
+    let mut halves = line.splitn(2, |byte| *byte == b' ');
+    let word = halves.next().unwrap_or(b"");
+    let rest = halves.next().unwrap_or(b"");
+    match word.first() {
+        Some(b't') => scenarios::push_line(alloc, page, rest),
+        Some(b's') => scenarios::push_steps(alloc, page, rest),
+        Some(b'l') => scenarios::push_limit(alloc, page, rest),
+        Some(b'b') => scenarios::push_begins(alloc, page, rest),
+        Some(b'f') => scenarios::push_fronts(alloc, page, rest),
+        Some(b'p') => scenarios::push_parts(alloc, page, rest),
+        Some(b'r') => push_report(alloc, page, input, rest),
+        _ => page.text("no case\n"),
+    }
+}
+
+/// Adds all lines.
+pub fn push_lines(alloc: Global, page: &mut Page, input: &Page) {
+    if !input.is_whole() {
+        page.lack();
+    }
+    let cases = before_mark(input.as_slice());
+    let cases = cases.strip_suffix(b"\n").unwrap_or(cases);
+    for line in cases.split(|byte| *byte == b'\n') {
+        push_case(alloc, page, input.as_slice(), line);
+    }
+}
