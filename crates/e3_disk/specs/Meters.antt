@@ -34,8 +34,8 @@ abbrev pub raised : ℕ → ℕ → ℕ
 raised before more = min (before + more) LAST
 
 -- A count has risen: it is greater than before, or it stands at its last value.
-abbrev pub Rose : ℕ → ℕ → Type 0
-Rose before now = raised before 1 ≤ now
+abbrev pub HasFailed : ℕ → ℕ → Type 0
+HasFailed before now = raised before 1 ≤ now
 
 -- What every call of a disk keeps. An arm has never more calls left than before. The stops rise only by one, in a call that
 -- clears the arm; the faults never fall, and neither do the faults less the stops.
@@ -52,7 +52,7 @@ pub record Keeps (old new : Meters) : Type 0 where
 
 -- Why a call failed: the faults rose, or the power was off when it began. Then no fault is counted, and it stays off.
 pub record Failing (old new : Meters) : Type 0 where
-  pub cause : old.powered ≡ true → Rose old.faults new.faults
+  pub cause : old.powered ≡ true → HasFailed old.faults new.faults
   pub silent : old.powered ≡ false →
       (new.faults ≡ old.faults) × (new.powered ≡ false) × (new.stops ≡ old.stops) × (new.calls_left ≡ old.calls_left)
 

@@ -1,4 +1,6 @@
-//! Whether a history is one that a scenario allows, and where it is not, at which entry and by which rule.
+//! Whether a history is one that a scenario allows, and where it is not, at which entry and by which rule. Beside it
+//! what is read off a history: its logs and packets, the order in which its transactions commit, and whether its sites
+//! agree.
 #![tactic(auto)]
 
 mod breach;

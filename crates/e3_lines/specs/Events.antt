@@ -113,8 +113,8 @@ unfoldable pub at_site : ℕ → List ℕ
 at_site site = decimal site ++ codes ": "
 
 -- a line of one word: `S: WORD`
-unfoldable pub plain_line : ℕ → List ℕ → List ℕ
-plain_line site word = at_site site ++ word ++ line_end
+unfoldable pub word_line : ℕ → List ℕ → List ℕ
+word_line site word = at_site site ++ word ++ line_end
 
 -- what a step tells: `T `, and what is told of the transaction T
 unfoldable pub told_text : Told → List ℕ
@@ -146,8 +146,8 @@ act_lines site (Step i records outs events) = flat_map (told_line site) events
 act_lines site (Fall inputs records why) = fall_line site why
 act_lines site (Rise kept inc) = rise_line site inc kept
 act_lines site (RiseFall kept inc why) = failed_rise_line site inc why kept
-act_lines site Miss = plain_line site (codes "missed")
-act_lines site Cut = plain_line site (codes "cut")
+act_lines site Miss = word_line site (codes "missed")
+act_lines site Cut = word_line site (codes "cut")
 act_lines site _ = []
 
 -- the lines of an entry

@@ -1,7 +1,7 @@
 // The lines of what happens at a site.
 ghost use Rattle.std.specs.Prelude.{◌≡◌, ◌++◌, OnOk};
 ghost use Rattle.std.specs.List.{flat_map};
-ghost use Rattle.e3_lines.specs.Events.{answer_text, ended_text, doom_text, refusal_text, block_text, verdict_text, began_text, op_text, election_text, died_text, refused_text, kept_state_text, told_of, of_txn, told_text, told_line, why_text, at_site, rise_line, failure_text, failed_rise_line, fall_line, plain_line, act_lines, entry_lines};
+ghost use Rattle.e3_lines.specs.Events.{answer_text, ended_text, doom_text, refusal_text, block_text, verdict_text, began_text, op_text, election_text, died_text, refused_text, kept_state_text, told_of, of_txn, told_text, told_line, why_text, at_site, rise_line, failure_text, failed_rise_line, fall_line, word_line, act_lines, entry_lines};
 
 use crate::texts::{
     push_dir, push_kept, push_labelled, push_line_end, push_number, push_sites, push_state,
@@ -281,9 +281,9 @@ fn push_fall(out: &mut List<u8>, site: u32, why: Why) -> Result<(), NoMemory>
 }
 
 /// Adds a line of a site that has one word.
-#[tactic(auto, unfolding(crate::specs::Events::plain_line))]
-pub fn push_plain(out: &mut List<u8>, site: u32, word: &str) -> Result<(), NoMemory>
-    ensures { OnOk result (out.new ≡ out.old ++ plain_line site word.now) }
+#[tactic(auto, unfolding(crate::specs::Events::word_line))]
+pub fn push_word_line(out: &mut List<u8>, site: u32, word: &str) -> Result<(), NoMemory>
+    ensures { OnOk result (out.new ≡ out.old ++ word_line site word.now) }
 {
     push_at_site(out, site)?;
     push_text(out, word)?;
@@ -301,8 +301,8 @@ pub fn push_entry(out: &mut List<u8>, entry: &Entry) -> Result<(), NoMemory>
         Act::Fall { why, .. } => push_fall(out, site, *why),
         Act::Rise { kept, inc } => push_rise(out, site, *inc, *kept),
         Act::RiseFall { kept, inc, why } => push_failed_rise(out, site, *inc, *why, *kept),
-        Act::Miss => push_plain(out, site, "missed"),
-        Act::Cut => push_plain(out, site, "cut"),
+        Act::Miss => push_word_line(out, site, "missed"),
+        Act::Cut => push_word_line(out, site, "cut"),
         _ => Ok(()),
     }
 }

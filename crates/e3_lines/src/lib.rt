@@ -1,5 +1,5 @@
-//! The lines of which a report is made: the words in them, the items of a step, the records of a log, and what happens at
-//! a site. Each function adds to the end of a text.
+//! The lines of which a report and a trace are made: the words in them, the items of a step, the records of a log, what
+//! happens at a site, and the entries of a history. Each function adds to the end of a text.
 #![tactic(auto)]
 
 mod entries;
@@ -11,7 +11,7 @@ mod records;
 mod texts;
 
 pub use entries::push_trace;
-pub use events::{push_answer, push_entry, push_plain, push_told_text, push_why};
+pub use events::{push_answer, push_entry, push_told_text, push_why, push_word_line};
 pub use items::{push_item, push_items};
 pub use records::{push_records, push_rows};
 pub use texts::{

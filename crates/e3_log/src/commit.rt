@@ -3,7 +3,7 @@ ghost use Rattle.std.specs.Prelude.{◌≡◌, ◌+◌, ◌≤◌, ◌<◌, ◌^
 ghost use Rattle.e3_disk.specs.Images.{Holds, Only, Tears, overwritten};
 ghost use Rattle.e3_disk.specs.declared.fault.DiskFault.TheVariants.{Failed};
 ghost use Rattle.e3_log.specs.Frames.{OPEN as OPEN_GATE, Fits};
-ghost use Rattle.e3_log.specs.Stands.{DiskStands, ReadsBeforeOrAfter, Spends, staged};
+ghost use Rattle.e3_log.specs.Stands.{FramesStand, ReadsBeforeOrAfter, Spends, staged};
 
 use e3_disk::{Disk, DiskFault};
 
@@ -62,11 +62,11 @@ pub fn commit<D: Disk>(disk: &mut D, end: u64, bytes: &[u8]) -> Result<(), DiskF
     requires room { end + 1 + length bytes.now ≤ (D.meters disk.old).capacity }
     requires bound { (D.meters disk.old).capacity ≤ 2 ^ 30 }
     ensures stands { (bodies : List (List ℕ)) (body : List ℕ) → bytes.now ≡ staged body → Fits body →
-        DiskStands D.content D.image bodies end disk.old →
-        OnOk result (DiskStands D.content D.image (bodies ++ body ∷ []) (end + 5 + length body) disk.new) }
+        FramesStand D.content D.image bodies end disk.old →
+        OnOk result (FramesStand D.content D.image (bodies ++ body ∷ []) (end + 5 + length body) disk.new) }
     ensures written { OnOk result (D.content disk.new ≡ overwritten (overwritten (D.content disk.old) (end + 1) bytes.now) end (OPEN_GATE ∷ [])) }
     ensures images { (bodies : List (List ℕ)) (body : List ℕ) → bytes.now ≡ staged body → Fits body →
-        DiskStands D.content D.image bodies end disk.old →
+        FramesStand D.content D.image bodies end disk.old →
         ReadsBeforeOrAfter bodies body (D.image disk.new) }
     ensures failed { IfErr result (λ e. e ≡ Failed) }
     ensures meters { Spends 4 (D.meters disk.old) (D.meters disk.new) result }

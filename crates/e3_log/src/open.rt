@@ -2,9 +2,9 @@
 ghost use Rattle.std.specs.Prelude.{◌≡◌, ◌+◌, ◌-◌, ◌≤◌, ◌<◌, ◌^◌, ◌↔◌, ◌⊎◌, true, Err, ℕ, List as Items, length, take, drop, slice_index, vec_capacity, IsTrue, IfOk, OnOk, IfErr, IsErrOf};
 ghost use Rattle.std.specs.Int.{w32, to_be_bytes};
 ghost use Rattle.e3_disk.specs.Images.{Within, Only};
-ghost use Rattle.e3_disk.specs.Meters.{Rose, Keeps, Failing, Passing};
+ghost use Rattle.e3_disk.specs.Meters.{HasFailed, Keeps, Failing, Passing};
 ghost use Rattle.e3_log.specs.Frames.{OPEN as OPEN_GATE, NoFrame, DamagedAt};
-ghost use Rattle.e3_log.specs.Stands.{DiskStands, Spends};
+ghost use Rattle.e3_log.specs.Stands.{FramesStand, Spends};
 ghost use Rattle.e3_log.specs.Opening.{NextIs, Looks, TakesOne};
 ghost use Rattle.e3_log.specs.Found.{bodies_of, frames_from, ReadsTo};
 
@@ -141,7 +141,7 @@ pub fn prepare<D: Disk>(
     alloc: Global,
     disk: &mut D,
 ) -> Result<(List<Frame>, u64, Vec<u8>), OpenCause>
-    ensures stands { IfOk result (λ r. DiskStands D.content D.image (bodies_of r.0) r.1 disk.new) }
+    ensures stands { IfOk result (λ r. FramesStand D.content D.image (bodies_of r.0) r.1 disk.new) }
     ensures places { IfOk result (λ r. r.0 ≡ frames_from 0 (bodies_of r.0)) }
     ensures gate { IfOk result (λ r. r.1 < length (D.content disk.new)) }
     ensures bound { IfOk result (λ r. r.1 ≤ 2 ^ 30) }

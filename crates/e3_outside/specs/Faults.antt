@@ -2,8 +2,8 @@
 use Rattle.std.specs.Prelude.{◌≡◌, ℕ, ◌+◌, ◌-◌, ◌^◌, ◌<◌, ◌⊎◌, min}
 
 -- A count of faults has risen: it is greater than before, or it stands at the last value that a count can have.
-abbrev pub Rose : ℕ → ℕ → Type 0
-Rose before now = (before < now) ⊎ (now ≡ 2 ^ 64 - 1)
+abbrev pub HasFailed : ℕ → ℕ → Type 0
+HasFailed before now = (before < now) ⊎ (now ≡ 2 ^ 64 - 1)
 
 -- A count that goes up by one, and stands still at the last value that it can have.
 abbrev pub count_up : ℕ → ℕ

@@ -1,7 +1,7 @@
 // Where bytes go.
 ghost use Rattle.std.specs.Prelude.{◌≡◌, ◌<◌, ◌≤◌, List, ℕ, Option, length, take, IfOk, IsOk, OnOk, OnErr};
 ghost use Rattle.std.specs.Io.KnownBytes.{Appends};
-ghost use Rattle.e3_outside.specs.Faults.{Rose};
+ghost use Rattle.e3_outside.specs.Faults.{HasFailed};
 
 use crate::Failed;
 
@@ -20,7 +20,7 @@ pub trait Sink {
         ensures some { IfOk result (λ n. (1 ≤ n) × (n ≤ length piece.now)) }
         ensures appended { IfOk result (λ n. Appends (written self.old) (written self.new) (take n piece.now)) }
         ensures kept { OnErr result (written self.new ≡ written self.old) }
-        ensures counted { OnErr result (Rose (faults self.old) (faults self.new)) }
+        ensures counted { OnErr result (HasFailed (faults self.old) (faults self.new)) }
         ensures never_falls { faults self.old ≤ faults self.new };
 }
 
@@ -31,7 +31,7 @@ pub fn write_all<K: Sink>(sink: &mut K, text: &[u8]) -> Result<(), Failed>
     ensures all { OnOk result (Appends (K.written sink.old) (K.written sink.new) text.now) }
     ensures prefix { OnErr result
         ((n : ℕ) × (n < length text.now) × Appends (K.written sink.old) (K.written sink.new) (take n text.now)) }
-    ensures counted { OnErr result (Rose (K.faults sink.old) (K.faults sink.new)) }
+    ensures counted { OnErr result (HasFailed (K.faults sink.old) (K.faults sink.new)) }
     ensures never_falls { K.faults sink.old ≤ K.faults sink.new }
     ensures no_call { length text.now ≡ 0 → IsOk result × (sink.new ≡ sink.old) }
 {

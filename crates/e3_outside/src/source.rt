@@ -2,7 +2,7 @@
 ghost use Rattle.std.specs.Prelude.{◌≡◌, ◌<◌, ◌≤◌, List, [], ℕ, Option, length, take, IfOk, OnErr};
 ghost use Rattle.std.specs.Io.{ReadsAtMost};
 ghost use Rattle.std.specs.Io.KnownBytes.{Consumes, IsAtEnd};
-ghost use Rattle.e3_outside.specs.Faults.{Rose};
+ghost use Rattle.e3_outside.specs.Faults.{HasFailed};
 
 use crate::Failed;
 use e3_types::{List, NoMemory};
@@ -24,7 +24,7 @@ pub trait Source {
         ensures taken { IfOk result (λ n. Consumes (left self.old) (left self.new) (take n into.new)) }
         ensures end { IfOk result (λ n. n ≡ 0 → IsAtEnd (left self.new)) }
         ensures kept { OnErr result (left self.new ≡ left self.old) }
-        ensures counted { OnErr result (Rose (faults self.old) (faults self.new)) }
+        ensures counted { OnErr result (HasFailed (faults self.old) (faults self.new)) }
         ensures never_falls { faults self.old ≤ faults self.new };
 }
 
@@ -54,7 +54,7 @@ pub fn read_up_to<S: Source>(
         ((bytes : List ℕ) × (length bytes < most) × Consumes (S.left source.old) (S.left source.new) bytes) }
     ensures no_memory { result ≡ Err ReadFault.NoMemory →
         ((bytes : List ℕ) × (length bytes ≤ most) × Consumes (S.left source.old) (S.left source.new) bytes) }
-    ensures counted { result ≡ Err ReadFault.Failed → Rose (S.faults source.old) (S.faults source.new) }
+    ensures counted { result ≡ Err ReadFault.Failed → HasFailed (S.faults source.old) (S.faults source.new) }
     ensures never_falls { S.faults source.old ≤ S.faults source.new }
     ensures no_call { most ≡ 0 → (result ≡ Ok []) × (source.new ≡ source.old) }
 {

@@ -11,7 +11,7 @@ ghost use Rattle.e3_world.specs.Packets.{lines, pending, present_items};
 ghost use Rattle.e3_world.specs.Progress.{Delivering};
 
 use crate::listing::listed;
-use crate::reporting::{RoundReport, report_of};
+use crate::reporting::{RoundReport, round_report};
 use crate::{RunFault, Sites, deliver_all};
 use e3_items::RecoveryRound;
 use e3_types::{Entry, Input, List, SiteSet};
@@ -71,7 +71,7 @@ fn take_turn<S: Sites>(sites: &mut S, round: &RecoveryRound) -> Result<RoundRepo
 {
     let from = sites.history().len();
     make_round(sites, round)?;
-    Ok(report_of(round, behind(sites.history(), from)))
+    Ok(round_report(round, behind(sites.history(), from)))
 }
 
 /// Makes the recovery rounds of a group: in ascending order for each transaction that is open at a member that is up. Its

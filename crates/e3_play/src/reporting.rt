@@ -60,7 +60,7 @@ fn verdict_with(round: &RecoveryRound, was: Option<Verdict>, entry: &Entry) -> O
 }
 
 /// The report of a round that entered these entries, all sites' in their order: what `recover` reports of it.
-pub fn report_of(round: &RecoveryRound, entered: &[Entry]) -> RoundReport
+pub fn round_report(round: &RecoveryRound, entered: &[Entry]) -> RoundReport
     ensures txn { result.txn ≡ round.now.txn }
     ensures told { result.verdict ≡ verdict_of round.now entered.now }
 {

@@ -1,6 +1,6 @@
 -- What reading a log finds, step by step.
 use Rattle.std.specs.Prelude.{◌≡◌, ℕ, ◌+◌, ◌-◌, ◌<◌, ◌≤◌, true, false, Option, Some, None, Result, IsErrOf, List, ◌++◌, length, drop}
-use Rattle.e3_disk.specs.Meters.{Meters, Rose, Keeps}
+use Rattle.e3_disk.specs.Meters.{Meters, HasFailed, Keeps}
 use Rattle.e3_regions.specs.declared.fault.OpenCause.{OpenCause}
 use Rattle.e3_regions.specs.declared.fault.OpenCause.TheVariants.{Failed}
 use Rattle.e3_regions.specs.Frames.{frame, IsClosed, Fits}
@@ -32,6 +32,6 @@ StaysOn old new = (new.powered ≡ true) × (new.stops ≡ old.stops)
 -- What calls that only read do to the numbers of a disk.
 pub record Looks {T : Type 0} (old new : Meters) (result : Result T OpenCause) : Type 0 where
   pub keeps : Keeps old new
-  pub failed : IsErrOf result Failed → Rose old.faults new.faults
+  pub failed : IsErrOf result Failed → HasFailed old.faults new.faults
   pub still : (IsErrOf result Failed → ⊥) →
       (new.powered ≡ true) × (new.stops ≡ old.stops) × (new.calls_left ≡ old.calls_left)

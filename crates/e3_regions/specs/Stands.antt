@@ -2,7 +2,7 @@
 use Rattle.std.specs.Prelude.{◌≡◌, ◌⊎◌, ℕ, ◌+◌, ◌-◌, ◌<◌, Bool, true, false, Result, OnOk, OnErr, List, [], ◌∷◌, ◌++◌, length, replicate}
 use Rattle.std.specs.Int.{w32, to_be_bytes}
 use Rattle.e3_disk.specs.Images.{Only, Torn, overwritten}
-use Rattle.e3_disk.specs.Meters.{Meters, Rose, Keeps}
+use Rattle.e3_disk.specs.Meters.{Meters, HasFailed, Keeps}
 use Rattle.e3_regions.specs.declared.region.Front.{Front}
 use Rattle.e3_regions.specs.declared.region.Region.{Region}
 use Rattle.e3_regions.specs.Frames.{frames}
@@ -49,7 +49,7 @@ Leaves old end bytes image = Torn (end + 1) (length bytes) old image ⊎ Torn en
 -- What writes and syncs, so many of them, do to the numbers of a disk: with Ok each of them takes a call from the arm.
 pub record Spends {T E : Type 0} (count : ℕ) (old new : Meters) (result : Result T E) : Type 0 where
   pub keeps : Keeps old new
-  pub failed : old.powered ≡ true → OnErr result (Rose old.faults new.faults)
+  pub failed : old.powered ≡ true → OnErr result (HasFailed old.faults new.faults)
   pub ok : OnOk result ((new.powered ≡ true) × (new.stops ≡ old.stops)
       × (new.calls_left ≡ old.calls_left - count) × (0 < old.calls_left → count < old.calls_left))
 

@@ -2,7 +2,7 @@
 ghost use Rattle.std.specs.Prelude.{◌≡◌, ◌≢◌, ◌+◌, ◌-◌, ◌≤◌, ◌<◌, ◌^◌, ◌++◌, ◌∷◌, [], ◌⊎◌, ◌↔◌, true, false, Ok, Err, List as Items, ℕ, length, slice_index, IsTrue, OnOk, IfOk, IfErr, IsErrOf, MatchResult};
 ghost use Rattle.e3_disk.specs.Images.{Within, SameImages, Only, overwritten};
 ghost use Rattle.e3_disk.specs.Leaves.{code_of};
-ghost use Rattle.e3_disk.specs.Meters.{Rose, Keeps, armed};
+ghost use Rattle.e3_disk.specs.Meters.{HasFailed, Keeps, armed};
 ghost use Rattle.e3_regions.specs.Frames.{OPEN};
 ghost use Rattle.e3_regions.specs.Fronts.{TURN as TURN_TAG, turned};
 ghost use Rattle.e3_regions.specs.Found.{Opened, bodies_of};
@@ -74,7 +74,7 @@ impl<D: Disk> Log<D> {
         ensures durable { IfErr result (λ e. e.cause ≢ OpenCause.Failed → Only (D.content disk) (D.image e.disk)) }
 
         // it fails only where the disk's count rose or its power was off, and with the power off it fails and counts nothing
-        ensures failed { IfErr result (λ e. e.cause ≡ OpenCause.Failed → (D.meters disk).powered ≡ true → Rose (D.meters disk).faults (D.meters e.disk).faults) }
+        ensures failed { IfErr result (λ e. e.cause ≡ OpenCause.Failed → (D.meters disk).powered ≡ true → HasFailed (D.meters disk).faults (D.meters e.disk).faults) }
         ensures unpowered { (D.meters disk).powered ≡ false → MatchResult result (λ _. ⊥)
             (λ e. (e.cause ≡ OpenCause.Failed) × StaysOff (D.meters disk) (D.meters e.disk)) }
 
@@ -152,7 +152,7 @@ impl<D: Disk> Log<D> {
         // a failure is kept exactly from a Failed on, and nothing is touched then
         ensures failure { self.new.failed ≡ true ↔ IsErrOf result AppendFault.Failed }
         ensures kept { self.old.failed ≡ true → (result ≡ Err AppendFault.Failed) × (self.new ≡ self.old) }
-        ensures cause { IsErrOf result AppendFault.Failed → self.old.failed ≡ false → Rose (D.meters self.old.disk).faults (D.meters self.new.disk).faults }
+        ensures cause { IsErrOf result AppendFault.Failed → self.old.failed ≡ false → HasFailed (D.meters self.old.disk).faults (D.meters self.new.disk).faults }
 
         // it is full exactly where the frame passes the end of the region, and nothing is written then
         ensures full { self.old.failed ≡ false → limit (D.meters self.old.disk).capacity self.old.region < self.old.end + 6 + length body.now →
@@ -206,7 +206,7 @@ impl<D: Disk> Log<D> {
         ensures error { IfErr result (λ e. e ≡ AppendFault.Failed) }
         ensures failure { self.new.failed ≡ true ↔ IsErrOf result AppendFault.Failed }
         ensures kept { self.old.failed ≡ true → (result ≡ Err AppendFault.Failed) × (self.new ≡ self.old) }
-        ensures cause { IsErrOf result AppendFault.Failed → self.old.failed ≡ false → Rose (D.meters self.old.disk).faults (D.meters self.new.disk).faults }
+        ensures cause { IsErrOf result AppendFault.Failed → self.old.failed ≡ false → HasFailed (D.meters self.old.disk).faults (D.meters self.new.disk).faults }
 
         // with Ok it takes two calls from an armed disk where it closes a gate, and it neither arms nor cuts it
         ensures keeps { Keeps (D.meters self.old.disk) (D.meters self.new.disk) }
@@ -254,7 +254,7 @@ impl<D: Disk> Log<D> {
         // a failure is kept exactly from a Failed on, and nothing is touched then
         ensures failure { self.new.failed ≡ true ↔ IsErrOf result TurnFault.Failed }
         ensures kept { self.old.failed ≡ true → (result ≡ Err TurnFault.Failed) × (self.new ≡ self.old) }
-        ensures cause { IsErrOf result TurnFault.Failed → self.old.failed ≡ false → Rose (D.meters self.old.disk).faults (D.meters self.new.disk).faults }
+        ensures cause { IsErrOf result TurnFault.Failed → self.old.failed ≡ false → HasFailed (D.meters self.old.disk).faults (D.meters self.new.disk).faults }
 
         // it is full exactly where the frame passes the end of the other region, and nothing is written then
         ensures full { self.old.failed ≡ false →

@@ -10,7 +10,7 @@ use Rattle.e3_world.specs.Items.{inputs_of, is_delivery}
 use Rattle.e3_world.specs.Moves.{own}
 use Rattle.e3_report.specs.declared.takers.Taker.{Taker}
 use Rattle.e3_report.specs.declared.takers.Taker.TheVariants.{Site, NotBegun, Nobody}
-use Rattle.e3_lines.specs.Events.{plain_line}
+use Rattle.e3_lines.specs.Events.{word_line}
 use Rattle.e3_lines.specs.Texts.{line_end}
 
 -- an item for the coordinator of the transaction, where its name is bound
@@ -51,14 +51,14 @@ not_begun_line name = codes "0: " ++ name ++ codes " not begun" ++ line_end
 -- took no more than those in the step: it was down, `S: down`.
 unfoldable pub input_skip : List Entry → List ℕ → Taker → List ℕ
 input_skip during earlier (Site site) =
-    if nat_lt (count_by (λ s. s == site) earlier) (items_taken site during) then [] else plain_line site (codes "down")
+    if nat_lt (count_by (λ s. s == site) earlier) (items_taken site during) then [] else word_line site (codes "down")
 input_skip during earlier (NotBegun name) = not_begun_line name
 input_skip during earlier Nobody = []
 
 -- a crash of a site that is down is skipped, `S: down`, and so is a restart of one that is up, `S: up`
 unfoldable pub power_skip : (ℕ → Bool) → Item → List ℕ
-power_skip up (item.Crash site) = if up site then [] else plain_line site (codes "down")
-power_skip up (item.Restart site) = if up site then plain_line site (codes "up") else []
+power_skip up (item.Crash site) = if up site then [] else word_line site (codes "down")
+power_skip up (item.Restart site) = if up site then word_line site (codes "up") else []
 power_skip up _ = []
 
 -- the site of an item that has one

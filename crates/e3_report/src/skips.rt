@@ -8,7 +8,7 @@ ghost use Rattle.e3_report.specs.Ups.{up_in};
 use crate::counts::one_more;
 use crate::names::Names;
 use crate::takers::{Taker, taker_of};
-use e3_lines::{push_line_end, push_plain, push_text};
+use e3_lines::{push_line_end, push_text, push_word_line};
 use e3_types::{Act, Entry, Input, Item, List, NoMemory};
 use std::alloc::Global;
 use std::collections::BTreeSet;
@@ -105,7 +105,7 @@ fn push_input_skip(
             if had < took {
                 Ok(())
             } else {
-                push_plain(out, *site, "down")
+                push_word_line(out, *site, "down")
             }
         }
         Taker::NotBegun(name) => push_not_begun(out, name.bytes()),
@@ -123,12 +123,12 @@ fn push_power_skip(out: &mut List<u8>, ups: &BTreeSet<u32>, item: &Item) -> Resu
             if ups.contains(site) {
                 Ok(())
             } else {
-                push_plain(out, *site, "down")
+                push_word_line(out, *site, "down")
             }
         }
         Item::Restart { site } => {
             if ups.contains(site) {
-                push_plain(out, *site, "up")
+                push_word_line(out, *site, "up")
             } else {
                 Ok(())
             }

@@ -67,7 +67,7 @@ fn push_report(
     push_end(out)
 }
 
-fn plain_report(alloc: Global, scenario: &Scenario, history: &[Entry]) -> Result<List<u8>, NoMemory>
+fn report_alone(alloc: Global, scenario: &Scenario, history: &[Entry]) -> Result<List<u8>, NoMemory>
     ensures { IfOk result (λ text. text ≡ plain_report_of scenario.now history.now) }
 {
     let walk = walk_of(alloc, scenario, history)?;
@@ -101,7 +101,7 @@ pub fn report(
 ) -> Result<List<u8>, NoMemory>
     ensures { IfOk result (λ text. text ≡ report_of scenario.now history.now.entries trace) }
 {
-    let mut out = plain_report(alloc, scenario, history.as_slice())?;
+    let mut out = report_alone(alloc, scenario, history.as_slice())?;
     push_trace_lines(&mut out, history.as_slice(), trace)?;
     Ok(out)
 }

@@ -42,8 +42,8 @@ abbrev pub number_of : Scenario → List Entry → RecoveryRound → List ℕ �
 number_of sc start r all = suc (greatest_heard (election sc start r all))
 
 -- what a member reports
-abbrev pub report_of : Scenario → List Entry → Txn → ℕ → SiteReport
-report_of sc start t m = record { site = m; state = state_of t (log_of sc start m); attempt = last_attempt t (log_of sc start m) }
+abbrev pub site_report : Scenario → List Entry → Txn → ℕ → SiteReport
+site_report sc start t m = record { site = m; state = state_of t (log_of sc start m); attempt = last_attempt t (log_of sc start m) }
 
 -- the election once these members have reported, besides the elector
 abbrev pub numbered_election : Scenario → List Entry → RecoveryRound → List ℕ → List ℕ → Election
@@ -52,7 +52,7 @@ numbered_election sc start r all reported = record {
   group = r.members;
   heard = map (named sc start r.txn) (r.elector ∷ all);
   number = Some (number_of sc start r all);
-  reports = map (report_of sc start r.txn) (r.elector ∷ reported);
+  reports = map (site_report sc start r.txn) (r.elector ∷ reported);
 }
 
 abbrev pub number_mail : RecoveryRound → ℕ → ℕ → Packet

@@ -32,7 +32,7 @@ use Rattle.e3_law_rounds.specs.Queues.{IsQueue}
 use Rattle.e3_law_rounds.specs.Rounds.{is_own, said_at, said_in}
 use Rattle.e3_law_rounds.proofs.Deliveries.Delivering.{Delivery, Entered, deliver, entered_next, taking}
 use Rattle.e3_law_rounds.proofs.Deliveries.Gathering.{elections_of, elections_on, group_at, group_on, life_on, life_with}
-use Rattle.e3_law_rounds.proofs.Phases.Joined.{Joined, join_of, number_of, numbered_election, report_mail, report_of}
+use Rattle.e3_law_rounds.proofs.Phases.Joined.{Joined, join_of, number_of, numbered_election, report_mail, site_report}
 use Rattle.e3_law_steps.proofs.Moving.{log_on, log_still}
 use Rattle.e3_law_rounds.proofs.Deliveries.Queue.{queue_is_pending}
 use Rattle.e3_law_rounds.proofs.Phases.Rows.{row_block, row_report}
@@ -61,18 +61,18 @@ reported_begins sc start r all h own was = record {
   entered = was.entered;
 }
 
-reporters : (sc : Scenario) (start : List Entry) (t : Txn) (xs : List ℕ) (m : ℕ) → list_any (λ h. h.site == m) (map (report_of sc start t) xs) ≡ has_site xs m
+reporters : (sc : Scenario) (start : List Entry) (t : Txn) (xs : List ℕ) (m : ℕ) → list_any (λ h. h.site == m) (map (site_report sc start t) xs) ≡ has_site xs m
 reporters sc start t [] m = refl
 reporters sc start t (x ∷ xs) m = ap (λ b. (x == m) || b) (reporters sc start t xs m)
 
 pub takes : (sc : Scenario) (start : List Entry) (r : RecoveryRound) (all done : List ℕ) (m : ℕ) → has_site r.members m ≡ true → has_site (r.elector ∷ done) m ≡ false →
-    take_report (numbered_election sc start r all done) (number_of sc start r all) (report_of sc start r.txn m) ≡ Some (numbered_election sc start r all (done ++ m ∷ []))
+    take_report (numbered_election sc start r all done) (number_of sc start r all) (site_report sc start r.txn m) ≡ Some (numbered_election sc start r all (done ++ m ∷ []))
 takes sc start r all done m member fresh =
     rw (self (number_of sc start r all), member, new)
     (ap (λ (l : List SiteReport). let e : Election = record (numbered_election sc start r all []) { reports = l } in Some e)
-    (sym (map-append (report_of sc start r.txn) (r.elector ∷ done) (m ∷ []))))
+    (sym (map-append (site_report sc start r.txn) (r.elector ∷ done) (m ∷ []))))
   where
-    new : list_any (λ h. h.site == m) (map (report_of sc start r.txn) (r.elector ∷ done)) ≡ false
+    new : list_any (λ h. h.site == m) (map (site_report sc start r.txn) (r.elector ∷ done)) ≡ false
     new = reporters sc start r.txn (r.elector ∷ done) m ∙ fresh
 
 -- a report comes, and others are awaited
@@ -105,7 +105,7 @@ reported_on sc start r all h more own done todo m member leads away fresh awaits
     next : Election
     next = numbered_election sc start r all (done ++ m ∷ [])
 
-    take_is : take_report (numbered_election sc start r all done) n (report_of sc start t m) ≡ Some next
+    take_is : take_report (numbered_election sc start r all done) n (site_report sc start t m) ≡ Some next
     take_is = takes sc start r all done m member fresh
 
     step : step_at (taking sc h q) ≡ nothing
@@ -146,7 +146,7 @@ reported_on sc start r all h more own done todo m member leads away fresh awaits
 pub block_ends : (sc : Scenario) (start : List Entry) (r : RecoveryRound) (all : List ℕ) (h more : List Entry) (own have total : ℕ) (done : List ℕ) (m : ℕ) →
     has_site r.members m ≡ true → has_site r.members r.elector ≡ true → (m == r.elector) ≡ false → has_site (r.elector ∷ done) m ≡ false →
     all_reported (numbered_election sc start r all (done ++ m ∷ [])) ≡ true →
-    verdict_of sc.weights r.txn.sites (map (report_of sc start r.txn) (r.elector ∷ (done ++ m ∷ []))) ≡ verdict.Block have total →
+    verdict_of sc.weights r.txn.sites (map (site_report sc start r.txn) (r.elector ∷ (done ++ m ∷ []))) ≡ verdict.Block have total →
     Rest sc r.members h more → Reported sc start r all h own done (m ∷ []) →
     (e : Entry) × (later : List Entry) × (more ≡ e ∷ later) × Rest sc r.members (h ++ e ∷ []) later × (pending sc (h ++ e ∷ []) ≡ [])
     × Entered start (h ++ e ∷ []) r (suc own) (record { site = r.elector; verdict = verdict.Block have total } ∷ [])

@@ -46,7 +46,7 @@ use Rattle.e3_law_rounds.proofs.Phases.Decided.{Decided, decide_mail, late_plain
 use Rattle.e3_law_steps.proofs.Deciding.{AddsAnswers}
 use Rattle.e3_law_rounds.proofs.Deliveries.Delivering.{Delivery, deliver, entered_told, own_next, taking}
 use Rattle.e3_law_rounds.proofs.Deliveries.Gathering.{life_on, life_with, rounds_of, rounds_on}
-use Rattle.e3_law_rounds.proofs.Phases.Joined.{number_of, numbered_election, report_mail, report_of}
+use Rattle.e3_law_rounds.proofs.Phases.Joined.{number_of, numbered_election, report_mail, site_report}
 use Rattle.e3_law_steps.proofs.Moving.{log_on, log_still}
 use Rattle.e3_law_rounds.proofs.Deliveries.Queue.{staying}
 use Rattle.e3_law_rounds.proofs.Phases.Reported.{Reported, takes}
@@ -67,7 +67,7 @@ said_first t n v o i rs outs rest all = rw (same_self t, none_said t o i rs outs
 pub prepared_begins : (sc : Scenario) (start : List Entry) (r : RecoveryRound) (all : List ℕ) (dir : Dir) (h more : List Entry) (own : ℕ) (done : List ℕ) (m : ℕ) →
     has_site r.members m ≡ true → has_site r.members r.elector ≡ true → (m == r.elector) ≡ false → has_site (r.elector ∷ done) m ≡ false →
     all_reported (numbered_election sc start r all (done ++ m ∷ [])) ≡ true →
-    verdict_of sc.weights r.txn.sites (map (report_of sc start r.txn) (r.elector ∷ (done ++ m ∷ []))) ≡ pre_of dir →
+    verdict_of sc.weights r.txn.sites (map (site_report sc start r.txn) (r.elector ∷ (done ++ m ∷ []))) ≡ pre_of dir →
     is_undecided r.txn (log_of sc h r.elector) ≡ true → (last_elected r.txn (log_of sc h r.elector) == number_of sc start r all) ≡ true →
     nat_lt (last_attempt r.txn (log_of sc h r.elector)) (number_of sc start r all) ≡ true → (number_of sc start r all == 1) ≡ false →
     is_quorum sc.weights (r.elector ∷ []) r.txn.sites ≡ false →

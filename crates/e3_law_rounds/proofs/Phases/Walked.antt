@@ -10,7 +10,7 @@ use Rattle.e3_world.specs.Logs.{last_elected}
 use Rattle.e3_world.specs.Moves.{log_of}
 use Rattle.e3_law_rounds.proofs.Phases.Asked.{Asked, asked_on}
 use Rattle.e3_law_rounds.proofs.Phases.Heard.{Heard, election, heard_begins, heard_on, named}
-use Rattle.e3_law_rounds.proofs.Phases.Joined.{Joined, joined_begins, joined_on, number_of, report_of}
+use Rattle.e3_law_rounds.proofs.Phases.Joined.{Joined, joined_begins, joined_on, number_of, site_report}
 use Rattle.e3_law_rounds.proofs.Phases.Reported.{Reported, reported_begins, reported_on}
 use Rattle.e3_law_rounds.proofs.Deliveries.Walking.{Rest}
 
@@ -173,7 +173,7 @@ to_last_report sc start r h more init z s ss all_are several many leads each low
 
     reported : Walked sc r joined.now joined.later (λ now. Reported sc start r all now ((suc ((1 + length all) + length init) + length all) + length init) init (z ∷ []))
     reported = walk sc r (λ h own done todo. Reported sc start r all h own done (todo ++ z ∷ [])) (But z r)
-        (λ h more own done todo m turn rest was. reported_on sc start r all h more own done (todo ++ z ∷ []) m turn.member leads turn.away turn.fresh (not_all (report_of sc start r.txn) r z m done todo turn) rest was)
+        (λ h more own done todo m turn rest was. reported_on sc start r all h more own done (todo ++ z ∷ []) m turn.member leads turn.away turn.fresh (not_all (site_report sc start r.txn) r z m done todo turn) rest was)
         joined.now joined.later (suc ((1 + length all) + length init) + length all) [] init last.0 joined.rest
         (reported_begins sc start r all joined.now (suc ((1 + length all) + length init) + length all) joined.phase)
 

@@ -32,7 +32,7 @@ use Rattle.e3_law_rounds.specs.Rounds.{elect_entry, said_in}
 use Rattle.e3_law_rounds.proofs.Phases.Decided.{Decided, late_plain, late_staying}
 use Rattle.e3_law_steps.proofs.Deciding.{AddsAnswers, step_adds_answers}
 use Rattle.e3_law_rounds.proofs.Deliveries.Delivering.{Entered, plain_staying}
-use Rattle.e3_law_rounds.proofs.Phases.Joined.{number_of, report_of}
+use Rattle.e3_law_rounds.proofs.Phases.Joined.{number_of, site_report}
 use Rattle.e3_law_steps.proofs.Moving.{log_on, place, place_log, plain_numbered}
 use Rattle.e3_law_rounds.proofs.Deliveries.Queue.{queue_begins, queue_entry, queue_entry_any, queue_is_pending, staying}
 use Rattle.e3_law_rounds.proofs.Phases.Rows.{cast_is, mail, makes, now_attempt, now_elected, now_state, plain_step}
@@ -59,7 +59,7 @@ alone_at sc start r = place sc start r.elector (input.Elect r.txn r.members)
 
 pub alone_input : (sc : Scenario) (start : List Entry) (r : RecoveryRound) → r.members ≡ r.elector ∷ [] → nat_lt (max 0 (last_elected r.txn (log_of sc start r.elector))) 4294967295 ≡ true →
     on_input (alone_at sc start r) (input.Elect r.txn r.members) nothing
-    ≡ and_verdict (alone_at sc start r) r.txn (number_of sc start r []) r.members (report_of sc start r.txn r.elector ∷ []) (makes (log.Join r.txn (number_of sc start r []) ∷ []) [])
+    ≡ and_verdict (alone_at sc start r) r.txn (number_of sc start r []) r.members (site_report sc start r.txn r.elector ∷ []) (makes (log.Join r.txn (number_of sc start r []) ∷ []) [])
 alone_input sc start r one low =
     let a : At = alone_at sc start r in
     let log_is : a.life.log ≡ log_of sc start r.elector = place_log sc start r.elector (input.Elect r.txn r.members) in
@@ -136,7 +136,7 @@ alone_concludes sc start r dir n v x one counted none calm row concludes = recor
 -- it is blocked: it tells so, and nothing is pending
 pub alone_blocked : (sc : Scenario) (start : List Entry) (r : RecoveryRound) (have total : ℕ) → r.members ≡ r.elector ∷ [] →
     IsCounted sc start → pending sc start ≡ [] → is_calm (present_items sc start) ≡ true → nat_lt (max 0 (last_elected r.txn (log_of sc start r.elector))) 4294967295 ≡ true →
-    verdict_of sc.weights r.txn.sites (report_of sc start r.txn r.elector ∷ []) ≡ verdict.Block have total →
+    verdict_of sc.weights r.txn.sites (site_report sc start r.txn r.elector ∷ []) ≡ verdict.Block have total →
     (pending sc (start ++ elect_entry sc start r ∷ []) ≡ []) × Entered start (start ++ elect_entry sc start r ∷ []) r 1 (record { site = r.elector; verdict = verdict.Block have total } ∷ [])
 alone_blocked sc start r have total one counted none calm low blocked = (
   nothing_left,
@@ -162,7 +162,7 @@ alone_blocked sc start r have total one counted none calm low blocked = (
     makes_now : Made
     makes_now = record { records = log.Join t n ∷ []; outs = []; told = told.Verdict t n (verdict.Block have total) ∷ []; own = [] }
 
-    row : and_verdict (alone_at sc start r) t n r.members (report_of sc start t r.elector ∷ []) (makes (log.Join t n ∷ []) []) ≡ makes_now
+    row : and_verdict (alone_at sc start r) t n r.members (site_report sc start t r.elector ∷ []) (makes (log.Join t n ∷ []) []) ≡ makes_now
     row = rw blocked refl
 
     made : made_by sc start r.elector i ≡ makes_now

@@ -29,7 +29,7 @@ use Rattle.e3_law_agreement.proofs.Facing.{attempts_below}
 use Rattle.e3_law_rounds.specs.Rounds.{is_block, is_open}
 use Rattle.e3_law_rounds.proofs.Phases.Decided.{fits}
 use Rattle.e3_law_rounds.proofs.Phases.Heard.{named}
-use Rattle.e3_law_rounds.proofs.Phases.Joined.{report_of}
+use Rattle.e3_law_rounds.proofs.Phases.Joined.{site_report}
 use Rattle.e3_law_rounds.proofs.Verdict.Reports.{blocked_is, none_final}
 use Rattle.e3_law_rounds.proofs.Verdict.Votes.{attempt_has_votes, commit_has_votes, commit_reported}
 use Rattle.e3_law_rounds.proofs.Phases.Winning.{final_of, pre_of}
@@ -97,12 +97,12 @@ commits_some have total reports commits = by (reports_state A reports) (reports_
 
 -- the verdict over the reports of all members
 abbrev pub verdict_at : Scenario → List Entry → Txn → List ℕ → Verdict
-verdict_at sc start t members = verdict_of sc.weights t.sites (map (report_of sc start t) members)
+verdict_at sc start t members = verdict_of sc.weights t.sites (map (site_report sc start t) members)
 
 -- so all were open, and they are a quorum
 pub asks_open : (sc : Scenario) (start : List Entry) (t : Txn) (members : List ℕ) (dir : Dir) → verdict_at sc start t members ≡ pre_of dir → list_all (is_open sc start t) members ≡ true
 asks_open sc start t members dir is =
-    let reports : List SiteReport = map (report_of sc start t) members in
+    let reports : List SiteReport = map (site_report sc start t) members in
     let none : (reports_state A reports || reports_state C reports) ≡ false =
     asks_none (weight_of sc.weights (map (λ r. r.site) reports)) (weight_of sc.weights t.sites) reports (ap is_pre is ∙ pre_is dir) in
     back (list_all (is_open sc start t) members) (sym (none_final sc start t members) ∙ none)
@@ -126,7 +126,7 @@ pub ends_fit : (sc : Scenario) (start : List Entry) (t : Txn) (members : List �
     has_site t.sites s ≡ true → fits t dir (log_of sc start s) ≡ true
 ends_fit sc start t members Abort s given legal is member = refl
 ends_fit sc start t members Commit s given legal is member =
-    let reports : List SiteReport = map (report_of sc start t) members in
+    let reports : List SiteReport = map (site_report sc start t) members in
     let some = commits_some (weight_of sc.weights (map (λ r. r.site) reports)) (weight_of sc.weights t.sites) reports (ap is_commit is) in
     let who = commit_reported sc start t members some in
     commit_has_votes sc start t s who.0 given legal who.1 member

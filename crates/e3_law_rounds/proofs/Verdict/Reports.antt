@@ -18,7 +18,7 @@ use Rattle.e3_types.specs.Verdicts.{greatest_attempt, reports_state, verdict_by,
 use Rattle.e3_world.specs.Logs.{attempted, decision, has_voted, is_undecided, state_of}
 use Rattle.e3_world.specs.Moves.{log_of}
 use Rattle.e3_law_rounds.specs.Rounds.{is_block, is_open}
-use Rattle.e3_law_rounds.proofs.Phases.Joined.{report_of}
+use Rattle.e3_law_rounds.proofs.Phases.Joined.{site_report}
 
 -- a state is final where the log has a decision
 final_is : (t : Txn) (l : List Record) → (same_state (state_of t l) A || same_state (state_of t l) C) ≡ not (is_undecided t l)
@@ -38,13 +38,13 @@ final_is t l = by (decision t l) refl
     by (Some Abort) is = rw is refl
     by None is = tried is (attempted t l) refl
 
-sites_of_reports : (sc : Scenario) (start : List Entry) (t : Txn) (xs : List ℕ) → map (λ r. r.site) (map (report_of sc start t) xs) ≡ xs
+sites_of_reports : (sc : Scenario) (start : List Entry) (t : Txn) (xs : List ℕ) → map (λ r. r.site) (map (site_report sc start t) xs) ≡ xs
 sites_of_reports sc start t [] = refl
 sites_of_reports sc start t (x ∷ xs) = ap (λ l. x ∷ l) (sites_of_reports sc start t xs)
 
 -- none of the members has decided: no report is final
 pub none_final : (sc : Scenario) (start : List Entry) (t : Txn) (xs : List ℕ) →
-    (reports_state A (map (report_of sc start t) xs) || reports_state C (map (report_of sc start t) xs)) ≡ not (list_all (is_open sc start t) xs)
+    (reports_state A (map (site_report sc start t) xs) || reports_state C (map (site_report sc start t) xs)) ≡ not (list_all (is_open sc start t) xs)
 none_final sc start t [] = refl
 none_final sc start t (x ∷ xs) = mix (same_state st A) (same_state st C) _ _ (is_open sc start t x) (list_all (is_open sc start t) xs) (final_is t (log_of sc start x)) (none_final sc start t xs)
   where
@@ -77,7 +77,7 @@ quorum_not have total = grind (arith, common_steps)
 
 -- so the verdict over the reports of all members, as they stood at the begin of the round, is Block exactly then
 pub blocked_is : (sc : Scenario) (start : List Entry) (t : Txn) (members : List ℕ) →
-    is_block (verdict_of sc.weights t.sites (map (report_of sc start t) members))
+    is_block (verdict_of sc.weights t.sites (map (site_report sc start t) members))
     ≡ (list_all (is_open sc start t) members && not (is_quorum sc.weights members t.sites))
 blocked_is sc start t members =
     block_is (weight_of sc.weights (map (λ r. r.site) reports)) (weight_of sc.weights t.sites) reports
@@ -87,7 +87,7 @@ blocked_is sc start t members =
     ∙ ap (λ b. list_all (is_open sc start t) members && b) (quorum_not (weight_of sc.weights members) (weight_of sc.weights t.sites))
   where
     reports : List SiteReport
-    reports = map (report_of sc start t) members
+    reports = map (site_report sc start t) members
 
     twice : (b : Bool) → not (not b) ≡ b
     twice true = refl

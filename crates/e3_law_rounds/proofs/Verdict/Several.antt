@@ -37,7 +37,7 @@ use Rattle.e3_law_rounds.proofs.Phases.Decisive.{attempts_to_tail, to_attempts, 
 use Rattle.e3_law_rounds.proofs.Deliveries.Delivering.{taking}
 use Rattle.e3_law_rounds.proofs.Verdict.Ending.{Outcome, ends_blocked, ends_decided}
 use Rattle.e3_law_rounds.proofs.Phases.Heard.{election}
-use Rattle.e3_law_rounds.proofs.Phases.Joined.{join_of, number_of, numbered_election, report_mail, report_of}
+use Rattle.e3_law_rounds.proofs.Phases.Joined.{join_of, number_of, numbered_election, report_mail, site_report}
 use Rattle.e3_law_rounds.proofs.Phases.Numbering.{attempt_open, join_attempt, join_elected, join_open, number_above}
 use Rattle.e3_law_rounds.proofs.Phases.Reported.{Reported, block_ends, takes}
 use Rattle.e3_law_rounds.proofs.Phases.Turning.{Concludes, conclusion_begins, prepared_begins}
@@ -124,7 +124,7 @@ reports_end sc start more r init z begun all_is now later own parts rest own_is 
     covers s has = ap (λ l. has_site l s) (sym members) ∙ has
 
     complete : all_reported (numbered_election sc start r all all) ≡ true
-    complete = all_of (report_of sc start t) r z init last
+    complete = all_of (site_report sc start t) r z init last
 
     above : (m : ℕ) → has_site r.members m ≡ true → nat_lt (last_elected t (log_of sc start m)) n ≡ true
     above m has = number_above sc start r all m (covers m has)
@@ -141,7 +141,7 @@ reports_end sc start more r init z begun all_is now later own parts rest own_is 
     log_is : a.life.log ≡ log_of sc now r.elector
     log_is = life_log_at (moves_of sc now r.elector)
 
-    row_of : on_message a z q.msg nothing ≡ and_verdict a t n r.members (map (report_of sc start t) (r.elector ∷ all)) nothing
+    row_of : on_message a z q.msg nothing ≡ and_verdict a t n r.members (map (site_report sc start t) (r.elector ∷ all)) nothing
     row_of = last_report a z t n (state_of t (log_of sc start z)) (last_attempt t (log_of sc start z)) (numbered_election sc start r all init) (numbered_election sc start r all all)
         was.gathered (takes sc start r all init z last.member last.fresh) complete
 
@@ -183,7 +183,7 @@ reports_end sc start more r init z begun all_is now later own parts rest own_is 
     asks dir is true alone =
         let x : Made = alone_made a t n dir [] in
         let row : on_message a z q.msg nothing ≡ and_cast a r.members (msg.Decide t dir) x =
-        row_of ∙ alone_is a t n r.members (map (report_of sc start t) (r.elector ∷ all)) dir [] is
+        row_of ∙ alone_is a t n r.members (map (site_report sc start t) (r.elector ∷ all)) dir [] is
         (ap (is_undecided t) (append-nil a.life.log ∙ log_is) ∙ undecided dir is r.elector leads)
         (ap (λ l. last_elected t l == n) (append-nil a.life.log ∙ log_is) ∙ joined r.elector leads)
         (ap (λ l. nat_lt (last_attempt t l) n) (append-nil a.life.log ∙ log_is) ∙ untried r.elector leads) alone in
@@ -226,7 +226,7 @@ reports_end sc start more r init z begun all_is now later own parts rest own_is 
         (from_here _ (one_walked sc r now later _ (step.0, step.1, step.2, step.3, (step.4, step.5)))))
     by (Ends dir is) =
         let x : Made = final_choice a t n dir [] in
-        let row : on_message a z q.msg nothing ≡ and_cast a r.members (msg.Decide t dir) x = row_of ∙ final_is a t n r.members (map (report_of sc start t) (r.elector ∷ all)) dir [] is in
+        let row : on_message a z q.msg nothing ≡ and_cast a r.members (msg.Decide t dir) x = row_of ∙ final_is a t n r.members (map (site_report sc start t) (r.elector ∷ all)) dir [] is in
         let fit : (m : ℕ) → has_site r.members m ≡ true → fits t dir (log_of sc now m) ≡ true =
         λ m member. subst (λ l. fits t dir l ≡ true) (sym (joined_log m member))
         (fits_more t dir (log_of sc start m) (log.Join t n ∷ []) (ends_fit sc start t (r.elector ∷ all) dir m begun.given begun.legal_start is (begun.sites m member))) in

@@ -29,7 +29,7 @@ use Rattle.e3_law_rounds.proofs.Verdict.Concluding.{alone_concludes, alone_is, a
 use Rattle.e3_law_rounds.proofs.Phases.Decided.{Decided, fits, tail_begins}
 use Rattle.e3_law_rounds.proofs.Deliveries.Delivering.{Entered}
 use Rattle.e3_law_rounds.proofs.Verdict.Ending.{Outcome, ends_blocked, ends_decided}
-use Rattle.e3_law_rounds.proofs.Phases.Joined.{number_of, report_of}
+use Rattle.e3_law_rounds.proofs.Phases.Joined.{number_of, site_report}
 use Rattle.e3_law_rounds.proofs.Phases.Numbering.{join_attempt, join_elected, join_open, number_above}
 use Rattle.e3_law_rounds.proofs.Phases.Rows.{makes}
 use Rattle.e3_law_rounds.proofs.Tail.{Tail}
@@ -89,7 +89,7 @@ alone_ends sc start more r begun one low =
         (ends_decided sc start more r w 1 begun (omega arith) few (tail_is w dir
         (concludes_alone sc start r dir n w x one begun.counted begun.settled begun.calm row (subst (λ l. Concludes t n w l x) log_is concludes))))
 
-    row_of : on_input a (input.Elect t r.members) nothing ≡ and_verdict a t n r.members (report_of sc start t r.elector ∷ []) (makes join [])
+    row_of : on_input a (input.Elect t r.members) nothing ≡ and_verdict a t n r.members (site_report sc start t r.elector ∷ []) (makes join [])
     row_of = alone_input sc start r one low
 
     open_now : (dir : Dir) → v ≡ pre_of dir → is_undecided t (a.life.log ++ join) ≡ true
@@ -111,11 +111,11 @@ alone_ends sc start more r begun one low =
           );
         })
     by (Ends dir is) = concluded (final_of dir) dir (final_choice a t n dir join) is
-        (row_of ∙ final_is a t n r.members (report_of sc start t r.elector ∷ []) dir join is)
+        (row_of ∙ final_is a t n r.members (site_report sc start t r.elector ∷ []) dir join is)
         (final_concludes a t n dir join (inr (subst (λ l. fits t dir (l ++ join) ≡ true) (sym log_is)
         (fits_more t dir (log_of sc start r.elector) join (ends_fit sc start t (r.elector ∷ []) dir r.elector begun.given begun.legal_start is (begun.sites r.elector leads))))))
     by (Asks dir is) = concluded (pre_of dir) dir (alone_made a t n dir join) is
-        (row_of ∙ alone_is a t n r.members (report_of sc start t r.elector ∷ []) dir join is (open_now dir is)
+        (row_of ∙ alone_is a t n r.members (site_report sc start t r.elector ∷ []) dir join is (open_now dir is)
         (ap (λ l. last_elected t (l ++ join) == n) log_is ∙ join_elected t n (log_of sc start r.elector) above)
         (ap (λ l. nat_lt (last_attempt t (l ++ join)) n) log_is ∙ ap (λ k. nat_lt k n) (join_attempt t n (log_of sc start r.elector)) ∙ attempt_less sc start t n r.elector begun.given begun.legal_start above)
         (asks_enough sc start t (r.elector ∷ []) dir is))

@@ -26,7 +26,7 @@ use Rattle.e3_law_refinement.proofs.Voting.{contains_from_in}
 use Rattle.e3_law_agreement.specs.Facts.{Has, IsDecided, IsTried}
 use Rattle.e3_law_agreement.proofs.Binding.{commit_quorum, commit_voted, lifted}
 use Rattle.e3_law_agreement.proofs.Finding.{found}
-use Rattle.e3_law_rounds.proofs.Phases.Joined.{report_of}
+use Rattle.e3_law_rounds.proofs.Phases.Joined.{site_report}
 use Rattle.e3_law_steps.proofs.Tests.{same_self, or_true}
 
 none_below : (w : ℕ) → nat_lt w 0 ≡ false
@@ -90,12 +90,12 @@ committed t l is = by (decision t l) refl
     by (Some Abort) d = absurd (let clash : true ≡ false = sym is ∙ aborted d in cc)
     by None d = absurd (let clash : true ≡ false = sym is ∙ tried d (attempted t l) refl in cc)
 
-pub commit_reported : (sc : Scenario) (start : List Entry) (t : Txn) (xs : List ℕ) → reports_state C (map (report_of sc start t) xs) ≡ true →
+pub commit_reported : (sc : Scenario) (start : List Entry) (t : Txn) (xs : List ℕ) → reports_state C (map (site_report sc start t) xs) ≡ true →
     (u : ℕ) × (decision t (log_of sc start u) ≡ Some Commit)
 commit_reported sc start t [] is = absurd cc
 commit_reported sc start t (x ∷ xs) is = by (λ more. commit_reported sc start t xs more) (same_state (state_of t (log_of sc start x)) C) refl is
   where
-    by : (reports_state C (map (report_of sc start t) xs) ≡ true → (u : ℕ) × (decision t (log_of sc start u) ≡ Some Commit)) → (b : Bool) → same_state (state_of t (log_of sc start x)) C ≡ b → (same_state (state_of t (log_of sc start x)) C || reports_state C (map (report_of sc start t) xs)) ≡ true →
+    by : (reports_state C (map (site_report sc start t) xs) ≡ true → (u : ℕ) × (decision t (log_of sc start u) ≡ Some Commit)) → (b : Bool) → same_state (state_of t (log_of sc start x)) C ≡ b → (same_state (state_of t (log_of sc start x)) C || reports_state C (map (site_report sc start t) xs)) ≡ true →
         (u : ℕ) × (decision t (log_of sc start u) ≡ Some Commit)
     by rest true here is = (x, committed t (log_of sc start x) here)
-    by rest false here is = rest (ap (λ b. b || reports_state C (map (report_of sc start t) xs)) (sym here) ∙ is)
+    by rest false here is = rest (ap (λ b. b || reports_state C (map (site_report sc start t) xs)) (sym here) ∙ is)

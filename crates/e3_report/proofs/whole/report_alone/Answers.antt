@@ -2,7 +2,7 @@
 use Rattle.std.proofs.Common.{◌∙◌, ap}
 use Rattle.e3_report.specs.Walk.{Walked}
 use Rattle.e3_report.proofs.Standing.{report_walked}
-use Rattle.e3_report.proofs.whole.plain_report.Goals as goal
+use Rattle.e3_report.proofs.whole.report_alone.Goals as goal
 
 pub returns : goal.returns
 returns c =
