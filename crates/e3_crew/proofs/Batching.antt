@@ -1,11 +1,10 @@
 -- What a batch that a worker gave to its node comes to.
-use Rattle.std.proofs.Common.{◌≡◌, ◌↔◌, ◌<◌, ◌≤◌, ◌++◌, ◌∷◌, [], inl, inr, ℕ, Bool, true, false, List, length, take, refl, sym, ap, subst, ◌∙◌, arith}
+use Rattle.std.proofs.Common.{◌≡◌, ◌↔◌, ◌<◌, ◌≤◌, ◌++◌, ◌∷◌, [], inl, inr, ℕ, true, false, List, length, take, refl, sym, ap, subst, ◌∙◌, arith}
 use Rattle.std.proofs.lemmas.List.{length-take-le}
 use Rattle.std.specs.Prelude.{Result, Ok, Err}
 use Rattle.e3_disk.specs.Meters.{Keeps, Meters}
 use Rattle.e3_crew.specs.Turns.{AtStart, BehindFallOver, BehindOthers, BehindSteps, WentOn}
-use Rattle.e3_crew.specs.Workers.{HasWorked, Knows}
-use Rattle.e3_crew.proofs.Giving.{none_still}
+use Rattle.e3_crew.specs.Workers.{HasWorked, KnowsWith}
 use Rattle.e3_crew.proofs.Growing.{alike_meanwhile, lines_meanwhile, meanwhile_all, meanwhile_none, meanwhile_on, meanwhile_own, restless_on}
 use Rattle.e3_node.specs.Batches.{BatchEnded, EndedShort, HasFallenOverAll, HasSteppedAll, fall_over, stepped}
 use Rattle.e3_node.specs.Claims.{MovesStay}
@@ -15,7 +14,6 @@ use Rattle.e3_node.specs.NodeView.{NodeView, disk_of}
 use Rattle.e3_node.specs.Turns.{Meanwhile}
 use Rattle.e3_node.specs.declared.fault.InputFault.{InputFault}
 use Rattle.e3_node.specs.declared.fault.InputFault.TheVariants as input_fault
-use Rattle.e3_node.specs.declared.state.State.{State}
 use Rattle.e3_node.proofs.Batches.{records_same}
 use Rattle.e3_types.specs.declared.entries.Entry.{Entry}
 use Rattle.e3_types.specs.declared.entries.Input.{Input}
@@ -23,7 +21,8 @@ use Rattle.e3_types.specs.declared.entries.Why.{Why}
 use Rattle.e3_types.specs.declared.records.Record.{Record}
 use Rattle.e3_types.specs.declared.scenarios.Scenario.{Scenario}
 use Rattle.e3_wire.specs.declared.marks.Mark.{Mark}
-use Rattle.e3_wire.specs.Marks.{entries_of, most_of, note_of, scenario_of}
+use Rattle.e3_wire.specs.declared.marks.Note.{Note}
+use Rattle.e3_wire.specs.Marks.{entries_of, most_of, note_of, nothing, scenario_of}
 use Rattle.e3_wire.specs.Wires.{IsPlayed}
 use Rattle.e3_world.specs.Items.{is_up_at}
 use Rattle.e3_world.specs.Legal.{IsLegal, entry_of, records_by}
@@ -53,8 +52,7 @@ pub record AnsweredAll {D : Type 0} (content : D → List ℕ) (image : D → Li
   pub played : IsPlayed marks
   pub scenario : scenario_of marks ≡ scenario_of before
   pub most : most_of marks ≡ most_of before
-  pub promised : (note_of old.site marks).places ≡ (note_of old.site before).places
-  pub room : (note_of old.site marks).room ≤ (note_of old.site before).room
+  pub promised : is_up_at (entries_of before) old.site ≡ true → note_of old.site marks ≡ nothing
   pub stands : NodeStands content image meters (scenario_of marks) (entries_of marks) new
   pub site : new.site ≡ old.site
   pub ended : BatchEnded meters (scenario_of before) (entries_of before) (entries_of marks) old.site inputs old.state new.state answer
@@ -62,7 +60,7 @@ pub record AnsweredAll {D : Type 0} (content : D → List ℕ) (image : D → Li
   pub keeps : Keeps (meters (disk_of old.state)) (meters (disk_of new.state))
 
 module _ {D : Type 0} (content : D → List ℕ) (image : D → List ℕ → Type 0) (meters : D → Meters) (law : MovesStay)
-    (before marks : List Mark) (old new : NodeView D) (inputs : List Input) where
+    (promise : Note) (before marks : List Mark) (old new : NodeView D) (inputs : List Input) where
   abbrev was : List Entry
   was = entries_of before
 
@@ -127,47 +125,27 @@ module _ {D : Type 0} (content : D → List ℕ) (image : D → List ℕ → Typ
         });
       }
 
-  none_went : (entries_of marks ≡ was) × (new.state ≡ old.state) → Grown
-  none_went same = record {
-    grew = subst (λ (l : List Entry). Meanwhile 0 was l) (sym same.0) (meanwhile_none 0 was);
-    went =
-        subst (λ (l : List Entry). Went l last) (sym same.0)
-        (subst (λ (s : State D). Went was (meters (disk_of s))) (sym same.1) AtStart);
-  }
-
-  is_up_or : (b : Bool) → is_up_at was old.site ≡ b → (is_up_at was old.site ≡ false → ⊥) → is_up_at was old.site ≡ true
-  is_up_or true is not_down = is
-  is_up_or false is not_down = absurd (not_down is)
-
   short_went : IsPlayed before → IsLegal sc (entries_of marks) → 1 ≤ old.site → is_up_at was old.site ≡ true → Keeps first last → length inputs ≤ 8 →
       EndedShort meters sc was (entries_of marks) old.site inputs old.state new.state → Grown
   short_went played legal some up keeps few (n, less, inl s) = stepped_went played legal some up keeps (take n inputs) (few_taken n inputs few less) s
   short_went played legal some up keeps few (n, less, inr (why, f)) = fallen_went played legal some up keeps (take n inputs) why f
 
-  grown : (answer : Result (Unit {0}) InputFault) → Knows content image meters before old → length inputs ≤ 8 →
+  grown : (answer : Result (Unit {0}) InputFault) → KnowsWith content image meters promise before old → is_up_at was old.site ≡ true → length inputs ≤ 8 →
       AnsweredAll content image meters before marks old new inputs answer → IsLegal sc (entries_of marks) → Grown
-  grown (Ok done) knows few a legal =
-      let up = is_up_or (is_up_at was old.site) refl (λ down. (let two : Ok done ≡ Err input_fault.Down = a.down.1 down in cc)) in
-      stepped_went knows.played legal knows.stands.some up a.keeps inputs few a.ended
-  grown (Err input_fault.Down) knows few a legal = none_went a.ended
-  grown (Err (input_fault.Fell why)) knows few a legal =
-      let up = is_up_or (is_up_at was old.site) refl (λ down. (let two : Err (input_fault.Fell why) ≡ Err input_fault.Down = a.down.1 down in cc)) in
-      fallen_went knows.played legal knows.stands.some up a.keeps inputs why a.ended
-  grown (Err input_fault.HistoryFull) knows few a legal =
-      let up = is_up_or (is_up_at was old.site) refl (λ down. (let two : Err input_fault.HistoryFull ≡ Err input_fault.Down = a.down.1 down in cc)) in
-      short_went knows.played legal knows.stands.some up a.keeps few a.ended
-  grown (Err input_fault.NoMemory) knows few a legal =
-      let up = is_up_or (is_up_at was old.site) refl (λ down. (let two : Err input_fault.NoMemory ≡ Err input_fault.Down = a.down.1 down in cc)) in
-      short_went knows.played legal knows.stands.some up a.keeps few a.ended
+  grown (Ok done) knows up few a legal = stepped_went knows.played legal knows.stands.some up a.keeps inputs few a.ended
+  grown (Err input_fault.Down) knows up few a legal = absurd (let down : is_up_at was old.site ≡ false = a.down.0 refl in let both : true ≡ false = sym up ∙ down in cc)
+  grown (Err (input_fault.Fell why)) knows up few a legal = fallen_went knows.played legal knows.stands.some up a.keeps inputs why a.ended
+  grown (Err input_fault.HistoryFull) knows up few a legal = absurd a.ended
+  grown (Err input_fault.NoMemory) knows up few a legal = short_went knows.played legal knows.stands.some up a.keeps few a.ended
 
-  pub batch_worked : (answer : Result (Unit {0}) InputFault) → Knows content image meters before old → length inputs ≤ 8 →
+  pub batch_worked : (answer : Result (Unit {0}) InputFault) → KnowsWith content image meters promise before old → is_up_at (entries_of before) old.site ≡ true → length inputs ≤ 8 →
       AnsweredAll content image meters before marks old new inputs answer → HasWorked content image meters before old marks new
-  batch_worked answer knows few a = record {
+  batch_worked answer knows up few a = record {
     knows = record {
       played = a.played;
       restless = (let P : Scenario → Type 0 = λ k. is_calm (present_items k (entries_of marks)) ≡ false in
           subst P (sym a.scenario) (restless_on sc was (entries_of marks) (lines_meanwhile 0 was (entries_of marks) all.grew) knows.restless));
-      none = ap (λ (s : ℕ). note_of s marks) a.site ∙ none_still (note_of old.site before) (note_of old.site marks) knows.none a.promised a.room;
+      promised = ap (λ (s : ℕ). note_of s marks) a.site ∙ a.promised up;
       stands = a.stands;
     };
     site = a.site;
@@ -178,4 +156,4 @@ module _ {D : Type 0} (content : D → List ℕ) (image : D → List ℕ → Typ
   }
     where
       all : Grown
-      all = grown answer knows few a (let P : Scenario → Type 0 = λ k. IsLegal k (entries_of marks) in subst P a.scenario a.played.legal)
+      all = grown answer knows up few a (let P : Scenario → Type 0 = λ k. IsLegal k (entries_of marks) in subst P a.scenario a.played.legal)

@@ -52,6 +52,7 @@ drops_append [] ys first second = second
 drops_append (mark.Entered e ∷ xs) ys first second = (first.0, drops_append xs ys first.1 second)
 drops_append (mark.Start sc most ∷ xs) ys first second = absurd first
 drops_append (mark.Place o n ∷ xs) ys first second = absurd first
+drops_append (mark.Freed o ∷ xs) ys first second = absurd first
 
 pub dropped_on : (a b c : List Mark) → HasDropped a b → HasDropped b c → HasDropped a c
 dropped_on a b c first second = record {
@@ -72,6 +73,7 @@ all_leave P one (mark.Entered e ∷ drops) h are was =
     subst P (append_assoc h (e ∷ []) (entries_of drops)) (all_leave P one drops (h ++ e ∷ []) are.1 (subst Q (sym are.0.1) (one h d was)))
 all_leave P one (mark.Start sc most ∷ drops) h are was = absurd are
 all_leave P one (mark.Place o n ∷ drops) h are was = absurd are
+all_leave P one (mark.Freed o ∷ drops) h are was = absurd are
 
 up_drop : (h : List Entry) (number s : ℕ) → is_up_at (h ++ drop_of number ∷ []) s ≡ is_up_at h s
 up_drop h number s = by (0 == s) refl
@@ -107,12 +109,14 @@ drops_others s (mark.Entered e ∷ drops) apart are =
     (here.0, here.1, drops_others s drops apart are.1)
 drops_others s (mark.Start sc most ∷ drops) apart are = absurd are
 drops_others s (mark.Place o n ∷ drops) apart are = absurd are
+drops_others s (mark.Freed o ∷ drops) apart are = absurd are
 
 drops_lines : (drops : List Mark) → AreDrops drops → list_any is_line (entries_of drops) ≡ false
 drops_lines [] are = refl
 drops_lines (mark.Entered e ∷ drops) are = (let P : Entry → Type 0 = λ x. is_line x ≡ false in rw (subst P (sym are.0.1) refl) (drops_lines drops are.1))
 drops_lines (mark.Start sc most ∷ drops) are = absurd are
 drops_lines (mark.Place o n ∷ drops) are = absurd are
+drops_lines (mark.Freed o ∷ drops) are = absurd are
 
 one_note : (o : ℕ) (w : Note) (number : ℕ) → note_by o w (mark.Entered (drop_of number)) ≡ w
 one_note o w number = by (0 == o) refl
@@ -128,6 +132,7 @@ drops_note o w (mark.Entered e ∷ drops) are =
     ap (λ v. fold (note_by o) v drops) (subst P (sym are.0.1) (one_note o w are.0.0)) ∙ drops_note o w drops are.1
 drops_note o w (mark.Start sc most ∷ drops) are = absurd are
 drops_note o w (mark.Place p n ∷ drops) are = absurd are
+drops_note o w (mark.Freed p ∷ drops) are = absurd are
 
 pub drops_owned : (last : ℕ) (drops : List Mark) → AreDrops drops → All (HasOwner last) drops
 drops_owned last [] are = All-nil (HasOwner last)
@@ -136,6 +141,7 @@ drops_owned last (mark.Entered e ∷ drops) are =
     All-cons (HasOwner last) (mark.Entered e) drops (subst P (sym are.0.1) (0, omega arith, refl)) (drops_owned last drops are.1)
 drops_owned last (mark.Start sc most ∷ drops) are = absurd are
 drops_owned last (mark.Place p n ∷ drops) are = absurd are
+drops_owned last (mark.Freed p ∷ drops) are = absurd are
 
 pub dropped_through : (before now : List Mark) → IsPlayed before → IsPlayed now → HasDropped before now → Delivering (scenario_of before) (entries_of before) →
     Delivering (scenario_of before) (entries_of now)

@@ -1,8 +1,8 @@
 -- Rounds one after the other.
-use Rattle.std.proofs.Common.{◌≡◌, ◌≢◌, ◌+◌, ◌<◌, [], ℕ, false, List, length, refl, sym, ap, subst, ◌∙◌, arith}
+use Rattle.std.proofs.Common.{◌≡◌, ◌≢◌, ◌+◌, ◌<◌, [], ℕ, List, length, refl, sym, ap, subst, ◌∙◌, arith}
 use Rattle.std.specs.Prelude.{Err, Ok, OnOk, Result, slice_index_or}
 use Rattle.atomic_table.specs.Seated.{TableId}
-use Rattle.e3_crew.specs.Crews.{HasGoneOn, IsAtRest, IsCrew}
+use Rattle.e3_crew.specs.Crews.{HasGoneOn, IsCrew}
 use Rattle.e3_crew.specs.Turns.{AtStart, WentOn}
 use Rattle.e3_crew.specs.declared.worker.Worker.{Worker}
 use Rattle.e3_crew.proofs.Turning.{went_on}
@@ -13,15 +13,12 @@ use Rattle.e3_node.specs.Turns.{history_seen, scenario_seen}
 use Rattle.e3_play.specs.Delivered.{IsFullBefore}
 use Rattle.e3_play.specs.Settled.{StaysInStep}
 use Rattle.e3_play.proofs.SameSteps.{same_step, stays_none, stays_on}
-use Rattle.e3_turn.specs.Chronicles.{count_of}
-use Rattle.e3_turn.specs.Passes.{IsIdle, SameOwners, seen_by}
 use Rattle.e3_types.specs.declared.entries.Entry.{Entry}
 use Rattle.e3_types.specs.declared.scenarios.Scenario.{Scenario}
 use Rattle.e3_wire.specs.Claims.{APass}
 use Rattle.e3_wire.specs.declared.marks.Mark.{Mark}
-use Rattle.e3_wire.specs.Marks.{NothingIsPromised, entries_of, last_owner, most_of, scenario_of}
-use Rattle.e3_wire.specs.Wires.{IsPlayed}
-use Rattle.e3_world.specs.Packets.{is_calm, lines, pending, present_items}
+use Rattle.e3_wire.specs.Marks.{entries_of, most_of, scenario_of}
+use Rattle.e3_world.specs.Packets.{lines, pending}
 use Rattle.e3_world.specs.Progress.{Delivering}
 
 pub begun_on : (h now : List Entry) (sc : Scenario) → StaysInStep h now → lines h ≢ 0 → lines now ≢ 0
@@ -93,27 +90,3 @@ settled_on before marks same h was = let P : Scenario → Type 0 = λ sc. pendin
 pub ok_of : {T E P : Type 0} (answer : Result T E) → P → OnOk answer P
 ok_of (Ok done) was = was
 ok_of (Err fault) was = tt
-
--- a pass that looked, and saw nothing new
-pub crew_still : {D : Type 0} (content : D → List ℕ) (image : D → List ℕ → Type 0) (meters : D → Meters) (wire : TableId) (p q : APass) (workers : List (Worker D)) →
-    IsCrew content image meters wire p workers → IsIdle wire q → SameOwners p q → seen_by q ≡ seen_by p → IsCrew content image meters wire q workers
-crew_still {D} content image meters wire p q workers was idle same seen = record {
-  idle = idle;
-  all = λ o low. subst (λ (l : List ℕ). 0 < count_of o l) (sym same.owners) (was.all o (let l = same.last in omega (arith, l, low)));
-  last = same.last ∙ was.last;
-  count = ap (λ (l : List Mark). last_owner l) seen ∙ was.count;
-  played = subst (λ (l : List Mark). IsPlayed l) (sym seen) was.played;
-  restless = subst (λ (l : List Mark). is_calm (present_items (scenario_of l) (entries_of l)) ≡ false) (sym seen) was.restless;
-  none = subst (λ (l : List Mark). NothingIsPromised l) (sym seen) was.none;
-  each = subst (λ (l : List Mark). (i : ℕ) (d : Worker D) → i < length workers → IsAtRest content image meters (scenario_of l) (entries_of l) i (slice_index_or workers i d)) (sym seen) was.each;
-}
-
-pub gone_still : {D : Type 0} (meters : D → Meters) (before marks now : List Mark) (olds news : List (Worker D)) → HasGoneOn meters before olds marks news → now ≡ marks →
-    HasGoneOn meters before olds now news
-gone_still meters before marks now olds news was seen = subst (λ (l : List Mark). HasGoneOn meters before olds l news) (sym seen) was
-
--- what is true of a round that ended well is so of what was told of it
-pub well_told : {T U E F : Type 0} (P : Type 0) (told : Result T E) (ended : Result U F) (done : U) → OnOk told (ended ≡ Ok done) → OnOk ended P → OnOk told P
-well_told P (Ok x) (Ok y) done is well = well
-well_told P (Ok x) (Err fault) done is well = absurd cc
-well_told P (Err fault) ended done is well = tt

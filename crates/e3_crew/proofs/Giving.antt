@@ -9,6 +9,7 @@ use Rattle.e3_node.specs.Claims.{MovesStay}
 use Rattle.e3_node.specs.Ends.{FellOver, IsReason, Takes, calls_for, is_fall}
 use Rattle.e3_node.specs.NodeStands.{NodeStands}
 use Rattle.e3_node.specs.NodeView.{NodeView, disk_of}
+use Rattle.e3_node.specs.Places.{HasGivenNoneBack}
 use Rattle.e3_node.specs.Turns.{Meanwhile}
 use Rattle.e3_node.specs.declared.fault.InputFault.{InputFault}
 use Rattle.e3_node.specs.declared.fault.InputFault.TheVariants as input_fault
@@ -63,6 +64,7 @@ pub record Answered {D : Type 0} (content : D → List ℕ) (image : D → List 
   pub keeps : Keeps (meters (disk_of old.state)) (meters (disk_of new.state))
   pub takes : OnOk answer (Takes (calls_for (made_by (scenario_of before) (entries_of before) old.site i).records)
       (meters (disk_of old.state)) (meters (disk_of new.state)))
+  pub none_back : HasGivenNoneBack old.site before marks
 
 -- what a site did is the same behind entries of others
 moves_same : MovesStay → (sc : Scenario) (site : ℕ) (h now : List Entry) → Meanwhile site h now → moves_of sc now site ≡ moves_of sc h site
@@ -128,7 +130,7 @@ module _ {D : Type 0} (content : D → List ℕ) (image : D → List ℕ → Typ
       played = a.played;
       restless = (let P : Scenario → Type 0 = λ k. is_calm (present_items k (entries_of marks)) ≡ false in
           subst P (sym a.scenario) (restless_on sc was (entries_of marks) (lines_meanwhile 0 was (entries_of marks) grew) knows.restless));
-      none = ap (λ (s : ℕ). note_of s marks) a.site ∙ none_still (note_of old.site before) (note_of old.site marks) knows.none a.promised a.room;
+      promised = ap (λ (s : ℕ). note_of s marks) a.site ∙ none_still (note_of old.site before) (note_of old.site marks) knows.promised a.promised a.room;
       stands = a.stands;
     };
     site = a.site;
@@ -167,6 +169,7 @@ module _ {D : Type 0} (content : D → List ℕ) (image : D → List ℕ → Typ
         kept = tt;
         up = tt;
         full = λ is. absurd cc;
+        none_back = a.none_back;
       }
   gave (Err input_fault.Down) knows a =
       let k = a.kept input_fault.Down refl refl in
@@ -176,13 +179,14 @@ module _ {D : Type 0} (content : D → List ℕ) (image : D → List ℕ → Typ
         kept = tt;
         up = tt;
         full = λ is. absurd cc;
+        none_back = a.none_back;
       }
   gave (Err input_fault.HistoryFull) knows a =
       let r = refused input_fault.HistoryFull refl (λ is. cc) knows a in
-      record { worked = r.0; taken = tt; kept = r.1; up = r.2; full = λ is. a.full refl }
+      record { worked = r.0; taken = tt; kept = r.1; up = r.2; full = λ is. a.full refl; none_back = a.none_back }
   gave (Err input_fault.NoMemory) knows a =
       let r = refused input_fault.NoMemory refl (λ is. cc) knows a in
-      record { worked = r.0; taken = tt; kept = r.1; up = r.2; full = λ is. absurd cc }
+      record { worked = r.0; taken = tt; kept = r.1; up = r.2; full = λ is. absurd cc; none_back = a.none_back }
   gave (Err (input_fault.Fell why)) knows a =
       let up = is_up_or (is_up_at was old.site) refl (λ down. (let two : Err (input_fault.Fell why) ≡ Err input_fault.Down = a.down.1 down in cc)) in
       let f = a.fell why refl in record {
@@ -193,4 +197,5 @@ module _ {D : Type 0} (content : D → List ℕ) (image : D → List ℕ → Typ
         kept = tt;
         up = tt;
         full = λ is. absurd cc;
+        none_back = a.none_back;
       }

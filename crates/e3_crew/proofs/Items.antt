@@ -1,5 +1,5 @@
 -- A round of items.
-use Rattle.std.proofs.Common.{◌≡◌, ◌≢◌, ◌==◌, ◌+◌, ◌<◌, ◌≤◌, ◌∷◌, [], ℕ, zero, suc, Bool, true, false, List, length, refl, sym, ap, subst, ◌∙◌, arith, Option, Some, None}
+use Rattle.std.proofs.Common.{◌≡◌, ◌≢◌, ◌==◌, ◌+◌, ◌<◌, ◌≤◌, ◌++◌, ◌∷◌, [], ℕ, zero, suc, Bool, true, false, List, length, refl, sym, ap, subst, ◌∙◌, arith, Option, Some, None}
 use Rattle.std.specs.Prelude.{Result, Ok, Err, OnOk, filter_map, slice_index_or}
 use Rattle.std.specs.List.{list_any}
 use Rattle.atomic_table.specs.Seated.{TableId}
@@ -8,6 +8,7 @@ use Rattle.e3_crew.specs.Turns.{AreDone}
 use Rattle.e3_crew.specs.Workers.{CanTakeItems, HasTakenItems, IsDealt, Knows, seen_of}
 use Rattle.e3_crew.specs.declared.worker.Worker.{Worker}
 use Rattle.e3_crew.proofs.Growing.{alike_meanwhile}
+use Rattle.e3_crew.proofs.Places.{own_behind, own_in_all, used_stays}
 use Rattle.e3_crew.proofs.Rounding.{Round, crew_again, gone_on, same_scenario}
 use Rattle.e3_crew.proofs.Taking.{done_meanwhile}
 use Rattle.e3_crew.proofs.Turning.{meanwhile_foreign}
@@ -16,6 +17,8 @@ use Rattle.e3_law_local.specs.Workers.{AtItems}
 use Rattle.e3_law_local.proofs.Due.{next_on}
 use Rattle.e3_node.specs.Claims.{NodesKeptByOthers}
 use Rattle.e3_node.specs.NodeView.{NodeView}
+use Rattle.e3_node.specs.Places.{HasGivenNoneBack, OwnGiveNoneBack}
+use Rattle.e3_node.proofs.Places.{own_foreign}
 use Rattle.e3_node.specs.Turns.{Meanwhile, history_seen, scenario_seen}
 use Rattle.e3_play.specs.Delivered.{IsFullBefore, IsItemDue}
 use Rattle.e3_play.specs.Settled.{is_asking}
@@ -30,7 +33,7 @@ use Rattle.e3_types.specs.declared.scenarios.Item.{Item}
 use Rattle.e3_types.specs.declared.scenarios.Scenario.{Scenario}
 use Rattle.e3_wire.specs.Claims.{APass, NothingPromised}
 use Rattle.e3_wire.specs.declared.marks.Mark.{Mark}
-use Rattle.e3_wire.specs.Marks.{NothingIsPromised, entries_of, most_of, note_of, nothing, scenario_of, used_of}
+use Rattle.e3_wire.specs.Marks.{NothingIsPromised, entries_of, last_owner, most_of, note_of, nothing, scenario_of, used_of}
 use Rattle.e3_wire.specs.Wires.{IsPlayed}
 use Rattle.e3_world.specs.Items.{input_of, inputs_at, inputs_to, is_delivery, is_up_at, taken_at, to_line}
 use Rattle.e3_world.specs.Legal.{IsLegal, IsNextItem}
@@ -89,7 +92,7 @@ module _ {D : Type 0} (content : D → List ℕ) (image : D → List ℕ → Typ
       subst P (sym dealt.seen) (subst Q (sym dealt.node) (record {
         played = crew.played;
         restless = crew.restless;
-        none = (let S : ℕ → Type 0 = λ s. note_of s (seen_by p) ≡ nothing in
+        promised = (let S : ℕ → Type 0 = λ s. note_of s (seen_by p) ≡ nothing in
             subst S (sym rest.site) (crew.none (i + 1) (let c = crew.count in omega (arith, c, low))));
         stands = rest.stands;
       }))
@@ -159,9 +162,46 @@ module _ {D : Type 0} (content : D → List ℕ) (image : D → List ℕ → Typ
         let turn = at.turn in
         omega (arith, asked, turn)
 
+    -- none of the sites gave a promised place back
+    none_back : (o : ℕ) → o ≤ length olds → OwnGiveNoneBack o r.driver.0
+    none_back zero low = own_foreign 0 r.driver.0 r.driver.2
+    none_back (suc k) low =
+        let less : k < length olds = omega (arith, low) in
+        let d : Worker D = any news (let c = r.count in omega (arith, c, less)) in
+        let b = slice_index_or dealts k d in
+        let a = slice_index_or turned k d in
+        let P : List Mark → Type 0 = λ l. HasGivenNoneBack (k + 1) l (seen_of a) in
+        let Q : ℕ → Type 0 = λ s. HasGivenNoneBack s (seen_of b) (seen_of a) in
+        let R : ℕ → Type 0 = λ s. OwnGiveNoneBack s r.driver.0 in
+        let same : k + 1 ≡ suc k = omega arith in
+        let after = r.each k d less in
+        subst R same (own_in_all (k + 1) (seen_by p) (seen_of a) (seen_by q) r.driver.0 after.0
+        (subst P (r.dealt k d less).seen (subst Q (site_dealt k d less) (took k d less).none_back)) after.1 after.2 r.driver.1)
+
+    -- so a history that was full when a worker was refused is full at the end
+    still_full : (i : ℕ) (d : Worker D) → i < length olds → most_of (seen_of (slice_index_or turned i d)) ≤ used_of (seen_of (slice_index_or turned i d)) →
+        most_of (seen_by q) ≤ used_of (seen_by q)
+    still_full i d low full =
+        let b = slice_index_or dealts i d in
+        let a = slice_index_or turned i d in
+        let worked = (took i d low).worked in
+        let after = r.each i d low in
+        let back = (took i d low).none_back in
+        let there : scenario_of (seen_of a) ≡ sc = worked.scenario ∙ ap scenario_of (r.dealt i d low).seen in
+        let most : most_of (seen_of a) ≡ most_of (seen_by p) = worked.most ∙ ap most_of (r.dealt i d low).seen in
+        let last_is : last_owner (seen_of a) ≡ length olds = ap (λ (k : Scenario). length k.weights) there ∙ r.was.count in
+        let start : seen_of a ≡ seen_by p ++ back.0 = back.1 ∙ ap (λ (l : List Mark). l ++ back.0) (r.dealt i d low).seen in
+        let stays : used_of (seen_of a) ≤ used_of (seen_of a ++ after.0) =
+        used_stays (seen_of a) after.0 worked.knows.played
+        (λ o few. own_behind o (seen_by p) (seen_of a) (seen_by q) r.driver.0 back.0 after.0
+        (none_back o (omega (arith, few, last_is))) r.driver.1 start after.1) in
+        let all : used_of (seen_by q) ≡ used_of (seen_of a ++ after.0) = ap used_of after.1 in
+        let most_last : most_of (seen_by q) ≡ most_of (seen_by p) = (gone_on content image meters law wire p q olds dealts turned news r).most in
+        omega (arith, full, stays, all, most, most_last)
+
     -- a worker that was refused for a full history had an item that is due
-    pub items_full : NothingPromised → most_of (seen_by q) ≤ used_of (seen_by q) → OneWasRefused news HistoryFull → IsFullBefore IsItemDue sc last (most_of (seen_by p))
-    items_full nothing full one =
+    pub items_full : NothingPromised → OneWasRefused news HistoryFull → IsFullBefore IsItemDue sc last (most_of (seen_by p))
+    items_full nothing one =
         let d : Worker D = any news (let w = one.within in omega (arith, w)) in
         let i = one.at in
         let low : i < length olds = (let c = r.count in let w = one.within in omega (arith, c, w)) in
@@ -177,7 +217,7 @@ module _ {D : Type 0} (content : D → List ℕ) (image : D → List ℕ → Typ
         let M : Scenario → Type 0 = λ k. IsNextItem k (entries_of (seen_of a)) (i + 1) had.item in
         let step = same_step sc (history_seen p) last (gone_on content image meters law wire p q olds dealts turned news r).grown in
         let most_last : most_of (seen_by q) ≡ most_of (seen_by p) = (gone_on content image meters law wire p q olds dealts turned news r).most in
-        let room = at_bound nothing (seen_by q) r.played (crew_again content image meters law wire p q olds dealts turned news r).none full in
+        let room = at_bound nothing (seen_by q) r.played (crew_again content image meters law wire p q olds dealts turned news r).none (still_full i d low had.full) in
         item_full sc last (most_of (seen_by p)) (record {
           site = i + 1;
           item = had.item;

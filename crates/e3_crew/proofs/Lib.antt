@@ -1,4 +1,5 @@
 pub mod Growing
+pub mod Places
 pub mod Giving
 pub mod Turning
 pub mod Taking

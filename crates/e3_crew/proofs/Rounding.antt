@@ -98,7 +98,7 @@ module _ {D : Type 0} (content : D → List ℕ) (image : D → List ℕ → Typ
             let here : (slice_index_or news k d).node.site ≡ k + 1 = site_of k d less in
             let same : k + 1 ≡ suc k = omega arith in
             let P : ℕ → Type 0 = λ s. note_of s (seen_by q) ≡ nothing in
-            subst P (here ∙ same) (each_worked k d less).knows.none
+            subst P (here ∙ same) (each_worked k d less).knows.promised
 
     pub crew_again : IsCrew content image meters wire q news
     crew_again = record {

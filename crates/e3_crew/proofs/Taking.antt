@@ -4,7 +4,7 @@ use Rattle.std.specs.Prelude.{Result, Ok, Err, OnOk, get_or, slice_get}
 use Rattle.std.specs.List.{list_any}
 use Rattle.atomic_table.specs.Seated.{TableId}
 use Rattle.e3_crew.specs.Turns.{AreDone, HasTaken}
-use Rattle.e3_crew.specs.Workers.{HasGiven, HasTakenItems, HasWorked, IsPassFor, ItemHadNoRoom, Knows, seen_of}
+use Rattle.e3_crew.specs.Workers.{HasGiven, HasTakenItems, HasWorked, HasWorkedWith, IsPassFor, ItemHadNoRoom, Knows, seen_of}
 use Rattle.e3_crew.specs.declared.worker.Worker.{Worker}
 use Rattle.e3_crew.proofs.Growing.{alike_meanwhile, meanwhile_own, through_meanwhile}
 use Rattle.e3_disk.specs.Meters.{Meters}
@@ -16,6 +16,7 @@ use Rattle.e3_law_local.proofs.Least.{least_is_pending}
 use Rattle.e3_law_local.proofs.Queues.{front_is_least, queue_goes_on}
 use Rattle.e3_law_local.proofs.Working.{items_stay, next_item}
 use Rattle.e3_node.specs.NodeView.{NodeView}
+use Rattle.e3_node.specs.Places.{HasGivenNoneBack}
 use Rattle.e3_node.specs.Turns.{Meanwhile}
 use Rattle.e3_play.specs.Entering.{AfterInput, fall_of}
 use Rattle.e3_play.specs.declared.sites.RunFault.{RunFault}
@@ -28,6 +29,7 @@ use Rattle.e3_types.specs.declared.scenarios.Scenario.{Scenario}
 use Rattle.e3_turn.specs.Passes.{seen_by}
 use Rattle.e3_wire.specs.Claims.{APass}
 use Rattle.e3_wire.specs.declared.marks.Mark.{Mark}
+use Rattle.e3_wire.specs.declared.marks.Note.{Note}
 use Rattle.e3_wire.specs.Marks.{entries_of, scenario_of}
 use Rattle.e3_wire.specs.Wires.{TakesLeast}
 use Rattle.e3_world.specs.Given.{IsGiven}
@@ -127,6 +129,7 @@ module _ {D : Type 0} (content : D → List ℕ) (image : D → List ℕ → Typ
       HasGiven content image meters before old i marks new answer → answer ≡ Err HistoryFull → ItemHadNoRoom marks old.site
   item_refused before marks old new i items k (Ok done) got knows at gave is = absurd cc
   item_refused before marks old new i items k (Err fault) got knows at gave is = record {
+    full = gave.full is;
     up = up_meanwhile sc old.site (entries_of before) (entries_of marks) knows.played.given legal gave.kept ∙ gave.up;
     item = i;
     due = (let P : Scenario → Type 0 = λ k. IsNextItem k (entries_of marks) old.site i in subst P (sym gave.worked.scenario) (record {
@@ -145,7 +148,7 @@ module _ {D : Type 0} (content : D → List ℕ) (image : D → List ℕ → Typ
       here = items_meanwhile sc old.site (entries_of before) (entries_of marks) items k knows.played.given legal gave.kept (at gave.up)
 
   -- all items stay through
-  pub through_worked : (before marks : List Mark) (old new : NodeView D) → IsGiven (scenario_of before) → HasWorked content image meters before old marks new →
+  pub through_worked : {w : Note} (before marks : List Mark) (old new : NodeView D) → IsGiven (scenario_of before) → HasWorkedWith content image meters w before old marks new →
       Through (scenario_of before) (entries_of before) → Through (scenario_of marks) (entries_of marks)
   through_worked before marks old new given worked all =
       let P : Scenario → Type 0 = λ k. Through k (entries_of marks) in
@@ -179,8 +182,8 @@ pub took_items : {D : Type 0} (content : D → List ℕ) (image : D → List ℕ
     (items : List Input) (p : APass) (new : NodeView D) (kept : List Input) (answer : Result (Unit {0}) RunFault) → marks ≡ seen_of before → old ≡ before.node → items ≡ before.items →
     IsPassFor wire new.site p → HasWorked content image meters marks old (seen_by p) new →
     OnOk answer (AreDone (scenario_of marks) (entries_of (seen_by p)) old.site items (length items)) → (answer ≡ Err HistoryFull → ItemHadNoRoom (seen_by p) old.site) →
-    HasTakenItems content image meters wire before (record { node = new; pass = Some p; items = kept; ended = answer })
-took_items {D} content image meters wire before marks old items p new kept answer seen node all pass worked done full = record {
+    HasGivenNoneBack old.site marks (seen_by p) → HasTakenItems content image meters wire before (record { node = new; pass = Some p; items = kept; ended = answer })
+took_items {D} content image meters wire before marks old items p new kept answer seen node all pass worked done full back = record {
   pass = (p, refl, pass);
   worked = (let P : List Mark → Type 0 = λ l. HasWorked content image meters l before.node (seen_by p) new in
       let Q : NodeView D → Type 0 = λ n. HasWorked content image meters marks n (seen_by p) new in subst P seen (subst Q node worked));
@@ -189,4 +192,6 @@ took_items {D} content image meters wire before marks old items p new kept answe
       let R : List Input → Type 0 = λ l. OnOk answer (AreDone (scenario_of marks) (entries_of (seen_by p)) old.site l (length l)) in
       subst P seen (subst Q node (subst R all done)));
   full = λ is. (let Q : NodeView D → Type 0 = λ n. ItemHadNoRoom (seen_by p) n.site in subst Q node (full is));
+  none_back = (let P : List Mark → Type 0 = λ l. HasGivenNoneBack before.node.site l (seen_by p) in
+      let Q : NodeView D → Type 0 = λ n. HasGivenNoneBack n.site marks (seen_by p) in subst P seen (subst Q node back));
 }

@@ -1,8 +1,8 @@
 -- What workers know stays true while others go on, and turns follow one another.
-use Rattle.std.proofs.Common.{◌≡◌, ◌<◌, ◌++◌, ◌∷◌, [], ℕ, false, List, refl, sym, ap, subst, ◌∙◌, arith}
+use Rattle.std.proofs.Common.{◌≡◌, ◌+◌, ◌<◌, ◌≤◌, ◌++◌, ◌∷◌, [], ℕ, false, List, refl, sym, ap, subst, ◌∙◌, arith}
 use Rattle.e3_disk.specs.Meters.{Meters}
 use Rattle.e3_crew.specs.Turns.{AtStart, BehindFall, BehindFallOver, BehindOthers, BehindStep, BehindSteps, WentOn}
-use Rattle.e3_crew.specs.Workers.{HasWorked, Knows}
+use Rattle.e3_crew.specs.Workers.{HasWorked, HasWorkedWith, KnowsWith, places_alone}
 use Rattle.e3_crew.proofs.Growing.{lines_meanwhile, meanwhile_all, meanwhile_none, meanwhile_on, restless_on}
 use Rattle.e3_node.specs.Claims.{NodesKeptByOthers}
 use Rattle.e3_node.specs.NodeStands.{NodeStands}
@@ -12,8 +12,10 @@ use Rattle.e3_turn.specs.Chronicles.{count_of}
 use Rattle.e3_turn.proofs.Totals.{count_of_self}
 use Rattle.e3_types.specs.declared.entries.Entry.{Entry}
 use Rattle.e3_types.specs.declared.scenarios.Scenario.{Scenario}
+use Rattle.e3_wire.specs.Claims.{HasNoted, PlacesPromise}
 use Rattle.e3_wire.specs.declared.marks.Mark.{Mark}
-use Rattle.e3_wire.specs.Marks.{AreForeign, entries_of, most_of, note_of, scenario_of}
+use Rattle.e3_wire.specs.declared.marks.Note.{Note}
+use Rattle.e3_wire.specs.Marks.{AreForeign, entries_of, most_of, note_of, places_for, scenario_of, used_of}
 use Rattle.e3_wire.specs.Wires.{IsPlayed}
 use Rattle.e3_wire.proofs.Foreign.{entries_append, foreign_are_others, foreign_of_sites, notes_stay}
 use Rattle.e3_wire.proofs.Notes.{scenario_stays}
@@ -39,7 +41,7 @@ meanwhile_foreign site before since marks played foreign is = record {
 }
 
 module _ {D : Type 0} (content : D → List ℕ) (image : D → List ℕ → Type 0) (meters : D → Meters) where
-  pub worked_none : (marks : List Mark) (node : NodeView D) → Knows content image meters marks node → HasWorked content image meters marks node marks node
+  pub worked_none : {w : Note} (marks : List Mark) (node : NodeView D) → KnowsWith content image meters w marks node → HasWorkedWith content image meters w marks node marks node
   worked_none marks node knows = record {
     knows = knows;
     site = refl;
@@ -49,7 +51,8 @@ module _ {D : Type 0} (content : D → List ℕ) (image : D → List ℕ → Typ
     went = AtStart;
   }
 
-  pub worked_on : (a b c : List Mark) (l m n : NodeView D) → HasWorked content image meters a l b m → HasWorked content image meters b m c n → HasWorked content image meters a l c n
+  pub worked_on : {w x : Note} (a b c : List Mark) (l m n : NodeView D) → HasWorkedWith content image meters w a l b m → HasWorkedWith content image meters x b m c n →
+      HasWorkedWith content image meters x a l c n
   worked_on a b c l m n first second = record {
     knows = second.knows;
     site = second.site ∙ first.site;
@@ -63,14 +66,14 @@ module _ {D : Type 0} (content : D → List ℕ) (image : D → List ℕ → Typ
   }
 
   -- while a worker only looks
-  pub worked_behind : NodesKeptByOthers content image meters → (before since marks : List Mark) (node : NodeView D) → Knows content image meters before node →
-      AreForeign node.site since → IsPlayed marks → marks ≡ before ++ since → HasWorked content image meters before node marks node
+  pub worked_behind : {w : Note} → NodesKeptByOthers content image meters → (before since marks : List Mark) (node : NodeView D) → KnowsWith content image meters w before node →
+      AreForeign node.site since → IsPlayed marks → marks ≡ before ++ since → HasWorkedWith content image meters w before node marks node
   worked_behind law before since marks node knows foreign played is = record {
     knows = record {
       played = played;
       restless = (let P : Scenario → Type 0 = λ k. is_calm (present_items k (entries_of marks)) ≡ false in
           subst P (sym same) (restless_on (scenario_of before) (entries_of before) (entries_of marks) (lines_meanwhile node.site (entries_of before) (entries_of marks) m) knows.restless));
-      none = ap (λ (l : List Mark). note_of node.site l) is ∙ notes_stay node.site before since foreign ∙ knows.none;
+      promised = ap (λ (l : List Mark). note_of node.site l) is ∙ notes_stay node.site before since foreign ∙ knows.promised;
       stands = (let P : Scenario → Type 0 = λ k. NodeStands content image meters k (entries_of marks) node in
           let Q : List Entry → Type 0 = λ k. NodeStands content image meters (scenario_of before) k node in
           subst P (sym same) (subst Q (sym m.is) (law (scenario_of before) (entries_of before) m.others node knows.stands m.of_others)));
@@ -87,6 +90,35 @@ module _ {D : Type 0} (content : D → List ℕ) (image : D → List ℕ → Typ
 
       same : scenario_of marks ≡ scenario_of before
       same = ap scenario_of is ∙ (scenario_stays before since knows.played).0
+
+  -- where it only promises places to its site, of which so many are left
+  pub worked_promised : PlacesPromise → (before between marks : List Mark) (old new : NodeView D) (n : ℕ) → HasWorked content image meters before old between new →
+      used_of between + n ≤ most_of between → marks ≡ between ++ places_for new.site n → HasWorkedWith content image meters (places_alone n) before old marks new
+  worked_promised law before between marks old new n worked left is =
+      subst (λ (l : List Mark). HasWorkedWith content image meters (places_alone n) before old l new) (sym is) (record {
+        knows = record {
+          played = noted.played;
+          restless = (let P : Scenario → Type 0 = λ k. is_calm (present_items k (entries_of (between ++ places_for new.site n))) ≡ false in
+              let Q : List Entry → Type 0 = λ h. is_calm (present_items (scenario_of between) h) ≡ false in
+              subst P (sym noted.scenario) (subst Q (sym noted.entries) worked.knows.restless));
+          promised = noted.own ∙ ap (λ (w : Note). let x : Note = record { places = w.places + n; room = w.room } in x) worked.knows.promised ∙ ap places_alone plain;
+          stands = (let P : Scenario → Type 0 = λ k. NodeStands content image meters k (entries_of (between ++ places_for new.site n)) new in
+              let Q : List Entry → Type 0 = λ h. NodeStands content image meters (scenario_of between) h new in
+              subst P (sym noted.scenario) (subst Q (sym noted.entries) worked.knows.stands));
+        };
+        site = worked.site;
+        scenario = noted.scenario ∙ worked.scenario;
+        most = noted.most ∙ worked.most;
+        grew = subst (λ (h : List Entry). Meanwhile 0 (entries_of before) h) (sym noted.entries) worked.grew;
+        went = subst (λ (h : List Entry). WentOn (scenario_of before) old.site (entries_of before) (meters (disk_of old.state)) h (meters (disk_of new.state)))
+            (sym noted.entries) worked.went;
+      })
+    where
+      plain : 0 + n ≡ n
+      plain = omega arith
+
+      noted : HasNoted new.site (record { places = (note_of new.site between).places + n; room = (note_of new.site between).room }) between (between ++ places_for new.site n)
+      noted = (law new.site n between worked.knows.played worked.knows.stands.exists left).0
 
 -- a pass of one owner has it
 pub owns_one : (o : ℕ) (owners : List ℕ) → owners ≡ o ∷ [] → 0 < count_of o owners

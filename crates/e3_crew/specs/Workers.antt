@@ -8,6 +8,7 @@ use Rattle.e3_disk.specs.Meters.{Meters}
 use Rattle.e3_law_local.specs.Least.{IsLeastTo, queue_to}
 use Rattle.e3_node.specs.NodeStands.{NodeStands}
 use Rattle.e3_node.specs.NodeView.{NodeView, disk_of}
+use Rattle.e3_node.specs.Places.{HasGivenNoneBack}
 use Rattle.e3_node.specs.Turns.{Meanwhile}
 use Rattle.e3_play.specs.declared.sites.RunFault.{RunFault}
 use Rattle.e3_play.specs.declared.sites.RunFault.TheVariants.{HistoryFull}
@@ -16,6 +17,7 @@ use Rattle.e3_types.specs.declared.entries.Input.{Input}
 use Rattle.e3_types.specs.declared.messages.Packet.{Packet}
 use Rattle.e3_wire.specs.Claims.{APass}
 use Rattle.e3_wire.specs.declared.marks.Mark.{Mark}
+use Rattle.e3_wire.specs.declared.marks.Note.{Note}
 use Rattle.e3_wire.specs.Marks.{AreForeign, entries_of, most_of, note_of, nothing, scenario_of, used_of}
 use Rattle.e3_wire.specs.Wires.{IsPlayed}
 use Rattle.e3_world.specs.Items.{inputs_to, is_delivery, is_up_at}
@@ -41,22 +43,35 @@ abbrev pub seen_of : {D : Type 0} → Worker D → List Mark
 seen_of w = seen_in w.pass
 
 -- What is true of a node and the marks that the pass for its site has seen: the node stands for their history, no recover
--- step is on, and neither a place nor room is promised to the site.
-pub record Knows {D : Type 0} (content : D → List ℕ) (image : D → List ℕ → Type 0) (meters : D → Meters) (marks : List Mark) (node : NodeView D) : Type 0 where
+-- step is on, and this is promised to the site.
+pub record KnowsWith {D : Type 0} (content : D → List ℕ) (image : D → List ℕ → Type 0) (meters : D → Meters) (promise : Note)
+    (marks : List Mark) (node : NodeView D) : Type 0 where
   pub played : IsPlayed marks
   pub restless : is_calm (present_items (scenario_of marks) (entries_of marks)) ≡ false
-  pub none : note_of node.site marks ≡ nothing
+  pub promised : note_of node.site marks ≡ promise
   pub stands : NodeStands content image meters (scenario_of marks) (entries_of marks) node
 
--- what a node and the marks that its pass has seen came to, while all sites worked
-pub record HasWorked {D : Type 0} (content : D → List ℕ) (image : D → List ℕ → Type 0) (meters : D → Meters)
+-- the same, and neither a place nor room is promised to the site
+abbrev pub Knows : {D : Type 0} → (D → List ℕ) → (D → List ℕ → Type 0) → (D → Meters) → List Mark → NodeView D → Type 0
+Knows content image meters marks node = KnowsWith content image meters nothing marks node
+
+-- what a node and the marks that its pass has seen came to, while all sites worked, and what is promised to the site then
+pub record HasWorkedWith {D : Type 0} (content : D → List ℕ) (image : D → List ℕ → Type 0) (meters : D → Meters) (promise : Note)
     (before : List Mark) (old : NodeView D) (marks : List Mark) (new : NodeView D) : Type 0 where
-  pub knows : Knows content image meters marks new
+  pub knows : KnowsWith content image meters promise marks new
   pub site : new.site ≡ old.site
   pub scenario : scenario_of marks ≡ scenario_of before
   pub most : most_of marks ≡ most_of before
   pub grew : Meanwhile 0 (entries_of before) (entries_of marks)
   pub went : WentOn (scenario_of before) old.site (entries_of before) (meters (disk_of old.state)) (entries_of marks) (meters (disk_of new.state))
+
+-- the same, and neither a place nor room is promised to the site then
+abbrev pub HasWorked : {D : Type 0} → (D → List ℕ) → (D → List ℕ → Type 0) → (D → Meters) → List Mark → NodeView D → List Mark → NodeView D → Type 0
+HasWorked content image meters before old marks new = HasWorkedWith content image meters nothing before old marks new
+
+-- a place for each of so many entries, and no room
+abbrev pub places_alone : ℕ → Note
+places_alone n = record { places = n; room = 0 }
 
 -- What an input that a worker gave to its node came to: the site took it, or was down; or it was refused, which only a site
 -- that is up was.
@@ -67,9 +82,11 @@ pub record HasGiven {D : Type 0} (content : D → List ℕ) (image : D → List 
   pub kept : OnErr answer (Meanwhile old.site (entries_of before) (entries_of marks))
   pub up : OnErr answer (is_up_at (entries_of before) old.site ≡ true)
   pub full : answer ≡ Err HistoryFull → most_of marks ≤ used_of marks
+  pub none_back : HasGivenNoneBack old.site before marks
 
--- The next item of a site that is up is due, and was refused for a full history.
+-- The next item of a site that is up is due, and the history is full.
 pub record ItemHadNoRoom (marks : List Mark) (site : ℕ) : Type 0 where
+  pub full : most_of marks ≤ used_of marks
   pub up : is_up_at (entries_of marks) site ≡ true
   pub item : Input
   pub due : IsNextItem (scenario_of marks) (entries_of marks) site item
@@ -92,12 +109,13 @@ pub record CanTakeItems {D : Type 0} (content : D → List ℕ) (image : D → L
   pub plain : list_any is_delivery w.items ≡ false
   pub begun : AreDone (scenario_of (seen_of w)) (entries_of (seen_of w)) w.node.site w.items 0
 
--- It gave its items to its node, all of them where it was not refused.
+-- It gave its items to its node, all of them where it was not refused. Its site gave no promised place back.
 pub record HasTakenItems {D : Type 0} (content : D → List ℕ) (image : D → List ℕ → Type 0) (meters : D → Meters) (wire : TableId) (before after : Worker D) : Type 0 where
   pub pass : HasPass wire after
   pub worked : HasWorked content image meters (seen_of before) before.node (seen_of after) after.node
   pub done : OnOk after.ended (AreDone (scenario_of (seen_of before)) (entries_of (seen_of after)) before.node.site before.items (length before.items))
   pub full : after.ended ≡ Err HistoryFull → ItemHadNoRoom (seen_of after) before.node.site
+  pub none_back : HasGivenNoneBack before.node.site (seen_of before) (seen_of after)
 
 -- a worker with a pass, behind all items of all sites
 pub record CanTakePackets {D : Type 0} (content : D → List ℕ) (image : D → List ℕ → Type 0) (meters : D → Meters) (wire : TableId) (w : Worker D) : Type 0 where

@@ -9,30 +9,20 @@ ghost use Rattle.e3_play.specs.Delivered.{IsFullBefore, IsPacketDue};
 ghost use Rattle.e3_play.specs.declared.sites.RunFault.TheVariants.{HistoryFull};
 ghost use Rattle.e3_turn.specs.Passes.{seen_by};
 ghost use Rattle.e3_wire.specs.Wires.{IsPlayed};
-ghost use Rattle.e3_wire.specs.declared.fault.WireFault.TheVariants as wire_fault;
 ghost use Rattle.e3_wire.specs.Marks.{entries_of, most_of, scenario_of};
 ghost use Rattle.e3_world.specs.Items.{is_up_at};
 ghost use Rattle.e3_world.specs.Packets.{is_calm, lines, pending, present_items};
 ghost use Rattle.e3_world.specs.Progress.{Delivering};
 
 use crate::Worker;
+use crate::fault::run_fault;
 use crate::rounds::and_site;
 use e3_disk::{Disk, Drill};
 use e3_node::others_leave_nodes;
 use e3_play::RunFault;
 use e3_types::SiteSet;
-use e3_wire::{Shared, Wire, WireFault, WirePass, drivers_may_put_marks, marks_add_up};
+use e3_wire::{Shared, Wire, WirePass, drivers_may_put_marks, marks_add_up};
 use std::sync::Wait;
-
-// What a refusal of the wire is to the run.
-fn run_fault(fault: WireFault) -> RunFault
-    ensures { result ≡ HistoryFull → fault ≡ wire_fault.HistoryFull }
-{
-    match fault {
-        WireFault::HistoryFull => RunFault::HistoryFull,
-        WireFault::NoMemory => RunFault::NoMemory,
-    }
-}
 
 // Drops the packets that are pending to a site that is down.
 fn drop_all_for<R: Wait>(rt: &R, shared: &mut Shared, site: u32) -> Result<(), RunFault>

@@ -4,6 +4,7 @@
 
 mod crew;
 mod dropping;
+mod fault;
 mod rounds;
 mod settling;
 mod worker;

@@ -1,5 +1,5 @@
 // Rounds of all workers: passes are dealt, the workers work, and the passes are gathered again.
-ghost use Rattle.std.specs.Prelude.{◌≡◌, ◌≢◌, ◌+◌, ◌<◌, ◌≤◌, [], ℕ, true, length, slice_index_or, Ok, OnOk, Err};
+ghost use Rattle.std.specs.Prelude.{◌≡◌, ◌≢◌, ◌+◌, ◌<◌, [], ℕ, true, length, slice_index_or, OnOk, Err};
 ghost use Rattle.e3_crew.specs.Crews.{AllEndedWell, HasGoneOn, IsCrew, OneWasRefused};
 ghost use Rattle.e3_crew.specs.declared.worker.Worker.{Worker as Workers};
 ghost use Rattle.e3_node.specs.Turns.{history_seen, scenario_seen};
@@ -7,9 +7,8 @@ ghost use Rattle.e3_play.specs.Delivered.{IsFullBefore, IsItemDue};
 ghost use Rattle.e3_play.specs.Settled.{is_asking};
 ghost use Rattle.e3_play.specs.declared.sites.RunFault.{RunFault as Faults};
 ghost use Rattle.e3_play.specs.declared.sites.RunFault.TheVariants.{HistoryFull};
-ghost use Rattle.e3_turn.specs.Passes.{IsIdle, OwnsAll, SameOwners, seen_by};
-ghost use Rattle.e3_wire.specs.Marks.{most_of, used_of};
-ghost use Rattle.e3_wire.specs.Wires.{IsPlayed};
+ghost use Rattle.e3_turn.specs.Passes.{seen_by};
+ghost use Rattle.e3_wire.specs.Marks.{most_of};
 ghost use Rattle.e3_world.specs.Items.{inputs_at, taken_at};
 ghost use Rattle.e3_world.specs.Packets.{lines, present_items};
 ghost use Rattle.e3_world.specs.Progress.{Delivering};
@@ -57,56 +56,6 @@ fn asked_sites<D: Disk + Drill + Drop>(workers: &[Worker<D>]) -> SiteSet {
     asked
 }
 
-// What a refusal for a full history is, where the history is full, and where it is not.
-fn fault_of(full: bool) -> RunFault
-    ensures { result ≡ HistoryFull → full ≡ true }
-{
-    if full {
-        RunFault::HistoryFull
-    } else {
-        RunFault::NoMemory
-    }
-}
-
-// What a worker's refusal for a full history is to the step, once all passes are joined. A fall over several packets gives places
-// back, so the history is looked at again; no such fall comes while items are taken, so it is full still, but no contract
-// tells that of what others did.
-fn full_or_not<R: Wait>(rt: &R, wire: &Wire, pass: &mut WirePass) -> RunFault
-    requires idle { IsIdle wire.now pass.old }
-    requires all { OwnsAll pass.old }
-    ensures idle { IsIdle wire.now pass.new }
-    ensures same { SameOwners pass.old pass.new }
-    ensures seen { seen_by pass.new ≡ seen_by pass.old }
-    ensures played { IsPlayed (seen_by pass.new) }
-    ensures full { result ≡ HistoryFull → most_of (seen_by pass.new) ≤ used_of (seen_by pass.new) }
-{
-    let full = wire.is_full(rt, pass);
-    fault_of(full)
-}
-
-// How a round of items ended.
-fn told_items<R: Wait>(
-    rt: &R,
-    wire: &Wire,
-    pass: &mut WirePass,
-    told: Result<(), RunFault>,
-) -> Result<(), RunFault>
-    requires idle { IsIdle wire.now pass.old }
-    requires all { OwnsAll pass.old }
-    requires played { IsPlayed (seen_by pass.old) }
-    ensures idle { IsIdle wire.now pass.new }
-    ensures same { SameOwners pass.old pass.new }
-    ensures seen { seen_by pass.new ≡ seen_by pass.old }
-    ensures well { OnOk result (told ≡ Ok tt) }
-    ensures full { result ≡ Err HistoryFull → (told ≡ Err HistoryFull) × (most_of (seen_by pass.new) ≤ used_of (seen_by pass.new)) }
-{
-    match told {
-        Ok(()) => Ok(()),
-        Err(RunFault::HistoryFull) => Err(full_or_not(rt, wire, pass)),
-        Err(fault) => Err(fault),
-    }
-}
-
 // How a round of packets ended: a full history is looked for by the driver.
 fn without_full(told: Result<(), RunFault>) -> Result<(), RunFault>
     ensures { result ≡ Err HistoryFull → ⊥ }
@@ -117,7 +66,8 @@ fn without_full(told: Result<(), RunFault>) -> Result<(), RunFault>
     }
 }
 
-/// Each site takes its items of the present step, in their order. A step that asks one site alone starts no thread.
+/// Each site takes its items of the present step, in their order. A step that asks one site alone starts no thread. No site
+/// gives a promised place back meanwhile, so a history that was full for one of them is full when all are done.
 pub(crate) fn item_round<D: Disk + Drill + Drop + Send, G: Gate + Sync, R: Wait + Threads + Sync>(
     rt: &R,
     alloc: Global,
@@ -149,7 +99,7 @@ pub(crate) fn item_round<D: Disk + Drill + Drop + Send, G: Gate + Sync, R: Wait 
     deal(wire, workers, pass);
     all_take(rt, wire, gate, &round, most_threads, workers);
     gather(wire, workers, pass);
-    told_items(rt, wire, pass, ended(workers))
+    ended(workers)
 }
 
 /// Each site takes packets, the first to it, so many for one turn of work, until none is pending to it. At first some are

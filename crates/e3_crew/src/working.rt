@@ -1,9 +1,10 @@
 // What a worker gives to its node.
-ghost use Rattle.std.specs.Prelude.{◌≡◌, ◌≢◌, ◌≤◌, [], true, false, length, map, IfOk, OnOk, Err};
+ghost use Rattle.std.specs.Prelude.{◌≡◌, ◌≢◌, ◌≤◌, [], true, false, length, map, vec_capacity, IfOk, OnErr, OnOk, Err};
 ghost use Rattle.std.specs.List.{list_any};
-ghost use Rattle.e3_crew.specs.Turns.{AreDone, given};
-ghost use Rattle.e3_crew.specs.Workers.{AreTheFirst, CanTakeItems, CanTakePackets, HasGiven, HasPass, HasTakenItems, HasTakenPackets, HasWorked, IsPassFor, ItemHadNoRoom, Knows, NonePending, seen_of};
+ghost use Rattle.e3_crew.specs.Turns.{AreDone};
+ghost use Rattle.e3_crew.specs.Workers.{AreTheFirst, CanTakeItems, CanTakePackets, HasGiven, HasPass, HasTakenItems, HasTakenPackets, HasWorked, HasWorkedWith, IsPassFor, ItemHadNoRoom, Knows, KnowsWith, NonePending, places_alone, seen_of};
 ghost use Rattle.e3_law_local.specs.Drafts.{MayTake};
+ghost use Rattle.e3_node.specs.Places.{HasGivenNoneBack};
 ghost use Rattle.e3_node.specs.Turns.{history_seen, scenario_seen};
 ghost use Rattle.e3_play.specs.declared.sites.RunFault.TheVariants.{HistoryFull};
 ghost use Rattle.e3_turn.specs.Passes.{seen_by};
@@ -13,31 +14,18 @@ ghost use Rattle.e3_world.specs.Items.{is_delivery, is_up_at};
 ghost use Rattle.e3_world.specs.Progress.{Through};
 
 use crate::Worker;
+use crate::fault::{given, run_fault};
 use crate::worker::take_pass;
 use e3_disk::{Disk, Drill};
-use e3_node::{InputFault, Node, others_leave_nodes};
+use e3_node::{Node, others_leave_nodes};
 use e3_outside::Gate;
 use e3_play::RunFault;
 use e3_types::{Input, List, NoMemory, Packet};
-use e3_wire::{Wire, WirePass};
+use e3_wire::{Wire, WirePass, places_are_noted};
 use std::alloc::Global;
 use std::sync::Wait;
 
-// What an input is to a worker.
-fn given(answer: Result<(), InputFault>) -> Result<(), RunFault>
-    ensures { result ≡ given answer }
-{
-    match answer {
-        Ok(()) => Ok(()),
-        Err(fault) => match fault {
-            InputFault::HistoryFull => Err(RunFault::HistoryFull),
-            InputFault::NoMemory => Err(RunFault::NoMemory),
-            InputFault::Down | InputFault::Fell { .. } => Ok(()),
-        },
-    }
-}
-
-/// Gives an input to a node, while others go on. Where its site is down it is passed over.
+// Gives an input to a node, while others go on. Where its site is down it is passed over.
 fn give<D: Disk + Drill + Drop, R: Wait>(
     rt: &R,
     alloc: Global,
@@ -75,6 +63,7 @@ fn give_items<D: Disk + Drill + Drop, R: Wait>(
     ensures worked { HasWorked D.content D.image D.meters (seen_by pass.old) node.old (seen_by pass.new) node.new }
     ensures done { OnOk result (AreDone (scenario_seen pass.old) (history_seen pass.new) node.old.site items.now (length items.now)) }
     ensures full { result ≡ Err HistoryFull → ItemHadNoRoom (seen_by pass.new) node.old.site }
+    ensures none_back { HasGivenNoneBack node.old.site (seen_by pass.old) (seen_by pass.new) }
 {
     for item in items {
         give(rt, alloc, wire, pass, node, item.copy())?;
@@ -94,7 +83,34 @@ fn few_of(packets: u32) -> u32
     }
 }
 
-// The first packets to a node's site, so many at most, if its site is up; none only where none is pending to it.
+// Memory for the deliveries of so many packets. It is taken before a place is promised for any of them, so that nothing is
+// refused between the promise and the batch that uses it.
+fn memory_for(alloc: Global, packets: u32) -> Result<Vec<Input>, NoMemory>
+    ensures empty { IfOk result (λ memory. memory.items ≡ []) }
+    ensures enough { IfOk result (λ memory. packets ≤ vec_capacity memory) }
+{
+    match Vec::with_capacity(alloc, packets as usize) {
+        Ok(memory) => Ok(memory),
+        Err(_) => Err(NoMemory),
+    }
+}
+
+// The deliveries of packets, in the memory that was taken for them.
+fn deliveries(few: &[Packet], memory: Vec<Input>) -> List<Input>
+    requires empty { memory.items ≡ [] }
+    requires enough { length few.now ≤ vec_capacity memory }
+    ensures { result ≡ map input.Deliver few.now }
+{
+    let mut inputs = memory;
+    for packet in few {
+        let packet = packet.copy();
+        inputs.push_reserved(Input::Deliver { packet });
+    }
+    List::from_vec(inputs)
+}
+
+// The first packets to a node's site, so many at most, if its site is up; none only where none is pending to it. A place for
+// each of them is promised to the site.
 fn next_packets<D: Disk + Drill + Drop, R: Wait>(
     rt: &R,
     alloc: Global,
@@ -102,35 +118,31 @@ fn next_packets<D: Disk + Drill + Drop, R: Wait>(
     pass: &mut WirePass,
     node: &Node<D>,
     most: u32,
-) -> Result<List<Packet>, NoMemory>
+) -> Result<List<Packet>, RunFault>
     requires pass { IsPassFor wire.now node.now.site pass.old }
     requires knows { Knows D.content D.image D.meters (seen_by pass.old) node.now }
     requires some { 1 ≤ most }
     requires most { most ≤ 8 }
     ensures pass { IsPassFor wire.now node.now.site pass.new }
-    ensures worked { HasWorked D.content D.image D.meters (seen_by pass.old) node.now (seen_by pass.new) node.now }
+    ensures promised { IfOk result (λ few. HasWorkedWith D.content D.image D.meters (places_alone (length few)) (seen_by pass.old) node.now (seen_by pass.new) node.now) }
+    ensures kept { OnErr result (HasWorked D.content D.image D.meters (seen_by pass.old) node.now (seen_by pass.new) node.now) }
+    ensures few { IfOk result (λ few. length few ≤ most) }
     ensures some { IfOk result (λ few. few ≢ [] → AreTheFirst (seen_by pass.new) node.now.site few) }
     ensures none { IfOk result (λ few. few ≡ [] → NonePending (seen_by pass.new) node.now.site) }
 {
     others_leave_nodes::<D>();
+    places_are_noted();
     if !node.is_up() {
         return Ok(List::new(alloc));
     }
-    wire.next_few(rt, alloc, pass, node.site(), most)
-}
-
-// Their deliveries.
-fn deliveries(alloc: Global, few: List<Packet>) -> Result<List<Input>, NoMemory>
-    ensures { IfOk result (λ inputs. inputs ≡ map input.Deliver few) }
-{
-    let mut inputs = List::new(alloc);
-    for packet in few.into_vec() {
-        inputs.push(Input::Deliver { packet })?;
+    match wire.next_few(rt, alloc, pass, node.site(), most) {
+        Ok(few) => Ok(few),
+        Err(fault) => Err(run_fault(fault)),
     }
-    Ok(inputs)
 }
 
-// Gives packets to a node that is up: the first to its site, in one batch, while others go on.
+// Gives packets to a node that is up, the first to its site, in one batch, while others go on. A place for each of them is
+// promised to the site; behind the batch nothing is.
 fn give_few<D: Disk + Drill + Drop, R: Wait>(
     rt: &R,
     alloc: Global,
@@ -138,17 +150,20 @@ fn give_few<D: Disk + Drill + Drop, R: Wait>(
     pass: &mut WirePass,
     node: &mut Node<D>,
     few: List<Packet>,
+    memory: Vec<Input>,
 ) -> Result<(), RunFault>
     requires pass { IsPassFor wire.now node.old.site pass.old }
-    requires knows { Knows D.content D.image D.meters (seen_by pass.old) node.old }
+    requires knows { KnowsWith D.content D.image D.meters (places_alone (length few)) (seen_by pass.old) node.old }
     requires some { few ≢ [] }
     requires first { AreTheFirst (seen_by pass.old) node.old.site few }
     requires through { Through (scenario_seen pass.old) (history_seen pass.old) }
+    requires empty { memory.items ≡ [] }
+    requires enough { length few ≤ vec_capacity memory }
     ensures pass { IsPassFor wire.now node.new.site pass.new }
     ensures worked { HasWorked D.content D.image D.meters (seen_by pass.old) node.old (seen_by pass.new) node.new }
 {
     others_leave_nodes::<D>();
-    let inputs = deliveries(alloc, few)?;
+    let inputs = deliveries(few.as_slice(), memory);
     let answer = node.batch(rt, alloc, wire, pass, inputs);
     given(answer)
 }
@@ -172,12 +187,13 @@ fn take_few<D: Disk + Drill + Drop, G: Gate, R: Wait>(
     ensures worked { HasWorked D.content D.image D.meters (seen_by pass.old) node.old (seen_by pass.new) node.new }
     ensures done { IfOk result (λ some. some ≡ false → NonePending (seen_by pass.new) node.old.site) }
 {
+    let memory = memory_for(alloc, most)?;
     let few = next_packets(rt, alloc, wire, pass, node, most)?;
     if few.is_empty() {
         return Ok(false);
     }
     gate.enter(node.site());
-    give_few(rt, alloc, wire, pass, node, few)?;
+    give_few(rt, alloc, wire, pass, node, few, memory)?;
     Ok(true)
 }
 

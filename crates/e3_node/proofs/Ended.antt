@@ -3,7 +3,7 @@ use Rattle.std.proofs.Common.{◌≡◌, inl, inr, ℕ, false, List, length, tak
 use Rattle.std.proofs.Math.Seq.{take-length}
 use Rattle.std.specs.Prelude.{None, Option, Result, Some, Ok, Err}
 use Rattle.e3_disk.specs.Meters.{Keeps, Meters}
-use Rattle.e3_node.specs.Batched.{NeverFell}
+use Rattle.e3_node.specs.Batched.{OnlyForMemory}
 use Rattle.e3_node.specs.Batches.{BatchEnded, HasFallenOverAll, HasSteppedAll, fall_over}
 use Rattle.e3_node.specs.Bodies.{AllReadBack}
 use Rattle.e3_node.specs.Ending.{Came, EndsIn, EndsWith, answer_by}
@@ -22,10 +22,10 @@ use Rattle.e3_world.proofs.Readings.{up_same}
 use Rattle.e3_world.proofs.Turns.{self}
 
 -- a refusal of an input is no answer of a site that was down
-pub never_down : (r : Result (Unit {0}) InputFault) → NeverFell r → r ≡ Err input_fault.Down → ⊥
+pub never_down : (r : Result (Unit {0}) InputFault) → OnlyForMemory r → r ≡ Err input_fault.Down → ⊥
 never_down (Ok done) never is = absurd cc
-never_down (Err input_fault.HistoryFull) never is = absurd cc
 never_down (Err input_fault.NoMemory) never is = absurd cc
+never_down (Err input_fault.HistoryFull) never is = never
 never_down (Err input_fault.Down) never is = never
 never_down (Err (input_fault.Fell why)) never is = never
 
@@ -35,11 +35,6 @@ refused_down (Ok done) None is = absurd cc
 refused_down (Ok done) (Some why) is = absurd cc
 refused_down (Err fault) fell is = is
 
-pub refused_full : (r : Result (Unit {0}) InputFault) (fell : Option Why) → answer_by r fell ≡ Err input_fault.HistoryFull → r ≡ Err input_fault.HistoryFull
-refused_full (Ok done) None is = absurd cc
-refused_full (Ok done) (Some why) is = absurd cc
-refused_full (Err fault) fell is = is
-
 -- all inputs
 all_of : (n : ℕ) (inputs : List Input) → n ≡ length inputs → take n inputs ≡ inputs
 all_of n inputs is = ap (λ (k : ℕ). take k inputs) is ∙ take-length inputs
@@ -47,11 +42,11 @@ all_of n inputs is = ap (λ (k : ℕ). take k inputs) is ∙ take-length inputs
 module _ {D : Type 0} (content : D → List ℕ) (image : D → List ℕ → Type 0) (meters : D → Meters) (sc : Scenario) (before more : List Entry) (site : ℕ) (inputs : List Input)
     (old : State D) where
   -- how a batch of a site that was up ended is how one of any site does
-  pub ends_up : (mid : State D) (r : Result (Unit {0}) InputFault) (fell : Option Why) → NeverFell r →
+  pub ends_up : (mid : State D) (r : Result (Unit {0}) InputFault) (fell : Option Why) → OnlyForMemory r →
       EndsWith content image meters sc before more site inputs old mid r fell → EndsIn content image meters sc before more site inputs old mid r fell
   ends_up mid (Ok done) fell never ends = ends
-  ends_up mid (Err input_fault.HistoryFull) fell never ends = ends
   ends_up mid (Err input_fault.NoMemory) fell never ends = ends
+  ends_up mid (Err input_fault.HistoryFull) fell never ends = absurd never
   ends_up mid (Err input_fault.Down) fell never ends = absurd never
   ends_up mid (Err (input_fault.Fell why)) fell never ends = absurd never
 
@@ -76,9 +71,7 @@ module _ {D : Type 0} (content : D → List ℕ) (image : D → List ℕ → Typ
       (fall_told mid new (take ends.count inputs) why ends.came (down why refl))
   ended_told mid new (Err input_fault.Down) fell ends down kept = (ends.history, kept ends.none ∙ ends.state)
   ended_told mid new (Err (input_fault.Fell why)) fell ends down kept = absurd ends
-  ended_told mid new (Err input_fault.HistoryFull) None ends down kept = (ends.count, ends.short, inl (steps_told mid new (take ends.count inputs) ends.came (kept refl)))
-  ended_told mid new (Err input_fault.HistoryFull) (Some why) ends down kept =
-      (ends.count, ends.short, inr (why, fall_told mid new (take ends.count inputs) why ends.came (down why refl)))
+  ended_told mid new (Err input_fault.HistoryFull) fell ends down kept = absurd ends
   ended_told mid new (Err input_fault.NoMemory) None ends down kept = (ends.count, ends.short, inl (steps_told mid new (take ends.count inputs) ends.came (kept refl)))
   ended_told mid new (Err input_fault.NoMemory) (Some why) ends down kept =
       (ends.count, ends.short, inr (why, fall_told mid new (take ends.count inputs) why ends.came (down why refl)))
@@ -113,7 +106,7 @@ module _ {D : Type 0} (content : D → List ℕ) (image : D → List ℕ → Typ
   pub ended_in : (mid new : State D) (r : Result (Unit {0}) InputFault) (fell : Option Why) → EndsIn content image meters sc before more site inputs old mid r fell →
       ((why : Why) → fell ≡ Some why → new ≡ Down (disk_of mid)) → (fell ≡ None → new ≡ mid) → StandsBehind new
   ended_in mid new (Ok done) fell ends down kept = ended_up mid new (Ok done) fell ends down kept
-  ended_in mid new (Err input_fault.HistoryFull) fell ends down kept = ended_up mid new (Err input_fault.HistoryFull) fell ends down kept
+  ended_in mid new (Err input_fault.HistoryFull) fell ends down kept = absurd ends
   ended_in mid new (Err input_fault.NoMemory) fell ends down kept = ended_up mid new (Err input_fault.NoMemory) fell ends down kept
   ended_in mid new (Err (input_fault.Fell why)) fell ends down kept = absurd ends
   ended_in mid new (Err input_fault.Down) fell ends down kept =

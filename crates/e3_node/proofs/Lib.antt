@@ -14,6 +14,7 @@ pub mod Steps
 pub mod Telling
 pub mod Appends
 pub mod Waiting
+pub mod Places
 pub mod Turned
 pub mod Owning
 pub mod Several

@@ -118,14 +118,15 @@ begins (mark.Start sc most ∷ more) played = record { most = most; more = more;
 begins [] played = absurd (let some = played.given.some in omega (arith, some))
 begins (mark.Entered e ∷ more) played = absurd (let some = played.given.some in omega (arith, some))
 begins (mark.Place o outs ∷ more) played = absurd (let some = played.given.some in omega (arith, some))
+begins (mark.Freed o ∷ more) played = absurd (let some = played.given.some in omega (arith, some))
 
 -- steps whose places were claimed may be entered behind what others put since
 module _ (sc : Scenario) (h : List Entry) (site first : ℕ) (done : List Input) (p r : ℕ) (marks second now : List Mark) where
-  pub may_all : IsPlayed marks → IsPlayed now → now ≡ (marks ++ claims_for (plain_steps sc h site done)) ++ second → AreForeign site second →
+  pub may_all : IsPlayed now → now ≡ (marks ++ claims_for (plain_steps sc h site done)) ++ second → AreForeign site second →
       scenario_of now ≡ sc → (k : List Entry) → entries_of now ≡ k → Meanwhile site h k → 1 ≤ site → site ≤ length sc.weights → is_up_at k site ≡ true →
       AreFirstTo sc k site done → AreDue sc k site done → note_of site marks ≡ record { places = p; room = r } →
       MayEnterAll now (plain_steps sc h site done)
-  may_all was played is foreign keys k entries m one exists up firsts due note =
+  may_all played is foreign keys k entries m one exists up firsts due note =
       let steps : List Entry = plain_steps sc h site done in
       let same : plain_steps sc k site done ≡ steps = plain_same sc site h k done (moves_meanwhile sc h k site m) in
       let b : Begins now = begins now played in

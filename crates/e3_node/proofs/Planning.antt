@@ -1,5 +1,5 @@
 -- A batch before its first input, and behind what others put.
-use Rattle.std.proofs.Common.{◌≡◌, ◌<◌, ◌≤◌, ◌++◌, [], ℕ, List, length, take, sym, subst, append-nil, arith}
+use Rattle.std.proofs.Common.{◌≡◌, ◌<◌, ◌≤◌, ◌++◌, ◌∷◌, [], ℕ, List, length, take, sym, subst, ap, ◌∙◌, append-nil, append_assoc, arith}
 use Rattle.std.specs.Prelude.{Result, OnOk, OnErr}
 use Rattle.e3_node.specs.Batched.{HasPlanned, IsBatch}
 use Rattle.e3_node.specs.Batches.{plain_steps}
@@ -15,14 +15,17 @@ use Rattle.e3_types.specs.declared.entries.Entry.{Entry}
 use Rattle.e3_types.specs.declared.entries.Input.{Input}
 use Rattle.e3_types.specs.declared.scenarios.Scenario.{Scenario}
 use Rattle.e3_wire.specs.Claims.{APass}
-use Rattle.e3_wire.specs.Marks.{belongs, entries_of, scenario_of}
+use Rattle.e3_wire.specs.Marks.{belongs, entries_of, note_of, scenario_of}
 use Rattle.e3_wire.specs.Wires.{IsPlayed}
 use Rattle.e3_wire.specs.declared.marks.Mark.{Mark}
+use Rattle.e3_wire.specs.declared.marks.Mark.TheVariants as mark
+use Rattle.e3_wire.specs.declared.marks.Note.{Note}
+use Rattle.e3_wire.proofs.Foreign.{notes_stay}
 use Rattle.e3_wire.proofs.Notes.{scenario_stays}
 use Rattle.e3_wire.proofs.Staying.{are_others_marks}
 use Rattle.e3_node.proofs.Bundles.{plain_own}
 use Rattle.e3_node.proofs.Outcomes.{moves_meanwhile, stands_same}
-use Rattle.e3_node.proofs.Several.{grew_own, own_claims, own_marks}
+use Rattle.e3_node.proofs.Several.{entries_freed, grew_own, own_planned, own_marks}
 use Rattle.e3_node.proofs.Waiting.{one_while}
 
 -- before its first input
@@ -51,16 +54,38 @@ stands_taken p site marks s owns grew was played stands =
     let S : List Mark → Type 0 = λ l. StandsFor (scenario_of l) (entries_of l) site s in
     subst S (sym one.1) (subst R (sym (scenario_stays (seen_by p) one.0 was).0) there)
 
+-- and behind what is freed there
+pub stands_freed : (marks : List Mark) (site : ℕ) (s : SiteView) → IsPlayed marks → StandsFor (scenario_of marks) (entries_of marks) site s →
+    StandsFor (scenario_of (marks ++ mark.Freed site ∷ [])) (entries_of (marks ++ mark.Freed site ∷ [])) site s
+stands_freed marks site s played stands =
+    let P : Scenario → Type 0 = λ sc. StandsFor sc (entries_of (marks ++ mark.Freed site ∷ [])) site s in
+    let Q : List Entry → Type 0 = λ h. StandsFor (scenario_of marks) h site s in
+    subst P (sym (scenario_stays marks (mark.Freed site ∷ []) played).0) (subst Q (sym (entries_freed marks site)) stands)
+
+-- so many places are promised to it there too
+pub places_taken : (p : APass) (site n : ℕ) (marks : List Mark) → Owns p site → GrewByOthers belongs p marks → n ≤ (note_of site (seen_by p)).places → n ≤ (note_of site marks).places
+places_taken p site n marks owns grew few =
+    let one = are_others_marks p site marks owns grew in
+    let same : note_of site marks ≡ note_of site (seen_by p) = ap (λ (l : List Mark). note_of site l) one.1 ∙ notes_stay site (seen_by p) one.0 one.2 in
+    let P : Note → Type 0 = λ w. n ≤ w.places in
+    subst P (sym same) few
+
 -- what was added to a batch
 abbrev pub Added : Scenario → List Entry → ℕ → List Mark → ℕ → List Input → Result (Unit {0}) InputFault → Batch → SiteView → List Mark → Type 0
 Added sc h site marks first inputs answer batch s now =
     (n : ℕ) × (n ≤ length inputs) × OnOk answer (n ≡ length inputs) × OnErr answer (n < length inputs) × IsBatch sc h site marks first (take n inputs) batch s now
 
-pub planned : (p : APass) (site first : ℕ) (inputs : List Input) (answer : Result (Unit {0}) InputFault) (batch : Batch) (s : SiteView) (marks shared now : List Mark) →
-    GrewByOthers belongs p marks → IsPlayed marks → now ≡ shared → Added (scenario_of marks) (entries_of marks) site marks first inputs answer batch s shared →
-    HasPlanned p site first inputs answer batch s now
-planned p site first inputs answer batch s marks shared now grew played is added =
-    let P : List Mark → Type 0 = λ l. IsBatch (scenario_of marks) (entries_of marks) site marks first (take added.0 inputs) batch s l in
+pub planned : (p : APass) (site first : ℕ) (inputs : List Input) (answer : Result (Unit {0}) InputFault) (batch : Batch) (s : SiteView) (marks freed shared now : List Mark) →
+    GrewByOthers belongs p marks → IsPlayed marks → freed ≡ marks ++ mark.Freed site ∷ [] → now ≡ shared →
+    Added (scenario_of freed) (entries_of freed) site freed first inputs answer batch s shared → HasPlanned p site first inputs answer batch s now
+planned p site first inputs answer batch s marks freed shared now grew played free is added =
+    let done : List Input = take added.0 inputs in
+    let keys : scenario_of freed ≡ scenario_of marks = ap (λ (l : List Mark). scenario_of l) free ∙ (scenario_stays marks (mark.Freed site ∷ []) played).0 in
+    let entries : entries_of freed ≡ entries_of marks = ap (λ (l : List Mark). entries_of l) free ∙ entries_freed marks site in
+    let P : List Mark → Type 0 = λ l. IsBatch (scenario_of freed) (entries_of freed) site freed first done batch s l in
+    let Q : Scenario → Type 0 = λ sc. IsBatch sc (entries_of freed) site freed first done batch s now in
+    let R : List Entry → Type 0 = λ h. IsBatch (scenario_of marks) h site freed first done batch s now in
+    let S : List Mark → Type 0 = λ l. IsBatch (scenario_of marks) (entries_of marks) site l first done batch s now in
     record {
       between = marks;
       grew = grew;
@@ -69,17 +94,19 @@ planned p site first inputs answer batch s marks shared now grew played is added
       within = added.1;
       all = added.2;
       short = added.3;
-      made = subst P (sym is) added.4;
+      made = subst S free (subst R entries (subst Q keys (subst P (sym is) added.4)));
     }
 
--- the claims are of the pass
-pub claims_grew : (p q : APass) (site first : ℕ) (inputs : List Input) (answer : Result (Unit {0}) InputFault) (batch : Batch) (s : SiteView) (marks now : List Mark) →
-    Owns p site → SameOwners p q → seen_by q ≡ marks → Added (scenario_of marks) (entries_of marks) site marks first inputs answer batch s now → GrewByOwners belongs q now
-claims_grew p q site first inputs answer batch s marks now owns same seen added =
-    let steps : List Entry = plain_steps (scenario_of marks) (entries_of marks) site (take added.0 inputs) in
+-- what is freed and claimed is of the pass
+pub claims_grew : (p q : APass) (site first : ℕ) (inputs : List Input) (answer : Result (Unit {0}) InputFault) (batch : Batch) (s : SiteView) (marks freed now : List Mark) →
+    Owns p site → SameOwners p q → seen_by q ≡ marks → freed ≡ marks ++ mark.Freed site ∷ [] →
+    Added (scenario_of freed) (entries_of freed) site freed first inputs answer batch s now → GrewByOwners belongs q now
+claims_grew p q site first inputs answer batch s marks freed now owns same seen free added =
+    let steps : List Entry = plain_steps (scenario_of freed) (entries_of freed) site (take added.0 inputs) in
     let has : 0 < count_of site (owners_of q) = subst (λ (l : List ℕ). 0 < count_of site l) (sym same.owners) owns in
-    grew_own (last_of q) (owners_of q) (seen_by q) marks now (claims_for steps) seen added.4.claimed
-    (own_claims (last_of q) site (owners_of q) steps has (plain_own (scenario_of marks) (entries_of marks) site (take added.0 inputs)))
+    grew_own (last_of q) (owners_of q) (seen_by q) marks now (mark.Freed site ∷ claims_for steps) seen
+    (added.4.claimed ∙ ap (λ (l : List Mark). l ++ claims_for steps) free ∙ append_assoc marks (mark.Freed site ∷ []) (claims_for steps))
+    (own_planned (last_of q) site (owners_of q) steps has (plain_own (scenario_of freed) (entries_of freed) site (take added.0 inputs)))
 
 -- so are the entries
 pub entries_grew : (p q : APass) (marks now : List Mark) (steps : List Entry) → (owned : AreOwned p steps) → SameOwners p q → seen_by q ≡ marks →

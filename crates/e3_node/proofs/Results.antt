@@ -16,7 +16,7 @@ use Rattle.e3_log.proofs.Append.{new_end}
 use Rattle.e3_node.specs.Batched.{HasPlanned, IsBatch}
 use Rattle.e3_node.specs.Batches.{fall_over, plain_steps, stepped}
 use Rattle.e3_node.specs.Bodies.{AllReadBack, DiskHolds, Hold, ReadsAfter, bodies_in, body_of}
-use Rattle.e3_node.specs.Ending.{EndsWith, WasFull}
+use Rattle.e3_node.specs.Ending.{EndsWith}
 use Rattle.e3_node.specs.Ends.{EndsAt, IsReason, Takes, calls_for}
 use Rattle.e3_node.specs.Counting.{count_of, counted_by}
 use Rattle.e3_node.specs.NodeStands.{IsUp, steps_at}
@@ -36,7 +36,7 @@ use Rattle.e3_types.specs.declared.entries.Why.{Why}
 use Rattle.e3_types.specs.declared.records.Record.{Record}
 use Rattle.e3_types.specs.declared.scenarios.Scenario.{Scenario}
 use Rattle.e3_wire.specs.Claims.{APass}
-use Rattle.e3_wire.specs.Marks.{belongs, entries_of, most_of, note_of, scenario_of, used_by, used_of}
+use Rattle.e3_wire.specs.Marks.{belongs, entries_of, note_of, nothing, scenario_of, used_by}
 use Rattle.e3_wire.specs.Wires.{IsPlayed, MayEnterBehind, TakesInTurn}
 use Rattle.e3_wire.specs.declared.marks.Mark.{Mark}
 use Rattle.e3_wire.specs.declared.marks.Mark.TheVariants as mark
@@ -52,7 +52,7 @@ use Rattle.e3_node.proofs.Batches.{plain_same, records_own, records_same, steppe
 use Rattle.e3_node.proofs.Bundles.{all_due_first, plain_length, plain_list, plain_own, stepped_count, steps_back, steps_counted, steps_logged, steps_use}
 use Rattle.e3_node.proofs.Counts.{count_meanwhile, count_own}
 use Rattle.e3_node.proofs.Outcomes.{due_meanwhile, fall_all_back, fallen_all_disk, first_of_all, first_turn, may_all, may_take_front, meanwhile_then, moves_meanwhile, stands_same}
-use Rattle.e3_node.proofs.Several.{entries_claimed, entries_in, note_claimed, note_entered, outs_in, used_all}
+use Rattle.e3_node.proofs.Several.{entries_claimed, entries_freed, entries_in, note_claimed, note_entered, note_freed, outs_in, used_all}
 use Rattle.e3_node.proofs.Waiting.{back_meanwhile, one_while, up_meanwhile}
 
 -- the guard of a fall over several inputs
@@ -112,6 +112,9 @@ module _ (p q : APass) (site first : ℕ) (inputs : List Input) (answer : Result
   abbrev b : List Mark
   b = plan.between
 
+  abbrev f : List Mark
+  f = b ++ mark.Freed site ∷ []
+
   abbrev h1 : List Entry
   h1 = entries_of b
 
@@ -127,22 +130,25 @@ module _ (p q : APass) (site first : ℕ) (inputs : List Input) (answer : Result
   pub first_keys : scenario_of b ≡ sc
   first_keys = keys p site owns was b plan.grew
 
-  pub made : IsBatch sc h1 site b first done batch s (seen_by q)
-  made = let P : Scenario → Type 0 = λ k. IsBatch k h1 site b first done batch s (seen_by q) in subst P first_keys plan.made
+  pub made : IsBatch sc h1 site f first done batch s (seen_by q)
+  made = let P : Scenario → Type 0 = λ k. IsBatch k h1 site f first done batch s (seen_by q) in subst P first_keys plan.made
 
-  pub claimed : seen_by q ≡ b ++ claims_for steps
+  pub claimed : seen_by q ≡ f ++ claims_for steps
   claimed = made.claimed
 
+  behind_b : seen_by q ≡ b ++ (mark.Freed site ∷ claims_for steps)
+  behind_b = claimed ∙ append_assoc b (mark.Freed site ∷ []) (claims_for steps)
+
   pub entries_q : entries_of (seen_by q) ≡ h1
-  entries_q = ap (λ (l : List Mark). entries_of l) claimed ∙ entries_claimed b steps
+  entries_q = ap (λ (l : List Mark). entries_of l) claimed ∙ entries_claimed f steps ∙ entries_freed b site
 
   pub keys_q : scenario_of (seen_by q) ≡ sc
-  keys_q = ap (λ (l : List Mark). scenario_of l) claimed ∙ (scenario_stays b (claims_for steps) plan.played).0 ∙ first_keys
+  keys_q = ap (λ (l : List Mark). scenario_of l) behind_b ∙ (scenario_stays b (mark.Freed site ∷ claims_for steps) plan.played).0 ∙ first_keys
 
-  pub note_q : note_of site (seen_by q) ≡ record { places = (note_of site (seen_by p)).places + length steps; room = (note_of site (seen_by p)).room + outs_in steps }
+  pub note_q : note_of site (seen_by q) ≡ record { places = 0 + length steps; room = 0 + outs_in steps }
   note_q =
-      ap (λ (l : List Mark). note_of site l) claimed ∙ note_claimed site b steps (plain_own sc h1 site done)
-      ∙ ap (λ (w : Note). let v : Note = record { places = w.places + length steps; room = w.room + outs_in steps } in v) (note_same p site owns was b plan.grew)
+      ap (λ (l : List Mark). note_of site l) claimed ∙ note_claimed site f steps (plain_own sc h1 site done)
+      ∙ ap (λ (w : Note). let v : Note = record { places = w.places + length steps; room = w.room + outs_in steps } in v) (note_freed b site)
 
   pub count_is : length done ≡ plan.count
   count_is = length-take-le plan.count inputs plan.within
@@ -152,8 +158,8 @@ module _ (p q : APass) (site first : ℕ) (inputs : List Input) (answer : Result
 
   pub seen_b : (more : List Mark) × (seen_by q ≡ seen_by p ++ more)
   seen_b = (
-    plan.grew.0 ++ claims_for steps,
-    claimed ∙ ap (λ (l : List Mark). l ++ claims_for steps) plan.grew.1 ∙ append_assoc (seen_by p) plan.grew.0 (claims_for steps),
+    plan.grew.0 ++ (mark.Freed site ∷ claims_for steps),
+    behind_b ∙ ap (λ (l : List Mark). l ++ (mark.Freed site ∷ claims_for steps)) plan.grew.1 ∙ append_assoc (seen_by p) plan.grew.0 (mark.Freed site ∷ claims_for steps),
   )
 
   -- a site that was up is so behind what others put
@@ -199,7 +205,7 @@ module _ (p q : APass) (site first : ℕ) (inputs : List Input) (answer : Result
       place =
           (let n : 1 ≤ length done = some_inputs sc h1 site done (λ none. recorded (made.records_are ∙ none)) in
           let long : length steps ≡ length done = plain_length sc h1 site done in
-          let there : (note_of site (seen_by q)).places ≡ (note_of site (seen_by p)).places + length steps = ap (λ (w : Note). w.places) note_q in
+          let there : (note_of site (seen_by q)).places ≡ 0 + length steps = ap (λ (w : Note). w.places) note_q in
           omega (arith, n, long, there));
       room = (let none : 0 ≤ (note_of site (seen_by q)).room = omega arith in none);
     }
@@ -237,10 +243,10 @@ module _ (p q : APass) (site first : ℕ) (inputs : List Input) (answer : Result
       may_all_enter exists up_k =
           let one = are_others_marks q site marks owns_q grew in
           let P : List Entry → Type 0 = λ l. MayEnterAll marks l in
-          let now : marks ≡ (b ++ claims_for steps) ++ one.0 = one.1 ∙ ap (λ (l : List Mark). l ++ one.0) claimed in
+          let now : marks ≡ (f ++ claims_for steps) ++ one.0 = one.1 ∙ ap (λ (l : List Mark). l ++ one.0) claimed in
           subst P (sym made.steps_are)
-          (may_all sc h1 site first done (note_of site (seen_by p)).places (note_of site (seen_by p)).room b one.0 marks plan.played played now one.2 keys_2 k refl second_while
-          some exists up_k all_2.0 all_2.1 (note_same p site owns was b plan.grew))
+          (may_all sc h1 site first done 0 0 f one.0 marks played now one.2 keys_2 k refl second_while
+          some exists up_k all_2.0 all_2.1 (note_freed b site))
 
       pub seen_records : batch.records ≡ records_by sc h site done
       seen_records = made.records_are ∙ records_same sc site h h1 done (moves_meanwhile sc h h1 site first_while)
@@ -258,16 +264,15 @@ module _ (p q : APass) (site first : ℕ) (inputs : List Input) (answer : Result
           ap (λ (l : List Mark). entries_of l) is ∙ ap (λ (l : List Entry). entries_of (marks ++ marks_in k l)) same_steps
           ∙ entries_in marks (plain_steps sc k site done) ∙ plain_list sc k site done
 
-      pub note_stepped : (now : List Mark) → now ≡ marks ++ marks_in k batch.steps.items → note_of site now ≡ note_of site (seen_by p)
+      pub note_stepped : (now : List Mark) → now ≡ marks ++ marks_in k batch.steps.items → note_of site now ≡ nothing
       note_stepped now is =
-          let w : Note = note_of site (seen_by p) in
           let mine : List Entry = plain_steps sc k site done in
           let same : steps ≡ mine = sym made.steps_are ∙ same_steps in
-          let there : note_of site marks ≡ record { places = w.places + length mine; room = w.room + outs_in mine } =
+          let there : note_of site marks ≡ record { places = 0 + length mine; room = 0 + outs_in mine } =
           note_same q site owns_q played_q marks grew ∙ note_q
-          ∙ ap (λ (es : List Entry). let v : Note = record { places = w.places + length es; room = w.room + outs_in es } in v) same in
+          ∙ ap (λ (es : List Entry). let v : Note = record { places = 0 + length es; room = 0 + outs_in es } in v) same in
           ap (λ (l : List Mark). note_of site l) is ∙ ap (λ (l : List Entry). note_of site (marks ++ marks_in k l)) same_steps
-          ∙ note_entered site marks mine (plain_own sc k site done) ∙ ap (λ (v : Note). used_all v mine) there ∙ steps_use sc k site done w.places w.room
+          ∙ note_entered site marks mine (plain_own sc k site done) ∙ ap (λ (v : Note). used_all v mine) there ∙ steps_use sc k site done 0 0
 
       pub counted_stepped : (c d : Count) → c ≡ count_of site h → d ≡ fold (λ (x : Count) (e : Entry). counted_by x e.act) c batch.steps.items →
           (more : List Entry) → more ≡ stepped sc k site done → d ≡ count_of site more
@@ -293,15 +298,14 @@ module _ (p q : APass) (site first : ℕ) (inputs : List Input) (answer : Result
 
       pub note_fallen : (over : List Input) (why : Why) (now : List Mark) → over ≡ done →
           now ≡ marks ++ mark.Entered (numbered_on k (record { owner = site; act = Fall over batch.records why })) ∷ [] →
-          ((note_of site now).places ≡ (note_of site (seen_by p)).places) × ((note_of site now).room ≤ (note_of site (seen_by p)).room)
+          note_of site now ≡ nothing
       note_fallen over why now is now_is =
           let e : Entry = record { owner = site; act = Fall over batch.records why } in
-          let here : note_of site now ≡ used_by (note_of site marks) e.act = ap (λ (l : List Mark). note_of site l) now_is ∙ entry_uses e marks in
-          let places : (note_of site now).places ≡ (note_of site marks).places - length over = ap (λ (w : Note). w.places) here in
-          let room : (note_of site now).room ≡ 0 = ap (λ (w : Note). w.room) here in
-          let there : (note_of site marks).places ≡ (note_of site (seen_by p)).places + length steps = ap (λ (w : Note). w.places) (note_same q site owns_q played_q marks grew ∙ note_q) in
           let long : length steps ≡ length over = plain_length sc h1 site done ∙ ap (λ (l : List Input). length l) (sym is) in
-          (omega (arith, places, there, long), omega (arith, room))
+          let none : (0 + length steps) - length over ≡ 0 = omega (arith, long) in
+          ap (λ (l : List Mark). note_of site l) now_is ∙ entry_uses e marks
+          ∙ ap (λ (w : Note). used_by w e.act) (note_same q site owns_q played_q marks grew ∙ note_q)
+          ∙ ap (λ (n : ℕ). let w : Note = record { places = n; room = 0 } in w) none
 
       -- what a pass has seen that put more behind it
       pub seen_on : (now tail : List Mark) → now ≡ marks ++ tail → (more : List Mark) × (now ≡ seen_by p ++ more)
@@ -311,26 +315,14 @@ module _ (p q : APass) (site first : ℕ) (inputs : List Input) (answer : Result
             ∙ append_assoc (seen_by p) (seen_b.0 ++ grew.0) tail,
       )
 
-      pub seen_since : (now tail : List Mark) → now ≡ marks ++ tail → (more : List Mark) × (now ≡ seen_by q ++ more)
-      seen_since now tail is = (
-        grew.0 ++ tail,
-        is ∙ ap (λ (l : List Mark). l ++ tail) grew.1 ∙ append_assoc (seen_by q) grew.0 tail,
-      )
-
       pub turned : (lock : TableId) (r : APass) (tail : List Mark) → seen_by r ≡ marks ++ tail → IsIdle lock r → SameOwners p q → SameOwners q r → IsPlayed (seen_by r) →
-          (note_of site (seen_by r)).places ≡ (note_of site (seen_by p)).places → (note_of site (seen_by r)).room ≤ (note_of site (seen_by p)).room → HasTurned lock site p r
-      turned lock r tail is idle one two now places room = record {
+          HasTurned lock p r
+      turned lock r tail is idle one two now = record {
         idle = idle;
         same = record { owners = two.owners ∙ one.owners; last = two.last ∙ one.last };
         played = now;
         seen = seen_on (seen_by r) tail is;
-        promised = places;
-        room = room;
       }
-
-      -- a batch that was refused for a full history
-      pub was_full : (r : APass) (tail : List Mark) → seen_by r ≡ marks ++ tail → most_of (seen_by q) ≤ used_of (seen_by q) → WasFull p r
-      was_full r tail is full = record { met = seen_by q; before = seen_b; behind = seen_since (seen_by r) tail is; full = full }
 
       -- the site is up behind that
       pub up_second : {D : Type 0} (content : D → List ℕ) (image : D → List ℕ → Type 0) (meters : D → Meters) (s0 : SiteView) (old : LogState D) →

@@ -6,15 +6,18 @@ use Rattle.e3_law_local.specs.Others.{numbered_on}
 use Rattle.e3_node.specs.Several.{AreOf, MayEnterAll, claims_for, marks_in}
 use Rattle.e3_turn.specs.Chronicles.{ExtendsByOwners, IsOwn, count_of}
 use Rattle.e3_types.specs.declared.entries.Entry.{Entry}
-use Rattle.e3_wire.specs.Marks.{belongs, entries_of, last_owner, note_of, used_by}
-use Rattle.e3_wire.specs.Wires.{MayEnterBehind}
+use Rattle.e3_wire.specs.Marks.{belongs, entries_of, last_owner, most_of, note_by, note_of, nothing, promised, used_by, used_of}
+use Rattle.e3_wire.specs.Wires.{IsPlayed, MayEnterBehind}
 use Rattle.e3_wire.specs.declared.marks.Mark.{Mark}
 use Rattle.e3_wire.specs.declared.marks.Mark.TheVariants as mark
 use Rattle.e3_wire.specs.declared.marks.Note.{Note}
 use Rattle.e3_wire.proofs.Foreign.{entries_append}
+use Rattle.e3_wire.proofs.Freeing.{freed_leaves}
 use Rattle.e3_wire.proofs.Notes.{claim_promises, entry_uses}
-use Rattle.e3_wire.proofs.Puts.{own_entry, own_place}
+use Rattle.e3_wire.proofs.Noting.{note_push}
+use Rattle.e3_wire.proofs.Puts.{own_entry, own_freed, own_place}
 use Rattle.e3_wire.proofs.Spending.{used_numbered}
+use Rattle.e3_wire.proofs.Sums.{changes, itself}
 use Rattle.e3_world.specs.Packets.{outs_of}
 
 -- with one entry more
@@ -39,6 +42,52 @@ owners_push [] o outs = refl
 owners_push (mark.Start sc most ∷ rest) o outs = refl
 owners_push (mark.Entered e ∷ rest) o outs = refl
 owners_push (mark.Place p n ∷ rest) o outs = refl
+owners_push (mark.Freed p ∷ rest) o outs = refl
+
+pub most_push : (marks : List Mark) (o outs : ℕ) → most_of (marks ++ mark.Place o outs ∷ []) ≡ most_of marks
+most_push [] o outs = refl
+most_push (mark.Start sc most ∷ rest) o outs = refl
+most_push (mark.Entered e ∷ rest) o outs = refl
+most_push (mark.Place p n ∷ rest) o outs = refl
+most_push (mark.Freed p ∷ rest) o outs = refl
+
+-- one place more is used behind a claim
+pub used_push : (marks : List Mark) (o outs : ℕ) → o ≤ last_owner marks → used_of (marks ++ mark.Place o outs ∷ []) ≡ used_of marks + 1
+used_push marks o outs low =
+    let m : Mark = mark.Place o outs in
+    let last : ℕ = last_owner marks in
+    let moved : promised last (marks ++ m ∷ []) + (note_of o marks).places ≡ promised last marks + (note_by o (note_of o marks) m).places =
+    changes (λ w. w.places) marks m o last low (λ u w apart. rw apart refl) in
+    let more : (note_by o (note_of o marks) m).places ≡ suc (note_of o marks).places = rw (itself o) refl in
+    let long : length (entries_of (marks ++ m ∷ [])) ≡ length (entries_of marks) = ap length (entries_append marks (m ∷ []) ∙ append-nil (entries_of marks)) in
+    let same : promised (last_owner (marks ++ m ∷ [])) (marks ++ m ∷ []) ≡ promised last (marks ++ m ∷ []) =
+    ap (λ (n : ℕ). promised n (marks ++ m ∷ [])) (owners_push marks o outs) in
+    let sum : length (entries_of (marks ++ m ∷ [])) + promised (last_owner (marks ++ m ∷ [])) (marks ++ m ∷ []) ≡ (length (entries_of marks) + promised last marks) + 1 =
+    omega (arith, moved, more, long, same) in
+    sum
+
+-- Behind what was freed the history and the scenario are as before, nothing is promised to the owner, and its places are left.
+pub entries_freed : (marks : List Mark) (o : ℕ) → entries_of (marks ++ mark.Freed o ∷ []) ≡ entries_of marks
+entries_freed marks o = entries_append marks (mark.Freed o ∷ []) ∙ append-nil (entries_of marks)
+
+pub owners_freed : (marks : List Mark) (o : ℕ) → last_owner (marks ++ mark.Freed o ∷ []) ≡ last_owner marks
+owners_freed [] o = refl
+owners_freed (mark.Start sc most ∷ rest) o = refl
+owners_freed (mark.Entered e ∷ rest) o = refl
+owners_freed (mark.Place p n ∷ rest) o = refl
+owners_freed (mark.Freed p ∷ rest) o = refl
+
+pub note_freed : (marks : List Mark) (o : ℕ) → note_of o (marks ++ mark.Freed o ∷ []) ≡ nothing
+note_freed marks o = note_push o marks (mark.Freed o) ∙ (rw (itself o) refl)
+
+pub left_freed : (marks : List Mark) (o n : ℕ) → IsPlayed marks → o ≤ last_owner marks → n ≤ (note_of o marks).places →
+    used_of (marks ++ mark.Freed o ∷ []) + n ≤ most_of (marks ++ mark.Freed o ∷ [])
+left_freed marks o n played low few =
+    let law = freed_leaves o marks played low in
+    let used : used_of (marks ++ mark.Freed o ∷ []) + (note_of o marks).places ≡ used_of marks = law.1 in
+    let most : most_of (marks ++ mark.Freed o ∷ []) ≡ most_of marks = law.0.most in
+    let within : used_of marks ≤ most_of marks = played.within in
+    omega (arith, used, most, within, few)
 
 -- how many packets these entries send
 abbrev pub outs_in : List Entry → ℕ
@@ -74,6 +123,11 @@ own_claims last o owners [] has are = All-nil (IsOwn belongs last owners)
 own_claims last o owners (e ∷ es) has are =
     All-cons (IsOwn belongs last owners) (mark.Place e.owner (length (outs_of e.act))) (claims_for es)
     (own_place last owners e.owner (length (outs_of e.act)) (subst (λ (s : ℕ). 0 < count_of s owners) (sym are.0) has)) (own_claims last o owners es has are.1)
+
+-- so is what was freed, with the claims behind it
+pub own_planned : (last o : ℕ) (owners : List ℕ) (es : List Entry) → 0 < count_of o owners → AreOf o es → All (IsOwn belongs last owners) (mark.Freed o ∷ claims_for es)
+own_planned last o owners es has are =
+    All-cons (IsOwn belongs last owners) (mark.Freed o) (claims_for es) (own_freed last owners o has) (own_claims last o owners es has are)
 
 pub own_marks : (last o : ℕ) (owners : List ℕ) (h es : List Entry) → 1 ≤ o → 0 < count_of o owners → AreOf o es → All (IsOwn belongs last owners) (marks_in h es)
 own_marks last o owners h [] some has are = All-nil (IsOwn belongs last owners)

@@ -15,7 +15,7 @@ use Rattle.e3_node.specs.Ends.{input_fault_of}
 use Rattle.e3_log.specs.Stands.{LogState}
 use Rattle.e3_node.specs.NodeStands.{IsIn, IsUp, NodeStands}
 use Rattle.e3_node.specs.Telling.{IsOwn}
-use Rattle.e3_node.specs.Turns.{HasSeenMore, HasTurned, Meanwhile, scenario_seen}
+use Rattle.e3_node.specs.Turns.{HasKeptPromises, HasSeenMore, HasTurned, Meanwhile, scenario_seen}
 use Rattle.e3_node.specs.declared.drafts.Draft.{Draft}
 use Rattle.e3_node.specs.declared.fault.InputFault.TheVariants as input_fault
 use Rattle.e3_node.specs.declared.state.State.{State}
@@ -321,17 +321,14 @@ no_while site h = record { others = []; of_others = tt; of_sites = tt; is = sym 
 
 -- a call that only looked, or that was refused its claim
 pub looked : (lock : TableId) (p q : APass) (site : ℕ) (between : List Mark) → Owns p site → IsPlayed (seen_by p) → IsPlayed (seen_by q) → IsIdle lock q → SameOwners p q →
-    GrewByOthers belongs p between → seen_by q ≡ between → HasTurned lock site p q × Meanwhile site (entries_of (seen_by p)) (entries_of (seen_by q))
+    GrewByOthers belongs p between → seen_by q ≡ between → HasKeptPromises lock site p q × Meanwhile site (entries_of (seen_by p)) (entries_of (seen_by q))
 looked lock p q site between owns was played idle same grew is =
     let one = are_others_marks p site between owns grew in
     let all : seen_by q ≡ seen_by p ++ one.0 = is ∙ one.1 in
     let P : List Mark → Type 0 = λ l. IsPlayed l in
     let R : List Mark → Type 0 = λ l. Meanwhile site (entries_of (seen_by p)) (entries_of l) in (
       record {
-        idle = idle;
-        same = same;
-        played = played;
-        seen = (one.0, all);
+        turned = record { idle = idle; same = same; played = played; seen = (one.0, all) };
         promised = ap (λ (l : List Mark). (note_of site l).places) all ∙ ap (λ (w : Note). w.places) (notes_stay site (seen_by p) one.0 one.2);
         room =
             let same : (note_of site (seen_by q)).room ≡ (note_of site (seen_by p)).room =
@@ -342,15 +339,16 @@ looked lock p q site between owns was played idle same grew is =
     )
 
 -- nothing was seen
-pub same_pass : (lock : TableId) (p : APass) (site : ℕ) → IsIdle lock p → IsPlayed (seen_by p) → HasTurned lock site p p
-same_pass lock p site idle played = record {
+pub same_turn : (lock : TableId) (p : APass) → IsIdle lock p → IsPlayed (seen_by p) → HasTurned lock p p
+same_turn lock p idle played = record {
   idle = idle;
   same = record { owners = refl; last = refl };
   played = played;
   seen = ([], sym (append-nil (seen_by p)));
-  promised = refl;
-  room = omega arith;
 }
+
+pub same_pass : (lock : TableId) (p : APass) (site : ℕ) → IsIdle lock p → IsPlayed (seen_by p) → HasKeptPromises lock site p p
+same_pass lock p site idle played = record { turned = same_turn lock p idle played; promised = refl; room = omega arith }
 
 -- while a pass of the site rests, others leave a node standing
 pub node_behind : {D : Type 0} (content : D → List ℕ) (image : D → List ℕ → Type 0) (meters : D → Meters) → NodesStandBehindOthers content image meters
@@ -368,12 +366,14 @@ node_behind content image meters p marks node owns grew was played stands =
 -- a claim and its entry
 pub entered_turn : (lock : TableId) (p q r : APass) (site outs : ℕ) (e : Entry) (between : List Mark) → Behind site outs (seen_by p) (seen_by q) between (seen_by r) e →
     e.owner ≡ site → IsPlayed (seen_by p) → IsPlayed (seen_by q) → IsPlayed (seen_by r) → 1 ≤ e.owner → (sc : Scenario) (h : List Entry) → Allows sc h e → UsesOne e.act → used_by (record { places = 1; room = outs }) e.act ≡ nothing →
-    IsIdle lock r → SameOwners p q → SameOwners q r → HasTurned lock site p r
+    IsIdle lock r → SameOwners p q → SameOwners q r → HasKeptPromises lock site p r
 entered_turn lock p q r site outs e between behind owner was at_claim played some sc h may single all_used idle one two = record {
-  idle = idle;
-  same = record { owners = two.owners ∙ one.owners; last = two.last ∙ one.last };
-  played = played;
-  seen = seen_more site outs (seen_by p) (seen_by q) between (seen_by r) e behind owner was at_claim played;
+  turned = record {
+    idle = idle;
+    same = record { owners = two.owners ∙ one.owners; last = two.last ∙ one.last };
+    played = played;
+    seen = seen_more site outs (seen_by p) (seen_by q) between (seen_by r) e behind owner was at_claim played;
+  };
   promised = promised site outs (seen_by p) (seen_by q) between (seen_by r) e behind owner was at_claim played sc h some may single;
   room = room_left site outs (seen_by p) (seen_by q) between (seen_by r) e behind owner was at_claim played all_used;
 }

@@ -1,5 +1,5 @@
 -- The steps of some inputs, made and not yet entered.
-use Rattle.std.specs.Prelude.{◌≡◌, ◌+◌, ◌≤◌, ◌<◌, ◌++◌, ℕ, List, Result, Ok, Err, OnErr, OnOk, length, take}
+use Rattle.std.specs.Prelude.{◌≡◌, ◌+◌, ◌≤◌, ◌<◌, ◌++◌, ◌∷◌, [], ℕ, List, Result, Ok, Err, OnErr, OnOk, length, take}
 use Rattle.std.specs.List.{AllByRecursion as Each}
 use Rattle.e3_codec.specs.Fields.{AllCanBeReadBack}
 use Rattle.e3_node.specs.Batches.{plain_steps, stepped}
@@ -19,6 +19,7 @@ use Rattle.e3_wire.specs.Claims.{APass}
 use Rattle.e3_wire.specs.Marks.{belongs, entries_of, scenario_of}
 use Rattle.e3_wire.specs.Wires.{IsPlayed}
 use Rattle.e3_wire.specs.declared.marks.Mark.{Mark}
+use Rattle.e3_wire.specs.declared.marks.Mark.TheVariants as mark
 use Rattle.e3_world.specs.Legal.{records_by}
 
 -- where a batch is made, behind this history and these marks, at a site that had counted so many inputs; and its inputs so far
@@ -42,19 +43,18 @@ pub record IsBatch (sc : Scenario) (history : List Entry) (site : ℕ) (marks : 
   pub inputs : s.inputs ≤ first + length done
   pub claimed : now ≡ marks ++ claims_for (plain_steps sc history site done)
 
--- a refusal that comes of no disk
-abbrev pub NeverFell : Result (Unit {0}) InputFault → Type 0
-NeverFell (Ok done) = Unit {0}
-NeverFell (Err input_fault.HistoryFull) = Unit {0}
-NeverFell (Err input_fault.NoMemory) = Unit {0}
-NeverFell (Err fault) = ⊥
+-- want of memory is the only refusal
+abbrev pub OnlyForMemory : Result (Unit {0}) InputFault → Type 0
+OnlyForMemory (Ok done) = Unit {0}
+OnlyForMemory (Err input_fault.NoMemory) = Unit {0}
+OnlyForMemory (Err fault) = ⊥
 
 -- a batch made there
 abbrev pub IsBatchAt : BatchAt → Batch → SiteView → List Mark → Type 0
 IsBatchAt at batch s now = IsBatch at.scenario at.history at.site at.marks at.first at.done batch s now
 
--- What others put is behind what the pass had seen, and behind that a batch has the first of the inputs, all of them where
--- none was refused.
+-- What others put is behind what the pass had seen. Behind that all falls that was promised to the site, and a batch has the
+-- first of the inputs, all of them where none was refused.
 pub record HasPlanned (p : APass) (site first : ℕ) (inputs : List Input) (answer : Result (Unit {0}) InputFault) (batch : Batch) (s : SiteView)
     (now : List Mark) : Type 0 where
   pub between : List Mark
@@ -64,4 +64,4 @@ pub record HasPlanned (p : APass) (site first : ℕ) (inputs : List Input) (answ
   pub within : count ≤ length inputs
   pub all : OnOk answer (count ≡ length inputs)
   pub short : OnErr answer (count < length inputs)
-  pub made : IsBatch (scenario_of between) (entries_of between) site between first (take count inputs) batch s now
+  pub made : IsBatch (scenario_of between) (entries_of between) site (between ++ mark.Freed site ∷ []) first (take count inputs) batch s now

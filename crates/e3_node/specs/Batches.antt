@@ -66,16 +66,17 @@ module _ {D : Type 0} (meters : D → Meters) where
     pub reason : IsReason why (log_size (moves_of sc before site)) (records_by sc before site inputs) (meters (disk_of old)) (meters disk)
     pub need : EndsAt (end_of old) (records_by sc before site inputs) why
 
-  -- It did so with the first of these inputs alone: the one behind those was refused.
+  -- It did so with the first of these inputs alone: memory was wanting for the one behind those.
   abbrev pub EndedShort : Scenario → List Entry → List Entry → ℕ → List Input → State D → State D → Type 0
   EndedShort sc before more site inputs old new = (n : ℕ) × (n < length inputs)
       × (HasSteppedAll sc before more site (take n inputs) old new
       ⊎ ((why : Why) × HasFallenOverAll sc before more site (take n inputs) why old (disk_of new)))
 
-  -- How a batch ended: with the steps of all its inputs, or a fall over all of them; or so with those before the one that was
-  -- refused. A site that was down did nothing.
+  -- How a batch ended: with the steps of all its inputs, or a fall over all of them; or so with those before the one that
+  -- memory was wanting for. A site that was down did nothing. No batch is refused for a full history.
   abbrev pub BatchEnded : Scenario → List Entry → List Entry → ℕ → List Input → State D → State D → Result (Unit {0}) InputFault → Type 0
   BatchEnded sc before more site inputs old new (Ok done) = HasSteppedAll sc before more site inputs old new
   BatchEnded sc before more site inputs old new (Err (input_fault.Fell why)) = HasFallenOverAll sc before more site inputs why old (disk_of new)
   BatchEnded sc before more site inputs old new (Err input_fault.Down) = (more ≡ before) × (new ≡ old)
-  BatchEnded sc before more site inputs old new (Err fault) = EndedShort sc before more site inputs old new
+  BatchEnded sc before more site inputs old new (Err input_fault.NoMemory) = EndedShort sc before more site inputs old new
+  BatchEnded sc before more site inputs old new (Err input_fault.HistoryFull) = ⊥

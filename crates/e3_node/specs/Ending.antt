@@ -1,5 +1,5 @@
 -- How a batch of a site that was up ends.
-use Rattle.std.specs.Prelude.{◌≡◌, ◌≤◌, ◌<◌, ◌++◌, ℕ, List, Option, Some, None, Result, Ok, Err, OnErr, OnOk, length, take}
+use Rattle.std.specs.Prelude.{◌≡◌, ◌≤◌, ◌<◌, ℕ, List, Option, Some, None, Result, Ok, Err, OnErr, OnOk, length, take}
 use Rattle.e3_disk.specs.Meters.{Keeps, Meters}
 use Rattle.e3_node.specs.Batches.{HasFallenOverAll, HasSteppedAll}
 use Rattle.e3_node.specs.Bodies.{AllReadBack, DiskHolds}
@@ -8,21 +8,10 @@ use Rattle.e3_node.specs.NodeView.{disk_of}
 use Rattle.e3_node.specs.declared.fault.InputFault.{InputFault}
 use Rattle.e3_node.specs.declared.fault.InputFault.TheVariants as input_fault
 use Rattle.e3_node.specs.declared.state.State.{State}
-use Rattle.e3_turn.specs.Passes.{seen_by}
 use Rattle.e3_types.specs.declared.entries.Entry.{Entry}
 use Rattle.e3_types.specs.declared.entries.Input.{Input}
 use Rattle.e3_types.specs.declared.entries.Why.{Why}
 use Rattle.e3_types.specs.declared.scenarios.Scenario.{Scenario}
-use Rattle.e3_wire.specs.Claims.{APass}
-use Rattle.e3_wire.specs.Marks.{most_of, used_of}
-use Rattle.e3_wire.specs.declared.marks.Mark.{Mark}
-
--- At some moment between these the entries and promised places were as many as there may be entries.
-pub record WasFull (p q : APass) : Type 0 where
-  pub met : List Mark
-  pub before : (more : List Mark) × (met ≡ seen_by p ++ more)
-  pub behind : (more : List Mark) × (seen_by q ≡ met ++ more)
-  pub full : most_of met ≤ used_of met
 
 -- what is answered: a refusal before a fall
 abbrev pub answer_by : Result (Unit {0}) InputFault → Option Why → Result (Unit {0}) InputFault
@@ -61,4 +50,5 @@ module _ {D : Type 0} (content : D → List ℕ) (image : D → List ℕ → Typ
   abbrev pub EndsIn : Scenario → List Entry → List Entry → ℕ → List Input → State D → State D → Result (Unit {0}) InputFault → Option Why → Type 0
   EndsIn sc before more site inputs old new (Err input_fault.Down) fell = DidNothing sc before more site old new fell
   EndsIn sc before more site inputs old new (Err (input_fault.Fell why)) fell = ⊥
+  EndsIn sc before more site inputs old new (Err input_fault.HistoryFull) fell = ⊥
   EndsIn sc before more site inputs old new refused fell = EndsWith sc before more site inputs old new refused fell

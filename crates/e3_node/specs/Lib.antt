@@ -13,3 +13,4 @@ pub mod Several
 pub mod Batches
 pub mod Batched
 pub mod Ending
+pub mod Places

@@ -40,12 +40,16 @@ pub record Meanwhile (site : ℕ) (before now : List Entry) : Type 0 where
 abbrev pub HasSeenMore : APass → APass → Type 0
 HasSeenMore p q = (more : List Mark) × (seen_by q ≡ seen_by p ++ more)
 
--- what a call of the site made of its pass: no place and no room are promised to the site that were not before
-pub record HasTurned (lock : TableId) (site : ℕ) (p q : APass) : Type 0 where
+-- what a call of the site made of its pass
+pub record HasTurned (lock : TableId) (p q : APass) : Type 0 where
   pub idle : IsIdle lock q
   pub same : SameOwners p q
   pub played : IsPlayed (seen_by q)
   pub seen : HasSeenMore p q
+
+-- it did so, and no place and no room are promised to the site that were not before
+pub record HasKeptPromises (lock : TableId) (site : ℕ) (p q : APass) : Type 0 where
+  pub turned : HasTurned lock p q
   pub promised : (note_of site (seen_by q)).places ≡ (note_of site (seen_by p)).places
   pub room : (note_of site (seen_by q)).room ≤ (note_of site (seen_by p)).room
 

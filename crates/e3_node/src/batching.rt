@@ -1,13 +1,12 @@
 // Several packets of a site that is up, by its worker: their steps have one frame.
-ghost use Rattle.std.specs.Prelude.{◌≡◌, ◌≤◌, ◌<◌, ◌++◌, ◌∷◌, [], ℕ, length, take, fold, vec_capacity, IfOk, OnOk, OnErr, Err, List as Items};
-ghost use Rattle.e3_node.specs.Batched.{BatchAt, HasPlanned, IsBatchAt, NeverFell};
+ghost use Rattle.std.specs.Prelude.{◌≡◌, ◌≤◌, ◌<◌, ◌+◌, ◌++◌, ◌∷◌, [], ℕ, length, take, fold, vec_capacity, IfOk, OnOk, OnErr, List as Items};
+ghost use Rattle.e3_node.specs.Batched.{BatchAt, HasPlanned, IsBatchAt, OnlyForMemory};
 ghost use Rattle.e3_node.specs.Counting.{counted_by};
 ghost use Rattle.e3_node.specs.Several.{AreOwned, MayEnterAll, marks_in};
 ghost use Rattle.e3_node.specs.Turns.{history_seen, scenario_seen};
-ghost use Rattle.e3_node.specs.declared.fault.InputFault.TheVariants as input_fault;
 ghost use Rattle.e3_site.specs.StandsFor.{StandsFor};
 ghost use Rattle.e3_turn.specs.Passes.{GrewByOthers, IsIdle, Owns, SameOwners, seen_by};
-ghost use Rattle.e3_wire.specs.Marks.{belongs, entries_of, last_owner, most_of, used_of};
+ghost use Rattle.e3_wire.specs.Marks.{belongs, entries_of, last_owner, most_of, note_of, used_of};
 ghost use Rattle.e3_wire.specs.Wires.{IsPlayed};
 ghost use Rattle.e3_wire.specs.declared.marks.Mark.{Mark};
 
@@ -65,8 +64,8 @@ fn reserve(steps: &mut Vec<Entry>) -> Result<(), NoMemory>
     }
 }
 
-// One input more: it is planned behind those before it, and its place is claimed. All memory is taken before the site does
-// the step; behind that nothing is refused.
+// One input more: it is planned behind those before it, and its place, which is left, is claimed. All memory is taken before
+// the site does the step; behind that nothing is refused.
 fn add_one(
     shared: &mut Shared,
     number: u32,
@@ -78,11 +77,13 @@ fn add_one(
     requires owner { number ≤ last_owner shared.old }
     requires site { number ≡ at.site }
     requires made { IsBatchAt at batch.old site.old shared.old }
+    requires left { used_of shared.old < most_of shared.old }
     ensures owners { last_owner shared.new ≡ last_owner shared.old }
+    ensures most { most_of shared.new ≡ most_of shared.old }
+    ensures used { used_of shared.new ≤ used_of shared.old + 1 }
     ensures added { OnOk result (IsBatchAt (record at { done = at.done ++ input.now ∷ [] }) batch.new site.new shared.new) }
     ensures kept { OnErr result (IsBatchAt at batch.new site.new shared.new) }
-    ensures refused { NeverFell result }
-    ensures full { result ≡ Err input_fault.HistoryFull → most_of shared.new ≤ used_of shared.new }
+    ensures refused { OnlyForMemory result }
 {
     let alloc = shared.alloc();
     let draft = prepare(site, input, shared)?;
@@ -98,7 +99,7 @@ fn add_one(
     Ok(())
 }
 
-// These inputs, one behind the other, up to the first that is refused.
+// These inputs, one behind the other, up to the first that is refused. A place is left for each.
 fn add_all(
     shared: &mut Shared,
     number: u32,
@@ -110,10 +111,10 @@ fn add_all(
     requires owner { number ≤ last_owner shared.old }
     requires site { number ≡ at.site }
     requires made { IsBatchAt (record at { done = [] }) batch.old site.old shared.old }
+    requires left { used_of shared.old + length inputs.now ≤ most_of shared.old }
     ensures added { (n : ℕ) × (n ≤ length inputs.now) × OnOk result (n ≡ length inputs.now) × OnErr result (n < length inputs.now)
         × IsBatchAt (record at { done = take n inputs.now }) batch.new site.new shared.new }
-    ensures refused { NeverFell result }
-    ensures full { result ≡ Err input_fault.HistoryFull → most_of shared.new ≤ used_of shared.new }
+    ensures refused { OnlyForMemory result }
 {
     for input in inputs {
         add_one(shared, number, site, batch, input)?;
@@ -121,7 +122,8 @@ fn add_all(
     Ok(())
 }
 
-/// In one turn, the steps of these inputs are made, up to the first that is refused, and a place is claimed for each.
+/// In one turn, all that is promised to the site is freed, and the steps of these inputs are made, up to the first that is
+/// refused, with a place claimed for each. So many places were promised that no claim is refused for a full history.
 pub(crate) fn plan_all<R: Wait>(
     rt: &R,
     wire: &Wire,
@@ -137,14 +139,16 @@ pub(crate) fn plan_all<R: Wait>(
     requires exists { number ≤ last_owner (seen_by pass.old) }
     requires stands { StandsFor (scenario_seen pass.old) (history_seen pass.old) number site.old }
     requires empty { (batch.old.steps.items ≡ []) × (batch.old.records ≡ []) × (batch.old.body ≡ []) }
+    requires some { 1 ≤ length inputs.now }
+    requires places { length inputs.now ≤ (note_of number (seen_by pass.old)).places }
     ensures idle { IsIdle wire.now pass.new }
     ensures same { SameOwners pass.old pass.new }
     ensures played { IsPlayed (seen_by pass.new) }
     ensures planned { HasPlanned pass.old number site.old.inputs inputs.now result batch.new site.new (seen_by pass.new) }
-    ensures refused { NeverFell result }
-    ensures full { result ≡ Err input_fault.HistoryFull → most_of (seen_by pass.new) ≤ used_of (seen_by pass.new) }
+    ensures refused { OnlyForMemory result }
 {
     let mut shared = wire.take(rt, pass);
+    shared.free(number);
     let added = add_all(&mut shared, number, site, batch, inputs);
     wire.put(pass, shared);
     added

@@ -48,10 +48,11 @@ impl From<WireFault> for RiseFault {
 pub enum InputFault {
     /// The site is down.
     Down,
-    /// The history has as many entries, with the places that are promised to other workers, as it may have entries.
+    /// The history has as many entries, with the places that are promised to other workers, as it may have entries. It comes of
+    /// no batch, whose places were promised before.
     HistoryFull,
-    /// There was no memory, or the packets would no longer be counted by 64 bits. It may come at any time before the frame
-    /// is written.
+    /// There was no memory, or the packets would no longer be counted by 64 bits. It comes before the frame is written; of a
+    /// batch that it cut short, the inputs before it have their frame.
     NoMemory,
     /// The frame of the step was not written, or may not have been: the site is down now.
     Fell { why: Why },

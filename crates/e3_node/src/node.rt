@@ -7,10 +7,10 @@ ghost use Rattle.e3_law_local.specs.Drafts.{MayTake, MayTakeAll};
 ghost use Rattle.e3_law_local.specs.Least.{AreFirstTo};
 ghost use Rattle.e3_node.specs.Batches.{BatchEnded};
 ghost use Rattle.e3_node.specs.Bodies.{DiskStands};
-ghost use Rattle.e3_node.specs.Ending.{WasFull};
 ghost use Rattle.e3_node.specs.Ends.{EndsAt, FellOver, HasFailedToRise, HasRisen, IsReason, Takes, calls_for, is_fall};
 ghost use Rattle.e3_node.specs.NodeStands.{NodeStands};
 ghost use Rattle.e3_node.specs.NodeView.{disk_of, end_of, is_up_in};
+ghost use Rattle.e3_node.specs.Places.{HasGivenNoneBack};
 ghost use Rattle.e3_node.specs.SharedStands.{SharedStands};
 ghost use Rattle.e3_node.specs.Turns.{HasSeenMore, Meanwhile, history_seen, scenario_seen};
 ghost use Rattle.e3_node.specs.declared.fault.CutFault.TheVariants as cut_fault;
@@ -24,7 +24,7 @@ ghost use Rattle.e3_types.specs.declared.entries.Entry.{Entry as Entries};
 ghost use Rattle.e3_types.specs.declared.entries.Why.{Why};
 ghost use Rattle.e3_types.specs.declared.scenarios.Scenario.{Scenario};
 ghost use Rattle.e3_wire.specs.Claims.{HaveGrown};
-ghost use Rattle.e3_wire.specs.Marks.{entries_of, most_of, note_of, scenario_of, used_of};
+ghost use Rattle.e3_wire.specs.Marks.{entries_of, most_of, note_of, nothing, scenario_of, used_of};
 ghost use Rattle.e3_wire.specs.Wires.{IsPlayed, TakesLeast};
 ghost use Rattle.e3_world.specs.Items.{add_txn, is_up_at, open_at};
 ghost use Rattle.e3_world.specs.Legal.{IsCut, IsDue, IsRising, entry_of, made_by};
@@ -239,8 +239,8 @@ impl<D: Disk + Drill + Drop> Node<D> {
         requires due { is_up_at (history_seen pass.old) self.old.site ≡ true → MayTake (scenario_seen pass.old) (history_seen pass.old) self.old.site input }
         requires takes { is_up_at (history_seen pass.old) self.old.site ≡ true → TakesLeast (scenario_seen pass.old) (history_seen pass.old) self.old.site input }
 
-        // each claim is followed by its entry, which uses it or gives it back: no place and no room are promised to the site that
-        // were not before
+        // each claim is followed by its entry, which uses its place, and uses its room or gives it back: no place and no room are
+        // promised to the site that were not before, and no place was given back
         ensures idle { IsIdle wire.now pass.new }
         ensures same { SameOwners pass.old pass.new }
         ensures played { IsPlayed (seen_by pass.new) }
@@ -248,6 +248,7 @@ impl<D: Disk + Drill + Drop> Node<D> {
         ensures scenario { (scenario_seen pass.new ≡ scenario_seen pass.old) × (most_of (seen_by pass.new) ≡ most_of (seen_by pass.old)) }
         ensures promised { (note_of self.old.site (seen_by pass.new)).places ≡ (note_of self.old.site (seen_by pass.old)).places }
         ensures room { (note_of self.old.site (seen_by pass.new)).room ≤ (note_of self.old.site (seen_by pass.old)).room }
+        ensures none_back { HasGivenNoneBack self.old.site (seen_by pass.old) (seen_by pass.new) }
 
         ensures stands { NodeStands D.content D.image D.meters (scenario_seen pass.new) (history_seen pass.new) self.new }
         ensures site { self.new.site ≡ self.old.site }
@@ -283,9 +284,10 @@ impl<D: Disk + Drill + Drop> Node<D> {
 
     /// One to eight packets for the site, by a worker whose pass speaks for it, outside of a recover step: what `input_by_turns`
     /// does with each of them in their order, but that all their records are one frame, and their steps are entered in one
-    /// turn. They are the first packets to the site. A site that falls over them has one fall over all of them. Where memory
-    /// runs out, or the history is full, behind the first of them, those have their frame and their steps, or one fall, and the
-    /// rest have nothing. All memory is taken before the frame is written.
+    /// turn. They are the first packets to the site, and a place is promised to it for each, as `next_few` of the wire promises
+    /// them; a place that is not used is given back. So no batch is refused for a full history. A site that falls over them has
+    /// one fall over all of them. Where memory runs out behind the first of them, those have their frame and their steps, or one
+    /// fall, and the rest have nothing. All memory is taken before the frame is written.
     pub fn batch<R: Wait>(
         &mut self,
         rt: &R,
@@ -302,22 +304,23 @@ impl<D: Disk + Drill + Drop> Node<D> {
         requires few { (1 ≤ length inputs) × (length inputs ≤ 8) }
         requires due { is_up_at (history_seen pass.old) self.old.site ≡ true → MayTakeAll (scenario_seen pass.old) (history_seen pass.old) self.old.site inputs }
         requires takes { is_up_at (history_seen pass.old) self.old.site ≡ true → AreFirstTo (scenario_seen pass.old) (history_seen pass.old) self.old.site inputs }
+        requires places { is_up_at (history_seen pass.old) self.old.site ≡ true → length inputs ≤ (note_of self.old.site (seen_by pass.old)).places }
 
-        // as of `input_by_turns`: each claim is followed by its step, or by the fall, which uses a place for each of its inputs
+        // as of `input_by_turns`, but that nothing is promised to the site behind it; where the site is down that stays
         ensures idle { IsIdle wire.now pass.new }
         ensures same { SameOwners pass.old pass.new }
         ensures played { IsPlayed (seen_by pass.new) }
         ensures seen { HasSeenMore pass.old pass.new }
         ensures scenario { (scenario_seen pass.new ≡ scenario_seen pass.old) × (most_of (seen_by pass.new) ≡ most_of (seen_by pass.old)) }
-        ensures promised { (note_of self.old.site (seen_by pass.new)).places ≡ (note_of self.old.site (seen_by pass.old)).places }
-        ensures room { (note_of self.old.site (seen_by pass.new)).room ≤ (note_of self.old.site (seen_by pass.old)).room }
+        ensures promised { is_up_at (history_seen pass.old) self.old.site ≡ true → note_of self.old.site (seen_by pass.new) ≡ nothing }
+        ensures kept { is_up_at (history_seen pass.old) self.old.site ≡ false → note_of self.old.site (seen_by pass.new) ≡ note_of self.old.site (seen_by pass.old) }
 
         // how it ended, and what the disk has of it
         ensures stands { NodeStands D.content D.image D.meters (scenario_seen pass.new) (history_seen pass.new) self.new }
         ensures site { self.new.site ≡ self.old.site }
         ensures ended { BatchEnded D.meters (scenario_seen pass.old) (history_seen pass.old) (history_seen pass.new) self.old.site inputs self.old.state self.new.state result }
         ensures down { (result ≡ Err input_fault.Down) ↔ (is_up_at (history_seen pass.old) self.old.site ≡ false) }
-        ensures full { result ≡ Err input_fault.HistoryFull → WasFull pass.old pass.new }
+        ensures never { result ≡ Err input_fault.HistoryFull → ⊥ }
         ensures meters { Keeps (D.meters (disk_of self.old.state)) (D.meters (disk_of self.new.state)) }
     {
         let (state, count) = (&mut self.state, &mut self.count);

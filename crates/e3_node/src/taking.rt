@@ -3,11 +3,11 @@ ghost use Rattle.std.specs.Prelude.{◌≡◌, ◌≤◌, ◌↔◌, true, false
 ghost use Rattle.e3_disk.specs.Meters.{Keeps};
 ghost use Rattle.e3_law_local.specs.Drafts.{MayTakeAll};
 ghost use Rattle.e3_law_local.specs.Least.{AreFirstTo};
-ghost use Rattle.e3_node.specs.Batched.{NeverFell};
+ghost use Rattle.e3_node.specs.Batched.{OnlyForMemory};
 ghost use Rattle.e3_node.specs.Batches.{BatchEnded};
 ghost use Rattle.e3_node.specs.Bodies.{AllReadBack};
 ghost use Rattle.e3_node.specs.Counting.{count_of};
-ghost use Rattle.e3_node.specs.Ending.{EndsIn, EndsWith, WasFull, answer_by};
+ghost use Rattle.e3_node.specs.Ending.{EndsIn, EndsWith, answer_by};
 ghost use Rattle.e3_node.specs.NodeStands.{IsIn, IsUp};
 ghost use Rattle.e3_node.specs.NodeView.{disk_of};
 ghost use Rattle.e3_node.specs.Turns.{HasTurned, history_seen, scenario_seen};
@@ -15,7 +15,7 @@ ghost use Rattle.e3_node.specs.declared.fault.InputFault.TheVariants as input_fa
 ghost use Rattle.e3_node.specs.declared.state.State.TheVariants as state;
 ghost use Rattle.e3_turn.specs.Passes.{IsIdle, Owns, seen_by};
 ghost use Rattle.e3_types.specs.declared.entries.Why.{Why as Whys};
-ghost use Rattle.e3_wire.specs.Marks.{last_owner};
+ghost use Rattle.e3_wire.specs.Marks.{last_owner, note_of, nothing};
 ghost use Rattle.e3_wire.specs.Wires.{IsPlayed};
 ghost use Rattle.e3_world.specs.Items.{is_up_at};
 ghost use Rattle.e3_world.specs.Packets.{is_calm, present_items};
@@ -86,16 +86,18 @@ fn step_all<R: Wait, D: Disk>(
     requires exists { number ≤ last_owner (seen_by pass.old) }
     requires up { IsUp D.content D.image D.meters (scenario_seen pass.old) (history_seen pass.old) number site.old log.old }
     requires restless { is_calm (present_items (scenario_seen pass.old) (history_seen pass.old)) ≡ false }
+    requires any { 1 ≤ length inputs }
     requires due { MayTakeAll (scenario_seen pass.old) (history_seen pass.old) number inputs }
     requires takes { AreFirstTo (scenario_seen pass.old) (history_seen pass.old) number inputs }
+    requires places { length inputs ≤ (note_of number (seen_by pass.old)).places }
     requires back { AllReadBack (scenario_seen pass.old) (history_seen pass.old) number }
     ensures counted { count.new ≡ count_of number (history_seen pass.new) }
-    ensures turned { HasTurned wire.now number pass.old pass.new }
+    ensures turned { HasTurned wire.now pass.old pass.new }
     ensures ended { EndsWith D.content D.image D.meters (scenario_seen pass.old) (history_seen pass.old) (history_seen pass.new) number inputs
         (state.Up site.old log.old) (state.Up site.new log.new) result.refused result.fell }
-    ensures refused { NeverFell result.refused }
+    ensures refused { OnlyForMemory result.refused }
     ensures never { result.refused ≡ Err input_fault.Down → ⊥ }
-    ensures full { result.refused ≡ Err input_fault.HistoryFull → WasFull pass.old pass.new }
+    ensures none { note_of number (seen_by pass.new) ≡ nothing }
 {
     legal_histories_mention_what_stands();
     begun_are_transactions();
@@ -152,15 +154,18 @@ fn step_or_not<R: Wait, D: Disk + Drop>(
     requires exists { number ≤ last_owner (seen_by pass.old) }
     requires stands { IsIn D.content D.image D.meters (scenario_seen pass.old) (history_seen pass.old) number state.old }
     requires restless { is_calm (present_items (scenario_seen pass.old) (history_seen pass.old)) ≡ false }
+    requires any { 1 ≤ length inputs }
     requires due { is_up_at (history_seen pass.old) number ≡ true → MayTakeAll (scenario_seen pass.old) (history_seen pass.old) number inputs }
     requires takes { is_up_at (history_seen pass.old) number ≡ true → AreFirstTo (scenario_seen pass.old) (history_seen pass.old) number inputs }
+    requires places { is_up_at (history_seen pass.old) number ≡ true → length inputs ≤ (note_of number (seen_by pass.old)).places }
     requires back { AllReadBack (scenario_seen pass.old) (history_seen pass.old) number }
     ensures counted { count.new ≡ count_of number (history_seen pass.new) }
-    ensures turned { HasTurned wire.now number pass.old pass.new }
+    ensures turned { HasTurned wire.now pass.old pass.new }
     ensures ended { EndsIn D.content D.image D.meters (scenario_seen pass.old) (history_seen pass.old) (history_seen pass.new) number inputs
         state.old state.new result.refused result.fell }
     ensures down { (result.refused ≡ Err input_fault.Down) ↔ (is_up_at (history_seen pass.old) number ≡ false) }
-    ensures full { result.refused ≡ Err input_fault.HistoryFull → WasFull pass.old pass.new }
+    ensures none { is_up_at (history_seen pass.old) number ≡ true → note_of number (seen_by pass.new) ≡ nothing }
+    ensures kept { is_up_at (history_seen pass.old) number ≡ false → note_of number (seen_by pass.new) ≡ note_of number (seen_by pass.old) }
 {
     match state {
         State::Down(_) => BatchEnd {
@@ -201,16 +206,20 @@ pub(crate) fn take_all<R: Wait, D: Disk + Drop>(
     requires exists { number ≤ last_owner (seen_by pass.old) }
     requires stands { IsIn D.content D.image D.meters (scenario_seen pass.old) (history_seen pass.old) number state.old }
     requires restless { is_calm (present_items (scenario_seen pass.old) (history_seen pass.old)) ≡ false }
+    requires any { 1 ≤ length inputs }
     requires due { is_up_at (history_seen pass.old) number ≡ true → MayTakeAll (scenario_seen pass.old) (history_seen pass.old) number inputs }
     requires takes { is_up_at (history_seen pass.old) number ≡ true → AreFirstTo (scenario_seen pass.old) (history_seen pass.old) number inputs }
+    requires places { is_up_at (history_seen pass.old) number ≡ true → length inputs ≤ (note_of number (seen_by pass.old)).places }
     requires back { AllReadBack (scenario_seen pass.old) (history_seen pass.old) number }
     ensures counted { count.new ≡ count_of number (history_seen pass.new) }
-    ensures turned { HasTurned wire.now number pass.old pass.new }
+    ensures turned { HasTurned wire.now pass.old pass.new }
     ensures stands { IsIn D.content D.image D.meters (scenario_seen pass.old) (history_seen pass.new) number state.new }
     ensures back { AllReadBack (scenario_seen pass.old) (history_seen pass.new) number }
     ensures ended { BatchEnded D.meters (scenario_seen pass.old) (history_seen pass.old) (history_seen pass.new) number inputs state.old state.new result }
     ensures down { (result ≡ Err input_fault.Down) ↔ (is_up_at (history_seen pass.old) number ≡ false) }
-    ensures full { result ≡ Err input_fault.HistoryFull → WasFull pass.old pass.new }
+    ensures never { result ≡ Err input_fault.HistoryFull → ⊥ }
+    ensures none { is_up_at (history_seen pass.old) number ≡ true → note_of number (seen_by pass.new) ≡ nothing }
+    ensures kept { is_up_at (history_seen pass.old) number ≡ false → note_of number (seen_by pass.new) ≡ note_of number (seen_by pass.old) }
     ensures keeps { Keeps (D.meters (disk_of state.old)) (D.meters (disk_of state.new)) }
 {
     let end = step_or_not(rt, alloc, wire, pass, number, state, count, inputs);

@@ -8,7 +8,8 @@ ghost use Rattle.e3_node.specs.Counting.{count_of};
 ghost use Rattle.e3_node.specs.Ends.{EndsAt, IsReason, Takes, calls_for};
 ghost use Rattle.e3_node.specs.NodeStands.{IsIn, IsUp};
 ghost use Rattle.e3_node.specs.NodeView.{disk_of, end_of};
-ghost use Rattle.e3_node.specs.Turns.{EndsSo, HasTurned, history_seen, scenario_seen};
+ghost use Rattle.e3_node.specs.Places.{HasGivenNoneBack};
+ghost use Rattle.e3_node.specs.Turns.{EndsSo, HasKeptPromises, history_seen, scenario_seen};
 ghost use Rattle.e3_node.specs.declared.fault.InputFault.TheVariants as input_fault;
 ghost use Rattle.e3_node.specs.declared.state.State.TheVariants as state;
 ghost use Rattle.e3_turn.specs.Passes.{IsIdle, Owns, seen_by};
@@ -89,7 +90,8 @@ fn step_by_turns<R: Wait, D: Disk>(
     requires takes { TakesLeast (scenario_seen pass.old) (history_seen pass.old) number input }
     requires back { AllReadBack (scenario_seen pass.old) (history_seen pass.old) number }
     ensures counted { count.new ≡ count_of number (history_seen pass.new) }
-    ensures turned { HasTurned wire.now number pass.old pass.new }
+    ensures turned { HasKeptPromises wire.now number pass.old pass.new }
+    ensures none_back { HasGivenNoneBack number (seen_by pass.old) (seen_by pass.new) }
     ensures ended { EndsSo D.content D.image D.meters (scenario_seen pass.old) (history_seen pass.old) (history_seen pass.new) number input
         (state.Up site.old log.old) (state.Up site.new log.new) result }
     ensures never { result ≡ Err input_fault.Down → ⊥ }
@@ -149,7 +151,8 @@ pub(crate) fn take_by_turns<R: Wait, D: Disk + Drop>(
     requires takes { is_up_at (history_seen pass.old) number ≡ true → TakesLeast (scenario_seen pass.old) (history_seen pass.old) number input }
     requires back { AllReadBack (scenario_seen pass.old) (history_seen pass.old) number }
     ensures counted { count.new ≡ count_of number (history_seen pass.new) }
-    ensures turned { HasTurned wire.now number pass.old pass.new }
+    ensures turned { HasKeptPromises wire.now number pass.old pass.new }
+    ensures none_back { HasGivenNoneBack number (seen_by pass.old) (seen_by pass.new) }
     ensures ended { EndsSo D.content D.image D.meters (scenario_seen pass.old) (history_seen pass.old) (history_seen pass.new) number input
         state.old state.new result }
     ensures down { (result ≡ Err input_fault.Down) ↔ (is_up_at (history_seen pass.old) number ≡ false) }

@@ -44,6 +44,7 @@ pub claimed_entries_stay : ClaimedEntriesStay
 claimed_entries_stay e outs [] since played foreign site exists calm may takes few = absurd (no_site e site exists)
 claimed_entries_stay e outs (mark.Entered x ∷ rest) since played foreign site exists calm may takes few = absurd (no_site e site exists)
 claimed_entries_stay e outs (mark.Place o n ∷ rest) since played foreign site exists calm may takes few = absurd (no_site e site exists)
+claimed_entries_stay e outs (mark.Freed o ∷ rest) since played foreign site exists calm may takes few = absurd (no_site e site exists)
 claimed_entries_stay e outs (mark.Start sc most ∷ rest) since played foreign site exists calm may takes few =
     claimed_entries_may_enter e outs (M ++ since) played site exists
     (let P : List Entry → Type 0 = λ k. Allows sc k e in

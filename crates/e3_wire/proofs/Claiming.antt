@@ -1,27 +1,27 @@
--- A place that is promised, and the opening value.
-use Rattle.std.proofs.Common.{◌≡◌, ◌+◌, ◌^◌, ◌<◌, ◌≤◌, ℕ, zero, suc, false, nat_le, List, [], ◌∷◌, ◌++◌, append-nil, length, replicate, set, ◌∙◌, ap, sym, subst, refl, arith, length-append}
+-- Places that are promised, and the opening value.
+use Rattle.std.proofs.Common.{◌≡◌, ◌==◌, ◌+◌, ◌*◌, ◌^◌, ◌<◌, ◌≤◌, ℕ, zero, suc, false, nat_le, List, [], ◌∷◌, ◌++◌, length, replicate, set, ◌∙◌, ap, sym, subst, refl, arith, fold, length-append}
 use Rattle.std.specs.Prelude.{slice_index_or}
 use Rattle.std.proofs.lemmas.Bool.{leb-false}
+use Rattle.std.proofs.lemmas.Grind.{fold-append}
+use Rattle.std.proofs.lemmas.List.{length-replicate}
 use Rattle.e3_types.specs.declared.entries.Entry.{Entry}
 use Rattle.e3_types.specs.declared.scenarios.Scenario.{Scenario}
 use Rattle.e3_world.specs.Given.{IsGiven}
-use Rattle.e3_world.specs.Legal.{IsLegal}
-use Rattle.e3_net.specs.Stands.{NetStands}
 use Rattle.e3_net.specs.Traffic.{Traffic, fresh}
 use Rattle.e3_net.proofs.Keeping.{fresh_stands}
+use Rattle.e3_wire.specs.Claims.{HasNoted, PlacesPromise}
 use Rattle.e3_wire.specs.declared.marks.Mark.{Mark}
 use Rattle.e3_wire.specs.declared.marks.Mark.TheVariants as mark
 use Rattle.e3_wire.specs.declared.marks.Note.{Note}
 use Rattle.e3_wire.specs.declared.marks.Stored.{Stored}
 use Rattle.e3_wire.specs.declared.marks.Stored.TheVariants as stored
 use Rattle.e3_turn.specs.Chronicles.{ExtendsByOthers}
-use Rattle.e3_wire.specs.Marks.{belongs, entries_of, last_owner, most_of, note_by, note_of, nothing, promised, rooms, total, used_of}
+use Rattle.e3_wire.specs.Marks.{belongs, entries_of, last_owner, most_of, note_by, note_of, nothing, places_for, promised, rooms, total, used_of}
 use Rattle.e3_wire.specs.Stores.{IsKept, count_stored, marks_from, marks_of}
-use Rattle.e3_wire.specs.Wires.{WireStands}
 use Rattle.e3_wire.proofs.Entering.{entries_stored}
-use Rattle.e3_wire.proofs.Foreign.{entries_append}
-use Rattle.e3_wire.proofs.Noting.{first_notes, noted, notes_claim}
-use Rattle.e3_wire.proofs.Sums.{changes, itself, one_of_all}
+use Rattle.e3_wire.proofs.Changing.{Changes, has_noted, kept_on}
+use Rattle.e3_wire.proofs.Noting.{first_notes, flip, note_push, noted}
+use Rattle.e3_wire.proofs.Sums.{itself, one_of_all}
 
 -- the history is as long as the marks say
 pub used_is : (sc : Scenario) (most : ℕ) (es : List Entry) (ms : List Stored) → length es ≡ count_stored ms →
@@ -55,6 +55,7 @@ owner_on last owners seen chronicle o grew low =
     by [] low = omega (arith, low)
     by (mark.Entered e ∷ rest) low = omega (arith, low)
     by (mark.Place p n ∷ rest) low = omega (arith, low)
+    by (mark.Freed p ∷ rest) low = omega (arith, low)
 
 none_promised : (n : ℕ) → total (λ o. 0) n ≡ 0
 none_promised zero = refl
@@ -85,25 +86,31 @@ marks_place es [] o n = refl
 marks_place [] (stored.Entered ∷ ms) o n = marks_place [] ms o n
 marks_place (x ∷ es) (stored.Entered ∷ ms) o n = ap (λ l. mark.Entered x ∷ l) (marks_place es ms o n)
 marks_place es (stored.Place p k ∷ ms) o n = ap (λ l. mark.Place p k ∷ l) (marks_place es ms o n)
+marks_place es (stored.Freed p ∷ ms) o n = ap (λ l. mark.Freed p ∷ l) (marks_place es ms o n)
 
 pub count_place : (ms : List Stored) (o n : ℕ) → count_stored (ms ++ stored.Place o n ∷ []) ≡ count_stored ms
 count_place [] o n = refl
 count_place (stored.Entered ∷ ms) o n = ap suc (count_place ms o n)
 count_place (stored.Place p k ∷ ms) o n = count_place ms o n
+count_place (stored.Freed p ∷ ms) o n = count_place ms o n
 
 pub marks_claimed : (sc : Scenario) (most : ℕ) (es : List Entry) (ms : List Stored) (o n : ℕ) →
     marks_from sc most es (ms ++ stored.Place o n ∷ []) ≡ marks_from sc most es ms ++ mark.Place o n ∷ []
 marks_claimed sc most es ms o n = ap (λ l. mark.Start sc most ∷ l) (marks_place es ms o n)
 
+-- what a promise of so many places and so much room makes of a note
+abbrev pub adds : ℕ → ℕ → Note → Note
+adds n outs w = record { places = w.places + n; room = w.room + outs }
+
 -- an owner's note is there, and small
-pub record CanBeNoted (notes : List Note) (o outs : ℕ) : Type 0 where
+pub record CanBeNoted (notes : List Note) (o n outs : ℕ) : Type 0 where
   pub note : o < length notes
-  pub places : (slice_index_or notes o nothing).places + 1 < 2 ^ 64
+  pub places : (slice_index_or notes o nothing).places + n < 2 ^ 64
   pub room : (slice_index_or notes o nothing).room + outs < 2 ^ 64
 
-pub can_be_noted : (sc : Scenario) (most : ℕ) (es : List Entry) (ms : List Stored) (net : Traffic) (notes : List Note) (places room spare hr sr nr o outs : ℕ) →
-    IsKept sc most es ms net notes places room spare hr sr nr → o ≤ length sc.weights → room + outs < 2 ^ 64 → CanBeNoted notes o outs
-can_be_noted sc most es ms net notes places room spare hr sr nr o outs was low few =
+pub can_be_noted : (sc : Scenario) (most : ℕ) (es : List Entry) (ms : List Stored) (net : Traffic) (notes : List Note) (places room spare hr sr nr o n outs : ℕ) →
+    IsKept sc most es ms net notes places room spare hr sr nr → o ≤ length sc.weights → n < 2 ^ 32 → room + outs < 2 ^ 64 → CanBeNoted notes o n outs
+can_be_noted sc most es ms net notes places room spare hr sr nr o n outs was low more few =
     let M : List Mark = marks_from sc most es ms in
     let is : slice_index_or notes o nothing ≡ note_of o M = was.notes_are.each o low in
     let one : (slice_index_or notes o nothing).places ≡ (note_of o M).places = ap (λ (w : Note). w.places) is in
@@ -115,76 +122,110 @@ can_be_noted sc most es ms net notes places room spare hr sr nr o outs was low f
     let r = was.room_is in
     record {
       note = noted (length sc.weights) o M notes low was.notes_are;
-      places = omega (arith, one, own_places, under, p);
+      places = omega (arith, one, own_places, under, p, more);
       room = omega (arith, two, own_room, few, r);
     }
 
--- what is shared stands with a place more
-place_keeps : (sc : Scenario) (most : ℕ) (rest : List Mark) (net : Traffic) (o outs : ℕ) → WireStands (mark.Start sc most ∷ rest) net → o ≤ length sc.weights →
-    used_of (mark.Start sc most ∷ rest) < most → WireStands ((mark.Start sc most ∷ rest) ++ mark.Place o outs ∷ []) net
-place_keeps sc most rest net o outs was low few = record {
-  played = record { given = was.played.given; legal = subst (IsLegal sc) (sym same) was.played.legal; within = within };
-  net = subst (λ h. NetStands sc h net) (sym same) was.net;
+-- What is shared stands with promises of so many places and so much room to one owner more.
+pub promised_kept : (sc : Scenario) (most : ℕ) (es : List Entry) (ms new : List Stored) (net : Traffic) (notes : List Note) (places room spare hr sr nr spare2 hr2 sr2 nr2 o n outs room2 : ℕ)
+    (more : List Mark) → IsKept sc most es ms net notes places room spare hr sr nr → o ≤ length sc.weights → used_of (marks_from sc most es ms) + n ≤ most →
+    marks_from sc most es new ≡ marks_from sc most es ms ++ more → count_stored new ≡ count_stored ms → Changes o (adds n outs (note_of o (marks_from sc most es ms))) (marks_from sc most es ms) more →
+    room2 ≡ room + outs → places + n ≤ spare2 → spare2 ≤ hr2 → length new + (places + n) ≤ sr2 → room2 ≤ nr2 → net.sent + room2 < 2 ^ 64 →
+    IsKept sc most es new net (set notes o (adds n outs (slice_index_or notes o nothing))) (places + n) room2 spare2 hr2 sr2 nr2
+promised_kept sc most es ms new net notes places room spare hr sr nr spare2 hr2 sr2 nr2 o n outs room2 more was low few marks_are count is room_is for_entries spare_is for_marks for_packets counted =
+    let P : Note → Type 0 = λ v. IsKept sc most es new net (set notes o (adds n outs v)) (places + n) room2 spare2 hr2 sr2 nr2 in
+    subst P (sym (was.notes_are.each o low))
+    (kept_on sc most es ms new net notes places room spare hr sr nr o (adds n outs w) more (places + n) room2 spare2 hr2 sr2 nr2 was low marks_are count is (omega (arith, few)) (omega arith)
+    (omega (arith, room_is)) for_entries spare_is for_marks for_packets counted)
+  where
+    w : Note
+    w = note_of o (marks_from sc most es ms)
+
+-- one place, with room for so many packets
+place_changes : (o outs : ℕ) (marks : List Mark) → Changes o (adds 1 outs (note_of o marks)) marks (mark.Place o outs ∷ [])
+place_changes o outs marks = record {
+  enters = refl;
+  own = note_push o marks (mark.Place o outs) ∙ (rw (itself o) (let one : suc w.places ≡ w.places + 1 = omega arith in ap (λ (k : ℕ). let v : Note = record { places = k; room = w.room + outs } in v) one));
+  others = λ u apart. note_push u marks (mark.Place o outs) ∙ (rw (flip u o apart) refl);
 }
   where
-    M : List Mark
-    M = mark.Start sc most ∷ rest
-
-    m : Mark
-    m = mark.Place o outs
-
-    last : ℕ
-    last = length sc.weights
-
-    same : entries_of (M ++ m ∷ []) ≡ entries_of M
-    same = entries_append M (m ∷ []) ∙ append-nil (entries_of M)
-
-    within : length (entries_of (M ++ m ∷ [])) + promised last (M ++ m ∷ []) ≤ most
-    within =
-        let moved = changes (λ w. w.places) M m o last low (λ u w apart. rw apart refl) in
-        let more : (note_by o (note_of o M) m).places ≡ suc ((note_of o M).places) = rw (itself o) refl in
-        let long : length (entries_of (M ++ m ∷ [])) ≡ length (entries_of M) = ap length same in
-        let under : length (entries_of M) + promised last M < most = few in
-        omega (arith, moved, more, long, under)
+    w : Note
+    w = note_of o marks
 
 pub claimed : (sc : Scenario) (most : ℕ) (es : List Entry) (ms : List Stored) (net : Traffic) (notes : List Note) (places room spare hr sr nr spare2 hr2 sr2 nr2 o outs room2 : ℕ) →
     IsKept sc most es ms net notes places room spare hr sr nr → o ≤ length sc.weights → used_of (marks_from sc most es ms) < most → room2 ≡ room + outs → places + 1 ≤ spare2 → spare2 ≤ hr2 →
-    length ms + (places + 2) ≤ sr2 → room2 ≤ nr2 → net.sent + room2 < 2 ^ 64 → IsKept sc most es (ms ++ stored.Place o outs ∷ []) net
-    (set notes o (record { places = (slice_index_or notes o nothing).places + 1; room = (slice_index_or notes o nothing).room + outs })) (places + 1) room2 spare2 hr2 sr2 nr2
-claimed sc most es ms net notes places room spare hr sr nr spare2 hr2 sr2 nr2 o outs room2 was low few more for_entries spare_is for_marks for_packets counted = record {
-  stands = subst (λ (l : List Mark). WireStands l net) (sym marks_are) (place_keeps sc most (marks_of es ms) net o outs was.stands low few);
-  few = was.few;
-  whole = was.whole ∙ sym (count_place ms o outs);
-  notes_are = rw marks_are (notes_claim last o outs M notes _ low was.notes_are refl);
-  places_are = rw marks_are (let f = was.places_are in omega (arith, moved_places, places_more, f));
-  room_is = rw marks_are (let f = was.room_is in omega (arith, moved_room, room_more, f, more));
-  for_entries = for_entries;
-  spare_is = spare_is;
-  for_marks = (let long = length-append ms (stored.Place o outs ∷ []) in omega (arith, long, for_marks));
-  for_packets = for_packets;
-  counted = counted;
+    length ms + (places + 2) ≤ sr2 → room2 ≤ nr2 → net.sent + room2 < 2 ^ 64 →
+    IsKept sc most es (ms ++ stored.Place o outs ∷ []) net (set notes o (adds 1 outs (slice_index_or notes o nothing))) (places + 1) room2 spare2 hr2 sr2 nr2
+claimed sc most es ms net notes places room spare hr sr nr spare2 hr2 sr2 nr2 o outs room2 was low few more for_entries spare_is for_marks for_packets counted =
+    promised_kept sc most es ms (ms ++ stored.Place o outs ∷ []) net notes places room spare hr sr nr spare2 hr2 sr2 nr2 o 1 outs room2 (mark.Place o outs ∷ []) was low (omega (arith, few))
+    (marks_claimed sc most es ms o outs) (count_place ms o outs) (place_changes o outs (marks_from sc most es ms)) more for_entries spare_is
+    (let long = length-append ms (stored.Place o outs ∷ []) in omega (arith, long, for_marks)) for_packets counted
+
+-- so many places without room
+places_enter : (o n : ℕ) → entries_of (places_for o n) ≡ []
+places_enter o zero = refl
+places_enter o (suc n) = places_enter o n
+
+places_own : (o n : ℕ) (w : Note) → fold (note_by o) w (places_for o n) ≡ adds n 0 w
+places_own o zero w =
+    let none : w.places ≡ w.places + 0 = omega arith in
+    let same : w.room ≡ w.room + 0 = omega arith in
+    ap (λ (k : ℕ). let v : Note = record { places = k; room = w.room } in v) none ∙ ap (λ (k : ℕ). let v : Note = record { places = w.places + 0; room = k } in v) same
+places_own o (suc n) w =
+    let one : note_by o w (mark.Place o 0) ≡ record { places = suc w.places; room = w.room + 0 } = rw (itself o) refl in
+    let more : suc w.places + n ≡ w.places + suc n = omega arith in
+    let same : (w.room + 0) + 0 ≡ w.room + 0 = omega arith in
+    ap (λ (v : Note). fold (note_by o) v (places_for o n)) one ∙ places_own o n (record { places = suc w.places; room = w.room + 0 })
+    ∙ ap (λ (k : ℕ). let v : Note = record { places = k; room = (w.room + 0) + 0 } in v) more ∙ ap (λ (k : ℕ). let v : Note = record { places = w.places + suc n; room = k } in v) same
+
+places_other : (u o n : ℕ) (w : Note) → (o == u) ≡ false → fold (note_by u) w (places_for o n) ≡ w
+places_other u o zero w apart = refl
+places_other u o (suc n) w apart =
+    let one : note_by u w (mark.Place o 0) ≡ w = rw apart refl in
+    ap (λ (v : Note). fold (note_by u) v (places_for o n)) one ∙ places_other u o n w apart
+
+places_change : (o n : ℕ) (marks : List Mark) → Changes o (adds n 0 (note_of o marks)) marks (places_for o n)
+places_change o n marks = record {
+  enters = places_enter o n;
+  own = fold-append (note_by o) nothing marks (places_for o n) ∙ places_own o n (note_of o marks);
+  others = λ u apart. fold-append (note_by u) nothing marks (places_for o n) ∙ places_other u o n (note_of u marks) (flip u o apart);
 }
-  where
-    M : List Mark
-    M = marks_from sc most es ms
 
-    m : Mark
-    m = mark.Place o outs
+stored_places : (es : List Entry) (o n : ℕ) → marks_of es (replicate n (stored.Place o 0)) ≡ places_for o n
+stored_places es o zero = refl
+stored_places es o (suc n) = ap (λ l. mark.Place o 0 ∷ l) (stored_places es o n)
 
-    last : ℕ
-    last = length sc.weights
+marks_places : (es : List Entry) (ms : List Stored) (o n : ℕ) → marks_of es (ms ++ replicate n (stored.Place o 0)) ≡ marks_of es ms ++ places_for o n
+marks_places es [] o n = stored_places es o n
+marks_places [] (stored.Entered ∷ ms) o n = marks_places [] ms o n
+marks_places (x ∷ es) (stored.Entered ∷ ms) o n = ap (λ l. mark.Entered x ∷ l) (marks_places es ms o n)
+marks_places es (stored.Place p k ∷ ms) o n = ap (λ l. mark.Place p k ∷ l) (marks_places es ms o n)
+marks_places es (stored.Freed p ∷ ms) o n = ap (λ l. mark.Freed p ∷ l) (marks_places es ms o n)
 
-    marks_are : marks_from sc most es (ms ++ stored.Place o outs ∷ []) ≡ M ++ m ∷ []
-    marks_are = marks_claimed sc most es ms o outs
+count_places : (ms : List Stored) (o n : ℕ) → count_stored (ms ++ replicate n (stored.Place o 0)) ≡ count_stored ms
+count_places [] o zero = refl
+count_places [] o (suc n) = count_places [] o n
+count_places (stored.Entered ∷ ms) o n = ap suc (count_places ms o n)
+count_places (stored.Place p k ∷ ms) o n = count_places ms o n
+count_places (stored.Freed p ∷ ms) o n = count_places ms o n
 
-    moved_places : promised last (M ++ m ∷ []) + (note_of o M).places ≡ promised last M + (note_by o (note_of o M) m).places
-    moved_places = changes (λ w. w.places) M m o last low (λ u w apart. rw apart refl)
+pub marks_placed : (sc : Scenario) (most : ℕ) (es : List Entry) (ms : List Stored) (o n : ℕ) →
+    marks_from sc most es (ms ++ replicate n (stored.Place o 0)) ≡ marks_from sc most es ms ++ places_for o n
+marks_placed sc most es ms o n = ap (λ l. mark.Start sc most ∷ l) (marks_places es ms o n)
 
-    places_more : (note_by o (note_of o M) m).places ≡ suc ((note_of o M).places)
-    places_more = rw (itself o) refl
+pub placed : (sc : Scenario) (most : ℕ) (es : List Entry) (ms : List Stored) (net : Traffic) (notes : List Note) (places room spare hr sr nr spare2 hr2 sr2 o n : ℕ) →
+    IsKept sc most es ms net notes places room spare hr sr nr → o ≤ length sc.weights → used_of (marks_from sc most es ms) + n ≤ most → places + n ≤ spare2 → spare2 ≤ hr2 →
+    length ms + (places + 2 * n) ≤ sr2 →
+    IsKept sc most es (ms ++ replicate n (stored.Place o 0)) net (set notes o (adds n 0 (slice_index_or notes o nothing))) (places + n) room spare2 hr2 sr2 nr
+placed sc most es ms net notes places room spare hr sr nr spare2 hr2 sr2 o n was low few for_entries spare_is for_marks =
+    promised_kept sc most es ms (ms ++ replicate n (stored.Place o 0)) net notes places room spare hr sr nr spare2 hr2 sr2 nr o n 0 room (places_for o n) was low few
+    (marks_placed sc most es ms o n) (count_places ms o n) (places_change o n (marks_from sc most es ms)) (omega arith) for_entries spare_is
+    (let long = length-append ms (replicate n (stored.Place o 0)) in let all = length-replicate n (stored.Place o 0) in omega (arith, long, all, for_marks)) was.for_packets was.counted
 
-    moved_room : rooms last (M ++ m ∷ []) + (note_of o M).room ≡ rooms last M + (note_by o (note_of o M) m).room
-    moved_room = changes (λ w. w.room) M m o last low (λ u w apart. rw apart refl)
-
-    room_more : (note_by o (note_of o M) m).room ≡ (note_of o M).room + outs
-    room_more = rw (itself o) refl
+pub places_promise : PlacesPromise
+places_promise o n marks played low few =
+    let w : Note = note_of o marks in
+    let noted = has_noted o (adds n 0 w) marks (places_for o n) played low (places_change o n marks) (omega (arith, few)) in
+    let same : w.room + 0 ≡ w.room = omega arith in
+    let P : ℕ → Type 0 = λ k. HasNoted o (record { places = w.places + n; room = k }) marks (marks ++ places_for o n) in
+    (subst P same noted.0, (let used = noted.1 in omega (arith, used)))

@@ -34,6 +34,7 @@ pub count_entry : (ms : List Stored) → count_stored (ms ++ stored.Entered ∷ 
 count_entry [] = refl
 count_entry (stored.Entered ∷ ms) = ap suc (count_entry ms)
 count_entry (stored.Place o n ∷ ms) = count_entry ms
+count_entry (stored.Freed o ∷ ms) = count_entry ms
 
 pub marks_entry : (es : List Entry) (ms : List Stored) (e : Entry) → length es ≡ count_stored ms →
     marks_of (es ++ e ∷ []) (ms ++ stored.Entered ∷ []) ≡ marks_of es ms ++ mark.Entered e ∷ []
@@ -42,6 +43,7 @@ marks_entry (x ∷ es) [] e whole = absurd (omega arith)
 marks_entry [] (stored.Entered ∷ ms) e whole = absurd (omega arith)
 marks_entry (x ∷ es) (stored.Entered ∷ ms) e whole = ap (λ l. mark.Entered x ∷ l) (marks_entry es ms e (omega arith))
 marks_entry es (stored.Place o n ∷ ms) e whole = ap (λ l. mark.Place o n ∷ l) (marks_entry es ms e whole)
+marks_entry es (stored.Freed o ∷ ms) e whole = ap (λ l. mark.Freed o ∷ l) (marks_entry es ms e whole)
 
 pub entries_stored : (es : List Entry) (ms : List Stored) → length es ≡ count_stored ms → entries_of (marks_of es ms) ≡ es
 entries_stored [] [] whole = refl
@@ -49,6 +51,7 @@ entries_stored (x ∷ es) [] whole = absurd (omega arith)
 entries_stored [] (stored.Entered ∷ ms) whole = absurd (omega arith)
 entries_stored (x ∷ es) (stored.Entered ∷ ms) whole = ap (λ l. x ∷ l) (entries_stored es ms (omega arith))
 entries_stored es (stored.Place o n ∷ ms) whole = entries_stored es ms whole
+entries_stored es (stored.Freed o ∷ ms) whole = entries_stored es ms whole
 
 sent_all : (net : Traffic) (outs : List Packet) → (sends_all net outs).sent ≡ net.sent + length outs
 sent_all net [] = omega arith

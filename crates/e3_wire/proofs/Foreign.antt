@@ -38,6 +38,7 @@ others : (sc : Scenario) (before : List Entry) (site : ℕ) (more : List Mark) �
 others sc before site [] legal foreign = tt
 others sc before site (mark.Start keys most ∷ more) legal foreign = others sc before site more legal foreign.1
 others sc before site (mark.Place owner outs ∷ more) legal foreign = others sc before site more legal foreign.1
+others sc before site (mark.Freed owner ∷ more) legal foreign = others sc before site more legal foreign.1
 others sc before site (mark.Entered e ∷ more) legal foreign =
     let both = neither (e.owner == 0) (e.owner == site) foreign.0 in
     (both.1, no_line sc before e.owner e.act both.0 legal.0, others sc (before ++ e ∷ []) site more legal.1 foreign.1)
@@ -55,6 +56,7 @@ one_stays : (o : ℕ) (w : Note) (m : Mark) → belongs m o ≡ false → note_b
 one_stays o w (mark.Start sc most) is = absurd cc
 one_stays o w (mark.Entered e) is = rw ((neither (e.owner == 0) (e.owner == o) is).1) refl
 one_stays o w (mark.Place owner outs) is = rw is refl
+one_stays o w (mark.Freed owner) is = rw is refl
 
 stay : (o : ℕ) (w : Note) (more : List Mark) → AreForeign o more → fold (note_by o) w more ≡ w
 stay o w [] foreign = refl
@@ -68,4 +70,5 @@ pub foreign_of_sites : (site : ℕ) (more : List Mark) → AreForeign site more 
 foreign_of_sites site [] foreign = tt
 foreign_of_sites site (mark.Start keys most ∷ more) foreign = foreign_of_sites site more foreign.1
 foreign_of_sites site (mark.Place owner outs ∷ more) foreign = foreign_of_sites site more foreign.1
+foreign_of_sites site (mark.Freed owner ∷ more) foreign = foreign_of_sites site more foreign.1
 foreign_of_sites site (mark.Entered e ∷ more) foreign = ((neither (e.owner == 0) (e.owner == site) foreign.0).0, foreign_of_sites site more foreign.1)

@@ -3,12 +3,15 @@ pub mod Noting
 pub mod Foreign
 pub mod Takes
 pub mod Entering
+pub mod Changing
 pub mod Claiming
 pub mod Driving
+pub mod Shown
 pub mod Staying
 pub mod Puts
 pub mod Notes
 pub mod Planned
 pub mod Spending
 pub mod Withdrawing
+pub mod Freeing
 pub mod Claimed

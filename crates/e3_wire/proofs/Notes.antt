@@ -16,6 +16,7 @@ scenario_stays (mark.Start sc most ∷ seen) since played = (refl, refl)
 scenario_stays [] since played = absurd (let some = played.given.some in omega (arith, some))
 scenario_stays (mark.Entered e ∷ seen) since played = absurd (let some = played.given.some in omega (arith, some))
 scenario_stays (mark.Place o outs ∷ seen) since played = absurd (let some = played.given.some in omega (arith, some))
+scenario_stays (mark.Freed o ∷ seen) since played = absurd (let some = played.given.some in omega (arith, some))
 
 pub claim_promises : ClaimPromises
 claim_promises o outs marks = note_push o marks (mark.Place o outs) ∙ (rw (itself o) refl)

@@ -26,7 +26,7 @@ pub noted : (last o : ℕ) (marks : List Mark) (notes : List Note) → o ≤ las
 noted last o marks notes low was = let c = was.count in omega (arith, c, low)
 
 -- one of them is set
-sets : (last o : ℕ) (marks now : List Mark) (notes : List Note) (w : Note) → o ≤ last → AreNotes last marks notes → note_of o now ≡ w →
+pub sets : (last o : ℕ) (marks now : List Mark) (notes : List Note) (w : Note) → o ≤ last → AreNotes last marks notes → note_of o now ≡ w →
     ((u : ℕ) → (u == o) ≡ false → note_of u now ≡ note_of u marks) → AreNotes last now (set notes o w)
 sets last o marks now notes w low was here others = record {
   count = length-set notes o w ∙ was.count;
@@ -41,7 +41,7 @@ sets last o marks now notes w low was here others = record {
     by u less false is =
         get_or-set_other notes o u w nothing (λ e. (let yes : (u == o) ≡ true = eq-eqb u o e in let no : true ≡ false = sym yes ∙ is in cc)) ∙ was.each u less ∙ sym (others u is)
 
-flip : (a b : ℕ) → (a == b) ≡ false → (b == a) ≡ false
+pub flip : (a b : ℕ) → (a == b) ≡ false → (b == a) ≡ false
 flip a b apart = by (b == a) refl
   where
     by : (c : Bool) → (b == a) ≡ c → (b == a) ≡ false
@@ -63,19 +63,7 @@ notes_still last marks m notes was still = record {
   each = λ u low. was.each u low ∙ sym (note_push u marks m ∙ still u (note_of u marks));
 }
 
--- a promise of one place more, and one that is taken back
-pub notes_claim : (last o outs : ℕ) (marks : List Mark) (notes : List Note) (w : Note) → o ≤ last → AreNotes last marks notes →
-    w ≡ record { places = (slice_index_or notes o nothing).places + 1; room = (slice_index_or notes o nothing).room + outs } →
-    AreNotes last (marks ++ mark.Place o outs ∷ []) (set notes o w)
-notes_claim last o outs marks notes w low was is =
-    notes_push last o marks (mark.Place o outs) notes w low was (is ∙ sym here) (λ u v apart. rw apart refl)
-  where
-    v : Note
-    v = slice_index_or notes o nothing
-
-    here : note_by o v (mark.Place o outs) ≡ record { places = v.places + 1; room = v.room + outs }
-    here = rw (itself o) (let one : suc v.places ≡ v.places + 1 = omega arith in ap (λ (n : ℕ). let x : Note = record { places = n; room = v.room + outs } in x) one)
-
+-- a promise of one place that is taken back
 pub notes_withdrawn : (last o outs : ℕ) (marks : List Mark) (notes : List Note) (w : Note) → o ≤ last → AreNotes last (marks ++ mark.Place o outs ∷ []) notes →
     w ≡ record { places = (slice_index_or notes o nothing).places - 1; room = (slice_index_or notes o nothing).room - outs } → AreNotes last marks (set notes o w)
 notes_withdrawn last o outs marks notes w low was is =

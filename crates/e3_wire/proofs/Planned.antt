@@ -32,6 +32,7 @@ pub claimed_drafts_may_enter : ClaimedDraftsMayEnter
 claimed_drafts_may_enter e outs [] since played foreign low calm may takes few = absurd (no_owner _ _ e may low)
 claimed_drafts_may_enter e outs (mark.Entered x ∷ rest) since played foreign low calm may takes few = absurd (no_owner _ _ e may low)
 claimed_drafts_may_enter e outs (mark.Place o n ∷ rest) since played foreign low calm may takes few = absurd (no_owner _ _ e may low)
+claimed_drafts_may_enter e outs (mark.Freed o ∷ rest) since played foreign low calm may takes few = absurd (no_owner _ _ e may low)
 claimed_drafts_may_enter e outs (mark.Start sc most ∷ rest) since played foreign low calm may takes few = record {
   site = some_owner sc h e.owner e.act may;
   exists = low;

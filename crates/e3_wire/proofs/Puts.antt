@@ -1,16 +1,17 @@
 -- The marks that a pass puts are its own.
-use Rattle.std.proofs.Common.{◌≡◌, ◌==◌, ◌||◌, ◌≤◌, ◌<◌, ℕ, true, false, List, [], ◌∷◌, ◌++◌, append-nil, ◌∙◌, ap, sym, subst, refl, arith, eqb-true, eq-eqb}
-use Rattle.std.specs.Prelude.{All, Result, Ok, Err, OnOk, OnErr}
+use Rattle.std.proofs.Common.{◌≡◌, ◌==◌, ◌||◌, ◌≤◌, ◌<◌, ℕ, zero, suc, true, false, List, [], ◌∷◌, ◌++◌, append-nil, length, ◌∙◌, ap, sym, subst, refl, arith, eqb-true, eq-eqb}
+use Rattle.std.specs.Prelude.{All, Result, Ok, Err, IfOk, OnOk, OnErr}
 use Rattle.std.proofs.lemmas.Bool.{ne_eqb}
 use Rattle.std.proofs.lemmas.List.Elements.{All-nil, All-cons, All-head, All-tail}
 use Rattle.e3_turn.specs.Chronicles.{count_of, ExtendsByOwners, IsOwn}
 use Rattle.e3_types.specs.declared.entries.Entry.{Entry}
+use Rattle.e3_types.specs.declared.messages.Packet.{Packet}
 use Rattle.e3_law_local.specs.Others.{numbered_on}
 use Rattle.e3_wire.specs.Claims.{DriversMayPut, HasOwner}
 use Rattle.e3_wire.specs.declared.fault.WireFault.{WireFault}
 use Rattle.e3_wire.specs.declared.marks.Mark.{Mark}
 use Rattle.e3_wire.specs.declared.marks.Mark.TheVariants as mark
-use Rattle.e3_wire.specs.Marks.{belongs, entries_of}
+use Rattle.e3_wire.specs.Marks.{belongs, entries_of, places_for}
 
 -- one mark more, or none
 one_more : (last : ℕ) (owners : List ℕ) (seen chronicle now : List Mark) (m : Mark) → IsOwn belongs last owners m → seen ≡ chronicle → now ≡ chronicle ++ m ∷ [] →
@@ -50,6 +51,21 @@ pub grew_place : (last : ℕ) (owners : List ℕ) (seen chronicle now : List Mar
     OnOk r (now ≡ chronicle ++ mark.Place o outs ∷ []) → OnErr r (now ≡ chronicle) → ExtendsByOwners belongs last owners seen now
 grew_place last owners seen chronicle now o outs (Ok a) has same ok err = one_more last owners seen chronicle now (mark.Place o outs) (own_place last owners o outs has) same ok
 grew_place last owners seen chronicle now o outs (Err f) has same ok err = no_more last owners seen chronicle now same err
+
+own_places : (last : ℕ) (owners : List ℕ) (o n : ℕ) → 0 < count_of o owners → All (IsOwn belongs last owners) (places_for o n)
+own_places last owners o zero has = All-nil (IsOwn belongs last owners)
+own_places last owners o (suc n) has = All-cons (IsOwn belongs last owners) (mark.Place o 0) (places_for o n) (own_place last owners o 0 has) (own_places last owners o n has)
+
+pub own_freed : (last : ℕ) (owners : List ℕ) (o : ℕ) → 0 < count_of o owners → IsOwn belongs last owners (mark.Freed o)
+own_freed last owners o has =
+    ((o, has, eq-eqb o o refl), λ p low b. (let P : ℕ → Type 0 = λ k. 0 < count_of k owners in subst P (eqb-true o p b) has))
+
+-- places for packets that are shown, or none
+pub grew_places : (last : ℕ) (owners : List ℕ) (seen chronicle now : List Mark) (o : ℕ) (first : List Packet) (r : Result (List Packet) WireFault) → 0 < count_of o owners → seen ≡ chronicle →
+    IfOk r (λ few. (few ≡ first) × (now ≡ chronicle ++ places_for o (length few))) → OnErr r (now ≡ chronicle) → ExtendsByOwners belongs last owners seen now
+grew_places last owners seen chronicle now o first (Ok few) has same ok err =
+    (places_for o (length few), ok.1 ∙ ap (λ l. l ++ places_for o (length few)) (sym same), own_places last owners o (length few) has)
+grew_places last owners seen chronicle now o first (Err f) has same ok err = no_more last owners seen chronicle now same err
 
 -- the driver's own
 own_all : (last : ℕ) (owners : List ℕ) (m : Mark) → ((o : ℕ) → o ≤ last → 0 < count_of o owners) → HasOwner last m → IsOwn belongs last owners m

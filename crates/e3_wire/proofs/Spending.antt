@@ -60,6 +60,7 @@ last_is [] o n y = refl
 last_is (mark.Start sc most ∷ rest) o n y = refl
 last_is (mark.Entered x ∷ rest) o n y = refl
 last_is (mark.Place p k ∷ rest) o n y = refl
+last_is (mark.Freed p ∷ rest) o n y = refl
 
 -- a claim and its entry leave nothing promised
 pub claims_are_used : ClaimsAreUsed

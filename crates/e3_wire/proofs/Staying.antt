@@ -59,6 +59,7 @@ enter_on : (seen since : List Mark) (e : Entry) → IsPlayed (seen ++ since) →
 enter_on [] since e played foreign calm may = absurd (no_site e may.site may.exists)
 enter_on (mark.Entered x ∷ rest) since e played foreign calm may = absurd (no_site e may.site may.exists)
 enter_on (mark.Place o n ∷ rest) since e played foreign calm may = absurd (no_site e may.site may.exists)
+enter_on (mark.Freed o ∷ rest) since e played foreign calm may = absurd (no_site e may.site may.exists)
 enter_on (mark.Start sc most ∷ rest) since e played foreign calm may = record {
   site = may.site;
   exists = may.exists;

@@ -33,6 +33,8 @@ none_stored [] (stored.Entered ∷ ms) whole none = absurd (omega (arith, whole)
 none_stored (e ∷ es) (stored.Entered ∷ ms) whole none = absurd cc
 none_stored [] (stored.Place o n ∷ ms) whole none = absurd cc
 none_stored (e ∷ es) (stored.Place o n ∷ ms) whole none = absurd cc
+none_stored [] (stored.Freed o ∷ ms) whole none = absurd cc
+none_stored (e ∷ es) (stored.Freed o ∷ ms) whole none = absurd cc
 
 pub ends : (es : List Entry) (ms : List Stored) (o n : ℕ) (rest : List Mark) → length es ≡ count_stored ms → marks_of es ms ≡ rest ++ mark.Place o n ∷ [] → Ends es ms o n rest
 ends [] [] o n [] whole is = absurd cc
@@ -65,6 +67,15 @@ ends es (stored.Place p k ∷ ms) o n (r ∷ rest) whole is =
       front = stored.Place p k ∷ more.front;
       stored = ap (λ (l : List Stored). stored.Place p k ∷ l) more.stored;
       marks = ap (λ (x : Mark). x ∷ rest) head ∙ ap (λ (l : List Mark). mark.Place p k ∷ l) more.marks;
+    }
+ends es (stored.Freed p ∷ ms) o n [] whole is = absurd cc
+ends es (stored.Freed p ∷ ms) o n (r ∷ rest) whole is =
+    let more = ends es ms o n rest whole cc in
+    let head : r ≡ mark.Freed p = cc in
+    record {
+      front = stored.Freed p ∷ more.front;
+      stored = ap (λ (l : List Stored). stored.Freed p ∷ l) more.stored;
+      marks = ap (λ (x : Mark). x ∷ rest) head ∙ ap (λ (l : List Mark). mark.Freed p ∷ l) more.marks;
     }
 
 -- what is left of them, without the last

@@ -1,5 +1,5 @@
 -- What a pass may conclude of marks.
-use Rattle.std.specs.Prelude.{◌≡◌, ◌≤◌, ◌+◌, ◌++◌, ◌∷◌, [], ℕ, suc, true, false, List, length, All}
+use Rattle.std.specs.Prelude.{◌≡◌, ◌≢◌, ◌≤◌, ◌+◌, ◌++◌, ◌∷◌, [], ℕ, suc, true, false, List, length, All}
 use Rattle.e3_law_local.specs.Drafts.{MayEnter, MayTake}
 use Rattle.e3_law_local.specs.Least.{AreOfSites}
 use Rattle.e3_law_local.specs.Others.{Allows, AreOthers, numbered_on}
@@ -9,7 +9,8 @@ use Rattle.e3_types.specs.declared.entries.Input.{Input}
 use Rattle.e3_types.specs.declared.scenarios.Scenario.{Scenario}
 use Rattle.e3_wire.specs.declared.marks.Mark.{Mark}
 use Rattle.e3_wire.specs.declared.marks.Mark.TheVariants as mark
-use Rattle.e3_wire.specs.Marks.{AreForeign, NothingIsPromised, UsesAll, belongs, entries_of, last_owner, most_of, note_of, scenario_of, used_by, used_of}
+use Rattle.e3_wire.specs.declared.marks.Note.{Note}
+use Rattle.e3_wire.specs.Marks.{AreForeign, NothingIsPromised, UsesAll, belongs, entries_of, last_owner, most_of, note_of, nothing, places_for, scenario_of, used_by, used_of}
 use Rattle.e3_wire.specs.Wires.{IsPlayed, MayEnterBehind, TakesLeast, TakesInTurn}
 use Rattle.e3_world.specs.Items.{inputs_of}
 use Rattle.e3_world.specs.Legal.{IsDue, IsLegal}
@@ -55,6 +56,26 @@ ClaimPromises = (o outs : ℕ) (marks : List Mark) →
 -- an entry uses what it uses of its owner's
 abbrev pub EntryUses : Type 0
 EntryUses = (e : Entry) (marks : List Mark) → note_of e.owner (marks ++ mark.Entered e ∷ []) ≡ used_by (note_of e.owner marks) e.act
+
+-- The second marks differ from the first in what is promised to this owner alone, and stand as those did.
+pub record HasNoted (o : ℕ) (note : Note) (before now : List Mark) : Type 0 where
+  pub own : note_of o now ≡ note
+  pub others : (u : ℕ) → u ≢ o → note_of u now ≡ note_of u before
+  pub entries : entries_of now ≡ entries_of before
+  pub scenario : scenario_of now ≡ scenario_of before
+  pub most : most_of now ≡ most_of before
+  pub played : IsPlayed now
+
+-- Promises of a place without room add to the owner's places, and to what is used.
+abbrev pub PlacesPromise : Type 0
+PlacesPromise = (o n : ℕ) (marks : List Mark) → IsPlayed marks → o ≤ last_owner marks → used_of marks + n ≤ most_of marks →
+    HasNoted o (record { places = (note_of o marks).places + n; room = (note_of o marks).room }) marks (marks ++ places_for o n)
+    × (used_of (marks ++ places_for o n) ≡ used_of marks + n)
+
+-- What is freed leaves nothing promised to the owner, and its places are used no more.
+abbrev pub FreedLeaves : Type 0
+FreedLeaves = (o : ℕ) (marks : List Mark) → IsPlayed marks → o ≤ last_owner marks →
+    HasNoted o nothing marks (marks ++ mark.Freed o ∷ []) × (used_of (marks ++ mark.Freed o ∷ []) + (note_of o marks).places ≡ used_of marks)
 
 -- where nothing is promised to any owner, only entries count
 abbrev pub NothingPromised : Type 0

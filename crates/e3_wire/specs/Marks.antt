@@ -1,5 +1,5 @@
 -- What marks say: the scenario, the entries, and what is promised to each owner.
-use Rattle.std.specs.Prelude.{◌≡◌, ◌≤◌, ◌==◌, ◌||◌, ◌+◌, ◌-◌, ◌∷◌, [], if◌then◌else◌, ℕ, zero, suc, Bool, true, false, List, length, fold}
+use Rattle.std.specs.Prelude.{◌≡◌, ◌≤◌, ◌==◌, ◌||◌, ◌+◌, ◌-◌, ◌∷◌, [], if◌then◌else◌, ℕ, zero, suc, Bool, true, false, List, length, fold, replicate}
 use Rattle.std.specs.List.{flat_map}
 use Rattle.e3_types.specs.declared.entries.Act.{Act}
 use Rattle.e3_types.specs.declared.entries.Act.TheVariants.{Step, Fall, Drop, Parts, Line}
@@ -14,6 +14,7 @@ abbrev pub belongs : Mark → ℕ → Bool
 belongs (mark.Start sc most) o = true
 belongs (mark.Entered e) o = e.owner == 0 || e.owner == o
 belongs (mark.Place owner outs) o = owner == o
+belongs (mark.Freed owner) o = owner == o
 
 -- none of these marks belongs to the owner
 abbrev pub AreForeign : ℕ → List Mark → Type 0
@@ -65,6 +66,7 @@ abbrev pub note_by : ℕ → Note → Mark → Note
 note_by o w (mark.Start sc most) = w
 note_by o w (mark.Entered e) = if e.owner == o then used_by w e.act else w
 note_by o w (mark.Place owner outs) = if owner == o then record { places = suc w.places; room = w.room + outs } else w
+note_by o w (mark.Freed owner) = if owner == o then nothing else w
 
 -- what is promised to an owner behind these marks
 abbrev pub note_of : ℕ → List Mark → Note
@@ -86,6 +88,10 @@ rooms last marks = total (λ o. (note_of o marks).room) last
 -- how many entries and promised places there are
 abbrev pub used_of : List Mark → ℕ
 used_of marks = length (entries_of marks) + promised (last_owner marks) marks
+
+-- so many promises of a place without room
+abbrev pub places_for : ℕ → ℕ → List Mark
+places_for owner n = replicate n (mark.Place owner 0)
 
 -- neither a place nor room is promised to any owner
 abbrev pub NothingIsPromised : List Mark → Type 0

@@ -17,6 +17,7 @@ marks_of es [] = []
 marks_of [] (stored.Entered ∷ ms) = marks_of [] ms
 marks_of (e ∷ es) (stored.Entered ∷ ms) = mark.Entered e ∷ marks_of es ms
 marks_of es (stored.Place o n ∷ ms) = mark.Place o n ∷ marks_of es ms
+marks_of es (stored.Freed o ∷ ms) = mark.Freed o ∷ marks_of es ms
 
 -- all marks
 abbrev pub marks_from : Scenario → ℕ → List Entry → List Stored → List Mark
@@ -27,6 +28,7 @@ abbrev pub count_stored : List Stored → ℕ
 count_stored [] = 0
 count_stored (stored.Entered ∷ ms) = suc (count_stored ms)
 count_stored (stored.Place o n ∷ ms) = count_stored ms
+count_stored (stored.Freed o ∷ ms) = count_stored ms
 
 -- these are the notes of the owners up to the last
 pub record AreNotes (last : ℕ) (marks : List Mark) (notes : List Note) : Type 0 where

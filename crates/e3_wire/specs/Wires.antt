@@ -1,5 +1,5 @@
 -- What is always true of the marks, and what an entry asks of them.
-use Rattle.std.specs.Prelude.{◌≡◌, ◌≤◌, ◌∷◌, [], ◌++◌, ℕ, true, List, length, Option, Some, None}
+use Rattle.std.specs.Prelude.{◌≡◌, ◌≢◌, ◌≤◌, ◌-◌, ◌∷◌, [], ◌++◌, ℕ, true, List, length, min, take, Option, Some, None}
 use Rattle.e3_types.specs.declared.entries.Act.{Act}
 use Rattle.e3_types.specs.declared.entries.Act.TheVariants.{Drop, Step}
 use Rattle.e3_types.specs.declared.entries.Entry.{Entry}
@@ -7,7 +7,7 @@ use Rattle.e3_types.specs.declared.entries.Input.{Input}
 use Rattle.e3_types.specs.declared.entries.Input.TheVariants as input
 use Rattle.e3_types.specs.declared.messages.Packet.{Packet}
 use Rattle.e3_types.specs.declared.scenarios.Scenario.{Scenario}
-use Rattle.e3_law_local.specs.Least.{AreFirstTo, IsLeastTo}
+use Rattle.e3_law_local.specs.Least.{AreFirstTo, IsLeastTo, queue_to}
 use Rattle.e3_law_local.specs.Others.{Allows}
 use Rattle.e3_net.specs.Stands.{NetStands}
 use Rattle.e3_net.specs.Traffic.{Traffic}
@@ -56,6 +56,18 @@ pub record MayEnterBehind (marks : List Mark) (e : Entry) : Type 0 where
 pub record EndsInPromise (owner outs : ℕ) (before marks : List Mark) : Type 0 where
   pub exists : owner ≤ last_owner before
   pub is : marks ≡ before ++ mark.Place owner outs ∷ []
+
+-- how many places are neither used nor promised
+abbrev pub places_left : List Mark → ℕ
+places_left marks = most_of marks - used_of marks
+
+-- the first pending packets to a site, so many at most, and no more than there are places left
+abbrev pub first_few : List Mark → ℕ → ℕ → List Packet
+first_few marks site most = take (min most (places_left marks)) (queue_to (scenario_of marks) (entries_of marks) site)
+
+-- some packet to the site is asked for and pending, and no place is left for it
+abbrev pub HasNoPlaceFor : List Mark → ℕ → ℕ → Type 0
+HasNoPlaceFor marks site most = (1 ≤ most) × (queue_to (scenario_of marks) (entries_of marks) site ≢ []) × (most_of marks ≤ used_of marks)
 
 -- in a recover step the first pending packet goes to this site
 abbrev pub IsInTurn : Scenario → List Entry → ℕ → Type 0

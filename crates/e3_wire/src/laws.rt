@@ -1,5 +1,5 @@
 // What a pass may conclude of marks.
-ghost use Rattle.e3_wire.specs.Claims.{AreOthersMarks, ClaimPromises, ClaimedDraftsMayEnter, ClaimedEntriesMayEnter, ClaimedEntriesStay, ClaimsAreUsed, DriversMayPut, EntriesFollow, EntriesPromiseNothing, EntryUses, GrowthAddsUp, LeaveASite, NothingPromised, ScenarioStays, TakenIsDue};
+ghost use Rattle.e3_wire.specs.Claims.{AreOthersMarks, ClaimPromises, ClaimedDraftsMayEnter, ClaimedEntriesMayEnter, ClaimedEntriesStay, ClaimsAreUsed, DriversMayPut, EntriesFollow, EntriesPromiseNothing, EntryUses, FreedLeaves, GrowthAddsUp, LeaveASite, NothingPromised, PlacesPromise, ScenarioStays, TakenIsDue};
 
 /// Marks that were put while a pass rested belong to none of its owners. For a site of its own they are entries of other
 /// sites, none of the driver's and no line, and they leave what is promised to it.
@@ -23,6 +23,13 @@ pub fn marks_add_up()
     ensures entry { EntryUses }
     ensures none { NothingPromised }
     ensures growth { GrowthAddsUp }
+{}
+
+/// Promises of a place without room add to what is promised to their owner, and to what is used. What is freed leaves nothing
+/// promised to the owner, and its places are used no more. Either changes nothing else.
+pub fn places_are_noted()
+    ensures promised { PlacesPromise }
+    ensures freed { FreedLeaves }
 {}
 
 /// Where nothing is promised, neither a place nor room, nothing is behind an entry of the driver, or behind a claim and the

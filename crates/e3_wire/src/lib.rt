@@ -15,7 +15,7 @@ mod wire;
 pub use fault::WireFault;
 pub use laws::{
     claimed_drafts_may_enter, claimed_entries_may_enter, claims_are_used, drivers_may_put_marks,
-    marks_add_up, marks_of_others_leave_a_site,
+    marks_add_up, marks_of_others_leave_a_site, places_are_noted,
 };
 pub use marks::{Mark, Note, Stored};
 pub use shared::Shared;

@@ -10,6 +10,8 @@ pub enum Mark {
     Entered { entry: Entry },
     /// A place for one entry is promised to the owner, and room for so many packets of it.
     Place { owner: u32, outs: u32 },
+    /// All that is promised to the owner falls away, places and room.
+    Freed { owner: u32 },
 }
 
 /// What is promised to an owner: places for entries, and room for packets.
@@ -26,4 +28,6 @@ pub enum Stored {
     Entered,
     /// A place for one entry is promised to the owner, and room for so many packets of it.
     Place { owner: u32, outs: u32 },
+    /// All that is promised to the owner falls away, places and room.
+    Freed { owner: u32 },
 }

@@ -18,24 +18,24 @@ pub(crate) fn no_notes(alloc: Global, owners: usize) -> Result<Vec<Note>, NoMemo
     }
 }
 
-/// Promises the owner one place more, and room for so many packets more.
-pub(crate) fn note_claim(notes: &mut Vec<Note>, owner: u32, outs: u32)
+/// Promises the owner so many places more, and room for so many packets more.
+pub(crate) fn note_claim(notes: &mut Vec<Note>, owner: u32, places: u32, outs: u32)
     requires owner { owner < length notes.old.items }
-    requires places { (slice_index_or notes.old.items owner nothing).places + 1 < 2 ^ 64 }
+    requires places { (slice_index_or notes.old.items owner nothing).places + places < 2 ^ 64 }
     requires room { (slice_index_or notes.old.items owner nothing).room + outs < 2 ^ 64 }
     ensures { notes.new.items ≡ slice_set notes.old.items owner (record {
-      places = (slice_index_or notes.old.items owner nothing).places + 1;
+      places = (slice_index_or notes.old.items owner nothing).places + places;
       room = (slice_index_or notes.old.items owner nothing).room + outs;
     }) }
 {
     let was = notes[owner as usize];
     notes[owner as usize] = Note {
-        places: was.places + 1,
+        places: was.places + u64::from(places),
         room: was.room + u64::from(outs),
     };
 }
 
-/// Takes such a promise back.
+/// Takes the promise of one place and of room for so many packets back.
 pub(crate) fn unnote_claim(notes: &mut Vec<Note>, owner: u32, outs: u32)
     requires { owner < length notes.old.items }
     ensures { notes.new.items ≡ slice_set notes.old.items owner (record {
@@ -48,6 +48,17 @@ pub(crate) fn unnote_claim(notes: &mut Vec<Note>, owner: u32, outs: u32)
         places: was.places.saturating_sub(1),
         room: was.room.saturating_sub(u64::from(outs)),
     };
+}
+
+/// Takes all back that is promised to the owner, and answers how much that was.
+pub(crate) fn note_freed(notes: &mut Vec<Note>, owner: u32) -> Note
+    requires { owner < length notes.old.items }
+    ensures notes { notes.new.items ≡ slice_set notes.old.items owner nothing }
+    ensures was { result ≡ slice_index_or notes.old.items owner nothing }
+{
+    let was = notes[owner as usize];
+    notes[owner as usize] = NOTHING;
+    was
 }
 
 // What an act leaves of a note.

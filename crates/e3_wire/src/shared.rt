@@ -1,10 +1,9 @@
 // What is under the lock.
-ghost use Rattle.std.specs.Prelude.{◌≡◌, ◌++◌, [], ◌∷◌, ◌≤◌, ◌<◌, ◌≢◌, ◌==◌, ◌↔◌, ℕ, List as Items, false, nat_le, length, take, IfOk, OnOk, OnErr, Err, Some, None, find, slice_get, option_copied};
-ghost use Rattle.e3_law_local.specs.Least.{queue_to};
+ghost use Rattle.std.specs.Prelude.{◌≡◌, ◌++◌, [], ◌∷◌, ◌+◌, ◌≤◌, ◌<◌, ◌≢◌, ◌==◌, ◌↔◌, ℕ, List as Items, true, false, nat_le, length, IfOk, OnOk, OnErr, Err, Some, None, find, slice_get, option_copied};
 ghost use Rattle.e3_law_local.specs.Others.{numbered_on};
 ghost use Rattle.e3_types.specs.declared.entries.Act.TheVariants as act;
-ghost use Rattle.e3_wire.specs.Marks.{entries_of, last_owner, most_of, scenario_of, used_of};
-ghost use Rattle.e3_wire.specs.Wires.{EndsInPromise, IsDroppedFor, IsInTurn, IsPlayed, MayEnterBehind};
+ghost use Rattle.e3_wire.specs.Marks.{entries_of, last_owner, most_of, note_of, places_for, scenario_of, used_of};
+ghost use Rattle.e3_wire.specs.Wires.{EndsInPromise, HasNoPlaceFor, IsDroppedFor, IsInTurn, IsPlayed, MayEnterBehind, first_few, places_left};
 ghost use Rattle.e3_wire.specs.declared.fault.WireFault.TheVariants.{HistoryFull};
 ghost use Rattle.e3_wire.specs.declared.marks.Mark.{Mark as MarkValue};
 ghost use Rattle.e3_wire.specs.declared.marks.Mark.TheVariants as mark;
@@ -13,9 +12,9 @@ ghost use Rattle.e3_world.specs.Items.{is_up_at};
 ghost use Rattle.e3_world.specs.Legal.{IsLine, IsParts, first_pending};
 ghost use Rattle.e3_world.specs.Packets.{pending};
 
-use crate::growing::{make_room, push};
+use crate::growing::{make_room, push, push_places};
 use crate::passing::{is_calm_in, pass_on};
-use crate::promises::{no_notes, note_act, note_claim, unnote_claim};
+use crate::promises::{no_notes, note_act, note_claim, note_freed, unnote_claim};
 use crate::{Mark, Note, Stored, WireFault};
 use e3_net::Net;
 use e3_turn::Chronicle;
@@ -127,6 +126,14 @@ impl Shared {
         u64::from(self.most) <= self.history.len() + self.places
     }
 
+    // How many places are neither used nor promised.
+    fn places_left(&self) -> u32
+        ensures { result ≡ places_left self.now }
+    {
+        let used = self.history.len() + self.places;
+        u64::from(self.most).saturating_sub(used) as u32
+    }
+
     /// The pending packet of least number, if one is pending; it stays pending.
     pub fn first(&self) -> Option<Packet>
         ensures { result ≡ first_pending (scenario_of self.now) (entries_of self.now) }
@@ -145,14 +152,6 @@ impl Shared {
             Some(packet) => Some(packet.copy()),
             None => None,
         }
-    }
-
-    /// The pending packets to this site, so many at most, each as often as it has copies left, that of least number first;
-    /// they stay pending. Want of memory is the only error.
-    pub fn next_few(&self, alloc: Global, site: u32, most: u32) -> Result<List<Packet>, NoMemory>
-        ensures { IfOk result (λ few. few ≡ take most (queue_to (scenario_of self.now) (entries_of self.now) site)) }
-    {
-        self.net.next_few(alloc, site, most)
     }
 
     // Takes all memory for one more entry of an owner with so many packets, and promises it.
@@ -177,9 +176,10 @@ impl Shared {
             &mut self.spare,
             &mut self.stored,
             self.places,
+            1,
         )?;
         self.stored.push_reserved(Stored::Place { owner, outs });
-        note_claim(&mut self.notes, owner, outs);
+        note_claim(&mut self.notes, owner, 1, outs);
         self.places += 1;
         self.room = room;
         Ok(())
@@ -199,6 +199,69 @@ impl Shared {
         }
         self.promise(owner, outs)?;
         Ok(())
+    }
+
+    // Takes all memory for so many more entries of an owner without packets, and promises them.
+    fn promise_places(&mut self, owner: u32, count: u32) -> Result<(), NoMemory>
+        requires owner { owner ≤ last_owner self.old }
+        requires few { used_of self.old + count ≤ most_of self.old }
+        ensures ok { OnOk result (self.new ≡ self.old ++ places_for owner count) }
+        ensures kept { OnErr result (self.new ≡ self.old) }
+    {
+        make_room(
+            &mut self.history,
+            &mut self.spare,
+            &mut self.stored,
+            self.places,
+            count,
+        )?;
+        push_places(&mut self.stored, owner, count);
+        note_claim(&mut self.notes, owner, count, 0);
+        self.places += u64::from(count);
+        Ok(())
+    }
+
+    // Some packet to the site is asked for and pending, and no place is left for it.
+    fn has_no_place_for(&self, site: u32, most: u32) -> bool
+        ensures { (result ≡ true) ↔ HasNoPlaceFor self.now site most }
+    {
+        most > 0 && self.is_full() && self.next_to(site).is_some()
+    }
+
+    /// The first pending packets to this site, each as often as it has copies left, that of least number first: so many at
+    /// most, and no more than there are places left. They stay pending, and a place without room is promised to the site
+    /// for each of them. `HistoryFull`: exactly where some packet is asked for and pending, and no place is left.
+    pub fn next_few(
+        &mut self,
+        alloc: Global,
+        site: u32,
+        most: u32,
+    ) -> Result<List<Packet>, WireFault>
+        requires { site ≤ last_owner self.old }
+        ensures ok { IfOk result (λ few. (few ≡ first_few self.old site most) × (self.new ≡ self.old ++ places_for site (length few))) }
+        ensures kept { OnErr result (self.new ≡ self.old) }
+        ensures full { (result ≡ Err HistoryFull) ↔ HasNoPlaceFor self.old site most }
+    {
+        if self.has_no_place_for(site, most) {
+            return Err(WireFault::HistoryFull);
+        }
+        let most = most.min(self.places_left());
+        let few = self.net.next_few(alloc, site, most)?;
+        self.promise_places(site, few.len() as u32)?;
+        Ok(few)
+    }
+
+    /// Lets all fall away that is promised to the owner, places and room. It takes no memory: a promised place has room for
+    /// the mark.
+    pub fn free(&mut self, owner: u32)
+        requires exists { owner ≤ last_owner self.old }
+        requires place { 1 ≤ (note_of owner self.old).places }
+        ensures { self.new ≡ self.old ++ mark.Freed owner ∷ [] }
+    {
+        let was = note_freed(&mut self.notes, owner);
+        self.stored.push_reserved(Stored::Freed { owner });
+        self.places -= was.places;
+        self.room -= was.room;
     }
 
     /// Takes back the promise to the owner that is the last mark, with its room: nothing was entered for it. It takes no
@@ -249,6 +312,7 @@ impl Shared {
             &mut self.spare,
             &mut self.stored,
             self.places,
+            1,
         )?;
         let calm = is_calm_in(&self.scenario, number);
         self.net.calm(calm);
@@ -280,6 +344,7 @@ impl Shared {
             &mut self.spare,
             &mut self.stored,
             self.places,
+            1,
         )?;
         let kept = parted.copied(self.alloc)?;
         self.net.parts(kept);
@@ -317,6 +382,7 @@ impl Shared {
             &mut self.spare,
             &mut self.stored,
             self.places,
+            1,
         )?;
         let _taken = self.net.take(site);
         push(

@@ -1,18 +1,17 @@
 // The wire, in turns.
-ghost use Rattle.std.specs.Prelude.{◌≡◌, ◌<◌, ◌≤◌, ◌++◌, ◌∷◌, ◌==◌, ◌↔◌, [], ℕ, List as Items, length, nat_le, true, false, IfOk, OnOk, OnErr, Err, find, slice_get, take};
-ghost use Rattle.e3_law_local.specs.Least.{queue_to};
+ghost use Rattle.std.specs.Prelude.{◌≡◌, ◌<◌, ◌≤◌, ◌++◌, ◌∷◌, ◌↔◌, [], ℕ, List as Items, length, nat_le, true, IfOk, OnOk, OnErr, Err, slice_get};
 ghost use Rattle.e3_law_local.specs.Others.{numbered_on};
 ghost use Rattle.e3_turn.specs.Chronicles.{down_from, longer, without};
 ghost use Rattle.e3_turn.specs.Passes.{Agree, GrewByOthers, GrewByOwners, HasTurn, IsIdle, Owns, OwnsAll, SameOwners, last_of, owners_of, seen_by};
 ghost use Rattle.e3_types.specs.declared.entries.Act.TheVariants as act;
-ghost use Rattle.e3_wire.specs.Marks.{belongs, entries_of, last_owner, most_of, scenario_of, used_of};
-ghost use Rattle.e3_wire.specs.Wires.{IsDroppedFor, IsPlayed, MayEnterBehind};
+ghost use Rattle.e3_wire.specs.Marks.{belongs, entries_of, last_owner, most_of, places_for, scenario_of, used_of};
+ghost use Rattle.e3_wire.specs.Wires.{HasNoPlaceFor, IsPlayed, MayEnterBehind, first_few};
 ghost use Rattle.e3_wire.specs.declared.fault.WireFault.TheVariants.{HistoryFull};
 ghost use Rattle.e3_wire.specs.declared.marks.Mark.{Mark};
 ghost use Rattle.e3_wire.specs.declared.marks.Mark.TheVariants as mark;
 ghost use Rattle.e3_world.specs.Given.{IsGiven};
 ghost use Rattle.e3_world.specs.Legal.{first_pending};
-ghost use Rattle.e3_world.specs.Packets.{is_calm, pending, present_items};
+ghost use Rattle.e3_world.specs.Packets.{is_calm, present_items};
 
 use crate::{Shared, WireFault};
 use e3_turn::{Pass, TurnLock};
@@ -111,25 +110,10 @@ impl Wire {
         claimed
     }
 
-    /// The pending packet to this site of least number, if one is pending to it; it stays pending. It stays the least until
-    /// an entry of the site takes it, or the driver drops it.
-    pub fn next_to<R: Wait>(&self, rt: &R, pass: &mut WirePass, site: u32) -> Option<Packet>
-        requires { IsIdle self.now pass.old }
-        ensures idle { IsIdle self.now pass.new }
-        ensures same { SameOwners pass.old pass.new }
-        ensures grew { GrewByOthers belongs pass.old (seen_by pass.new) }
-        ensures found { result ≡ find (λ q. q.to == site) (pending (scenario_of (seen_by pass.new)) (entries_of (seen_by pass.new))) }
-        ensures played { IsPlayed (seen_by pass.new) }
-    {
-        let shared = self.take(rt, pass);
-        let found = shared.next_to(site);
-        self.put(pass, shared);
-        found
-    }
-
-    /// The pending packets to this site, so many at most, each as often as it has copies left, that of least number first;
-    /// they stay pending. They stay the first ones until entries of the site take them, or the driver drops them. Want of
-    /// memory is the only error.
+    /// The first pending packets to a site of the pass, each as often as it has copies left, that of least number first: so
+    /// many at most, and no more than there are places left. They stay pending, and the first ones until entries of the site
+    /// take them, or the driver drops them; and a place without room is promised to the site for each of them.
+    /// `HistoryFull`: exactly where some packet is asked for and pending, and no place is left.
     pub fn next_few<R: Wait>(
         &self,
         rt: &R,
@@ -137,15 +121,18 @@ impl Wire {
         pass: &mut WirePass,
         site: u32,
         most: u32,
-    ) -> Result<List<Packet>, NoMemory>
-        requires { IsIdle self.now pass.old }
+    ) -> Result<List<Packet>, WireFault>
+        requires idle { IsIdle self.now pass.old }
+        requires owns { Owns pass.old site }
+        requires exists { site ≤ last_owner (seen_by pass.old) }
         ensures idle { IsIdle self.now pass.new }
         ensures same { SameOwners pass.old pass.new }
-        ensures grew { GrewByOthers belongs pass.old (seen_by pass.new) }
-        ensures found { IfOk result (λ few. few ≡ take most (queue_to (scenario_of (seen_by pass.new)) (entries_of (seen_by pass.new)) site)) }
+        ensures found { (between : Items Mark) × GrewByOthers belongs pass.old between
+            × IfOk result (λ few. (few ≡ first_few between site most) × (seen_by pass.new ≡ between ++ places_for site (length few)))
+            × OnErr result (seen_by pass.new ≡ between) × ((result ≡ Err HistoryFull) ↔ HasNoPlaceFor between site most) × IsPlayed between }
         ensures played { IsPlayed (seen_by pass.new) }
     {
-        let shared = self.take(rt, pass);
+        let mut shared = self.take(rt, pass);
         let found = shared.next_few(alloc, site, most);
         self.put(pass, shared);
         found

@@ -1,18 +1,12 @@
-use Rattle.std.proofs.Common.{◌<◌, ◌≤◌, ◌∙◌, List, sym, ap, subst, arith, length}
-use Rattle.std.specs.Prelude.{OnOk, slice_index_or}
-use Rattle.e3_crew.specs.Crews.{AllEndedWell}
+use Rattle.std.proofs.Common.{◌<◌, ◌∙◌, List, sym, ap, subst, arith, length}
+use Rattle.std.specs.Prelude.{slice_index_or}
 use Rattle.e3_crew.specs.Workers.{AddedByOthers}
 use Rattle.e3_node.specs.NodeView.{NodeView}
-use Rattle.e3_node.specs.Turns.{scenario_seen}
-use Rattle.e3_play.specs.Delivered.{IsFullBefore, IsItemDue}
 use Rattle.e3_play.specs.declared.sites.RunFault.TheVariants.{HistoryFull}
 use Rattle.e3_turn.specs.Passes.{seen_by}
 use Rattle.e3_wire.specs.declared.marks.Mark.{Mark}
-use Rattle.e3_wire.specs.Marks.{entries_of, most_of, used_of}
 use Rattle.e3_wire.specs.Wires.{IsPlayed}
-use Rattle.e3_world.specs.Progress.{Delivering}
 use Rattle.e3_crew.proofs.Items.{can_take, items_done, items_full}
-use Rattle.e3_crew.proofs.Further.{crew_still, gone_still, well_told}
 use Rattle.e3_crew.proofs.Rounding.{crew_again, gone_on}
 use Rattle.e3_crew.proofs.rounds.item_round.Goals as goal
 
@@ -38,27 +32,8 @@ pub gather-requires-clause-each_played : goal.gather-requires-clause-each_played
 gather-requires-clause-each_played g c i d lt =
     (c.all_take.ensures i d (omega (arith, lt, c.all_take.auto.workers))).worked.knows.played
 
-pub told_items-requires-clause-all : goal.told_items-requires-clause-all
-told_items-requires-clause-all g c =
-    (crew_again g.D.Disk.content g.D.Disk.image g.D.Disk.meters c.others_leave_nodes.ensures.nodes c.args.wire.now c.args.pass.now c.gather.new.pass c.args.workers.now c.deal.new.workers c.all_take.new.workers c.gather.new.workers
-    (record {
-      was = c.requires.crew;
-      dealt_count = c.deal.auto.workers;
-      turned_count = c.all_take.auto.workers ∙ c.deal.auto.workers;
-      count = c.gather.auto.workers ∙ c.all_take.auto.workers ∙ c.deal.auto.workers;
-      dealt = c.deal.ensures.dealt;
-      worked = λ i d low. (c.all_take.ensures i d (omega (arith, low, c.deal.auto.workers))).worked;
-      same = λ i d low. c.gather.ensures.same i d (omega (arith, low, c.deal.auto.workers, c.all_take.auto.workers));
-      each = λ i d low. c.gather.ensures.each i d (omega (arith, low, c.deal.auto.workers, c.all_take.auto.workers));
-      driver = (let P : List Mark → Type 0 = λ l. AddedByOthers 0 l (seen_by c.gather.new.pass) in subst P c.deal.ensures.seen c.gather.ensures.driver);
-      idle = c.gather.ensures.idle;
-      owns = λ o low. c.gather.ensures.all o (omega (arith, low, c.deal.auto.workers, c.all_take.auto.workers));
-      last = c.gather.ensures.last ∙ c.deal.ensures.last;
-      played = c.gather.ensures.played;
-    })).all
-
 pub returns-clause-crew : goal.returns-clause-crew
-returns-clause-crew g c = crew_still g.D.Disk.content g.D.Disk.image g.D.Disk.meters c.args.wire.now c.gather.new.pass c.told_items.new.pass c.gather.new.workers (crew_again g.D.Disk.content g.D.Disk.image g.D.Disk.meters c.others_leave_nodes.ensures.nodes c.args.wire.now c.args.pass.now c.gather.new.pass c.args.workers.now c.deal.new.workers c.all_take.new.workers c.gather.new.workers
+returns-clause-crew g c = crew_again g.D.Disk.content g.D.Disk.image g.D.Disk.meters c.others_leave_nodes.ensures.nodes c.args.wire.now c.args.pass.now c.gather.new.pass c.args.workers.now c.deal.new.workers c.all_take.new.workers c.gather.new.workers
     (record {
       was = c.requires.crew;
       dealt_count = c.deal.auto.workers;
@@ -73,11 +48,10 @@ returns-clause-crew g c = crew_still g.D.Disk.content g.D.Disk.image g.D.Disk.me
       owns = λ o low. c.gather.ensures.all o (omega (arith, low, c.deal.auto.workers, c.all_take.auto.workers));
       last = c.gather.ensures.last ∙ c.deal.ensures.last;
       played = c.gather.ensures.played;
-    }))
-    c.told_items.ensures.idle c.told_items.ensures.same c.told_items.ensures.seen
+    })
 
 pub returns-clause-on : goal.returns-clause-on
-returns-clause-on g c = gone_still g.D.Disk.meters (seen_by c.args.pass.now) (seen_by c.gather.new.pass) (seen_by c.told_items.new.pass) c.args.workers.now c.gather.new.workers (gone_on g.D.Disk.content g.D.Disk.image g.D.Disk.meters c.others_leave_nodes.ensures.nodes c.args.wire.now c.args.pass.now c.gather.new.pass c.args.workers.now c.deal.new.workers c.all_take.new.workers c.gather.new.workers
+returns-clause-on g c = gone_on g.D.Disk.content g.D.Disk.image g.D.Disk.meters c.others_leave_nodes.ensures.nodes c.args.wire.now c.args.pass.now c.gather.new.pass c.args.workers.now c.deal.new.workers c.all_take.new.workers c.gather.new.workers
     (record {
       was = c.requires.crew;
       dealt_count = c.deal.auto.workers;
@@ -92,11 +66,10 @@ returns-clause-on g c = gone_still g.D.Disk.meters (seen_by c.args.pass.now) (se
       owns = λ o low. c.gather.ensures.all o (omega (arith, low, c.deal.auto.workers, c.all_take.auto.workers));
       last = c.gather.ensures.last ∙ c.deal.ensures.last;
       played = c.gather.ensures.played;
-    }))
-    c.told_items.ensures.seen
+    })
 
 pub returns-clause-done : goal.returns-clause-done
-returns-clause-done g c = subst (λ (l : List Mark). OnOk c.told_items.result (Delivering (scenario_seen c.args.pass.now) (entries_of l))) (sym c.told_items.ensures.seen) (items_done g.D.Disk.content g.D.Disk.image g.D.Disk.meters c.others_leave_nodes.ensures.nodes c.args.wire.now c.args.pass.now c.gather.new.pass c.args.workers.now c.deal.new.workers c.all_take.new.workers c.gather.new.workers
+returns-clause-done g c = items_done g.D.Disk.content g.D.Disk.image g.D.Disk.meters c.others_leave_nodes.ensures.nodes c.args.wire.now c.args.pass.now c.gather.new.pass c.args.workers.now c.deal.new.workers c.all_take.new.workers c.gather.new.workers
     (record {
       was = c.requires.crew;
       dealt_count = c.deal.auto.workers;
@@ -112,12 +85,10 @@ returns-clause-done g c = subst (λ (l : List Mark). OnOk c.told_items.result (D
       last = c.gather.ensures.last ∙ c.deal.ensures.last;
       played = c.gather.ensures.played;
     }) c.requires.begun c.requires.form c.requires.items
-    (λ i d low. c.all_take.ensures i d (omega (arith, low, c.deal.auto.workers))) c.told_items.result
-    (well_told (AllEndedWell c.gather.new.workers) c.told_items.result c.ended.result tt c.told_items.ensures.well c.ended.ensures.well))
+    (λ i d low. c.all_take.ensures i d (omega (arith, low, c.deal.auto.workers))) c.ended.result c.ended.ensures.well
 
 pub returns-clause-full : goal.returns-clause-full
-returns-clause-full g c = λ is.
-    subst (λ (l : List Mark). IsFullBefore IsItemDue (scenario_seen c.args.pass.now) (entries_of l) (most_of (seen_by c.args.pass.now))) (sym c.told_items.ensures.seen) (items_full g.D.Disk.content g.D.Disk.image g.D.Disk.meters c.others_leave_nodes.ensures.nodes c.args.wire.now c.args.pass.now c.gather.new.pass c.args.workers.now c.deal.new.workers c.all_take.new.workers c.gather.new.workers
+returns-clause-full g c = λ is. items_full g.D.Disk.content g.D.Disk.image g.D.Disk.meters c.others_leave_nodes.ensures.nodes c.args.wire.now c.args.pass.now c.gather.new.pass c.args.workers.now c.deal.new.workers c.all_take.new.workers c.gather.new.workers
     (record {
       was = c.requires.crew;
       dealt_count = c.deal.auto.workers;
@@ -133,5 +104,4 @@ returns-clause-full g c = λ is.
       last = c.gather.ensures.last ∙ c.deal.ensures.last;
       played = c.gather.ensures.played;
     }) c.requires.begun c.requires.form c.requires.items
-    (λ i d low. c.all_take.ensures i d (omega (arith, low, c.deal.auto.workers))) c.marks_add_up.ensures.none
-    (subst (λ (l : List Mark). most_of l ≤ used_of l) c.told_items.ensures.seen (c.told_items.ensures.full is).1) (c.ended.ensures.refused HistoryFull (c.told_items.ensures.full is).0))
+    (λ i d low. c.all_take.ensures i d (omega (arith, low, c.deal.auto.workers))) c.marks_add_up.ensures.none (c.ended.ensures.refused HistoryFull is)

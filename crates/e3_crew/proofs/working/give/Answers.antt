@@ -37,4 +37,5 @@ returns-clause-given g c =
       why = e.why;
       keeps = e.meters;
       takes = e.takes;
+      none_back = e.none_back;
     }))

@@ -1,6 +1,8 @@
 use Rattle.std.proofs.Common.{rules, ◌≡◌, ℕ, Err, Some, sym, subst, ap, ◌∙◌, add-one}
 use Rattle.std.specs.Prelude.{slice_get}
 use Rattle.e3_crew.specs.Workers.{ItemHadNoRoom}
+use Rattle.e3_crew.proofs.Places.{none_back_none, none_back_on}
+use Rattle.e3_node.specs.Places.{HasGivenNoneBack}
 use Rattle.e3_crew.proofs.Taking.{at_index, item_may, item_refused, next_given, plain_at}
 use Rattle.e3_crew.proofs.Turning.{worked_none, worked_on}
 use Rattle.e3_node.specs.Turns.{history_seen, scenario_seen}
@@ -12,6 +14,7 @@ pub loop-item-init : goal.loop-item-init
 loop-item-init g c = record {
   pass = c.requires.pass;
   worked = worked_none g.D.Disk.content g.D.Disk.image g.D.Disk.meters (seen_by c.args.pass.now) c.args.node.now c.requires.knows;
+  none_back = none_back_none c.args.node.now.site (seen_by c.args.pass.now);
   done = c.requires.begun;
 }
 
@@ -32,6 +35,9 @@ loop-item-preserved g c =
       pass = now.pass;
       worked = worked_on g.D.Disk.content g.D.Disk.image g.D.Disk.meters (seen_by c.args.pass.now) (seen_by c.loop-item.pass) (seen_by c.give.new.pass)
           c.args.node.now c.loop-item.node c.give.new.node was.worked now.given.worked;
+      none_back = (let P : ℕ → Type 0 = λ site. HasGivenNoneBack site (seen_by c.loop-item.pass) (seen_by c.give.new.pass) in
+          none_back_on c.args.node.now.site (seen_by c.args.pass.now) (seen_by c.loop-item.pass) (seen_by c.give.new.pass) was.none_back
+          (subst P was.worked.site now.given.none_back));
       done = next_given g.D.Disk.content g.D.Disk.image g.D.Disk.meters (seen_by c.loop-item.pass) (seen_by c.give.new.pass) c.loop-item.node c.give.new.node c.copy.result
           c.args.items.now at got (plain_at c.args.items.now at c.copy.result c.requires.plain got) was.worked.knows was.done now.given.worked now.given.taken;
     })
@@ -40,6 +46,13 @@ pub returns-in_err-give-clause-worked : goal.returns-in_err-give-clause-worked
 returns-in_err-give-clause-worked g c =
     worked_on g.D.Disk.content g.D.Disk.image g.D.Disk.meters (seen_by c.args.pass.now) (seen_by c.loop-item.pass) (seen_by c.give.new.pass)
     c.args.node.now c.loop-item.node c.give.new.node c.loop-item.invariant.worked c.give.ensures.given.worked
+
+pub returns-in_err-give-clause-none_back : goal.returns-in_err-give-clause-none_back
+returns-in_err-give-clause-none_back g c =
+    let was = c.loop-item.invariant in
+    let P : ℕ → Type 0 = λ site. HasGivenNoneBack site (seen_by c.loop-item.pass) (seen_by c.give.new.pass) in
+    none_back_on c.args.node.now.site (seen_by c.args.pass.now) (seen_by c.loop-item.pass) (seen_by c.give.new.pass) was.none_back
+    (subst P was.worked.site c.give.ensures.given.none_back)
 
 pub returns-in_err-give-clause-full : goal.returns-in_err-give-clause-full
 returns-in_err-give-clause-full g c = λ is.

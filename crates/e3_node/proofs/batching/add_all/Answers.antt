@@ -1,9 +1,10 @@
-use Rattle.std.proofs.Common.{◌<◌, ◌≤◌, ◌++◌, ◌∷◌, [], ℕ, List, length, take, ap, sym, subst, ◌∙◌, arith}
+use Rattle.std.proofs.Common.{◌≡◌, ◌<◌, ◌≤◌, ◌+◌, ◌++◌, ◌∷◌, [], ℕ, List, length, take, ap, sym, subst, ◌∙◌, arith}
 use Rattle.std.specs.Prelude.{IsErrAnd, OnErr, OnOk, Result, Ok, Err}
 use Rattle.std.proofs.lemmas.List.{take_more}
 use Rattle.e3_node.specs.Batched.{IsBatchAt}
 use Rattle.e3_node.specs.declared.fault.InputFault.{InputFault}
 use Rattle.e3_types.specs.declared.entries.Input.{Input}
+use Rattle.e3_wire.specs.Marks.{most_of, used_of}
 use Rattle.e3_node.proofs.Adding.{inputs_so_far}
 use Rattle.e3_node.proofs.batching.add_all.Goals as goal
 
@@ -19,9 +20,14 @@ if_err (Err fault) X is = is
 pub add_one-requires : goal.add_one-requires
 add_one-requires g c =
     let inv = c.loop-input.invariant in
+    let at : ℕ = c.loop-input.input-index in
+    let low : at < length c.args.inputs.now = c.loop-input-test.true in
+    let most : most_of c.loop-input.shared ≡ most_of c.args.shared.now = inv.most in
+    let used : used_of c.loop-input.shared ≤ used_of c.args.shared.now + at = inv.used in
+    let left : used_of c.args.shared.now + length c.args.inputs.now ≤ most_of c.args.shared.now = c.requires.1.1.1 in
     let P : List Input → Type 0 = λ l. IsBatchAt (record g.at { done = l }) c.loop-input.batch c.loop-input.site c.loop-input.shared in (
       subst (λ (n : ℕ). c.args.number ≤ n) (sym inv.owners) c.requires.0,
-      (c.requires.1.0, subst P (sym (inputs_so_far _ _ _ _ _ _ _ _ _ inv.added)) inv.added),
+      (c.requires.1.0, (subst P (sym (inputs_so_far _ _ _ _ _ _ _ _ _ inv.added)) inv.added, omega (arith, low, most, used, left))),
     )
 
 pub returns-in_err-add_one-clause-added : goal.returns-in_err-add_one-clause-added
@@ -44,6 +50,11 @@ loop-input-preserved g c =
     let P : List Input → Type 0 = λ l. IsBatchAt (record g.at { done = l }) c.add_one.new.batch c.add_one.new.site c.add_one.new.shared in
     record {
       owners = c.add_one.ensures.owners ∙ inv.owners;
+      most = c.add_one.ensures.most ∙ inv.most;
+      used =
+          (let more : used_of c.add_one.new.shared ≤ used_of c.loop-input.shared + 1 = c.add_one.ensures.used in
+          let before : used_of c.loop-input.shared ≤ used_of c.args.shared.now + at = inv.used in
+          omega (arith, more, before));
       added =
           subst P (ap (λ (l : List Input). l ++ c.input-item.result ∷ []) (inputs_so_far _ _ _ _ _ _ _ _ _ inv.added)
           ∙ sym (take_more c.args.inputs.now at c.input-item.result c.loop-input-test.true ∙ ap (λ (x : Input). take at c.args.inputs.now ++ x ∷ []) (sym c.input-item.is)))

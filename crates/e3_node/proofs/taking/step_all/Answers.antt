@@ -1,4 +1,4 @@
-use Rattle.std.proofs.Common.{◌≡◌, ◌++◌, ◌∷◌, [], ℕ, List, length, take, refl, sym, subst, ap, ◌∙◌, arith}
+use Rattle.std.proofs.Common.{◌≡◌, ◌++◌, ◌∷◌, [], ℕ, List, length, take, refl, sym, subst, ap, ◌∙◌}
 use Rattle.e3_law_local.specs.Others.{numbered_on}
 use Rattle.e3_log.specs.Stands.{Stands}
 use Rattle.e3_node.specs.Batched.{HasPlanned}
@@ -12,15 +12,14 @@ use Rattle.e3_types.specs.declared.entries.Act.TheVariants.{Fall}
 use Rattle.e3_types.specs.declared.entries.Entry.{Entry}
 use Rattle.e3_types.specs.declared.entries.Input.{Input}
 use Rattle.e3_types.specs.declared.records.Record.{Record}
-use Rattle.e3_wire.specs.Marks.{belongs, entries_of, note_of, scenario_of}
+use Rattle.e3_wire.specs.Marks.{belongs, entries_of, scenario_of}
 use Rattle.e3_wire.specs.Wires.{IsPlayed, MayEnterBehind}
 use Rattle.e3_wire.specs.declared.marks.Mark.{Mark}
 use Rattle.e3_wire.specs.declared.marks.Mark.TheVariants as mark
-use Rattle.e3_wire.specs.declared.marks.Note.{Note}
 use Rattle.e3_world.specs.Moves.{log_size}
 use Rattle.e3_node.proofs.Bundles.{plain_own}
 use Rattle.e3_node.proofs.Ended.{never_down}
-use Rattle.e3_node.proofs.Results.{alone, counted_fallen, counted_stepped, fall_end, fall_may, history_fallen, history_stepped, made, may_all_enter, note_fallen, note_stepped, steps_are, steps_end, turned, up_first, up_second, was_full}
+use Rattle.e3_node.proofs.Results.{alone, counted_fallen, counted_stepped, fall_end, fall_may, history_fallen, history_stepped, made, may_all_enter, note_fallen, note_stepped, steps_are, steps_end, turned, up_first, up_second}
 use Rattle.e3_node.proofs.Waiting.{still_owns}
 use Rattle.e3_node.proofs.taking.step_all.Goals as goal
 
@@ -172,11 +171,27 @@ returns-in-Ok-clause-turned g c =
     let r = c.enter_steps.new.pass in
     let ent = c.enter_steps.ensures.entered in
     let tail = marks_in (entries_of ent.0) b.steps.items in
-    let note = note_stepped p q n s0.inputs c.args.inputs answer b s1 plan c.requires.owns mine c.requires.played c.plan_all-refused.ensures.played c.requires.some c.requires.up.up c.requires.restless c.requires.due c.requires.takes ent.0 ent.1 ent.2 (seen_by r) ent.3 in
     turned p q n s0.inputs c.args.inputs answer b s1 plan c.requires.owns mine c.requires.played c.plan_all-refused.ensures.played c.requires.some c.requires.up.up c.requires.restless c.requires.due c.requires.takes ent.0 ent.1 ent.2
     c.args.wire.now r tail ent.3 c.enter_steps.ensures.idle c.plan_all-refused.ensures.same c.enter_steps.ensures.same c.enter_steps.ensures.played
-    (ap (λ (w : Note). w.places) note)
-    (let room : (note_of n (seen_by r)).room ≡ (note_of n (seen_by p)).room = ap (λ (w : Note). w.room) note in omega (arith, room))
+
+pub returns-in-Ok-clause-none : goal.returns-in-Ok-clause-none
+returns-in-Ok-clause-none g c =
+    let p = c.args.pass.now in
+    let q = c.plan_all-refused.new.pass in
+    let n = c.args.number in
+    let s0 = c.args.site.now in
+    let l0 = c.args.log.now in
+    let l1 = c.write.new.log in
+    let b = c.plan_all-refused.new.batch in
+    let s1 = c.plan_all-refused.new.site in
+    let answer = c.plan_all-refused.result in
+    let plan : HasPlanned p n s0.inputs c.args.inputs answer b s1 (seen_by q) =
+    subst (λ (l : List Input). HasPlanned p n s0.inputs l answer b s1 (seen_by q)) c.as_slice.ensures c.plan_all-refused.ensures.planned in
+    let mine = still_owns p q n c.plan_all-refused.ensures.same c.requires.owns in
+    let r = c.enter_steps.new.pass in
+    let ent = c.enter_steps.ensures.entered in
+    let tail = marks_in (entries_of ent.0) b.steps.items in
+    note_stepped p q n s0.inputs c.args.inputs answer b s1 plan c.requires.owns mine c.requires.played c.plan_all-refused.ensures.played c.requires.some c.requires.up.up c.requires.restless c.requires.due c.requires.takes ent.0 ent.1 ent.2 (seen_by r) ent.3
 
 pub returns-in-Ok-clause-ended : goal.returns-in-Ok-clause-ended
 returns-in-Ok-clause-ended g c =
@@ -206,25 +221,6 @@ returns-in-Ok-clause-ended g c =
 pub returns-in-Ok-clause-never : goal.returns-in-Ok-clause-never
 returns-in-Ok-clause-never g c =
     never_down c.plan_all-refused.result c.plan_all-refused.ensures.refused
-
-pub returns-in-Ok-clause-full : goal.returns-in-Ok-clause-full
-returns-in-Ok-clause-full g c =
-    let p = c.args.pass.now in
-    let q = c.plan_all-refused.new.pass in
-    let n = c.args.number in
-    let s0 = c.args.site.now in
-    let l0 = c.args.log.now in
-    let l1 = c.write.new.log in
-    let b = c.plan_all-refused.new.batch in
-    let s1 = c.plan_all-refused.new.site in
-    let answer = c.plan_all-refused.result in
-    let plan : HasPlanned p n s0.inputs c.args.inputs answer b s1 (seen_by q) =
-    subst (λ (l : List Input). HasPlanned p n s0.inputs l answer b s1 (seen_by q)) c.as_slice.ensures c.plan_all-refused.ensures.planned in
-    let mine = still_owns p q n c.plan_all-refused.ensures.same c.requires.owns in
-    let r = c.enter_steps.new.pass in
-    let ent = c.enter_steps.ensures.entered in
-    let tail = marks_in (entries_of ent.0) b.steps.items in
-    λ is. was_full p q n s0.inputs c.args.inputs answer b s1 plan c.requires.owns mine c.requires.played c.plan_all-refused.ensures.played c.requires.some c.requires.up.up c.requires.restless c.requires.due c.requires.takes ent.0 ent.1 ent.2 r tail ent.3 (c.plan_all-refused.ensures.full is)
 
 pub returns-in-Err-clause-counted : goal.returns-in-Err-clause-counted
 returns-in-Err-clause-counted g c =
@@ -276,10 +272,33 @@ returns-in-Err-clause-turned g c =
     × (seen_by r ≡ later ++ mark.Entered (numbered_on (entries_of later) y) ∷ []) × IsPlayed later in
     let ent : P e = subst P c.fall_of-fall.ensures c.commit_entry.ensures.entered in
     let tail : List Mark = mark.Entered (numbered_on (entries_of ent.0) e) ∷ [] in
-    let note = note_fallen p q n s0.inputs c.args.inputs answer b s1 plan c.requires.owns mine c.requires.played c.plan_all-refused.ensures.played c.requires.some c.requires.up.up c.requires.restless c.requires.due c.requires.takes ent.0 ent.1 ent.3 over why (seen_by r)
-    (c.first_of-over.ensures ∙ ap (λ (k : ℕ). take k c.args.inputs) (ap length c.as_slice-in-Err.ensures.value ∙ steps_are p q n s0.inputs c.args.inputs answer b s1 plan c.requires.owns mine c.requires.played c.plan_all-refused.ensures.played)) ent.2 in
     turned p q n s0.inputs c.args.inputs answer b s1 plan c.requires.owns mine c.requires.played c.plan_all-refused.ensures.played c.requires.some c.requires.up.up c.requires.restless c.requires.due c.requires.takes ent.0 ent.1 ent.3
-    c.args.wire.now r tail ent.2 c.commit_entry.ensures.idle c.plan_all-refused.ensures.same c.commit_entry.ensures.same c.commit_entry.ensures.played note.0 note.1
+    c.args.wire.now r tail ent.2 c.commit_entry.ensures.idle c.plan_all-refused.ensures.same c.commit_entry.ensures.same c.commit_entry.ensures.played
+
+pub returns-in-Err-clause-none : goal.returns-in-Err-clause-none
+returns-in-Err-clause-none g c =
+    let p = c.args.pass.now in
+    let q = c.plan_all-refused.new.pass in
+    let n = c.args.number in
+    let s0 = c.args.site.now in
+    let l0 = c.args.log.now in
+    let l1 = c.write.new.log in
+    let b = c.plan_all-refused.new.batch in
+    let s1 = c.plan_all-refused.new.site in
+    let answer = c.plan_all-refused.result in
+    let plan : HasPlanned p n s0.inputs c.args.inputs answer b s1 (seen_by q) =
+    subst (λ (l : List Input). HasPlanned p n s0.inputs l answer b s1 (seen_by q)) c.as_slice.ensures c.plan_all-refused.ensures.planned in
+    let mine = still_owns p q n c.plan_all-refused.ensures.same c.requires.owns in
+    let r = c.commit_entry.new.pass in
+    let over = c.first_of-over.result in
+    let why = c.in-Err.why in
+    let e : Entry = record { owner = n; act = Fall over b.records why } in
+    let P : Entry → Type 0 = λ y. (later : List Mark) × GrewByOthers belongs q later
+    × (seen_by r ≡ later ++ mark.Entered (numbered_on (entries_of later) y) ∷ []) × IsPlayed later in
+    let ent : P e = subst P c.fall_of-fall.ensures c.commit_entry.ensures.entered in
+    let tail : List Mark = mark.Entered (numbered_on (entries_of ent.0) e) ∷ [] in
+    note_fallen p q n s0.inputs c.args.inputs answer b s1 plan c.requires.owns mine c.requires.played c.plan_all-refused.ensures.played c.requires.some c.requires.up.up c.requires.restless c.requires.due c.requires.takes ent.0 ent.1 ent.3 over why (seen_by r)
+    (c.first_of-over.ensures ∙ ap (λ (k : ℕ). take k c.args.inputs) (ap length c.as_slice-in-Err.ensures.value ∙ steps_are p q n s0.inputs c.args.inputs answer b s1 plan c.requires.owns mine c.requires.played c.plan_all-refused.ensures.played)) ent.2
 
 pub returns-in-Err-clause-ended : goal.returns-in-Err-clause-ended
 returns-in-Err-clause-ended g c =
@@ -315,27 +334,3 @@ returns-in-Err-clause-ended g c =
 pub returns-in-Err-clause-never : goal.returns-in-Err-clause-never
 returns-in-Err-clause-never g c =
     never_down c.plan_all-refused.result c.plan_all-refused.ensures.refused
-
-pub returns-in-Err-clause-full : goal.returns-in-Err-clause-full
-returns-in-Err-clause-full g c =
-    let p = c.args.pass.now in
-    let q = c.plan_all-refused.new.pass in
-    let n = c.args.number in
-    let s0 = c.args.site.now in
-    let l0 = c.args.log.now in
-    let l1 = c.write.new.log in
-    let b = c.plan_all-refused.new.batch in
-    let s1 = c.plan_all-refused.new.site in
-    let answer = c.plan_all-refused.result in
-    let plan : HasPlanned p n s0.inputs c.args.inputs answer b s1 (seen_by q) =
-    subst (λ (l : List Input). HasPlanned p n s0.inputs l answer b s1 (seen_by q)) c.as_slice.ensures c.plan_all-refused.ensures.planned in
-    let mine = still_owns p q n c.plan_all-refused.ensures.same c.requires.owns in
-    let r = c.commit_entry.new.pass in
-    let over = c.first_of-over.result in
-    let why = c.in-Err.why in
-    let e : Entry = record { owner = n; act = Fall over b.records why } in
-    let P : Entry → Type 0 = λ y. (later : List Mark) × GrewByOthers belongs q later
-    × (seen_by r ≡ later ++ mark.Entered (numbered_on (entries_of later) y) ∷ []) × IsPlayed later in
-    let ent : P e = subst P c.fall_of-fall.ensures c.commit_entry.ensures.entered in
-    let tail : List Mark = mark.Entered (numbered_on (entries_of ent.0) e) ∷ [] in
-    λ is. was_full p q n s0.inputs c.args.inputs answer b s1 plan c.requires.owns mine c.requires.played c.plan_all-refused.ensures.played c.requires.some c.requires.up.up c.requires.restless c.requires.due c.requires.takes ent.0 ent.1 ent.3 r tail ent.2 (c.plan_all-refused.ensures.full is)

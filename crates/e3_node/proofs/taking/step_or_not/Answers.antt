@@ -6,11 +6,11 @@ use Rattle.e3_node.specs.declared.state.State.{State}
 use Rattle.e3_node.specs.declared.state.State.TheVariants.{Up}
 use Rattle.e3_node.proofs.Ended.{ends_up}
 use Rattle.e3_node.proofs.Metering.{keeps_same}
-use Rattle.e3_node.proofs.Waiting.{same_pass}
+use Rattle.e3_node.proofs.Waiting.{same_turn}
 use Rattle.e3_node.proofs.taking.step_or_not.Goals as goal
 
 pub returns-in-Down-clause-turned : goal.returns-in-Down-clause-turned
-returns-in-Down-clause-turned g c = same_pass c.args.wire.now c.args.pass.now c.args.number c.requires.idle c.requires.played
+returns-in-Down-clause-turned g c = same_turn c.args.wire.now c.args.pass.now c.requires.idle c.requires.played
 
 pub returns-in-Down-clause-ended : goal.returns-in-Down-clause-ended
 returns-in-Down-clause-ended g c = record {

@@ -4,7 +4,7 @@ use Rattle.e3_node.specs.Batches.{BatchEnded}
 use Rattle.e3_node.specs.Ending.{answer_by}
 use Rattle.e3_node.specs.Turns.{history_seen, scenario_seen}
 use Rattle.e3_node.specs.declared.fault.InputFault.{InputFault}
-use Rattle.e3_node.proofs.Ended.{ended_in, ended_told, refused_down, refused_full}
+use Rattle.e3_node.proofs.Ended.{ended_in, ended_told, refused_down}
 use Rattle.e3_node.proofs.taking.take_all.Goals as goal
 
 pub returns-clause-stands : goal.returns-clause-stands
@@ -62,9 +62,15 @@ returns-clause-down g c =
       λ none. c.answer_of.ensures ∙ ap (λ (x : Result (Unit {0}) InputFault). answer_by x e.fell) (c.step_or_not-end.ensures.down.1 none),
     )
 
-pub returns-clause-full : goal.returns-clause-full
-returns-clause-full g c =
+pub returns-clause-never : goal.returns-clause-never
+returns-clause-never g c =
     let e = c.step_or_not-end.result in
     let mid = c.step_or_not-end.new.state in
     let new = c.settle_batch.new.state in
-    λ is. c.step_or_not-end.ensures.full (refused_full e.refused e.fell (sym c.answer_of.ensures ∙ is))
+    let p = c.args.pass.now in
+    let sc = scenario_seen p in
+    let h = history_seen p in
+    let more = history_seen c.step_or_not-end.new.pass in
+    λ is. subst (λ (x : Result (Unit {0}) InputFault). BatchEnded g.D.Disk.meters sc h more c.args.number c.args.inputs c.args.state.now new x) (sym c.answer_of.ensures ∙ is)
+    (ended_told g.D.Disk.content g.D.Disk.image g.D.Disk.meters sc h more c.args.number c.args.inputs c.args.state.now mid new
+    e.refused e.fell c.step_or_not-end.ensures.ended c.settle_batch.ensures.fell c.settle_batch.ensures.kept)

@@ -25,6 +25,7 @@ use Rattle.e3_node.proofs.Steps.{draft_made, fall_allowed, fall_back, fall_enter
 use Rattle.e3_node.proofs.Counts.{count_fallen, count_meanwhile, count_stepped}
 use Rattle.e3_node.proofs.Owning.{made_own, own_meanwhile}
 use Rattle.e3_node.proofs.Turned.{refused}
+use Rattle.e3_node.proofs.Places.{entered_back, looked_back, still_back}
 use Rattle.e3_node.proofs.Sharing.{fall_used, step_used}
 use Rattle.e3_node.proofs.Waiting.{back_meanwhile, behind_of, entered_turn, entries, looked, made_meanwhile, may_commit, meanwhile, still_owns, still_restless, still_up, up_meanwhile}
 use Rattle.e3_node.proofs.turning.step_by_turns.Goals as goal
@@ -127,6 +128,19 @@ returns-in-Ok-clause-turned g c =
     (step_used _ c.args.input step.records step.outs step.told (sym fits))
     c.commit_entry.ensures.idle c.claim.ensures.same c.commit_entry.ensures.same
 
+pub returns-in-Ok-clause-none_back : goal.returns-in-Ok-clause-none_back
+returns-in-Ok-clause-none_back g c =
+    let p = c.args.pass.now in
+    let q = c.claim.new.pass in
+    let r = c.commit_entry.new.pass in
+    let cl = c.in_ok-claim.ensures.claimed in
+    let e : Entry = entry_of_plan c.args.number c.args.input c.apply.result in
+    let P : Entry → Type 0 = λ y. (later : List Mark) × GrewByOthers belongs q later × (seen_by r ≡ later ++ mark.Entered (numbered_on (entries_of later) y) ∷ []) × IsPlayed later in
+    let ent : P e = subst P c.step_of-step.ensures c.commit_entry.ensures.entered in
+    let owns = still_owns p q c.args.number c.claim.ensures.same c.requires.owns in
+    let b = behind_of p q r c.args.number _ e c.requires.owns owns cl.0 cl.1 cl.2 ent.0 ent.1 ent.2 cl.5 ent.3 in
+    entered_back c.args.number _ (seen_by p) (seen_by q) ent.0 (seen_by r) e b (omega arith)
+
 pub returns-in-Ok-clause-ended : goal.returns-in-Ok-clause-ended
 returns-in-Ok-clause-ended g c =
     let p = c.args.pass.now in
@@ -200,6 +214,24 @@ returns-in-Err-clause-turned g c =
     (fall_used c.room_for-room.result d.inputs records c.in-Err.why (ap length made.inputs_are))
     c.commit_entry-in-Err.ensures.idle c.claim.ensures.same c.commit_entry-in-Err.ensures.same
 
+pub returns-in-Err-clause-none_back : goal.returns-in-Err-clause-none_back
+returns-in-Err-clause-none_back g c =
+    let p = c.args.pass.now in
+    let q = c.claim.new.pass in
+    let r = c.commit_entry-in-Err.new.pass in
+    let sc = scenario_seen p in
+    let h = history_seen p in
+    let d = c.in_ok-draft.draft in
+    let made = draft_made sc h c.args.number c.args.site.now _ c.args.input d c.requires.up.stands c.in_ok-draft.ensures.ready in
+    let cl = c.in_ok-claim.ensures.claimed in
+    let e : Entry = record { owner = c.args.number; act = Fall d.inputs c.into_step-made.result.records c.in-Err.why } in
+    let P : Entry → Type 0 = λ y. (later : List Mark) × GrewByOthers belongs q later × (seen_by r ≡ later ++ mark.Entered (numbered_on (entries_of later) y) ∷ []) × IsPlayed later in
+    let ent : P e = subst P c.fall_of-fall.ensures c.commit_entry-in-Err.ensures.entered in
+    let owns = still_owns p q c.args.number c.claim.ensures.same c.requires.owns in
+    let b = behind_of p q r c.args.number _ e c.requires.owns owns cl.0 cl.1 cl.2 ent.0 ent.1 ent.2 cl.5 ent.3 in
+    let one : length d.inputs ≡ 1 = ap length made.inputs_are in
+    entered_back c.args.number _ (seen_by p) (seen_by q) ent.0 (seen_by r) e b (omega (arith, one))
+
 pub returns-in-Err-clause-ended : goal.returns-in-Err-clause-ended
 returns-in-Err-clause-ended g c =
     let p = c.args.pass.now in
@@ -251,6 +283,14 @@ returns-in_err-claim-clause-turned g c =
     let q = c.claim.new.pass in
     let cl = c.in_err-claim.ensures.claimed in
     (looked c.args.wire.now p q c.args.number cl.0 c.requires.owns c.requires.played c.claim.ensures.played c.claim.ensures.idle c.claim.ensures.same cl.1 cl.3).0
+
+pub returns-in_err-claim-clause-none_back : goal.returns-in_err-claim-clause-none_back
+returns-in_err-claim-clause-none_back g c =
+    let cl = c.in_err-claim.ensures.claimed in
+    looked_back c.args.pass.now c.claim.new.pass c.args.number cl.0 c.requires.owns cl.1 cl.3
+
+pub returns-in_err-draft-clause-none_back : goal.returns-in_err-draft-clause-none_back
+returns-in_err-draft-clause-none_back g c = still_back c.args.number (seen_by c.args.pass.now)
 
 pub returns-in_err-claim-clause-ended : goal.returns-in_err-claim-clause-ended
 returns-in_err-claim-clause-ended g c =

@@ -2,14 +2,19 @@ use Rattle.std.proofs.Common.{refl, subst, sym}
 use Rattle.e3_node.specs.Ends.{EndsAt, IsReason}
 use Rattle.e3_node.specs.NodeView.{disk_of, end_of}
 use Rattle.e3_node.specs.Turns.{history_seen, scenario_seen}
+use Rattle.e3_turn.specs.Passes.{seen_by}
 use Rattle.e3_node.specs.declared.state.State.{State}
 use Rattle.e3_world.specs.Legal.{made_by}
 use Rattle.e3_world.specs.Moves.{log_size, moves_of}
+use Rattle.e3_node.proofs.Places.{still_back}
 use Rattle.e3_node.proofs.Waiting.{no_while, same_pass}
 use Rattle.e3_node.proofs.turning.take_by_turns.Goals as goal
 
 pub returns-in-Down-clause-turned : goal.returns-in-Down-clause-turned
 returns-in-Down-clause-turned g c = same_pass c.args.wire.now c.args.pass.now c.args.number c.requires.idle c.requires.played
+
+pub returns-in-Down-clause-none_back : goal.returns-in-Down-clause-none_back
+returns-in-Down-clause-none_back g c = still_back c.args.number (seen_by c.args.pass.now)
 
 pub returns-in-Down-clause-ended : goal.returns-in-Down-clause-ended
 returns-in-Down-clause-ended g c =

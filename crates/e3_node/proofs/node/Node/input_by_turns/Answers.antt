@@ -37,7 +37,7 @@ returns-in-Err-clause-stands g c =
     let told = in_told g.D.Disk.content g.D.Disk.image g.D.Disk.meters sc h more c.self.inside.site c.args.input c.self.inside.state c.take_by_turns.new.state
     c.in-Err.fault c.settle.new.state c.in-Err.ensures.ended c.settle.ensures.fell c.settle.ensures.kept in
     node_with g.D.Disk.content g.D.Disk.image g.D.Disk.meters sc (scenario_seen q) h more c.args.self.now _ c.settle.new.state c.take_by_turns.new.count c.requires.standing
-    (keys_stay p q c.requires.played c.take_by_turns.ensures.turned.seen).0
+    (keys_stay p q c.requires.played c.take_by_turns.ensures.turned.turned.seen).0
     (subst (λ (x : NodeView _). IsIn g.D.Disk.content g.D.Disk.image g.D.Disk.meters sc more x.site c.settle.new.state) c.self.view_is told.0)
     (subst (λ (x : NodeView _). AllReadBack sc more x.site) c.self.view_is told.1)
     (subst (λ (x : NodeView _). c.take_by_turns.new.count ≡ count_of x.site more) c.self.view_is c.take_by_turns.ensures.counted)

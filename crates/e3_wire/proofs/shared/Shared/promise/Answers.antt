@@ -11,17 +11,17 @@ make_room-requires-clause-few c = few_are _ _ _ _ _ _ _ _ _ _ _ _ c.self.invaria
 pub note_claim-requires-clause-owner : goal.note_claim-requires-clause-owner
 note_claim-requires-clause-owner c =
     let owner = subst (λ (l : List Mark). c.args.owner ≤ last_owner l) (sym c.self.view_is) c.requires.owner in
-    (can_be_noted _ _ _ _ _ _ _ _ _ _ _ _ c.args.owner c.args.outs c.self.invariant owner (search rules)).note
+    (can_be_noted _ _ _ _ _ _ _ _ _ _ _ _ c.args.owner 1 c.args.outs c.self.invariant owner (omega arith) (search rules)).note
 
 pub note_claim-requires-clause-places : goal.note_claim-requires-clause-places
 note_claim-requires-clause-places c =
     let owner = subst (λ (l : List Mark). c.args.owner ≤ last_owner l) (sym c.self.view_is) c.requires.owner in
-    (can_be_noted _ _ _ _ _ _ _ _ _ _ _ _ c.args.owner c.args.outs c.self.invariant owner (search rules)).places
+    (can_be_noted _ _ _ _ _ _ _ _ _ _ _ _ c.args.owner 1 c.args.outs c.self.invariant owner (omega arith) (search rules)).places
 
 pub note_claim-requires-clause-room : goal.note_claim-requires-clause-room
 note_claim-requires-clause-room c =
     let owner = subst (λ (l : List Mark). c.args.owner ≤ last_owner l) (sym c.self.view_is) c.requires.owner in
-    (can_be_noted _ _ _ _ _ _ _ _ _ _ _ _ c.args.owner c.args.outs c.self.invariant owner (search rules)).room
+    (can_be_noted _ _ _ _ _ _ _ _ _ _ _ _ c.args.owner 1 c.args.outs c.self.invariant owner (omega arith) (search rules)).room
 
 pub invariant_of-self-2 : goal.invariant_of-self-2
 invariant_of-self-2 c =
