@@ -62,7 +62,8 @@ is_end Miss = true
 is_end Cut = true
 is_end _ = false
 
--- what an act of a site takes of its arm at least: four calls for a step that records something, five for a rise
+-- what an act of a site takes of its arm at least, where it has a frame of its own: four calls for a step that records
+-- something, five for a rise; the steps of a batch take those of one frame together
 abbrev pub calls_of : Act → ℕ
 calls_of (Step i [] outs events) = 0
 calls_of (Step i (r ∷ rs) outs events) = 4

@@ -2,6 +2,7 @@
 ghost use Rattle.std.specs.Prelude.{◌≡◌, ◌≤◌, ◌<◌, ◌^◌, [], suc, length, OnOk, Err};
 ghost use Rattle.e3_fleet.specs.Settling.{Since, Stands, history_in, most_in, scenario_in};
 ghost use Rattle.e3_fleet.specs.declared.fleet.Fleet.{Fleet as Fleets};
+ghost use Rattle.e3_play.specs.GoingOn.{SitesGoOn};
 ghost use Rattle.e3_play.specs.Known.{KnowsNames};
 ghost use Rattle.e3_play.specs.Played.{IsSettled};
 ghost use Rattle.e3_play.specs.Delivered.{IsFull};
@@ -37,9 +38,7 @@ fn play_step<D: Disk + Drill + Drop + Send, G: Gate + Sync, R: Wait + Threads + 
     requires few { length scenario.now.steps < 2 ^ 32 }
     requires settled { IsSettled scenario.now (history_in fleet.old) done }
     requires known { KnowsNames scenario.now (history_in fleet.old) names.old }
-    ensures stands { Stands D.content D.image D.meters fleet.new }
-    ensures since { (start : Fleets D) → Since D.meters start fleet.old → Since D.meters start fleet.new }
-    ensures same { (scenario_in fleet.new ≡ scenario_in fleet.old) × (most_in fleet.new ≡ most_in fleet.old) }
+    ensures on { SitesGoOn (Stands D.content D.image D.meters) (Since D.meters) scenario_in most_in fleet.old fleet.new }
     ensures known { OnOk result (KnowsNames scenario.now (history_in fleet.new) names.new) }
     ensures settles { OnOk result (IsSettled scenario.now (history_in fleet.new) (suc done)) }
     ensures full { result ≡ Err HistoryFull → IsFull scenario.now (history_in fleet.new) (most_in fleet.old) }
@@ -70,9 +69,7 @@ pub fn play_first<D: Disk + Drill + Drop + Send, G: Gate + Sync, R: Wait + Threa
     requires few { length scenario.now.steps < 2 ^ 32 }
     requires within { count ≤ length scenario.now.steps }
     requires empty { history_in fleet.old ≡ [] }
-    ensures stands { Stands D.content D.image D.meters fleet.new }
-    ensures since { (start : Fleets D) → Since D.meters start fleet.old → Since D.meters start fleet.new }
-    ensures same { (scenario_in fleet.new ≡ scenario_in fleet.old) × (most_in fleet.new ≡ most_in fleet.old) }
+    ensures on { SitesGoOn (Stands D.content D.image D.meters) (Since D.meters) scenario_in most_in fleet.old fleet.new }
     ensures settled { OnOk result (IsSettled scenario.now (history_in fleet.new) count) }
     ensures full { result ≡ Err HistoryFull → IsFull scenario.now (history_in fleet.new) (most_in fleet.old) }
 {
@@ -100,9 +97,7 @@ pub(crate) fn play<D: Disk + Drill + Drop + Send, G: Gate + Sync, R: Wait + Thre
     requires given { IsGiven scenario.now }
     requires most { most_in fleet.old ≤ 2000000 }
     requires empty { history_in fleet.old ≡ [] }
-    ensures stands { Stands D.content D.image D.meters fleet.new }
-    ensures since { (start : Fleets D) → Since D.meters start fleet.old → Since D.meters start fleet.new }
-    ensures same { (scenario_in fleet.new ≡ scenario_in fleet.old) × (most_in fleet.new ≡ most_in fleet.old) }
+    ensures on { SitesGoOn (Stands D.content D.image D.meters) (Since D.meters) scenario_in most_in fleet.old fleet.new }
     ensures whole { OnOk result (IsWhole scenario.now (history_in fleet.new)) }
     ensures full { result ≡ Err HistoryFull → IsFull scenario.now (history_in fleet.new) (most_in fleet.old) }
 {

@@ -15,6 +15,7 @@ pub mod InParts
 pub mod Left
 pub mod Electing
 pub mod Making
+pub mod Onward
 pub mod Told
 pub mod Falling
 pub mod Turning

@@ -2,6 +2,7 @@ pub mod Kinds
 pub mod Known
 pub mod Played
 pub mod Entering
+pub mod GoingOn
 pub mod Delivered
 pub mod Settled
 pub mod Rounds

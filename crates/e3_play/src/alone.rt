@@ -1,5 +1,6 @@
 // Steps that stand alone: a crash, a restart and a recovery. Each is passed over where it has nothing to do.
 ghost use Rattle.std.specs.Prelude.{◌≡◌, ◌≤◌, ◌∷◌, [], length, OnOk, Err};
+ghost use Rattle.e3_play.specs.GoingOn.{SitesGoOn};
 ghost use Rattle.e3_play.specs.Played.{IsFresh, IsSettled};
 ghost use Rattle.e3_play.specs.Delivered.{IsFull};
 ghost use Rattle.e3_play.specs.Settled.{StaysInStep};
@@ -15,9 +16,7 @@ use std::alloc::Global;
 pub fn crash<S: Sites>(sites: &mut S, site: u32) -> Result<(), RunFault>
     requires standing { S.stands sites.old }
     requires fresh { IsFresh (S.scenario sites.old) (S.entries sites.old) (item.Crash site ∷ []) }
-    ensures stands { S.stands sites.new }
-    ensures since { (start : S) → S.since start sites.old → S.since start sites.new }
-    ensures same { (S.scenario sites.new ≡ S.scenario sites.old) × (S.most sites.new ≡ S.most sites.old) }
+    ensures on { SitesGoOn S.stands S.since S.scenario S.most sites.old sites.new }
     ensures grown { StaysInStep (S.entries sites.old) (S.entries sites.new) }
     ensures settles { OnOk result (IsSettled (S.scenario sites.old) (S.entries sites.new) (lines (S.entries sites.old))) }
     ensures full { result ≡ Err HistoryFull → IsFull (S.scenario sites.old) (S.entries sites.new) (S.most sites.old) }
@@ -34,9 +33,7 @@ pub fn restart<S: Sites>(sites: &mut S, site: u32) -> Result<(), RunFault>
     requires standing { S.stands sites.old }
     requires fresh { IsFresh (S.scenario sites.old) (S.entries sites.old) (item.Restart site ∷ []) }
     requires exists { site ≤ length (S.scenario sites.old).weights }
-    ensures stands { S.stands sites.new }
-    ensures since { (start : S) → S.since start sites.old → S.since start sites.new }
-    ensures same { (S.scenario sites.new ≡ S.scenario sites.old) × (S.most sites.new ≡ S.most sites.old) }
+    ensures on { SitesGoOn S.stands S.since S.scenario S.most sites.old sites.new }
     ensures grown { StaysInStep (S.entries sites.old) (S.entries sites.new) }
     ensures settles { OnOk result (IsSettled (S.scenario sites.old) (S.entries sites.new) (lines (S.entries sites.old))) }
     ensures full { result ≡ Err HistoryFull → IsFull (S.scenario sites.old) (S.entries sites.new) (S.most sites.old) }
@@ -53,9 +50,7 @@ pub fn recovery<S: Sites>(alloc: Global, sites: &mut S, group: SiteSet) -> Resul
     requires standing { S.stands sites.old }
     requires few { S.most sites.old ≤ 2000000 }
     requires fresh { IsFresh (S.scenario sites.old) (S.entries sites.old) (item.Recover group ∷ []) }
-    ensures stands { S.stands sites.new }
-    ensures since { (start : S) → S.since start sites.old → S.since start sites.new }
-    ensures same { (S.scenario sites.new ≡ S.scenario sites.old) × (S.most sites.new ≡ S.most sites.old) }
+    ensures on { SitesGoOn S.stands S.since S.scenario S.most sites.old sites.new }
     ensures grown { StaysInStep (S.entries sites.old) (S.entries sites.new) }
     ensures settles { OnOk result (IsSettled (S.scenario sites.old) (S.entries sites.new) (lines (S.entries sites.old))) }
     ensures full { result ≡ Err HistoryFull → IsFull (S.scenario sites.old) (S.entries sites.new) (S.most sites.old) }

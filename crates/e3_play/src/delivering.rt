@@ -2,6 +2,7 @@
 ghost use Rattle.std.specs.Prelude.{◌≡◌, ◌≢◌, [], Some, slice_get, OnOk, OnErr, Err};
 ghost use Rattle.e3_play.specs.Entering.{AfterPacket};
 ghost use Rattle.e3_play.specs.Delivered.{Delivers, IsFullBefore, IsPacketDue};
+ghost use Rattle.e3_play.specs.GoingOn.{SitesGoOn};
 ghost use Rattle.e3_play.specs.declared.sites.RunFault.TheVariants.{HistoryFull};
 ghost use Rattle.e3_world.specs.Packets.{pending, lines, present_items};
 ghost use Rattle.e3_world.specs.Items.{items_through, to_line};
@@ -18,9 +19,7 @@ fn deliver<S: Sites>(sites: &mut S, packet: Packet) -> Result<(), RunFault>
     requires delivering { Delivering (S.scenario sites.old) (S.entries sites.old) }
     requires first { slice_get (pending (S.scenario sites.old) (S.entries sites.old)) 0 ≡ Some packet }
     requires begun { lines (S.entries sites.old) ≢ 0 }
-    ensures stands { S.stands sites.new }
-    ensures since { (start : S) → S.since start sites.old → S.since start sites.new }
-    ensures same { (S.scenario sites.new ≡ S.scenario sites.old) × (S.most sites.new ≡ S.most sites.old) }
+    ensures on { SitesGoOn S.stands S.since S.scenario S.most sites.old sites.new }
     ensures entered { OnOk result (AfterPacket (S.scenario sites.old) (S.entries sites.old) packet (S.entries sites.new)) }
     ensures kept { OnErr result (S.entries sites.new ≡ S.entries sites.old) }
     ensures full { result ≡ Err HistoryFull → IsFullBefore IsPacketDue (S.scenario sites.old) (S.entries sites.new) (S.most sites.old) }
@@ -39,9 +38,7 @@ pub fn deliver_all<S: Sites>(sites: &mut S) -> Result<(), RunFault>
     requires standing { S.stands sites.old }
     requires delivering { Delivering (S.scenario sites.old) (S.entries sites.old) }
     requires begun { lines (S.entries sites.old) ≢ 0 }
-    ensures stands { S.stands sites.new }
-    ensures since { (start : S) → S.since start sites.old → S.since start sites.new }
-    ensures same { (S.scenario sites.new ≡ S.scenario sites.old) × (S.most sites.new ≡ S.most sites.old) }
+    ensures on { SitesGoOn S.stands S.since S.scenario S.most sites.old sites.new }
     ensures delivered { Delivers (S.scenario sites.old) (S.entries sites.old) (S.entries sites.new) }
     ensures delivering { Delivering (S.scenario sites.old) (S.entries sites.new) }
     ensures settled { OnOk result (pending (S.scenario sites.old) (S.entries sites.new) ≡ []) }

@@ -1,5 +1,6 @@
 // A step of a scenario, but for what the sites do of it.
 ghost use Rattle.std.specs.Prelude.{◌≡◌, ◌≤◌, ◌<◌, ◌^◌, ◌⊎◌, ◌∷◌, [], ℕ, List as Items, suc, true, length, IfOk, IfSome, IsErr, MatchOption, OnOk, OnErr, Ok, Err, None};
+ghost use Rattle.e3_play.specs.GoingOn.{SitesGoOn};
 ghost use Rattle.e3_play.specs.Known.{KnowsNames};
 ghost use Rattle.e3_play.specs.Played.{IsAsked, IsFresh, IsReady, IsSettled};
 ghost use Rattle.e3_play.specs.Delivered.{IsFull};
@@ -30,9 +31,7 @@ fn set_parts<S: Sites>(
     requires standing { S.stands sites.old }
     requires form { is_asking items.now ≡ true }
     requires fresh { IsFresh scenario.now (S.entries sites.old) items.now }
-    ensures stands { S.stands sites.new }
-    ensures since { (start : S) → S.since start sites.old → S.since start sites.new }
-    ensures same { (S.scenario sites.new ≡ S.scenario sites.old) × (S.most sites.new ≡ S.most sites.old) }
+    ensures on { SitesGoOn S.stands S.since S.scenario S.most sites.old sites.new }
     ensures asked { OnOk result (IsAsked (S.entries sites.old) (S.entries sites.new) items.now) }
     ensures kept { OnErr result (S.entries sites.new ≡ S.entries sites.old) }
     ensures full { result ≡ Err HistoryFull → IsFull scenario.now (S.entries sites.new) (S.most sites.old) }
@@ -57,9 +56,7 @@ fn exchange<S: Sites>(
     requires form { is_asking items.now ≡ true }
     requires fresh { IsFresh scenario.now (S.entries sites.old) items.now }
     requires known { KnowsNames scenario.now (S.entries sites.old) names.old }
-    ensures stands { S.stands sites.new }
-    ensures since { (start : S) → S.since start sites.old → S.since start sites.new }
-    ensures same { (S.scenario sites.new ≡ S.scenario sites.old) × (S.most sites.new ≡ S.most sites.old) }
+    ensures on { SitesGoOn S.stands S.since S.scenario S.most sites.old sites.new }
     ensures known { OnOk result (KnowsNames scenario.now (S.entries sites.new) names.new) }
     ensures ready { IfOk result (λ inputs. IsReady scenario.now (lines (S.entries sites.old)) (S.entries sites.new) inputs) }
     ensures full { result ≡ Err HistoryFull → IsFull scenario.now (S.entries sites.new) (S.most sites.old) }
@@ -88,9 +85,7 @@ pub fn begin_step<S: Sites>(
     requires few { length scenario.now.steps < 2 ^ 32 }
     requires settled { IsSettled scenario.now (S.entries sites.old) done }
     requires known { KnowsNames scenario.now (S.entries sites.old) names.old }
-    ensures stands { S.stands sites.new }
-    ensures since { (start : S) → S.since start sites.old → S.since start sites.new }
-    ensures same { (S.scenario sites.new ≡ S.scenario sites.old) × (S.most sites.new ≡ S.most sites.old) }
+    ensures on { SitesGoOn S.stands S.since S.scenario S.most sites.old sites.new }
     ensures known { OnOk result (KnowsNames scenario.now (S.entries sites.new) names.new) }
     ensures begun { IfOk result (λ asked. MatchOption asked (IsSettled scenario.now (S.entries sites.new) (suc done))
         (λ inputs. IsReady scenario.now (suc done) (S.entries sites.new) inputs)) }
@@ -138,9 +133,7 @@ pub fn begin_recovery<S: Sites>(
     requires more { suc done ≤ length scenario.now.steps }
     requires few { length scenario.now.steps < 2 ^ 32 }
     requires settled { IsSettled scenario.now (S.entries sites.old) done }
-    ensures stands { S.stands sites.new }
-    ensures since { (start : S) → S.since start sites.old → S.since start sites.new }
-    ensures same { (S.scenario sites.new ≡ S.scenario sites.old) × (S.most sites.new ≡ S.most sites.old) }
+    ensures on { SitesGoOn S.stands S.since S.scenario S.most sites.old sites.new }
     ensures due { IfOk result (λ due. IfSome due (λ group. IsFresh scenario.now (S.entries sites.new) (item.Recover group ∷ []))) }
     ensures another { result ≡ Ok None → (group : Items ℕ) → step_items scenario.now (suc done) ≡ item.Recover group ∷ [] → ⊥ }
     ensures kept { (result ≡ Ok None) ⊎ IsErr result → S.entries sites.new ≡ S.entries sites.old }

@@ -1,5 +1,6 @@
 // The rounds of a recovery step.
 ghost use Rattle.std.specs.Prelude.{◌≡◌, ◌≢◌, ◌≤◌, ◌∷◌, [], drop, length, true, Some, IfOk, OnOk, Err};
+ghost use Rattle.e3_play.specs.GoingOn.{SitesGoOn};
 ghost use Rattle.e3_play.specs.Reports.{HadTurns, IsRecovered, IsReport};
 ghost use Rattle.e3_play.specs.Rounds.{AfterRound};
 ghost use Rattle.e3_play.specs.Delivered.{IsFullBefore, IsPacketOrRound};
@@ -25,9 +26,7 @@ fn make_round<S: Sites>(sites: &mut S, round: &RecoveryRound) -> Result<(), RunF
     requires settled { pending (S.scenario sites.old) (S.entries sites.old) ≡ [] }
     requires turn { is_up_at (S.entries sites.old) round.now.elector ≡ true →
         due_round (S.scenario sites.old) (S.entries sites.old) ≡ Some round.now }
-    ensures stands { S.stands sites.new }
-    ensures since { (start : S) → S.since start sites.old → S.since start sites.new }
-    ensures same { (S.scenario sites.new ≡ S.scenario sites.old) × (S.most sites.new ≡ S.most sites.old) }
+    ensures on { SitesGoOn S.stands S.since S.scenario S.most sites.old sites.new }
     ensures grown { StaysInStep (S.entries sites.old) (S.entries sites.new) }
     ensures made { OnOk result (AfterRound (S.scenario sites.old) (S.entries sites.old) round.now (S.entries sites.new)) }
     ensures full { result ≡ Err HistoryFull → IsFullBefore IsPacketOrRound (S.scenario sites.old) (S.entries sites.new) (S.most sites.old) }
@@ -61,9 +60,7 @@ fn take_turn<S: Sites>(sites: &mut S, round: &RecoveryRound) -> Result<RoundRepo
     requires settled { pending (S.scenario sites.old) (S.entries sites.old) ≡ [] }
     requires turn { is_up_at (S.entries sites.old) round.now.elector ≡ true →
         due_round (S.scenario sites.old) (S.entries sites.old) ≡ Some round.now }
-    ensures stands { S.stands sites.new }
-    ensures since { (start : S) → S.since start sites.old → S.since start sites.new }
-    ensures same { (S.scenario sites.new ≡ S.scenario sites.old) × (S.most sites.new ≡ S.most sites.old) }
+    ensures on { SitesGoOn S.stands S.since S.scenario S.most sites.old sites.new }
     ensures grown { StaysInStep (S.entries sites.old) (S.entries sites.new) }
     ensures made { OnOk result (AfterRound (S.scenario sites.old) (S.entries sites.old) round.now (S.entries sites.new)) }
     ensures told { IfOk result (λ report. IsReport (S.entries sites.old) (S.entries sites.new) round.now report) }
@@ -89,9 +86,7 @@ pub fn recover<S: Sites>(
     requires step { present_items (S.scenario sites.old) (S.entries sites.old) ≡ item.Recover group ∷ [] }
     requires fresh { since_line (S.entries sites.old) ≡ [] }
     requires settled { pending (S.scenario sites.old) (S.entries sites.old) ≡ [] }
-    ensures stands { S.stands sites.new }
-    ensures since { (start : S) → S.since start sites.old → S.since start sites.new }
-    ensures same { (S.scenario sites.new ≡ S.scenario sites.old) × (S.most sites.new ≡ S.most sites.old) }
+    ensures on { SitesGoOn S.stands S.since S.scenario S.most sites.old sites.new }
     ensures grown { StaysInStep (S.entries sites.old) (S.entries sites.new) }
     ensures recovered { OnOk result (IsRecovered (S.scenario sites.old) (S.entries sites.old) (S.entries sites.new)) }
     ensures rounds { IfOk result (λ reports. HadTurns (S.scenario sites.old) (S.entries sites.old) (S.entries sites.new)

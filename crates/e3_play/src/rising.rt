@@ -1,5 +1,6 @@
 // The first rises.
 ghost use Rattle.std.specs.Prelude.{◌≡◌, [], length, OnOk, Err};
+ghost use Rattle.e3_play.specs.GoingOn.{SitesGoOn};
 ghost use Rattle.e3_play.specs.Played.{IsSettled};
 ghost use Rattle.e3_play.specs.Delivered.{IsFull};
 ghost use Rattle.e3_play.specs.declared.sites.RunFault.TheVariants.{HistoryFull};
@@ -11,9 +12,7 @@ pub fn rise_all<S: Sites>(sites: &mut S, count: u32) -> Result<(), RunFault>
     requires standing { S.stands sites.old }
     requires all { count ≡ length (S.scenario sites.old).weights }
     requires empty { S.entries sites.old ≡ [] }
-    ensures stands { S.stands sites.new }
-    ensures since { (start : S) → S.since start sites.old → S.since start sites.new }
-    ensures same { (S.scenario sites.new ≡ S.scenario sites.old) × (S.most sites.new ≡ S.most sites.old) }
+    ensures on { SitesGoOn S.stands S.since S.scenario S.most sites.old sites.new }
     ensures settled { OnOk result (IsSettled (S.scenario sites.old) (S.entries sites.new) 0) }
     ensures full { result ≡ Err HistoryFull → IsFull (S.scenario sites.old) (S.entries sites.new) (S.most sites.old) }
 {

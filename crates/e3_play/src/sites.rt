@@ -1,6 +1,7 @@
 // The sites of a run, as the driver sees them.
 ghost use Rattle.std.specs.Prelude.{◌≡◌, ◌≤◌, ◌++◌, ◌∷◌, [], ℕ, List as Items, Some, true, false, fold, length, IfOk, OnOk, OnErr, Err};
 ghost use Rattle.e3_play.specs.Entering.{AfterInput, AfterRise, IsFirst};
+ghost use Rattle.e3_play.specs.GoingOn.{SitesGoOn};
 ghost use Rattle.e3_play.specs.declared.sites.RunFault.TheVariants.{HistoryFull};
 ghost use Rattle.e3_types.specs.declared.entries.Act.TheVariants as act;
 ghost use Rattle.e3_types.specs.declared.entries.Entry.{Entry};
@@ -76,9 +77,7 @@ pub trait Sites {
     fn rise(&mut self, site: u32) -> Result<(), RunFault>
         requires standing { stands self.old }
         requires turn { IsRising (scenario self.old) (entries self.old) site }
-        ensures stands { stands self.new }
-        ensures since { (start : Self) → since start self.old → since start self.new }
-        ensures same { (scenario self.new ≡ scenario self.old) × (most self.new ≡ most self.old) }
+        ensures on { SitesGoOn stands since scenario most self.old self.new }
         ensures rose { OnOk result (AfterRise (scenario self.old) (entries self.old) site (entries self.new)) }
         ensures kept { OnErr result (entries self.new ≡ entries self.old) }
         ensures full { result ≡ Err HistoryFull → most self.old ≤ length (entries self.old) };
@@ -90,9 +89,7 @@ pub trait Sites {
         requires up { is_up_at (entries self.old) site ≡ true }
         requires due { IsDue (scenario self.old) (entries self.old) site input }
         requires first { IsFirst (scenario self.old) (entries self.old) input }
-        ensures stands { stands self.new }
-        ensures since { (start : Self) → since start self.old → since start self.new }
-        ensures same { (scenario self.new ≡ scenario self.old) × (most self.new ≡ most self.old) }
+        ensures on { SitesGoOn stands since scenario most self.old self.new }
         ensures entered { OnOk result (AfterInput (scenario self.old) (entries self.old) site input (entries self.new)) }
         ensures kept { OnErr result (entries self.new ≡ entries self.old) }
         ensures full { result ≡ Err HistoryFull → most self.old ≤ length (entries self.old) };
@@ -101,9 +98,7 @@ pub trait Sites {
     fn cut(&mut self, site: u32) -> Result<(), RunFault>
         requires standing { stands self.old }
         requires due { IsCut (scenario self.old) (entries self.old) site }
-        ensures stands { stands self.new }
-        ensures since { (start : Self) → since start self.old → since start self.new }
-        ensures same { (scenario self.new ≡ scenario self.old) × (most self.new ≡ most self.old) }
+        ensures on { SitesGoOn stands since scenario most self.old self.new }
         ensures entered { OnOk result (entries self.new ≡ entries self.old ++ record { owner = site; act = act.Cut } ∷ []) }
         ensures kept { OnErr result (entries self.new ≡ entries self.old) }
         ensures full { result ≡ Err HistoryFull → most self.old ≤ length (entries self.old) };
@@ -113,9 +108,7 @@ pub trait Sites {
         requires standing { stands self.old }
         requires first { first_pending (scenario self.old) (entries self.old) ≡ Some packet.now }
         requires down { is_up_at (entries self.old) packet.now.to ≡ false }
-        ensures stands { stands self.new }
-        ensures since { (start : Self) → since start self.old → since start self.new }
-        ensures same { (scenario self.new ≡ scenario self.old) × (most self.new ≡ most self.old) }
+        ensures on { SitesGoOn stands since scenario most self.old self.new }
         ensures entered { OnOk result (entries self.new ≡ entries self.old ++ record { owner = 0; act = act.Drop packet.now.number } ∷ []) }
         ensures kept { OnErr result (entries self.new ≡ entries self.old) }
         ensures full { result ≡ Err HistoryFull → most self.old ≤ length (entries self.old) };
@@ -126,14 +119,13 @@ pub trait Sites {
         requires due { IsLine (scenario self.old) (entries self.old) number }
         requires no_stop { (site calls : ℕ) (leave : Leaves) (more : Items Item) →
             step_items (scenario self.old) number ≡ item.Stop site calls leave ∷ more → ⊥ }
-        ensures stands { stands self.new }
-        ensures since { (start : Self) → since start self.old → since start self.new }
-        ensures same { (scenario self.new ≡ scenario self.old) × (most self.new ≡ most self.old) }
+        ensures on { SitesGoOn stands since scenario most self.old self.new }
         ensures entered { OnOk result (entries self.new ≡ entries self.old ++ record { owner = 0; act = act.Line number } ∷ []) }
         ensures kept { OnErr result (entries self.new ≡ entries self.old) }
         ensures full { result ≡ Err HistoryFull → most self.old ≤ length (entries self.old) };
 
-    /// The line of the next step, which is a stop: with `Ok` the disk of its site is armed, once. With a fault it is not.
+    /// The line of the next step, which is a stop: with `Ok` the disk of its site is armed, and with a fault it is not. What
+    /// arms are is told by `since`, as the implementer has it.
     fn stop(&mut self, number: u32, site: u32, calls: u32, leave: Leave) -> Result<(), RunFault>
         requires standing { stands self.old }
         requires due { IsLine (scenario self.old) (entries self.old) number }
@@ -141,9 +133,7 @@ pub trait Sites {
         requires some { 1 ≤ calls }
         requires least { 1 ≤ site }
         requires exists { site ≤ length (scenario self.old).weights }
-        ensures stands { stands self.new }
-        ensures since { (start : Self) → since start self.old → since start self.new }
-        ensures same { (scenario self.new ≡ scenario self.old) × (most self.new ≡ most self.old) }
+        ensures on { SitesGoOn stands since scenario most self.old self.new }
         ensures entered { OnOk result (entries self.new ≡ entries self.old ++ record { owner = 0; act = act.Line number } ∷ []) }
         ensures kept { OnErr result (entries self.new ≡ entries self.old) }
         ensures full { result ≡ Err HistoryFull → most self.old ≤ length (entries self.old) };
@@ -152,9 +142,7 @@ pub trait Sites {
     fn parts(&mut self, parts: List<SiteSet>) -> Result<(), RunFault>
         requires standing { stands self.old }
         requires due { IsParts (scenario self.old) (entries self.old) parts }
-        ensures stands { stands self.new }
-        ensures since { (start : Self) → since start self.old → since start self.new }
-        ensures same { (scenario self.new ≡ scenario self.old) × (most self.new ≡ most self.old) }
+        ensures on { SitesGoOn stands since scenario most self.old self.new }
         ensures entered { OnOk result (entries self.new ≡ entries self.old ++ record { owner = 0; act = act.Parts parts } ∷ []) }
         ensures kept { OnErr result (entries self.new ≡ entries self.old) }
         ensures full { result ≡ Err HistoryFull → most self.old ≤ length (entries self.old) };

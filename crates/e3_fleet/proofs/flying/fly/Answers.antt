@@ -11,20 +11,20 @@ pub returns-clause-seated : goal.returns-clause-seated
 returns-clause-seated g c = λ at node there.
     subst (λ (h : List Entry). Seated g.D.Disk.content g.D.Disk.image g.D.Disk.meters c.args.scenario.now h at node) (sym c.close.ensures)
     (subst (λ (sc : Scenario). Seated g.D.Disk.content g.D.Disk.image g.D.Disk.meters sc (entries_of c.play-ended.new.fleet.held.shared) at node)
-    (c.play-ended.ensures.same.0 ∙ c.requires.played) (c.play-ended.ensures.stands.fleet.seated at node there))
+    (c.play-ended.ensures.on.scenario ∙ c.requires.played) (c.play-ended.ensures.on.stands.fleet.seated at node there))
 
 pub returns-clause-kept : goal.returns-clause-kept
 returns-clause-kept g c =
     subst (λ (h : List Entry). HaveKept g.D.Disk.meters c.args.scenario.now h (nodes_of c.args.workers.items) (nodes_of c.play-ended.new.fleet.held.workers.items)) (sym c.close.ensures)
     (subst (λ (sc : Scenario). HaveKept g.D.Disk.meters sc (entries_of c.play-ended.new.fleet.held.shared) (nodes_of c.args.workers.items) (nodes_of c.play-ended.new.fleet.held.workers.items))
-    (c.play-ended.ensures.same.0 ∙ c.requires.played)
-    (c.play-ended.ensures.since (record { alloc = c.args.alloc; wire = c.args.opened.wire; pass = c.args.opened.pass; held = record { shared = c.args.opened.shared; workers = c.args.workers } })
+    (c.play-ended.ensures.on.scenario ∙ c.requires.played)
+    (c.play-ended.ensures.on.since (record { alloc = c.args.alloc; wire = c.args.opened.wire; pass = c.args.opened.pass; held = record { shared = c.args.opened.shared; workers = c.args.workers } })
     (subst (λ (h : List Entry). HaveKept g.D.Disk.meters (scenario_of c.args.opened.shared) h (nodes_of c.args.workers.items) (nodes_of c.args.workers.items)) (sym c.requires.empty)
     (have_kept_start g.D.Disk.meters c.disks_are_counted.ensures (scenario_of c.args.opened.shared) (nodes_of c.args.workers.items) c.requires.unarmed))))
 
 pub returns-clause-count : goal.returns-clause-count
 returns-clause-count g c =
-    let kept = c.play-ended.ensures.since (record { alloc = c.args.alloc; wire = c.args.opened.wire; pass = c.args.opened.pass; held = record { shared = c.args.opened.shared; workers = c.args.workers } })
+    let kept = c.play-ended.ensures.on.since (record { alloc = c.args.alloc; wire = c.args.opened.wire; pass = c.args.opened.pass; held = record { shared = c.args.opened.shared; workers = c.args.workers } })
     (subst (λ (h : List Entry). HaveKept g.D.Disk.meters (scenario_of c.args.opened.shared) h (nodes_of c.args.workers.items) (nodes_of c.args.workers.items)) (sym c.requires.empty)
     (have_kept_start g.D.Disk.meters c.disks_are_counted.ensures (scenario_of c.args.opened.shared) (nodes_of c.args.workers.items) c.requires.unarmed)) in
     sym (nodes_length c.play-ended.new.fleet.held.workers.items) ∙ kept.count ∙ nodes_length c.args.workers.items

@@ -22,22 +22,18 @@ settle_fleet-requires-after_bounds g c κs lives =
     let sc = c.args.scenario.now in
     let P : Option (List Addressed) → Type 0 = λ a. MatchOption a (IsSettled sc (history_in mid) (suc c.args.done)) (λ inputs. IsReady sc (suc c.args.done) (history_in mid) inputs) in
     let ready : IsReady sc (suc c.args.done) (history_in mid) c.in-Some.inputs = subst P c.in-Some.is c.in_ok-asked.ensures.begun in
-    let same : scenario_in mid ≡ sc = c.begin_step.ensures.same.0 ∙ c.requires.played in
+    let same : scenario_in mid ≡ sc = c.begin_step.ensures.on.scenario ∙ c.requires.played in
     let Q : Scenario → Type 0 = λ k. is_asking (present_items k (history_in mid)) ≡ true in
     let R : Scenario → Type 0 = λ k. c.in-Some.inputs ≡ plan_of k (history_in mid) in
-    record { standing = c.begin_step.ensures.stands; begun = ready.begun; form = subst Q (sym same) ready.form; asked = subst R (sym same) ready.asked; fresh = ready.fresh }
+    record { standing = c.begin_step.ensures.on.stands; begun = ready.begun; form = subst Q (sym same) ready.form; asked = subst R (sym same) ready.asked; fresh = ready.fresh }
 
-pub returns-in-Some-clause-stands : goal.returns-in-Some-clause-stands
-returns-in-Some-clause-stands g c = c.settle_fleet.ensures.stands
-
-pub returns-in-Some-clause-since : goal.returns-in-Some-clause-since
-returns-in-Some-clause-since g c = λ start was. c.settle_fleet.ensures.on.kept _ (c.begin_step.ensures.since start was)
-
-pub returns-in-Some-clause-same : goal.returns-in-Some-clause-same
-returns-in-Some-clause-same g c = (
-  c.settle_fleet.ensures.on.scenario ∙ c.begin_step.ensures.same.0,
-  c.settle_fleet.ensures.on.most ∙ c.begin_step.ensures.same.1,
-)
+pub returns-in-Some-clause-on : goal.returns-in-Some-clause-on
+returns-in-Some-clause-on g c = record {
+  stands = c.settle_fleet.ensures.stands;
+  since = λ start was. c.settle_fleet.ensures.on.kept _ (c.begin_step.ensures.on.since start was);
+  scenario = c.settle_fleet.ensures.on.scenario ∙ c.begin_step.ensures.on.scenario;
+  most = c.settle_fleet.ensures.on.most ∙ c.begin_step.ensures.on.most;
+}
 
 pub returns-in-Some-clause-known : goal.returns-in-Some-clause-known
 returns-in-Some-clause-known g c =
@@ -51,7 +47,7 @@ returns-in-Some-clause-settles g c =
     let sc = c.args.scenario.now in
     let P : Option (List Addressed) → Type 0 = λ a. MatchOption a (IsSettled sc (history_in mid) (suc c.args.done)) (λ inputs. IsReady sc (suc c.args.done) (history_in mid) inputs) in
     let ready : IsReady sc (suc c.args.done) (history_in mid) c.in-Some.inputs = subst P c.in-Some.is c.in_ok-asked.ensures.begun in
-    let same : scenario_in mid ≡ sc = c.begin_step.ensures.same.0 ∙ c.requires.played in
+    let same : scenario_in mid ≡ sc = c.begin_step.ensures.on.scenario ∙ c.requires.played in
     on_ok_two c.settle_fleet.result
     (λ done none. ready.settles (history_in last) c.settle_fleet.ensures.grown (subst (λ (k : Scenario). Delivering k (history_in last)) same done) (subst (λ (k : Scenario). pending k (history_in last) ≡ []) same none))
     c.settle_fleet.ensures.delivering c.settle_fleet.ensures.settled
@@ -70,7 +66,7 @@ returns-in-Some-clause-full g c = λ is.
     let P : Scenario → Type 0 = λ k. IsFullBefore IsItemOrPacket k (history_in last) (most_in c.args.fleet.now) in
     let Q : ℕ → Type 0 = λ most. IsFullBefore IsItemOrPacket (scenario_in mid) (history_in last) most in
     sites_full sc (history_in mid) (history_in last) (most_in c.args.fleet.now) ready.form c.settle_fleet.ensures.grown
-    (subst P (c.begin_step.ensures.same.0 ∙ c.requires.played) (subst Q c.begin_step.ensures.same.1 (c.settle_fleet.ensures.full is)))
+    (subst P (c.begin_step.ensures.on.scenario ∙ c.requires.played) (subst Q c.begin_step.ensures.on.most (c.settle_fleet.ensures.full is)))
 
 pub returns-in-None-clause-settles : goal.returns-in-None-clause-settles
 returns-in-None-clause-settles g c =

@@ -15,7 +15,7 @@ returns-then-is_up-clause-settles g c =
     let S = g.S.Sites in
     let start = c.args.sites.now in
     let P : Scenario → Type 0 = λ sc. IsLegal sc (S.entries c.cut.new.self) in
-    let legal : IsLegal (S.scenario start) (S.entries c.cut.new.self) = subst P c.cut.ensures.same.0 (g.met.S.Sites.is_legal c.cut.new.self c.cut.ensures.stands) in
+    let legal : IsLegal (S.scenario start) (S.entries c.cut.new.self) = subst P c.cut.ensures.on.scenario (g.met.S.Sites.is_legal c.cut.new.self c.cut.ensures.on.stands) in
     on_ok c.cut.result (cut_settles (S.scenario start) (S.entries start) (S.entries c.cut.new.self) c.args.site c.requires.fresh legal) c.cut.ensures.entered
 
 pub returns-then-is_up-clause-full : goal.returns-then-is_up-clause-full

@@ -15,7 +15,7 @@ returns-else-is_up-clause-settles g c =
     let S = g.S.Sites in
     let start = c.args.sites.now in
     let P : Scenario → Type 0 = λ sc. IsLegal sc (S.entries c.rise.new.self) in
-    let legal : IsLegal (S.scenario start) (S.entries c.rise.new.self) = subst P c.rise.ensures.same.0 (g.met.S.Sites.is_legal c.rise.new.self c.rise.ensures.stands) in
+    let legal : IsLegal (S.scenario start) (S.entries c.rise.new.self) = subst P c.rise.ensures.on.scenario (g.met.S.Sites.is_legal c.rise.new.self c.rise.ensures.on.stands) in
     on_ok c.rise.result (rise_settles (S.scenario start) (S.entries start) (S.entries c.rise.new.self) c.args.site c.requires.fresh legal) c.rise.ensures.rose
 
 pub returns-else-is_up-clause-full : goal.returns-else-is_up-clause-full

@@ -6,15 +6,13 @@ use Rattle.e3_world.specs.Progress.{Delivering}
 use Rattle.e3_world.proofs.Guards.{nothing_first}
 use Rattle.e3_play.specs.Delivered.{Nothing, Then}
 use Rattle.e3_play.specs.Entering.{AfterPacket}
+use Rattle.e3_play.proofs.Onward.{goes_on, rests}
 use Rattle.e3_play.proofs.Packets.{packet_lowers, stays_delivering}
 use Rattle.e3_play.proofs.delivering.deliver_all.Goals as goal
 
 pub loop-packet-init : goal.loop-packet-init
 loop-packet-init g c = record {
-  stands = c.requires.standing;
-  since = λ start before. before;
-  scenario = refl;
-  most = refl;
+  on = rests c.requires.standing;
   delivered = Nothing;
 }
 
@@ -22,7 +20,7 @@ pub deliver-requires-clause-delivering : goal.deliver-requires-clause-delivering
 deliver-requires-clause-delivering g c =
     let S = g.S.Sites in
     let was = c.loop-packet.invariant in
-    subst (λ sc. Delivering sc (S.entries c.loop-packet.sites)) (sym was.scenario)
+    subst (λ sc. Delivering sc (S.entries c.loop-packet.sites)) (sym was.on.scenario)
     (stays_delivering (S.scenario c.args.sites.now) (S.entries c.args.sites.now) (S.entries c.loop-packet.sites) c.requires.delivering was.delivered).delivering
 
 pub deliver-requires-clause-begun : goal.deliver-requires-clause-begun
@@ -37,12 +35,9 @@ loop-packet-preserved g c =
     let start = c.args.sites.now in
     let was = c.loop-packet.invariant in
     let now = c.in_ok-deliver.ensures in
-    let same : S.scenario c.loop-packet.sites ≡ S.scenario start = was.scenario in
+    let same : S.scenario c.loop-packet.sites ≡ S.scenario start = was.on.scenario in
     record {
-      stands = now.stands;
-      since = λ first before. now.since first (was.since first before);
-      scenario = now.same.0 ∙ was.scenario;
-      most = now.same.1 ∙ was.most;
+      on = goes_on was.on now.on;
       delivered = Then (S.entries c.loop-packet.sites) (S.entries c.deliver.new.sites) c.in-Some.packet was.delivered
           (subst (λ sc. first_pending sc (S.entries c.loop-packet.sites) ≡ Some c.in-Some.packet) same (sym c.first.ensures ∙ c.in-Some.is))
           (subst (λ sc. AfterPacket sc (S.entries c.loop-packet.sites) c.in-Some.packet (S.entries c.deliver.new.sites)) same now.entered);
@@ -53,7 +48,7 @@ loop-packet-smaller g c =
     let S = g.S.Sites in
     let start = c.args.sites.now in
     let was = c.loop-packet.invariant in
-    let same : S.scenario c.loop-packet.sites ≡ S.scenario start = was.scenario in
+    let same : S.scenario c.loop-packet.sites ≡ S.scenario start = was.on.scenario in
     packet_lowers (S.scenario start) (S.entries c.loop-packet.sites) (S.entries c.deliver.new.sites) c.in-Some.packet c.taking_lowers_the_measure.ensures.lowers
     (g.met.S.Sites.is_given start c.requires.standing)
     (stays_delivering (S.scenario start) (S.entries start) (S.entries c.loop-packet.sites) c.requires.delivering was.delivered).delivering
@@ -77,6 +72,6 @@ returns-clause-settled g c =
     let S = g.S.Sites in
     let start = c.args.sites.now in
     let was = c.loop-packet.invariant in
-    let same : S.scenario c.loop-packet.sites ≡ S.scenario start = was.scenario in
+    let same : S.scenario c.loop-packet.sites ≡ S.scenario start = was.on.scenario in
     ap (λ (sc : Scenario). pending sc (S.entries c.loop-packet.sites)) (sym same)
     ∙ nothing_first (pending (S.scenario c.loop-packet.sites) (S.entries c.loop-packet.sites)) (sym c.first.ensures ∙ c.in_default.is)

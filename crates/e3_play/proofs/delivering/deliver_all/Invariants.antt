@@ -1,14 +1,12 @@
 use Rattle.std.proofs.Common.{◌≡◌}
 use Rattle.e3_law_settling.proofs.Left.{left}
+use Rattle.e3_play.specs.GoingOn.{SitesGoOn}
 use Rattle.e3_play.specs.Delivered.{Delivers}
 use Rattle.e3_play.proofs.delivering.deliver_all.Given as goal
 
 abbrev pub invariant-loop-packet : goal.invariant-loop-packet
 invariant-loop-packet g l = record {
-  stands : g.S.Sites.stands l.sites;
-  since : (start : _) → g.S.Sites.since start l.fn.sites → g.S.Sites.since start l.sites;
-  scenario : g.S.Sites.scenario l.sites ≡ g.S.Sites.scenario l.fn.sites;
-  most : g.S.Sites.most l.sites ≡ g.S.Sites.most l.fn.sites;
+  on : SitesGoOn g.S.Sites.stands g.S.Sites.since g.S.Sites.scenario g.S.Sites.most l.fn.sites l.sites;
   delivered : Delivers (g.S.Sites.scenario l.fn.sites) (g.S.Sites.entries l.fn.sites) (g.S.Sites.entries l.sites);
 }
 

@@ -47,7 +47,7 @@ crash-requires-clause-fresh g c =
     let items : c.step_items-items.result.now ≡ item.Crash c.in-Crash.site ∷ [] = crash_is c.step_items-items.result.now c.in-Crash.site (sym c.kind_of.ensures ∙ c.in-Crash.is) in
     let fresh : IsFresh sc (S.entries c.line.new.self) (item.Crash c.in-Crash.site ∷ []) =
     subst (λ l. IsFresh sc (S.entries c.line.new.self) l) (sym (c.step_items-items.ensures ∙ ap (step_items sc) next) ∙ items) begun.fresh in
-    subst (λ it. IsFresh it (S.entries c.line.new.self) (item.Crash c.in-Crash.site ∷ [])) (sym (c.in_ok-line-in-Crash.ensures.same.0 ∙ c.requires.played)) fresh
+    subst (λ it. IsFresh it (S.entries c.line.new.self) (item.Crash c.in-Crash.site ∷ [])) (sym (c.in_ok-line-in-Crash.ensures.on.scenario ∙ c.requires.played)) fresh
 
 pub restart-requires-clause-fresh : goal.restart-requires-clause-fresh
 restart-requires-clause-fresh g c =
@@ -59,14 +59,14 @@ restart-requires-clause-fresh g c =
     let items : c.step_items-items.result.now ≡ item.Restart c.in-Restart.site ∷ [] = restart_is c.step_items-items.result.now c.in-Restart.site (sym c.kind_of.ensures ∙ c.in-Restart.is) in
     let fresh : IsFresh sc (S.entries c.line-in-Restart.new.self) (item.Restart c.in-Restart.site ∷ []) =
     subst (λ l. IsFresh sc (S.entries c.line-in-Restart.new.self) l) (sym (c.step_items-items.ensures ∙ ap (step_items sc) next) ∙ items) begun.fresh in
-    subst (λ it. IsFresh it (S.entries c.line-in-Restart.new.self) (item.Restart c.in-Restart.site ∷ [])) (sym (c.in_ok-line-in-Restart.ensures.same.0 ∙ c.requires.played)) fresh
+    subst (λ it. IsFresh it (S.entries c.line-in-Restart.new.self) (item.Restart c.in-Restart.site ∷ [])) (sym (c.in_ok-line-in-Restart.ensures.on.scenario ∙ c.requires.played)) fresh
 
 pub restart-requires-clause-exists : goal.restart-requires-clause-exists
 restart-requires-clause-exists g c =
     let items : List Item = c.step_items-items.result.now in
     let next : c.args.done + 1 ≡ suc c.args.done = omega arith in
     let step : IsStep c.args.scenario.now items = subst (λ l. IsStep c.args.scenario.now l) (sym (c.step_items-items.ensures ∙ ap (step_items c.args.scenario.now) next)) (step_is_given c.args.scenario.now c.args.done c.requires.given) in
-    subst (λ (sc : Scenario). c.in-Restart.site ≤ length sc.weights) (sym (c.in_ok-line-in-Restart.ensures.same.0 ∙ c.requires.played))
+    subst (λ (sc : Scenario). c.in-Restart.site ≤ length sc.weights) (sym (c.in_ok-line-in-Restart.ensures.on.scenario ∙ c.requires.played))
     (restart_exists c.args.scenario.now items c.in-Restart.site (restart_is items c.in-Restart.site (sym c.kind_of.ensures ∙ c.in-Restart.is)) step)
 
 pub recovery-requires-clause-fresh : goal.recovery-requires-clause-fresh
@@ -79,7 +79,7 @@ recovery-requires-clause-fresh g c =
     let items : c.step_items-items.result.now ≡ item.Recover c.in-Recovery.group ∷ [] = recovery_is c.step_items-items.result.now c.in-Recovery.group (sym c.kind_of.ensures ∙ c.in-Recovery.is) in
     let fresh : IsFresh sc (S.entries c.line-in-Recovery.new.self) (item.Recover c.in-Recovery.group ∷ []) =
     subst (λ l. IsFresh sc (S.entries c.line-in-Recovery.new.self) l) (sym (c.step_items-items.ensures ∙ ap (step_items sc) next) ∙ items) begun.fresh in
-    subst (λ it. IsFresh it (S.entries c.line-in-Recovery.new.self) (item.Recover c.in-Recovery.group ∷ [])) (sym (c.in_ok-line-in-Recovery.ensures.same.0 ∙ c.requires.played)) fresh
+    subst (λ it. IsFresh it (S.entries c.line-in-Recovery.new.self) (item.Recover c.in-Recovery.group ∷ [])) (sym (c.in_ok-line-in-Recovery.ensures.on.scenario ∙ c.requires.played)) fresh
 
 pub line-requires-in-Exchange-clause-no_stop : goal.line-requires-in-Exchange-clause-no_stop
 line-requires-in-Exchange-clause-no_stop g c = λ site calls leave more is.

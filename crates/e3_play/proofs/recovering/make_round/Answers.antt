@@ -22,7 +22,7 @@ deliver_all-requires-clause-delivering g c =
     let up : is_up_at h r.elector ≡ true = ap (λ (q : RecoveryRound). is_up_at h q.elector) (sym c.round.view_is) ∙ sym c.is_up.ensures ∙ c.if-not-is_up.false in
     let entered : AfterInput sc h r.elector (input.Elect r.txn r.members) (S.entries c.input.new.self) =
     subst (λ (q : RecoveryRound). AfterInput sc h q.elector (input.Elect q.txn q.members) (S.entries c.input.new.self)) c.round.view_is c.in_ok-input.ensures.entered in
-    subst (λ (s : Scenario). Delivering s (S.entries c.input.new.self)) (sym c.in_ok-input.ensures.same.0)
+    subst (λ (s : Scenario). Delivering s (S.entries c.input.new.self)) (sym c.in_ok-input.ensures.on.scenario)
     (elected sc h (S.entries c.input.new.self) r c.requires.delivering up (c.requires.turn up) c.requires.settled entered).delivering
 
 -- the round was made, where packets were delivered to the end
@@ -47,7 +47,7 @@ returns-clause-made g c =
     let up : is_up_at h r.elector ≡ true = ap (λ (q : RecoveryRound). is_up_at h q.elector) (sym c.round.view_is) ∙ sym c.is_up.ensures ∙ c.if-not-is_up.false in
     let entered : AfterInput sc h r.elector (input.Elect r.txn r.members) (S.entries c.input.new.self) =
     subst (λ (q : RecoveryRound). AfterInput sc h q.elector (input.Elect q.txn q.members) (S.entries c.input.new.self)) c.round.view_is c.in_ok-input.ensures.entered in
-    made c.deliver_all.result sc (S.scenario c.input.new.self) h (S.entries c.input.new.self) (S.entries c.deliver_all.new.sites) r c.in_ok-input.ensures.same.0 up entered
+    made c.deliver_all.result sc (S.scenario c.input.new.self) h (S.entries c.input.new.self) (S.entries c.deliver_all.new.sites) r c.in_ok-input.ensures.on.scenario up entered
     c.deliver_all.ensures.delivered c.deliver_all.ensures.settled
 
 pub returns-in_err-input-clause-full : goal.returns-in_err-input-clause-full
@@ -67,7 +67,7 @@ returns-clause-full g c = λ is.
     let more = S.entries c.deliver_all.new.sites in
     let P : Scenario → Type 0 = λ sc. IsFullBefore IsPacketOrRound sc more (S.most c.args.sites.now) in
     let Q : ℕ → Type 0 = λ most. IsFullBefore IsPacketOrRound (S.scenario c.input.new.self) more most in
-    subst P c.in_ok-input.ensures.same.0 (subst Q c.in_ok-input.ensures.same.1
+    subst P c.in_ok-input.ensures.on.scenario (subst Q c.in_ok-input.ensures.on.most
     (delivery_full (S.scenario c.input.new.self) more (S.most c.input.new.self) (c.deliver_all.ensures.full is)))
 
 pub returns-in_err-input-clause-grown : goal.returns-in_err-input-clause-grown

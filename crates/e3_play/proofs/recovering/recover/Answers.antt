@@ -8,6 +8,7 @@ use Rattle.e3_world.specs.Legal.{IsLegal}
 use Rattle.e3_play.specs.Reports.{HadTurns, IsTurn}
 use Rattle.e3_play.specs.Rounds.{AfterRound}
 use Rattle.e3_play.specs.declared.reporting.RoundReport.{RoundReport}
+use Rattle.e3_play.proofs.Onward.{goes_on, rests}
 use Rattle.e3_play.proofs.Falling.{UpOrFell, WereUp, listed_were_up}
 use Rattle.e3_play.proofs.Left.{first_due}
 use Rattle.e3_play.proofs.Making.{InRounds, begin_rounds, round_on, rounds_end}
@@ -22,10 +23,7 @@ loop-round-init g c =
     let all : listed (S.scenario sites) (S.entries sites) c.args.group ≡ c.as_slice-round-items.result.now =
     sym (c.as_slice-round-items.ensures ∙ c.in_ok-rounds.ensures) in
     record {
-      stands = c.requires.standing;
-      since = λ start before. before;
-      scenario = refl;
-      most = refl;
+      on = rests c.requires.standing;
       rounds = subst (λ (rounds : List RecoveryRound). InRounds (S.scenario sites) (S.entries sites) c.args.group rounds (S.entries sites)) all
           (begin_rounds (S.scenario sites) (S.entries sites) c.args.group (g.met.S.Sites.is_legal sites c.requires.standing)
           c.requires.step c.requires.fresh c.requires.settled);
@@ -50,7 +48,7 @@ take_turn-requires-clause-turn g c = λ up.
     let here : drop k rounds ≡ r ∷ drop (suc k) rounds = first_left rounds k r (omega (arith, c.loop-round-test.true, c.loop-round.auto.round-index-end)) c.round-item.is in
     let now : InRounds (S.scenario start) (S.entries start) c.args.group (r ∷ drop (suc k) rounds) (S.entries c.loop-round.sites) =
     subst (λ (rest : List RecoveryRound). InRounds (S.scenario start) (S.entries start) c.args.group rest (S.entries c.loop-round.sites)) here was.rounds in
-    ap (λ (sc : Scenario). due_round sc (S.entries c.loop-round.sites)) was.scenario
+    ap (λ (sc : Scenario). due_round sc (S.entries c.loop-round.sites)) was.on.scenario
     ∙ first_due (S.scenario start) (S.entries c.loop-round.sites) c.args.group (drop (suc k) rounds) r now.step now.at up
 
 pub loop-round-preserved : goal.loop-round-preserved
@@ -71,14 +69,14 @@ loop-round-preserved g c =
     let here : drop k rounds ≡ r ∷ rest = first_left rounds k r low c.round-item.is in
     let left : InRounds sc line c.args.group (r ∷ rest) h = subst (λ (l : List RecoveryRound). InRounds sc line c.args.group l h) here was.rounds in
     let were : WereUp line (r ∷ rest) = subst (λ (l : List RecoveryRound). WereUp line l) here was.were in
-    let after : AfterRound sc h r more = subst (λ (s : Scenario). AfterRound s h r more) was.scenario now.made in
+    let after : AfterRound sc h r more = subst (λ (s : Scenario). AfterRound s h r more) was.on.scenario now.made in
     let up : UpOrFell line more = turn_up sc line h more r was.up after in
     let on : suc k ≡ k + 1 = omega arith in
-    let same : S.scenario c.take_turn.new.sites ≡ sc = now.same.0 ∙ was.scenario in
-    let most : S.most c.take_turn.new.sites ≡ S.most start = now.same.1 ∙ was.most in
-    let given : IsGiven sc = subst (λ (s : Scenario). IsGiven s) same (g.met.S.Sites.is_given c.take_turn.new.sites now.stands) in
-    let legal : IsLegal sc more = subst (λ (s : Scenario). IsLegal s more) same (g.met.S.Sites.is_legal c.take_turn.new.sites now.stands) in
-    let within : length more ≤ S.most start = subst (λ (n : ℕ). length more ≤ n) most (g.met.S.Sites.within c.take_turn.new.sites now.stands) in
+    let same : S.scenario c.take_turn.new.sites ≡ sc = now.on.scenario ∙ was.on.scenario in
+    let most : S.most c.take_turn.new.sites ≡ S.most start = now.on.most ∙ was.on.most in
+    let given : IsGiven sc = subst (λ (s : Scenario). IsGiven s) same (g.met.S.Sites.is_given c.take_turn.new.sites now.on.stands) in
+    let legal : IsLegal sc more = subst (λ (s : Scenario). IsLegal s more) same (g.met.S.Sites.is_legal c.take_turn.new.sites now.on.stands) in
+    let within : length more ≤ S.most start = subst (λ (n : ℕ). length more ≤ n) most (g.met.S.Sites.within c.take_turn.new.sites now.on.stands) in
     let turn : IsTurn sc h more r c.in_ok-report.report = is_turn sc line h more c.args.group r rest c.in_ok-report.report (record {
       given = given;
       rounds = left;
@@ -93,10 +91,7 @@ loop-round-preserved g c =
     let had : HadTurns sc line more (take k rounds ++ r ∷ []) (c.loop-round.reports ++ c.in_ok-report.report ∷ []) =
     had_turn sc line h more (take k rounds) c.loop-round.reports r c.in_ok-report.report was.had turn in
     record {
-      stands = now.stands;
-      since = λ first before. now.since first (was.since first before);
-      scenario = same;
-      most = most;
+      on = goes_on was.on now.on;
       rounds = subst (λ (j : ℕ). InRounds sc line c.args.group (drop j rounds) more) on (round_on sc line h more c.args.group r rest left after);
       were = subst (λ (j : ℕ). WereUp line (drop j rounds)) on were.1;
       up = up;
@@ -144,7 +139,7 @@ returns-in_err-report-clause-full g c = λ is.
     let full : IsFullBefore IsPacketOrRound (S.scenario c.loop-round.sites) more (S.most c.loop-round.sites) = search rules in
     let P : Scenario → Type 0 = λ sc. IsFullBefore IsPacketOrRound sc more (S.most c.args.sites.now) in
     let Q : ℕ → Type 0 = λ most. IsFullBefore IsPacketOrRound (S.scenario c.loop-round.sites) more most in
-    subst P was.scenario (subst Q was.most full)
+    subst P was.on.scenario (subst Q was.on.most full)
 
 pub returns-in_err-report-clause-grown : goal.returns-in_err-report-clause-grown
 returns-in_err-report-clause-grown g c =

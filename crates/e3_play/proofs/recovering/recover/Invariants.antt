@@ -1,4 +1,5 @@
 use Rattle.std.proofs.Common.{◌≡◌, drop, take}
+use Rattle.e3_play.specs.GoingOn.{SitesGoOn}
 use Rattle.e3_play.specs.Reports.{HadTurns}
 use Rattle.e3_play.proofs.Falling.{UpOrFell, WereUp}
 use Rattle.e3_play.proofs.Making.{InRounds}
@@ -7,10 +8,7 @@ use Rattle.e3_play.proofs.recovering.recover.Given as goal
 
 abbrev pub invariant-loop-round : goal.invariant-loop-round
 invariant-loop-round g l = record {
-  stands : g.S.Sites.stands l.sites;
-  since : (start : _) → g.S.Sites.since start l.fn.sites → g.S.Sites.since start l.sites;
-  scenario : g.S.Sites.scenario l.sites ≡ g.S.Sites.scenario l.fn.sites;
-  most : g.S.Sites.most l.sites ≡ g.S.Sites.most l.fn.sites;
+  on : SitesGoOn g.S.Sites.stands g.S.Sites.since g.S.Sites.scenario g.S.Sites.most l.fn.sites l.sites;
   rounds : InRounds (g.S.Sites.scenario l.fn.sites) (g.S.Sites.entries l.fn.sites) l.fn.group (drop l.round-index l.round-items) (g.S.Sites.entries l.sites);
   were : WereUp (g.S.Sites.entries l.fn.sites) (drop l.round-index l.round-items);
   up : UpOrFell (g.S.Sites.entries l.fn.sites) (g.S.Sites.entries l.sites);

@@ -5,15 +5,15 @@ use Rattle.e3_fleet.proofs.Holding.{held_on}
 use Rattle.e3_fleet.proofs.fleet.FleetSites.parts.Goals as goal
 use Rattle.e3_types.specs.declared.entries.Act.TheVariants.{Parts}
 
-pub returns-clause-stands : goal.returns-clause-stands
-returns-clause-stands g c =
-    held_on g.D.Disk.content g.D.Disk.image g.D.Disk.meters c.args.self.now.wire c.args.self.now.pass c.args.self.now.held.shared c.enter_parts.new.shared
-    (nodes_of c.args.self.now.held.workers.items) (nodes_of c.args.self.now.held.workers.items) c.requires.standing
-    (driver_call g.D.Disk.content g.D.Disk.image g.D.Disk.meters c.other_entries_keep_nodes.ensures.nodes (λ d. g.met.D.Disk.counted d) c.args.self.now.held.shared c.enter_parts.new.shared
+pub returns-clause-on : goal.returns-clause-on
+returns-clause-on g c =
+    let gone = driver_call g.D.Disk.content g.D.Disk.image g.D.Disk.meters c.other_entries_keep_nodes.ensures.nodes (λ d. g.met.D.Disk.counted d) c.args.self.now.held.shared c.enter_parts.new.shared
     (record { owner = 0; act = Parts c.args.parts }) (nodes_of c.args.self.now.held.workers.items) c.enter_parts.result c.requires.standing.fleet c.enter_parts.ensures.stands c.enter_parts.ensures.same refl (λ site. refl)
-    c.enter_parts.ensures.entered c.enter_parts.ensures.kept) c.enter_parts.ensures.grew
-
-pub returns-clause-since : goal.returns-clause-since
-returns-clause-since g c = λ start was. (driver_call g.D.Disk.content g.D.Disk.image g.D.Disk.meters c.other_entries_keep_nodes.ensures.nodes (λ d. g.met.D.Disk.counted d) c.args.self.now.held.shared c.enter_parts.new.shared
-    (record { owner = 0; act = Parts c.args.parts }) (nodes_of c.args.self.now.held.workers.items) c.enter_parts.result c.requires.standing.fleet c.enter_parts.ensures.stands c.enter_parts.ensures.same refl (λ site. refl)
-    c.enter_parts.ensures.entered c.enter_parts.ensures.kept).kept (nodes_of start.held.workers.items) was
+    c.enter_parts.ensures.entered c.enter_parts.ensures.kept in
+    record {
+      stands = held_on g.D.Disk.content g.D.Disk.image g.D.Disk.meters c.args.self.now.wire c.args.self.now.pass c.args.self.now.held.shared c.enter_parts.new.shared
+          (nodes_of c.args.self.now.held.workers.items) (nodes_of c.args.self.now.held.workers.items) c.requires.standing gone c.enter_parts.ensures.grew;
+      since = λ start was. gone.kept (nodes_of start.held.workers.items) was;
+      scenario = gone.scenario;
+      most = gone.most;
+    }
