@@ -35,8 +35,12 @@ fn add_decisions(alloc: Global, records: &[Record], out: &mut List<Record>) -> R
     Ok(())
 }
 
-// Adds these records.
-fn add_records(alloc: Global, records: &[Record], out: &mut List<Record>) -> Result<(), NoMemory>
+/// Adds equal records at the end.
+pub(crate) fn add_records(
+    alloc: Global,
+    records: &[Record],
+    out: &mut List<Record>,
+) -> Result<(), NoMemory>
     ensures { IfOk result (λ u. out.new ≡ out.old ++ records.now) }
 {
     for r in records {

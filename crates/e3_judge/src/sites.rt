@@ -7,6 +7,7 @@ ghost use Rattle.e3_world.specs.Packets.{sent};
 ghost use Rattle.e3_judge.specs.Standing.{kept_in, nothing_yet, standing_by, stepped};
 
 use crate::counts::add;
+use crate::logs::add_records;
 use crate::packets::sent_count;
 use e3_plain::{plain, plain_input, step_of};
 use e3_readings::{present_log, rows_at};
@@ -79,15 +80,6 @@ fn stepped(
         rose: now.rose,
         since,
     })
-}
-
-fn add_records(alloc: Global, records: &[Record], out: &mut List<Record>) -> Result<(), NoMemory>
-    ensures { IfOk result (λ u. out.new ≡ out.old ++ records.now) }
-{
-    for r in records {
-        out.push(r.copied(alloc)?)?;
-    }
-    Ok(())
 }
 
 // The log at present.

@@ -5,3 +5,4 @@ pub mod Events
 pub mod Inputs
 pub mod Messages
 pub mod Entries
+pub mod Pages

@@ -1,6 +1,5 @@
 pub mod Forms
 pub mod Pieces
-pub mod Appends
 pub mod Values
 pub mod Indexes
 pub mod RowKeys

@@ -9,7 +9,7 @@ use Rattle.e3_judge.specs.Claims.{WholeIsWhole}
 use Rattle.e3_law_trails.specs.Claims.{TrailsAreSound}
 use Rattle.e3_world.specs.Given.{IsGiven, exist, rows_differ, steps_keep}
 use Rattle.e3_world.specs.Packets.{all_sites}
-use Rattle.e3_worked.specs.Worked.{IsWorked}
+use Rattle.e3_worked.specs.Worked.{IsWorked, Outcome, outcome_of}
 
 -- the rules that a scenario keeps, as one test
 abbrev pub keeps_rules : Scenario → Bool
@@ -22,7 +22,7 @@ keeps_rules sc =
     nat_le (sc.loss + sc.repeat) 100 &&
     steps_keep sc (record { earlier = []; fresh = []; ops = []; parts = all_sites sc ∷ [] }) sc.steps
 
-given : (sc : Scenario) → keeps_rules sc ≡ true → IsGiven sc
+pub given : (sc : Scenario) → keeps_rules sc ≡ true → IsGiven sc
 given sc keeps =
     let to_odds = and_parts _ _ keeps in
     let to_rows_differ = and_parts _ _ to_odds.0 in
@@ -41,7 +41,7 @@ given sc keeps =
     }
 
 -- the judge's test is exact, and the trail of a legal history of a given scenario is sound
-pub worked : WholeIsWhole → TrailsAreSound → (sc : Scenario) (h : List Entry) → keeps_rules sc ≡ true → is_whole sc h ≡ true → IsWorked sc h
-worked exact sound sc h keeps is =
+pub worked : WholeIsWhole → TrailsAreSound → (sc : Scenario) (h : List Entry) (o : Outcome) → keeps_rules sc ≡ true → is_whole sc h ≡ true → outcome_of sc h ≡ o → IsWorked sc h o
+worked exact sound sc h o keeps is comes_to =
     let whole = (exact sc h).0 is in
-    record { whole = whole; given = given sc keeps; sound = sound sc h (given sc keeps) whole.legal }
+    record { whole = whole; given = given sc keeps; sound = sound sc h (given sc keeps) whole.legal; comes_to = comes_to }

@@ -33,5 +33,5 @@ report_opens = 0
 
 -- texts of scenarios
 unfoldable pub text_opens : ℕ
-unfolding scan_numeral encode_utf8 is_utf8 chars skip_ws skip_from underscore_fits prefixed_integer decimal_number plain_number number word_value word_len unquoted hex_escape escape_char escape special body one_line quoted simple_key key_after after_element key_equals items members atom val header_key expression line lines skip_bom parse_document along_header along_dots at_key define bits_of is_known begin_fault operation_fault expire_fault elect_fault recover_fault split_fault site_fault stop_fault begin_of read_of write_of commit_of cancel_of expire_of elect_of recover_of split_of merge_of crash_of restart_of stop_of transaction_item site_item item_by item_of sites_of leave_of parts_of
+unfolding digits scan_numeral encode_utf8 is_utf8 chars skip_ws skip_from underscore_fits prefixed_integer decimal_number plain_number number word_value word_len unquoted hex_escape escape_char escape special body one_line quoted simple_key key_after after_element key_equals items members atom val header_key expression line lines skip_bom parse_document along_header along_dots at_key define bits_of is_known begin_fault operation_fault expire_fault elect_fault recover_fault split_fault site_fault stop_fault begin_of read_of write_of commit_of cancel_of expire_of elect_of recover_of split_of merge_of crash_of restart_of stop_of transaction_item site_item item_by item_of sites_of leave_of parts_of
 text_opens = 0

@@ -33,6 +33,22 @@ busy_cancel_over = record (bare (1 ∷ 1 ∷ [])) {
       [];
 }
 
+-- its text
+abbrev pub busy_cancel_over_text : List ℕ
+busy_cancel_over_text =
+    codes "# Every packet is lost, so an operation of another site is never answered: the client's next calls are refused\n" ++
+    codes "# as busy, a cancel is taken, and a commit behind it is refused as over.\n" ++
+    codes "weights = [1, 1]\n" ++
+    codes "loss = 100\n" ++
+    codes "steps = [\n" ++
+    codes "  \"begin t 1 1,2\",\n" ++
+    codes "  \"read t 2.x\",\n" ++
+    codes "  \"read t 1.y\",\n" ++
+    codes "  \"commit t\",\n" ++
+    codes "  \"cancel t\",\n" ++
+    codes "  \"commit t\",\n" ++
+    codes "]\n"
+
 -- the packets, by their numbers
 abbrev pub p1 : Packet
 p1 = record { number = 1; «from» = 1; to = 2; msg = msg.Do t1_1_1 1 (Read key_2_x) }

@@ -39,6 +39,29 @@ cascade_aborts = record (bare (1 ∷ 1 ∷ 1 ∷ [])) {
       [];
 }
 
+-- its text
+abbrev pub cascade_aborts_text : List ℕ
+cascade_aborts_text =
+    codes "# As cascade_commits, but for one call of one disk: site 3 falls three calls later, so its log has the attempt\n" ++
+    codes "# to abort. A quorum has attempted that under the greater number, and all abort.\n" ++
+    codes "weights = [1, 1, 1]\n" ++
+    codes "steps = [\n" ++
+    codes "  \"begin t 1 1,2,3\",\n" ++
+    codes "  \"write t 1.x a\",\n" ++
+    codes "  \"write t 2.y b\",\n" ++
+    codes "  \"write t 3.z c\",\n" ++
+    codes "  \"stop 1 8 all\",\n" ++
+    codes "  \"commit t\",\n" ++
+    codes "  \"stop 3 8 all\",\n" ++
+    codes "  \"elect 2 t 2,3\",\n" ++
+    codes "  \"restart 1\",\n" ++
+    codes "  \"restart 3\",\n" ++
+    codes "  \"crash 2\",\n" ++
+    codes "  \"recover 1,3\",\n" ++
+    codes "  \"restart 2\",\n" ++
+    codes "  \"recover 1,2,3\",\n" ++
+    codes "]\n"
+
 -- the packets that are others than there, by their numbers
 abbrev pub p17 : Packet
 p17 = record { number = 17; «from» = 3; to = 1; msg = msg.Report t1_1_1 3 Pa 2 }

@@ -18,6 +18,7 @@ use Rattle.e3_types.specs.declared.messages.Message.TheVariants as msg
 use Rattle.e3_types.specs.declared.entries.Told.TheVariants as told
 use Rattle.e3_types.specs.declared.verdicts.Verdict.TheVariants as verdict
 use Rattle.e3_worked.specs.Names.{bare, s1_2_3, s2_3, s1_3, key_1_x, key_2_y, key_3_z}
+use Rattle.e3_worked.specs.Worked.{Outcome, one_row}
 
 -- its transactions
 abbrev pub t1_1_1 : Txn
@@ -43,6 +44,29 @@ cascade_commits = record (bare (1 ∷ 1 ∷ 1 ∷ [])) {
       (item.Recover s1_2_3 ∷ []) ∷
       [];
 }
+
+-- its text
+abbrev pub cascade_commits_text : List ℕ
+cascade_commits_text =
+    codes "# The coordinator falls right behind its attempt to commit, which its disk keeps. The others elect a new number\n" ++
+    codes "# and one attempts to abort, but the greatest attempt of sites 1 and 3 is the commit. All commit.\n" ++
+    codes "weights = [1, 1, 1]\n" ++
+    codes "steps = [\n" ++
+    codes "  \"begin t 1 1,2,3\",\n" ++
+    codes "  \"write t 1.x a\",\n" ++
+    codes "  \"write t 2.y b\",\n" ++
+    codes "  \"write t 3.z c\",\n" ++
+    codes "  \"stop 1 8 all\",\n" ++
+    codes "  \"commit t\",\n" ++
+    codes "  \"stop 3 5 none\",\n" ++
+    codes "  \"elect 2 t 2,3\",\n" ++
+    codes "  \"restart 1\",\n" ++
+    codes "  \"restart 3\",\n" ++
+    codes "  \"crash 2\",\n" ++
+    codes "  \"recover 1,3\",\n" ++
+    codes "  \"restart 2\",\n" ++
+    codes "  \"recover 1,2,3\",\n" ++
+    codes "]\n"
 
 -- the packets, by their numbers
 abbrev pub p1 : Packet
@@ -204,6 +228,13 @@ cascade_commits_history =
     record { owner = 2; act = Step (input.Deliver p29) (log.Decision t1_1_1 Commit ∷ []) ([]) ([]) } ∷
     record { owner = 3; act = Step (input.Deliver p30) ([]) ([]) ([]) } ∷
     []
+
+-- what it comes to
+abbrev pub cascade_commits_outcome : Outcome
+cascade_commits_outcome = record {
+  order = t1_1_1 ∷ [];
+  tables = one_row (codes "x") (codes "a") ∷ one_row (codes "y") (codes "b") ∷ one_row (codes "z") (codes "c") ∷ [];
+}
 
 -- its report
 abbrev pub cascade_commits_report : List ℕ

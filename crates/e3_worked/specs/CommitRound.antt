@@ -14,6 +14,7 @@ use Rattle.e3_types.specs.declared.messages.Message.TheVariants as msg
 use Rattle.e3_types.specs.declared.records.Record.TheVariants as log
 use Rattle.e3_types.specs.declared.entries.Told.TheVariants as told
 use Rattle.e3_worked.specs.Names.{bare, s1_2, key_1_x}
+use Rattle.e3_worked.specs.Worked.{Outcome, one_row}
 
 -- its transactions
 abbrev pub t1_1_1 : Txn
@@ -79,3 +80,10 @@ commit_round_history =
     record { owner = 0; act = Line 3 } ∷
     record { owner = 1; act = Step (input.Commit t1_1_1) (log.Vote t1_1_1 (record { n = 1; op = Write key_1_x (codes "a") } ∷ []) ∷ []) (p1 ∷ []) ([]) } ∷
     behind_commit
+
+-- what it comes to
+abbrev pub commit_round_outcome : Outcome
+commit_round_outcome = record {
+  order = t1_1_1 ∷ [];
+  tables = one_row (codes "x") (codes "a") ∷ [] ∷ [];
+}

@@ -33,6 +33,20 @@ elected_site_stays_silent = record (bare (1 ∷ 1 ∷ 1 ∷ [])) {
       [];
 }
 
+-- its text
+abbrev pub elected_site_stays_silent_text : List ℕ
+elected_site_stays_silent_text =
+    codes "# Site 2 joined an election of its own before it is asked for its vote, so it stays silent, and a recovery\n" ++
+    codes "# aborts.\n" ++
+    codes "weights = [1, 1, 1]\n" ++
+    codes "steps = [\n" ++
+    codes "  \"begin t 1 1,2,3\",\n" ++
+    codes "  \"write t 1.x a\",\n" ++
+    codes "  \"elect 2 t 2\",\n" ++
+    codes "  \"commit t\",\n" ++
+    codes "  \"recover 1,2,3\",\n" ++
+    codes "]\n"
+
 -- the packets, by their numbers
 abbrev pub p1 : Packet
 p1 = record { number = 1; «from» = 1; to = 2; msg = msg.VoteReq t1_1_1 0 0 }

@@ -34,6 +34,19 @@ every_packet_lost = record (bare (1 ∷ 1 ∷ [])) {
       [];
 }
 
+-- its text
+abbrev pub every_packet_lost_text : List ℕ
+every_packet_lost_text =
+    codes "# The request for a vote is lost, so the commit waits. A recovery, in which no packet is lost, aborts.\n" ++
+    codes "weights = [1, 1]\n" ++
+    codes "loss = 100\n" ++
+    codes "steps = [\n" ++
+    codes "  \"begin t 1 1,2\",\n" ++
+    codes "  \"write t 1.x a\",\n" ++
+    codes "  \"commit t\",\n" ++
+    codes "  \"recover 1,2\",\n" ++
+    codes "]\n"
+
 -- the packets, by their numbers
 abbrev pub p1 : Packet
 p1 = record { number = 1; «from» = 1; to = 2; msg = msg.VoteReq t1_1_1 0 0 }

@@ -22,6 +22,22 @@ missed_and_failed_rises = record (bare (1 ∷ [])) {
       [];
 }
 
+-- its text
+abbrev pub missed_and_failed_rises_text : List ℕ
+missed_and_failed_rises_text =
+    codes "# A site whose disk fails before its log is read misses its rise; one whose disk fails in the rise's own frame\n" ++
+    codes "# fails to rise, and the next rise finds that frame kept.\n" ++
+    codes "weights = [1]\n" ++
+    codes "steps = [\n" ++
+    codes "  \"crash 1\",\n" ++
+    codes "  \"stop 1 1 none\",\n" ++
+    codes "  \"restart 1\",\n" ++
+    codes "  \"stop 1 5 all\",\n" ++
+    codes "  \"restart 1\",\n" ++
+    codes "  \"restart 1\",\n" ++
+    codes "  \"restart 1\",\n" ++
+    codes "]\n"
+
 -- its history up to the rise that does not fail, entry by entry
 abbrev pub before_the_last_rise : List Entry
 before_the_last_rise =

@@ -14,6 +14,7 @@ use Rattle.e3_types.specs.declared.records.Record.TheVariants as log
 use Rattle.e3_types.specs.declared.messages.Message.TheVariants as msg
 use Rattle.e3_types.specs.declared.entries.Told.TheVariants as told
 use Rattle.e3_worked.specs.Names.{bare, s1_2, key_1_x, key_2_y}
+use Rattle.e3_worked.specs.Worked.{Outcome, one_row}
 
 -- its transactions
 abbrev pub t1_1_1 : Txn
@@ -35,6 +36,22 @@ older_waits_younger_dies = record (bare (1 ∷ 1 ∷ [])) {
       (item.Commit (codes "t") ∷ []) ∷
       [];
 }
+
+-- its text
+abbrev pub older_waits_younger_dies_text : List ℕ
+older_waits_younger_dies_text =
+    codes "# Each of two transactions wants what the other has. The older one waits; the younger one dies and is told for\n" ++
+    codes "# whom.\n" ++
+    codes "weights = [1, 1]\n" ++
+    codes "steps = [\n" ++
+    codes "  \"begin t 1 1,2\",\n" ++
+    codes "  \"begin u 2 1,2\",\n" ++
+    codes "  \"write t 1.x a\",\n" ++
+    codes "  \"write u 2.y b\",\n" ++
+    codes "  \"read t 2.y\",\n" ++
+    codes "  \"read u 1.x\",\n" ++
+    codes "  \"commit t\",\n" ++
+    codes "]\n"
 
 -- the packets, by their numbers
 abbrev pub p1 : Packet
@@ -101,6 +118,13 @@ older_waits_younger_dies_history =
 -- its front up to the step in which the older transaction's read comes to the key that the younger one wrote
 abbrev pub until_it_waits : List Entry
 until_it_waits = take 13 older_waits_younger_dies_history
+
+-- what it comes to
+abbrev pub older_waits_younger_dies_outcome : Outcome
+older_waits_younger_dies_outcome = record {
+  order = t1_1_1 ∷ [];
+  tables = one_row (codes "x") (codes "a") ∷ [] ∷ [];
+}
 
 -- its report
 abbrev pub older_waits_younger_dies_report : List ℕ

@@ -14,6 +14,7 @@ use Rattle.e3_types.specs.declared.messages.Message.TheVariants as msg
 use Rattle.e3_types.specs.declared.records.Record.TheVariants as log
 use Rattle.e3_types.specs.declared.entries.Told.TheVariants as told
 use Rattle.e3_worked.specs.Names.{bare, s1_2_3, key_2_y}
+use Rattle.e3_worked.specs.Worked.{Outcome, one_row}
 
 -- its transactions
 abbrev pub t1_1_1 : Txn
@@ -28,6 +29,17 @@ one_site_is_a_quorum = record (bare (5 ∷ 1 ∷ 1 ∷ [])) {
       (item.Commit (codes "t") ∷ []) ∷
       [];
 }
+
+-- its text
+abbrev pub one_site_is_a_quorum_text : List ℕ
+one_site_is_a_quorum_text =
+    codes "# The coordinator's weight is more than half: it is a quorum alone, and decides with its own attempt.\n" ++
+    codes "weights = [5, 1, 1]\n" ++
+    codes "steps = [\n" ++
+    codes "  \"begin t 1 1,2,3\",\n" ++
+    codes "  \"write t 2.y b\",\n" ++
+    codes "  \"commit t\",\n" ++
+    codes "]\n"
 
 -- the packets, by their numbers
 abbrev pub p1 : Packet
@@ -75,6 +87,13 @@ one_site_is_a_quorum_history =
     record { owner = 2; act = Step (input.Deliver p7) (log.Decision t1_1_1 Commit ∷ []) ([]) ([]) } ∷
     record { owner = 3; act = Step (input.Deliver p8) (log.Decision t1_1_1 Commit ∷ []) ([]) ([]) } ∷
     []
+
+-- what it comes to
+abbrev pub one_site_is_a_quorum_outcome : Outcome
+one_site_is_a_quorum_outcome = record {
+  order = t1_1_1 ∷ [];
+  tables = [] ∷ one_row (codes "y") (codes "b") ∷ [] ∷ [];
+}
 
 -- its report
 abbrev pub one_site_is_a_quorum_report : List ℕ

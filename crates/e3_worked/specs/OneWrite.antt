@@ -12,6 +12,7 @@ use Rattle.e3_types.specs.declared.scenarios.Item.TheVariants as item
 use Rattle.e3_types.specs.declared.records.Record.TheVariants as log
 use Rattle.e3_types.specs.declared.entries.Told.TheVariants as told
 use Rattle.e3_worked.specs.Names.{bare, s1, key_1_x}
+use Rattle.e3_worked.specs.Worked.{Outcome, one_row}
 
 -- its transactions
 abbrev pub t1_1_1 : Txn
@@ -49,6 +50,13 @@ one_write_history =
     record { owner = 0; act = Line 3 } ∷
     record { owner = 1; act = Step (input.Commit t1_1_1) (log.Vote t1_1_1 (record { n = 1; op = Write key_1_x (codes "a") } ∷ []) ∷ log.Attempt t1_1_1 1 Commit ∷ log.Decision t1_1_1 Commit ∷ []) ([]) (told.Ended t1_1_1 Commit ∷ []) } ∷
     []
+
+-- what it comes to
+abbrev pub one_write_outcome : Outcome
+one_write_outcome = record {
+  order = t1_1_1 ∷ [];
+  tables = one_row (codes "x") (codes "a") ∷ [];
+}
 
 -- its report
 abbrev pub one_write_report : List ℕ

@@ -14,6 +14,7 @@ use Rattle.e3_types.specs.declared.messages.Message.TheVariants as msg
 use Rattle.e3_types.specs.declared.records.Record.TheVariants as log
 use Rattle.e3_types.specs.declared.entries.Told.TheVariants as told
 use Rattle.e3_worked.specs.Names.{bare, s1_2, key_2_x}
+use Rattle.e3_worked.specs.Worked.{Outcome, one_row}
 
 -- its transactions
 abbrev pub t1_1_1 : Txn
@@ -31,6 +32,21 @@ restart_before_the_vote = record (bare (1 ∷ 1 ∷ [])) {
       (item.Commit (codes "t") ∷ []) ∷
       [];
 }
+
+-- its text
+abbrev pub restart_before_the_vote_text : List ℕ
+restart_before_the_vote_text =
+    codes "# A site answers a read, loses its power and rises. It has forgotten the read, so it refuses its vote, and the\n" ++
+    codes "# transaction aborts.\n" ++
+    codes "weights = [1, 1]\n" ++
+    codes "rows = [\"2.x a\"]\n" ++
+    codes "steps = [\n" ++
+    codes "  \"begin t 1 1,2\",\n" ++
+    codes "  \"read t 2.x\",\n" ++
+    codes "  \"crash 2\",\n" ++
+    codes "  \"restart 2\",\n" ++
+    codes "  \"commit t\",\n" ++
+    codes "]\n"
 
 -- the packets, by their numbers
 abbrev pub p1 : Packet
@@ -69,6 +85,13 @@ restart_before_the_vote_history =
     record { owner = 1; act = Step (input.Deliver p4) (log.Decision t1_1_1 Abort ∷ []) (p5 ∷ []) (told.Ended t1_1_1 Abort ∷ []) } ∷
     record { owner = 2; act = Step (input.Deliver p5) ([]) ([]) ([]) } ∷
     []
+
+-- what it comes to
+abbrev pub restart_before_the_vote_outcome : Outcome
+restart_before_the_vote_outcome = record {
+  order = [];
+  tables = [] ∷ one_row (codes "x") (codes "a") ∷ [];
+}
 
 -- its report
 abbrev pub restart_before_the_vote_report : List ℕ

@@ -15,6 +15,7 @@ use Rattle.e3_types.specs.declared.messages.Message.TheVariants as msg
 use Rattle.e3_types.specs.declared.entries.Refusal.TheVariants as refusal
 use Rattle.e3_types.specs.declared.entries.Told.TheVariants as told
 use Rattle.e3_worked.specs.Names.{bare, s1_2, key_2_x}
+use Rattle.e3_worked.specs.Worked.{Outcome, one_row}
 
 -- its transactions
 abbrev pub t1_1_1 : Txn
@@ -33,6 +34,22 @@ restart_dooms = record (bare (1 ∷ 1 ∷ [])) {
       (item.Commit (codes "t") ∷ []) ∷
       [];
 }
+
+-- its text
+abbrev pub restart_dooms_text : List ℕ
+restart_dooms_text =
+    codes "# As restart_before_the_vote, but the transaction reads once more: the answer comes under the new incarnation,\n" ++
+    codes "# so the coordinator dooms the transaction.\n" ++
+    codes "weights = [1, 1]\n" ++
+    codes "rows = [\"2.x a\"]\n" ++
+    codes "steps = [\n" ++
+    codes "  \"begin t 1 1,2\",\n" ++
+    codes "  \"read t 2.x\",\n" ++
+    codes "  \"crash 2\",\n" ++
+    codes "  \"restart 2\",\n" ++
+    codes "  \"read t 2.x\",\n" ++
+    codes "  \"commit t\",\n" ++
+    codes "]\n"
 
 -- the packets, by their numbers
 abbrev pub p1 : Packet
@@ -73,6 +90,13 @@ restart_dooms_history =
     record { owner = 0; act = Line 6 } ∷
     record { owner = 1; act = Step (input.Commit t1_1_1) ([]) ([]) (told.Refused t1_1_1 (refusal.Doomed 2 1 2) ∷ []) } ∷
     []
+
+-- what it comes to
+abbrev pub restart_dooms_outcome : Outcome
+restart_dooms_outcome = record {
+  order = [];
+  tables = [] ∷ one_row (codes "x") (codes "a") ∷ [];
+}
 
 -- its report
 abbrev pub restart_dooms_report : List ℕ

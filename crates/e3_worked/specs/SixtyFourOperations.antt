@@ -15,6 +15,7 @@ use Rattle.e3_types.specs.declared.scenarios.Item.TheVariants as item
 use Rattle.e3_types.specs.declared.records.Record.TheVariants as log
 use Rattle.e3_types.specs.declared.entries.Told.TheVariants as told
 use Rattle.e3_worked.specs.Names.{bare, s1}
+use Rattle.e3_worked.specs.Worked.{Outcome}
 
 -- the operation of a number writes the value v of that number to the key k of that number
 abbrev pub key : ℕ → Key
@@ -42,6 +43,80 @@ sixty_four_operations = record (bare (1 ∷ [])) {
       [];
 }
 
+-- its text
+abbrev pub sixty_four_operations_text : List ℕ
+sixty_four_operations_text =
+    codes "# As many operations as a transaction may have, and its commit.\n" ++
+    codes "weights = [1]\n" ++
+    codes "steps = [\n" ++
+    codes "  \"begin t 1 1\",\n" ++
+    codes "  \"write t 1.k1 v1\",\n" ++
+    codes "  \"write t 1.k2 v2\",\n" ++
+    codes "  \"write t 1.k3 v3\",\n" ++
+    codes "  \"write t 1.k4 v4\",\n" ++
+    codes "  \"write t 1.k5 v5\",\n" ++
+    codes "  \"write t 1.k6 v6\",\n" ++
+    codes "  \"write t 1.k7 v7\",\n" ++
+    codes "  \"write t 1.k8 v8\",\n" ++
+    codes "  \"write t 1.k9 v9\",\n" ++
+    codes "  \"write t 1.k10 v10\",\n" ++
+    codes "  \"write t 1.k11 v11\",\n" ++
+    codes "  \"write t 1.k12 v12\",\n" ++
+    codes "  \"write t 1.k13 v13\",\n" ++
+    codes "  \"write t 1.k14 v14\",\n" ++
+    codes "  \"write t 1.k15 v15\",\n" ++
+    codes "  \"write t 1.k16 v16\",\n" ++
+    codes "  \"write t 1.k17 v17\",\n" ++
+    codes "  \"write t 1.k18 v18\",\n" ++
+    codes "  \"write t 1.k19 v19\",\n" ++
+    codes "  \"write t 1.k20 v20\",\n" ++
+    codes "  \"write t 1.k21 v21\",\n" ++
+    codes "  \"write t 1.k22 v22\",\n" ++
+    codes "  \"write t 1.k23 v23\",\n" ++
+    codes "  \"write t 1.k24 v24\",\n" ++
+    codes "  \"write t 1.k25 v25\",\n" ++
+    codes "  \"write t 1.k26 v26\",\n" ++
+    codes "  \"write t 1.k27 v27\",\n" ++
+    codes "  \"write t 1.k28 v28\",\n" ++
+    codes "  \"write t 1.k29 v29\",\n" ++
+    codes "  \"write t 1.k30 v30\",\n" ++
+    codes "  \"write t 1.k31 v31\",\n" ++
+    codes "  \"write t 1.k32 v32\",\n" ++
+    codes "  \"write t 1.k33 v33\",\n" ++
+    codes "  \"write t 1.k34 v34\",\n" ++
+    codes "  \"write t 1.k35 v35\",\n" ++
+    codes "  \"write t 1.k36 v36\",\n" ++
+    codes "  \"write t 1.k37 v37\",\n" ++
+    codes "  \"write t 1.k38 v38\",\n" ++
+    codes "  \"write t 1.k39 v39\",\n" ++
+    codes "  \"write t 1.k40 v40\",\n" ++
+    codes "  \"write t 1.k41 v41\",\n" ++
+    codes "  \"write t 1.k42 v42\",\n" ++
+    codes "  \"write t 1.k43 v43\",\n" ++
+    codes "  \"write t 1.k44 v44\",\n" ++
+    codes "  \"write t 1.k45 v45\",\n" ++
+    codes "  \"write t 1.k46 v46\",\n" ++
+    codes "  \"write t 1.k47 v47\",\n" ++
+    codes "  \"write t 1.k48 v48\",\n" ++
+    codes "  \"write t 1.k49 v49\",\n" ++
+    codes "  \"write t 1.k50 v50\",\n" ++
+    codes "  \"write t 1.k51 v51\",\n" ++
+    codes "  \"write t 1.k52 v52\",\n" ++
+    codes "  \"write t 1.k53 v53\",\n" ++
+    codes "  \"write t 1.k54 v54\",\n" ++
+    codes "  \"write t 1.k55 v55\",\n" ++
+    codes "  \"write t 1.k56 v56\",\n" ++
+    codes "  \"write t 1.k57 v57\",\n" ++
+    codes "  \"write t 1.k58 v58\",\n" ++
+    codes "  \"write t 1.k59 v59\",\n" ++
+    codes "  \"write t 1.k60 v60\",\n" ++
+    codes "  \"write t 1.k61 v61\",\n" ++
+    codes "  \"write t 1.k62 v62\",\n" ++
+    codes "  \"write t 1.k63 v63\",\n" ++
+    codes "  \"write t 1.k64 v64\",\n" ++
+    codes "  \"commit t\",\n" ++
+    codes "]\n"
+
 -- the entries of the operations up to this number
 abbrev pub written : ℕ → List Entry
 written zero = []
@@ -61,3 +136,19 @@ sixty_four_operations_history =
     record { owner = 0; act = Line 66 } ∷
     record { owner = 1; act = Step (input.Commit t1_1_1) (log.Vote t1_1_1 (map (λ n. record { n = n; op = Write (key n) (value n) }) (up_to 64)) ∷ log.Attempt t1_1_1 1 Commit ∷ log.Decision t1_1_1 Commit ∷ []) ([]) (told.Ended t1_1_1 Commit ∷ []) } ∷
     []
+
+-- the numbers in the order of the names of their keys
+abbrev pub by_name : List ℕ
+by_name =
+    1 ∷ 10 ∷ 11 ∷ 12 ∷ 13 ∷ 14 ∷ 15 ∷ 16 ∷ 17 ∷ 18 ∷ 19 ∷ 2 ∷ 20 ∷ 21 ∷ 22 ∷ 23 ∷
+    24 ∷ 25 ∷ 26 ∷ 27 ∷ 28 ∷ 29 ∷ 3 ∷ 30 ∷ 31 ∷ 32 ∷ 33 ∷ 34 ∷ 35 ∷ 36 ∷ 37 ∷ 38 ∷
+    39 ∷ 4 ∷ 40 ∷ 41 ∷ 42 ∷ 43 ∷ 44 ∷ 45 ∷ 46 ∷ 47 ∷ 48 ∷ 49 ∷ 5 ∷ 50 ∷ 51 ∷ 52 ∷
+    53 ∷ 54 ∷ 55 ∷ 56 ∷ 57 ∷ 58 ∷ 59 ∷ 6 ∷ 60 ∷ 61 ∷ 62 ∷ 63 ∷ 64 ∷ 7 ∷ 8 ∷ 9 ∷
+    []
+
+-- what it comes to
+abbrev pub sixty_four_operations_outcome : Outcome
+sixty_four_operations_outcome = record {
+  order = t1_1_1 ∷ [];
+  tables = map (λ n. record { name = (key n).name; val = value n }) by_name ∷ [];
+}

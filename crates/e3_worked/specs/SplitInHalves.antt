@@ -36,6 +36,23 @@ split_in_halves = record (bare (1 ∷ 1 ∷ 1 ∷ 1 ∷ [])) {
       [];
 }
 
+-- its text
+abbrev pub split_in_halves_text : List ℕ
+split_in_halves_text =
+    codes "# The network is cut into halves of equal weight. Neither is a quorum, so the recovery of one blocks, and the\n" ++
+    codes "# other has nothing open. The whole network aborts.\n" ++
+    codes "weights = [1, 1, 1, 1]\n" ++
+    codes "steps = [\n" ++
+    codes "  \"begin t 1 1,2,3,4\",\n" ++
+    codes "  \"write t 1.x a\",\n" ++
+    codes "  \"split 1,2|3,4\",\n" ++
+    codes "  \"commit t\",\n" ++
+    codes "  \"recover 1,2\",\n" ++
+    codes "  \"recover 3,4\",\n" ++
+    codes "  \"merge\",\n" ++
+    codes "  \"recover 1,2,3,4\",\n" ++
+    codes "]\n"
+
 -- the packets, by their numbers
 abbrev pub p1 : Packet
 p1 = record { number = 1; «from» = 1; to = 2; msg = msg.VoteReq t1_1_1 0 0 }

@@ -14,6 +14,7 @@ use Rattle.e3_types.specs.declared.records.Record.TheVariants as log
 use Rattle.e3_types.specs.declared.messages.Message.TheVariants as msg
 use Rattle.e3_types.specs.declared.entries.Told.TheVariants as told
 use Rattle.e3_worked.specs.Names.{bare, s1_2, s2_3, key_1_ann, key_2_bob, key_3_cid}
+use Rattle.e3_worked.specs.Worked.{Outcome, one_row}
 
 -- its transactions
 abbrev pub t1_1_1 : Txn
@@ -45,6 +46,28 @@ three_sites = record (bare (1 ∷ 1 ∷ 1 ∷ [])) {
       (item.Commit (codes "c") ∷ []) ∷
       [];
 }
+
+-- its text
+abbrev pub three_sites_text : List ℕ
+three_sites_text =
+    codes "# Three transactions over three sites, one after the other: each reads what the one before it wrote.\n" ++
+    codes "weights = [1, 1, 1]\n" ++
+    codes "rows = [\"1.ann 100\", \"2.bob 50\", \"3.cid 7\"]\n" ++
+    codes "steps = [\n" ++
+    codes "  \"begin a 1 1,2\",\n" ++
+    codes "  \"read a 1.ann\",\n" ++
+    codes "  \"read a 2.bob\",\n" ++
+    codes "  \"write a 1.ann 90\",\n" ++
+    codes "  \"write a 2.bob 60\",\n" ++
+    codes "  \"commit a\",\n" ++
+    codes "  \"begin b 3 2,3\",\n" ++
+    codes "  \"write b 3.cid 17\",\n" ++
+    codes "  \"read b 2.bob\",\n" ++
+    codes "  \"commit b\",\n" ++
+    codes "  \"begin c 2 1,2\",\n" ++
+    codes "  \"read c 1.ann\",\n" ++
+    codes "  \"commit c\",\n" ++
+    codes "]\n"
 
 -- the packets, by their numbers
 abbrev pub p1 : Packet
@@ -172,6 +195,13 @@ three_sites_history =
     record { owner = 2; act = Step (input.Deliver p22) (log.Decision t2_1_1 Commit ∷ []) (p23 ∷ []) (told.Ended t2_1_1 Commit ∷ []) } ∷
     record { owner = 1; act = Step (input.Deliver p23) (log.Decision t2_1_1 Commit ∷ []) ([]) ([]) } ∷
     []
+
+-- what it comes to
+abbrev pub three_sites_outcome : Outcome
+three_sites_outcome = record {
+  order = t1_1_1 ∷ t3_1_1 ∷ t2_1_1 ∷ [];
+  tables = one_row (codes "ann") (codes "90") ∷ one_row (codes "bob") (codes "60") ∷ one_row (codes "cid") (codes "17") ∷ [];
+}
 
 -- its report
 abbrev pub three_sites_report : List ℕ

@@ -18,6 +18,29 @@ use Rattle.e3_worked.specs.ThreeSites.{three_sites, t1_1_1, t2_1_1, t3_1_1}
 abbrev pub three_sites_every_packet_twice : Scenario
 three_sites_every_packet_twice = record three_sites { repeat = 100 }
 
+-- its text
+abbrev pub three_sites_every_packet_twice_text : List ℕ
+three_sites_every_packet_twice_text =
+    codes "# As three_sites, with every packet coming twice: nothing else is told, and the logs are the same.\n" ++
+    codes "weights = [1, 1, 1]\n" ++
+    codes "rows = [\"1.ann 100\", \"2.bob 50\", \"3.cid 7\"]\n" ++
+    codes "repeat = 100\n" ++
+    codes "steps = [\n" ++
+    codes "  \"begin a 1 1,2\",\n" ++
+    codes "  \"read a 1.ann\",\n" ++
+    codes "  \"read a 2.bob\",\n" ++
+    codes "  \"write a 1.ann 90\",\n" ++
+    codes "  \"write a 2.bob 60\",\n" ++
+    codes "  \"commit a\",\n" ++
+    codes "  \"begin b 3 2,3\",\n" ++
+    codes "  \"write b 3.cid 17\",\n" ++
+    codes "  \"read b 2.bob\",\n" ++
+    codes "  \"commit b\",\n" ++
+    codes "  \"begin c 2 1,2\",\n" ++
+    codes "  \"read c 1.ann\",\n" ++
+    codes "  \"commit c\",\n" ++
+    codes "]\n"
+
 -- the packets, by their numbers
 abbrev pub p1 : Packet
 p1 = record { number = 1; «from» = 1; to = 2; msg = msg.Do t1_1_1 2 (Read key_2_bob) }

@@ -42,6 +42,26 @@ too_late_kept_down = record (bare (1 ∷ 1 ∷ [])) {
       [];
 }
 
+-- its text
+abbrev pub too_late_kept_down_text : List ℕ
+too_late_kept_down_text =
+    codes "# A cancel that comes too late, an expiry that changes nothing, and items for a site that is down.\n" ++
+    codes "weights = [1, 1]\n" ++
+    codes "steps = [\n" ++
+    codes "  \"begin t 1 1,2\",\n" ++
+    codes "  \"write t 1.x a\",\n" ++
+    codes "  \"stop 2 5 none\",\n" ++
+    codes "  \"commit t\",\n" ++
+    codes "  \"cancel t\",\n" ++
+    codes "  \"restart 2\",\n" ++
+    codes "  \"expire 2 t\",\n" ++
+    codes "  \"crash 1\",\n" ++
+    codes "  \"begin u 1 1\",\n" ++
+    codes "  \"write u 1.x b\",\n" ++
+    codes "  \"restart 1\",\n" ++
+    codes "  \"read t 1.x\",\n" ++
+    codes "]\n"
+
 -- the packets, by their numbers
 abbrev pub p1 : Packet
 p1 = record { number = 1; «from» = 1; to = 2; msg = msg.VoteReq t1_1_1 0 0 }

@@ -29,6 +29,16 @@ two_sites_at_once = record (bare (1 ∷ 1 ∷ [])) {
       [];
 }
 
+-- its text
+abbrev pub two_sites_at_once_text : List ℕ
+two_sites_at_once_text =
+    codes "# Two transactions in groups, so that steps of both sites stand beside each other.\n" ++
+    codes "weights = [1, 1]\n" ++
+    codes "steps = [\n" ++
+    codes "  [\"begin t 1 1,2\", \"begin u 2 1,2\"],\n" ++
+    codes "  [\"write t 2.y a\", \"write u 1.x b\"],\n" ++
+    codes "]\n"
+
 -- the packets, by their numbers
 abbrev pub p1 : Packet
 p1 = record { number = 1; «from» = 1; to = 2; msg = msg.Do t1_1_1 1 (Write key_2_y (codes "a")) }

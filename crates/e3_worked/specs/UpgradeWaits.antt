@@ -12,6 +12,7 @@ use Rattle.e3_types.specs.declared.scenarios.Item.TheVariants as item
 use Rattle.e3_types.specs.declared.records.Record.TheVariants as log
 use Rattle.e3_types.specs.declared.entries.Told.TheVariants as told
 use Rattle.e3_worked.specs.Names.{bare, s1, key_1_x}
+use Rattle.e3_worked.specs.Worked.{Outcome, one_row}
 
 -- its transactions
 abbrev pub t1_1_1 : Txn
@@ -35,6 +36,23 @@ upgrade_waits = record (bare (1 ∷ [])) {
       [];
 }
 
+-- its text
+abbrev pub upgrade_waits_text : List ℕ
+upgrade_waits_text =
+    codes "# Two transactions share the lock of a record, and both want to write it: the older one waits, the younger one\n" ++
+    codes "# dies.\n" ++
+    codes "weights = [1]\n" ++
+    codes "rows = [\"1.x a\"]\n" ++
+    codes "steps = [\n" ++
+    codes "  \"begin t 1 1\",\n" ++
+    codes "  \"begin u 1 1\",\n" ++
+    codes "  \"read t 1.x\",\n" ++
+    codes "  \"read u 1.x\",\n" ++
+    codes "  \"write t 1.x b\",\n" ++
+    codes "  \"write u 1.x c\",\n" ++
+    codes "  \"commit t\",\n" ++
+    codes "]\n"
+
 -- its history, entry by entry
 abbrev pub upgrade_waits_history : List Entry
 upgrade_waits_history =
@@ -54,6 +72,13 @@ upgrade_waits_history =
     record { owner = 0; act = Line 7 } ∷
     record { owner = 1; act = Step (input.Commit t1_1_1) (log.Vote t1_1_1 (record { n = 1; op = Read key_1_x } ∷ record { n = 2; op = Write key_1_x (codes "b") } ∷ []) ∷ log.Attempt t1_1_1 1 Commit ∷ log.Decision t1_1_1 Commit ∷ []) ([]) (told.Ended t1_1_1 Commit ∷ []) } ∷
     []
+
+-- what it comes to
+abbrev pub upgrade_waits_outcome : Outcome
+upgrade_waits_outcome = record {
+  order = t1_1_1 ∷ [];
+  tables = one_row (codes "x") (codes "b") ∷ [];
+}
 
 -- its report
 abbrev pub upgrade_waits_report : List ℕ

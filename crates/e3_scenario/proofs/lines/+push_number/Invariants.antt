@@ -1,5 +1,0 @@
--- the number that is left
-use Rattle.e3_scenario.proofs.lines.+push_number.Given as goal
-
-abbrev pub decreases-push_number : goal.decreases-push_number
-decreases-push_number l = l.number
