@@ -1,70 +1,89 @@
 // How a run ended, in words.
 use crate::given::{Given, Ran, played};
-use crate::texts::{push_all, push_formatted};
 use e3_disk::{Disk, MemDisk};
-use e3_lines::push_text;
-use e3_types::{List, NoMemory};
+use e3_lines::Page;
 use std::alloc::Global;
 use std::sync::Wait;
 use std::thread::Threads;
 
 // Adds its status, how many entries its history has, how many bytes are left of its source, and how many it wrote.
-fn push_end(alloc: Global, out: &mut List<u8>, ran: &Ran) -> Option<()> {
-    let (status, entries) = (ran.ended.status, ran.ended.history.len());
-    let (left, written) = (ran.source.left().len(), ran.sink.written().len());
-    push_formatted(
-        out,
-        format!(in alloc; ": status {status}, entries {entries}, left {left}, written {written}"),
-    )
+fn push_end(page: &mut Page, ran: &Ran) {
+    page.labelled(": status ", u64::from(ran.ended.status));
+    page.labelled(", entries ", ran.ended.history.len());
+    page.labelled(", left ", ran.source.left().len() as u64);
+    page.labelled(", written ", ran.sink.written().len() as u64);
 }
 
-// What the bytes that were written are of a report; none where they are a text of their own.
-fn part_of(written: &[u8], report: &[u8]) -> Option<&'static [u8]> {
+// What the bytes that were written are of a report, where they have some; none where they are a text of their own.
+fn part_of(written: &[u8], report: &[u8]) -> Option<&'static str> {
     if written.starts_with(b"refused") {
         None
     } else if written == report {
-        Some(b", the report\n")
+        Some(", the report\n")
     } else if report.starts_with(written) {
-        Some(b", a front of the report\n")
+        Some(", a front of the report\n")
     } else if written.starts_with(report) {
-        Some(b", the report and more\n")
+        Some(", the report and more\n")
     } else {
         None
     }
 }
 
 // Adds what was written: a part of this report, or else the text itself.
-fn push_written(out: &mut List<u8>, written: &[u8], report: &[u8]) -> Option<()> {
+fn push_written(page: &mut Page, written: &[u8], report: &[u8]) {
     if written.is_empty() {
-        return push_all(out, &[b"\n"]);
+        return page.text("\n");
     }
     match part_of(written, report) {
-        Some(part) => push_all(out, &[part]),
-        None => push_all(out, &[b":\n", written]),
+        Some(part) => page.text(part),
+        None => {
+            page.text(":\n");
+            page.bytes(written);
+        }
     }
 }
 
-/// Adds the line of a run: how it ended, and what it wrote of the report of a run with nothing in its way; nothing without memory.
+// Adds how a run ended, and what it wrote of this report.
+fn push_ran(page: &mut Page, ran: &Ran, report: &[u8]) {
+    push_end(page, ran);
+    push_written(page, ran.sink.written(), report);
+}
+
+// Adds how a run of what is given ended, and what it wrote of the report of the plain one.
+fn push_beside<R: Wait + Threads + Sync>(
+    rt: &R,
+    alloc: Global,
+    page: &mut Page,
+    given: &Given,
+    plain: &Ran,
+) {
+    match played(rt, alloc, given) {
+        Some(ran) => push_ran(page, &ran, plain.sink.written()),
+        None => page.lack(),
+    }
+}
+
+/// Adds the line of a run: how it ended, and what it wrote of the report of a run with nothing in its way.
 pub fn push_run<R: Wait + Threads + Sync>(
     rt: &R,
     alloc: Global,
-    out: &mut List<u8>,
+    page: &mut Page,
     name: &[u8],
     text: &[u8],
     settings: &[u8],
-) -> Option<()> {
-    let plain = played(rt, alloc, &Given::plain(text))?;
-    let ran = played(rt, alloc, &Given::with(text, settings))?;
-    push_all(out, &[name])?;
-    push_end(alloc, out, &ran)?;
-    push_written(out, ran.sink.written(), plain.sink.written())
+) {
+    page.bytes(name);
+    match played(rt, alloc, &Given::plain(text)) {
+        Some(plain) => push_beside(rt, alloc, page, &Given::with(text, settings), &plain),
+        None => page.lack(),
+    }
 }
 
 // How often a line stands in a text.
-fn count_line(text: &[u8], line: &str) -> u64 {
+fn count_line(text: &[u8], line: &[u8]) -> u64 {
     let mut count = 0u64;
     for part in text.split(|byte| *byte == b'\n') {
-        if part == line.as_bytes() {
+        if part == line {
             count = count.saturating_add(1);
         }
     }
@@ -72,38 +91,42 @@ fn count_line(text: &[u8], line: &str) -> u64 {
 }
 
 const EVENTS: [(&str, &str); 6] = [
-    ("missed", "1: missed"),
-    ("rise failed", "1: rise failed 1 fault"),
-    ("fell", "1: fell fault"),
-    ("incarnation 2", "1: rose 2"),
-    ("incarnation 3", "1: rose 3"),
-    ("committed", "1: 1.1.1 committed"),
+    (", missed ", "1: missed"),
+    (", rise failed ", "1: rise failed 1 fault"),
+    (", fell ", "1: fell fault"),
+    (", incarnation 2 ", "1: rose 2"),
+    (", incarnation 3 ", "1: rose 3"),
+    (", committed ", "1: 1.1.1 committed"),
 ];
 
-// Adds its status, and how often site 1 missed a rise, failed in one, fell, and rose again, and transaction 1.1.1 was
-// committed.
-fn push_events(alloc: Global, out: &mut List<u8>, ran: &Ran) -> Option<()> {
-    let status = ran.ended.status;
-    push_formatted(out, format!(in alloc; ": status {status}"))?;
+// Adds how often site 1 missed a rise, failed in one, fell, and rose again, and transaction 1.1.1 was committed.
+fn push_events(page: &mut Page, report: &[u8]) {
     for (label, line) in EVENTS {
-        let count = count_line(ran.sink.written(), line);
-        push_formatted(out, format!(in alloc; ", {label} {count}"))?;
+        page.labelled(label, count_line(report, line.as_bytes()));
     }
-    push_all(out, &[b"\n"])
 }
 
-/// Adds the line of a run: its status, and how often each event of site 1 stands in its report; nothing without memory.
+// Adds its status, and how often each event of site 1 stands in its report.
+fn push_counts(page: &mut Page, ran: &Ran) {
+    page.labelled(": status ", u64::from(ran.ended.status));
+    push_events(page, ran.sink.written());
+    page.text("\n");
+}
+
+/// Adds the line of a run: its status, and how often each event of site 1 stands in its report.
 pub fn push_counted<R: Wait + Threads + Sync>(
     rt: &R,
     alloc: Global,
-    out: &mut List<u8>,
+    page: &mut Page,
     name: &[u8],
     text: &[u8],
     settings: &[u8],
-) -> Option<()> {
-    let ran = played(rt, alloc, &Given::with(text, settings))?;
-    push_all(out, &[name])?;
-    push_events(alloc, out, &ran)
+) {
+    page.bytes(name);
+    match played(rt, alloc, &Given::with(text, settings)) {
+        Some(ran) => push_counts(page, &ran),
+        None => page.lack(),
+    }
 }
 
 const DIGITS: &[u8; 16] = b"0123456789ABCDEF";
@@ -112,21 +135,19 @@ fn digit(value: u8) -> u8 {
     DIGITS.get(usize::from(value)).copied().unwrap_or(b'?')
 }
 
-// Adds bytes as two digits each.
-fn push_digits(out: &mut List<u8>, bytes: &[u8]) -> Result<(), NoMemory> {
+// Adds bytes as two digits each, 16 on a line.
+fn push_hex(page: &mut Page, bytes: &[u8]) {
+    let mut count = 0u8;
     for byte in bytes {
-        out.push(digit(*byte / 16))?;
-        out.push(digit(*byte % 16))?;
+        page.bytes(&[digit(*byte / 16), digit(*byte % 16)]);
+        count = count.wrapping_add(1);
+        if count % 16 == 0 {
+            page.text("\n");
+        }
     }
-    push_text(out, "\n")
-}
-
-// Adds bytes, 16 on a line.
-fn push_hex(out: &mut List<u8>, bytes: &[u8]) -> Result<(), NoMemory> {
-    for line in bytes.chunks(16) {
-        push_digits(out, line)?;
+    if count % 16 != 0 {
+        page.text("\n");
     }
-    Ok(())
 }
 
 // All bytes of a disk; none without memory, or where it fails.
@@ -137,15 +158,26 @@ fn bytes_of(alloc: Global, disk: &mut MemDisk) -> Option<Vec<u8>> {
     Some(bytes)
 }
 
-/// Adds the bytes of the disk of site 1 behind a run; nothing without memory.
-pub fn push_disk<R: Wait + Threads + Sync>(
-    rt: &R,
-    alloc: Global,
-    out: &mut List<u8>,
-    text: &[u8],
-) -> Option<()> {
-    let mut ran = played(rt, alloc, &Given::plain(text))?;
-    let disk = ran.ended.disks.first_mut()?;
-    let bytes = bytes_of(alloc, disk)?;
-    push_hex(out, &bytes).ok()
+// Adds the bytes of a disk.
+fn push_bytes(alloc: Global, page: &mut Page, disk: &mut MemDisk) {
+    match bytes_of(alloc, disk) {
+        Some(bytes) => push_hex(page, &bytes),
+        None => page.lack(),
+    }
+}
+
+// Adds the bytes of the first disk.
+fn push_first(alloc: Global, page: &mut Page, disks: &mut [MemDisk]) {
+    match disks.first_mut() {
+        Some(disk) => push_bytes(alloc, page, disk),
+        None => page.lack(),
+    }
+}
+
+/// Adds the bytes of the disk of site 1 behind a run.
+pub fn push_disk<R: Wait + Threads + Sync>(rt: &R, alloc: Global, page: &mut Page, text: &[u8]) {
+    match played(rt, alloc, &Given::plain(text)) {
+        Some(mut ran) => push_first(alloc, page, &mut ran.ended.disks),
+        None => page.lack(),
+    }
 }

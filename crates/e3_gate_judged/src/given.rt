@@ -9,66 +9,46 @@ use std::alloc::Global;
 use std::sync::Wait;
 use std::thread::Threads;
 
-/// What a run is given: its words, the text of its source, the most bytes that a read gives and a write takes, the capacity
-/// of its disks, the most entries of its history; and the call of the source, of the sink and of the disk of site 1 that
-/// fails, counted from 1, or 0 for none.
+/// What a run is given: the text of its source, and settings, as `read 7, take 11`, by the first letters of their names. These
+/// are its words, the most bytes that a read gives and a take of the sink has, the capacity of its disks, the most entries of
+/// its history; and the call of the source, of the sink, as `output`, and of the disk of site 1 that fails, counted from 1.
 #[derive(Clone, Copy)]
 pub struct Given<'a> {
-    words: &'a [u8],
     text: &'a [u8],
-    read: u64,
-    take: u64,
-    capacity: u64,
-    entries: u32,
-    source: u64,
-    output: u64,
-    disk: u64,
+    settings: &'a [u8],
 }
 
 impl<'a> Given<'a> {
     /// The scenario of this text, with nothing in its way.
     pub fn plain(text: &'a [u8]) -> Given<'a> {
         Given {
-            words: b"run",
             text,
-            read: 4096,
-            take: 65536,
-            capacity: 65536,
-            entries: 2_000_000,
-            source: 0,
-            output: 0,
-            disk: 0,
+            settings: b"",
         }
     }
 
-    // What a setting says, by the first letter of its name.
-    fn set(&mut self, setting: &'a [u8]) {
-        let (name, value) = cut(without_space(setting), b' ');
-        let count = number(value);
-        match name.first() {
-            Some(b'w') => self.words = value,
-            Some(b'r') => self.read = count,
-            Some(b't') => self.take = count,
-            Some(b'c') => self.capacity = count,
-            Some(b'e') => self.entries = if count <= 2_000_000 {
-                count as u32
-            } else {
-                2_000_000
-            },
-            Some(b's') => self.source = count,
-            Some(b'o') => self.output = count,
-            Some(b'd') => self.disk = count,
-            _ => {}
-        }
-    }
-
-    /// With these settings, as `read 7, take 11`.
+    /// With these settings.
     pub fn with(text: &'a [u8], settings: &'a [u8]) -> Given<'a> {
-        let mut given = Given::plain(text);
-        for setting in settings.split(|byte| *byte == b',') {
-            given.set(setting);
+        Given { text, settings }
+    }
+
+    // What is set by this letter.
+    fn value(&self, letter: u8) -> Option<&'a [u8]> {
+        for setting in self.settings.split(|byte| *byte == b',') {
+            let (name, value) = cut(without_space(setting), b' ');
+            if name.starts_with(&[letter]) {
+                return Some(value);
+            }
         }
-        given
+        None
+    }
+
+    // The number that is set by this letter, or else this one.
+    fn number(&self, letter: u8, other: u64) -> u64 {
+        match self.value(letter) {
+            Some(value) => number(value),
+            None => other,
+        }
     }
 }
 
@@ -80,21 +60,30 @@ pub struct Ran {
     pub sink: MemSink,
 }
 
+// A word as a text; none without memory.
+fn word_of(alloc: Global, word: &[u8]) -> Option<String> {
+    match str::from_utf8(word) {
+        Ok(word) => String::from_str(alloc, word).ok(),
+        Err(_) => None,
+    }
+}
+
 fn words_of(alloc: Global, words: &[u8]) -> Option<Vec<String>> {
     let mut out = Vec::new(alloc);
     for word in words.split(|byte| *byte == b' ') {
         if !word.is_empty() {
-            let word = str::from_utf8(word).ok()?;
-            out.push(String::from_str(alloc, word).ok()?).ok()?;
+            out.push(word_of(alloc, word)?).ok()?;
         }
     }
     Some(out)
 }
 
-fn list_of(alloc: Global, call: u64) -> Option<List<u64>> {
+// The calls that fail: the one that is set by this letter.
+fn fails(alloc: Global, given: &Given, letter: u8) -> Option<List<u64>> {
     let mut calls = List::new(alloc);
-    if call > 0 {
-        calls.push(call).ok()?;
+    let call = given.number(letter, 0);
+    if call > 0 && calls.push(call).is_err() {
+        return None;
     }
     Some(calls)
 }
@@ -102,25 +91,36 @@ fn list_of(alloc: Global, call: u64) -> Option<List<u64>> {
 fn source_of(alloc: Global, given: &Given) -> Option<MemSource> {
     let mut text = List::new(alloc);
     text.extend(given.text).ok()?;
-    let fails = list_of(alloc, given.source)?;
-    Some(MemSource::new(text, given.read.max(1), fails))
+    let fails = fails(alloc, given, b's')?;
+    Some(MemSource::new(text, given.number(b'r', 4096).max(1), fails))
 }
 
 fn sink_of(alloc: Global, given: &Given) -> Option<MemSink> {
-    let fails = list_of(alloc, given.output)?;
-    MemSink::new(alloc, 65536, given.take.max(1), fails).ok()
+    let fails = fails(alloc, given, b'o')?;
+    MemSink::new(alloc, 65536, given.number(b't', 65536).max(1), fails).ok()
+}
+
+// The most entries that are set, of 2,000,000.
+fn entries_of(given: &Given) -> u32 {
+    let most = given.number(b'e', 2_000_000);
+    if most <= 2_000_000 {
+        most as u32
+    } else {
+        2_000_000
+    }
 }
 
 /// The run; none without memory.
 pub fn played<R: Wait + Threads + Sync>(rt: &R, alloc: Global, given: &Given) -> Option<Ran> {
-    let words = words_of(alloc, given.words)?;
+    let words = words_of(alloc, given.value(b'w').unwrap_or(b"run"))?;
     let mut source = source_of(alloc, given)?;
     let mut sink = sink_of(alloc, given)?;
-    let fails = list_of(alloc, given.disk)?;
-    let Ok(disks) = memory_disks(alloc, given.capacity.max(2).min(65536), 1, fails) else {
+    let fails = fails(alloc, given, b'd')?;
+    let capacity = given.number(b'c', 65536).max(2).min(65536);
+    let Ok(disks) = memory_disks(alloc, capacity, 1, fails) else {
         return None;
     };
-    let most = given.entries.max(1).min(2_000_000);
+    let most = entries_of(given).max(1).min(2_000_000);
     let ended = run_within(
         rt,
         alloc,

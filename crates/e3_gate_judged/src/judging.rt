@@ -1,12 +1,14 @@
 // What the judge says of runs.
 use crate::given::{Given, Ran, played};
 use crate::standing::count_standing;
-use crate::texts::{cut, push_all, push_formatted, without_space};
+use crate::texts::{cut, without_space};
 use e3_disk::MemDisk;
 use e3_judge::{is_whole, judge};
+use e3_lines::Page;
+use e3_outside::MemSink;
 use e3_scenario::read_scenario;
 use e3_top::Ended;
-use e3_types::{List, Scenario};
+use e3_types::Scenario;
 use e3_world::History;
 use std::alloc::Global;
 use std::sync::Wait;
@@ -14,13 +16,8 @@ use std::thread::Threads;
 
 const SOUND: &str = "legal, whole";
 
-// What the judge says of a history; none without memory.
-fn verdict_of(alloc: Global, scenario: &Scenario, history: &History) -> Option<&'static str> {
-    match judge(alloc, scenario, history) {
-        Ok(None) => {}
-        Ok(Some(_)) => return Some("not legal"),
-        Err(_) => return None,
-    }
+// What the judge says of a legal history; none without memory.
+fn verdict_of_legal(alloc: Global, scenario: &Scenario, history: &History) -> Option<&'static str> {
     match is_whole(alloc, scenario, history) {
         Ok(true) => Some(SOUND),
         Ok(false) => Some("legal, not whole"),
@@ -28,28 +25,30 @@ fn verdict_of(alloc: Global, scenario: &Scenario, history: &History) -> Option<&
     }
 }
 
-// Adds what is said of a run that wrote so many bytes; nothing without memory.
-fn push_end(
-    alloc: Global,
-    out: &mut List<u8>,
-    scenario: &Scenario,
-    ended: Ended<MemDisk>,
-    written: usize,
-) -> Option<()> {
-    let Ended {
-        status,
-        history,
-        disks,
-    } = ended;
-    let said = verdict_of(alloc, scenario, &history)?;
-    let standing = count_standing(alloc, scenario, history.as_slice(), disks)?;
-    let sites = scenario.weights.len();
-    push_formatted(
-        out,
-        format!(in alloc;
-            "status {status}, written {written}, {said}, disks standing {standing} of {sites}"
-        ),
-    )
+// What the judge says of a history; none without memory.
+fn verdict_of(alloc: Global, scenario: &Scenario, history: &History) -> Option<&'static str> {
+    match judge(alloc, scenario, history) {
+        Ok(None) => verdict_of_legal(alloc, scenario, history),
+        Ok(Some(_)) => Some("not legal"),
+        Err(_) => None,
+    }
+}
+
+// Adds what the judge says of a history.
+fn push_verdict(alloc: Global, page: &mut Page, scenario: &Scenario, history: &History) {
+    match verdict_of(alloc, scenario, history) {
+        Some(said) => page.text(said),
+        None => page.lack(),
+    }
+}
+
+// Adds what is said of a run.
+fn push_end(alloc: Global, page: &mut Page, scenario: &Scenario, ended: Ended<MemDisk>) {
+    let Ended { history, disks, .. } = ended;
+    push_verdict(alloc, page, scenario, &history);
+    let standing = count_standing(alloc, page, scenario, history.as_slice(), disks);
+    page.labelled(", disks standing ", standing);
+    page.labelled(" of ", scenario.weights.len());
 }
 
 // The line is an event: it begins with the number of a site.
@@ -57,82 +56,113 @@ fn is_event(line: &[u8]) -> bool {
     matches!(line, [b'0'..=b'9', b':', ..])
 }
 
+// Adds a line that is an event.
+fn push_event(page: &mut Page, line: &[u8]) {
+    if is_event(line) {
+        page.text(", ");
+        page.bytes(line);
+    }
+}
+
 // Adds the events of a report behind its first stop.
-fn push_events(out: &mut List<u8>, report: &[u8]) -> Option<()> {
+fn push_events(page: &mut Page, report: &[u8]) {
     let mut is_behind = false;
     for line in report.split(|byte| *byte == b'\n') {
         if line.starts_with(b"order") {
-            return Some(());
+            return;
         }
-        if is_behind && is_event(line) {
-            push_all(out, &[b", ", line])?;
+        if is_behind {
+            push_event(page, line);
         }
         is_behind = is_behind || line.starts_with(b"> stop ");
     }
-    Some(())
 }
 
-/// Adds what is said of a run of this scenario; nothing without memory, or where the text spells no scenario. Its report comes back.
+// The scenario that a text spells; none where it spells none, or without memory.
+fn scenario_of(alloc: Global, text: &[u8]) -> Option<Scenario> {
+    read_scenario(alloc, text).ok()
+}
+
+// Adds what is said of a run of this scenario; its sink, which has its report, comes back.
+fn said_of(alloc: Global, page: &mut Page, scenario: &Scenario, ran: Ran) -> MemSink {
+    let Ran { ended, sink, .. } = ran;
+    page.labelled("status ", u64::from(ended.status));
+    page.labelled(", written ", sink.written().len() as u64);
+    page.text(", ");
+    push_end(alloc, page, scenario, ended);
+    sink
+}
+
+// The same of the scenario that a text spells; none without memory, or where the text spells no scenario.
 fn said<R: Wait + Threads + Sync>(
     rt: &R,
     alloc: Global,
-    out: &mut List<u8>,
+    page: &mut Page,
     text: &[u8],
-) -> Option<List<u8>> {
-    let scenario = read_scenario(alloc, text).ok()?;
-    let Ran { ended, sink, .. } = played(rt, alloc, &Given::plain(text))?;
-    push_end(alloc, out, &scenario, ended, sink.written().len())?;
-    let mut report = List::new(alloc);
-    report.extend(sink.written()).ok()?;
-    Some(report)
+) -> Option<MemSink> {
+    let scenario = scenario_of(alloc, text)?;
+    let ran = played(rt, alloc, &Given::plain(text))?;
+    Some(said_of(alloc, page, &scenario, ran))
 }
 
 /// Adds the line of what is said of a run.
-pub fn push_said<R: Wait + Threads + Sync>(
-    rt: &R,
-    alloc: Global,
-    out: &mut List<u8>,
-    text: &[u8],
-) -> Option<()> {
-    said(rt, alloc, out, text)?;
-    push_all(out, &[b"\n"])
+pub fn push_said<R: Wait + Threads + Sync>(rt: &R, alloc: Global, page: &mut Page, text: &[u8]) {
+    if said(rt, alloc, page, text).is_none() {
+        page.lack();
+    }
+    page.text("\n");
 }
 
 /// The same, behind its name.
 pub fn push_judged<R: Wait + Threads + Sync>(
     rt: &R,
     alloc: Global,
-    out: &mut List<u8>,
+    page: &mut Page,
     name: &[u8],
     text: &[u8],
-) -> Option<()> {
-    push_all(out, &[name, b": "])?;
-    push_said(rt, alloc, out, text)
+) {
+    page.bytes(name);
+    page.text(": ");
+    push_said(rt, alloc, page, text);
 }
 
 // The text with these words for its `@`.
-fn text_with(alloc: Global, text: &[u8], words: &[u8]) -> Option<List<u8>> {
+fn text_with(alloc: Global, text: &[u8], words: &[u8]) -> Page {
     let (front, back) = cut(text, b'@');
-    let mut whole = List::new(alloc);
-    push_all(&mut whole, &[front, words, back])?;
-    Some(whole)
+    let mut whole = Page::new(alloc);
+    whole.bytes(front);
+    whole.bytes(words);
+    whole.bytes(back);
+    whole
+}
+
+// Adds what is said of a run, and the events behind its stop.
+fn push_stopped<R: Wait + Threads + Sync>(rt: &R, alloc: Global, page: &mut Page, text: &Page) {
+    if !text.is_whole() {
+        page.lack();
+    }
+    match said(rt, alloc, page, text.as_slice()) {
+        Some(sink) => push_events(page, sink.written()),
+        None => page.lack(),
+    }
 }
 
 /// Adds the line of a run whose text has these words for its `@`: what is said of it, and the events behind its stop.
 pub fn push_stop<R: Wait + Threads + Sync>(
     rt: &R,
     alloc: Global,
-    out: &mut List<u8>,
+    page: &mut Page,
     name: &[u8],
     text: &[u8],
     words: &[u8],
-) -> Option<()> {
+) {
     let words = without_space(words);
-    push_all(out, &[name, b" ", words, b": "])?;
-    let text = text_with(alloc, text, words)?;
-    let report = said(rt, alloc, out, text.as_slice())?;
-    push_events(out, report.as_slice())?;
-    push_all(out, &[b"\n"])
+    page.bytes(name);
+    page.text(" ");
+    page.bytes(words);
+    page.text(": ");
+    push_stopped(rt, alloc, page, &text_with(alloc, text, words));
+    page.text("\n");
 }
 
 // Whether the history of a run of this scenario is legal and whole; none without memory.
@@ -143,24 +173,46 @@ fn is_sound<R: Wait + Threads + Sync>(
     text: &[u8],
 ) -> Option<bool> {
     let ran = played(rt, alloc, &Given::plain(text))?;
-    Some(verdict_of(alloc, scenario, &ran.ended.history)? == SOUND)
+    let said = verdict_of(alloc, scenario, &ran.ended.history)?;
+    Some(said == SOUND)
+}
+
+// How many of four runs of this scenario are legal and whole.
+fn count_sound<R: Wait + Threads + Sync>(
+    rt: &R,
+    alloc: Global,
+    page: &mut Page,
+    scenario: &Scenario,
+    text: &[u8],
+) -> u64 {
+    let mut sound = 0u64;
+    for _time in 0..4u32 {
+        match is_sound(rt, alloc, scenario, text) {
+            Some(true) => sound = sound.saturating_add(1),
+            Some(false) => {}
+            None => page.lack(),
+        }
+    }
+    sound
 }
 
 /// Adds how many of four runs of this scenario are legal and whole.
 pub fn push_group<R: Wait + Threads + Sync>(
     rt: &R,
     alloc: Global,
-    out: &mut List<u8>,
+    page: &mut Page,
     name: &[u8],
     text: &[u8],
-) -> Option<()> {
-    let scenario = read_scenario(alloc, text).ok()?;
-    let mut sound = 0u32;
-    for _time in 0..4u32 {
-        if is_sound(rt, alloc, &scenario, text)? {
-            sound = sound.saturating_add(1);
+) {
+    page.bytes(name);
+    page.text(": ");
+    page.text(SOUND);
+    match scenario_of(alloc, text) {
+        Some(scenario) => {
+            let sound = count_sound(rt, alloc, page, &scenario, text);
+            page.labelled(" ", sound);
         }
+        None => page.lack(),
     }
-    push_all(out, &[name])?;
-    push_formatted(out, format!(in alloc; ": {SOUND} {sound} of 4\n"))
+    page.text(" of 4\n");
 }

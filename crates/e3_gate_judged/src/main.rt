@@ -16,8 +16,8 @@ mod judging;
 mod standing;
 mod texts;
 
+use e3_lines::Page;
 use e3_outside::{StdSource, read_up_to};
-use e3_types::List;
 use std::alloc::Global;
 use std::io::{self, Write};
 use std::process::ExitCode;
@@ -33,61 +33,71 @@ const NO_MEMORY: u8 = 6;
 /// More bytes than all texts have.
 const MOST: u64 = 1_048_576;
 
-// Adds the lines of what is run of a text, by the first letter of what is asked; nothing without memory.
+// Adds the lines of what is run of a text, by the first letter of what is asked.
 fn push_command<R: Wait + Threads + Sync>(
     rt: &R,
     alloc: Global,
-    out: &mut List<u8>,
+    page: &mut Page,
     text: &[u8],
     command: &[u8],
-) -> Option<()> {
+) {
     let (word, rest) = cut(command, b' ');
     let (name, settings) = cut(rest, b':');
     match word.first() {
-        Some(b'j') => judging::push_judged(rt, alloc, out, name, text),
-        Some(b'g') => judging::push_group(rt, alloc, out, name, text),
-        Some(b's') => judging::push_stop(rt, alloc, out, name, text, settings),
-        Some(b'r') => ends::push_run(rt, alloc, out, name, text, settings),
-        Some(b'e') => ends::push_counted(rt, alloc, out, name, text, settings),
-        Some(b'd') => ends::push_disk(rt, alloc, out, text),
-        Some(b'f') => fronts::push_fronts(rt, alloc, out, text),
-        _ => None,
+        Some(b'j') => judging::push_judged(rt, alloc, page, name, text),
+        Some(b'g') => judging::push_group(rt, alloc, page, name, text),
+        Some(b's') => judging::push_stop(rt, alloc, page, name, text, settings),
+        Some(b'r') => ends::push_run(rt, alloc, page, name, text, settings),
+        Some(b'e') => ends::push_counted(rt, alloc, page, name, text, settings),
+        Some(b'd') => ends::push_disk(rt, alloc, page, text),
+        Some(b'f') => fronts::push_fronts(rt, alloc, page, text),
+        _ => page.lack(),
     }
 }
 
-// All lines; none without memory.
-fn lines<R: Wait + Threads + Sync>(rt: &R, alloc: Global, input: &[u8]) -> Option<List<u8>> {
-    let mut out = List::new(alloc);
-    let mut text = List::new(alloc);
+// Takes a line of a text, or adds the lines of what is run of it.
+fn push_line<R: Wait + Threads + Sync>(
+    rt: &R,
+    alloc: Global,
+    page: &mut Page,
+    text: &mut Page,
+    line: &[u8],
+) {
+    match line.strip_prefix(b"##") {
+        None => text.bytes(line),
+        Some([b't', ..]) => *text = Page::new(alloc),
+        Some(command) => push_command(
+            rt,
+            alloc,
+            page,
+            text.as_slice(),
+            texts::without_end(command),
+        ),
+    }
+    if !text.is_whole() {
+        page.lack();
+    }
+}
+
+// All lines.
+fn lines<R: Wait + Threads + Sync>(rt: &R, alloc: Global, input: &[u8]) -> Page {
+    let mut page = Page::new(alloc);
+    let mut text = Page::new(alloc);
     for line in input.split_inclusive(|byte| *byte == b'\n') {
-        let Some(command) = line.strip_prefix(b"##") else {
-            text.extend(line).ok()?;
-            continue;
-        };
-        match command.first() {
-            Some(b't') => text = List::new(alloc),
-            _ => push_command(
-                rt,
-                alloc,
-                &mut out,
-                text.as_slice(),
-                texts::without_end(command),
-            )?,
-        }
+        push_line(rt, alloc, &mut page, &mut text, line);
     }
-    if out.is_empty() {
-        judging::push_said(rt, alloc, &mut out, text.as_slice())?;
+    if page.as_slice().is_empty() {
+        judging::push_said(rt, alloc, &mut page, text.as_slice());
     }
-    Some(out)
+    page
 }
 
 fn main(rt: HostRuntime) -> ExitCode {
-    let alloc = rt.alloc();
     let mut source = StdSource::new(rt.reader());
-    let Ok(input) = read_up_to(alloc, &mut source, MOST) else {
+    let Ok(input) = read_up_to(rt.alloc(), &mut source, MOST) else {
         return ExitCode::from(NO_MEMORY);
     };
-    let Some(text) = lines(&rt, alloc, input.as_slice()) else {
+    let Some(text) = lines(&rt, rt.alloc(), input.as_slice()).done() else {
         return ExitCode::from(NO_MEMORY);
     };
     match io::writer(&rt).write_all(text.as_slice()) {

@@ -1,6 +1,4 @@
-// Words of the input, and texts that are added.
-use e3_types::List;
-use std::alloc::AllocError;
+// Words of the input.
 
 /// What stands before the first such byte, and what stands behind it.
 pub fn cut(line: &[u8], mark: u8) -> (&[u8], &[u8]) {
@@ -20,24 +18,8 @@ pub fn without_space(text: &[u8]) -> &[u8] {
 
 /// A number; 0 where the word is none.
 pub fn number(word: &[u8]) -> u64 {
-    let Ok(text) = str::from_utf8(word) else {
-        return 0;
-    };
-    text.parse::<u64>().unwrap_or(0)
-}
-
-/// Adds a text that was formatted; nothing without memory.
-pub fn push_formatted(out: &mut List<u8>, text: Result<String, AllocError>) -> Option<()> {
-    match text {
-        Ok(text) => out.extend(text.as_bytes()).ok(),
-        Err(_) => None,
+    match str::from_utf8(word) {
+        Ok(text) => text.parse::<u64>().unwrap_or(0),
+        Err(_) => 0,
     }
-}
-
-/// Adds texts, one behind the other; nothing without memory.
-pub fn push_all(out: &mut List<u8>, texts: &[&[u8]]) -> Option<()> {
-    for text in texts {
-        out.extend(text).ok()?;
-    }
-    Some(())
 }

@@ -11,7 +11,7 @@ mod texts;
 mod values;
 mod verdicts;
 
-use e3_page::Page;
+use e3_lines::Page;
 use std::alloc::Global;
 
 /// Adds all lines.

@@ -7,7 +7,7 @@ mod quorums;
 mod rows;
 mod texts;
 
-use e3_page::Page;
+use e3_lines::Page;
 use std::alloc::Global;
 
 /// Adds all lines.

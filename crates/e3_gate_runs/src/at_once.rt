@@ -6,9 +6,10 @@
 mod batches;
 mod meeting;
 
-use batches::batches;
+use crate::playing::CAPACITY;
+use batches::push_batches;
 use e3_fleet::memory_disks;
-use e3_lines::{push_labelled, push_text};
+use e3_lines::Page;
 use e3_outside::{MemSink, MemSource};
 use e3_top::run;
 use e3_types::List;
@@ -24,40 +25,114 @@ const RUNS: u32 = 20;
 const SCENARIO: &str =
     "weights = [1, 1]\nsteps = [\n  [\"begin t 1 1,2\", \"begin u 2 1,2\"],\n  [\"write t 2.y a\", \"write u 1.x b\"],\n]\n";
 
-// The report of a run behind this gate; none without memory.
-fn reported(rt: &(impl Wait + Threads + Sync), alloc: Global, gate: &Meeting) -> Option<MemSink> {
-    let mut words = Vec::new(alloc);
-    words.push(String::from_str(alloc, "run").ok()?).ok()?;
-    let mut text = List::new(alloc);
-    text.extend(SCENARIO.as_bytes()).ok()?;
-    let mut source = MemSource::new(text, 4096, List::new(alloc));
-    let mut sink = MemSink::new(alloc, 65536, 65536, List::new(alloc)).ok()?;
-    let Ok(disks) = memory_disks(alloc, 65536, 0, List::new(alloc)) else {
-        return None;
-    };
-    let _ended = run(rt, alloc, &words, &mut source, &mut sink, disks, gate);
-    Some(sink)
+// In how many runs the sites met, and how many reports are the first one.
+#[derive(Clone, Copy)]
+struct Tally {
+    met: u64,
+    same: u64,
 }
 
-/// What the runs come to: in how many of them the sites met, and how many reports are the first one, which follows.
-pub fn lines(rt: &(impl Wait + Threads + Sync), alloc: Global) -> Option<List<u8>> {
-    let first = reported(rt, alloc, &Meeting::new())?;
-    let (mut met, mut same) = (0u64, 0u64);
-    for _ in 0..RUNS {
-        let gate = Meeting::new();
-        let sink = reported(rt, alloc, &gate)?;
-        if gate.is_met() {
-            met = met.saturating_add(1);
+// The word that asks for a run.
+fn words(alloc: Global) -> Option<Vec<String>> {
+    let mut words = Vec::new(alloc);
+    words.push(String::from_str(alloc, "run").ok()?).ok()?;
+    Some(words)
+}
+
+// What is read: the scenario.
+fn source(alloc: Global) -> Option<MemSource> {
+    let mut text = List::new(alloc);
+    text.extend(SCENARIO.as_bytes()).ok()?;
+    Some(MemSource::new(text, 4096, List::new(alloc)))
+}
+
+// Runs what is asked for over disks in memory, and answers whether memory was there for them.
+fn is_run<R: Wait + Threads + Sync>(
+    rt: &R,
+    alloc: Global,
+    source: &mut MemSource,
+    sink: &mut MemSink,
+    gate: &Meeting,
+    words: &[String],
+) -> bool {
+    let Ok(disks) = memory_disks(alloc, CAPACITY, 0, List::new(alloc)) else {
+        return false;
+    };
+    let _ended = run(rt, alloc, words, source, sink, disks, gate);
+    true
+}
+
+// Writes the report of a run behind this gate, and answers whether memory was there for it.
+fn is_reported<R: Wait + Threads + Sync>(
+    rt: &R,
+    alloc: Global,
+    sink: &mut MemSink,
+    gate: &Meeting,
+) -> bool {
+    let Some(mut source) = source(alloc) else {
+        return false;
+    };
+    match words(alloc) {
+        Some(words) => is_run(rt, alloc, &mut source, sink, gate, &words),
+        None => false,
+    }
+}
+
+// The report of a run behind this gate; none without memory.
+fn reported<R: Wait + Threads + Sync>(rt: &R, alloc: Global, gate: &Meeting) -> Option<MemSink> {
+    let mut sink = MemSink::new(alloc, 65536, 65536, List::new(alloc)).ok()?;
+    if is_reported(rt, alloc, &mut sink, gate) {
+        Some(sink)
+    } else {
+        None
+    }
+}
+
+impl Tally {
+    // Counts a run.
+    fn count(&mut self, is_met: bool, is_same: bool) {
+        if is_met {
+            self.met = self.met.saturating_add(1);
         }
-        if sink.written() == first.written() {
-            same = same.saturating_add(1);
+        if is_same {
+            self.same = self.same.saturating_add(1);
         }
     }
-    let mut out = List::new(alloc);
-    push_labelled(&mut out, "runs in which they met: ", met).ok()?;
-    push_labelled(&mut out, "\nreports that are this one: ", same).ok()?;
-    push_text(&mut out, "\n").ok()?;
-    out.extend(first.written()).ok()?;
-    batches(rt, alloc, &mut out)?;
-    Some(out)
+}
+
+// Runs it once more, and counts what that comes to beside the first report.
+fn count_run<R: Wait + Threads + Sync>(
+    rt: &R,
+    alloc: Global,
+    page: &mut Page,
+    first: &[u8],
+    tally: &mut Tally,
+) {
+    let gate = Meeting::new();
+    match reported(rt, alloc, &gate) {
+        Some(sink) => tally.count(gate.is_met(), sink.written() == first),
+        None => page.lack(),
+    }
+}
+
+// Adds what the runs come to beside the first report, and that report.
+fn push_runs<R: Wait + Threads + Sync>(rt: &R, alloc: Global, page: &mut Page, first: &[u8]) {
+    let mut tally = Tally { met: 0, same: 0 };
+    for _ in 0..RUNS {
+        count_run(rt, alloc, page, first, &mut tally);
+    }
+    page.labelled("runs in which they met: ", tally.met);
+    page.labelled("\nreports that are this one: ", tally.same);
+    page.text("\n");
+    page.bytes(first);
+}
+
+/// Adds what the runs come to: in how many of them the sites met, and how many reports are the first one, which follows. Then
+/// how many calls of disks a group of commits makes.
+pub fn push_lines<R: Wait + Threads + Sync>(rt: &R, alloc: Global, page: &mut Page) {
+    match reported(rt, alloc, &Meeting::new()) {
+        Some(first) => push_runs(rt, alloc, page, first.written()),
+        None => page.lack(),
+    }
+    push_batches(rt, alloc, page);
 }

@@ -4,11 +4,11 @@
 
 mod at_once;
 mod audits;
+mod playing;
 mod rounds;
 
+use e3_lines::{Page, part_of};
 use e3_outside::{StdSource, read_up_to};
-use e3_page::{Page, part_of};
-use e3_types::List;
 use std::alloc::Global;
 use std::io::{self, Write};
 use std::process::ExitCode;
@@ -24,31 +24,15 @@ const NO_MEMORY: u8 = 5;
 /// More bytes than the input has.
 const MOST: u64 = 1_048_576;
 
-// Adds the lines of a part behind its name; without memory there are none.
-fn push_part(page: &mut Page, name: &str, lines: Option<List<u8>>) {
-    page.text("== ");
-    page.text(name);
-    page.text("\n");
-    match lines {
-        Some(lines) => page.bytes(lines.as_slice()),
-        None => page.lack(),
-    }
-}
-
 // All lines, each part behind its name.
 fn lines<R: Wait + Threads + Sync>(rt: &R, alloc: Global, input: &[u8]) -> Page {
     let mut page = Page::new(alloc);
-    push_part(&mut page, "rounds", rounds::lines(rt, alloc));
-    let input = part_of(alloc, input, b"audits");
-    if !input.is_whole() {
-        page.lack();
-    }
-    push_part(
-        &mut page,
-        "audits",
-        audits::lines(rt, alloc, input.as_slice()),
-    );
-    push_part(&mut page, "at once", at_once::lines(rt, alloc));
+    page.text("== rounds\n");
+    rounds::push_lines(rt, alloc, &mut page);
+    page.text("== audits\n");
+    audits::push_lines(rt, alloc, &mut page, &part_of(alloc, input, b"audits"));
+    page.text("== at once\n");
+    at_once::push_lines(rt, alloc, &mut page);
     page
 }
 

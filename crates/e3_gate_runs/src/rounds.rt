@@ -7,62 +7,51 @@ ghost use Rattle.e3_world.specs.Given.{IsGiven};
 mod reports;
 mod rounds;
 mod rows;
+mod verdicts;
 
-use e3_fleet::{memory_disks, play_over};
-use e3_lines::push_text;
-use e3_outside::OpenGate;
+use crate::playing::history_of;
+use e3_lines::Page;
 use e3_scenario::read_scenario;
-use e3_types::{List, Scenario};
-use e3_world::History;
+use e3_types::Scenario;
 use std::alloc::Global;
 use std::sync::Wait;
 use std::thread::Threads;
 
-// In how many threads sites work.
-const THREADS: usize = 1;
-
-// How many packets a worker takes in one turn of work at most.
-const PACKETS: u32 = 8;
-
-// How many entries a history may have.
-const MOST: u32 = 2_000_000;
-
-// The history of a run of this scenario; none without memory.
-fn played<R: Wait + Threads + Sync>(rt: &R, alloc: Global, scenario: &Scenario) -> Option<History>
+// Adds the rounds of a scenario, and what is reported of the first recovery.
+fn push_scenario<R: Wait + Threads + Sync>(
+    rt: &R,
+    alloc: Global,
+    page: &mut Page,
+    scenario: &Scenario,
+)
     requires { IsGiven scenario.now }
 {
-    let Ok(disks) = memory_disks(alloc, 65536, 0, List::new(alloc)) else {
-        return None;
-    };
-    let played = play_over(
-        rt, alloc, scenario, disks, &OpenGate, THREADS, PACKETS, MOST,
-    );
-    Some(played.history)
+    match history_of(rt, alloc, scenario) {
+        Some(history) => rounds::push_rounds(page, scenario, history.as_slice()),
+        None => page.lack(),
+    }
+    reports::push_reports(rt, alloc, page, scenario);
 }
 
-// Adds the lines of the rounds of a worked scenario; nothing without memory.
+// Adds the line of a worked scenario.
 fn push_row<R: Wait + Threads + Sync>(
     rt: &R,
     alloc: Global,
-    out: &mut List<u8>,
+    page: &mut Page,
     name: &str,
     text: &str,
-) -> Option<()> {
-    let Ok(scenario) = read_scenario(alloc, text.as_bytes()) else {
-        return None;
-    };
-    let history = played(rt, alloc, &scenario)?;
-    push_text(out, name).ok()?;
-    rounds::push_rounds(out, &scenario, history.as_slice()).ok()?;
-    reports::push_reports(rt, alloc, out, &scenario)?;
-    push_text(out, "\n").ok()
+) {
+    page.text(name);
+    match read_scenario(alloc, text.as_bytes()) {
+        Ok(scenario) => push_scenario(rt, alloc, page, &scenario),
+        Err(_) => page.lack(),
+    }
+    page.text("\n");
 }
 
-/// All lines; none without memory.
-pub fn lines<R: Wait + Threads + Sync>(rt: &R, alloc: Global) -> Option<List<u8>> {
-    let mut out = List::new(alloc);
+/// Adds all lines.
+pub fn push_lines<R: Wait + Threads + Sync>(rt: &R, alloc: Global, page: &mut Page) {
     for (name, text) in rows::ROWS {
-        push_row(rt, alloc, &mut out, name, text)?;
+        push_row(rt, alloc, page, name, text);
     }
-    Some(out)
 }

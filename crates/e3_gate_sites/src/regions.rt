@@ -5,7 +5,7 @@ mod answers;
 mod commands;
 mod held;
 
-use e3_page::Page;
+use e3_lines::Page;
 use e3_types::NoMemory;
 use held::{Held, blank};
 use std::alloc::Global;

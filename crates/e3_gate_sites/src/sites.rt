@@ -12,7 +12,7 @@ mod logs;
 mod readings;
 mod texts;
 
-use e3_page::Page;
+use e3_lines::Page;
 use e3_scenario::read_scenario;
 use e3_trace::{before_mark, read_trace};
 use e3_types::{Entry, List, NoMemory, Scenario};

@@ -7,7 +7,7 @@ mod plain;
 
 use cases::{Case, cases_in};
 use e3_check::check;
-use e3_page::Page;
+use e3_lines::Page;
 use e3_types::NoMemory;
 use plain::plain_line;
 use std::alloc::Global;

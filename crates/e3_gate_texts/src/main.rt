@@ -6,8 +6,8 @@ mod checks;
 mod generated;
 mod texts;
 
+use e3_lines::{Page, part_of};
 use e3_outside::{StdSource, read_up_to};
-use e3_page::{Page, part_of};
 use std::alloc::Global;
 use std::io::{self, Write};
 use std::process::ExitCode;

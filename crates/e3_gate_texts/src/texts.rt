@@ -3,7 +3,7 @@
 
 mod scenarios;
 
-use e3_page::Page;
+use e3_lines::Page;
 use e3_report::report;
 use e3_scenario::read_scenario;
 use e3_trace::{before_mark, read_trace};

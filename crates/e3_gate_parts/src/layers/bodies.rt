@@ -3,7 +3,7 @@ use crate::layers::texts::{push_hex, push_known};
 use e3_codec::{
     RecordFault, each_list_has_one_spelling, put_records, read_records, records_are_a_format,
 };
-use e3_page::Page;
+use e3_lines::Page;
 use e3_types::{List, NoMemory, Record};
 use std::alloc::Global;
 

@@ -1,8 +1,8 @@
 // Logs whose disk was damaged: each byte of a disk of three frames, changed to four other values.
 use crate::layers::logs::{add, blank, disk_of, log_over, open, push_cause};
 use e3_disk::Disk;
+use e3_lines::Page;
 use e3_log::{Frame, Log};
-use e3_page::Page;
 use std::alloc::Global;
 
 const BODIES: [&[u8]; 3] = [&[2, 0, 0, 0, 1], &[7], &[1, 2, 3]];

@@ -1,7 +1,7 @@
 // Disks in memory, by calls through the bounds: what a stop leaves, what fits, and which calls fail.
 use crate::layers::texts::push_hex;
 use e3_disk::{Disk, DiskFault, Drill, MemDisk, Piece, torn_writes_keep_the_rest, write_pieces};
-use e3_page::Page;
+use e3_lines::Page;
 use e3_types::{Leave, List};
 use std::alloc::Global;
 

@@ -3,11 +3,11 @@
 use crate::layers::disks::push_content;
 use crate::layers::texts::push_hex;
 use e3_disk::{Disk, Drill, MemDisk};
+use e3_lines::Page;
 use e3_log::{
     AppendFault, Frame, Log, OpenCause, OpenRefused, a_frame_is_whole_or_not_at_all,
     frames_have_one_reading,
 };
-use e3_page::Page;
 use e3_types::{Leave, List};
 use std::alloc::Global;
 

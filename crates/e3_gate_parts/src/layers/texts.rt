@@ -1,5 +1,5 @@
 // What several cases print.
-use e3_page::Page;
+use e3_lines::Page;
 
 const DIGITS: &[u8; 16] = b"0123456789ABCDEF";
 

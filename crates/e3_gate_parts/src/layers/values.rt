@@ -1,8 +1,8 @@
 // The values of which all is made: sets of sites, the age of transactions, names, values, lists and their copies, fronts of
 // queues, the generator's words, and histories.
 use crate::layers::texts::{push_flag, push_known, push_numbers};
+use e3_lines::Page;
 use e3_locks::front;
-use e3_page::Page;
 use e3_types::{Act, Copied, Entry, List, Lock, Mode, Name, NoMemory, Record, SiteSet, Txn, Val};
 use e3_world::{History, fate_word};
 use std::alloc::Global;

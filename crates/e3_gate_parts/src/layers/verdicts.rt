@@ -1,5 +1,5 @@
 // Verdicts of an elector over the reports of its group: each of the five cases of the rule.
-use e3_page::Page;
+use e3_lines::Page;
 use e3_rule::verdict_of;
 use e3_types::{SiteReport, SiteSet, State, Told, Txn};
 

@@ -5,7 +5,7 @@ ghost use Rattle.e3_elect.specs.Calling.{is_own};
 use crate::parts::texts::{flag, push_known, push_word};
 use e3_commit::{Round, Votes};
 use e3_elect::Election;
-use e3_page::Page;
+use e3_lines::Page;
 use e3_quorum::{WeightFault, Weights};
 use e3_rule::decide;
 use e3_types::{Call, Dir, NoMemory, SiteReport, SiteSet, State, Verdict};

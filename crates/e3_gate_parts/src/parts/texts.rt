@@ -1,5 +1,5 @@
 // What several cases print.
-use e3_page::Page;
+use e3_lines::Page;
 use e3_types::{Grant, Refusal, Told, Txn};
 
 /// Adds a word behind a space.

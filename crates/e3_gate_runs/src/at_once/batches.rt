@@ -1,9 +1,11 @@
 // How many calls of disks a group of commits makes: the packets that a site takes in one turn of work have one frame.
+ghost use Rattle.std.specs.Prelude.{IfSome};
 ghost use Rattle.e3_world.specs.Given.{IsGiven};
 
+use crate::playing::{CAPACITY, MOST};
 use e3_disk::MemDisk;
-use e3_fleet::{memory_disks, play_over};
-use e3_lines::{push_labelled, push_text};
+use e3_fleet::{Played, memory_disks, play_over};
+use e3_lines::Page;
 use e3_outside::OpenGate;
 use e3_scenario::read_scenario;
 use e3_types::{List, Scenario};
@@ -11,9 +13,8 @@ use std::alloc::Global;
 use std::sync::Wait;
 use std::thread::Threads;
 
-const CAPACITY: u64 = 65536;
-
-const MOST: u32 = 10_000;
+// In how many threads sites work.
+const THREADS: usize = 4;
 
 // Eight transactions of three sites begin at site 1, and write at site 2.
 const THREE: &str =
@@ -31,89 +32,114 @@ const CRASH: &str = "  \"crash 3\",\n";
 const COMMITS: &str =
     "  [\"commit a\", \"commit b\", \"commit c\", \"commit d\", \"commit e\", \"commit f\", \"commit g\", \"commit h\"],\n";
 
-// How many writes and syncs were asked of the disk of each site by the end of a scenario.
+// How many writes and syncs are asked of the disks of the sites 1 and 2.
+#[derive(Clone, Copy)]
+struct Calls {
+    first: u64,
+    second: u64,
+}
+
+// The calls of the disks that a run leaves; none where it did not come to its end.
+fn calls_behind(played: &Played<MemDisk>) -> Option<Calls> {
+    if played.ended.is_err() {
+        return None;
+    }
+    match played.disks.as_slice() {
+        [first, second, ..] => Some(Calls {
+            first: first.calls(),
+            second: second.calls(),
+        }),
+        _ => None,
+    }
+}
+
+// The calls by the end of a scenario; none without memory.
 fn calls_at_end<R: Wait + Threads + Sync>(
     rt: &R,
     alloc: Global,
     scenario: &Scenario,
     packets: u32,
-) -> Option<List<u64>>
+) -> Option<Calls>
     requires { IsGiven scenario.now }
 {
     let Ok(disks) = memory_disks(alloc, CAPACITY, 0, List::new(alloc)) else {
         return None;
     };
-    let played = play_over(rt, alloc, scenario, disks, &OpenGate, 4, packets, MOST);
-    let Ok(()) = played.ended else {
-        return None;
-    };
-    let mut calls = List::new(alloc);
-    for disk in played.disks.as_slice() {
-        calls.push(disk.calls()).ok()?;
-    }
-    Some(calls)
+    calls_behind(&play_over(
+        rt, alloc, scenario, disks, &OpenGate, THREADS, packets, MOST,
+    ))
 }
 
-// The scenario of these steps is played.
+// The text of the scenario of these steps.
+fn text_of(alloc: Global, steps: &[&str]) -> Page {
+    let mut text = Page::new(alloc);
+    for step in steps {
+        text.text(step);
+    }
+    text.text("]\n");
+    text
+}
+
+// The scenario of these steps; none without memory.
+fn scenario_of(alloc: Global, steps: &[&str]) -> Option<Scenario>
+    ensures { IfSome result IsGiven }
+{
+    let text = text_of(alloc, steps).done()?;
+    read_scenario(alloc, text.as_slice()).ok()
+}
+
+// The calls by the end of the scenario of these steps; none without memory.
 fn calls_of<R: Wait + Threads + Sync>(
     rt: &R,
     alloc: Global,
     steps: &[&str],
     packets: u32,
-) -> Option<List<u64>> {
-    let mut text = List::new(alloc);
-    for step in steps {
-        push_text(&mut text, step).ok()?;
+) -> Option<Calls> {
+    match scenario_of(alloc, steps) {
+        Some(scenario) => calls_at_end(rt, alloc, &scenario, packets),
+        None => None,
     }
-    push_text(&mut text, "]\n").ok()?;
-    let Ok(scenario) = read_scenario(alloc, text.as_slice()) else {
-        return None;
-    };
-    calls_at_end(rt, alloc, &scenario, packets)
 }
 
-// Adds how many calls of each of the first two disks the last of these steps makes.
-fn push_made<R: Wait + Threads + Sync>(
+// The calls that the last of these steps makes; none without memory.
+fn made<R: Wait + Threads + Sync>(
     rt: &R,
     alloc: Global,
-    out: &mut List<u8>,
     steps: &[&str],
     packets: u32,
-) -> Option<()> {
-    let before = calls_of(
-        rt,
-        alloc,
-        steps.get(..steps.len().saturating_sub(1))?,
-        packets,
-    )?;
+) -> Option<Calls> {
+    let earlier = steps.get(..steps.len().saturating_sub(1))?;
+    let before = calls_of(rt, alloc, earlier, packets)?;
     let behind = calls_of(rt, alloc, steps, packets)?;
-    push_labelled(out, "packets in one turn of work: ", u64::from(packets)).ok()?;
-    for at in 0..2usize {
-        let label = if at == 0 {
-            ", calls of the disk of site 1: "
-        } else {
-            ", of site 2: "
-        };
-        let (first, last) = (before.as_slice().get(at)?, behind.as_slice().get(at)?);
-        push_labelled(out, label, last.saturating_sub(*first)).ok()?;
+    Some(Calls {
+        first: behind.first.saturating_sub(before.first),
+        second: behind.second.saturating_sub(before.second),
+    })
+}
+
+// Adds the calls that were made with so many packets in one turn of work.
+fn push_calls(page: &mut Page, packets: u32, calls: Calls) {
+    page.labelled("packets in one turn of work: ", u64::from(packets));
+    page.labelled(", calls of the disk of site 1: ", calls.first);
+    page.labelled(", of site 2: ", calls.second);
+    page.text("\n");
+}
+
+// Adds the calls that the last of these steps makes, by one packet in each turn of work and by eight.
+fn push_made<R: Wait + Threads + Sync>(rt: &R, alloc: Global, page: &mut Page, steps: &[&str]) {
+    for packets in [1u32, 8] {
+        match made(rt, alloc, steps, packets) {
+            Some(calls) => push_calls(page, packets, calls),
+            None => page.lack(),
+        }
     }
-    push_text(out, "\n").ok()
 }
 
 /// Adds how many calls of disks eight requests for votes make at a site, and a group of eight commits at its coordinator, where
-/// workers take one packet or eight in each turn of work; nothing without memory.
-pub fn batches<R: Wait + Threads + Sync>(rt: &R, alloc: Global, out: &mut List<u8>) -> Option<()> {
-    push_text(
-        out,
-        "eight requests for votes at site 2, while site 3 is down\n",
-    )
-    .ok()?;
-    for packets in [1u32, 8] {
-        push_made(rt, alloc, out, &[THREE, WRITES, CRASH, COMMITS], packets)?;
-    }
-    push_text(out, "a group of eight commits at site 1\n").ok()?;
-    for packets in [1u32, 8] {
-        push_made(rt, alloc, out, &[TWO, WRITES, COMMITS], packets)?;
-    }
-    Some(())
+/// workers take one packet or eight in each turn of work.
+pub fn push_batches<R: Wait + Threads + Sync>(rt: &R, alloc: Global, page: &mut Page) {
+    page.text("eight requests for votes at site 2, while site 3 is down\n");
+    push_made(rt, alloc, page, &[THREE, WRITES, CRASH, COMMITS]);
+    page.text("a group of eight commits at site 1\n");
+    push_made(rt, alloc, page, &[TWO, WRITES, COMMITS]);
 }

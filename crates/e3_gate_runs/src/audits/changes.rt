@@ -3,23 +3,33 @@ use e3_types::{Copied, Entry, NoMemory};
 use e3_world::History;
 use std::alloc::Global;
 
-/// What is changed at a place: its entry is left out, stands twice, or comes behind the next.
-#[derive(Clone, Copy)]
-pub enum Change {
-    LeftOut,
-    Twice,
-    Later,
-}
+/// What stands in place of an entry, as how far behind it each entry was: nothing, the entry twice, or the next and then it.
+pub const CHANGES: [&[usize]; 3] = [&[], &[0, 0], &[1, 0]];
 
-/// All of them.
-pub const CHANGES: [Change; 3] = [Change::LeftOut, Change::Twice, Change::Later];
+// No change.
+const SAME: &[usize] = &[0];
 
 // Adds a copy of the entry at this place; nothing past the end.
 fn add(alloc: Global, entries: &[Entry], at: usize, out: &mut History) -> Result<(), NoMemory> {
-    if let Some(entry) = entries.get(at) {
-        let copy = entry.copied(alloc)?;
-        out.reserve(1)?;
-        out.push(copy);
+    let Some(entry) = entries.get(at) else {
+        return Ok(());
+    };
+    let copy = entry.copied(alloc)?;
+    out.reserve(1)?;
+    out.push(copy);
+    Ok(())
+}
+
+// Adds copies of the entries so far behind this place.
+fn add_behind(
+    alloc: Global,
+    entries: &[Entry],
+    at: usize,
+    change: &[usize],
+    out: &mut History,
+) -> Result<(), NoMemory> {
+    for behind in change {
+        add(alloc, entries, at.saturating_add(*behind), out)?;
     }
     Ok(())
 }
@@ -28,26 +38,13 @@ fn add(alloc: Global, entries: &[Entry], at: usize, out: &mut History) -> Result
 pub fn changed(
     alloc: Global,
     entries: &[Entry],
-    change: Change,
+    change: &[usize],
     at: usize,
 ) -> Result<History, NoMemory> {
     let mut out = History::new(alloc);
     for place in 0..entries.len() {
-        if place != at {
-            add(alloc, entries, place, &mut out)?;
-            continue;
-        }
-        match change {
-            Change::LeftOut => {}
-            Change::Twice => {
-                add(alloc, entries, place, &mut out)?;
-                add(alloc, entries, place, &mut out)?;
-            }
-            Change::Later => {
-                add(alloc, entries, place + 1, &mut out)?;
-                add(alloc, entries, place, &mut out)?;
-            }
-        }
+        let here = if place == at { change } else { SAME };
+        add_behind(alloc, entries, place, here, &mut out)?;
     }
     Ok(out)
 }

@@ -2,7 +2,7 @@
 use crate::audits::changes::{CHANGES, changed};
 use e3_audit::{Breach, audit};
 use e3_judge::{is_whole, judge};
-use e3_types::{NoMemory, Scenario};
+use e3_types::{Entry, NoMemory, Scenario};
 use e3_world::History;
 use std::alloc::Global;
 
@@ -22,6 +22,19 @@ fn same_breach(one: &Option<Breach>, other: &Option<Breach>) -> bool {
     }
 }
 
+impl Tally {
+    // Counts a history.
+    fn count(&mut self, is_legal: bool, is_same: bool) {
+        self.compared = self.compared.saturating_add(1);
+        if is_legal {
+            self.legal = self.legal.saturating_add(1);
+        }
+        if is_same {
+            self.same = self.same.saturating_add(1);
+        }
+    }
+}
+
 // Both judges look at a history.
 fn compare(
     alloc: Global,
@@ -32,14 +45,22 @@ fn compare(
     let plain = judge(alloc, scenario, history)?;
     let whole = is_whole(alloc, scenario, history)?;
     let audited = audit(alloc, scenario, history)?;
-    tally.compared = tally.compared.saturating_add(1);
-    if plain.is_none() {
-        tally.legal = tally.legal.saturating_add(1);
-    }
-    if same_breach(&plain, &audited.breach) && whole == audited.whole {
-        tally.same = tally.same.saturating_add(1);
-    }
+    let is_same = same_breach(&plain, &audited.breach) && whole == audited.whole;
+    tally.count(plain.is_none(), is_same);
     Ok(())
+}
+
+// Both judges look at a history with a change.
+fn compare_changed(
+    alloc: Global,
+    scenario: &Scenario,
+    entries: &[Entry],
+    change: &[usize],
+    at: usize,
+    tally: &mut Tally,
+) -> Result<(), NoMemory> {
+    let other = changed(alloc, entries, change, at)?;
+    compare(alloc, scenario, &other, tally)
 }
 
 /// Both judges look at a history and at each change of it.
@@ -57,8 +78,7 @@ pub fn compare_all(
     let entries = history.as_slice();
     for change in CHANGES {
         for at in 0..entries.len() {
-            let other = changed(alloc, entries, change, at)?;
-            compare(alloc, scenario, &other, &mut tally)?;
+            compare_changed(alloc, scenario, entries, change, at, &mut tally)?;
         }
     }
     Ok(tally)

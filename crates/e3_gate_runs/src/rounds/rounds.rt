@@ -1,8 +1,9 @@
 // The recovery rounds of a history: how many entries of its own each took, beside its bound, and what `recover` reports of it.
+use crate::rounds::verdicts::push_verdict_or_none;
 use e3_items::RecoveryRound;
-use e3_lines::{push_labelled, push_sites, push_text, push_txn};
+use e3_lines::Page;
 use e3_play::round_report;
-use e3_types::{Act, Entry, Input, Item, List, Message, NoMemory, Scenario, Txn, Verdict};
+use e3_types::{Act, Entry, Input, Item, Message, Scenario, Txn};
 
 // The step of this number is a recovery.
 fn is_recovery(scenario: &Scenario, number: u32) -> bool {
@@ -85,42 +86,17 @@ fn own_count(round: &RecoveryRound, entries: &[Entry]) -> u64 {
     count
 }
 
-fn push_verdict(out: &mut List<u8>, verdict: Verdict) -> Result<(), NoMemory> {
-    match verdict {
-        Verdict::Abort => push_text(out, "abort"),
-        Verdict::Commit => push_text(out, "commit"),
-        Verdict::PreCommit => push_text(out, "pre-commit"),
-        Verdict::PreAbort => push_text(out, "pre-abort"),
-        Verdict::Block { have, total } => {
-            push_labelled(out, "block ", have)?;
-            push_labelled(out, " of ", total)
-        }
-    }
-}
-
-/// Adds a verdict, or that there is none.
-pub fn push_verdict_or_none(out: &mut List<u8>, verdict: Option<Verdict>) -> Result<(), NoMemory> {
-    match verdict {
-        Some(verdict) => push_verdict(out, verdict),
-        None => push_text(out, "no verdict"),
-    }
-}
-
 // Adds a round that entered these entries: its own of as many as it may have, and its verdict.
-fn push_round(
-    out: &mut List<u8>,
-    round: &RecoveryRound,
-    entries: &[Entry],
-) -> Result<(), NoMemory> {
+fn push_round(page: &mut Page, round: &RecoveryRound, entries: &[Entry]) {
     let others = u64::from(round.members.count()).saturating_sub(1);
-    push_text(out, ", round ")?;
-    push_txn(out, &round.txn)?;
-    push_text(out, " of ")?;
-    push_sites(out, round.members)?;
-    push_labelled(out, ": ", own_count(round, entries))?;
-    push_labelled(out, " of ", others.saturating_mul(7).saturating_add(1))?;
-    push_text(out, ", ")?;
-    push_verdict_or_none(out, round_report(round, entries).verdict)
+    page.text(", round ");
+    page.txn(&round.txn);
+    page.text(" of ");
+    page.sites(round.members);
+    page.labelled(": ", own_count(round, entries));
+    page.labelled(" of ", others.saturating_mul(7).saturating_add(1));
+    page.text(", ");
+    push_verdict_or_none(page, round_report(round, entries).verdict);
 }
 
 // How many of these entries stand before the next line or the next round.
@@ -136,33 +112,25 @@ fn length_of_round(entries: &[Entry]) -> usize {
 }
 
 // Adds the round that the first of these entries begins, if it begins one.
-fn push_begun(out: &mut List<u8>, entries: &[Entry]) -> Result<(), NoMemory> {
+fn push_begun(page: &mut Page, entries: &[Entry]) {
     let [first, ..] = entries else {
-        return Ok(());
+        return;
     };
-    match begun_with(first) {
-        Some(round) => {
-            let length = length_of_round(entries).min(entries.len());
-            push_round(out, &round, &entries[..length])
-        }
-        None => Ok(()),
+    if let Some(round) = begun_with(first) {
+        let length = length_of_round(entries).min(entries.len());
+        push_round(page, &round, &entries[..length]);
     }
 }
 
 /// Adds the rounds of the recovery steps of a history.
-pub fn push_rounds(
-    out: &mut List<u8>,
-    scenario: &Scenario,
-    history: &[Entry],
-) -> Result<(), NoMemory> {
+pub fn push_rounds(page: &mut Page, scenario: &Scenario, history: &[Entry]) {
     let mut recovers = false;
     for (at, entry) in history.iter().enumerate() {
         if let Act::Line { number } = &entry.act {
             recovers = is_recovery(scenario, *number);
         }
         if recovers {
-            push_begun(out, &history[at..])?;
+            push_begun(page, &history[at..]);
         }
     }
-    Ok(())
 }

@@ -5,7 +5,7 @@ use crate::regions::answers::{
 use crate::regions::commands::Command;
 use e3_codec::{put_records, read_records};
 use e3_disk::{Disk, DiskFault, Drill, MemDisk};
-use e3_page::Page;
+use e3_lines::Page;
 use e3_regions::{AppendFault, Frame, Log, TurnFault};
 use e3_site::{RebuildFault, Site, rebuild};
 use e3_snapshot::{brief, of_site};

@@ -2,7 +2,7 @@
 use crate::sites::texts::{push_count, push_found as push_one};
 use e3_items::RecoveryRound;
 use e3_judge::{clash, due_round, entry_of, incarnation_at, order, pending, turn_of};
-use e3_page::Page;
+use e3_lines::Page;
 use e3_plain::plain_input;
 use e3_readings::rows_at;
 use e3_types::{Act, Copied, Entry, Input, Key, KeyRow, List, NoMemory, Row, Scenario};

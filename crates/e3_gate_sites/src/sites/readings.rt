@@ -1,7 +1,7 @@
 // What is read off the log and the steps of a site, of each transaction that was begun.
 use crate::sites::texts::{push_count, push_flag};
 use e3_judge::incarnation_at;
-use e3_page::Page;
+use e3_lines::Page;
 use e3_readings::*;
 use e3_types::{Act, Entry, List, Mode, Name, NoMemory, Record, Row, Scenario, SiteSet, Told, Txn};
 use e3_world::{Election, Incarnation, Life, Moment, Round};

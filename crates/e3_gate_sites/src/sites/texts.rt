@@ -1,6 +1,5 @@
 // What several cases print.
-use e3_lines::{push_text, push_txn};
-use e3_page::Page;
+use e3_lines::{Page, push_text, push_txn};
 use e3_types::{List, NoMemory, Txn};
 
 /// Adds a transaction behind a space, or a dash for none.
