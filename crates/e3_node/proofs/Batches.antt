@@ -3,11 +3,11 @@ use Rattle.std.proofs.Common.{◌≡◌, ◌+◌, ◌≤◌, ◌++◌, ◌∷◌
 use Rattle.std.specs.List.{AllByRecursion as Each, flat_map}
 use Rattle.std.proofs.lemmas.Grind.{flat_map-append}
 use Rattle.std.proofs.lemmas.List.{map-append}
-use Rattle.e3_law_begun.specs.Claims.{BegunAreTransactions, RecordsMentionWhatStands}
+use Rattle.e3_law_steps.specs.Begun.{BegunAreTransactions, RecordsMentionWhatStands}
 use Rattle.e3_node.specs.Batches.{plain_of, plain_steps, stepped}
 use Rattle.e3_node.specs.Bodies.{Hold, bodies_in, body_of}
 use Rattle.e3_node.specs.Telling.{IsOwn}
-use Rattle.e3_law_trails.specs.Claims.{VotesAtTheirSite}
+use Rattle.e3_law_steps.specs.Trails.{VotesAtTheirSite}
 use Rattle.e3_types.specs.declared.entries.Entry.{Entry}
 use Rattle.e3_types.specs.declared.entries.Input.{Input}
 use Rattle.e3_types.specs.declared.records.Record.{Record}

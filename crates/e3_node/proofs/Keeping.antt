@@ -8,16 +8,17 @@ use Rattle.e3_log.specs.Stands.{LogState, Stands}
 use Rattle.e3_codec.specs.Fields.{AllCanBeReadBack}
 use Rattle.e3_node.specs.Bodies.{AllReadBack, DiskHolds, DiskStands, IsLogged, ReadsAs, ReadsWith, bodies_in, tail_records}
 use Rattle.e3_node.specs.Claims.{DisksKept, NodesDisks, NodesKept, NodesUp}
-use Rattle.e3_node.specs.NodeStands.{IsIn, is_step}
+use Rattle.e3_node.specs.NodeStands.{IsIn, StandsBy, is_step}
 use Rattle.e3_node.specs.NodeView.{disk_of, is_up_in}
 use Rattle.e3_node.specs.declared.state.State.{State}
 use Rattle.e3_node.specs.declared.state.State.TheVariants.{Down, Up}
-use Rattle.e3_site.specs.SiteView.{SiteView, Stands as SiteStands}
-use Rattle.e3_site.specs.StandsFor.{StandsFor}
+use Rattle.e3_law_stands.specs.StandsAlike.{IsLogInOrder}
+use Rattle.e3_law_stands.proofs.Standing.{still}
+use Rattle.e3_site.specs.SiteView.{SiteView}
+use Rattle.e3_types.specs.declared.records.Record.{Record}
 use Rattle.e3_types.specs.declared.entries.Entry.{Entry}
 use Rattle.e3_types.specs.declared.scenarios.Scenario.{Scenario}
 use Rattle.e3_world.specs.Items.{is_up_at}
-use Rattle.e3_world.specs.Lives.{incarnation_of}
 use Rattle.e3_world.specs.Moves.{Move, Tail, is_up, log_by, moves_of, open_tail, own, past_of}
 use Rattle.e3_world.proofs.Readings.{own_other}
 use Rattle.e3_node.proofs.Apart.{apart}
@@ -39,14 +40,13 @@ disk_kept sc h e site image stands other = λ bytes at.
 pub up_kept : (h : List Entry) (e : Entry) (site : ℕ) → e.owner ≢ site → is_up_at (h ++ e ∷ []) site ≡ is_up_at h site
 up_kept h e site other = ap is_up (own_kept site h e other)
 
-site_kept : (sc : Scenario) (h : List Entry) (e : Entry) (site : ℕ) (s : SiteView) → StandsFor sc h site s → e.owner ≢ site →
-    StandsFor sc (h ++ e ∷ []) site s
-site_kept sc h e site s was other = record {
-  weights_are = was.weights_are;
-  site_is = was.site_is;
-  stands =
-      let P : List Move → Type 0 = λ moves. SiteStands (incarnation_of moves) s in
-      subst P (sym (moves_kept sc h e site other)) was.stands;
+site_kept : (sc : Scenario) (h : List Entry) (e : Entry) (site : ℕ) (rose : List Record) (s : SiteView) → StandsBy sc h site rose s → e.owner ≢ site →
+    StandsBy sc (h ++ e ∷ []) site rose s
+site_kept sc h e site rose s was other = record {
+  alike = still sc h (h ++ e ∷ []) site rose s s was.alike (sym (moves_kept sc h e site other)) refl refl was.alike.stands;
+  order =
+      let P : List Move → Type 0 = λ moves. IsLogInOrder site (log_by moves) in
+      subst P (sym (moves_kept sc h e site other)) was.order;
 }
 
 pub in_kept : {D : Type 0} (content : D → List ℕ) (image : D → List ℕ → Type 0) (meters : D → Meters)
@@ -56,9 +56,9 @@ in_kept content image meters sc h e site (Down disk) was other = record {
   down = up_kept h e site other ∙ was.down;
   stands = disk_kept sc h e site (image disk) was.stands other;
 }
-in_kept content image meters sc h e site (Up s log) was other = record {
+in_kept content image meters sc h e site (Up s log rose) was other = record {
   up = up_kept h e site other ∙ was.up;
-  stands = site_kept sc h e site s was.stands other;
+  stands = site_kept sc h e site rose s was.stands other;
   logged =
       let P : List Move → Type 0 = λ moves. IsLogged content image moves log in
       subst P (sym (moves_kept sc h e site other)) was.logged;
@@ -113,7 +113,7 @@ pub disk_in : {D : Type 0} (content : D → List ℕ) (image : D → List ℕ �
     (sc : Scenario) (h : List Entry) (site : ℕ) (state : State D) → IsIn content image meters sc h site state →
     DiskHolds sc h site (image (disk_of state))
 disk_in content image meters sc h site (Down disk) was = was.stands
-disk_in content image meters sc h site (Up s log) was = λ bytes at.
+disk_in content image meters sc h site (Up s log rose) was = λ bytes at.
     reads_with site (moves_of sc h site) (open_tail sc h site) bytes (logged_reads content image (moves_of sc h site) log was.logged bytes at)
 
 -- a blank disk stands for a site without entries
@@ -142,7 +142,7 @@ pub up_in : {D : Type 0} (content : D → List ℕ) (image : D → List ℕ → 
     (sc : Scenario) (h : List Entry) (site : ℕ) (state : State D) → IsIn content image meters sc h site state →
     is_up_in state ≡ is_up_at h site
 up_in content image meters sc h site (Down disk) was = sym was.down
-up_in content image meters sc h site (Up s log) was = sym was.up
+up_in content image meters sc h site (Up s log rose) was = sym was.up
 
 pub node_up : {D : Type 0} (content : D → List ℕ) (image : D → List ℕ → Type 0) (meters : D → Meters) → NodesUp content image meters
 node_up content image meters sc h node was = up_in content image meters sc h node.site node.state was.state

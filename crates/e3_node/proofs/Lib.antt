@@ -2,6 +2,8 @@ pub mod Apart
 pub mod Pasts
 pub mod Counts
 pub mod Frames
+mod Orders
+mod BatchOrders
 pub mod Keeping
 pub mod Metering
 pub mod Guarding

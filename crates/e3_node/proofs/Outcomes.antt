@@ -11,8 +11,9 @@ use Rattle.e3_node.specs.Batches.{fall_over, plain_steps}
 use Rattle.e3_node.specs.Bodies.{AllReadBack, DiskHolds, IsLogged, ReadsAfter, ReadsWith, bodies_in, tail_records}
 use Rattle.e3_node.specs.Several.{MayEnterAll, claims_for}
 use Rattle.e3_node.specs.Turns.{Meanwhile}
-use Rattle.e3_site.specs.SiteView.{SiteView, Stands as SiteStands}
-use Rattle.e3_site.specs.StandsFor.{StandsFor}
+use Rattle.e3_site.specs.SiteView.{SiteView}
+use Rattle.e3_law_stands.specs.StandsAlike.{StandsAlike}
+use Rattle.e3_law_stands.proofs.Standing.{still}
 use Rattle.e3_types.specs.declared.entries.Entry.{Entry}
 use Rattle.e3_types.specs.declared.entries.Input.{Input}
 use Rattle.e3_types.specs.declared.entries.Input.TheVariants as input
@@ -29,7 +30,6 @@ use Rattle.e3_wire.proofs.Foreign.{notes_stay}
 use Rattle.e3_world.specs.Given.{IsGiven}
 use Rattle.e3_world.specs.Items.{is_up_at}
 use Rattle.e3_world.specs.Legal.{AreDue, IsLegal, entry_of, records_by}
-use Rattle.e3_world.specs.Lives.{incarnation_of}
 use Rattle.e3_world.specs.Moves.{Move, Past, Tail, left_by, log_by, moves_of, plain_input}
 use Rattle.e3_world.specs.Packets.{is_calm, lines, present_items, step_items}
 use Rattle.e3_law_local.proofs.Alike.{all_on}
@@ -86,12 +86,9 @@ pub moves_meanwhile : (sc : Scenario) (h now : List Entry) (site : ℕ) → Mean
 moves_meanwhile sc h now site m = ap (λ (l : List Entry). moves_of sc l site) m.is ∙ moves_stay sc site h m.others m.of_others
 
 -- a site stands where its moves are the same
-pub stands_same : (sc : Scenario) (h k : List Entry) (site : ℕ) (s : SiteView) → moves_of sc k site ≡ moves_of sc h site → StandsFor sc h site s → StandsFor sc k site s
-stands_same sc h k site s same was = record {
-  weights_are = was.weights_are;
-  site_is = was.site_is;
-  stands = let P : List Move → Type 0 = λ ms. SiteStands (incarnation_of ms) s in subst P (sym same) was.stands;
-}
+pub stands_same : (sc : Scenario) (h k : List Entry) (site : ℕ) (rose : List Record) (s : SiteView) → moves_of sc k site ≡ moves_of sc h site → StandsAlike sc h site rose s →
+    StandsAlike sc k site rose s
+stands_same sc h k site rose s same was = still sc h k site rose s s was (sym same) refl refl was.stands
 
 -- what was due stays due meanwhile
 pub due_meanwhile : (sc : Scenario) (h now : List Entry) (site : ℕ) (inputs : List Input) → IsGiven sc → IsLegal sc now → Meanwhile site h now →

@@ -6,7 +6,6 @@ use Rattle.e3_turn.specs.Passes.{GrewByOthers, Owns, seen_by}
 use Rattle.e3_types.specs.declared.entries.Act.{Act}
 use Rattle.e3_types.specs.declared.entries.Act.TheVariants.{Step, Fall, Rise, RiseFall, Miss, Cut, Drop, Parts, Line}
 use Rattle.e3_types.specs.declared.entries.Entry.{Entry}
-use Rattle.e3_types.specs.declared.entries.Input.{Input}
 use Rattle.e3_wire.specs.Claims.{APass}
 use Rattle.e3_wire.specs.Marks.{AreForeign, belongs, entries_of}
 use Rattle.e3_wire.specs.declared.marks.Mark.{Mark}

@@ -8,11 +8,12 @@ use Rattle.e3_node.specs.Turns.{Meanwhile}
 use Rattle.e3_node.specs.declared.batching.Batch.{Batch}
 use Rattle.e3_node.specs.declared.fault.InputFault.{InputFault}
 use Rattle.e3_site.specs.SiteView.{SiteView}
-use Rattle.e3_site.specs.StandsFor.{StandsFor}
+use Rattle.e3_law_stands.specs.StandsAlike.{StandsAlike}
 use Rattle.e3_turn.specs.Chronicles.{count_of}
 use Rattle.e3_turn.specs.Passes.{GrewByOthers, GrewByOwners, Owns, SameOwners, last_of, owners_of, seen_by}
 use Rattle.e3_types.specs.declared.entries.Entry.{Entry}
 use Rattle.e3_types.specs.declared.entries.Input.{Input}
+use Rattle.e3_types.specs.declared.records.Record.{Record}
 use Rattle.e3_types.specs.declared.scenarios.Scenario.{Scenario}
 use Rattle.e3_wire.specs.Claims.{APass}
 use Rattle.e3_wire.specs.Marks.{belongs, entries_of, note_of, scenario_of}
@@ -29,9 +30,9 @@ use Rattle.e3_node.proofs.Several.{entries_freed, grew_own, own_planned, own_mar
 use Rattle.e3_node.proofs.Waiting.{one_while}
 
 -- before its first input
-pub no_batch : (sc : Scenario) (h : List Entry) (site : ℕ) (marks : List Mark) (batch : Batch) (s : SiteView) → StandsFor sc h site s →
-    batch.steps.items ≡ [] → batch.records ≡ [] → batch.body ≡ [] → IsBatch sc h site marks s.inputs [] batch s marks
-no_batch sc h site marks batch s stands steps records body = record {
+pub no_batch : (sc : Scenario) (h : List Entry) (site : ℕ) (rose : List Record) (marks : List Mark) (batch : Batch) (s : SiteView) → StandsAlike sc h site rose s →
+    batch.steps.items ≡ [] → batch.records ≡ [] → batch.body ≡ [] → IsBatch sc h site rose marks s.inputs [] batch s marks
+no_batch sc h site rose marks batch s stands steps records body = record {
   steps_are = steps;
   records_are = records;
   body_is = body;
@@ -42,25 +43,25 @@ no_batch sc h site marks batch s stands steps records body = record {
 }
 
 -- a site that stands does so behind what others put while its pass rested
-pub stands_taken : (p : APass) (site : ℕ) (marks : List Mark) (s : SiteView) → Owns p site → GrewByOthers belongs p marks → IsPlayed (seen_by p) → IsPlayed marks →
-    StandsFor (scenario_of (seen_by p)) (entries_of (seen_by p)) site s → StandsFor (scenario_of marks) (entries_of marks) site s
-stands_taken p site marks s owns grew was played stands =
+pub stands_taken : (p : APass) (site : ℕ) (rose : List Record) (marks : List Mark) (s : SiteView) → Owns p site → GrewByOthers belongs p marks → IsPlayed (seen_by p) → IsPlayed marks →
+    StandsAlike (scenario_of (seen_by p)) (entries_of (seen_by p)) site rose s → StandsAlike (scenario_of marks) (entries_of marks) site rose s
+stands_taken p site rose marks s owns grew was played stands =
     let one = are_others_marks p site marks owns grew in
     let P : List Mark → Type 0 = λ l. IsPlayed l in
     let m : Meanwhile site (entries_of (seen_by p)) (entries_of (seen_by p ++ one.0)) = one_while site (seen_by p) one.0 was (subst P one.1 played) one.2 in
-    let there : StandsFor (scenario_of (seen_by p)) (entries_of (seen_by p ++ one.0)) site s =
-    stands_same (scenario_of (seen_by p)) (entries_of (seen_by p)) (entries_of (seen_by p ++ one.0)) site s (moves_meanwhile (scenario_of (seen_by p)) (entries_of (seen_by p)) (entries_of (seen_by p ++ one.0)) site m) stands in
-    let R : Scenario → Type 0 = λ sc. StandsFor sc (entries_of (seen_by p ++ one.0)) site s in
-    let S : List Mark → Type 0 = λ l. StandsFor (scenario_of l) (entries_of l) site s in
+    let there : StandsAlike (scenario_of (seen_by p)) (entries_of (seen_by p ++ one.0)) site rose s =
+    stands_same (scenario_of (seen_by p)) (entries_of (seen_by p)) (entries_of (seen_by p ++ one.0)) site rose s (moves_meanwhile (scenario_of (seen_by p)) (entries_of (seen_by p)) (entries_of (seen_by p ++ one.0)) site m) stands in
+    let R : Scenario → Type 0 = λ sc. StandsAlike sc (entries_of (seen_by p ++ one.0)) site rose s in
+    let S : List Mark → Type 0 = λ l. StandsAlike (scenario_of l) (entries_of l) site rose s in
     subst S (sym one.1) (subst R (sym (scenario_stays (seen_by p) one.0 was).0) there)
 
--- and behind what is freed there
-pub stands_freed : (marks : List Mark) (site : ℕ) (s : SiteView) → IsPlayed marks → StandsFor (scenario_of marks) (entries_of marks) site s →
-    StandsFor (scenario_of (marks ++ mark.Freed site ∷ [])) (entries_of (marks ++ mark.Freed site ∷ [])) site s
-stands_freed marks site s played stands =
-    let P : Scenario → Type 0 = λ sc. StandsFor sc (entries_of (marks ++ mark.Freed site ∷ [])) site s in
-    let Q : List Entry → Type 0 = λ h. StandsFor (scenario_of marks) h site s in
-    subst P (sym (scenario_stays marks (mark.Freed site ∷ []) played).0) (subst Q (sym (entries_freed marks site)) stands)
+-- behind what is freed there the scenario and the history are the same
+pub freed_same : (marks freed : List Mark) (site : ℕ) → IsPlayed marks → freed ≡ marks ++ mark.Freed site ∷ [] → (P : Scenario → List Entry → Type 0) →
+    P (scenario_of marks) (entries_of marks) → P (scenario_of freed) (entries_of freed)
+freed_same marks freed site played free P was =
+    let keys : scenario_of freed ≡ scenario_of marks = ap (λ (l : List Mark). scenario_of l) free ∙ (scenario_stays marks (mark.Freed site ∷ []) played).0 in
+    let entries : entries_of freed ≡ entries_of marks = ap (λ (l : List Mark). entries_of l) free ∙ entries_freed marks site in
+    subst (λ (sc : Scenario). P sc (entries_of freed)) (sym keys) (subst (λ (h : List Entry). P (scenario_of marks) h) (sym entries) was)
 
 -- so many places are promised to it there too
 pub places_taken : (p : APass) (site n : ℕ) (marks : List Mark) → Owns p site → GrewByOthers belongs p marks → n ≤ (note_of site (seen_by p)).places → n ≤ (note_of site marks).places
@@ -71,21 +72,21 @@ places_taken p site n marks owns grew few =
     subst P (sym same) few
 
 -- what was added to a batch
-abbrev pub Added : Scenario → List Entry → ℕ → List Mark → ℕ → List Input → Result (Unit {0}) InputFault → Batch → SiteView → List Mark → Type 0
-Added sc h site marks first inputs answer batch s now =
-    (n : ℕ) × (n ≤ length inputs) × OnOk answer (n ≡ length inputs) × OnErr answer (n < length inputs) × IsBatch sc h site marks first (take n inputs) batch s now
+abbrev pub Added : Scenario → List Entry → ℕ → List Record → List Mark → ℕ → List Input → Result (Unit {0}) InputFault → Batch → SiteView → List Mark → Type 0
+Added sc h site rose marks first inputs answer batch s now =
+    (n : ℕ) × (n ≤ length inputs) × OnOk answer (n ≡ length inputs) × OnErr answer (n < length inputs) × IsBatch sc h site rose marks first (take n inputs) batch s now
 
-pub planned : (p : APass) (site first : ℕ) (inputs : List Input) (answer : Result (Unit {0}) InputFault) (batch : Batch) (s : SiteView) (marks freed shared now : List Mark) →
+pub planned : (p : APass) (site : ℕ) (rose : List Record) (first : ℕ) (inputs : List Input) (answer : Result (Unit {0}) InputFault) (batch : Batch) (s : SiteView) (marks freed shared now : List Mark) →
     GrewByOthers belongs p marks → IsPlayed marks → freed ≡ marks ++ mark.Freed site ∷ [] → now ≡ shared →
-    Added (scenario_of freed) (entries_of freed) site freed first inputs answer batch s shared → HasPlanned p site first inputs answer batch s now
-planned p site first inputs answer batch s marks freed shared now grew played free is added =
+    Added (scenario_of freed) (entries_of freed) site rose freed first inputs answer batch s shared → HasPlanned p site rose first inputs answer batch s now
+planned p site rose first inputs answer batch s marks freed shared now grew played free is added =
     let done : List Input = take added.0 inputs in
     let keys : scenario_of freed ≡ scenario_of marks = ap (λ (l : List Mark). scenario_of l) free ∙ (scenario_stays marks (mark.Freed site ∷ []) played).0 in
     let entries : entries_of freed ≡ entries_of marks = ap (λ (l : List Mark). entries_of l) free ∙ entries_freed marks site in
-    let P : List Mark → Type 0 = λ l. IsBatch (scenario_of freed) (entries_of freed) site freed first done batch s l in
-    let Q : Scenario → Type 0 = λ sc. IsBatch sc (entries_of freed) site freed first done batch s now in
-    let R : List Entry → Type 0 = λ h. IsBatch (scenario_of marks) h site freed first done batch s now in
-    let S : List Mark → Type 0 = λ l. IsBatch (scenario_of marks) (entries_of marks) site l first done batch s now in
+    let P : List Mark → Type 0 = λ l. IsBatch (scenario_of freed) (entries_of freed) site rose freed first done batch s l in
+    let Q : Scenario → Type 0 = λ sc. IsBatch sc (entries_of freed) site rose freed first done batch s now in
+    let R : List Entry → Type 0 = λ h. IsBatch (scenario_of marks) h site rose freed first done batch s now in
+    let S : List Mark → Type 0 = λ l. IsBatch (scenario_of marks) (entries_of marks) site rose l first done batch s now in
     record {
       between = marks;
       grew = grew;
@@ -98,10 +99,10 @@ planned p site first inputs answer batch s marks freed shared now grew played fr
     }
 
 -- what is freed and claimed is of the pass
-pub claims_grew : (p q : APass) (site first : ℕ) (inputs : List Input) (answer : Result (Unit {0}) InputFault) (batch : Batch) (s : SiteView) (marks freed now : List Mark) →
+pub claims_grew : (p q : APass) (site : ℕ) (rose : List Record) (first : ℕ) (inputs : List Input) (answer : Result (Unit {0}) InputFault) (batch : Batch) (s : SiteView) (marks freed now : List Mark) →
     Owns p site → SameOwners p q → seen_by q ≡ marks → freed ≡ marks ++ mark.Freed site ∷ [] →
-    Added (scenario_of freed) (entries_of freed) site freed first inputs answer batch s now → GrewByOwners belongs q now
-claims_grew p q site first inputs answer batch s marks freed now owns same seen free added =
+    Added (scenario_of freed) (entries_of freed) site rose freed first inputs answer batch s now → GrewByOwners belongs q now
+claims_grew p q site rose first inputs answer batch s marks freed now owns same seen free added =
     let steps : List Entry = plain_steps (scenario_of freed) (entries_of freed) site (take added.0 inputs) in
     let has : 0 < count_of site (owners_of q) = subst (λ (l : List ℕ). 0 < count_of site l) (sym same.owners) owns in
     grew_own (last_of q) (owners_of q) (seen_by q) marks now (mark.Freed site ∷ claims_for steps) seen

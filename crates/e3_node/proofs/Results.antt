@@ -5,11 +5,13 @@ use Rattle.std.specs.Prelude.{None, Result, Some, fold}
 use Rattle.atomic_table.specs.Seated.{TableId}
 use Rattle.e3_codec.specs.Fields.{AllCanBeReadBack}
 use Rattle.e3_disk.specs.Meters.{Keeps, Meters}
-use Rattle.e3_law_begun.specs.Claims.{BegunAreTransactions, RecordsMentionWhatStands}
+use Rattle.e3_law_steps.specs.Begun.{BegunAreTransactions, RecordsMentionWhatStands}
 use Rattle.e3_law_local.specs.Drafts.{MayTakeAll}
 use Rattle.e3_law_local.specs.Least.{AreFirstTo}
 use Rattle.e3_law_local.specs.Others.{Allows, numbered_on}
-use Rattle.e3_law_trails.specs.Claims.{VotesAtTheirSite}
+use Rattle.e3_law_serial.specs.Orderly.{LogsAreOrderly}
+use Rattle.e3_law_brief.specs.Sets.{LoggedSitesAreSets}
+use Rattle.e3_law_steps.specs.Trails.{VotesAtTheirSite}
 use Rattle.e3_log.specs.Frames.{frames}
 use Rattle.e3_log.specs.Stands.{LogState, Stands}
 use Rattle.e3_log.proofs.Append.{new_end}
@@ -52,6 +54,7 @@ use Rattle.e3_node.proofs.Batches.{plain_same, records_own, records_same, steppe
 use Rattle.e3_node.proofs.Bundles.{all_due_first, plain_length, plain_list, plain_own, stepped_count, steps_back, steps_counted, steps_logged, steps_use}
 use Rattle.e3_node.proofs.Counts.{count_meanwhile, count_own}
 use Rattle.e3_node.proofs.Outcomes.{due_meanwhile, fall_all_back, fallen_all_disk, first_of_all, first_turn, may_all, may_take_front, meanwhile_then, moves_meanwhile, stands_same}
+use Rattle.e3_node.proofs.Orders.{log_in_order, stepped_legal}
 use Rattle.e3_node.proofs.Several.{entries_claimed, entries_freed, entries_in, note_claimed, note_entered, note_freed, outs_in, used_all}
 use Rattle.e3_node.proofs.Waiting.{back_meanwhile, one_while, up_meanwhile}
 
@@ -100,8 +103,8 @@ module _ (p : APass) (site : ℕ) (owns : Owns p site) (was : IsPlayed (seen_by 
       let one = are_others_marks p site marks owns grew in
       ap (λ (l : List Mark). note_of site l) one.1 ∙ notes_stay site (seen_by p) one.0 one.2
 
-module _ (p q : APass) (site first : ℕ) (inputs : List Input) (answer : Result (Unit {0}) InputFault) (batch : Batch) (s : SiteView)
-    (plan : HasPlanned p site first inputs answer batch s (seen_by q)) (owns : Owns p site) (owns_q : Owns q site)
+module _ {rose : List Record} (p q : APass) (site first : ℕ) (inputs : List Input) (answer : Result (Unit {0}) InputFault) (batch : Batch) (s : SiteView)
+    (plan : HasPlanned p site rose first inputs answer batch s (seen_by q)) (owns : Owns p site) (owns_q : Owns q site)
     (was : IsPlayed (seen_by p)) (played_q : IsPlayed (seen_by q)) where
   abbrev sc : Scenario
   sc = scenario_of (seen_by p)
@@ -130,8 +133,8 @@ module _ (p q : APass) (site first : ℕ) (inputs : List Input) (answer : Result
   pub first_keys : scenario_of b ≡ sc
   first_keys = keys p site owns was b plan.grew
 
-  pub made : IsBatch sc h1 site f first done batch s (seen_by q)
-  made = let P : Scenario → Type 0 = λ k. IsBatch k h1 site f first done batch s (seen_by q) in subst P first_keys plan.made
+  pub made : IsBatch sc h1 site rose f first done batch s (seen_by q)
+  made = let P : Scenario → Type 0 = λ k. IsBatch k h1 site rose f first done batch s (seen_by q) in subst P first_keys plan.made
 
   pub claimed : seen_by q ≡ f ++ claims_for steps
   claimed = made.claimed
@@ -164,9 +167,9 @@ module _ (p q : APass) (site first : ℕ) (inputs : List Input) (answer : Result
 
   -- a site that was up is so behind what others put
   pub up_first : {D : Type 0} (content : D → List ℕ) (image : D → List ℕ → Type 0) (meters : D → Meters) (s0 : SiteView) (old : LogState D) →
-      IsUp content image meters sc h site s0 old → is_up_at h1 site ≡ true
+      IsUp content image meters sc h site s0 old rose → is_up_at h1 site ≡ true
   up_first content image meters s0 old stood =
-      let there : IsUp content image meters sc h1 site s0 old = up_meanwhile content image meters sc h h1 site (Up s0 old) first_while stood in there.up
+      let there : IsUp content image meters sc h1 site s0 old rose = up_meanwhile content image meters sc h h1 site (Up s0 old rose) first_while stood in there.up
 
   module _ (some : 1 ≤ site) (up : is_up_at h site ≡ true) (calm : is_calm (present_items sc h) ≡ false) (may : MayTakeAll sc h site inputs)
       (firsts : AreFirstTo sc h site inputs) where
@@ -326,24 +329,27 @@ module _ (p q : APass) (site first : ℕ) (inputs : List Input) (answer : Result
 
       -- the site is up behind that
       pub up_second : {D : Type 0} (content : D → List ℕ) (image : D → List ℕ → Type 0) (meters : D → Meters) (s0 : SiteView) (old : LogState D) →
-          IsUp content image meters sc h site s0 old → is_up_at k site ≡ true
+          IsUp content image meters sc h site s0 old rose → is_up_at k site ≡ true
       up_second content image meters s0 old stood =
-          let there : IsUp content image meters sc k site s0 old = up_meanwhile content image meters sc h k site (Up s0 old) all_while stood in there.up
+          let there : IsUp content image meters sc k site s0 old rose = up_meanwhile content image meters sc h k site (Up s0 old rose) all_while stood in there.up
 
       module _ {D : Type 0} (content : D → List ℕ) (image : D → List ℕ → Type 0) (meters : D → Meters) (s0 : SiteView) (old new : LogState D)
-          (stood : IsUp content image meters sc h site s0 old) (begins : first ≡ s0.inputs) where
-        pub up_2 : IsUp content image meters sc k site s0 old
-        up_2 = up_meanwhile content image meters sc h k site (Up s0 old) all_while stood
+          (stood : IsUp content image meters sc h site s0 old rose) (begins : first ≡ s0.inputs) where
+        pub up_2 : IsUp content image meters sc k site s0 old rose
+        up_2 = up_meanwhile content image meters sc h k site (Up s0 old rose) all_while stood
 
-        pub stepped_stands : ((lists : List (List Record)) → Stands content image (bodies_in lists) old → Stands content image (bodies_in lists ++ body_of batch.records) new) →
-            (meters new.disk).powered ≡ true → (more : List Entry) → more ≡ stepped sc k site done → IsUp content image meters sc more site s new
-        stepped_stands wrote lit more entered =
+        pub stepped_stands : LogsAreOrderly → LoggedSitesAreSets → ((lists : List (List Record)) → Stands content image (bodies_in lists) old → Stands content image (bodies_in lists ++ body_of batch.records) new) →
+            (meters new.disk).powered ≡ true → (more : List Entry) → more ≡ stepped sc k site done → IsUp content image meters sc more site s new rose
+        stepped_stands logs sets wrote lit more entered =
             let Q : List Record → Type 0 = λ rs. (lists : List (List Record)) → Stands content image (bodies_in lists) old → Stands content image (bodies_in lists ++ body_of rs) new in
-            let R : List Entry → Type 0 = λ l. IsUp content image meters sc l site s new in
+            let R : List Entry → Type 0 = λ l. IsUp content image meters sc l site s new rose in
             subst R (sym entered) (record {
               up = stepped_up sc k site done up_2.up;
-              stands = stands_same sc (stepped sc h1 site done) (stepped sc k site done) site s
-                  (stepped_same sc site h1 k done (moves_meanwhile sc h1 k site second_while)) made.stands;
+              stands = record {
+                alike = stands_same sc (stepped sc h1 site done) (stepped sc k site done) site rose s
+                    (stepped_same sc site h1 k done (moves_meanwhile sc h1 k site second_while)) made.stands;
+                order = log_in_order logs sets sc (stepped sc k site done) site was.given (stepped_legal sc k site done some up_2.up all_2.1 legal_2);
+              };
               logged = steps_logged content image sc k site done old new up_2.logged (subst Q same_records wrote);
               lit = lit;
               inputs =
@@ -362,12 +368,12 @@ module _ (p q : APass) (site first : ℕ) (inputs : List Input) (answer : Result
             fallen_all_disk content image sc k site done why old new up_2.logged (subst Q same_records reads)
 
         -- the steps are its end
-        pub steps_end : RecordsMentionWhatStands → BegunAreTransactions → VotesAtTheirSite → AllReadBack sc h site → is_up_at h1 site ≡ true →
+        pub steps_end : LogsAreOrderly → LoggedSitesAreSets → RecordsMentionWhatStands → BegunAreTransactions → VotesAtTheirSite → AllReadBack sc h site → is_up_at h1 site ≡ true →
             ((lists : List (List Record)) → Stands content image (bodies_in lists) old → Stands content image (bodies_in lists ++ body_of batch.records) new) →
             (meters new.disk).powered ≡ true → Takes (calls_for batch.records) (meters old.disk) (meters new.disk) → Keeps (meters old.disk) (meters new.disk) →
             (now : List Mark) → now ≡ marks ++ marks_in k batch.steps.items →
-            EndsWith content image meters sc h (entries_of now) site inputs (Up s0 old) (Up s new) answer None
-        steps_end mentions begun votes back up_1 wrote lit takes keeps now is =
+            EndsWith content image meters sc h (entries_of now) site inputs (Up s0 old rose) (Up s new rose) answer None
+        steps_end logs sets mentions begun votes back up_1 wrote lit takes keeps now is =
             let entered : entries_of now ≡ stepped sc k site done = history_stepped now is in
             let A : List Entry → Type 0 = λ l. AllReadBack sc l site in
             let T : List Record → Type 0 = λ rs. Takes (calls_for rs) (meters old.disk) (meters new.disk) in
@@ -387,7 +393,7 @@ module _ (p q : APass) (site first : ℕ) (inputs : List Input) (answer : Result
                   takes = subst T seen_records takes;
                   frame = subst F seen_records (records_end (bodies_in logged.lists) batch.records old.end new.end logged.stands.disk.end_is behind.disk.end_is);
                 },
-                stepped_stands wrote lit (entries_of now) entered,
+                stepped_stands logs sets wrote lit (entries_of now) entered,
               );
               back = subst A (sym entered) (steps_back sc k site done (back_meanwhile sc h k site all_while back) (records_back mentions begun votes up_1));
               keeps = keeps;
@@ -401,7 +407,7 @@ module _ (p q : APass) (site first : ℕ) (inputs : List Input) (answer : Result
             IsReason why (log_size moves) batch.records (meters old.disk) (meters new.disk)) → EndsAt old.end batch.records why → Keeps (meters old.disk) (meters new.disk) →
             (over : List Input) → over ≡ done → (now : List Mark) →
             now ≡ marks ++ mark.Entered (numbered_on k (record { owner = site; act = Fall over batch.records why })) ∷ [] →
-            EndsWith content image meters sc h (entries_of now) site inputs (Up s0 old) (Up s new) answer (Some why)
+            EndsWith content image meters sc h (entries_of now) site inputs (Up s0 old rose) (Up s new rose) answer (Some why)
         fall_end mentions begun votes back up_1 why some_records reads reason need keeps over over_is now is =
             let entered : entries_of now ≡ k ++ fall_over sc k site done why ∷ [] = history_fallen over why now over_is is in
             let A : List Entry → Type 0 = λ l. AllReadBack sc l site in

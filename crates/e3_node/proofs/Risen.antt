@@ -53,11 +53,11 @@ may_rise content image meters marks node wish shared was rising is = record {
 pub allowed_of : {D : Type 0} (content : D → List ℕ) (image : D → List ℕ → Type 0) (meters : D → Meters) (sc : Scenario) (h : List Entry)
     (site : ℕ) (old : D) (state : State D) (r : Raised) → IsRising sc h site → RiseMakes content image meters sc h site old state r →
     IsAllowed sc h site r
-allowed_of content image meters sc h site old (Up s l) (Rose kept inc) rising made = made.allowed
-allowed_of content image meters sc h site old (Up s l) (Failed kept inc why) rising made = absurd made
-allowed_of content image meters sc h site old (Up s l) Missed rising made = absurd made
-allowed_of content image meters sc h site old (Up s l) NoMemory rising made = absurd made
-allowed_of content image meters sc h site old (Up s l) Foreign rising made = absurd made
+allowed_of content image meters sc h site old (Up s l rose) (Rose kept inc) rising made = made.allowed
+allowed_of content image meters sc h site old (Up s l rose) (Failed kept inc why) rising made = absurd made
+allowed_of content image meters sc h site old (Up s l rose) Missed rising made = absurd made
+allowed_of content image meters sc h site old (Up s l rose) NoMemory rising made = absurd made
+allowed_of content image meters sc h site old (Up s l rose) Foreign rising made = absurd made
 allowed_of content image meters sc h site old (Down new) (Rose kept inc) rising made = absurd made
 allowed_of content image meters sc h site old (Down new) (Failed kept inc why) rising made = made.allowed
 allowed_of content image meters sc h site old (Down new) Missed rising made = rising
@@ -75,11 +75,11 @@ missed_disk sc h site image stands = λ bytes at.
 rise_in : {D : Type 0} (content : D → List ℕ) (image : D → List ℕ → Type 0) (meters : D → Meters) (sc : Scenario) (h : List Entry)
     (site : ℕ) (old : D) (state : State D) (r : Raised) → is_up_at h site ≡ false → RiseMakes content image meters sc h site old state r →
     IsIn content image meters sc (h ++ entered_by site r) site state
-rise_in content image meters sc h site old (Up s l) (Rose kept inc) down made = made.up
-rise_in content image meters sc h site old (Up s l) (Failed kept inc why) down made = absurd made
-rise_in content image meters sc h site old (Up s l) Missed down made = absurd made
-rise_in content image meters sc h site old (Up s l) NoMemory down made = absurd made
-rise_in content image meters sc h site old (Up s l) Foreign down made = absurd made
+rise_in content image meters sc h site old (Up s l rose) (Rose kept inc) down made = made.up
+rise_in content image meters sc h site old (Up s l rose) (Failed kept inc why) down made = absurd made
+rise_in content image meters sc h site old (Up s l rose) Missed down made = absurd made
+rise_in content image meters sc h site old (Up s l rose) NoMemory down made = absurd made
+rise_in content image meters sc h site old (Up s l rose) Foreign down made = absurd made
 rise_in content image meters sc h site old (Down new) (Rose kept inc) down made = absurd made
 rise_in content image meters sc h site old (Down new) (Failed kept inc why) down made = record {
   down = up_same h (rise_fall_of site kept inc why) site (self site);
@@ -96,11 +96,11 @@ rise_in content image meters sc h site old (Down new) Foreign down made = absurd
 rise_back : {D : Type 0} (content : D → List ℕ) (image : D → List ℕ → Type 0) (meters : D → Meters) (sc : Scenario) (h : List Entry)
     (site : ℕ) (old : D) (state : State D) (r : Raised) → AllReadBack sc h site → RiseMakes content image meters sc h site old state r →
     AllReadBack sc (h ++ entered_by site r) site
-rise_back content image meters sc h site old (Up s l) (Rose kept inc) back made = made.back
-rise_back content image meters sc h site old (Up s l) (Failed kept inc why) back made = absurd made
-rise_back content image meters sc h site old (Up s l) Missed back made = absurd made
-rise_back content image meters sc h site old (Up s l) NoMemory back made = absurd made
-rise_back content image meters sc h site old (Up s l) Foreign back made = absurd made
+rise_back content image meters sc h site old (Up s l rose) (Rose kept inc) back made = made.back
+rise_back content image meters sc h site old (Up s l rose) (Failed kept inc why) back made = absurd made
+rise_back content image meters sc h site old (Up s l rose) Missed back made = absurd made
+rise_back content image meters sc h site old (Up s l rose) NoMemory back made = absurd made
+rise_back content image meters sc h site old (Up s l rose) Foreign back made = absurd made
 rise_back content image meters sc h site old (Down new) (Rose kept inc) back made = absurd made
 rise_back content image meters sc h site old (Down new) (Failed kept inc why) back made = made.back
 rise_back content image meters sc h site old (Down new) Missed back made = back_quiet sc h site (record { owner = site; act = Miss }) back refl refl refl
@@ -127,12 +127,12 @@ node_risen content image meters sc now h more old new state count r was down mad
 rose_as : {D : Type 0} (content : D → List ℕ) (image : D → List ℕ → Type 0) (meters : D → Meters) (sc : Scenario) (h more : List Entry)
     (site : ℕ) (old : D) (state : State D) (r : Raised) → RiseMakes content image meters sc h site old state r → more ≡ h ++ entered_by site r →
     IfOk (told_of r) (λ inc. HasRisen sc h site inc more (image old))
-rose_as content image meters sc h more site old (Up s l) (Rose kept inc) made entered =
+rose_as content image meters sc h more site old (Up s l rose) (Rose kept inc) made entered =
     record { kept = kept; allowed = made.allowed; entered = entered; read = made.read }
-rose_as content image meters sc h more site old (Up s l) (Failed kept inc why) made entered = absurd made
-rose_as content image meters sc h more site old (Up s l) Missed made entered = absurd made
-rose_as content image meters sc h more site old (Up s l) NoMemory made entered = absurd made
-rose_as content image meters sc h more site old (Up s l) Foreign made entered = absurd made
+rose_as content image meters sc h more site old (Up s l rose) (Failed kept inc why) made entered = absurd made
+rose_as content image meters sc h more site old (Up s l rose) Missed made entered = absurd made
+rose_as content image meters sc h more site old (Up s l rose) NoMemory made entered = absurd made
+rose_as content image meters sc h more site old (Up s l rose) Foreign made entered = absurd made
 rose_as content image meters sc h more site old (Down new) (Rose kept inc) made entered = absurd made
 rose_as content image meters sc h more site old (Down new) (Failed kept inc why) made entered = tt
 rose_as content image meters sc h more site old (Down new) Missed made entered = tt
@@ -150,11 +150,11 @@ pub failed_told : {D : Type 0} (content : D → List ℕ) (image : D → List �
     (site : ℕ) (old : D) (state : State D) (r : Raised) → RiseMakes content image meters sc h site old state r →
     more ≡ h ++ entered_by site r → (why : Why) → told_of r ≡ Err (rise_fault.Failed why) →
     HasFailedToRise sc h site why more (meters old) (meters (disk_of state)) (image old)
-failed_told content image meters sc h more site old (Up s l) (Rose kept inc) made entered why is = absurd cc
-failed_told content image meters sc h more site old (Up s l) (Failed kept inc because) made entered why is = absurd made
-failed_told content image meters sc h more site old (Up s l) Missed made entered why is = absurd made
-failed_told content image meters sc h more site old (Up s l) NoMemory made entered why is = absurd made
-failed_told content image meters sc h more site old (Up s l) Foreign made entered why is = absurd made
+failed_told content image meters sc h more site old (Up s l rose) (Rose kept inc) made entered why is = absurd cc
+failed_told content image meters sc h more site old (Up s l rose) (Failed kept inc because) made entered why is = absurd made
+failed_told content image meters sc h more site old (Up s l rose) Missed made entered why is = absurd made
+failed_told content image meters sc h more site old (Up s l rose) NoMemory made entered why is = absurd made
+failed_told content image meters sc h more site old (Up s l rose) Foreign made entered why is = absurd made
 failed_told content image meters sc h more site old (Down new) (Rose kept inc) made entered why is = absurd made
 failed_told content image meters sc h more site old (Down new) (Failed kept inc because) made entered why is =
     let same : because ≡ why = cc in
@@ -167,11 +167,11 @@ failed_told content image meters sc h more site old (Down new) Foreign made ente
 pub missed_told : {D : Type 0} (content : D → List ℕ) (image : D → List ℕ → Type 0) (meters : D → Meters) (sc : Scenario) (h : List Entry)
     (site : ℕ) (old : D) (state : State D) (r : Raised) → RiseMakes content image meters sc h site old state r →
     told_of r ≡ Err rise_fault.Missed → HasFailed (meters old).faults (meters (disk_of state)).faults
-missed_told content image meters sc h site old (Up s l) (Rose kept inc) made is = absurd cc
-missed_told content image meters sc h site old (Up s l) (Failed kept inc why) made is = absurd made
-missed_told content image meters sc h site old (Up s l) Missed made is = absurd made
-missed_told content image meters sc h site old (Up s l) NoMemory made is = absurd made
-missed_told content image meters sc h site old (Up s l) Foreign made is = absurd made
+missed_told content image meters sc h site old (Up s l rose) (Rose kept inc) made is = absurd cc
+missed_told content image meters sc h site old (Up s l rose) (Failed kept inc why) made is = absurd made
+missed_told content image meters sc h site old (Up s l rose) Missed made is = absurd made
+missed_told content image meters sc h site old (Up s l rose) NoMemory made is = absurd made
+missed_told content image meters sc h site old (Up s l rose) Foreign made is = absurd made
 missed_told content image meters sc h site old (Down new) (Rose kept inc) made is = absurd made
 missed_told content image meters sc h site old (Down new) (Failed kept inc why) made is = absurd cc
 missed_told content image meters sc h site old (Down new) Missed made is = made.1
@@ -182,11 +182,11 @@ missed_told content image meters sc h site old (Down new) Foreign made is = absu
 pub spared_told : {D : Type 0} (content : D → List ℕ) (image : D → List ℕ → Type 0) (meters : D → Meters) (sc : Scenario) (h : List Entry)
     (site : ℕ) (old : D) (state : State D) (r : Raised) → RiseMakes content image meters sc h site old state r →
     RiseTakes 5 r (meters old) (meters (disk_of state)) → told_of r ≡ Err rise_fault.NoMemory → Takes 0 (meters old) (meters (disk_of state))
-spared_told content image meters sc h site old (Up s l) (Rose kept inc) made takes is = absurd cc
-spared_told content image meters sc h site old (Up s l) (Failed kept inc why) made takes is = absurd made
-spared_told content image meters sc h site old (Up s l) Missed made takes is = absurd made
-spared_told content image meters sc h site old (Up s l) NoMemory made takes is = absurd made
-spared_told content image meters sc h site old (Up s l) Foreign made takes is = absurd made
+spared_told content image meters sc h site old (Up s l rose) (Rose kept inc) made takes is = absurd cc
+spared_told content image meters sc h site old (Up s l rose) (Failed kept inc why) made takes is = absurd made
+spared_told content image meters sc h site old (Up s l rose) Missed made takes is = absurd made
+spared_told content image meters sc h site old (Up s l rose) NoMemory made takes is = absurd made
+spared_told content image meters sc h site old (Up s l rose) Foreign made takes is = absurd made
 spared_told content image meters sc h site old (Down new) (Rose kept inc) made takes is = absurd made
 spared_told content image meters sc h site old (Down new) (Failed kept inc why) made takes is = absurd cc
 spared_told content image meters sc h site old (Down new) Missed made takes is = absurd cc

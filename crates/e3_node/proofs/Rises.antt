@@ -23,6 +23,12 @@ use Rattle.e3_node.specs.declared.rising.Raised.TheVariants.{Rose, Failed, Misse
 use Rattle.e3_node.specs.declared.state.State.{State}
 use Rattle.e3_node.specs.declared.state.State.TheVariants.{Down, Up}
 use Rattle.e3_site.specs.StandsFor.{IsRisenWith, StandsFor}
+use Rattle.e3_law_brief.specs.Orderly.{IsOrderly}
+use Rattle.e3_law_serial.specs.Orderly.{LogsAreOrderly}
+use Rattle.e3_law_brief.specs.Sets.{LoggedSitesAreSets}
+use Rattle.e3_law_stands.specs.StandsAlike.{IsLogInOrder, StandsAlike}
+use Rattle.e3_law_stands.proofs.Standing.{rises}
+use Rattle.e3_node.proofs.Orders.{log_in_order}
 use Rattle.e3_types.specs.declared.entries.Entry.{Entry}
 use Rattle.e3_types.specs.declared.entries.Why.{Why}
 use Rattle.e3_types.specs.declared.entries.Why.TheVariants.{Fault, Full}
@@ -33,7 +39,7 @@ use Rattle.e3_types.specs.declared.scenarios.Scenario.{Scenario}
 use Rattle.e3_types.specs.declared.transactions.Row.{Row}
 use Rattle.e3_world.specs.Legal.{IsLegal, IsRise}
 use Rattle.e3_world.specs.Logs.{logged_inc}
-use Rattle.e3_world.specs.Moves.{Move, Rose as DidRise, Silent, Tail, kept_moves, left_by, log_by, log_size, moves_of, open_tail, recorded, rise_records, rows_at}
+use Rattle.e3_world.specs.Moves.{Move, Rose as DidRise, Silent, Tail, kept_moves, left_by, log_by, log_of, log_size, moves_of, open_tail, recorded, rise_records, rows_at}
 use Rattle.e3_world.proofs.Pushes.{legal_push, log_push}
 use Rattle.e3_world.proofs.Readings.{up_same}
 use Rattle.e3_world.proofs.Turns.{self}
@@ -159,20 +165,23 @@ was_read content image sc h site kept bodies read old what stands at = record {
 }
 
 -- the frame of a rise was added: the site is up
-pub raised : {D : Type 0} (content : D → List ℕ) (image : D → List ℕ → Type 0) (meters : D → Meters) (sc : Scenario) (h : List Entry)
+pub raised : {D : Type 0} (content : D → List ℕ) (image : D → List ℕ → Type 0) (meters : D → Meters) → LogsAreOrderly → LoggedSitesAreSets → (sc : Scenario) (h : List Entry)
     (wish : Wish) (bodies : List (List ℕ)) (ready : Readied) (old new : LogState D) → MayRise sc h wish → IsReady wish bodies ready →
     Stands content image bodies old → DiskHolds sc h wish.site (image old.disk) → image old.disk (content old.disk) →
     ((lists : List (List Record)) → Stands content image (bodies_in lists) old → Stands content image (bodies_in lists ++ body_of ready.records) new) →
-    (meters new.disk).powered ≡ true → HasRaised content image meters sc h wish.site old.disk ready.up new ready.kept ready.inc
-raised {D} content image meters sc h wish bodies ready old new may is stands disk at wrote lit = record {
+    (meters new.disk).powered ≡ true → HasRaised content image meters sc h wish.site old.disk ready.up new ready.rose ready.kept ready.inc
+raised {D} content image meters logs sets sc h wish bodies ready old new may is stands disk at wrote lit = record {
   allowed = all.allowed;
   read = was_read content image sc h wish.site ready.kept bodies is.read old all.what stands at;
   up = record {
     up = up_same h e wish.site (self wish.site);
-    stands =
-        let P : ℕ → Type 0 = λ n. StandsFor sc (h ++ e ∷ []) n ready.up in
-        let Q : ℕ → Type 0 = λ n. IsRisenWith sc (h ++ e ∷ []) n (is.read ++ ready.records) in
-        subst P site_is (is.stands sc (h ++ e ∷ []) legal (subst Q (sym site_is) risen));
+    stands = record {
+      alike =
+          let all_of : List Record = is.read ++ ready.records in
+          subst (λ (rs : List Record). StandsAlike sc (h ++ e ∷ []) wish.site rs ready.up) (sym is.rose_is)
+          (rises sc (h ++ e ∷ []) wish.site ready.up all_of all_of exact.weights_are site_is is.risen.stands risen ordered ordered refl);
+      order = order;
+    };
     logged =
         let P : List Move → Type 0 = λ ms. IsLogged content image ms new in
         subst P (sym moves_now) (record {
@@ -219,6 +228,18 @@ raised {D} content image meters sc h wish bodies ready old new may is stands dis
           ∙ ap (λ (l : List Record). log_by (moves_with sc h wish.site ready.kept) ++ l) all.records_are
           ∙ sym (ap log_by moves_now ∙ log_push (moves_with sc h wish.site ready.kept) mine);
     }
+
+    -- today all records of the log are read, so that the site stands for the history exactly
+    exact : StandsFor sc (h ++ e ∷ []) ready.up.site ready.up
+    exact =
+        let Q : ℕ → Type 0 = λ n. IsRisenWith sc (h ++ e ∷ []) n (is.read ++ ready.records) in
+        is.stands sc (h ++ e ∷ []) legal (subst Q (sym site_is) risen)
+
+    order : IsLogInOrder wish.site (log_of sc (h ++ e ∷ []) wish.site)
+    order = log_in_order logs sets sc (h ++ e ∷ []) wish.site may.given legal
+
+    ordered : IsOrderly wish.site (is.read ++ ready.records)
+    ordered = subst (λ (l : List Record). IsOrderly wish.site l) (sym risen.log_is) order.orderly
 
 -- the frame of a rise was not added, or may not have been
 pub not_raised : {D : Type 0} (content : D → List ℕ) (image : D → List ℕ → Type 0) (meters : D → Meters) (sc : Scenario) (h : List Entry)
@@ -281,16 +302,16 @@ reason_since (Full need room) size records old mid new keeps reason =
 pub makes_since : {D : Type 0} (content : D → List ℕ) (image : D → List ℕ → Type 0) (meters : D → Meters) (sc : Scenario) (h : List Entry)
     (site : ℕ) (old mid : D) (state : State D) (r : Raised) → Within (image old) (image mid) → Keeps (meters old) (meters mid) →
     RiseMakes content image meters sc h site mid state r → RiseMakes content image meters sc h site old state r
-makes_since content image meters sc h site old mid (Up s l) (Rose kept inc) within keeps made = record {
+makes_since content image meters sc h site old mid (Up s l rose) (Rose kept inc) within keeps made = record {
   allowed = made.allowed;
   read = read_since image sc h site kept old mid within made.read;
   up = made.up;
   back = made.back;
 }
-makes_since content image meters sc h site old mid (Up s l) (Failed kept inc why) within keeps made = absurd made
-makes_since content image meters sc h site old mid (Up s l) Missed within keeps made = absurd made
-makes_since content image meters sc h site old mid (Up s l) NoMemory within keeps made = absurd made
-makes_since content image meters sc h site old mid (Up s l) Foreign within keeps made = absurd made
+makes_since content image meters sc h site old mid (Up s l rose) (Failed kept inc why) within keeps made = absurd made
+makes_since content image meters sc h site old mid (Up s l rose) Missed within keeps made = absurd made
+makes_since content image meters sc h site old mid (Up s l rose) NoMemory within keeps made = absurd made
+makes_since content image meters sc h site old mid (Up s l rose) Foreign within keeps made = absurd made
 makes_since content image meters sc h site old mid (Down new) (Rose kept inc) within keeps made = absurd made
 makes_since content image meters sc h site old mid (Down new) (Failed kept inc why) within keeps made = record {
   allowed = made.allowed;

@@ -1,6 +1,6 @@
 -- A node behind an input.
 use Rattle.std.proofs.Common.{◌≡◌, ◌≢◌, ◌++◌, ◌∷◌, [], ◌^◌, ◌<◌, ◌≤◌, ℕ, suc, true, false, List, length, refl, sym, subst, ap, ◌∙◌, append-nil, map, arith}
-use Rattle.std.specs.Prelude.{◌+◌, if◌then◌else◌, Bool, Option, Result, Ok, Err, IfOk, filter, nat_lt}
+use Rattle.std.specs.Prelude.{◌+◌, if◌then◌else◌, Bool, Option, Result, Ok, Err, IfOk, filter, fold, nat_lt}
 use Rattle.std.proofs.Common.{length-append}
 use Rattle.std.specs.List.{AllByRecursion as Each}
 use Rattle.std.proofs.lemmas.List.Elements.{filter-append}
@@ -11,9 +11,9 @@ use Rattle.e3_log.specs.Stands.{LogState, Stands}
 use Rattle.e3_law_local.specs.Others.{Allows, numbered_on}
 use Rattle.e3_node.specs.Bodies.{AllReadBack, DiskHolds, IsLogged, ReadsAfter, ReadsWith, bodies_in, body_of, tail_records}
 use Rattle.e3_node.specs.Counting.{count_of}
-use Rattle.e3_node.specs.Drafts.{IsAsBefore, IsDraft, IsReady}
+use Rattle.e3_node.specs.Drafts.{IsAsBefore, IsDraft, IsReady, StandsOnBy}
 use Rattle.e3_node.specs.Ends.{FellOver, is_fall}
-use Rattle.e3_node.specs.NodeStands.{IsDown, IsIn, IsUp, NodeStands, is_step, steps_at}
+use Rattle.e3_node.specs.NodeStands.{IsDown, IsIn, IsUp, NodeStands, StandsBy, is_step, steps_at}
 use Rattle.e3_node.specs.NodeView.{NodeView, disk_of, is_up_in}
 use Rattle.e3_node.specs.Telling.{IsOwn}
 use Rattle.e3_node.specs.declared.counting.Count.{Count}
@@ -23,8 +23,10 @@ use Rattle.e3_node.specs.declared.fault.InputFault.TheVariants as input_fault
 use Rattle.e3_node.specs.declared.state.State.{State}
 use Rattle.e3_node.specs.declared.state.State.TheVariants.{Down, Up}
 use Rattle.e3_play.specs.Entering.{fall_of}
-use Rattle.e3_site.specs.SiteView.{HasRoomFor, IsPlanOf, PlanView, SiteView, Stands as SiteStands, count_on, entry_of_plan, planned_step, step_kept}
-use Rattle.e3_site.specs.StandsFor.{StandsFor, StandsOn}
+use Rattle.e3_site.specs.SiteView.{HasRoomFor, IsPlanOf, PlanView, SiteView, Stands as SiteStands, count_on, entry_of_plan, planned_step, step_kept, with_step}
+use Rattle.e3_law_stands.specs.StandsAlike.{IsLogInOrder, now_with}
+use Rattle.e3_law_stands.proofs.Standing.{on, opens, plans, still as stands_still}
+use Rattle.e3_readings.specs.Opens.{open_in}
 use Rattle.e3_types.specs.declared.entries.Act.TheVariants.{Fall, Cut}
 use Rattle.e3_types.specs.declared.entries.Entry.{Entry}
 use Rattle.e3_types.specs.declared.entries.Input.{Input}
@@ -32,15 +34,15 @@ use Rattle.e3_types.specs.declared.entries.Why.{Why}
 use Rattle.e3_types.specs.declared.list.NoMemory.{NoMemory}
 use Rattle.e3_types.specs.declared.records.Record.{Record}
 use Rattle.e3_types.specs.declared.scenarios.Scenario.{Scenario}
+use Rattle.e3_types.specs.declared.transactions.Txn.{Txn}
 use Rattle.e3_wire.specs.Wires.{TakesLeast, TakesInTurn}
-use Rattle.e3_world.specs.Items.{is_up_at}
+use Rattle.e3_world.specs.Items.{add_txn, is_up_at, open_at}
 use Rattle.e3_world.specs.Legal.{Guard, IsDue, entry_of, made_by}
-use Rattle.e3_world.specs.Lives.{incarnation_of}
+use Rattle.e3_world.specs.Lives.{life_of}
 use Rattle.e3_world.specs.declared.lives.Incarnation.{Incarnation}
 use Rattle.e3_world.specs.declared.lives.SiteStep.{SiteStep}
 use Rattle.e3_world.specs.Moves.{Move, Past, Tail, left_by, log_by, log_of, moves_of, open_tail, own, plain_input, recorded}
 use Rattle.e3_world.specs.Sound.{step_move}
-use Rattle.e3_world.specs.Steps.{step_of}
 use Rattle.e3_world.proofs.Guards.{guard_step}
 use Rattle.e3_world.proofs.Numbers.{entered_move}
 use Rattle.e3_world.proofs.Pushes.{log_push}
@@ -52,16 +54,15 @@ use Rattle.e3_node.proofs.Frames.{bodies_push, hold_push}
 use Rattle.e3_node.proofs.Keeping.{disk_in}
 use Rattle.e3_node.proofs.Pasts.{all_both, back_left, past_on}
 
--- a site that stands for a history does so in the incarnation of its own moves
-pub own_stands : (sc : Scenario) (h : List Entry) (site : ℕ) (s : SiteView) → StandsFor sc h site s → SiteStands (incarnation_of (moves_of sc h s.site)) s
-own_stands sc h site s was = let P : ℕ → Type 0 = λ n. SiteStands (incarnation_of (moves_of sc h n)) s in subst P (sym was.site_is) was.stands
+-- a site that stands for a history does so in the incarnation of the records that it rose with
+pub own_stands : {rose : List Record} (sc : Scenario) (h : List Entry) (site : ℕ) (s : SiteView) → StandsBy sc h site rose s → SiteStands (now_with rose sc h s.site) s
+own_stands {rose} sc h site s was = let P : ℕ → Type 0 = λ n. SiteStands (now_with rose sc h n) s in subst P (sym was.alike.site_is) was.alike.stands
 
 -- and what it plans in it is the step that the history makes
-pub plan_made : (sc : Scenario) (h : List Entry) (site : ℕ) (s : SiteView) (i : Input) → StandsFor sc h site s →
-    planned_step (incarnation_of (moves_of sc h s.site)) s i ≡ step_kept i (made_by sc h site i)
-plan_made sc h site s i stands =
-    ap (λ (ws : List ℕ). step_kept i (step_of ws s.site (incarnation_of (moves_of sc h s.site)) i)) stands.weights_are
-    ∙ ap (λ (n : ℕ). step_kept i (step_of sc.weights n (incarnation_of (moves_of sc h n)) i)) stands.site_is
+pub plan_made : {rose : List Record} (sc : Scenario) (h : List Entry) (site : ℕ) (s : SiteView) (i : Input) → StandsBy sc h site rose s →
+    planned_step (now_with rose sc h s.site) s i ≡ step_kept i (made_by sc h site i)
+plan_made {rose} sc h site s i stands =
+    ap (λ (n : ℕ). planned_step (now_with rose sc h n) s i) stands.alike.site_is ∙ plans sc h site rose s i stands.alike stands.order
 
 pub step_moves : (sc : Scenario) (h : List Entry) (site : ℕ) (i : Input) →
     moves_of sc (h ++ entry_of sc h site i ∷ []) site ≡ moves_of sc h site ++ step_move sc site (moves_of sc h site) i ∷ []
@@ -85,12 +86,12 @@ step_logged content image sc h site i old new was wrote =
     })
 
 -- a site that made the planned step
-pub stepped_up : {D : Type 0} (content : D → List ℕ) (image : D → List ℕ → Type 0) (meters : D → Meters)
+pub stepped_up : {D : Type 0} {rose : List Record} (content : D → List ℕ) (image : D → List ℕ → Type 0) (meters : D → Meters)
     (sc : Scenario) (h : List Entry) (site : ℕ) (i : Input) (s : SiteView) (l : LogState D) → is_up_at h site ≡ true →
-    StandsFor sc (h ++ entry_of sc h site i ∷ []) site s →
+    StandsBy sc (h ++ entry_of sc h site i ∷ []) site rose s →
     IsLogged content image (moves_of sc (h ++ entry_of sc h site i ∷ []) site) l → (meters l.disk).powered ≡ true →
     s.inputs ≤ steps_at (h ++ entry_of sc h site i ∷ []) site →
-    IsUp content image meters sc (h ++ entry_of sc h site i ∷ []) site s l
+    IsUp content image meters sc (h ++ entry_of sc h site i ∷ []) site s l rose
 stepped_up content image meters sc h site i s l up stands logged lit few = record {
   up = up_same h (entry_of sc h site i) site (self site) ∙ up;
   stands = stands;
@@ -124,13 +125,20 @@ inputs_on sc h site i old new few is =
     omega (arith, few, is, one, more)
 
 -- a site that did the step that the history makes stands for the history with it
-pub site_on : (sc : Scenario) (h : List Entry) (site : ℕ) (i : Input) (old new : SiteView) (step : SiteStep) → StandsFor sc h site old →
-    step ≡ step_kept i (made_by sc h site i) → StandsOn old step new → StandsFor sc (h ++ entry_of sc h site i ∷ []) site new
-site_on sc h site i old new step stands is on =
-    let P : ℕ → Type 0 = λ n. StandsFor sc h n old in
-    let Q : ℕ → Type 0 = λ n. StandsFor sc (h ++ entry_of sc h n i ∷ []) n new in
-    let R : ℕ → Type 0 = λ n. step ≡ step_kept i (made_by sc h n i) in
-    subst Q stands.site_is (on sc h i (subst P (sym stands.site_is) stands) (subst R (sym stands.site_is) is))
+pub site_on : {rose : List Record} (sc : Scenario) (h : List Entry) (site : ℕ) (i : Input) (old new : SiteView) (step : SiteStep) → StandsBy sc h site rose old →
+    step ≡ step_kept i (made_by sc h site i) → new.weights ≡ old.weights → new.site ≡ old.site →
+    ((now : Incarnation) (input : Input) → SiteStands now old → step ≡ planned_step now old input → SiteStands (with_step now step) new) → IsLogInOrder site (log_of sc (h ++ entry_of sc h site i ∷ []) site) →
+    StandsBy sc (h ++ entry_of sc h site i ∷ []) site rose new
+site_on {rose} sc h site i old new step stands is weights number go order = record {
+  alike = on sc h site rose i old new step stands.alike is weights number
+      (go (now_with rose sc h site) i stands.alike.stands (is ∙ sym (plans sc h site rose old i stands.alike stands.order)));
+  order = order;
+}
+
+-- a value with other tables stands where these do
+pub stays_by : (old new : SiteView) → new ≡ record old { tables = new.tables } → ((now : Incarnation) → SiteStands now old → SiteStands now new) → StandsOnBy old new
+stays_by old new same go = λ sc h site rose was. stands_still sc h h site rose old new was refl (ap (λ (s : SiteView). s.weights) same) (ap (λ (s : SiteView). s.site) same)
+    (go (now_with rose sc h site) was.stands)
 
 -- what a draft has is what the history makes
 pub record IsMade (sc : Scenario) (h : List Entry) (site : ℕ) (i : Input) (d : Draft) : Type 0 where
@@ -138,8 +146,8 @@ pub record IsMade (sc : Scenario) (h : List Entry) (site : ℕ) (i : Input) (d :
   pub inputs_are : d.inputs ≡ i ∷ []
   pub back : Each (IsOwn site) (made_by sc h site i).records → AllCanBeReadBack site (made_by sc h site i).records
 
-pub draft_made : (sc : Scenario) (h : List Entry) (site : ℕ) (s new : SiteView) (i : Input) (d : Draft) → StandsFor sc h site s →
-    IsReady (incarnation_of (moves_of sc h s.site)) i s new d → IsMade sc h site i d
+pub draft_made : {rose : List Record} (sc : Scenario) (h : List Entry) (site : ℕ) (s new : SiteView) (i : Input) (d : Draft) → StandsBy sc h site rose s →
+    IsReady (now_with rose sc h s.site) i s new d → IsMade sc h site i d
 draft_made sc h site s new i d stands is = record {
   step_is = is.made ∙ plan_made sc h site s i stands;
   inputs_are = is.drafted.inputs_are;
@@ -163,7 +171,7 @@ ready_draft now i old new (Err none) plan is draft made few own room = tt
 
 -- a site at which nothing was done
 pub still_same : (s : SiteView) → IsAsBefore s s
-still_same s = record { same = refl; stands = λ sc h site was. was }
+still_same s = record { same = refl; stands = λ sc h site rose was. was }
 
 -- the records of a step that the history makes
 pub records_made : (sc : Scenario) (h : List Entry) (site : ℕ) (i : Input) (step : SiteStep) → step ≡ step_kept i (made_by sc h site i) →
@@ -258,12 +266,12 @@ fall_back sc h site i why was back = record {
 }
 
 -- a site that was made ready is up as before
-pub ready_up : {D : Type 0} (content : D → List ℕ) (image : D → List ℕ → Type 0) (meters : D → Meters)
-    (sc : Scenario) (h : List Entry) (site : ℕ) (s new : SiteView) (l : LogState D) → IsUp content image meters sc h site s l →
-    IsAsBefore s new → IsUp content image meters sc h site new l
-ready_up content image meters sc h site s new l was is = record {
+pub ready_up : {D : Type 0} {rose : List Record} (content : D → List ℕ) (image : D → List ℕ → Type 0) (meters : D → Meters)
+    (sc : Scenario) (h : List Entry) (site : ℕ) (s new : SiteView) (l : LogState D) → IsUp content image meters sc h site s l rose →
+    IsAsBefore s new → IsUp content image meters sc h site new l rose
+ready_up {D} {rose} content image meters sc h site s new l was is = record {
   up = was.up;
-  stands = is.stands sc h site was.stands;
+  stands = record { alike = is.stands sc h site rose was.stands.alike; order = was.stands.order };
   logged = was.logged;
   lit = was.lit;
   inputs = let P : ℕ → Type 0 = λ n. n ≤ steps_at h site in subst P (sym (ap (λ (v : SiteView). v.inputs) is.same)) was.inputs;
@@ -312,7 +320,7 @@ node_with content image meters sc now h more old new state count was same is bac
 pub cut_in : {D : Type 0} (content : D → List ℕ) (image : D → List ℕ → Type 0) (meters : D → Meters)
     (sc : Scenario) (h : List Entry) (site : ℕ) (old new : State D) → IsIn content image meters sc h site old → is_up_in new ≡ false →
     Within (image (disk_of old)) (image (disk_of new)) → IsIn content image meters sc (h ++ record { owner = site; act = Cut } ∷ []) site new
-cut_in content image meters sc h site old (Up s l) was down within = absurd cc
+cut_in content image meters sc h site old (Up s l rose) was down within = absurd cc
 cut_in content image meters sc h site old (Down disk) was down within = record {
   down = up_same h (record { owner = site; act = Cut }) site (self site);
   stands = λ bytes at.
@@ -321,3 +329,10 @@ cut_in content image meters sc h site old (Down disk) was down within = record {
       let Q : List Move → Type 0 = λ ms. ReadsWith site ms (open_tail sc h site) bytes in
       subst P (sym (past_on sc h site (record { owner = site; act = Cut }) refl)) (subst Q (sym (append-nil (moves_of sc h site))) stands);
 }
+
+-- what is open by the tables is open in the history
+pub open_by : {rose : List Record} (sc : Scenario) (h : List Entry) (site : ℕ) (s : SiteView) (r : Result (List Txn) NoMemory) → StandsBy sc h site rose s →
+    IfOk r (λ txns. (now : Incarnation) → SiteStands now s → txns ≡ open_in s.site (life_of now)) → IfOk r (λ txns. txns ≡ fold add_txn [] (open_at sc h site))
+open_by {rose} sc h site s (Ok txns) stands listed =
+    listed (now_with rose sc h site) stands.alike.stands ∙ opens sc h site rose s stands.alike stands.order.orderly
+open_by sc h site s (Err e) stands listed = tt

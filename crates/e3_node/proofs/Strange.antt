@@ -9,7 +9,7 @@ use Rattle.e3_log.proofs.One.{one_reading}
 use Rattle.e3_node.specs.Bodies.{ReadsWith, bodies_in, body_of, moves_with}
 use Rattle.e3_node.specs.Rising.{IsDisordered, IsForeign, MayRise, SomeIsBad, records_by, rise_of}
 use Rattle.e3_node.specs.declared.readying.Wish.{Wish}
-use Rattle.e3_law_orderly.specs.Orderly.{LogsAreOrderly}
+use Rattle.e3_law_serial.specs.Orderly.{LogsAreOrderly}
 use Rattle.e3_site.specs.Orderly.{IsFirstDisorder}
 use Rattle.e3_types.specs.declared.entries.Entry.{Entry}
 use Rattle.e3_types.specs.declared.records.Record.{Record}

@@ -1,5 +1,5 @@
 -- What a site's claim and entry made of what was seen, while others went on.
-use Rattle.std.proofs.Common.{◌≡◌, ◌≤◌, ◌<◌, ◌++◌, ◌∷◌, [], ◌+◌, ◌-◌, ℕ, zero, suc, false, List, length, refl, sym, subst, ap, ◌∙◌, append-nil, append_assoc, arith}
+use Rattle.std.proofs.Common.{◌≡◌, ◌≤◌, ◌<◌, ◌++◌, ◌∷◌, [], ◌+◌, ◌-◌, ℕ, zero, suc, false, List, length, refl, sym, subst, ap, ◌∙◌, append-nil, append_assoc, arith, true}
 use Rattle.std.specs.List.{AllByRecursion as Each}
 use Rattle.atomic_table.specs.Seated.{TableId}
 use Rattle.e3_codec.specs.Fields.{AllCanBeReadBack}
@@ -27,6 +27,7 @@ use Rattle.e3_types.specs.declared.entries.Act.{Act}
 use Rattle.e3_types.specs.declared.entries.Act.TheVariants.{Step, Fall, Rise, RiseFall, Miss, Cut, Drop, Parts, Line}
 use Rattle.e3_types.specs.declared.entries.Entry.{Entry}
 use Rattle.e3_types.specs.declared.entries.Input.{Input}
+use Rattle.e3_types.specs.declared.records.Record.{Record}
 use Rattle.e3_types.specs.declared.scenarios.Scenario.{Scenario}
 use Rattle.e3_wire.specs.Claims.{APass}
 use Rattle.e3_wire.specs.Marks.{AreForeign, belongs, entries_of, last_owner, most_of, note_of, nothing, scenario_of, used_by, used_of}
@@ -41,7 +42,7 @@ use Rattle.e3_wire.proofs.Foreign.{entries_append, foreign_are_others, foreign_o
 use Rattle.e3_wire.proofs.Notes.{claim_promises, entry_uses, scenario_stays}
 use Rattle.e3_wire.proofs.Spending.{used_numbered}
 use Rattle.e3_wire.proofs.Staying.{are_others_marks}
-use Rattle.e3_world.specs.Items.{inputs_of}
+use Rattle.e3_world.specs.Items.{inputs_of, is_up_at}
 use Rattle.e3_world.specs.Legal.{IsLegal, made_by}
 use Rattle.e3_world.specs.Lives.{incarnation_of}
 use Rattle.e3_world.specs.Moves.{Move, moves_of}
@@ -49,7 +50,7 @@ use Rattle.e3_world.specs.Steps.{step_of}
 use Rattle.e3_world.specs.declared.lives.Made.{Made}
 use Rattle.e3_world.specs.Packets.{is_calm, lines, outs_of, present_items, step_items}
 use Rattle.e3_node.proofs.Apart.{one_more, other_one}
-use Rattle.e3_node.proofs.Keeping.{back_kept, in_kept, moves_kept, node_kept}
+use Rattle.e3_node.proofs.Keeping.{back_kept, in_kept, moves_kept, node_kept, up_kept}
 use Rattle.e3_node.proofs.Steps.{IsMade, ready_up}
 
 pub moves_stay : MovesStay
@@ -385,14 +386,23 @@ full_told wire_fault.HistoryFull between seen is full told = let P : List Mark �
 full_told wire_fault.NoMemory between seen is full told = absurd cc
 
 -- a site that only made ready is up meanwhile
-pub still_up : {D : Type 0} (content : D → List ℕ) (image : D → List ℕ → Type 0) (meters : D → Meters)
-    (sc : Scenario) (h more : List Entry) (site : ℕ) (s new : SiteView) (l : LogState D) → Meanwhile site h more → IsUp content image meters sc h site s l →
-    IsAsBefore s new → IsUp content image meters sc more site new l
-still_up content image meters sc h more site s new l m was is =
-    ready_up content image meters sc more site s new l (up_meanwhile content image meters sc h more site (Up s l) m was) is
+pub still_up : {D : Type 0} {rose : List Record} (content : D → List ℕ) (image : D → List ℕ → Type 0) (meters : D → Meters)
+    (sc : Scenario) (h more : List Entry) (site : ℕ) (s new : SiteView) (l : LogState D) → Meanwhile site h more → IsUp content image meters sc h site s l rose →
+    IsAsBefore s new → IsUp content image meters sc more site new l rose
+still_up {D} {rose} content image meters sc h more site s new l m was is =
+    ready_up content image meters sc more site s new l (up_meanwhile content image meters sc h more site (Up s l rose) m was) is
 
 -- the scenario stays
 pub keys_stay : (p q : APass) → IsPlayed (seen_by p) → HasSeenMore p q → (scenario_seen q ≡ scenario_seen p) × (most_of (seen_by q) ≡ most_of (seen_by p))
 keys_stay p q played seen =
     let stay = scenario_stays (seen_by p) seen.0 played in
     (ap (λ (l : List Mark). scenario_of l) seen.1 ∙ stay.0, ap (λ (l : List Mark). most_of l) seen.1 ∙ stay.1)
+
+-- a site that is up stays so while others go on
+up_others : (h more : List Entry) (site : ℕ) → is_up_at h site ≡ true → AreOthers site more → is_up_at (h ++ more) site ≡ true
+up_others h [] site up others = ap (λ (l : List Entry). is_up_at l site) (append-nil h) ∙ up
+up_others h (e ∷ more) site up others =
+    ap (λ (l : List Entry). is_up_at l site) (sym (one_more h more e)) ∙ up_others (h ++ e ∷ []) more site (up_kept h e site (other_one site e others.0) ∙ up) others.2
+
+pub up_while : (h now : List Entry) (site : ℕ) → Meanwhile site h now → is_up_at h site ≡ true → is_up_at now site ≡ true
+up_while h now site m up = ap (λ (l : List Entry). is_up_at l site) m.is ∙ up_others h m.others site up m.of_others

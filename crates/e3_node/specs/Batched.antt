@@ -9,11 +9,12 @@ use Rattle.e3_node.specs.declared.batching.Batch.{Batch}
 use Rattle.e3_node.specs.declared.fault.InputFault.{InputFault}
 use Rattle.e3_node.specs.declared.fault.InputFault.TheVariants as input_fault
 use Rattle.e3_site.specs.SiteView.{SiteView}
-use Rattle.e3_site.specs.StandsFor.{StandsFor}
+use Rattle.e3_law_stands.specs.StandsAlike.{StandsAlike}
 use Rattle.e3_turn.specs.Passes.{GrewByOthers}
 use Rattle.e3_types.specs.Spelling.{spelling}
 use Rattle.e3_types.specs.declared.entries.Entry.{Entry}
 use Rattle.e3_types.specs.declared.entries.Input.{Input}
+use Rattle.e3_types.specs.declared.records.Record.{Record}
 use Rattle.e3_types.specs.declared.scenarios.Scenario.{Scenario}
 use Rattle.e3_wire.specs.Claims.{APass}
 use Rattle.e3_wire.specs.Marks.{belongs, entries_of, scenario_of}
@@ -22,24 +23,26 @@ use Rattle.e3_wire.specs.declared.marks.Mark.{Mark}
 use Rattle.e3_wire.specs.declared.marks.Mark.TheVariants as mark
 use Rattle.e3_world.specs.Legal.{records_by}
 
--- where a batch is made, behind this history and these marks, at a site that had counted so many inputs; and its inputs so far
+-- where a batch is made, behind this history and these marks, at a site that rose with these records and had counted so many
+-- inputs; and its inputs so far
 pub record BatchAt : Type 0 where
   pub scenario : Scenario
   pub history : List Entry
   pub site : ℕ
+  pub rose : List Record
   pub marks : List Mark
   pub first : ℕ
   pub done : List Input
 
 -- A batch has the steps of these inputs behind a history, and the site stands behind them. It counted no more inputs since
 -- the first. Behind the marks of the history a place and the room of its packets are claimed for each.
-pub record IsBatch (sc : Scenario) (history : List Entry) (site : ℕ) (marks : List Mark) (first : ℕ) (done : List Input) (batch : Batch)
+pub record IsBatch (sc : Scenario) (history : List Entry) (site : ℕ) (rose : List Record) (marks : List Mark) (first : ℕ) (done : List Input) (batch : Batch)
     (s : SiteView) (now : List Mark) : Type 0 where
   pub steps_are : batch.steps.items ≡ plain_steps sc history site done
   pub records_are : batch.records ≡ records_by sc history site done
   pub body_is : batch.body ≡ spelling (records_by sc history site done)
   pub back : Each (IsOwn site) (records_by sc history site done) → AllCanBeReadBack site (records_by sc history site done)
-  pub stands : StandsFor sc (stepped sc history site done) site s
+  pub stands : StandsAlike sc (stepped sc history site done) site rose s
   pub inputs : s.inputs ≤ first + length done
   pub claimed : now ≡ marks ++ claims_for (plain_steps sc history site done)
 
@@ -51,11 +54,11 @@ OnlyForMemory (Err fault) = ⊥
 
 -- a batch made there
 abbrev pub IsBatchAt : BatchAt → Batch → SiteView → List Mark → Type 0
-IsBatchAt at batch s now = IsBatch at.scenario at.history at.site at.marks at.first at.done batch s now
+IsBatchAt at batch s now = IsBatch at.scenario at.history at.site at.rose at.marks at.first at.done batch s now
 
 -- What others put is behind what the pass had seen. Behind that all falls that was promised to the site, and a batch has the
 -- first of the inputs, all of them where none was refused.
-pub record HasPlanned (p : APass) (site first : ℕ) (inputs : List Input) (answer : Result (Unit {0}) InputFault) (batch : Batch) (s : SiteView)
+pub record HasPlanned (p : APass) (site : ℕ) (rose : List Record) (first : ℕ) (inputs : List Input) (answer : Result (Unit {0}) InputFault) (batch : Batch) (s : SiteView)
     (now : List Mark) : Type 0 where
   pub between : List Mark
   pub grew : GrewByOthers belongs p between
@@ -64,4 +67,4 @@ pub record HasPlanned (p : APass) (site first : ℕ) (inputs : List Input) (answ
   pub within : count ≤ length inputs
   pub all : OnOk answer (count ≡ length inputs)
   pub short : OnErr answer (count < length inputs)
-  pub made : IsBatch (scenario_of between) (entries_of between) site (between ++ mark.Freed site ∷ []) first (take count inputs) batch s now
+  pub made : IsBatch (scenario_of between) (entries_of between) site rose (between ++ mark.Freed site ∷ []) first (take count inputs) batch s now

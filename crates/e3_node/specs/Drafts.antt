@@ -1,13 +1,16 @@
 -- A step that is ready to be made.
-use Rattle.std.specs.Prelude.{◌≡◌, ◌<◌, ◌^◌, ◌∷◌, [], ℕ, length}
+use Rattle.std.specs.Prelude.{◌≡◌, ◌<◌, ◌^◌, ◌∷◌, [], ℕ, List, length}
 use Rattle.std.specs.List.{AllByRecursion as Each}
 use Rattle.e3_codec.specs.Fields.{AllCanBeReadBack}
+use Rattle.e3_law_stands.specs.StandsAlike.{StandsAlike}
 use Rattle.e3_node.specs.Telling.{IsOwn}
 use Rattle.e3_node.specs.declared.drafts.Draft.{Draft}
 use Rattle.e3_site.specs.SiteView.{HasRoomFor, IsPlanOf, SiteView, planned_step}
-use Rattle.e3_site.specs.StandsFor.{StandsStill}
 use Rattle.e3_types.specs.Spelling.{spelling}
+use Rattle.e3_types.specs.declared.entries.Entry.{Entry}
 use Rattle.e3_types.specs.declared.entries.Input.{Input}
+use Rattle.e3_types.specs.declared.records.Record.{Record}
+use Rattle.e3_types.specs.declared.scenarios.Scenario.{Scenario}
 use Rattle.e3_world.specs.declared.lives.Incarnation.{Incarnation}
 
 -- All that the step of an input, and the fall that may stand in its place, take memory for; what it records can be read
@@ -26,7 +29,11 @@ pub record IsReady (now : Incarnation) (i : Input) (old new : SiteView) (draft :
   pub own : IsPlanOf draft.plan new
   pub room : HasRoomFor draft.plan new
 
+-- for every history for which the old value stands, by whatever records, the new one does
+abbrev pub StandsOnBy : SiteView → SiteView → Type 0
+StandsOnBy old new = (sc : Scenario) (history : List Entry) (site : ℕ) (rose : List Record) → StandsAlike sc history site rose old → StandsAlike sc history site rose new
+
 -- the new value is the old one, but for spare room
 pub record IsAsBefore (old new : SiteView) : Type 0 where
   pub same : new ≡ record old { tables = new.tables }
-  pub stands : StandsStill old new
+  pub stands : StandsOnBy old new

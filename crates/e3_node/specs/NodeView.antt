@@ -17,14 +17,14 @@ pub record NodeView (D : Type 0) : Type 0 where
 -- its disk, which is in a log while the site is up
 abbrev pub disk_of : {D : Type 0} → State D → D
 disk_of (Down disk) = disk
-disk_of (Up site log) = log.disk
+disk_of (Up site log rose) = log.disk
 
 -- where the frames on its disk end, which the log knows while the site is up
 abbrev pub end_of : {D : Type 0} → State D → ℕ
 end_of (Down disk) = 0
-end_of (Up site log) = log.end
+end_of (Up site log rose) = log.end
 
 -- the site is up
 abbrev pub is_up_in : {D : Type 0} → State D → Bool
 is_up_in (Down disk) = false
-is_up_in (Up site log) = true
+is_up_in (Up site log rose) = true

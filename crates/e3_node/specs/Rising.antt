@@ -67,6 +67,7 @@ pub record IsReady (wish : Wish) (bodies : List (List ℕ)) (ready : Readied) : 
   pub records_are : ready.records ≡ records_by wish ready.inc read
   pub body_is : ready.body ≡ spelling ready.records
   pub fits : AllCanBeReadBack wish.site ready.records
+  pub rose_is : ready.rose ≡ read ++ ready.records
   pub risen : IsRebuilt wish.site (read ++ ready.records) ready.up
   pub stands : StandsForEach (read ++ ready.records) ready.up
 
@@ -112,10 +113,10 @@ rise_fall_of site kept inc why = record { owner = site; act = act.RiseFall kept 
 
 -- the site rose over a disk: it stands for the history with its rise
 pub record HasRaised {D : Type 0} (content : D → List ℕ) (image : D → List ℕ → Type 0) (meters : D → Meters) (sc : Scenario)
-    (history : List Entry) (site : ℕ) (old : D) (s : SiteView) (l : LogState D) (kept : Bool) (inc : ℕ) : Type 0 where
+    (history : List Entry) (site : ℕ) (old : D) (s : SiteView) (l : LogState D) (rose : List Record) (kept : Bool) (inc : ℕ) : Type 0 where
   pub allowed : IsRise sc history site kept inc
   pub read : IsRead sc history site kept (image old)
-  pub up : IsUp content image meters sc (history ++ rise_of site kept inc ∷ []) site s l
+  pub up : IsUp content image meters sc (history ++ rise_of site kept inc ∷ []) site s l rose
   pub back : AllReadBack sc (history ++ rise_of site kept inc ∷ []) site
 
 -- the rise failed: the disk stands for the history with the failed rise
@@ -131,7 +132,7 @@ pub record HasNotRaised {D : Type 0} (image : D → List ℕ → Type 0) (meters
 
 -- what a rise makes of a disk; a log that is not the site's comes of no disk that stands
 abbrev pub RiseMakes : {D : Type 0} → (D → List ℕ) → (D → List ℕ → Type 0) → (D → Meters) → Scenario → List Entry → ℕ → D → State D → Raised → Type 0
-RiseMakes content image meters sc history site old (Up s l) (Rose kept inc) = HasRaised content image meters sc history site old s l kept inc
+RiseMakes content image meters sc history site old (Up s l rose) (Rose kept inc) = HasRaised content image meters sc history site old s l rose kept inc
 RiseMakes content image meters sc history site old (Down new) (Failed kept inc why) = HasNotRaised image meters sc history site old new kept inc why
 RiseMakes content image meters sc history site old (Down new) Missed =
     DiskHolds sc history site (image new) × HasFailed (meters old).faults (meters new).faults

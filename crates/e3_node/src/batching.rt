@@ -1,14 +1,16 @@
 // Several packets of a site that is up, by its worker: their steps have one frame.
 ghost use Rattle.std.specs.Prelude.{◌≡◌, ◌≤◌, ◌<◌, ◌+◌, ◌++◌, ◌∷◌, [], ℕ, length, take, fold, vec_capacity, IfOk, OnOk, OnErr, List as Items};
+ghost use Rattle.e3_law_stands.specs.StandsAlike.{IsLogInOrder, StandsAlike};
 ghost use Rattle.e3_node.specs.Batched.{BatchAt, HasPlanned, IsBatchAt, OnlyForMemory};
+ghost use Rattle.e3_node.specs.Batches.{stepped};
 ghost use Rattle.e3_node.specs.Counting.{counted_by};
 ghost use Rattle.e3_node.specs.Several.{AreOwned, MayEnterAll, marks_in};
 ghost use Rattle.e3_node.specs.Turns.{history_seen, scenario_seen};
-ghost use Rattle.e3_site.specs.StandsFor.{StandsFor};
 ghost use Rattle.e3_turn.specs.Passes.{GrewByOthers, IsIdle, Owns, SameOwners, seen_by};
-ghost use Rattle.e3_wire.specs.Marks.{belongs, entries_of, last_owner, most_of, note_of, used_of};
+ghost use Rattle.e3_wire.specs.Marks.{belongs, entries_of, last_owner, most_of, note_of, scenario_of, used_of};
 ghost use Rattle.e3_wire.specs.Wires.{IsPlayed};
 ghost use Rattle.e3_wire.specs.declared.marks.Mark.{Mark};
+ghost use Rattle.e3_world.specs.Moves.{log_of};
 
 use crate::InputFault;
 use crate::counting::{Count, count_on};
@@ -70,6 +72,7 @@ fn add_one(
     shared: &mut Shared,
     number: u32,
     site: &mut Site,
+    rose: &List<Record>,
     batch: &mut Batch,
     input: &Input,
 ) -> Result<(), InputFault>
@@ -77,6 +80,7 @@ fn add_one(
     requires owner { number ≤ last_owner shared.old }
     requires site { number ≡ at.site }
     requires made { IsBatchAt at batch.old site.old shared.old }
+    requires order { IsLogInOrder at.site (log_of at.scenario (stepped at.scenario at.history at.site at.done) at.site) }
     requires left { used_of shared.old < most_of shared.old }
     ensures owners { last_owner shared.new ≡ last_owner shared.old }
     ensures most { most_of shared.new ≡ most_of shared.old }
@@ -86,7 +90,7 @@ fn add_one(
     ensures refused { OnlyForMemory result }
 {
     let alloc = shared.alloc();
-    let draft = prepare(site, input, shared)?;
+    let draft = prepare(site, rose, input, shared)?;
     let room = room_for(draft.plan.outs());
     let records = both_records(alloc, batch.records.as_slice(), draft.plan.records())?;
     let body = both_bodies(alloc, batch.body.as_slice(), draft.body.as_slice())?;
@@ -104,6 +108,7 @@ fn add_all(
     shared: &mut Shared,
     number: u32,
     site: &mut Site,
+    rose: &List<Record>,
     batch: &mut Batch,
     inputs: &[Input],
 ) -> Result<(), InputFault>
@@ -111,25 +116,28 @@ fn add_all(
     requires owner { number ≤ last_owner shared.old }
     requires site { number ≡ at.site }
     requires made { IsBatchAt (record at { done = [] }) batch.old site.old shared.old }
+    requires orders { (n : ℕ) → n ≤ length inputs.now → IsLogInOrder at.site (log_of at.scenario (stepped at.scenario at.history at.site (take n inputs.now)) at.site) }
     requires left { used_of shared.old + length inputs.now ≤ most_of shared.old }
     ensures added { (n : ℕ) × (n ≤ length inputs.now) × OnOk result (n ≡ length inputs.now) × OnErr result (n < length inputs.now)
         × IsBatchAt (record at { done = take n inputs.now }) batch.new site.new shared.new }
     ensures refused { OnlyForMemory result }
 {
     for input in inputs {
-        add_one(shared, number, site, batch, input)?;
+        add_one(shared, number, site, rose, batch, input)?;
     }
     Ok(())
 }
 
 /// In one turn, all that is promised to the site is freed, and the steps of these inputs are made, up to the first that is
 /// refused, with a place claimed for each. So many places were promised that no claim is refused for a full history.
+/// The records that the site rose with are passed on for the proof alone.
 pub(crate) fn plan_all<R: Wait>(
     rt: &R,
     wire: &Wire,
     pass: &mut WirePass,
     number: u32,
     site: &mut Site,
+    rose: &List<Record>,
     batch: &mut Batch,
     inputs: &[Input],
 ) -> Result<(), InputFault>
@@ -137,19 +145,21 @@ pub(crate) fn plan_all<R: Wait>(
     requires owns { Owns pass.old number }
     requires played { IsPlayed (seen_by pass.old) }
     requires exists { number ≤ last_owner (seen_by pass.old) }
-    requires stands { StandsFor (scenario_seen pass.old) (history_seen pass.old) number site.old }
+    requires stands { StandsAlike (scenario_seen pass.old) (history_seen pass.old) number rose.now site.old }
+    requires orders { (marks : Items Mark) → GrewByOthers belongs pass.old marks → IsPlayed marks → (n : ℕ) → n ≤ length inputs.now →
+        IsLogInOrder number (log_of (scenario_of marks) (stepped (scenario_of marks) (entries_of marks) number (take n inputs.now)) number) }
     requires empty { (batch.old.steps.items ≡ []) × (batch.old.records ≡ []) × (batch.old.body ≡ []) }
     requires some { 1 ≤ length inputs.now }
     requires places { length inputs.now ≤ (note_of number (seen_by pass.old)).places }
     ensures idle { IsIdle wire.now pass.new }
     ensures same { SameOwners pass.old pass.new }
     ensures played { IsPlayed (seen_by pass.new) }
-    ensures planned { HasPlanned pass.old number site.old.inputs inputs.now result batch.new site.new (seen_by pass.new) }
+    ensures planned { HasPlanned pass.old number rose.now site.old.inputs inputs.now result batch.new site.new (seen_by pass.new) }
     ensures refused { OnlyForMemory result }
 {
     let mut shared = wire.take(rt, pass);
     shared.free(number);
-    let added = add_all(&mut shared, number, site, batch, inputs);
+    let added = add_all(&mut shared, number, site, rose, batch, inputs);
     wire.put(pass, shared);
     added
 }

@@ -6,7 +6,7 @@ ghost use Rattle.e3_world.specs.declared.lives.Incarnation.{Incarnation};
 
 use crate::fitting::spelled;
 use e3_site::{Plan, Site};
-use e3_types::{Input, List, NoMemory};
+use e3_types::{Input, List, NoMemory, Record};
 use e3_wire::{Shared, WirePass};
 use std::alloc::Global;
 
@@ -41,9 +41,14 @@ fn planned(alloc: Global, site: &mut Site, input: &Input) -> Result<Draft, NoMem
     draft_of(alloc, plan, input)
 }
 
-/// Takes all memory that the step of an input may want at the site, and for its entry. The history that is shared is passed on
-/// for the proof alone: it tells in which incarnation the site is.
-pub(crate) fn prepare(site: &mut Site, input: &Input, shared: &Shared) -> Result<Draft, NoMemory>
+/// Takes all memory that the step of an input may want at the site, and for its entry. The records that the site rose with and
+/// the history that is shared are passed on for the proof alone: they tell in which incarnation the site is.
+pub(crate) fn prepare(
+    site: &mut Site,
+    _rose: &List<Record>,
+    input: &Input,
+    shared: &Shared,
+) -> Result<Draft, NoMemory>
     ghost now: { Incarnation }
     requires { Stands now site.old }
     ensures ready { IfOk result (IsReady now input.now site.old site.new) }
@@ -56,6 +61,7 @@ pub(crate) fn prepare(site: &mut Site, input: &Input, shared: &Shared) -> Result
 pub(crate) fn prepare_by_turns(
     alloc: Global,
     site: &mut Site,
+    _rose: &List<Record>,
     input: &Input,
     _pass: &WirePass,
 ) -> Result<Draft, NoMemory>

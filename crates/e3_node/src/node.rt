@@ -105,7 +105,7 @@ impl<D: Disk + Drill + Drop> Node<D> {
     {
         match &self.state {
             State::Down(_) => false,
-            State::Up(_, _) => true,
+            State::Up(_, _, _) => true,
         }
     }
 
@@ -127,7 +127,7 @@ impl<D: Disk + Drill + Drop> Node<D> {
     {
         match &self.state {
             State::Down(_) => Ok(List::new(alloc)),
-            State::Up(site, _) => site.open_txns(),
+            State::Up(site, _, _) => site.open_txns(),
         }
     }
 

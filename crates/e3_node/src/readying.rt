@@ -26,11 +26,12 @@ pub(crate) struct Wish {
     pub logged: u64,
 }
 
-/// A rise for which all memory is taken: the site that is up with it, its records and their spelling, whether what was in
-/// doubt is kept, and the incarnation.
+/// A rise for which all memory is taken: the site that is up with it, and all records that it rose with; the records of the
+/// rise and their spelling; whether what was in doubt is kept, and the incarnation.
 #[derive(Drop)]
 pub(crate) struct Readied {
     pub up: Site,
+    pub rose: List<Record>,
     pub records: List<Record>,
     pub body: List<u8>,
     pub kept: bool,
@@ -141,6 +142,7 @@ pub(crate) fn ready(wish: &Wish, frames: &[Frame]) -> Result<Readied, Unready>
     let up = rebuilt(wish.alloc, wish.site, log.as_slice())?;
     Ok(Readied {
         up,
+        rose: log,
         records,
         body,
         kept,

@@ -22,7 +22,8 @@ use crate::readying::{Readied, Unready, Wish, ready};
 use crate::writing::write;
 use crate::{RiseFault, State};
 use e3_disk::{Disk, Drill};
-use e3_law_orderly::logs_are_orderly;
+use e3_law_brief::logged_sites_are_sets;
+use e3_law_serial::logs_are_orderly;
 use e3_log::{Frame, Log, OpenCause, OpenRefused};
 use e3_types::{Act, Entry, List, Why};
 use e3_wire::Shared;
@@ -63,10 +64,15 @@ fn log_rise<D: Disk + Drop>(mut log: Log<D>, rise: Readied) -> (State<D>, Raised
     ensures keeps { Keeps (D.meters log.disk) (D.meters (disk_of result.0)) }
     ensures takes { RiseTakes 4 result.1 (D.meters log.disk) (D.meters (disk_of result.0)) }
 {
+    logs_are_orderly();
+    logged_sites_are_sets();
     let kept = rise.kept;
     let inc = rise.inc;
     match write(&mut log, rise.records.as_slice(), rise.body.as_slice()) {
-        Ok(()) => (State::Up(rise.up, log), Raised::Rose { kept, inc }),
+        Ok(()) => (
+            State::Up(rise.up, log, rise.rose),
+            Raised::Rose { kept, inc },
+        ),
         Err(why) => (
             State::Down(log.into_disk()),
             Raised::Failed { kept, inc, why },

@@ -11,13 +11,14 @@ ghost use Rattle.e3_types.specs.declared.scenarios.Scenario.{Scenario};
 use e3_disk::{Disk, Drill};
 use e3_log::Log;
 use e3_site::Site;
-use e3_types::Leave;
+use e3_types::{Leave, List, Record};
 
-/// A site that is down is its disk alone; one that is up is the site and the log on its disk.
+/// A site that is down is its disk alone; one that is up is the site, the log on its disk, and the records that the site rose
+/// with, which are kept for the proof alone: they tell in which incarnation the site is.
 #[derive(Drop)]
 pub enum State<D: Disk + Drop> {
     Down(D),
-    Up(Site, Log<D>),
+    Up(Site, Log<D>, List<Record>),
 }
 
 /// The disk of a site, which is down then.
@@ -26,7 +27,7 @@ pub(crate) fn into_disk<D: Disk + Drop>(state: State<D>) -> D
 {
     match state {
         State::Down(disk) => disk,
-        State::Up(_site, log) => log.into_disk(),
+        State::Up(_site, log, _rose) => log.into_disk(),
     }
 }
 
@@ -50,6 +51,6 @@ pub(crate) fn arm<D: Disk + Drill + Drop>(state: &mut State<D>, calls: u32, leav
 {
     match state {
         State::Down(disk) => disk.arm(calls, leave),
-        State::Up(_site, log) => log.arm(calls, leave),
+        State::Up(_site, log, _rose) => log.arm(calls, leave),
     }
 }

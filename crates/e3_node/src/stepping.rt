@@ -26,8 +26,11 @@ use crate::writing::write;
 use crate::{InputFault, State};
 use core::mem::replace_with;
 use e3_disk::Disk;
-use e3_law_begun::{begun_are_transactions, legal_histories_mention_what_stands};
-use e3_law_trails::records_suit_their_site;
+use e3_law_brief::logged_sites_are_sets;
+use e3_law_serial::logs_are_orderly;
+use e3_law_steps::{
+    begun_are_transactions, legal_histories_mention_what_stands, records_suit_their_site,
+};
 use e3_log::Log;
 use e3_site::Site;
 use e3_types::{Act, Entry, Input, List, Packet, Record, Why};
@@ -67,11 +70,13 @@ pub(crate) fn fall_of(owner: u32, inputs: List<Input>, records: List<Record>, wh
     Entry { owner, act }
 }
 
-// A site that is up takes an input: its step is planned, its frame is written, and it is entered; or it falls.
+// A site that is up takes an input: its step is planned, its frame is written, and it is entered; or it falls. The records that
+// it rose with are passed on for the proof alone.
 fn step<D: Disk>(
     number: u32,
     site: &mut Site,
     log: &mut Log<D>,
+    rose: &List<Record>,
     count: &mut Count,
     shared: &mut Shared,
     input: Input,
@@ -80,7 +85,7 @@ fn step<D: Disk>(
     requires shared { SharedStands shared.old }
     requires some { 1 ≤ number }
     requires exists { number ≤ last_owner shared.old }
-    requires up { IsUp D.content D.image D.meters (scenario_of shared.old) (entries_of shared.old) number site.old log.old }
+    requires up { IsUp D.content D.image D.meters (scenario_of shared.old) (entries_of shared.old) number site.old log.old rose.now }
     requires due { IsDue (scenario_of shared.old) (entries_of shared.old) number input }
     requires first { IsFirst (scenario_of shared.old) (entries_of shared.old) input }
     requires back { AllReadBack (scenario_of shared.old) (entries_of shared.old) number }
@@ -88,13 +93,13 @@ fn step<D: Disk>(
     ensures grew { HaveGrown shared.old shared.new }
     ensures same { (scenario_of shared.new ≡ scenario_of shared.old) × (most_of shared.new ≡ most_of shared.old) }
     ensures stepped { OnOk result (entries_of shared.new ≡ entries_of shared.old ++ entry_of (scenario_of shared.old) (entries_of shared.old) number input ∷ []) }
-    ensures up { OnOk result (IsUp D.content D.image D.meters (scenario_of shared.old) (entries_of shared.new) number site.new log.new) }
+    ensures up { OnOk result (IsUp D.content D.image D.meters (scenario_of shared.old) (entries_of shared.new) number site.new log.new rose.now) }
     ensures back { AllReadBack (scenario_of shared.old) (entries_of shared.new) number }
     ensures counted { count.new ≡ count_of number (entries_of shared.new) }
     ensures never { result ≡ Err input_fault.Down → ⊥ }
     ensures kept { (fault : InputFaults) → result ≡ Err fault → is_fall fault ≡ false →
         (entries_of shared.new ≡ entries_of shared.old) × (log.new ≡ log.old)
-        × IsUp D.content D.image D.meters (scenario_of shared.old) (entries_of shared.old) number site.new log.new }
+        × IsUp D.content D.image D.meters (scenario_of shared.old) (entries_of shared.old) number site.new log.new rose.now }
     ensures fell { (why : Whys) → result ≡ Err (input_fault.Fell why) →
         FellOver (scenario_of shared.old) (entries_of shared.old) number input why (entries_of shared.new)
         × DiskHolds (scenario_of shared.old) (entries_of shared.new) number (D.image log.new.disk) }
@@ -111,10 +116,12 @@ fn step<D: Disk>(
     legal_histories_mention_what_stands();
     begun_are_transactions();
     records_suit_their_site();
+    logs_are_orderly();
+    logged_sites_are_sets();
     if is_full(shared) {
         return Err(InputFault::HistoryFull);
     }
-    let draft = prepare(site, &input, shared)?;
+    let draft = prepare(site, rose, &input, shared)?;
     let room = room_for(draft.plan.outs());
     claim(shared, number, room)?;
     match write(log, draft.plan.records(), draft.body.as_slice()) {
@@ -177,7 +184,7 @@ pub(crate) fn take_input<D: Disk + Drop>(
 {
     match state {
         State::Down(_) => Err(InputFault::Down),
-        State::Up(site, log) => step(number, site, log, count, shared, input),
+        State::Up(site, log, rose) => step(number, site, log, rose, count, shared, input),
     }
 }
 
@@ -186,7 +193,7 @@ pub(crate) fn laid_down<D: Disk + Drop>(state: State<D>, _unit: ()) -> (State<D>
 {
     match state {
         State::Down(disk) => (State::Down(disk), ()),
-        State::Up(_site, log) => (State::Down(log.into_disk()), ()),
+        State::Up(_site, log, _rose) => (State::Down(log.into_disk()), ()),
     }
 }
 

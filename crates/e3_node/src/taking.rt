@@ -27,11 +27,14 @@ use crate::turning::write;
 use crate::{InputFault, State};
 use core::mem::replace_with;
 use e3_disk::Disk;
-use e3_law_begun::{begun_are_transactions, legal_histories_mention_what_stands};
-use e3_law_trails::records_suit_their_site;
+use e3_law_brief::logged_sites_are_sets;
+use e3_law_serial::logs_are_orderly;
+use e3_law_steps::{
+    begun_are_transactions, legal_histories_mention_what_stands, records_suit_their_site,
+};
 use e3_log::Log;
 use e3_site::Site;
-use e3_types::{Entry, Input, List, Why};
+use e3_types::{Entry, Input, List, Record, Why};
 use e3_wire::{Wire, WirePass};
 use std::alloc::Global;
 use std::sync::Wait;
@@ -75,6 +78,7 @@ fn step_all<R: Wait, D: Disk>(
     number: u32,
     site: &mut Site,
     log: &mut Log<D>,
+    rose: &List<Record>,
     count: &mut Count,
     inputs: List<Input>,
 ) -> BatchEnd
@@ -84,7 +88,7 @@ fn step_all<R: Wait, D: Disk>(
     requires played { IsPlayed (seen_by pass.old) }
     requires some { 1 ≤ number }
     requires exists { number ≤ last_owner (seen_by pass.old) }
-    requires up { IsUp D.content D.image D.meters (scenario_seen pass.old) (history_seen pass.old) number site.old log.old }
+    requires up { IsUp D.content D.image D.meters (scenario_seen pass.old) (history_seen pass.old) number site.old log.old rose.now }
     requires restless { is_calm (present_items (scenario_seen pass.old) (history_seen pass.old)) ≡ false }
     requires any { 1 ≤ length inputs }
     requires due { MayTakeAll (scenario_seen pass.old) (history_seen pass.old) number inputs }
@@ -94,7 +98,7 @@ fn step_all<R: Wait, D: Disk>(
     ensures counted { count.new ≡ count_of number (history_seen pass.new) }
     ensures turned { HasTurned wire.now pass.old pass.new }
     ensures ended { EndsWith D.content D.image D.meters (scenario_seen pass.old) (history_seen pass.old) (history_seen pass.new) number inputs
-        (state.Up site.old log.old) (state.Up site.new log.new) result.refused result.fell }
+        (state.Up site.old log.old rose.now) (state.Up site.new log.new rose.now) result.refused result.fell }
     ensures refused { OnlyForMemory result.refused }
     ensures never { result.refused ≡ Err input_fault.Down → ⊥ }
     ensures none { note_of number (seen_by pass.new) ≡ nothing }
@@ -102,12 +106,23 @@ fn step_all<R: Wait, D: Disk>(
     legal_histories_mention_what_stands();
     begun_are_transactions();
     records_suit_their_site();
+    logs_are_orderly();
+    logged_sites_are_sets();
     let mut batch = Batch {
         steps: Vec::new(alloc),
         records: List::new(alloc),
         body: List::new(alloc),
     };
-    let refused = plan_all(rt, wire, pass, number, site, &mut batch, inputs.as_slice());
+    let refused = plan_all(
+        rt,
+        wire,
+        pass,
+        number,
+        site,
+        rose,
+        &mut batch,
+        inputs.as_slice(),
+    );
     match write(
         wire,
         pass,
@@ -172,7 +187,9 @@ fn step_or_not<R: Wait, D: Disk + Drop>(
             refused: Err(InputFault::Down),
             fell: None,
         },
-        State::Up(site, log) => step_all(rt, alloc, wire, pass, number, site, log, count, inputs),
+        State::Up(site, log, rose) => step_all(
+            rt, alloc, wire, pass, number, site, log, rose, count, inputs,
+        ),
     }
 }
 

@@ -28,11 +28,14 @@ use crate::drafts::prepare_by_turns;
 use crate::stepping::{fall_of, room_for, step_of};
 use crate::{InputFault, State, writing};
 use e3_disk::Disk;
-use e3_law_begun::{begun_are_transactions, legal_histories_mention_what_stands};
-use e3_law_trails::records_suit_their_site;
+use e3_law_brief::logged_sites_are_sets;
+use e3_law_serial::logs_are_orderly;
+use e3_law_steps::{
+    begun_are_transactions, legal_histories_mention_what_stands, records_suit_their_site,
+};
 use e3_log::Log;
 use e3_site::Site;
-use e3_types::{Input, Record, Why};
+use e3_types::{Input, List, Record, Why};
 use e3_wire::{Wire, WirePass};
 use std::alloc::Global;
 use std::sync::Wait;
@@ -75,6 +78,7 @@ fn step_by_turns<R: Wait, D: Disk>(
     number: u32,
     site: &mut Site,
     log: &mut Log<D>,
+    rose: &List<Record>,
     count: &mut Count,
     input: Input,
 ) -> Result<(), InputFault>
@@ -84,7 +88,7 @@ fn step_by_turns<R: Wait, D: Disk>(
     requires played { IsPlayed (seen_by pass.old) }
     requires some { 1 ≤ number }
     requires exists { number ≤ last_owner (seen_by pass.old) }
-    requires up { IsUp D.content D.image D.meters (scenario_seen pass.old) (history_seen pass.old) number site.old log.old }
+    requires up { IsUp D.content D.image D.meters (scenario_seen pass.old) (history_seen pass.old) number site.old log.old rose.now }
     requires restless { is_calm (present_items (scenario_seen pass.old) (history_seen pass.old)) ≡ false }
     requires due { MayTake (scenario_seen pass.old) (history_seen pass.old) number input }
     requires takes { TakesLeast (scenario_seen pass.old) (history_seen pass.old) number input }
@@ -93,7 +97,7 @@ fn step_by_turns<R: Wait, D: Disk>(
     ensures turned { HasKeptPromises wire.now number pass.old pass.new }
     ensures none_back { HasGivenNoneBack number (seen_by pass.old) (seen_by pass.new) }
     ensures ended { EndsSo D.content D.image D.meters (scenario_seen pass.old) (history_seen pass.old) (history_seen pass.new) number input
-        (state.Up site.old log.old) (state.Up site.new log.new) result }
+        (state.Up site.old log.old rose.now) (state.Up site.new log.new rose.now) result }
     ensures never { result ≡ Err input_fault.Down → ⊥ }
     ensures why { (why : Whys) → result ≡ Err (input_fault.Fell why) →
         IsReason why (log_size (moves_of (scenario_seen pass.old) (history_seen pass.old) number))
@@ -108,7 +112,9 @@ fn step_by_turns<R: Wait, D: Disk>(
     legal_histories_mention_what_stands();
     begun_are_transactions();
     records_suit_their_site();
-    let draft = prepare_by_turns(alloc, site, &input, pass)?;
+    logs_are_orderly();
+    logged_sites_are_sets();
+    let draft = prepare_by_turns(alloc, site, rose, &input, pass)?;
     let room = room_for(draft.plan.outs());
     wire.claim(rt, pass, number, room)?;
     match write(wire, pass, log, draft.plan.records(), draft.body.as_slice()) {
@@ -168,8 +174,8 @@ pub(crate) fn take_by_turns<R: Wait, D: Disk + Drop>(
 {
     match state {
         State::Down(_) => Err(InputFault::Down),
-        State::Up(site, log) => step_by_turns(
-            rt, alloc, wire, pass, number, site, log, count, input,
+        State::Up(site, log, rose) => step_by_turns(
+            rt, alloc, wire, pass, number, site, log, rose, count, input,
         ),
     }
 }

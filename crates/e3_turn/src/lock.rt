@@ -10,10 +10,13 @@ use crate::view::{Key, TurnRule, View};
 use atomic_table::{Seat, Table};
 use e3_types::NoMemory;
 use std::alloc::Global;
+use std::hint::spin_loop;
 use std::marker::Model;
 use std::snapshot::Snapshot;
 use std::sync::Wait;
 use std::thread;
+use std::thread::Parker;
+use std::time::Duration;
 
 // The words of the table: tickets drawn, and tickets served.
 const DRAWN: usize = 0;
@@ -23,8 +26,16 @@ const SERVED: usize = 1;
 // The slot of the table.
 const VALUE: usize = 0;
 
-// How often a pass looks before it sleeps: to be woken costs more than the turn of another takes.
+// How often a pass with a ticket looks before it sleeps: to be woken costs more than the turn of another takes.
 const LOOKS: u32 = 100;
+
+// How often a pass without a ticket looks whether the lock is free before it naps.
+const GLANCES: u32 = 10;
+
+// How often it naps before it draws a ticket all the same, and how many microseconds for: some turns of another.
+const NAPS: u32 = 8;
+
+const NAP: u64 = 50;
 
 /// What one caller knows of the lock: the owners that it speaks for, the chronicle that it has seen, and whether it has
 /// the turn. It has no bytes, and may go to another thread.
@@ -73,6 +84,41 @@ impl<V: Chronicle + Drop> TurnLock<V> {
         match Table::new(alloc, &[0, 0], slots, &key) {
             Ok((table, pass)) => Ok((TurnLock { table }, pass)),
             Err(_) => Err(NoMemory),
+        }
+    }
+
+    // Whether no pass has a ticket. That may change at any time.
+    fn is_free(&self) -> bool {
+        self.table.shared.peek(DRAWN) == self.table.shared.peek(SERVED)
+    }
+
+    // Glances whether the lock is free, some times.
+    fn glance(&self) -> bool {
+        for _ in 0..GLANCES {
+            if self.is_free() {
+                return true;
+            }
+            spin_loop();
+        }
+        false
+    }
+
+    // Lets others go on that are at work, until the lock is free or some naps are over: a thread that takes the next turns
+    // too costs far less than a turn that goes from thread to thread each time.
+    fn hold_back<R: Wait>(&self, rt: &R) {
+        let bed = Parker::new();
+        for _ in 0..NAPS {
+            if self.glance() {
+                return;
+            }
+            bed.park_timeout(rt, Duration::from_micros(NAP));
+        }
+    }
+
+    // Wakes those that wait, behind the turn of this ticket.
+    fn wake(&self, ticket: u64) {
+        if self.table.shared.peek(DRAWN) != ticket.wrapping_add(1) {
+            self.table.shared.wake_all(SERVED);
         }
     }
 
@@ -141,6 +187,7 @@ impl<V: Chronicle + Drop> TurnLock<V> {
         ensures seen { seen_by pass.new ≡ V.marks result }
         ensures grew { GrewByOthers V.belongs pass.old (V.marks result) }
     {
+        self.hold_back(rt);
         let ticket = self.draw(pass);
         self.wait(rt, pass, ticket);
         let Some(value) = self.table.shared.exchange(pass, VALUE, None) else {
@@ -159,8 +206,8 @@ impl<V: Chronicle + Drop> TurnLock<V> {
         ensures seen { seen_by pass.new ≡ V.marks value }
     {
         self.table.shared.exchange(pass, VALUE, Some(value));
-        self.table.shared.fetch_add::<PassesOn<V>>(pass, SERVED, 1);
-        self.table.shared.wake_all(SERVED);
+        let ticket = self.table.shared.fetch_add::<PassesOn<V>>(pass, SERVED, 1);
+        self.wake(ticket);
     }
 
     /// Gives one of the pass's owners to a new pass, which has seen the same.

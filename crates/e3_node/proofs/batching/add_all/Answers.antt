@@ -1,10 +1,13 @@
 use Rattle.std.proofs.Common.{◌≡◌, ◌<◌, ◌≤◌, ◌+◌, ◌++◌, ◌∷◌, [], ℕ, List, length, take, ap, sym, subst, ◌∙◌, arith}
 use Rattle.std.specs.Prelude.{IsErrAnd, OnErr, OnOk, Result, Ok, Err}
 use Rattle.std.proofs.lemmas.List.{take_more}
+use Rattle.e3_law_stands.specs.StandsAlike.{IsLogInOrder}
 use Rattle.e3_node.specs.Batched.{IsBatchAt}
+use Rattle.e3_node.specs.Batches.{stepped}
 use Rattle.e3_node.specs.declared.fault.InputFault.{InputFault}
 use Rattle.e3_types.specs.declared.entries.Input.{Input}
 use Rattle.e3_wire.specs.Marks.{most_of, used_of}
+use Rattle.e3_world.specs.Moves.{log_of}
 use Rattle.e3_node.proofs.Adding.{inputs_so_far}
 use Rattle.e3_node.proofs.batching.add_all.Goals as goal
 
@@ -24,10 +27,17 @@ add_one-requires g c =
     let low : at < length c.args.inputs.now = c.loop-input-test.true in
     let most : most_of c.loop-input.shared ≡ most_of c.args.shared.now = inv.most in
     let used : used_of c.loop-input.shared ≤ used_of c.args.shared.now + at = inv.used in
-    let left : used_of c.args.shared.now + length c.args.inputs.now ≤ most_of c.args.shared.now = c.requires.1.1.1 in
+    let left : used_of c.args.shared.now + length c.args.inputs.now ≤ most_of c.args.shared.now = c.requires.1.1.1.1 in
+    let O : List Input → Type 0 = λ l. IsLogInOrder g.at.site (log_of g.at.scenario (stepped g.at.scenario g.at.history g.at.site l) g.at.site) in
     let P : List Input → Type 0 = λ l. IsBatchAt (record g.at { done = l }) c.loop-input.batch c.loop-input.site c.loop-input.shared in (
       subst (λ (n : ℕ). c.args.number ≤ n) (sym inv.owners) c.requires.0,
-      (c.requires.1.0, (subst P (sym (inputs_so_far _ _ _ _ _ _ _ _ _ inv.added)) inv.added, omega (arith, low, most, used, left))),
+      (
+        c.requires.1.0,
+        (
+          subst P (sym (inputs_so_far _ _ _ _ _ _ _ _ _ _ inv.added)) inv.added,
+          (subst O (sym (inputs_so_far _ _ _ _ _ _ _ _ _ _ inv.added)) (c.requires.1.1.1.0 at (omega (arith, low))), omega (arith, low, most, used, left)),
+        ),
+      ),
     )
 
 pub returns-in_err-add_one-clause-added : goal.returns-in_err-add_one-clause-added
@@ -40,7 +50,7 @@ returns-in_err-add_one-clause-added g c =
       omega (arith, low),
       not_ok c.from_residual.result _ _ c.from_residual.ensures.1,
       if_err c.from_residual.result _ low,
-      subst P (inputs_so_far _ _ _ _ _ _ _ _ _ inv.added) c.in_err-add_one.ensures.kept,
+      subst P (inputs_so_far _ _ _ _ _ _ _ _ _ _ inv.added) c.in_err-add_one.ensures.kept,
     )
 
 pub loop-input-preserved : goal.loop-input-preserved
@@ -56,7 +66,7 @@ loop-input-preserved g c =
           let before : used_of c.loop-input.shared ≤ used_of c.args.shared.now + at = inv.used in
           omega (arith, more, before));
       added =
-          subst P (ap (λ (l : List Input). l ++ c.input-item.result ∷ []) (inputs_so_far _ _ _ _ _ _ _ _ _ inv.added)
+          subst P (ap (λ (l : List Input). l ++ c.input-item.result ∷ []) (inputs_so_far _ _ _ _ _ _ _ _ _ _ inv.added)
           ∙ sym (take_more c.args.inputs.now at c.input-item.result c.loop-input-test.true ∙ ap (λ (x : Input). take at c.args.inputs.now ++ x ∷ []) (sym c.input-item.is)))
           c.in_ok-add_one.ensures.added;
     }

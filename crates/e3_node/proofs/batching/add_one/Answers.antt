@@ -12,8 +12,9 @@ use Rattle.e3_node.proofs.batching.add_one.Goals as goal
 pub returns-clause-added : goal.returns-clause-added
 returns-clause-added g c =
     let d = c.in_ok-draft.draft in
-    batch_added g.at.scenario g.at.history g.at.site g.at.marks g.at.first g.at.done c.args.batch.now _ c.args.site.now c.prepare.new.site c.apply.new.self c.args.shared.now c.claim.new.self
-    c.room_for-room.result c.args.input.now d c.apply.result c.step_of-step.result c.requires.1.1.0 c.in_ok-draft.ensures.ready c.prepare.ensures.still c.apply.ensures.step c.apply.ensures.stands
+    batch_added g.at.scenario g.at.history g.at.site g.at.rose g.at.marks g.at.first g.at.done c.args.batch.now _ c.args.site.now c.prepare.new.site c.apply.new.self c.args.shared.now c.claim.new.self
+    c.room_for-room.result c.args.input.now d c.apply.result c.step_of-step.result c.requires.1.1.0 c.requires.1.1.1.0 c.in_ok-draft.ensures.ready c.prepare.ensures.still c.apply.ensures.step c.apply.ensures.stand
+    (ap (λ (v : SiteView). v.weights) c.apply.ensures.done) (ap (λ (v : SiteView). v.site) c.apply.ensures.done)
     (ap (λ (v : SiteView). v.inputs) c.apply.ensures.done)
     (c.step_of-step.ensures ∙ ap (λ (i : Input). entry_of_plan c.args.number i c.apply.result) c.copy.ensures ∙ ap (λ (n : ℕ). entry_of_plan n c.args.input.now c.apply.result) c.requires.1.0)
     (c.room_for-room.ensures ∙ ap length c.outs.ensures)

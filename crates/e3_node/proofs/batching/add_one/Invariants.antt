@@ -1,8 +1,7 @@
 -- the site is in the incarnation that the steps so far make
 use Rattle.e3_node.specs.Batches.{stepped}
-use Rattle.e3_world.specs.Lives.{incarnation_of}
-use Rattle.e3_world.specs.Moves.{moves_of}
+use Rattle.e3_law_stands.specs.StandsAlike.{now_with}
 use Rattle.e3_node.proofs.batching.add_one.Given as goal
 
 abbrev pub ghost-prepare : goal.ghost-prepare
-ghost-prepare g a = incarnation_of (moves_of g.at.scenario (stepped g.at.scenario g.at.history g.at.site g.at.done) a.site.now.site)
+ghost-prepare g a = now_with g.at.rose g.at.scenario (stepped g.at.scenario g.at.history g.at.site g.at.done) a.site.now.site

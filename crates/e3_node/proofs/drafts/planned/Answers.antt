@@ -1,4 +1,4 @@
-use Rattle.e3_node.proofs.Steps.{ready_draft, still_same}
+use Rattle.e3_node.proofs.Steps.{ready_draft, stays_by, still_same}
 use Rattle.e3_node.proofs.drafts.planned.Goals as goal
 
 pub returns-clause-ready : goal.returns-clause-ready
@@ -7,10 +7,10 @@ returns-clause-ready g c =
     c.in_ok-plan.ensures.made c.in_ok-plan.ensures.few (c.ready.ensures.own g.now c.requires c.in_ok-plan.ensures.own) c.in_ok-ready.ensures.ok
 
 pub returns-clause-still : goal.returns-clause-still
-returns-clause-still g c = record { same = c.ready.ensures.same; stands = c.ready.ensures.stands }
+returns-clause-still g c = record { same = c.ready.ensures.same; stands = stays_by c.args.site.now c.ready.new.self c.ready.ensures.same c.ready.ensures.stand }
 
 pub returns-in_err-ready-clause-still : goal.returns-in_err-ready-clause-still
-returns-in_err-ready-clause-still g c = record { same = c.ready.ensures.same; stands = c.ready.ensures.stands }
+returns-in_err-ready-clause-still g c = record { same = c.ready.ensures.same; stands = stays_by c.args.site.now c.ready.new.self c.ready.ensures.same c.ready.ensures.stand }
 
 pub returns-in_err-plan-clause-still : goal.returns-in_err-plan-clause-still
 returns-in_err-plan-clause-still g c = still_same c.args.site.now

@@ -31,6 +31,7 @@ returns-clause-ready c =
       fits =
           subst (λ (l : List Record). AllCanBeReadBack site l) c.as_slice-3.ensures
           (c.in_ok-body.ensures.back site (subst (λ (l : List Record). Each (IsOwn site) l) (sym (c.as_slice-3.ensures ∙ made)) (rise_own c.args.wish.now c.in_ok-inc.inc read)));
+      rose_is = all;
       risen = subst (λ (l : List Record). IsRebuilt site l c.in_ok-up.up) (c.as_slice-5.ensures ∙ all) c.in_ok-up.ensures.risen;
       stands = subst (λ (l : List Record). StandsForEach l c.in_ok-up.up) (c.as_slice-5.ensures ∙ all) c.in_ok-up.ensures.stands;
     }

@@ -10,7 +10,7 @@ use Rattle.e3_node.proofs.rising.log_rise.Goals as goal
 
 pub returns-in-Ok-clause-makes : goal.returns-in-Ok-clause-makes
 returns-in-Ok-clause-makes g c = λ sc h wish bodies may is stands disk.
-    raised g.D.Disk.content g.D.Disk.image g.D.Disk.meters sc h wish bodies c.args.rise c.args.log c.write.new.log may is stands disk
+    raised g.D.Disk.content g.D.Disk.image g.D.Disk.meters c.logs_are_orderly.ensures.logs c.logged_sites_are_sets.ensures sc h wish bodies c.args.rise c.args.log c.write.new.log may is stands disk
     (g.met.D.Disk.reads_an_image c.args.log.disk)
     (λ lists before. subst (λ (rs : List Record). Stands g.D.Disk.content g.D.Disk.image (bodies_in lists ++ body_of rs) c.write.new.log)
     c.as_slice.ensures (c.in-Ok.ensures.stands lists before))

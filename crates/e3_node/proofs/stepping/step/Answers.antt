@@ -2,8 +2,8 @@ use Rattle.std.proofs.Common.{◌≡◌, ◌≢◌, ◌++◌, ◌∷◌, [], ◌
 use Rattle.e3_log.specs.Stands.{Stands}
 use Rattle.e3_node.specs.Bodies.{AllReadBack, DiskHolds, IsLogged, ReadsAfter, bodies_in, body_of}
 use Rattle.e3_node.specs.Counting.{counted_by}
-use Rattle.e3_node.specs.Ends.{EndsAt, FellOver, IsReason}
-use Rattle.e3_node.specs.NodeStands.{IsUp}
+use Rattle.e3_node.specs.Ends.{EndsAt, FellOver, IsReason, Takes, calls_for}
+use Rattle.e3_node.specs.NodeStands.{IsUp, StandsBy}
 use Rattle.e3_node.specs.SharedStands.{HasEntered}
 use Rattle.e3_site.specs.SiteView.{SiteView, count_on, entry_of_plan, step_kept}
 use Rattle.e3_types.specs.declared.entries.Act.TheVariants.{Fall}
@@ -17,6 +17,7 @@ use Rattle.e3_world.specs.Moves.{log_size, moves_of}
 use Rattle.e3_world.specs.declared.lives.SiteStep.{SiteStep}
 use Rattle.e3_node.proofs.Counts.{count_fallen, count_stepped}
 use Rattle.e3_node.proofs.Guarding.{first_takes_least}
+use Rattle.e3_node.proofs.Orders.{step_order}
 use Rattle.e3_node.proofs.Owning.{made_own}
 use Rattle.e3_node.proofs.Sharing.{fall_uses, has_from, may_enter, step_uses}
 use Rattle.e3_node.proofs.Steps.{draft_made, fall_allowed, fall_back, fall_entered, fall_takes, fallen_disk, inputs_on, own_stands, records_made, site_on, step_back, step_allowed, step_entered, step_logged, stepped_up}
@@ -139,14 +140,18 @@ returns-in-Ok-clause-up g c =
     let e : Entry = entry_of_plan c.args.number c.args.input step in
     let has : HasEntered e was c.enter.new.shared = has_from was c.claim.new.shared c.enter.new.shared _ c.step_of-step.result e c.step_of-step.ensures c.in_ok-claim.ensures.claimed c.enter.ensures in
     let entered = step_entered sc h (entries_of c.enter.new.shared) c.args.number c.args.input step is has.entries in
-    let ready = c.in_ok-draft.ensures.still.stands sc h c.args.number c.requires.up.stands in
+    let ready : StandsBy sc h c.args.number c.args.rose.now c.prepare.new.site =
+    record { alike = c.in_ok-draft.ensures.still.stands sc h c.args.number c.args.rose.now c.requires.up.stands.alike; order = c.requires.up.stands.order } in
+    let order = step_order c.logs_are_orderly.ensures.logs c.logged_sites_are_sets.ensures sc h c.args.number c.args.input
+    c.requires.shared.played.given c.requires.shared.played.legal c.requires.some c.requires.up.up c.requires.due in
     let logged : IsLogged g.D.Disk.content g.D.Disk.image (moves_of sc (h ++ entry_of sc h c.args.number c.args.input ∷ []) c.args.number) c.write.new.log =
     step_logged g.D.Disk.content g.D.Disk.image sc h c.args.number c.args.input c.args.log.now c.write.new.log c.requires.up.logged
     (λ lists before. subst (λ (rs : List Record). Stands g.D.Disk.content g.D.Disk.image (bodies_in lists ++ body_of rs) c.write.new.log)
     (c.records.ensures ∙ records_made sc h c.args.number c.args.input d.plan.step made.step_is) (c.in-Ok.ensures.stands lists before)) in
-    subst (λ (l : List Entry). IsUp g.D.Disk.content g.D.Disk.image g.D.Disk.meters sc l c.args.number c.apply.new.self c.write.new.log) (sym entered)
+    subst (λ (l : List Entry). IsUp g.D.Disk.content g.D.Disk.image g.D.Disk.meters sc l c.args.number c.apply.new.self c.write.new.log c.args.rose.now) (sym entered)
     (stepped_up g.D.Disk.content g.D.Disk.image g.D.Disk.meters sc h c.args.number c.args.input c.apply.new.self c.write.new.log c.requires.up.up
-    (site_on sc h c.args.number c.args.input c.prepare.new.site c.apply.new.self d.plan.step ready made.step_is c.apply.ensures.stands)
+    (site_on sc h c.args.number c.args.input c.prepare.new.site c.apply.new.self d.plan.step ready made.step_is
+    (ap (λ (s : SiteView). s.weights) c.apply.ensures.done) (ap (λ (s : SiteView). s.site) c.apply.ensures.done) c.apply.ensures.stand order)
     logged c.in-Ok.ensures.lit
     (inputs_on sc h c.args.number c.args.input c.args.site.now.inputs _ c.requires.up.inputs
     (ap (λ (s : SiteView). s.inputs) c.apply.ensures.done ∙ ap (λ (s : SiteView). count_on s.inputs) c.in_ok-draft.ensures.still.same)))
@@ -304,3 +309,12 @@ returns-in-Err-clause-need g c = λ why is.
     let same : c.in-Err.why ≡ why = cc in
     subst (EndsAt c.args.log.now.end (made_by sc h c.args.number c.args.input).records) same
     (subst (λ (rs : List Record). EndsAt c.args.log.now.end rs c.in-Err.why) (c.records.ensures ∙ records_made sc h c.args.number c.args.input d.plan.step made.step_is) c.in-Err.ensures.need)
+
+pub returns-in-Ok-clause-takes : goal.returns-in-Ok-clause-takes
+returns-in-Ok-clause-takes g c =
+    let sc = scenario_of c.args.shared.now in
+    let h = entries_of c.args.shared.now in
+    let d = c.in_ok-draft.draft in
+    let made = draft_made sc h c.args.number c.args.site.now _ c.args.input d c.requires.up.stands c.in_ok-draft.ensures.ready in
+    let T : List Record → Type 0 = λ rs. Takes (calls_for rs) (g.D.Disk.meters c.args.log.now.disk) (g.D.Disk.meters c.write.new.log.disk) in
+    subst T (c.records.ensures ∙ records_made sc h c.args.number c.args.input d.plan.step made.step_is) c.in-Ok.ensures.takes

@@ -1,7 +1,9 @@
-use Rattle.std.proofs.Common.{◌≡◌, ◌++◌, ◌∷◌, [], ℕ, List, length, take, refl, sym, subst, ap, ◌∙◌}
+use Rattle.std.proofs.Common.{◌≡◌, ◌≤◌, ◌++◌, ◌∷◌, [], ℕ, List, length, take, refl, sym, subst, ap, ◌∙◌}
 use Rattle.e3_law_local.specs.Others.{numbered_on}
 use Rattle.e3_log.specs.Stands.{Stands}
+use Rattle.e3_law_stands.specs.StandsAlike.{IsLogInOrder}
 use Rattle.e3_node.specs.Batched.{HasPlanned}
+use Rattle.e3_node.specs.Batches.{stepped}
 use Rattle.e3_node.specs.Bodies.{ReadsAfter, bodies_in, body_of}
 use Rattle.e3_node.specs.Counting.{counted_by}
 use Rattle.e3_node.specs.Ends.{EndsAt, IsReason, Takes, calls_for}
@@ -16,15 +18,25 @@ use Rattle.e3_wire.specs.Marks.{belongs, entries_of, scenario_of}
 use Rattle.e3_wire.specs.Wires.{IsPlayed, MayEnterBehind}
 use Rattle.e3_wire.specs.declared.marks.Mark.{Mark}
 use Rattle.e3_wire.specs.declared.marks.Mark.TheVariants as mark
-use Rattle.e3_world.specs.Moves.{log_size}
+use Rattle.e3_world.specs.Moves.{log_of, log_size}
 use Rattle.e3_node.proofs.Bundles.{plain_own}
 use Rattle.e3_node.proofs.Ended.{never_down}
+use Rattle.e3_node.proofs.BatchOrders.{batch_orders}
 use Rattle.e3_node.proofs.Results.{alone, counted_fallen, counted_stepped, fall_end, fall_may, history_fallen, history_stepped, made, may_all_enter, note_fallen, note_stepped, steps_are, steps_end, turned, up_first, up_second}
 use Rattle.e3_node.proofs.Waiting.{still_owns}
 use Rattle.e3_node.proofs.taking.step_all.Goals as goal
 
 pub plan_all-refused-requires-clause-stands : goal.plan_all-refused-requires-clause-stands
-plan_all-refused-requires-clause-stands g c = c.requires.up.stands
+plan_all-refused-requires-clause-stands g c = c.requires.up.stands.alike
+
+pub plan_all-refused-requires-clause-orders : goal.plan_all-refused-requires-clause-orders
+plan_all-refused-requires-clause-orders g c =
+    let p = c.args.pass.now in
+    let n = c.args.number in
+    let Q : List Input → Type 0 = λ l. (marks : List Mark) → GrewByOthers belongs p marks → IsPlayed marks → (k : ℕ) → k ≤ length l →
+    IsLogInOrder n (log_of (scenario_of marks) (stepped (scenario_of marks) (entries_of marks) n (take k l)) n) in
+    subst Q (sym c.as_slice.ensures) (batch_orders c.logs_are_orderly.ensures.logs c.logged_sites_are_sets.ensures p n c.args.inputs c.requires.owns c.requires.played c.requires.some c.requires.up.up
+    c.requires.restless c.requires.due c.requires.takes)
 
 pub write-requires-clause-spelled : goal.write-requires-clause-spelled
 write-requires-clause-spelled g c =
@@ -35,8 +47,8 @@ write-requires-clause-spelled g c =
     let b = c.plan_all-refused.new.batch in
     let s1 = c.plan_all-refused.new.site in
     let answer = c.plan_all-refused.result in
-    let plan : HasPlanned p n s0.inputs c.args.inputs answer b s1 (seen_by q) =
-    subst (λ (l : List Input). HasPlanned p n s0.inputs l answer b s1 (seen_by q)) c.as_slice.ensures c.plan_all-refused.ensures.planned in
+    let plan : HasPlanned p n c.args.rose.now s0.inputs c.args.inputs answer b s1 (seen_by q) =
+    subst (λ (l : List Input). HasPlanned p n c.args.rose.now s0.inputs l answer b s1 (seen_by q)) c.as_slice.ensures c.plan_all-refused.ensures.planned in
     let mine = still_owns p q n c.plan_all-refused.ensures.same c.requires.owns in
     let is = made p q n s0.inputs c.args.inputs answer b s1 plan c.requires.owns mine c.requires.played c.plan_all-refused.ensures.played in
     c.as_slice-3.ensures ∙ is.body_is ∙ ap spelling (sym is.records_are) ∙ ap spelling (sym c.as_slice-2.ensures)
@@ -52,8 +64,8 @@ enter_steps-requires-clause-owned g c =
     let b = c.plan_all-refused.new.batch in
     let s1 = c.plan_all-refused.new.site in
     let answer = c.plan_all-refused.result in
-    let plan : HasPlanned p n s0.inputs c.args.inputs answer b s1 (seen_by q) =
-    subst (λ (l : List Input). HasPlanned p n s0.inputs l answer b s1 (seen_by q)) c.as_slice.ensures c.plan_all-refused.ensures.planned in
+    let plan : HasPlanned p n c.args.rose.now s0.inputs c.args.inputs answer b s1 (seen_by q) =
+    subst (λ (l : List Input). HasPlanned p n c.args.rose.now s0.inputs l answer b s1 (seen_by q)) c.as_slice.ensures c.plan_all-refused.ensures.planned in
     let mine = still_owns p q n c.plan_all-refused.ensures.same c.requires.owns in
     let is = made p q n s0.inputs c.args.inputs answer b s1 plan c.requires.owns mine c.requires.played c.plan_all-refused.ensures.played in
     record {
@@ -74,8 +86,8 @@ enter_steps-requires-clause-may g c =
     let b = c.plan_all-refused.new.batch in
     let s1 = c.plan_all-refused.new.site in
     let answer = c.plan_all-refused.result in
-    let plan : HasPlanned p n s0.inputs c.args.inputs answer b s1 (seen_by q) =
-    subst (λ (l : List Input). HasPlanned p n s0.inputs l answer b s1 (seen_by q)) c.as_slice.ensures c.plan_all-refused.ensures.planned in
+    let plan : HasPlanned p n c.args.rose.now s0.inputs c.args.inputs answer b s1 (seen_by q) =
+    subst (λ (l : List Input). HasPlanned p n c.args.rose.now s0.inputs l answer b s1 (seen_by q)) c.as_slice.ensures c.plan_all-refused.ensures.planned in
     let mine = still_owns p q n c.plan_all-refused.ensures.same c.requires.owns in
     λ marks grew played.
     may_all_enter p q n s0.inputs c.args.inputs answer b s1 plan c.requires.owns mine c.requires.played c.plan_all-refused.ensures.played c.requires.some c.requires.up.up c.requires.restless c.requires.due c.requires.takes
@@ -92,8 +104,8 @@ commit_entry-requires-clause-owns g c =
     let b = c.plan_all-refused.new.batch in
     let s1 = c.plan_all-refused.new.site in
     let answer = c.plan_all-refused.result in
-    let plan : HasPlanned p n s0.inputs c.args.inputs answer b s1 (seen_by q) =
-    subst (λ (l : List Input). HasPlanned p n s0.inputs l answer b s1 (seen_by q)) c.as_slice.ensures c.plan_all-refused.ensures.planned in
+    let plan : HasPlanned p n c.args.rose.now s0.inputs c.args.inputs answer b s1 (seen_by q) =
+    subst (λ (l : List Input). HasPlanned p n c.args.rose.now s0.inputs l answer b s1 (seen_by q)) c.as_slice.ensures c.plan_all-refused.ensures.planned in
     let mine = still_owns p q n c.plan_all-refused.ensures.same c.requires.owns in
     subst (λ (y : Entry). Owns q y.owner) (sym c.fall_of-fall.ensures) mine
 
@@ -108,8 +120,8 @@ commit_entry-requires-clause-may g c =
     let b = c.plan_all-refused.new.batch in
     let s1 = c.plan_all-refused.new.site in
     let answer = c.plan_all-refused.result in
-    let plan : HasPlanned p n s0.inputs c.args.inputs answer b s1 (seen_by q) =
-    subst (λ (l : List Input). HasPlanned p n s0.inputs l answer b s1 (seen_by q)) c.as_slice.ensures c.plan_all-refused.ensures.planned in
+    let plan : HasPlanned p n c.args.rose.now s0.inputs c.args.inputs answer b s1 (seen_by q) =
+    subst (λ (l : List Input). HasPlanned p n c.args.rose.now s0.inputs l answer b s1 (seen_by q)) c.as_slice.ensures c.plan_all-refused.ensures.planned in
     let mine = still_owns p q n c.plan_all-refused.ensures.same c.requires.owns in
     subst (λ (y : Entry). MayEnterBehind (seen_by q) y) (sym c.fall_of-fall.ensures)
     (fall_may p q n s0.inputs c.args.inputs answer b s1 plan c.requires.owns mine c.requires.played c.plan_all-refused.ensures.played c.requires.some c.requires.up.up c.requires.restless c.requires.due c.requires.takes
@@ -127,8 +139,8 @@ commit_entry-requires-clause-alone g c =
     let b = c.plan_all-refused.new.batch in
     let s1 = c.plan_all-refused.new.site in
     let answer = c.plan_all-refused.result in
-    let plan : HasPlanned p n s0.inputs c.args.inputs answer b s1 (seen_by q) =
-    subst (λ (l : List Input). HasPlanned p n s0.inputs l answer b s1 (seen_by q)) c.as_slice.ensures c.plan_all-refused.ensures.planned in
+    let plan : HasPlanned p n c.args.rose.now s0.inputs c.args.inputs answer b s1 (seen_by q) =
+    subst (λ (l : List Input). HasPlanned p n c.args.rose.now s0.inputs l answer b s1 (seen_by q)) c.as_slice.ensures c.plan_all-refused.ensures.planned in
     let mine = still_owns p q n c.plan_all-refused.ensures.same c.requires.owns in
     λ calm.
     alone p q n s0.inputs c.args.inputs answer b s1 plan c.requires.owns mine c.requires.played c.plan_all-refused.ensures.played c.requires.some c.requires.up.up c.requires.restless c.requires.due c.requires.takes calm
@@ -144,8 +156,8 @@ returns-in-Ok-clause-counted g c =
     let b = c.plan_all-refused.new.batch in
     let s1 = c.plan_all-refused.new.site in
     let answer = c.plan_all-refused.result in
-    let plan : HasPlanned p n s0.inputs c.args.inputs answer b s1 (seen_by q) =
-    subst (λ (l : List Input). HasPlanned p n s0.inputs l answer b s1 (seen_by q)) c.as_slice.ensures c.plan_all-refused.ensures.planned in
+    let plan : HasPlanned p n c.args.rose.now s0.inputs c.args.inputs answer b s1 (seen_by q) =
+    subst (λ (l : List Input). HasPlanned p n c.args.rose.now s0.inputs l answer b s1 (seen_by q)) c.as_slice.ensures c.plan_all-refused.ensures.planned in
     let mine = still_owns p q n c.plan_all-refused.ensures.same c.requires.owns in
     let r = c.enter_steps.new.pass in
     let ent = c.enter_steps.ensures.entered in
@@ -165,8 +177,8 @@ returns-in-Ok-clause-turned g c =
     let b = c.plan_all-refused.new.batch in
     let s1 = c.plan_all-refused.new.site in
     let answer = c.plan_all-refused.result in
-    let plan : HasPlanned p n s0.inputs c.args.inputs answer b s1 (seen_by q) =
-    subst (λ (l : List Input). HasPlanned p n s0.inputs l answer b s1 (seen_by q)) c.as_slice.ensures c.plan_all-refused.ensures.planned in
+    let plan : HasPlanned p n c.args.rose.now s0.inputs c.args.inputs answer b s1 (seen_by q) =
+    subst (λ (l : List Input). HasPlanned p n c.args.rose.now s0.inputs l answer b s1 (seen_by q)) c.as_slice.ensures c.plan_all-refused.ensures.planned in
     let mine = still_owns p q n c.plan_all-refused.ensures.same c.requires.owns in
     let r = c.enter_steps.new.pass in
     let ent = c.enter_steps.ensures.entered in
@@ -185,8 +197,8 @@ returns-in-Ok-clause-none g c =
     let b = c.plan_all-refused.new.batch in
     let s1 = c.plan_all-refused.new.site in
     let answer = c.plan_all-refused.result in
-    let plan : HasPlanned p n s0.inputs c.args.inputs answer b s1 (seen_by q) =
-    subst (λ (l : List Input). HasPlanned p n s0.inputs l answer b s1 (seen_by q)) c.as_slice.ensures c.plan_all-refused.ensures.planned in
+    let plan : HasPlanned p n c.args.rose.now s0.inputs c.args.inputs answer b s1 (seen_by q) =
+    subst (λ (l : List Input). HasPlanned p n c.args.rose.now s0.inputs l answer b s1 (seen_by q)) c.as_slice.ensures c.plan_all-refused.ensures.planned in
     let mine = still_owns p q n c.plan_all-refused.ensures.same c.requires.owns in
     let r = c.enter_steps.new.pass in
     let ent = c.enter_steps.ensures.entered in
@@ -204,14 +216,14 @@ returns-in-Ok-clause-ended g c =
     let b = c.plan_all-refused.new.batch in
     let s1 = c.plan_all-refused.new.site in
     let answer = c.plan_all-refused.result in
-    let plan : HasPlanned p n s0.inputs c.args.inputs answer b s1 (seen_by q) =
-    subst (λ (l : List Input). HasPlanned p n s0.inputs l answer b s1 (seen_by q)) c.as_slice.ensures c.plan_all-refused.ensures.planned in
+    let plan : HasPlanned p n c.args.rose.now s0.inputs c.args.inputs answer b s1 (seen_by q) =
+    subst (λ (l : List Input). HasPlanned p n c.args.rose.now s0.inputs l answer b s1 (seen_by q)) c.as_slice.ensures c.plan_all-refused.ensures.planned in
     let mine = still_owns p q n c.plan_all-refused.ensures.same c.requires.owns in
     let r = c.enter_steps.new.pass in
     let ent = c.enter_steps.ensures.entered in
     let tail = marks_in (entries_of ent.0) b.steps.items in
     steps_end p q n s0.inputs c.args.inputs answer b s1 plan c.requires.owns mine c.requires.played c.plan_all-refused.ensures.played c.requires.some c.requires.up.up c.requires.restless c.requires.due c.requires.takes ent.0 ent.1 ent.2
-    g.D.Disk.content g.D.Disk.image g.D.Disk.meters s0 l0 l1 c.requires.up refl c.legal_histories_mention_what_stands.ensures.records c.begun_are_transactions.ensures c.records_suit_their_site.ensures.votes c.requires.back
+    g.D.Disk.content g.D.Disk.image g.D.Disk.meters s0 l0 l1 c.requires.up refl c.logs_are_orderly.ensures.logs c.logged_sites_are_sets.ensures c.legal_histories_mention_what_stands.ensures.records c.begun_are_transactions.ensures c.records_suit_their_site.ensures.votes c.requires.back
     (up_first p q n s0.inputs c.args.inputs answer b s1 plan c.requires.owns mine c.requires.played c.plan_all-refused.ensures.played g.D.Disk.content g.D.Disk.image g.D.Disk.meters s0 l0 c.requires.up)
     (λ lists before. subst (λ (rs : List Record). Stands g.D.Disk.content g.D.Disk.image (bodies_in lists ++ body_of rs) l1) c.as_slice-2.ensures (c.in-Ok.ensures.stands lists before))
     c.in-Ok.ensures.lit
@@ -233,8 +245,8 @@ returns-in-Err-clause-counted g c =
     let b = c.plan_all-refused.new.batch in
     let s1 = c.plan_all-refused.new.site in
     let answer = c.plan_all-refused.result in
-    let plan : HasPlanned p n s0.inputs c.args.inputs answer b s1 (seen_by q) =
-    subst (λ (l : List Input). HasPlanned p n s0.inputs l answer b s1 (seen_by q)) c.as_slice.ensures c.plan_all-refused.ensures.planned in
+    let plan : HasPlanned p n c.args.rose.now s0.inputs c.args.inputs answer b s1 (seen_by q) =
+    subst (λ (l : List Input). HasPlanned p n c.args.rose.now s0.inputs l answer b s1 (seen_by q)) c.as_slice.ensures c.plan_all-refused.ensures.planned in
     let mine = still_owns p q n c.plan_all-refused.ensures.same c.requires.owns in
     let r = c.commit_entry.new.pass in
     let over = c.first_of-over.result in
@@ -261,8 +273,8 @@ returns-in-Err-clause-turned g c =
     let b = c.plan_all-refused.new.batch in
     let s1 = c.plan_all-refused.new.site in
     let answer = c.plan_all-refused.result in
-    let plan : HasPlanned p n s0.inputs c.args.inputs answer b s1 (seen_by q) =
-    subst (λ (l : List Input). HasPlanned p n s0.inputs l answer b s1 (seen_by q)) c.as_slice.ensures c.plan_all-refused.ensures.planned in
+    let plan : HasPlanned p n c.args.rose.now s0.inputs c.args.inputs answer b s1 (seen_by q) =
+    subst (λ (l : List Input). HasPlanned p n c.args.rose.now s0.inputs l answer b s1 (seen_by q)) c.as_slice.ensures c.plan_all-refused.ensures.planned in
     let mine = still_owns p q n c.plan_all-refused.ensures.same c.requires.owns in
     let r = c.commit_entry.new.pass in
     let over = c.first_of-over.result in
@@ -286,8 +298,8 @@ returns-in-Err-clause-none g c =
     let b = c.plan_all-refused.new.batch in
     let s1 = c.plan_all-refused.new.site in
     let answer = c.plan_all-refused.result in
-    let plan : HasPlanned p n s0.inputs c.args.inputs answer b s1 (seen_by q) =
-    subst (λ (l : List Input). HasPlanned p n s0.inputs l answer b s1 (seen_by q)) c.as_slice.ensures c.plan_all-refused.ensures.planned in
+    let plan : HasPlanned p n c.args.rose.now s0.inputs c.args.inputs answer b s1 (seen_by q) =
+    subst (λ (l : List Input). HasPlanned p n c.args.rose.now s0.inputs l answer b s1 (seen_by q)) c.as_slice.ensures c.plan_all-refused.ensures.planned in
     let mine = still_owns p q n c.plan_all-refused.ensures.same c.requires.owns in
     let r = c.commit_entry.new.pass in
     let over = c.first_of-over.result in
@@ -311,8 +323,8 @@ returns-in-Err-clause-ended g c =
     let b = c.plan_all-refused.new.batch in
     let s1 = c.plan_all-refused.new.site in
     let answer = c.plan_all-refused.result in
-    let plan : HasPlanned p n s0.inputs c.args.inputs answer b s1 (seen_by q) =
-    subst (λ (l : List Input). HasPlanned p n s0.inputs l answer b s1 (seen_by q)) c.as_slice.ensures c.plan_all-refused.ensures.planned in
+    let plan : HasPlanned p n c.args.rose.now s0.inputs c.args.inputs answer b s1 (seen_by q) =
+    subst (λ (l : List Input). HasPlanned p n c.args.rose.now s0.inputs l answer b s1 (seen_by q)) c.as_slice.ensures c.plan_all-refused.ensures.planned in
     let mine = still_owns p q n c.plan_all-refused.ensures.same c.requires.owns in
     let r = c.commit_entry.new.pass in
     let over = c.first_of-over.result in

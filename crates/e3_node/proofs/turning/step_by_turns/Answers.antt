@@ -3,8 +3,8 @@ use Rattle.e3_law_local.specs.Others.{numbered_on}
 use Rattle.e3_log.specs.Stands.{Stands}
 use Rattle.e3_node.specs.Bodies.{AllReadBack, DiskHolds, IsLogged, ReadsAfter, bodies_in, body_of}
 use Rattle.e3_node.specs.Counting.{counted_by}
-use Rattle.e3_node.specs.Ends.{EndsAt, IsReason}
-use Rattle.e3_node.specs.NodeStands.{IsUp}
+use Rattle.e3_node.specs.Ends.{EndsAt, IsReason, Takes, calls_for}
+use Rattle.e3_node.specs.NodeStands.{IsUp, StandsBy}
 use Rattle.e3_node.specs.Turns.{IsStill, history_seen, scenario_seen}
 use Rattle.e3_node.specs.declared.state.State.TheVariants.{Up}
 use Rattle.e3_site.specs.SiteView.{SiteView, count_on, entry_of_plan, step_kept}
@@ -19,15 +19,18 @@ use Rattle.e3_wire.specs.declared.marks.Mark.{Mark}
 use Rattle.e3_wire.specs.declared.marks.Mark.TheVariants as mark
 use Rattle.e3_wire.proofs.Claimed.{taken_is_due}
 use Rattle.e3_world.specs.Legal.{entry_of, made_by}
-use Rattle.e3_world.specs.Moves.{log_size, moves_of}
+use Rattle.e3_world.specs.Moves.{log_of, log_size, moves_of}
 use Rattle.e3_world.specs.declared.lives.SiteStep.{SiteStep}
 use Rattle.e3_node.proofs.Steps.{draft_made, fall_allowed, fall_back, fall_entered, fall_takes, fallen_disk, inputs_on, own_stands, records_made, site_on, step_back, step_allowed, step_entered, step_logged, stepped_up}
 use Rattle.e3_node.proofs.Counts.{count_fallen, count_meanwhile, count_stepped}
+use Rattle.e3_node.proofs.Orders.{log_in_order}
 use Rattle.e3_node.proofs.Owning.{made_own, own_meanwhile}
+use Rattle.e3_law_stands.specs.StandsAlike.{IsLogInOrder}
+use Rattle.e3_types.specs.declared.scenarios.Scenario.{Scenario}
 use Rattle.e3_node.proofs.Turned.{refused}
 use Rattle.e3_node.proofs.Places.{entered_back, looked_back, still_back}
 use Rattle.e3_node.proofs.Sharing.{fall_used, step_used}
-use Rattle.e3_node.proofs.Waiting.{back_meanwhile, behind_of, entered_turn, entries, looked, made_meanwhile, may_commit, meanwhile, still_owns, still_restless, still_up, up_meanwhile}
+use Rattle.e3_node.proofs.Waiting.{back_meanwhile, behind_of, entered_turn, entries, keys_stay, looked, made_meanwhile, may_commit, meanwhile, still_owns, still_restless, still_up, up_meanwhile}
 use Rattle.e3_node.proofs.turning.step_by_turns.Goals as goal
 
 pub prepare_by_turns-requires : goal.prepare_by_turns-requires
@@ -162,14 +165,25 @@ returns-in-Ok-clause-ended g c =
     let b = behind_of p q r c.args.number _ e c.requires.owns owns cl.0 cl.1 cl.2 ent.0 ent.1 ent.2 cl.5 ent.3 in
     let now = entries_of ent.0 in
     let m = meanwhile c.args.number _ (seen_by p) (seen_by q) ent.0 (seen_by r) e b refl c.requires.played c.claim.ensures.played c.commit_entry.ensures.played in
-    let up : IsUp g.D.Disk.content g.D.Disk.image g.D.Disk.meters sc now c.args.number c.args.site.now c.args.log.now =
-    up_meanwhile g.D.Disk.content g.D.Disk.image g.D.Disk.meters sc h now c.args.number (Up c.args.site.now c.args.log.now) m c.requires.up in
+    let up : IsUp g.D.Disk.content g.D.Disk.image g.D.Disk.meters sc now c.args.number c.args.site.now c.args.log.now c.args.rose.now =
+    up_meanwhile g.D.Disk.content g.D.Disk.image g.D.Disk.meters sc h now c.args.number (Up c.args.site.now c.args.log.now c.args.rose.now) m c.requires.up in
     let back = back_meanwhile sc h now c.args.number m c.requires.back in
     let here = made_meanwhile sc h now c.args.number c.args.input d m made in
     let all = entries c.args.number _ (seen_by p) (seen_by q) ent.0 (seen_by r) e b refl c.requires.played c.claim.ensures.played c.commit_entry.ensures.played in
     let more = history_seen r in
     let entered = step_entered sc now more c.args.number c.args.input step (c.apply.ensures.step ∙ here.step_is) all in
-    let ready = c.in_ok-draft.ensures.still.stands sc now c.args.number up.stands in
+    let ready : StandsBy sc now c.args.number c.args.rose.now c.prepare_by_turns.new.site =
+    record { alike = c.in_ok-draft.ensures.still.stands sc now c.args.number c.args.rose.now up.stands.alike; order = up.stands.order } in
+    let fits : length step.outs ≡ c.room_for-room.result =
+    ap (λ (p : SiteStep). length p.outs) c.apply.ensures.step ∙ sym (c.room_for-room.ensures ∙ ap length c.outs.ensures) in
+    let turned = entered_turn c.args.wire.now p q r c.args.number _ e ent.0 b refl c.requires.played c.claim.ensures.played c.commit_entry.ensures.played c.requires.some sc h allows tt
+    (step_used _ c.args.input step.records step.outs step.told (sym fits))
+    c.commit_entry.ensures.idle c.claim.ensures.same c.commit_entry.ensures.same in
+    let keys = (keys_stay p r c.requires.played turned.turned.seen).0 in
+    let order : IsLogInOrder c.args.number (log_of sc (now ++ entry_of sc now c.args.number c.args.input ∷ []) c.args.number) =
+    subst (λ (l : List Entry). IsLogInOrder c.args.number (log_of sc l c.args.number)) entered
+    (subst (λ (x : Scenario). IsLogInOrder c.args.number (log_of x more c.args.number)) keys
+    (log_in_order c.logs_are_orderly.ensures.logs c.logged_sites_are_sets.ensures (scenario_seen r) more c.args.number c.commit_entry.ensures.played.given c.commit_entry.ensures.played.legal)) in
     let logged : IsLogged g.D.Disk.content g.D.Disk.image (moves_of sc (now ++ entry_of sc now c.args.number c.args.input ∷ []) c.args.number) c.write.new.log =
     step_logged g.D.Disk.content g.D.Disk.image sc now c.args.number c.args.input c.args.log.now c.write.new.log up.logged
     (λ lists before. subst (λ (rs : List Record). Stands g.D.Disk.content g.D.Disk.image (bodies_in lists ++ body_of rs) c.write.new.log)
@@ -179,9 +193,10 @@ returns-in-Ok-clause-ended g c =
       meanwhile = m;
       entered = entered;
       stands =
-          subst (λ (l : List Entry). IsUp g.D.Disk.content g.D.Disk.image g.D.Disk.meters sc l c.args.number c.apply.new.self c.write.new.log) (sym entered)
+          subst (λ (l : List Entry). IsUp g.D.Disk.content g.D.Disk.image g.D.Disk.meters sc l c.args.number c.apply.new.self c.write.new.log c.args.rose.now) (sym entered)
           (stepped_up g.D.Disk.content g.D.Disk.image g.D.Disk.meters sc now c.args.number c.args.input c.apply.new.self c.write.new.log up.up
-          (site_on sc now c.args.number c.args.input c.prepare_by_turns.new.site c.apply.new.self d.plan.step ready here.step_is c.apply.ensures.stands)
+          (site_on sc now c.args.number c.args.input c.prepare_by_turns.new.site c.apply.new.self d.plan.step ready here.step_is
+          (ap (λ (s : SiteView). s.weights) c.apply.ensures.done) (ap (λ (s : SiteView). s.site) c.apply.ensures.done) c.apply.ensures.stand order)
           logged c.in-Ok.ensures.lit
           (inputs_on sc now c.args.number c.args.input c.args.site.now.inputs _ up.inputs
           (ap (λ (s : SiteView). s.inputs) c.apply.ensures.done ∙ ap (λ (s : SiteView). count_on s.inputs) c.in_ok-draft.ensures.still.same)));
@@ -255,8 +270,8 @@ returns-in-Err-clause-ended g c =
     let b = behind_of p q r c.args.number _ e c.requires.owns owns cl.0 cl.1 cl.2 ent.0 ent.1 ent.2 cl.5 ent.3 in
     let now = entries_of ent.0 in
     let m = meanwhile c.args.number _ (seen_by p) (seen_by q) ent.0 (seen_by r) e b refl c.requires.played c.claim.ensures.played c.commit_entry-in-Err.ensures.played in
-    let up : IsUp g.D.Disk.content g.D.Disk.image g.D.Disk.meters sc now c.args.number c.args.site.now c.args.log.now =
-    up_meanwhile g.D.Disk.content g.D.Disk.image g.D.Disk.meters sc h now c.args.number (Up c.args.site.now c.args.log.now) m c.requires.up in
+    let up : IsUp g.D.Disk.content g.D.Disk.image g.D.Disk.meters sc now c.args.number c.args.site.now c.args.log.now c.args.rose.now =
+    up_meanwhile g.D.Disk.content g.D.Disk.image g.D.Disk.meters sc h now c.args.number (Up c.args.site.now c.args.log.now c.args.rose.now) m c.requires.up in
     let back = back_meanwhile sc h now c.args.number m c.requires.back in
     let here = made_meanwhile sc h now c.args.number c.args.input d m made in
     let all = entries c.args.number _ (seen_by p) (seen_by q) ent.0 (seen_by r) e b refl c.requires.played c.claim.ensures.played c.commit_entry-in-Err.ensures.played in
@@ -302,9 +317,9 @@ returns-in_err-claim-clause-ended g c =
     let cl = c.in_err-claim.ensures.claimed in
     let m = (looked c.args.wire.now p q c.args.number cl.0 c.requires.owns c.requires.played c.claim.ensures.played c.claim.ensures.idle c.claim.ensures.same cl.1 cl.3).1 in
     let up = still_up g.D.Disk.content g.D.Disk.image g.D.Disk.meters sc h more c.args.number c.args.site.now c.prepare_by_turns.new.site c.args.log.now m c.requires.up c.in_ok-draft.ensures.still in
-    let still : IsStill g.D.Disk.content g.D.Disk.image g.D.Disk.meters sc h more c.args.number (Up c.args.site.now c.args.log.now) (Up c.prepare_by_turns.new.site c.args.log.now) =
+    let still : IsStill g.D.Disk.content g.D.Disk.image g.D.Disk.meters sc h more c.args.number (Up c.args.site.now c.args.log.now c.args.rose.now) (Up c.prepare_by_turns.new.site c.args.log.now c.args.rose.now) =
     record { meanwhile = m; disk = refl; stands = up; back = back_meanwhile sc h more c.args.number m c.requires.back } in
-    refused g.D.Disk.content g.D.Disk.image g.D.Disk.meters sc h more c.args.number c.args.input (Up c.args.site.now c.args.log.now) (Up c.prepare_by_turns.new.site c.args.log.now)
+    refused g.D.Disk.content g.D.Disk.image g.D.Disk.meters sc h more c.args.number c.args.input (Up c.args.site.now c.args.log.now c.args.rose.now) (Up c.prepare_by_turns.new.site c.args.log.now c.args.rose.now)
     c.in_err-claim.field-0.0 c.from_residual-in_err-claim.result c.from_residual-in_err-claim.ensures.1 still
 
 pub returns-in-Ok-clause-counted : goal.returns-in-Ok-clause-counted
@@ -328,8 +343,8 @@ returns-in-Ok-clause-counted g c =
     let b = behind_of p q r c.args.number _ e c.requires.owns owns cl.0 cl.1 cl.2 ent.0 ent.1 ent.2 cl.5 ent.3 in
     let now = entries_of ent.0 in
     let m = meanwhile c.args.number _ (seen_by p) (seen_by q) ent.0 (seen_by r) e b refl c.requires.played c.claim.ensures.played c.commit_entry.ensures.played in
-    let up : IsUp g.D.Disk.content g.D.Disk.image g.D.Disk.meters sc now c.args.number c.args.site.now c.args.log.now =
-    up_meanwhile g.D.Disk.content g.D.Disk.image g.D.Disk.meters sc h now c.args.number (Up c.args.site.now c.args.log.now) m c.requires.up in
+    let up : IsUp g.D.Disk.content g.D.Disk.image g.D.Disk.meters sc now c.args.number c.args.site.now c.args.log.now c.args.rose.now =
+    up_meanwhile g.D.Disk.content g.D.Disk.image g.D.Disk.meters sc h now c.args.number (Up c.args.site.now c.args.log.now c.args.rose.now) m c.requires.up in
     let back = back_meanwhile sc h now c.args.number m c.requires.back in
     let here = made_meanwhile sc h now c.args.number c.args.input d m made in
     let all = entries c.args.number _ (seen_by p) (seen_by q) ent.0 (seen_by r) e b refl c.requires.played c.claim.ensures.played c.commit_entry.ensures.played in
@@ -362,8 +377,8 @@ returns-in-Err-clause-counted g c =
     let b = behind_of p q r c.args.number _ e c.requires.owns owns cl.0 cl.1 cl.2 ent.0 ent.1 ent.2 cl.5 ent.3 in
     let now = entries_of ent.0 in
     let m = meanwhile c.args.number _ (seen_by p) (seen_by q) ent.0 (seen_by r) e b refl c.requires.played c.claim.ensures.played c.commit_entry-in-Err.ensures.played in
-    let up : IsUp g.D.Disk.content g.D.Disk.image g.D.Disk.meters sc now c.args.number c.args.site.now c.args.log.now =
-    up_meanwhile g.D.Disk.content g.D.Disk.image g.D.Disk.meters sc h now c.args.number (Up c.args.site.now c.args.log.now) m c.requires.up in
+    let up : IsUp g.D.Disk.content g.D.Disk.image g.D.Disk.meters sc now c.args.number c.args.site.now c.args.log.now c.args.rose.now =
+    up_meanwhile g.D.Disk.content g.D.Disk.image g.D.Disk.meters sc h now c.args.number (Up c.args.site.now c.args.log.now c.args.rose.now) m c.requires.up in
     let back = back_meanwhile sc h now c.args.number m c.requires.back in
     let here = made_meanwhile sc h now c.args.number c.args.input d m made in
     let all = entries c.args.number _ (seen_by p) (seen_by q) ent.0 (seen_by r) e b refl c.requires.played c.claim.ensures.played c.commit_entry-in-Err.ensures.played in
@@ -404,3 +419,12 @@ returns-in-Err-clause-need g c = λ why is.
     let same : c.in-Err.why ≡ why = cc in
     subst (EndsAt c.args.log.now.end (made_by sc h c.args.number c.args.input).records) same
     (subst (λ (rs : List Record). EndsAt c.args.log.now.end rs c.in-Err.why) (c.records.ensures ∙ records_made sc h c.args.number c.args.input d.plan.step made.step_is) c.in-Err.ensures.need)
+
+pub returns-in-Ok-clause-takes : goal.returns-in-Ok-clause-takes
+returns-in-Ok-clause-takes g c =
+    let sc = scenario_seen c.args.pass.now in
+    let h = history_seen c.args.pass.now in
+    let d = c.in_ok-draft.draft in
+    let made = draft_made sc h c.args.number c.args.site.now _ c.args.input d c.requires.up.stands c.in_ok-draft.ensures.ready in
+    let T : List Record → Type 0 = λ rs. Takes (calls_for rs) (g.D.Disk.meters c.args.log.now.disk) (g.D.Disk.meters c.write.new.log.disk) in
+    subst T (c.records.ensures ∙ records_made sc h c.args.number c.args.input d.plan.step made.step_is) c.in-Ok.ensures.takes
