@@ -26,9 +26,9 @@ use Rattle.e3_scenario.specs.Scenarios.{or_range, repeat_with, numbers_in, base_
 use Rattle.e3_scenario.specs.Steps.{and_read, or_fault, judged, item_in, StepSoFar, items_read, read_of, step_read, steps_read}
 use Rattle.e3_scenario.specs.Words.{is_printable, space, before, after, rest, word}
 use Rattle.e3_law_steps.proofs.Each.{each-append, each-push, each-map, IfAny}
-use Rattle.e3_law_begun.specs.Mentions.{values_in}
-use Rattle.e3_law_begun.proofs.Lists.{each-join}
-use Rattle.e3_law_traces.specs.Claims.{ValuesAreLines}
+use Rattle.e3_law_steps.specs.Mentions.{values_in}
+use Rattle.e3_law_steps.proofs.Begun.Lists.{each-join}
+use Rattle.e3_check.specs.Traces.{ValuesAreLines}
 use Rattle.e3_trace.specs.Cuts.{feed}
 use Rattle.e3_trace.specs.Tellable.{lacks}
 use Rattle.e3_trace.proofs.Cutting.{lacks_by}

@@ -11,8 +11,8 @@ use Rattle.e3_judge.specs.declared.breach.Breach.{Breach}
 use Rattle.e3_scenario.specs.Faults.{fault_text}
 use Rattle.e3_scenario.specs.Scenarios.{scenario_of}
 use Rattle.e3_scenario.specs.declared.faults.ScenarioFault.{ScenarioFault}
-use Rattle.e3_law_traces.specs.Claims.{printed}
-use Rattle.e3_law_traces.specs.Typed.{AreTyped}
+use Rattle.e3_check.specs.Traces.{printed}
+use Rattle.e3_check.specs.Typed.{AreTyped}
 use Rattle.e3_trace.specs.Tellable.{ended_line, IsBefore}
 use Rattle.e3_trace.specs.Trace.{history_of}
 use Rattle.e3_trace.specs.declared.faults.TraceFault.{TraceFault}

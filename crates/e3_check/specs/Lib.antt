@@ -1,2 +1,4 @@
 pub mod Findings
 pub mod Claims
+pub mod Typed
+pub mod Traces

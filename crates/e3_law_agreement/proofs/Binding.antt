@@ -25,23 +25,23 @@ use Rattle.e3_world.specs.Packets.{sent}
 use Rattle.e3_world.specs.Sound.{sends}
 use Rattle.e3_world.proofs.Sending.{trail_sends}
 use Rattle.e3_world.proofs.Trails.{trail_moves}
-use Rattle.e3_law_protocol.specs.Invariant.{Invariant, Majority, Reason, ByMajority, ByRefusal, ByCallingOff, Voted}
-use Rattle.e3_law_protocol.specs.Logs.{IsIn, Note, Vote, Join, Attempt, Decision, Status, elected, attempt, below, status, before_join, Orderly}
-use Rattle.e3_law_protocol.specs.Marks.{Mark, situation_of, log_of as notes_at}
-use Rattle.e3_law_protocol.specs.Rules.{Situation, Letter, letter, Word, Elected, Report, Pre, Ack, MayReport}
-use Rattle.e3_law_protocol.specs.Verdicts.{status_in}
-use Rattle.e3_law_protocol.specs.Weights.{party_of}
-use Rattle.e3_law_protocol.proofs.Agree.{one_direction, binds}
-use Rattle.e3_law_protocol.proofs.Keep.{law}
-use Rattle.e3_law_protocol.proofs.Logs.{same_leader, attempt_bound, attempt-elected, below-attempt}
-use Rattle.e3_law_protocol.proofs.Shares.{majorities_overlap}
-use Rattle.e3_law_refinement.specs.Trails.{marks_of, IsMade}
-use Rattle.e3_law_refinement.specs.Views.{words_of, word_if}
-use Rattle.e3_law_refinement.proofs.Following.{TrailOk, made_ok, made_allowed, in_from_contains, in_map_to}
-use Rattle.e3_law_refinement.proofs.Gatherings.{in_word}
-use Rattle.e3_law_refinement.proofs.Lists.{in_map, same_from}
-use Rattle.e3_law_refinement.proofs.Tests.{stands_as}
-use Rattle.e3_law_refinement.proofs.Voting.{contains_from_in}
+use Rattle.e3_law_agreement.specs.Invariant.{Invariant, Majority, Reason, ByMajority, ByRefusal, ByCallingOff, Voted}
+use Rattle.e3_law_agreement.specs.Logs.{IsIn, Note, Vote, Join, Attempt, Decision, Status, elected, attempt, below, status, before_join, Orderly}
+use Rattle.e3_law_agreement.specs.Marks.{Mark, situation_of, log_of as notes_at}
+use Rattle.e3_law_agreement.specs.Rules.{Situation, Letter, letter, Word, Elected, Report, Pre, Ack, MayReport}
+use Rattle.e3_law_agreement.specs.Verdicts.{status_in}
+use Rattle.e3_law_agreement.specs.Weights.{party_of}
+use Rattle.e3_law_agreement.proofs.Protocol.Agree.{one_direction, binds}
+use Rattle.e3_law_agreement.proofs.Protocol.Keep.{law}
+use Rattle.e3_law_agreement.proofs.Protocol.Logs.{same_leader, attempt_bound, attempt-elected, below-attempt}
+use Rattle.e3_law_agreement.proofs.Protocol.Shares.{majorities_overlap}
+use Rattle.e3_law_agreement.specs.Trails.{marks_of, IsMade}
+use Rattle.e3_law_agreement.specs.Views.{words_of, word_if}
+use Rattle.e3_law_agreement.proofs.Refinement.Following.{TrailOk, made_ok, made_allowed, in_from_contains, in_map_to}
+use Rattle.e3_law_agreement.proofs.Refinement.Gatherings.{in_word}
+use Rattle.e3_law_agreement.proofs.Refinement.Lists.{in_map, same_from}
+use Rattle.e3_law_agreement.proofs.Refinement.Tests.{stands_as}
+use Rattle.e3_law_agreement.proofs.Refinement.Voting.{contains_from_in}
 use Rattle.e3_law_agreement.specs.Facts.{Has, StandsBehind, HasSent, HasReportedTo, HasQuorumOfReports, JoinedAsElector, IsTried, Logged, Asked, Acknowledged, QuorumTried, IsDecided, Entered, WasSaid, SomeRefused, CalledOff}
 use Rattle.e3_law_agreement.proofs.Erasing.{erase, face, faces, elected_erased, attempt_erased, status_erased, before_erased, in_erased, orderly_erased}
 use Rattle.e3_law_agreement.proofs.Facing.{vote_to, attempt_to, decision_to, vote_from, join_from, attempt_from, decision_from, reads_face, fits_at, note_is, vote_before, attempt_before, before_is, split_at}

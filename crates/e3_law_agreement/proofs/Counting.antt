@@ -26,11 +26,11 @@ use Rattle.e3_world.specs.Packets.{is_line, lines, present_items, step_items}
 use Rattle.e3_world.specs.Progress.{up_behind}
 use Rattle.e3_world.proofs.Guards.{lines_push}
 use Rattle.e3_world.proofs.Readings.{split_push, taken_same, taken_other, up_same, up_other}
-use Rattle.e3_law_protocol.specs.Logs.{IsIn}
+use Rattle.e3_law_agreement.specs.Logs.{IsIn}
 use Rattle.e3_law_agreement.proofs.Named.{Names, StepNamed}
 use Rattle.e3_law_agreement.proofs.Positions.{is_begin, add_if, begins_before, begins_next, position}
 use Rattle.e3_law_steps.proofs.Items.{single, inputs_push, plan_is, binding}
-use Rattle.e3_law_protocol.proofs.Reached.{in_parts}
+use Rattle.e3_law_agreement.proofs.Protocol.Reached.{in_parts}
 
 abbrev pub counts : ℕ → List ℕ → ℕ
 counts s l = count_by (λ o. o == s) l

@@ -12,12 +12,12 @@ use Rattle.e3_types.specs.declared.transactions.Txn.{Txn}
 use Rattle.e3_types.specs.Same.{same_txn}
 use Rattle.e3_world.specs.Moves.{Did, Stepped, Silent, Rose, Move, moves_at, recorded, rise_records, log_by}
 use Rattle.e3_world.specs.Sound.{step_move, records_in_turn}
-use Rattle.e3_law_protocol.specs.Logs.{IsIn, Note, Vote, Join, Attempt, Decision, elected, attempt, status, before_join, Fits, Orderly}
-use Rattle.e3_law_protocol.specs.Marks.{behind, log_of}
-use Rattle.e3_law_protocol.specs.Marks.{log_by as noted_by}
-use Rattle.e3_law_refinement.specs.Trails.{silent_marks, marks_in, marks_after, marks_of, IsMadeMove, MadeAfter, IsMade}
-use Rattle.e3_law_refinement.specs.Views.{note_of, notes_of, leader_of}
-use Rattle.e3_law_refinement.proofs.Readings.{behind-append}
+use Rattle.e3_law_agreement.specs.Logs.{IsIn, Note, Vote, Join, Attempt, Decision, elected, attempt, status, before_join, Fits, Orderly}
+use Rattle.e3_law_agreement.specs.Marks.{behind, log_of}
+use Rattle.e3_law_agreement.specs.Marks.{log_by as noted_by}
+use Rattle.e3_law_agreement.specs.Trails.{silent_marks, marks_in, marks_after, marks_of, IsMadeMove, MadeAfter, IsMade}
+use Rattle.e3_law_agreement.specs.Views.{note_of, notes_of, leader_of}
+use Rattle.e3_law_agreement.proofs.Refinement.Readings.{behind-append}
 
 -- the note without its leader
 abbrev pub erase : Note → Note

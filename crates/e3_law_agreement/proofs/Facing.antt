@@ -8,17 +8,17 @@ use Rattle.e3_types.specs.declared.transactions.NumOp.{NumOp}
 use Rattle.e3_types.specs.declared.transactions.Txn.{Txn}
 use Rattle.e3_types.specs.Same.{same_txn}
 use Rattle.e3_world.specs.Logs.{last_elected, last_attempt, has_voted}
-use Rattle.e3_law_protocol.specs.Logs.{IsIn, Note, Vote, Join, Attempt, Decision, elected, before_join, Fits, FitsAttempt, Orderly}
-use Rattle.e3_law_protocol.proofs.Logs.{attempt-elected, attempt_bound, join_bound, final_is}
-use Rattle.e3_law_protocol.specs.Marks.{behind}
-use Rattle.e3_law_refinement.specs.Rows.{Reads}
-use Rattle.e3_law_refinement.specs.Views.{note_of, notes_of}
-use Rattle.e3_law_refinement.proofs.Following.{start_ok}
-use Rattle.e3_law_refinement.proofs.Lists.{in_left, in_right, in_flat_map, only_one, same_from}
-use Rattle.e3_law_refinement.proofs.Readings.{reads_more, has_from_vote, orderly_front}
+use Rattle.e3_law_agreement.specs.Logs.{IsIn, Note, Vote, Join, Attempt, Decision, elected, before_join, Fits, FitsAttempt, Orderly}
+use Rattle.e3_law_agreement.proofs.Protocol.Logs.{attempt-elected, attempt_bound, join_bound, final_is}
+use Rattle.e3_law_agreement.specs.Marks.{behind}
+use Rattle.e3_law_agreement.specs.Rows.{Reads}
+use Rattle.e3_law_agreement.specs.Views.{note_of, notes_of}
+use Rattle.e3_law_agreement.proofs.Refinement.Following.{start_ok}
+use Rattle.e3_law_agreement.proofs.Refinement.Lists.{in_left, in_right, in_flat_map, only_one, same_from}
+use Rattle.e3_law_agreement.proofs.Refinement.Readings.{reads_more, has_from_vote, orderly_front}
 use Rattle.e3_law_agreement.proofs.Erasing.{face, face_split}
 use Rattle.e3_law_steps.proofs.Tests.{same_is}
-use Rattle.e3_law_protocol.proofs.Reached.{in_behind}
+use Rattle.e3_law_agreement.proofs.Protocol.Reached.{in_behind}
 
 in_behind_cases : (x : Note) (l ns : List Note) → IsIn x (behind l ns) → IsIn x l ⊎ IsIn x ns
 in_behind_cases x l [] k = inl k

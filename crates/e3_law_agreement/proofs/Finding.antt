@@ -23,20 +23,20 @@ use Rattle.e3_world.specs.Making.{nothing, log_now, state_now, attempt_now, open
 use Rattle.e3_world.specs.Operations.{unanswered, reason_in, kept_reason}
 use Rattle.e3_world.specs.Safe.{Said, says, said_state, said_refusal}
 use Rattle.e3_world.specs.Steps.{refuse, refuse_late}
-use Rattle.e3_law_protocol.specs.Logs.{IsIn, Vote, Decision, Final, status, attempt, before_join, Backs}
-use Rattle.e3_law_protocol.specs.Rules.{Report, Reply, Replied, letter}
-use Rattle.e3_law_protocol.specs.Verdicts.{status_in, reply_of, FinalIn}
-use Rattle.e3_law_protocol.proofs.Agree.{agrees, all_voted}
-use Rattle.e3_law_protocol.proofs.Logs.{before_join_backs}
-use Rattle.e3_law_protocol.proofs.Shares.{in_from_has}
-use Rattle.e3_law_refinement.specs.Rows.{Here, party, own_log, Stands}
-use Rattle.e3_law_refinement.proofs.Lists.{in_map, in_flat_map}
-use Rattle.e3_law_refinement.proofs.Readings.{has_from_vote, decision_in}
-use Rattle.e3_law_refinement.proofs.Tests.{reads_now}
-use Rattle.e3_law_refinement.proofs.Gathered.{Reported}
+use Rattle.e3_law_agreement.specs.Logs.{IsIn, Vote, Decision, Final, status, attempt, before_join, Backs}
+use Rattle.e3_law_agreement.specs.Rules.{Report, Reply, Replied, letter}
+use Rattle.e3_law_agreement.specs.Verdicts.{status_in, reply_of, FinalIn}
+use Rattle.e3_law_agreement.proofs.Protocol.Agree.{agrees, all_voted}
+use Rattle.e3_law_agreement.proofs.Protocol.Logs.{before_join_backs}
+use Rattle.e3_law_agreement.proofs.Protocol.Shares.{in_from_has}
+use Rattle.e3_law_agreement.specs.Rows.{Here, party, own_log, Stands}
+use Rattle.e3_law_agreement.proofs.Refinement.Lists.{in_map, in_flat_map}
+use Rattle.e3_law_agreement.proofs.Refinement.Readings.{has_from_vote, decision_in}
+use Rattle.e3_law_agreement.proofs.Refinement.Tests.{reads_now}
+use Rattle.e3_law_agreement.proofs.Refinement.Gathered.{Reported}
 use Rattle.e3_law_agreement.proofs.Saying.{Stood, AllStood, one_said}
 use Rattle.e3_law_steps.proofs.Tests.{some_is, same_is}
-use Rattle.e3_law_refinement.proofs.Telling.{decision_found}
+use Rattle.e3_law_agreement.proofs.Refinement.Telling.{decision_found}
 
 -- the decision of a transaction that is read off a log stands in it
 pub found : (t : Txn) (d : Dir) (rs : List Record) → decision t rs ≡ Some d → IsIn (log.Decision t d) rs

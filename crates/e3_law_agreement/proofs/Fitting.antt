@@ -24,13 +24,13 @@ use Rattle.e3_world.specs.Items.{Split, split_by, to_line, since_line, binding_b
 use Rattle.e3_world.specs.Legal.{IsDue, AreDue, IsNextItem, IsRound, Guard, LegalAfter, IsLegal, entry_of}
 use Rattle.e3_world.specs.Packets.{is_line, lines, present_items, step_items, all_sites}
 use Rattle.e3_world.proofs.Readings.{up_same}
-use Rattle.e3_law_protocol.specs.Logs.{IsIn}
-use Rattle.e3_law_protocol.proofs.Shares.{in_from_has}
+use Rattle.e3_law_agreement.specs.Logs.{IsIn}
+use Rattle.e3_law_agreement.proofs.Protocol.Shares.{in_from_has}
 use Rattle.e3_law_agreement.specs.Histories.{ItemsFit, AllFit}
-use Rattle.e3_law_refinement.specs.Rows.{MayTake}
-use Rattle.e3_law_refinement.proofs.Lists.{in_left, in_map, in_flat_map, has_from_in}
-use Rattle.e3_law_refinement.proofs.Sites.{within_in, within_from}
-use Rattle.e3_law_refinement.proofs.Following.{in_from_contains}
+use Rattle.e3_law_agreement.specs.Rows.{MayTake}
+use Rattle.e3_law_agreement.proofs.Refinement.Lists.{in_left, in_map, in_flat_map, has_from_in}
+use Rattle.e3_law_agreement.proofs.Refinement.Sites.{within_in, within_from}
+use Rattle.e3_law_agreement.proofs.Refinement.Following.{in_from_contains}
 use Rattle.e3_law_agreement.proofs.Named.{begun, ItemNamed, StepNamed, Names, names_of_steps}
 use Rattle.e3_law_agreement.proofs.Counting.{Counted, step_case, step_on, counted_on, counted_start}
 use Rattle.e3_law_steps.proofs.Items.{plan_is, binding, round_of}

@@ -27,19 +27,19 @@ use Rattle.e3_world.proofs.Pushes.{past_push}
 use Rattle.e3_world.proofs.Readings.{own_same, own_other, up_same, up_other}
 use Rattle.e3_world.proofs.Trails.{trail_moves}
 use Rattle.e3_law_agreement.specs.Histories.{ItemsFit, AllFit}
-use Rattle.e3_law_refinement.specs.Rows.{MayTake}
-use Rattle.e3_law_refinement.specs.Trails.{TakenInTurn, IsMadeMove, MadeAfter, IsMade}
-use Rattle.e3_law_refinement.proofs.Following.{in_from_contains, in_map_to, moves_here}
-use Rattle.e3_law_refinement.proofs.Agreeing.{made_agrees}
-use Rattle.e3_law_refinement.proofs.Voting.{made_voted}
+use Rattle.e3_law_agreement.specs.Rows.{MayTake}
+use Rattle.e3_law_agreement.specs.Trails.{TakenInTurn, IsMadeMove, MadeAfter, IsMade}
+use Rattle.e3_law_agreement.proofs.Refinement.Following.{in_from_contains, in_map_to, moves_here}
+use Rattle.e3_law_agreement.proofs.Refinement.Agreeing.{made_agrees}
+use Rattle.e3_law_agreement.proofs.Refinement.Voting.{made_voted}
 use Rattle.e3_law_agreement.proofs.Fitting.{given_fit}
 use Rattle.e3_world.specs.Given.{IsGiven}
 use Rattle.e3_world.specs.Safe.{Agrees, AllVoted, Said, said_msg}
 use Rattle.e3_world.specs.Packets.{sent}
 use Rattle.e3_world.proofs.Sending.{trail_sends}
 use Rattle.e3_types.specs.declared.records.Record.TheVariants as log
-use Rattle.e3_law_refinement.proofs.Telling.{made_stands}
-use Rattle.e3_law_refinement.proofs.Voting.{contains_from_in}
+use Rattle.e3_law_agreement.proofs.Refinement.Telling.{made_stands}
+use Rattle.e3_law_agreement.proofs.Refinement.Voting.{contains_from_in}
 
 -- the trail of a history with one more entry
 after_push : (sc : Scenario) (before h : List Entry) (e : Entry) → trail_after sc before (h ++ e ∷ []) ≡ trail_after sc before h ++ moves_of_act sc e.owner (past_of sc e.owner (own e.owner (before ++ h))) e.act

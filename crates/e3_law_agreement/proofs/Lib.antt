@@ -14,3 +14,5 @@ pub mod Facing
 pub mod Reporting
 pub mod Binding
 pub mod Single
+pub mod Protocol
+pub mod Refinement

@@ -9,9 +9,9 @@ use Rattle.e3_types.specs.Same.{same_numbers}
 use Rattle.e3_types.specs.Sets.{has_site, is_within, is_set}
 use Rattle.e3_types.proofs.SameSites.{same_numbers_refl, same_numbers_eq}
 use Rattle.e3_world.specs.Given.{BegunName, SaidSoFar, is_begun, count_ops, is_group, keeps_rules, say_item, items_keep, is_step_form, close_step, steps_keep}
-use Rattle.e3_law_protocol.specs.Logs.{IsIn}
-use Rattle.e3_law_refinement.proofs.Lists.{in_left, in_right}
-use Rattle.e3_law_protocol.proofs.Reached.{in_parts}
+use Rattle.e3_law_agreement.specs.Logs.{IsIn}
+use Rattle.e3_law_agreement.proofs.Refinement.Lists.{in_left, in_right}
+use Rattle.e3_law_agreement.proofs.Protocol.Reached.{in_parts}
 
 abbrev pub begun : List ℕ → List ℕ → BegunName
 begun name sites = record { name = name; sites = sites }

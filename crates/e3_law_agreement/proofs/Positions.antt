@@ -11,7 +11,7 @@ use Rattle.e3_types.specs.declared.transactions.Op.TheVariants.{Read, Write}
 use Rattle.e3_types.specs.declared.transactions.Txn.{Txn}
 use Rattle.e3_world.specs.declared.names.Addressed.{Addressed}
 use Rattle.e3_world.specs.Items.{begin_names, input_of, inputs_to, txn_of}
-use Rattle.e3_law_protocol.specs.Logs.{IsIn}
+use Rattle.e3_law_agreement.specs.Logs.{IsIn}
 
 -- the input is a begin
 abbrev pub is_begin : Input → Bool

@@ -1,12 +1,12 @@
 -- A report goes on to say how its site stood at its join, after marks that may be made.
 use Rattle.std.proofs.Common.{◌≡◌, ◌⊎◌, inl, inr, ◌∷◌, [], ◌++◌, ℕ, List, refl, sym, ap, subst, ◌∙◌, append-nil, append_assoc}
 use Rattle.std.proofs.lemmas.Bool.{cases_eq}
-use Rattle.e3_law_protocol.specs.Logs.{IsIn, Note, Status, Join, attempt, status, before_join, Orderly}
-use Rattle.e3_law_protocol.specs.Marks.{Mark, behind, log_of, sent_of, situation_of, MayMark, AllowedAfter, Allowed}
-use Rattle.e3_law_protocol.specs.Rules.{Party, Overlaps, Letter, Word, Report, Reachable, Start, MaySay, MayReport}
-use Rattle.e3_law_protocol.proofs.Keep.{law}
-use Rattle.e3_law_protocol.proofs.Reached.{mark_reaches, in_parts, in_behind, sent_more}
-use Rattle.e3_law_refinement.proofs.Growing.{log_here, log_there}
+use Rattle.e3_law_agreement.specs.Logs.{IsIn, Note, Status, Join, attempt, status, before_join, Orderly}
+use Rattle.e3_law_agreement.specs.Marks.{Mark, behind, log_of, sent_of, situation_of, MayMark, AllowedAfter, Allowed}
+use Rattle.e3_law_agreement.specs.Rules.{Party, Overlaps, Letter, Word, Report, Reachable, Start, MaySay, MayReport}
+use Rattle.e3_law_agreement.proofs.Protocol.Keep.{law}
+use Rattle.e3_law_agreement.proofs.Protocol.Reached.{mark_reaches, in_parts, in_behind, sent_more}
+use Rattle.e3_law_agreement.proofs.Refinement.Growing.{log_here, log_there}
 use Rattle.e3_law_agreement.proofs.Facing.{join_stays}
 
 -- each report that was sent says how its site stood before its join

@@ -43,17 +43,17 @@ use Rattle.e3_world.specs.Rounds.{count_ack, round_in_progress}
 use Rattle.e3_world.specs.Safe.{says, said_told}
 use Rattle.e3_world.specs.VoteRules.{vote_rule, on_vote_req, on_yes}
 use Rattle.e3_world.specs.Votes.{yes_votes}
-use Rattle.e3_law_protocol.specs.Logs.{IsIn, Final}
-use Rattle.e3_law_protocol.specs.Rules.{Report, Reply, Came}
-use Rattle.e3_law_protocol.specs.Verdicts.{status_in, reply_of, FinalIn, Rules}
-use Rattle.e3_law_refinement.specs.Rows.{Here, Stands}
-use Rattle.e3_law_refinement.proofs.Elections.{cast_records}
-use Rattle.e3_law_refinement.proofs.Gathered.{NumberedOk, ElectionOk, take_ok, election_stands}
+use Rattle.e3_law_agreement.specs.Logs.{IsIn, Final}
+use Rattle.e3_law_agreement.specs.Rules.{Report, Reply, Came}
+use Rattle.e3_law_agreement.specs.Verdicts.{status_in, reply_of, FinalIn, Rules}
+use Rattle.e3_law_agreement.specs.Rows.{Here, Stands}
+use Rattle.e3_law_agreement.proofs.Refinement.Elections.{cast_records}
+use Rattle.e3_law_agreement.proofs.Refinement.Gathered.{NumberedOk, ElectionOk, take_ok, election_stands}
 use Rattle.e3_law_agreement.proofs.Saying.{one_if, ReportsOnce, is_quiet, Tells, tells_nothing, stood_more, tells_record, tells_tell, tells_send, tells_cast, one_said, tells_decide, tells_decided, tells_abort, tells_abort_for, tells_attempt, tells_vote, tells_do}
 use Rattle.e3_law_agreement.proofs.Finding.{final_found, verdict_stands}
 use Rattle.e3_law_steps.proofs.Rules.{by_grant, dies, behind_join}
 use Rattle.e3_law_steps.proofs.Tests.{same_is}
-use Rattle.e3_law_refinement.proofs.Verdicts.{rules_of}
+use Rattle.e3_law_agreement.proofs.Refinement.Verdicts.{rules_of}
 
 tells_dies : (a : At) (made : Made) (u : Txn) (n : ℕ) (older : Txn) (b : Bool) → Tells a made → Tells a (dies a u n made older b)
 tells_dies a made u n older true t = tells_abort_for a made u (told.Died u older) t refl

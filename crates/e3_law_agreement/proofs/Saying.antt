@@ -19,13 +19,13 @@ use Rattle.e3_world.specs.declared.lives.Made.{Made}
 use Rattle.e3_world.specs.Making.{nothing, log_now, is_coordinator, is_present, may_attempt, and_record, and_tell, and_send, and_cast, and_decide, and_abort, and_abort_for, and_attempt, go_on, and_vote, and_do, and_grant, and_grants, grants_after, decides, answer_now}
 use Rattle.e3_world.specs.Operations.{done}
 use Rattle.e3_world.specs.Safe.{Said, says, said_told}
-use Rattle.e3_law_protocol.specs.Logs.{IsIn}
+use Rattle.e3_law_agreement.specs.Logs.{IsIn}
 use Rattle.e3_types.specs.declared.messages.Packet.{Packet}
 use Rattle.std.proofs.lemmas.List.Sums.{sum_by-cons, sum_by-append, sum_by_push}
 use Rattle.e3_law_agreement.specs.Facts.{is_report_for, reports_in}
-use Rattle.e3_law_refinement.proofs.Lists.{in_left, in_right}
+use Rattle.e3_law_agreement.proofs.Refinement.Lists.{in_left, in_right}
 use Rattle.e3_law_steps.proofs.Lists.{one_more}
-use Rattle.e3_law_protocol.proofs.Reached.{in_parts}
+use Rattle.e3_law_agreement.proofs.Protocol.Reached.{in_parts}
 
 -- the decision that is said is among the records
 abbrev pub Stood : List Record → Said → Type 0

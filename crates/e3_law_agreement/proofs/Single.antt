@@ -19,15 +19,15 @@ use Rattle.e3_world.specs.Sound.{sends, step_move}
 use Rattle.e3_world.specs.Steps.{step_of}
 use Rattle.e3_world.proofs.Pushes.{log_push}
 use Rattle.e3_world.proofs.Sending.{trail_sends}
-use Rattle.e3_law_protocol.specs.Logs.{IsIn, Orderly}
-use Rattle.e3_law_protocol.specs.Marks.{log_of, situation_of}
-use Rattle.e3_law_protocol.specs.Weights.{party_of}
-use Rattle.e3_law_protocol.proofs.Keep.{law}
-use Rattle.e3_law_protocol.proofs.Logs.{join_bound}
-use Rattle.e3_law_protocol.proofs.Shares.{majorities_overlap}
-use Rattle.e3_law_refinement.specs.Trails.{marks_of, IsMadeMove, MadeAfter, IsMade}
-use Rattle.e3_law_refinement.proofs.Following.{made_ok, moves_here, moves_there, sends_with}
-use Rattle.e3_law_refinement.proofs.Lists.{in_left, in_right}
+use Rattle.e3_law_agreement.specs.Logs.{IsIn, Orderly}
+use Rattle.e3_law_agreement.specs.Marks.{log_of, situation_of}
+use Rattle.e3_law_agreement.specs.Weights.{party_of}
+use Rattle.e3_law_agreement.proofs.Protocol.Keep.{law}
+use Rattle.e3_law_agreement.proofs.Protocol.Logs.{join_bound}
+use Rattle.e3_law_agreement.proofs.Protocol.Shares.{majorities_overlap}
+use Rattle.e3_law_agreement.specs.Trails.{marks_of, IsMadeMove, MadeAfter, IsMade}
+use Rattle.e3_law_agreement.proofs.Refinement.Following.{made_ok, moves_here, moves_there, sends_with}
+use Rattle.e3_law_agreement.proofs.Refinement.Lists.{in_left, in_right}
 use Rattle.e3_law_agreement.specs.Facts.{reports_in, reports_of}
 use Rattle.e3_law_agreement.proofs.Erasing.{face, faces, orderly_erased}
 use Rattle.e3_law_agreement.proofs.Facing.{join_to, join_fits, reads_face, split_at}

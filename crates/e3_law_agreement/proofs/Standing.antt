@@ -25,18 +25,18 @@ use Rattle.e3_world.specs.Steps.{step_of}
 use Rattle.std.proofs.lemmas.List.Elements.{Contains-append_right}
 use Rattle.e3_world.proofs.Readings.{own_same, own_other}
 use Rattle.e3_world.proofs.Trails.{trail_moves}
-use Rattle.e3_law_protocol.specs.Logs.{IsIn}
-use Rattle.e3_law_refinement.specs.Rows.{MayTake}
-use Rattle.e3_law_refinement.specs.Trails.{IsMade}
-use Rattle.e3_law_refinement.proofs.Following.{in_from_contains}
-use Rattle.e3_law_refinement.proofs.Lists.{in_flat_map, in_left, in_right}
-use Rattle.e3_law_refinement.proofs.Voting.{contains_from_in}
+use Rattle.e3_law_agreement.specs.Logs.{IsIn}
+use Rattle.e3_law_agreement.specs.Rows.{MayTake}
+use Rattle.e3_law_agreement.specs.Trails.{IsMade}
+use Rattle.e3_law_agreement.proofs.Refinement.Following.{in_from_contains}
+use Rattle.e3_law_agreement.proofs.Refinement.Lists.{in_flat_map, in_left, in_right}
+use Rattle.e3_law_agreement.proofs.Refinement.Voting.{contains_from_in}
 use Rattle.e3_law_agreement.specs.Histories.{ItemsFit}
 use Rattle.e3_law_agreement.proofs.Fitting.{given_fit}
 use Rattle.e3_law_agreement.proofs.Histories.{due_taken, past_here, legal_made, given_told}
 use Rattle.e3_law_agreement.proofs.Saying.{Stood, AllStood}
 use Rattle.e3_law_agreement.proofs.Telling.{made_lives_tell, step_tells, sends_own}
-use Rattle.e3_law_protocol.proofs.Reached.{in_parts}
+use Rattle.e3_law_agreement.proofs.Protocol.Reached.{in_parts}
 
 -- the log of a site with one more move or none
 log_more : (sc : Scenario) (h : List Entry) (e : Entry) (s : ℕ) (r : Record) → IsIn r (log_of sc h s) → IsIn r (log_of sc (h ++ e ∷ []) s)

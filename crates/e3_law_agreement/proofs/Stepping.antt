@@ -27,13 +27,13 @@ use Rattle.e3_world.specs.Messages.{on_message}
 use Rattle.e3_world.specs.Operations.{issued, expected}
 use Rattle.e3_world.specs.Safe.{said_state}
 use Rattle.e3_world.specs.Steps.{refuse, or_refused, is_begin, and_ask, on_commit, on_expire, on_elect, on_input, handled, settle, step_at}
-use Rattle.e3_law_protocol.specs.Logs.{IsIn}
-use Rattle.e3_law_protocol.specs.Rules.{Situation, Word, Report, Came, letter}
-use Rattle.e3_law_protocol.specs.Verdicts.{status_in}
-use Rattle.e3_law_refinement.specs.Rows.{Here, WasHeard, IsFromAway, Stands}
-use Rattle.e3_law_refinement.specs.Views.{words_of}
-use Rattle.e3_law_refinement.proofs.Gatherings.{in_word}
-use Rattle.e3_law_refinement.proofs.Lists.{same_from}
+use Rattle.e3_law_agreement.specs.Logs.{IsIn}
+use Rattle.e3_law_agreement.specs.Rules.{Situation, Word, Report, Came, letter}
+use Rattle.e3_law_agreement.specs.Verdicts.{status_in}
+use Rattle.e3_law_agreement.specs.Rows.{Here, WasHeard, IsFromAway, Stands}
+use Rattle.e3_law_agreement.specs.Views.{words_of}
+use Rattle.e3_law_agreement.proofs.Refinement.Gatherings.{in_word}
+use Rattle.e3_law_agreement.proofs.Refinement.Lists.{same_from}
 use Rattle.e3_law_agreement.proofs.Saying.{is_quiet, Tells, tells_nothing, tells_tell, tells_send, tells_cast, tells_decide, tells_abort, tells_attempt, tells_vote, tells_grants}
 use Rattle.e3_law_agreement.proofs.Finding.{state_said, Keeps, refused_said}
 use Rattle.e3_law_agreement.proofs.Ruling.{tells_quiet, tells_join, tells_last, tells_elected, tells_report}

@@ -20,23 +20,23 @@ use Rattle.e3_world.specs.Moves.{Did, Stepped, Silent, Rose, Move, moves_at, pla
 use Rattle.e3_world.specs.Sound.{sends, WasSent, step_move}
 use Rattle.e3_world.specs.Steps.{step_of, step_at}
 use Rattle.e3_world.proofs.Pushes.{incarnation_push, life_push}
-use Rattle.e3_law_protocol.specs.Logs.{IsIn}
-use Rattle.e3_law_protocol.specs.Marks.{Mark, sent_of, situation_of}
-use Rattle.e3_law_protocol.specs.Rules.{letter, Came}
-use Rattle.e3_law_protocol.specs.Weights.{party_of}
-use Rattle.e3_law_protocol.proofs.Keep.{law}
-use Rattle.e3_law_protocol.proofs.Shares.{majorities_overlap}
-use Rattle.e3_law_refinement.specs.Rows.{MayTake, WasHeard, IsFromAway, Stands, Good}
-use Rattle.e3_law_refinement.specs.Trails.{marks_of, IsMadeMove, MadeAfter, IsMade}
-use Rattle.e3_law_refinement.specs.Views.{words_of}
-use Rattle.e3_law_refinement.proofs.Following.{SentOk, OutsOk, Delivers, TrailOk, made_ok, in_from_contains, in_map_to, moves_here, moves_there}
-use Rattle.e3_law_refinement.proofs.Growing.{here, site_step, elect_fits, takes_plain}
-use Rattle.e3_law_refinement.proofs.Lists.{in_left}
-use Rattle.e3_law_refinement.proofs.Whole.{good_step}
+use Rattle.e3_law_agreement.specs.Logs.{IsIn}
+use Rattle.e3_law_agreement.specs.Marks.{Mark, sent_of, situation_of}
+use Rattle.e3_law_agreement.specs.Rules.{letter, Came}
+use Rattle.e3_law_agreement.specs.Weights.{party_of}
+use Rattle.e3_law_agreement.proofs.Protocol.Keep.{law}
+use Rattle.e3_law_agreement.proofs.Protocol.Shares.{majorities_overlap}
+use Rattle.e3_law_agreement.specs.Rows.{MayTake, WasHeard, IsFromAway, Stands, Good}
+use Rattle.e3_law_agreement.specs.Trails.{marks_of, IsMadeMove, MadeAfter, IsMade}
+use Rattle.e3_law_agreement.specs.Views.{words_of}
+use Rattle.e3_law_agreement.proofs.Refinement.Following.{SentOk, OutsOk, Delivers, TrailOk, made_ok, in_from_contains, in_map_to, moves_here, moves_there}
+use Rattle.e3_law_agreement.proofs.Refinement.Growing.{here, site_step, elect_fits, takes_plain}
+use Rattle.e3_law_agreement.proofs.Refinement.Lists.{in_left}
+use Rattle.e3_law_agreement.proofs.Refinement.Whole.{good_step}
 use Rattle.e3_law_agreement.proofs.Histories.{made_append}
 use Rattle.e3_law_agreement.proofs.Saying.{AllStood, Tells}
 use Rattle.e3_law_agreement.proofs.Stepping.{tells_step}
-use Rattle.e3_law_protocol.proofs.Reached.{in_parts}
+use Rattle.e3_law_agreement.proofs.Protocol.Reached.{in_parts}
 
 -- the place of a step
 abbrev pub place : Scenario → ℕ → Life → Input → At

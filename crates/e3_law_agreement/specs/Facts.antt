@@ -19,10 +19,10 @@ use Rattle.e3_world.specs.Logs.{last_elected, last_attempt, has_voted, state_of}
 use Rattle.e3_world.specs.Moves.{log_of, trail_of}
 use Rattle.e3_world.specs.Packets.{sent}
 use Rattle.e3_world.specs.Safe.{said_act}
-use Rattle.e3_law_protocol.specs.Logs.{IsIn, Join}
-use Rattle.e3_law_protocol.specs.Marks.{log_of as notes_at}
-use Rattle.e3_law_protocol.specs.Weights.{is_majority}
-use Rattle.e3_law_refinement.specs.Trails.{marks_of}
+use Rattle.e3_law_agreement.specs.Logs.{IsIn, Join}
+use Rattle.e3_law_agreement.specs.Marks.{log_of as notes_at}
+use Rattle.e3_law_agreement.specs.Weights.{is_majority}
+use Rattle.e3_law_agreement.specs.Trails.{marks_of}
 
 -- the site's log has the record
 abbrev pub Has : Scenario → List Entry → ℕ → Record → Type 0

@@ -3,7 +3,7 @@ use Rattle.std.specs.Prelude.{◌≡◌, false, List, Contains}
 use Rattle.e3_types.specs.declared.entries.Entry.{Entry}
 use Rattle.e3_types.specs.declared.entries.Input.{Input}
 use Rattle.e3_world.specs.Items.{inputs_of, is_delivery}
-use Rattle.e3_law_refinement.specs.Rows.{MayTake}
+use Rattle.e3_law_agreement.specs.Rows.{MayTake}
 
 -- each input of an entry that is no delivery is one that its site may take
 abbrev pub ItemsFit : Entry → Type 0

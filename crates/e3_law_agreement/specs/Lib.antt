@@ -1,3 +1,15 @@
 pub mod Histories
 pub mod Claims
 pub mod Facts
+pub mod Logs
+pub mod Rules
+pub mod Invariant
+pub mod Weights
+pub mod Verdicts
+pub mod Marks
+pub mod Protocol
+pub mod Examples
+pub mod Views
+pub mod Trails
+pub mod Rows
+pub mod Refinement

@@ -9,3 +9,5 @@ pub mod Briefs
 pub mod Standing
 pub mod Following
 pub mod Laws
+pub mod Alike
+pub mod Sets

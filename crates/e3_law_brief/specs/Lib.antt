@@ -2,3 +2,6 @@ pub mod Orderly
 pub mod Brief
 pub mod Alike
 pub mod Laws
+pub mod Incarnations
+pub mod IncarnationLaws
+pub mod Sets

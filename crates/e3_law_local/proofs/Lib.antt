@@ -8,3 +8,4 @@ pub mod Packets
 pub mod Least
 pub mod Longer
 pub mod Queues
+pub mod Measure

@@ -4,3 +4,6 @@ pub mod Workers
 pub mod Least
 pub mod Claims
 pub mod Longer
+pub mod Dooms
+pub mod Measures
+pub mod Settling

@@ -5,3 +5,4 @@ pub mod Tail
 pub mod Numbers
 pub mod Beginning
 pub mod Whole
+pub mod Commits

@@ -1,10 +1,12 @@
 //! Bounded recovery: in a legal history a recovery round in which no member falls ends its transaction at all members in few
-//! entries, or finds the group blocked. It is a law over histories, whoever made them; nothing here runs.
+//! entries, or finds the group blocked. And the commit round: a step of one Commit that is not refused, at sites that are all
+//! up and fit to vote yes, commits everywhere in few entries. Both are laws over histories, whoever made them.
 #![tactic(auto)]
 
 ghost use Rattle.e3_law_rounds.specs.Claims.{DeliveryIsForced, DeliveryShifts, GroupInOnePart, HistoriesAreCounted, QueueBegins, QueueIsPending};
 ghost use Rattle.e3_law_rounds.specs.Numbers.{NumbersStayLow};
 ghost use Rattle.e3_law_rounds.specs.Rounds.{RoundsEnd};
+ghost use Rattle.e3_law_rounds.specs.Commits.{CommitsEnd};
 
 /// A recovery round that went on until nothing was pending, and in which no member fell: its elector, and nobody else, tells
 /// one verdict on its transaction. It is Block exactly where the members are no quorum and none of them had decided at the
@@ -36,4 +38,12 @@ pub fn group_in_one_part()
 /// A site joins no number of an election above 1 and 18 for each entry of the history.
 pub fn numbers_stay_low()
     ensures { NumbersStayLow }
+{}
+
+/// A step of one Commit that is not refused, where every site of the transaction is up and fit to vote yes by what its
+/// coordinator expects, each packet of the transaction is delivered once, and none of its sites falls: the transaction is
+/// committed at all its k sites at the step's end, and 1 + 5(k - 1) entries at most have it as their subject. So it is in
+/// every legal history of every scenario that keeps the rules.
+pub fn commits_end()
+    ensures { CommitsEnd }
 {}

@@ -3,3 +3,4 @@ pub mod Step
 pub mod Site
 pub mod Told
 pub mod Waits
+pub mod Orderly

@@ -3,3 +3,5 @@ pub mod Claims
 pub mod Waiters
 pub mod Waits
 pub mod InLine
+pub mod Turns
+pub mod Orderly

@@ -12,7 +12,7 @@ use Rattle.e3_types.specs.declared.transactions.NumOp.{NumOp}
 use Rattle.e3_types.specs.declared.transactions.Op.TheVariants.{Read}
 use Rattle.e3_types.specs.declared.transactions.Txn.{Txn}
 use Rattle.e3_types.specs.Sets.{has_site}
-use Rattle.e3_law_trails.specs.Bounds.{IsHere}
+use Rattle.e3_law_steps.specs.Bounds.{IsHere}
 use Rattle.e3_world.specs.Logs.{has_voted, is_undecided, table_of, row_value}
 use Rattle.e3_world.specs.Moves.{Move, birth, moves_at, log_by, all_records}
 use Rattle.e3_world.specs.Orderly.{ops_ascend, is_free}

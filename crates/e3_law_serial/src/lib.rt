@@ -1,13 +1,15 @@
-//! One order over every legal history, and waits that never form a cycle.
+//! One order over every legal history, waits that never form a cycle, and logs that are orderly.
 #![tactic(auto)]
 
 ghost use Rattle.e3_law_serial.specs.Claims.{LegalSerial, LegalTables, LegalVotes, LogsAreOrdered, OrderedTables, OrderedVotes};
 ghost use Rattle.e3_law_serial.specs.InLine.{in_line, middle_one, oldest_one, youngest_one};
 ghost use Rattle.e3_law_serial.specs.Waiters.{WaitsAt};
 ghost use Rattle.e3_law_serial.specs.Waits.{NoCycle, OlderWaits};
+ghost use Rattle.e3_law_serial.specs.Orderly.{LogsAreOrderly, TailsAreLogs, TailsAreOrderly};
+ghost use Rattle.e3_law_serial.specs.Turns.{RecordsComeInTurn};
 
 use e3_law_agreement::histories_agree;
-use e3_law_trails::{records_suit_their_site, trails_are_sound};
+use e3_law_steps::{records_suit_their_site, trails_are_sound};
 
 /// Where each log's records follow one another as votes and decisions do, no two decisions of a transaction differ, and a
 /// commit stands behind all votes, there is one order, that of the last votes: the committed transactions run one after the
@@ -64,3 +66,20 @@ pub fn waiters_ahead_count()
     ensures holder { WaitsAt 3 in_line oldest_one youngest_one }
     ensures ahead { WaitsAt 3 in_line oldest_one middle_one }
 {}
+
+/// In the log of each site the records of each transaction follow one another as a log has them: a vote comes first, the
+/// numbers of joins rise, each attempt is of the last join, there is one decision, and a commit stands behind the vote.
+pub fn records_come_in_turn()
+    ensures { RecordsComeInTurn }
+{}
+
+/// The log of each site is orderly, also with what may or may not be on its disk behind it, which stands in the log of another
+/// legal history. A log's order counts the votes of all its incarnations.
+pub fn logs_are_orderly()
+    ensures logs { LogsAreOrderly }
+    ensures others { TailsAreLogs }
+    ensures tails { TailsAreOrderly }
+{
+    trails_are_sound();
+    logs_are_ordered();
+}

@@ -8,7 +8,7 @@ use Rattle.e3_types.specs.declared.scenarios.Scenario.{Scenario}
 use Rattle.e3_world.specs.declared.lives.Incarnation.{Incarnation}
 use Rattle.e3_world.specs.Lives.{incarnation_of}
 use Rattle.e3_world.specs.Moves.{moves_of}
-use Rattle.e3_law_alike.specs.Alike.{IsKnown}
+use Rattle.e3_law_brief.specs.Incarnations.{IsKnown}
 use Rattle.e3_law_brief.specs.Alike.{ReadAlike}
 use Rattle.e3_law_brief.specs.Brief.{txns_of}
 use Rattle.e3_law_brief.specs.Orderly.{IsOrderly}

@@ -16,3 +16,7 @@ mod Keeping
 mod Ending
 mod Inputs
 mod Histories
+pub mod Suits
+pub mod Operations
+pub mod Sound
+pub mod Begun

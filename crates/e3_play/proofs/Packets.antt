@@ -17,8 +17,8 @@ use Rattle.e3_world.proofs.Guards.{deliver_first, drop_first, guard_step, lines_
 use Rattle.e3_world.proofs.Pushes.{legal_push}
 use Rattle.e3_world.proofs.Readings.{to_push}
 use Rattle.e3_world.proofs.Turns.{through, through_push}
-use Rattle.e3_law_settling.specs.Claims.{TakingLowers}
-use Rattle.e3_law_settling.proofs.Left.{left, left_falls}
+use Rattle.e3_law_local.specs.Settling.{TakingLowers}
+use Rattle.e3_law_local.proofs.Measure.Left.{left, left_falls}
 use Rattle.e3_play.specs.Delivered.{Delivers, Nothing, Then}
 use Rattle.e3_play.specs.Entering.{AfterInput, AfterPacket, fall_of}
 

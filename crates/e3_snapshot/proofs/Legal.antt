@@ -19,15 +19,15 @@ use Rattle.e3_world.proofs.Trails.{trail_moves}
 use Rattle.e3_law_brief.specs.Brief.{txns_of}
 use Rattle.e3_law_brief.specs.Laws.{FirstLogsAreOrderly}
 use Rattle.e3_law_brief.specs.Orderly.{IsOrderly, MayFollow, OrderlyAfter}
-use Rattle.e3_law_orderly.specs.Orderly.{LogsAreOrderly}
-use Rattle.e3_law_refinement.proofs.Following.{moves_here, moves_there}
+use Rattle.e3_law_serial.specs.Orderly.{LogsAreOrderly}
+use Rattle.e3_law_agreement.proofs.Refinement.Following.{moves_here, moves_there}
 use Rattle.e3_law_serial.proofs.Site.Sites.{AllKeep, SiteKeeps, all_keep, move_keeps}
 use Rattle.e3_law_serial.proofs.Told.Whole.{all_stand}
-use Rattle.e3_law_trails.specs.Claims.{TrailsAreSound}
+use Rattle.e3_law_steps.specs.Trails.{TrailsAreSound}
 use Rattle.e3_cards.specs.Tables.{IsKnown}
 use Rattle.e3_snapshot.specs.Tables.{IsInOrder}
 use Rattle.e3_snapshot.proofs.Fronts.{rest_weights}
-use Rattle.e3_law_sets.proofs.Sets.{txns_known}
+use Rattle.e3_law_brief.proofs.Sets.{txns_known}
 
 -- a log that is not empty begins with the site's birth and an incarnation
 abbrev Begun : Scenario → ℕ → List Record → Type 0

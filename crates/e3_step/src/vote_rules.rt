@@ -19,7 +19,8 @@ fn may_say_yes(count: u32, have: u64, inc: u32, present: u32, waits: bool) -> bo
     count as u64 == have && (count == 0 || inc == present) && !waits
 }
 
-/// The site may say yes: it has done as many operations as it is asked for, in this incarnation, and none waits.
+/// The site may say yes: it has done as many operations as it is asked for, in this incarnation where there are any, and
+/// none waits.
 pub fn vote_rule<P: Past>(
     alloc: Global,
     p: &P,

@@ -10,7 +10,7 @@ use Rattle.e3_disk.specs.Meters.{Meters}
 use Rattle.e3_law_agreement.proofs.Histories.{given_agrees, given_voted}
 use Rattle.e3_law_agreement.proofs.Standing.{given_stands}
 use Rattle.e3_fleet.specs.Over.{AreOver}
-use Rattle.e3_law_commit.specs.Commits.{CommitsEnd}
+use Rattle.e3_law_rounds.specs.Commits.{CommitsEnd}
 use Rattle.e3_law_rounds.specs.Rounds.{RoundsEnd}
 use Rattle.e3_law_serial.specs.Claims.{LegalSerial}
 use Rattle.e3_gen.specs.Generated.{generated, generated_scenario}

@@ -5,7 +5,7 @@ use Rattle.e3_check.specs.Claims.{IsVerdict}
 use Rattle.e3_disk.specs.Meters.{Meters}
 use Rattle.e3_fleet.specs.Over.{AreOver}
 use Rattle.e3_gen.specs.Generated.{generated, generated_scenario}
-use Rattle.e3_law_commit.specs.Commits.{CommitRoundsEnd}
+use Rattle.e3_law_rounds.specs.Commits.{CommitRoundsEnd}
 use Rattle.e3_law_rounds.specs.Rounds.{RoundsAreBounded}
 use Rattle.e3_report.specs.Report.{report_of}
 use Rattle.e3_report.specs.Summary.{summary_of}

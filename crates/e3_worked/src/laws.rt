@@ -1,5 +1,5 @@
 ghost use Rattle.std.specs.Prelude.{◌≡◌, ◌++◌, ◌∷◌, None};
-ghost use Rattle.e3_law_commit.specs.Commits.{CommitRoundsEnd, CommitStands};
+ghost use Rattle.e3_law_rounds.specs.Commits.{CommitRoundsEnd, CommitStands};
 ghost use Rattle.e3_law_rounds.specs.Rounds.{AllStayUp, RoundStands, elect_entry};
 ghost use Rattle.e3_law_serial.specs.Waiters.{WaitsFor};
 ghost use Rattle.e3_world.specs.Given.{IsGiven};

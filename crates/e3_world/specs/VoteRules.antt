@@ -14,7 +14,7 @@ use Rattle.e3_world.specs.Votes.{yes_votes}
 use Rattle.e3_world.specs.Making.{log_now, steps_now, state_now, elected_now, is_coordinator, and_send, and_decide, and_attempt, and_vote}
 use Rattle.e3_world.specs.Operations.{done, waiting}
 
--- the site may say yes: it has done as many operations as it is asked for, in this incarnation, and none waits
+-- the site may say yes: it has done as many operations as it is asked for, in this incarnation where there are any, and none waits
 abbrev pub vote_rule : At → Txn → ℕ → ℕ → Made → Bool
 vote_rule a t inc count made =
     count == length (done a.site t a.life.steps) && (count == 0 || inc == a.life.inc)

@@ -1,6 +1,6 @@
 use Rattle.std.proofs.Common.{inl, inr}
 use Rattle.e3_world.specs.Moves.{log_of}
-use Rattle.e3_law_refinement.proofs.Voting.{contains_from_in}
+use Rattle.e3_law_agreement.proofs.Refinement.Voting.{contains_from_in}
 use Rattle.e3_types.specs.declared.records.Record.TheVariants as log
 use Rattle.e3_law_agreement.proofs.Facing.{join_fits, attempt_fits, attempts_below}
 use Rattle.e3_law_agreement.proofs.Binding.{lifted, ordered, elector_silent, electors_one, own_silent, tried_one, quorum_binds, report_tells, report_holds, commit_voted, commit_bars, commit_quorum, abort_reason}

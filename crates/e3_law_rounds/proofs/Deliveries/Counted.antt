@@ -35,11 +35,11 @@ use Rattle.e3_net.specs.declared.waiting.Waiting.{Waiting}
 use Rattle.e3_net.specs.Stands.{waiting_of}
 use Rattle.e3_net.proofs.Climbing.{Climbs}
 use Rattle.e3_net.proofs.Pushing.{numbers_on, pending_waits, sent_push, taken_push, waiting_climbs}
-use Rattle.e3_law_protocol.specs.Logs.{IsIn}
-use Rattle.e3_law_refinement.specs.Rows.{MayTake}
-use Rattle.e3_law_refinement.specs.Trails.{IsMade}
-use Rattle.e3_law_refinement.proofs.Following.{in_from_contains, in_map_to, made_ok}
-use Rattle.e3_law_refinement.proofs.Lists.{in_right}
+use Rattle.e3_law_agreement.specs.Logs.{IsIn}
+use Rattle.e3_law_agreement.specs.Rows.{MayTake}
+use Rattle.e3_law_agreement.specs.Trails.{IsMade}
+use Rattle.e3_law_agreement.proofs.Refinement.Following.{in_from_contains, in_map_to, made_ok}
+use Rattle.e3_law_agreement.proofs.Refinement.Lists.{in_right}
 use Rattle.e3_law_agreement.proofs.Fitting.{given_fit}
 use Rattle.e3_law_agreement.proofs.Histories.{due_taken, legal_made}
 use Rattle.e3_law_agreement.proofs.Telling.{sends_own}

@@ -23,7 +23,7 @@ use Rattle.e3_world.specs.Legal.{IsLegal}
 use Rattle.e3_world.specs.Logs.{has_voted, is_vote, last_attempt, last_elected, last_elected_by}
 use Rattle.e3_world.specs.Moves.{log_of}
 use Rattle.e3_world.proofs.Turns.{self}
-use Rattle.e3_law_protocol.specs.Logs.{IsIn}
+use Rattle.e3_law_agreement.specs.Logs.{IsIn}
 use Rattle.e3_law_agreement.proofs.Binding.{lifted, ordered}
 use Rattle.e3_law_agreement.proofs.Facing.{attempts_below}
 use Rattle.e3_law_rounds.specs.Rounds.{is_block, is_open}

@@ -25,8 +25,8 @@ use Rattle.e3_world.specs.Messages.{on_message}
 use Rattle.e3_world.specs.Moves.{log_of, moves_of}
 use Rattle.e3_world.proofs.Pushes.{legal_front, life_log_at}
 use Rattle.e3_world.proofs.Turns.{self}
-use Rattle.e3_law_protocol.specs.Logs.{IsIn}
-use Rattle.e3_law_refinement.proofs.Lists.{in_right}
+use Rattle.e3_law_agreement.specs.Logs.{IsIn}
+use Rattle.e3_law_agreement.proofs.Refinement.Lists.{in_right}
 use Rattle.e3_law_rounds.specs.Rounds.{elect_entry, is_open}
 use Rattle.e3_law_rounds.proofs.Phases.Asked.{Asked, asked_begins}
 use Rattle.e3_law_rounds.proofs.Beginning.{Begun, each_site}

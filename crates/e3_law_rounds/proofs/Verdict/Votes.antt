@@ -19,10 +19,10 @@ use Rattle.e3_world.specs.Given.{IsGiven}
 use Rattle.e3_world.specs.Legal.{IsLegal}
 use Rattle.e3_world.specs.Logs.{attempted, decision, has_voted, is_vote, state_of}
 use Rattle.e3_world.specs.Moves.{log_of}
-use Rattle.e3_law_protocol.specs.Logs.{IsIn}
-use Rattle.e3_law_protocol.specs.Weights.{differ, is_majority}
-use Rattle.e3_law_refinement.proofs.Following.{in_from_contains}
-use Rattle.e3_law_refinement.proofs.Voting.{contains_from_in}
+use Rattle.e3_law_agreement.specs.Logs.{IsIn}
+use Rattle.e3_law_agreement.specs.Weights.{differ, is_majority}
+use Rattle.e3_law_agreement.proofs.Refinement.Following.{in_from_contains}
+use Rattle.e3_law_agreement.proofs.Refinement.Voting.{contains_from_in}
 use Rattle.e3_law_agreement.specs.Facts.{Has, IsDecided, IsTried}
 use Rattle.e3_law_agreement.proofs.Binding.{commit_quorum, commit_voted, lifted}
 use Rattle.e3_law_agreement.proofs.Finding.{found}

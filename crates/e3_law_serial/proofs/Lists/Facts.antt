@@ -17,10 +17,10 @@ use Rattle.e3_types.specs.Same.{same_txn}
 use Rattle.e3_types.specs.Sets.{has_site}
 use Rattle.e3_world.specs.Logs.{has_voted, is_undecided, decision, decision_by, key_of, mode_of, lock_on, vote_locks, voted_locks}
 use Rattle.e3_world.specs.Orderly.{is_free}
-use Rattle.e3_law_refinement.proofs.Following.{in_from_contains}
-use Rattle.e3_law_refinement.proofs.Lists.{same_from}
-use Rattle.e3_law_refinement.proofs.Voting.{contains_from_in}
-use Rattle.e3_law_protocol.specs.Logs.{IsIn}
+use Rattle.e3_law_agreement.proofs.Refinement.Following.{in_from_contains}
+use Rattle.e3_law_agreement.proofs.Refinement.Lists.{same_from}
+use Rattle.e3_law_agreement.proofs.Refinement.Voting.{contains_from_in}
+use Rattle.e3_law_agreement.specs.Logs.{IsIn}
 use Rattle.e3_law_serial.proofs.Lists.Entries.{In, At, Clash, changes, name_of}
 use Rattle.e3_law_serial.proofs.Lists.Names.{eq-same_name}
 use Rattle.e3_law_serial.proofs.Lists.Members.{in_at, at_in, in_front, in_back}

@@ -10,9 +10,9 @@ use Rattle.e3_types.specs.declared.transactions.NumOp.{NumOp}
 use Rattle.e3_types.specs.declared.transactions.Op.TheVariants.{Read}
 use Rattle.e3_types.specs.declared.transactions.Txn.{Txn}
 use Rattle.e3_types.specs.Same.{same_txn}
-use Rattle.e3_law_refinement.proofs.Lists.{same_from}
-use Rattle.e3_law_refinement.proofs.Following.{in_from_contains}
-use Rattle.e3_law_trails.specs.Bounds.{IsHere}
+use Rattle.e3_law_agreement.proofs.Refinement.Lists.{same_from}
+use Rattle.e3_law_agreement.proofs.Refinement.Following.{in_from_contains}
+use Rattle.e3_law_steps.specs.Bounds.{IsHere}
 use Rattle.e3_world.specs.Logs.{key_of, table_of, row_value}
 use Rattle.e3_world.specs.Moves.{Move, moves_at, log_by, all_records}
 use Rattle.e3_world.specs.Serial as serial
@@ -29,7 +29,7 @@ use Rattle.e3_law_serial.proofs.Lists.Replaying.{is_at, ran, here_all, filter_fi
 use Rattle.e3_law_serial.proofs.Lists.Worlds.{VotesOnce, all_at, replay_is, committed_is, order_is, committed_in_is}
 use Rattle.e3_law_serial.proofs.Lists.Tables.{table_is}
 use Rattle.e3_law_steps.proofs.Tests.{same_is}
-use Rattle.e3_law_refinement.proofs.Agreeing.{put}
+use Rattle.e3_law_agreement.proofs.Refinement.Agreeing.{put}
 
 here_of : (s : ℕ) (ops : List NumOp) (o : NumOp) → Each (IsHere s) ops → In o ops → IsHere s o
 here_of s [] o h k = absurd k

@@ -4,7 +4,7 @@ use Rattle.std.proofs.lemmas.Bool.{true≢false}
 use Rattle.e3_types.specs.declared.transactions.Txn.{Txn}
 use Rattle.e3_types.specs.Same.{same_numbers}
 use Rattle.e3_types.proofs.SameSites.{same_numbers_refl}
-use Rattle.e3_law_refinement.proofs.Lists.{same_from, same_numbers_are}
+use Rattle.e3_law_agreement.proofs.Refinement.Lists.{same_from, same_numbers_are}
 use Rattle.e3_law_serial.proofs.Lists.Entries.{Name, same, same_name}
 use Rattle.e3_law_steps.proofs.Tests.{same_is}
 

@@ -18,7 +18,7 @@ use Rattle.e3_law_serial.proofs.Lists.Entries.{In, At, Vote, Decide, Conflict, L
 use Rattle.e3_law_serial.proofs.Lists.Members.{at_take, at_same}
 use Rattle.e3_law_serial.proofs.Lists.Placing.{dir_of, entries, logged, at_split, vote_at, decide_at, entered_vote, entered_decide, logged_split, before_at, at_before, logged_all}
 use Rattle.e3_law_serial.proofs.Lists.Facts.{at_contains, contains_at, vote_has, has_vote_in, decided_not, decided_in, vote_lock, none_against, free_none, all_in, clash_conflicts, has_in_sites}
-use Rattle.e3_law_refinement.proofs.Agreeing.{put}
+use Rattle.e3_law_agreement.proofs.Refinement.Agreeing.{put}
 
 -- the record at a place follows the log before it
 pub follows_at : (sc : Scenario) (ps : List Placed) (s j : ℕ) (r : Record) → LogFollows sc s (logged s ps) → At ps j (put s r) → Follows sc s (logged s (take j ps)) r

@@ -10,7 +10,7 @@ use Rattle.e3_types.specs.declared.transactions.Txn.{Txn}
 use Rattle.e3_world.specs.Moves.{Move, Placed, moves_at, recorded, log_by, all_records}
 use Rattle.e3_law_serial.proofs.Lists.Entries.{In, At, Entry, Vote, Decide, Other}
 use Rattle.e3_law_serial.proofs.Lists.Members.{at_take, take_at, in_back}
-use Rattle.e3_law_refinement.proofs.Agreeing.{put}
+use Rattle.e3_law_agreement.proofs.Refinement.Agreeing.{put}
 
 pub placed_is : (p : Placed) (s : ℕ) (r : Record) → p.site ≡ s → p.entered ≡ r → p ≡ put s r
 placed_is p s r a b = λ i. record { site = a i; entered = b i }

@@ -9,7 +9,7 @@ use Rattle.e3_types.specs.declared.transactions.NumOp.{NumOp}
 use Rattle.e3_types.specs.declared.transactions.Op.{Op}
 use Rattle.e3_types.specs.declared.transactions.Op.TheVariants.{Read, Write}
 use Rattle.e3_types.specs.Same.{same_numbers}
-use Rattle.e3_law_trails.specs.Bounds.{IsHere}
+use Rattle.e3_law_steps.specs.Bounds.{IsHere}
 use Rattle.e3_world.specs.Logs.{key_of}
 use Rattle.e3_world.specs.Orderly.{ops_ascend}
 use Rattle.e3_world.specs.Serial.{World, run_op, add_op}

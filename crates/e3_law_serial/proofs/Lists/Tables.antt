@@ -17,7 +17,7 @@ use Rattle.e3_types.specs.declared.transactions.Op.TheVariants.{Read, Write}
 use Rattle.e3_types.specs.declared.transactions.Row.{Row}
 use Rattle.e3_types.specs.declared.transactions.Txn.{Txn}
 use Rattle.e3_types.specs.Same.{same_numbers}
-use Rattle.e3_law_refinement.proofs.Lists.{same_numbers_are}
+use Rattle.e3_law_agreement.proofs.Refinement.Lists.{same_numbers_are}
 use Rattle.e3_world.specs.Logs.{voted_ops, set_row, install_op, table_by, table_of, row_value}
 use Rattle.e3_world.specs.Moves.{Placed, rows_at, birth}
 use Rattle.e3_world.specs.Serial.{first_world, is_birth}
@@ -25,7 +25,7 @@ use Rattle.e3_law_serial.specs.Ordered.{Follows, LogFollows}
 use Rattle.e3_law_serial.proofs.Lists.Entries.{Name, same_name, name_of, effect, through, commits, after, table}
 use Rattle.e3_law_serial.proofs.Lists.Placing.{entries, logged}
 use Rattle.e3_law_serial.proofs.Lists.Worlds.{VotesOnce, voted_at}
-use Rattle.e3_law_refinement.proofs.Agreeing.{put}
+use Rattle.e3_law_agreement.proofs.Refinement.Agreeing.{put}
 
 -- names that compare equal are one, and no others
 names_tie : (a b : List ℕ) → is_eq (slice_cmp nat_cmp a b) ≡ same_numbers a b

@@ -7,7 +7,7 @@ use Rattle.e3_types.specs.declared.transactions.Dir.TheVariants.{Abort, Commit}
 use Rattle.e3_types.specs.declared.transactions.NumOp.{NumOp}
 use Rattle.e3_types.specs.declared.transactions.Txn.{Txn}
 use Rattle.e3_types.specs.Same.{same_txn}
-use Rattle.e3_law_trails.specs.Bounds.{IsHere}
+use Rattle.e3_law_steps.specs.Bounds.{IsHere}
 use Rattle.e3_world.specs.Logs.{voted_ops, ops_of_vote}
 use Rattle.e3_world.specs.Moves.{Placed}
 use Rattle.e3_world.specs.Orderly.{ops_ascend}
@@ -17,7 +17,7 @@ use Rattle.e3_law_serial.proofs.Lists.Names.{same-true}
 use Rattle.e3_law_serial.proofs.Lists.Placing.{entries, logged}
 use Rattle.e3_law_serial.proofs.Lists.Places.{vote_ops_at}
 use Rattle.e3_law_serial.proofs.Lists.Replaying.{is_at, ran, filter_sorted, sorted_same, here_all, there_none, filter-append}
-use Rattle.e3_law_refinement.proofs.Agreeing.{put}
+use Rattle.e3_law_agreement.proofs.Refinement.Agreeing.{put}
 
 -- a transaction votes once at a site
 abbrev pub VotesOnce : List Placed → ℕ → Txn → Type 0

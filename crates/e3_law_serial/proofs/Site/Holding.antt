@@ -13,7 +13,7 @@ use Rattle.e3_types.specs.declared.transactions.Op.TheVariants.{Read, Write}
 use Rattle.e3_types.specs.declared.transactions.Txn.{Txn}
 use Rattle.e3_types.specs.Locks.{conflicts, covers, is_covered, opposes, against, grant_against, lock_grant, front}
 use Rattle.e3_types.specs.Same.{same_txn, same_numbers, is_older}
-use Rattle.e3_law_refinement.proofs.Lists.{same_numbers_are}
+use Rattle.e3_law_agreement.proofs.Refinement.Lists.{same_numbers_are}
 use Rattle.e3_world.specs.declared.lives.Asked.{Asked}
 use Rattle.e3_world.specs.declared.lives.At.{At}
 use Rattle.e3_world.specs.declared.lives.Made.{Made}

@@ -30,7 +30,7 @@ use Rattle.e3_law_serial.proofs.Site.Answers.{rows_in, RightAt, Right, right_wal
 use Rattle.e3_law_serial.proofs.Site.Rightness.{right_arrivals, right_shaped}
 use Rattle.e3_law_serial.proofs.Site.Parting.{apart_push}
 use Rattle.e3_law_serial.proofs.Site.Voting.{VoteStands, vote_stands}
-use Rattle.e3_law_trails.proofs.Operations.Tracing.{Refuses}
+use Rattle.e3_law_steps.proofs.Operations.Tracing.{Refuses}
 use Rattle.e3_law_steps.proofs.Undecided.{open_before as undecided_before}
 
 -- what a record is over those before it

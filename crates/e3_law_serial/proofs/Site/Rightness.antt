@@ -12,7 +12,7 @@ use Rattle.e3_types.specs.declared.transactions.State.TheVariants.{Q}
 use Rattle.e3_types.specs.declared.transactions.Txn.{Txn}
 use Rattle.e3_types.specs.Locks.{front}
 use Rattle.e3_types.specs.Same.{same_txn, same_state}
-use Rattle.e3_law_refinement.proofs.Lists.{same_from}
+use Rattle.e3_law_agreement.proofs.Refinement.Lists.{same_from}
 use Rattle.e3_world.specs.declared.lives.Asked.{Asked}
 use Rattle.e3_world.specs.declared.lives.At.{At}
 use Rattle.e3_world.specs.declared.lives.Made.{Made}

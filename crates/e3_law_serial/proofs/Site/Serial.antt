@@ -8,7 +8,7 @@ use Rattle.e3_types.specs.declared.transactions.Dir.{Dir}
 use Rattle.e3_types.specs.declared.transactions.Dir.TheVariants.{Abort, Commit}
 use Rattle.e3_types.specs.declared.transactions.Txn.{Txn}
 use Rattle.e3_types.specs.Sets.{has_site}
-use Rattle.e3_law_protocol.specs.Logs.{IsIn}
+use Rattle.e3_law_agreement.specs.Logs.{IsIn}
 use Rattle.e3_world.specs.Logs.{has_voted}
 use Rattle.e3_law_serial.proofs.Lists.Entries.{In}
 use Rattle.e3_law_serial.proofs.Lists.Members.{in_back}
@@ -25,14 +25,14 @@ use Rattle.e3_law_serial.proofs.Lists.Facts.{at_contains, contains_at, has_in_si
 use Rattle.e3_law_serial.proofs.Lists.Placing.{at_logged}
 use Rattle.e3_law_serial.proofs.Lists.Members.{in_at}
 use Rattle.e3_types.specs.declared.entries.Entry.{Entry}
-use Rattle.e3_law_trails.specs.Claims.{RecordsSuitTheirSite, LogsAreOfTrails, records_at, tail_records}
+use Rattle.e3_law_steps.specs.Trails.{RecordsSuitTheirSite, LogsAreOfTrails, records_at, tail_records}
 use Rattle.e3_world.specs.Given.{IsGiven}
 use Rattle.e3_world.specs.Legal.{IsLegal}
 use Rattle.e3_world.specs.Moves.{log_of, open_tail, trail_of}
-use Rattle.e3_law_refinement.proofs.Lists.{in_left}
-use Rattle.e3_law_refinement.proofs.Voting.{contains_from_in}
+use Rattle.e3_law_agreement.proofs.Refinement.Lists.{in_left}
+use Rattle.e3_law_agreement.proofs.Refinement.Voting.{contains_from_in}
 use Rattle.e3_law_serial.proofs.Lists.Facts.{in_is}
-use Rattle.e3_law_refinement.proofs.Agreeing.{put}
+use Rattle.e3_law_agreement.proofs.Refinement.Agreeing.{put}
 
 -- whoever decides is a site of the transaction
 abbrev pub DecidersAreMembers : List Move → Type 0

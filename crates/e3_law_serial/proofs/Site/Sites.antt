@@ -22,7 +22,7 @@ use Rattle.e3_world.specs.Lives.{incarnation_of, life_of, life_at}
 use Rattle.e3_world.specs.Moves.{Did, Stepped, Silent, Rose, Move, moves_at, recorded, log_by, birth, rise_records, plain_input}
 use Rattle.e3_world.specs.Sound.{step_move, has_risen, FitInTurn, records_in_turn, IsSoundMove, SoundAfter, IsSound}
 use Rattle.e3_world.proofs.Pushes.{incarnation_push, life_push, log_push, present_is_log, life_log_at}
-use Rattle.e3_law_refinement.proofs.Following.{moves_here, moves_there}
+use Rattle.e3_law_agreement.proofs.Refinement.Following.{moves_here, moves_there}
 use Rattle.e3_law_steps.proofs.Lists.{fold_last}
 
 -- whether a record may stand first, and where

@@ -16,8 +16,8 @@ use Rattle.e3_types.specs.declared.transactions.Txn.{Txn}
 use Rattle.e3_types.specs.Locks.{conflicts, opposes, against}
 use Rattle.e3_types.specs.Same.{same_txn}
 use Rattle.e3_types.specs.Sets.{has_site}
-use Rattle.e3_law_refinement.proofs.Lists.{same_from}
-use Rattle.e3_law_trails.specs.Bounds.{IsHere}
+use Rattle.e3_law_agreement.proofs.Refinement.Lists.{same_from}
+use Rattle.e3_law_steps.specs.Bounds.{IsHere}
 use Rattle.e3_world.specs.declared.lives.Asked.{Asked}
 use Rattle.e3_world.specs.declared.lives.At.{At}
 use Rattle.e3_world.specs.declared.lives.Moment.{Moment}

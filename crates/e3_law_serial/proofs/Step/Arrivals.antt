@@ -17,7 +17,7 @@ use Rattle.e3_law_serial.proofs.Lists.Entries.{In}
 use Rattle.e3_law_serial.proofs.Lists.Members.{in_append}
 use Rattle.e3_law_steps.proofs.Lists.{fold_last}
 use Rattle.e3_law_steps.proofs.Tests.{or_false}
-use Rattle.e3_law_trails.proofs.Operations.Tracing.{fold_steps}
+use Rattle.e3_law_steps.proofs.Operations.Tracing.{fold_steps}
 
 pub arrivals_push : (site : ℕ) (steps : List Moment) (m : Moment) → arrivals site (steps ++ m ∷ []) ≡ and_arrived (arrivals site steps) m (taken_up site steps m)
 arrivals_push site steps m =

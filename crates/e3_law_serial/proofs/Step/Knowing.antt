@@ -7,7 +7,7 @@ use Rattle.e3_types.specs.declared.transactions.Op.{Op}
 use Rattle.e3_types.specs.declared.transactions.State.TheVariants.{Q}
 use Rattle.e3_types.specs.declared.transactions.Txn.{Txn}
 use Rattle.e3_types.specs.Same.{same_txn, same_state}
-use Rattle.e3_law_refinement.proofs.Lists.{same_from}
+use Rattle.e3_law_agreement.proofs.Refinement.Lists.{same_from}
 use Rattle.e3_world.specs.declared.lives.Asked.{Asked}
 use Rattle.e3_world.specs.declared.lives.At.{At}
 use Rattle.e3_world.specs.declared.lives.Moment.{Moment}
@@ -25,8 +25,8 @@ use Rattle.e3_law_serial.proofs.Step.Answering.{Cause, Heard, Locked, Repeated, 
 use Rattle.e3_world.specs.Moves.{plain}
 use Rattle.e3_law_serial.proofs.Step.Stepping.{moment, is_moment, shaped_calm, same_answered, newly, comes_taken, lock_absent, granted_arrived, heard_elsewhere}
 use Rattle.e3_law_steps.proofs.Tests.{same_is}
-use Rattle.e3_law_trails.proofs.Operations.Issuing.{nth_more, issued_push}
-use Rattle.e3_law_trails.proofs.Operations.Tracing.{Refuses}
+use Rattle.e3_law_steps.proofs.Operations.Issuing.{nth_more, issued_push}
+use Rattle.e3_law_steps.proofs.Operations.Tracing.{Refuses}
 
 -- an operation that came to the site
 pub record Came (site : ℕ) (steps : List Moment) (q : Asked) : Type 0 where

@@ -29,7 +29,7 @@ use Rattle.e3_world.specs.declared.gatherings.Election.{Election}
 use Rattle.e3_world.specs.Elections.{begun, next_call}
 use Rattle.e3_world.specs.Making.{elected_now}
 use Rattle.e3_law_steps.proofs.Lists.{dropped}
-use Rattle.e3_law_trails.proofs.Operations.Tracing.{Refuses}
+use Rattle.e3_law_steps.proofs.Operations.Tracing.{Refuses}
 use Rattle.e3_law_steps.proofs.Each.{each-push}
 use Rattle.e3_law_steps.proofs.Taking.{allowed_open}
 

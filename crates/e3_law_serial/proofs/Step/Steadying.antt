@@ -15,7 +15,7 @@ use Rattle.e3_types.specs.declared.transactions.State.TheVariants.{Q}
 use Rattle.e3_types.specs.declared.transactions.Txn.{Txn}
 use Rattle.e3_types.specs.Same.{same_txn}
 use Rattle.e3_types.specs.Sets.{has_site, others}
-use Rattle.e3_law_refinement.proofs.Lists.{same_from}
+use Rattle.e3_law_agreement.proofs.Refinement.Lists.{same_from}
 use Rattle.e3_world.specs.declared.lives.Asked.{Asked}
 use Rattle.e3_world.specs.declared.lives.At.{At}
 use Rattle.e3_world.specs.declared.lives.Life.{Life}
@@ -32,9 +32,9 @@ use Rattle.e3_law_serial.proofs.Lists.Replaying.{filter-append}
 use Rattle.e3_law_serial.proofs.Step.Walk.{allowed_parts}
 use Rattle.e3_law_serial.proofs.Step.Arrivals.{arrivals_push, told_push, answered_first, op_told_answered, InTurn, turn_push, turn_more, of_txn, Steady}
 use Rattle.e3_law_steps.proofs.Adding.{idle_open}
-use Rattle.e3_law_protocol.proofs.Ruled.{same_means}
+use Rattle.e3_law_agreement.proofs.Protocol.Ruled.{same_means}
 use Rattle.e3_law_steps.proofs.Tests.{same_is}
-use Rattle.e3_law_trails.proofs.Operations.Issuing.{get_end, nth_more, nth_low, issued_push}
+use Rattle.e3_law_steps.proofs.Operations.Issuing.{get_end, nth_more, nth_low, issued_push}
 use Rattle.e3_law_serial.proofs.Lists.Facts.{all_in}
 
 pub some_inj : {X : Type 0} (x y : X) → Some x ≡ Some y → x ≡ y

@@ -15,7 +15,7 @@ use Rattle.e3_types.specs.declared.transactions.Answer.{Answer}
 use Rattle.e3_types.specs.declared.transactions.Op.{Op}
 use Rattle.e3_types.specs.declared.transactions.Txn.{Txn}
 use Rattle.e3_types.specs.Same.{same_txn, same_numbers}
-use Rattle.e3_law_refinement.proofs.Lists.{same_from}
+use Rattle.e3_law_agreement.proofs.Refinement.Lists.{same_from}
 use Rattle.e3_world.specs.declared.lives.Asked.{Asked}
 use Rattle.e3_world.specs.declared.lives.At.{At}
 use Rattle.e3_world.specs.declared.lives.Made.{Made}
@@ -36,7 +36,7 @@ use Rattle.e3_world.specs.Moves.{plain}
 use Rattle.e3_law_steps.proofs.Each.{each-append, each-push}
 use Rattle.e3_law_steps.proofs.Adding.{idle_open}
 use Rattle.e3_law_steps.proofs.Tests.{same_is}
-use Rattle.e3_law_trails.proofs.Operations.Issuing.{issued_push}
+use Rattle.e3_law_steps.proofs.Operations.Issuing.{issued_push}
 
 -- the moment of the step at a place, as it is kept
 abbrev pub moment : At → Moment

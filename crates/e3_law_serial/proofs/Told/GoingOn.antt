@@ -19,7 +19,7 @@ use Rattle.e3_types.specs.declared.transactions.Op.{Op}
 use Rattle.e3_types.specs.declared.transactions.State.TheVariants.{Q}
 use Rattle.e3_types.specs.declared.transactions.Txn.{Txn}
 use Rattle.e3_types.specs.Same.{same_txn}
-use Rattle.e3_law_refinement.proofs.Lists.{same_from}
+use Rattle.e3_law_agreement.proofs.Refinement.Lists.{same_from}
 use Rattle.e3_world.specs.declared.lives.At.{At}
 use Rattle.e3_world.specs.declared.lives.Expected.{Expected}
 use Rattle.e3_world.specs.declared.lives.Life.{Life}
@@ -57,7 +57,7 @@ use Rattle.e3_law_serial.proofs.Told.Helping.{unanswered_is, inc_same}
 use Rattle.e3_law_serial.proofs.Told.Stepped.{SentWell, plain_in, now_issued, now', fresh_issue, issue_place, present, past', member', came', given_old, sent_gave, shaped_sent, shaped_told, dones_new, told_gave, heard_place, tolds_new}
 use Rattle.e3_law_steps.proofs.Lists.{fold_last}
 use Rattle.e3_law_steps.proofs.Tests.{same_is}
-use Rattle.e3_law_trails.proofs.Operations.Issuing.{issued_push}
+use Rattle.e3_law_steps.proofs.Operations.Issuing.{issued_push}
 
 -- the move of the step at a place
 pub record IsNext (a : At) (mine : List Move) (m : Move) : Type 0 where

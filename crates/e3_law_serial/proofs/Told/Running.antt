@@ -13,7 +13,7 @@ use Rattle.e3_types.specs.declared.transactions.Op.{Op}
 use Rattle.e3_types.specs.declared.transactions.State.TheVariants.{Q}
 use Rattle.e3_types.specs.declared.transactions.Txn.{Txn}
 use Rattle.e3_types.specs.Same.{same_txn, same_state}
-use Rattle.e3_law_refinement.proofs.Lists.{same_from}
+use Rattle.e3_law_agreement.proofs.Refinement.Lists.{same_from}
 use Rattle.e3_world.specs.declared.lives.Asked.{Asked}
 use Rattle.e3_world.specs.declared.lives.At.{At}
 use Rattle.e3_world.specs.declared.lives.Life.{Life}
@@ -46,8 +46,8 @@ use Rattle.e3_law_serial.proofs.Told.Telling.{right_seen, VotersAnswered}
 use Rattle.e3_law_serial.proofs.Told.Stories.{First, first_more, Answered, Values, VoteOf, OwnVote, AskedVote}
 use Rattle.e3_law_serial.proofs.Lists.Facts.{has_vote_in}
 use Rattle.e3_law_steps.proofs.Adding.{idle_open}
-use Rattle.e3_law_protocol.proofs.Ruled.{same_means}
-use Rattle.e3_law_trails.proofs.Operations.Issuing.{nth_low}
+use Rattle.e3_law_agreement.proofs.Protocol.Ruled.{same_means}
+use Rattle.e3_law_steps.proofs.Operations.Issuing.{nth_low}
 
 same_num : (x y : NumOp) → x.n ≡ y.n → x.op ≡ y.op → x ≡ y
 same_num x y a b = λ i. record { n = a i; op = b i }

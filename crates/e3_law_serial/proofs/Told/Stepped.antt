@@ -14,7 +14,7 @@ use Rattle.e3_types.specs.declared.transactions.Answer.{Answer}
 use Rattle.e3_types.specs.declared.transactions.Op.{Op}
 use Rattle.e3_types.specs.declared.transactions.Txn.{Txn}
 use Rattle.e3_types.specs.Sets.{has_site}
-use Rattle.e3_law_refinement.proofs.Lists.{same_from}
+use Rattle.e3_law_agreement.proofs.Refinement.Lists.{same_from}
 use Rattle.e3_world.specs.declared.lives.Asked.{Asked}
 use Rattle.e3_world.specs.declared.lives.At.{At}
 use Rattle.e3_world.specs.declared.lives.Life.{Life}
@@ -41,7 +41,7 @@ use Rattle.e3_law_serial.proofs.Told.Sending.{MessageIs, step_sent}
 use Rattle.e3_law_serial.proofs.Told.Telling.{Gave, gave}
 use Rattle.e3_law_serial.proofs.Told.Stories.{First, first_more, Given, Story, GoesOn, nth_on}
 use Rattle.e3_law_serial.proofs.Told.Helping.{told_home, told_shown, sent_shown, nth_split, issued_what}
-use Rattle.e3_law_trails.proofs.Operations.Issuing.{get_end, issued_push}
+use Rattle.e3_law_steps.proofs.Operations.Issuing.{get_end, issued_push}
 
 -- the packets of a site come with what they say of operations
 pub record SentWell (sent : List Packet) (iss : Txn → List Op) : Type 0 where

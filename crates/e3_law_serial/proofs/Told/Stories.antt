@@ -27,7 +27,7 @@ use Rattle.e3_world.specs.Moves.{Move, log_by}
 use Rattle.e3_world.specs.Sound.{sends, tells, has_risen}
 use Rattle.e3_law_serial.proofs.Told.Telling.{VotersAnswered}
 use Rattle.e3_law_serial.specs.Ordered.{seen_by}
-use Rattle.e3_law_trails.proofs.Operations.Issuing.{nth_more}
+use Rattle.e3_law_steps.proofs.Operations.Issuing.{nth_more}
 
 -- a life answered the operation, to a read with this answer first
 pub record First (site : ℕ) (steps : List Moment) (t : Txn) (n : ℕ) (op : Op) (v : Answer) : Type 0 where

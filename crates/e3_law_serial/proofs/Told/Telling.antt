@@ -15,7 +15,7 @@ use Rattle.e3_types.specs.declared.transactions.Op.TheVariants.{Read, Write}
 use Rattle.e3_types.specs.declared.transactions.Txn.{Txn}
 use Rattle.e3_types.specs.Locks.{front}
 use Rattle.e3_types.specs.Same.{same_txn, same_numbers}
-use Rattle.e3_law_refinement.proofs.Lists.{same_from}
+use Rattle.e3_law_agreement.proofs.Refinement.Lists.{same_from}
 use Rattle.e3_world.specs.declared.lives.Asked.{Asked}
 use Rattle.e3_world.specs.declared.lives.At.{At}
 use Rattle.e3_world.specs.declared.lives.Life.{Life}
@@ -44,7 +44,7 @@ use Rattle.e3_law_serial.specs.Ordered.{world_of, seen_by}
 use Rattle.e3_law_serial.proofs.Site.Rightness.{why_value}
 use Rattle.e3_law_serial.proofs.Site.Voting.{listed}
 use Rattle.e3_law_serial.proofs.Site.Keeping.{Keeps}
-use Rattle.e3_law_trails.proofs.Operations.Issuing.{nth_low}
+use Rattle.e3_law_steps.proofs.Operations.Issuing.{nth_low}
 
 -- answers that stand at a place of a list
 right_at : (rows : List ℕ → Answer) (steps : List Moment) (front : List Performed) (b : List Asked) (q : Asked) (c : List Asked) → RightAt rows steps front (b ++ q ∷ c) →

@@ -24,7 +24,7 @@ use Rattle.e3_law_serial.proofs.Site.Holding.{in_flat_from}
 use Rattle.e3_law_serial.proofs.Lists.Members.{in_split}
 use Rattle.e3_world.specs.Moves.{Move, moves_at, log_by, Placed, all_records}
 use Rattle.e3_world.specs.Sound.{sends, tells, IsSound}
-use Rattle.e3_law_refinement.proofs.Following.{in_from_contains}
+use Rattle.e3_law_agreement.proofs.Refinement.Following.{in_from_contains}
 use Rattle.e3_law_serial.proofs.Lists.Placing.{at_split, logged_all}
 use Rattle.e3_world.specs.Safe.{AllVoted}
 use Rattle.e3_law_serial.proofs.Told.Stories.{Answered, BySent, ByTold, Values, VoteOf, OwnVote, AskedVote, Heard_of, Request, Story}
@@ -36,9 +36,9 @@ use Rattle.e3_law_serial.proofs.Lists.Placing.{at_logged}
 use Rattle.e3_law_serial.proofs.Lists.Members.{in_at}
 use Rattle.e3_law_serial.specs.Ordered.{VotesReplay, TablesReplay}
 use Rattle.e3_world.specs.Serial.{is_commit, is_committed, found_by, IsSerial}
-use Rattle.e3_law_refinement.proofs.Voting.{contains_from_in}
+use Rattle.e3_law_agreement.proofs.Refinement.Voting.{contains_from_in}
 use Rattle.e3_law_steps.proofs.Tests.{same_is}
-use Rattle.e3_law_refinement.proofs.Agreeing.{put}
+use Rattle.e3_law_agreement.proofs.Refinement.Agreeing.{put}
 
 -- the record of a commit
 commit_is : (t : Txn) (p : Placed) → is_commit t p.entered ≡ true → p ≡ put p.site (log.Decision t Commit)

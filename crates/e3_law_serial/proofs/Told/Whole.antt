@@ -28,7 +28,7 @@ use Rattle.e3_world.specs.Lives.{incarnation_of, life_at}
 use Rattle.e3_world.specs.Moves.{Did, Stepped, Silent, Rose, Move, moves_at, recorded, log_by, rise_records, plain_input}
 use Rattle.e3_world.specs.Sound.{sends, WasSent, step_move, has_risen, IsSoundStep, FitInTurn, records_in_turn, IsSoundMove, SoundAfter, IsSound}
 use Rattle.e3_world.proofs.Pushes.{log_push, life_log_at}
-use Rattle.e3_law_refinement.proofs.Following.{moves_here, moves_there, in_from_contains}
+use Rattle.e3_law_agreement.proofs.Refinement.Following.{moves_here, moves_there, in_from_contains}
 use Rattle.e3_law_serial.proofs.Site.Sites.{rise_rising, silent_down, run_in_turn, run_log, life_silent, life_rose, step_record, step_up, fits_plain, fits_away, step_site, SiteKeeps, place, life_step, AllKeep, move_keeps, all_keep}
 use Rattle.e3_law_serial.proofs.Told.Stories.{VoteOf, Story, GoesOn, story_on, story_start}
 use Rattle.e3_world.specs.Serial.{issued_by}

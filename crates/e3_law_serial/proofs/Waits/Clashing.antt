@@ -9,7 +9,7 @@ use Rattle.e3_types.specs.declared.transactions.Op.TheVariants.{Read, Write}
 use Rattle.e3_types.specs.declared.transactions.Txn.{Txn}
 use Rattle.e3_types.specs.Locks.{conflicts, is_covered, opposes, against, grant_against, lock_grant}
 use Rattle.e3_types.specs.Same.{same_txn, same_numbers, is_older, oldest}
-use Rattle.e3_law_refinement.proofs.Lists.{same_from, same_numbers_are}
+use Rattle.e3_law_agreement.proofs.Refinement.Lists.{same_from, same_numbers_are}
 use Rattle.e3_world.specs.declared.lives.Asked.{Asked}
 use Rattle.e3_world.specs.Logs.{mode_of, lock_on}
 use Rattle.e3_world.specs.Operations.{queue}

@@ -9,7 +9,7 @@ use Rattle.e3_types.specs.declared.transactions.Txn.{Txn}
 use Rattle.e3_types.specs.Locks.{conflicts, opposes}
 use Rattle.e3_types.specs.Same.{is_older}
 use Rattle.e3_types.proofs.Orders.{older_irreflexive, older_transitive}
-use Rattle.e3_law_refinement.proofs.Following.{moves_here, moves_there}
+use Rattle.e3_law_agreement.proofs.Refinement.Following.{moves_here, moves_there}
 use Rattle.e3_world.specs.declared.lives.Life.{Life}
 use Rattle.e3_world.specs.Given.{IsGiven}
 use Rattle.e3_world.specs.Legal.{IsLegal}
@@ -19,7 +19,7 @@ use Rattle.e3_world.specs.Moves.{Did, Stepped, Silent, Rose, Move, moves_at, mov
 use Rattle.e3_world.specs.Operations.{arrivals, is_answered, waiting, holders, queue}
 use Rattle.e3_world.specs.Sound.{Fits, step_move, IsSoundMove, SoundAfter, IsSound}
 use Rattle.e3_world.proofs.Trails.{trail_moves}
-use Rattle.e3_law_trails.specs.Claims.{TrailsAreSound}
+use Rattle.e3_law_steps.specs.Trails.{TrailsAreSound}
 use Rattle.e3_law_serial.proofs.Lists.Entries.{In, Sorted, name_of}
 use Rattle.e3_law_serial.proofs.Lists.Members.{in_append, in_front, in_back, at_in, sorted_filter, sorted_around}
 use Rattle.e3_law_serial.proofs.Lists.Facts.{contains_at}

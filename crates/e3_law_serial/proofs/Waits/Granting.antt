@@ -2,7 +2,7 @@
 use Rattle.std.proofs.Common.{◌≡◌, ◌⊎◌, inl, inr, [], ◌∷◌, ℕ, zero, suc, List, take, length, sym, subst, ◌∙◌}
 use Rattle.e3_types.specs.Locks.{front}
 use Rattle.e3_types.specs.Same.{same_numbers}
-use Rattle.e3_law_refinement.proofs.Lists.{same_numbers_are}
+use Rattle.e3_law_agreement.proofs.Refinement.Lists.{same_numbers_are}
 use Rattle.e3_world.specs.declared.lives.Asked.{Asked}
 use Rattle.e3_world.specs.declared.lives.At.{At}
 use Rattle.e3_world.specs.declared.lives.Made.{Made}

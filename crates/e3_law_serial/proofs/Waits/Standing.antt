@@ -10,7 +10,7 @@ use Rattle.e3_types.specs.declared.transactions.State.TheVariants.{Q}
 use Rattle.e3_types.specs.declared.transactions.Txn.{Txn}
 use Rattle.e3_types.specs.Locks.{covers, is_covered}
 use Rattle.e3_types.specs.Same.{same_txn, same_state, is_older}
-use Rattle.e3_law_refinement.proofs.Lists.{same_from}
+use Rattle.e3_law_agreement.proofs.Refinement.Lists.{same_from}
 use Rattle.e3_world.specs.declared.lives.Asked.{Asked}
 use Rattle.e3_world.specs.declared.lives.At.{At}
 use Rattle.e3_world.specs.declared.lives.Life.{Life}
@@ -38,7 +38,7 @@ use Rattle.e3_law_serial.proofs.Waits.Taking.{IsNew, takes, holders_of, waiting_
 use Rattle.e3_law_serial.proofs.Waits.Holders.{HoldsNow, Old, NewLock, NewGrant, quiet_holds, classify, answered_so_far}
 use Rattle.e3_law_serial.proofs.Waits.Granting.{granted_or_behind}
 use Rattle.e3_law_steps.proofs.Tests.{same_is}
-use Rattle.e3_law_protocol.proofs.Ruled.{same_means}
+use Rattle.e3_law_agreement.proofs.Protocol.Ruled.{same_means}
 use Rattle.e3_law_steps.proofs.Undecided.{open_before as undecided_before}
 
 -- the operation waits, if it is among the arrivals

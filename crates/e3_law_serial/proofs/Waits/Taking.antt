@@ -19,7 +19,7 @@ use Rattle.e3_types.specs.declared.transactions.State.TheVariants.{Q, A}
 use Rattle.e3_types.specs.declared.transactions.Txn.{Txn}
 use Rattle.e3_types.specs.Locks.{lock_grant}
 use Rattle.e3_types.specs.Same.{same_txn}
-use Rattle.e3_law_refinement.proofs.Lists.{same_from}
+use Rattle.e3_law_agreement.proofs.Refinement.Lists.{same_from}
 use Rattle.e3_world.specs.declared.lives.Asked.{Asked}
 use Rattle.e3_world.specs.declared.lives.At.{At}
 use Rattle.e3_world.specs.declared.lives.Made.{Made}
@@ -46,7 +46,7 @@ use Rattle.e3_law_serial.proofs.Site.Holding.{lock_of}
 use Rattle.e3_law_serial.proofs.Lists.Facts.{decided_not}
 use Rattle.e3_law_steps.proofs.Adding.{idle_open}
 use Rattle.e3_law_steps.proofs.Lists.{dropped}
-use Rattle.e3_law_trails.proofs.Operations.Issuing.{get_end, issued_push}
+use Rattle.e3_law_steps.proofs.Operations.Issuing.{get_end, issued_push}
 
 -- the step takes the operation up, and comes to what the rule of an operation makes
 pub record Takes (a : At) (q : Asked) : Type 0 where

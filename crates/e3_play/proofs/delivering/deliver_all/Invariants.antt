@@ -1,5 +1,5 @@
 use Rattle.std.proofs.Common.{◌≡◌}
-use Rattle.e3_law_settling.proofs.Left.{left}
+use Rattle.e3_law_local.proofs.Measure.Left.{left}
 use Rattle.e3_play.specs.GoingOn.{SitesGoOn}
 use Rattle.e3_play.specs.Delivered.{Delivers}
 use Rattle.e3_play.proofs.delivering.deliver_all.Given as goal

@@ -1,0 +1,23 @@
+-- The steps of a site keep the rules of the protocol of each transaction.
+pub mod Lists
+pub mod Sites
+pub mod Readings
+pub mod Makers
+pub mod Tests
+pub mod Deciding
+pub mod Operations
+pub mod Votes
+pub mod Attempts
+pub mod Gatherings
+pub mod Rounds
+pub mod Gathered
+pub mod Inputs
+pub mod Verdicts
+pub mod Elections
+pub mod Whole
+pub mod Growing
+pub mod Following
+pub mod Agreeing
+pub mod Voting
+pub mod Telling
+pub mod Sounding

@@ -1,0 +1,12 @@
+use Rattle.e3_law_serial.proofs.Orderly.Combining.{logs_are_orderly}
+use Rattle.e3_law_serial.proofs.Orderly.Tails.{tails_are_logs, tails_are_orderly}
+use Rattle.e3_law_serial.proofs.logs_are_orderly.Goals as goal
+
+pub returns-clause-logs : goal.returns-clause-logs
+returns-clause-logs c = logs_are_orderly c.trails_are_sound.ensures.sound c.trails_are_sound.ensures.logs c.logs_are_ordered.ensures
+
+pub returns-clause-others : goal.returns-clause-others
+returns-clause-others c = tails_are_logs
+
+pub returns-clause-tails : goal.returns-clause-tails
+returns-clause-tails c = tails_are_orderly (logs_are_orderly c.trails_are_sound.ensures.sound c.trails_are_sound.ensures.logs c.logs_are_ordered.ensures)

@@ -1,0 +1,22 @@
+-- The logs of legal histories are orderly.
+use Rattle.std.specs.Prelude.{◌≡◌, ℕ, List}
+use Rattle.e3_types.specs.declared.entries.Entry.{Entry}
+use Rattle.e3_types.specs.declared.scenarios.Scenario.{Scenario}
+use Rattle.e3_world.specs.Given.{IsGiven}
+use Rattle.e3_world.specs.Legal.{IsLegal}
+use Rattle.e3_world.specs.Moves.{log_of}
+use Rattle.e3_world.specs.Orderly.{IsOrderly}
+use Rattle.e3_law_steps.specs.Trails.{records_at}
+
+-- The log of each site in each legal history of a scenario that keeps its rules is orderly.
+abbrev pub LogsAreOrderly : Type 0
+LogsAreOrderly = (sc : Scenario) (h : List Entry) (site : ℕ) → IsGiven sc → IsLegal sc h → IsOrderly site (log_of sc h site)
+
+-- A tail that is open behind the log of a site in a legal history stands in the log of that site in another one.
+abbrev pub TailsAreLogs : Type 0
+TailsAreLogs = (sc : Scenario) (h : List Entry) (site : ℕ) → IsLegal sc h →
+    (other : List Entry) × IsLegal sc other × (log_of sc other site ≡ records_at sc h site)
+
+-- So the log with its open tail is orderly.
+abbrev pub TailsAreOrderly : Type 0
+TailsAreOrderly = (sc : Scenario) (h : List Entry) (site : ℕ) → IsGiven sc → IsLegal sc h → IsOrderly site (records_at sc h site)
