@@ -13,10 +13,9 @@ ghost use Rattle.e3_world.specs.Packets.{is_calm, step_items};
 use crate::auditor::Auditor;
 use crate::seat::{Seat, are_done};
 use e3_items::step_items;
-use e3_judge::{Same, due_round, is_calm, is_round};
+use e3_judge::{Prefix, Same, due_round, is_at, is_calm, is_round};
 use e3_net::Net;
-use e3_types::{Entry, Input, NoMemory, Packet, Scenario, SiteSet, Txn};
-use std::alloc::Global;
+use e3_types::{Input, NoMemory, Packet, Scenario, SiteSet, Txn};
 
 /// The packet is the least that waits for this site.
 pub(crate) fn is_next_to(net: &Net, site: u32, packet: &Packet) -> bool
@@ -24,16 +23,6 @@ pub(crate) fn is_next_to(net: &Net, site: u32, packet: &Packet) -> bool
 {
     match net.next_to(site) {
         Some(next) => next.is_same(packet),
-        None => false,
-    }
-}
-
-// The input stands at this place of these.
-fn is_at(inputs: &[Input], at: u64, input: &Input) -> bool
-    ensures { result ≡ is_some same_input (slice_get inputs.now at) input.now }
-{
-    match inputs.get(at as usize) {
-        Some(next) => next.is_same(input),
         None => false,
     }
 }
@@ -65,15 +54,9 @@ impl Auditor {
     }
 
     // The packet is the least to the site, all items are through, and in a recover step it is the least of all.
-    fn delivery_is_due(
-        &self,
-        scenario: &Scenario,
-        before: &[Entry],
-        site: u32,
-        packet: &Packet,
-    ) -> bool
-        requires { Stands scenario.now before.now self.now }
-        ensures due { result ≡ true → IsDelivery scenario.now before.now site packet.now }
+    fn delivery_is_due(&self, prefix: &Prefix<'_>, site: u32, packet: &Packet) -> bool
+        requires { Stands prefix.now.scenario.now prefix.now.entries.now self.now }
+        ensures due { result ≡ true → IsDelivery prefix.now.scenario.now prefix.now.entries.now site packet.now }
         ensures next { result ≡ true → packet_to packet.now.to self.now.net.traffic ≡ Some packet.now }
     {
         if packet.to != site {
@@ -82,7 +65,7 @@ impl Auditor {
         if !is_next_to(&self.net, site, packet) {
             return false;
         }
-        if !self.is_in_order(scenario, packet) {
+        if !self.is_in_order(prefix.scenario, packet) {
             return false;
         }
         are_done(self.seats.as_slice())
@@ -91,20 +74,18 @@ impl Auditor {
     // The round is the one that is due, and nothing is pending. Rounds are few, and read anew.
     fn round_is_due(
         &self,
-        alloc: Global,
-        scenario: &Scenario,
-        before: &[Entry],
+        prefix: &Prefix<'_>,
         site: u32,
         txn: &Txn,
         group: SiteSet,
     ) -> Result<bool, NoMemory>
         ensures { IfOk result (λ b. b ≡ true → ((length self.now.net.traffic.waiting == 0) ≡ true)
-            × (is_some same_round (due_round scenario.now before.now) (record { txn = txn.now; members = group; elector = site }) ≡ true)) }
+            × (is_some same_round (due_round prefix.now.scenario.now prefix.now.entries.now) (record { txn = txn.now; members = group; elector = site }) ≡ true)) }
     {
         if self.net.pending() > 0 {
             return Ok(false);
         }
-        match due_round(alloc, scenario, before)? {
+        match due_round(prefix.alloc, prefix.scenario, prefix.entries)? {
             Some(round) => Ok(is_round(&round, txn, group, site)),
             None => Ok(false),
         }
@@ -113,46 +94,40 @@ impl Auditor {
     // It is the next that the step asks of the site, or the round that is due.
     fn elect_is_due(
         &self,
-        alloc: Global,
-        scenario: &Scenario,
-        before: &[Entry],
+        prefix: &Prefix<'_>,
         site: u32,
         input: &Input,
         txn: &Txn,
         group: SiteSet,
     ) -> Result<bool, NoMemory>
-        requires stands { Stands scenario.now before.now self.now }
+        requires stands { Stands prefix.now.scenario.now prefix.now.entries.now self.now }
         requires some { 1 ≤ site }
-        requires exists { site ≤ length scenario.now.weights }
+        requires exists { site ≤ length prefix.now.scenario.now.weights }
         requires elect { input.now ≡ inputs.Elect txn.now group }
-        ensures { IfOk result (λ b. b ≡ true → IsDue scenario.now before.now site (inputs.Elect txn.now group)) }
+        ensures { IfOk result (λ b. b ≡ true → IsDue prefix.now.scenario.now prefix.now.entries.now site (inputs.Elect txn.now group)) }
     {
         if is_next_item(&self.seats[site as usize - 1], input) {
             return Ok(true);
         }
-        self.round_is_due(alloc, scenario, before, site, txn, group)
+        self.round_is_due(prefix, site, txn, group)
     }
 
     /// The input is due at the site, so far as it is seen here.
     pub(crate) fn input_is_due(
         &self,
-        alloc: Global,
-        scenario: &Scenario,
-        before: &[Entry],
+        prefix: &Prefix<'_>,
         site: u32,
         input: &Input,
     ) -> Result<bool, NoMemory>
-        requires stands { Stands scenario.now before.now self.now }
+        requires stands { Stands prefix.now.scenario.now prefix.now.entries.now self.now }
         requires some { 1 ≤ site }
-        requires exists { site ≤ length scenario.now.weights }
-        ensures due { IfOk result (λ b. b ≡ true → IsDue scenario.now before.now site input.now) }
+        requires exists { site ≤ length prefix.now.scenario.now.weights }
+        ensures due { IfOk result (λ b. b ≡ true → IsDue prefix.now.scenario.now prefix.now.entries.now site input.now) }
         ensures next { IfOk result (λ b. b ≡ true → IsNext self.now.net.traffic input.now) }
     {
         match input {
-            Input::Deliver { packet } => Ok(self.delivery_is_due(scenario, before, site, packet)),
-            Input::Elect { txn, group } => {
-                self.elect_is_due(alloc, scenario, before, site, input, txn, *group)
-            }
+            Input::Deliver { packet } => Ok(self.delivery_is_due(prefix, site, packet)),
+            Input::Elect { txn, group } => { self.elect_is_due(prefix, site, input, txn, *group) }
             _ => Ok(is_next_item(&self.seats[site as usize - 1], input)),
         }
     }

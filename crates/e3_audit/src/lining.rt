@@ -8,10 +8,9 @@ ghost use Rattle.e3_world.specs.Legal.{IsLine};
 use crate::auditor::Auditor;
 use crate::seat::Seat;
 use e3_items::{BoundNames, inputs_asked, inputs_to, step_items};
-use e3_judge::is_calm;
-use e3_types::{Entry, Input, List, NoMemory, Scenario};
+use e3_judge::{Prefix, is_calm};
+use e3_types::{Input, List, NoMemory};
 use e3_world::Addressed;
-use std::alloc::Global;
 
 // A step begins, which asks these inputs of the site.
 fn ask(seat: &mut Seat, inputs: List<Input>)
@@ -25,81 +24,70 @@ fn ask(seat: &mut Seat, inputs: List<Input>)
 
 // A step begins, which asks this of the sites.
 fn ask_all(
-    alloc: Global,
-    _scenario: &Scenario,
-    _before: &[Entry],
+    prefix: &Prefix<'_>,
     _number: u32,
     asked: &[Addressed],
     seats: &mut [Seat],
 ) -> Result<(), NoMemory>
-    requires stand { SeatsStand _scenario.now _before.now seats.old }
+    requires stand { SeatsStand prefix.now.scenario.now prefix.now.entries.now seats.old }
     requires few { length seats.old ≤ 64 }
-    requires asked { asked.now ≡ plan_of _scenario.now (_before.now ++ line_of _number ∷ []) }
-    ensures stand { IfOk result (λ u. SeatsStand _scenario.now (_before.now ++ line_of _number ∷ []) seats.new) }
+    requires asked { asked.now ≡ plan_of prefix.now.scenario.now (prefix.now.entries.now ++ line_of _number ∷ []) }
+    ensures stand { IfOk result (λ u. SeatsStand prefix.now.scenario.now (prefix.now.entries.now ++ line_of _number ∷ []) seats.new) }
     ensures count { length seats.new ≡ length seats.old }
 {
     for at in 0..seats.len() {
-        let inputs = inputs_to(alloc, asked, at as u64 + 1)?;
+        let inputs = inputs_to(prefix.alloc, asked, at as u64 + 1)?;
         ask(&mut seats[at], inputs);
     }
     Ok(())
 }
 
 impl Auditor {
-    fn line_is_due(
-        &self,
-        alloc: Global,
-        scenario: &Scenario,
-        before: &[Entry],
-        number: u32,
-    ) -> Result<bool, NoMemory>
-        requires { Stands scenario.now before.now self.now }
-        ensures { IfOk result (λ b. b ≡ true → IsLine scenario.now before.now number) }
+    fn line_is_due(&self, prefix: &Prefix<'_>, number: u32) -> Result<bool, NoMemory>
+        requires { Stands prefix.now.scenario.now prefix.now.entries.now self.now }
+        ensures { IfOk result (λ b. b ≡ true → IsLine prefix.now.scenario.now prefix.now.entries.now number) }
     {
-        if number < 1 || number - 1 != self.lines || number as u64 > scenario.steps.len() {
+        if number < 1 || number - 1 != self.lines || number as u64 > prefix.scenario.steps.len() {
             return Ok(false);
         }
-        self.is_through(alloc, scenario, before)
+        self.is_through(prefix)
     }
 
     fn begin(
         &mut self,
-        alloc: Global,
-        scenario: &Scenario,
-        before: &[Entry],
+        prefix: &Prefix<'_>,
         number: u32,
         asked: &[Addressed],
     ) -> Result<(), NoMemory>
-        requires stands { Stands scenario.now before.now self.old }
-        requires due { IsLine scenario.now before.now number }
-        requires asked { asked.now ≡ plan_of scenario.now (before.now ++ line_of number ∷ []) }
-        ensures { IfOk result (λ u. Stands scenario.now (before.now ++ line_of number ∷ []) self.new) }
+        requires stands { Stands prefix.now.scenario.now prefix.now.entries.now self.old }
+        requires due { IsLine prefix.now.scenario.now prefix.now.entries.now number }
+        requires asked { asked.now ≡ plan_of prefix.now.scenario.now (prefix.now.entries.now ++ line_of number ∷ []) }
+        ensures { IfOk result (λ u. Stands prefix.now.scenario.now (prefix.now.entries.now ++ line_of number ∷ []) self.new) }
     {
         self.lines = number;
-        self.net.calm(is_calm(step_items(scenario, number as u64)));
-        ask_all(alloc, scenario, before, number, asked, &mut self.seats)
+        self.net
+            .calm(is_calm(step_items(prefix.scenario, number as u64)));
+        ask_all(prefix, number, asked, &mut self.seats)
     }
 
     /// Goes on over a line of the driver with this number, where it is the next and all before it is seen to be through.
     pub(crate) fn line(
         &mut self,
-        alloc: Global,
-        scenario: &Scenario,
-        before: &[Entry],
+        prefix: &Prefix<'_>,
         binding: &BoundNames,
         number: u32,
     ) -> Result<bool, NoMemory>
-        requires stands { Stands scenario.now before.now self.old }
-        requires bound { binding.now ≡ bound_behind scenario.now before.now }
-        ensures { IfOk result (λ on. on ≡ true → Stands scenario.now (before.now ++ line_of number ∷ []) self.new) }
+        requires stands { Stands prefix.now.scenario.now prefix.now.entries.now self.old }
+        requires bound { binding.now ≡ bound_behind prefix.now.scenario.now prefix.now.entries.now }
+        ensures { IfOk result (λ on. on ≡ true → Stands prefix.now.scenario.now (prefix.now.entries.now ++ line_of number ∷ []) self.new) }
     {
-        let due = self.line_is_due(alloc, scenario, before, number)?;
+        let due = self.line_is_due(prefix, number)?;
         if !due {
             return Ok(false);
         }
-        let items = step_items(scenario, number as u64);
-        let asked = inputs_asked(alloc, binding, items)?;
-        self.begin(alloc, scenario, before, number, asked.as_slice())?;
+        let items = step_items(prefix.scenario, number as u64);
+        let asked = inputs_asked(prefix.alloc, binding, items)?;
+        self.begin(prefix, number, asked.as_slice())?;
         Ok(true)
     }
 }

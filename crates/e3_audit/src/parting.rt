@@ -7,31 +7,25 @@ ghost use Rattle.e3_world.specs.Packets.{is_calm, step_items};
 
 use crate::auditor::Auditor;
 use crate::rising::may_come;
+use e3_judge::Prefix;
 use e3_types::{Act, Copied, Entry, NoMemory, Packet, Scenario};
-use std::alloc::Global;
 
 impl Auditor {
     /// Goes on over new parts, where they may come here. They are few, and their guard is read anew.
-    pub(crate) fn part(
-        &mut self,
-        alloc: Global,
-        scenario: &Scenario,
-        before: &[Entry],
-        entry: &Entry,
-    ) -> Result<bool, NoMemory>
-        requires { Stands scenario.now before.now self.old }
-        ensures { IfOk result (λ on. on ≡ true → Stands scenario.now (before.now ++ entry.now ∷ []) self.new) }
+    pub(crate) fn part(&mut self, prefix: &Prefix<'_>, entry: &Entry) -> Result<bool, NoMemory>
+        requires { Stands prefix.now.scenario.now prefix.now.entries.now self.old }
+        ensures { IfOk result (λ on. on ≡ true → Stands prefix.now.scenario.now (prefix.now.entries.now ++ entry.now ∷ []) self.new) }
     {
         if entry.owner != 0 {
             return Ok(false);
         }
-        let may = may_come(alloc, scenario, before, entry)?;
+        let may = may_come(prefix, entry)?;
         if !may {
             return Ok(false);
         }
         match &entry.act {
             Act::Parts { parts } => {
-                let parts = parts.copied(alloc)?;
+                let parts = parts.copied(prefix.alloc)?;
                 self.net.parts(parts);
                 Ok(true)
             }
@@ -49,31 +43,31 @@ impl Auditor {
 
     // The packet of this number is the least to the site at this place, counted from 0, which is down; in a recover step it is
     // the least of all.
-    fn is_lost(&self, scenario: &Scenario, _before: &[Entry], number: u64, at: usize) -> bool
-        requires stands { Stands scenario.now _before.now self.now }
+    fn is_lost(&self, prefix: &Prefix<'_>, number: u64, at: usize) -> bool
+        requires stands { Stands prefix.now.scenario.now prefix.now.entries.now self.now }
         requires within { at < length self.now.seats.items }
         requires few { at < 64 }
-        ensures { result ≡ true → IsLost scenario.now _before.now self.now.net.traffic number (at + 1) }
+        ensures { result ≡ true → IsLost prefix.now.scenario.now prefix.now.entries.now self.now.net.traffic number (at + 1) }
     {
         if !self.seats[at].is_down() {
             return false;
         }
         match self.net.next_to(at as u32 + 1) {
-            Some(packet) => self.may_lose(scenario, packet, number),
+            Some(packet) => self.may_lose(prefix.scenario, packet, number),
             None => false,
         }
     }
 
     // The site at which the packet of this number is lost.
-    fn loser(&self, scenario: &Scenario, before: &[Entry], number: u64) -> Option<u32>
-        requires { Stands scenario.now before.now self.now }
-        ensures { IfSome result (IsLost scenario.now before.now self.now.net.traffic number) }
+    fn loser(&self, prefix: &Prefix<'_>, number: u64) -> Option<u32>
+        requires { Stands prefix.now.scenario.now prefix.now.entries.now self.now }
+        ensures { IfSome result (IsLost prefix.now.scenario.now prefix.now.entries.now self.now.net.traffic number) }
     {
         if self.seats.len() > 64 {
             return None;
         }
         for at in 0..self.seats.len() {
-            if self.is_lost(scenario, before, number, at) {
+            if self.is_lost(prefix, number, at) {
                 return Some(at as u32 + 1);
             }
         }
@@ -81,11 +75,11 @@ impl Auditor {
     }
 
     /// Goes on over a drop of the packet of this number, where it is the least to a site that is down.
-    pub(crate) fn lose(&mut self, scenario: &Scenario, before: &[Entry], number: u64) -> bool
-        requires { Stands scenario.now before.now self.old }
-        ensures { result ≡ true → Stands scenario.now (before.now ++ record { owner = 0; act = act.Drop number } ∷ []) self.new }
+    pub(crate) fn lose(&mut self, prefix: &Prefix<'_>, number: u64) -> bool
+        requires { Stands prefix.now.scenario.now prefix.now.entries.now self.old }
+        ensures { result ≡ true → Stands prefix.now.scenario.now (prefix.now.entries.now ++ record { owner = 0; act = act.Drop number } ∷ []) self.new }
     {
-        match self.loser(scenario, before, number) {
+        match self.loser(prefix, number) {
             Some(site) => {
                 let _taken = self.net.take(site);
                 true

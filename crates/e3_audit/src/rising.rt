@@ -7,21 +7,16 @@ ghost use Rattle.e3_world.specs.Legal.{IsLegal};
 
 use crate::auditor::Auditor;
 use crate::seat::Seat;
-use e3_judge::{entry_breach, log_at};
+use e3_judge::{Prefix, entry_breach, log_at};
 use e3_site::{RebuildFault, Site, rebuild};
 use e3_types::{Act, Entry, NoMemory, Scenario};
 use std::alloc::Global;
 
 /// The entry may come here, by plain readings of these.
-pub(crate) fn may_come(
-    alloc: Global,
-    scenario: &Scenario,
-    before: &[Entry],
-    entry: &Entry,
-) -> Result<bool, NoMemory>
-    ensures { IfOk result (λ b. b ≡ is_none (first_failing (checks scenario.now before.now entry.now))) }
+pub(crate) fn may_come(prefix: &Prefix<'_>, entry: &Entry) -> Result<bool, NoMemory>
+    ensures { IfOk result (λ b. b ≡ is_none (first_failing (checks prefix.now.scenario.now prefix.now.entries.now entry.now))) }
 {
-    Ok(entry_breach(alloc, scenario, before, entry)?.is_none())
+    Ok(entry_breach(prefix.alloc, prefix.scenario, prefix.entries, entry)?.is_none())
 }
 
 // The site that rose by the last of these entries. Its log is in order, so there is one; that is not proved here, but seen.
@@ -49,21 +44,19 @@ fn risen(
 // What is kept of a site goes on over its rise, over one that failed or was missed, and over its cut. No other entry is any
 // of these.
 fn turn(
-    alloc: Global,
-    scenario: &Scenario,
-    _before: &[Entry],
+    prefix: &Prefix<'_>,
     after: &[Entry],
     entry: &Entry,
     seat: &mut Seat,
 ) -> Result<bool, NoMemory>
-    requires legal { IsLegal scenario.now after.now }
-    requires stands { SeatStands scenario.now _before.now entry.now.owner seat.old }
-    requires after { after.now ≡ _before.now ++ entry.now ∷ [] }
+    requires legal { IsLegal prefix.now.scenario.now after.now }
+    requires stands { SeatStands prefix.now.scenario.now prefix.now.entries.now entry.now.owner seat.old }
+    requires after { after.now ≡ prefix.now.entries.now ++ entry.now ∷ [] }
     ensures quiet { IfOk result (λ on. on ≡ true → is_quiet entry.now.act ≡ true) }
-    ensures stands { IfOk result (λ on. on ≡ true → SeatStands scenario.now after.now entry.now.owner seat.new) }
+    ensures stands { IfOk result (λ on. on ≡ true → SeatStands prefix.now.scenario.now after.now entry.now.owner seat.new) }
 {
     match &entry.act {
-        Act::Rise { .. } => match risen(alloc, scenario, after, entry.owner)? {
+        Act::Rise { .. } => match risen(prefix.alloc, prefix.scenario, after, entry.owner)? {
             Some(up) => {
                 seat.stand(up);
                 Ok(true)
@@ -90,26 +83,24 @@ impl Auditor {
     /// Goes on over a rise, one that failed or was missed, or a cut, where it may come here.
     pub(crate) fn turn(
         &mut self,
-        alloc: Global,
-        scenario: &Scenario,
-        before: &[Entry],
+        prefix: &Prefix<'_>,
         after: &[Entry],
         entry: &Entry,
     ) -> Result<bool, NoMemory>
-        requires stands { Stands scenario.now before.now self.old }
-        requires after { after.now ≡ before.now ++ entry.now ∷ [] }
-        ensures { IfOk result (λ on. on ≡ true → Stands scenario.now after.now self.new) }
+        requires stands { Stands prefix.now.scenario.now prefix.now.entries.now self.old }
+        requires after { after.now ≡ prefix.now.entries.now ++ entry.now ∷ [] }
+        ensures { IfOk result (λ on. on ≡ true → Stands prefix.now.scenario.now after.now self.new) }
     {
         let owner = entry.owner;
-        if owner < 1 || owner as u64 > scenario.weights.len() {
+        if owner < 1 || owner as u64 > prefix.scenario.weights.len() {
             return Ok(false);
         }
-        let may = may_come(alloc, scenario, before, entry)?;
+        let may = may_come(prefix, entry)?;
         if !may {
             return Ok(false);
         }
         let seat = &mut self.seats[owner as usize - 1];
-        let on = turn(alloc, scenario, before, after, entry, seat)?;
+        let on = turn(prefix, after, entry, seat)?;
         if !on {
             return Ok(false);
         }

@@ -9,9 +9,9 @@ use crate::dues::is_next_to;
 use crate::falling::leave;
 use crate::rising::may_come;
 use crate::seat::Seat;
+use e3_judge::Prefix;
 use e3_net::Net;
-use e3_types::{Entry, Input, NoMemory, Record, Scenario, Why};
-use std::alloc::Global;
+use e3_types::{Entry, Input, NoMemory, Record, Why};
 
 // Where the input is a delivery, its packet is the least to its site.
 fn is_next(net: &Net, input: &Input) -> bool
@@ -49,15 +49,14 @@ fn note_all(seat: &mut Seat, inputs: &[Input]) -> Result<(), NoMemory>
 // The site falls over the inputs, and what is kept of it goes on.
 fn fall_all(
     seat: &mut Seat,
-    _scenario: &Scenario,
-    _before: &[Entry],
+    _prefix: &Prefix<'_>,
     _site: u32,
     inputs: &[Input],
     _records: &[Record],
     _why: Why,
 ) -> Result<(), NoMemory>
-    requires { SeatStands _scenario.now _before.now _site seat.old }
-    ensures { IfOk result (λ u. SeatStands _scenario.now (_before.now ++ record { owner = _site; act = act.Fall inputs.now _records.now _why } ∷ []) _site seat.new) }
+    requires { SeatStands _prefix.now.scenario.now _prefix.now.entries.now _site seat.old }
+    ensures { IfOk result (λ u. SeatStands _prefix.now.scenario.now (_prefix.now.entries.now ++ record { owner = _site; act = act.Fall inputs.now _records.now _why } ∷ []) _site seat.new) }
 {
     seat.lie();
     note_all(seat, inputs)
@@ -68,23 +67,21 @@ impl Auditor {
     /// the site in its turn.
     pub(crate) fn fall_several(
         &mut self,
-        alloc: Global,
-        scenario: &Scenario,
-        before: &[Entry],
+        prefix: &Prefix<'_>,
         site: u32,
         inputs: &[Input],
         records: &[Record],
         why: Why,
         entry: &Entry,
     ) -> Result<bool, NoMemory>
-        requires stands { Stands scenario.now before.now self.old }
+        requires stands { Stands prefix.now.scenario.now prefix.now.entries.now self.old }
         requires some { 1 ≤ site }
-        requires exists { site ≤ length scenario.now.weights }
+        requires exists { site ≤ length prefix.now.scenario.now.weights }
         requires fall { entry.now ≡ record { owner = site; act = act.Fall inputs.now records.now why } }
         ensures { IfOk result (λ on. on ≡ true →
-            Stands scenario.now (before.now ++ record { owner = site; act = act.Fall inputs.now records.now why } ∷ []) self.new) }
+            Stands prefix.now.scenario.now (prefix.now.entries.now ++ record { owner = site; act = act.Fall inputs.now records.now why } ∷ []) self.new) }
     {
-        let may = may_come(alloc, scenario, before, entry)?;
+        let may = may_come(prefix, entry)?;
         if !may {
             return Ok(false);
         }
@@ -92,7 +89,7 @@ impl Auditor {
             return Ok(false);
         }
         let seat = &mut self.seats[site as usize - 1];
-        fall_all(seat, scenario, before, site, inputs, records, why)?;
+        fall_all(seat, prefix, site, inputs, records, why)?;
         Ok(true)
     }
 }

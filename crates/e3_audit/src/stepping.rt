@@ -17,10 +17,10 @@ ghost use Rattle.e3_world.specs.Packets.{sent as sent_in};
 use crate::auditor::Auditor;
 use crate::falling::leave;
 use crate::seat::{Being, Seat};
-use e3_judge::{are_numbered, same_list};
+use e3_judge::{Prefix, are_numbered, same_list};
 use e3_net::Net;
 use e3_site::{Plan, Site};
-use e3_types::{Entry, Input, List, NoMemory, Packet, Record, Scenario, Told};
+use e3_types::{Input, List, NoMemory, Packet, Record, Told};
 use std::alloc::Global;
 
 // What a step has is what is planned, its packets numbered behind so many that were sent.
@@ -36,15 +36,14 @@ fn is_as_planned(plan: &Plan, sent: u64, records: &[Record], outs: &[Packet], to
 /// What the input makes the site do that this value stands for.
 pub(crate) fn plan_at(
     up: &Site,
-    _scenario: &Scenario,
-    _before: &[Entry],
+    _prefix: &Prefix<'_>,
     _site: u32,
     input: &Input,
 ) -> Result<Plan, NoMemory>
     ghost now: { Incarnation }
-    requires stands { StandsFor _scenario.now _before.now _site up.now }
-    requires now { now ≡ incarnation_of (moves_of _scenario.now _before.now _site) }
-    ensures made { IfOk result (λ plan. plan.step ≡ step_kept input.now (made_by _scenario.now _before.now _site input.now)) }
+    requires stands { StandsFor _prefix.now.scenario.now _prefix.now.entries.now _site up.now }
+    requires now { now ≡ incarnation_of (moves_of _prefix.now.scenario.now _prefix.now.entries.now _site) }
+    ensures made { IfOk result (λ plan. plan.step ≡ step_kept input.now (made_by _prefix.now.scenario.now _prefix.now.entries.now _site input.now)) }
     ensures own { IfOk result (λ plan. IsPlanOf plan up.now) }
 {
     up.plan(input)
@@ -53,8 +52,7 @@ pub(crate) fn plan_at(
 // The site does what it plans, where that is what the step has.
 fn take(
     up: &mut Site,
-    scenario: &Scenario,
-    before: &[Entry],
+    prefix: &Prefix<'_>,
     site: u32,
     sent: u64,
     input: &Input,
@@ -62,12 +60,12 @@ fn take(
     outs: &[Packet],
     told: &[Told],
 ) -> Result<bool, NoMemory>
-    requires stands { StandsFor scenario.now before.now site up.old }
-    requires sent { sent ≡ length (sent_in before.now) }
-    ensures made { IfOk result (λ on. on ≡ true → record { owner = site; act = act.Step input.now records.now outs.now told.now } ≡ entry_of scenario.now before.now site input.now) }
-    ensures stands { IfOk result (λ on. on ≡ true → StandsFor scenario.now (before.now ++ entry_of scenario.now before.now site input.now ∷ []) site up.new) }
+    requires stands { StandsFor prefix.now.scenario.now prefix.now.entries.now site up.old }
+    requires sent { sent ≡ length (sent_in prefix.now.entries.now) }
+    ensures made { IfOk result (λ on. on ≡ true → record { owner = site; act = act.Step input.now records.now outs.now told.now } ≡ entry_of prefix.now.scenario.now prefix.now.entries.now site input.now) }
+    ensures stands { IfOk result (λ on. on ≡ true → StandsFor prefix.now.scenario.now (prefix.now.entries.now ++ entry_of prefix.now.scenario.now prefix.now.entries.now site input.now ∷ []) site up.new) }
 {
-    let plan = plan_at(up, scenario, before, site, input)?;
+    let plan = plan_at(up, prefix, site, input)?;
     if !is_as_planned(&plan, sent, records, outs, told) {
         return Ok(false);
     }
@@ -79,8 +77,7 @@ fn take(
 // The site does so, where it is up.
 fn act(
     being: &mut Being,
-    scenario: &Scenario,
-    before: &[Entry],
+    prefix: &Prefix<'_>,
     site: u32,
     sent: u64,
     input: &Input,
@@ -88,14 +85,14 @@ fn act(
     outs: &[Packet],
     told: &[Told],
 ) -> Result<bool, NoMemory>
-    requires stands { BeingStands scenario.now before.now site being.old }
-    requires sent { sent ≡ length (sent_in before.now) }
-    ensures up { IfOk result (λ on. on ≡ true → is_up_at before.now site ≡ true) }
-    ensures made { IfOk result (λ on. on ≡ true → record { owner = site; act = act.Step input.now records.now outs.now told.now } ≡ entry_of scenario.now before.now site input.now) }
-    ensures stands { IfOk result (λ on. on ≡ true → BeingStands scenario.now (before.now ++ entry_of scenario.now before.now site input.now ∷ []) site being.new) }
+    requires stands { BeingStands prefix.now.scenario.now prefix.now.entries.now site being.old }
+    requires sent { sent ≡ length (sent_in prefix.now.entries.now) }
+    ensures up { IfOk result (λ on. on ≡ true → is_up_at prefix.now.entries.now site ≡ true) }
+    ensures made { IfOk result (λ on. on ≡ true → record { owner = site; act = act.Step input.now records.now outs.now told.now } ≡ entry_of prefix.now.scenario.now prefix.now.entries.now site input.now) }
+    ensures stands { IfOk result (λ on. on ≡ true → BeingStands prefix.now.scenario.now (prefix.now.entries.now ++ entry_of prefix.now.scenario.now prefix.now.entries.now site input.now ∷ []) site being.new) }
 {
     match being {
-        Being::Up(up) => take(up, scenario, before, site, sent, input, records, outs, told),
+        Being::Up(up) => take(up, prefix, site, sent, input, records, outs, told),
         Being::Down => Ok(false),
     }
 }
@@ -103,8 +100,7 @@ fn act(
 // The site takes a step, and what is kept of it goes on.
 fn step_at(
     seat: &mut Seat,
-    scenario: &Scenario,
-    before: &[Entry],
+    prefix: &Prefix<'_>,
     site: u32,
     sent: u64,
     input: &Input,
@@ -112,16 +108,14 @@ fn step_at(
     outs: &[Packet],
     told: &[Told],
 ) -> Result<bool, NoMemory>
-    requires stands { SeatStands scenario.now before.now site seat.old }
-    requires sent { sent ≡ length (sent_in before.now) }
-    ensures up { IfOk result (λ on. on ≡ true → is_up_at before.now site ≡ true) }
-    ensures made { IfOk result (λ on. on ≡ true → record { owner = site; act = act.Step input.now records.now outs.now told.now } ≡ entry_of scenario.now before.now site input.now) }
-    ensures stands { IfOk result (λ on. on ≡ true → SeatStands scenario.now (before.now ++ entry_of scenario.now before.now site input.now ∷ []) site seat.new) }
+    requires stands { SeatStands prefix.now.scenario.now prefix.now.entries.now site seat.old }
+    requires sent { sent ≡ length (sent_in prefix.now.entries.now) }
+    ensures up { IfOk result (λ on. on ≡ true → is_up_at prefix.now.entries.now site ≡ true) }
+    ensures made { IfOk result (λ on. on ≡ true → record { owner = site; act = act.Step input.now records.now outs.now told.now } ≡ entry_of prefix.now.scenario.now prefix.now.entries.now site input.now) }
+    ensures stands { IfOk result (λ on. on ≡ true → SeatStands prefix.now.scenario.now (prefix.now.entries.now ++ entry_of prefix.now.scenario.now prefix.now.entries.now site input.now ∷ []) site seat.new) }
 {
     let being = &mut seat.being;
-    if !act(
-        being, scenario, before, site, sent, input, records, outs, told,
-    )? {
+    if !act(being, prefix, site, sent, input, records, outs, told)? {
         return Ok(false);
     }
     seat.note(input)?;
@@ -166,33 +160,29 @@ impl Auditor {
     /// be due.
     pub(crate) fn step(
         &mut self,
-        alloc: Global,
-        scenario: &Scenario,
-        before: &[Entry],
+        prefix: &Prefix<'_>,
         site: u32,
         input: &Input,
         records: &[Record],
         outs: &[Packet],
         told: &[Told],
     ) -> Result<bool, NoMemory>
-        requires stands { Stands scenario.now before.now self.old }
+        requires stands { Stands prefix.now.scenario.now prefix.now.entries.now self.old }
         requires some { 1 ≤ site }
-        requires exists { site ≤ length scenario.now.weights }
+        requires exists { site ≤ length prefix.now.scenario.now.weights }
         ensures { IfOk result (λ on. on ≡ true →
-            Stands scenario.now (before.now ++ record { owner = site; act = act.Step input.now records.now outs.now told.now } ∷ []) self.new) }
+            Stands prefix.now.scenario.now (prefix.now.entries.now ++ record { owner = site; act = act.Step input.now records.now outs.now told.now } ∷ []) self.new) }
     {
-        let due = self.input_is_due(alloc, scenario, before, site, input)?;
+        let due = self.input_is_due(prefix, site, input)?;
         if !due {
             return Ok(false);
         }
         let sent = self.net.sent();
         let seat = &mut self.seats[site as usize - 1];
-        if !step_at(
-            seat, scenario, before, site, sent, input, records, outs, told,
-        )? {
+        if !step_at(seat, prefix, site, sent, input, records, outs, told)? {
             return Ok(false);
         }
-        pass(alloc, &mut self.net, input, outs)?;
+        pass(prefix.alloc, &mut self.net, input, outs)?;
         Ok(true)
     }
 }

@@ -6,6 +6,7 @@ ghost use Rattle.e3_items.specs.Bindings.{bound_behind};
 
 use crate::auditor::Auditor;
 use e3_items::{BoundNames, bind, nothing_bound};
+use e3_judge::Prefix;
 use e3_types::{Act, Entry, NoMemory, Scenario};
 use std::alloc::Global;
 
@@ -21,17 +22,15 @@ impl Auditor {
     // Goes on over an entry, where it is seen to be legal.
     fn enter(
         &mut self,
-        alloc: Global,
-        scenario: &Scenario,
-        before: &[Entry],
+        prefix: &Prefix<'_>,
         after: &[Entry],
         binding: &BoundNames,
         entry: &Entry,
     ) -> Result<bool, NoMemory>
-        requires stands { Stands scenario.now before.now self.old }
-        requires after { after.now ≡ before.now ++ entry.now ∷ [] }
-        requires bound { binding.now ≡ bound_behind scenario.now before.now }
-        ensures { IfOk result (λ on. on ≡ true → Stands scenario.now (before.now ++ entry.now ∷ []) self.new) }
+        requires stands { Stands prefix.now.scenario.now prefix.now.entries.now self.old }
+        requires after { after.now ≡ prefix.now.entries.now ++ entry.now ∷ [] }
+        requires bound { binding.now ≡ bound_behind prefix.now.scenario.now prefix.now.entries.now }
+        ensures { IfOk result (λ on. on ≡ true → Stands prefix.now.scenario.now (prefix.now.entries.now ++ entry.now ∷ []) self.new) }
     {
         let owner = entry.owner;
         match &entry.act {
@@ -39,7 +38,7 @@ impl Auditor {
                 if owner != 0 {
                     return Ok(false);
                 }
-                self.line(alloc, scenario, before, binding, *number)
+                self.line(prefix, binding, *number)
             }
             Act::Step {
                 input,
@@ -47,13 +46,11 @@ impl Auditor {
                 outs,
                 told,
             } => {
-                if owner < 1 || owner as u64 > scenario.weights.len() {
+                if owner < 1 || owner as u64 > prefix.scenario.weights.len() {
                     return Ok(false);
                 }
                 self.step(
-                    alloc,
-                    scenario,
-                    before,
+                    prefix,
                     owner,
                     input,
                     records.as_slice(),
@@ -66,13 +63,11 @@ impl Auditor {
                 records,
                 why,
             } => {
-                if owner < 1 || owner as u64 > scenario.weights.len() {
+                if owner < 1 || owner as u64 > prefix.scenario.weights.len() {
                     return Ok(false);
                 }
                 self.fall(
-                    alloc,
-                    scenario,
-                    before,
+                    prefix,
                     owner,
                     inputs.as_slice(),
                     records.as_slice(),
@@ -84,10 +79,10 @@ impl Auditor {
                 if owner != 0 {
                     return Ok(false);
                 }
-                Ok(self.lose(scenario, before, *packet))
+                Ok(self.lose(prefix, *packet))
             }
-            Act::Parts { .. } => self.part(alloc, scenario, before, entry),
-            _ => self.turn(alloc, scenario, before, after, entry),
+            Act::Parts { .. } => self.part(prefix, entry),
+            _ => self.turn(prefix, after, entry),
         }
     }
 }
@@ -108,9 +103,13 @@ pub(crate) fn walk(
     };
     let mut binding = nothing_bound(alloc);
     for at in 0..history.len() {
-        let before = &history[..at];
         let after = &history[..at + 1];
-        if !auditor.enter(alloc, scenario, before, after, &binding, &history[at])? {
+        let prefix = Prefix {
+            alloc,
+            scenario,
+            entries: &history[..at],
+        };
+        if !auditor.enter(&prefix, after, &binding, &history[at])? {
             return Ok(Walked {
                 passed: at,
                 through: false,
@@ -118,7 +117,11 @@ pub(crate) fn walk(
         }
         bind(alloc, scenario, &history[at..at + 1], &mut binding)?;
     }
-    let through = auditor.is_through(alloc, scenario, history)?;
+    let through = auditor.is_through(&Prefix {
+        alloc,
+        scenario,
+        entries: history,
+    })?;
     Ok(Walked {
         passed: history.len(),
         through,

@@ -12,8 +12,8 @@ use Rattle.e3_world.specs.Given.{IsGiven}
 use Rattle.e3_world.specs.Legal.{IsLegal}
 use Rattle.e3_world.specs.Moves.{trail_of}
 use Rattle.e3_world.specs.Safe.{Agrees}
-use Rattle.e3_law_protocol.specs.Logs.{IsIn}
-use Rattle.e3_law_refinement.proofs.Lists.{same_from}
+use Rattle.e3_law_agreement.specs.Logs.{IsIn}
+use Rattle.e3_law_agreement.proofs.Refinement.Lists.{same_from}
 use Rattle.e3_law_agreement.proofs.Histories.{given_agrees}
 use Rattle.e3_judge.specs.Clashes.{decisions, is_abort_of, clash_by, Clashes}
 use Rattle.e3_judge.proofs.Placing.{looked_at, stands_placed}

@@ -14,7 +14,6 @@ use Rattle.e3_types.specs.declared.transactions.State.TheVariants.{Q, W, Pc, Pa,
 use Rattle.e3_types.specs.declared.transactions.Txn.{Txn}
 use Rattle.e3_types.specs.declared.messages.Message.{Message}
 use Rattle.e3_types.specs.declared.messages.Packet.{Packet}
-use Rattle.e3_types.specs.declared.verdicts.Verdict.{Verdict}
 use Rattle.e3_types.specs.declared.entries.Input.TheVariants as input
 use Rattle.e3_types.specs.declared.entries.Refusal.TheVariants as refusal
 use Rattle.e3_types.specs.declared.entries.Told.TheVariants as told

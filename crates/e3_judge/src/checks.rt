@@ -10,8 +10,10 @@ ghost use Rattle.e3_judge.specs.declared.breach.Guard.TheVariants as guard;
 ghost use Rattle.e3_judge.specs.Checks.{Check, is_site, line_is_due, parts_are_due, may_drop, drop_is_due, is_crash, is_next_inc, step_checks, fall_checks, rising_checks, rise_checks, checks, first_failing};
 ghost use Rattle.e3_judge.specs.Equal.{is_some, same_list, same_packet, same_record, same_told};
 
+use crate::copies::add_copies;
 use crate::equal::{Same, same_list};
-use crate::inputs::{add_copies, input_is_due, inputs_are_due, is_empty, is_in_order, records_by};
+use crate::inputs::is_empty;
+use crate::prefix::Prefix;
 use crate::{
     Guard, Tail, is_site, is_through, is_up_at, lines, log_at, made_by, may_rise, parts_due,
     pending, present_items, sent_count, since_line, tail_at,
@@ -28,21 +30,6 @@ fn is_next(number: u32, count: u64) -> bool
     number >= 1 && (number - 1) as u64 == count
 }
 
-// The next line, once all before is through.
-fn line_is_due(
-    alloc: Global,
-    scenario: &Scenario,
-    before: &[Entry],
-    number: u32,
-) -> Result<bool, NoMemory>
-    ensures { IfOk result (λ b. b ≡ line_is_due scenario.now before.now number) }
-{
-    if !is_next(number, lines(before)) || number as u64 > scenario.steps.len() {
-        return Ok(false);
-    }
-    is_through(alloc, scenario, before)
-}
-
 // These parts are due.
 fn are_parts(due: &Option<List<SiteSet>>, parts: &[SiteSet]) -> bool
     ensures { result ≡ is_some (same_list same_numbers) due.now parts.now }
@@ -51,56 +38,6 @@ fn are_parts(due: &Option<List<SiteSet>>, parts: &[SiteSet]) -> bool
         Some(due) => same_list(due.as_slice(), parts),
         None => false,
     }
-}
-
-// Directly behind the line of a split or a merge, with its parts.
-fn parts_are_due(
-    alloc: Global,
-    scenario: &Scenario,
-    before: &[Entry],
-    parts: &[SiteSet],
-) -> Result<bool, NoMemory>
-    ensures { IfOk result (λ b. b ≡ parts_are_due scenario.now before.now parts.now) }
-{
-    if !is_empty(since_line(before)) {
-        return Ok(false);
-    }
-    let due = parts_due(alloc, scenario, present_items(scenario, before))?;
-    Ok(are_parts(&due, parts))
-}
-
-// The packet has this number, its receiver is down, and in a recover step it is the least pending one.
-fn may_drop(
-    scenario: &Scenario,
-    before: &[Entry],
-    waiting: &[Packet],
-    number: u64,
-    packet: &Packet,
-) -> bool
-    requires { waiting.now ≡ pending scenario.now before.now }
-    ensures { result ≡ may_drop scenario.now before.now number packet.now }
-{
-    packet.number == number
-        && !is_up_at(before, packet.to)
-        && is_in_order(scenario, before, waiting, packet)
-}
-
-// Some packet of this number is pending, and may be dropped.
-fn drop_is_due(
-    alloc: Global,
-    scenario: &Scenario,
-    before: &[Entry],
-    number: u64,
-) -> Result<bool, NoMemory>
-    ensures { IfOk result (λ b. b ≡ drop_is_due scenario.now before.now number) }
-{
-    let waiting = pending(alloc, scenario, before)?;
-    for packet in waiting.as_slice() {
-        if may_drop(scenario, before, waiting.as_slice(), number, packet) {
-            return Ok(true);
-        }
-    }
-    Ok(false)
 }
 
 // The packet is this one, numbered behind so many that were sent and so many beside it.
@@ -129,101 +66,6 @@ pub fn are_numbered(packets: &[Packet], sent: u64, made: &[Packet]) -> bool
     true
 }
 
-// What a step has is what its input makes.
-fn made_breach(
-    before: &[Entry],
-    made: &Made,
-    records: &[Record],
-    outs: &[Packet],
-    told: &[Told],
-) -> Result<Option<Guard>, NoMemory>
-    ensures { IfOk result (λ g. g ≡ first_failing (
-        record { guard = guard.Records; holds = same_list same_record records.now made.now.records } ∷
-        record { guard = guard.Outs; holds = same_list same_packet outs.now (numbered (suc (length (sent before.now))) made.now.outs) } ∷
-        record { guard = guard.Told; holds = same_list same_told told.now made.now.told } ∷
-        [])) }
-{
-    if !same_list(records, made.records.as_slice()) {
-        return Ok(Some(Guard::Records));
-    }
-    let sent = sent_count(before)?;
-    if !are_numbered(outs, sent, made.outs.as_slice()) {
-        return Ok(Some(Guard::Outs));
-    }
-    if !same_list(told, made.told.as_slice()) {
-        return Ok(Some(Guard::Told));
-    }
-    Ok(None)
-}
-
-// The first guard that an entry of a site fails which has to be up.
-fn absent_breach(scenario: &Scenario, before: &[Entry], site: u32) -> Option<Guard>
-    ensures { result ≡ first_failing (
-        record { guard = guard.Owner; holds = is_site scenario.now site } ∷
-        record { guard = guard.Up; holds = is_up_at before.now site } ∷
-        []) }
-{
-    if !is_site(scenario, site) {
-        return Some(Guard::Owner);
-    }
-    if !is_up_at(before, site) {
-        return Some(Guard::Up);
-    }
-    None
-}
-
-// The first guard that a step fails.
-fn step_breach(
-    alloc: Global,
-    scenario: &Scenario,
-    before: &[Entry],
-    site: u32,
-    input: &Input,
-    records: &[Record],
-    outs: &[Packet],
-    told: &[Told],
-) -> Result<Option<Guard>, NoMemory>
-    ensures { IfOk result (λ g. g ≡ first_failing (step_checks scenario.now before.now site input.now records.now outs.now told.now)) }
-{
-    let absent = absent_breach(scenario, before, site);
-    if absent.is_some() {
-        return Ok(absent);
-    }
-    if !input_is_due(alloc, scenario, before, site, input)? {
-        return Ok(Some(Guard::Input));
-    }
-    let made = made_by(alloc, scenario, before, site, input)?;
-    made_breach(before, &made, records, outs, told)
-}
-
-// The first guard that a fall fails.
-fn fall_breach(
-    alloc: Global,
-    scenario: &Scenario,
-    before: &[Entry],
-    site: u32,
-    inputs: &[Input],
-    records: &[Record],
-) -> Result<Option<Guard>, NoMemory>
-    ensures { IfOk result (λ g. g ≡ first_failing (fall_checks scenario.now before.now site inputs.now records.now)) }
-{
-    let absent = absent_breach(scenario, before, site);
-    if absent.is_some() {
-        return Ok(absent);
-    }
-    if !inputs_are_due(alloc, scenario, before, site, inputs)? {
-        return Ok(Some(Guard::Input));
-    }
-    if is_empty(records) {
-        return Ok(Some(Guard::Records));
-    }
-    let made = records_by(alloc, scenario, before, site, inputs)?;
-    if !same_list(records, made.as_slice()) {
-        return Ok(Some(Guard::Records));
-    }
-    Ok(None)
-}
-
 // The present step is the site's crash.
 fn is_crash(items: &[Item], site: u32) -> bool
     ensures { result ≡ is_crash items.now site }
@@ -232,36 +74,6 @@ fn is_crash(items: &[Item], site: u32) -> bool
         [Item::Crash { site: s }] => *s == site,
         _ => false,
     }
-}
-
-// The first guard that a cut fails.
-fn cut_breach(scenario: &Scenario, before: &[Entry], site: u32) -> Option<Guard>
-    ensures { result ≡ first_failing (checks scenario.now before.now (record { owner = site; act = act.Cut })) }
-{
-    let absent = absent_breach(scenario, before, site);
-    if absent.is_some() {
-        return absent;
-    }
-    if !is_crash(present_items(scenario, before), site) {
-        return Some(Guard::Step);
-    }
-    None
-}
-
-// The first guard that a rise fails, also one that failed or that never read the log.
-fn rising_breach(scenario: &Scenario, before: &[Entry], site: u32) -> Option<Guard>
-    ensures { result ≡ first_failing (rising_checks scenario.now before.now site) }
-{
-    if !is_site(scenario, site) {
-        return Some(Guard::Owner);
-    }
-    if is_up_at(before, site) {
-        return Some(Guard::Up);
-    }
-    if !may_rise(scenario, before, site) {
-        return Some(Guard::Step);
-    }
-    None
 }
 
 // Adds the records of the tail that is kept.
@@ -280,104 +92,230 @@ fn add_kept(
     }
 }
 
-// The incarnation is one more than the last, the open tail counted where it is kept.
-fn is_next_inc(
-    alloc: Global,
-    scenario: &Scenario,
-    before: &[Entry],
-    site: u32,
-    kept: bool,
-    tail: &Option<Tail>,
-    inc: u32,
-) -> Result<bool, NoMemory>
-    requires { tail.now ≡ open_tail scenario.now before.now site }
-    ensures { IfOk result (λ b. b ≡ is_next_inc scenario.now before.now site kept inc) }
+// The guard, if it does not hold.
+fn unless(holds: bool, guard: Guard) -> Option<Guard>
+    ensures { result ≡ first_failing (record { guard = guard; holds = holds } ∷ []) }
 {
-    let mut log = log_at(alloc, scenario, before, site)?;
-    add_kept(alloc, site, kept, tail, &mut log)?;
-    Ok(is_next(inc, logged_inc(log.as_slice()) as u64))
+    if holds { None } else { Some(guard) }
 }
 
-// The first guard that a rise which read the log fails.
-fn rise_breach(
-    alloc: Global,
-    scenario: &Scenario,
-    before: &[Entry],
-    site: u32,
-    kept: bool,
-    inc: u32,
-) -> Result<Option<Guard>, NoMemory>
-    ensures { IfOk result (λ g. g ≡ first_failing (rise_checks scenario.now before.now site kept inc)) }
-{
-    let rising = rising_breach(scenario, before, site);
-    if rising.is_some() {
-        return Ok(rising);
+impl Prefix<'_> {
+    // The next line, once all before is through.
+    fn line_is_due(&self, number: u32) -> Result<bool, NoMemory>
+        ensures { IfOk result (λ b. b ≡ line_is_due self.now.scenario.now self.now.entries.now number) }
+    {
+        if !is_next(number, lines(self.entries)) || number as u64 > self.scenario.steps.len() {
+            return Ok(false);
+        }
+        is_through(self.alloc, self.scenario, self.entries)
     }
-    let tail = tail_at(alloc, scenario, before, site)?;
-    if kept && tail.is_none() {
-        return Ok(Some(Guard::Tail));
-    }
-    if !is_next_inc(alloc, scenario, before, site, kept, &tail, inc)? {
-        return Ok(Some(Guard::Inc));
-    }
-    Ok(None)
-}
 
-// The first guard that a line fails.
-fn line_breach(
-    alloc: Global,
-    scenario: &Scenario,
-    before: &[Entry],
-    owner: u32,
-    number: u32,
-) -> Result<Option<Guard>, NoMemory>
-    ensures { IfOk result (λ g. g ≡ first_failing (checks scenario.now before.now (record { owner = owner; act = act.Line number }))) }
-{
-    if owner != 0 {
-        return Ok(Some(Guard::Owner));
+    // Directly behind the line of a split or a merge, with its parts.
+    fn parts_are_due(&self, parts: &[SiteSet]) -> Result<bool, NoMemory>
+        ensures { IfOk result (λ b. b ≡ parts_are_due self.now.scenario.now self.now.entries.now parts.now) }
+    {
+        if !is_empty(since_line(self.entries)) {
+            return Ok(false);
+        }
+        let due = parts_due(
+            self.alloc,
+            self.scenario,
+            present_items(self.scenario, self.entries),
+        )?;
+        Ok(are_parts(&due, parts))
     }
-    if !line_is_due(alloc, scenario, before, number)? {
-        return Ok(Some(Guard::Line));
-    }
-    Ok(None)
-}
 
-// The first guard that new parts fails.
-fn parts_breach(
-    alloc: Global,
-    scenario: &Scenario,
-    before: &[Entry],
-    owner: u32,
-    parts: &[SiteSet],
-) -> Result<Option<Guard>, NoMemory>
-    ensures { IfOk result (λ g. g ≡ first_failing (checks scenario.now before.now (record { owner = owner; act = act.Parts parts.now }))) }
-{
-    if owner != 0 {
-        return Ok(Some(Guard::Owner));
+    // The packet has this number, its receiver is down, and in a recover step it is the least pending one.
+    fn may_drop(&self, waiting: &[Packet], number: u64, packet: &Packet) -> bool
+        requires { waiting.now ≡ pending self.now.scenario.now self.now.entries.now }
+        ensures { result ≡ may_drop self.now.scenario.now self.now.entries.now number packet.now }
+    {
+        packet.number == number
+            && !is_up_at(self.entries, packet.to)
+            && self.is_in_order(waiting, packet)
     }
-    if !parts_are_due(alloc, scenario, before, parts)? {
-        return Ok(Some(Guard::Parts));
-    }
-    Ok(None)
-}
 
-// The first guard that a drop fails.
-fn drop_breach(
-    alloc: Global,
-    scenario: &Scenario,
-    before: &[Entry],
-    owner: u32,
-    number: u64,
-) -> Result<Option<Guard>, NoMemory>
-    ensures { IfOk result (λ g. g ≡ first_failing (checks scenario.now before.now (record { owner = owner; act = act.Drop number }))) }
-{
-    if owner != 0 {
-        return Ok(Some(Guard::Owner));
+    // Some packet of this number is pending, and may be dropped.
+    fn drop_is_due(&self, number: u64) -> Result<bool, NoMemory>
+        ensures { IfOk result (λ b. b ≡ drop_is_due self.now.scenario.now self.now.entries.now number) }
+    {
+        let waiting = pending(self.alloc, self.scenario, self.entries)?;
+        for packet in waiting.as_slice() {
+            if self.may_drop(waiting.as_slice(), number, packet) {
+                return Ok(true);
+            }
+        }
+        Ok(false)
     }
-    if !drop_is_due(alloc, scenario, before, number)? {
-        return Ok(Some(Guard::Drop));
+
+    // What a step has is what its input makes.
+    fn made_breach(
+        &self,
+        made: &Made,
+        records: &[Record],
+        outs: &[Packet],
+        told: &[Told],
+    ) -> Result<Option<Guard>, NoMemory>
+        ensures { IfOk result (λ g. g ≡ first_failing (
+            record { guard = guard.Records; holds = same_list same_record records.now made.now.records } ∷
+            record { guard = guard.Outs; holds = same_list same_packet outs.now (numbered (suc (length (sent self.now.entries.now))) made.now.outs) } ∷
+            record { guard = guard.Told; holds = same_list same_told told.now made.now.told } ∷
+            [])) }
+    {
+        if !same_list(records, made.records.as_slice()) {
+            return Ok(Some(Guard::Records));
+        }
+        let sent = sent_count(self.entries)?;
+        if !are_numbered(outs, sent, made.outs.as_slice()) {
+            return Ok(Some(Guard::Outs));
+        }
+        Ok(unless(same_list(told, made.told.as_slice()), Guard::Told))
     }
-    Ok(None)
+
+    // The first guard that an entry of a site fails which has to be up.
+    fn absent_breach(&self, site: u32) -> Option<Guard>
+        ensures { result ≡ first_failing (
+            record { guard = guard.Owner; holds = is_site self.now.scenario.now site } ∷
+            record { guard = guard.Up; holds = is_up_at self.now.entries.now site } ∷
+            []) }
+    {
+        if !is_site(self.scenario, site) {
+            return Some(Guard::Owner);
+        }
+        unless(is_up_at(self.entries, site), Guard::Up)
+    }
+
+    // The first guard that a step fails.
+    fn step_breach(
+        &self,
+        site: u32,
+        input: &Input,
+        records: &[Record],
+        outs: &[Packet],
+        told: &[Told],
+    ) -> Result<Option<Guard>, NoMemory>
+        ensures { IfOk result (λ g. g ≡ first_failing (step_checks self.now.scenario.now self.now.entries.now site input.now records.now outs.now told.now)) }
+    {
+        let absent = self.absent_breach(site);
+        if absent.is_some() {
+            return Ok(absent);
+        }
+        if !self.input_is_due(site, input)? {
+            return Ok(Some(Guard::Input));
+        }
+        let made = made_by(self.alloc, self.scenario, self.entries, site, input)?;
+        self.made_breach(&made, records, outs, told)
+    }
+
+    // The first guard that a fall fails.
+    fn fall_breach(
+        &self,
+        site: u32,
+        inputs: &[Input],
+        records: &[Record],
+    ) -> Result<Option<Guard>, NoMemory>
+        ensures { IfOk result (λ g. g ≡ first_failing (fall_checks self.now.scenario.now self.now.entries.now site inputs.now records.now)) }
+    {
+        let absent = self.absent_breach(site);
+        if absent.is_some() {
+            return Ok(absent);
+        }
+        if !self.inputs_are_due(site, inputs)? {
+            return Ok(Some(Guard::Input));
+        }
+        if is_empty(records) {
+            return Ok(Some(Guard::Records));
+        }
+        let made = self.records_by(site, inputs)?;
+        Ok(unless(same_list(records, made.as_slice()), Guard::Records))
+    }
+
+    // The first guard that a cut fails.
+    fn cut_breach(&self, site: u32) -> Option<Guard>
+        ensures { result ≡ first_failing (checks self.now.scenario.now self.now.entries.now (record { owner = site; act = act.Cut })) }
+    {
+        let absent = self.absent_breach(site);
+        if absent.is_some() {
+            return absent;
+        }
+        let items = present_items(self.scenario, self.entries);
+        unless(is_crash(items, site), Guard::Step)
+    }
+
+    // The first guard that a rise fails, also one that failed or that never read the log.
+    fn rising_breach(&self, site: u32) -> Option<Guard>
+        ensures { result ≡ first_failing (rising_checks self.now.scenario.now self.now.entries.now site) }
+    {
+        if !is_site(self.scenario, site) {
+            return Some(Guard::Owner);
+        }
+        if is_up_at(self.entries, site) {
+            return Some(Guard::Up);
+        }
+        unless(may_rise(self.scenario, self.entries, site), Guard::Step)
+    }
+
+    // The incarnation is one more than the last, the open tail counted where it is kept.
+    fn is_next_inc(
+        &self,
+        site: u32,
+        kept: bool,
+        tail: &Option<Tail>,
+        inc: u32,
+    ) -> Result<bool, NoMemory>
+        requires { tail.now ≡ open_tail self.now.scenario.now self.now.entries.now site }
+        ensures { IfOk result (λ b. b ≡ is_next_inc self.now.scenario.now self.now.entries.now site kept inc) }
+    {
+        let mut log = log_at(self.alloc, self.scenario, self.entries, site)?;
+        add_kept(self.alloc, site, kept, tail, &mut log)?;
+        Ok(is_next(inc, logged_inc(log.as_slice()) as u64))
+    }
+
+    // The first guard that a rise which read the log fails.
+    fn rise_breach(&self, site: u32, kept: bool, inc: u32) -> Result<Option<Guard>, NoMemory>
+        ensures { IfOk result (λ g. g ≡ first_failing (rise_checks self.now.scenario.now self.now.entries.now site kept inc)) }
+    {
+        let rising = self.rising_breach(site);
+        if rising.is_some() {
+            return Ok(rising);
+        }
+        let tail = tail_at(self.alloc, self.scenario, self.entries, site)?;
+        if kept && tail.is_none() {
+            return Ok(Some(Guard::Tail));
+        }
+        let is_next = self.is_next_inc(site, kept, &tail, inc)?;
+        Ok(unless(is_next, Guard::Inc))
+    }
+
+    // The first guard that a line fails.
+    fn line_breach(&self, owner: u32, number: u32) -> Result<Option<Guard>, NoMemory>
+        ensures { IfOk result (λ g. g ≡ first_failing (checks self.now.scenario.now self.now.entries.now (record { owner = owner; act = act.Line number }))) }
+    {
+        if owner != 0 {
+            return Ok(Some(Guard::Owner));
+        }
+        Ok(unless(self.line_is_due(number)?, Guard::Line))
+    }
+
+    // The first guard that new parts fails.
+    fn parts_breach(&self, owner: u32, parts: &[SiteSet]) -> Result<Option<Guard>, NoMemory>
+        ensures { IfOk result (λ g. g ≡ first_failing (checks self.now.scenario.now self.now.entries.now (record { owner = owner; act = act.Parts parts.now }))) }
+    {
+        if owner != 0 {
+            return Ok(Some(Guard::Owner));
+        }
+        Ok(unless(self.parts_are_due(parts)?, Guard::Parts))
+    }
+
+    // The first guard that a drop fails.
+    fn drop_breach(&self, owner: u32, number: u64) -> Result<Option<Guard>, NoMemory>
+        ensures { IfOk result (λ g. g ≡ first_failing (checks self.now.scenario.now self.now.entries.now (record { owner = owner; act = act.Drop number }))) }
+    {
+        if owner != 0 {
+            return Ok(Some(Guard::Owner));
+        }
+        Ok(unless(self.drop_is_due(number)?, Guard::Drop))
+    }
 }
 
 /// The first guard that an entry fails behind these entries, none where it may come there. They are read anew.
@@ -389,20 +327,22 @@ pub fn entry_breach(
 ) -> Result<Option<Guard>, NoMemory>
     ensures { IfOk result (λ g. g ≡ first_failing (checks scenario.now before.now entry.now)) }
 {
+    let prefix = Prefix {
+        alloc,
+        scenario,
+        entries: before,
+    };
     let owner = entry.owner;
     match &entry.act {
-        Act::Line { number } => line_breach(alloc, scenario, before, owner, *number),
-        Act::Parts { parts } => parts_breach(alloc, scenario, before, owner, parts.as_slice()),
-        Act::Drop { packet } => drop_breach(alloc, scenario, before, owner, *packet),
+        Act::Line { number } => prefix.line_breach(owner, *number),
+        Act::Parts { parts } => prefix.parts_breach(owner, parts.as_slice()),
+        Act::Drop { packet } => prefix.drop_breach(owner, *packet),
         Act::Step {
             input,
             records,
             outs,
             told,
-        } => step_breach(
-            alloc,
-            scenario,
-            before,
+        } => prefix.step_breach(
             owner,
             input,
             records.as_slice(),
@@ -413,19 +353,10 @@ pub fn entry_breach(
             inputs,
             records,
             ..
-        } => fall_breach(
-            alloc,
-            scenario,
-            before,
-            owner,
-            inputs.as_slice(),
-            records.as_slice(),
-        ),
-        Act::Cut => Ok(cut_breach(scenario, before, owner)),
-        Act::Rise { kept, inc } => rise_breach(alloc, scenario, before, owner, *kept, *inc),
-        Act::RiseFall { kept, inc, .. } => {
-            rise_breach(alloc, scenario, before, owner, *kept, *inc)
-        }
-        Act::Miss => Ok(rising_breach(scenario, before, owner)),
+        } => prefix.fall_breach(owner, inputs.as_slice(), records.as_slice()),
+        Act::Cut => Ok(prefix.cut_breach(owner)),
+        Act::Rise { kept, inc } => prefix.rise_breach(owner, *kept, *inc),
+        Act::RiseFall { kept, inc, .. } => { prefix.rise_breach(owner, *kept, *inc) }
+        Act::Miss => Ok(prefix.rising_breach(owner)),
     }
 }

@@ -5,6 +5,7 @@ ghost use Rattle.e3_types.specs.Sets.{has_site};
 ghost use Rattle.e3_world.specs.Moves.{own};
 ghost use Rattle.e3_judge.specs.Clashes.{with_owner, owners, decisions_in, nothing_yet, with_step, with_fall, risen, decided_by, decided_at, decisions};
 
+use crate::copies::add_copies;
 use e3_types::{Act, Copied, Entry, List, NoMemory, Record, Why};
 use std::alloc::Global;
 
@@ -31,20 +32,6 @@ fn add_decisions(alloc: Global, records: &[Record], out: &mut List<Record>) -> R
 {
     for r in records {
         add_decision(alloc, r, out)?;
-    }
-    Ok(())
-}
-
-/// Adds equal records at the end.
-pub(crate) fn add_records(
-    alloc: Global,
-    records: &[Record],
-    out: &mut List<Record>,
-) -> Result<(), NoMemory>
-    ensures { IfOk result (λ u. out.new ≡ out.old ++ records.now) }
-{
-    for r in records {
-        out.push(r.copied(alloc)?)?;
     }
     Ok(())
 }
@@ -86,7 +73,7 @@ fn risen(alloc: Global, was: Decided, kept: bool) -> Result<Decided, NoMemory>
 {
     let mut sure = was.sure;
     if kept {
-        add_records(alloc, was.doubted.as_slice(), &mut sure)?;
+        add_copies(alloc, was.doubted.as_slice(), &mut sure)?;
     }
     Ok(Decided {
         sure,
@@ -159,7 +146,7 @@ pub fn decisions(alloc: Global, history: &[Entry]) -> Result<List<Record>, NoMem
     let mut out = List::new(alloc);
     for s in sites.as_slice() {
         let log = decided_at(alloc, history, *s)?;
-        add_records(alloc, log.as_slice(), &mut out)?;
+        add_copies(alloc, log.as_slice(), &mut out)?;
     }
     Ok(out)
 }

@@ -6,8 +6,8 @@ ghost use Rattle.e3_world.specs.Legal.{entry_of, made_by, numbered};
 ghost use Rattle.e3_world.specs.Packets.{sent};
 ghost use Rattle.e3_judge.specs.Standing.{kept_in, nothing_yet, standing_by, stepped};
 
+use crate::copies::add_copies;
 use crate::counts::add;
-use crate::logs::add_records;
 use crate::packets::sent_count;
 use e3_plain::{plain, plain_input, step_of};
 use e3_readings::{present_log, rows_at};
@@ -94,7 +94,7 @@ fn risen(alloc: Global, now: &Incarnation, records: &[Record]) -> Result<Incarna
     ensures { IfOk result (λ i. i ≡ record { rose = present_log now.now ++ records.now; since = [] }) }
 {
     let mut rose = log_now(alloc, now)?;
-    add_records(alloc, records, &mut rose)?;
+    add_copies(alloc, records, &mut rose)?;
     Ok(Incarnation {
         rose,
         since: List::new(alloc),
@@ -397,9 +397,7 @@ pub fn copied_with(alloc: Global, history: &[Entry], more: Entry) -> Result<List
     ensures { IfOk result (λ entries. entries ≡ history.now ++ more ∷ []) }
 {
     let mut entries = List::new(alloc);
-    for e in history {
-        entries.push(e.copied(alloc)?)?;
-    }
+    add_copies(alloc, history, &mut entries)?;
     entries.push(more)?;
     Ok(entries)
 }

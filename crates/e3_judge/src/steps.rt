@@ -118,8 +118,8 @@ pub fn may_rise(sc: &Scenario, history: &[Entry], site: u32) -> bool
     }
 }
 
-// The first of these entries is one of parts.
-fn begins_with_parts(entries: &[Entry]) -> bool
+/// The first of these entries is one of parts.
+pub fn begins_with_parts(entries: &[Entry]) -> bool
     ensures { result ≡ begins_with_parts entries.now }
 {
     match entries {

@@ -5,5 +5,5 @@ use Rattle.e3_audit.proofs.lining.ask_all.Given as goal
 abbrev pub invariant-loop-at : goal.invariant-loop-at
 invariant-loop-at l = record {
   count : length l.seats ≡ length l.fn.seats;
-  asked : AskedTo l._scenario l._before l._number l.at l.seats;
+  asked : AskedTo l.prefix.scenario.now l.prefix.entries.now l._number l.at l.seats;
 }

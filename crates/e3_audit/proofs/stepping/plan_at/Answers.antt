@@ -10,5 +10,5 @@ plan-requires g c = subst (λ (i : Incarnation). Stands i c.args.up.now) (sym c.
 
 pub returns-clause-made : goal.returns-clause-made
 returns-clause-made g c = IfOk-weaker c.plan.result _ _ (λ plan plans.
-    plan_made c.args._scenario.now c.args._before.now c.args._site c.args.up.now c.args.input.now g.now plan.step c.requires.0 c.requires.1 plans)
+    plan_made c.args._prefix.now.scenario.now c.args._prefix.now.entries.now c.args._site c.args.up.now c.args.input.now g.now plan.step c.requires.0 c.requires.1 plans)
     c.plan.ensures.stands

@@ -13,8 +13,8 @@ returns c =
     let seats = c.ask_all.new.seats in
     let same : (with_items c.args.self.now.seats seats).items ≡ seats = with_items_is c.args.self.now.seats seats (c.ask_all.ensures.count ∙ c.deref_mut.ensures.len) in
     IfOk-weaker c.ask_all.result _ _ (λ u stand.
-    begun c.args.scenario.now c.args.before.now c.args.number c.args.self.now
+    begun c.args.prefix.now.scenario.now c.args.prefix.now.entries.now c.args.number c.args.self.now
     (record { lines = c.args.number; net = c.calm.new.self; seats = with_items c.args.self.now.seats seats }) c.requires.stands c.requires.due refl
     (c.calm.ensures.traffic ∙ ap (λ b. record c.args.self.now.net.traffic { calm = b }) (c.is_calm.ensures ∙ ap is_calm c.step_items.ensures))
     (ap length same ∙ c.ask_all.ensures.count ∙ ap length c.deref_mut.ensures.value)
-    (subst (λ (l : List Seat). SeatsStand c.args.scenario.now (c.args.before.now ++ line_of c.args.number ∷ []) l) (sym same) stand)) c.ask_all.ensures.stand
+    (subst (λ (l : List Seat). SeatsStand c.args.prefix.now.scenario.now (c.args.prefix.now.entries.now ++ line_of c.args.number ∷ []) l) (sym same) stand)) c.ask_all.ensures.stand

@@ -10,8 +10,8 @@ use Rattle.e3_audit.proofs.auditor.Auditor.delivery_is_due.Goals as goal
 
 pub returns-clause-due : goal.returns-clause-due
 returns-clause-due c = λ yes.
-    let sc = c.args.scenario.now in
-    let h = c.args.before.now in
+    let sc = c.args.prefix.now.scenario.now in
+    let h = c.args.prefix.now.entries.now in
     let a = c.args.self.now in
     let next : packet_to c.args.site a.net.traffic ≡ Some c.args.packet.now =
     (exact_some same_packet exact_packet (packet_to c.args.site a.net.traffic) c.args.packet.now).0 (sym c.is_next_to.ensures ∙ c.if-not-is_next_to.false) in

@@ -10,8 +10,8 @@ use Rattle.e3_audit.proofs.auditor.Auditor.elect_is_due.Goals as goal
 
 pub returns-then-is_next_item : goal.returns-then-is_next_item
 returns-then-is_next_item c = λ yes.
-    let sc = c.args.scenario.now in
-    let h = c.args.before.now in
+    let sc = c.args.prefix.now.scenario.now in
+    let h = c.args.prefix.now.entries.now in
     let items = c.args.self.now.seats.items in
     let count = c.requires.stands.count in
     let seat = c.index.result.now in
@@ -23,5 +23,5 @@ returns-then-is_next_item c = λ yes.
 
 pub returns : goal.returns
 returns c = IfOk-weaker c.round_is_due.result _ _ (λ b both yes.
-    round_due c.args.scenario.now c.args.before.now c.args.site c.args.txn.now c.args.group c.args.self.now.net.traffic c.requires.stands.net
+    round_due c.args.prefix.now.scenario.now c.args.prefix.now.entries.now c.args.site c.args.txn.now c.args.group c.args.self.now.net.traffic c.requires.stands.net
     (both yes).0 (both yes).1) c.round_is_due.ensures

@@ -8,8 +8,8 @@ use Rattle.e3_audit.proofs.auditor.Auditor.input_is_due.Goals as goal
 
 pub returns-in_default : goal.returns-in_default
 returns-in_default c =
-    let sc = c.args.scenario.now in
-    let h = c.args.before.now in
+    let sc = c.args.prefix.now.scenario.now in
+    let h = c.args.prefix.now.entries.now in
     let items = c.args.self.now.seats.items in
     let count = c.requires.stands.count in
     let seat = c.index.result.now in

@@ -7,6 +7,6 @@ use Rattle.e3_audit.proofs.auditor.Auditor.is_made.Goals as goal
 
 pub returns-then-are_groupable : goal.returns-then-are_groupable
 returns-then-are_groupable c = λ yes.
-    group_made c.args.scenario.now c.args.before.now c.args.self.now c.requires.stands
+    group_made c.args.prefix.now.scenario.now c.args.prefix.now.entries.now c.args.self.now c.requires.stands
     (sym (c.are_groupable.ensures ∙ ap (list_all is_groupable) c.step_items-items.ensures) ∙ c.if-are_groupable.true)
     (sym (c.are_done.ensures ∙ ap (list_all is_done) c.as_slice.ensures.value) ∙ yes)

@@ -1,7 +1,0 @@
-use Rattle.std.proofs.Common.{◌≡◌, drop}
-use Rattle.e3_judge.specs.Checks.{inputs_are_due}
-use Rattle.e3_judge.proofs.inputs.inputs_are_due.Given as goal
-
-abbrev pub invariant-loop-input : goal.invariant-loop-input
-invariant-loop-input l =
-    inputs_are_due l.scenario l.before l.site l.inputs ≡ inputs_are_due l.scenario l.history l.site (drop l.input-index l.inputs)
