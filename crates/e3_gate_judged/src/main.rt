@@ -6,9 +6,11 @@
 //! `judge NAME` judges a run, and `group NAME` four. `stop NAME: CALL LEAVE` puts these words for the `@` of the text, judges the run
 //! and adds the events behind the stop. `run NAME: SETTINGS` tells how a run ends whose streams, disks or history are as the
 //! settings say, and `events NAME: SETTINGS` counts some events of it. `disk` has the bytes of the disk of site 1, and `fronts` how
-//! each front of the text is refused.
+//! each front of the text is refused. `change BODIES: VALUES` opens logs over a disk with a frame for each body, where one byte is
+//! changed by one of the values.
 #![tactic(auto)]
 
+mod damage;
 mod ends;
 mod fronts;
 mod given;
@@ -51,6 +53,7 @@ fn push_command<R: Wait + Threads + Sync>(
         Some(b'e') => ends::push_counted(rt, alloc, page, name, text, settings),
         Some(b'd') => ends::push_disk(rt, alloc, page, text),
         Some(b'f') => fronts::push_fronts(rt, alloc, page, text),
+        Some(b'c') => damage::push_changes(alloc, page, name, settings),
         _ => page.lack(),
     }
 }

@@ -7,8 +7,8 @@ use e3_log::{Frame, Log, OpenCause, OpenRefused};
 use e3_types::{Entry, List, NoMemory, Record, Scenario};
 use std::alloc::Global;
 
-// Opens a log over a disk that has power.
-fn open<D: Drill + Drop>(
+/// Opens a log over a disk, to which it gives power.
+pub fn open<D: Drill + Drop>(
     alloc: Global,
     mut disk: D,
 ) -> Result<(Log<D>, List<Frame>), OpenRefused<D>> {

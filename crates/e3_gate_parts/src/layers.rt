@@ -1,8 +1,7 @@
 // Worked cases of values, bytes, disks, packets and verdicts: bodies of records and bytes that are none, which stand in the input,
-// disks in memory, logs, those of damaged disks too, and streams, the fates and the order of packets, and what an elector concludes.
+// disks in memory, logs and streams, the fates and the order of packets, and what an elector concludes.
 
 mod bodies;
-mod damage;
 mod disks;
 mod logs;
 mod nets;
@@ -23,7 +22,6 @@ pub fn push_lines(alloc: Global, page: &mut Page, input: &Page) {
     bodies::push_lines(alloc, page, input.as_slice());
     disks::push_lines(alloc, page);
     logs::push_lines(alloc, page);
-    damage::push_lines(alloc, page);
     streams::push_lines(alloc, page);
     nets::push_lines(alloc, page);
     verdicts::push_lines(page);

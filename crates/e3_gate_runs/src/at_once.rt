@@ -1,10 +1,12 @@
 // Two sites at work at the same time. Each takes a packet of the other's, and a gate holds it there until the other has
 // come with its own: so both are in the midst of their turns at once. The program prints whether they met in each of its
 // runs, and the report, which is the same in all. Behind that it prints how many calls of disks a group of commits makes, where
-// workers take one packet in each turn of work, and where they take eight.
+// workers take one packet in each turn of work, and where they take eight; and how many calls of its disk a node makes for one
+// request for a vote, and for eight that it is given in one call.
 
 mod batches;
 mod meeting;
+mod nodes;
 
 use crate::playing::CAPACITY;
 use batches::push_batches;
@@ -14,6 +16,7 @@ use e3_outside::{MemSink, MemSource};
 use e3_top::run;
 use e3_types::List;
 use meeting::Meeting;
+use nodes::push_nodes;
 use std::alloc::Global;
 use std::sync::Wait;
 use std::thread::Threads;
@@ -128,11 +131,12 @@ fn push_runs<R: Wait + Threads + Sync>(rt: &R, alloc: Global, page: &mut Page, f
 }
 
 /// Adds what the runs come to: in how many of them the sites met, and how many reports are the first one, which follows. Then
-/// how many calls of disks a group of commits makes.
+/// how many calls of disks a group of commits makes, and how many a node.
 pub fn push_lines<R: Wait + Threads + Sync>(rt: &R, alloc: Global, page: &mut Page) {
     match reported(rt, alloc, &Meeting::new()) {
         Some(first) => push_runs(rt, alloc, page, first.written()),
         None => page.lack(),
     }
     push_batches(rt, alloc, page);
+    push_nodes(rt, alloc, page);
 }

@@ -32,6 +32,9 @@ const CRASH: &str = "  \"crash 3\",\n";
 const COMMITS: &str =
     "  [\"commit a\", \"commit b\", \"commit c\", \"commit d\", \"commit e\", \"commit f\", \"commit g\", \"commit h\"],\n";
 
+/// Steps that ask site 2 for its votes on eight transactions without operations.
+pub const ASKED: [&str; 2] = [TWO, COMMITS];
+
 // How many writes and syncs are asked of the disks of the sites 1 and 2.
 #[derive(Clone, Copy)]
 struct Calls {
@@ -80,8 +83,8 @@ fn text_of(alloc: Global, steps: &[&str]) -> Page {
     text
 }
 
-// The scenario of these steps; none without memory.
-fn scenario_of(alloc: Global, steps: &[&str]) -> Option<Scenario>
+/// The scenario of these steps; none without memory.
+pub fn scenario_of(alloc: Global, steps: &[&str]) -> Option<Scenario>
     ensures { IfSome result IsGiven }
 {
     let text = text_of(alloc, steps).done()?;

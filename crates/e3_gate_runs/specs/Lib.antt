@@ -1,0 +1,2 @@
+pub mod TwoNodes
+pub mod AtOnce
