@@ -6,7 +6,7 @@ use Rattle.e3_types.specs.declared.entries.Entry.{Entry}
 use Rattle.e3_types.specs.declared.scenarios.Scenario.{Scenario}
 use Rattle.e3_world.specs.Moves.{Placed, own, trail_of, all_records}
 use Rattle.e3_world.specs.Packets.{all_sites}
-use Rattle.e3_report.specs.Report.{present_inc, site_heading, log_lines, site_lines, order_lines, plain_report_of}
+use Rattle.e3_report.specs.Report.{present_inc, site_heading, log_lines, site_lines, order_lines, report_without_trace}
 use Rattle.e3_report.specs.Steps.{start_lines, steps_after}
 use Rattle.e3_lines.specs.Texts.{line_end}
 use Rattle.e3_report.specs.Walk.{site_by, report_by, walk_of}
@@ -25,7 +25,7 @@ sites_same sc h (s ∷ sites) =
 
 -- the report that is read off the records of a walk
 pub report_walked : (sc : Scenario) (h : List Entry) (placed : List Placed) (none whole : List ℕ) →
-    placed ≡ (walk_of sc h).placed → none ≡ [] → whole ≡ none ++ report_by sc h placed → whole ≡ plain_report_of sc h
+    placed ≡ (walk_of sc h).placed → none ≡ [] → whole ≡ none ++ report_by sc h placed → whole ≡ report_without_trace sc h
 unfolding report_by
 report_walked sc h placed none whole gathered empty made =
     made ∙ ap (λ l. l ++ report_by sc h placed) empty ∙ ap (report_by sc h) (gathered ∙ walk_placed sc h)

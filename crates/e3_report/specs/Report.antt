@@ -54,8 +54,8 @@ unfoldable pub site_lines : Scenario → List Entry → ℕ → List ℕ
 site_lines sc history site = site_heading site (present_inc (own site history)) ++ log_lines (log_of sc history site)
 
 -- The report without a trace: the start, the steps, the order, each site in ascending order, and `end`.
-abbrev pub plain_report_of : Scenario → List Entry → List ℕ
-plain_report_of sc history =
+abbrev pub report_without_trace : Scenario → List Entry → List ℕ
+report_without_trace sc history =
     start_lines sc history ++ steps_after sc [] history ++ order_lines (all_records (trail_of sc history))
     ++ flat_map (site_lines sc history) (all_sites sc) ++ codes "end" ++ line_end
 
@@ -66,4 +66,4 @@ trace_lines history false = []
 
 -- The report of a scenario and a history; where the trace is asked for it stands behind.
 abbrev pub report_of : Scenario → List Entry → Bool → List ℕ
-report_of sc history trace = plain_report_of sc history ++ trace_lines history trace
+report_of sc history trace = report_without_trace sc history ++ trace_lines history trace

@@ -2,7 +2,7 @@
 ghost use Rattle.std.specs.Prelude.{◌≡◌, ◌++◌, IfOk, OnOk};
 ghost use Rattle.std.specs.List.{flat_map};
 ghost use Rattle.e3_world.specs.Packets.{all_sites};
-ghost use Rattle.e3_report.specs.Report.{plain_report_of, trace_lines, report_of};
+ghost use Rattle.e3_report.specs.Report.{report_without_trace, trace_lines, report_of};
 ghost use Rattle.e3_report.specs.Walk.{site_by, report_by};
 
 use crate::ends::push_end;
@@ -68,7 +68,7 @@ fn push_report(
 }
 
 fn report_alone(alloc: Global, scenario: &Scenario, history: &[Entry]) -> Result<List<u8>, NoMemory>
-    ensures { IfOk result (λ text. text ≡ plain_report_of scenario.now history.now) }
+    ensures { IfOk result (λ text. text ≡ report_without_trace scenario.now history.now) }
 {
     let walk = walk_of(alloc, scenario, history)?;
     let mut out = List::new(alloc);

@@ -18,14 +18,14 @@ use Rattle.e3_trace.specs.Cuts.{Leaves, made_of}
 use Rattle.e3_trace.specs.Drafts.{act_by, act_of, entry_from, first_by, first_of, is_complete, is_step, ops_due, packet_line, packet_of, record_by, records_of, takes_packets, takes_told, told_line, votes_of, with_input, with_packet, with_record_line, with_told}
 use Rattle.e3_trace.specs.Events.{event_by, event_of, refusal_by, refusal_of, told_by, told_of}
 use Rattle.e3_trace.specs.Fields.{Known, known_sent, known_told, named, txn_of}
-use Rattle.e3_trace.specs.Messages.{message_by, message_of, do_of, done_of, died_of, ask_of, last_of, elected_of, report_of, votereq_of, vote_of, pre_of, ack_of, decide_of, deciding_by}
+use Rattle.e3_trace.specs.Messages.{message_by, message_of, do_of, done_of, died_of, ask_of, last_of, elected_of, site_report_of, votereq_of, vote_of, pre_of, ack_of, decide_of, deciding_by}
 use Rattle.e3_trace.specs.Trace.{Reading, closed}
 use Rattle.e3_trace.specs.Past.{IsFitting, SameOuts, by_number, knowing, known_at, sends}
 use Rattle.e3_trace.proofs.Standing.{by_number_more, sent_more}
 
 -- what is read of transactions hangs on no packet
 packet_any : (known : Known) (packets : List Packet) (site : ℕ) (text : List ℕ) → packet_of (knowing known packets) site text ≡ packet_of known site text
-unfolding packet_of message_of message_by deciding_by do_of done_of died_of ask_of last_of elected_of report_of votereq_of vote_of pre_of ack_of decide_of txn_of named
+unfolding packet_of message_of message_by deciding_by do_of done_of died_of ask_of last_of elected_of site_report_of votereq_of vote_of pre_of ack_of decide_of txn_of named
 packet_any known packets site text = refl
 
 record_any : (known : Known) (packets : List Packet) (d : Draft) (text : List ℕ) → with_record_line (knowing known packets) d text ≡ with_record_line known d text

@@ -26,7 +26,7 @@ use Rattle.e3_trace.specs.Cuts.{space, pair_of, behind}
 use Rattle.e3_trace.specs.Events.{of_of, block_from, verdict_of, doom_of, doomed_from, refusal_by, refusal_of, event_by, event_of, began_of, told_by, told_of}
 use Rattle.e3_trace.specs.Fields.{Known, u32_of, u64_of, sites_of, dir_of, state_of, op_of, answer_of, txn_from, named, txn_of, packet_at, sent_of}
 use Rattle.e3_trace.specs.Inputs.{do_from, elect_from, input_by, input_of}
-use Rattle.e3_trace.specs.Messages.{call_from, do_of, done_of, died_of, ask_of, last_of, elected_of, report_of, votereq_of, yes_of, vote_of, pre_of, ack_of, decide_of, deciding_by, message_by, message_of}
+use Rattle.e3_trace.specs.Messages.{call_from, do_of, done_of, died_of, ask_of, last_of, elected_of, site_report_of, votereq_of, yes_of, vote_of, pre_of, ack_of, decide_of, deciding_by, message_by, message_of}
 use Rattle.e3_trace.specs.Tellable.{IsShort, IsLong, HasNumbers, IsBegun, InputTells, MessageTells, RefusalTells, IsVerdict, EventTells}
 use Rattle.e3_trace.proofs.Chains.{IsWord, two, three, four, two_again, three_again, four_again}
 use Rattle.e3_trace.proofs.Cutting.{cut_join, pair_again}
@@ -74,7 +74,7 @@ input_again known (input.Deliver packet) is =
 
 -- messages
 pub message_again : (known : Known) (m : Message) → MessageTells known m → message_of known (message_text m) ≡ Some m
-unfolding message_of message_by deciding_by do_of done_of died_of ask_of last_of elected_of report_of votereq_of vote_of pre_of ack_of decide_of message_text do_message done_message died_message last_message report_message votereq_message vote_message decide_message txn_and_number txn_and_call txn_and_attempt yes_text
+unfolding message_of message_by deciding_by do_of done_of died_of ask_of last_of elected_of site_report_of votereq_of vote_of pre_of ack_of decide_of message_text do_message done_message died_message last_message report_message votereq_message vote_message decide_message txn_and_number txn_and_call txn_and_attempt yes_text
 message_again known (msg.Do t n op) is =
     made (λ (p : Txn × (ℕ × Op)). msg.Do p.0 p.1.0 p.1.1) (pair_of space (txn_of known) (pair_of space u32_of op_of) (three (txn_text t) (decimal n) (operation_text op))) (t, (n, op))
     (three_again (txn_of known) u32_of op_of (txn_text t) (decimal n) (operation_text op) t n op (txn_word known t is.0) (short_word n is.1.0) (op_again op is.1.1))

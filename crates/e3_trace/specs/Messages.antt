@@ -49,8 +49,8 @@ unfoldable pub elected_of : Known → Form Message
 elected_of known text = made_of (λ p. msg.Elected p.0 p.1) (numbered_of known) text
 
 -- `report T N STATE ATTEMPT`
-unfoldable pub report_of : Known → Form Message
-report_of known text =
+unfoldable pub site_report_of : Known → Form Message
+site_report_of known text =
     made_of (λ p. msg.Report p.0 p.1.0 p.1.1.0 p.1.1.1)
     (pair_of space (txn_of known) (pair_of space u32_of (pair_of space state_of u32_of))) text
 
@@ -84,7 +84,7 @@ deciding_by known verb text =
     if bytes_eq verb (codes "ask") then ask_of known text
     else if bytes_eq verb (codes "last") then last_of known text
     else if bytes_eq verb (codes "elected") then elected_of known text
-    else if bytes_eq verb (codes "report") then report_of known text
+    else if bytes_eq verb (codes "report") then site_report_of known text
     else if bytes_eq verb (codes "ack") then ack_of known text
     else if bytes_eq verb (codes "decide") then decide_of known text
     else None

@@ -1,7 +1,7 @@
 // The messages of sites, read behind what earlier lines tell. Reading one takes no memory of its own.
 ghost use Rattle.e3_trace.specs.Cuts.{space, pair_of, Gives};
 ghost use Rattle.e3_trace.specs.Fields.{u32_of, state_of, op_of, answer_of, txn_of};
-ghost use Rattle.e3_trace.specs.Messages.{yes_of, do_of, done_of, died_of, ask_of, last_of, elected_of, report_of, votereq_of, vote_of, pre_of, ack_of, decide_of, deciding_by, message_by, message_of};
+ghost use Rattle.e3_trace.specs.Messages.{yes_of, do_of, done_of, died_of, ask_of, last_of, elected_of, site_report_of, votereq_of, vote_of, pre_of, ack_of, decide_of, deciding_by, message_by, message_of};
 
 use crate::cuts::{SPACE, cut, is_text};
 use crate::faults::Fault;
@@ -145,9 +145,9 @@ fn reported(text: &[u8]) -> Result<(u32, (State, u32)), Fault>
     Ok((n, standing))
 }
 
-#[tactic(auto, unfolding(crate::specs::Messages::report_of))]
+#[tactic(auto, unfolding(crate::specs::Messages::site_report_of))]
 fn report(known: &Known, text: &[u8]) -> Result<Message, Fault>
-    ensures { Gives result (report_of known.now text.now) }
+    ensures { Gives result (site_report_of known.now text.now) }
 {
     let (word, rest) = cut(text, SPACE)?;
     let txn = known.txn(word)?;
