@@ -1,9 +1,0 @@
-pub mod Lists
-mod Reading
-mod Keeping
-mod Handling
-mod Inputs
-mod Due
-pub mod Holding
-pub mod Laws
-pub mod Begins

@@ -1,8 +1,0 @@
-pub mod Logs
-pub mod Agree
-pub mod Grow
-pub mod Keep
-pub mod Shares
-pub mod Ruled
-pub mod Reached
-pub mod Built

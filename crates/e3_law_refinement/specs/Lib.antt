@@ -1,4 +1,0 @@
-pub mod Views
-pub mod Trails
-pub mod Rows
-pub mod Claims

@@ -1,6 +1,0 @@
-mod Lookups
-mod Telling
-mod Knowing
-mod Partitions
-pub mod Along
-pub mod Reading

@@ -1,3 +1,0 @@
-pub mod Suits
-pub mod Operations
-pub mod Sound
