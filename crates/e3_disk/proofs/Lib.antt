@@ -1,3 +1,4 @@
 pub mod Tearing
 pub mod Torn
 pub mod Pieces
+pub mod Padding

@@ -143,7 +143,7 @@ at_most (w ∷ ws) old new torn =
     omega (arith, later, wider)
 
 -- a write may leave all as it was
-torn_same : (p n : ℕ) (xs : List ℕ) → Torn p n xs xs
+pub torn_same : (p n : ℕ) (xs : List ℕ) → Torn p n xs xs
 torn_same p n xs = record { before = λ i lt l. refl; behind = λ i lt l. refl; no_shorter = omega arith; no_longer = omega arith }
 
 all_same : (ws : List (ℕ × ℕ)) (xs : List ℕ) → TornBy ws xs xs

@@ -1,5 +1,6 @@
 -- What a disk holds, and what a crash may leave of it.
-use Rattle.std.specs.Prelude.{◌≡◌, ◌⊎◌, ℕ, ◌+◌, ◌<◌, ◌≤◌, max, List, [], ◌∷◌, ◌++◌, length, take, drop, slice_index}
+use Rattle.std.specs.Prelude.{◌≡◌, ◌⊎◌, ℕ, ◌+◌, ◌/◌, ◌<◌, ◌≤◌, max, List, [], ◌∷◌, ◌++◌, length, take, drop, replicate, slice_index}
+use Rattle.e3_disk.specs.Meters.{Meters}
 
 -- These bytes with others written over them from a place on, past their end too.
 abbrev pub overwritten : List ℕ → ℕ → List ℕ → List ℕ
@@ -38,9 +39,14 @@ abbrev pub Untouched : {D M : Type 0} → (D → List ℕ) → (D → List ℕ �
 Untouched content image meters old new =
     (content new ≡ content old) × (meters new ≡ meters old) × SameImages (image old) (image new)
 
--- A disk is blank: it holds the one byte 00, and that is its only image.
-abbrev pub IsBlank : {D : Type 0} → (D → List ℕ) → (D → List ℕ → Type 0) → D → Type 0
-IsBlank content image disk = (content disk ≡ 0 ∷ []) × Only (0 ∷ []) (image disk)
+-- what a blank disk of this capacity holds: 00 in its first half, rounded down, and one more
+abbrev pub blank_bytes : ℕ → List ℕ
+blank_bytes capacity = replicate (capacity / 2 + 1) 0
+
+-- A disk is blank: it holds that, and it is its only image.
+abbrev pub IsBlank : {D : Type 0} → (D → List ℕ) → (D → List ℕ → Type 0) → (D → Meters) → D → Type 0
+IsBlank content image meters disk =
+    (content disk ≡ blank_bytes (meters disk).capacity) × Only (content disk) (image disk)
 
 -- What a crash may leave after these writes, each given by its place and its length, with no sync between them.
 abbrev pub TornBy : List (ℕ × ℕ) → List ℕ → List ℕ → Type 0

@@ -1,4 +1,5 @@
 pub mod Images
+pub mod Padding
 pub mod Leaves
 pub mod Meters
 pub mod Panel

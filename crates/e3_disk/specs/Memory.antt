@@ -1,5 +1,5 @@
 -- A disk in memory, as its callers see it, and what each call makes of it.
-use Rattle.std.specs.Prelude.{◌≡◌, ◌≢◌, ◌⊎◌, ℕ, ◌+◌, ◌-◌, nat_lt, Bool, true, IsTrue, if◌then◌else◌, Result, Ok, Err, List, [], ◌∷◌, length}
+use Rattle.std.specs.Prelude.{◌≡◌, ◌≢◌, ◌⊎◌, ℕ, ◌+◌, ◌-◌, nat_lt, Bool, true, IsTrue, if◌then◌else◌, Result, Ok, Err, List, length}
 use Rattle.e3_types.specs.declared.scenarios.Leave.{Leave}
 use Rattle.e3_types.specs.declared.scenarios.Leave.TheVariants as leaves
 use Rattle.e3_disk.specs.declared.fault.DiskFault.{DiskFault}
@@ -7,7 +7,7 @@ use Rattle.e3_disk.specs.declared.fault.DiskFault.TheVariants.{Failed, Full}
 use Rattle.e3_disk.specs.declared.memory.MemDisk.{MemDisk}
 use Rattle.e3_disk.specs.declared.panel.Turn.{Turn}
 use Rattle.e3_disk.specs.declared.store.Store.{Store}
-use Rattle.e3_disk.specs.Images.{Torn}
+use Rattle.e3_disk.specs.Images.{Torn, blank_bytes}
 use Rattle.e3_disk.specs.Meters.{Meters, raised, armed, cut, lit, new_meters}
 use Rattle.e3_disk.specs.Leaves.{code_of}
 use Rattle.e3_disk.specs.Panel.{is_listed, meters_of, by_turn, turn_of, after_turn, goes_on, after_read}
@@ -15,7 +15,7 @@ use Rattle.e3_disk.specs.Stored.{Stored, settled, written, left}
 
 -- The bytes that a store keeps.
 abbrev pub stored_of : Store → Stored
-stored_of s = record { content = s.content.items; durable = s.durable.items; from = s.from; to = s.to }
+stored_of s = record { content = s.content.bytes; durable = s.durable.bytes; from = s.from; to = s.to }
 
 -- A disk in memory: its bytes, its numbers, what the next stop leaves, the numbers of the calls that fail, how many of its
 -- calls were made that answer a result, and how many of those were writes and syncs.
@@ -45,7 +45,7 @@ images_of s image = Torn s.bytes.from (s.bytes.to - s.bytes.from) s.bytes.durabl
 -- A blank disk of this capacity, of which these calls are to fail.
 abbrev pub blank_state : ℕ → List ℕ → DiskState
 blank_state capacity fails = record {
-  bytes = record { content = 0 ∷ []; durable = 0 ∷ []; from = 0; to = 0 };
+  bytes = record { content = blank_bytes capacity; durable = blank_bytes capacity; from = 0; to = 0 };
   meters = new_meters capacity;
   leave = leaves.None;
   fails = fails;

@@ -1,6 +1,7 @@
 //! Disks by what a read gives and what a crash may leave, and one in memory that can be made to fail and to stop.
 #![tactic(auto)]
 
+mod cells;
 mod disk;
 mod fault;
 mod law;

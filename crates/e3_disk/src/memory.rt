@@ -19,14 +19,14 @@ pub struct MemDisk {
     panel: Panel,
     schedule: Schedule,
     writes: u64,
-    ghost room: { (panel.capacity ≡ store.room) × (2 ≤ panel.capacity) × (panel.capacity ≤ 2 ^ 30) },
+    ghost room: { (panel.capacity ≡ store.content.room) × (2 ≤ panel.capacity) × (panel.capacity ≤ 2 ^ 30) },
 }
 
 impl Disk for MemDisk {
     ghost use Rattle.e3_disk.specs.Panel.{meters_of};
     ghost use Rattle.e3_disk.specs.Memory.{state_of, images_of, reads_next, after_look, write_answer, after_write, sync_answer, after_sync, CountsOnlyOwn};
 
-    ghost content = { λ d. d.store.content.items };
+    ghost content = { λ d. d.store.content.bytes };
 
     ghost image = { λ d. images_of (state_of d) };
 
@@ -83,8 +83,7 @@ impl Disk for MemDisk {
     {
         let listed = self.schedule.is_listed();
         if self.panel.read_turn(listed) {
-            let place = place as usize;
-            into.copy_from_slice(&self.store.content[place..place + into.len()]);
+            self.store.content.read(place as usize, into);
             Ok(())
         } else {
             Err(DiskFault::Failed)
@@ -196,11 +195,11 @@ impl Drill for MemDisk {
 impl MemDisk {
     ghost use Rattle.e3_disk.specs.Memory.{state_of, images_of, blank_state};
 
-    /// A blank disk of this capacity: the byte 00 and nothing else.
+    /// A blank disk of this capacity. Of the memory that it takes, none is touched before a write reaches it.
     pub fn blank(alloc: Global, capacity: u64) -> Result<MemDisk, NoMemory>
         requires least { 2 ≤ capacity }
         requires most { capacity ≤ 2 ^ 30 }
-        ensures blank { IfOk result (λ d. IsBlank (λ b. (state_of b).bytes.content) (λ b. images_of (state_of b)) d) }
+        ensures blank { IfOk result (λ d. IsBlank (λ b. (state_of b).bytes.content) (λ b. images_of (state_of b)) (λ b. (state_of b).meters) d) }
         ensures state { IfOk result (λ d. state_of d ≡ blank_state capacity []) }
     {
         MemDisk::with_faults(alloc, capacity, List::new(alloc))
@@ -211,7 +210,7 @@ impl MemDisk {
     pub fn with_faults(alloc: Global, capacity: u64, fails: List<u64>) -> Result<MemDisk, NoMemory>
         requires least { 2 ≤ capacity }
         requires most { capacity ≤ 2 ^ 30 }
-        ensures blank { IfOk result (λ d. IsBlank (λ b. (state_of b).bytes.content) (λ b. images_of (state_of b)) d) }
+        ensures blank { IfOk result (λ d. IsBlank (λ b. (state_of b).bytes.content) (λ b. images_of (state_of b)) (λ b. (state_of b).meters) d) }
         ensures state { IfOk result (λ d. state_of d ≡ blank_state capacity fails) }
     {
         let store = Store::blank(alloc, capacity as usize)?;
