@@ -4,7 +4,7 @@ use Rattle.std.proofs.lemmas.Bool.{cases_eq}
 use Rattle.std.proofs.lemmas.List.{take_at, drop_at, append-nil}
 use Rattle.std.specs.Int.{w32, to_be_bytes}
 use Rattle.std.specs.List.{AllByRecursion}
-use Rattle.e3_disk.specs.Images.{Holds, Torn, Tears, Only}
+use Rattle.e3_disk.specs.Images.{Holds, Torn}
 use Rattle.e3_log.specs.Frames.{OPEN, frame, frames, IsClosed, Fits, Reads}
 use Rattle.e3_log.specs.Stands.{staged}
 use Rattle.e3_log.specs.declared.open.Frame.{Frame}
@@ -108,16 +108,6 @@ gate_reads bodies body content c fits s torn =
     let behind : drop (p + 1) c ≡ back = torn_back p 1 (xs ++ s.gate ∷ back) c (omega arith) torn2 ∙ front_drop xs s.gate back in
     gate_cases bodies body s.tail c (drop p c) s.fits fits (sym (take-append-drop p c) ∙ ap (λ (l : List ℕ). l ++ drop p c) front) (drop-drop 1 p c ∙ behind)
 
--- the calls, one by one
-pub first_images : (bodies : List (List ℕ)) (end n : ℕ) (content : List ℕ) (old new : List ℕ → Type 0)
-    → Reads bodies content → end ≡ length (frames bodies) → Only content old → Tears (end + 1) n old new → (c : List ℕ) → new c → Reads bodies c
-first_images bodies end n content old new reads end_is only tears c at =
-    let from = tears c at in
-    let was : from.0 ≡ frames bodies ++ reads.rest = only from.0 from.1 ∙ reads.parts in
-    stage_reads bodies reads.rest c n reads.closed reads.fits
-    (subst (λ (p : ℕ). Torn (p + 1) n (frames bodies ++ reads.rest) c) end_is
-    (subst (λ (d : List ℕ). Torn (end + 1) n d c) was from.2))
-
 pub first_content : (bodies : List (List ℕ)) (body bytes : List ℕ) (end : ℕ) (content new : List ℕ)
     → Reads bodies content → end ≡ length (frames bodies) → bytes ≡ staged body → Holds content (end + 1) bytes new → Staged bodies body new
 first_content bodies body bytes end content new reads end_is is holds =
@@ -125,15 +115,6 @@ first_content bodies body bytes end content new reads end_is is holds =
     (subst (λ (p : ℕ). Holds (frames bodies ++ reads.rest) (p + 1) (staged body) new) end_is
     (subst (λ (d : List ℕ). Holds d (end + 1) (staged body) new) reads.parts
     (subst (λ (b : List ℕ). Holds content (end + 1) b new) is holds)))
-
-pub second_images : (bodies : List (List ℕ)) (body : List ℕ) (end : ℕ) (content : List ℕ) (old new : List ℕ → Type 0)
-    → Fits body → Staged bodies body content → end ≡ length (frames bodies) → Only content old → Tears end 1 old new
-    → (c : List ℕ) → new c → Reads bodies c ⊎ Reads (bodies ++ body ∷ []) c
-second_images bodies body end content old new fits s end_is only tears c at =
-    let from = tears c at in
-    gate_reads bodies body content c fits s
-    (subst (λ (p : ℕ). Torn p 1 content c) end_is
-    (subst (λ (d : List ℕ). Torn end 1 d c) (only from.0 from.1) from.2))
 
 pub second_content : (bodies : List (List ℕ)) (body : List ℕ) (end : ℕ) (content new : List ℕ)
     → Fits body → Staged bodies body content → end ≡ length (frames bodies) → Holds content end (OPEN ∷ []) new → Reads (bodies ++ body ∷ []) new

@@ -2,3 +2,14 @@ pub mod Append
 pub mod Reading
 pub mod One
 pub mod Numbers
+pub mod Windows
+pub mod Choosing
+pub mod Pieces
+pub mod Leaving
+pub mod Unique
+pub mod Tearing
+pub mod Standing
+pub mod HandedOut
+pub mod Wholeness
+pub mod Opened
+pub mod Regained

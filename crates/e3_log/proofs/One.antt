@@ -4,17 +4,17 @@ use Rattle.std.proofs.lemmas.List.{take_at, drop_at}
 use Rattle.std.proofs.lemmas.Nat.{from_be_bytes-to_be_bytes_4}
 use Rattle.std.specs.Int.{w32, to_be_bytes, from_be_bytes}
 use Rattle.std.specs.List.{AllByRecursion}
-use Rattle.e3_log.specs.Frames.{OPEN, frame, frames, IsClosed, Fits, Reads, DamagedAt}
+use Rattle.e3_log.specs.Frames.{OPEN, frame, frames, IsClosed, Fits, Reads, BrokenAt}
 
 -- no frame begins here
 abbrev pub IsEnd : List ℕ → Type 0
 IsEnd bytes = (body rest : List ℕ) → Fits body → bytes ≡ frame body ++ rest → ⊥
 
-closed_end : (bytes : List ℕ) → IsClosed bytes → IsEnd bytes
+pub closed_end : (bytes : List ℕ) → IsClosed bytes → IsEnd bytes
 closed_end [] closed body rest fits e = closed
 closed_end (gate ∷ bytes) closed body rest fits e = let is : gate ≡ OPEN = cc in closed is
 
-frame_free : (b c x y : List ℕ) → Fits b → Fits c → frame b ++ x ≡ frame c ++ y → (b ≡ c) × (x ≡ y)
+pub frame_free : (b c x y : List ℕ) → Fits b → Fits c → frame b ++ x ≡ frame c ++ y → (b ≡ c) × (x ≡ y)
 frame_free b c x y fb fc e =
     let sizes : to_be_bytes w32 (length b) ≡ to_be_bytes w32 (length c) = ap (λ (l : List ℕ). take 4 (drop 1 l)) e in
     let len : length b ≡ length c = sym (from_be_bytes-to_be_bytes_4 (length b) fb) ∙ ap (from_be_bytes w32) sizes ∙ from_be_bytes-to_be_bytes_4 (length c) fc in
@@ -41,12 +41,12 @@ one_reading bs cs bytes p q =
 closed_moves : (r s : List ℕ) → r ≡ s → IsClosed r → IsClosed s
 closed_moves r s e closed = subst IsClosed e closed
 
-pub never_damaged : (bs : List (List ℕ)) (bytes : List ℕ) (at : ℕ) → Reads bs bytes → DamagedAt bytes at → ⊥
+pub never_damaged : (bs : List (List ℕ)) (bytes : List ℕ) (at : ℕ) → Reads bs bytes → BrokenAt bytes at → ⊥
 never_damaged bs bytes at p q =
     let same = one_split bs q.bodies p.rest q.rest p.fits q.fits (closed_end p.rest p.closed) q.none.none (sym p.parts ∙ q.parts) in
     q.none.shut (closed_moves p.rest q.rest same.1 p.closed)
 
-pub one_damage : (bytes : List ℕ) (at place : ℕ) → DamagedAt bytes at → DamagedAt bytes place → at ≡ place
+pub one_damage : (bytes : List ℕ) (at place : ℕ) → BrokenAt bytes at → BrokenAt bytes place → at ≡ place
 one_damage bytes at place p q =
     let same = one_split p.bodies q.bodies p.rest q.rest p.fits q.fits p.none.none q.none.none (sym p.parts ∙ q.parts) in
     p.place ∙ ap (λ (bs : List (List ℕ)). length (frames bs)) same.0 ∙ sym q.place

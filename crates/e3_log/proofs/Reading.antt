@@ -1,5 +1,6 @@
 -- What the bytes at a place say of the frame there.
-use Rattle.std.proofs.Common.{◌≡◌, ℕ, ◌+◌, ◌-◌, ◌^◌, ◌<◌, ◌≤◌, List, [], ◌∷◌, ◌++◌, length, get_or, take, drop, sym, ◌∙◌, ap, arith, append_assoc, length-append, length-take, length-drop, take-append-drop, drop-drop}
+use Rattle.std.proofs.lemmas.List.{drop_all}
+use Rattle.std.proofs.Common.{subst, ◌≡◌, ℕ, ◌+◌, ◌-◌, ◌^◌, ◌<◌, ◌≤◌, List, [], ◌∷◌, ◌++◌, length, get_or, take, drop, sym, ◌∙◌, ap, arith, append_assoc, length-append, length-take, length-drop, take-append-drop, drop-drop}
 use Rattle.std.proofs.lemmas.Nat.{from_be_bytes-to_be_bytes_4}
 use Rattle.std.specs.Int.{w32, to_be_bytes, from_be_bytes}
 use Rattle.e3_log.specs.Frames.{OPEN, frame, IsClosed, NoFrame}
@@ -50,3 +51,7 @@ frame_at content at n body is size-is below body-is within =
     second ∙ ap (λ (l : List ℕ). size ++ l) (third ∙ fourth) ∙ sym (append_assoc size body (drop (at + 5 + length body) content))
     ∙ ap (λ (l : List ℕ). l ++ body ++ drop (at + 5 + length body) content) (ap (to_be_bytes w32) (sym len)) in
     record { parts = gate ∙ ap (λ (l : List ℕ). OPEN ∷ l) inner; within = omega arith; fits = omega arith }
+
+-- nothing begins behind the last byte
+pub end_is_damage : (l : List ℕ) (at : ℕ) → length l ≤ at → NoFrame (drop at l)
+end_is_damage l at past = subst (λ (x : List ℕ). NoFrame x) (sym (drop_all at l past)) (record { shut = λ closed. closed; none = λ body rest fits e. absurd cc })

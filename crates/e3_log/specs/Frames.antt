@@ -37,8 +37,8 @@ pub record NoFrame (bytes : List ℕ) : Type 0 where
   pub shut : IsClosed bytes → ⊥
   pub none : (body rest : List ℕ) → Fits body → bytes ≡ frame body ++ rest → ⊥
 
--- Bytes are damaged at a place: whole frames end there, and then neither a frame nor a closed gate begins.
-pub record DamagedAt (bytes : List ℕ) (at : ℕ) : Type 0 where
+-- Bytes are broken at a place: whole frames end there, and then neither a frame nor a closed gate begins.
+pub record BrokenAt (bytes : List ℕ) (at : ℕ) : Type 0 where
   pub bodies : List (List ℕ)
   pub rest : List ℕ
   pub parts : bytes ≡ frames bodies ++ rest

@@ -1,36 +1,50 @@
 -- What a log stands for.
-use Rattle.std.specs.Prelude.{◌≡◌, ◌⊎◌, ℕ, ◌-◌, ◌<◌, Bool, true, false, Result, OnOk, OnErr, List, [], ◌∷◌, ◌++◌, length}
+use Rattle.std.specs.Prelude.{◌≡◌, ◌⊎◌, ℕ, ◌+◌, ◌-◌, ◌<◌, Bool, true, false, Result, OnOk, OnErr, List, [], ◌∷◌, ◌++◌, length}
 use Rattle.std.specs.Int.{w32, to_be_bytes}
-use Rattle.e3_disk.specs.Images.{Only}
+use Rattle.e3_disk.specs.Images.{Only, Torn, overwritten}
 use Rattle.e3_disk.specs.Meters.{Meters, HasFailed, Keeps}
-use Rattle.e3_log.specs.Frames.{frames, Reads}
+use Rattle.e3_log.specs.declared.region.Front.{Front}
+use Rattle.e3_log.specs.declared.region.Region.{Region}
+use Rattle.e3_log.specs.Frames.{frames}
+use Rattle.e3_log.specs.Fronts.{bodies_in, is_open}
+use Rattle.e3_log.specs.Reading.{HoldsAs, ReadsAs}
+use Rattle.e3_log.specs.Regions.{start}
 
--- A log: its disk, the place of the closed gate at which the next frame begins, and whether it keeps a failure of one
--- of its own calls.
+-- A log: its disk, the region that counts and its generation, the place of the closed gate at which the next frame begins,
+-- whether the gate of the other region is open, and whether the log keeps a failure of one of its own calls.
 pub record LogState (D : Type 0) : Type 0 where
   pub disk : D
+  pub region : Region
+  pub generation : ℕ
   pub end : ℕ
+  pub spare_open : Bool
   pub failed : Bool
 
--- A disk stands for these bodies: it reads as them, with the closed gate at this place, and so does whatever a crash
--- leaves.
-pub record FramesStand {D : Type 0} (content : D → List ℕ) (image : D → List ℕ → Type 0) (bodies : List (List ℕ)) (end : ℕ) (disk : D) : Type 0 where
-  pub reads : Reads bodies (content disk)
-  pub end_is : end ≡ length (frames bodies)
-  pub only : Only (content disk) (image disk)
-
--- A log stands for these bodies: it keeps no failure, and its disk stands for them.
-pub record Stands {D : Type 0} (content : D → List ℕ) (image : D → List ℕ → Type 0) (bodies : List (List ℕ)) (log : LogState D) : Type 0 where
+-- A log stands for these bodies: it keeps no failure, its disk holds frames that hand them out, and the disk as it reads is
+-- all that a crash may leave.
+pub record Stands {D : Type 0} (content : D → List ℕ) (image : D → List ℕ → Type 0) (meters : D → Meters) (bodies : List (List ℕ)) (log : LogState D) : Type 0 where
   pub sound : log.failed ≡ false
-  pub disk : FramesStand content image bodies log.end log.disk
+  pub raw : List (List ℕ)
+  pub spare : Front
+  pub holds : HoldsAs (meters log.disk).capacity log.region log.generation raw spare (content log.disk)
+  pub bodies_are : bodies ≡ bodies_in raw
+  pub end_is : log.end ≡ start (meters log.disk).capacity log.region + length (frames raw)
+  pub spare_is : log.spare_open ≡ is_open spare
+  pub only : Only (content log.disk) (image log.disk)
 
--- Each image reads as these bodies, or as those with the whole new one.
-abbrev pub ReadsBeforeOrAfter : List (List ℕ) → List ℕ → (List ℕ → Type 0) → Type 0
-ReadsBeforeOrAfter bodies body image = (c : List ℕ) → image c → Reads bodies c ⊎ Reads (bodies ++ body ∷ []) c
+-- Each image reads as bodies of the first generation, or as others of the second one.
+abbrev pub EachReadsAs : ℕ → ℕ → List (List ℕ) → ℕ → List (List ℕ) → (List ℕ → Type 0) → Type 0
+EachReadsAs capacity generation bodies next others image =
+    (c : List ℕ) → image c → ReadsAs capacity generation bodies c ⊎ ReadsAs capacity next others c
 
 -- What is written behind the closed gate: the length, the body, and the closed gate of the next frame.
 abbrev pub staged : List ℕ → List ℕ
 staged body = to_be_bytes w32 (length body) ++ body ++ 0 ∷ []
+
+-- What a crash may leave while a frame is added at a closed gate of these bytes: they are torn where the frame is written, or
+-- the frame stands there and its gate is torn.
+abbrev pub Leaves : List ℕ → ℕ → List ℕ → List ℕ → Type 0
+Leaves old end bytes image = Torn (end + 1) (length bytes) old image ⊎ Torn end 1 (overwritten old (end + 1) bytes) image
 
 -- What writes and syncs, so many of them, do to the numbers of a disk: with Ok each of them takes a call from the arm.
 pub record Spends {T E : Type 0} (count : ℕ) (old new : Meters) (result : Result T E) : Type 0 where

@@ -11,8 +11,19 @@ use std::alloc::AllocError;
 pub enum AppendFault {
     /// The disk failed, in this call or in an earlier one of this log.
     Failed,
-    /// The frame needs `need` bytes of capacity, and the disk has `room`.
+    /// The frame ends at the place `need`, and the region at `room`.
     Full { need: u64, room: u64 },
+}
+
+/// Why a log was not turned to the other region, or may not have been.
+#[derive(Clone, Copy, Debug, PartialEq, Eq)]
+pub enum TurnFault {
+    /// The disk failed, in this call or in an earlier one of this log.
+    Failed,
+    /// The frame ends at the place `need`, and the other region at `room`.
+    Full { need: u64, room: u64 },
+    /// There was no memory. A log that has its memory from the start never answers it.
+    NoMemory,
 }
 
 /// Why a log could not be opened.
@@ -20,7 +31,7 @@ pub enum AppendFault {
 pub enum OpenCause {
     /// The disk failed, or it had no power.
     Failed,
-    /// No frame and no closed gate begins there.
+    /// The disk is too short, or a region or a frame is not whole there.
     Damaged { at: u64 },
     /// There was no memory for the frames.
     NoMemory,

@@ -1,25 +1,22 @@
-// Laws of the frames.
-ghost use Rattle.std.specs.Prelude.{◌≡◌, ◌⊎◌, ◌+◌, List, ℕ, [], ◌∷◌, ◌++◌, length};
-ghost use Rattle.e3_disk.specs.Images.{TornBy, overwritten};
-ghost use Rattle.e3_log.specs.Frames.{Reads, DamagedAt, Fits, frames};
-ghost use Rattle.e3_log.specs.Stands.{staged};
+// Laws of the two regions.
+ghost use Rattle.std.specs.Prelude.{◌≡◌, ◌≤◌, ◌+◌, List, ℕ, [], replicate};
+ghost use Rattle.e3_log.specs.Laws.{AppendsAreWhole, TurnsAreWhole, ClearsAreSilent};
+ghost use Rattle.e3_log.specs.Reading.{ReadsAs, DamagedAt};
+ghost use Rattle.e3_log.specs.Regions.{half};
 
-/// Bytes read as one list of bodies at most, and what reads so is not damaged. What is damaged is so at one place. A
-/// blank disk reads as no frames.
-pub fn frames_have_one_reading()
-    ensures one { (bs cs : List (List ℕ)) (bytes : List ℕ) → Reads bs bytes → Reads cs bytes → bs ≡ cs }
-    ensures whole { (bs : List (List ℕ)) (bytes : List ℕ) (at : ℕ) → Reads bs bytes → DamagedAt bytes at → ⊥ }
-    ensures one_damage { (bytes : List ℕ) (at place : ℕ) → DamagedAt bytes at → DamagedAt bytes place → at ≡ place }
-    ensures blank { Reads [] (0 ∷ []) }
+/// Bytes read as one list of bodies at most, of one generation, and what reads so is not damaged. What is damaged is so at one
+/// place. A blank disk reads as no bodies, of the generation 0.
+pub fn regions_have_one_reading()
+    ensures one { (capacity g h : ℕ) (bs cs : List (List ℕ)) (bytes : List ℕ) → ReadsAs capacity g bs bytes → ReadsAs capacity h cs bytes → (bs ≡ cs) × (g ≡ h) }
+    ensures whole { (capacity g : ℕ) (bs : List (List ℕ)) (bytes : List ℕ) (at : ℕ) → ReadsAs capacity g bs bytes → DamagedAt capacity bytes at → ⊥ }
+    ensures one_damage { (capacity : ℕ) (bytes : List ℕ) (at place : ℕ) → DamagedAt capacity bytes at → DamagedAt capacity bytes place → at ≡ place }
+    ensures blank { (capacity : ℕ) → 2 ≤ capacity → ReadsAs capacity 0 [] (replicate (half capacity + 1) 0) }
 {}
 
-/// Why a frame is there whole or not at all. While what stands behind the closed gate is written, whatever a crash leaves
-/// reads as the frames before. Once that is durable, while the gate is opened, whatever a crash leaves reads as the frames
-/// before, or as those with the whole new frame.
-pub fn a_frame_is_whole_or_not_at_all()
-    ensures staging { (bodies : List (List ℕ)) (body content image : List ℕ) → Reads bodies content →
-        TornBy ((length (frames bodies) + 1, length (staged body)) ∷ []) content image → Reads bodies image }
-    ensures opening { (bodies : List (List ℕ)) (body content image : List ℕ) → Reads bodies content → Fits body →
-        TornBy ((length (frames bodies), 1) ∷ []) (overwritten content (length (frames bodies) + 1) (staged body)) image →
-        Reads bodies image ⊎ Reads (bodies ++ body ∷ []) image }
+/// Why a log in two regions survives a stop in each of its calls: whatever a crash leaves in an append, in a turn or while the
+/// other region is closed reads as the bodies before the call, or as those that it gives.
+pub fn calls_are_whole_or_not_at_all()
+    ensures appends { AppendsAreWhole }
+    ensures turns { TurnsAreWhole }
+    ensures clears { ClearsAreSilent }
 {}

@@ -4,17 +4,18 @@ use Rattle.e3_disk.specs.Images.{Within}
 use Rattle.e3_disk.specs.Meters.{Keeps}
 use Rattle.e3_log.specs.Frames.{frames, Fits}
 use Rattle.e3_log.specs.Found.{bodies_of, frames_from}
+use Rattle.e3_log.specs.Regions.{window}
 use Rattle.e3_log.proofs.open.read_frames.Given as goal
 
 abbrev pub invariant-reading : goal.invariant-reading
 invariant-reading g l = record {
-  parts : g.D.Disk.content l.fn.disk ≡ frames (bodies_of l.frames) ++ drop l.at (g.D.Disk.content l.fn.disk);
+  parts : window l.span.from l.span.count (g.D.Disk.content l.fn.disk) ≡ frames (bodies_of l.frames) ++ drop l.at (window l.span.from l.span.count (g.D.Disk.content l.fn.disk));
   fits : AllByRecursion Fits (bodies_of l.frames);
   place : l.at ≡ length (frames (bodies_of l.frames));
-  within : l.at ≤ l.len;
+  within : l.at ≤ l.span.count;
   same : g.D.Disk.content l.disk ≡ g.D.Disk.content l.fn.disk;
   images : Within (g.D.Disk.image l.fn.disk) (g.D.Disk.image l.disk);
-  places : l.frames ≡ frames_from 0 (bodies_of l.frames);
+  places : l.frames ≡ frames_from l.span.from (bodies_of l.frames);
   powered : (g.D.Disk.meters l.disk).powered ≡ true;
   calls : (g.D.Disk.meters l.disk).calls_left ≡ (g.D.Disk.meters l.fn.disk).calls_left;
   stops : (g.D.Disk.meters l.disk).stops ≡ (g.D.Disk.meters l.fn.disk).stops;
@@ -22,4 +23,4 @@ invariant-reading g l = record {
 }
 
 abbrev pub decreases-reading : goal.decreases-reading
-decreases-reading g l = l.len - l.at
+decreases-reading g l = l.span.count - l.at
