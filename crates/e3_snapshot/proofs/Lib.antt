@@ -3,4 +3,4 @@ mod Rows
 mod Cards
 mod Fronts
 mod Telling
-mod Legal
+pub mod Legal

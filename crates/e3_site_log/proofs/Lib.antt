@@ -1,0 +1,4 @@
+pub mod Frames
+pub mod Holding
+pub mod Writes
+pub mod Reasons
