@@ -1,11 +1,8 @@
 -- The steps of several inputs, one behind the other.
-use Rattle.std.proofs.Common.{◌≡◌, ◌+◌, ◌≤◌, ◌++◌, ◌∷◌, [], ℕ, true, List, length, refl, sym, ap, ◌∙◌, append-nil, append_assoc, length-append, map, arith}
-use Rattle.std.specs.List.{AllByRecursion as Each, flat_map}
-use Rattle.std.proofs.lemmas.Grind.{flat_map-append}
-use Rattle.std.proofs.lemmas.List.{map-append}
+use Rattle.std.proofs.Common.{◌≡◌, ◌≤◌, ◌++◌, ◌∷◌, [], ℕ, true, List, refl, sym, ap, ◌∙◌, append-nil, append_assoc}
+use Rattle.std.specs.List.{AllByRecursion as Each}
 use Rattle.e3_law_steps.specs.Begun.{BegunAreTransactions, RecordsMentionWhatStands}
 use Rattle.e3_node.specs.Batches.{plain_of, plain_steps, stepped}
-use Rattle.e3_node.specs.Bodies.{Hold, bodies_in, body_of}
 use Rattle.e3_node.specs.Telling.{IsOwn}
 use Rattle.e3_law_steps.specs.Trails.{VotesAtTheirSite}
 use Rattle.e3_types.specs.declared.entries.Entry.{Entry}
@@ -16,14 +13,13 @@ use Rattle.e3_world.specs.Given.{IsGiven}
 use Rattle.e3_world.specs.Items.{is_up_at}
 use Rattle.e3_world.specs.Legal.{AreDue, IsLegal, entry_of, made_by, records_by}
 use Rattle.e3_world.specs.Lives.{incarnation_of}
-use Rattle.e3_world.specs.Moves.{Move, moves_of, recorded}
+use Rattle.e3_world.specs.Moves.{Move, moves_of}
 use Rattle.e3_world.specs.Sound.{step_move}
 use Rattle.e3_world.specs.Steps.{step_of}
 use Rattle.e3_world.proofs.Guards.{guard_step}
 use Rattle.e3_world.proofs.Pushes.{legal_push}
 use Rattle.e3_world.proofs.Readings.{up_same}
 use Rattle.e3_world.proofs.Turns.{self}
-use Rattle.e3_node.proofs.Frames.{bodies_push, joined_push}
 use Rattle.e3_node.proofs.Owning.{made_own}
 use Rattle.e3_node.proofs.Steps.{step_moves}
 
@@ -102,32 +98,3 @@ records_own mentions begun votes sc h site (i ∷ inputs) given legal one up due
     (made_own mentions begun votes sc h site i given legal one up due.0)
     (records_own mentions begun votes sc (h ++ entry_of sc h site i ∷ []) site inputs given
     (legal_push sc h (entry_of sc h site i) legal (guard_step sc h site i one up due.0)) one (up_same h (entry_of sc h site i) site (self site) ∙ up) due.1)
-
--- the records of several moves take one frame at most, and no more than a frame for each move that recorded something
-few_bodies : (ms : List Move) → length (body_of (flat_map recorded ms)) ≤ length (bodies_in (map recorded ms))
-few_bodies [] = omega arith
-few_bodies (m ∷ ms) = by (recorded m) (few_bodies ms)
-  where
-    one_body : (rs : List Record) → length (body_of rs) ≤ 1
-    one_body [] = omega arith
-    one_body (r ∷ rs) = omega arith
-
-    by : (rs : List Record) → length (body_of (flat_map recorded ms)) ≤ length (bodies_in (map recorded ms)) →
-        length (body_of (rs ++ flat_map recorded ms)) ≤ length (body_of rs ++ bodies_in (map recorded ms))
-    by [] rest = rest
-    by (r ∷ rs) rest = omega arith
-
--- so frames that hold moves hold more of them with one frame of their records
-pub hold_many : (moves ms : List Move) (lists : List (List Record)) → Hold moves lists → Hold (moves ++ ms) (lists ++ flat_map recorded ms ∷ [])
-hold_many moves ms lists hold = record {
-  whole = joined_push lists (flat_map recorded ms) ∙ ap (λ (rs : List Record). rs ++ flat_map recorded ms) hold.whole ∙ sym (flat_map-append recorded moves ms);
-  few =
-      let new : length (bodies_in (lists ++ flat_map recorded ms ∷ [])) ≡ length (bodies_in lists) + length (body_of (flat_map recorded ms)) =
-      ap length (bodies_push lists (flat_map recorded ms)) ∙ length-append (bodies_in lists) (body_of (flat_map recorded ms)) in
-      let most : length (bodies_in (map recorded (moves ++ ms))) ≡ length (bodies_in (map recorded moves)) + length (bodies_in (map recorded ms)) =
-      ap (λ (ls : List (List Record)). length (bodies_in ls)) (map-append recorded moves ms) ∙ ap length (flat_map-append body_of (map recorded moves) (map recorded ms))
-      ∙ length-append (bodies_in (map recorded moves)) (bodies_in (map recorded ms)) in
-      let few : length (bodies_in lists) ≤ length (bodies_in (map recorded moves)) = hold.few in
-      let one : length (body_of (flat_map recorded ms)) ≤ length (bodies_in (map recorded ms)) = few_bodies ms in
-      omega (arith, new, most, few, one);
-}

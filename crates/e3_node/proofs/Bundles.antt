@@ -1,8 +1,8 @@
 -- A batch of steps: what its site, its marks and its history come to.
 use Rattle.std.proofs.Common.{◌≡◌, ◌+◌, ◌-◌, ◌≤◌, ◌++◌, ◌∷◌, [], ℕ, suc, true, false, List, length, refl, sym, subst, ap, ◌∙◌, append-nil, append_assoc, map, arith}
-use Rattle.std.specs.Prelude.{fold}
 use Rattle.std.specs.List.{flat_map}
-use Rattle.e3_codec.specs.Fields.{AllCanBeReadBack}
+use Rattle.std.proofs.lemmas.Grind.{flat_map-append}
+use Rattle.e3_disk.specs.Meters.{Meters}
 use Rattle.e3_law_local.specs.Drafts.{MayTakeAll}
 use Rattle.e3_law_local.specs.Least.{AreFirstTo, AreOfSites, IsLeastTo, queue_to}
 use Rattle.e3_law_local.specs.Others.{Allows, AreOthers, numbered_on}
@@ -11,12 +11,10 @@ use Rattle.e3_law_local.proofs.Due.{all_due, calm_on}
 use Rattle.e3_law_local.proofs.Laws.{legal_behind}
 use Rattle.e3_law_local.proofs.Queues.{first_are_waiting, front_is_least, queue_goes_on, queue_stays}
 use Rattle.e3_node.specs.Batches.{plain_of, plain_steps, stepped}
-use Rattle.e3_node.specs.Bodies.{AllReadBack, IsLogged, bodies_in, body_of}
-use Rattle.e3_node.specs.Counting.{count_of, counted_by}
+use Rattle.e3_node.specs.Bodies.{entries_at}
 use Rattle.e3_node.specs.NodeStands.{steps_at}
 use Rattle.e3_node.specs.Several.{AreOf, MayEnterAll}
-use Rattle.e3_node.specs.declared.counting.Count.{Count}
-use Rattle.e3_log.specs.Stands.{LogState, Stands}
+use Rattle.e3_log.specs.Stands.{LogState}
 use Rattle.e3_types.specs.declared.entries.Entry.{Entry}
 use Rattle.e3_types.specs.declared.entries.Input.{Input}
 use Rattle.e3_types.specs.declared.entries.Input.TheVariants as input
@@ -34,19 +32,19 @@ use Rattle.e3_wire.proofs.Spending.{used_numbered}
 use Rattle.e3_world.specs.Given.{IsGiven}
 use Rattle.e3_world.specs.Items.{is_up_at}
 use Rattle.e3_world.specs.Legal.{AreDue, Guard, IsDue, IsLegal, entry_of, made_by, records_by}
-use Rattle.e3_world.specs.Moves.{Move, moves_of, plain, recorded}
+use Rattle.e3_world.specs.Moves.{Move, log_by, log_of, moves_of, plain, recorded}
 use Rattle.e3_world.specs.Packets.{is_calm, present_items}
 use Rattle.e3_world.specs.Sound.{step_move}
 use Rattle.e3_world.proofs.Guards.{guard_step}
 use Rattle.e3_world.proofs.Pushes.{legal_push}
 use Rattle.e3_world.proofs.Readings.{up_same}
 use Rattle.e3_world.proofs.Turns.{self}
-use Rattle.e3_node.proofs.Batches.{hold_many}
-use Rattle.e3_node.proofs.Counts.{count_own}
-use Rattle.e3_node.proofs.Frames.{bodies_push}
 use Rattle.e3_node.proofs.Guarding.{step_entry}
 use Rattle.e3_node.proofs.Several.{enter_list, outs_in, used_all}
-use Rattle.e3_node.proofs.Steps.{one_step_more, step_back, step_moves}
+use Rattle.e3_site_log.specs.Bodies.{IsLogged}
+use Rattle.e3_site_log.proofs.Writes.{logged_later}
+use Rattle.e3_node.proofs.Pasts.{entries_on}
+use Rattle.e3_node.proofs.Steps.{one_step_more, step_moves}
 
 -- the entry of a step, once its packets have numbers
 pub plain_entry : (sc : Scenario) (h : List Entry) (site : ℕ) (i : Input) → numbered_on h (plain_of site i (made_by sc h site i)) ≡ entry_of sc h site i
@@ -105,39 +103,34 @@ pub moves_recorded : (sc : Scenario) (h : List Entry) (site : ℕ) (inputs : Lis
 moves_recorded sc h site [] = refl
 moves_recorded sc h site (i ∷ inputs) = ap (λ (rs : List Record). (made_by sc h site i).records ++ rs) (moves_recorded sc (h ++ entry_of sc h site i ∷ []) site inputs)
 
--- the log behind them, whose one frame was written
-pub steps_logged : {D : Type 0} (content : D → List ℕ) (image : D → List ℕ → Type 0) (sc : Scenario) (h : List Entry) (site : ℕ) (inputs : List Input)
-    (old new : LogState D) → (was : IsLogged content image (moves_of sc h site) old) →
-    ((lists : List (List Record)) → Stands content image (bodies_in lists) old → Stands content image (bodies_in lists ++ body_of (records_by sc h site inputs)) new) →
-    IsLogged content image (moves_of sc (stepped sc h site inputs) site) new
-steps_logged content image sc h site inputs old new was wrote =
-    let ms : List Move = moves_by sc h site inputs in
-    let P : List Move → Type 0 = λ l. IsLogged content image l new in
-    let Q : List (List ℕ) → Type 0 = λ bs. Stands content image bs new in
-    let R : List Record → Type 0 = λ rs. Stands content image (bodies_in was.lists ++ body_of rs) new in
-    subst P (sym (stepped_moves sc h site inputs)) (record {
-      lists = was.lists ++ flat_map recorded ms ∷ [];
-      hold = hold_many (moves_of sc h site) ms was.lists was.hold;
-      stands = subst Q (sym (bodies_push was.lists (flat_map recorded ms))) (subst R (sym (moves_recorded sc h site inputs)) (wrote was.lists was.stands));
-    })
+-- the log behind them
+pub steps_log : (sc : Scenario) (h : List Entry) (site : ℕ) (inputs : List Input) →
+    log_of sc (stepped sc h site inputs) site ≡ log_of sc h site ++ records_by sc h site inputs
+steps_log sc h site inputs =
+    ap log_by (stepped_moves sc h site inputs) ∙ flat_map-append recorded (moves_of sc h site) (moves_by sc h site inputs)
+    ∙ ap (λ (rs : List Record). log_of sc h site ++ rs) (moves_recorded sc h site inputs)
 
--- what they record can be read back
-pub steps_back : (sc : Scenario) (h : List Entry) (site : ℕ) (inputs : List Input) → AllReadBack sc h site →
-    AllCanBeReadBack site (records_by sc h site inputs) → AllReadBack sc (stepped sc h site inputs) site
-steps_back sc h site [] was back = was
-steps_back sc h site (i ∷ inputs) was back =
-    steps_back sc (h ++ entry_of sc h site i ∷ []) site inputs (step_back sc h site i was (front (made_by sc h site i).records back)) (behind (made_by sc h site i).records back)
-  where
-    rest : List Record
-    rest = records_by sc (h ++ entry_of sc h site i ∷ []) site inputs
+-- it has so many entries more
+pub steps_entries : (sc : Scenario) (h : List Entry) (site : ℕ) (inputs : List Input) → entries_at (stepped sc h site inputs) site ≡ entries_at h site + length inputs
+steps_entries sc h site [] = omega arith
+steps_entries sc h site (i ∷ inputs) =
+    let rest : entries_at (stepped sc (h ++ entry_of sc h site i ∷ []) site inputs) site ≡ entries_at (h ++ entry_of sc h site i ∷ []) site + length inputs =
+    steps_entries sc (h ++ entry_of sc h site i ∷ []) site inputs in
+    let one : entries_at (h ++ entry_of sc h site i ∷ []) site ≡ entries_at h site + 1 = entries_on h site (entry_of sc h site i) refl in
+    omega (arith, rest, one)
 
-    front : (rs : List Record) → AllCanBeReadBack site (rs ++ rest) → AllCanBeReadBack site rs
-    front [] all = tt
-    front (r ∷ rs) all = (all.0, front rs all.1)
-
-    behind : (rs : List Record) → AllCanBeReadBack site (rs ++ rest) → AllCanBeReadBack site rest
-    behind [] all = all
-    behind (r ∷ rs) all = behind rs all.1
+-- behind some of them a log on a disk that was written holds it
+pub steps_logged : {D : Type 0} (content : D → List ℕ) (image : D → List ℕ → Type 0) (meters : D → Meters) (sc : Scenario) (h : List Entry) (site : ℕ) (inputs : List Input)
+    (records : List Record) (logged : ℕ) (new : LogState D) → 1 ≤ length inputs → records ≡ records_by sc h site inputs →
+    IsLogged content image meters site (entries_at h site + 1) (log_of sc h site ++ records) logged new →
+    IsLogged content image meters site (entries_at (stepped sc h site inputs) site) (log_of sc (stepped sc h site inputs) site) logged new
+steps_logged content image meters sc h site inputs records logged new some made wrote =
+    let now : log_of sc (stepped sc h site inputs) site ≡ log_of sc h site ++ records =
+    steps_log sc h site inputs ∙ ap (λ (rs : List Record). log_of sc h site ++ rs) (sym made) in
+    let many = steps_entries sc h site inputs in
+    let P : List Record → Type 0 = λ l. IsLogged content image meters site (entries_at (stepped sc h site inputs) site) l logged new in
+    subst P (sym now)
+    (logged_later content image meters site (entries_at h site + 1) (log_of sc h site ++ records) (entries_at (stepped sc h site inputs) site) logged new (omega (arith, many, some)) wrote)
 
 -- so many steps more
 pub stepped_count : (sc : Scenario) (h : List Entry) (site : ℕ) (inputs : List Input) → steps_at (stepped sc h site inputs) site ≡ steps_at h site + length inputs
@@ -147,15 +140,6 @@ stepped_count sc h site (i ∷ inputs) =
     stepped_count sc (h ++ entry_of sc h site i ∷ []) site inputs in
     let one : steps_at (h ++ entry_of sc h site i ∷ []) site ≡ suc (steps_at h site) = one_step_more sc h site i in
     omega (arith, rest, one)
-
--- the count of records behind them
-pub steps_counted : (sc : Scenario) (h : List Entry) (site : ℕ) (inputs : List Input) →
-    fold (λ (c : Count) (e : Entry). counted_by c e.act) (count_of site h) (plain_steps sc h site inputs) ≡ count_of site (stepped sc h site inputs)
-steps_counted sc h site [] = refl
-steps_counted sc h site (i ∷ inputs) =
-    ap (λ (c : Count). fold (λ (k : Count) (e : Entry). counted_by k e.act) c (plain_steps sc (h ++ entry_of sc h site i ∷ []) site inputs))
-    (sym (count_own site h (entry_of sc h site i) refl))
-    ∙ steps_counted sc (h ++ entry_of sc h site i ∷ []) site inputs
 
 -- inputs that the site may take, and whose packets are the first to it, are due
 pub takes_due : (sc : Scenario) (h : List Entry) (site : ℕ) (packets rest : List Packet) → IsLegal sc h → 1 ≤ site → is_up_at h site ≡ true →

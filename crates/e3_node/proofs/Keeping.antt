@@ -1,20 +1,24 @@
 -- An entry of another owner changes nothing of a site, and what a node that stands tells of its disk.
-use Rattle.std.specs.Prelude.{◌≤◌, length, filter}
-use Rattle.std.proofs.Common.{◌≡◌, ◌≢◌, ◌++◌, ◌∷◌, [], ℕ, false, List, Option, refl, sym, subst, ap, ◌∙◌, append-nil, arith}
+use Rattle.std.specs.Prelude.{◌≤◌, filter}
+use Rattle.std.proofs.Common.{◌≡◌, ◌≢◌, ◌++◌, ◌∷◌, [], ℕ, true, false, List, Option, length, refl, sym, subst, ap, ◌∙◌, append-nil, arith}
+use Rattle.std.proofs.lemmas.Bool.{le-ltb}
 use Rattle.e3_disk.specs.Images.{IsBlank}
 use Rattle.e3_disk.specs.Meters.{Meters}
-use Rattle.e3_log.specs.Frames.{Reads}
-use Rattle.e3_log.specs.Stands.{LogState, Stands}
-use Rattle.e3_codec.specs.Fields.{AllCanBeReadBack}
-use Rattle.e3_node.specs.Bodies.{AllReadBack, DiskHolds, DiskStands, IsLogged, ReadsAs, ReadsWith, bodies_in, tail_records}
+use Rattle.e3_law_brief.specs.Brief.{brief}
+use Rattle.e3_log.specs.Reading.{ReadsAs as BytesReadAs}
+use Rattle.e3_log.specs.Stands.{LogState}
+use Rattle.e3_log.proofs.Unique.{blank_text}
+use Rattle.e3_node.specs.Bodies.{DiskHolds, DiskTells, ReadsTold, ReadsWith, entries_at}
 use Rattle.e3_node.specs.Claims.{DisksKept, NodesDisks, NodesKept, NodesUp}
-use Rattle.e3_node.specs.NodeStands.{IsIn, StandsBy, is_step}
+use Rattle.e3_node.specs.NodeStands.{IsFallen, IsIn, StandsBy, is_step, logged_in}
 use Rattle.e3_node.specs.NodeView.{disk_of, is_up_in}
 use Rattle.e3_node.specs.declared.state.State.{State}
 use Rattle.e3_node.specs.declared.state.State.TheVariants.{Down, Up}
 use Rattle.e3_law_stands.specs.StandsAlike.{IsLogInOrder}
 use Rattle.e3_law_stands.proofs.Standing.{still}
 use Rattle.e3_site.specs.SiteView.{SiteView}
+use Rattle.e3_site_log.specs.Bodies.{IsLogged, ReadsAs, bodies_in, counted, joined}
+use Rattle.e3_site_log.proofs.Holding.{hold_nothing}
 use Rattle.e3_types.specs.declared.records.Record.{Record}
 use Rattle.e3_types.specs.declared.entries.Entry.{Entry}
 use Rattle.e3_types.specs.declared.scenarios.Scenario.{Scenario}
@@ -22,8 +26,7 @@ use Rattle.e3_world.specs.Items.{is_up_at}
 use Rattle.e3_world.specs.Moves.{Move, Tail, is_up, log_by, moves_of, open_tail, own, past_of}
 use Rattle.e3_world.proofs.Readings.{own_other}
 use Rattle.e3_node.proofs.Apart.{apart}
-use Rattle.e3_node.proofs.Counts.{count_kept}
-use Rattle.e3_node.proofs.Frames.{hold_nothing}
+use Rattle.e3_node.proofs.Left.{opened_reads, reads_alike, tells_holds}
 
 pub own_kept : (site : ℕ) (h : List Entry) (e : Entry) → e.owner ≢ site → own site (h ++ e ∷ []) ≡ own site h
 own_kept site h e other = own_other site h e (apart e.owner site other)
@@ -31,11 +34,17 @@ own_kept site h e other = own_other site h e (apart e.owner site other)
 pub moves_kept : (sc : Scenario) (h : List Entry) (e : Entry) (site : ℕ) → e.owner ≢ site → moves_of sc (h ++ e ∷ []) site ≡ moves_of sc h site
 moves_kept sc h e site other = ap (λ (mine : List Entry). (past_of sc site mine).moves) (own_kept site h e other)
 
-pub disk_kept : (sc : Scenario) (h : List Entry) (e : Entry) (site : ℕ) (image : List ℕ → Type 0) → DiskHolds sc h site image →
-    e.owner ≢ site → DiskHolds sc (h ++ e ∷ []) site image
-disk_kept sc h e site image stands other = λ bytes at.
-    let P : List Entry → Type 0 = λ mine. ReadsWith site (past_of sc site mine).moves (past_of sc site mine).tail bytes in
+pub disk_kept : (sc : Scenario) (h : List Entry) (e : Entry) (site capacity : ℕ) (image : List ℕ → Type 0) → DiskHolds sc h site capacity image →
+    e.owner ≢ site → DiskHolds sc (h ++ e ∷ []) site capacity image
+disk_kept sc h e site capacity image stands other = λ bytes at.
+    let P : List Entry → Type 0 = λ mine. ReadsWith site capacity (length mine) (past_of sc site mine).moves (past_of sc site mine).tail bytes in
     subst P (sym (own_kept site h e other)) (stands bytes at)
+
+told_kept : (sc : Scenario) (h : List Entry) (e : Entry) (site capacity logged : ℕ) (image : List ℕ → Type 0) → DiskTells sc h site capacity logged image →
+    e.owner ≢ site → DiskTells sc (h ++ e ∷ []) site capacity logged image
+told_kept sc h e site capacity logged image tells other = λ bytes at.
+    let P : List Entry → Type 0 = λ mine. ReadsTold site capacity (length mine) logged (past_of sc site mine).moves (past_of sc site mine).tail bytes in
+    subst P (sym (own_kept site h e other)) (tells bytes at)
 
 pub up_kept : (h : List Entry) (e : Entry) (site : ℕ) → e.owner ≢ site → is_up_at (h ++ e ∷ []) site ≡ is_up_at h site
 up_kept h e site other = ap is_up (own_kept site h e other)
@@ -44,6 +53,7 @@ site_kept : (sc : Scenario) (h : List Entry) (e : Entry) (site : ℕ) (rose : Li
     StandsBy sc (h ++ e ∷ []) site rose s
 site_kept sc h e site rose s was other = record {
   alike = still sc h (h ++ e ∷ []) site rose s s was.alike (sym (moves_kept sc h e site other)) refl refl was.alike.stands;
+  risen = was.risen;
   order =
       let P : List Move → Type 0 = λ moves. IsLogInOrder site (log_by moves) in
       subst P (sym (moves_kept sc h e site other)) was.order;
@@ -52,31 +62,20 @@ site_kept sc h e site rose s was other = record {
 pub in_kept : {D : Type 0} (content : D → List ℕ) (image : D → List ℕ → Type 0) (meters : D → Meters)
     (sc : Scenario) (h : List Entry) (e : Entry) (site : ℕ) (state : State D) → IsIn content image meters sc h site state → e.owner ≢ site →
     IsIn content image meters sc (h ++ e ∷ []) site state
-in_kept content image meters sc h e site (Down disk) was other = record {
+in_kept content image meters sc h e site (Down disk logged) was other = record {
   down = up_kept h e site other ∙ was.down;
-  stands = disk_kept sc h e site (image disk) was.stands other;
+  stands = told_kept sc h e site (meters disk).capacity logged (image disk) was.stands other;
 }
-in_kept content image meters sc h e site (Up s log rose) was other = record {
+in_kept content image meters sc h e site (Up s log rose logged) was other = record {
   up = up_kept h e site other ∙ was.up;
   stands = site_kept sc h e site rose s was.stands other;
   logged =
-      let P : List Move → Type 0 = λ moves. IsLogged content image moves log in
-      subst P (sym (moves_kept sc h e site other)) was.logged;
+      let P : List Entry → Type 0 = λ mine. IsLogged content image meters site (length mine) (log_by (past_of sc site mine).moves) logged log in
+      subst P (sym (own_kept site h e other)) was.logged;
   lit = was.lit;
   inputs =
       let P : List Entry → Type 0 = λ mine. s.inputs ≤ length (filter is_step mine) in
       subst P (sym (own_kept site h e other)) was.inputs;
-}
-
--- what can be read back is as before
-pub back_kept : (sc : Scenario) (h : List Entry) (e : Entry) (site : ℕ) → AllReadBack sc h site → e.owner ≢ site → AllReadBack sc (h ++ e ∷ []) site
-back_kept sc h e site was other = record {
-  log =
-      let P : List Entry → Type 0 = λ mine. AllCanBeReadBack site (log_by (past_of sc site mine).moves) in
-      subst P (sym (own_kept site h e other)) was.log;
-  tail =
-      let P : List Entry → Type 0 = λ mine. AllCanBeReadBack site (tail_records (past_of sc site mine).tail) in
-      subst P (sym (own_kept site h e other)) was.tail;
 }
 
 pub node_kept : {D : Type 0} (content : D → List ℕ) (image : D → List ℕ → Type 0) (meters : D → Meters) → NodesKept content image meters
@@ -86,69 +85,69 @@ node_kept content image meters sc h e node was other = record {
   weights_are = was.weights_are;
   rows_are = was.rows_are;
   state = in_kept content image meters sc h e node.site node.state was.state other;
-  count_is = was.count_is ∙ sym (count_kept node.site h e other);
-  back = back_kept sc h e node.site was.back other;
 }
 
--- what reads as the log reads so whatever tail is open
-pub reads_with : (site : ℕ) (moves : List Move) (tail : Option Tail) (bytes : List ℕ) → ReadsAs moves bytes → ReadsWith site moves tail bytes
-reads_with site moves tail bytes reads = (false, subst (λ (ms : List Move). ReadsAs ms bytes) (sym (append-nil moves)) reads)
+-- what a log holds its disk tells: no tail is open to it
+pub logged_tells : {D : Type 0} (content : D → List ℕ) (image : D → List ℕ → Type 0) (meters : D → Meters) (site most logged : ℕ) (moves : List Move) (tail : Option Tail)
+    (log : LogState D) → IsLogged content image meters site most (log_by moves) logged log → (bytes : List ℕ) → image log.disk bytes →
+    ReadsTold site (meters log.disk).capacity most logged moves tail bytes
+logged_tells content image meters site most logged moves tail log was bytes at =
+    let count : logged ≡ counted (length (joined was.lists)) = was.logged_is in
+    let it : ReadsAs site (meters log.disk).capacity most (log_by moves) bytes = record {
+      lists = was.lists;
+      hold = was.hold;
+      generation = log.generation;
+      few = was.few;
+      reads = subst (λ (b : List ℕ). BytesReadAs (meters log.disk).capacity log.generation (bodies_in was.lists) b) (sym (was.stands.only bytes at))
+          (opened_reads content image meters (bodies_in was.lists) log was.stands);
+    } in
+    record {
+      kept = false;
+      reads = reads_alike site (meters log.disk).capacity most (log_by moves) (log_by (moves ++ [])) bytes (ap (λ (ms : List Move). brief (log_by ms)) (sym (append-nil moves))) it;
+      told = λ few. sym (le-ltb logged (length (joined was.lists)) (omega (arith, few, count)));
+      some = λ yes. absurd (let both : false ≡ true = yes in cc);
+    }
 
--- each image of a log that stands reads as its bodies
-pub image_reads : {D : Type 0} (content : D → List ℕ) (image : D → List ℕ → Type 0) (bodies : List (List ℕ)) (log : LogState D) →
-    Stands content image bodies log → (bytes : List ℕ) → image log.disk bytes → Reads bodies bytes
-image_reads content image bodies log was bytes at =
-    let P : List ℕ → Type 0 = λ b. Reads bodies b in
-    subst P (sym (was.disk.only bytes at)) was.disk.reads
-
-logged_reads : {D : Type 0} (content : D → List ℕ) (image : D → List ℕ → Type 0) (moves : List Move) (log : LogState D) →
-    IsLogged content image moves log → (bytes : List ℕ) → image log.disk bytes → ReadsAs moves bytes
-logged_reads content image moves log was bytes at = record {
-  lists = was.lists;
-  hold = was.hold;
-  reads = image_reads content image (bodies_in was.lists) log was.stands bytes at;
-}
+-- so the disk of a state tells
+pub told_in : {D : Type 0} (content : D → List ℕ) (image : D → List ℕ → Type 0) (meters : D → Meters)
+    (sc : Scenario) (h : List Entry) (site : ℕ) (state : State D) → IsIn content image meters sc h site state → IsFallen image meters sc h site state
+told_in content image meters sc h site (Down disk logged) was = was.stands
+told_in content image meters sc h site (Up s log rose logged) was = λ bytes at.
+    logged_tells content image meters site (entries_at h site) logged (moves_of sc h site) (open_tail sc h site) log was.logged bytes at
 
 pub disk_in : {D : Type 0} (content : D → List ℕ) (image : D → List ℕ → Type 0) (meters : D → Meters)
     (sc : Scenario) (h : List Entry) (site : ℕ) (state : State D) → IsIn content image meters sc h site state →
-    DiskHolds sc h site (image (disk_of state))
-disk_in content image meters sc h site (Down disk) was = was.stands
-disk_in content image meters sc h site (Up s log rose) was = λ bytes at.
-    reads_with site (moves_of sc h site) (open_tail sc h site) bytes (logged_reads content image (moves_of sc h site) log was.logged bytes at)
+    DiskHolds sc h site (meters (disk_of state)).capacity (image (disk_of state))
+disk_in content image meters sc h site state was =
+    tells_holds sc h site (meters (disk_of state)).capacity (logged_in state) (image (disk_of state)) (told_in content image meters sc h site state was)
 
 -- a blank disk stands for a site without entries
-pub blank_holds : {D : Type 0} (content : D → List ℕ) (image : D → List ℕ → Type 0) (sc : Scenario) (site : ℕ) (d : D) →
-    IsBlank content image d → DiskHolds sc [] site (image d)
-blank_holds content image sc site d blank = λ bytes left. (
-  false,
-  record {
+pub blank_tells : {D : Type 0} (content : D → List ℕ) (image : D → List ℕ → Type 0) (meters : D → Meters) (sc : Scenario) (site : ℕ) (d : D) →
+    2 ≤ (meters d).capacity → IsBlank content image meters d → DiskTells sc [] site (meters d).capacity 0 (image d)
+blank_tells content image meters sc site d least blank = λ bytes left. record {
+  kept = false;
+  reads = record {
     lists = [];
-    hold = hold_nothing;
-    reads = subst (λ (b : List ℕ). Reads [] b) (sym (blank.1 bytes left)) (record { rest = 0 ∷ []; parts = refl; closed = λ e. omega (arith, e); fits = tt });
-  },
-)
-
-pub blank_stands : {D : Type 0} (content : D → List ℕ) (image : D → List ℕ → Type 0) (sc : Scenario) (site : ℕ) (d : D) →
-    IsBlank content image d → DiskStands sc [] site (image d)
-blank_stands content image sc site d blank = record { holds = blank_holds content image sc site d blank; back = record { log = tt; tail = tt } }
+    hold = hold_nothing site;
+    generation = 0;
+    few = omega arith;
+    reads = subst (λ (b : List ℕ). BytesReadAs (meters d).capacity 0 [] b) (sym (blank.1 bytes left ∙ blank.0)) (blank_text (meters d).capacity least);
+  };
+  told = λ few. refl;
+  some = λ yes. absurd (let both : false ≡ true = yes in cc);
+}
 
 pub node_disk : {D : Type 0} (content : D → List ℕ) (image : D → List ℕ → Type 0) (meters : D → Meters) → NodesDisks content image meters
-node_disk content image meters sc h node was = record {
-  holds = disk_in content image meters sc h node.site node.state was.state;
-  back = was.back;
-}
+node_disk content image meters sc h node was = record { holds = disk_in content image meters sc h node.site node.state was.state }
 
 pub up_in : {D : Type 0} (content : D → List ℕ) (image : D → List ℕ → Type 0) (meters : D → Meters)
     (sc : Scenario) (h : List Entry) (site : ℕ) (state : State D) → IsIn content image meters sc h site state →
     is_up_in state ≡ is_up_at h site
-up_in content image meters sc h site (Down disk) was = sym was.down
-up_in content image meters sc h site (Up s log rose) was = sym was.up
+up_in content image meters sc h site (Down disk logged) was = sym was.down
+up_in content image meters sc h site (Up s log rose logged) was = sym was.up
 
 pub node_up : {D : Type 0} (content : D → List ℕ) (image : D → List ℕ → Type 0) (meters : D → Meters) → NodesUp content image meters
 node_up content image meters sc h node was = up_in content image meters sc h node.site node.state was.state
 
-pub disks_kept : {D : Type 0} (image : D → List ℕ → Type 0) → DisksKept image
-disks_kept image sc h e site disk stands other = record {
-  holds = disk_kept sc h e site (image disk) stands.holds other;
-  back = back_kept sc h e site stands.back other;
-}
+pub disks_kept : {D : Type 0} (image : D → List ℕ → Type 0) (meters : D → Meters) → DisksKept image meters
+disks_kept image meters sc h e site disk stands other = record { holds = disk_kept sc h e site (meters disk).capacity (image disk) stands.holds other }

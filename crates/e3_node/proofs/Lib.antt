@@ -1,7 +1,8 @@
 pub mod Apart
 pub mod Pasts
-pub mod Counts
-pub mod Frames
+pub mod Left
+pub mod Tails
+pub mod Told
 mod Orders
 mod BatchOrders
 pub mod Keeping
@@ -14,11 +15,11 @@ pub mod Strange
 pub mod Among
 pub mod Steps
 pub mod Telling
-pub mod Appends
 pub mod Waiting
 pub mod Places
 pub mod Turned
 pub mod Owning
+pub mod Briefs
 pub mod Several
 pub mod Batches
 pub mod Bundles
@@ -27,3 +28,4 @@ pub mod Outcomes
 pub mod Planning
 pub mod Results
 pub mod Ended
+pub mod Written

@@ -1,14 +1,11 @@
 -- What a batch comes to, step by step: planned, and then entered or fallen over.
 use Rattle.std.proofs.Common.{◌≡◌, ◌+◌, ◌≤◌, ◌++◌, ◌∷◌, [], ℕ, zero, suc, true, false, List, length, take, drop, map, refl, sym, subst, ap, ◌∙◌, append-nil, append_assoc, arith}
 use Rattle.std.proofs.lemmas.List.{take-append-drop, take-map}
-use Rattle.std.specs.Prelude.{Option}
-use Rattle.e3_codec.specs.Fields.{AllCanBeReadBack}
 use Rattle.e3_law_local.specs.Drafts.{MayTakeAll}
 use Rattle.e3_law_local.specs.Least.{AreFirstTo, queue_to}
 use Rattle.e3_law_local.proofs.Queues.{front_is_least}
-use Rattle.e3_log.specs.Stands.{LogState, Stands}
 use Rattle.e3_node.specs.Batches.{fall_over, plain_steps}
-use Rattle.e3_node.specs.Bodies.{AllReadBack, DiskHolds, IsLogged, ReadsAfter, ReadsWith, bodies_in, tail_records}
+use Rattle.e3_node.specs.Bodies.{DiskTells, ReadsTold, entries_at}
 use Rattle.e3_node.specs.Several.{MayEnterAll, claims_for}
 use Rattle.e3_node.specs.Turns.{Meanwhile}
 use Rattle.e3_site.specs.SiteView.{SiteView}
@@ -30,14 +27,15 @@ use Rattle.e3_wire.proofs.Foreign.{notes_stay}
 use Rattle.e3_world.specs.Given.{IsGiven}
 use Rattle.e3_world.specs.Items.{is_up_at}
 use Rattle.e3_world.specs.Legal.{AreDue, IsLegal, entry_of, records_by}
-use Rattle.e3_world.specs.Moves.{Move, Past, Tail, left_by, log_by, moves_of, plain_input}
+use Rattle.e3_world.specs.Moves.{Move, Past, left_by, log_of, moves_of, plain_input}
 use Rattle.e3_world.specs.Packets.{is_calm, lines, present_items, step_items}
 use Rattle.e3_law_local.proofs.Alike.{all_on}
 use Rattle.e3_law_local.proofs.Laws.{legal_behind}
-use Rattle.e3_node.proofs.Appends.{left_reads}
 use Rattle.e3_node.proofs.Batches.{plain_same}
 use Rattle.e3_node.proofs.Bundles.{due_on_all, first_on, may_enter_all, plain_own}
-use Rattle.e3_node.proofs.Pasts.{back_left, past_on}
+use Rattle.e3_site_log.specs.Bodies.{ReadsLeft}
+use Rattle.e3_node.proofs.Left.{left_tells}
+use Rattle.e3_node.proofs.Pasts.{entries_on, past_on}
 use Rattle.e3_node.proofs.Several.{note_claimed, outs_in}
 use Rattle.e3_node.proofs.Waiting.{both_others, both_sites, moves_stay}
 
@@ -145,27 +143,17 @@ module _ (sc : Scenario) (h : List Entry) (site first : ℕ) (done : List Input)
       one exists up (subst D deliver due) firsts.first (subst N deliver (subst S (sym same) (ap (note_of site) (sym start) ∙ noted))))))
 
 -- the disk of a site that fell over several inputs
-pub fallen_all_disk : {D : Type 0} (content : D → List ℕ) (image : D → List ℕ → Type 0) (sc : Scenario) (h : List Entry) (site : ℕ) (inputs : List Input) (why : Why)
-    (old new : LogState D) → IsLogged content image (moves_of sc h site) old →
-    ((lists : List (List Record)) → Stands content image (bodies_in lists) old →
-    (bytes : List ℕ) → image new.disk bytes → ReadsAfter lists why (records_by sc h site inputs) bytes) →
-    DiskHolds sc (h ++ fall_over sc h site inputs why ∷ []) site (image new.disk)
-fallen_all_disk content image sc h site inputs why old new was reads = λ bytes at.
+pub fallen_all_tells : (sc : Scenario) (h : List Entry) (site capacity : ℕ) (inputs : List Input) (records : List Record) (why : Why) (logged : ℕ) (image : List ℕ → Type 0) →
+    records ≡ records_by sc h site inputs →
+    ((bytes : List ℕ) → image bytes → ReadsLeft site capacity (entries_at h site + 1) (log_of sc h site) records logged why bytes) →
+    DiskTells sc (h ++ fall_over sc h site inputs why ∷ []) site capacity logged image
+fallen_all_tells sc h site capacity inputs records why logged image made left = λ bytes at.
+    let e : Entry = fall_over sc h site inputs why in
     let plain : List Input = map plain_input inputs in
-    let P : Past → Type 0 = λ p. ReadsWith site p.moves p.tail bytes in
-    let Q : List Move → Type 0 = λ ms. ReadsWith site ms (left_by why plain (records_by sc h site inputs)) bytes in
-    subst P (sym (past_on sc h site (fall_over sc h site inputs why) refl)) (subst Q (sym (append-nil (moves_of sc h site)))
-    (left_reads site (moves_of sc h site) was.lists why plain (records_by sc h site inputs) bytes was.hold (reads was.lists was.stands bytes at)))
-
-pub fall_all_back : (sc : Scenario) (h : List Entry) (site : ℕ) (inputs : List Input) (why : Why) → AllReadBack sc h site →
-    AllCanBeReadBack site (records_by sc h site inputs) → AllReadBack sc (h ++ fall_over sc h site inputs why ∷ []) site
-fall_all_back sc h site inputs why was back = record {
-  log =
-      let now : moves_of sc (h ++ fall_over sc h site inputs why ∷ []) site ≡ moves_of sc h site =
-      ap (λ (p : Past). p.moves) (past_on sc h site (fall_over sc h site inputs why) refl) ∙ append-nil (moves_of sc h site) in
-      subst (λ (ms : List Move). AllCanBeReadBack site (log_by ms)) (sym now) was.log;
-  tail =
-      subst (λ (t : Option Tail). AllCanBeReadBack site (tail_records t))
-      (sym (ap (λ (p : Past). p.tail) (past_on sc h site (fall_over sc h site inputs why) refl)))
-      (back_left site why (map plain_input inputs) (records_by sc h site inputs) back);
-}
+    let n : ℕ = entries_at h site + 1 in
+    let P : Past → Type 0 = λ p. ReadsTold site capacity (entries_at (h ++ e ∷ []) site) logged p.moves p.tail bytes in
+    let M : ℕ → Type 0 = λ m. ReadsTold site capacity m logged (moves_of sc h site ++ []) (left_by why plain (records_by sc h site inputs)) bytes in
+    let Q : List Move → Type 0 = λ ms. ReadsTold site capacity n logged ms (left_by why plain (records_by sc h site inputs)) bytes in
+    let R : List Record → Type 0 = λ rs. ReadsTold site capacity n logged (moves_of sc h site) (left_by why plain rs) bytes in
+    subst P (sym (past_on sc h site e refl)) (subst M (sym (entries_on h site e refl)) (subst Q (sym (append-nil (moves_of sc h site)))
+    (subst R made (left_tells site capacity n logged (moves_of sc h site) why plain records bytes (left bytes at)))))

@@ -61,6 +61,10 @@ module _ (mentions : RecordsMentionWhatStands) (begun : BegunAreTransactions) (v
       each_right (IsOwn site) (log_of sc h site) (made_by sc h site i).records
       (subst P now (each_left (IsOwn site) (log_of sc (h ++ e ∷ []) site) (tail_records (open_tail sc (h ++ e ∷ []) site)) all))
 
+  -- so are those of a log, and what its brief has
+  pub log_own : (sc : Scenario) (h : List Entry) (site : ℕ) → IsGiven sc → IsLegal sc h → Each (IsOwn site) (log_of sc h site)
+  log_own sc h site given legal = each_left (IsOwn site) (log_of sc h site) (tail_records (open_tail sc h site)) (all_own sc h site given legal)
+
 -- and those of a rise
 pub rise_own : (wish : Wish) (inc : ℕ) (read : List Record) → Each (IsOwn wish.site) (records_by wish inc read)
 rise_own wish inc [] = (tt, (tt, tt))

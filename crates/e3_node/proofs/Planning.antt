@@ -1,11 +1,15 @@
 -- A batch before its first input, and behind what others put.
-use Rattle.std.proofs.Common.{◌≡◌, ◌<◌, ◌≤◌, ◌++◌, ◌∷◌, [], ℕ, List, length, take, sym, subst, ap, ◌∙◌, append-nil, append_assoc, arith}
-use Rattle.std.specs.Prelude.{Result, OnOk, OnErr}
+use Rattle.std.proofs.Common.{◌≡◌, ◌<◌, ◌≤◌, ◌++◌, ◌∷◌, [], ℕ, List, Option, length, take, refl, sym, subst, ap, ◌∙◌, append-nil, append_assoc, arith}
+use Rattle.std.specs.Prelude.{None, Result, OnOk, OnErr}
+use Rattle.e3_disk.specs.Meters.{Meters}
+use Rattle.e3_log.specs.Stands.{LogState}
 use Rattle.e3_node.specs.Batched.{HasPlanned, IsBatch}
 use Rattle.e3_node.specs.Batches.{plain_steps}
 use Rattle.e3_node.specs.Several.{AreOwned, claims_for, marks_in}
 use Rattle.e3_node.specs.Turns.{Meanwhile}
 use Rattle.e3_node.specs.declared.batching.Batch.{Batch}
+use Rattle.e3_site_log.specs.Ends.{IsShortIf, MayTurn}
+use Rattle.e3_site_log.specs.declared.writing.Short.{Short}
 use Rattle.e3_node.specs.declared.fault.InputFault.{InputFault}
 use Rattle.e3_site.specs.SiteView.{SiteView}
 use Rattle.e3_law_stands.specs.StandsAlike.{StandsAlike}
@@ -21,6 +25,7 @@ use Rattle.e3_wire.specs.Wires.{IsPlayed}
 use Rattle.e3_wire.specs.declared.marks.Mark.{Mark}
 use Rattle.e3_wire.specs.declared.marks.Mark.TheVariants as mark
 use Rattle.e3_wire.specs.declared.marks.Note.{Note}
+use Rattle.e3_world.specs.Moves.{log_of}
 use Rattle.e3_wire.proofs.Foreign.{notes_stay}
 use Rattle.e3_wire.proofs.Notes.{scenario_stays}
 use Rattle.e3_wire.proofs.Staying.{are_others_marks}
@@ -30,9 +35,10 @@ use Rattle.e3_node.proofs.Several.{entries_freed, grew_own, own_planned, own_mar
 use Rattle.e3_node.proofs.Waiting.{one_while}
 
 -- before its first input
-pub no_batch : (sc : Scenario) (h : List Entry) (site : ℕ) (rose : List Record) (marks : List Mark) (batch : Batch) (s : SiteView) → StandsAlike sc h site rose s →
-    batch.steps.items ≡ [] → batch.records ≡ [] → batch.body ≡ [] → IsBatch sc h site rose marks s.inputs [] batch s marks
-no_batch sc h site rose marks batch s stands steps records body = record {
+pub no_batch : {D : Type 0} (meters : D → Meters) (on_disk : LogState D) (sc : Scenario) (h : List Entry) (site : ℕ) (rose : List Record) (marks : List Mark) (batch : Batch) (s : SiteView) →
+    StandsAlike sc h site rose s → batch.steps.items ≡ [] → batch.records ≡ [] → batch.body ≡ [] → batch.short ≡ None →
+    IsBatch meters on_disk sc h site rose marks s.inputs [] batch s marks
+no_batch meters on_disk sc h site rose marks batch s stands steps records body short = record {
   steps_are = steps;
   records_are = records;
   body_is = body;
@@ -40,6 +46,9 @@ no_batch sc h site rose marks batch s stands steps records body = record {
   stands = stands;
   inputs = omega arith;
   claimed = sym (append-nil marks);
+  short = let P : Option Short → Type 0 = λ o. IsShortIf site (log_of sc h site) o in subst P (sym short) tt;
+  may = let P : Option Short → Type 0 = λ o. MayTurn on_disk o in subst P (sym short) tt;
+  due = λ some. absurd (some refl);
 }
 
 -- a site that stands does so behind what others put while its pass rested
@@ -72,21 +81,23 @@ places_taken p site n marks owns grew few =
     subst P (sym same) few
 
 -- what was added to a batch
-abbrev pub Added : Scenario → List Entry → ℕ → List Record → List Mark → ℕ → List Input → Result (Unit {0}) InputFault → Batch → SiteView → List Mark → Type 0
-Added sc h site rose marks first inputs answer batch s now =
-    (n : ℕ) × (n ≤ length inputs) × OnOk answer (n ≡ length inputs) × OnErr answer (n < length inputs) × IsBatch sc h site rose marks first (take n inputs) batch s now
+abbrev pub Added : {D : Type 0} → (D → Meters) → LogState D → Scenario → List Entry → ℕ → List Record → List Mark → ℕ → List Input → Result (Unit {0}) InputFault → Batch → SiteView →
+    List Mark → Type 0
+Added meters on_disk sc h site rose marks first inputs answer batch s now =
+    (n : ℕ) × (n ≤ length inputs) × OnOk answer (n ≡ length inputs) × OnErr answer (n < length inputs) × IsBatch meters on_disk sc h site rose marks first (take n inputs) batch s now
 
-pub planned : (p : APass) (site : ℕ) (rose : List Record) (first : ℕ) (inputs : List Input) (answer : Result (Unit {0}) InputFault) (batch : Batch) (s : SiteView) (marks freed shared now : List Mark) →
+pub planned : {D : Type 0} (meters : D → Meters) (on_disk : LogState D) (p : APass) (site : ℕ) (rose : List Record) (first : ℕ) (inputs : List Input) (answer : Result (Unit {0}) InputFault) (batch : Batch) (s : SiteView) (marks freed shared now : List Mark) →
     GrewByOthers belongs p marks → IsPlayed marks → freed ≡ marks ++ mark.Freed site ∷ [] → now ≡ shared →
-    Added (scenario_of freed) (entries_of freed) site rose freed first inputs answer batch s shared → HasPlanned p site rose first inputs answer batch s now
-planned p site rose first inputs answer batch s marks freed shared now grew played free is added =
+    Added meters on_disk (scenario_of freed) (entries_of freed) site rose freed first inputs answer batch s shared →
+    HasPlanned meters on_disk p site rose first inputs answer batch s now
+planned meters on_disk p site rose first inputs answer batch s marks freed shared now grew played free is added =
     let done : List Input = take added.0 inputs in
     let keys : scenario_of freed ≡ scenario_of marks = ap (λ (l : List Mark). scenario_of l) free ∙ (scenario_stays marks (mark.Freed site ∷ []) played).0 in
     let entries : entries_of freed ≡ entries_of marks = ap (λ (l : List Mark). entries_of l) free ∙ entries_freed marks site in
-    let P : List Mark → Type 0 = λ l. IsBatch (scenario_of freed) (entries_of freed) site rose freed first done batch s l in
-    let Q : Scenario → Type 0 = λ sc. IsBatch sc (entries_of freed) site rose freed first done batch s now in
-    let R : List Entry → Type 0 = λ h. IsBatch (scenario_of marks) h site rose freed first done batch s now in
-    let S : List Mark → Type 0 = λ l. IsBatch (scenario_of marks) (entries_of marks) site rose l first done batch s now in
+    let P : List Mark → Type 0 = λ l. IsBatch meters on_disk (scenario_of freed) (entries_of freed) site rose freed first done batch s l in
+    let Q : Scenario → Type 0 = λ sc. IsBatch meters on_disk sc (entries_of freed) site rose freed first done batch s now in
+    let R : List Entry → Type 0 = λ h. IsBatch meters on_disk (scenario_of marks) h site rose freed first done batch s now in
+    let S : List Mark → Type 0 = λ l. IsBatch meters on_disk (scenario_of marks) (entries_of marks) site rose l first done batch s now in
     record {
       between = marks;
       grew = grew;
@@ -99,10 +110,10 @@ planned p site rose first inputs answer batch s marks freed shared now grew play
     }
 
 -- what is freed and claimed is of the pass
-pub claims_grew : (p q : APass) (site : ℕ) (rose : List Record) (first : ℕ) (inputs : List Input) (answer : Result (Unit {0}) InputFault) (batch : Batch) (s : SiteView) (marks freed now : List Mark) →
+pub claims_grew : {D : Type 0} (meters : D → Meters) (on_disk : LogState D) (p q : APass) (site : ℕ) (rose : List Record) (first : ℕ) (inputs : List Input) (answer : Result (Unit {0}) InputFault) (batch : Batch) (s : SiteView) (marks freed now : List Mark) →
     Owns p site → SameOwners p q → seen_by q ≡ marks → freed ≡ marks ++ mark.Freed site ∷ [] →
-    Added (scenario_of freed) (entries_of freed) site rose freed first inputs answer batch s now → GrewByOwners belongs q now
-claims_grew p q site rose first inputs answer batch s marks freed now owns same seen free added =
+    Added meters on_disk (scenario_of freed) (entries_of freed) site rose freed first inputs answer batch s now → GrewByOwners belongs q now
+claims_grew meters on_disk p q site rose first inputs answer batch s marks freed now owns same seen free added =
     let steps : List Entry = plain_steps (scenario_of freed) (entries_of freed) site (take added.0 inputs) in
     let has : 0 < count_of site (owners_of q) = subst (λ (l : List ℕ). 0 < count_of site l) (sym same.owners) owns in
     grew_own (last_of q) (owners_of q) (seen_by q) marks now (mark.Freed site ∷ claims_for steps) seen

@@ -1,7 +1,7 @@
 -- A batch that was planned, behind what others put since.
-use Rattle.std.proofs.Common.{◌≡◌, ◌≢◌, ◌+◌, ◌-◌, ◌≤◌, ◌++◌, ◌∷◌, [], ℕ, zero, suc, true, false, List, length, take, refl, sym, subst, ap, ◌∙◌, append-nil, append_assoc, arith}
+use Rattle.std.proofs.Common.{◌≡◌, ◌≢◌, ◌+◌, ◌-◌, ◌≤◌, ◌++◌, ◌∷◌, [], inl, inr, ℕ, zero, suc, true, false, List, length, take, refl, sym, subst, ap, ◌∙◌, append_assoc, arith}
 use Rattle.std.proofs.lemmas.List.{length-take-le}
-use Rattle.std.specs.Prelude.{None, Result, Some, fold}
+use Rattle.std.specs.Prelude.{None, Option, Result, Some}
 use Rattle.atomic_table.specs.Seated.{TableId}
 use Rattle.e3_codec.specs.Fields.{AllCanBeReadBack}
 use Rattle.e3_disk.specs.Meters.{Keeps, Meters}
@@ -10,22 +10,23 @@ use Rattle.e3_law_local.specs.Drafts.{MayTakeAll}
 use Rattle.e3_law_local.specs.Least.{AreFirstTo}
 use Rattle.e3_law_local.specs.Others.{Allows, numbered_on}
 use Rattle.e3_law_serial.specs.Orderly.{LogsAreOrderly}
+use Rattle.e3_law_brief.specs.Orderly.{IsOrderly}
 use Rattle.e3_law_brief.specs.Sets.{LoggedSitesAreSets}
 use Rattle.e3_law_steps.specs.Trails.{VotesAtTheirSite}
 use Rattle.e3_log.specs.Frames.{frames}
-use Rattle.e3_log.specs.Stands.{LogState, Stands}
-use Rattle.e3_log.proofs.Append.{new_end}
+use Rattle.e3_log.specs.Regions.{other, start}
+use Rattle.e3_log.specs.Stands.{LogState}
 use Rattle.e3_node.specs.Batched.{HasPlanned, IsBatch}
-use Rattle.e3_node.specs.Batches.{fall_over, plain_steps, stepped}
-use Rattle.e3_node.specs.Bodies.{AllReadBack, DiskHolds, Hold, ReadsAfter, bodies_in, body_of}
+use Rattle.e3_node.specs.Batches.{IsOneFrame, fall_over, plain_steps, stepped}
+use Rattle.e3_node.specs.Bodies.{DiskTells, entries_at}
 use Rattle.e3_node.specs.Ending.{EndsWith}
-use Rattle.e3_node.specs.Ends.{EndsAt, IsReason, Takes, calls_for}
-use Rattle.e3_node.specs.Counting.{count_of, counted_by}
+use Rattle.e3_site_log.specs.Bodies.{IsLogged, ReadsLeft, body_of}
+use Rattle.e3_site_log.specs.Ends.{EndsAt, IsDue, IsReason, IsShortIf, Takes, calls_for, size_of}
+use Rattle.e3_site_log.specs.declared.writing.Short.{Short}
 use Rattle.e3_node.specs.NodeStands.{IsUp, steps_at}
 use Rattle.e3_node.specs.Several.{MayEnterAll, claims_for, marks_in}
 use Rattle.e3_node.specs.Turns.{HasTurned, Meanwhile}
 use Rattle.e3_node.specs.declared.batching.Batch.{Batch}
-use Rattle.e3_node.specs.declared.counting.Count.{Count}
 use Rattle.e3_node.specs.declared.fault.InputFault.{InputFault}
 use Rattle.e3_node.specs.declared.state.State.TheVariants.{Up}
 use Rattle.e3_site.specs.SiteView.{SiteView}
@@ -48,15 +49,15 @@ use Rattle.e3_wire.proofs.Notes.{entry_uses, scenario_stays}
 use Rattle.e3_wire.proofs.Staying.{are_others_marks}
 use Rattle.e3_world.specs.Items.{is_up_at}
 use Rattle.e3_world.specs.Legal.{AreDue, Guard, IsLegal, records_by}
-use Rattle.e3_world.specs.Moves.{Move, log_size, moves_of}
+use Rattle.e3_world.specs.Moves.{log_by, log_of}
 use Rattle.e3_world.specs.Packets.{is_calm, present_items}
 use Rattle.e3_node.proofs.Batches.{plain_same, records_own, records_same, stepped_same, stepped_up}
-use Rattle.e3_node.proofs.Bundles.{all_due_first, plain_length, plain_list, plain_own, stepped_count, steps_back, steps_counted, steps_logged, steps_use}
-use Rattle.e3_node.proofs.Counts.{count_meanwhile, count_own}
-use Rattle.e3_node.proofs.Outcomes.{due_meanwhile, fall_all_back, fallen_all_disk, first_of_all, first_turn, may_all, may_take_front, meanwhile_then, moves_meanwhile, stands_same}
+use Rattle.e3_node.proofs.Bundles.{all_due_first, plain_length, plain_list, plain_own, stepped_count, steps_log, steps_logged, steps_use}
+use Rattle.e3_node.proofs.Outcomes.{due_meanwhile, fallen_all_tells, first_of_all, first_turn, may_all, may_take_front, meanwhile_then, moves_meanwhile, stands_same}
 use Rattle.e3_node.proofs.Orders.{log_in_order, stepped_legal}
 use Rattle.e3_node.proofs.Several.{entries_claimed, entries_freed, entries_in, note_claimed, note_entered, note_freed, outs_in, used_all}
-use Rattle.e3_node.proofs.Waiting.{back_meanwhile, one_while, up_meanwhile}
+use Rattle.e3_node.proofs.Waiting.{one_while, up_meanwhile}
+use Rattle.e3_node.proofs.Written.{Follows}
 
 -- the guard of a fall over several inputs
 fall_all_guard : (sc : Scenario) (h : List Entry) (site : ℕ) (inputs : List Input) (records : List Record) (why : Why) → 1 ≤ site → is_up_at h site ≡ true →
@@ -69,22 +70,18 @@ some_inputs : (sc : Scenario) (h : List Entry) (site : ℕ) (inputs : List Input
 some_inputs sc h site [] some = absurd (some refl)
 some_inputs sc h site (i ∷ inputs) some = omega arith
 
--- the place behind one frame more
-one_end : (bodies : List (List ℕ)) (body : List ℕ) (old new : ℕ) → old ≡ length (frames bodies) → new ≡ length (frames (bodies ++ body ∷ [])) →
-    new ≡ old + length (frames (body ∷ []))
-one_end bodies body old new was is =
-    let one : 0 + 5 + length body ≡ length (frames ([] ++ body ∷ [])) = new_end [] body 0 refl in
-    let all : old + 5 + length body ≡ length (frames (bodies ++ body ∷ [])) = new_end bodies body old was in
-    omega (arith, one, all, is)
-
--- and behind the frame of records, or none
-records_end : (bodies : List (List ℕ)) (records : List Record) (old new : ℕ) → old ≡ length (frames bodies) → new ≡ length (frames (bodies ++ body_of records)) →
-    new ≡ old + length (frames (body_of records))
-records_end bodies [] old new was is =
-    let same : length (frames (bodies ++ [])) ≡ length (frames bodies) = ap (λ (l : List (List ℕ)). length (frames l)) (append-nil bodies) in
-    let plain : old + 0 ≡ old = omega arith in
-    is ∙ same ∙ sym was ∙ sym plain
-records_end bodies (r ∷ rs) old new was is = one_end bodies (spelling (r ∷ rs)) old new was is
+-- where a write ended the frame: behind those before it, or behind the brief
+one_frame : {D : Type 0} (meters : D → Meters) (site : ℕ) (old new : LogState D) (log records : List Record) (short : Option Short) → IsShortIf site log short →
+    (records ≡ [] → new ≡ old) → (records ≢ [] → EndsAt meters old short records new.end) → IsOneFrame log records old.end new.end (meters old.disk).capacity
+one_frame meters site old new log [] short is same end =
+    inl (let plain : old.end + 0 ≡ old.end = omega arith in ap (λ (l : LogState _). l.end) (same refl) ∙ sym plain)
+one_frame meters site old new log (r ∷ rs) None is same end = inl (end (λ none. cc))
+one_frame meters site old new log (r ∷ rs) (Some s) is same end = by (end (λ none. cc))
+  where
+    by : EndsAt meters old (Some s) (r ∷ rs) new.end → IsOneFrame log (r ∷ rs) old.end new.end (meters old.disk).capacity
+    by (inl behind) = inl behind
+    by (inr turned) =
+        inr (other old.region, turned ∙ ap (λ (l : List ℕ). start (meters old.disk).capacity (other old.region) + 10 + length l + length (frames (body_of (r ∷ rs)))) is.body_is)
 
 -- what was seen, and marks of others behind it
 module _ (p : APass) (site : ℕ) (owns : Owns p site) (was : IsPlayed (seen_by p)) where
@@ -103,8 +100,8 @@ module _ (p : APass) (site : ℕ) (owns : Owns p site) (was : IsPlayed (seen_by 
       let one = are_others_marks p site marks owns grew in
       ap (λ (l : List Mark). note_of site l) one.1 ∙ notes_stay site (seen_by p) one.0 one.2
 
-module _ {rose : List Record} (p q : APass) (site first : ℕ) (inputs : List Input) (answer : Result (Unit {0}) InputFault) (batch : Batch) (s : SiteView)
-    (plan : HasPlanned p site rose first inputs answer batch s (seen_by q)) (owns : Owns p site) (owns_q : Owns q site)
+module _ {rose : List Record} {D0 : Type 0} (meters0 : D0 → Meters) (on_disk : LogState D0) (p q : APass) (site first : ℕ) (inputs : List Input) (answer : Result (Unit {0}) InputFault)
+    (batch : Batch) (s : SiteView) (plan : HasPlanned meters0 on_disk p site rose first inputs answer batch s (seen_by q)) (owns : Owns p site) (owns_q : Owns q site)
     (was : IsPlayed (seen_by p)) (played_q : IsPlayed (seen_by q)) where
   abbrev sc : Scenario
   sc = scenario_of (seen_by p)
@@ -133,8 +130,8 @@ module _ {rose : List Record} (p q : APass) (site first : ℕ) (inputs : List In
   pub first_keys : scenario_of b ≡ sc
   first_keys = keys p site owns was b plan.grew
 
-  pub made : IsBatch sc h1 site rose f first done batch s (seen_by q)
-  made = let P : Scenario → Type 0 = λ k. IsBatch k h1 site rose f first done batch s (seen_by q) in subst P first_keys plan.made
+  pub made : IsBatch meters0 on_disk sc h1 site rose f first done batch s (seen_by q)
+  made = let P : Scenario → Type 0 = λ k. IsBatch meters0 on_disk k h1 site rose f first done batch s (seen_by q) in subst P first_keys plan.made
 
   pub claimed : seen_by q ≡ f ++ claims_for steps
   claimed = made.claimed
@@ -166,10 +163,10 @@ module _ {rose : List Record} (p q : APass) (site first : ℕ) (inputs : List In
   )
 
   -- a site that was up is so behind what others put
-  pub up_first : {D : Type 0} (content : D → List ℕ) (image : D → List ℕ → Type 0) (meters : D → Meters) (s0 : SiteView) (old : LogState D) →
-      IsUp content image meters sc h site s0 old rose → is_up_at h1 site ≡ true
-  up_first content image meters s0 old stood =
-      let there : IsUp content image meters sc h1 site s0 old rose = up_meanwhile content image meters sc h h1 site (Up s0 old rose) first_while stood in there.up
+  pub up_first : {D : Type 0} (content : D → List ℕ) (image : D → List ℕ → Type 0) (meters : D → Meters) (s0 : SiteView) (old : LogState D) (n : ℕ) →
+      IsUp content image meters sc h site s0 old rose n → is_up_at h1 site ≡ true
+  up_first content image meters s0 old n stood =
+      let there : IsUp content image meters sc h1 site s0 old rose n = up_meanwhile content image meters sc h h1 site (Up s0 old rose n) first_while stood in there.up
 
   module _ (some : 1 ≤ site) (up : is_up_at h site ≡ true) (calm : is_calm (present_items sc h) ≡ false) (may : MayTakeAll sc h site inputs)
       (firsts : AreFirstTo sc h site inputs) where
@@ -261,6 +258,30 @@ module _ {rose : List Record} (p q : APass) (site first : ℕ) (inputs : List In
           subst P (sym made.records_are ∙ same_records)
           (made.back (records_own mentions begun votes sc h1 site done was.given legal_1 some up_1 all_1.1))
 
+      log_second : log_of sc k site ≡ log_of sc h1 site
+      log_second = ap log_by (moves_meanwhile sc h1 k site second_while)
+
+      -- what they record may be written, and to what the log may be turned
+      pub all_follow : LogsAreOrderly → LoggedSitesAreSets → RecordsMentionWhatStands → BegunAreTransactions → VotesAtTheirSite → is_up_at h1 site ≡ true → is_up_at k site ≡ true →
+          Follows site (log_of sc k site) batch.records batch.short
+      all_follow logs sets mentions begun votes up_1 up_k = record {
+        short = let P : List Record → Type 0 = λ l. IsShortIf site l batch.short in subst P (sym log_second) made.short;
+        orderly =
+            let P : List Record → Type 0 = λ l. IsOrderly site l in
+            let Q : List Record → Type 0 = λ rs. IsOrderly site (log_of sc k site ++ rs) in
+            subst Q (sym same_records) (subst P (steps_log sc k site done)
+            (log_in_order logs sets sc (stepped sc k site done) site was.given (stepped_legal sc k site done some up_k all_2.1 legal_2)).orderly);
+        back = let P : List Record → Type 0 = λ rs. AllCanBeReadBack site rs in subst P (sym same_records) (records_back mentions begun votes up_1);
+      }
+
+      -- without a short log the frame has room
+      pub all_due : batch.records ≢ [] → IsDue meters0 on_disk (log_of sc k site) batch.short (size_of batch.records)
+      all_due recorded =
+          let P : List Record → Type 0 = λ l. IsDue meters0 on_disk l batch.short (size_of batch.records) in
+          let N : ℕ → Type 0 = λ n. IsDue meters0 on_disk (log_of sc h1 site) batch.short n in
+          let size : length batch.body ≡ size_of batch.records = ap length (made.body_is ∙ ap spelling (sym made.records_are)) in
+          subst P (sym log_second) (subst N size (made.due (λ none. recorded (made.records_are ∙ none))))
+
       -- once the steps are entered
       pub history_stepped : (now : List Mark) → now ≡ marks ++ marks_in k batch.steps.items → entries_of now ≡ stepped sc k site done
       history_stepped now is =
@@ -277,13 +298,6 @@ module _ {rose : List Record} (p q : APass) (site first : ℕ) (inputs : List In
           ap (λ (l : List Mark). note_of site l) is ∙ ap (λ (l : List Entry). note_of site (marks ++ marks_in k l)) same_steps
           ∙ note_entered site marks mine (plain_own sc k site done) ∙ ap (λ (v : Note). used_all v mine) there ∙ steps_use sc k site done 0 0
 
-      pub counted_stepped : (c d : Count) → c ≡ count_of site h → d ≡ fold (λ (x : Count) (e : Entry). counted_by x e.act) c batch.steps.items →
-          (more : List Entry) → more ≡ stepped sc k site done → d ≡ count_of site more
-      counted_stepped c d before is more entered =
-          is ∙ ap (λ (x : Count). fold (λ (y : Count) (e : Entry). counted_by y e.act) x batch.steps.items) (before ∙ sym (count_meanwhile site h k all_while))
-          ∙ ap (λ (l : List Entry). fold (λ (y : Count) (e : Entry). counted_by y e.act) (count_of site k) l) same_steps
-          ∙ steps_counted sc k site done ∙ ap (λ (l : List Entry). count_of site l) (sym entered)
-
       -- what was entered is the fall
       pub history_fallen : (over : List Input) (why : Why) (now : List Mark) → over ≡ done →
           now ≡ marks ++ mark.Entered (numbered_on k (record { owner = site; act = Fall over batch.records why })) ∷ [] → entries_of now ≡ k ++ fall_over sc k site done why ∷ []
@@ -291,13 +305,6 @@ module _ {rose : List Record} (p q : APass) (site first : ℕ) (inputs : List In
           ap (λ (l : List Mark). entries_of l) now_is ∙ entries_append marks (mark.Entered (record { owner = site; act = Fall over batch.records why }) ∷ [])
           ∙ ap (λ (l : List Input). let e : Entry = record { owner = site; act = Fall l batch.records why } in k ++ e ∷ []) is
           ∙ ap (λ (rs : List Record). let e : Entry = record { owner = site; act = Fall done rs why } in k ++ e ∷ []) same_records
-
-      pub counted_fallen : (over : List Input) (why : Why) (c d : Count) → over ≡ done → c ≡ count_of site h → d ≡ counted_by c (Fall over batch.records why) →
-          (more : List Entry) → more ≡ k ++ fall_over sc k site done why ∷ [] → d ≡ count_of site more
-      counted_fallen over why c d is before counts more entered =
-          counts ∙ ap (λ (x : Count). counted_by x (Fall over batch.records why)) (before ∙ sym (count_meanwhile site h k all_while))
-          ∙ ap (λ (rs : List Record). counted_by (count_of site k) (Fall over rs why)) same_records
-          ∙ sym (ap (λ (l : List Entry). count_of site l) entered ∙ count_own site k (fall_over sc k site done why) refl)
 
       pub note_fallen : (over : List Input) (why : Why) (now : List Mark) → over ≡ done →
           now ≡ marks ++ mark.Entered (numbered_on k (record { owner = site; act = Fall over batch.records why })) ∷ [] →
@@ -328,29 +335,42 @@ module _ {rose : List Record} (p q : APass) (site first : ℕ) (inputs : List In
       }
 
       -- the site is up behind that
-      pub up_second : {D : Type 0} (content : D → List ℕ) (image : D → List ℕ → Type 0) (meters : D → Meters) (s0 : SiteView) (old : LogState D) →
-          IsUp content image meters sc h site s0 old rose → is_up_at k site ≡ true
-      up_second content image meters s0 old stood =
-          let there : IsUp content image meters sc k site s0 old rose = up_meanwhile content image meters sc h k site (Up s0 old rose) all_while stood in there.up
+      pub up_second : {D : Type 0} (content : D → List ℕ) (image : D → List ℕ → Type 0) (meters : D → Meters) (s0 : SiteView) (old : LogState D) (n : ℕ) →
+          IsUp content image meters sc h site s0 old rose n → is_up_at k site ≡ true
+      up_second content image meters s0 old n stood =
+          let there : IsUp content image meters sc k site s0 old rose n = up_meanwhile content image meters sc h k site (Up s0 old rose n) all_while stood in there.up
 
-      module _ {D : Type 0} (content : D → List ℕ) (image : D → List ℕ → Type 0) (meters : D → Meters) (s0 : SiteView) (old new : LogState D)
-          (stood : IsUp content image meters sc h site s0 old rose) (begins : first ≡ s0.inputs) where
-        pub up_2 : IsUp content image meters sc k site s0 old rose
-        up_2 = up_meanwhile content image meters sc h k site (Up s0 old rose) all_while stood
+      module _ {D : Type 0} (content : D → List ℕ) (image : D → List ℕ → Type 0) (meters : D → Meters) (s0 : SiteView) (old new : LogState D) (n0 n : ℕ)
+          (stood : IsUp content image meters sc h site s0 old rose n0) (begins : first ≡ s0.inputs) where
+        pub up_2 : IsUp content image meters sc k site s0 old rose n0
+        up_2 = up_meanwhile content image meters sc h k site (Up s0 old rose n0) all_while stood
 
-        pub stepped_stands : LogsAreOrderly → LoggedSitesAreSets → ((lists : List (List Record)) → Stands content image (bodies_in lists) old → Stands content image (bodies_in lists ++ body_of batch.records) new) →
-            (meters new.disk).powered ≡ true → (more : List Entry) → more ≡ stepped sc k site done → IsUp content image meters sc more site s new rose
-        stepped_stands logs sets wrote lit more entered =
-            let Q : List Record → Type 0 = λ rs. (lists : List (List Record)) → Stands content image (bodies_in lists) old → Stands content image (bodies_in lists ++ body_of rs) new in
-            let R : List Entry → Type 0 = λ l. IsUp content image meters sc l site s new rose in
+        -- the log holds the records of the steps: of none, what it held
+        all_logged : (is : List Input) → done ≡ is → (batch.records ≡ [] → (new ≡ old) × (n ≡ n0)) →
+            IsLogged content image meters site (entries_at k site + 1) (log_of sc k site ++ batch.records) n new →
+            IsLogged content image meters site (entries_at (stepped sc k site is) site) (log_of sc (stepped sc k site is) site) n new
+        all_logged [] none still wrote =
+            let same = still (same_records ∙ ap (λ (l : List Input). records_by sc k site l) none) in
+            let P : LogState D → Type 0 = λ l. IsLogged content image meters site (entries_at k site) (log_of sc k site) n l in
+            let Q : ℕ → Type 0 = λ m. IsLogged content image meters site (entries_at k site) (log_of sc k site) m old in
+            subst P (sym same.0) (subst Q (sym same.1) up_2.logged)
+        all_logged (i ∷ is) some still wrote =
+            steps_logged content image meters sc k site (i ∷ is) batch.records n new (omega arith) (same_records ∙ ap (λ (l : List Input). records_by sc k site l) some) wrote
+
+        pub stepped_stands : LogsAreOrderly → LoggedSitesAreSets → (batch.records ≡ [] → (new ≡ old) × (n ≡ n0)) →
+            IsLogged content image meters site (entries_at k site + 1) (log_of sc k site ++ batch.records) n new →
+            (meters new.disk).powered ≡ true → (more : List Entry) → more ≡ stepped sc k site done → IsUp content image meters sc more site s new rose n
+        stepped_stands logs sets still wrote lit more entered =
+            let R : List Entry → Type 0 = λ l. IsUp content image meters sc l site s new rose n in
             subst R (sym entered) (record {
               up = stepped_up sc k site done up_2.up;
               stands = record {
                 alike = stands_same sc (stepped sc h1 site done) (stepped sc k site done) site rose s
                     (stepped_same sc site h1 k done (moves_meanwhile sc h1 k site second_while)) made.stands;
+                risen = stood.stands.risen;
                 order = log_in_order logs sets sc (stepped sc k site done) site was.given (stepped_legal sc k site done some up_2.up all_2.1 legal_2);
               };
-              logged = steps_logged content image sc k site done old new up_2.logged (subst Q same_records wrote);
+              logged = all_logged done refl still wrote;
               lit = lit;
               inputs =
                   let few : s.inputs ≤ first + length done = made.inputs in
@@ -359,27 +379,20 @@ module _ {rose : List Record} (p q : APass) (site first : ℕ) (inputs : List In
                   omega (arith, few, before, all, begins);
             })
 
-        -- or once a fall is
-        pub fallen_holds : (why : Why) → ((lists : List (List Record)) → Stands content image (bodies_in lists) old →
-            (bytes : List ℕ) → image new.disk bytes → ReadsAfter lists why batch.records bytes) → DiskHolds sc (k ++ fall_over sc k site done why ∷ []) site (image new.disk)
-        fallen_holds why reads =
-            let Q : List Record → Type 0 = λ rs. (lists : List (List Record)) → Stands content image (bodies_in lists) old →
-            (bytes : List ℕ) → image new.disk bytes → ReadsAfter lists why rs bytes in
-            fallen_all_disk content image sc k site done why old new up_2.logged (subst Q same_records reads)
+        log_while : log_of sc k site ≡ log_of sc h site
+        log_while = ap log_by (moves_meanwhile sc h k site all_while)
 
         -- the steps are its end
-        pub steps_end : LogsAreOrderly → LoggedSitesAreSets → RecordsMentionWhatStands → BegunAreTransactions → VotesAtTheirSite → AllReadBack sc h site → is_up_at h1 site ≡ true →
-            ((lists : List (List Record)) → Stands content image (bodies_in lists) old → Stands content image (bodies_in lists ++ body_of batch.records) new) →
+        pub steps_end : LogsAreOrderly → LoggedSitesAreSets → (short : Option Short) → IsShortIf site (log_of sc k site) short → (batch.records ≡ [] → (new ≡ old) × (n ≡ n0)) →
+            IsLogged content image meters site (entries_at k site + 1) (log_of sc k site ++ batch.records) n new →
             (meters new.disk).powered ≡ true → Takes (calls_for batch.records) (meters old.disk) (meters new.disk) → Keeps (meters old.disk) (meters new.disk) →
-            (now : List Mark) → now ≡ marks ++ marks_in k batch.steps.items →
-            EndsWith content image meters sc h (entries_of now) site inputs (Up s0 old rose) (Up s new rose) answer None
-        steps_end logs sets mentions begun votes back up_1 wrote lit takes keeps now is =
+            (batch.records ≢ [] → EndsAt meters old short batch.records new.end) → (now : List Mark) → now ≡ marks ++ marks_in k batch.steps.items →
+            EndsWith content image meters sc h (entries_of now) site inputs (Up s0 old rose n0) (Up s new rose n) answer None
+        steps_end logs sets short is_short still wrote lit takes keeps end now is =
             let entered : entries_of now ≡ stepped sc k site done = history_stepped now is in
-            let A : List Entry → Type 0 = λ l. AllReadBack sc l site in
             let T : List Record → Type 0 = λ rs. Takes (calls_for rs) (meters old.disk) (meters new.disk) in
-            let F : List Record → Type 0 = λ rs. new.end ≡ old.end + length (frames (body_of rs)) in
-            let logged = stood.logged in
-            let behind = wrote logged.lists logged.stands in
+            let F : List Record → Type 0 = λ rs. IsOneFrame (log_of sc h site) rs old.end new.end (meters old.disk).capacity in
+            let G : List Record → Type 0 = λ l. IsOneFrame l batch.records old.end new.end (meters old.disk).capacity in
             record {
               count = plan.count;
               within = plan.within;
@@ -391,29 +404,25 @@ module _ {rose : List Record} (p q : APass) (site first : ℕ) (inputs : List In
                   meanwhile = all_while;
                   entered = entered;
                   takes = subst T seen_records takes;
-                  frame = subst F seen_records (records_end (bodies_in logged.lists) batch.records old.end new.end logged.stands.disk.end_is behind.disk.end_is);
+                  frame = subst F seen_records (subst G log_while (one_frame meters site old new (log_of sc k site) batch.records short is_short (λ none. (still none).0) end));
                 },
-                stepped_stands logs sets wrote lit (entries_of now) entered,
+                stepped_stands logs sets still wrote lit (entries_of now) entered,
               );
-              back = subst A (sym entered) (steps_back sc k site done (back_meanwhile sc h k site all_while back) (records_back mentions begun votes up_1));
               keeps = keeps;
             }
 
         -- or the fall is
-        pub fall_end : RecordsMentionWhatStands → BegunAreTransactions → VotesAtTheirSite → AllReadBack sc h site → is_up_at h1 site ≡ true → (why : Why) → batch.records ≢ [] →
-            ((lists : List (List Record)) → Stands content image (bodies_in lists) old →
-            (bytes : List ℕ) → image new.disk bytes → ReadsAfter lists why batch.records bytes) →
-            ((moves : List Move) (lists : List (List Record)) → Hold moves lists → Stands content image (bodies_in lists) old →
-            IsReason why (log_size moves) batch.records (meters old.disk) (meters new.disk)) → EndsAt old.end batch.records why → Keeps (meters old.disk) (meters new.disk) →
+        pub fall_end : (why : Why) → batch.records ≢ [] →
+            ((bytes : List ℕ) → image new.disk bytes → ReadsLeft site (meters new.disk).capacity (entries_at k site + 1) (log_of sc k site) batch.records n why bytes) →
+            IsReason why (log_of sc k site) batch.records (meters old.disk) (meters new.disk) → Keeps (meters old.disk) (meters new.disk) →
             (over : List Input) → over ≡ done → (now : List Mark) →
             now ≡ marks ++ mark.Entered (numbered_on k (record { owner = site; act = Fall over batch.records why })) ∷ [] →
-            EndsWith content image meters sc h (entries_of now) site inputs (Up s0 old rose) (Up s new rose) answer (Some why)
-        fall_end mentions begun votes back up_1 why some_records reads reason need keeps over over_is now is =
+            EndsWith content image meters sc h (entries_of now) site inputs (Up s0 old rose n0) (Up s new rose n) answer (Some why)
+        fall_end why some_records left reason keeps over over_is now is =
             let entered : entries_of now ≡ k ++ fall_over sc k site done why ∷ [] = history_fallen over why now over_is is in
-            let A : List Entry → Type 0 = λ l. AllReadBack sc l site in
-            let H : List Entry → Type 0 = λ l. DiskHolds sc l site (image new.disk) in
-            let R : List Record → Type 0 = λ rs. IsReason why (log_size (moves_of sc h site)) rs (meters old.disk) (meters new.disk) in
-            let N : List Record → Type 0 = λ rs. EndsAt old.end rs why in
+            let H : List Entry → Type 0 = λ l. DiskTells sc l site (meters new.disk).capacity n (image new.disk) in
+            let R : List Record → Type 0 = λ rs. IsReason why (log_of sc h site) rs (meters old.disk) (meters new.disk) in
+            let L : List Record → Type 0 = λ l. IsReason why l batch.records (meters old.disk) (meters new.disk) in
             record {
               count = plan.count;
               within = plan.within;
@@ -424,11 +433,9 @@ module _ {rose : List Record} (p q : APass) (site first : ℕ) (inputs : List In
                   now = k;
                   meanwhile = all_while;
                   fell = record { some = λ none. some_records (same_records ∙ none); entered = entered };
-                  reason = subst R seen_records (reason (moves_of sc h site) stood.logged.lists stood.logged.hold stood.logged.stands);
-                  need = subst N seen_records need;
+                  reason = subst R seen_records (subst L log_while reason);
                 },
-                subst H (sym entered) (fallen_holds why reads),
+                subst H (sym entered) (fallen_all_tells sc k site (meters new.disk).capacity done batch.records why n (image new.disk) same_records left),
               );
-              back = subst A (sym entered) (fall_all_back sc k site done why (back_meanwhile sc h k site all_while back) (records_back mentions begun votes up_1));
               keeps = keeps;
             }

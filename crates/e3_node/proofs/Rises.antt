@@ -1,34 +1,49 @@
 -- A node behind a rise, however that ended.
-use Rattle.std.proofs.Common.{◌≡◌, ◌≢◌, ◌+◌, ◌<◌, ◌^◌, ◌++◌, ◌∷◌, [], ℕ, suc, Bool, true, false, List, Option, Some, None, length, refl, sym, subst, ap, ◌∙◌, append-nil, length-append, arith}
-use Rattle.std.proofs.lemmas.Bool.{le-ltb, lt-ltb}
-use Rattle.std.specs.Prelude.{nat_lt}
-use Rattle.std.specs.List.{flat_map}
+use Rattle.std.proofs.Common.{◌≡◌, ◌≢◌, ◌+◌, ◌<◌, ◌≤◌, ◌^◌, ◌++◌, ◌∷◌, [], ℕ, suc, Bool, true, List, Option, None, length, take, refl, sym, subst, ap, ◌∙◌, append-nil, arith}
+use Rattle.std.specs.Prelude.{fold, nat_lt}
+use Rattle.std.specs.List.{AllByRecursion as Each, flat_map}
+use Rattle.std.proofs.lemmas.Grind.{flat_map-append}
 use Rattle.e3_codec.proofs.Records.{one_list}
+use Rattle.e3_codec.specs.Fields.{AllCanBeReadBack}
 use Rattle.e3_disk.specs.Images.{Within}
 use Rattle.e3_disk.specs.Meters.{Keeps, Meters, HasFailed}
+use Rattle.e3_law_brief.specs.Alike.{ReadAlike}
+use Rattle.e3_law_brief.specs.Brief.{brief, txns_of}
+use Rattle.e3_law_brief.specs.Incarnations.{IsKnown}
+use Rattle.e3_law_brief.specs.Orderly.{IsOrderly}
+use Rattle.e3_law_brief.specs.Sets.{LoggedSitesAreSets}
+use Rattle.e3_law_brief.proofs.Laws.{are_some, first_logs, same_alike}
+use Rattle.e3_law_serial.specs.Orderly.{LogsAreOrderly}
+use Rattle.e3_law_stands.specs.StandsAlike.{IsLogInOrder, StandsAlike}
+use Rattle.e3_law_stands.proofs.Standing.{rises}
+use Rattle.e3_law_steps.specs.Begun.{BegunAreTransactions, RecordsMentionWhatStands}
+use Rattle.e3_law_steps.specs.Trails.{TrailsAreSound, VotesAtTheirSite}
+use Rattle.e3_law_steps.proofs.Each.{each-left}
 use Rattle.e3_log.specs.declared.fault.OpenCause.{OpenCause}
 use Rattle.e3_log.specs.declared.fault.OpenCause.TheVariants as causes
-use Rattle.e3_log.specs.Frames.{Reads}
+use Rattle.e3_log.specs.Reading.{ReadsAs as BytesReadAs}
 use Rattle.e3_log.specs.Stands.{LogState, Stands}
-use Rattle.e3_log.proofs.One.{one_reading}
-use Rattle.e3_codec.specs.Fields.{AllCanBeReadBack}
-use Rattle.e3_node.specs.Bodies.{DiskHolds, Hold, IsLogged, IsRead, ReadsAfter, ReadsAs, ReadsWith, bodies_in, body_of, moves_with}
-use Rattle.e3_node.specs.Counting.{counted}
-use Rattle.e3_node.specs.Ends.{EndsAt, IsReason}
-use Rattle.e3_node.specs.Rising.{HasNotRaised, HasRaised, IsReady, MayRise, RiseMakes, born_by, raised_of, records_by, rise_fall_of, rise_of}
+use Rattle.e3_log.proofs.Unique.{one_text}
+use Rattle.e3_node.specs.Bodies.{DiskTells, IsRead, ReadsTold, entries_at, log_with, moves_with}
+use Rattle.e3_node.specs.Briefing.{IsReadBrief}
+use Rattle.e3_node.specs.Telling.{IsOwn}
+use Rattle.e3_node.specs.Rising.{HasNotRaised, HasRaised, IsReady, MayRise, RiseMakes, born_by, raised_by, raised_of, records_by, rise_fall_of, rise_of}
 use Rattle.e3_node.specs.declared.readying.Readied.{Readied}
+use Rattle.e3_node.specs.declared.readying.Unready.{Unready}
+use Rattle.e3_node.specs.declared.readying.Unready.TheVariants as unready
 use Rattle.e3_node.specs.declared.readying.Wish.{Wish}
 use Rattle.e3_node.specs.declared.rising.Raised.{Raised}
 use Rattle.e3_node.specs.declared.rising.Raised.TheVariants.{Rose, Failed, Missed, NoMemory, Foreign}
 use Rattle.e3_node.specs.declared.state.State.{State}
 use Rattle.e3_node.specs.declared.state.State.TheVariants.{Down, Up}
-use Rattle.e3_site.specs.StandsFor.{IsRisenWith, StandsFor}
-use Rattle.e3_law_brief.specs.Orderly.{IsOrderly}
-use Rattle.e3_law_serial.specs.Orderly.{LogsAreOrderly}
-use Rattle.e3_law_brief.specs.Sets.{LoggedSitesAreSets}
-use Rattle.e3_law_stands.specs.StandsAlike.{IsLogInOrder, StandsAlike}
-use Rattle.e3_law_stands.proofs.Standing.{rises}
-use Rattle.e3_node.proofs.Orders.{log_in_order}
+use Rattle.e3_site.specs.Rebuilt.{IsRebuilt}
+use Rattle.e3_site.specs.SiteView.{SiteView}
+use Rattle.e3_site.specs.StandsFor.{IsRisenWith}
+use Rattle.e3_site_log.specs.Bodies.{IsLogged, ReadsAs, ReadsLeft, bodies_in, joined}
+use Rattle.e3_site_log.specs.Ends.{IsFull, IsReason}
+use Rattle.e3_site_log.proofs.Frames.{spells}
+use Rattle.e3_site_log.proofs.Holding.{fronts, same_go_on}
+use Rattle.e3_snapshot.proofs.Legal.{in_order}
 use Rattle.e3_types.specs.declared.entries.Entry.{Entry}
 use Rattle.e3_types.specs.declared.entries.Why.{Why}
 use Rattle.e3_types.specs.declared.entries.Why.TheVariants.{Fault, Full}
@@ -37,80 +52,51 @@ use Rattle.e3_types.specs.declared.records.Record.{Record}
 use Rattle.e3_types.specs.declared.records.Record.TheVariants as log
 use Rattle.e3_types.specs.declared.scenarios.Scenario.{Scenario}
 use Rattle.e3_types.specs.declared.transactions.Row.{Row}
+use Rattle.e3_types.specs.declared.transactions.Txn.{Txn}
+use Rattle.e3_world.specs.Items.{add_txn, txn_of_record}
 use Rattle.e3_world.specs.Legal.{IsLegal, IsRise}
+use Rattle.e3_world.specs.Lives.{life_at}
 use Rattle.e3_world.specs.Logs.{logged_inc}
-use Rattle.e3_world.specs.Moves.{Move, Rose as DidRise, Silent, Tail, kept_moves, left_by, log_by, log_of, log_size, moves_of, open_tail, recorded, rise_records, rows_at}
-use Rattle.e3_world.proofs.Pushes.{legal_push, log_push}
+use Rattle.e3_world.specs.Moves.{Move, Tail, left_by, log_of, moves_of, open_tail, rise_records, rows_at}
+use Rattle.e3_world.specs.Orderly.{weights_in}
+use Rattle.e3_world.proofs.Pushes.{legal_push, life_log_at}
 use Rattle.e3_world.proofs.Readings.{up_same}
 use Rattle.e3_world.proofs.Turns.{self}
+use Rattle.e3_node.proofs.Briefs.{brief_own}
 use Rattle.e3_node.proofs.Guarding.{rise_guard}
-use Rattle.e3_node.proofs.Appends.{left_reads}
-use Rattle.e3_node.proofs.Frames.{bodies_push, hold_less, hold_push, hold_spells}
+use Rattle.e3_node.proofs.Left.{left_tells, opened_reads}
 use Rattle.e3_node.proofs.Metering.{rose_since}
-use Rattle.e3_node.proofs.Pasts.{back_not_risen, back_risen, back_with, rise_fall_moves, rise_fall_tail, rise_moves, with_log}
+use Rattle.e3_node.proofs.Orders.{log_in_order}
+use Rattle.e3_node.proofs.Owning.{log_own}
+use Rattle.e3_node.proofs.Pasts.{entries_on, rise_fall_moves, rise_fall_tail, rise_log, rise_moves, with_log}
 
--- what was read is the log of these moves, with the tail exactly where it is kept, and frames hold them
-pub record Found (moves : List Move) (site : ℕ) (tail : Option Tail) (bodies : List (List ℕ)) (read : List Record) (kept : Bool) : Type 0 where
-  pub lists : List (List Record)
-  pub hold : Hold (moves ++ kept_moves site kept tail) lists
-  pub are : bodies ≡ bodies_in lists
-  pub log_is : read ≡ log_by (moves ++ kept_moves site kept tail)
-  pub some : kept ≡ true → tail ≢ None
+-- What was read is a log with the brief of the site's, with the tail exactly where it is kept.
+pub record Found (sc : Scenario) (h : List Entry) (site capacity : ℕ) (generation : ℕ) (bytes : List ℕ) (bodies : List (List ℕ)) (read : List Record) (kept : Bool) : Type 0 where
+  pub reads : ReadsAs site capacity (entries_at h site) (log_with sc h site kept) bytes
+  pub are : bodies ≡ bodies_in reads.lists
+  pub turns : generation ≡ reads.generation
+  pub read_is : read ≡ joined reads.lists
+  pub some : kept ≡ true → open_tail sc h site ≢ None
 
-module _ (site : ℕ) (moves : List Move) (bodies : List (List ℕ)) (bytes : List ℕ) (read : List Record) (reads : Reads bodies bytes)
-    (back : AllCanBeReadBack site read) (spelled : flat_map (λ body. body) bodies ≡ spelling read) where
-  same_log : (ms : List Move) → AllCanBeReadBack site (log_by ms) → (it : ReadsAs ms bytes) → (bodies ≡ bodies_in it.lists) × (read ≡ log_by ms)
-  same_log ms fits it =
-      let are : bodies ≡ bodies_in it.lists = one_reading bodies (bodies_in it.lists) bytes reads it.reads in
-      (are, one_list site read (log_by ms) back fits (sym spelled ∙ ap (flat_map (λ body. body)) are ∙ hold_spells ms it.lists it.hold))
+-- an image that tells of a tail is found so
+pub found : (sc : Scenario) (h : List Entry) (site capacity logged generation : ℕ) (bytes : List ℕ) (bodies : List (List ℕ)) (read : List Record) (kept : Bool) →
+    BytesReadAs capacity generation bodies bytes → AllCanBeReadBack site read → flat_map (λ body. body) bodies ≡ spelling read → length read < 2 ^ 64 →
+    kept ≡ nat_lt logged (length read) → ReadsTold site capacity (entries_at h site) logged (moves_of sc h site) (open_tail sc h site) bytes →
+    Found sc h site capacity generation bytes bodies read kept
+found sc h site capacity logged generation bytes bodies read kept reads back spelled few kept_is it =
+    subst (λ (k : Bool). Found sc h site capacity generation bytes bodies read k) same
+    (record { reads = it.reads; are = one.0; turns = one.1; read_is = read_is; some = it.some })
+  where
+    one : (bodies ≡ bodies_in it.reads.lists) × (generation ≡ it.reads.generation)
+    one = one_text capacity generation it.reads.generation bodies (bodies_in it.reads.lists) bytes reads it.reads.reads
 
-  -- what an image reads as is found
-  pub found : (kept : Bool) (tail : Option Tail) → ((k : Bool) → AllCanBeReadBack site (log_by (moves ++ kept_moves site k tail))) →
-      ReadsAs (moves ++ kept_moves site kept tail) bytes → (k : Bool) × Found moves site tail bodies read k
-  found false tail fits it =
-      let same = same_log (moves ++ kept_moves site false tail) (fits false) it in
-      (false, record { lists = it.lists; hold = it.hold; are = same.0; log_is = same.1; some = λ yes. absurd (let both : false ≡ true = yes in cc) })
-  found true None fits it =
-      let same = same_log (moves ++ kept_moves site true None) (fits true) it in
-      (false, record { lists = it.lists; hold = it.hold; are = same.0; log_is = same.1; some = λ yes. absurd (let both : false ≡ true = yes in cc) })
-  found true (Some tail) fits it =
-      let same = same_log (moves ++ kept_moves site true (Some tail)) (fits true) it in
-      (true, record { lists = it.lists; hold = it.hold; are = same.0; log_is = same.1; some = λ yes. λ none. cc })
+    read_is : read ≡ joined it.reads.lists
+    read_is = one_list site read (joined it.reads.lists) back it.reads.hold.back (sym spelled ∙ ap (flat_map (λ body. body)) one.0 ∙ spells it.reads.lists)
 
-module _ (site : ℕ) (moves : List Move) (bodies : List (List ℕ)) (read : List Record) (logged : ℕ)
-    (counts : logged ≡ counted (length (log_by moves))) (few : length read < 2 ^ 64) where
-  -- where no more was read than the log has, nothing is kept
-  quiet : (tail : Option Tail) → Found moves site tail bodies read false → Found moves site tail bodies read (nat_lt logged (length read))
-  quiet tail it =
-      let same : length read ≡ length (log_by moves) = ap length (it.log_is ∙ ap log_by (append-nil moves)) in
-      let no : nat_lt logged (length read) ≡ false = le-ltb logged (length read) (omega (arith, same, counts, few)) in
-      subst (λ (k : Bool). Found moves site tail bodies read k) (sym no) it
-
-  with_records : (tail : Tail) (records : List Record) → tail.records ≡ records → Found moves site (Some tail) bodies read true →
-      Found moves site (Some tail) bodies read (nat_lt logged (length read))
-  with_records tail [] none it =
-      let silent : Move = record { site = site; did = Silent tail.inputs tail.records } in
-      quiet (Some tail) (record {
-        lists = it.lists;
-        hold = subst (λ (ms : List Move). Hold ms it.lists) (sym (append-nil moves)) (hold_less moves it.lists silent none it.hold);
-        are = it.are;
-        log_is =
-            it.log_is ∙ log_push moves silent ∙ ap (λ (rs : List Record). log_by moves ++ rs) none ∙ append-nil (log_by moves)
-            ∙ sym (ap log_by (append-nil moves));
-        some = λ yes. absurd (let both : false ≡ true = yes in cc);
-      })
-  with_records tail (r ∷ rs) some it =
-      let silent : Move = record { site = site; did = Silent tail.inputs tail.records } in
-      let longer : length read ≡ length (log_by moves) + suc (length rs) =
-      ap length (it.log_is ∙ log_push moves silent ∙ ap (λ (l : List Record). log_by moves ++ l) some) ∙ length-append (log_by moves) (r ∷ rs) in
-      let yes : nat_lt logged (length read) ≡ true = lt-ltb logged (length read) (omega (arith, longer, counts, few)) in
-      subst (λ (k : Bool). Found moves site (Some tail) bodies read k) (sym yes) it
-
-  -- what is kept is told by how much was read
-  pub told_by_count : (tail : Option Tail) (kept : Bool) → Found moves site tail bodies read kept → Found moves site tail bodies read (nat_lt logged (length read))
-  told_by_count tail false it = quiet tail it
-  told_by_count None true it = absurd (it.some refl refl)
-  told_by_count (Some tail) true it = with_records tail tail.records refl it
+    same : it.kept ≡ kept
+    same =
+        let long : length (joined it.reads.lists) ≡ length read = ap length (sym read_is) in
+        it.told (omega (arith, few, long)) ∙ ap (λ (n : ℕ). nat_lt logged n) long ∙ sym kept_is
 
 -- the records of a rise are those of the site's in this scenario
 pub rise_by : (sc : Scenario) (wish : Wish) (inc : ℕ) (read : List Record) → wish.weights ≡ sc.weights → wish.rows ≡ rows_at wish.site sc.rows →
@@ -120,222 +106,290 @@ rise_by sc wish inc [] weights rows =
     ∙ ap (λ (l : List Row). log.Birth 1 wish.site sc.weights l ∷ log.Inc inc ∷ []) rows
 rise_by sc wish inc (r ∷ rs) weights rows = refl
 
--- what is known of a rise that is ready, over a disk that stands
-record Gathered (sc : Scenario) (h : List Entry) (wish : Wish) (bodies : List (List ℕ)) (ready : Readied) (read : List Record) : Type 0 where
-  what : Found (moves_of sc h wish.site) wish.site (open_tail sc h wish.site) bodies read ready.kept
-  records_are : ready.records ≡ rise_records sc wish.site ready.inc (log_by (moves_with sc h wish.site ready.kept))
-  allowed : IsRise sc h wish.site ready.kept ready.inc
+-- logs with the same brief are empty together, and so a rise has the same records behind them
+rise_alike : (sc : Scenario) (site inc : ℕ) (a b : List Record) → IsOrderly site a → IsOrderly site b → brief a ≡ brief b → rise_records sc site inc a ≡ rise_records sc site inc b
+rise_alike sc site inc [] [] oa ob same = refl
+rise_alike sc site inc (r ∷ rs) (t ∷ ts) oa ob same = refl
+rise_alike sc site inc [] (t ∷ ts) oa ob same = absurd (let none : t ∷ ts ≡ [] = are_some site (t ∷ ts) ob (sym same) in cc)
+rise_alike sc site inc (r ∷ rs) [] oa ob same = absurd (let none : r ∷ rs ≡ [] = are_some site (r ∷ rs) oa same in cc)
 
-gathered : (sc : Scenario) (h : List Entry) (wish : Wish) (bodies : List (List ℕ)) (ready : Readied) (bytes : List ℕ) → MayRise sc h wish →
-    (is : IsReady wish bodies ready) → ReadsWith wish.site (moves_of sc h wish.site) (open_tail sc h wish.site) bytes → Reads bodies bytes →
-    Gathered sc h wish bodies ready is.read
-gathered sc h wish bodies ready bytes may is holds reads = record {
-  what = what;
-  records_are = is.records_are ∙ rise_by sc wish ready.inc is.read may.weights_are may.rows_are ∙ ap (rise_records sc wish.site ready.inc) what.log_is;
-  allowed = record {
-    rising = may.rising;
-    has_tail = what.some;
-    next = is.inc_is ∙ ap (λ (l : List Record). suc (logged_inc l)) (what.log_is ∙ with_log sc h wish.site ready.kept);
-  };
-}
-  where
-    what : Found (moves_of sc h wish.site) wish.site (open_tail sc h wish.site) bodies is.read ready.kept
-    what =
-        let some = found wish.site (moves_of sc h wish.site) bodies bytes is.read reads is.back is.spelled holds.0 (open_tail sc h wish.site)
-        (λ k. back_with sc h wish.site k may.back) holds.1 in
-        subst (λ (k : Bool). Found (moves_of sc h wish.site) wish.site (open_tail sc h wish.site) bodies is.read k) (sym is.kept_is)
-        (told_by_count wish.site (moves_of sc h wish.site) bodies is.read wish.logged may.logged_is is.few (open_tail sc h wish.site) some.0 some.1)
+module _ (logs : LogsAreOrderly) (sets : LoggedSitesAreSets) (sounds : TrailsAreSound) (sc : Scenario) (h : List Entry) (wish : Wish) (may : MayRise sc h wish) where
+  abbrev of_wish : ℕ
+  of_wish = wish.site
+
+  module _ (kept : Bool) (some : kept ≡ true → open_tail sc h of_wish ≢ None) where
+    -- the log with what is kept
+    abbrev before : List Record
+    before = log_with sc h of_wish kept
+
+    abbrev next : ℕ
+    next = suc (logged_inc before)
+
+    abbrev e : Entry
+    e = rise_of of_wish kept next
+
+    abbrev mine : List Record
+    mine = rise_records sc of_wish next before
+
+    pub allowed : IsRise sc h of_wish kept next
+    allowed = record { rising = may.rising; has_tail = some; next = ap (λ (l : List Record). suc (logged_inc l)) (with_log sc h of_wish kept) }
+
+    pub legal : IsLegal sc (h ++ e ∷ [])
+    legal = legal_push sc h e may.legal (rise_guard sc h of_wish kept next may.some allowed)
+
+    pub order : IsLogInOrder of_wish (log_of sc (h ++ e ∷ []) of_wish)
+    order = log_in_order logs sets sc (h ++ e ∷ []) of_wish may.given legal
+
+    log_is : log_of sc (h ++ e ∷ []) of_wish ≡ before ++ mine
+    log_is = rise_log sc h of_wish kept next
+
+    pub behind : IsOrderly of_wish (before ++ mine)
+    behind = subst (λ (l : List Record). IsOrderly of_wish l) log_is order.orderly
+
+    pub orderly : IsOrderly of_wish before
+    orderly = (fronts of_wish [] before mine behind).0
+
+    weights_are : weights_in (before ++ mine) ≡ sc.weights
+    weights_are =
+        let all = in_order sounds logs first_logs sc (h ++ e ∷ []) of_wish may.given legal in
+        let life_is : (life_at (moves_of sc (h ++ e ∷ []) of_wish)).log ≡ before ++ mine = life_log_at (moves_of sc (h ++ e ∷ []) of_wish) ∙ log_is in
+        ap weights_in (sym life_is) ∙ all.weights_are (λ none. some_behind (sym life_is ∙ none))
+      where
+        some_behind : before ++ mine ≡ [] → ⊥
+        some_behind none = by before none
+          where
+            by : (l : List Record) → l ++ rise_records sc of_wish next l ≡ [] → ⊥
+            by [] is = cc
+            by (r ∷ rs) is = cc
+
+    -- what was read, with the records of the rise behind it
+    module _ (read : List Record) (orderly_read : IsOrderly of_wish read) (same : brief read ≡ brief before) where
+      alike : ReadAlike before read
+      alike = same_alike of_wish before read orderly orderly_read (sym same)
+
+      pub inc_is : suc (logged_inc read) ≡ next
+      inc_is = ap suc (sym alike.inc)
+
+      pub records_are : records_by wish next read ≡ mine
+      records_are = rise_by sc wish next read may.weights_are may.rows_are ∙ rise_alike sc of_wish next read before orderly_read orderly same
+
+      pub go_on : IsOrderly of_wish (read ++ mine) × (brief (read ++ mine) ≡ brief (before ++ mine))
+      go_on = same_go_on of_wish before read mine behind orderly_read (sym same)
+
+      weights_read : weights_in (read ++ mine) ≡ sc.weights
+      weights_read = (same_alike of_wish (read ++ mine) (before ++ mine) go_on.0 behind go_on.1).weights ∙ weights_are
+
+      risen : IsRisenWith sc (h ++ e ∷ []) of_wish (before ++ mine)
+      risen = record {
+        before = moves_with sc h of_wish kept;
+        inc = next;
+        records = mine;
+        last = rise_moves sc h of_wish kept next;
+        log_is = sym log_is;
+      }
+
+      -- a site that was rebuilt of them stands for the history with the rise
+      pub stands_risen : (up : SiteView) → IsRebuilt of_wish (read ++ mine) up → StandsAlike sc (h ++ e ∷ []) of_wish (read ++ mine) up
+      stands_risen up is =
+          rises sc (h ++ e ∷ []) of_wish up (read ++ mine) (before ++ mine) (is.weights_are ∙ weights_read) is.site_is is.stands risen go_on.0 behind go_on.1
 
 -- a rise that is ready has records
-pub ready_some : (wish : Wish) (bodies : List (List ℕ)) (ready : Readied) → IsReady wish bodies ready → ready.records ≢ []
-ready_some wish bodies ready is = λ none. by (born_by wish is.read) (sym is.records_are ∙ none)
+pub ready_some : (wish : Wish) (logged : ℕ) (bodies : List (List ℕ)) (ready : Readied) → IsReady wish logged bodies ready → ready.records ≢ []
+ready_some wish logged bodies ready is = λ none. by (born_by wish is.read) (sym is.records_are ∙ none)
   where
     by : (born : List Record) → born ++ log.Inc ready.inc ∷ [] ≡ [] → ⊥
     by [] is_none = cc
     by (r ∷ rs) is_none = cc
 
--- the disk before was read so
-abbrev was_read : {D : Type 0} (content : D → List ℕ) (image : D → List ℕ → Type 0) (sc : Scenario) (h : List Entry) (site : ℕ) (kept : Bool)
-    (bodies : List (List ℕ)) (read : List Record) (old : LogState D) → Found (moves_of sc h site) site (open_tail sc h site) bodies read kept →
-    Stands content image bodies old → image old.disk (content old.disk) → IsRead sc h site kept (image old.disk)
-was_read content image sc h site kept bodies read old what stands at = record {
-  bytes = content old.disk;
-  at = at;
-  reads = record { lists = what.lists; hold = what.hold; reads = subst (λ (bs : List (List ℕ)). Reads bs (content old.disk)) what.are stands.disk.reads };
-}
+-- a rise that is ready, over a log that was opened on a disk that stands
+module _ {D : Type 0} (content : D → List ℕ) (image : D → List ℕ → Type 0) (meters : D → Meters) (logs : LogsAreOrderly) (sets : LoggedSitesAreSets) (sounds : TrailsAreSound)
+    (sc : Scenario) (h : List Entry) (wish : Wish) (logged : ℕ) (bodies : List (List ℕ)) (ready : Readied) (old : LogState D) (may : MayRise sc h wish)
+    (is : IsReady wish logged bodies ready) (stands : Stands content image meters bodies old)
+    (tells : DiskTells sc h wish.site (meters old.disk).capacity logged (image old.disk)) (at : image old.disk (content old.disk)) where
+  abbrev kept_log : List Record
+  kept_log = log_with sc h wish.site ready.kept
 
--- the frame of a rise was added: the site is up
-pub raised : {D : Type 0} (content : D → List ℕ) (image : D → List ℕ → Type 0) (meters : D → Meters) → LogsAreOrderly → LoggedSitesAreSets → (sc : Scenario) (h : List Entry)
-    (wish : Wish) (bodies : List (List ℕ)) (ready : Readied) (old new : LogState D) → MayRise sc h wish → IsReady wish bodies ready →
-    Stands content image bodies old → DiskHolds sc h wish.site (image old.disk) → image old.disk (content old.disk) →
-    ((lists : List (List Record)) → Stands content image (bodies_in lists) old → Stands content image (bodies_in lists ++ body_of ready.records) new) →
-    (meters new.disk).powered ≡ true → HasRaised content image meters sc h wish.site old.disk ready.up new ready.rose ready.kept ready.inc
-raised {D} content image meters logs sets sc h wish bodies ready old new may is stands disk at wrote lit = record {
-  allowed = all.allowed;
-  read = was_read content image sc h wish.site ready.kept bodies is.read old all.what stands at;
-  up = record {
-    up = up_same h e wish.site (self wish.site);
-    stands = record {
-      alike =
-          let all_of : List Record = is.read ++ ready.records in
-          subst (λ (rs : List Record). StandsAlike sc (h ++ e ∷ []) wish.site rs ready.up) (sym is.rose_is)
-          (rises sc (h ++ e ∷ []) wish.site ready.up all_of all_of exact.weights_are site_is is.risen.stands risen ordered ordered refl);
-      order = order;
-    };
-    logged =
-        let P : List Move → Type 0 = λ ms. IsLogged content image ms new in
-        subst P (sym moves_now) (record {
-          lists = all.what.lists ++ recorded mine ∷ [];
-          hold = hold_push (moves_with sc h wish.site ready.kept) all.what.lists mine all.what.hold;
-          stands =
-              let Q : List (List ℕ) → Type 0 = λ bs. Stands content image bs old in
-              let R : List Record → Type 0 = λ rs. Stands content image (bodies_in all.what.lists ++ body_of rs) new in
-              let S : List (List ℕ) → Type 0 = λ bs. Stands content image bs new in
-              subst S (sym (bodies_push all.what.lists (recorded mine))) (subst R all.records_are (wrote all.what.lists (subst Q all.what.are stands)));
-        });
-    lit = lit;
-    inputs = let none : ready.up.inputs ≡ 0 = is.risen.inputs_are in omega (arith, none);
-  };
-  back = back_risen sc h wish.site ready.kept ready.inc ready.records may.back all.records_are is.fits;
-}
-  where
-    e : Entry
-    e = rise_of wish.site ready.kept ready.inc
+  abbrev up_next : ℕ
+  up_next = suc (logged_inc kept_log)
 
-    all : Gathered sc h wish bodies ready is.read
-    all = gathered sc h wish bodies ready (content old.disk) may is (disk (content old.disk) at) stands.disk.reads
+  what : Found sc h wish.site (meters old.disk).capacity old.generation (content old.disk) bodies is.read ready.kept
+  what = found sc h wish.site (meters old.disk).capacity logged old.generation (content old.disk) bodies is.read ready.kept
+      (opened_reads content image meters bodies old stands) is.back is.spelled is.few is.kept_is (tells (content old.disk) at)
 
-    site_is : ready.up.site ≡ wish.site
-    site_is = is.risen.site_is
+  pub was_logged : IsLogged content image meters wish.site (entries_at h wish.site) kept_log ready.read old
+  was_logged =
+      let few : what.reads.generation ≤ entries_at h wish.site = what.reads.few in
+      let count : length is.read ≡ length (joined what.reads.lists) = ap length what.read_is in
+      record {
+        lists = what.reads.lists;
+        hold = what.reads.hold;
+        stands = subst (λ (bs : List (List ℕ)). Stands content image meters bs old) what.are stands;
+        few = omega (arith, few, what.turns);
+        logged_is = omega (arith, is.read_is, is.few, count);
+      }
 
-    legal : IsLegal sc (h ++ e ∷ [])
-    legal = legal_push sc h e may.legal (rise_guard sc h wish.site ready.kept ready.inc may.some all.allowed)
+  pub was_read : IsRead sc h wish.site (meters old.disk).capacity ready.kept (image old.disk)
+  was_read = record { bytes = content old.disk; at = at; reads = what.reads }
 
-    mine : Move
-    mine = record { site = wish.site; did = DidRise ready.inc (rise_records sc wish.site ready.inc (log_by (moves_with sc h wish.site ready.kept))) }
+  orderly_read : IsOrderly wish.site is.read
+  orderly_read = subst (λ (l : List Record). IsOrderly wish.site l) (sym what.read_is) what.reads.hold.orderly
 
-    moves_now : moves_of sc (h ++ e ∷ []) wish.site ≡ moves_with sc h wish.site ready.kept ++ mine ∷ []
-    moves_now = rise_moves sc h wish.site ready.kept ready.inc
+  same_brief : brief is.read ≡ brief kept_log
+  same_brief = ap brief what.read_is ∙ what.reads.hold.same
 
-    risen : IsRisenWith sc (h ++ e ∷ []) wish.site (is.read ++ ready.records)
-    risen = record {
-      before = moves_with sc h wish.site ready.kept;
-      inc = ready.inc;
-      records = rise_records sc wish.site ready.inc (log_by (moves_with sc h wish.site ready.kept));
-      last = moves_now;
-      log_is =
-          ap (λ (l : List Record). l ++ ready.records) all.what.log_is
-          ∙ ap (λ (l : List Record). log_by (moves_with sc h wish.site ready.kept) ++ l) all.records_are
-          ∙ sym (ap log_by moves_now ∙ log_push (moves_with sc h wish.site ready.kept) mine);
-    }
+  -- a rise has no transactions
+  no_txns : (l : List Record) (n : ℕ) → txns_of (l ++ rise_records sc wish.site n l) ≡ txns_of l
+  no_txns [] n = refl
+  no_txns (r ∷ rs) n = ap (fold add_txn []) (flat_map-append txn_of_record (r ∷ rs) (log.Inc n ∷ []) ∙ append-nil (flat_map txn_of_record (r ∷ rs)))
 
-    -- today all records of the log are read, so that the site stands for the history exactly
-    exact : StandsFor sc (h ++ e ∷ []) ready.up.site ready.up
-    exact =
-        let Q : ℕ → Type 0 = λ n. IsRisenWith sc (h ++ e ∷ []) n (is.read ++ ready.records) in
-        is.stands sc (h ++ e ∷ []) legal (subst Q (sym site_is) risen)
+  -- what was read has the brief of the log
+  pub read_brief : RecordsMentionWhatStands → BegunAreTransactions → VotesAtTheirSite → IsReadBrief wish.site is.read kept_log
+  read_brief mentions begun votes =
+      let e : Entry = rise_of wish.site ready.kept up_next in
+      let legal_e : IsLegal sc (h ++ e ∷ []) = legal logs sets sounds sc h wish may ready.kept what.some in
+      let all : IsLogInOrder wish.site (log_of sc (h ++ e ∷ []) wish.site) = order logs sets sounds sc h wish may ready.kept what.some in
+      let now : log_of sc (h ++ e ∷ []) wish.site ≡ kept_log ++ rise_records sc wish.site up_next kept_log = rise_log sc h wish.site ready.kept up_next in
+      let own : Each (IsOwn wish.site) kept_log =
+      each-left (IsOwn wish.site) kept_log _ (subst (λ (l : List Record). Each (IsOwn wish.site) l) now (log_own mentions begun votes sc (h ++ e ∷ []) wish.site may.given legal_e)) in
+      record {
+        orderly = orderly_read;
+        same = same_brief;
+        log_orderly = orderly logs sets sounds sc h wish may ready.kept what.some;
+        known = subst (λ (ts : List Txn). Each IsKnown ts) (ap txns_of now ∙ no_txns kept_log up_next ∙ (same_alike wish.site kept_log is.read
+            (orderly logs sets sounds sc h wish may ready.kept what.some) orderly_read (sym same_brief)).txns) all.known;
+        own = brief_own wish.site kept_log own;
+      }
 
-    order : IsLogInOrder wish.site (log_of sc (h ++ e ∷ []) wish.site)
-    order = log_in_order logs sets sc (h ++ e ∷ []) wish.site may.given legal
+  inc_now : ready.inc ≡ up_next
+  inc_now = is.inc_is ∙ inc_is logs sets sounds sc h wish may ready.kept what.some is.read orderly_read same_brief
 
-    ordered : IsOrderly wish.site (is.read ++ ready.records)
-    ordered = subst (λ (l : List Record). IsOrderly wish.site l) (sym risen.log_is) order.orderly
+  pub records_now : ready.records ≡ rise_records sc wish.site up_next kept_log
+  records_now =
+      is.records_are ∙ ap (λ (n : ℕ). records_by wish n is.read) inc_now
+      ∙ records_are logs sets sounds sc h wish may ready.kept what.some is.read orderly_read same_brief
 
--- the frame of a rise was not added, or may not have been
-pub not_raised : {D : Type 0} (content : D → List ℕ) (image : D → List ℕ → Type 0) (meters : D → Meters) (sc : Scenario) (h : List Entry)
-    (wish : Wish) (bodies : List (List ℕ)) (ready : Readied) (old new : LogState D) (why : Why) → MayRise sc h wish → IsReady wish bodies ready →
-    Stands content image bodies old → DiskHolds sc h wish.site (image old.disk) → image old.disk (content old.disk) →
-    ((lists : List (List Record)) → Stands content image (bodies_in lists) old →
-    (bytes : List ℕ) → image new.disk bytes → ReadsAfter lists why ready.records bytes) →
-    ((moves : List Move) (lists : List (List Record)) → Hold moves lists → Stands content image (bodies_in lists) old →
-    IsReason why (log_size moves) ready.records (meters old.disk) (meters new.disk)) → EndsAt old.end ready.records why →
-    HasNotRaised image meters sc h wish.site old.disk new.disk ready.kept ready.inc why
-not_raised {D} content image meters sc h wish bodies ready old new why may is stands disk at images reason need = record {
-  allowed = all.allowed;
-  read = was_read content image sc h wish.site ready.kept bodies is.read old all.what stands at;
-  stands = λ bytes there.
-      let P : List Record → Type 0 = λ rs. ReadsWith wish.site moves (left_by why [] rs) bytes in
-      let Q : List Move → Type 0 = λ ms. ReadsWith wish.site ms (left_by why [] mine) bytes in
-      let R : Option Tail → Type 0 = λ t. ReadsWith wish.site (moves_of sc (h ++ e ∷ []) wish.site) t bytes in
-      subst R (sym (rise_fall_tail sc h wish.site ready.kept ready.inc why))
-      (subst Q (sym (rise_fall_moves sc h wish.site ready.kept ready.inc why))
-      (subst P all.records_are
-      (left_reads wish.site moves all.what.lists why [] ready.records bytes all.what.hold (images all.what.lists stands_there bytes there))));
-  back = back_not_risen sc h wish.site ready.kept ready.inc why ready.records may.back all.records_are is.fits;
-  reason =
-      subst (λ (rs : List Record). IsReason why (log_size moves) rs (meters old.disk) (meters new.disk)) all.records_are
-      (reason moves all.what.lists all.what.hold stands_there);
-  need =
-      subst (λ (n : ℕ). EndsAt n mine why) stands_there.disk.end_is
-      (subst (λ (rs : List Record). EndsAt old.end rs why) all.records_are need);
-}
-  where
-    e : Entry
-    e = rise_fall_of wish.site ready.kept ready.inc why
+  pub may_follow : IsOrderly wish.site (kept_log ++ ready.records)
+  may_follow = subst (λ (rs : List Record). IsOrderly wish.site (kept_log ++ rs)) (sym records_now) (behind logs sets sounds sc h wish may ready.kept what.some)
 
-    moves : List Move
-    moves = moves_with sc h wish.site ready.kept
+  -- the frame was added: the site is up
+  pub raised : (n : ℕ) (new : LogState D) → IsLogged content image meters wish.site (entries_at h wish.site + 1) (kept_log ++ ready.records) n new →
+      (meters new.disk).powered ≡ true → HasRaised content image meters sc h wish.site old.disk ready.up new ready.rose n ready.kept ready.inc
+  raised n new wrote lit =
+      let e : Entry = rise_of wish.site ready.kept up_next in
+      let mine : List Record = rise_records sc wish.site up_next kept_log in
+      let now : log_of sc (h ++ e ∷ []) wish.site ≡ kept_log ++ ready.records =
+      rise_log sc h wish.site ready.kept up_next ∙ ap (λ (rs : List Record). kept_log ++ rs) (sym records_now) in
+      let P : ℕ → Type 0 = λ k. HasRaised content image meters sc h wish.site old.disk ready.up new ready.rose n ready.kept k in
+      let R : List Record → Type 0 = λ rs. StandsAlike sc (h ++ e ∷ []) wish.site rs ready.up in
+      let Q : ℕ → Type 0 = λ m. IsLogged content image meters wish.site m (log_of sc (h ++ e ∷ []) wish.site) n new in
+      let L : List Record → Type 0 = λ l. IsLogged content image meters wish.site (entries_at h wish.site + 1) l n new in
+      let rebuilt : IsRebuilt wish.site (is.read ++ mine) ready.up = subst (λ (rs : List Record). IsRebuilt wish.site (is.read ++ rs) ready.up) records_now is.risen in
+      subst P (sym inc_now) (record {
+        allowed = allowed logs sets sounds sc h wish may ready.kept what.some;
+        read = was_read;
+        up = record {
+          up = up_same h e wish.site (self wish.site);
+          stands = record {
+            alike = subst R (ap (λ (rs : List Record). is.read ++ rs) (sym records_now) ∙ sym is.rose_is)
+                (stands_risen logs sets sounds sc h wish may ready.kept what.some is.read orderly_read same_brief ready.up rebuilt);
+            risen = subst (λ (l : List Record). IsOrderly wish.site l) (ap (λ (rs : List Record). is.read ++ rs) (sym records_now) ∙ sym is.rose_is)
+                (go_on logs sets sounds sc h wish may ready.kept what.some is.read orderly_read same_brief).0;
+            order = order logs sets sounds sc h wish may ready.kept what.some;
+          };
+          logged = subst Q (sym (entries_on h wish.site e refl)) (subst L (sym now) wrote);
+          lit = lit;
+          inputs = let none : ready.up.inputs ≡ 0 = is.risen.inputs_are in omega (arith, none);
+        };
+      })
 
-    mine : List Record
-    mine = rise_records sc wish.site ready.inc (log_by moves)
-
-    all : Gathered sc h wish bodies ready is.read
-    all = gathered sc h wish bodies ready (content old.disk) may is (disk (content old.disk) at) stands.disk.reads
-
-    stands_there : Stands content image (bodies_in all.what.lists) old
-    stands_there = subst (λ (bs : List (List ℕ)). Stands content image bs old) all.what.are stands
+  -- or it was not, or may not have been
+  pub not_raised : (n : ℕ) (new : LogState D) (why : Why) →
+      ((bytes : List ℕ) → image new.disk bytes → ReadsLeft wish.site (meters new.disk).capacity (entries_at h wish.site + 1) kept_log ready.records n why bytes) →
+      IsReason why kept_log ready.records (meters old.disk) (meters new.disk) →
+      HasNotRaised image meters sc h wish.site old.disk new.disk n ready.kept ready.inc why
+  not_raised n new why left reason =
+      let e : Entry = rise_fall_of wish.site ready.kept up_next why in
+      let mine : List Record = rise_records sc wish.site up_next kept_log in
+      let cap : ℕ = (meters new.disk).capacity in
+      let P : ℕ → Type 0 = λ k. HasNotRaised image meters sc h wish.site old.disk new.disk n ready.kept k why in
+      subst P (sym inc_now) (record {
+        allowed = allowed logs sets sounds sc h wish may ready.kept what.some;
+        read = was_read;
+        stands = λ bytes there.
+            let M : ℕ → Type 0 = λ m. ReadsTold wish.site cap m n (moves_of sc (h ++ e ∷ []) wish.site) (open_tail sc (h ++ e ∷ []) wish.site) bytes in
+            let T : Option Tail → Type 0 = λ t. ReadsTold wish.site cap (entries_at h wish.site + 1) n (moves_of sc (h ++ e ∷ []) wish.site) t bytes in
+            let Q : List Move → Type 0 = λ ms. ReadsTold wish.site cap (entries_at h wish.site + 1) n ms (left_by why [] mine) bytes in
+            let R : List Record → Type 0 = λ rs. ReadsTold wish.site cap (entries_at h wish.site + 1) n (moves_with sc h wish.site ready.kept) (left_by why [] rs) bytes in
+            subst M (sym (entries_on h wish.site e refl)) (subst T (sym (rise_fall_tail sc h wish.site ready.kept up_next why))
+            (subst Q (sym (rise_fall_moves sc h wish.site ready.kept up_next why))
+            (subst R records_now
+            (left_tells wish.site cap (entries_at h wish.site + 1) n (moves_with sc h wish.site ready.kept) why [] ready.records bytes (left bytes there)))));
+        reason = subst (λ (rs : List Record). IsReason why kept_log rs (meters old.disk) (meters new.disk)) records_now reason;
+      })
 
 -- what was read of a disk was read of what it came from
-abbrev read_since : {D : Type 0} (image : D → List ℕ → Type 0) (sc : Scenario) (h : List Entry) (site : ℕ) (kept : Bool) (old mid : D) →
-    Within (image old) (image mid) → IsRead sc h site kept (image mid) → IsRead sc h site kept (image old)
-read_since image sc h site kept old mid within read = record { bytes = read.bytes; at = within read.bytes read.at; reads = read.reads }
+abbrev read_since : {D : Type 0} (image : D → List ℕ → Type 0) (sc : Scenario) (h : List Entry) (site capacity : ℕ) (kept : Bool) (old mid : D) →
+    Within (image old) (image mid) → IsRead sc h site capacity kept (image mid) → IsRead sc h site capacity kept (image old)
+read_since image sc h site capacity kept old mid within read = record { bytes = read.bytes; at = within read.bytes read.at; reads = read.reads }
 
-reason_since : (why : Why) (size : ℕ) (records : List Record) (old mid new : Meters) → Keeps old mid → IsReason why size records mid new →
-    IsReason why size records old new
-reason_since Fault size records old mid new keeps reason = rose_since old.faults mid.faults new.faults keeps.faults reason
-reason_since (Full need room) size records old mid new keeps reason =
-    let less : mid.capacity < need = reason.0 in
-    let same : mid.capacity ≡ old.capacity = keeps.capacity in
-    (omega (arith, less, same), reason.1, reason.2 ∙ same)
+reason_since : (why : Why) (log records : List Record) (old mid new : Meters) → Keeps old mid → IsReason why log records mid new →
+    IsReason why log records old new
+reason_since Fault log records old mid new keeps reason = rose_since old.faults mid.faults new.faults keeps.faults reason
+reason_since (Full need room) log records old mid new keeps reason = subst (λ (c : ℕ). IsFull c log records need room) keeps.capacity reason
 
 -- what a rise makes of a disk it makes of what that came from
 pub makes_since : {D : Type 0} (content : D → List ℕ) (image : D → List ℕ → Type 0) (meters : D → Meters) (sc : Scenario) (h : List Entry)
     (site : ℕ) (old mid : D) (state : State D) (r : Raised) → Within (image old) (image mid) → Keeps (meters old) (meters mid) →
     RiseMakes content image meters sc h site mid state r → RiseMakes content image meters sc h site old state r
-makes_since content image meters sc h site old mid (Up s l rose) (Rose kept inc) within keeps made = record {
+makes_since content image meters sc h site old mid (Up s l rose logged) (Rose kept inc) within keeps made = record {
   allowed = made.allowed;
-  read = read_since image sc h site kept old mid within made.read;
+  read = subst (λ (c : ℕ). IsRead sc h site c kept (image old)) keeps.capacity (read_since image sc h site (meters mid).capacity kept old mid within made.read);
   up = made.up;
-  back = made.back;
 }
-makes_since content image meters sc h site old mid (Up s l rose) (Failed kept inc why) within keeps made = absurd made
-makes_since content image meters sc h site old mid (Up s l rose) Missed within keeps made = absurd made
-makes_since content image meters sc h site old mid (Up s l rose) NoMemory within keeps made = absurd made
-makes_since content image meters sc h site old mid (Up s l rose) Foreign within keeps made = absurd made
-makes_since content image meters sc h site old mid (Down new) (Rose kept inc) within keeps made = absurd made
-makes_since content image meters sc h site old mid (Down new) (Failed kept inc why) within keeps made = record {
+makes_since content image meters sc h site old mid (Up s l rose logged) (Failed kept inc why) within keeps made = absurd made
+makes_since content image meters sc h site old mid (Up s l rose logged) Missed within keeps made = absurd made
+makes_since content image meters sc h site old mid (Up s l rose logged) NoMemory within keeps made = absurd made
+makes_since content image meters sc h site old mid (Up s l rose logged) Foreign within keeps made = absurd made
+makes_since content image meters sc h site old mid (Down new logged) (Rose kept inc) within keeps made = absurd made
+makes_since content image meters sc h site old mid (Down new logged) (Failed kept inc why) within keeps made = record {
   allowed = made.allowed;
-  read = read_since image sc h site kept old mid within made.read;
+  read = subst (λ (c : ℕ). IsRead sc h site c kept (image old)) keeps.capacity (read_since image sc h site (meters mid).capacity kept old mid within made.read);
   stands = made.stands;
-  back = made.back;
   reason = reason_since why _ _ (meters old) (meters mid) (meters new) keeps made.reason;
-  need = made.need;
 }
-makes_since content image meters sc h site old mid (Down new) Missed within keeps made =
+makes_since content image meters sc h site old mid (Down new logged) Missed within keeps made =
     (made.0, rose_since (meters old).faults (meters mid).faults (meters new).faults keeps.faults made.1)
-makes_since content image meters sc h site old mid (Down new) NoMemory within keeps made = made
-makes_since content image meters sc h site old mid (Down new) Foreign within keeps made = absurd made
+makes_since content image meters sc h site old mid (Down new logged) NoMemory within keeps made = made
+makes_since content image meters sc h site old mid (Down new logged) Foreign within keeps made = absurd made
 
--- a disk whose images are some of another's stands where that does
-pub disk_within : {D : Type 0} (image : D → List ℕ → Type 0) (sc : Scenario) (h : List Entry) (site : ℕ) (old new : D) →
-    Within (image old) (image new) → DiskHolds sc h site (image old) → DiskHolds sc h site (image new)
-disk_within image sc h site old new within stands = λ bytes at. stands bytes (within bytes at)
+-- a disk whose images are some of another's tells what that does
+pub disk_within : {D : Type 0} (image : D → List ℕ → Type 0) (meters : D → Meters) (sc : Scenario) (h : List Entry) (site logged : ℕ) (old new : D) →
+    Within (image old) (image new) → (meters new).capacity ≡ (meters old).capacity → DiskTells sc h site (meters old).capacity logged (image old) →
+    DiskTells sc h site (meters new).capacity logged (image new)
+disk_within image meters sc h site logged old new within same tells =
+    subst (λ (c : ℕ). DiskTells sc h site c logged (image new)) (sym same) (λ bytes at. tells bytes (within bytes at))
 
 -- what a log that could not be opened makes of a rise, where the disk is not damaged
 pub not_opened : {D : Type 0} (content : D → List ℕ) (image : D → List ℕ → Type 0) (meters : D → Meters) (sc : Scenario) (h : List Entry)
-    (site : ℕ) (old new : D) (cause : OpenCause) → Within (image old) (image new) → DiskHolds sc h site (image old) →
-    (cause ≡ causes.Failed → HasFailed (meters old).faults (meters new).faults) → ((at : ℕ) → cause ≡ causes.Damaged at → ⊥) →
-    RiseMakes content image meters sc h site old (Down new) (raised_of cause)
-not_opened content image meters sc h site old new causes.Failed within holds rose sound = (disk_within image sc h site old new within holds, rose refl)
-not_opened content image meters sc h site old new (causes.Damaged at) within holds rose sound = absurd (sound at refl)
-not_opened content image meters sc h site old new causes.NoMemory within holds rose sound = disk_within image sc h site old new within holds
+    (site logged : ℕ) (old new : D) (cause : OpenCause) → Within (image old) (image new) → (meters new).capacity ≡ (meters old).capacity →
+    DiskTells sc h site (meters old).capacity logged (image old) → (cause ≡ causes.Failed → HasFailed (meters old).faults (meters new).faults) →
+    ((at : ℕ) → cause ≡ causes.Damaged at → ⊥) → RiseMakes content image meters sc h site old (Down new logged) (raised_of cause)
+not_opened content image meters sc h site logged old new causes.Failed within same tells rose sound = (disk_within image meters sc h site logged old new within same tells, rose refl)
+not_opened content image meters sc h site logged old new (causes.Damaged at) within same tells rose sound = absurd (sound at refl)
+not_opened content image meters sc h site logged old new causes.NoMemory within same tells rose sound = disk_within image meters sc h site logged old new within same tells
+
+-- a rise that wanted memory, or whose disk is foreign, which it never is
+pub unshortened : {D : Type 0} (content : D → List ℕ) (image : D → List ℕ → Type 0) (meters : D → Meters) (sc : Scenario) (h : List Entry) (site logged : ℕ)
+    (old new : D) (fault : Unready) → (fault ≡ unready.Foreign → ⊥) → DiskTells sc h site (meters new).capacity logged (image new) →
+    RiseMakes content image meters sc h site old (Down new logged) (raised_by fault)
+unshortened content image meters sc h site logged old new unready.NoMemory never tells = tells
+unshortened content image meters sc h site logged old new unready.Foreign never tells = absurd (never refl)
+
+-- what was read is the front of the records that a rise has
+pub read_front : (wish : Wish) (logged : ℕ) (bodies : List (List ℕ)) (ready : Readied) → (is : IsReady wish logged bodies ready) → take ready.read ready.rose ≡ is.read
+read_front wish logged bodies ready is =
+    ap (λ (n : ℕ). take n ready.rose) is.read_is ∙ ap (take (length is.read)) is.rose_is ∙ front is.read ready.records
+  where
+    front : (xs ys : List Record) → take (length xs) (xs ++ ys) ≡ xs
+    front [] ys = refl
+    front (x ∷ xs) ys = ap (λ (l : List Record). x ∷ l) (front xs ys)

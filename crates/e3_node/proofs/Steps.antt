@@ -1,22 +1,20 @@
 -- A node behind an input.
 use Rattle.std.proofs.Common.{◌≡◌, ◌≢◌, ◌++◌, ◌∷◌, [], ◌^◌, ◌<◌, ◌≤◌, ℕ, suc, true, false, List, length, refl, sym, subst, ap, ◌∙◌, append-nil, map, arith}
-use Rattle.std.specs.Prelude.{◌+◌, if◌then◌else◌, Bool, Option, Result, Ok, Err, IfOk, filter, fold, nat_lt}
+use Rattle.std.specs.Prelude.{◌+◌, if◌then◌else◌, Bool, Result, Ok, Err, IfOk, filter, fold, nat_lt}
 use Rattle.std.proofs.Common.{length-append}
 use Rattle.std.specs.List.{AllByRecursion as Each}
 use Rattle.std.proofs.lemmas.List.Elements.{filter-append}
 use Rattle.e3_codec.specs.Fields.{AllCanBeReadBack}
 use Rattle.e3_disk.specs.Images.{Within}
 use Rattle.e3_disk.specs.Meters.{Meters}
-use Rattle.e3_log.specs.Stands.{LogState, Stands}
+use Rattle.e3_log.specs.Stands.{LogState}
 use Rattle.e3_law_local.specs.Others.{Allows, numbered_on}
-use Rattle.e3_node.specs.Bodies.{AllReadBack, DiskHolds, IsLogged, ReadsAfter, ReadsWith, bodies_in, body_of, tail_records}
-use Rattle.e3_node.specs.Counting.{count_of}
+use Rattle.e3_node.specs.Bodies.{DiskTells, ReadsTold, entries_at}
 use Rattle.e3_node.specs.Drafts.{IsAsBefore, IsDraft, IsReady, StandsOnBy}
 use Rattle.e3_node.specs.Ends.{FellOver, is_fall}
-use Rattle.e3_node.specs.NodeStands.{IsDown, IsIn, IsUp, NodeStands, StandsBy, is_step, steps_at}
+use Rattle.e3_node.specs.NodeStands.{IsDown, IsFallen, IsIn, IsUp, NodeStands, StandsBy, is_step, logged_in, steps_at}
 use Rattle.e3_node.specs.NodeView.{NodeView, disk_of, is_up_in}
 use Rattle.e3_node.specs.Telling.{IsOwn}
-use Rattle.e3_node.specs.declared.counting.Count.{Count}
 use Rattle.e3_node.specs.declared.drafts.Draft.{Draft}
 use Rattle.e3_node.specs.declared.fault.InputFault.{InputFault}
 use Rattle.e3_node.specs.declared.fault.InputFault.TheVariants as input_fault
@@ -24,6 +22,7 @@ use Rattle.e3_node.specs.declared.state.State.{State}
 use Rattle.e3_node.specs.declared.state.State.TheVariants.{Down, Up}
 use Rattle.e3_play.specs.Entering.{fall_of}
 use Rattle.e3_site.specs.SiteView.{HasRoomFor, IsPlanOf, PlanView, SiteView, Stands as SiteStands, count_on, entry_of_plan, planned_step, step_kept, with_step}
+use Rattle.e3_site_log.specs.Bodies.{IsLogged, ReadsLeft}
 use Rattle.e3_law_stands.specs.StandsAlike.{IsLogInOrder, now_with}
 use Rattle.e3_law_stands.proofs.Standing.{on, opens, plans, still as stands_still}
 use Rattle.e3_readings.specs.Opens.{open_in}
@@ -41,7 +40,7 @@ use Rattle.e3_world.specs.Legal.{Guard, IsDue, entry_of, made_by}
 use Rattle.e3_world.specs.Lives.{life_of}
 use Rattle.e3_world.specs.declared.lives.Incarnation.{Incarnation}
 use Rattle.e3_world.specs.declared.lives.SiteStep.{SiteStep}
-use Rattle.e3_world.specs.Moves.{Move, Past, Tail, left_by, log_by, log_of, moves_of, open_tail, own, plain_input, recorded}
+use Rattle.e3_world.specs.Moves.{Move, Past, left_by, log_by, log_of, moves_of, open_tail, own, plain_input}
 use Rattle.e3_world.specs.Sound.{step_move}
 use Rattle.e3_world.proofs.Guards.{guard_step}
 use Rattle.e3_world.proofs.Numbers.{entered_move}
@@ -49,10 +48,9 @@ use Rattle.e3_world.proofs.Pushes.{log_push}
 use Rattle.e3_world.proofs.Readings.{own_same, up_same}
 use Rattle.e3_world.proofs.Turns.{self}
 use Rattle.e3_node.proofs.Guarding.{fall_guard, step_entry}
-use Rattle.e3_node.proofs.Appends.{left_reads}
-use Rattle.e3_node.proofs.Frames.{bodies_push, hold_push}
-use Rattle.e3_node.proofs.Keeping.{disk_in}
-use Rattle.e3_node.proofs.Pasts.{all_both, back_left, past_on}
+use Rattle.e3_node.proofs.Keeping.{told_in}
+use Rattle.e3_node.proofs.Left.{left_tells, told_later}
+use Rattle.e3_node.proofs.Pasts.{entries_on, past_on}
 
 -- a site that stands for a history does so in the incarnation of the records that it rose with
 pub own_stands : {rose : List Record} (sc : Scenario) (h : List Entry) (site : ℕ) (s : SiteView) → StandsBy sc h site rose s → SiteStands (now_with rose sc h s.site) s
@@ -70,29 +68,28 @@ step_moves sc h site i =
     ap (λ (p : Past). p.moves) (past_on sc h site (entry_of sc h site i) refl)
     ∙ ap (λ (ms : List Move). moves_of sc h site ++ ms) (entered_move sc h site i)
 
+pub step_log : (sc : Scenario) (h : List Entry) (site : ℕ) (i : Input) → log_of sc (h ++ entry_of sc h site i ∷ []) site ≡ log_of sc h site ++ (made_by sc h site i).records
+step_log sc h site i = ap log_by (step_moves sc h site i) ∙ log_push (moves_of sc h site) (step_move sc site (moves_of sc h site) i)
+
 -- the log behind a step, whose frame was written
-pub step_logged : {D : Type 0} (content : D → List ℕ) (image : D → List ℕ → Type 0) (sc : Scenario) (h : List Entry) (site : ℕ) (i : Input)
-    (old new : LogState D) → (was : IsLogged content image (moves_of sc h site) old) →
-    ((lists : List (List Record)) → Stands content image (bodies_in lists) old → Stands content image (bodies_in lists ++ body_of (made_by sc h site i).records) new) →
-    IsLogged content image (moves_of sc (h ++ entry_of sc h site i ∷ []) site) new
-step_logged content image sc h site i old new was wrote =
-    let m : Move = step_move sc site (moves_of sc h site) i in
-    let P : List Move → Type 0 = λ ms. IsLogged content image ms new in
-    let Q : List (List ℕ) → Type 0 = λ bs. Stands content image bs new in
-    subst P (sym (step_moves sc h site i)) (record {
-      lists = was.lists ++ recorded m ∷ [];
-      hold = hold_push (moves_of sc h site) was.lists m was.hold;
-      stands = subst Q (sym (bodies_push was.lists (recorded m))) (wrote was.lists was.stands);
-    })
+pub step_logged : {D : Type 0} (content : D → List ℕ) (image : D → List ℕ → Type 0) (meters : D → Meters) (sc : Scenario) (h : List Entry) (site : ℕ) (i : Input)
+    (records : List Record) (logged : ℕ) (new : LogState D) → records ≡ (made_by sc h site i).records →
+    IsLogged content image meters site (entries_at h site + 1) (log_of sc h site ++ records) logged new →
+    IsLogged content image meters site (entries_at (h ++ entry_of sc h site i ∷ []) site) (log_of sc (h ++ entry_of sc h site i ∷ []) site) logged new
+step_logged content image meters sc h site i records logged new made wrote =
+    let P : ℕ → Type 0 = λ n. IsLogged content image meters site n (log_of sc (h ++ entry_of sc h site i ∷ []) site) logged new in
+    let Q : List Record → Type 0 = λ l. IsLogged content image meters site (entries_at h site + 1) l logged new in
+    subst P (sym (entries_on h site (entry_of sc h site i) refl))
+    (subst Q (ap (λ (rs : List Record). log_of sc h site ++ rs) made ∙ sym (step_log sc h site i)) wrote)
 
 -- a site that made the planned step
 pub stepped_up : {D : Type 0} {rose : List Record} (content : D → List ℕ) (image : D → List ℕ → Type 0) (meters : D → Meters)
-    (sc : Scenario) (h : List Entry) (site : ℕ) (i : Input) (s : SiteView) (l : LogState D) → is_up_at h site ≡ true →
+    (sc : Scenario) (h : List Entry) (site : ℕ) (i : Input) (s : SiteView) (l : LogState D) (logged : ℕ) → is_up_at h site ≡ true →
     StandsBy sc (h ++ entry_of sc h site i ∷ []) site rose s →
-    IsLogged content image (moves_of sc (h ++ entry_of sc h site i ∷ []) site) l → (meters l.disk).powered ≡ true →
+    IsLogged content image meters site (entries_at (h ++ entry_of sc h site i ∷ []) site) (log_of sc (h ++ entry_of sc h site i ∷ []) site) logged l → (meters l.disk).powered ≡ true →
     s.inputs ≤ steps_at (h ++ entry_of sc h site i ∷ []) site →
-    IsUp content image meters sc (h ++ entry_of sc h site i ∷ []) site s l rose
-stepped_up content image meters sc h site i s l up stands logged lit few = record {
+    IsUp content image meters sc (h ++ entry_of sc h site i ∷ []) site s l rose logged
+stepped_up content image meters sc h site i s l n up stands logged lit few = record {
   up = up_same h (entry_of sc h site i) site (self site) ∙ up;
   stands = stands;
   logged = logged;
@@ -132,6 +129,7 @@ pub site_on : {rose : List Record} (sc : Scenario) (h : List Entry) (site : ℕ)
 site_on {rose} sc h site i old new step stands is weights number go order = record {
   alike = on sc h site rose i old new step stands.alike is weights number
       (go (now_with rose sc h site) i stands.alike.stands (is ∙ sym (plans sc h site rose old i stands.alike stands.order)));
+  risen = stands.risen;
   order = order;
 }
 
@@ -219,59 +217,37 @@ pub fall_entered : (sc : Scenario) (h more : List Entry) (site : ℕ) (i : Input
 fall_entered sc h more site i inputs records why one rs is = is ∙ ap (λ (x : Entry). h ++ x ∷ []) (made_fall sc h site i inputs records why one rs)
 
 -- the disk of a site that fell
-pub fallen_disk : {D : Type 0} (content : D → List ℕ) (image : D → List ℕ → Type 0) (sc : Scenario) (h : List Entry) (site : ℕ) (i : Input) (why : Why)
-    (old new : LogState D) → IsLogged content image (moves_of sc h site) old →
-    ((lists : List (List Record)) → Stands content image (bodies_in lists) old →
-    (bytes : List ℕ) → image new.disk bytes → ReadsAfter lists why (made_by sc h site i).records bytes) →
-    DiskHolds sc (h ++ fall_of sc h site i why ∷ []) site (image new.disk)
-fallen_disk content image sc h site i why old new was reads = λ bytes at.
+pub fallen_tells : (sc : Scenario) (h : List Entry) (site capacity : ℕ) (i : Input) (records : List Record) (why : Why) (logged : ℕ) (image : List ℕ → Type 0) →
+    records ≡ (made_by sc h site i).records →
+    ((bytes : List ℕ) → image bytes → ReadsLeft site capacity (entries_at h site + 1) (log_of sc h site) records logged why bytes) →
+    DiskTells sc (h ++ fall_of sc h site i why ∷ []) site capacity logged image
+fallen_tells sc h site capacity i records why logged image made left = λ bytes at.
+    let e : Entry = fall_of sc h site i why in
     let inputs : List Input = map plain_input (i ∷ []) in
-    let P : Past → Type 0 = λ p. ReadsWith site p.moves p.tail bytes in
-    let Q : List Move → Type 0 = λ ms. ReadsWith site ms (left_by why inputs (made_by sc h site i).records) bytes in
-    subst P (sym (past_on sc h site (fall_of sc h site i why) refl)) (subst Q (sym (append-nil (moves_of sc h site)))
-    (left_reads site (moves_of sc h site) was.lists why inputs (made_by sc h site i).records bytes was.hold (reads was.lists was.stands bytes at)))
+    let n : ℕ = entries_at h site + 1 in
+    let P : Past → Type 0 = λ p. ReadsTold site capacity (entries_at (h ++ e ∷ []) site) logged p.moves p.tail bytes in
+    let M : ℕ → Type 0 = λ m. ReadsTold site capacity m logged (moves_of sc h site ++ []) (left_by why inputs (made_by sc h site i).records) bytes in
+    let Q : List Move → Type 0 = λ ms. ReadsTold site capacity n logged ms (left_by why inputs (made_by sc h site i).records) bytes in
+    let R : List Record → Type 0 = λ rs. ReadsTold site capacity n logged (moves_of sc h site) (left_by why inputs rs) bytes in
+    subst P (sym (past_on sc h site e refl)) (subst M (sym (entries_on h site e refl)) (subst Q (sym (append-nil (moves_of sc h site)))
+    (subst R made (left_tells site capacity n logged (moves_of sc h site) why inputs records bytes (left bytes at)))))
 
-pub fallen_down : {D : Type 0} (image : D → List ℕ → Type 0)
-    (sc : Scenario) (h : List Entry) (site : ℕ) (i : Input) (why : Why) (disk : D) →
-    DiskHolds sc (h ++ fall_of sc h site i why ∷ []) site (image disk) → IsDown image sc (h ++ fall_of sc h site i why ∷ []) site disk
-fallen_down image sc h site i why disk stands = record {
+pub fallen_down : {D : Type 0} (image : D → List ℕ → Type 0) (meters : D → Meters)
+    (sc : Scenario) (h : List Entry) (site : ℕ) (i : Input) (why : Why) (disk : D) (logged : ℕ) →
+    DiskTells sc (h ++ fall_of sc h site i why ∷ []) site (meters disk).capacity logged (image disk) →
+    IsDown image meters sc (h ++ fall_of sc h site i why ∷ []) site disk logged
+fallen_down image meters sc h site i why disk logged stands = record {
   down = up_same h (fall_of sc h site i why) site (self site);
   stands = stands;
 }
 
--- what a step records, and what a fall leaves in doubt, can be read back
-pub step_back : (sc : Scenario) (h : List Entry) (site : ℕ) (i : Input) → AllReadBack sc h site →
-    AllCanBeReadBack site (made_by sc h site i).records → AllReadBack sc (h ++ entry_of sc h site i ∷ []) site
-step_back sc h site i was back = record {
-  log =
-      let now : log_of sc (h ++ entry_of sc h site i ∷ []) site ≡ log_of sc h site ++ (made_by sc h site i).records =
-      ap log_by (step_moves sc h site i) ∙ log_push (moves_of sc h site) (step_move sc site (moves_of sc h site) i) in
-      subst (λ (rs : List Record). AllCanBeReadBack site rs) (sym now) (all_both site (log_of sc h site) (made_by sc h site i).records was.log back);
-  tail =
-      subst (λ (t : Option Tail). AllCanBeReadBack site (tail_records t))
-      (sym (ap (λ (p : Past). p.tail) (past_on sc h site (entry_of sc h site i) refl))) was.tail;
-}
-
-pub fall_back : (sc : Scenario) (h : List Entry) (site : ℕ) (i : Input) (why : Why) → AllReadBack sc h site →
-    AllCanBeReadBack site (made_by sc h site i).records → AllReadBack sc (h ++ fall_of sc h site i why ∷ []) site
-fall_back sc h site i why was back = record {
-  log =
-      let now : moves_of sc (h ++ fall_of sc h site i why ∷ []) site ≡ moves_of sc h site =
-      ap (λ (p : Past). p.moves) (past_on sc h site (fall_of sc h site i why) refl) ∙ append-nil (moves_of sc h site) in
-      subst (λ (ms : List Move). AllCanBeReadBack site (log_by ms)) (sym now) was.log;
-  tail =
-      subst (λ (t : Option Tail). AllCanBeReadBack site (tail_records t))
-      (sym (ap (λ (p : Past). p.tail) (past_on sc h site (fall_of sc h site i why) refl)))
-      (back_left site why (map plain_input (i ∷ [])) (made_by sc h site i).records back);
-}
-
 -- a site that was made ready is up as before
 pub ready_up : {D : Type 0} {rose : List Record} (content : D → List ℕ) (image : D → List ℕ → Type 0) (meters : D → Meters)
-    (sc : Scenario) (h : List Entry) (site : ℕ) (s new : SiteView) (l : LogState D) → IsUp content image meters sc h site s l rose →
-    IsAsBefore s new → IsUp content image meters sc h site new l rose
-ready_up {D} {rose} content image meters sc h site s new l was is = record {
+    (sc : Scenario) (h : List Entry) (site : ℕ) (s new : SiteView) (l : LogState D) (logged : ℕ) → IsUp content image meters sc h site s l rose logged →
+    IsAsBefore s new → IsUp content image meters sc h site new l rose logged
+ready_up {D} {rose} content image meters sc h site s new l logged was is = record {
   up = was.up;
-  stands = record { alike = is.stands sc h site rose was.stands.alike; order = was.stands.order };
+  stands = record { alike = is.stands sc h site rose was.stands.alike; risen = was.stands.risen; order = was.stands.order };
   logged = was.logged;
   lit = was.lit;
   inputs = let P : ℕ → Type 0 = λ n. n ≤ steps_at h site in subst P (sym (ap (λ (v : SiteView). v.inputs) is.same)) was.inputs;
@@ -288,23 +264,22 @@ still content image meters sc h more site mid new kept same =
 pub input_in : {D : Type 0} (content : D → List ℕ) (image : D → List ℕ → Type 0) (meters : D → Meters)
     (sc : Scenario) (h more : List Entry) (site : ℕ) (i : Input) (fault : InputFault) (mid new : State D) →
     (is_fall fault ≡ false → (more ≡ h) × IsIn content image meters sc h site mid) →
-    ((why : Why) → fault ≡ input_fault.Fell why → FellOver sc h site i why more × DiskHolds sc more site (image (disk_of mid))) →
-    (is_fall fault ≡ true → new ≡ Down (disk_of mid)) → (is_fall fault ≡ false → new ≡ mid) → IsIn content image meters sc more site new
+    ((why : Why) → fault ≡ input_fault.Fell why → FellOver sc h site i why more × IsFallen image meters sc more site mid) →
+    (is_fall fault ≡ true → new ≡ Down (disk_of mid) (logged_in mid)) → (is_fall fault ≡ false → new ≡ mid) → IsIn content image meters sc more site new
 input_in content image meters sc h more site i (input_fault.Fell why) mid new kept fell down same =
     let f = fell why refl in
-    let P : List Entry → Type 0 = λ l. DiskHolds sc l site (image (disk_of mid)) in
+    let P : List Entry → Type 0 = λ l. IsFallen image meters sc l site mid in
     subst (λ (s : State _). IsIn content image meters sc more site s) (sym (down refl))
-    (subst (λ (l : List Entry). IsIn content image meters sc l site (Down (disk_of mid))) (sym f.0.entered)
-    (fallen_down image sc h site i why (disk_of mid) (subst P f.0.entered f.1)))
+    (subst (λ (l : List Entry). IsIn content image meters sc l site (Down (disk_of mid) (logged_in mid))) (sym f.0.entered)
+    (fallen_down image meters sc h site i why (disk_of mid) (logged_in mid) (subst P f.0.entered f.1)))
 input_in content image meters sc h more site i input_fault.Down mid new kept fell down same = still content image meters sc h more site mid new (kept refl) (same refl)
 input_in content image meters sc h more site i input_fault.HistoryFull mid new kept fell down same = still content image meters sc h more site mid new (kept refl) (same refl)
 input_in content image meters sc h more site i input_fault.NoMemory mid new kept fell down same = still content image meters sc h more site mid new (kept refl) (same refl)
 
 pub node_with : {D : Type 0} (content : D → List ℕ) (image : D → List ℕ → Type 0) (meters : D → Meters) (sc now : Scenario) (h more : List Entry)
-    (old new : NodeView D) (state : State D) (count : Count) → NodeStands content image meters sc h old → now ≡ sc → IsIn content image meters sc more old.site state →
-    AllReadBack sc more old.site → count ≡ count_of old.site more →
-    new ≡ record { site = old.site; weights = old.weights; rows = old.rows; count = count; state = state } → NodeStands content image meters now more new
-node_with content image meters sc now h more old new state count was same is back counts now_is =
+    (old new : NodeView D) (state : State D) → NodeStands content image meters sc h old → now ≡ sc → IsIn content image meters sc more old.site state →
+    new ≡ record { site = old.site; weights = old.weights; rows = old.rows; state = state } → NodeStands content image meters now more new
+node_with content image meters sc now h more old new state was same is now_is =
     subst (λ (s : Scenario). NodeStands content image meters s more new) (sym same)
     (subst (λ (n : NodeView _). NodeStands content image meters sc more n) (sym now_is) (record {
       some = was.some;
@@ -312,22 +287,27 @@ node_with content image meters sc now h more old new state count was same is bac
       weights_are = was.weights_are;
       rows_are = was.rows_are;
       state = is;
-      count_is = counts;
-      back = back;
     }))
 
 -- a site whose power is cut is down, and its disk stands
 pub cut_in : {D : Type 0} (content : D → List ℕ) (image : D → List ℕ → Type 0) (meters : D → Meters)
     (sc : Scenario) (h : List Entry) (site : ℕ) (old new : State D) → IsIn content image meters sc h site old → is_up_in new ≡ false →
-    Within (image (disk_of old)) (image (disk_of new)) → IsIn content image meters sc (h ++ record { owner = site; act = Cut } ∷ []) site new
-cut_in content image meters sc h site old (Up s l rose) was down within = absurd cc
-cut_in content image meters sc h site old (Down disk) was down within = record {
+    logged_in new ≡ logged_in old → Within (image (disk_of old)) (image (disk_of new)) → (meters (disk_of new)).capacity ≡ (meters (disk_of old)).capacity →
+    IsIn content image meters sc (h ++ record { owner = site; act = Cut } ∷ []) site new
+cut_in content image meters sc h site old (Up s l rose logged) was down same within room = absurd cc
+cut_in content image meters sc h site old (Down disk logged) was down same within room = record {
   down = up_same h (record { owner = site; act = Cut }) site (self site);
   stands = λ bytes at.
-      let stands = disk_in content image meters sc h site old was bytes (within bytes at) in
-      let P : Past → Type 0 = λ p. ReadsWith site p.moves p.tail bytes in
-      let Q : List Move → Type 0 = λ ms. ReadsWith site ms (open_tail sc h site) bytes in
-      subst P (sym (past_on sc h site (record { owner = site; act = Cut }) refl)) (subst Q (sym (append-nil (moves_of sc h site))) stands);
+      let e : Entry = record { owner = site; act = Cut } in
+      let told = told_in content image meters sc h site old was bytes (within bytes at) in
+      let P : Past → Type 0 = λ p. ReadsTold site (meters disk).capacity (entries_at (h ++ e ∷ []) site) logged p.moves p.tail bytes in
+      let Q : List Move → Type 0 = λ ms. ReadsTold site (meters disk).capacity (entries_at (h ++ e ∷ []) site) logged ms (open_tail sc h site) bytes in
+      let R : ℕ → Type 0 = λ n. ReadsTold site n (entries_at h site) logged (moves_of sc h site) (open_tail sc h site) bytes in
+      let N : ℕ → Type 0 = λ n. ReadsTold site (meters (disk_of old)).capacity (entries_at h site) n (moves_of sc h site) (open_tail sc h site) bytes in
+      let more : entries_at (h ++ e ∷ []) site ≡ entries_at h site + 1 = entries_on h site e refl in
+      subst P (sym (past_on sc h site e refl)) (subst Q (sym (append-nil (moves_of sc h site)))
+      (told_later site (meters disk).capacity (entries_at h site) (entries_at (h ++ e ∷ []) site) logged (moves_of sc h site) (open_tail sc h site) bytes (omega (arith, more))
+      (subst R (sym room) (subst N (sym same) told))));
 }
 
 -- what is open by the tables is open in the history

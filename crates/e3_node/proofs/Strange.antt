@@ -1,28 +1,28 @@
--- A disk that stands for a history holds the log of its site, and nothing else.
-use Rattle.std.proofs.Common.{◌≡◌, ◌++◌, ◌∷◌, [], inl, inr, ℕ, suc, Bool, List, Option, take, drop, sym, subst, ap, ◌∙◌}
+-- A disk that stands for a history holds a log of its site, and nothing else.
+use Rattle.std.proofs.Common.{◌≡◌, ◌++◌, ◌∷◌, [], inl, inr, ℕ, suc, List, Option, take, drop, sym, subst, ap, ◌∙◌}
 use Rattle.std.specs.List.{flat_map}
 use Rattle.std.proofs.lemmas.List.{take-append-drop}
 use Rattle.e3_codec.specs.Fields.{AllCanBeReadBack}
-use Rattle.e3_codec.proofs.Records.{never_bad}
-use Rattle.e3_log.specs.Frames.{Reads}
-use Rattle.e3_log.proofs.One.{one_reading}
-use Rattle.e3_node.specs.Bodies.{ReadsWith, bodies_in, body_of, moves_with}
-use Rattle.e3_node.specs.Rising.{IsDisordered, IsForeign, MayRise, SomeIsBad, records_by, rise_of}
-use Rattle.e3_node.specs.declared.readying.Wish.{Wish}
+use Rattle.e3_codec.proofs.Records.{never_bad, one_list}
+use Rattle.e3_law_brief.specs.Brief.{brief}
+use Rattle.e3_law_brief.specs.Orderly.{IsOrderly, OrderlyAfter}
+use Rattle.e3_law_brief.specs.Sets.{LoggedSitesAreSets}
 use Rattle.e3_law_serial.specs.Orderly.{LogsAreOrderly}
+use Rattle.e3_law_steps.specs.Trails.{TrailsAreSound}
+use Rattle.e3_log.specs.Reading.{ReadsAs as BytesReadAs}
+use Rattle.e3_log.proofs.Unique.{one_text}
+use Rattle.e3_node.specs.Bodies.{ReadsTold, entries_at, log_with}
+use Rattle.e3_node.specs.Rising.{IsDisordered, IsForeign, MayRise, SomeIsBad, records_by}
+use Rattle.e3_node.specs.declared.readying.Wish.{Wish}
 use Rattle.e3_site.specs.Orderly.{IsFirstDisorder}
+use Rattle.e3_site_log.specs.Bodies.{bodies_in, body_of, joined}
+use Rattle.e3_site_log.proofs.Frames.{spells}
 use Rattle.e3_types.specs.declared.entries.Entry.{Entry}
 use Rattle.e3_types.specs.declared.records.Record.{Record}
 use Rattle.e3_types.specs.declared.scenarios.Scenario.{Scenario}
-use Rattle.e3_world.specs.Legal.{IsLegal, IsRise}
 use Rattle.e3_world.specs.Logs.{logged_inc}
-use Rattle.e3_world.specs.Moves.{Move, Rose as DidRise, Tail, log_by, log_of, moves_of, open_tail, rise_records}
-use Rattle.e3_law_brief.specs.Orderly.{IsOrderly, OrderlyAfter}
-use Rattle.e3_law_brief.proofs.Laws.{first_logs}
-use Rattle.e3_world.proofs.Pushes.{legal_push, log_push}
-use Rattle.e3_node.proofs.Guarding.{rise_guard}
-use Rattle.e3_node.proofs.Pasts.{back_with, rise_moves, with_log}
-use Rattle.e3_node.proofs.Rises.{Found, found, rise_by}
+use Rattle.e3_world.specs.Moves.{Tail, moves_of, open_tail, rise_records}
+use Rattle.e3_node.proofs.Rises.{go_on, inc_is, records_are}
 
 -- the front of an orderly list is orderly
 orderly_front : (site : ℕ) (before xs ys : List Record) → OrderlyAfter site before (xs ++ ys) → OrderlyAfter site before xs
@@ -55,56 +55,41 @@ none_is_bad site (rs ∷ lists) back bad =
     by (r ∷ rs) mine rest (inl is) = never_bad site (r ∷ rs) is.0 mine is.1
     by (r ∷ rs) mine rest (inr is) = rest is
 
-module _ (sc : Scenario) (h : List Entry) (wish : Wish) (bodies : List (List ℕ)) (bytes : List ℕ) (may : MayRise sc h wish)
-    (holds : ReadsWith wish.site (moves_of sc h wish.site) (open_tail sc h wish.site) bytes) (reads : Reads bodies bytes) where
+module _ (sc : Scenario) (h : List Entry) (wish : Wish) (capacity generation logged : ℕ) (bodies : List (List ℕ)) (bytes : List ℕ) (may : MayRise sc h wish)
+    (it : ReadsTold wish.site capacity (entries_at h wish.site) logged (moves_of sc h wish.site) (open_tail sc h wish.site) bytes)
+    (reads : BytesReadAs capacity generation bodies bytes) where
+  are : bodies ≡ bodies_in it.reads.lists
+  are = (one_text capacity generation it.reads.generation bodies (bodies_in it.reads.lists) bytes reads it.reads.reads).0
+
   is_good : SomeIsBad wish.site bodies → ⊥
-  is_good bad =
-      let are : bodies ≡ bodies_in holds.1.lists = one_reading bodies (bodies_in holds.1.lists) bytes reads holds.1.reads in
-      none_is_bad wish.site holds.1.lists
-      (subst (λ (rs : List Record). AllCanBeReadBack wish.site rs) (sym holds.1.hold.whole) (back_with sc h wish.site holds.0 may.back))
-      (subst (λ (bs : List (List ℕ)). SomeIsBad wish.site bs) are bad)
+  is_good bad = none_is_bad wish.site it.reads.lists it.reads.hold.back (subst (λ (bs : List (List ℕ)). SomeIsBad wish.site bs) are bad)
 
-  is_ordered : LogsAreOrderly → IsDisordered wish bodies → ⊥
-  is_ordered law not_so = not_so.breaks (subst (λ (l : List Record). IsOrderly wish.site l) log_is (first_logs wish.site (log_of sc (h ++ e ∷ []) wish.site) (law sc (h ++ e ∷ []) wish.site may.given legal)))
+  is_ordered : LogsAreOrderly → LoggedSitesAreSets → TrailsAreSound → IsDisordered wish bodies → ⊥
+  is_ordered logs sets sounds not_so = not_so.breaks (subst (λ (l : List Record). IsOrderly wish.site l) same (go_on logs sets sounds sc h wish may it.kept it.some not_so.read orderly brief_is).0)
     where
-      some : (k : Bool) × Found (moves_of sc h wish.site) wish.site (open_tail sc h wish.site) bodies not_so.read k
-      some =
-          found wish.site (moves_of sc h wish.site) bodies bytes not_so.read reads not_so.back not_so.spelled holds.0 (open_tail sc h wish.site)
-          (λ k. back_with sc h wish.site k may.back) holds.1
+      read_is : not_so.read ≡ joined it.reads.lists
+      read_is = one_list wish.site not_so.read (joined it.reads.lists) not_so.back it.reads.hold.back
+          (sym not_so.spelled ∙ ap (flat_map (λ body. body)) are ∙ spells it.reads.lists)
 
-      moves : List Move
-      moves = moves_with sc h wish.site some.0
+      orderly : IsOrderly wish.site not_so.read
+      orderly = subst (λ (l : List Record). IsOrderly wish.site l) (sym read_is) it.reads.hold.orderly
 
-      e : Entry
-      e = rise_of wish.site some.0 not_so.inc
+      brief_is : brief not_so.read ≡ brief (log_with sc h wish.site it.kept)
+      brief_is = ap brief read_is ∙ it.reads.hold.same
 
-      allowed : IsRise sc h wish.site some.0 not_so.inc
-      allowed = record {
-        rising = may.rising;
-        has_tail = some.1.some;
-        next = not_so.inc_is ∙ ap (λ (l : List Record). suc (logged_inc l)) (some.1.log_is ∙ with_log sc h wish.site some.0);
-      }
+      before : List Record
+      before = log_with sc h wish.site it.kept
 
-      legal : IsLegal sc (h ++ e ∷ [])
-      legal = legal_push sc h e may.legal (rise_guard sc h wish.site some.0 not_so.inc may.some allowed)
+      same : not_so.read ++ rise_records sc wish.site (suc (logged_inc before)) before ≡ not_so.read ++ records_by wish not_so.inc not_so.read
+      same = ap (λ (rs : List Record). not_so.read ++ rs) (sym (ap (λ (n : ℕ). records_by wish n not_so.read) (not_so.inc_is ∙ inc_is logs sets sounds sc h wish may it.kept it.some not_so.read orderly brief_is)
+          ∙ records_are logs sets sounds sc h wish may it.kept it.some not_so.read orderly brief_is))
 
-      mine : List Record
-      mine = rise_records sc wish.site not_so.inc (log_by moves)
-
-      mine_is : records_by wish not_so.inc not_so.read ≡ mine
-      mine_is = rise_by sc wish not_so.inc not_so.read may.weights_are may.rows_are ∙ ap (rise_records sc wish.site not_so.inc) some.1.log_is
-
-      log_is : log_of sc (h ++ e ∷ []) wish.site ≡ not_so.read ++ records_by wish not_so.inc not_so.read
-      log_is =
-          ap log_by (rise_moves sc h wish.site some.0 not_so.inc) ∙ log_push moves (record { site = wish.site; did = DidRise not_so.inc mine })
-          ∙ ap (λ (l : List Record). l ++ mine) (sym some.1.log_is) ∙ ap (λ (l : List Record). not_so.read ++ l) (sym mine_is)
-
-  -- so what is read of the disk is the log of the site
-  pub never_foreign : LogsAreOrderly → IsForeign wish bodies → ⊥
-  never_foreign law (inl bad) = is_good bad
-  never_foreign law (inr not_so) = is_ordered law not_so
+  -- so what is read of the disk is a log of the site
+  pub never_foreign : LogsAreOrderly → LoggedSitesAreSets → TrailsAreSound → IsForeign wish bodies → ⊥
+  never_foreign logs sets sounds (inl bad) = is_good bad
+  never_foreign logs sets sounds (inr not_so) = is_ordered logs sets sounds not_so
 
 -- a disk that holds a log reads as some frames
-pub reads_some : (site : ℕ) (moves : List Move) (tail : Option Tail) (bytes : List ℕ) → ReadsWith site moves tail bytes →
-    ((bs : List (List ℕ)) → Reads bs bytes → ⊥) → ⊥
-reads_some site moves tail bytes holds none = none (bodies_in holds.1.lists) holds.1.reads
+pub reads_some : (site capacity most logged : ℕ) (moves : List _) (tail : Option Tail) (bytes : List ℕ) → ReadsTold site capacity most logged moves tail bytes →
+    ((g : ℕ) (bs : List (List ℕ)) → BytesReadAs capacity g bs bytes → ⊥) → ⊥
+reads_some site capacity most logged moves tail bytes it none = none it.reads.generation (bodies_in it.reads.lists) it.reads.reads

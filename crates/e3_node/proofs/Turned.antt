@@ -2,9 +2,8 @@
 use Rattle.std.proofs.Common.{◌≡◌, ℕ, true, false, List, Err, refl, sym, subst, ap}
 use Rattle.std.specs.Prelude.{IsErrAnd, Ok, Result}
 use Rattle.e3_disk.specs.Meters.{Meters}
-use Rattle.e3_node.specs.Bodies.{AllReadBack, DiskHolds}
 use Rattle.e3_node.specs.Ends.{FellOver, input_fault_of, is_fall}
-use Rattle.e3_node.specs.NodeStands.{IsIn}
+use Rattle.e3_node.specs.NodeStands.{IsFallen, IsIn, logged_in}
 use Rattle.e3_node.specs.NodeView.{disk_of}
 use Rattle.e3_node.specs.Turns.{EndsSo, IsStill, Meanwhile}
 use Rattle.e3_node.specs.declared.fault.InputFault.{InputFault}
@@ -39,20 +38,18 @@ module _ {D : Type 0} (content : D → List ℕ) (image : D → List ℕ → Typ
 
   -- what the node is behind it: it fell, or it is as before
   pub in_told : (fault : InputFault) (new : State D) → EndsSo content image meters sc before more site i old mid (Err fault) →
-      (is_fall fault ≡ true → new ≡ Down (disk_of mid)) → (is_fall fault ≡ false → new ≡ mid) → IsIn content image meters sc more site new × AllReadBack sc more site
+      (is_fall fault ≡ true → new ≡ Down (disk_of mid) (logged_in mid)) → (is_fall fault ≡ false → new ≡ mid) → IsIn content image meters sc more site new
   in_told (input_fault.Fell why) new ended down same =
-      let P : List Entry → Type 0 = λ l. DiskHolds sc l site (image (disk_of mid)) in (
-        subst (λ (s : State _). IsIn content image meters sc more site s) (sym (down refl))
-            (subst (λ (l : List Entry). IsIn content image meters sc l site (Down (disk_of mid))) (sym ended.fell.entered)
-            (fallen_down image sc ended.now site i why (disk_of mid) (subst P ended.fell.entered ended.stands))),
-        ended.back,
-      )
-  in_told input_fault.Down new ended down same = (subst (λ (s : State _). IsIn content image meters sc more site s) (sym (same refl)) ended.stands, ended.back)
-  in_told input_fault.HistoryFull new ended down same = (subst (λ (s : State _). IsIn content image meters sc more site s) (sym (same refl)) ended.stands, ended.back)
-  in_told input_fault.NoMemory new ended down same = (subst (λ (s : State _). IsIn content image meters sc more site s) (sym (same refl)) ended.stands, ended.back)
+      let P : List Entry → Type 0 = λ l. IsFallen image meters sc l site mid in
+      subst (λ (s : State _). IsIn content image meters sc more site s) (sym (down refl))
+      (subst (λ (l : List Entry). IsIn content image meters sc l site (Down (disk_of mid) (logged_in mid))) (sym ended.fell.entered)
+      (fallen_down image meters sc ended.now site i why (disk_of mid) (logged_in mid) (subst P ended.fell.entered ended.stands)))
+  in_told input_fault.Down new ended down same = subst (λ (s : State _). IsIn content image meters sc more site s) (sym (same refl)) ended.stands
+  in_told input_fault.HistoryFull new ended down same = subst (λ (s : State _). IsIn content image meters sc more site s) (sym (same refl)) ended.stands
+  in_told input_fault.NoMemory new ended down same = subst (λ (s : State _). IsIn content image meters sc more site s) (sym (same refl)) ended.stands
 
   -- the disk is that of the node
-  pub disk_told : (fault : InputFault) (new : State D) → (is_fall fault ≡ true → new ≡ Down (disk_of mid)) → (is_fall fault ≡ false → new ≡ mid) → disk_of new ≡ disk_of mid
+  pub disk_told : (fault : InputFault) (new : State D) → (is_fall fault ≡ true → new ≡ Down (disk_of mid) (logged_in mid)) → (is_fall fault ≡ false → new ≡ mid) → disk_of new ≡ disk_of mid
   disk_told (input_fault.Fell why) new down same = ap disk_of (down refl)
   disk_told input_fault.Down new down same = ap disk_of (same refl)
   disk_told input_fault.HistoryFull new down same = ap disk_of (same refl)

@@ -8,7 +8,6 @@ use Rattle.e3_law_local.specs.Least.{AreOfSites}
 use Rattle.e3_law_local.specs.Others.{Allows, AreOthers, numbered_on}
 use Rattle.e3_law_local.proofs.Alike.{all_on}
 use Rattle.e3_law_local.proofs.Laws.{legal_behind}
-use Rattle.e3_node.specs.Bodies.{AllReadBack}
 use Rattle.e3_node.specs.Claims.{MovesStay, NodesKeptByOthers, NodesStandBehindOthers}
 use Rattle.e3_node.specs.Drafts.{IsAsBefore}
 use Rattle.e3_node.specs.Ends.{input_fault_of}
@@ -50,7 +49,7 @@ use Rattle.e3_world.specs.Steps.{step_of}
 use Rattle.e3_world.specs.declared.lives.Made.{Made}
 use Rattle.e3_world.specs.Packets.{is_calm, lines, outs_of, present_items, step_items}
 use Rattle.e3_node.proofs.Apart.{one_more, other_one}
-use Rattle.e3_node.proofs.Keeping.{back_kept, in_kept, moves_kept, node_kept, up_kept}
+use Rattle.e3_node.proofs.Keeping.{in_kept, moves_kept, node_kept, up_kept}
 use Rattle.e3_node.proofs.Steps.{IsMade, ready_up}
 
 pub moves_stay : MovesStay
@@ -68,12 +67,6 @@ in_others content image meters sc h (e ∷ more) site state was others =
     let P : List Entry → Type 0 = λ l. IsIn content image meters sc l site state in
     subst P (one_more h more e) (in_others content image meters sc (h ++ e ∷ []) more site state
     (in_kept content image meters sc h e site state was (other_one site e others.0)) others.2)
-
-pub back_others : (sc : Scenario) (h more : List Entry) (site : ℕ) → AllReadBack sc h site → AreOthers site more → AllReadBack sc (h ++ more) site
-back_others sc h [] site was others = let P : List Entry → Type 0 = λ l. AllReadBack sc l site in subst P (sym (append-nil h)) was
-back_others sc h (e ∷ more) site was others =
-    let P : List Entry → Type 0 = λ l. AllReadBack sc l site in
-    subst P (one_more h more e) (back_others sc (h ++ e ∷ []) more site (back_kept sc h e site was (other_one site e others.0)) others.2)
 
 pub node_others : {D : Type 0} (content : D → List ℕ) (image : D → List ℕ → Type 0) (meters : D → Meters) → NodesKeptByOthers content image meters
 node_others content image meters sc h [] node was others =
@@ -292,18 +285,13 @@ still_restless p claimed between site outs owns grew front is was at_claim restl
     ap (λ (x : Scenario). is_calm (present_items x (entries_of claimed))) keys ∙ ap (λ (l : List Entry). is_calm (present_items sc l)) entries
     ∙ ap (λ (n : ℕ). is_calm (step_items sc n)) line ∙ restless
 
--- a site that is up is so meanwhile, and what can be read back is so
+-- a site that is up is so meanwhile
 pub up_meanwhile : {D : Type 0} (content : D → List ℕ) (image : D → List ℕ → Type 0) (meters : D → Meters)
     (sc : Scenario) (h now : List Entry) (site : ℕ) (state : State D) → Meanwhile site h now → IsIn content image meters sc h site state →
     IsIn content image meters sc now site state
 up_meanwhile content image meters sc h now site state m was =
     let P : List Entry → Type 0 = λ l. IsIn content image meters sc l site state in
     subst P (sym m.is) (in_others content image meters sc h m.others site state was m.of_others)
-
-pub back_meanwhile : (sc : Scenario) (h now : List Entry) (site : ℕ) → Meanwhile site h now → AllReadBack sc h site → AllReadBack sc now site
-back_meanwhile sc h now site m was =
-    let P : List Entry → Type 0 = λ l. AllReadBack sc l site in
-    subst P (sym m.is) (back_others sc h m.others site was m.of_others)
 
 -- and what a draft has is what it makes meanwhile
 pub made_meanwhile : (sc : Scenario) (h now : List Entry) (site : ℕ) (i : Input) (d : Draft) → Meanwhile site h now → IsMade sc h site i d → IsMade sc now site i d
@@ -387,10 +375,10 @@ full_told wire_fault.NoMemory between seen is full told = absurd cc
 
 -- a site that only made ready is up meanwhile
 pub still_up : {D : Type 0} {rose : List Record} (content : D → List ℕ) (image : D → List ℕ → Type 0) (meters : D → Meters)
-    (sc : Scenario) (h more : List Entry) (site : ℕ) (s new : SiteView) (l : LogState D) → Meanwhile site h more → IsUp content image meters sc h site s l rose →
-    IsAsBefore s new → IsUp content image meters sc more site new l rose
-still_up {D} {rose} content image meters sc h more site s new l m was is =
-    ready_up content image meters sc more site s new l (up_meanwhile content image meters sc h more site (Up s l rose) m was) is
+    (sc : Scenario) (h more : List Entry) (site : ℕ) (s new : SiteView) (l : LogState D) (logged : ℕ) → Meanwhile site h more → IsUp content image meters sc h site s l rose logged →
+    IsAsBefore s new → IsUp content image meters sc more site new l rose logged
+still_up {D} {rose} content image meters sc h more site s new l logged m was is =
+    ready_up content image meters sc more site s new l logged (up_meanwhile content image meters sc h more site (Up s l rose logged) m was) is
 
 -- the scenario stays
 pub keys_stay : (p q : APass) → IsPlayed (seen_by p) → HasSeenMore p q → (scenario_seen q ≡ scenario_seen p) × (most_of (seen_by q) ≡ most_of (seen_by p))

@@ -1,7 +1,9 @@
 -- The steps of some inputs, made and not yet entered.
-use Rattle.std.specs.Prelude.{◌≡◌, ◌+◌, ◌≤◌, ◌<◌, ◌++◌, ◌∷◌, [], ℕ, List, Result, Ok, Err, OnErr, OnOk, length, take}
+use Rattle.std.specs.Prelude.{◌≡◌, ◌≢◌, ◌+◌, ◌≤◌, ◌<◌, ◌++◌, ◌∷◌, [], ℕ, List, Option, Some, None, Result, Ok, Err, OnErr, OnOk, length, take}
 use Rattle.std.specs.List.{AllByRecursion as Each}
 use Rattle.e3_codec.specs.Fields.{AllCanBeReadBack}
+use Rattle.e3_disk.specs.Meters.{Meters}
+use Rattle.e3_log.specs.Stands.{LogState}
 use Rattle.e3_node.specs.Batches.{plain_steps, stepped}
 use Rattle.e3_node.specs.Several.{claims_for}
 use Rattle.e3_node.specs.Telling.{IsOwn}
@@ -9,6 +11,8 @@ use Rattle.e3_node.specs.declared.batching.Batch.{Batch}
 use Rattle.e3_node.specs.declared.fault.InputFault.{InputFault}
 use Rattle.e3_node.specs.declared.fault.InputFault.TheVariants as input_fault
 use Rattle.e3_site.specs.SiteView.{SiteView}
+use Rattle.e3_site_log.specs.Ends.{IsDue, IsShortIf, MayTurn}
+use Rattle.e3_site_log.specs.declared.writing.Short.{Short}
 use Rattle.e3_law_stands.specs.StandsAlike.{StandsAlike}
 use Rattle.e3_turn.specs.Passes.{GrewByOthers}
 use Rattle.e3_types.specs.Spelling.{spelling}
@@ -22,6 +26,7 @@ use Rattle.e3_wire.specs.Wires.{IsPlayed}
 use Rattle.e3_wire.specs.declared.marks.Mark.{Mark}
 use Rattle.e3_wire.specs.declared.marks.Mark.TheVariants as mark
 use Rattle.e3_world.specs.Legal.{records_by}
+use Rattle.e3_world.specs.Moves.{log_of}
 
 -- where a batch is made, behind this history and these marks, at a site that rose with these records and had counted so many
 -- inputs; and its inputs so far
@@ -34,9 +39,15 @@ pub record BatchAt : Type 0 where
   pub first : ℕ
   pub done : List Input
 
+-- the first of two, if there is one
+abbrev pub first_of : Option Short → Option Short → Option Short
+first_of (Some new) old = Some new
+first_of None old = old
+
 -- A batch has the steps of these inputs behind a history, and the site stands behind them. It counted no more inputs since
--- the first. Behind the marks of the history a place and the room of its packets are claimed for each.
-pub record IsBatch (sc : Scenario) (history : List Entry) (site : ℕ) (rose : List Record) (marks : List Mark) (first : ℕ) (done : List Input) (batch : Batch)
+-- the first. Behind the marks of the history a place and the room of its packets are claimed for each. The log is turned for it
+-- unless its frame has room.
+pub record IsBatch {D : Type 0} (meters : D → Meters) (on_disk : LogState D) (sc : Scenario) (history : List Entry) (site : ℕ) (rose : List Record) (marks : List Mark) (first : ℕ) (done : List Input) (batch : Batch)
     (s : SiteView) (now : List Mark) : Type 0 where
   pub steps_are : batch.steps.items ≡ plain_steps sc history site done
   pub records_are : batch.records ≡ records_by sc history site done
@@ -45,6 +56,9 @@ pub record IsBatch (sc : Scenario) (history : List Entry) (site : ℕ) (rose : L
   pub stands : StandsAlike sc (stepped sc history site done) site rose s
   pub inputs : s.inputs ≤ first + length done
   pub claimed : now ≡ marks ++ claims_for (plain_steps sc history site done)
+  pub short : IsShortIf site (log_of sc history site) batch.short
+  pub may : MayTurn on_disk batch.short
+  pub due : records_by sc history site done ≢ [] → IsDue meters on_disk (log_of sc history site) batch.short (length batch.body)
 
 -- want of memory is the only refusal
 abbrev pub OnlyForMemory : Result (Unit {0}) InputFault → Type 0
@@ -53,12 +67,12 @@ OnlyForMemory (Err input_fault.NoMemory) = Unit {0}
 OnlyForMemory (Err fault) = ⊥
 
 -- a batch made there
-abbrev pub IsBatchAt : BatchAt → Batch → SiteView → List Mark → Type 0
-IsBatchAt at batch s now = IsBatch at.scenario at.history at.site at.rose at.marks at.first at.done batch s now
+abbrev pub IsBatchAt : {D : Type 0} → (D → Meters) → LogState D → BatchAt → Batch → SiteView → List Mark → Type 0
+IsBatchAt meters on_disk at batch s now = IsBatch meters on_disk at.scenario at.history at.site at.rose at.marks at.first at.done batch s now
 
 -- What others put is behind what the pass had seen. Behind that all falls that was promised to the site, and a batch has the
 -- first of the inputs, all of them where none was refused.
-pub record HasPlanned (p : APass) (site : ℕ) (rose : List Record) (first : ℕ) (inputs : List Input) (answer : Result (Unit {0}) InputFault) (batch : Batch) (s : SiteView)
+pub record HasPlanned {D : Type 0} (meters : D → Meters) (on_disk : LogState D) (p : APass) (site : ℕ) (rose : List Record) (first : ℕ) (inputs : List Input) (answer : Result (Unit {0}) InputFault) (batch : Batch) (s : SiteView)
     (now : List Mark) : Type 0 where
   pub between : List Mark
   pub grew : GrewByOthers belongs p between
@@ -67,4 +81,4 @@ pub record HasPlanned (p : APass) (site : ℕ) (rose : List Record) (first : ℕ
   pub within : count ≤ length inputs
   pub all : OnOk answer (count ≡ length inputs)
   pub short : OnErr answer (count < length inputs)
-  pub made : IsBatch (scenario_of between) (entries_of between) site rose (between ++ mark.Freed site ∷ []) first (take count inputs) batch s now
+  pub made : IsBatch meters on_disk (scenario_of between) (entries_of between) site rose (between ++ mark.Freed site ∷ []) first (take count inputs) batch s now

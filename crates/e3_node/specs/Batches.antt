@@ -2,22 +2,26 @@
 use Rattle.std.specs.Prelude.{◌≡◌, ◌≢◌, ◌⊎◌, ◌+◌, ◌<◌, ◌++◌, ◌∷◌, [], ℕ, List, Result, Ok, Err, length, map, take}
 use Rattle.e3_disk.specs.Meters.{Meters}
 use Rattle.e3_log.specs.Frames.{frames}
-use Rattle.e3_node.specs.Bodies.{body_of}
-use Rattle.e3_node.specs.Ends.{EndsAt, IsReason, Takes, calls_for}
+use Rattle.e3_law_brief.specs.Brief.{brief}
+use Rattle.e3_log.specs.Regions.{start}
+use Rattle.e3_log.specs.declared.region.Region.{Region}
 use Rattle.e3_node.specs.NodeView.{disk_of, end_of}
 use Rattle.e3_node.specs.Turns.{Meanwhile}
 use Rattle.e3_node.specs.declared.fault.InputFault.{InputFault}
 use Rattle.e3_node.specs.declared.fault.InputFault.TheVariants as input_fault
 use Rattle.e3_node.specs.declared.state.State.{State}
+use Rattle.e3_site_log.specs.Bodies.{body_of}
+use Rattle.e3_site_log.specs.Ends.{IsReason, Takes, calls_for, size_of}
 use Rattle.e3_types.specs.declared.entries.Act.TheVariants.{Fall, Step}
 use Rattle.e3_types.specs.declared.entries.Entry.{Entry}
 use Rattle.e3_types.specs.declared.entries.Input.{Input}
 use Rattle.e3_types.specs.declared.entries.Why.{Why}
+use Rattle.e3_types.specs.declared.records.Record.{Record}
 use Rattle.e3_types.specs.declared.scenarios.Scenario.{Scenario}
 use Rattle.e3_world.specs.declared.lives.Made.{Made}
 use Rattle.e3_world.specs.Items.{inputs_of}
 use Rattle.e3_world.specs.Legal.{entry_of, made_by, records_by}
-use Rattle.e3_world.specs.Moves.{log_size, moves_of, plain}
+use Rattle.e3_world.specs.Moves.{log_of, plain}
 
 -- the history with the steps of these inputs, each behind those before it
 abbrev pub stepped : Scenario → List Entry → ℕ → List Input → List Entry
@@ -48,23 +52,28 @@ pub record FellOverAll (sc : Scenario) (history : List Entry) (site : ℕ) (inpu
   pub some : records_by sc history site inputs ≢ []
   pub entered : more ≡ history ++ fall_over sc history site inputs why ∷ []
 
+-- The frame of these records ends behind those that ended there, or behind the brief of this log at the begin of a region.
+abbrev pub IsOneFrame : List Record → List Record → ℕ → ℕ → ℕ → Type 0
+IsOneFrame log records old new capacity =
+    (new ≡ old + length (frames (body_of records)))
+    ⊎ ((region : Region) × (new ≡ start capacity region + 10 + size_of (brief log) + length (frames (body_of records))))
+
 module _ {D : Type 0} (meters : D → Meters) where
-  -- The site made the steps of these inputs behind what others entered: their records are one frame behind those before it,
-  -- or none where they record nothing, and it took its calls of an arm.
+  -- The site made the steps of these inputs behind what others entered: their records are one frame behind those before it, or
+  -- behind the brief of the log that was turned for it; or none where they record nothing. It took its calls of an arm.
   pub record HasSteppedAll (sc : Scenario) (before more : List Entry) (site : ℕ) (inputs : List Input) (old new : State D) : Type 0 where
     pub now : List Entry
     pub meanwhile : Meanwhile site before now
     pub entered : more ≡ stepped sc now site inputs
     pub takes : Takes (calls_for (records_by sc before site inputs)) (meters (disk_of old)) (meters (disk_of new))
-    pub frame : end_of new ≡ end_of old + length (frames (body_of (records_by sc before site inputs)))
+    pub frame : IsOneFrame (log_of sc before site) (records_by sc before site inputs) (end_of old) (end_of new) (meters (disk_of old)).capacity
 
   -- or it fell over them, and the reason is true
   pub record HasFallenOverAll (sc : Scenario) (before more : List Entry) (site : ℕ) (inputs : List Input) (why : Why) (old : State D) (disk : D) : Type 0 where
     pub now : List Entry
     pub meanwhile : Meanwhile site before now
     pub fell : FellOverAll sc now site inputs why more
-    pub reason : IsReason why (log_size (moves_of sc before site)) (records_by sc before site inputs) (meters (disk_of old)) (meters disk)
-    pub need : EndsAt (end_of old) (records_by sc before site inputs) why
+    pub reason : IsReason why (log_of sc before site) (records_by sc before site inputs) (meters (disk_of old)) (meters disk)
 
   -- It did so with the first of these inputs alone: memory was wanting for the one behind those.
   abbrev pub EndedShort : Scenario → List Entry → List Entry → ℕ → List Input → State D → State D → Type 0

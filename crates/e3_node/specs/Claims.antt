@@ -39,16 +39,16 @@ abbrev pub MovesStay : Type 0
 MovesStay = (sc : Scenario) (site : ℕ) (h more : List Entry) → AreOthers site more → moves_of sc (h ++ more) site ≡ moves_of sc h site
 
 -- so does a disk
-abbrev pub DisksKept : {D : Type 0} → (D → List ℕ → Type 0) → Type 0
-DisksKept {D} image =
-    (sc : Scenario) (h : List Entry) (e : Entry) (site : ℕ) (disk : D) → DiskStands sc h site (image disk) →
-    e.owner ≢ site → DiskStands sc (h ++ e ∷ []) site (image disk)
+abbrev pub DisksKept : {D : Type 0} → (D → List ℕ → Type 0) → (D → Meters) → Type 0
+DisksKept {D} image meters =
+    (sc : Scenario) (h : List Entry) (e : Entry) (site : ℕ) (disk : D) → DiskStands sc h site (meters disk).capacity (image disk) →
+    e.owner ≢ site → DiskStands sc (h ++ e ∷ []) site (meters disk).capacity (image disk)
 
 -- the disk of a node that stands for a history stands for its site there
 abbrev pub NodesDisks : {D : Type 0} → (D → List ℕ) → (D → List ℕ → Type 0) → (D → Meters) → Type 0
 NodesDisks {D} content image meters =
     (sc : Scenario) (h : List Entry) (node : NodeView D) → NodeStands content image meters sc h node →
-    DiskStands sc h node.site (image (disk_of node.state))
+    DiskStands sc h node.site (meters (disk_of node.state)).capacity (image (disk_of node.state))
 
 -- it is up exactly where the history has its site up
 abbrev pub NodesUp : {D : Type 0} → (D → List ℕ) → (D → List ℕ → Type 0) → (D → Meters) → Type 0

@@ -2,8 +2,7 @@
 use Rattle.std.specs.Prelude.{◌≡◌, ◌≤◌, ◌<◌, ℕ, List, Option, Some, None, Result, Ok, Err, OnErr, OnOk, length, take}
 use Rattle.e3_disk.specs.Meters.{Keeps, Meters}
 use Rattle.e3_node.specs.Batches.{HasFallenOverAll, HasSteppedAll}
-use Rattle.e3_node.specs.Bodies.{AllReadBack, DiskHolds}
-use Rattle.e3_node.specs.NodeStands.{IsIn}
+use Rattle.e3_node.specs.NodeStands.{IsFallen, IsIn}
 use Rattle.e3_node.specs.NodeView.{disk_of}
 use Rattle.e3_node.specs.declared.fault.InputFault.{InputFault}
 use Rattle.e3_node.specs.declared.fault.InputFault.TheVariants as input_fault
@@ -25,7 +24,7 @@ module _ {D : Type 0} (content : D → List ℕ) (image : D → List ℕ → Typ
   Came sc before more site done old new None =
       HasSteppedAll meters sc before more site done old new × IsIn content image meters sc more site new
   Came sc before more site done old new (Some why) =
-      HasFallenOverAll meters sc before more site done why old (disk_of new) × DiskHolds sc more site (image (disk_of new))
+      HasFallenOverAll meters sc before more site done why old (disk_of new) × IsFallen image meters sc more site new
 
   -- It did so with as many inputs as were not refused.
   pub record EndsWith (sc : Scenario) (before more : List Entry) (site : ℕ) (inputs : List Input) (old new : State D)
@@ -35,7 +34,6 @@ module _ {D : Type 0} (content : D → List ℕ) (image : D → List ℕ → Typ
     pub all : OnOk refused (count ≡ length inputs)
     pub short : OnErr refused (count < length inputs)
     pub came : Came sc before more site (take count inputs) old new fell
-    pub back : AllReadBack sc more site
     pub keeps : Keeps (meters (disk_of old)) (meters (disk_of new))
 
   -- a site that was down did nothing
@@ -43,7 +41,6 @@ module _ {D : Type 0} (content : D → List ℕ) (image : D → List ℕ → Typ
     pub history : more ≡ before
     pub state : new ≡ old
     pub stands : IsIn content image meters sc more site new
-    pub back : AllReadBack sc more site
     pub keeps : Keeps (meters (disk_of old)) (meters (disk_of new))
     pub none : fell ≡ None
 

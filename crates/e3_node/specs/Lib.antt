@@ -1,5 +1,4 @@
 pub mod Bodies
-pub mod Counting
 pub mod NodeView
 pub mod NodeStands
 pub mod SharedStands
@@ -14,3 +13,5 @@ pub mod Batches
 pub mod Batched
 pub mod Ending
 pub mod Places
+pub mod Briefing
+pub mod Told

@@ -4,16 +4,15 @@ use Rattle.std.specs.List.{flat_map}
 use Rattle.e3_codec.specs.Fields.{AllCanBeReadBack}
 use Rattle.e3_codec.specs.Places.{FirstBad}
 use Rattle.e3_disk.specs.Meters.{Meters, HasFailed}
-use Rattle.e3_log.specs.Frames.{frames}
 use Rattle.e3_log.specs.declared.fault.OpenCause.{OpenCause}
 use Rattle.e3_log.specs.declared.fault.OpenCause.TheVariants as causes
-use Rattle.e3_node.specs.Bodies.{AllReadBack, DiskHolds, IsRead, bodies_in, moves_with}
-use Rattle.e3_node.specs.Counting.{counted}
-use Rattle.e3_node.specs.Ends.{EndsAt, IsReason, Takes}
+use Rattle.e3_node.specs.Bodies.{DiskTells, IsRead, log_with}
 use Rattle.e3_node.specs.NodeStands.{IsUp}
 use Rattle.e3_node.specs.declared.fault.RiseFault.{RiseFault}
 use Rattle.e3_node.specs.declared.fault.RiseFault.TheVariants as rise_fault
 use Rattle.e3_node.specs.declared.readying.Readied.{Readied}
+use Rattle.e3_node.specs.declared.readying.Unready.{Unready}
+use Rattle.e3_node.specs.declared.readying.Unready.TheVariants as unready
 use Rattle.e3_node.specs.declared.readying.Wish.{Wish}
 use Rattle.e3_node.specs.declared.rising.Raised.{Raised}
 use Rattle.e3_node.specs.declared.rising.Raised.TheVariants.{Rose, Failed, Missed, NoMemory, Foreign}
@@ -22,6 +21,7 @@ use Rattle.e3_node.specs.declared.state.State.TheVariants.{Down, Up}
 use Rattle.e3_log.specs.Stands.{LogState}
 use Rattle.e3_site.specs.Rebuilt.{IsRebuilt, StandsForEach}
 use Rattle.e3_site.specs.SiteView.{SiteView}
+use Rattle.e3_site_log.specs.Ends.{IsReason, Takes}
 use Rattle.e3_types.specs.Spelling.{spelling}
 use Rattle.e3_types.specs.declared.entries.Act.TheVariants as act
 use Rattle.e3_types.specs.declared.entries.Entry.{Entry}
@@ -38,14 +38,13 @@ use Rattle.e3_world.specs.Given.{IsGiven}
 use Rattle.e3_world.specs.Legal.{IsLegal, IsRise, IsRising}
 use Rattle.e3_world.specs.Logs.{logged_inc}
 use Rattle.e3_law_brief.specs.Orderly.{IsOrderly}
-use Rattle.e3_world.specs.Moves.{log_by, log_of, log_size, rise_records, rows_at}
+use Rattle.e3_world.specs.Moves.{rise_records, rows_at}
 
--- what a rise takes with it to the disk is this site's, and its log has so many records
-pub record IsWish (site : ℕ) (weights : List ℕ) (rows : List Row) (logged : ℕ) (wish : Wish) : Type 0 where
+-- what a rise takes with it to the disk is this site's
+pub record IsWish (site : ℕ) (weights : List ℕ) (rows : List Row) (wish : Wish) : Type 0 where
   pub site_is : wish.site ≡ site
   pub weights_are : wish.weights ≡ weights
   pub rows_are : wish.rows ≡ rows
-  pub logged_is : wish.logged ≡ logged
 
 -- the birth, where the log is empty
 abbrev pub born_by : Wish → List Record → List Record
@@ -56,18 +55,20 @@ born_by wish (r ∷ rs) = []
 abbrev pub records_by : Wish → ℕ → List Record → List Record
 records_by wish inc records = born_by wish records ++ log.Inc inc ∷ []
 
--- A rise over a disk with these bodies that is ready to be made: what they spell is kept, all of it.
-pub record IsReady (wish : Wish) (bodies : List (List ℕ)) (ready : Readied) : Type 0 where
+-- A rise over a disk with these bodies that is ready to be made: what they spell is kept, all of it. A number tells whether a
+-- tail is in it.
+pub record IsReady (wish : Wish) (logged : ℕ) (bodies : List (List ℕ)) (ready : Readied) : Type 0 where
   pub read : List Record
   pub back : AllCanBeReadBack wish.site read
   pub spelled : flat_map (λ body. body) bodies ≡ spelling read
   pub few : length read < 2 ^ 64
-  pub kept_is : ready.kept ≡ nat_lt wish.logged (length read)
+  pub kept_is : ready.kept ≡ nat_lt logged (length read)
   pub inc_is : ready.inc ≡ suc (logged_inc read)
   pub records_are : ready.records ≡ records_by wish ready.inc read
   pub body_is : ready.body ≡ spelling ready.records
   pub fits : AllCanBeReadBack wish.site ready.records
   pub rose_is : ready.rose ≡ read ++ ready.records
+  pub read_is : ready.read ≡ length read
   pub risen : IsRebuilt wish.site (read ++ ready.records) ready.up
   pub stands : StandsForEach (read ++ ready.records) ready.up
 
@@ -93,7 +94,7 @@ pub record IsDisordered (wish : Wish) (bodies : List (List ℕ)) : Type 0 where
 abbrev pub IsForeign : Wish → List (List ℕ) → Type 0
 IsForeign wish bodies = SomeIsBad wish.site bodies ⊎ IsDisordered wish bodies
 
--- In this history the site may rise, it has these weights and first rows and so many records, and they can be read back.
+-- In this history the site may rise, and it has these weights and first rows.
 pub record MayRise (sc : Scenario) (history : List Entry) (wish : Wish) : Type 0 where
   pub given : IsGiven sc
   pub legal : IsLegal sc history
@@ -101,8 +102,6 @@ pub record MayRise (sc : Scenario) (history : List Entry) (wish : Wish) : Type 0
   pub some : 1 ≤ wish.site
   pub weights_are : wish.weights ≡ sc.weights
   pub rows_are : wish.rows ≡ rows_at wish.site sc.rows
-  pub logged_is : wish.logged ≡ counted (length (log_of sc history wish.site))
-  pub back : AllReadBack sc history wish.site
 
 -- the entry of a rise, and of a failed one
 abbrev pub rise_of : ℕ → Bool → ℕ → Entry
@@ -113,30 +112,26 @@ rise_fall_of site kept inc why = record { owner = site; act = act.RiseFall kept 
 
 -- the site rose over a disk: it stands for the history with its rise
 pub record HasRaised {D : Type 0} (content : D → List ℕ) (image : D → List ℕ → Type 0) (meters : D → Meters) (sc : Scenario)
-    (history : List Entry) (site : ℕ) (old : D) (s : SiteView) (l : LogState D) (rose : List Record) (kept : Bool) (inc : ℕ) : Type 0 where
+    (history : List Entry) (site : ℕ) (old : D) (s : SiteView) (l : LogState D) (rose : List Record) (logged : ℕ) (kept : Bool) (inc : ℕ) : Type 0 where
   pub allowed : IsRise sc history site kept inc
-  pub read : IsRead sc history site kept (image old)
-  pub up : IsUp content image meters sc (history ++ rise_of site kept inc ∷ []) site s l rose
-  pub back : AllReadBack sc (history ++ rise_of site kept inc ∷ []) site
+  pub read : IsRead sc history site (meters old).capacity kept (image old)
+  pub up : IsUp content image meters sc (history ++ rise_of site kept inc ∷ []) site s l rose logged
 
 -- the rise failed: the disk stands for the history with the failed rise
 pub record HasNotRaised {D : Type 0} (image : D → List ℕ → Type 0) (meters : D → Meters) (sc : Scenario)
-    (history : List Entry) (site : ℕ) (old new : D) (kept : Bool) (inc : ℕ) (why : Why) : Type 0 where
+    (history : List Entry) (site : ℕ) (old new : D) (logged : ℕ) (kept : Bool) (inc : ℕ) (why : Why) : Type 0 where
   pub allowed : IsRise sc history site kept inc
-  pub read : IsRead sc history site kept (image old)
-  pub stands : DiskHolds sc (history ++ rise_fall_of site kept inc why ∷ []) site (image new)
-  pub back : AllReadBack sc (history ++ rise_fall_of site kept inc why ∷ []) site
-  pub reason : IsReason why (log_size (moves_with sc history site kept)) (rise_records sc site inc (log_by (moves_with sc history site kept)))
-      (meters old) (meters new)
-  pub need : EndsAt (length (frames (bodies_in read.reads.lists))) (rise_records sc site inc (log_by (moves_with sc history site kept))) why
+  pub read : IsRead sc history site (meters old).capacity kept (image old)
+  pub stands : DiskTells sc (history ++ rise_fall_of site kept inc why ∷ []) site (meters new).capacity logged (image new)
+  pub reason : IsReason why (log_with sc history site kept) (rise_records sc site inc (log_with sc history site kept)) (meters old) (meters new)
 
 -- what a rise makes of a disk; a log that is not the site's comes of no disk that stands
 abbrev pub RiseMakes : {D : Type 0} → (D → List ℕ) → (D → List ℕ → Type 0) → (D → Meters) → Scenario → List Entry → ℕ → D → State D → Raised → Type 0
-RiseMakes content image meters sc history site old (Up s l rose) (Rose kept inc) = HasRaised content image meters sc history site old s l rose kept inc
-RiseMakes content image meters sc history site old (Down new) (Failed kept inc why) = HasNotRaised image meters sc history site old new kept inc why
-RiseMakes content image meters sc history site old (Down new) Missed =
-    DiskHolds sc history site (image new) × HasFailed (meters old).faults (meters new).faults
-RiseMakes content image meters sc history site old (Down new) NoMemory = DiskHolds sc history site (image new)
+RiseMakes content image meters sc history site old (Up s l rose logged) (Rose kept inc) = HasRaised content image meters sc history site old s l rose logged kept inc
+RiseMakes content image meters sc history site old (Down new logged) (Failed kept inc why) = HasNotRaised image meters sc history site old new logged kept inc why
+RiseMakes content image meters sc history site old (Down new logged) Missed =
+    DiskTells sc history site (meters new).capacity logged (image new) × HasFailed (meters old).faults (meters new).faults
+RiseMakes content image meters sc history site old (Down new logged) NoMemory = DiskTells sc history site (meters new).capacity logged (image new)
 RiseMakes content image meters sc history site old _ _ = ⊥
 
 -- what it takes of an arm, where its frame takes so many calls and what is before it so many
@@ -150,6 +145,11 @@ abbrev pub raised_of : OpenCause → Raised
 raised_of causes.Failed = Missed
 raised_of (causes.Damaged at) = Foreign
 raised_of causes.NoMemory = NoMemory
+
+-- what a log that was not read does, or what it wanted memory for
+abbrev pub raised_by : Unready → Raised
+raised_by unready.NoMemory = NoMemory
+raised_by unready.Foreign = Foreign
 
 -- the entries that come of a rise
 abbrev pub entered_by : ℕ → Raised → List Entry

@@ -4,9 +4,8 @@ use Rattle.atomic_table.specs.Seated.{TableId}
 use Rattle.e3_disk.specs.Meters.{Meters}
 use Rattle.e3_law_local.specs.Least.{AreOfSites}
 use Rattle.e3_law_local.specs.Others.{AreOthers}
-use Rattle.e3_node.specs.Bodies.{AllReadBack, DiskHolds}
 use Rattle.e3_node.specs.Ends.{FellOver}
-use Rattle.e3_node.specs.NodeStands.{IsIn}
+use Rattle.e3_node.specs.NodeStands.{IsFallen, IsIn}
 use Rattle.e3_node.specs.NodeView.{disk_of}
 use Rattle.e3_node.specs.declared.fault.InputFault.{InputFault}
 use Rattle.e3_node.specs.declared.fault.InputFault.TheVariants.{Fell}
@@ -60,22 +59,19 @@ module _ {D : Type 0} (content : D → List ℕ) (image : D → List ℕ → Typ
     pub meanwhile : Meanwhile site before now
     pub entered : more ≡ now ++ entry_of sc now site i ∷ []
     pub stands : IsIn content image meters sc more site new
-    pub back : AllReadBack sc more site
 
   -- it fell over the input
   pub record HasFallen (sc : Scenario) (before more : List Entry) (site : ℕ) (i : Input) (why : Why) (new : State D) : Type 0 where
     pub now : List Entry
     pub meanwhile : Meanwhile site before now
     pub fell : FellOver sc now site i why more
-    pub stands : DiskHolds sc more site (image (disk_of new))
-    pub back : AllReadBack sc more site
+    pub stands : IsFallen image meters sc more site new
 
   -- or it did nothing
   pub record IsStill (sc : Scenario) (before more : List Entry) (site : ℕ) (old new : State D) : Type 0 where
     pub meanwhile : Meanwhile site before more
     pub disk : disk_of new ≡ disk_of old
     pub stands : IsIn content image meters sc more site new
-    pub back : AllReadBack sc more site
 
   -- how an input of the site ended
   abbrev pub EndsSo : Scenario → List Entry → List Entry → ℕ → Input → State D → State D → Result (Unit {0}) InputFault → Type 0

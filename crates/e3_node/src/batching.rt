@@ -1,9 +1,9 @@
 // Several packets of a site that is up, by its worker: their steps have one frame.
-ghost use Rattle.std.specs.Prelude.{◌≡◌, ◌≤◌, ◌<◌, ◌+◌, ◌++◌, ◌∷◌, [], ℕ, length, take, fold, vec_capacity, IfOk, OnOk, OnErr, List as Items};
+ghost use Rattle.std.specs.Prelude.{◌≡◌, ◌≤◌, ◌<◌, ◌+◌, ◌++◌, ◌∷◌, [], None, false, ℕ, length, take, fold, vec_capacity, IfOk, OnOk, OnErr, List as Items};
 ghost use Rattle.e3_law_stands.specs.StandsAlike.{IsLogInOrder, StandsAlike};
-ghost use Rattle.e3_node.specs.Batched.{BatchAt, HasPlanned, IsBatchAt, OnlyForMemory};
+ghost use Rattle.e3_node.specs.Batched.{BatchAt, HasPlanned, IsBatchAt, OnlyForMemory, first_of};
 ghost use Rattle.e3_node.specs.Batches.{stepped};
-ghost use Rattle.e3_node.specs.Counting.{counted_by};
+ghost use Rattle.e3_node.specs.Briefing.{BriefsAreTold};
 ghost use Rattle.e3_node.specs.Several.{AreOwned, MayEnterAll, marks_in};
 ghost use Rattle.e3_node.specs.Turns.{history_seen, scenario_seen};
 ghost use Rattle.e3_turn.specs.Passes.{GrewByOthers, IsIdle, Owns, SameOwners, seen_by};
@@ -13,23 +13,27 @@ ghost use Rattle.e3_wire.specs.declared.marks.Mark.{Mark};
 ghost use Rattle.e3_world.specs.Moves.{log_of};
 
 use crate::InputFault;
-use crate::counting::{Count, count_on};
+use crate::briefing::{shorten_batch, spare_for};
 use crate::drafts::prepare;
 use crate::reading::add_records;
 use crate::stepping::{room_for, step_of};
+use e3_disk::Disk;
+use e3_log::Log;
 use e3_site::Site;
+use e3_site_log::Short;
 use e3_types::{Entry, Input, List, NoMemory, Record};
 use e3_wire::{Shared, Wire, WirePass};
 use std::alloc::Global;
 use std::sync::Wait;
 
-/// The steps of a batch, made and not yet entered: their entries without numbers for their packets, all that they record, and
-/// the spelling of that.
+/// The steps of a batch, made and not yet entered: their entries without numbers for their packets, all that they record, the
+/// spelling of that, and what the log is turned to for it, if it is.
 #[derive(Drop)]
 pub(crate) struct Batch {
     pub steps: Vec<Entry>,
     pub records: List<Record>,
     pub body: List<u8>,
+    pub short: Option<Short>,
 }
 
 // No batch has more than eight inputs, so what is recorded is copied from one list into a longer one.
@@ -66,27 +70,39 @@ fn reserve(steps: &mut Vec<Entry>) -> Result<(), NoMemory>
     }
 }
 
+fn set_short(batch: &mut Batch, short: Option<Short>)
+    ensures { batch.new ≡ record batch.old { short = first_of short batch.old.short } }
+{
+    if short.is_some() {
+        batch.short = short;
+    }
+}
+
 // One input more: it is planned behind those before it, and its place, which is left, is claimed. All memory is taken before
 // the site does the step; behind that nothing is refused.
-fn add_one(
+fn add_one<D: Disk>(
     shared: &mut Shared,
     number: u32,
     site: &mut Site,
     rose: &List<Record>,
+    log: &Log<D>,
+    spare: u64,
     batch: &mut Batch,
     input: &Input,
 ) -> Result<(), InputFault>
     ghost at: { BatchAt }
     requires owner { number ≤ last_owner shared.old }
     requires site { number ≡ at.site }
-    requires made { IsBatchAt at batch.old site.old shared.old }
+    requires made { IsBatchAt D.meters log.now at batch.old site.old shared.old }
+    requires sound { log.now.failed ≡ false }
     requires order { IsLogInOrder at.site (log_of at.scenario (stepped at.scenario at.history at.site at.done) at.site) }
+    requires brief { BriefsAreTold at.scenario (stepped at.scenario at.history at.site at.done) at.site at.rose }
     requires left { used_of shared.old < most_of shared.old }
     ensures owners { last_owner shared.new ≡ last_owner shared.old }
     ensures most { most_of shared.new ≡ most_of shared.old }
     ensures used { used_of shared.new ≤ used_of shared.old + 1 }
-    ensures added { OnOk result (IsBatchAt (record at { done = at.done ++ input.now ∷ [] }) batch.new site.new shared.new) }
-    ensures kept { OnErr result (IsBatchAt at batch.new site.new shared.new) }
+    ensures added { OnOk result (IsBatchAt D.meters log.now (record at { done = at.done ++ input.now ∷ [] }) batch.new site.new shared.new) }
+    ensures kept { OnErr result (IsBatchAt D.meters log.now at batch.new site.new shared.new) }
     ensures refused { OnlyForMemory result }
 {
     let alloc = shared.alloc();
@@ -94,36 +110,50 @@ fn add_one(
     let room = room_for(draft.plan.outs());
     let records = both_records(alloc, batch.records.as_slice(), draft.plan.records())?;
     let body = both_bodies(alloc, batch.body.as_slice(), draft.body.as_slice())?;
+    let short = shorten_batch(
+        alloc,
+        site,
+        log,
+        batch,
+        records.as_slice(),
+        body.len(),
+        spare,
+    )?;
     reserve(&mut batch.steps)?;
     shared.claim(number, room)?;
     let step = step_of(number, input.copy(), site.apply(draft.plan));
     batch.steps.push_reserved(step);
     batch.records = records;
     batch.body = body;
+    set_short(batch, short);
     Ok(())
 }
 
 // These inputs, one behind the other, up to the first that is refused. A place is left for each.
-fn add_all(
+fn add_all<D: Disk>(
     shared: &mut Shared,
     number: u32,
     site: &mut Site,
     rose: &List<Record>,
+    log: &Log<D>,
     batch: &mut Batch,
     inputs: &[Input],
 ) -> Result<(), InputFault>
     ghost at: { BatchAt }
     requires owner { number ≤ last_owner shared.old }
     requires site { number ≡ at.site }
-    requires made { IsBatchAt (record at { done = [] }) batch.old site.old shared.old }
+    requires made { IsBatchAt D.meters log.now (record at { done = [] }) batch.old site.old shared.old }
+    requires sound { log.now.failed ≡ false }
     requires orders { (n : ℕ) → n ≤ length inputs.now → IsLogInOrder at.site (log_of at.scenario (stepped at.scenario at.history at.site (take n inputs.now)) at.site) }
+    requires briefs { (n : ℕ) → n ≤ length inputs.now → BriefsAreTold at.scenario (stepped at.scenario at.history at.site (take n inputs.now)) at.site at.rose }
     requires left { used_of shared.old + length inputs.now ≤ most_of shared.old }
     ensures added { (n : ℕ) × (n ≤ length inputs.now) × OnOk result (n ≡ length inputs.now) × OnErr result (n < length inputs.now)
-        × IsBatchAt (record at { done = take n inputs.now }) batch.new site.new shared.new }
+        × IsBatchAt D.meters log.now (record at { done = take n inputs.now }) batch.new site.new shared.new }
     ensures refused { OnlyForMemory result }
 {
+    let spare = spare_for(site, inputs);
     for input in inputs {
-        add_one(shared, number, site, rose, batch, input)?;
+        add_one(shared, number, site, rose, log, spare, batch, input)?;
     }
     Ok(())
 }
@@ -131,13 +161,14 @@ fn add_all(
 /// In one turn, all that is promised to the site is freed, and the steps of these inputs are made, up to the first that is
 /// refused, with a place claimed for each. So many places were promised that no claim is refused for a full history.
 /// The records that the site rose with are passed on for the proof alone.
-pub(crate) fn plan_all<R: Wait>(
+pub(crate) fn plan_all<R: Wait, D: Disk>(
     rt: &R,
     wire: &Wire,
     pass: &mut WirePass,
     number: u32,
     site: &mut Site,
     rose: &List<Record>,
+    log: &Log<D>,
     batch: &mut Batch,
     inputs: &[Input],
 ) -> Result<(), InputFault>
@@ -148,42 +179,37 @@ pub(crate) fn plan_all<R: Wait>(
     requires stands { StandsAlike (scenario_seen pass.old) (history_seen pass.old) number rose.now site.old }
     requires orders { (marks : Items Mark) → GrewByOthers belongs pass.old marks → IsPlayed marks → (n : ℕ) → n ≤ length inputs.now →
         IsLogInOrder number (log_of (scenario_of marks) (stepped (scenario_of marks) (entries_of marks) number (take n inputs.now)) number) }
-    requires empty { (batch.old.steps.items ≡ []) × (batch.old.records ≡ []) × (batch.old.body ≡ []) }
+    requires briefs { (marks : Items Mark) → GrewByOthers belongs pass.old marks → IsPlayed marks → (n : ℕ) → n ≤ length inputs.now →
+        BriefsAreTold (scenario_of marks) (stepped (scenario_of marks) (entries_of marks) number (take n inputs.now)) number rose.now }
+    requires empty { (batch.old.steps.items ≡ []) × (batch.old.records ≡ []) × (batch.old.body ≡ []) × (batch.old.short ≡ None) }
+    requires sound { log.now.failed ≡ false }
     requires some { 1 ≤ length inputs.now }
     requires places { length inputs.now ≤ (note_of number (seen_by pass.old)).places }
     ensures idle { IsIdle wire.now pass.new }
     ensures same { SameOwners pass.old pass.new }
     ensures played { IsPlayed (seen_by pass.new) }
-    ensures planned { HasPlanned pass.old number rose.now site.old.inputs inputs.now result batch.new site.new (seen_by pass.new) }
+    ensures planned { HasPlanned D.meters log.now pass.old number rose.now site.old.inputs inputs.now result batch.new site.new (seen_by pass.new) }
     ensures refused { OnlyForMemory result }
 {
     let mut shared = wire.take(rt, pass);
     shared.free(number);
-    let added = add_all(&mut shared, number, site, rose, batch, inputs);
+    let added = add_all(&mut shared, number, site, rose, log, batch, inputs);
     wire.put(pass, shared);
     added
 }
 
 // The steps are entered, one behind the other.
-fn enter_all(shared: &mut Shared, count: &mut Count, steps: Vec<Entry>)
+fn enter_all(shared: &mut Shared, steps: Vec<Entry>)
     requires { MayEnterAll shared.old steps.items }
     ensures entered { shared.new ≡ shared.old ++ marks_in (entries_of shared.old) steps.items }
-    ensures counted { count.new ≡ fold (λ c e. counted_by c e.act) count.old steps.items }
 {
     for step in steps {
-        count_on(count, &step.act);
         shared.enter(step);
     }
 }
 
 /// In one turn, steps of the site of a pass are entered: nothing of others comes between them.
-pub(crate) fn enter_steps<R: Wait>(
-    rt: &R,
-    wire: &Wire,
-    pass: &mut WirePass,
-    count: &mut Count,
-    steps: Vec<Entry>,
-)
+pub(crate) fn enter_steps<R: Wait>(rt: &R, wire: &Wire, pass: &mut WirePass, steps: Vec<Entry>)
     requires idle { IsIdle wire.now pass.old }
     requires owned { AreOwned pass.old steps.items }
     requires may { (marks : Items Mark) → GrewByOthers belongs pass.old marks → IsPlayed marks → MayEnterAll marks steps.items }
@@ -192,9 +218,8 @@ pub(crate) fn enter_steps<R: Wait>(
     ensures played { IsPlayed (seen_by pass.new) }
     ensures entered { (between : Items Mark) × GrewByOthers belongs pass.old between × IsPlayed between
         × (seen_by pass.new ≡ between ++ marks_in (entries_of between) steps.items) }
-    ensures counted { count.new ≡ fold (λ c e. counted_by c e.act) count.old steps.items }
 {
     let mut shared = wire.take(rt, pass);
-    enter_all(&mut shared, count, steps);
+    enter_all(&mut shared, steps);
     wire.put(pass, shared);
 }

@@ -3,7 +3,7 @@
 #![tactic(auto)]
 
 mod batching;
-mod counting;
+mod briefing;
 mod drafts;
 mod entering;
 mod fault;
@@ -17,9 +17,11 @@ mod state;
 mod stepping;
 mod taking;
 mod turning;
-mod writing;
 
 pub use fault::{CutFault, InputFault, RiseFault};
-pub use law::{a_node_tells_of_its_disk, other_entries_keep_nodes, others_leave_nodes};
+pub use law::{
+    a_node_tells_of_its_disk, other_entries_keep_nodes, others_leave_nodes,
+    readings_tell_of_the_tail,
+};
 pub use node::Node;
 pub use state::State;

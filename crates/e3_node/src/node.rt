@@ -7,9 +7,9 @@ ghost use Rattle.e3_law_local.specs.Drafts.{MayTake, MayTakeAll};
 ghost use Rattle.e3_law_local.specs.Least.{AreFirstTo};
 ghost use Rattle.e3_node.specs.Batches.{BatchEnded};
 ghost use Rattle.e3_node.specs.Bodies.{DiskStands};
-ghost use Rattle.e3_node.specs.Ends.{EndsAt, FellOver, HasFailedToRise, HasRisen, IsReason, Takes, calls_for, is_fall};
+ghost use Rattle.e3_node.specs.Ends.{FellOver, HasFailedToRise, HasRisen, is_fall};
 ghost use Rattle.e3_node.specs.NodeStands.{NodeStands};
-ghost use Rattle.e3_node.specs.NodeView.{disk_of, end_of, is_up_in};
+ghost use Rattle.e3_node.specs.NodeView.{disk_of, is_up_in};
 ghost use Rattle.e3_node.specs.Places.{HasGivenNoneBack};
 ghost use Rattle.e3_node.specs.SharedStands.{SharedStands};
 ghost use Rattle.e3_node.specs.Turns.{HasSeenMore, Meanwhile, history_seen, scenario_seen};
@@ -18,6 +18,7 @@ ghost use Rattle.e3_node.specs.declared.fault.InputFault.{InputFault as InputFau
 ghost use Rattle.e3_node.specs.declared.fault.InputFault.TheVariants as input_fault;
 ghost use Rattle.e3_node.specs.declared.fault.RiseFault.TheVariants as rise_fault;
 ghost use Rattle.e3_play.specs.Entering.{IsFirst};
+ghost use Rattle.e3_site_log.specs.Ends.{IsReason, Takes, calls_for};
 ghost use Rattle.e3_turn.specs.Passes.{IsIdle, Owns, SameOwners, seen_by};
 ghost use Rattle.e3_types.specs.declared.entries.Act.TheVariants as act;
 ghost use Rattle.e3_types.specs.declared.entries.Entry.{Entry as Entries};
@@ -28,10 +29,9 @@ ghost use Rattle.e3_wire.specs.Marks.{entries_of, most_of, note_of, nothing, sce
 ghost use Rattle.e3_wire.specs.Wires.{IsPlayed, TakesLeast};
 ghost use Rattle.e3_world.specs.Items.{add_txn, is_up_at, open_at};
 ghost use Rattle.e3_world.specs.Legal.{IsCut, IsDue, IsRising, entry_of, made_by};
-ghost use Rattle.e3_world.specs.Moves.{log_size, moves_of, rows_at};
+ghost use Rattle.e3_world.specs.Moves.{log_of, rows_at};
 ghost use Rattle.e3_world.specs.Packets.{is_calm, present_items};
 
-use crate::counting::{Count, no_count};
 use crate::entering::{claim, enter, is_full};
 use crate::readying::wish_of;
 use crate::rising::{enter_rise, risen, told};
@@ -48,14 +48,13 @@ use std::alloc::Global;
 use std::marker::Model;
 use std::sync::Wait;
 
-/// A site over its disk: its number, the weights of all sites, that of site 1 first, its first rows in byte order of their
-/// names, and how many records its log has.
+/// A site over its disk: its number, the weights of all sites, that of site 1 first, and its first rows in byte order of their
+/// names.
 #[derive(Drop)]
 pub struct Node<D: Disk + Drill + Drop> {
     site: u32,
     weights: List<u32>,
     rows: List<Row>,
-    count: Count,
     state: State<D>,
 }
 
@@ -68,7 +67,7 @@ impl<D: Disk + Drill + Drop> Model for Node<D> {
 
     ghost coded = { Prim.hlevel (codes, s.the_row.coded) };
 
-    ghost view = { λ n. record { site = n.site; weights = n.weights; rows = n.rows; count = n.count; state = n.state } };
+    ghost view = { λ n. record { site = n.site; weights = n.weights; rows = n.rows; state = n.state } };
 }
 
 impl<D: Disk + Drill + Drop> Node<D> {
@@ -76,17 +75,17 @@ impl<D: Disk + Drill + Drop> Node<D> {
     pub fn down(site: u32, weights: List<u32>, rows: List<Row>, disk: D) -> Node<D>
         requires some { 1 ≤ site }
         requires exists { site ≤ length weights }
-        requires blank { IsBlank D.content D.image disk }
+        requires blank { IsBlank D.content D.image D.meters disk }
         ensures stands { (sc : Scenario) → weights ≡ sc.weights → rows ≡ rows_at site sc.rows →
             NodeStands D.content D.image D.meters sc [] result }
         ensures same { (result.site ≡ site) × (disk_of result.state ≡ disk) }
     {
+        let _capacity = disk.capacity();
         Node {
             site,
             weights,
             rows,
-            count: no_count(),
-            state: State::Down(disk),
+            state: State::Down(disk, 0),
         }
     }
 
@@ -104,8 +103,8 @@ impl<D: Disk + Drill + Drop> Node<D> {
             result ≡ is_up_at h self.now.site }
     {
         match &self.state {
-            State::Down(_) => false,
-            State::Up(_, _, _) => true,
+            State::Down(_, _) => false,
+            State::Up(_, _, _, _) => true,
         }
     }
 
@@ -113,7 +112,7 @@ impl<D: Disk + Drill + Drop> Node<D> {
     pub fn into_disk(self) -> D
         ensures is { result ≡ disk_of self.state }
         ensures stands { (sc : Scenario) (h : Items Entries) → NodeStands D.content D.image D.meters sc h self →
-            DiskStands sc h self.site (D.image result) }
+            DiskStands sc h self.site (D.meters result).capacity (D.image result) }
     {
         into_disk(self.state)
     }
@@ -126,8 +125,8 @@ impl<D: Disk + Drill + Drop> Node<D> {
         ensures down { is_up_in self.now.state ≡ false → IfOk result (λ txns. txns ≡ []) }
     {
         match &self.state {
-            State::Down(_) => Ok(List::new(alloc)),
-            State::Up(site, _, _) => site.open_txns(),
+            State::Down(_, _) => Ok(List::new(alloc)),
+            State::Up(site, _, _, _) => site.open_txns(),
         }
     }
 
@@ -146,7 +145,7 @@ impl<D: Disk + Drill + Drop> Node<D> {
         ensures full { is_up_at (entries_of shared.old) self.old.site ≡ false →
             (result ≡ Err rise_fault.HistoryFull) ↔ (most_of shared.old ≤ length (entries_of shared.old)) }
         ensures rose { IfOk result (λ inc. HasRisen (scenario_of shared.old) (entries_of shared.old) self.old.site inc (entries_of shared.new)
-            (D.image (disk_of self.old.state))) }
+            (D.meters (disk_of self.old.state)).capacity (D.image (disk_of self.old.state))) }
         ensures failed { (why : Why) → result ≡ Err (rise_fault.Failed why) →
             HasFailedToRise (scenario_of shared.old) (entries_of shared.old) self.old.site why (entries_of shared.new)
             (D.meters (disk_of self.old.state)) (D.meters (disk_of self.new.state)) (D.image (disk_of self.old.state)) }
@@ -169,11 +168,10 @@ impl<D: Disk + Drill + Drop> Node<D> {
             return Err(RiseFault::HistoryFull);
         }
         let alloc = shared.alloc();
-        let logged = self.count.records;
-        let wish = wish_of(alloc, self.site, &self.weights, &self.rows, logged)?;
+        let wish = wish_of(alloc, self.site, &self.weights, &self.rows)?;
         claim(shared, self.site, 0)?;
         let raised = replace_with(&mut self.state, wish, risen::<D>);
-        enter_rise(shared, self.site, &mut self.count, raised);
+        enter_rise(shared, self.site, raised);
         told(raised)
     }
 
@@ -198,20 +196,17 @@ impl<D: Disk + Drill + Drop> Node<D> {
         ensures kept { (fault : InputFaults) → result ≡ Err fault → is_fall fault ≡ false →
             (entries_of shared.new ≡ entries_of shared.old) × (disk_of self.new.state ≡ disk_of self.old.state) }
 
-        // the disk's count of faults rose, or the frame passes its capacity, and its end is told exactly; no call arms or cuts
-        // it, and what is left of an arm pays for the calls of the frame
+        // the disk's count of faults rose, or a frame had no room, and its end is told exactly; no call arms or cuts it, and what
+        // is left of an arm pays for the calls of the frame
         ensures why { (why : Why) → result ≡ Err (input_fault.Fell why) →
-            IsReason why (log_size (moves_of (scenario_of shared.old) (entries_of shared.old) self.old.site))
+            IsReason why (log_of (scenario_of shared.old) (entries_of shared.old) self.old.site)
             (made_by (scenario_of shared.old) (entries_of shared.old) self.old.site input).records
             (D.meters (disk_of self.old.state)) (D.meters (disk_of self.new.state)) }
-        ensures need { (why : Why) → result ≡ Err (input_fault.Fell why) →
-            EndsAt (end_of self.old.state) (made_by (scenario_of shared.old) (entries_of shared.old) self.old.site input).records why }
         ensures meters { Keeps (D.meters (disk_of self.old.state)) (D.meters (disk_of self.new.state)) }
         ensures takes { OnOk result (Takes (calls_for (made_by (scenario_of shared.old) (entries_of shared.old) self.old.site input).records)
             (D.meters (disk_of self.old.state)) (D.meters (disk_of self.new.state))) }
     {
-        let (state, count) = (&mut self.state, &mut self.count);
-        match take_input(self.site, state, count, shared, input) {
+        match take_input(self.site, &mut self.state, shared, input) {
             Ok(()) => Ok(()),
             Err(fault) => {
                 settle(&mut self.state, fault);
@@ -263,17 +258,15 @@ impl<D: Disk + Drill + Drop> Node<D> {
 
         // of the disk as `input`: the site's moves are the same behind entries of others
         ensures why { (why : Why) → result ≡ Err (input_fault.Fell why) →
-            IsReason why (log_size (moves_of (scenario_seen pass.old) (history_seen pass.old) self.old.site))
+            IsReason why (log_of (scenario_seen pass.old) (history_seen pass.old) self.old.site)
             (made_by (scenario_seen pass.old) (history_seen pass.old) self.old.site input).records
             (D.meters (disk_of self.old.state)) (D.meters (disk_of self.new.state)) }
-        ensures need { (why : Why) → result ≡ Err (input_fault.Fell why) →
-            EndsAt (end_of self.old.state) (made_by (scenario_seen pass.old) (history_seen pass.old) self.old.site input).records why }
         ensures meters { Keeps (D.meters (disk_of self.old.state)) (D.meters (disk_of self.new.state)) }
         ensures takes { OnOk result (Takes (calls_for (made_by (scenario_seen pass.old) (history_seen pass.old) self.old.site input).records)
             (D.meters (disk_of self.old.state)) (D.meters (disk_of self.new.state))) }
     {
-        let (state, count) = (&mut self.state, &mut self.count);
-        match take_by_turns(rt, alloc, wire, pass, self.site, state, count, input) {
+        let state = &mut self.state;
+        match take_by_turns(rt, alloc, wire, pass, self.site, state, input) {
             Ok(()) => Ok(()),
             Err(fault) => {
                 settle(&mut self.state, fault);
@@ -323,8 +316,7 @@ impl<D: Disk + Drill + Drop> Node<D> {
         ensures never { result ≡ Err input_fault.HistoryFull → ⊥ }
         ensures meters { Keeps (D.meters (disk_of self.old.state)) (D.meters (disk_of self.new.state)) }
     {
-        let (state, count) = (&mut self.state, &mut self.count);
-        take_all(rt, alloc, wire, pass, self.site, state, count, inputs)
+        take_all(rt, alloc, wire, pass, self.site, &mut self.state, inputs)
     }
 
     /// The power of a site that is up is cut: the site is down.

@@ -15,22 +15,21 @@ use e3_site::{RebuildFault, Site, rebuild};
 use e3_types::{Copied, List, NoMemory, Record, Row};
 use std::alloc::Global;
 
-/// What a rise takes with it to the disk: the site's number, weights and first rows, and how many records its log has in the
-/// history.
+/// What a rise takes with it to the disk: the site's number, weights and first rows.
 #[derive(Drop)]
 pub(crate) struct Wish {
     pub alloc: Global,
     pub site: u32,
     pub weights: List<u32>,
     pub rows: List<Row>,
-    pub logged: u64,
 }
 
-/// A rise for which all memory is taken: the site that is up with it, and all records that it rose with; the records of the
-/// rise and their spelling; whether what was in doubt is kept, and the incarnation.
+/// A rise for which all memory is taken: the site that is up with it; how many records were read, and all that it rose with; the
+/// records of the rise and their spelling; whether what was in doubt is kept, and the incarnation.
 #[derive(Drop)]
 pub(crate) struct Readied {
     pub up: Site,
+    pub read: u64,
     pub rose: List<Record>,
     pub records: List<Record>,
     pub body: List<u8>,
@@ -63,16 +62,14 @@ pub(crate) fn wish_of(
     site: u32,
     weights: &List<u32>,
     rows: &List<Row>,
-    logged: u64,
 ) -> Result<Wish, NoMemory>
-    ensures { IfOk result (IsWish site weights.now rows.now logged) }
+    ensures { IfOk result (IsWish site weights.now rows.now) }
 {
     Ok(Wish {
         alloc,
         site,
         weights: weights.copied(alloc)?,
         rows: rows.copied(alloc)?,
-        logged,
     })
 }
 
@@ -112,9 +109,9 @@ fn records_by(wish: &Wish, inc: u32, log: &[Record]) -> Result<List<Record>, NoM
     Ok(records)
 }
 
-// The site that rose with this log.
+/// The site that rose with this log.
 #[tactic(auto, using(crate::proofs::Strange::disordered))]
-fn rebuilt(alloc: Global, site: u32, log: &[Record]) -> Result<Site, Unready>
+pub(crate) fn rebuilt(alloc: Global, site: u32, log: &[Record]) -> Result<Site, Unready>
     requires some { 0 < length log.now }
     ensures risen { IfOk result (IsRebuilt site log.now) }
     ensures stands { IfOk result (StandsForEach log.now) }
@@ -127,14 +124,15 @@ fn rebuilt(alloc: Global, site: u32, log: &[Record]) -> Result<Site, Unready>
     }
 }
 
-/// The rise of a site whose disk has these frames. What is read is kept, all of it: more records than the log of the history
-/// has are the log and those that were in doubt.
-pub(crate) fn ready(wish: &Wish, frames: &[Frame]) -> Result<Readied, Unready>
-    ensures ready { IfOk result (IsReady wish.now (bodies_of frames.now)) }
+/// The rise of a site whose disk has these frames. What is read is kept, all of it: more records than so many are the log and
+/// those that were in doubt.
+pub(crate) fn ready(wish: &Wish, logged: u64, frames: &[Frame]) -> Result<Readied, Unready>
+    ensures ready { IfOk result (IsReady wish.now logged (bodies_of frames.now)) }
     ensures foreign { result ≡ Err unready.Foreign → IsForeign wish.now (bodies_of frames.now) }
 {
     let mut log = read_frames(wish.alloc, wish.site, frames)?;
-    let kept = wish.logged < log.len();
+    let read = log.len();
+    let kept = logged < read;
     let inc = next_inc(log.as_slice())?;
     let records = records_by(wish, inc, log.as_slice())?;
     let body = spelled(wish.alloc, records.as_slice())?;
@@ -142,6 +140,7 @@ pub(crate) fn ready(wish: &Wish, frames: &[Frame]) -> Result<Readied, Unready>
     let up = rebuilt(wish.alloc, wish.site, log.as_slice())?;
     Ok(Readied {
         up,
+        read,
         rose: log,
         records,
         body,

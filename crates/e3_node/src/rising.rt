@@ -1,30 +1,34 @@
 // A rise of a site over its disk.
-ghost use Rattle.std.specs.Prelude.{◌≡◌, ◌≢◌, ◌≤◌, ◌++◌, [], ℕ, true, false, fold, List as Items};
+ghost use Rattle.std.specs.Prelude.{◌≡◌, ◌≢◌, ◌≤◌, [], ℕ, true, false, length, List as Items};
 ghost use Rattle.e3_disk.specs.Meters.{Keeps};
 ghost use Rattle.e3_log.specs.Found.{bodies_of};
 ghost use Rattle.e3_log.specs.Stands.{Stands};
-ghost use Rattle.e3_node.specs.Bodies.{DiskHolds};
+ghost use Rattle.e3_node.specs.Bodies.{DiskTells, log_with};
+ghost use Rattle.e3_node.specs.NodeStands.{IsFallen};
 ghost use Rattle.e3_node.specs.NodeView.{disk_of, is_up_in};
 ghost use Rattle.e3_node.specs.declared.readying.Wish.{Wish as Wishes};
-ghost use Rattle.e3_node.specs.Counting.{counted_by, counted_on};
-ghost use Rattle.e3_node.specs.Rising.{IsAllowed, IsReady, MayRise, RiseMakes, RiseTakes, RiseIsEntered, entered_by, raised_of, told_of};
-ghost use Rattle.e3_node.specs.SharedStands.{HasEntered, IsClaimed};
-ghost use Rattle.e3_wire.specs.Wires.{MayEnterBehind};
+ghost use Rattle.e3_node.specs.Rising.{IsAllowed, IsReady, MayRise, RiseMakes, RiseTakes, RiseIsEntered, raised_by, raised_of, told_of};
+ghost use Rattle.e3_site_log.specs.Ends.{IsDue, IsShortIf, MayTurn};
+ghost use Rattle.e3_node.specs.SharedStands.{IsClaimed};
 ghost use Rattle.e3_types.specs.Spelling.{spelling};
 ghost use Rattle.e3_types.specs.declared.entries.Entry.{Entry as Entries};
 ghost use Rattle.e3_types.specs.declared.scenarios.Scenario.{Scenario};
-ghost use Rattle.e3_wire.specs.Marks.{UsesAll, entries_of, scenario_of};
+ghost use Rattle.e3_wire.specs.Marks.{entries_of, scenario_of};
 ghost use Rattle.e3_wire.specs.declared.marks.Mark.{Mark as MarkValue};
 
-use crate::counting::{Count, count_on};
+use crate::briefing::shorten_read;
 use crate::entering::enter;
 use crate::readying::{Readied, Unready, Wish, ready};
-use crate::writing::write;
 use crate::{RiseFault, State};
 use e3_disk::{Disk, Drill};
 use e3_law_brief::logged_sites_are_sets;
 use e3_law_serial::logs_are_orderly;
+use e3_law_steps::{
+    begun_are_transactions, legal_histories_mention_what_stands, records_suit_their_site,
+    trails_are_sound,
+};
 use e3_log::{Frame, Log, OpenCause, OpenRefused};
+use e3_site_log::{Short, write};
 use e3_types::{Act, Entry, List, Why};
 use e3_wire::Shared;
 
@@ -53,120 +57,161 @@ fn raised_of(cause: OpenCause) -> Raised
     }
 }
 
-// The frame of the rise is added. No memory is taken.
-fn log_rise<D: Disk + Drop>(mut log: Log<D>, rise: Readied) -> (State<D>, Raised)
+// The frame of the rise is added, behind what was read or behind the brief of that. No memory is taken.
+fn log_rise<D: Disk + Drop>(
+    mut log: Log<D>,
+    rise: Readied,
+    short: Option<Short>,
+) -> (State<D>, Raised)
     requires spelled { rise.body ≡ spelling rise.records }
     requires some { rise.records ≢ [] }
     requires lit { (D.meters log.disk).powered ≡ true }
-    ensures makes { (sc : Scenario) (h : Items Entries) (wish : Wishes) (bodies : Items (Items ℕ)) → MayRise sc h wish → IsReady wish bodies rise →
-        Stands D.content D.image bodies log → DiskHolds sc h wish.site (D.image log.disk) →
+    requires may { MayTurn log short }
+    ensures makes { (sc : Scenario) (h : Items Entries) (wish : Wishes) (logged : ℕ) (bodies : Items (Items ℕ)) → MayRise sc h wish → IsReady wish logged bodies rise →
+        Stands D.content D.image D.meters bodies log → DiskTells sc h wish.site (D.meters log.disk).capacity logged (D.image log.disk) →
+        IsShortIf wish.site (log_with sc h wish.site rise.kept) short → IsDue D.meters log (log_with sc h wish.site rise.kept) short (length rise.body) →
         RiseMakes D.content D.image D.meters sc h wish.site log.disk result.0 result.1 }
     ensures keeps { Keeps (D.meters log.disk) (D.meters (disk_of result.0)) }
     ensures takes { RiseTakes 4 result.1 (D.meters log.disk) (D.meters (disk_of result.0)) }
 {
     logs_are_orderly();
     logged_sites_are_sets();
+    trails_are_sound();
     let kept = rise.kept;
     let inc = rise.inc;
-    match write(&mut log, rise.records.as_slice(), rise.body.as_slice()) {
+    let mut logged = rise.read;
+    let (records, body) = (rise.records.as_slice(), rise.body.as_slice());
+    match write(&mut log, &mut logged, &short, records, body) {
         Ok(()) => (
-            State::Up(rise.up, log, rise.rose),
+            State::Up(rise.up, log, rise.rose, logged),
             Raised::Rose { kept, inc },
         ),
         Err(why) => (
-            State::Down(log.into_disk()),
+            State::Down(log.into_disk(), logged),
             Raised::Failed { kept, inc, why },
         ),
     }
 }
 
-// The rise over the log that was read.
-fn rise_over<D: Disk + Drop>(log: Log<D>, frames: &List<Frame>, wish: &Wish) -> (State<D>, Raised)
-    requires stands { Stands D.content D.image (bodies_of frames.now) log }
+fn raised_by(fault: Unready) -> Raised
+    ensures { result ≡ raised_by fault }
+{
+    match fault {
+        Unready::NoMemory => Raised::NoMemory,
+        Unready::Foreign => Raised::Foreign,
+    }
+}
+
+// A rise that is ready, over the log that was read.
+fn shorten_and_log<D: Disk + Drop>(
+    log: Log<D>,
+    logged: u64,
+    rise: Readied,
+    wish: &Wish,
+) -> (State<D>, Raised)
     requires lit { (D.meters log.disk).powered ≡ true }
-    ensures makes { (sc : Scenario) (h : Items Entries) → MayRise sc h wish.now → DiskHolds sc h wish.now.site (D.image log.disk) →
+    requires ready { (bodies : Items (Items ℕ)) × IsReady wish.now logged bodies rise × Stands D.content D.image D.meters bodies log }
+    ensures makes { (sc : Scenario) (h : Items Entries) → MayRise sc h wish.now →
+        DiskTells sc h wish.now.site (D.meters log.disk).capacity logged (D.image log.disk) →
+        RiseMakes D.content D.image D.meters sc h wish.now.site log.disk result.0 result.1 }
+    ensures keeps { Keeps (D.meters log.disk) (D.meters (disk_of result.0)) }
+    ensures takes { RiseTakes 4 result.1 (D.meters log.disk) (D.meters (disk_of result.0)) }
+{
+    legal_histories_mention_what_stands();
+    begun_are_transactions();
+    records_suit_their_site();
+    logs_are_orderly();
+    logged_sites_are_sets();
+    trails_are_sound();
+    match shorten_read(wish, &log, &rise) {
+        Ok(short) => log_rise(log, rise, short),
+        Err(fault) => (State::Down(log.into_disk(), logged), raised_by(fault)),
+    }
+}
+
+// The rise over the log that was read.
+fn rise_over<D: Disk + Drop>(
+    log: Log<D>,
+    logged: u64,
+    frames: &List<Frame>,
+    wish: &Wish,
+) -> (State<D>, Raised)
+    requires stands { Stands D.content D.image D.meters (bodies_of frames.now) log }
+    requires lit { (D.meters log.disk).powered ≡ true }
+    ensures makes { (sc : Scenario) (h : Items Entries) → MayRise sc h wish.now →
+        DiskTells sc h wish.now.site (D.meters log.disk).capacity logged (D.image log.disk) →
         RiseMakes D.content D.image D.meters sc h wish.now.site log.disk result.0 result.1 }
     ensures keeps { Keeps (D.meters log.disk) (D.meters (disk_of result.0)) }
     ensures takes { RiseTakes 4 result.1 (D.meters log.disk) (D.meters (disk_of result.0)) }
 {
     logs_are_orderly();
-    match ready(wish, frames.as_slice()) {
-        Ok(rise) => log_rise(log, rise),
-        Err(Unready::NoMemory) => (State::Down(log.into_disk()), Raised::NoMemory),
-        Err(Unready::Foreign) => (State::Down(log.into_disk()), Raised::Foreign),
+    logged_sites_are_sets();
+    trails_are_sound();
+    match ready(wish, logged, frames.as_slice()) {
+        Ok(rise) => shorten_and_log(log, logged, rise, wish),
+        Err(fault) => (State::Down(log.into_disk(), logged), raised_by(fault)),
     }
 }
 
 // The log is read. Its sync is one call of an arm.
-fn open<D: Disk + Drop>(disk: D, wish: &Wish) -> (State<D>, Raised)
+fn open<D: Disk + Drop>(disk: D, logged: u64, wish: &Wish) -> (State<D>, Raised)
     requires lit { (D.meters disk).powered ≡ true }
-    ensures makes { (sc : Scenario) (h : Items Entries) → MayRise sc h wish.now → DiskHolds sc h wish.now.site (D.image disk) →
+    ensures makes { (sc : Scenario) (h : Items Entries) → MayRise sc h wish.now →
+        DiskTells sc h wish.now.site (D.meters disk).capacity logged (D.image disk) →
         RiseMakes D.content D.image D.meters sc h wish.now.site disk result.0 result.1 }
     ensures keeps { Keeps (D.meters disk) (D.meters (disk_of result.0)) }
     ensures takes { RiseTakes 5 result.1 (D.meters disk) (D.meters (disk_of result.0)) }
 {
     match Log::open(wish.alloc, disk) {
-        Ok((log, frames)) => rise_over(log, &frames, wish),
-        Err(refused) => (State::Down(refused.disk), raised_of(refused.cause)),
+        Ok((log, frames)) => rise_over(log, logged, &frames, wish),
+        Err(refused) => (State::Down(refused.disk, logged), raised_of(refused.cause)),
     }
 }
 
 // The disk has power from here on.
-fn raise<D: Disk + Drill + Drop>(mut disk: D, wish: &Wish) -> (State<D>, Raised)
-    ensures makes { (sc : Scenario) (h : Items Entries) → MayRise sc h wish.now → DiskHolds sc h wish.now.site (D.image disk) →
+fn raise<D: Disk + Drill + Drop>(mut disk: D, logged: u64, wish: &Wish) -> (State<D>, Raised)
+    ensures makes { (sc : Scenario) (h : Items Entries) → MayRise sc h wish.now →
+        DiskTells sc h wish.now.site (D.meters disk).capacity logged (D.image disk) →
         RiseMakes D.content D.image D.meters sc h wish.now.site disk result.0 result.1 }
     ensures keeps { Keeps (D.meters disk) (D.meters (disk_of result.0)) }
     ensures takes { RiseTakes 5 result.1 (D.meters disk) (D.meters (disk_of result.0)) }
 {
     disk.power_on();
-    open(disk, wish)
+    open(disk, logged, wish)
 }
 
 /// What a rise makes of a site that is down, over its disk.
 pub(crate) fn risen<D: Disk + Drill + Drop>(state: State<D>, wish: Wish) -> (State<D>, Raised)
     requires down { is_up_in state ≡ false }
-    ensures makes { (sc : Scenario) (h : Items Entries) → MayRise sc h wish → DiskHolds sc h wish.site (D.image (disk_of state)) →
+    ensures makes { (sc : Scenario) (h : Items Entries) → MayRise sc h wish → IsFallen D.image D.meters sc h wish.site state →
         RiseMakes D.content D.image D.meters sc h wish.site (disk_of state) result.0 result.1 }
     ensures keeps { Keeps (D.meters (disk_of state)) (D.meters (disk_of result.0)) }
     ensures takes { RiseTakes 5 result.1 (D.meters (disk_of state)) (D.meters (disk_of result.0)) }
 {
     match state {
-        State::Down(disk) => raise(disk, &wish),
+        State::Down(disk, logged) => raise(disk, logged, &wish),
         up => (up, Raised::NoMemory),
     }
 }
 
-// What comes of a rise is counted and entered.
-fn enter_act(shared: &mut Shared, owner: u32, count: &mut Count, act: Act)
-    requires may { MayEnterBehind shared.old (record { owner = owner; act = act }) }
-    requires all { UsesAll shared.old (record { owner = owner; act = act }) }
-    ensures entered { (before : Items MarkValue) (outs : ℕ) → IsClaimed owner outs before shared.old →
-        HasEntered (record { owner = owner; act = act }) before shared.new }
-    ensures counted { count.new ≡ counted_by count.old act }
-{
-    count_on(count, &act);
-    enter(shared, Entry { owner, act });
-}
-
 /// What became of a rise is entered; where nothing is, the place that was claimed for it is given back.
-pub(crate) fn enter_rise(shared: &mut Shared, owner: u32, count: &mut Count, raised: Raised)
+pub(crate) fn enter_rise(shared: &mut Shared, owner: u32, raised: Raised)
     requires some { 1 ≤ owner }
     requires allowed { (before : Items MarkValue) × IsClaimed owner 0 before shared.old × IsAllowed (scenario_of before) (entries_of before) owner raised }
     ensures entered { (before : Items MarkValue) → IsClaimed owner 0 before shared.old → RiseIsEntered owner raised before shared.new }
-    ensures counted { count.new ≡ fold (counted_on owner) count.old (entered_by owner raised) }
 {
     match raised {
         Raised::Rose { kept, inc } => {
             let act = Act::Rise { kept, inc };
-            enter_act(shared, owner, count, act);
+            enter(shared, Entry { owner, act });
         }
         Raised::Failed { kept, inc, why } => {
             let act = Act::RiseFall { kept, inc, why };
-            enter_act(shared, owner, count, act);
+            enter(shared, Entry { owner, act });
         }
         Raised::Missed => {
             let act = Act::Miss;
-            enter_act(shared, owner, count, act);
+            enter(shared, Entry { owner, act });
         }
         Raised::NoMemory | Raised::Foreign => shared.withdraw(owner, 0),
     }

@@ -1,15 +1,15 @@
 // An input of a site that is up.
 ghost use Rattle.std.specs.Prelude.{◌≡◌, ◌≢◌, ◌^◌, ◌<◌, ◌≤◌, ◌++◌, ◌∷◌, ◌↔◌, [], true, false, length, OnOk, Err};
 ghost use Rattle.e3_disk.specs.Meters.{Keeps};
-ghost use Rattle.e3_node.specs.Bodies.{AllReadBack, DiskHolds};
-ghost use Rattle.e3_node.specs.Counting.{count_of};
-ghost use Rattle.e3_node.specs.Ends.{EndsAt, FellOver, IsReason, Takes, calls_for, is_fall};
-ghost use Rattle.e3_node.specs.NodeStands.{IsIn, IsUp};
-ghost use Rattle.e3_node.specs.NodeView.{disk_of, end_of};
+ghost use Rattle.e3_node.specs.Bodies.{DiskTells};
+ghost use Rattle.e3_node.specs.Ends.{FellOver, is_fall};
+ghost use Rattle.e3_node.specs.NodeStands.{IsFallen, IsIn, IsUp, logged_in};
+ghost use Rattle.e3_node.specs.NodeView.{disk_of};
 ghost use Rattle.e3_node.specs.SharedStands.{SharedStands};
 ghost use Rattle.e3_node.specs.declared.fault.InputFault.{InputFault as InputFaults};
 ghost use Rattle.e3_node.specs.declared.fault.InputFault.TheVariants as input_fault;
 ghost use Rattle.e3_site.specs.SiteView.{entry_of_plan};
+ghost use Rattle.e3_site_log.specs.Ends.{IsReason, Takes, calls_for};
 ghost use Rattle.e3_play.specs.Entering.{IsFirst};
 ghost use Rattle.e3_types.specs.declared.entries.Act.TheVariants as act;
 ghost use Rattle.e3_types.specs.declared.entries.Why.{Why as Whys};
@@ -17,12 +17,11 @@ ghost use Rattle.e3_wire.specs.Claims.{HaveGrown};
 ghost use Rattle.e3_wire.specs.Marks.{entries_of, last_owner, most_of, scenario_of};
 ghost use Rattle.e3_world.specs.Items.{is_up_at};
 ghost use Rattle.e3_world.specs.Legal.{IsDue, entry_of, made_by};
-ghost use Rattle.e3_world.specs.Moves.{log_size, moves_of};
+ghost use Rattle.e3_world.specs.Moves.{log_of};
 
-use crate::counting::{Count, count_on};
+use crate::briefing::shorten;
 use crate::drafts::prepare;
 use crate::entering::{claim, enter, is_full};
-use crate::writing::write;
 use crate::{InputFault, State};
 use core::mem::replace_with;
 use e3_disk::Disk;
@@ -30,9 +29,11 @@ use e3_law_brief::logged_sites_are_sets;
 use e3_law_serial::logs_are_orderly;
 use e3_law_steps::{
     begun_are_transactions, legal_histories_mention_what_stands, records_suit_their_site,
+    trails_are_sound,
 };
 use e3_log::Log;
 use e3_site::Site;
+use e3_site_log::write;
 use e3_types::{Act, Entry, Input, List, Packet, Record, Why};
 use e3_wire::Shared;
 use e3_world::SiteStep;
@@ -77,37 +78,31 @@ fn step<D: Disk>(
     site: &mut Site,
     log: &mut Log<D>,
     rose: &List<Record>,
-    count: &mut Count,
+    logged: &mut u64,
     shared: &mut Shared,
     input: Input,
 ) -> Result<(), InputFault>
-    requires counted { count.old ≡ count_of number (entries_of shared.old) }
     requires shared { SharedStands shared.old }
     requires some { 1 ≤ number }
     requires exists { number ≤ last_owner shared.old }
-    requires up { IsUp D.content D.image D.meters (scenario_of shared.old) (entries_of shared.old) number site.old log.old rose.now }
+    requires up { IsUp D.content D.image D.meters (scenario_of shared.old) (entries_of shared.old) number site.old log.old rose.now logged.old }
     requires due { IsDue (scenario_of shared.old) (entries_of shared.old) number input }
     requires first { IsFirst (scenario_of shared.old) (entries_of shared.old) input }
-    requires back { AllReadBack (scenario_of shared.old) (entries_of shared.old) number }
     ensures shared { SharedStands shared.new }
     ensures grew { HaveGrown shared.old shared.new }
     ensures same { (scenario_of shared.new ≡ scenario_of shared.old) × (most_of shared.new ≡ most_of shared.old) }
     ensures stepped { OnOk result (entries_of shared.new ≡ entries_of shared.old ++ entry_of (scenario_of shared.old) (entries_of shared.old) number input ∷ []) }
-    ensures up { OnOk result (IsUp D.content D.image D.meters (scenario_of shared.old) (entries_of shared.new) number site.new log.new rose.now) }
-    ensures back { AllReadBack (scenario_of shared.old) (entries_of shared.new) number }
-    ensures counted { count.new ≡ count_of number (entries_of shared.new) }
+    ensures up { OnOk result (IsUp D.content D.image D.meters (scenario_of shared.old) (entries_of shared.new) number site.new log.new rose.now logged.new) }
     ensures never { result ≡ Err input_fault.Down → ⊥ }
     ensures kept { (fault : InputFaults) → result ≡ Err fault → is_fall fault ≡ false →
         (entries_of shared.new ≡ entries_of shared.old) × (log.new ≡ log.old)
-        × IsUp D.content D.image D.meters (scenario_of shared.old) (entries_of shared.old) number site.new log.new rose.now }
+        × IsUp D.content D.image D.meters (scenario_of shared.old) (entries_of shared.old) number site.new log.new rose.now logged.new }
     ensures fell { (why : Whys) → result ≡ Err (input_fault.Fell why) →
         FellOver (scenario_of shared.old) (entries_of shared.old) number input why (entries_of shared.new)
-        × DiskHolds (scenario_of shared.old) (entries_of shared.new) number (D.image log.new.disk) }
+        × DiskTells (scenario_of shared.old) (entries_of shared.new) number (D.meters log.new.disk).capacity logged.new (D.image log.new.disk) }
     ensures why { (why : Whys) → result ≡ Err (input_fault.Fell why) →
-        IsReason why (log_size (moves_of (scenario_of shared.old) (entries_of shared.old) number))
+        IsReason why (log_of (scenario_of shared.old) (entries_of shared.old) number)
         (made_by (scenario_of shared.old) (entries_of shared.old) number input).records (D.meters log.old.disk) (D.meters log.new.disk) }
-    ensures need { (why : Whys) → result ≡ Err (input_fault.Fell why) →
-        EndsAt log.old.end (made_by (scenario_of shared.old) (entries_of shared.old) number input).records why }
     ensures full { (result ≡ Err input_fault.HistoryFull) ↔ (most_of shared.old ≤ length (entries_of shared.old)) }
     ensures keeps { Keeps (D.meters log.old.disk) (D.meters log.new.disk) }
     ensures takes { OnOk result (Takes (calls_for (made_by (scenario_of shared.old) (entries_of shared.old) number input).records)
@@ -118,23 +113,24 @@ fn step<D: Disk>(
     records_suit_their_site();
     logs_are_orderly();
     logged_sites_are_sets();
+    trails_are_sound();
     if is_full(shared) {
         return Err(InputFault::HistoryFull);
     }
     let draft = prepare(site, rose, &input, shared)?;
+    let (records, body) = (draft.plan.records(), draft.body.as_slice());
+    let short = shorten(shared.alloc(), site, log, records, draft.body.len())?;
     let room = room_for(draft.plan.outs());
     claim(shared, number, room)?;
-    match write(log, draft.plan.records(), draft.body.as_slice()) {
+    match write(log, logged, &short, records, body) {
         Ok(()) => {
             let step = step_of(number, input, site.apply(draft.plan));
-            count_on(count, &step.act);
             enter(shared, step);
             Ok(())
         }
         Err(why) => {
             let made = draft.plan.into_step();
             let fall = fall_of(number, draft.inputs, made.records, why);
-            count_on(count, &fall.act);
             enter(shared, fall);
             Err(InputFault::Fell { why })
         }
@@ -145,37 +141,30 @@ fn step<D: Disk>(
 pub(crate) fn take_input<D: Disk + Drop>(
     number: u32,
     state: &mut State<D>,
-    count: &mut Count,
     shared: &mut Shared,
     input: Input,
 ) -> Result<(), InputFault>
-    requires counted { count.old ≡ count_of number (entries_of shared.old) }
     requires shared { SharedStands shared.old }
     requires some { 1 ≤ number }
     requires exists { number ≤ last_owner shared.old }
     requires stands { IsIn D.content D.image D.meters (scenario_of shared.old) (entries_of shared.old) number state.old }
     requires due { is_up_at (entries_of shared.old) number ≡ true → IsDue (scenario_of shared.old) (entries_of shared.old) number input }
     requires first { is_up_at (entries_of shared.old) number ≡ true → IsFirst (scenario_of shared.old) (entries_of shared.old) input }
-    requires back { AllReadBack (scenario_of shared.old) (entries_of shared.old) number }
     ensures shared { SharedStands shared.new }
     ensures grew { HaveGrown shared.old shared.new }
     ensures same { (scenario_of shared.new ≡ scenario_of shared.old) × (most_of shared.new ≡ most_of shared.old) }
     ensures stepped { OnOk result (entries_of shared.new ≡ entries_of shared.old ++ entry_of (scenario_of shared.old) (entries_of shared.old) number input ∷ []) }
     ensures up { OnOk result (IsIn D.content D.image D.meters (scenario_of shared.old) (entries_of shared.new) number state.new) }
-    ensures back { AllReadBack (scenario_of shared.old) (entries_of shared.new) number }
-    ensures counted { count.new ≡ count_of number (entries_of shared.new) }
     ensures down { (result ≡ Err input_fault.Down) ↔ (is_up_at (entries_of shared.old) number ≡ false) }
     ensures kept { (fault : InputFaults) → result ≡ Err fault → is_fall fault ≡ false →
         (entries_of shared.new ≡ entries_of shared.old) × (disk_of state.new ≡ disk_of state.old)
         × IsIn D.content D.image D.meters (scenario_of shared.old) (entries_of shared.old) number state.new }
     ensures fell { (why : Whys) → result ≡ Err (input_fault.Fell why) →
         FellOver (scenario_of shared.old) (entries_of shared.old) number input why (entries_of shared.new)
-        × DiskHolds (scenario_of shared.old) (entries_of shared.new) number (D.image (disk_of state.new)) }
+        × IsFallen D.image D.meters (scenario_of shared.old) (entries_of shared.new) number state.new }
     ensures why { (why : Whys) → result ≡ Err (input_fault.Fell why) →
-        IsReason why (log_size (moves_of (scenario_of shared.old) (entries_of shared.old) number))
+        IsReason why (log_of (scenario_of shared.old) (entries_of shared.old) number)
         (made_by (scenario_of shared.old) (entries_of shared.old) number input).records (D.meters (disk_of state.old)) (D.meters (disk_of state.new)) }
-    ensures need { (why : Whys) → result ≡ Err (input_fault.Fell why) →
-        EndsAt (end_of state.old) (made_by (scenario_of shared.old) (entries_of shared.old) number input).records why }
     ensures full { is_up_at (entries_of shared.old) number ≡ true →
         (result ≡ Err input_fault.HistoryFull) ↔ (most_of shared.old ≤ length (entries_of shared.old)) }
     ensures keeps { Keeps (D.meters (disk_of state.old)) (D.meters (disk_of state.new)) }
@@ -183,23 +172,23 @@ pub(crate) fn take_input<D: Disk + Drop>(
         (D.meters (disk_of state.old)) (D.meters (disk_of state.new))) }
 {
     match state {
-        State::Down(_) => Err(InputFault::Down),
-        State::Up(site, log, rose) => step(number, site, log, rose, count, shared, input),
+        State::Down(_, _) => Err(InputFault::Down),
+        State::Up(site, log, rose, logged) => step(number, site, log, rose, logged, shared, input),
     }
 }
 
 pub(crate) fn laid_down<D: Disk + Drop>(state: State<D>, _unit: ()) -> (State<D>, ())
-    ensures { result.0 ≡ State.Down (disk_of state) }
+    ensures { result.0 ≡ State.Down (disk_of state) (logged_in state) }
 {
     match state {
-        State::Down(disk) => (State::Down(disk), ()),
-        State::Up(_site, log, _rose) => (State::Down(log.into_disk()), ()),
+        State::Down(disk, logged) => (State::Down(disk, logged), ()),
+        State::Up(_site, log, _rose, logged) => (State::Down(log.into_disk(), logged), ()),
     }
 }
 
 /// A site that fell is down, over the disk of its log.
 pub(crate) fn settle<D: Disk + Drop>(state: &mut State<D>, fault: InputFault)
-    ensures fell { is_fall fault ≡ true → state.new ≡ State.Down (disk_of state.old) }
+    ensures fell { is_fall fault ≡ true → state.new ≡ State.Down (disk_of state.old) (logged_in state.old) }
     ensures kept { is_fall fault ≡ false → state.new ≡ state.old }
 {
     match fault {

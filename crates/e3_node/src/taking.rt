@@ -5,10 +5,8 @@ ghost use Rattle.e3_law_local.specs.Drafts.{MayTakeAll};
 ghost use Rattle.e3_law_local.specs.Least.{AreFirstTo};
 ghost use Rattle.e3_node.specs.Batched.{OnlyForMemory};
 ghost use Rattle.e3_node.specs.Batches.{BatchEnded};
-ghost use Rattle.e3_node.specs.Bodies.{AllReadBack};
-ghost use Rattle.e3_node.specs.Counting.{count_of};
 ghost use Rattle.e3_node.specs.Ending.{EndsIn, EndsWith, answer_by};
-ghost use Rattle.e3_node.specs.NodeStands.{IsIn, IsUp};
+ghost use Rattle.e3_node.specs.NodeStands.{IsIn, IsUp, logged_in};
 ghost use Rattle.e3_node.specs.NodeView.{disk_of};
 ghost use Rattle.e3_node.specs.Turns.{HasTurned, history_seen, scenario_seen};
 ghost use Rattle.e3_node.specs.declared.fault.InputFault.TheVariants as input_fault;
@@ -21,7 +19,6 @@ ghost use Rattle.e3_world.specs.Items.{is_up_at};
 ghost use Rattle.e3_world.specs.Packets.{is_calm, present_items};
 
 use crate::batching::{Batch, enter_steps, plan_all};
-use crate::counting::{Count, count_on};
 use crate::stepping::{fall_of, laid_down};
 use crate::turning::write;
 use crate::{InputFault, State};
@@ -31,6 +28,7 @@ use e3_law_brief::logged_sites_are_sets;
 use e3_law_serial::logs_are_orderly;
 use e3_law_steps::{
     begun_are_transactions, legal_histories_mention_what_stands, records_suit_their_site,
+    trails_are_sound,
 };
 use e3_log::Log;
 use e3_site::Site;
@@ -79,26 +77,23 @@ fn step_all<R: Wait, D: Disk>(
     site: &mut Site,
     log: &mut Log<D>,
     rose: &List<Record>,
-    count: &mut Count,
+    logged: &mut u64,
     inputs: List<Input>,
 ) -> BatchEnd
-    requires counted { count.old ≡ count_of number (history_seen pass.old) }
     requires idle { IsIdle wire.now pass.old }
     requires owns { Owns pass.old number }
     requires played { IsPlayed (seen_by pass.old) }
     requires some { 1 ≤ number }
     requires exists { number ≤ last_owner (seen_by pass.old) }
-    requires up { IsUp D.content D.image D.meters (scenario_seen pass.old) (history_seen pass.old) number site.old log.old rose.now }
+    requires up { IsUp D.content D.image D.meters (scenario_seen pass.old) (history_seen pass.old) number site.old log.old rose.now logged.old }
     requires restless { is_calm (present_items (scenario_seen pass.old) (history_seen pass.old)) ≡ false }
     requires any { 1 ≤ length inputs }
     requires due { MayTakeAll (scenario_seen pass.old) (history_seen pass.old) number inputs }
     requires takes { AreFirstTo (scenario_seen pass.old) (history_seen pass.old) number inputs }
     requires places { length inputs ≤ (note_of number (seen_by pass.old)).places }
-    requires back { AllReadBack (scenario_seen pass.old) (history_seen pass.old) number }
-    ensures counted { count.new ≡ count_of number (history_seen pass.new) }
     ensures turned { HasTurned wire.now pass.old pass.new }
     ensures ended { EndsWith D.content D.image D.meters (scenario_seen pass.old) (history_seen pass.old) (history_seen pass.new) number inputs
-        (state.Up site.old log.old rose.now) (state.Up site.new log.new rose.now) result.refused result.fell }
+        (state.Up site.old log.old rose.now logged.old) (state.Up site.new log.new rose.now logged.new) result.refused result.fell }
     ensures refused { OnlyForMemory result.refused }
     ensures never { result.refused ≡ Err input_fault.Down → ⊥ }
     ensures none { note_of number (seen_by pass.new) ≡ nothing }
@@ -108,10 +103,12 @@ fn step_all<R: Wait, D: Disk>(
     records_suit_their_site();
     logs_are_orderly();
     logged_sites_are_sets();
+    trails_are_sound();
     let mut batch = Batch {
         steps: Vec::new(alloc),
         records: List::new(alloc),
         body: List::new(alloc),
+        short: None,
     };
     let refused = plan_all(
         rt,
@@ -120,6 +117,7 @@ fn step_all<R: Wait, D: Disk>(
         number,
         site,
         rose,
+        log,
         &mut batch,
         inputs.as_slice(),
     );
@@ -127,11 +125,13 @@ fn step_all<R: Wait, D: Disk>(
         wire,
         pass,
         log,
+        logged,
+        &batch.short,
         batch.records.as_slice(),
         batch.body.as_slice(),
     ) {
         Ok(()) => {
-            enter_steps(rt, wire, pass, count, batch.steps);
+            enter_steps(rt, wire, pass, batch.steps);
             BatchEnd {
                 refused,
                 fell: None,
@@ -140,7 +140,6 @@ fn step_all<R: Wait, D: Disk>(
         Err(why) => {
             let over = first_of(inputs, batch.steps.as_slice());
             let fall = fall_of(number, over, batch.records, why);
-            count_on(count, &fall.act);
             wire.commit_entry(rt, pass, fall);
             BatchEnd {
                 refused,
@@ -158,10 +157,8 @@ fn step_or_not<R: Wait, D: Disk + Drop>(
     pass: &mut WirePass,
     number: u32,
     state: &mut State<D>,
-    count: &mut Count,
     inputs: List<Input>,
 ) -> BatchEnd
-    requires counted { count.old ≡ count_of number (history_seen pass.old) }
     requires idle { IsIdle wire.now pass.old }
     requires owns { Owns pass.old number }
     requires played { IsPlayed (seen_by pass.old) }
@@ -173,8 +170,6 @@ fn step_or_not<R: Wait, D: Disk + Drop>(
     requires due { is_up_at (history_seen pass.old) number ≡ true → MayTakeAll (scenario_seen pass.old) (history_seen pass.old) number inputs }
     requires takes { is_up_at (history_seen pass.old) number ≡ true → AreFirstTo (scenario_seen pass.old) (history_seen pass.old) number inputs }
     requires places { is_up_at (history_seen pass.old) number ≡ true → length inputs ≤ (note_of number (seen_by pass.old)).places }
-    requires back { AllReadBack (scenario_seen pass.old) (history_seen pass.old) number }
-    ensures counted { count.new ≡ count_of number (history_seen pass.new) }
     ensures turned { HasTurned wire.now pass.old pass.new }
     ensures ended { EndsIn D.content D.image D.meters (scenario_seen pass.old) (history_seen pass.old) (history_seen pass.new) number inputs
         state.old state.new result.refused result.fell }
@@ -183,19 +178,19 @@ fn step_or_not<R: Wait, D: Disk + Drop>(
     ensures kept { is_up_at (history_seen pass.old) number ≡ false → note_of number (seen_by pass.new) ≡ note_of number (seen_by pass.old) }
 {
     match state {
-        State::Down(_) => BatchEnd {
+        State::Down(_, _) => BatchEnd {
             refused: Err(InputFault::Down),
             fell: None,
         },
-        State::Up(site, log, rose) => step_all(
-            rt, alloc, wire, pass, number, site, log, rose, count, inputs,
+        State::Up(site, log, rose, logged) => step_all(
+            rt, alloc, wire, pass, number, site, log, rose, logged, inputs,
         ),
     }
 }
 
 // A site that fell is down, over the disk of its log.
 fn settle_batch<D: Disk + Drop>(state: &mut State<D>, fell: Option<Why>)
-    ensures fell { (why : Whys) → fell ≡ Some why → state.new ≡ State.Down (disk_of state.old) }
+    ensures fell { (why : Whys) → fell ≡ Some why → state.new ≡ State.Down (disk_of state.old) (logged_in state.old) }
     ensures kept { fell ≡ None → state.new ≡ state.old }
 {
     match fell {
@@ -212,10 +207,8 @@ pub(crate) fn take_all<R: Wait, D: Disk + Drop>(
     pass: &mut WirePass,
     number: u32,
     state: &mut State<D>,
-    count: &mut Count,
     inputs: List<Input>,
 ) -> Result<(), InputFault>
-    requires counted { count.old ≡ count_of number (history_seen pass.old) }
     requires idle { IsIdle wire.now pass.old }
     requires owns { Owns pass.old number }
     requires played { IsPlayed (seen_by pass.old) }
@@ -227,11 +220,8 @@ pub(crate) fn take_all<R: Wait, D: Disk + Drop>(
     requires due { is_up_at (history_seen pass.old) number ≡ true → MayTakeAll (scenario_seen pass.old) (history_seen pass.old) number inputs }
     requires takes { is_up_at (history_seen pass.old) number ≡ true → AreFirstTo (scenario_seen pass.old) (history_seen pass.old) number inputs }
     requires places { is_up_at (history_seen pass.old) number ≡ true → length inputs ≤ (note_of number (seen_by pass.old)).places }
-    requires back { AllReadBack (scenario_seen pass.old) (history_seen pass.old) number }
-    ensures counted { count.new ≡ count_of number (history_seen pass.new) }
     ensures turned { HasTurned wire.now pass.old pass.new }
     ensures stands { IsIn D.content D.image D.meters (scenario_seen pass.old) (history_seen pass.new) number state.new }
-    ensures back { AllReadBack (scenario_seen pass.old) (history_seen pass.new) number }
     ensures ended { BatchEnded D.meters (scenario_seen pass.old) (history_seen pass.old) (history_seen pass.new) number inputs state.old state.new result }
     ensures down { (result ≡ Err input_fault.Down) ↔ (is_up_at (history_seen pass.old) number ≡ false) }
     ensures never { result ≡ Err input_fault.HistoryFull → ⊥ }
@@ -239,7 +229,7 @@ pub(crate) fn take_all<R: Wait, D: Disk + Drop>(
     ensures kept { is_up_at (history_seen pass.old) number ≡ false → note_of number (seen_by pass.new) ≡ note_of number (seen_by pass.old) }
     ensures keeps { Keeps (D.meters (disk_of state.old)) (D.meters (disk_of state.new)) }
 {
-    let end = step_or_not(rt, alloc, wire, pass, number, state, count, inputs);
+    let end = step_or_not(rt, alloc, wire, pass, number, state, inputs);
     settle_batch(state, end.fell);
     answer_of(end)
 }

@@ -1,9 +1,5 @@
-use Rattle.std.proofs.Common.{◌∷◌, [], List, ap, sym, subst, ◌∙◌}
-use Rattle.std.proofs.lemmas.List.Sums.{fold-append}
-use Rattle.e3_node.specs.Counting.{counted_by}
+use Rattle.std.proofs.Common.{List, sym, subst}
 use Rattle.e3_node.specs.Several.{MayEnterAll}
-use Rattle.e3_node.specs.declared.counting.Count.{Count}
-use Rattle.e3_types.specs.declared.entries.Entry.{Entry}
 use Rattle.e3_wire.specs.declared.marks.Mark.{Mark}
 use Rattle.e3_node.proofs.Several.{entered_push, first_enters}
 use Rattle.e3_node.proofs.batching.enter_all.Goals as goal
@@ -19,7 +15,4 @@ loop-step-preserved c =
     record {
       may = subst P (sym c.enter.ensures) may.1;
       entered = entered_push c.args.shared.now c.loop-step.shared c.enter.new.self c.loop-step.yielded c.in-Some.step c.loop-step.invariant.entered c.enter.ensures;
-      counted =
-          c.count_on.ensures ∙ ap (λ (k : Count). counted_by k c.in-Some.step.act) c.loop-step.invariant.counted
-          ∙ sym (fold-append (λ (k : Count) (e : Entry). counted_by k e.act) c.args.count.now c.loop-step.yielded (c.in-Some.step ∷ []));
     }

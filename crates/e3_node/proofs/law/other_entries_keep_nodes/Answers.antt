@@ -5,4 +5,4 @@ pub returns-clause-nodes : goal.returns-clause-nodes
 returns-clause-nodes g c = node_kept g.D.Disk.content g.D.Disk.image g.D.Disk.meters
 
 pub returns-clause-disks : goal.returns-clause-disks
-returns-clause-disks g c = disks_kept g.D.Disk.image
+returns-clause-disks g c = disks_kept g.D.Disk.image g.D.Disk.meters

@@ -23,8 +23,8 @@ returns-clause-ready c =
       read = read;
       back = c.in_ok-log.ensures.back;
       spelled = c.in_ok-log.ensures.read;
-      few = omega (arith, c.len.type_inv, c.len.ensures);
-      kept_is = ap (nat_lt c.args.wish.now.logged) c.len.ensures;
+      few = omega (arith, c.len-read.type_inv, c.len-read.ensures);
+      kept_is = ap (nat_lt c.args.logged) c.len-read.ensures;
       inc_is = c.in_ok-inc.ensures ∙ ap (λ (l : List Record). suc (logged_inc l)) c.as_slice.ensures;
       records_are = made;
       body_is = c.in_ok-body.ensures.bytes ∙ ap spelling c.as_slice-3.ensures;
@@ -32,6 +32,7 @@ returns-clause-ready c =
           subst (λ (l : List Record). AllCanBeReadBack site l) c.as_slice-3.ensures
           (c.in_ok-body.ensures.back site (subst (λ (l : List Record). Each (IsOwn site) l) (sym (c.as_slice-3.ensures ∙ made)) (rise_own c.args.wish.now c.in_ok-inc.inc read)));
       rose_is = all;
+      read_is = c.len-read.ensures;
       risen = subst (λ (l : List Record). IsRebuilt site l c.in_ok-up.up) (c.as_slice-5.ensures ∙ all) c.in_ok-up.ensures.risen;
       stands = subst (λ (l : List Record). StandsForEach l c.in_ok-up.up) (c.as_slice-5.ensures ∙ all) c.in_ok-up.ensures.stands;
     }

@@ -4,6 +4,7 @@ use Rattle.e3_disk.specs.Meters.{Keeps}
 use Rattle.e3_node.specs.Rising.{RiseMakes}
 use Rattle.e3_node.specs.declared.rising.Raised.{Raised}
 use Rattle.e3_node.specs.declared.state.State.TheVariants.{Down}
+use Rattle.e3_node.specs.Bodies.{entries_at}
 use Rattle.e3_world.specs.Moves.{moves_of, open_tail}
 use Rattle.e3_node.proofs.Rises.{disk_within, makes_since, not_opened}
 use Rattle.e3_node.proofs.Strange.{reads_some}
@@ -17,15 +18,15 @@ returns-in-Ok-clause-makes g c = λ sc h may holds.
     let images : Within (g.D.Disk.image old) (g.D.Disk.image mid) = search rules in
     let keeps : Keeps (g.D.Disk.meters old) (g.D.Disk.meters mid) = search rules in
     makes_since g.D.Disk.content g.D.Disk.image g.D.Disk.meters sc h site old mid c.rise_over.result.0 c.rise_over.result.1 images keeps
-    (c.rise_over.ensures.makes sc h may (disk_within g.D.Disk.image sc h site old mid images holds))
+    (c.rise_over.ensures.makes sc h may (disk_within g.D.Disk.image g.D.Disk.meters sc h site c.args.logged old mid images keeps.capacity holds))
 
 pub returns-in-Err-clause-makes : goal.returns-in-Err-clause-makes
 returns-in-Err-clause-makes g c = λ sc h may holds.
     let site = c.args.wish.now.site in
     let old = c.args.disk in
     let new = c.in-Err.refused.disk in
-    subst (λ (r : Raised). RiseMakes g.D.Disk.content g.D.Disk.image g.D.Disk.meters sc h site old (Down new) r) (sym c.raised_of.ensures)
-    (not_opened g.D.Disk.content g.D.Disk.image g.D.Disk.meters sc h site old new c.in-Err.refused.cause c.in-Err.ensures.images holds
+    subst (λ (r : Raised). RiseMakes g.D.Disk.content g.D.Disk.image g.D.Disk.meters sc h site old (Down new c.args.logged) r) (sym c.raised_of.ensures)
+    (not_opened g.D.Disk.content g.D.Disk.image g.D.Disk.meters sc h site c.args.logged old new c.in-Err.refused.cause c.in-Err.ensures.images c.in-Err.ensures.keeps.capacity holds
     (λ is. c.in-Err.ensures.failed is c.requires.lit)
-    (λ at is. reads_some site (moves_of sc h site) (open_tail sc h site) (g.D.Disk.content old) (holds (g.D.Disk.content old) (g.met.D.Disk.reads_an_image old))
-    (λ bs reads. c.in-Err.ensures.whole bs reads at is)))
+    (λ at is. reads_some site (g.D.Disk.meters old).capacity (entries_at h site) c.args.logged (moves_of sc h site) (open_tail sc h site) (g.D.Disk.content old) (holds (g.D.Disk.content old) (g.met.D.Disk.reads_an_image old))
+    (λ n bs reads. c.in-Err.ensures.whole n bs reads at is)))

@@ -1,13 +1,26 @@
-use Rattle.std.proofs.Common.{ap, subst, Err, List}
-use Rattle.e3_node.specs.Rising.{IsForeign}
+use Rattle.std.proofs.Common.{ap, subst, sym, Err, List}
 use Rattle.e3_log.specs.Found.{bodies_of}
+use Rattle.e3_node.specs.Bodies.{DiskTells}
+use Rattle.e3_node.specs.Rising.{IsForeign, RiseMakes}
 use Rattle.e3_node.specs.declared.readying.Unready.{Unready}
+use Rattle.e3_node.specs.declared.rising.Raised.{Raised}
+use Rattle.e3_node.specs.declared.state.State.TheVariants.{Down}
+use Rattle.e3_node.proofs.Left.{opened_reads}
+use Rattle.e3_node.proofs.Rises.{unshortened}
 use Rattle.e3_node.proofs.Strange.{never_foreign}
 use Rattle.e3_node.proofs.rising.rise_over.Goals as goal
 
-pub returns-in-Err-Foreign-clause-makes : goal.returns-in-Err-Foreign-clause-makes
-returns-in-Err-Foreign-clause-makes g c = λ sc h may stands.
-    never_foreign sc h c.args.wish.now (bodies_of c.args.frames.now) (g.D.Disk.content c.args.log.disk) may
-    (stands (g.D.Disk.content c.args.log.disk) (g.met.D.Disk.reads_an_image c.args.log.disk)) c.requires.stands.disk.reads
-    c.logs_are_orderly.ensures.logs
-    (subst (λ (l : List _). IsForeign c.args.wish.now (bodies_of l)) c.as_slice.ensures (c.in-Err-Foreign.ensures.foreign (ap (λ (f : Unready). Err f) c.in-Err-Foreign.field-0-is)))
+pub returns-in-Err-clause-makes : goal.returns-in-Err-clause-makes
+returns-in-Err-clause-makes g c = λ sc h may tells.
+    let wish = c.args.wish.now in
+    let log = c.args.log in
+    let bytes = g.D.Disk.content log.disk in
+    let bodies = bodies_of c.args.frames.now in
+    let new = c.into_disk.result in
+    let here : DiskTells sc h wish.site (g.D.Disk.meters new).capacity c.args.logged (g.D.Disk.image new) =
+    subst (λ (d : _). DiskTells sc h wish.site (g.D.Disk.meters d).capacity c.args.logged (g.D.Disk.image d)) (sym c.into_disk.ensures) tells in
+    subst (λ (r : Raised). RiseMakes g.D.Disk.content g.D.Disk.image g.D.Disk.meters sc h wish.site log.disk (Down new c.args.logged) r) (sym c.raised_by.ensures)
+    (unshortened g.D.Disk.content g.D.Disk.image g.D.Disk.meters sc h wish.site c.args.logged log.disk new c.in-Err.fault
+    (λ foreign. never_foreign sc h wish (g.D.Disk.meters log.disk).capacity log.generation c.args.logged bodies bytes may
+    (tells bytes (g.met.D.Disk.reads_an_image log.disk)) (opened_reads g.D.Disk.content g.D.Disk.image g.D.Disk.meters bodies log c.requires.stands) c.logs_are_orderly.ensures.logs c.logged_sites_are_sets.ensures c.trails_are_sound.ensures.sound
+    (subst (λ (l : List _). IsForeign wish (bodies_of l)) c.as_slice.ensures (c.in-Err.ensures.foreign (ap (λ (f : Unready). Err f) foreign)))) here)

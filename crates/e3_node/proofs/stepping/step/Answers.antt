@@ -1,27 +1,36 @@
-use Rattle.std.proofs.Common.{◌≡◌, ◌≢◌, ◌++◌, ◌∷◌, [], ◌∙◌, ap, sym, subst, List, length, arith}
-use Rattle.e3_log.specs.Stands.{Stands}
-use Rattle.e3_node.specs.Bodies.{AllReadBack, DiskHolds, IsLogged, ReadsAfter, bodies_in, body_of}
-use Rattle.e3_node.specs.Counting.{counted_by}
-use Rattle.e3_node.specs.Ends.{EndsAt, FellOver, IsReason, Takes, calls_for}
+use Rattle.std.proofs.Common.{◌≡◌, ◌≢◌, [], ◌∙◌, ℕ, Err, ap, sym, subst, List, length, arith}
+use Rattle.std.specs.Prelude.{IsErrAnd, Ok, Result}
+use Rattle.e3_node.specs.Bodies.{DiskTells, entries_at}
+use Rattle.e3_node.specs.Ends.{FellOver, input_fault_of}
 use Rattle.e3_node.specs.NodeStands.{IsUp, StandsBy}
 use Rattle.e3_node.specs.SharedStands.{HasEntered}
+use Rattle.e3_node.specs.declared.fault.InputFault.{InputFault}
+use Rattle.e3_node.specs.declared.fault.InputFault.TheVariants as input_fault
 use Rattle.e3_site.specs.SiteView.{SiteView, count_on, entry_of_plan, step_kept}
+use Rattle.e3_site_log.specs.Ends.{IsDue, IsReason, Takes, calls_for, size_of}
 use Rattle.e3_types.specs.declared.entries.Act.TheVariants.{Fall}
 use Rattle.e3_types.specs.declared.entries.Entry.{Entry}
 use Rattle.e3_types.specs.declared.entries.Why.{Why}
 use Rattle.e3_types.specs.declared.records.Record.{Record}
 use Rattle.e3_wire.specs.Marks.{UsesAll, entries_of, scenario_of}
 use Rattle.e3_wire.specs.Wires.{MayEnterBehind}
-use Rattle.e3_world.specs.Legal.{entry_of, made_by}
-use Rattle.e3_world.specs.Moves.{log_size, moves_of}
+use Rattle.e3_wire.specs.declared.fault.WireFault.{WireFault}
+use Rattle.e3_wire.specs.declared.fault.WireFault.TheVariants as wire_fault
+use Rattle.e3_world.specs.Legal.{made_by}
+use Rattle.e3_world.specs.Moves.{log_of}
 use Rattle.e3_world.specs.declared.lives.SiteStep.{SiteStep}
-use Rattle.e3_node.proofs.Counts.{count_fallen, count_stepped}
 use Rattle.e3_node.proofs.Guarding.{first_takes_least}
 use Rattle.e3_node.proofs.Orders.{step_order}
-use Rattle.e3_node.proofs.Owning.{made_own}
 use Rattle.e3_node.proofs.Sharing.{fall_uses, has_from, may_enter, step_uses}
-use Rattle.e3_node.proofs.Steps.{draft_made, fall_allowed, fall_back, fall_entered, fall_takes, fallen_disk, inputs_on, own_stands, records_made, site_on, step_back, step_allowed, step_entered, step_logged, stepped_up}
+use Rattle.e3_node.proofs.Steps.{draft_made, fall_allowed, fall_entered, fall_takes, fallen_tells, inputs_on, own_stands, records_made, site_on, step_allowed, step_entered, step_logged, stepped_up}
+use Rattle.e3_node.proofs.Written.{Follows, step_follows, up_brief}
 use Rattle.e3_node.proofs.stepping.step.Goals as goal
+
+-- a claim that was refused is no fall
+no_fall : (w : WireFault) (r : Result (Unit {0}) InputFault) (why : Why) → IsErrAnd r (λ fault. fault ≡ input_fault_of w) → r ≡ Err (input_fault.Fell why) → ⊥
+no_fall w (Ok done) why is fell = is
+no_fall wire_fault.HistoryFull (Err fault) why is fell = cc
+no_fall wire_fault.NoMemory (Err fault) why is fell = cc
 
 pub prepare-requires : goal.prepare-requires
 prepare-requires g c = own_stands (scenario_of c.args.shared.now) (entries_of c.args.shared.now) c.args.number c.args.site.now c.requires.up.stands
@@ -65,7 +74,7 @@ enter-requires-in-Err-clause-may g c =
     let may : MayEnterBehind c.claim.new.shared e =
     may_enter was c.claim.new.shared _ e c.in_ok-claim.ensures.claimed c.requires.some
     (fall_allowed sc h c.args.number c.args.input d.inputs records c.in-Err.why made.inputs_are rs c.requires.some c.requires.up.up c.requires.due
-    (λ none. c.in-Err.ensures.some (c.records.ensures ∙ records_made sc h c.args.number c.args.input d.plan.step made.step_is ∙ sym rs ∙ none)))
+    (λ none. c.in-Err.ensures.some (c.records-records.ensures ∙ records_made sc h c.args.number c.args.input d.plan.step made.step_is ∙ sym rs ∙ none)))
     (fall_takes sc h c.args.number c.args.input d.inputs made.inputs_are (first_takes_least sc h c.args.number c.args.input c.requires.due c.requires.first)) (omega arith) in
     subst (λ (x : Entry). MayEnterBehind c.claim.new.shared x) (sym c.fall_of-fall.ensures) may
 
@@ -141,35 +150,23 @@ returns-in-Ok-clause-up g c =
     let has : HasEntered e was c.enter.new.shared = has_from was c.claim.new.shared c.enter.new.shared _ c.step_of-step.result e c.step_of-step.ensures c.in_ok-claim.ensures.claimed c.enter.ensures in
     let entered = step_entered sc h (entries_of c.enter.new.shared) c.args.number c.args.input step is has.entries in
     let ready : StandsBy sc h c.args.number c.args.rose.now c.prepare.new.site =
-    record { alike = c.in_ok-draft.ensures.still.stands sc h c.args.number c.args.rose.now c.requires.up.stands.alike; order = c.requires.up.stands.order } in
+    record { alike = c.in_ok-draft.ensures.still.stands sc h c.args.number c.args.rose.now c.requires.up.stands.alike; risen = c.requires.up.stands.risen; order = c.requires.up.stands.order } in
+    let slice : c.records-records.result.now ≡ (made_by sc h c.args.number c.args.input).records = c.records-records.ensures ∙ records_made sc h c.args.number c.args.input d.plan.step made.step_is in
+    let follows : Follows c.args.number (log_of sc h c.args.number) c.records-records.result.now c.in_ok-short.short =
+    step_follows c.logs_are_orderly.ensures.logs c.logged_sites_are_sets.ensures c.trails_are_sound.ensures.sound c.legal_histories_mention_what_stands.ensures.records c.begun_are_transactions.ensures c.records_suit_their_site.ensures.votes sc h c.args.number
+    c.requires.shared.played.given c.requires.shared.played.legal c.requires.up.up c.args.rose.now c.prepare.new.site c.args.input c.in_ok-short.short c.records-records.result.now ready c.requires.some c.requires.due
+    slice made.back c.in_ok-short.ensures.short in
     let order = step_order c.logs_are_orderly.ensures.logs c.logged_sites_are_sets.ensures sc h c.args.number c.args.input
     c.requires.shared.played.given c.requires.shared.played.legal c.requires.some c.requires.up.up c.requires.due in
-    let logged : IsLogged g.D.Disk.content g.D.Disk.image (moves_of sc (h ++ entry_of sc h c.args.number c.args.input ∷ []) c.args.number) c.write.new.log =
-    step_logged g.D.Disk.content g.D.Disk.image sc h c.args.number c.args.input c.args.log.now c.write.new.log c.requires.up.logged
-    (λ lists before. subst (λ (rs : List Record). Stands g.D.Disk.content g.D.Disk.image (bodies_in lists ++ body_of rs) c.write.new.log)
-    (c.records.ensures ∙ records_made sc h c.args.number c.args.input d.plan.step made.step_is) (c.in-Ok.ensures.stands lists before)) in
-    subst (λ (l : List Entry). IsUp g.D.Disk.content g.D.Disk.image g.D.Disk.meters sc l c.args.number c.apply.new.self c.write.new.log c.args.rose.now) (sym entered)
-    (stepped_up g.D.Disk.content g.D.Disk.image g.D.Disk.meters sc h c.args.number c.args.input c.apply.new.self c.write.new.log c.requires.up.up
+    let wrote = c.in-Ok.ensures.logged c.args.number (entries_at h c.args.number) (log_of sc h c.args.number) c.requires.up.logged follows.short follows.orderly follows.back in
+    let logged = step_logged g.D.Disk.content g.D.Disk.image g.D.Disk.meters sc h c.args.number c.args.input c.records-records.result.now c.write.new.logged c.write.new.log slice wrote in
+    subst (λ (l : List Entry). IsUp g.D.Disk.content g.D.Disk.image g.D.Disk.meters sc l c.args.number c.apply.new.self c.write.new.log c.args.rose.now c.write.new.logged) (sym entered)
+    (stepped_up g.D.Disk.content g.D.Disk.image g.D.Disk.meters sc h c.args.number c.args.input c.apply.new.self c.write.new.log c.write.new.logged c.requires.up.up
     (site_on sc h c.args.number c.args.input c.prepare.new.site c.apply.new.self d.plan.step ready made.step_is
     (ap (λ (s : SiteView). s.weights) c.apply.ensures.done) (ap (λ (s : SiteView). s.site) c.apply.ensures.done) c.apply.ensures.stand order)
     logged c.in-Ok.ensures.lit
     (inputs_on sc h c.args.number c.args.input c.args.site.now.inputs _ c.requires.up.inputs
     (ap (λ (s : SiteView). s.inputs) c.apply.ensures.done ∙ ap (λ (s : SiteView). count_on s.inputs) c.in_ok-draft.ensures.still.same)))
-
-pub returns-in-Ok-clause-back : goal.returns-in-Ok-clause-back
-returns-in-Ok-clause-back g c =
-    let was = c.args.shared.now in
-    let sc = scenario_of was in
-    let h = entries_of was in
-    let d = c.in_ok-draft.draft in
-    let made = draft_made sc h c.args.number c.args.site.now _ c.args.input d c.requires.up.stands c.in_ok-draft.ensures.ready in
-    let step : SiteStep = c.apply.result in
-    let is : step ≡ step_kept c.args.input (made_by sc h c.args.number c.args.input) = c.apply.ensures.step ∙ made.step_is in
-    let e : Entry = entry_of_plan c.args.number c.args.input step in
-    let has : HasEntered e was c.enter.new.shared = has_from was c.claim.new.shared c.enter.new.shared _ c.step_of-step.result e c.step_of-step.ensures c.in_ok-claim.ensures.claimed c.enter.ensures in
-    let entered = step_entered sc h (entries_of c.enter.new.shared) c.args.number c.args.input step is has.entries in
-    subst (λ (l : List Entry). AllReadBack sc l c.args.number) (sym entered) (step_back sc h c.args.number c.args.input c.requires.back (made.back (made_own c.legal_histories_mention_what_stands.ensures.records c.begun_are_transactions.ensures c.records_suit_their_site.ensures.votes sc h c.args.number c.args.input
-    c.requires.shared.played.given c.requires.shared.played.legal c.requires.some c.requires.up.up c.requires.due)))
 
 pub returns-in-Err-clause-shared : goal.returns-in-Err-clause-shared
 returns-in-Err-clause-shared g c =
@@ -213,22 +210,6 @@ returns-in-Err-clause-same g c =
     let has : HasEntered e was c.enter-in-Err.new.shared = has_from was c.claim.new.shared c.enter-in-Err.new.shared _ c.fall_of-fall.result e c.fall_of-fall.ensures c.in_ok-claim.ensures.claimed c.enter-in-Err.ensures in
     (has.scenario, has.most)
 
-pub returns-in-Err-clause-back : goal.returns-in-Err-clause-back
-returns-in-Err-clause-back g c =
-    let was = c.args.shared.now in
-    let sc = scenario_of was in
-    let h = entries_of was in
-    let d = c.in_ok-draft.draft in
-    let made = draft_made sc h c.args.number c.args.site.now _ c.args.input d c.requires.up.stands c.in_ok-draft.ensures.ready in
-    let records : List Record = c.into_step-made.result.records in
-    let rs : records ≡ (made_by sc h c.args.number c.args.input).records =
-    records_made sc h c.args.number c.args.input c.into_step-made.result (c.into_step-made.ensures ∙ made.step_is) in
-    let e : Entry = record { owner = c.args.number; act = Fall d.inputs records c.in-Err.why } in
-    let has : HasEntered e was c.enter-in-Err.new.shared = has_from was c.claim.new.shared c.enter-in-Err.new.shared _ c.fall_of-fall.result e c.fall_of-fall.ensures c.in_ok-claim.ensures.claimed c.enter-in-Err.ensures in
-    let entered = fall_entered sc h (entries_of c.enter-in-Err.new.shared) c.args.number c.args.input d.inputs records c.in-Err.why made.inputs_are rs has.entries in
-    subst (λ (l : List Entry). AllReadBack sc l c.args.number) (sym entered) (fall_back sc h c.args.number c.args.input c.in-Err.why c.requires.back (made.back (made_own c.legal_histories_mention_what_stands.ensures.records c.begun_are_transactions.ensures c.records_suit_their_site.ensures.votes sc h c.args.number c.args.input
-    c.requires.shared.played.given c.requires.shared.played.legal c.requires.some c.requires.up.up c.requires.due)))
-
 pub returns-in-Err-clause-fell : goal.returns-in-Err-clause-fell
 returns-in-Err-clause-fell g c = λ why is.
     let was = c.args.shared.now in
@@ -243,47 +224,22 @@ returns-in-Err-clause-fell g c = λ why is.
     let has : HasEntered e was c.enter-in-Err.new.shared = has_from was c.claim.new.shared c.enter-in-Err.new.shared _ c.fall_of-fall.result e c.fall_of-fall.ensures c.in_ok-claim.ensures.claimed c.enter-in-Err.ensures in
     let entered = fall_entered sc h (entries_of c.enter-in-Err.new.shared) c.args.number c.args.input d.inputs records c.in-Err.why made.inputs_are rs has.entries in
     let more = entries_of c.enter-in-Err.new.shared in
-    let image = g.D.Disk.image c.write.new.log.disk in
-    let some : (made_by sc h c.args.number c.args.input).records ≢ [] = (λ none. c.in-Err.ensures.some (c.records.ensures ∙ records_made sc h c.args.number c.args.input d.plan.step made.step_is ∙ none)) in
+    let some : (made_by sc h c.args.number c.args.input).records ≢ [] = (λ none. c.in-Err.ensures.some (c.records-records.ensures ∙ records_made sc h c.args.number c.args.input d.plan.step made.step_is ∙ none)) in
     let over : FellOver sc h c.args.number c.args.input c.in-Err.why more = record { some = some; entered = entered } in
-    let stands : DiskHolds sc more c.args.number image =
-    subst (λ (l : List Entry). DiskHolds sc l c.args.number image) (sym entered)
-    (fallen_disk g.D.Disk.content g.D.Disk.image sc h c.args.number c.args.input c.in-Err.why c.args.log.now c.write.new.log c.requires.up.logged
-    (λ lists before bytes at. subst (λ (rs : List Record). ReadsAfter lists c.in-Err.why rs bytes)
-    (c.records.ensures ∙ records_made sc h c.args.number c.args.input d.plan.step made.step_is) (c.in-Err.ensures.images lists before bytes at))) in
+    let ready : StandsBy sc h c.args.number c.args.rose.now c.prepare.new.site =
+    record { alike = c.in_ok-draft.ensures.still.stands sc h c.args.number c.args.rose.now c.requires.up.stands.alike; risen = c.requires.up.stands.risen; order = c.requires.up.stands.order } in
+    let slice : c.records-records.result.now ≡ (made_by sc h c.args.number c.args.input).records = c.records-records.ensures ∙ records_made sc h c.args.number c.args.input d.plan.step made.step_is in
+    let follows : Follows c.args.number (log_of sc h c.args.number) c.records-records.result.now c.in_ok-short.short =
+    step_follows c.logs_are_orderly.ensures.logs c.logged_sites_are_sets.ensures c.trails_are_sound.ensures.sound c.legal_histories_mention_what_stands.ensures.records c.begun_are_transactions.ensures c.records_suit_their_site.ensures.votes sc h c.args.number
+    c.requires.shared.played.given c.requires.shared.played.legal c.requires.up.up c.args.rose.now c.prepare.new.site c.args.input c.in_ok-short.short c.records-records.result.now ready c.requires.some c.requires.due
+    slice made.back c.in_ok-short.ensures.short in
+    let disk = c.write.new.log.disk in
+    let stands : DiskTells sc more c.args.number (g.D.Disk.meters disk).capacity c.write.new.logged (g.D.Disk.image disk) =
+    subst (λ (l : List Entry). DiskTells sc l c.args.number (g.D.Disk.meters disk).capacity c.write.new.logged (g.D.Disk.image disk)) (sym entered)
+    (fallen_tells sc h c.args.number (g.D.Disk.meters disk).capacity c.args.input c.records-records.result.now c.in-Err.why c.write.new.logged (g.D.Disk.image disk) slice
+    (c.in-Err.ensures.left c.args.number (entries_at h c.args.number) (log_of sc h c.args.number) c.requires.up.logged follows.short follows.orderly follows.back)) in
     let same : c.in-Err.why ≡ why = cc in
-    subst (λ (w : Why). FellOver sc h c.args.number c.args.input w more × DiskHolds sc more c.args.number image) same (over, stands)
-
-pub returns-in-Ok-clause-counted : goal.returns-in-Ok-clause-counted
-returns-in-Ok-clause-counted g c =
-    let was = c.args.shared.now in
-    let sc = scenario_of was in
-    let h = entries_of was in
-    let d = c.in_ok-draft.draft in
-    let made = draft_made sc h c.args.number c.args.site.now _ c.args.input d c.requires.up.stands c.in_ok-draft.ensures.ready in
-    let step : SiteStep = c.apply.result in
-    let is : step ≡ step_kept c.args.input (made_by sc h c.args.number c.args.input) = c.apply.ensures.step ∙ made.step_is in
-    let e : Entry = entry_of_plan c.args.number c.args.input step in
-    let has : HasEntered e was c.enter.new.shared = has_from was c.claim.new.shared c.enter.new.shared _ c.step_of-step.result e c.step_of-step.ensures c.in_ok-claim.ensures.claimed c.enter.ensures in
-    let entered = step_entered sc h (entries_of c.enter.new.shared) c.args.number c.args.input step is has.entries in
-    count_stepped sc c.args.number h (entries_of c.enter.new.shared) c.args.input step.records step.outs step.told c.args.count.now c.count_on.new.count (records_made sc h c.args.number c.args.input step is) entered
-    c.requires.counted (c.count_on.ensures ∙ ap (λ (y : Entry). counted_by c.args.count.now y.act) c.step_of-step.ensures)
-
-pub returns-in-Err-clause-counted : goal.returns-in-Err-clause-counted
-returns-in-Err-clause-counted g c =
-    let was = c.args.shared.now in
-    let sc = scenario_of was in
-    let h = entries_of was in
-    let d = c.in_ok-draft.draft in
-    let made = draft_made sc h c.args.number c.args.site.now _ c.args.input d c.requires.up.stands c.in_ok-draft.ensures.ready in
-    let records : List Record = c.into_step-made.result.records in
-    let rs : records ≡ (made_by sc h c.args.number c.args.input).records =
-    records_made sc h c.args.number c.args.input c.into_step-made.result (c.into_step-made.ensures ∙ made.step_is) in
-    let e : Entry = record { owner = c.args.number; act = Fall d.inputs records c.in-Err.why } in
-    let has : HasEntered e was c.enter-in-Err.new.shared = has_from was c.claim.new.shared c.enter-in-Err.new.shared _ c.fall_of-fall.result e c.fall_of-fall.ensures c.in_ok-claim.ensures.claimed c.enter-in-Err.ensures in
-    let entered = fall_entered sc h (entries_of c.enter-in-Err.new.shared) c.args.number c.args.input d.inputs records c.in-Err.why made.inputs_are rs has.entries in
-    count_fallen sc c.args.number h (entries_of c.enter-in-Err.new.shared) c.args.input d.inputs records c.in-Err.why c.args.count.now c.count_on-in-Err.new.count rs entered
-    c.requires.counted (c.count_on-in-Err.ensures ∙ ap (λ (y : Entry). counted_by c.args.count.now y.act) c.fall_of-fall.ensures)
+    subst (λ (w : Why). FellOver sc h c.args.number c.args.input w more × DiskTells sc more c.args.number (g.D.Disk.meters disk).capacity c.write.new.logged (g.D.Disk.image disk)) same (over, stands)
 
 pub returns-in-Err-clause-why : goal.returns-in-Err-clause-why
 returns-in-Err-clause-why g c = λ why is.
@@ -292,23 +248,26 @@ returns-in-Err-clause-why g c = λ why is.
     let h = entries_of was in
     let d = c.in_ok-draft.draft in
     let made = draft_made sc h c.args.number c.args.site.now _ c.args.input d c.requires.up.stands c.in_ok-draft.ensures.ready in
+    let ready : StandsBy sc h c.args.number c.args.rose.now c.prepare.new.site =
+    record { alike = c.in_ok-draft.ensures.still.stands sc h c.args.number c.args.rose.now c.requires.up.stands.alike; risen = c.requires.up.stands.risen; order = c.requires.up.stands.order } in
+    let slice : c.records-records.result.now ≡ (made_by sc h c.args.number c.args.input).records = c.records-records.ensures ∙ records_made sc h c.args.number c.args.input d.plan.step made.step_is in
+    let follows : Follows c.args.number (log_of sc h c.args.number) c.records-records.result.now c.in_ok-short.short =
+    step_follows c.logs_are_orderly.ensures.logs c.logged_sites_are_sets.ensures c.trails_are_sound.ensures.sound c.legal_histories_mention_what_stands.ensures.records c.begun_are_transactions.ensures c.records_suit_their_site.ensures.votes sc h c.args.number
+    c.requires.shared.played.given c.requires.shared.played.legal c.requires.up.up c.args.rose.now c.prepare.new.site c.args.input c.in_ok-short.short c.records-records.result.now ready c.requires.some c.requires.due
+    slice made.back c.in_ok-short.ensures.short in
     let old = g.D.Disk.meters c.args.log.now.disk in
     let new = g.D.Disk.meters c.write.new.log.disk in
-    let logged = c.requires.up.logged in
+    let l = log_of sc h c.args.number in
+    let brief = up_brief c.logs_are_orderly.ensures.logs c.logged_sites_are_sets.ensures c.trails_are_sound.ensures.sound c.legal_histories_mention_what_stands.ensures.records c.begun_are_transactions.ensures c.records_suit_their_site.ensures.votes sc h c.args.number
+    c.requires.shared.played.given c.requires.shared.played.legal c.requires.up.up c.args.rose.now c.prepare.new.site ready in
+    let size : c.len.result ≡ size_of c.records-records.result.now =
+    c.len.ensures ∙ ap length c.in_ok-draft.ensures.ready.drafted.body_is ∙ sym (ap size_of c.records-records.ensures) in
+    let due : IsDue g.D.Disk.meters c.args.log.now l c.in_ok-short.short (size_of c.records-records.result.now) =
+    subst (λ (n : ℕ). IsDue g.D.Disk.meters c.args.log.now l c.in_ok-short.short n) size (c.in_ok-short.ensures.due l brief c.requires.up.logged.stands.sound c.in-Err.ensures.some) in
     let same : c.in-Err.why ≡ why = cc in
-    subst (λ (w : Why). IsReason w (log_size (moves_of sc h c.args.number)) (made_by sc h c.args.number c.args.input).records old new) same
-    (subst (λ (rs : List Record). IsReason c.in-Err.why (log_size (moves_of sc h c.args.number)) rs old new) (c.records.ensures ∙ records_made sc h c.args.number c.args.input d.plan.step made.step_is)
-    (c.in-Err.ensures.reason (moves_of sc h c.args.number) logged.lists logged.hold logged.stands))
-
-pub returns-in-Err-clause-need : goal.returns-in-Err-clause-need
-returns-in-Err-clause-need g c = λ why is.
-    let sc = scenario_of c.args.shared.now in
-    let h = entries_of c.args.shared.now in
-    let d = c.in_ok-draft.draft in
-    let made = draft_made sc h c.args.number c.args.site.now _ c.args.input d c.requires.up.stands c.in_ok-draft.ensures.ready in
-    let same : c.in-Err.why ≡ why = cc in
-    subst (EndsAt c.args.log.now.end (made_by sc h c.args.number c.args.input).records) same
-    (subst (λ (rs : List Record). EndsAt c.args.log.now.end rs c.in-Err.why) (c.records.ensures ∙ records_made sc h c.args.number c.args.input d.plan.step made.step_is) c.in-Err.ensures.need)
+    subst (λ (w : Why). IsReason w l (made_by sc h c.args.number c.args.input).records old new) same
+    (subst (λ (rs : List Record). IsReason c.in-Err.why l rs old new) slice
+    (c.in-Err.ensures.reason c.args.number (entries_at h c.args.number) l c.requires.up.logged follows.short due))
 
 pub returns-in-Ok-clause-takes : goal.returns-in-Ok-clause-takes
 returns-in-Ok-clause-takes g c =
@@ -317,4 +276,8 @@ returns-in-Ok-clause-takes g c =
     let d = c.in_ok-draft.draft in
     let made = draft_made sc h c.args.number c.args.site.now _ c.args.input d c.requires.up.stands c.in_ok-draft.ensures.ready in
     let T : List Record → Type 0 = λ rs. Takes (calls_for rs) (g.D.Disk.meters c.args.log.now.disk) (g.D.Disk.meters c.write.new.log.disk) in
-    subst T (c.records.ensures ∙ records_made sc h c.args.number c.args.input d.plan.step made.step_is) c.in-Ok.ensures.takes
+    subst T (c.records-records.ensures ∙ records_made sc h c.args.number c.args.input d.plan.step made.step_is) c.in-Ok.ensures.takes
+
+pub returns-in_err-claim-clause-fell : goal.returns-in_err-claim-clause-fell
+returns-in_err-claim-clause-fell g c = λ why is.
+    absurd (no_fall c.in_err-claim.field-0.0 c.from_residual-in_err-claim.result why c.from_residual-in_err-claim.ensures.1 is)

@@ -1,13 +1,13 @@
-use Rattle.std.proofs.Common.{◌≡◌, ◌≤◌, ◌++◌, ◌∷◌, [], ℕ, List, length, take, refl, sym, subst, ap, ◌∙◌}
+use Rattle.std.proofs.Common.{◌≡◌, ◌≢◌, ◌≤◌, ◌+◌, ◌++◌, ◌∷◌, [], ℕ, true, List, length, take, refl, sym, subst, ap, ◌∙◌}
 use Rattle.e3_law_local.specs.Others.{numbered_on}
-use Rattle.e3_log.specs.Stands.{Stands}
 use Rattle.e3_law_stands.specs.StandsAlike.{IsLogInOrder}
 use Rattle.e3_node.specs.Batched.{HasPlanned}
 use Rattle.e3_node.specs.Batches.{stepped}
-use Rattle.e3_node.specs.Bodies.{ReadsAfter, bodies_in, body_of}
-use Rattle.e3_node.specs.Counting.{counted_by}
-use Rattle.e3_node.specs.Ends.{EndsAt, IsReason, Takes, calls_for}
+use Rattle.e3_node.specs.Bodies.{entries_at}
+use Rattle.e3_node.specs.Briefing.{BriefsAreTold}
 use Rattle.e3_node.specs.Several.{AreOf, marks_in}
+use Rattle.e3_site_log.specs.Bodies.{IsLogged, ReadsLeft}
+use Rattle.e3_site_log.specs.Ends.{EndsAt, IsDue, IsReason, Takes, calls_for, size_of}
 use Rattle.e3_turn.specs.Passes.{GrewByOthers, Owns, seen_by}
 use Rattle.e3_types.specs.Spelling.{spelling}
 use Rattle.e3_types.specs.declared.entries.Act.TheVariants.{Fall}
@@ -18,12 +18,14 @@ use Rattle.e3_wire.specs.Marks.{belongs, entries_of, scenario_of}
 use Rattle.e3_wire.specs.Wires.{IsPlayed, MayEnterBehind}
 use Rattle.e3_wire.specs.declared.marks.Mark.{Mark}
 use Rattle.e3_wire.specs.declared.marks.Mark.TheVariants as mark
-use Rattle.e3_world.specs.Moves.{log_of, log_size}
+use Rattle.e3_world.specs.Items.{is_up_at}
+use Rattle.e3_world.specs.Moves.{log_of}
 use Rattle.e3_node.proofs.Bundles.{plain_own}
 use Rattle.e3_node.proofs.Ended.{never_down}
-use Rattle.e3_node.proofs.BatchOrders.{batch_orders}
-use Rattle.e3_node.proofs.Results.{alone, counted_fallen, counted_stepped, fall_end, fall_may, history_fallen, history_stepped, made, may_all_enter, note_fallen, note_stepped, steps_are, steps_end, turned, up_first, up_second}
+use Rattle.e3_node.proofs.BatchOrders.{batch_brief, batch_order}
+use Rattle.e3_node.proofs.Results.{all_due, all_follow, alone, fall_end, fall_may, made, may_all_enter, note_fallen, note_stepped, steps_are, steps_end, turned, up_2, up_first, up_second}
 use Rattle.e3_node.proofs.Waiting.{still_owns}
+use Rattle.e3_node.proofs.Written.{Follows}
 use Rattle.e3_node.proofs.taking.step_all.Goals as goal
 
 pub plan_all-refused-requires-clause-stands : goal.plan_all-refused-requires-clause-stands
@@ -35,8 +37,32 @@ plan_all-refused-requires-clause-orders g c =
     let n = c.args.number in
     let Q : List Input → Type 0 = λ l. (marks : List Mark) → GrewByOthers belongs p marks → IsPlayed marks → (k : ℕ) → k ≤ length l →
     IsLogInOrder n (log_of (scenario_of marks) (stepped (scenario_of marks) (entries_of marks) n (take k l)) n) in
-    subst Q (sym c.as_slice.ensures) (batch_orders c.logs_are_orderly.ensures.logs c.logged_sites_are_sets.ensures p n c.args.inputs c.requires.owns c.requires.played c.requires.some c.requires.up.up
-    c.requires.restless c.requires.due c.requires.takes)
+    subst Q (sym c.as_slice.ensures) (λ marks grew played k few.
+    batch_order p n c.args.inputs c.requires.owns c.requires.played c.requires.some c.requires.up.up
+    c.requires.restless c.requires.due c.requires.takes marks grew played k
+    c.logs_are_orderly.ensures.logs c.logged_sites_are_sets.ensures)
+
+pub plan_all-refused-requires-clause-briefs : goal.plan_all-refused-requires-clause-briefs
+plan_all-refused-requires-clause-briefs g c =
+    let p = c.args.pass.now in
+    let n = c.args.number in
+    let Q : List Input → Type 0 = λ l. (marks : List Mark) → GrewByOthers belongs p marks → IsPlayed marks → (k : ℕ) → k ≤ length l →
+    BriefsAreTold (scenario_of marks) (stepped (scenario_of marks) (entries_of marks) n (take k l)) n c.args.rose.now in
+    subst Q (sym c.as_slice.ensures) (λ marks grew played k few.
+    batch_brief p n c.args.inputs c.requires.owns c.requires.played c.requires.some c.requires.up.up
+    c.requires.restless c.requires.due c.requires.takes marks grew played k
+    c.logs_are_orderly.ensures.logs c.logged_sites_are_sets.ensures c.trails_are_sound.ensures.sound
+    c.legal_histories_mention_what_stands.ensures.records c.begun_are_transactions.ensures
+    c.records_suit_their_site.ensures.votes c.args.rose.now c.requires.up.stands.risen)
+
+pub plan_all-refused-requires-clause-sound : goal.plan_all-refused-requires-clause-sound
+plan_all-refused-requires-clause-sound g c = c.requires.up.logged.stands.sound
+
+pub write-requires-clause-lit : goal.write-requires-clause-lit
+write-requires-clause-lit g c = c.requires.up.lit
+
+pub write-requires-clause-may : goal.write-requires-clause-may
+write-requires-clause-may g c = c.plan_all-refused.ensures.planned.made.may
 
 pub write-requires-clause-spelled : goal.write-requires-clause-spelled
 write-requires-clause-spelled g c =
@@ -47,10 +73,11 @@ write-requires-clause-spelled g c =
     let b = c.plan_all-refused.new.batch in
     let s1 = c.plan_all-refused.new.site in
     let answer = c.plan_all-refused.result in
-    let plan : HasPlanned p n c.args.rose.now s0.inputs c.args.inputs answer b s1 (seen_by q) =
-    subst (λ (l : List Input). HasPlanned p n c.args.rose.now s0.inputs l answer b s1 (seen_by q)) c.as_slice.ensures c.plan_all-refused.ensures.planned in
+    let plan : HasPlanned g.D.Disk.meters c.args.log.now p n c.args.rose.now s0.inputs c.args.inputs answer b s1 (seen_by q) =
+    subst (λ (l : List Input). HasPlanned g.D.Disk.meters c.args.log.now p n c.args.rose.now s0.inputs l answer b s1 (seen_by q)) c.as_slice.ensures c.plan_all-refused.ensures.planned in
     let mine = still_owns p q n c.plan_all-refused.ensures.same c.requires.owns in
-    let is = made p q n s0.inputs c.args.inputs answer b s1 plan c.requires.owns mine c.requires.played c.plan_all-refused.ensures.played in
+    let is = made g.D.Disk.meters c.args.log.now p q n s0.inputs c.args.inputs answer b s1 plan c.requires.owns mine c.requires.played
+    c.plan_all-refused.ensures.played in
     c.as_slice-3.ensures ∙ is.body_is ∙ ap spelling (sym is.records_are) ∙ ap spelling (sym c.as_slice-2.ensures)
 
 pub enter_steps-requires-clause-owned : goal.enter_steps-requires-clause-owned
@@ -64,10 +91,11 @@ enter_steps-requires-clause-owned g c =
     let b = c.plan_all-refused.new.batch in
     let s1 = c.plan_all-refused.new.site in
     let answer = c.plan_all-refused.result in
-    let plan : HasPlanned p n c.args.rose.now s0.inputs c.args.inputs answer b s1 (seen_by q) =
-    subst (λ (l : List Input). HasPlanned p n c.args.rose.now s0.inputs l answer b s1 (seen_by q)) c.as_slice.ensures c.plan_all-refused.ensures.planned in
+    let plan : HasPlanned g.D.Disk.meters c.args.log.now p n c.args.rose.now s0.inputs c.args.inputs answer b s1 (seen_by q) =
+    subst (λ (l : List Input). HasPlanned g.D.Disk.meters c.args.log.now p n c.args.rose.now s0.inputs l answer b s1 (seen_by q)) c.as_slice.ensures c.plan_all-refused.ensures.planned in
     let mine = still_owns p q n c.plan_all-refused.ensures.same c.requires.owns in
-    let is = made p q n s0.inputs c.args.inputs answer b s1 plan c.requires.owns mine c.requires.played c.plan_all-refused.ensures.played in
+    let is = made g.D.Disk.meters c.args.log.now p q n s0.inputs c.args.inputs answer b s1 plan c.requires.owns mine c.requires.played
+    c.plan_all-refused.ensures.played in
     record {
       site = n;
       some = c.requires.some;
@@ -86,12 +114,15 @@ enter_steps-requires-clause-may g c =
     let b = c.plan_all-refused.new.batch in
     let s1 = c.plan_all-refused.new.site in
     let answer = c.plan_all-refused.result in
-    let plan : HasPlanned p n c.args.rose.now s0.inputs c.args.inputs answer b s1 (seen_by q) =
-    subst (λ (l : List Input). HasPlanned p n c.args.rose.now s0.inputs l answer b s1 (seen_by q)) c.as_slice.ensures c.plan_all-refused.ensures.planned in
+    let plan : HasPlanned g.D.Disk.meters c.args.log.now p n c.args.rose.now s0.inputs c.args.inputs answer b s1 (seen_by q) =
+    subst (λ (l : List Input). HasPlanned g.D.Disk.meters c.args.log.now p n c.args.rose.now s0.inputs l answer b s1 (seen_by q)) c.as_slice.ensures c.plan_all-refused.ensures.planned in
     let mine = still_owns p q n c.plan_all-refused.ensures.same c.requires.owns in
     λ marks grew played.
-    may_all_enter p q n s0.inputs c.args.inputs answer b s1 plan c.requires.owns mine c.requires.played c.plan_all-refused.ensures.played c.requires.some c.requires.up.up c.requires.restless c.requires.due c.requires.takes
-    marks grew played c.requires.exists (up_second p q n s0.inputs c.args.inputs answer b s1 plan c.requires.owns mine c.requires.played c.plan_all-refused.ensures.played c.requires.some c.requires.up.up c.requires.restless c.requires.due c.requires.takes marks grew played g.D.Disk.content g.D.Disk.image g.D.Disk.meters s0 l0 c.requires.up)
+    may_all_enter g.D.Disk.meters c.args.log.now p q n s0.inputs c.args.inputs answer b s1 plan c.requires.owns mine c.requires.played
+    c.plan_all-refused.ensures.played c.requires.some c.requires.up.up c.requires.restless c.requires.due c.requires.takes
+    marks grew played c.requires.exists (up_second g.D.Disk.meters c.args.log.now p q n s0.inputs c.args.inputs answer b s1
+    plan c.requires.owns mine c.requires.played c.plan_all-refused.ensures.played c.requires.some c.requires.up.up
+    c.requires.restless c.requires.due c.requires.takes marks grew played g.D.Disk.content g.D.Disk.image g.D.Disk.meters s0 l0 c.args.logged.now c.requires.up)
 
 pub commit_entry-requires-clause-owns : goal.commit_entry-requires-clause-owns
 commit_entry-requires-clause-owns g c =
@@ -104,8 +135,8 @@ commit_entry-requires-clause-owns g c =
     let b = c.plan_all-refused.new.batch in
     let s1 = c.plan_all-refused.new.site in
     let answer = c.plan_all-refused.result in
-    let plan : HasPlanned p n c.args.rose.now s0.inputs c.args.inputs answer b s1 (seen_by q) =
-    subst (λ (l : List Input). HasPlanned p n c.args.rose.now s0.inputs l answer b s1 (seen_by q)) c.as_slice.ensures c.plan_all-refused.ensures.planned in
+    let plan : HasPlanned g.D.Disk.meters c.args.log.now p n c.args.rose.now s0.inputs c.args.inputs answer b s1 (seen_by q) =
+    subst (λ (l : List Input). HasPlanned g.D.Disk.meters c.args.log.now p n c.args.rose.now s0.inputs l answer b s1 (seen_by q)) c.as_slice.ensures c.plan_all-refused.ensures.planned in
     let mine = still_owns p q n c.plan_all-refused.ensures.same c.requires.owns in
     subst (λ (y : Entry). Owns q y.owner) (sym c.fall_of-fall.ensures) mine
 
@@ -120,13 +151,18 @@ commit_entry-requires-clause-may g c =
     let b = c.plan_all-refused.new.batch in
     let s1 = c.plan_all-refused.new.site in
     let answer = c.plan_all-refused.result in
-    let plan : HasPlanned p n c.args.rose.now s0.inputs c.args.inputs answer b s1 (seen_by q) =
-    subst (λ (l : List Input). HasPlanned p n c.args.rose.now s0.inputs l answer b s1 (seen_by q)) c.as_slice.ensures c.plan_all-refused.ensures.planned in
+    let plan : HasPlanned g.D.Disk.meters c.args.log.now p n c.args.rose.now s0.inputs c.args.inputs answer b s1 (seen_by q) =
+    subst (λ (l : List Input). HasPlanned g.D.Disk.meters c.args.log.now p n c.args.rose.now s0.inputs l answer b s1 (seen_by q)) c.as_slice.ensures c.plan_all-refused.ensures.planned in
     let mine = still_owns p q n c.plan_all-refused.ensures.same c.requires.owns in
     subst (λ (y : Entry). MayEnterBehind (seen_by q) y) (sym c.fall_of-fall.ensures)
-    (fall_may p q n s0.inputs c.args.inputs answer b s1 plan c.requires.owns mine c.requires.played c.plan_all-refused.ensures.played c.requires.some c.requires.up.up c.requires.restless c.requires.due c.requires.takes
-    c.first_of-over.result c.in-Err.why (c.first_of-over.ensures ∙ ap (λ (k : ℕ). take k c.args.inputs) (ap length c.as_slice-in-Err.ensures.value ∙ steps_are p q n s0.inputs c.args.inputs answer b s1 plan c.requires.owns mine c.requires.played c.plan_all-refused.ensures.played))
-    (λ none. c.in-Err.ensures.some (c.as_slice-2.ensures ∙ none)) (up_first p q n s0.inputs c.args.inputs answer b s1 plan c.requires.owns mine c.requires.played c.plan_all-refused.ensures.played g.D.Disk.content g.D.Disk.image g.D.Disk.meters s0 l0 c.requires.up) c.requires.exists)
+    (fall_may g.D.Disk.meters c.args.log.now p q n s0.inputs c.args.inputs answer b s1 plan c.requires.owns mine c.requires.played
+    c.plan_all-refused.ensures.played c.requires.some c.requires.up.up c.requires.restless c.requires.due c.requires.takes
+    c.first_of-over.result c.in-Err.why (c.first_of-over.ensures ∙ ap (λ (k : ℕ). take k c.args.inputs)
+    (ap length c.as_slice-in-Err.ensures.value ∙ steps_are g.D.Disk.meters c.args.log.now p q n s0.inputs c.args.inputs answer b s1
+    plan c.requires.owns mine c.requires.played c.plan_all-refused.ensures.played))
+    (λ none. c.in-Err.ensures.some (c.as_slice-2.ensures ∙ none)) (up_first g.D.Disk.meters c.args.log.now p q n s0.inputs c.args.inputs answer b s1
+    plan c.requires.owns mine c.requires.played c.plan_all-refused.ensures.played
+    g.D.Disk.content g.D.Disk.image g.D.Disk.meters s0 l0 c.args.logged.now c.requires.up) c.requires.exists)
 
 pub commit_entry-requires-clause-alone : goal.commit_entry-requires-clause-alone
 commit_entry-requires-clause-alone g c =
@@ -139,32 +175,12 @@ commit_entry-requires-clause-alone g c =
     let b = c.plan_all-refused.new.batch in
     let s1 = c.plan_all-refused.new.site in
     let answer = c.plan_all-refused.result in
-    let plan : HasPlanned p n c.args.rose.now s0.inputs c.args.inputs answer b s1 (seen_by q) =
-    subst (λ (l : List Input). HasPlanned p n c.args.rose.now s0.inputs l answer b s1 (seen_by q)) c.as_slice.ensures c.plan_all-refused.ensures.planned in
+    let plan : HasPlanned g.D.Disk.meters c.args.log.now p n c.args.rose.now s0.inputs c.args.inputs answer b s1 (seen_by q) =
+    subst (λ (l : List Input). HasPlanned g.D.Disk.meters c.args.log.now p n c.args.rose.now s0.inputs l answer b s1 (seen_by q)) c.as_slice.ensures c.plan_all-refused.ensures.planned in
     let mine = still_owns p q n c.plan_all-refused.ensures.same c.requires.owns in
     λ calm.
-    alone p q n s0.inputs c.args.inputs answer b s1 plan c.requires.owns mine c.requires.played c.plan_all-refused.ensures.played c.requires.some c.requires.up.up c.requires.restless c.requires.due c.requires.takes calm
-
-pub returns-in-Ok-clause-counted : goal.returns-in-Ok-clause-counted
-returns-in-Ok-clause-counted g c =
-    let p = c.args.pass.now in
-    let q = c.plan_all-refused.new.pass in
-    let n = c.args.number in
-    let s0 = c.args.site.now in
-    let l0 = c.args.log.now in
-    let l1 = c.write.new.log in
-    let b = c.plan_all-refused.new.batch in
-    let s1 = c.plan_all-refused.new.site in
-    let answer = c.plan_all-refused.result in
-    let plan : HasPlanned p n c.args.rose.now s0.inputs c.args.inputs answer b s1 (seen_by q) =
-    subst (λ (l : List Input). HasPlanned p n c.args.rose.now s0.inputs l answer b s1 (seen_by q)) c.as_slice.ensures c.plan_all-refused.ensures.planned in
-    let mine = still_owns p q n c.plan_all-refused.ensures.same c.requires.owns in
-    let r = c.enter_steps.new.pass in
-    let ent = c.enter_steps.ensures.entered in
-    let tail = marks_in (entries_of ent.0) b.steps.items in
-    counted_stepped p q n s0.inputs c.args.inputs answer b s1 plan c.requires.owns mine c.requires.played c.plan_all-refused.ensures.played c.requires.some c.requires.up.up c.requires.restless c.requires.due c.requires.takes ent.0 ent.1 ent.2
-    c.args.count.now c.enter_steps.new.count c.requires.counted c.enter_steps.ensures.counted (entries_of (seen_by r))
-    (history_stepped p q n s0.inputs c.args.inputs answer b s1 plan c.requires.owns mine c.requires.played c.plan_all-refused.ensures.played c.requires.some c.requires.up.up c.requires.restless c.requires.due c.requires.takes ent.0 ent.1 ent.2 (seen_by r) ent.3)
+    alone g.D.Disk.meters c.args.log.now p q n s0.inputs c.args.inputs answer b s1 plan c.requires.owns mine c.requires.played c.plan_all-refused.ensures.played
+    c.requires.some c.requires.up.up c.requires.restless c.requires.due c.requires.takes calm
 
 pub returns-in-Ok-clause-turned : goal.returns-in-Ok-clause-turned
 returns-in-Ok-clause-turned g c =
@@ -177,13 +193,14 @@ returns-in-Ok-clause-turned g c =
     let b = c.plan_all-refused.new.batch in
     let s1 = c.plan_all-refused.new.site in
     let answer = c.plan_all-refused.result in
-    let plan : HasPlanned p n c.args.rose.now s0.inputs c.args.inputs answer b s1 (seen_by q) =
-    subst (λ (l : List Input). HasPlanned p n c.args.rose.now s0.inputs l answer b s1 (seen_by q)) c.as_slice.ensures c.plan_all-refused.ensures.planned in
+    let plan : HasPlanned g.D.Disk.meters c.args.log.now p n c.args.rose.now s0.inputs c.args.inputs answer b s1 (seen_by q) =
+    subst (λ (l : List Input). HasPlanned g.D.Disk.meters c.args.log.now p n c.args.rose.now s0.inputs l answer b s1 (seen_by q)) c.as_slice.ensures c.plan_all-refused.ensures.planned in
     let mine = still_owns p q n c.plan_all-refused.ensures.same c.requires.owns in
     let r = c.enter_steps.new.pass in
     let ent = c.enter_steps.ensures.entered in
     let tail = marks_in (entries_of ent.0) b.steps.items in
-    turned p q n s0.inputs c.args.inputs answer b s1 plan c.requires.owns mine c.requires.played c.plan_all-refused.ensures.played c.requires.some c.requires.up.up c.requires.restless c.requires.due c.requires.takes ent.0 ent.1 ent.2
+    turned g.D.Disk.meters c.args.log.now p q n s0.inputs c.args.inputs answer b s1 plan c.requires.owns mine c.requires.played
+    c.plan_all-refused.ensures.played c.requires.some c.requires.up.up c.requires.restless c.requires.due c.requires.takes ent.0 ent.1 ent.2
     c.args.wire.now r tail ent.3 c.enter_steps.ensures.idle c.plan_all-refused.ensures.same c.enter_steps.ensures.same c.enter_steps.ensures.played
 
 pub returns-in-Ok-clause-none : goal.returns-in-Ok-clause-none
@@ -197,13 +214,14 @@ returns-in-Ok-clause-none g c =
     let b = c.plan_all-refused.new.batch in
     let s1 = c.plan_all-refused.new.site in
     let answer = c.plan_all-refused.result in
-    let plan : HasPlanned p n c.args.rose.now s0.inputs c.args.inputs answer b s1 (seen_by q) =
-    subst (λ (l : List Input). HasPlanned p n c.args.rose.now s0.inputs l answer b s1 (seen_by q)) c.as_slice.ensures c.plan_all-refused.ensures.planned in
+    let plan : HasPlanned g.D.Disk.meters c.args.log.now p n c.args.rose.now s0.inputs c.args.inputs answer b s1 (seen_by q) =
+    subst (λ (l : List Input). HasPlanned g.D.Disk.meters c.args.log.now p n c.args.rose.now s0.inputs l answer b s1 (seen_by q)) c.as_slice.ensures c.plan_all-refused.ensures.planned in
     let mine = still_owns p q n c.plan_all-refused.ensures.same c.requires.owns in
     let r = c.enter_steps.new.pass in
     let ent = c.enter_steps.ensures.entered in
     let tail = marks_in (entries_of ent.0) b.steps.items in
-    note_stepped p q n s0.inputs c.args.inputs answer b s1 plan c.requires.owns mine c.requires.played c.plan_all-refused.ensures.played c.requires.some c.requires.up.up c.requires.restless c.requires.due c.requires.takes ent.0 ent.1 ent.2 (seen_by r) ent.3
+    note_stepped g.D.Disk.meters c.args.log.now p q n s0.inputs c.args.inputs answer b s1 plan c.requires.owns mine c.requires.played
+    c.plan_all-refused.ensures.played c.requires.some c.requires.up.up c.requires.restless c.requires.due c.requires.takes ent.0 ent.1 ent.2 (seen_by r) ent.3
 
 pub returns-in-Ok-clause-ended : goal.returns-in-Ok-clause-ended
 returns-in-Ok-clause-ended g c =
@@ -216,51 +234,46 @@ returns-in-Ok-clause-ended g c =
     let b = c.plan_all-refused.new.batch in
     let s1 = c.plan_all-refused.new.site in
     let answer = c.plan_all-refused.result in
-    let plan : HasPlanned p n c.args.rose.now s0.inputs c.args.inputs answer b s1 (seen_by q) =
-    subst (λ (l : List Input). HasPlanned p n c.args.rose.now s0.inputs l answer b s1 (seen_by q)) c.as_slice.ensures c.plan_all-refused.ensures.planned in
+    let plan : HasPlanned g.D.Disk.meters l0 p n c.args.rose.now s0.inputs c.args.inputs answer b s1 (seen_by q) =
+    subst (λ (l : List Input). HasPlanned g.D.Disk.meters l0 p n c.args.rose.now s0.inputs l answer b s1 (seen_by q)) c.as_slice.ensures c.plan_all-refused.ensures.planned in
     let mine = still_owns p q n c.plan_all-refused.ensures.same c.requires.owns in
     let r = c.enter_steps.new.pass in
     let ent = c.enter_steps.ensures.entered in
-    let tail = marks_in (entries_of ent.0) b.steps.items in
-    steps_end p q n s0.inputs c.args.inputs answer b s1 plan c.requires.owns mine c.requires.played c.plan_all-refused.ensures.played c.requires.some c.requires.up.up c.requires.restless c.requires.due c.requires.takes ent.0 ent.1 ent.2
-    g.D.Disk.content g.D.Disk.image g.D.Disk.meters s0 l0 l1 c.requires.up refl c.logs_are_orderly.ensures.logs c.logged_sites_are_sets.ensures c.legal_histories_mention_what_stands.ensures.records c.begun_are_transactions.ensures c.records_suit_their_site.ensures.votes c.requires.back
-    (up_first p q n s0.inputs c.args.inputs answer b s1 plan c.requires.owns mine c.requires.played c.plan_all-refused.ensures.played g.D.Disk.content g.D.Disk.image g.D.Disk.meters s0 l0 c.requires.up)
-    (λ lists before. subst (λ (rs : List Record). Stands g.D.Disk.content g.D.Disk.image (bodies_in lists ++ body_of rs) l1) c.as_slice-2.ensures (c.in-Ok.ensures.stands lists before))
+    let sc = scenario_of (seen_by p) in
+    let k = entries_of ent.0 in
+    let m = c.write.new.logged in
+    let up_k : is_up_at k n ≡ true =
+    up_second g.D.Disk.meters l0 p q n s0.inputs c.args.inputs answer b s1 plan c.requires.owns mine c.requires.played c.plan_all-refused.ensures.played
+    c.requires.some c.requires.up.up c.requires.restless c.requires.due c.requires.takes ent.0 ent.1 ent.2
+    g.D.Disk.content g.D.Disk.image g.D.Disk.meters s0 l0 c.args.logged.now c.requires.up in
+    let up_1 : is_up_at (entries_of plan.between) n ≡ true = up_first g.D.Disk.meters l0 p q n s0.inputs c.args.inputs answer b s1
+    plan c.requires.owns mine c.requires.played c.plan_all-refused.ensures.played
+    g.D.Disk.content g.D.Disk.image g.D.Disk.meters s0 l0 c.args.logged.now c.requires.up in
+    let here = up_2 g.D.Disk.meters l0 p q n s0.inputs c.args.inputs answer b s1 plan c.requires.owns mine c.requires.played c.plan_all-refused.ensures.played
+    c.requires.some c.requires.up.up c.requires.restless c.requires.due c.requires.takes ent.0 ent.1 ent.2
+    g.D.Disk.content g.D.Disk.image g.D.Disk.meters s0 l0 l1 c.args.logged.now m c.requires.up refl in
+    let follow : Follows n (log_of sc k n) c.as_slice-2.result.now b.short =
+    subst (λ (rs : List Record). Follows n (log_of sc k n) rs b.short) (sym c.as_slice-2.ensures)
+    (all_follow g.D.Disk.meters l0 p q n s0.inputs c.args.inputs answer b s1 plan c.requires.owns mine c.requires.played c.plan_all-refused.ensures.played
+    c.requires.some c.requires.up.up c.requires.restless c.requires.due c.requires.takes ent.0 ent.1 ent.2
+    c.logs_are_orderly.ensures.logs c.logged_sites_are_sets.ensures c.legal_histories_mention_what_stands.ensures.records c.begun_are_transactions.ensures
+    c.records_suit_their_site.ensures.votes up_1 up_k) in
+    steps_end g.D.Disk.meters l0 p q n s0.inputs c.args.inputs answer b s1 plan c.requires.owns mine c.requires.played c.plan_all-refused.ensures.played
+    c.requires.some c.requires.up.up c.requires.restless c.requires.due c.requires.takes ent.0 ent.1 ent.2
+    g.D.Disk.content g.D.Disk.image g.D.Disk.meters s0 l0 l1 c.args.logged.now m c.requires.up refl
+    c.logs_are_orderly.ensures.logs c.logged_sites_are_sets.ensures b.short follow.short
+    (λ none. c.write.ensures.same (c.as_slice-2.ensures ∙ none))
+    (subst (λ (rs : List Record). IsLogged g.D.Disk.content g.D.Disk.image g.D.Disk.meters n (entries_at k n + 1) (log_of sc k n ++ rs) m l1) c.as_slice-2.ensures
+    (c.in-Ok.ensures.logged n (entries_at k n) (log_of sc k n) here.logged follow.short follow.orderly follow.back))
     c.in-Ok.ensures.lit
     (subst (λ (rs : List Record). Takes (calls_for rs) (g.D.Disk.meters l0.disk) (g.D.Disk.meters l1.disk)) c.as_slice-2.ensures c.in-Ok.ensures.takes)
-    c.write.ensures.keeps (seen_by r) ent.3
+    c.write.ensures.keeps
+    (subst (λ (rs : List Record). rs ≢ [] → EndsAt g.D.Disk.meters l0 b.short rs l1.end) c.as_slice-2.ensures c.in-Ok.ensures.end)
+    (seen_by r) ent.3
 
 pub returns-in-Ok-clause-never : goal.returns-in-Ok-clause-never
 returns-in-Ok-clause-never g c =
     never_down c.plan_all-refused.result c.plan_all-refused.ensures.refused
-
-pub returns-in-Err-clause-counted : goal.returns-in-Err-clause-counted
-returns-in-Err-clause-counted g c =
-    let p = c.args.pass.now in
-    let q = c.plan_all-refused.new.pass in
-    let n = c.args.number in
-    let s0 = c.args.site.now in
-    let l0 = c.args.log.now in
-    let l1 = c.write.new.log in
-    let b = c.plan_all-refused.new.batch in
-    let s1 = c.plan_all-refused.new.site in
-    let answer = c.plan_all-refused.result in
-    let plan : HasPlanned p n c.args.rose.now s0.inputs c.args.inputs answer b s1 (seen_by q) =
-    subst (λ (l : List Input). HasPlanned p n c.args.rose.now s0.inputs l answer b s1 (seen_by q)) c.as_slice.ensures c.plan_all-refused.ensures.planned in
-    let mine = still_owns p q n c.plan_all-refused.ensures.same c.requires.owns in
-    let r = c.commit_entry.new.pass in
-    let over = c.first_of-over.result in
-    let why = c.in-Err.why in
-    let e : Entry = record { owner = n; act = Fall over b.records why } in
-    let P : Entry → Type 0 = λ y. (later : List Mark) × GrewByOthers belongs q later
-    × (seen_by r ≡ later ++ mark.Entered (numbered_on (entries_of later) y) ∷ []) × IsPlayed later in
-    let ent : P e = subst P c.fall_of-fall.ensures c.commit_entry.ensures.entered in
-    let tail : List Mark = mark.Entered (numbered_on (entries_of ent.0) e) ∷ [] in
-    counted_fallen p q n s0.inputs c.args.inputs answer b s1 plan c.requires.owns mine c.requires.played c.plan_all-refused.ensures.played c.requires.some c.requires.up.up c.requires.restless c.requires.due c.requires.takes ent.0 ent.1 ent.3
-    over why c.args.count.now c.count_on.new.count (c.first_of-over.ensures ∙ ap (λ (k : ℕ). take k c.args.inputs) (ap length c.as_slice-in-Err.ensures.value ∙ steps_are p q n s0.inputs c.args.inputs answer b s1 plan c.requires.owns mine c.requires.played c.plan_all-refused.ensures.played)) c.requires.counted
-    (c.count_on.ensures ∙ ap (λ (y : Entry). counted_by c.args.count.now y.act) c.fall_of-fall.ensures) (entries_of (seen_by r))
-    (history_fallen p q n s0.inputs c.args.inputs answer b s1 plan c.requires.owns mine c.requires.played c.plan_all-refused.ensures.played c.requires.some c.requires.up.up c.requires.restless c.requires.due c.requires.takes ent.0 ent.1 ent.3 over why (seen_by r)
-    (c.first_of-over.ensures ∙ ap (λ (k : ℕ). take k c.args.inputs) (ap length c.as_slice-in-Err.ensures.value ∙ steps_are p q n s0.inputs c.args.inputs answer b s1 plan c.requires.owns mine c.requires.played c.plan_all-refused.ensures.played)) ent.2)
 
 pub returns-in-Err-clause-turned : goal.returns-in-Err-clause-turned
 returns-in-Err-clause-turned g c =
@@ -273,8 +286,8 @@ returns-in-Err-clause-turned g c =
     let b = c.plan_all-refused.new.batch in
     let s1 = c.plan_all-refused.new.site in
     let answer = c.plan_all-refused.result in
-    let plan : HasPlanned p n c.args.rose.now s0.inputs c.args.inputs answer b s1 (seen_by q) =
-    subst (λ (l : List Input). HasPlanned p n c.args.rose.now s0.inputs l answer b s1 (seen_by q)) c.as_slice.ensures c.plan_all-refused.ensures.planned in
+    let plan : HasPlanned g.D.Disk.meters c.args.log.now p n c.args.rose.now s0.inputs c.args.inputs answer b s1 (seen_by q) =
+    subst (λ (l : List Input). HasPlanned g.D.Disk.meters c.args.log.now p n c.args.rose.now s0.inputs l answer b s1 (seen_by q)) c.as_slice.ensures c.plan_all-refused.ensures.planned in
     let mine = still_owns p q n c.plan_all-refused.ensures.same c.requires.owns in
     let r = c.commit_entry.new.pass in
     let over = c.first_of-over.result in
@@ -284,7 +297,8 @@ returns-in-Err-clause-turned g c =
     × (seen_by r ≡ later ++ mark.Entered (numbered_on (entries_of later) y) ∷ []) × IsPlayed later in
     let ent : P e = subst P c.fall_of-fall.ensures c.commit_entry.ensures.entered in
     let tail : List Mark = mark.Entered (numbered_on (entries_of ent.0) e) ∷ [] in
-    turned p q n s0.inputs c.args.inputs answer b s1 plan c.requires.owns mine c.requires.played c.plan_all-refused.ensures.played c.requires.some c.requires.up.up c.requires.restless c.requires.due c.requires.takes ent.0 ent.1 ent.3
+    turned g.D.Disk.meters c.args.log.now p q n s0.inputs c.args.inputs answer b s1 plan c.requires.owns mine c.requires.played
+    c.plan_all-refused.ensures.played c.requires.some c.requires.up.up c.requires.restless c.requires.due c.requires.takes ent.0 ent.1 ent.3
     c.args.wire.now r tail ent.2 c.commit_entry.ensures.idle c.plan_all-refused.ensures.same c.commit_entry.ensures.same c.commit_entry.ensures.played
 
 pub returns-in-Err-clause-none : goal.returns-in-Err-clause-none
@@ -298,8 +312,8 @@ returns-in-Err-clause-none g c =
     let b = c.plan_all-refused.new.batch in
     let s1 = c.plan_all-refused.new.site in
     let answer = c.plan_all-refused.result in
-    let plan : HasPlanned p n c.args.rose.now s0.inputs c.args.inputs answer b s1 (seen_by q) =
-    subst (λ (l : List Input). HasPlanned p n c.args.rose.now s0.inputs l answer b s1 (seen_by q)) c.as_slice.ensures c.plan_all-refused.ensures.planned in
+    let plan : HasPlanned g.D.Disk.meters c.args.log.now p n c.args.rose.now s0.inputs c.args.inputs answer b s1 (seen_by q) =
+    subst (λ (l : List Input). HasPlanned g.D.Disk.meters c.args.log.now p n c.args.rose.now s0.inputs l answer b s1 (seen_by q)) c.as_slice.ensures c.plan_all-refused.ensures.planned in
     let mine = still_owns p q n c.plan_all-refused.ensures.same c.requires.owns in
     let r = c.commit_entry.new.pass in
     let over = c.first_of-over.result in
@@ -309,8 +323,11 @@ returns-in-Err-clause-none g c =
     × (seen_by r ≡ later ++ mark.Entered (numbered_on (entries_of later) y) ∷ []) × IsPlayed later in
     let ent : P e = subst P c.fall_of-fall.ensures c.commit_entry.ensures.entered in
     let tail : List Mark = mark.Entered (numbered_on (entries_of ent.0) e) ∷ [] in
-    note_fallen p q n s0.inputs c.args.inputs answer b s1 plan c.requires.owns mine c.requires.played c.plan_all-refused.ensures.played c.requires.some c.requires.up.up c.requires.restless c.requires.due c.requires.takes ent.0 ent.1 ent.3 over why (seen_by r)
-    (c.first_of-over.ensures ∙ ap (λ (k : ℕ). take k c.args.inputs) (ap length c.as_slice-in-Err.ensures.value ∙ steps_are p q n s0.inputs c.args.inputs answer b s1 plan c.requires.owns mine c.requires.played c.plan_all-refused.ensures.played)) ent.2
+    note_fallen g.D.Disk.meters c.args.log.now p q n s0.inputs c.args.inputs answer b s1 plan c.requires.owns mine c.requires.played
+    c.plan_all-refused.ensures.played c.requires.some c.requires.up.up c.requires.restless c.requires.due c.requires.takes ent.0 ent.1 ent.3 over why (seen_by r)
+    (c.first_of-over.ensures ∙ ap (λ (k : ℕ). take k c.args.inputs)
+    (ap length c.as_slice-in-Err.ensures.value ∙ steps_are g.D.Disk.meters c.args.log.now p q n s0.inputs c.args.inputs answer b s1
+    plan c.requires.owns mine c.requires.played c.plan_all-refused.ensures.played)) ent.2
 
 pub returns-in-Err-clause-ended : goal.returns-in-Err-clause-ended
 returns-in-Err-clause-ended g c =
@@ -323,8 +340,8 @@ returns-in-Err-clause-ended g c =
     let b = c.plan_all-refused.new.batch in
     let s1 = c.plan_all-refused.new.site in
     let answer = c.plan_all-refused.result in
-    let plan : HasPlanned p n c.args.rose.now s0.inputs c.args.inputs answer b s1 (seen_by q) =
-    subst (λ (l : List Input). HasPlanned p n c.args.rose.now s0.inputs l answer b s1 (seen_by q)) c.as_slice.ensures c.plan_all-refused.ensures.planned in
+    let plan : HasPlanned g.D.Disk.meters l0 p n c.args.rose.now s0.inputs c.args.inputs answer b s1 (seen_by q) =
+    subst (λ (l : List Input). HasPlanned g.D.Disk.meters l0 p n c.args.rose.now s0.inputs l answer b s1 (seen_by q)) c.as_slice.ensures c.plan_all-refused.ensures.planned in
     let mine = still_owns p q n c.plan_all-refused.ensures.same c.requires.owns in
     let r = c.commit_entry.new.pass in
     let over = c.first_of-over.result in
@@ -333,15 +350,41 @@ returns-in-Err-clause-ended g c =
     let P : Entry → Type 0 = λ y. (later : List Mark) × GrewByOthers belongs q later
     × (seen_by r ≡ later ++ mark.Entered (numbered_on (entries_of later) y) ∷ []) × IsPlayed later in
     let ent : P e = subst P c.fall_of-fall.ensures c.commit_entry.ensures.entered in
-    let tail : List Mark = mark.Entered (numbered_on (entries_of ent.0) e) ∷ [] in
-    fall_end p q n s0.inputs c.args.inputs answer b s1 plan c.requires.owns mine c.requires.played c.plan_all-refused.ensures.played c.requires.some c.requires.up.up c.requires.restless c.requires.due c.requires.takes ent.0 ent.1 ent.3
-    g.D.Disk.content g.D.Disk.image g.D.Disk.meters s0 l0 l1 c.requires.up refl c.legal_histories_mention_what_stands.ensures.records c.begun_are_transactions.ensures c.records_suit_their_site.ensures.votes c.requires.back
-    (up_first p q n s0.inputs c.args.inputs answer b s1 plan c.requires.owns mine c.requires.played c.plan_all-refused.ensures.played g.D.Disk.content g.D.Disk.image g.D.Disk.meters s0 l0 c.requires.up) why
-    (λ none. c.in-Err.ensures.some (c.as_slice-2.ensures ∙ none))
-    (λ lists before bytes at. subst (λ (rs : List Record). ReadsAfter lists why rs bytes) c.as_slice-2.ensures (c.in-Err.ensures.images lists before bytes at))
-    (λ moves lists hold before. subst (λ (rs : List Record). IsReason why (log_size moves) rs (g.D.Disk.meters l0.disk) (g.D.Disk.meters l1.disk)) c.as_slice-2.ensures
-    (c.in-Err.ensures.reason moves lists hold before))
-    (subst (λ (rs : List Record). EndsAt l0.end rs why) c.as_slice-2.ensures c.in-Err.ensures.need) c.write.ensures.keeps over (c.first_of-over.ensures ∙ ap (λ (k : ℕ). take k c.args.inputs) (ap length c.as_slice-in-Err.ensures.value ∙ steps_are p q n s0.inputs c.args.inputs answer b s1 plan c.requires.owns mine c.requires.played c.plan_all-refused.ensures.played)) (seen_by r) ent.2
+    let sc = scenario_of (seen_by p) in
+    let k = entries_of ent.0 in
+    let m = c.write.new.logged in
+    let up_k : is_up_at k n ≡ true =
+    up_second g.D.Disk.meters l0 p q n s0.inputs c.args.inputs answer b s1 plan c.requires.owns mine c.requires.played c.plan_all-refused.ensures.played
+    c.requires.some c.requires.up.up c.requires.restless c.requires.due c.requires.takes ent.0 ent.1 ent.3
+    g.D.Disk.content g.D.Disk.image g.D.Disk.meters s0 l0 c.args.logged.now c.requires.up in
+    let up_1 : is_up_at (entries_of plan.between) n ≡ true = up_first g.D.Disk.meters l0 p q n s0.inputs c.args.inputs answer b s1
+    plan c.requires.owns mine c.requires.played c.plan_all-refused.ensures.played
+    g.D.Disk.content g.D.Disk.image g.D.Disk.meters s0 l0 c.args.logged.now c.requires.up in
+    let here = up_2 g.D.Disk.meters l0 p q n s0.inputs c.args.inputs answer b s1 plan c.requires.owns mine c.requires.played c.plan_all-refused.ensures.played
+    c.requires.some c.requires.up.up c.requires.restless c.requires.due c.requires.takes ent.0 ent.1 ent.3
+    g.D.Disk.content g.D.Disk.image g.D.Disk.meters s0 l0 l1 c.args.logged.now m c.requires.up refl in
+    let follow : Follows n (log_of sc k n) c.as_slice-2.result.now b.short =
+    subst (λ (rs : List Record). Follows n (log_of sc k n) rs b.short) (sym c.as_slice-2.ensures)
+    (all_follow g.D.Disk.meters l0 p q n s0.inputs c.args.inputs answer b s1 plan c.requires.owns mine c.requires.played c.plan_all-refused.ensures.played
+    c.requires.some c.requires.up.up c.requires.restless c.requires.due c.requires.takes ent.0 ent.1 ent.3
+    c.logs_are_orderly.ensures.logs c.logged_sites_are_sets.ensures c.legal_histories_mention_what_stands.ensures.records c.begun_are_transactions.ensures
+    c.records_suit_their_site.ensures.votes up_1 up_k) in
+    let some : b.records ≢ [] = λ none. c.in-Err.ensures.some (c.as_slice-2.ensures ∙ none) in
+    fall_end g.D.Disk.meters l0 p q n s0.inputs c.args.inputs answer b s1 plan c.requires.owns mine c.requires.played c.plan_all-refused.ensures.played
+    c.requires.some c.requires.up.up c.requires.restless c.requires.due c.requires.takes ent.0 ent.1 ent.3
+    g.D.Disk.content g.D.Disk.image g.D.Disk.meters s0 l0 l1 c.args.logged.now m c.requires.up refl why some
+    (subst (λ (rs : List Record). (bytes : List ℕ) → g.D.Disk.image l1.disk bytes →
+    ReadsLeft n (g.D.Disk.meters l1.disk).capacity (entries_at k n + 1) (log_of sc k n) rs m why bytes) c.as_slice-2.ensures
+    (c.in-Err.ensures.left n (entries_at k n) (log_of sc k n) here.logged follow.short follow.orderly follow.back))
+    (subst (λ (rs : List Record). IsReason why (log_of sc k n) rs (g.D.Disk.meters l0.disk) (g.D.Disk.meters l1.disk)) c.as_slice-2.ensures
+    (c.in-Err.ensures.reason n (entries_at k n) (log_of sc k n) here.logged follow.short
+    (subst (λ (rs : List Record). IsDue g.D.Disk.meters l0 (log_of sc k n) b.short (size_of rs)) (sym c.as_slice-2.ensures)
+    (all_due g.D.Disk.meters l0 p q n s0.inputs c.args.inputs answer b s1 plan c.requires.owns mine c.requires.played c.plan_all-refused.ensures.played
+    c.requires.some c.requires.up.up c.requires.restless c.requires.due c.requires.takes ent.0 ent.1 ent.3 some))))
+    c.write.ensures.keeps over
+    (c.first_of-over.ensures ∙ ap (λ (j : ℕ). take j c.args.inputs) (ap length c.as_slice-in-Err.ensures.value ∙ steps_are g.D.Disk.meters l0 p q n s0.inputs
+    c.args.inputs answer b s1 plan c.requires.owns mine c.requires.played c.plan_all-refused.ensures.played))
+    (seen_by r) ent.2
 
 pub returns-in-Err-clause-never : goal.returns-in-Err-clause-never
 returns-in-Err-clause-never g c =

@@ -17,7 +17,6 @@ returns-in-Down-clause-ended g c = record {
   history = refl;
   state = refl;
   stands = c.requires.stands;
-  back = c.requires.back;
   keeps = keeps_same (g.D.Disk.meters (disk_of c.args.state.now));
   none = refl;
 }
@@ -27,7 +26,7 @@ returns-in-Up-clause-ended g c =
     let sc = scenario_seen c.args.pass.now in
     let h = history_seen c.args.pass.now in
     let more = history_seen c.step_all.new.pass in
-    subst (λ (s : State _). EndsIn g.D.Disk.content g.D.Disk.image g.D.Disk.meters sc h more c.args.number c.args.inputs s (Up c.step_all.new.site c.step_all.new.log c.in-Up.rose)
+    subst (λ (s : State _). EndsIn g.D.Disk.content g.D.Disk.image g.D.Disk.meters sc h more c.args.number c.args.inputs s (Up c.step_all.new.site c.step_all.new.log c.in-Up.rose c.step_all.new.logged)
     c.step_all.result.refused c.step_all.result.fell) (sym c.in-Up.is)
-    (ends_up g.D.Disk.content g.D.Disk.image g.D.Disk.meters sc h more c.args.number c.args.inputs _ (Up c.step_all.new.site c.step_all.new.log c.in-Up.rose)
+    (ends_up g.D.Disk.content g.D.Disk.image g.D.Disk.meters sc h more c.args.number c.args.inputs _ (Up c.step_all.new.site c.step_all.new.log c.in-Up.rose c.step_all.new.logged)
     c.step_all.result.refused c.step_all.result.fell c.step_all.ensures.refused c.step_all.ensures.ended)

@@ -18,17 +18,6 @@ returns-clause-stands g c =
     e.refused e.fell c.step_or_not-end.ensures.ended c.settle_batch.ensures.fell c.settle_batch.ensures.kept in
     behind.stands
 
-pub returns-clause-back : goal.returns-clause-back
-returns-clause-back g c =
-    let e = c.step_or_not-end.result in
-    let mid = c.step_or_not-end.new.state in
-    let new = c.settle_batch.new.state in
-    let p = c.args.pass.now in
-    let q = c.step_or_not-end.new.pass in
-    let behind = ended_in g.D.Disk.content g.D.Disk.image g.D.Disk.meters (scenario_seen p) (history_seen p) (history_seen q) c.args.number c.args.inputs c.args.state.now mid new
-    e.refused e.fell c.step_or_not-end.ensures.ended c.settle_batch.ensures.fell c.settle_batch.ensures.kept in
-    behind.back
-
 pub returns-clause-keeps : goal.returns-clause-keeps
 returns-clause-keeps g c =
     let e = c.step_or_not-end.result in

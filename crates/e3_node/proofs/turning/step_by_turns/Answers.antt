@@ -1,36 +1,33 @@
-use Rattle.std.proofs.Common.{◌≡◌, ◌++◌, ◌∷◌, [], ◌∙◌, ap, refl, sym, subst, List, length, arith}
+use Rattle.std.proofs.Common.{◌≡◌, ◌++◌, ◌∷◌, [], ◌∙◌, ℕ, ap, refl, sym, subst, List, length, arith}
 use Rattle.e3_law_local.specs.Others.{numbered_on}
-use Rattle.e3_log.specs.Stands.{Stands}
-use Rattle.e3_node.specs.Bodies.{AllReadBack, DiskHolds, IsLogged, ReadsAfter, bodies_in, body_of}
-use Rattle.e3_node.specs.Counting.{counted_by}
-use Rattle.e3_node.specs.Ends.{EndsAt, IsReason, Takes, calls_for}
+use Rattle.e3_law_stands.specs.StandsAlike.{IsLogInOrder}
+use Rattle.e3_node.specs.Bodies.{DiskTells, entries_at}
 use Rattle.e3_node.specs.NodeStands.{IsUp, StandsBy}
 use Rattle.e3_node.specs.Turns.{IsStill, history_seen, scenario_seen}
 use Rattle.e3_node.specs.declared.state.State.TheVariants.{Up}
 use Rattle.e3_site.specs.SiteView.{SiteView, count_on, entry_of_plan, step_kept}
+use Rattle.e3_site_log.specs.Ends.{IsDue, IsReason, Takes, calls_for, size_of}
 use Rattle.e3_turn.specs.Passes.{GrewByOthers, Owns, seen_by}
 use Rattle.e3_types.specs.declared.entries.Act.TheVariants.{Fall}
 use Rattle.e3_types.specs.declared.entries.Entry.{Entry}
 use Rattle.e3_types.specs.declared.entries.Why.{Why}
 use Rattle.e3_types.specs.declared.records.Record.{Record}
+use Rattle.e3_types.specs.declared.scenarios.Scenario.{Scenario}
 use Rattle.e3_wire.specs.Marks.{belongs, entries_of}
 use Rattle.e3_wire.specs.Wires.{IsPlayed, MayEnterBehind}
 use Rattle.e3_wire.specs.declared.marks.Mark.{Mark}
 use Rattle.e3_wire.specs.declared.marks.Mark.TheVariants as mark
 use Rattle.e3_wire.proofs.Claimed.{taken_is_due}
 use Rattle.e3_world.specs.Legal.{entry_of, made_by}
-use Rattle.e3_world.specs.Moves.{log_of, log_size, moves_of}
+use Rattle.e3_world.specs.Moves.{log_of}
 use Rattle.e3_world.specs.declared.lives.SiteStep.{SiteStep}
-use Rattle.e3_node.proofs.Steps.{draft_made, fall_allowed, fall_back, fall_entered, fall_takes, fallen_disk, inputs_on, own_stands, records_made, site_on, step_back, step_allowed, step_entered, step_logged, stepped_up}
-use Rattle.e3_node.proofs.Counts.{count_fallen, count_meanwhile, count_stepped}
 use Rattle.e3_node.proofs.Orders.{log_in_order}
-use Rattle.e3_node.proofs.Owning.{made_own, own_meanwhile}
-use Rattle.e3_law_stands.specs.StandsAlike.{IsLogInOrder}
-use Rattle.e3_types.specs.declared.scenarios.Scenario.{Scenario}
-use Rattle.e3_node.proofs.Turned.{refused}
 use Rattle.e3_node.proofs.Places.{entered_back, looked_back, still_back}
 use Rattle.e3_node.proofs.Sharing.{fall_used, step_used}
-use Rattle.e3_node.proofs.Waiting.{back_meanwhile, behind_of, entered_turn, entries, keys_stay, looked, made_meanwhile, may_commit, meanwhile, still_owns, still_restless, still_up, up_meanwhile}
+use Rattle.e3_node.proofs.Steps.{draft_made, fall_allowed, fall_entered, fall_takes, fallen_tells, inputs_on, own_stands, records_made, site_on, step_allowed, step_entered, step_logged, stepped_up}
+use Rattle.e3_node.proofs.Turned.{refused}
+use Rattle.e3_node.proofs.Waiting.{behind_of, entered_turn, entries, keys_stay, looked, made_meanwhile, may_commit, meanwhile, still_owns, still_restless, still_up, up_meanwhile}
+use Rattle.e3_node.proofs.Written.{Follows, follows_while, step_follows, up_brief}
 use Rattle.e3_node.proofs.turning.step_by_turns.Goals as goal
 
 pub prepare_by_turns-requires : goal.prepare_by_turns-requires
@@ -92,7 +89,7 @@ commit_entry-requires-in-Err-clause-may g c =
     records_made sc h c.args.number c.args.input c.into_step-made.result (c.into_step-made.ensures ∙ made.step_is) in
     let e : Entry = record { owner = c.args.number; act = Fall d.inputs records c.in-Err.why } in
     let allows = fall_allowed sc h c.args.number c.args.input d.inputs records c.in-Err.why made.inputs_are rs c.requires.some c.requires.up.up due
-    (λ none. c.in-Err.ensures.some (c.records.ensures ∙ records_made sc h c.args.number c.args.input d.plan.step made.step_is ∙ sym rs ∙ none)) in
+    (λ none. c.in-Err.ensures.some (c.records-records.ensures ∙ records_made sc h c.args.number c.args.input d.plan.step made.step_is ∙ sym rs ∙ none)) in
     let may : MayEnterBehind (seen_by q) e =
     may_commit p (seen_by q) _ e cl.0 c.requires.owns cl.1 cl.5 cl.2 c.requires.played c.claim.ensures.played c.requires.some c.requires.exists c.requires.restless allows
     (fall_takes sc h c.args.number c.args.input d.inputs made.inputs_are c.requires.takes) (omega arith) in
@@ -165,15 +162,14 @@ returns-in-Ok-clause-ended g c =
     let b = behind_of p q r c.args.number _ e c.requires.owns owns cl.0 cl.1 cl.2 ent.0 ent.1 ent.2 cl.5 ent.3 in
     let now = entries_of ent.0 in
     let m = meanwhile c.args.number _ (seen_by p) (seen_by q) ent.0 (seen_by r) e b refl c.requires.played c.claim.ensures.played c.commit_entry.ensures.played in
-    let up : IsUp g.D.Disk.content g.D.Disk.image g.D.Disk.meters sc now c.args.number c.args.site.now c.args.log.now c.args.rose.now =
-    up_meanwhile g.D.Disk.content g.D.Disk.image g.D.Disk.meters sc h now c.args.number (Up c.args.site.now c.args.log.now c.args.rose.now) m c.requires.up in
-    let back = back_meanwhile sc h now c.args.number m c.requires.back in
+    let up : IsUp g.D.Disk.content g.D.Disk.image g.D.Disk.meters sc now c.args.number c.args.site.now c.args.log.now c.args.rose.now c.args.logged.now =
+    up_meanwhile g.D.Disk.content g.D.Disk.image g.D.Disk.meters sc h now c.args.number (Up c.args.site.now c.args.log.now c.args.rose.now c.args.logged.now) m c.requires.up in
     let here = made_meanwhile sc h now c.args.number c.args.input d m made in
     let all = entries c.args.number _ (seen_by p) (seen_by q) ent.0 (seen_by r) e b refl c.requires.played c.claim.ensures.played c.commit_entry.ensures.played in
     let more = history_seen r in
     let entered = step_entered sc now more c.args.number c.args.input step (c.apply.ensures.step ∙ here.step_is) all in
     let ready : StandsBy sc now c.args.number c.args.rose.now c.prepare_by_turns.new.site =
-    record { alike = c.in_ok-draft.ensures.still.stands sc now c.args.number c.args.rose.now up.stands.alike; order = up.stands.order } in
+    record { alike = c.in_ok-draft.ensures.still.stands sc now c.args.number c.args.rose.now up.stands.alike; risen = up.stands.risen; order = up.stands.order } in
     let fits : length step.outs ≡ c.room_for-room.result =
     ap (λ (p : SiteStep). length p.outs) c.apply.ensures.step ∙ sym (c.room_for-room.ensures ∙ ap length c.outs.ensures) in
     let turned = entered_turn c.args.wire.now p q r c.args.number _ e ent.0 b refl c.requires.played c.claim.ensures.played c.commit_entry.ensures.played c.requires.some sc h allows tt
@@ -184,24 +180,30 @@ returns-in-Ok-clause-ended g c =
     subst (λ (l : List Entry). IsLogInOrder c.args.number (log_of sc l c.args.number)) entered
     (subst (λ (x : Scenario). IsLogInOrder c.args.number (log_of x more c.args.number)) keys
     (log_in_order c.logs_are_orderly.ensures.logs c.logged_sites_are_sets.ensures (scenario_seen r) more c.args.number c.commit_entry.ensures.played.given c.commit_entry.ensures.played.legal)) in
-    let logged : IsLogged g.D.Disk.content g.D.Disk.image (moves_of sc (now ++ entry_of sc now c.args.number c.args.input ∷ []) c.args.number) c.write.new.log =
-    step_logged g.D.Disk.content g.D.Disk.image sc now c.args.number c.args.input c.args.log.now c.write.new.log up.logged
-    (λ lists before. subst (λ (rs : List Record). Stands g.D.Disk.content g.D.Disk.image (bodies_in lists ++ body_of rs) c.write.new.log)
-    (c.records.ensures ∙ records_made sc now c.args.number c.args.input d.plan.step here.step_is) (c.in-Ok.ensures.stands lists before)) in
+    let stood : StandsBy sc h c.args.number c.args.rose.now c.prepare_by_turns.new.site =
+    record { alike = c.in_ok-draft.ensures.still.stands sc h c.args.number c.args.rose.now c.requires.up.stands.alike; risen = c.requires.up.stands.risen; order = c.requires.up.stands.order } in
+    let slice : c.records-records.result.now ≡ (made_by sc h c.args.number c.args.input).records = c.records-records.ensures ∙ records_made sc h c.args.number c.args.input d.plan.step made.step_is in
+    let then : Follows c.args.number (log_of sc h c.args.number) c.records-records.result.now c.in_ok-short.short =
+    step_follows c.logs_are_orderly.ensures.logs c.logged_sites_are_sets.ensures c.trails_are_sound.ensures.sound c.legal_histories_mention_what_stands.ensures.records c.begun_are_transactions.ensures c.records_suit_their_site.ensures.votes sc h c.args.number
+    c.requires.played.given c.requires.played.legal c.requires.up.up c.args.rose.now c.prepare_by_turns.new.site c.args.input c.in_ok-short.short c.records-records.result.now stood c.requires.some due
+    slice made.back c.in_ok-short.ensures.short in
+    let follows : Follows c.args.number (log_of sc now c.args.number) c.records-records.result.now c.in_ok-short.short =
+    follows_while sc h now c.args.number c.records-records.result.now c.in_ok-short.short m then in
+    let slice_now : c.records-records.result.now ≡ (made_by sc now c.args.number c.args.input).records = c.records-records.ensures ∙ records_made sc now c.args.number c.args.input d.plan.step here.step_is in
+    let wrote = c.in-Ok.ensures.logged c.args.number (entries_at now c.args.number) (log_of sc now c.args.number) up.logged follows.short follows.orderly follows.back in
+    let logged = step_logged g.D.Disk.content g.D.Disk.image g.D.Disk.meters sc now c.args.number c.args.input c.records-records.result.now c.write.new.logged c.write.new.log slice_now wrote in
     record {
       now = now;
       meanwhile = m;
       entered = entered;
       stands =
-          subst (λ (l : List Entry). IsUp g.D.Disk.content g.D.Disk.image g.D.Disk.meters sc l c.args.number c.apply.new.self c.write.new.log c.args.rose.now) (sym entered)
-          (stepped_up g.D.Disk.content g.D.Disk.image g.D.Disk.meters sc now c.args.number c.args.input c.apply.new.self c.write.new.log up.up
+          subst (λ (l : List Entry). IsUp g.D.Disk.content g.D.Disk.image g.D.Disk.meters sc l c.args.number c.apply.new.self c.write.new.log c.args.rose.now c.write.new.logged) (sym entered)
+          (stepped_up g.D.Disk.content g.D.Disk.image g.D.Disk.meters sc now c.args.number c.args.input c.apply.new.self c.write.new.log c.write.new.logged up.up
           (site_on sc now c.args.number c.args.input c.prepare_by_turns.new.site c.apply.new.self d.plan.step ready here.step_is
           (ap (λ (s : SiteView). s.weights) c.apply.ensures.done) (ap (λ (s : SiteView). s.site) c.apply.ensures.done) c.apply.ensures.stand order)
           logged c.in-Ok.ensures.lit
           (inputs_on sc now c.args.number c.args.input c.args.site.now.inputs _ up.inputs
           (ap (λ (s : SiteView). s.inputs) c.apply.ensures.done ∙ ap (λ (s : SiteView). count_on s.inputs) c.in_ok-draft.ensures.still.same)));
-      back = subst (λ (l : List Entry). AllReadBack sc l c.args.number) (sym entered) (step_back sc now c.args.number c.args.input back (here.back (own_meanwhile sc h now c.args.number c.args.input m (made_own c.legal_histories_mention_what_stands.ensures.records c.begun_are_transactions.ensures c.records_suit_their_site.ensures.votes sc h c.args.number c.args.input
-          c.requires.played.given c.requires.played.legal c.requires.some c.requires.up.up due))));
     }
 
 pub returns-in-Err-clause-turned : goal.returns-in-Err-clause-turned
@@ -219,7 +221,7 @@ returns-in-Err-clause-turned g c =
     records_made sc h c.args.number c.args.input c.into_step-made.result (c.into_step-made.ensures ∙ made.step_is) in
     let e : Entry = record { owner = c.args.number; act = Fall d.inputs records c.in-Err.why } in
     let allows = fall_allowed sc h c.args.number c.args.input d.inputs records c.in-Err.why made.inputs_are rs c.requires.some c.requires.up.up due
-    (λ none. c.in-Err.ensures.some (c.records.ensures ∙ records_made sc h c.args.number c.args.input d.plan.step made.step_is ∙ sym rs ∙ none)) in
+    (λ none. c.in-Err.ensures.some (c.records-records.ensures ∙ records_made sc h c.args.number c.args.input d.plan.step made.step_is ∙ sym rs ∙ none)) in
     let r = c.commit_entry-in-Err.new.pass in
     let P : Entry → Type 0 = λ y. (later : List Mark) × GrewByOthers belongs q later × (seen_by r ≡ later ++ mark.Entered (numbered_on (entries_of later) y) ∷ []) × IsPlayed later in
     let ent : P e = subst P c.fall_of-fall.ensures c.commit_entry-in-Err.ensures.entered in
@@ -262,7 +264,7 @@ returns-in-Err-clause-ended g c =
     records_made sc h c.args.number c.args.input c.into_step-made.result (c.into_step-made.ensures ∙ made.step_is) in
     let e : Entry = record { owner = c.args.number; act = Fall d.inputs records c.in-Err.why } in
     let allows = fall_allowed sc h c.args.number c.args.input d.inputs records c.in-Err.why made.inputs_are rs c.requires.some c.requires.up.up due
-    (λ none. c.in-Err.ensures.some (c.records.ensures ∙ records_made sc h c.args.number c.args.input d.plan.step made.step_is ∙ sym rs ∙ none)) in
+    (λ none. c.in-Err.ensures.some (c.records-records.ensures ∙ records_made sc h c.args.number c.args.input d.plan.step made.step_is ∙ sym rs ∙ none)) in
     let r = c.commit_entry-in-Err.new.pass in
     let P : Entry → Type 0 = λ y. (later : List Mark) × GrewByOthers belongs q later × (seen_by r ≡ later ++ mark.Entered (numbered_on (entries_of later) y) ∷ []) × IsPlayed later in
     let ent : P e = subst P c.fall_of-fall.ensures c.commit_entry-in-Err.ensures.entered in
@@ -270,26 +272,32 @@ returns-in-Err-clause-ended g c =
     let b = behind_of p q r c.args.number _ e c.requires.owns owns cl.0 cl.1 cl.2 ent.0 ent.1 ent.2 cl.5 ent.3 in
     let now = entries_of ent.0 in
     let m = meanwhile c.args.number _ (seen_by p) (seen_by q) ent.0 (seen_by r) e b refl c.requires.played c.claim.ensures.played c.commit_entry-in-Err.ensures.played in
-    let up : IsUp g.D.Disk.content g.D.Disk.image g.D.Disk.meters sc now c.args.number c.args.site.now c.args.log.now c.args.rose.now =
-    up_meanwhile g.D.Disk.content g.D.Disk.image g.D.Disk.meters sc h now c.args.number (Up c.args.site.now c.args.log.now c.args.rose.now) m c.requires.up in
-    let back = back_meanwhile sc h now c.args.number m c.requires.back in
+    let up : IsUp g.D.Disk.content g.D.Disk.image g.D.Disk.meters sc now c.args.number c.args.site.now c.args.log.now c.args.rose.now c.args.logged.now =
+    up_meanwhile g.D.Disk.content g.D.Disk.image g.D.Disk.meters sc h now c.args.number (Up c.args.site.now c.args.log.now c.args.rose.now c.args.logged.now) m c.requires.up in
     let here = made_meanwhile sc h now c.args.number c.args.input d m made in
     let all = entries c.args.number _ (seen_by p) (seen_by q) ent.0 (seen_by r) e b refl c.requires.played c.claim.ensures.played c.commit_entry-in-Err.ensures.played in
     let more = history_seen r in
     let there = records_made sc now c.args.number c.args.input c.into_step-made.result (c.into_step-made.ensures ∙ here.step_is) in
     let entered = fall_entered sc now more c.args.number c.args.input d.inputs records c.in-Err.why here.inputs_are there all in
-    let image = g.D.Disk.image c.write.new.log.disk in
+    let disk = c.write.new.log.disk in
+    let stood : StandsBy sc h c.args.number c.args.rose.now c.prepare_by_turns.new.site =
+    record { alike = c.in_ok-draft.ensures.still.stands sc h c.args.number c.args.rose.now c.requires.up.stands.alike; risen = c.requires.up.stands.risen; order = c.requires.up.stands.order } in
+    let slice : c.records-records.result.now ≡ (made_by sc h c.args.number c.args.input).records = c.records-records.ensures ∙ records_made sc h c.args.number c.args.input d.plan.step made.step_is in
+    let then : Follows c.args.number (log_of sc h c.args.number) c.records-records.result.now c.in_ok-short.short =
+    step_follows c.logs_are_orderly.ensures.logs c.logged_sites_are_sets.ensures c.trails_are_sound.ensures.sound c.legal_histories_mention_what_stands.ensures.records c.begun_are_transactions.ensures c.records_suit_their_site.ensures.votes sc h c.args.number
+    c.requires.played.given c.requires.played.legal c.requires.up.up c.args.rose.now c.prepare_by_turns.new.site c.args.input c.in_ok-short.short c.records-records.result.now stood c.requires.some due
+    slice made.back c.in_ok-short.ensures.short in
+    let follows : Follows c.args.number (log_of sc now c.args.number) c.records-records.result.now c.in_ok-short.short =
+    follows_while sc h now c.args.number c.records-records.result.now c.in_ok-short.short m then in
+    let slice_now : c.records-records.result.now ≡ (made_by sc now c.args.number c.args.input).records = c.records-records.ensures ∙ records_made sc now c.args.number c.args.input d.plan.step here.step_is in
     record {
       now = now;
       meanwhile = m;
-      fell = record { some = (λ none. c.in-Err.ensures.some (c.records.ensures ∙ records_made sc now c.args.number c.args.input d.plan.step here.step_is ∙ none)); entered = entered };
+      fell = record { some = (λ none. c.in-Err.ensures.some (c.records-records.ensures ∙ records_made sc now c.args.number c.args.input d.plan.step here.step_is ∙ none)); entered = entered };
       stands =
-          subst (λ (l : List Entry). DiskHolds sc l c.args.number image) (sym entered)
-          (fallen_disk g.D.Disk.content g.D.Disk.image sc now c.args.number c.args.input c.in-Err.why c.args.log.now c.write.new.log up.logged
-          (λ lists before bytes at. subst (λ (rs : List Record). ReadsAfter lists c.in-Err.why rs bytes)
-          (c.records.ensures ∙ records_made sc now c.args.number c.args.input d.plan.step here.step_is) (c.in-Err.ensures.images lists before bytes at)));
-      back = subst (λ (l : List Entry). AllReadBack sc l c.args.number) (sym entered) (fall_back sc now c.args.number c.args.input c.in-Err.why back (here.back (own_meanwhile sc h now c.args.number c.args.input m (made_own c.legal_histories_mention_what_stands.ensures.records c.begun_are_transactions.ensures c.records_suit_their_site.ensures.votes sc h c.args.number c.args.input
-          c.requires.played.given c.requires.played.legal c.requires.some c.requires.up.up due))));
+          subst (λ (l : List Entry). DiskTells sc l c.args.number (g.D.Disk.meters disk).capacity c.write.new.logged (g.D.Disk.image disk)) (sym entered)
+          (fallen_tells sc now c.args.number (g.D.Disk.meters disk).capacity c.args.input c.records-records.result.now c.in-Err.why c.write.new.logged (g.D.Disk.image disk) slice_now
+          (c.in-Err.ensures.left c.args.number (entries_at now c.args.number) (log_of sc now c.args.number) up.logged follows.short follows.orderly follows.back));
     }
 
 pub returns-in_err-claim-clause-turned : goal.returns-in_err-claim-clause-turned
@@ -316,85 +324,11 @@ returns-in_err-claim-clause-ended g c =
     let more = history_seen q in
     let cl = c.in_err-claim.ensures.claimed in
     let m = (looked c.args.wire.now p q c.args.number cl.0 c.requires.owns c.requires.played c.claim.ensures.played c.claim.ensures.idle c.claim.ensures.same cl.1 cl.3).1 in
-    let up = still_up g.D.Disk.content g.D.Disk.image g.D.Disk.meters sc h more c.args.number c.args.site.now c.prepare_by_turns.new.site c.args.log.now m c.requires.up c.in_ok-draft.ensures.still in
-    let still : IsStill g.D.Disk.content g.D.Disk.image g.D.Disk.meters sc h more c.args.number (Up c.args.site.now c.args.log.now c.args.rose.now) (Up c.prepare_by_turns.new.site c.args.log.now c.args.rose.now) =
-    record { meanwhile = m; disk = refl; stands = up; back = back_meanwhile sc h more c.args.number m c.requires.back } in
-    refused g.D.Disk.content g.D.Disk.image g.D.Disk.meters sc h more c.args.number c.args.input (Up c.args.site.now c.args.log.now c.args.rose.now) (Up c.prepare_by_turns.new.site c.args.log.now c.args.rose.now)
+    let up = still_up g.D.Disk.content g.D.Disk.image g.D.Disk.meters sc h more c.args.number c.args.site.now c.prepare_by_turns.new.site c.args.log.now c.args.logged.now m c.requires.up c.in_ok-draft.ensures.still in
+    let still : IsStill g.D.Disk.content g.D.Disk.image g.D.Disk.meters sc h more c.args.number (Up c.args.site.now c.args.log.now c.args.rose.now c.args.logged.now) (Up c.prepare_by_turns.new.site c.args.log.now c.args.rose.now c.args.logged.now) =
+    record { meanwhile = m; disk = refl; stands = up } in
+    refused g.D.Disk.content g.D.Disk.image g.D.Disk.meters sc h more c.args.number c.args.input (Up c.args.site.now c.args.log.now c.args.rose.now c.args.logged.now) (Up c.prepare_by_turns.new.site c.args.log.now c.args.rose.now c.args.logged.now)
     c.in_err-claim.field-0.0 c.from_residual-in_err-claim.result c.from_residual-in_err-claim.ensures.1 still
-
-pub returns-in-Ok-clause-counted : goal.returns-in-Ok-clause-counted
-returns-in-Ok-clause-counted g c =
-    let p = c.args.pass.now in
-    let q = c.claim.new.pass in
-    let sc = scenario_seen p in
-    let h = history_seen p in
-    let d = c.in_ok-draft.draft in
-    let made = draft_made sc h c.args.number c.args.site.now _ c.args.input d c.requires.up.stands c.in_ok-draft.ensures.ready in
-    let due = taken_is_due sc h c.args.number c.args.input c.requires.restless c.requires.due c.requires.takes in
-    let cl = c.in_ok-claim.ensures.claimed in
-    let step : SiteStep = c.apply.result in
-    let is : step ≡ step_kept c.args.input (made_by sc h c.args.number c.args.input) = c.apply.ensures.step ∙ made.step_is in
-    let e : Entry = entry_of_plan c.args.number c.args.input step in
-    let allows = step_allowed sc h c.args.number c.args.input step is c.requires.some c.requires.up.up due in
-    let r = c.commit_entry.new.pass in
-    let P : Entry → Type 0 = λ y. (later : List Mark) × GrewByOthers belongs q later × (seen_by r ≡ later ++ mark.Entered (numbered_on (entries_of later) y) ∷ []) × IsPlayed later in
-    let ent : P e = subst P c.step_of-step.ensures c.commit_entry.ensures.entered in
-    let owns = still_owns p q c.args.number c.claim.ensures.same c.requires.owns in
-    let b = behind_of p q r c.args.number _ e c.requires.owns owns cl.0 cl.1 cl.2 ent.0 ent.1 ent.2 cl.5 ent.3 in
-    let now = entries_of ent.0 in
-    let m = meanwhile c.args.number _ (seen_by p) (seen_by q) ent.0 (seen_by r) e b refl c.requires.played c.claim.ensures.played c.commit_entry.ensures.played in
-    let up : IsUp g.D.Disk.content g.D.Disk.image g.D.Disk.meters sc now c.args.number c.args.site.now c.args.log.now c.args.rose.now =
-    up_meanwhile g.D.Disk.content g.D.Disk.image g.D.Disk.meters sc h now c.args.number (Up c.args.site.now c.args.log.now c.args.rose.now) m c.requires.up in
-    let back = back_meanwhile sc h now c.args.number m c.requires.back in
-    let here = made_meanwhile sc h now c.args.number c.args.input d m made in
-    let all = entries c.args.number _ (seen_by p) (seen_by q) ent.0 (seen_by r) e b refl c.requires.played c.claim.ensures.played c.commit_entry.ensures.played in
-    let more = history_seen r in
-    let entered = step_entered sc now more c.args.number c.args.input step (c.apply.ensures.step ∙ here.step_is) all in
-    count_stepped sc c.args.number now more c.args.input step.records step.outs step.told c.args.count.now c.count_on.new.count
-    (records_made sc now c.args.number c.args.input step (c.apply.ensures.step ∙ here.step_is)) entered
-    (c.requires.counted ∙ sym (count_meanwhile c.args.number h now m)) (c.count_on.ensures ∙ ap (λ (y : Entry). counted_by c.args.count.now y.act) c.step_of-step.ensures)
-
-pub returns-in-Err-clause-counted : goal.returns-in-Err-clause-counted
-returns-in-Err-clause-counted g c =
-    let p = c.args.pass.now in
-    let q = c.claim.new.pass in
-    let sc = scenario_seen p in
-    let h = history_seen p in
-    let d = c.in_ok-draft.draft in
-    let made = draft_made sc h c.args.number c.args.site.now _ c.args.input d c.requires.up.stands c.in_ok-draft.ensures.ready in
-    let due = taken_is_due sc h c.args.number c.args.input c.requires.restless c.requires.due c.requires.takes in
-    let cl = c.in_ok-claim.ensures.claimed in
-    let records : List Record = c.into_step-made.result.records in
-    let rs : records ≡ (made_by sc h c.args.number c.args.input).records =
-    records_made sc h c.args.number c.args.input c.into_step-made.result (c.into_step-made.ensures ∙ made.step_is) in
-    let e : Entry = record { owner = c.args.number; act = Fall d.inputs records c.in-Err.why } in
-    let allows = fall_allowed sc h c.args.number c.args.input d.inputs records c.in-Err.why made.inputs_are rs c.requires.some c.requires.up.up due
-    (λ none. c.in-Err.ensures.some (c.records.ensures ∙ records_made sc h c.args.number c.args.input d.plan.step made.step_is ∙ sym rs ∙ none)) in
-    let r = c.commit_entry-in-Err.new.pass in
-    let P : Entry → Type 0 = λ y. (later : List Mark) × GrewByOthers belongs q later × (seen_by r ≡ later ++ mark.Entered (numbered_on (entries_of later) y) ∷ []) × IsPlayed later in
-    let ent : P e = subst P c.fall_of-fall.ensures c.commit_entry-in-Err.ensures.entered in
-    let owns = still_owns p q c.args.number c.claim.ensures.same c.requires.owns in
-    let b = behind_of p q r c.args.number _ e c.requires.owns owns cl.0 cl.1 cl.2 ent.0 ent.1 ent.2 cl.5 ent.3 in
-    let now = entries_of ent.0 in
-    let m = meanwhile c.args.number _ (seen_by p) (seen_by q) ent.0 (seen_by r) e b refl c.requires.played c.claim.ensures.played c.commit_entry-in-Err.ensures.played in
-    let up : IsUp g.D.Disk.content g.D.Disk.image g.D.Disk.meters sc now c.args.number c.args.site.now c.args.log.now c.args.rose.now =
-    up_meanwhile g.D.Disk.content g.D.Disk.image g.D.Disk.meters sc h now c.args.number (Up c.args.site.now c.args.log.now c.args.rose.now) m c.requires.up in
-    let back = back_meanwhile sc h now c.args.number m c.requires.back in
-    let here = made_meanwhile sc h now c.args.number c.args.input d m made in
-    let all = entries c.args.number _ (seen_by p) (seen_by q) ent.0 (seen_by r) e b refl c.requires.played c.claim.ensures.played c.commit_entry-in-Err.ensures.played in
-    let more = history_seen r in
-    let there = records_made sc now c.args.number c.args.input c.into_step-made.result (c.into_step-made.ensures ∙ here.step_is) in
-    let entered = fall_entered sc now more c.args.number c.args.input d.inputs records c.in-Err.why here.inputs_are there all in
-    count_fallen sc c.args.number now more c.args.input d.inputs records c.in-Err.why c.args.count.now c.count_on-in-Err.new.count there entered
-    (c.requires.counted ∙ sym (count_meanwhile c.args.number h now m)) (c.count_on-in-Err.ensures ∙ ap (λ (y : Entry). counted_by c.args.count.now y.act) c.fall_of-fall.ensures)
-
-pub returns-in_err-claim-clause-counted : goal.returns-in_err-claim-clause-counted
-returns-in_err-claim-clause-counted g c =
-    let p = c.args.pass.now in
-    let q = c.claim.new.pass in
-    let cl = c.in_err-claim.ensures.claimed in
-    let m = (looked c.args.wire.now p q c.args.number cl.0 c.requires.owns c.requires.played c.claim.ensures.played c.claim.ensures.idle c.claim.ensures.same cl.1 cl.3).1 in
-    c.requires.counted ∙ sym (count_meanwhile c.args.number (history_seen p) (history_seen q) m)
 
 pub returns-in-Err-clause-why : goal.returns-in-Err-clause-why
 returns-in-Err-clause-why g c = λ why is.
@@ -402,23 +336,27 @@ returns-in-Err-clause-why g c = λ why is.
     let h = history_seen c.args.pass.now in
     let d = c.in_ok-draft.draft in
     let made = draft_made sc h c.args.number c.args.site.now _ c.args.input d c.requires.up.stands c.in_ok-draft.ensures.ready in
+    let due = taken_is_due sc h c.args.number c.args.input c.requires.restless c.requires.due c.requires.takes in
+    let stood : StandsBy sc h c.args.number c.args.rose.now c.prepare_by_turns.new.site =
+    record { alike = c.in_ok-draft.ensures.still.stands sc h c.args.number c.args.rose.now c.requires.up.stands.alike; risen = c.requires.up.stands.risen; order = c.requires.up.stands.order } in
+    let slice : c.records-records.result.now ≡ (made_by sc h c.args.number c.args.input).records = c.records-records.ensures ∙ records_made sc h c.args.number c.args.input d.plan.step made.step_is in
+    let then : Follows c.args.number (log_of sc h c.args.number) c.records-records.result.now c.in_ok-short.short =
+    step_follows c.logs_are_orderly.ensures.logs c.logged_sites_are_sets.ensures c.trails_are_sound.ensures.sound c.legal_histories_mention_what_stands.ensures.records c.begun_are_transactions.ensures c.records_suit_their_site.ensures.votes sc h c.args.number
+    c.requires.played.given c.requires.played.legal c.requires.up.up c.args.rose.now c.prepare_by_turns.new.site c.args.input c.in_ok-short.short c.records-records.result.now stood c.requires.some due
+    slice made.back c.in_ok-short.ensures.short in
     let old = g.D.Disk.meters c.args.log.now.disk in
     let new = g.D.Disk.meters c.write.new.log.disk in
-    let logged = c.requires.up.logged in
+    let l = log_of sc h c.args.number in
+    let brief = up_brief c.logs_are_orderly.ensures.logs c.logged_sites_are_sets.ensures c.trails_are_sound.ensures.sound c.legal_histories_mention_what_stands.ensures.records c.begun_are_transactions.ensures c.records_suit_their_site.ensures.votes sc h c.args.number
+    c.requires.played.given c.requires.played.legal c.requires.up.up c.args.rose.now c.prepare_by_turns.new.site stood in
+    let size : c.len.result ≡ size_of c.records-records.result.now =
+    c.len.ensures ∙ ap length c.in_ok-draft.ensures.ready.drafted.body_is ∙ sym (ap size_of c.records-records.ensures) in
+    let fits : IsDue g.D.Disk.meters c.args.log.now l c.in_ok-short.short (size_of c.records-records.result.now) =
+    subst (λ (n : ℕ). IsDue g.D.Disk.meters c.args.log.now l c.in_ok-short.short n) size (c.in_ok-short.ensures.due l brief c.requires.up.logged.stands.sound c.in-Err.ensures.some) in
     let same : c.in-Err.why ≡ why = cc in
-    subst (λ (w : Why). IsReason w (log_size (moves_of sc h c.args.number)) (made_by sc h c.args.number c.args.input).records old new) same
-    (subst (λ (rs : List Record). IsReason c.in-Err.why (log_size (moves_of sc h c.args.number)) rs old new) (c.records.ensures ∙ records_made sc h c.args.number c.args.input d.plan.step made.step_is)
-    (c.in-Err.ensures.reason (moves_of sc h c.args.number) logged.lists logged.hold logged.stands))
-
-pub returns-in-Err-clause-need : goal.returns-in-Err-clause-need
-returns-in-Err-clause-need g c = λ why is.
-    let sc = scenario_seen c.args.pass.now in
-    let h = history_seen c.args.pass.now in
-    let d = c.in_ok-draft.draft in
-    let made = draft_made sc h c.args.number c.args.site.now _ c.args.input d c.requires.up.stands c.in_ok-draft.ensures.ready in
-    let same : c.in-Err.why ≡ why = cc in
-    subst (EndsAt c.args.log.now.end (made_by sc h c.args.number c.args.input).records) same
-    (subst (λ (rs : List Record). EndsAt c.args.log.now.end rs c.in-Err.why) (c.records.ensures ∙ records_made sc h c.args.number c.args.input d.plan.step made.step_is) c.in-Err.ensures.need)
+    subst (λ (w : Why). IsReason w l (made_by sc h c.args.number c.args.input).records old new) same
+    (subst (λ (rs : List Record). IsReason c.in-Err.why l rs old new) slice
+    (c.in-Err.ensures.reason c.args.number (entries_at h c.args.number) l c.requires.up.logged then.short fits))
 
 pub returns-in-Ok-clause-takes : goal.returns-in-Ok-clause-takes
 returns-in-Ok-clause-takes g c =
@@ -427,4 +365,4 @@ returns-in-Ok-clause-takes g c =
     let d = c.in_ok-draft.draft in
     let made = draft_made sc h c.args.number c.args.site.now _ c.args.input d c.requires.up.stands c.in_ok-draft.ensures.ready in
     let T : List Record → Type 0 = λ rs. Takes (calls_for rs) (g.D.Disk.meters c.args.log.now.disk) (g.D.Disk.meters c.write.new.log.disk) in
-    subst T (c.records.ensures ∙ records_made sc h c.args.number c.args.input d.plan.step made.step_is) c.in-Ok.ensures.takes
+    subst T (c.records-records.ensures ∙ records_made sc h c.args.number c.args.input d.plan.step made.step_is) c.in-Ok.ensures.takes

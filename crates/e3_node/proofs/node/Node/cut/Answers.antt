@@ -1,6 +1,5 @@
-use Rattle.std.proofs.Common.{◌≡◌, ◌≤◌, ◌++◌, ◌∷◌, [], ◌∙◌, ap, refl, subst, sym, true, List, arith}
-use Rattle.e3_node.specs.Bodies.{AllReadBack}
-use Rattle.e3_node.specs.Counting.{count_of}
+use Rattle.std.proofs.Common.{◌≡◌, ◌≤◌, ap, subst, sym, true, List, arith}
+use Rattle.e3_disk.specs.Meters.{Meters}
 use Rattle.e3_node.specs.NodeStands.{IsIn}
 use Rattle.e3_node.specs.NodeView.{NodeView}
 use Rattle.e3_node.specs.SharedStands.{HasEntered}
@@ -10,9 +9,7 @@ use Rattle.e3_wire.specs.Marks.{entries_of, last_owner, scenario_of, used_by}
 use Rattle.e3_wire.specs.declared.marks.Note.{Note}
 use Rattle.e3_world.specs.Items.{is_up_at}
 use Rattle.e3_world.specs.Legal.{IsCut}
-use Rattle.e3_node.proofs.Counts.{count_own}
 use Rattle.e3_node.proofs.Guarding.{cut_guard}
-use Rattle.e3_node.proofs.Pasts.{back_quiet}
 use Rattle.e3_node.proofs.Sharing.{claimed_note, may_enter}
 use Rattle.e3_node.proofs.Steps.{cut_in, node_with}
 use Rattle.e3_node.proofs.node.Node.cut.Goals as goal
@@ -50,14 +47,9 @@ returns-clause-stands g c =
     subst (λ (x : NodeView _). IsIn g.D.Disk.content g.D.Disk.image g.D.Disk.meters sc h x.site x.state) (sym c.self.view_is) c.requires.standing.state in
     let behind : IsIn g.D.Disk.content g.D.Disk.image g.D.Disk.meters sc more site state =
     subst (λ (l : List Entry). IsIn g.D.Disk.content g.D.Disk.image g.D.Disk.meters sc l site state) (sym has.entries)
-    (cut_in g.D.Disk.content g.D.Disk.image g.D.Disk.meters sc h site c.self.inside.state state before c.replace_with.ensures.0 c.replace_with.ensures.1.0) in
-    let back : AllReadBack sc more c.args.self.now.site =
-    subst (λ (l : List Entry). AllReadBack sc l c.args.self.now.site) (sym (has.entries ∙ ap (λ (x : NodeView _). h ++ record { owner = x.site; act = Cut } ∷ []) c.self.view_is))
-    (back_quiet sc h c.args.self.now.site (record { owner = c.args.self.now.site; act = Cut }) c.requires.standing.back refl refl refl) in
-    node_with g.D.Disk.content g.D.Disk.image g.D.Disk.meters sc (scenario_of c.enter.new.shared) h more c.args.self.now _ state c.args.self.now.count c.requires.standing
+    (cut_in g.D.Disk.content g.D.Disk.image g.D.Disk.meters sc h site c.self.inside.state state before c.replace_with.ensures.0
+    c.replace_with.ensures.1.1.0 c.replace_with.ensures.1.0 (ap (λ (m : Meters). m.capacity) c.replace_with.ensures.1.1.1)) in
+    node_with g.D.Disk.content g.D.Disk.image g.D.Disk.meters sc (scenario_of c.enter.new.shared) h more c.args.self.now _ state c.requires.standing
     has.scenario
-    (subst (λ (x : NodeView _). IsIn g.D.Disk.content g.D.Disk.image g.D.Disk.meters sc more x.site state) c.self.view_is behind) back
-    (c.requires.standing.count_is
-    ∙ sym (ap (count_of c.args.self.now.site) (has.entries ∙ ap (λ (x : NodeView _). h ++ record { owner = x.site; act = Cut } ∷ []) c.self.view_is)
-    ∙ count_own c.args.self.now.site h (record { owner = c.args.self.now.site; act = Cut }) refl))
-    (ap (λ (x : NodeView _). let n : NodeView _ = record { site = x.site; weights = x.weights; rows = x.rows; count = x.count; state = state } in n) c.self.view_is)
+    (subst (λ (x : NodeView _). IsIn g.D.Disk.content g.D.Disk.image g.D.Disk.meters sc more x.site state) c.self.view_is behind)
+    (ap (λ (x : NodeView _). let n : NodeView _ = record { site = x.site; weights = x.weights; rows = x.rows; state = state } in n) c.self.view_is)

@@ -1,12 +1,9 @@
-use Rattle.std.proofs.Common.{◌≡◌, ◌≤◌, ap, subst, sym, refl, Err}
-use Rattle.e3_node.specs.Bodies.{AllReadBack}
-use Rattle.e3_node.specs.Counting.{count_of}
-use Rattle.e3_node.specs.Ends.{EndsAt, FellOver}
+use Rattle.std.proofs.Common.{◌≤◌, ap, subst, sym, refl, Err}
+use Rattle.e3_node.specs.Ends.{FellOver}
 use Rattle.e3_node.specs.NodeStands.{IsIn}
-use Rattle.e3_node.specs.NodeView.{NodeView, end_of}
+use Rattle.e3_node.specs.NodeView.{NodeView}
 use Rattle.e3_node.specs.declared.fault.InputFault.{InputFault}
 use Rattle.e3_wire.specs.Marks.{entries_of, last_owner, scenario_of}
-use Rattle.e3_world.specs.Legal.{made_by}
 use Rattle.e3_node.proofs.Steps.{input_in, node_with}
 use Rattle.e3_node.proofs.node.Node.input.Goals as goal
 
@@ -14,19 +11,10 @@ pub take_input-requires-clause-exists : goal.take_input-requires-clause-exists
 take_input-requires-clause-exists g c =
     subst (λ (x : NodeView _). x.site ≤ last_owner c.args.shared.now) (sym c.self.view_is) c.requires.standing.exists
 
-pub take_input-requires-clause-counted : goal.take_input-requires-clause-counted
-take_input-requires-clause-counted g c =
-    subst (λ (x : NodeView _). x.count ≡ count_of x.site (entries_of c.args.shared.now)) (sym c.self.view_is) c.requires.standing.count_is
-
 pub returns-in-Err-clause-fell : goal.returns-in-Err-clause-fell
 returns-in-Err-clause-fell g c = λ why is.
     subst (λ (x : NodeView _). FellOver (scenario_of c.args.shared.now) (entries_of c.args.shared.now) x.site c.args.input why (entries_of c.take_input.new.shared))
     c.self.view_is (c.in-Err.ensures.fell why is).0
-
-pub returns-in-Err-clause-need : goal.returns-in-Err-clause-need
-returns-in-Err-clause-need g c = λ why is.
-    subst (λ (x : NodeView _). EndsAt (end_of x.state) (made_by (scenario_of c.args.shared.now) (entries_of c.args.shared.now) x.site c.args.input).records why)
-    c.self.view_is (c.in-Err.ensures.need why is)
 
 pub returns-in-Err-clause-stands : goal.returns-in-Err-clause-stands
 returns-in-Err-clause-stands g c =
@@ -38,9 +26,7 @@ returns-in-Err-clause-stands g c =
     (λ none. let k = c.in-Err.ensures.kept c.in-Err.fault refl none in (k.0, k.2))
     (λ why is. c.in-Err.ensures.fell why (ap (λ (f : InputFault). Err f) is))
     c.settle.ensures.fell c.settle.ensures.kept in
-    node_with g.D.Disk.content g.D.Disk.image g.D.Disk.meters sc (scenario_of c.take_input.new.shared) h more c.args.self.now _ c.settle.new.state c.take_input.new.count c.requires.standing
+    node_with g.D.Disk.content g.D.Disk.image g.D.Disk.meters sc (scenario_of c.take_input.new.shared) h more c.args.self.now _ c.settle.new.state c.requires.standing
     c.take_input.ensures.same.0
     (subst (λ (x : NodeView _). IsIn g.D.Disk.content g.D.Disk.image g.D.Disk.meters sc more x.site c.settle.new.state) c.self.view_is now)
-    (subst (λ (x : NodeView _). AllReadBack sc more x.site) c.self.view_is c.take_input.ensures.back)
-    (subst (λ (x : NodeView _). c.take_input.new.count ≡ count_of x.site more) c.self.view_is c.take_input.ensures.counted)
-    (ap (λ (x : NodeView _). let n : NodeView _ = record { site = x.site; weights = x.weights; rows = x.rows; count = c.take_input.new.count; state = c.settle.new.state } in n) c.self.view_is)
+    (ap (λ (x : NodeView _). let n : NodeView _ = record { site = x.site; weights = x.weights; rows = x.rows; state = c.settle.new.state } in n) c.self.view_is)

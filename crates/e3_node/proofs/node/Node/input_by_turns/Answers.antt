@@ -1,19 +1,13 @@
-use Rattle.std.proofs.Common.{◌≡◌, ap, subst, sym}
-use Rattle.e3_node.specs.Bodies.{AllReadBack}
-use Rattle.e3_node.specs.Counting.{count_of}
-use Rattle.e3_node.specs.Ends.{EndsAt, Takes, calls_for}
+use Rattle.std.proofs.Common.{◌≡◌, ◌++◌, ◌∷◌, [], ap, subst}
 use Rattle.e3_node.specs.NodeStands.{IsIn}
-use Rattle.e3_node.specs.NodeView.{NodeView, disk_of, end_of}
-use Rattle.e3_node.specs.Turns.{history_seen, scenario_seen}
-use Rattle.e3_world.specs.Legal.{made_by}
+use Rattle.e3_node.specs.NodeView.{NodeView, disk_of}
+use Rattle.e3_node.specs.Turns.{Meanwhile, history_seen, scenario_seen}
+use Rattle.e3_site_log.specs.Ends.{Takes, calls_for}
+use Rattle.e3_world.specs.Legal.{entry_of, made_by}
 use Rattle.e3_node.proofs.Steps.{node_with}
 use Rattle.e3_node.proofs.Turned.{in_told}
 use Rattle.e3_node.proofs.Waiting.{keys_stay}
 use Rattle.e3_node.proofs.node.Node.input_by_turns.Goals as goal
-
-pub take_by_turns-requires-clause-counted : goal.take_by_turns-requires-clause-counted
-take_by_turns-requires-clause-counted g c =
-    subst (λ (x : NodeView _). x.count ≡ count_of x.site (history_seen c.args.pass.now)) (sym c.self.view_is) c.requires.standing.count_is
 
 pub returns-in-Ok-clause-takes : goal.returns-in-Ok-clause-takes
 returns-in-Ok-clause-takes g c =
@@ -22,10 +16,28 @@ returns-in-Ok-clause-takes g c =
     subst (λ (x : NodeView _). Takes (calls_for (made_by sc h x.site c.args.input).records) (g.D.Disk.meters (disk_of x.state)) (g.D.Disk.meters (disk_of c.take_by_turns.new.state)))
     c.self.view_is c.in-Ok.ensures.takes
 
-pub returns-in-Err-clause-need : goal.returns-in-Err-clause-need
-returns-in-Err-clause-need g c = λ why is.
-    subst (λ (x : NodeView _). EndsAt (end_of x.state) (made_by (scenario_seen c.args.pass.now) (history_seen c.args.pass.now) x.site c.args.input).records why)
-    c.self.view_is (c.in-Err.ensures.need why is)
+pub returns-in-Ok-clause-stands : goal.returns-in-Ok-clause-stands
+returns-in-Ok-clause-stands g c =
+    let p = c.args.pass.now in
+    let q = c.take_by_turns.new.pass in
+    let sc = scenario_seen p in
+    let more = history_seen q in
+    let new = c.take_by_turns.new.state in
+    node_with g.D.Disk.content g.D.Disk.image g.D.Disk.meters sc (scenario_seen q) (history_seen p) more c.args.self.now _ new c.requires.standing
+    (keys_stay p q c.requires.played c.take_by_turns.ensures.turned.turned.seen).0
+    (subst (λ (x : NodeView _). IsIn g.D.Disk.content g.D.Disk.image g.D.Disk.meters sc more x.site new) c.self.view_is c.in-Ok.ensures.ended.stands)
+    (ap (λ (x : NodeView _). let n : NodeView _ = record { site = x.site; weights = x.weights; rows = x.rows; state = new } in n) c.self.view_is)
+
+pub returns-in-Ok-clause-stepped : goal.returns-in-Ok-clause-stepped
+returns-in-Ok-clause-stepped g c =
+    let sc = scenario_seen c.args.pass.now in
+    let h = history_seen c.args.pass.now in
+    let more = history_seen c.take_by_turns.new.pass in
+    let ended = c.in-Ok.ensures.ended in (
+      ended.now,
+      subst (λ (x : NodeView _). Meanwhile x.site h ended.now) c.self.view_is ended.meanwhile,
+      subst (λ (x : NodeView _). more ≡ ended.now ++ entry_of sc ended.now x.site c.args.input ∷ []) c.self.view_is ended.entered,
+    )
 
 pub returns-in-Err-clause-stands : goal.returns-in-Err-clause-stands
 returns-in-Err-clause-stands g c =
@@ -36,9 +48,7 @@ returns-in-Err-clause-stands g c =
     let more = history_seen q in
     let told = in_told g.D.Disk.content g.D.Disk.image g.D.Disk.meters sc h more c.self.inside.site c.args.input c.self.inside.state c.take_by_turns.new.state
     c.in-Err.fault c.settle.new.state c.in-Err.ensures.ended c.settle.ensures.fell c.settle.ensures.kept in
-    node_with g.D.Disk.content g.D.Disk.image g.D.Disk.meters sc (scenario_seen q) h more c.args.self.now _ c.settle.new.state c.take_by_turns.new.count c.requires.standing
+    node_with g.D.Disk.content g.D.Disk.image g.D.Disk.meters sc (scenario_seen q) h more c.args.self.now _ c.settle.new.state c.requires.standing
     (keys_stay p q c.requires.played c.take_by_turns.ensures.turned.turned.seen).0
-    (subst (λ (x : NodeView _). IsIn g.D.Disk.content g.D.Disk.image g.D.Disk.meters sc more x.site c.settle.new.state) c.self.view_is told.0)
-    (subst (λ (x : NodeView _). AllReadBack sc more x.site) c.self.view_is told.1)
-    (subst (λ (x : NodeView _). c.take_by_turns.new.count ≡ count_of x.site more) c.self.view_is c.take_by_turns.ensures.counted)
-    (ap (λ (x : NodeView _). let n : NodeView _ = record { site = x.site; weights = x.weights; rows = x.rows; count = c.take_by_turns.new.count; state = c.settle.new.state } in n) c.self.view_is)
+    (subst (λ (x : NodeView _). IsIn g.D.Disk.content g.D.Disk.image g.D.Disk.meters sc more x.site c.settle.new.state) c.self.view_is told)
+    (ap (λ (x : NodeView _). let n : NodeView _ = record { site = x.site; weights = x.weights; rows = x.rows; state = c.settle.new.state } in n) c.self.view_is)

@@ -1,11 +1,10 @@
-use Rattle.std.proofs.Common.{◌≡◌, ◌≤◌, ◌++◌, ℕ, ◌∙◌, ap, fold, subst, sym, false}
-use Rattle.e3_node.specs.Bodies.{DiskHolds}
-use Rattle.e3_node.specs.Counting.{counted_on}
+use Rattle.std.proofs.Common.{◌≡◌, ◌≤◌, ◌++◌, ℕ, ◌∙◌, ap, subst, sym, false}
+use Rattle.e3_node.specs.NodeStands.{IsFallen}
 use Rattle.e3_node.specs.NodeView.{NodeView, disk_of}
 use Rattle.e3_node.specs.Rising.{IsAllowed, IsWish, MayRise, RiseMakes, RiseIsEntered, RiseTakes, entered_by}
 use Rattle.e3_wire.specs.Marks.{entries_of, last_owner, scenario_of}
 use Rattle.e3_world.specs.Items.{is_up_at}
-use Rattle.e3_node.proofs.Keeping.{disk_in}
+use Rattle.e3_node.proofs.Keeping.{told_in}
 use Rattle.e3_node.proofs.Risen.{allowed_of, failed_told, may_rise, missed_told, node_risen, rose_told, spared_told}
 use Rattle.e3_node.proofs.node.Node.rise.Goals as goal
 
@@ -23,12 +22,12 @@ enter_rise-requires-clause-allowed g c =
     let r = c.replace_with-raised.result in
     let state = c.replace_with-raised.new.dest in
     let down : is_up_at h node.site ≡ false = sym (c.if-is_up.ensures.stands sc h c.requires.standing) in
-    let is : IsWish node.site node.weights node.rows node.count.records wish = subst (λ (x : NodeView _). IsWish x.site x.weights x.rows x.count.records wish) c.self.view_is c.in_ok-wish.ensures in
+    let is : IsWish node.site node.weights node.rows wish = subst (λ (x : NodeView _). IsWish x.site x.weights x.rows wish) c.self.view_is c.in_ok-wish.ensures in
     let may : MayRise sc h wish = may_rise g.D.Disk.content g.D.Disk.image g.D.Disk.meters v node wish c.requires.shared c.requires.standing (c.requires.turn down) is in
-    let stands = disk_in g.D.Disk.content g.D.Disk.image g.D.Disk.meters sc h node.site node.state c.requires.standing.state in
-    let here : DiskHolds sc h wish.site (g.D.Disk.image (disk_of node.state)) = subst (λ (n : ℕ). DiskHolds sc h n (g.D.Disk.image (disk_of node.state))) (sym is.site_is) stands in
-    let inside : DiskHolds sc h wish.site (g.D.Disk.image (disk_of c.self.inside.state)) =
-    subst (λ (x : NodeView _). DiskHolds sc h wish.site (g.D.Disk.image (disk_of x.state))) (sym c.self.view_is) here in
+    let stands = told_in g.D.Disk.content g.D.Disk.image g.D.Disk.meters sc h node.site node.state c.requires.standing.state in
+    let here : IsFallen g.D.Disk.image g.D.Disk.meters sc h wish.site node.state = subst (λ (n : ℕ). IsFallen g.D.Disk.image g.D.Disk.meters sc h n node.state) (sym is.site_is) stands in
+    let inside : IsFallen g.D.Disk.image g.D.Disk.meters sc h wish.site c.self.inside.state =
+    subst (λ (x : NodeView _). IsFallen g.D.Disk.image g.D.Disk.meters sc h wish.site x.state) (sym c.self.view_is) here in
     let made : RiseMakes g.D.Disk.content g.D.Disk.image g.D.Disk.meters sc h node.site (disk_of node.state) state r =
     subst (λ (n : ℕ). RiseMakes g.D.Disk.content g.D.Disk.image g.D.Disk.meters sc h n (disk_of node.state) state r) is.site_is
     (subst (λ (x : NodeView _). RiseMakes g.D.Disk.content g.D.Disk.image g.D.Disk.meters sc h wish.site (disk_of x.state) state r) c.self.view_is
@@ -46,22 +45,21 @@ returns-clause-stands g c =
     let r = c.replace_with-raised.result in
     let state = c.replace_with-raised.new.dest in
     let down : is_up_at h node.site ≡ false = sym (c.if-is_up.ensures.stands sc h c.requires.standing) in
-    let is : IsWish node.site node.weights node.rows node.count.records wish = subst (λ (x : NodeView _). IsWish x.site x.weights x.rows x.count.records wish) c.self.view_is c.in_ok-wish.ensures in
+    let is : IsWish node.site node.weights node.rows wish = subst (λ (x : NodeView _). IsWish x.site x.weights x.rows wish) c.self.view_is c.in_ok-wish.ensures in
     let may : MayRise sc h wish = may_rise g.D.Disk.content g.D.Disk.image g.D.Disk.meters v node wish c.requires.shared c.requires.standing (c.requires.turn down) is in
-    let stands = disk_in g.D.Disk.content g.D.Disk.image g.D.Disk.meters sc h node.site node.state c.requires.standing.state in
-    let here : DiskHolds sc h wish.site (g.D.Disk.image (disk_of node.state)) = subst (λ (n : ℕ). DiskHolds sc h n (g.D.Disk.image (disk_of node.state))) (sym is.site_is) stands in
-    let inside : DiskHolds sc h wish.site (g.D.Disk.image (disk_of c.self.inside.state)) =
-    subst (λ (x : NodeView _). DiskHolds sc h wish.site (g.D.Disk.image (disk_of x.state))) (sym c.self.view_is) here in
+    let stands = told_in g.D.Disk.content g.D.Disk.image g.D.Disk.meters sc h node.site node.state c.requires.standing.state in
+    let here : IsFallen g.D.Disk.image g.D.Disk.meters sc h wish.site node.state = subst (λ (n : ℕ). IsFallen g.D.Disk.image g.D.Disk.meters sc h n node.state) (sym is.site_is) stands in
+    let inside : IsFallen g.D.Disk.image g.D.Disk.meters sc h wish.site c.self.inside.state =
+    subst (λ (x : NodeView _). IsFallen g.D.Disk.image g.D.Disk.meters sc h wish.site x.state) (sym c.self.view_is) here in
     let made : RiseMakes g.D.Disk.content g.D.Disk.image g.D.Disk.meters sc h node.site (disk_of node.state) state r =
     subst (λ (n : ℕ). RiseMakes g.D.Disk.content g.D.Disk.image g.D.Disk.meters sc h n (disk_of node.state) state r) is.site_is
     (subst (λ (x : NodeView _). RiseMakes g.D.Disk.content g.D.Disk.image g.D.Disk.meters sc h wish.site (disk_of x.state) state r) c.self.view_is
     (c.replace_with-raised.ensures.0 sc h may inside)) in
     let has : RiseIsEntered c.self.inside.site r v c.enter_rise.new.shared = c.enter_rise.ensures.entered v c.in_ok-claim.ensures.claimed in
     let entered : entries_of c.enter_rise.new.shared ≡ h ++ entered_by node.site r = has.entries ∙ ap (λ (x : NodeView _). h ++ entered_by x.site r) c.self.view_is in
-    node_risen g.D.Disk.content g.D.Disk.image g.D.Disk.meters sc (scenario_of c.enter_rise.new.shared) h (entries_of c.enter_rise.new.shared) node _ state c.enter_rise.new.count r
+    node_risen g.D.Disk.content g.D.Disk.image g.D.Disk.meters sc (scenario_of c.enter_rise.new.shared) h (entries_of c.enter_rise.new.shared) node _ state r
     c.requires.standing down made has.scenario entered
-    (subst (λ (x : NodeView _). c.enter_rise.new.count ≡ fold (counted_on x.site) x.count (entered_by x.site r)) c.self.view_is c.enter_rise.ensures.counted)
-    (ap (λ (x : NodeView _). let n : NodeView _ = record { site = x.site; weights = x.weights; rows = x.rows; count = c.enter_rise.new.count; state = state } in n) c.self.view_is)
+    (ap (λ (x : NodeView _). let n : NodeView _ = record { site = x.site; weights = x.weights; rows = x.rows; state = state } in n) c.self.view_is)
 
 pub returns-clause-rose : goal.returns-clause-rose
 returns-clause-rose g c =
@@ -73,12 +71,12 @@ returns-clause-rose g c =
     let r = c.replace_with-raised.result in
     let state = c.replace_with-raised.new.dest in
     let down : is_up_at h node.site ≡ false = sym (c.if-is_up.ensures.stands sc h c.requires.standing) in
-    let is : IsWish node.site node.weights node.rows node.count.records wish = subst (λ (x : NodeView _). IsWish x.site x.weights x.rows x.count.records wish) c.self.view_is c.in_ok-wish.ensures in
+    let is : IsWish node.site node.weights node.rows wish = subst (λ (x : NodeView _). IsWish x.site x.weights x.rows wish) c.self.view_is c.in_ok-wish.ensures in
     let may : MayRise sc h wish = may_rise g.D.Disk.content g.D.Disk.image g.D.Disk.meters v node wish c.requires.shared c.requires.standing (c.requires.turn down) is in
-    let stands = disk_in g.D.Disk.content g.D.Disk.image g.D.Disk.meters sc h node.site node.state c.requires.standing.state in
-    let here : DiskHolds sc h wish.site (g.D.Disk.image (disk_of node.state)) = subst (λ (n : ℕ). DiskHolds sc h n (g.D.Disk.image (disk_of node.state))) (sym is.site_is) stands in
-    let inside : DiskHolds sc h wish.site (g.D.Disk.image (disk_of c.self.inside.state)) =
-    subst (λ (x : NodeView _). DiskHolds sc h wish.site (g.D.Disk.image (disk_of x.state))) (sym c.self.view_is) here in
+    let stands = told_in g.D.Disk.content g.D.Disk.image g.D.Disk.meters sc h node.site node.state c.requires.standing.state in
+    let here : IsFallen g.D.Disk.image g.D.Disk.meters sc h wish.site node.state = subst (λ (n : ℕ). IsFallen g.D.Disk.image g.D.Disk.meters sc h n node.state) (sym is.site_is) stands in
+    let inside : IsFallen g.D.Disk.image g.D.Disk.meters sc h wish.site c.self.inside.state =
+    subst (λ (x : NodeView _). IsFallen g.D.Disk.image g.D.Disk.meters sc h wish.site x.state) (sym c.self.view_is) here in
     let made : RiseMakes g.D.Disk.content g.D.Disk.image g.D.Disk.meters sc h node.site (disk_of node.state) state r =
     subst (λ (n : ℕ). RiseMakes g.D.Disk.content g.D.Disk.image g.D.Disk.meters sc h n (disk_of node.state) state r) is.site_is
     (subst (λ (x : NodeView _). RiseMakes g.D.Disk.content g.D.Disk.image g.D.Disk.meters sc h wish.site (disk_of x.state) state r) c.self.view_is
@@ -98,12 +96,12 @@ returns-clause-failed g c =
     let r = c.replace_with-raised.result in
     let state = c.replace_with-raised.new.dest in
     let down : is_up_at h node.site ≡ false = sym (c.if-is_up.ensures.stands sc h c.requires.standing) in
-    let is : IsWish node.site node.weights node.rows node.count.records wish = subst (λ (x : NodeView _). IsWish x.site x.weights x.rows x.count.records wish) c.self.view_is c.in_ok-wish.ensures in
+    let is : IsWish node.site node.weights node.rows wish = subst (λ (x : NodeView _). IsWish x.site x.weights x.rows wish) c.self.view_is c.in_ok-wish.ensures in
     let may : MayRise sc h wish = may_rise g.D.Disk.content g.D.Disk.image g.D.Disk.meters v node wish c.requires.shared c.requires.standing (c.requires.turn down) is in
-    let stands = disk_in g.D.Disk.content g.D.Disk.image g.D.Disk.meters sc h node.site node.state c.requires.standing.state in
-    let here : DiskHolds sc h wish.site (g.D.Disk.image (disk_of node.state)) = subst (λ (n : ℕ). DiskHolds sc h n (g.D.Disk.image (disk_of node.state))) (sym is.site_is) stands in
-    let inside : DiskHolds sc h wish.site (g.D.Disk.image (disk_of c.self.inside.state)) =
-    subst (λ (x : NodeView _). DiskHolds sc h wish.site (g.D.Disk.image (disk_of x.state))) (sym c.self.view_is) here in
+    let stands = told_in g.D.Disk.content g.D.Disk.image g.D.Disk.meters sc h node.site node.state c.requires.standing.state in
+    let here : IsFallen g.D.Disk.image g.D.Disk.meters sc h wish.site node.state = subst (λ (n : ℕ). IsFallen g.D.Disk.image g.D.Disk.meters sc h n node.state) (sym is.site_is) stands in
+    let inside : IsFallen g.D.Disk.image g.D.Disk.meters sc h wish.site c.self.inside.state =
+    subst (λ (x : NodeView _). IsFallen g.D.Disk.image g.D.Disk.meters sc h wish.site x.state) (sym c.self.view_is) here in
     let made : RiseMakes g.D.Disk.content g.D.Disk.image g.D.Disk.meters sc h node.site (disk_of node.state) state r =
     subst (λ (n : ℕ). RiseMakes g.D.Disk.content g.D.Disk.image g.D.Disk.meters sc h n (disk_of node.state) state r) is.site_is
     (subst (λ (x : NodeView _). RiseMakes g.D.Disk.content g.D.Disk.image g.D.Disk.meters sc h wish.site (disk_of x.state) state r) c.self.view_is
@@ -123,12 +121,12 @@ returns-clause-cause g c =
     let r = c.replace_with-raised.result in
     let state = c.replace_with-raised.new.dest in
     let down : is_up_at h node.site ≡ false = sym (c.if-is_up.ensures.stands sc h c.requires.standing) in
-    let is : IsWish node.site node.weights node.rows node.count.records wish = subst (λ (x : NodeView _). IsWish x.site x.weights x.rows x.count.records wish) c.self.view_is c.in_ok-wish.ensures in
+    let is : IsWish node.site node.weights node.rows wish = subst (λ (x : NodeView _). IsWish x.site x.weights x.rows wish) c.self.view_is c.in_ok-wish.ensures in
     let may : MayRise sc h wish = may_rise g.D.Disk.content g.D.Disk.image g.D.Disk.meters v node wish c.requires.shared c.requires.standing (c.requires.turn down) is in
-    let stands = disk_in g.D.Disk.content g.D.Disk.image g.D.Disk.meters sc h node.site node.state c.requires.standing.state in
-    let here : DiskHolds sc h wish.site (g.D.Disk.image (disk_of node.state)) = subst (λ (n : ℕ). DiskHolds sc h n (g.D.Disk.image (disk_of node.state))) (sym is.site_is) stands in
-    let inside : DiskHolds sc h wish.site (g.D.Disk.image (disk_of c.self.inside.state)) =
-    subst (λ (x : NodeView _). DiskHolds sc h wish.site (g.D.Disk.image (disk_of x.state))) (sym c.self.view_is) here in
+    let stands = told_in g.D.Disk.content g.D.Disk.image g.D.Disk.meters sc h node.site node.state c.requires.standing.state in
+    let here : IsFallen g.D.Disk.image g.D.Disk.meters sc h wish.site node.state = subst (λ (n : ℕ). IsFallen g.D.Disk.image g.D.Disk.meters sc h n node.state) (sym is.site_is) stands in
+    let inside : IsFallen g.D.Disk.image g.D.Disk.meters sc h wish.site c.self.inside.state =
+    subst (λ (x : NodeView _). IsFallen g.D.Disk.image g.D.Disk.meters sc h wish.site x.state) (sym c.self.view_is) here in
     let made : RiseMakes g.D.Disk.content g.D.Disk.image g.D.Disk.meters sc h node.site (disk_of node.state) state r =
     subst (λ (n : ℕ). RiseMakes g.D.Disk.content g.D.Disk.image g.D.Disk.meters sc h n (disk_of node.state) state r) is.site_is
     (subst (λ (x : NodeView _). RiseMakes g.D.Disk.content g.D.Disk.image g.D.Disk.meters sc h wish.site (disk_of x.state) state r) c.self.view_is
@@ -145,12 +143,12 @@ returns-clause-spares g c =
     let r = c.replace_with-raised.result in
     let state = c.replace_with-raised.new.dest in
     let down : is_up_at h node.site ≡ false = sym (c.if-is_up.ensures.stands sc h c.requires.standing) in
-    let is : IsWish node.site node.weights node.rows node.count.records wish = subst (λ (x : NodeView _). IsWish x.site x.weights x.rows x.count.records wish) c.self.view_is c.in_ok-wish.ensures in
+    let is : IsWish node.site node.weights node.rows wish = subst (λ (x : NodeView _). IsWish x.site x.weights x.rows wish) c.self.view_is c.in_ok-wish.ensures in
     let may : MayRise sc h wish = may_rise g.D.Disk.content g.D.Disk.image g.D.Disk.meters v node wish c.requires.shared c.requires.standing (c.requires.turn down) is in
-    let stands = disk_in g.D.Disk.content g.D.Disk.image g.D.Disk.meters sc h node.site node.state c.requires.standing.state in
-    let here : DiskHolds sc h wish.site (g.D.Disk.image (disk_of node.state)) = subst (λ (n : ℕ). DiskHolds sc h n (g.D.Disk.image (disk_of node.state))) (sym is.site_is) stands in
-    let inside : DiskHolds sc h wish.site (g.D.Disk.image (disk_of c.self.inside.state)) =
-    subst (λ (x : NodeView _). DiskHolds sc h wish.site (g.D.Disk.image (disk_of x.state))) (sym c.self.view_is) here in
+    let stands = told_in g.D.Disk.content g.D.Disk.image g.D.Disk.meters sc h node.site node.state c.requires.standing.state in
+    let here : IsFallen g.D.Disk.image g.D.Disk.meters sc h wish.site node.state = subst (λ (n : ℕ). IsFallen g.D.Disk.image g.D.Disk.meters sc h n node.state) (sym is.site_is) stands in
+    let inside : IsFallen g.D.Disk.image g.D.Disk.meters sc h wish.site c.self.inside.state =
+    subst (λ (x : NodeView _). IsFallen g.D.Disk.image g.D.Disk.meters sc h wish.site x.state) (sym c.self.view_is) here in
     let made : RiseMakes g.D.Disk.content g.D.Disk.image g.D.Disk.meters sc h node.site (disk_of node.state) state r =
     subst (λ (n : ℕ). RiseMakes g.D.Disk.content g.D.Disk.image g.D.Disk.meters sc h n (disk_of node.state) state r) is.site_is
     (subst (λ (x : NodeView _). RiseMakes g.D.Disk.content g.D.Disk.image g.D.Disk.meters sc h wish.site (disk_of x.state) state r) c.self.view_is

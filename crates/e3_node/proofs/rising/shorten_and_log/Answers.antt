@@ -1,0 +1,46 @@
+use Rattle.std.proofs.Common.{ap, sym, subst, Err, List}
+use Rattle.e3_law_brief.specs.Orderly.{IsOrderly}
+use Rattle.e3_node.specs.Bodies.{DiskTells, log_with}
+use Rattle.e3_node.specs.Briefing.{IsReadBrief}
+use Rattle.e3_node.specs.Rising.{RiseMakes}
+use Rattle.e3_node.specs.declared.readying.Unready.{Unready}
+use Rattle.e3_node.specs.declared.rising.Raised.{Raised}
+use Rattle.e3_node.specs.declared.state.State.TheVariants.{Down}
+use Rattle.e3_types.specs.declared.records.Record.{Record}
+use Rattle.e3_node.proofs.Rises.{read_brief, read_front, ready_some, unshortened}
+use Rattle.e3_node.proofs.rising.shorten_and_log.Goals as goal
+
+pub log_rise-requires-clause-some : goal.log_rise-requires-clause-some
+log_rise-requires-clause-some g c = ready_some c.args.wish.now c.args.logged c.requires.ready.0 c.args.rise c.requires.ready.1
+
+pub log_rise-requires-clause-spelled : goal.log_rise-requires-clause-spelled
+log_rise-requires-clause-spelled g c = c.requires.ready.1.body_is
+
+pub returns-in-Ok-clause-makes : goal.returns-in-Ok-clause-makes
+returns-in-Ok-clause-makes g c = λ sc h may tells.
+    let wish = c.args.wish.now in
+    let bodies = c.requires.ready.0 in
+    let is = c.requires.ready.1 in
+    let stands = c.requires.ready.2 in
+    let at = g.met.D.Disk.reads_an_image c.args.log.disk in
+    let brief = read_brief g.D.Disk.content g.D.Disk.image g.D.Disk.meters c.logs_are_orderly.ensures.logs c.logged_sites_are_sets.ensures c.trails_are_sound.ensures.sound sc h wish c.args.logged bodies c.args.rise c.args.log may is stands tells at
+    c.legal_histories_mention_what_stands.ensures.records c.begun_are_transactions.ensures c.records_suit_their_site.ensures.votes in
+    let l = log_with sc h wish.site c.args.rise.kept in
+    let mine = subst (λ (x : List Record). IsReadBrief wish.site x l) (sym (read_front wish c.args.logged bodies c.args.rise is)) brief in
+    c.log_rise.ensures.makes sc h wish c.args.logged bodies may is stands tells (c.in-Ok.ensures.short l mine) (c.in-Ok.ensures.due l mine stands.sound)
+
+pub returns-in-Err-clause-makes : goal.returns-in-Err-clause-makes
+returns-in-Err-clause-makes g c = λ sc h may tells.
+    let wish = c.args.wish.now in
+    let bodies = c.requires.ready.0 in
+    let is = c.requires.ready.1 in
+    let stands = c.requires.ready.2 in
+    let at = g.met.D.Disk.reads_an_image c.args.log.disk in
+    let brief = read_brief g.D.Disk.content g.D.Disk.image g.D.Disk.meters c.logs_are_orderly.ensures.logs c.logged_sites_are_sets.ensures c.trails_are_sound.ensures.sound sc h wish c.args.logged bodies c.args.rise c.args.log may is stands tells at
+    c.legal_histories_mention_what_stands.ensures.records c.begun_are_transactions.ensures c.records_suit_their_site.ensures.votes in
+    let orderly = subst (λ (x : List Record). IsOrderly wish.site x) (sym (read_front wish c.args.logged bodies c.args.rise is)) brief.orderly in
+    let new = c.into_disk.result in
+    let here : DiskTells sc h wish.site (g.D.Disk.meters new).capacity c.args.logged (g.D.Disk.image new) =
+    subst (λ (d : _). DiskTells sc h wish.site (g.D.Disk.meters d).capacity c.args.logged (g.D.Disk.image d)) (sym c.into_disk.ensures) tells in
+    subst (λ (r : Raised). RiseMakes g.D.Disk.content g.D.Disk.image g.D.Disk.meters sc h wish.site c.args.log.disk (Down new c.args.logged) r) (sym c.raised_by.ensures)
+    (unshortened g.D.Disk.content g.D.Disk.image g.D.Disk.meters sc h wish.site c.args.logged c.args.log.disk new c.in-Err.fault (λ foreign. c.in-Err.ensures.never orderly (ap (λ (f : Unready). Err f) foreign)) here)
