@@ -8,7 +8,7 @@ use Rattle.e3_crew.specs.Workers.{HasWorked, KnowsWith}
 use Rattle.e3_crew.proofs.Growing.{alike_meanwhile, lines_meanwhile, meanwhile_all, meanwhile_none, meanwhile_on, meanwhile_own, restless_on}
 use Rattle.e3_node.specs.Batches.{BatchEnded, EndedShort, HasFallenOverAll, HasSteppedAll, fall_over, stepped}
 use Rattle.e3_node.specs.Claims.{MovesStay}
-use Rattle.e3_node.specs.Ends.{IsReason, Takes, calls_for}
+use Rattle.e3_site_log.specs.Ends.{IsReason, Takes, calls_for}
 use Rattle.e3_node.specs.NodeStands.{NodeStands}
 use Rattle.e3_node.specs.NodeView.{NodeView, disk_of}
 use Rattle.e3_node.specs.Turns.{Meanwhile}
@@ -26,7 +26,7 @@ use Rattle.e3_wire.specs.Marks.{entries_of, most_of, note_of, nothing, scenario_
 use Rattle.e3_wire.specs.Wires.{IsPlayed}
 use Rattle.e3_world.specs.Items.{is_up_at}
 use Rattle.e3_world.specs.Legal.{IsLegal, entry_of, records_by}
-use Rattle.e3_world.specs.Moves.{Move, log_size, moves_of}
+use Rattle.e3_world.specs.Moves.{Move, log_by, log_of, moves_of}
 use Rattle.e3_world.specs.Packets.{is_calm, present_items}
 use Rattle.e3_world.proofs.Pushes.{legal_front}
 
@@ -119,8 +119,8 @@ module _ {D : Type 0} (content : D → List ℕ) (image : D → List ℕ → Typ
           entered = f.fell;
           keeps = keeps;
           reason =
-              subst (λ (ms : List Move). IsReason why (log_size ms) (records_by sc f.now old.site done) first last) (sym moves)
-              (subst (λ (rs : List Record). IsReason why (log_size (moves_of sc was old.site)) rs first last)
+              subst (λ (ms : List Move). IsReason why (log_by ms) (records_by sc f.now old.site done) first last) (sym moves)
+              (subst (λ (rs : List Record). IsReason why (log_of sc was old.site) rs first last)
               (sym (records_same sc old.site was f.now done moves)) f.reason);
         });
       }

@@ -6,7 +6,8 @@ use Rattle.e3_crew.specs.Turns.{AtStart, BehindFall, BehindOthers, BehindStep, W
 use Rattle.e3_crew.specs.Workers.{HasGiven, HasWorked, Knows}
 use Rattle.e3_crew.proofs.Growing.{alike_meanwhile, lines_meanwhile, meanwhile_all, meanwhile_on, meanwhile_own, restless_on}
 use Rattle.e3_node.specs.Claims.{MovesStay}
-use Rattle.e3_node.specs.Ends.{FellOver, IsReason, Takes, calls_for, is_fall}
+use Rattle.e3_node.specs.Ends.{FellOver, is_fall}
+use Rattle.e3_site_log.specs.Ends.{IsReason, Takes, calls_for}
 use Rattle.e3_node.specs.NodeStands.{NodeStands}
 use Rattle.e3_node.specs.NodeView.{NodeView, disk_of}
 use Rattle.e3_node.specs.Places.{HasGivenNoneBack}
@@ -25,7 +26,7 @@ use Rattle.e3_wire.specs.Wires.{IsPlayed}
 use Rattle.e3_world.specs.Items.{is_up_at}
 use Rattle.e3_world.specs.Legal.{IsLegal, entry_of, made_by}
 use Rattle.e3_world.specs.Lives.{incarnation_of}
-use Rattle.e3_world.specs.Moves.{Move, log_size, moves_of}
+use Rattle.e3_world.specs.Moves.{Move, log_by, log_of, moves_of}
 use Rattle.e3_world.specs.Packets.{is_calm, present_items}
 use Rattle.e3_world.specs.declared.lives.Made.{Made}
 use Rattle.e3_world.proofs.Pushes.{legal_front}
@@ -59,7 +60,7 @@ pub record Answered {D : Type 0} (content : D → List ℕ) (image : D → List 
   pub kept : (fault : InputFault) → answer ≡ Err fault → is_fall fault ≡ false →
       Meanwhile old.site (entries_of before) (entries_of marks) × (disk_of new.state ≡ disk_of old.state)
   pub why : (why : Why) → answer ≡ Err (input_fault.Fell why) →
-      IsReason why (log_size (moves_of (scenario_of before) (entries_of before) old.site))
+      IsReason why (log_of (scenario_of before) (entries_of before) old.site)
       (made_by (scenario_of before) (entries_of before) old.site i).records (meters (disk_of old.state)) (meters (disk_of new.state))
   pub keeps : Keeps (meters (disk_of old.state)) (meters (disk_of new.state))
   pub takes : OnOk answer (Takes (calls_for (made_by (scenario_of before) (entries_of before) old.site i).records)
@@ -111,12 +112,12 @@ module _ {D : Type 0} (content : D → List ℕ) (image : D → List ℕ → Typ
   -- a fall
   fell_went : IsPlayed before → IsLegal sc (entries_of marks) → is_up_at was old.site ≡ true → Keeps first last → (why : Why) →
       (met : List Entry) → Meanwhile old.site was met → FellOver sc met old.site i why (entries_of marks) →
-      IsReason why (log_size (moves_of sc was old.site)) (made_by sc was old.site i).records first last → Went (entries_of marks) last
+      IsReason why (log_of sc was old.site) (made_by sc was old.site i).records first last → Went (entries_of marks) last
   fell_went played legal up keeps why met m fell reason = BehindFall met (entries_of marks) i why first last (behind met m) (record {
     up = up_then played met (legal_front sc met (fall_of sc met old.site i why ∷ []) (subst (IsLegal sc) fell.entered legal)) m up;
     entered = fell;
     keeps = keeps;
-    reason = (let P : List Move → Type 0 = λ moves. IsReason why (log_size moves) (step_of sc.weights old.site (incarnation_of moves) i).records first last in
+    reason = (let P : List Move → Type 0 = λ moves. IsReason why (log_by moves) (step_of sc.weights old.site (incarnation_of moves) i).records first last in
         subst P (sym (moves_same law sc old.site was met m)) reason);
   })
 

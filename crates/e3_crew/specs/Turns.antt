@@ -4,7 +4,8 @@ use Rattle.e3_disk.specs.Meters.{Keeps, Meters}
 use Rattle.e3_law_local.specs.Others.{AreOthers}
 use Rattle.e3_law_local.specs.Workers.{AtItems}
 use Rattle.e3_node.specs.Batches.{FellOverAll, stepped}
-use Rattle.e3_node.specs.Ends.{FellOver, IsReason, Takes, calls_for}
+use Rattle.e3_node.specs.Ends.{FellOver}
+use Rattle.e3_site_log.specs.Ends.{IsReason, Takes, calls_for}
 use Rattle.e3_node.specs.Turns.{Meanwhile}
 use Rattle.e3_node.specs.declared.fault.InputFault.{InputFault}
 use Rattle.e3_node.specs.declared.fault.InputFault.TheVariants as input_fault
@@ -17,7 +18,7 @@ use Rattle.e3_types.specs.declared.entries.Why.{Why}
 use Rattle.e3_types.specs.declared.scenarios.Scenario.{Scenario}
 use Rattle.e3_world.specs.Items.{is_up_at}
 use Rattle.e3_world.specs.Legal.{entry_of, made_by, records_by}
-use Rattle.e3_world.specs.Moves.{log_size, moves_of}
+use Rattle.e3_world.specs.Moves.{log_of}
 
 -- a step of a site that was up: what was left of an arm of its disk pays for the frame
 pub record IsStepBy (sc : Scenario) (history : List Entry) (site : ℕ) (i : Input) (now : List Entry) (old new : Meters) : Type 0 where
@@ -31,7 +32,7 @@ pub record IsFallBy (sc : Scenario) (history : List Entry) (site : ℕ) (i : Inp
   pub up : is_up_at history site ≡ true
   pub entered : FellOver sc history site i why now
   pub keeps : Keeps old new
-  pub reason : IsReason why (log_size (moves_of sc history site)) (made_by sc history site i).records old new
+  pub reason : IsReason why (log_of sc history site) (made_by sc history site i).records old new
 
 -- the steps of a batch of a site that was up, of eight inputs at most: what was left of an arm pays for their one frame
 pub record AreStepsBy (sc : Scenario) (history : List Entry) (site : ℕ) (inputs : List Input) (now : List Entry) (old new : Meters) : Type 0 where
@@ -46,7 +47,7 @@ pub record IsFallOver (sc : Scenario) (history : List Entry) (site : ℕ) (input
   pub up : is_up_at history site ≡ true
   pub entered : FellOverAll sc history site inputs why now
   pub keeps : Keeps old new
-  pub reason : IsReason why (log_size (moves_of sc history site)) (records_by sc history site inputs) old new
+  pub reason : IsReason why (log_of sc history site) (records_by sc history site inputs) old new
 
 -- The history came of the first, and the numbers of the site's disk of the first numbers, by steps and falls of the site, one
 -- by one or in batches, and by entries of others, which leave the disk as it is.

@@ -11,22 +11,25 @@ use Rattle.e3_fleet.proofs.Rooms.{rooms_empty}
 use Rattle.e3_node.specs.Bodies.{DiskStands}
 use Rattle.e3_node.specs.Claims.{NodesDisks}
 use Rattle.e3_node.specs.NodeView.{NodeView, disk_of}
-use Rattle.e3_node.proofs.Keeping.{blank_stands}
+use Rattle.e3_node.proofs.Keeping.{blank_tells}
+use Rattle.e3_node.proofs.Left.{tells_holds}
 use Rattle.e3_types.specs.declared.entries.Entry.{Entry}
 use Rattle.e3_types.specs.declared.scenarios.Scenario.{Scenario}
 
 -- a run that never began
 pub never_began : {D : Type 0} (content : D → List ℕ) (image : D → List ℕ → Type 0) (meters : D → Meters) → ((d : D) → IsCounted (meters d)) → (sc : Scenario) (disks : List D) →
-    AreBlank content image meters disks → AreOver image meters sc [] disks disks
-never_began {D} content image meters counted sc disks blank = record {
+    ((at : ℕ) (d : D) → slice_get disks at ≡ Some d → 2 ≤ (meters d).capacity) → AreBlank content image meters disks → AreOver image meters sc [] disks disks
+never_began {D} content image meters counted sc disks halves blank = record {
   count = refl;
-  sites = λ at old new low is was. (let one : old ≡ new = cc in subst (λ (d : D). IsOver image meters sc [] (suc at) old d) one (over at old (blank at old is)));
+  sites = λ at old new low is was. (let one : old ≡ new = cc in subst (λ (d : D). IsOver image meters sc [] (suc at) old d) one (over at old (halves at old is) (blank at old is)));
   others = λ at old new far is was. (let one : new ≡ old = cc in one);
 }
   where
-    over : (at : ℕ) (d : D) → IsFresh content image meters d → IsOver image meters sc [] (suc at) d d
-    over at d fresh = record {
-      stands = blank_stands content image sc (suc at) d fresh.blank;
+    over : (at : ℕ) (d : D) → 2 ≤ (meters d).capacity → IsFresh content image meters d → IsOver image meters sc [] (suc at) d d
+    over at d least fresh = record {
+      stands = record {
+        holds = tells_holds sc [] (suc at) (meters d).capacity 0 (image d) (blank_tells content image meters sc (suc at) d least fresh.blank);
+      };
       served = served_start sc (suc at) (meters d) (counted d);
       rooms = rooms_empty sc (suc at) (meters d).capacity;
     }
@@ -77,7 +80,7 @@ came_back {D} content image meters law sc h olds news rest before now all seated
     one_site at x y old new there here one two =
         subst (λ (d : D). IsOver image meters sc h (suc at) d new) (sym one)
         (subst (λ (d : D). IsOver image meters sc h (suc at) (disk_of x.state) d) (sym two) (record {
-          stands = subst (λ (s : ℕ). DiskStands sc h s (image (disk_of y.state))) (seated at y here).site (law sc h y (seated at y here).stands);
+          stands = subst (λ (s : ℕ). DiskStands sc h s (meters (disk_of y.state)).capacity (image (disk_of y.state))) (seated at y here).site (law sc h y (seated at y here).stands);
           served = (kept.each at x y there here).served;
           rooms = subst (λ (n : ℕ). HadNoRooms sc h (suc at) n) (kept.each at x y there here).served.capacity (seated at y here).rooms;
         }))

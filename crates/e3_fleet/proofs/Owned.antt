@@ -9,7 +9,8 @@ use Rattle.e3_fleet.specs.Stops.{arm_by, calls_of, is_cut, is_end}
 use Rattle.e3_fleet.proofs.Going.{Went}
 use Rattle.e3_fleet.proofs.Kept.{GoesOn, Took}
 use Rattle.e3_fleet.proofs.Turns.{goes_cut, goes_own, goes_stop, keeps_on, still, stop_apart}
-use Rattle.e3_node.specs.Ends.{FellOver, HasFailedToRise, HasRisen, IsReason, calls_for, is_fall}
+use Rattle.e3_node.specs.Ends.{FellOver, HasFailedToRise, HasRisen, is_fall}
+use Rattle.e3_site_log.specs.Ends.{IsReason, calls_for}
 use Rattle.e3_node.specs.NodeView.{NodeView, disk_of}
 use Rattle.e3_node.specs.declared.fault.CutFault.{CutFault}
 use Rattle.e3_node.specs.declared.fault.CutFault.TheVariants as cut_fault
@@ -30,7 +31,7 @@ use Rattle.e3_types.specs.declared.scenarios.Item.TheVariants as item
 use Rattle.e3_types.specs.declared.scenarios.Leave.{Leave}
 use Rattle.e3_types.specs.declared.scenarios.Scenario.{Scenario}
 use Rattle.e3_world.specs.Legal.{entry_of, made_by}
-use Rattle.e3_world.specs.Moves.{log_size, moves_of}
+use Rattle.e3_world.specs.Moves.{log_of}
 use Rattle.e3_world.specs.Packets.{step_items}
 use Rattle.e3_world.proofs.Turns.{true_not_false}
 
@@ -58,7 +59,7 @@ quiet_keeps sc h more site old new counted keeps took none = inl (record { none 
 
 -- a rise
 pub rise_went : (sc : Scenario) (h more : List Entry) (site : ℕ) (old new : Meters) (image : List ℕ → Type 0) (answer : Result ℕ RiseFault) → IsCounted old → Keeps old new →
-    IfOk answer (λ inc. HasRisen sc h site inc more image) → OnOk answer (Took 5 old new) →
+    IfOk answer (λ inc. HasRisen sc h site inc more old.capacity image) → OnOk answer (Took 5 old new) →
     ((why : Why) → answer ≡ Err (rise_fault.Failed why) → HasFailedToRise sc h site why more old new image) →
     (answer ≡ Err rise_fault.Missed → more ≡ h ++ record { owner = site; act = Miss } ∷ []) →
     (answer ≡ Err rise_fault.Missed → HasFailed old.faults new.faults) →
@@ -79,25 +80,24 @@ rise_went sc h more site old new image (Err (rise_fault.Failed Fault)) counted k
     let f = failed Fault refl in
     own_next sc h more site (RiseFall f.kept f.inc Fault) old new counted keeps f.entered (λ k. refl) refl (λ is. f.reason) (λ is. absurd (true_not_false is)) tt
 rise_went sc h more site old new image (Err (rise_fault.Failed (Full need room))) counted keeps rose took failed missed cause memory full up =
-    let f = failed (Full need room) refl in let reason = f.reason in let need_is = reason.1 in
+    let f = failed (Full need room) refl in
     own_next sc h more site (RiseFall f.kept f.inc (Full need room)) old new counted keeps f.entered (λ k. refl) refl (λ is. absurd (true_not_false (sym is)))
-    (λ is. absurd (true_not_false is)) (reason.2, reason.0, omega (arith, need_is))
+    (λ is. absurd (true_not_false is)) f.reason
 
 -- an input
 pub input_went : (sc : Scenario) (h more : List Entry) (site : ℕ) (i : Input) (old new : Meters) (answer : Result (Unit {0}) InputFault) → IsCounted old → Keeps old new →
     OnOk answer (more ≡ h ++ entry_of sc h site i ∷ []) → OnOk answer (Took (calls_of (entry_of sc h site i).act) old new) →
     ((why : Why) → answer ≡ Err (input_fault.Fell why) → FellOver sc h site i why more) →
     ((fault : InputFault) → answer ≡ Err fault → is_fall fault ≡ false → (more ≡ h) × (new ≡ old)) →
-    ((why : Why) → answer ≡ Err (input_fault.Fell why) → IsReason why (log_size (moves_of sc h site)) (made_by sc h site i).records old new) →
+    ((why : Why) → answer ≡ Err (input_fault.Fell why) → IsReason why (log_of sc h site) (made_by sc h site i).records old new) →
     Went sc h more site old new
 input_went sc h more site i old new (Ok done) counted keeps stepped took fell kept why =
     own_next sc h more site (entry_of sc h site i).act old new counted keeps stepped (λ k. refl) refl (λ is. absurd (true_not_false (sym is))) (λ not_end. took) tt
 input_went sc h more site i old new (Err (input_fault.Fell Fault)) counted keeps stepped took fell kept why =
     own_next sc h more site (fall_of sc h site i Fault).act old new counted keeps (fell Fault refl).entered (λ k. refl) refl (λ is. why Fault refl) (λ is. absurd (true_not_false is)) tt
 input_went sc h more site i old new (Err (input_fault.Fell (Full need room))) counted keeps stepped took fell kept why =
-    let reason = why (Full need room) refl in let need_is = reason.1 in
     own_next sc h more site (fall_of sc h site i (Full need room)).act old new counted keeps (fell (Full need room) refl).entered (λ k. refl) refl
-    (λ is. absurd (true_not_false (sym is))) (λ is. absurd (true_not_false is)) (reason.2, reason.0, omega (arith, need_is))
+    (λ is. absurd (true_not_false (sym is))) (λ is. absurd (true_not_false is)) (why (Full need room) refl)
 input_went sc h more site i old new (Err input_fault.Down) counted keeps stepped took fell kept why =
     quiet sc h more site old new (kept input_fault.Down refl refl).0 (kept input_fault.Down refl refl).1
 input_went sc h more site i old new (Err input_fault.HistoryFull) counted keeps stepped took fell kept why =
@@ -134,7 +134,7 @@ stop_went sc h more at number calls leave old new counted some step entered arms
 
 -- what the run hears of a rise
 pub rise_rose : (sc : Scenario) (h more : List Entry) (site : ℕ) (old new : Meters) (image : List ℕ → Type 0) (answer : Result ℕ RiseFault) → (answer ≡ Err rise_fault.Up → ⊥) →
-    IfOk answer (λ inc. HasRisen sc h site inc more image) →
+    IfOk answer (λ inc. HasRisen sc h site inc more old.capacity image) →
     (answer ≡ Err rise_fault.Missed → more ≡ h ++ record { owner = site; act = Miss } ∷ []) →
     ((why : Why) → answer ≡ Err (rise_fault.Failed why) → HasFailedToRise sc h site why more old new image) → OnOk (rise_answer answer) (AfterRise sc h site more)
 rise_rose sc h more site old new image (Ok inc) down rose missed failed = inl (record { kept = rose.kept; inc = inc; allowed = rose.allowed; entered = rose.entered })

@@ -10,7 +10,7 @@ use Rattle.e3_fleet.proofs.Kept.{Took, kept_in, kept_more, kept_on, kept_through
 use Rattle.e3_fleet.proofs.Rooms.{rooms_push}
 use Rattle.e3_fleet.proofs.Turns.{goes_in, goes_own, keeps_on}
 use Rattle.e3_node.specs.Batches.{fall_over, stepped}
-use Rattle.e3_node.specs.Ends.{IsReason, Takes, calls_for}
+use Rattle.e3_site_log.specs.Ends.{IsReason, Takes, calls_for}
 use Rattle.e3_types.specs.declared.entries.Act.TheVariants.{Fall}
 use Rattle.e3_types.specs.declared.entries.Entry.{Entry}
 use Rattle.e3_types.specs.declared.entries.Input.{Input}
@@ -19,7 +19,7 @@ use Rattle.e3_types.specs.declared.entries.Why.TheVariants as why
 use Rattle.e3_types.specs.declared.records.Record.{Record}
 use Rattle.e3_types.specs.declared.scenarios.Scenario.{Scenario}
 use Rattle.e3_world.specs.Legal.{entry_of, made_by, records_by}
-use Rattle.e3_world.specs.Moves.{log_size, moves_of}
+use Rattle.e3_world.specs.Moves.{log_of}
 
 -- a disk that nothing is done to keeps all
 keeps_still : (m : Meters) → Keeps m m
@@ -121,10 +121,10 @@ batch_rooms sc h site (i ∷ inputs) capacity was =
     batch_rooms sc (h ++ e ∷ []) site inputs capacity (rooms_push sc h e site capacity was (λ same. tt))
 
 -- a fall over a batch
-rose_of : (w : Why) (size : ℕ) (records : List Record) (x y : Meters) (site : ℕ) (inputs : List Input) → IsReason w size records x y →
+rose_of : (w : Why) (log records : List Record) (x y : Meters) (site : ℕ) (inputs : List Input) → IsReason w log records x y →
     is_fault (record { owner = site; act = Fall inputs records w }) ≡ true → HasFailed x.faults y.faults
-rose_of why.Fault size records x y site inputs reason is = reason
-rose_of (why.Full need room) size records x y site inputs reason is = absurd cc
+rose_of why.Fault log records x y site inputs reason is = reason
+rose_of (why.Full need room) log records x y site inputs reason is = absurd cc
 
 pub fall_kept : (sc : Scenario) (h now : List Entry) (site : ℕ) (inputs : List Input) (w : Why) (o x y : Meters) → IsCounted x → IsCounted y →
     IsFallOver sc h site inputs w now x y → HasKept sc h site o x → HasKept sc now site o y
@@ -132,13 +132,13 @@ fall_kept sc h now site inputs w o x y before counted fall was =
     let e : Entry = fall_over sc h site inputs w in
     subst (λ (l : List Entry). HasKept sc l site o y) (sym fall.entered.entered)
     (kept_more sc h e site o x y counted
-    (goes_own sc site e x y before refl refl refl fall.keeps (λ is. rose_of w (log_size (moves_of sc h site)) (records_by sc h site inputs) x y site inputs fall.reason is)
+    (goes_own sc site e x y before refl refl refl fall.keeps (λ is. rose_of w (log_of sc h site) (records_by sc h site inputs) x y site inputs fall.reason is)
     (λ goes_on. absurd cc)) was)
 
 no_room_of : (sc : Scenario) (h : List Entry) (site : ℕ) (inputs : List Input) (w : Why) (x y : Meters) →
-    IsReason w (log_size (moves_of sc h site)) (records_by sc h site inputs) x y → HadNoRoom sc h site x.capacity (fall_over sc h site inputs w).act
+    IsReason w (log_of sc h site) (records_by sc h site inputs) x y → HadNoRoom sc h site x.capacity (fall_over sc h site inputs w).act
 no_room_of sc h site inputs why.Fault x y reason = tt
-no_room_of sc h site inputs (why.Full need room) x y reason = (reason.2, reason.0, reason.1)
+no_room_of sc h site inputs (why.Full need room) x y reason = reason
 
 pub fall_rooms : (sc : Scenario) (h now : List Entry) (site : ℕ) (inputs : List Input) (w : Why) (x y : Meters) → IsFallOver sc h site inputs w now x y →
     HadNoRooms sc h site x.capacity → HadNoRooms sc now site y.capacity

@@ -19,7 +19,8 @@ use Rattle.e3_fleet.proofs.Rooms.{rooms_push}
 use Rattle.e3_fleet.proofs.Together.{batch_kept, batch_rooms, fall_kept, fall_rooms}
 use Rattle.e3_fleet.proofs.Turns.{goes_other}
 use Rattle.e3_law_local.specs.Others.{AreOthers}
-use Rattle.e3_node.specs.Ends.{FellOver, IsReason, is_fall}
+use Rattle.e3_node.specs.Ends.{FellOver, is_fall}
+use Rattle.e3_site_log.specs.Ends.{IsReason}
 use Rattle.e3_node.specs.NodeStands.{NodeStands}
 use Rattle.e3_node.specs.NodeView.{NodeView, disk_of}
 use Rattle.e3_node.specs.declared.fault.InputFault.{InputFault}
@@ -35,7 +36,7 @@ use Rattle.e3_types.specs.declared.scenarios.Scenario.{Scenario}
 use Rattle.e3_wire.specs.Claims.{APass}
 use Rattle.e3_wire.specs.Marks.{entries_of, scenario_of}
 use Rattle.e3_world.specs.Legal.{made_by}
-use Rattle.e3_world.specs.Moves.{log_size, moves_of}
+use Rattle.e3_world.specs.Moves.{log_of}
 use Rattle.e3_world.specs.Packets.{is_line}
 use Rattle.e3_world.proofs.Turns.{true_not_false}
 
@@ -74,7 +75,7 @@ fall_went sc h now site i why x y counted fall =
     input_went sc h now site i x y (Err (input_fault.Fell why)) counted fall.keeps tt tt
     (λ w is. (let P : Why → Type 0 = λ v. FellOver sc h site i v now in let same : why ≡ w = cc in subst P same fall.entered))
     (λ fault is no. absurd (let P : InputFault → Type 0 = λ f. is_fall f ≡ false in let same : fault ≡ input_fault.Fell why = cc in true_not_false (subst P same no)))
-    (λ w is. (let P : Why → Type 0 = λ v. IsReason v (log_size (moves_of sc h site)) (made_by sc h site i).records x y in let same : why ≡ w = cc in subst P same fall.reason))
+    (λ w is. (let P : Why → Type 0 = λ v. IsReason v (log_of sc h site) (made_by sc h site i).records x y in let same : why ≡ w = cc in subst P same fall.reason))
 
 -- the numbers go over it
 went_keeps : (sc : Scenario) (h now : List Entry) (site : ℕ) (o x y : Meters) → IsCounted y → Went sc h now site x y → HasKept sc h site o x → HasKept sc now site o y

@@ -3,19 +3,18 @@ use Rattle.std.specs.Prelude.{◌≡◌, ◌⊎◌, ◌+◌, ◌<◌, ◌≤◌,
 use Rattle.e3_disk.specs.Images.{IsBlank}
 use Rattle.e3_disk.specs.Meters.{Meters, LAST, raised}
 use Rattle.e3_fleet.specs.Stops.{NoStopIsPassed, arms_of, calls_in, codes_in, cuts_at}
-use Rattle.e3_node.specs.Bodies.{DiskStands}
-use Rattle.e3_types.specs.Spelling.{spelling}
+use Rattle.e3_node.specs.Bodies.{DiskStands, log_with}
+use Rattle.e3_site_log.specs.Ends.{IsFull}
 use Rattle.e3_types.specs.declared.entries.Act.{Act}
 use Rattle.e3_types.specs.declared.entries.Act.TheVariants.{Fall, RiseFall, Miss}
 use Rattle.e3_types.specs.declared.entries.Entry.{Entry}
 use Rattle.e3_types.specs.declared.entries.Why.TheVariants.{Fault, Full}
-use Rattle.e3_types.specs.declared.records.Record.{Record}
 use Rattle.e3_types.specs.declared.scenarios.Scenario.{Scenario}
-use Rattle.e3_world.specs.Moves.{kept_moves, log_by, log_size, moves_of, open_tail, own, rise_records, Move}
+use Rattle.e3_world.specs.Moves.{log_of, own, rise_records}
 
 -- a disk is blank, has power and is not armed
 pub record IsFresh {D : Type 0} (content : D → List ℕ) (image : D → List ℕ → Type 0) (meters : D → Meters) (disk : D) : Type 0 where
-  pub blank : IsBlank content image disk
+  pub blank : IsBlank content image meters disk
   pub lit : (meters disk).powered ≡ true
   pub unarmed : (meters disk).calls_left ≡ 0
 
@@ -41,19 +40,11 @@ faults_at history site = count_by is_fault (own site history)
 abbrev pub RoseBy : ℕ → ℕ → ℕ → Type 0
 RoseBy times before now = (before + times ≤ now) ⊎ (now ≡ LAST)
 
--- A frame of these records had not room behind these moves: `room` is all that the disk can hold, and what is needed is
--- more, yet no more than the frames so far, the new one and a closed gate take.
-abbrev pub IsFull : ℕ → ℕ → ℕ → List Move → List Record → Type 0
-IsFull capacity need room moves records =
-    (room ≡ capacity) × (capacity < need) × (need ≤ log_size moves + 6 + length (spelling records))
-
 -- where the entry is one for want of room, its numbers are such
 abbrev pub HadNoRoom : Scenario → List Entry → ℕ → ℕ → Act → Type 0
-HadNoRoom sc before site capacity (Fall inputs records (Full need room)) = IsFull capacity need room (moves_of sc before site) records
-HadNoRoom sc before site capacity (RiseFall kept inc (Full need room)) = by (moves_of sc before site ++ kept_moves site kept (open_tail sc before site))
-  where
-    by : List Move → Type 0
-    by moves = IsFull capacity need room moves (rise_records sc site inc (log_by moves))
+HadNoRoom sc before site capacity (Fall inputs records (Full need room)) = IsFull capacity (log_of sc before site) records need room
+HadNoRoom sc before site capacity (RiseFall kept inc (Full need room)) =
+    IsFull capacity (log_with sc before site kept) (rise_records sc site inc (log_with sc before site kept)) need room
 HadNoRoom sc before site capacity act = Unit {0}
 
 -- all entries of the site for want of room have such numbers
@@ -83,7 +74,7 @@ pub record HasServed (sc : Scenario) (history : List Entry) (site : ℕ) (old ne
 
 -- what the disk of a site came to: it stands for the site's log, and so it served
 pub record IsOver {D : Type 0} (image : D → List ℕ → Type 0) (meters : D → Meters) (sc : Scenario) (history : List Entry) (site : ℕ) (old new : D) : Type 0 where
-  pub stands : DiskStands sc history site (image new)
+  pub stands : DiskStands sc history site (meters new).capacity (image new)
   pub served : HasServed sc history site (meters old) (meters new)
   pub rooms : HadNoRooms sc history site (meters old).capacity
 

@@ -1,4 +1,5 @@
-// A law of disks.
+// Laws of disks.
+ghost use Rattle.std.specs.Prelude.{◌≡◌, ◌≤◌, ℕ, Some, slice_get};
 ghost use Rattle.e3_disk.specs.Meters.{IsCounted};
 
 use e3_disk::Disk;
@@ -7,3 +8,12 @@ use e3_disk::Disk;
 pub(crate) fn disks_are_counted<D: Disk>()
     ensures { (disk : D) → IsCounted (D.meters disk) }
 {}
+
+/// Each of these disks has room for a gate in both halves, as it says itself.
+pub(crate) fn have_halves<D: Disk>(disks: &[D])
+    ensures { (at : ℕ) (disk : D) → slice_get disks.now at ≡ Some disk → 2 ≤ (D.meters disk).capacity }
+{
+    for disk in disks {
+        let _capacity = disk.capacity();
+    }
+}

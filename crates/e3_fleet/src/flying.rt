@@ -12,7 +12,7 @@ ghost use Rattle.e3_wire.specs.declared.marks.Mark.TheVariants as mark;
 ghost use Rattle.e3_world.specs.Given.{IsGiven};
 ghost use Rattle.e3_world.specs.Legal.{IsLegal, IsWhole};
 
-use crate::counting::disks_are_counted;
+use crate::counting::{disks_are_counted, have_halves};
 use crate::fleet::Fleet;
 use crate::held::Held;
 use crate::playing::play;
@@ -208,6 +208,7 @@ pub fn play_over<D: Disk + Drill + Drop + Send, G: Gate + Sync, R: Wait + Thread
 {
     a_node_tells_of_its_disk::<D>();
     disks_are_counted::<D>();
+    have_halves(disks.as_slice());
     let mut disks = disks;
     let mut workers = Vec::new(alloc);
     match open(rt, alloc, scenario, most, &mut workers, &mut disks) {

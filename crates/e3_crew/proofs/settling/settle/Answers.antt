@@ -1,8 +1,11 @@
-use Rattle.std.proofs.Common.{◌≡◌, ◌+◌, ◌<◌, ◌∙◌, [], ℕ, ap, arith, inl, inr, length, rules, subst}
-use Rattle.std.specs.Prelude.{OnOk}
+use Rattle.std.proofs.Common.{◌≡◌, ◌+◌, ◌<◌, ◌∙◌, [], ℕ, ap, arith, inl, inr, length, subst, sym}
+use Rattle.std.specs.Prelude.{Err, Ok, OnOk, Result}
+use Rattle.std.specs.Result.{IsErrAnd}
 use Rattle.e3_crew.proofs.Further.{begun_on, crew_same, delivering_back, delivering_on, full_on, gone_further, gone_none, ok_of}
 use Rattle.e3_node.specs.Turns.{history_seen, scenario_seen}
 use Rattle.e3_play.specs.Delivered.{IsFullBefore, IsItemDue, IsItemOrPacket, IsPacketDue}
+use Rattle.e3_play.specs.declared.sites.RunFault.{RunFault}
+use Rattle.e3_play.specs.declared.sites.RunFault.TheVariants.{HistoryFull}
 use Rattle.e3_play.proofs.Bounds.{full_too}
 use Rattle.e3_turn.specs.Passes.{seen_by}
 use Rattle.e3_types.specs.declared.scenarios.Scenario.{Scenario}
@@ -48,12 +51,18 @@ returns-clause-settled g c =
     let P : Scenario → Type 0 = λ sc. OnOk c.deliver.result (pending sc (history_seen c.deliver.new.pass) ≡ []) in
     subst P c.item_round.ensures.on.scenario c.deliver.ensures.settled
 
+-- what `?` hands on is the error that it was given
+err_is : (r : Result (Unit {0}) RunFault) (x y : RunFault) → IsErrAnd r (λ e. e ≡ x) → r ≡ Err y → x ≡ y
+err_is (Ok done) x y made is = absurd cc
+err_is (Err e) x y made is = let one : e ≡ y = cc in sym made ∙ one
+
 pub returns-in_err-item_round-clause-full : goal.returns-in_err-item_round-clause-full
 returns-in_err-item_round-clause-full g c = λ is.
     let sc = scenario_seen c.args.pass.now in
     let h = history_seen c.item_round.new.pass in
     let most = most_of (seen_by c.args.pass.now) in
-    let full : IsFullBefore IsItemDue sc h most = search rules in
+    let same : c.item_round.result ≡ Err HistoryFull = c.in_err-item_round.was ∙ ap Err (err_is c.from_residual-in_err-item_round.result c.in_err-item_round.field-0.0 HistoryFull c.from_residual-in_err-item_round.ensures.1 is) in
+    let full : IsFullBefore IsItemDue sc h most = c.item_round.ensures.full same in
     full_too IsItemDue IsItemOrPacket sc h most (λ due. inl due) full
 
 pub returns-clause-full : goal.returns-clause-full

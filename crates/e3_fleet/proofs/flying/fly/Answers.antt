@@ -3,9 +3,10 @@ use Rattle.e3_fleet.specs.Fleets.{HaveKept, Seated, nodes_of}
 use Rattle.e3_fleet.proofs.Ending.{have_kept_start}
 use Rattle.e3_fleet.proofs.Holding.{nodes_length}
 use Rattle.e3_fleet.proofs.flying.fly.Goals as goal
+use Rattle.e3_play.specs.Delivered.{IsFull}
 use Rattle.e3_types.specs.declared.entries.Entry.{Entry}
 use Rattle.e3_types.specs.declared.scenarios.Scenario.{Scenario}
-use Rattle.e3_wire.specs.Marks.{entries_of, scenario_of}
+use Rattle.e3_wire.specs.Marks.{entries_of, most_of, scenario_of}
 
 pub returns-clause-seated : goal.returns-clause-seated
 returns-clause-seated g c = λ at node there.
@@ -28,3 +29,7 @@ returns-clause-count g c =
     (subst (λ (h : List Entry). HaveKept g.D.Disk.meters (scenario_of c.args.opened.shared) h (nodes_of c.args.workers.items) (nodes_of c.args.workers.items)) (sym c.requires.empty)
     (have_kept_start g.D.Disk.meters c.disks_are_counted.ensures (scenario_of c.args.opened.shared) (nodes_of c.args.workers.items) c.requires.unarmed)) in
     sym (nodes_length c.play-ended.new.fleet.held.workers.items) ∙ kept.count ∙ nodes_length c.args.workers.items
+
+pub returns-clause-full : goal.returns-clause-full
+returns-clause-full g c = λ is.
+    subst (λ (h : List Entry). IsFull c.args.scenario.now h (most_of c.args.opened.shared)) (sym c.close.ensures) (c.play-ended.ensures.full is)

@@ -1,4 +1,5 @@
-use Rattle.std.proofs.Common.{ℕ, ◌≡◌, ◌+◌, List, length, sym, ap, subst, ◌∙◌, [], arith}
+use Rattle.std.proofs.Common.{ℕ, ◌≡◌, ◌≤◌, ◌+◌, List, Some, length, sym, ap, subst, ◌∙◌, [], arith}
+use Rattle.std.specs.Prelude.{slice_get}
 use Rattle.e3_fleet.specs.Over.{AreOver}
 use Rattle.e3_fleet.specs.Fleets.{nodes_of}
 use Rattle.e3_fleet.proofs.Ending.{came_back, never_began, room_left, unarmed}
@@ -24,7 +25,11 @@ returns-in-Err-clause-disks g c =
     subst (λ (h : List Entry). AreOver g.D.Disk.image g.D.Disk.meters c.args.scenario.now h c.args.disks.items c.unseat_all-in-Err.new.disks.items) (sym c.new.ensures)
     (subst (λ (ds : List g.row.D.Denot). AreOver g.D.Disk.image g.D.Disk.meters c.args.scenario.now [] c.args.disks.items ds)
     (sym (c.unseat_all-in-Err.ensures ∙ c.open.ensures.disks))
-    (never_began g.D.Disk.content g.D.Disk.image g.D.Disk.meters c.disks_are_counted.ensures c.args.scenario.now c.args.disks.items c.requires.blank))
+    (never_began g.D.Disk.content g.D.Disk.image g.D.Disk.meters c.disks_are_counted.ensures c.args.scenario.now c.args.disks.items halves c.requires.blank))
+  where
+    halves : (at : ℕ) (d : g.row.D.Denot) → slice_get c.args.disks.items at ≡ Some d → 2 ≤ (g.D.Disk.meters d).capacity
+    halves = subst (λ (ds : List g.row.D.Denot). (at : ℕ) (d : g.row.D.Denot) → slice_get ds at ≡ Some d → 2 ≤ (g.D.Disk.meters d).capacity)
+        c.as_slice.ensures.value c.have_halves.ensures
 
 pub returns-in-Ok-clause-full : goal.returns-in-Ok-clause-full
 returns-in-Ok-clause-full g c = λ is.
