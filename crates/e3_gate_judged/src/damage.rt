@@ -1,4 +1,4 @@
-// Damage: logs over a disk with some frames, of which one byte is changed.
+// Damage: logs over a disk with some frames, of which one byte is changed, and over a disk that is blank but for some bytes.
 use crate::standing::open;
 use crate::texts::{number, without_space};
 use e3_disk::{Disk, Drill, MemDisk};
@@ -6,8 +6,11 @@ use e3_lines::Page;
 use e3_log::{Frame, Log, OpenCause};
 use std::alloc::Global;
 
-// Room for the frames.
+// Room for the frames in the first half, which is the region that counts.
 const CAPACITY: u64 = 64;
+
+// The first byte of a body that a turn writes, and no append.
+const TURN: u8 = 7;
 
 // A number from 0 to 255.
 fn byte_of(word: &[u8]) -> u8 {
@@ -23,9 +26,12 @@ fn body_of(alloc: Global, words: &[u8]) -> Page {
     body
 }
 
-// Appends a body; whether that was done.
+// Appends a body that may be one; whether that was done.
 fn add<D: Disk>(log: &mut Log<D>, body: &[u8]) -> bool {
-    !body.is_empty() && log.append(body).is_ok()
+    match body {
+        [first, ..] if *first != TURN => log.append(body).is_ok(),
+        _ => false,
+    }
 }
 
 // Appends each of these bodies; whether all were.
@@ -161,4 +167,40 @@ pub fn push_changes(alloc: Global, page: &mut Page, bodies: &[u8], values: &[u8]
         }
         Err(_) => page.lack(),
     }
+}
+
+// Writes these bytes at a place of a disk; whether the disk has that place and it was done.
+fn write<D: Disk>(disk: &mut D, place: u64, bytes: &[u8]) -> bool {
+    let len = disk.len().unwrap_or(0);
+    place <= len && disk.write_at(place, bytes).is_ok()
+}
+
+// A blank disk with these bytes at this place; none where it has no room.
+fn with_bytes(alloc: Global, place: u64, bytes: &[u8]) -> Option<MemDisk> {
+    match MemDisk::blank(alloc, CAPACITY) {
+        Ok(mut disk) => {
+            let is_written = write(&mut disk, place, bytes);
+            if is_written { Some(disk) } else { None }
+        }
+        Err(_) => None,
+    }
+}
+
+/// Adds how a log opens over a disk that is blank but for these bytes at this place: how many frames it has, or where it is
+/// damaged.
+pub fn push_open(alloc: Global, page: &mut Page, place: &[u8], bytes: &[u8]) {
+    page.text("bytes at ");
+    page.bytes(place);
+    page.text(":");
+    page.bytes(bytes);
+    page.text(":");
+    let bytes = body_of(alloc, without_space(bytes));
+    match with_bytes(alloc, number(place), bytes.as_slice()) {
+        Some(disk) => match open(alloc, disk) {
+            Ok((_log, frames)) => page.labelled(" frames ", frames.as_slice().len() as u64),
+            Err(refused) => push_cause(page, refused.cause),
+        },
+        None => page.lack(),
+    }
+    page.text("\n");
 }

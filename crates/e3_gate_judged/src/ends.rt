@@ -135,6 +135,19 @@ fn digit(value: u8) -> u8 {
     DIGITS.get(usize::from(value)).copied().unwrap_or(b'?')
 }
 
+// How many bytes there are up to the last that is not 00.
+fn count_written(bytes: &[u8]) -> usize {
+    let mut written = 0usize;
+    let mut count = 0usize;
+    for byte in bytes {
+        count = count.saturating_add(1);
+        if *byte != 0 {
+            written = count;
+        }
+    }
+    written
+}
+
 // Adds bytes as two digits each, 16 on a line.
 fn push_hex(page: &mut Page, bytes: &[u8]) {
     let mut count = 0u8;
@@ -158,10 +171,18 @@ fn bytes_of(alloc: Global, disk: &mut MemDisk) -> Option<Vec<u8>> {
     Some(bytes)
 }
 
+// Adds bytes, and how many bytes 00 stand behind the last of another value.
+fn push_written_bytes(page: &mut Page, bytes: &[u8]) {
+    let (front, back) = bytes.split_at(count_written(bytes).min(bytes.len()));
+    push_hex(page, front);
+    page.labelled("and 00, ", back.len() as u64);
+    page.text(" times\n");
+}
+
 // Adds the bytes of a disk.
 fn push_bytes(alloc: Global, page: &mut Page, disk: &mut MemDisk) {
     match bytes_of(alloc, disk) {
-        Some(bytes) => push_hex(page, &bytes),
+        Some(bytes) => push_written_bytes(page, &bytes),
         None => page.lack(),
     }
 }

@@ -9,6 +9,9 @@ use std::alloc::Global;
 use std::sync::Wait;
 use std::thread::Threads;
 
+// Room for each report.
+const MOST_WRITTEN: u64 = 1_048_576;
+
 /// What a run is given: the text of its source, and settings, as `read 7, take 11`, by the first letters of their names. These
 /// are its words, the most bytes that a read gives and a take of the sink has, the capacity of its disks, the most entries of
 /// its history; and the call of the source, of the sink, as `output`, and of the disk of site 1 that fails, counted from 1.
@@ -30,6 +33,11 @@ impl<'a> Given<'a> {
     /// With these settings.
     pub fn with(text: &'a [u8], settings: &'a [u8]) -> Given<'a> {
         Given { text, settings }
+    }
+
+    /// The text of its source.
+    pub fn text(&self) -> &'a [u8] {
+        self.text
     }
 
     // What is set by this letter.
@@ -97,7 +105,7 @@ fn source_of(alloc: Global, given: &Given) -> Option<MemSource> {
 
 fn sink_of(alloc: Global, given: &Given) -> Option<MemSink> {
     let fails = fails(alloc, given, b'o')?;
-    MemSink::new(alloc, 65536, given.number(b't', 65536).max(1), fails).ok()
+    MemSink::new(alloc, MOST_WRITTEN, given.number(b't', 65536).max(1), fails).ok()
 }
 
 // The most entries that are set, of 2,000,000.
@@ -116,7 +124,7 @@ pub fn played<R: Wait + Threads + Sync>(rt: &R, alloc: Global, given: &Given) ->
     let mut source = source_of(alloc, given)?;
     let mut sink = sink_of(alloc, given)?;
     let fails = fails(alloc, given, b'd')?;
-    let capacity = given.number(b'c', 65536).max(2).min(65536);
+    let capacity = given.number(b'c', 65536).max(2).min(1_048_576);
     let Ok(disks) = memory_disks(alloc, capacity, 1, fails) else {
         return None;
     };

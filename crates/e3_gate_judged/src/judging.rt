@@ -93,21 +93,21 @@ fn said_of(alloc: Global, page: &mut Page, scenario: &Scenario, ran: Ran) -> Mem
     sink
 }
 
-// The same of the scenario that a text spells; none without memory, or where the text spells no scenario.
+// The same of a run of what is given; none without memory, or where its text spells no scenario.
 fn said<R: Wait + Threads + Sync>(
     rt: &R,
     alloc: Global,
     page: &mut Page,
-    text: &[u8],
+    given: &Given,
 ) -> Option<MemSink> {
-    let scenario = scenario_of(alloc, text)?;
-    let ran = played(rt, alloc, &Given::plain(text))?;
+    let scenario = scenario_of(alloc, given.text())?;
+    let ran = played(rt, alloc, given)?;
     Some(said_of(alloc, page, &scenario, ran))
 }
 
-/// Adds the line of what is said of a run.
-pub fn push_said<R: Wait + Threads + Sync>(rt: &R, alloc: Global, page: &mut Page, text: &[u8]) {
-    if said(rt, alloc, page, text).is_none() {
+/// Adds the line of what is said of a run of what is given.
+pub fn push_said<R: Wait + Threads + Sync>(rt: &R, alloc: Global, page: &mut Page, given: &Given) {
+    if said(rt, alloc, page, given).is_none() {
         page.lack();
     }
     page.text("\n");
@@ -120,10 +120,11 @@ pub fn push_judged<R: Wait + Threads + Sync>(
     page: &mut Page,
     name: &[u8],
     text: &[u8],
+    settings: &[u8],
 ) {
     page.bytes(name);
     page.text(": ");
-    push_said(rt, alloc, page, text);
+    push_said(rt, alloc, page, &Given::with(text, settings));
 }
 
 // The text with these words for its `@`.
@@ -136,32 +137,39 @@ fn text_with(alloc: Global, text: &[u8], words: &[u8]) -> Page {
     whole
 }
 
-// Adds what is said of a run, and the events behind its stop.
-fn push_stopped<R: Wait + Threads + Sync>(rt: &R, alloc: Global, page: &mut Page, text: &Page) {
+// Adds what is said of a run with these settings, and the events behind its stop.
+fn push_stopped<R: Wait + Threads + Sync>(
+    rt: &R,
+    alloc: Global,
+    page: &mut Page,
+    text: &Page,
+    settings: &[u8],
+) {
     if !text.is_whole() {
         page.lack();
     }
-    match said(rt, alloc, page, text.as_slice()) {
+    match said(rt, alloc, page, &Given::with(text.as_slice(), settings)) {
         Some(sink) => push_events(page, sink.written()),
         None => page.lack(),
     }
 }
 
-/// Adds the line of a run whose text has these words for its `@`: what is said of it, and the events behind its stop.
+/// Adds the line of a run whose text has words for its `@`: what is said of it, and the events behind its stop. Behind the words
+/// and a comma stand its settings.
 pub fn push_stop<R: Wait + Threads + Sync>(
     rt: &R,
     alloc: Global,
     page: &mut Page,
     name: &[u8],
     text: &[u8],
-    words: &[u8],
+    command: &[u8],
 ) {
-    let words = without_space(words);
+    let (words, settings) = cut(without_space(command), b',');
     page.bytes(name);
     page.text(" ");
     page.bytes(words);
     page.text(": ");
-    push_stopped(rt, alloc, page, &text_with(alloc, text, words));
+    push_stopped(rt, alloc, page, &text_with(alloc, text, words), settings);
     page.text("\n");
 }
 

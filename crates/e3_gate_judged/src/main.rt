@@ -1,13 +1,14 @@
 //! Runs scenarios over disks in memory: how each run ends, what it writes, what the plain judge says of its history, and of how
-//! many sites the disk reads as the site's log, with or without what is in doubt. The standard input has texts of scenarios, each
-//! behind a line `##text`, and behind each the lines of what is run of it, as `##judge one write`; where it has no such line it is
-//! one scenario, which is judged. What it must print stands in the file of this program's output.
+//! many sites the disk reads as a log with the brief of the site's log, with or without what is in doubt. The standard input has
+//! texts of scenarios, each behind a line `##text`, and behind each the lines of what is run of it, as `##judge one write`; where it
+//! has no such line it is one scenario, which is judged. What it must print stands in the file of this program's output.
 //!
-//! `judge NAME` judges a run, and `group NAME` four. `stop NAME: CALL LEAVE` puts these words for the `@` of the text, judges the run
-//! and adds the events behind the stop. `run NAME: SETTINGS` tells how a run ends whose streams, disks or history are as the
-//! settings say, and `events NAME: SETTINGS` counts some events of it. `disk` has the bytes of the disk of site 1, and `fronts` how
-//! each front of the text is refused. `change BODIES: VALUES` opens logs over a disk with a frame for each body, where one byte is
-//! changed by one of the values.
+//! `judge NAME: SETTINGS` judges a run, and `group NAME` four. `stop NAME: CALL LEAVE, SETTINGS` puts these words for the `@` of the
+//! text, judges the run and adds the events behind the stop. `run NAME: SETTINGS` tells how a run ends whose streams, disks or
+//! history are as the settings say, `events NAME: SETTINGS` counts some events of it, and `log NAME: SETTINGS` what site 1 does whose
+//! log has no room. `disk` has the bytes of the disk of site 1, and `fronts` how each front of the text is refused. `change BODIES:
+//! VALUES` opens logs over a disk with a frame for each body, where one byte is changed by one of the values, and `open PLACE:
+//! BYTES` one over a disk that is blank but for these bytes.
 #![tactic(auto)]
 
 mod damage;
@@ -15,6 +16,7 @@ mod ends;
 mod fronts;
 mod given;
 mod judging;
+mod logs;
 mod standing;
 mod texts;
 
@@ -46,14 +48,16 @@ fn push_command<R: Wait + Threads + Sync>(
     let (word, rest) = cut(command, b' ');
     let (name, settings) = cut(rest, b':');
     match word.first() {
-        Some(b'j') => judging::push_judged(rt, alloc, page, name, text),
+        Some(b'j') => judging::push_judged(rt, alloc, page, name, text, settings),
         Some(b'g') => judging::push_group(rt, alloc, page, name, text),
         Some(b's') => judging::push_stop(rt, alloc, page, name, text, settings),
         Some(b'r') => ends::push_run(rt, alloc, page, name, text, settings),
         Some(b'e') => ends::push_counted(rt, alloc, page, name, text, settings),
         Some(b'd') => ends::push_disk(rt, alloc, page, text),
+        Some(b'l') => logs::push_log(rt, alloc, page, name, text, settings),
         Some(b'f') => fronts::push_fronts(rt, alloc, page, text),
         Some(b'c') => damage::push_changes(alloc, page, name, settings),
+        Some(b'o') => damage::push_open(alloc, page, name, settings),
         _ => page.lack(),
     }
 }
@@ -90,7 +94,7 @@ fn lines<R: Wait + Threads + Sync>(rt: &R, alloc: Global, input: &[u8]) -> Page 
         push_line(rt, alloc, &mut page, &mut text, line);
     }
     if page.as_slice().is_empty() {
-        judging::push_said(rt, alloc, &mut page, text.as_slice());
+        judging::push_said(rt, alloc, &mut page, &given::Given::plain(text.as_slice()));
     }
     page
 }

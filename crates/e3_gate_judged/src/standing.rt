@@ -1,9 +1,10 @@
 // What the disks of a run read as, beside the logs of its history.
-use e3_codec::put_records;
+use e3_codec::{put_records, read_records};
 use e3_disk::{Drill, MemDisk};
-use e3_judge::{log_at, tail_at};
+use e3_judge::{Tail, log_at, tail_at};
 use e3_lines::Page;
 use e3_log::{Frame, Log, OpenCause, OpenRefused};
+use e3_snapshot::brief;
 use e3_types::{Entry, List, NoMemory, Record, Scenario};
 use std::alloc::Global;
 
@@ -59,32 +60,42 @@ fn bodies_on<D: Drill + Drop>(alloc: Global, disk: D) -> Option<Page> {
     }
 }
 
-// Adds records as a log spells them.
-fn push_records(alloc: Global, page: &mut Page, records: &[Record]) {
-    match put_records(alloc, records) {
-        Ok(spelled) => page.bytes(spelled.as_slice()),
-        Err(_) => page.lack(),
-    }
+// The brief of records, as a log spells it.
+fn brief_of(alloc: Global, records: &[Record]) -> Result<List<u8>, NoMemory> {
+    let short = brief(alloc, records)?;
+    put_records(alloc, short.as_slice())
 }
 
-// Adds the log of a site.
-fn push_log(alloc: Global, page: &mut Page, scenario: &Scenario, history: &[Entry], site: u32) {
-    match log_at(alloc, scenario, history, site) {
-        Ok(log) => push_records(alloc, page, log.as_slice()),
-        Err(NoMemory) => page.lack(),
-    }
+// The brief of what bodies spell, if they are records of the site.
+fn brief_read(alloc: Global, site: u32, bodies: &[u8]) -> Option<List<u8>> {
+    let records = read_records(alloc, site, bodies).ok()?;
+    brief_of(alloc, records.as_slice()).ok()
 }
 
-// Adds what is in doubt at a site.
-fn push_tail(alloc: Global, page: &mut Page, scenario: &Scenario, history: &[Entry], site: u32) {
-    match tail_at(alloc, scenario, history, site) {
-        Ok(Some(tail)) => push_records(alloc, page, tail.records.as_slice()),
-        Ok(None) => {}
-        Err(NoMemory) => page.lack(),
+// Adds what is in doubt at a site to its log.
+fn add_tail(log: &mut List<Record>, tail: Option<Tail>) -> Result<(), NoMemory> {
+    if let Some(tail) = tail {
+        for r in tail.records.into_vec() {
+            log.push(r)?;
+        }
     }
+    Ok(())
 }
 
-// Whether these bodies are the log of a site, with or without what is in doubt.
+// The brief of the log of a site, and that of the log with what is in doubt.
+fn briefs_at(
+    alloc: Global,
+    scenario: &Scenario,
+    history: &[Entry],
+    site: u32,
+) -> Result<(List<u8>, List<u8>), NoMemory> {
+    let mut log = log_at(alloc, scenario, history, site)?;
+    let before = brief_of(alloc, log.as_slice())?;
+    add_tail(&mut log, tail_at(alloc, scenario, history, site)?)?;
+    Ok((before, brief_of(alloc, log.as_slice())?))
+}
+
+// Whether these bodies have the brief of the log of a site, with or without what is in doubt.
 fn are_log(
     alloc: Global,
     page: &mut Page,
@@ -93,16 +104,18 @@ fn are_log(
     site: u32,
     bodies: &[u8],
 ) -> bool {
-    let mut log = Page::new(alloc);
-    push_log(alloc, &mut log, scenario, history, site);
-    let is_log = bodies == log.as_slice();
-    if !is_log {
-        push_tail(alloc, &mut log, scenario, history, site);
+    let Some(read) = brief_read(alloc, site, bodies) else {
+        return false;
+    };
+    match briefs_at(alloc, scenario, history, site) {
+        Ok((before, with)) => {
+            read.as_slice() == before.as_slice() || read.as_slice() == with.as_slice()
+        }
+        Err(NoMemory) => {
+            page.lack();
+            false
+        }
     }
-    if !log.is_whole() {
-        page.lack();
-    }
-    is_log || bodies == log.as_slice()
 }
 
 // Whether a disk reads as the log of a site, with or without what is in doubt.

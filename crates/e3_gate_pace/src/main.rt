@@ -2,19 +2,24 @@
 //! many bytes its report and its trace have; `e3_gate_pace make N` only makes it. The history is not legal; it has entries of
 //! all that a report looks up. And how long a run takes: `e3_gate_pace play N` plays the scenario on standard input in at most N
 //! threads, and prints how many entries its history has, and how many turns of work its sites had with packets; `judge N` judges
-//! the history too, and `batched N` counts the frames on the disks, as `single N` does where a turn of work has one packet.
+//! the history too, and `batched N` counts the frames on the disks, as `single N` does where a turn of work has one packet. And
+//! what a rise costs: `e3_gate_pace rises N` makes a long log of commits of N writes, and prints how long a rise takes that reads
+//! it, and one that reads what it was turned to.
 #![tactic(auto)]
 
 mod course;
 mod playing;
+mod rising;
 
 use course::{Course, MOST};
 use e3_outside::{Source, StdSource};
 use e3_report::report;
 use e3_types::NoMemory;
 use playing::{Behind, Pace, play};
+use rising::{BothRises, Rise, rises};
 use std::alloc::Global;
 use std::process::ExitCode;
+use std::rt::Clock;
 use std::sync::Wait;
 use std::thread::Threads;
 use std::{env, io};
@@ -26,7 +31,7 @@ const NO_OUTPUT: u8 = 4;
 const NO_MEMORY: u8 = 5;
 
 /// What is asked for: a history of so many entries, its report too; a run in at most so many threads, its frames with eight
-/// packets or one in each turn of work, or a verdict on it.
+/// packets or one in each turn of work, or a verdict on it; rises over a log of commits of so many writes.
 #[derive(Clone, Copy)]
 enum Asked {
     Make(u32),
@@ -35,6 +40,7 @@ enum Asked {
     Batched(u32),
     Single(u32),
     Judge(u32),
+    Rises(u32),
 }
 
 fn entries_of(word: &String) -> Option<u32> {
@@ -55,6 +61,7 @@ fn read_words(words: &[String]) -> Option<Asked> {
         "batched" => Some(Asked::Batched(count)),
         "single" => Some(Asked::Single(count)),
         "judge" => Some(Asked::Judge(count)),
+        "rises" => Some(Asked::Rises(count)),
         _ => None,
     }
 }
@@ -70,11 +77,12 @@ fn course_of(alloc: Global, entries: u32) -> Result<Course, NoMemory> {
     Ok(course)
 }
 
-/// What came of it: a history of so many entries, and so many bytes of its report; or a run.
+/// What came of it: a history of so many entries, and so many bytes of its report; or a run; or two rises.
 #[derive(Clone, Copy)]
 enum Told {
     Made { entries: u64, bytes: u64 },
     Ran(Pace),
+    Rose(BothRises),
 }
 
 fn ran(played: Option<Pace>) -> Result<Told, NoMemory> {
@@ -84,7 +92,7 @@ fn ran(played: Option<Pace>) -> Result<Told, NoMemory> {
     }
 }
 
-fn paced<S: Source, R: Wait + Threads + Sync>(
+fn paced<S: Source, R: Wait + Threads + Clock + Sync>(
     rt: &R,
     alloc: Global,
     source: &mut S,
@@ -110,6 +118,10 @@ fn paced<S: Source, R: Wait + Threads + Sync>(
             ran(play(rt, alloc, source, threads as usize, 1, Behind::CountFrames))
         }
         Asked::Judge(threads) => ran(play(rt, alloc, source, threads as usize, 8, Behind::Judge)),
+        Asked::Rises(writes) => match rises(rt, alloc, writes) {
+            Some(rises) => Ok(Told::Rose(rises)),
+            None => Err(NoMemory),
+        },
     }
 }
 
@@ -123,7 +135,7 @@ fn words_of(rt: &HostRuntime, alloc: Global) -> Result<Vec<String>, NoMemory> {
 }
 
 // What is asked for is done; none for other words.
-fn run<S: Source, R: Wait + Threads + Sync>(
+fn run<S: Source, R: Wait + Threads + Clock + Sync>(
     rt: &R,
     alloc: Global,
     source: &mut S,
@@ -136,21 +148,32 @@ fn run<S: Source, R: Wait + Threads + Sync>(
     Ok(Some(told))
 }
 
+fn print_pace<R: Print>(rt: &R, pace: Pace) -> io::Result<()> {
+    let Pace {
+        entries,
+        turns,
+        frames,
+    } = pace;
+    match frames {
+        Some(frames) => {
+            println!(rt; "{entries} entries, {turns} turns of work, {frames} frames")
+        }
+        None => println!(rt; "{entries} entries, {turns} turns of work"),
+    }
+}
+
+fn print_rise<R: Print>(rt: &R, commits: u64, place: &str, rise: Rise) -> io::Result<()> {
+    let Rise { bytes, micros } = rise;
+    println!(rt; "{commits} commits, {place}: a rise reads {bytes} bytes in {micros} microseconds")
+}
+
 fn print_told<R: Print>(rt: &R, told: Told) -> io::Result<()> {
     match told {
         Told::Made { entries, bytes } => println!(rt; "{entries} entries, {bytes} bytes"),
-        Told::Ran(pace) => {
-            let Pace {
-                entries,
-                turns,
-                frames,
-            } = pace;
-            match frames {
-                Some(frames) => {
-                    println!(rt; "{entries} entries, {turns} turns of work, {frames} frames")
-                }
-                None => println!(rt; "{entries} entries, {turns} turns of work"),
-            }
+        Told::Ran(pace) => print_pace(rt, pace),
+        Told::Rose(rises) => {
+            print_rise(rt, rises.commits, "before the turn", rises.before)?;
+            print_rise(rt, rises.commits, "behind it", rises.behind)
         }
     }
 }

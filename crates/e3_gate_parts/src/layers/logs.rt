@@ -5,8 +5,8 @@ use crate::layers::texts::push_hex;
 use e3_disk::{Disk, Drill, MemDisk};
 use e3_lines::Page;
 use e3_log::{
-    AppendFault, Frame, Log, OpenCause, OpenRefused, a_frame_is_whole_or_not_at_all,
-    frames_have_one_reading,
+    AppendFault, Frame, Log, OpenCause, OpenRefused, calls_are_whole_or_not_at_all,
+    regions_have_one_reading,
 };
 use e3_types::{Leave, List};
 use std::alloc::Global;
@@ -27,9 +27,9 @@ pub fn log_over<D: Disk + Drop>(alloc: Global, disk: D) -> Option<Log<D>> {
     }
 }
 
-/// Appends a body, where it is one.
+/// Appends a body, where it is one: it has a byte, and the first is not that of a turn.
 pub fn add<D: Disk>(log: &mut Log<D>, body: &[u8]) -> Result<(), AppendFault> {
-    if body.is_empty() {
+    if body.is_empty() || body[0] == 7 {
         return Ok(());
     }
     log.append(body)
@@ -40,16 +40,16 @@ pub fn disk_of<D: Disk>(log: Log<D>) -> D {
     log.into_disk()
 }
 
-/// A blank disk of this capacity.
+/// A blank disk whose regions have this capacity each.
 pub fn blank(alloc: Global, capacity: u64) -> Option<MemDisk> {
-    MemDisk::blank(alloc, capacity.max(2).min(64)).ok()
+    MemDisk::blank(alloc, capacity.max(1).min(64) * 2).ok()
 }
 
 // A blank disk whose call of this number fails.
 fn faulty(alloc: Global, call: u64) -> Option<MemDisk> {
     let mut fails = List::new(alloc);
     fails.push(call).ok()?;
-    MemDisk::with_faults(alloc, 32, fails).ok()
+    MemDisk::with_faults(alloc, 64, fails).ok()
 }
 
 // Adds how an append of a body ended.
@@ -106,7 +106,7 @@ fn restart<D: Drill>(disk: &mut D) {
 fn push_fault<D: Drill + Drop>(alloc: Global, page: &mut Page, disk: D) {
     match log_over(alloc, disk) {
         Some(mut log) => {
-            push_append(page, &mut log, &[7]);
+            push_append(page, &mut log, &[9]);
             let mut disk = disk_of(log);
             push_content(alloc, page, &mut disk);
             restart(&mut disk);
@@ -151,8 +151,8 @@ fn push_stop<D: Drill + Drop>(alloc: Global, page: &mut Page, disk: D, calls: u3
         Some(mut log) => {
             push_append(page, &mut log, &[9]);
             arm(&mut log, calls, leave);
-            push_append(page, &mut log, &[7, 8]);
-            push_append(page, &mut log, &[7, 8]);
+            push_append(page, &mut log, &[8, 7]);
+            push_append(page, &mut log, &[8, 7]);
             push_count(alloc, page, lit(log));
         }
         None => page.lack(),
@@ -210,15 +210,15 @@ fn push_opened<D: Disk + Drop>(alloc: Global, page: &mut Page, disk: D) {
     page.text("\n");
 }
 
-// Disks that are damaged, and at last one that is not.
+// Regions of sixteen bytes that are damaged, and at last some that are not.
 const DAMAGED: [&[u8]; 7] = [
     &[0xA5, 0, 0, 0, 0x40],
     &[0xA5, 0, 0, 0, 1, 2, 0xA5, 0, 0, 0, 0xFF],
+    &[0xA5, 0, 0, 0, 5, 1, 2, 3, 4, 5, 0xA5, 0, 0, 0, 2, 9],
+    &[0xA5, 0, 0, 0, 5, 1, 2, 3, 4, 5, 0xA5, 0, 0, 0, 1, 9],
+    &[0xA5, 0, 0, 0, 4, 1, 2, 3, 4, 0xA5, 0, 0, 0, 1, 9],
     &[0xA5, 0, 0, 0],
-    &[0xA5, 0, 0, 0, 2, 7],
     &[0xA5, 0, 0, 0, 1, 7],
-    &[0xA5, 0, 0, 0, 1, 7, 0xA5],
-    &[0xA5, 0, 0, 0, 1, 7, 1, 0xA5],
 ];
 
 // Adds whether a log is opened over a disk of these bytes.
@@ -233,7 +233,7 @@ fn push_damaged<D: Disk + Drop>(alloc: Global, page: &mut Page, mut disk: D, byt
 // Adds the lines of appends that are whole, or do not fit. A frame with an incarnation takes eleven bytes.
 fn push_sizes(alloc: Global, page: &mut Page) {
     for capacity in [10, 11, 12] {
-        page.labelled("an incarnation on a disk of ", capacity);
+        page.labelled("an incarnation in a region of ", capacity);
         match blank(alloc, capacity) {
             Some(disk) => push_first(alloc, page, disk),
             None => page.lack(),
@@ -241,9 +241,9 @@ fn push_sizes(alloc: Global, page: &mut Page) {
     }
 }
 
-// Adds the lines of appends that fail. Opening makes three calls, and an append four.
+// Adds the lines of appends that fail. Opening makes five calls, and an append four.
 fn push_faults(alloc: Global, page: &mut Page) {
-    for call in [4, 5, 6, 7, 99] {
+    for call in [6, 7, 8, 9, 99] {
         page.labelled("an append where call ", call);
         page.text(" fails");
         match faulty(alloc, call) {
@@ -255,7 +255,7 @@ fn push_faults(alloc: Global, page: &mut Page) {
 
 // Adds the lines of openings that fail.
 fn push_refused(alloc: Global, page: &mut Page) {
-    for call in 1..5 {
+    for call in 1..7 {
         page.labelled("open where call ", call);
         page.text(" fails");
         match faulty(alloc, call) {
@@ -277,8 +277,8 @@ fn push_openings(alloc: Global, page: &mut Page) {
 
 /// Adds the lines of logs.
 pub fn push_lines(alloc: Global, page: &mut Page) {
-    frames_have_one_reading();
-    a_frame_is_whole_or_not_at_all();
+    regions_have_one_reading();
+    calls_are_whole_or_not_at_all();
     push_sizes(alloc, page);
     push_faults(alloc, page);
     for calls in 1..5 {

@@ -2,12 +2,14 @@
 ghost use Rattle.std.specs.Prelude.{IfSome};
 ghost use Rattle.e3_world.specs.Given.{IsGiven};
 
+use crate::at_once::words;
 use crate::playing::{CAPACITY, MOST};
 use e3_disk::MemDisk;
 use e3_fleet::{Played, memory_disks, play_over};
 use e3_lines::Page;
-use e3_outside::OpenGate;
+use e3_outside::{MemSink, MemSource, OpenGate};
 use e3_scenario::read_scenario;
+use e3_top::run;
 use e3_types::{List, Scenario};
 use std::alloc::Global;
 use std::sync::Wait;
@@ -42,18 +44,23 @@ struct Calls {
     second: u64,
 }
 
-// The calls of the disks that a run leaves; none where it did not come to its end.
-fn calls_behind(played: &Played<MemDisk>) -> Option<Calls> {
-    if played.ended.is_err() {
-        return None;
-    }
-    match played.disks.as_slice() {
+// The calls of the first two of these disks.
+fn calls_on(disks: &[MemDisk]) -> Option<Calls> {
+    match disks {
         [first, second, ..] => Some(Calls {
             first: first.calls(),
             second: second.calls(),
         }),
         _ => None,
     }
+}
+
+// The calls of the disks that a play leaves; none where it did not come to its end.
+fn calls_behind(played: &Played<MemDisk>) -> Option<Calls> {
+    if played.ended.is_err() {
+        return None;
+    }
+    calls_on(played.disks.as_slice())
 }
 
 // The calls by the end of a scenario; none without memory.
@@ -91,8 +98,34 @@ pub fn scenario_of(alloc: Global, steps: &[&str]) -> Option<Scenario>
     read_scenario(alloc, text.as_slice()).ok()
 }
 
-// The calls by the end of the scenario of these steps; none without memory.
-fn calls_of<R: Wait + Threads + Sync>(
+// The calls by the end of a run of what is read, which says itself how many packets a worker takes; none without memory.
+fn calls_by_run<R: Wait + Threads + Sync>(
+    rt: &R,
+    alloc: Global,
+    source: &mut MemSource,
+    words: &[String],
+) -> Option<Calls> {
+    let mut sink = MemSink::new(alloc, 65536, 65536, List::new(alloc)).ok()?;
+    let Ok(disks) = memory_disks(alloc, CAPACITY, 0, List::new(alloc)) else {
+        return None;
+    };
+    let ended = run(rt, alloc, words, source, &mut sink, disks, &OpenGate);
+    if ended.status != 0 {
+        return None;
+    }
+    calls_on(&ended.disks)
+}
+
+// The same of the scenario of these steps.
+fn calls_run<R: Wait + Threads + Sync>(rt: &R, alloc: Global, steps: &[&str]) -> Option<Calls> {
+    let text = text_of(alloc, steps).done()?;
+    let mut source = MemSource::new(text, 4096, List::new(alloc));
+    let words = words(alloc)?;
+    calls_by_run(rt, alloc, &mut source, &words)
+}
+
+// The calls by the end of the scenario of these steps, with so many packets in one turn of work; none without memory.
+fn calls_played<R: Wait + Threads + Sync>(
     rt: &R,
     alloc: Global,
     steps: &[&str],
@@ -104,12 +137,25 @@ fn calls_of<R: Wait + Threads + Sync>(
     }
 }
 
+// The same with so many packets, or by a run where no number is given.
+fn calls_of<R: Wait + Threads + Sync>(
+    rt: &R,
+    alloc: Global,
+    steps: &[&str],
+    packets: Option<u32>,
+) -> Option<Calls> {
+    match packets {
+        Some(packets) => calls_played(rt, alloc, steps, packets),
+        None => calls_run(rt, alloc, steps),
+    }
+}
+
 // The calls that the last of these steps makes; none without memory.
 fn made<R: Wait + Threads + Sync>(
     rt: &R,
     alloc: Global,
     steps: &[&str],
-    packets: u32,
+    packets: Option<u32>,
 ) -> Option<Calls> {
     let earlier = steps.get(..steps.len().saturating_sub(1))?;
     let before = calls_of(rt, alloc, earlier, packets)?;
@@ -120,17 +166,20 @@ fn made<R: Wait + Threads + Sync>(
     })
 }
 
-// Adds the calls that were made with so many packets in one turn of work.
-fn push_calls(page: &mut Page, packets: u32, calls: Calls) {
-    page.labelled("packets in one turn of work: ", u64::from(packets));
+// Adds the calls that were made with so many packets in one turn of work, or by a run.
+fn push_calls(page: &mut Page, packets: Option<u32>, calls: Calls) {
+    match packets {
+        Some(packets) => page.labelled("packets in one turn of work: ", u64::from(packets)),
+        None => page.text("by a run"),
+    }
     page.labelled(", calls of the disk of site 1: ", calls.first);
     page.labelled(", of site 2: ", calls.second);
     page.text("\n");
 }
 
-// Adds the calls that the last of these steps makes, by one packet in each turn of work and by eight.
+// Adds the calls that the last of these steps makes, by one packet in each turn of work, by eight, and by a run.
 fn push_made<R: Wait + Threads + Sync>(rt: &R, alloc: Global, page: &mut Page, steps: &[&str]) {
-    for packets in [1u32, 8] {
+    for packets in [Some(1u32), Some(8), None] {
         match made(rt, alloc, steps, packets) {
             Some(calls) => push_calls(page, packets, calls),
             None => page.lack(),

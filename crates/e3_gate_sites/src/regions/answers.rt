@@ -1,7 +1,7 @@
 // What came of a call, as text.
 use e3_disk::DiskFault;
 use e3_lines::Page;
-use e3_regions::{AppendFault, Frame, OpenCause, TurnFault};
+use e3_log::{AppendFault, Frame, OpenCause, TurnFault};
 
 const DIGITS: &[u8; 16] = b"0123456789ABCDEF";
 

@@ -6,7 +6,7 @@ use crate::regions::commands::Command;
 use e3_codec::{put_records, read_records};
 use e3_disk::{Disk, DiskFault, Drill, MemDisk};
 use e3_lines::Page;
-use e3_regions::{AppendFault, Frame, Log, TurnFault};
+use e3_log::{AppendFault, Frame, Log, TurnFault};
 use e3_site::{RebuildFault, Site, rebuild};
 use e3_snapshot::{brief, of_site};
 use e3_types::{Leave, List, NoMemory, Record};
@@ -23,17 +23,12 @@ pub enum Held {
     Log(Log<MemDisk>, List<List<u8>>),
 }
 
-/// A disk of this capacity that holds zeros up to the first byte of its second half; nothing where it is too small or too large.
+/// A blank disk of this capacity; nothing where it is too small or too large.
 pub fn blank(alloc: Global, capacity: u64) -> Result<Held, NoMemory> {
     if capacity < 2 || capacity > 100_000 {
         return Ok(Held::Nothing);
     }
-    let mut disk = MemDisk::blank(alloc, capacity)?;
-    let zeros = vec![in alloc; 0; (capacity / 2) as usize].map_err(|_| NoMemory)?;
-    match put(&mut disk, 1, &zeros) {
-        Ok(()) => Ok(Held::Disk(disk)),
-        Err(_) => Ok(Held::Nothing),
-    }
+    Ok(Held::Disk(MemDisk::blank(alloc, capacity)?))
 }
 
 // Writes within what the disk holds or right behind it, and makes it durable.

@@ -45,7 +45,7 @@ fn deliveries(alloc: Global, few: List<Packet>) -> Option<List<Input>>
     Some(inputs)
 }
 
-// The node takes these inputs in one call: how many there are.
+// The node takes these inputs in one call, before which the history has so many entries: how many it has more behind that.
 fn takes_all<D: Disk + Drill + Drop, R: Wait>(
     rt: &R,
     alloc: Global,
@@ -53,18 +53,18 @@ fn takes_all<D: Disk + Drill + Drop, R: Wait>(
     pass: &mut WirePass,
     node: &mut Node<D>,
     inputs: List<Input>,
+    before: u64,
 ) -> Option<u64>
     requires idle { IsIdle wire.now pass.old }
     requires may { MayTakeAtOnce D.content D.image D.meters pass.old node.old inputs }
 {
-    let count = inputs.len();
     match node.batch(rt, alloc, wire, pass, inputs) {
-        Ok(()) => Some(count),
+        Ok(()) => Some(wire.len(rt, pass).saturating_sub(before)),
         Err(_) => None,
     }
 }
 
-/// A node takes the first packets to it in one call, so many at most, and eight: how many there are.
+/// A node takes the first packets to it in one call, so many at most, and eight: how many entries came of that.
 pub fn takes_at_once<D: Disk + Drill + Drop, R: Wait>(
     rt: &R,
     alloc: Global,
@@ -82,6 +82,7 @@ pub fn takes_at_once<D: Disk + Drill + Drop, R: Wait>(
     if most > MOST || !is_delivering(alloc, &shared) {
         return None;
     }
+    let before = shared.history().len() as u64;
     let mut shared = shared;
     let Ok(few) = shared.next_few(alloc, node.site(), most) else {
         return None;
@@ -92,7 +93,7 @@ pub fn takes_at_once<D: Disk + Drill + Drop, R: Wait>(
             if inputs.is_empty() {
                 return Some(0);
             }
-            takes_all(rt, alloc, wire, pass, node, inputs)
+            takes_all(rt, alloc, wire, pass, node, inputs, before)
         }
         None => None,
     }
