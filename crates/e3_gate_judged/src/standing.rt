@@ -1,5 +1,5 @@
 // What the disks of a run read as, beside the logs of its history.
-use e3_codec::{put_records, read_records};
+use e3_codec::{RecordFault, put_records, read_records};
 use e3_disk::{Drill, MemDisk};
 use e3_judge::{Tail, log_at, tail_at};
 use e3_lines::Page;
@@ -66,10 +66,13 @@ fn brief_of(alloc: Global, records: &[Record]) -> Result<List<u8>, NoMemory> {
     put_records(alloc, short.as_slice())
 }
 
-// The brief of what bodies spell, if they are records of the site.
-fn brief_read(alloc: Global, site: u32, bodies: &[u8]) -> Option<List<u8>> {
-    let records = read_records(alloc, site, bodies).ok()?;
-    brief_of(alloc, records.as_slice()).ok()
+// The brief of what bodies spell; none where they are no records of the site.
+fn brief_read(alloc: Global, site: u32, bodies: &[u8]) -> Result<Option<List<u8>>, NoMemory> {
+    match read_records(alloc, site, bodies) {
+        Ok(records) => Ok(Some(brief_of(alloc, records.as_slice())?)),
+        Err(RecordFault::Bad { .. }) => Ok(None),
+        Err(RecordFault::NoMemory) => Err(NoMemory),
+    }
 }
 
 // Adds what is in doubt at a site to its log.
@@ -96,6 +99,23 @@ fn briefs_at(
 }
 
 // Whether these bodies have the brief of the log of a site, with or without what is in doubt.
+fn have_brief(
+    alloc: Global,
+    scenario: &Scenario,
+    history: &[Entry],
+    site: u32,
+    bodies: &[u8],
+) -> Result<bool, NoMemory> {
+    let (before, with) = briefs_at(alloc, scenario, history, site)?;
+    match brief_read(alloc, site, bodies)? {
+        Some(read) => {
+            Ok(read.as_slice() == before.as_slice() || read.as_slice() == with.as_slice())
+        }
+        None => Ok(false),
+    }
+}
+
+// The same, where memory is wanting that is said.
 fn are_log(
     alloc: Global,
     page: &mut Page,
@@ -104,13 +124,8 @@ fn are_log(
     site: u32,
     bodies: &[u8],
 ) -> bool {
-    let Some(read) = brief_read(alloc, site, bodies) else {
-        return false;
-    };
-    match briefs_at(alloc, scenario, history, site) {
-        Ok((before, with)) => {
-            read.as_slice() == before.as_slice() || read.as_slice() == with.as_slice()
-        }
+    match have_brief(alloc, scenario, history, site, bodies) {
+        Ok(have) => have,
         Err(NoMemory) => {
             page.lack();
             false
