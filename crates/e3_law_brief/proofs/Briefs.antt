@@ -15,10 +15,9 @@ use Rattle.e3_types.specs.declared.transactions.Txn.{Txn}
 use Rattle.e3_types.specs.Same.{same_txn}
 use Rattle.e3_world.specs.Items.{add_txn, txn_of_record}
 use Rattle.e3_world.specs.Logs.{attempted, decision, install_op, is_undecided, logged_inc, logged_inc_by, table_by, table_of, voted_ops}
-use Rattle.e3_world.specs.Orderly.{weights_by, weights_in}
+use Rattle.e3_world.specs.Orderly.{weights_by, weights_in, IsOrderly}
 use Rattle.e3_law_brief.specs.Alike.{ReadAlike}
-use Rattle.e3_law_brief.specs.Brief.{brief, born_by, born_in, inc_in, noted, open_ops, txns_of}
-use Rattle.e3_law_brief.specs.Orderly.{IsOrderly}
+use Rattle.e3_world.specs.Brief.{brief, born_by, born_in, inc_in, noted, open_ops, txns_of}
 use Rattle.e3_law_brief.proofs.Lists.{fold_leaves, none_pass}
 use Rattle.e3_law_brief.proofs.Notes.{kept_of, each_note, notes_of, said_notes, kept_fit, no_notes, some_notes, open_cases}
 use Rattle.e3_law_brief.proofs.Readings.{is_of, own_of, none_of, own_of_blocks, elected_from, attempt_from, attempted_from, decision_from, voted_from, ops_from}

@@ -13,9 +13,8 @@ use Rattle.e3_types.specs.declared.transactions.Txn.{Txn}
 use Rattle.e3_types.specs.Same.{same_txn}
 use Rattle.e3_world.specs.Items.{txn_of_record}
 use Rattle.e3_world.specs.Logs.{last_attempt, last_elected, logged_inc, logged_inc_by, table_of}
-use Rattle.e3_world.specs.Orderly.{is_among, is_free, is_known, names_ascend, weights_by, weights_in}
-use Rattle.e3_law_brief.specs.Brief.{brief, born_in, inc_in, vote_in, attempt_in, join_in, decision_in, noted, txns_of}
-use Rattle.e3_law_brief.specs.Orderly.{OrderlyAfter, IsOrderly}
+use Rattle.e3_world.specs.Orderly.{is_among, is_free, is_known, names_ascend, weights_by, weights_in, OrderlyAfter, IsOrderly}
+use Rattle.e3_world.specs.Brief.{brief, born_in, inc_in, vote_in, attempt_in, join_in, decision_in, noted, txns_of}
 use Rattle.e3_law_brief.proofs.Briefs.{unsaid, said_from, each_born, own_of_front, front, blocks, front_weights, front_inc, heard_txns}
 use Rattle.e3_law_brief.proofs.Lists.{fold_leaves, all_pass, no_push}
 use Rattle.e3_law_brief.proofs.Locks.{state_alike}

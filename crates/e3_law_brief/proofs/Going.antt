@@ -10,10 +10,9 @@ use Rattle.e3_types.specs.declared.transactions.Row.{Row}
 use Rattle.e3_types.specs.declared.transactions.Txn.{Txn}
 use Rattle.e3_world.specs.Items.{add_txn, txn_of_record}
 use Rattle.e3_world.specs.Logs.{last_elected_by, last_attempt_by, attempted_by, attempted, decision_by, decision, install_op, is_undecided, is_vote, logged_inc_by, ops_of_vote, table_by, table_of}
-use Rattle.e3_world.specs.Orderly.{is_among, is_free, is_known, weights_by}
+use Rattle.e3_world.specs.Orderly.{is_among, is_free, is_known, weights_by, MayFollow, OrderlyAfter}
 use Rattle.e3_law_brief.specs.Alike.{ReadAlike}
-use Rattle.e3_law_brief.specs.Brief.{brief, born_by, born_in, inc_in, noted, open_ops, txns_of}
-use Rattle.e3_law_brief.specs.Orderly.{MayFollow, OrderlyAfter}
+use Rattle.e3_world.specs.Brief.{brief, born_by, born_in, inc_in, noted, open_ops, txns_of}
 use Rattle.e3_law_brief.proofs.Lists.{all_map, flat_alike, no_push}
 use Rattle.e3_law_brief.proofs.Locks.{free_alike, state_alike}
 use Rattle.e3_law_brief.proofs.Notes.{notes}

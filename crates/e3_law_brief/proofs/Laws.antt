@@ -2,11 +2,10 @@
 use Rattle.std.proofs.Common.{◌∷◌, [], ◌++◌, ℕ, is_none, List, sym, ap, subst, ◌∙◌, append_assoc, append-nil, arith}
 use Rattle.e3_types.specs.declared.records.Record.{Record}
 use Rattle.e3_types.specs.declared.records.Record.TheVariants as log
-use Rattle.e3_world.specs.Orderly.{OrderlyAfter as OrderlyAfterFromOne, MayFollow as MayFollowFromOne}
+use Rattle.e3_world.specs.Orderly.{OrderlyAfter}
 use Rattle.e3_law_brief.specs.Alike.{ReadAlike}
-use Rattle.e3_law_brief.specs.Brief.{brief}
-use Rattle.e3_law_brief.specs.Orderly.{MayFollow, OrderlyAfter}
-use Rattle.e3_law_brief.specs.Laws.{BriefsAreBrief, BriefsGoOn, BriefsAreOrderly, BriefsReadAlike, SameBriefsReadAlike, AlikeHaveSameBrief, AlikeStandAlike, BriefsForget, BriefsAreNotEmpty, FirstLogsAreOrderly}
+use Rattle.e3_world.specs.Brief.{brief}
+use Rattle.e3_law_brief.specs.Laws.{BriefsAreBrief, BriefsGoOn, BriefsAreOrderly, BriefsReadAlike, SameBriefsReadAlike, AlikeHaveSameBrief, AlikeStandAlike, BriefsForget, BriefsAreNotEmpty}
 use Rattle.e3_law_brief.proofs.Briefs.{brief_reads, forgotten, not_empty}
 use Rattle.e3_law_brief.proofs.Following.{brief_orderly}
 use Rattle.e3_law_brief.proofs.Going.{brief_alike, read_on, orderly_on}
@@ -85,19 +84,3 @@ forget site l t orderly decided = forgotten site l t orderly decided
 
 pub are_some : BriefsAreNotEmpty
 are_some site l orderly none = not_empty site l orderly none
-
--- a log that begins in the first incarnation
-first_may : (site : ℕ) (before : List Record) (r : Record) → MayFollowFromOne site before r → MayFollow site before r
-first_may site before (log.Birth format number weights rows) may = may
-first_may site before (log.Inc n) may = record { born = may.born; first = λ e. omega (arith, may.next); next = λ some. may.next }
-first_may site before (log.Vote t ops) may = may
-first_may site before (log.Join t n) may = may
-first_may site before (log.Attempt t n dir) may = may
-first_may site before (log.Decision t dir) may = may
-
-first_all : (site : ℕ) (before rest : List Record) → OrderlyAfterFromOne site before rest → OrderlyAfter site before rest
-first_all site before [] orderly = tt
-first_all site before (r ∷ rest) orderly = (first_may site before r orderly.0, first_all site (before ++ r ∷ []) rest orderly.1)
-
-pub first_logs : FirstLogsAreOrderly
-first_logs site l orderly = first_all site [] l orderly

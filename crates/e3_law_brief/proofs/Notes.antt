@@ -13,7 +13,7 @@ use Rattle.e3_types.specs.declared.transactions.Txn.{Txn}
 use Rattle.e3_types.specs.Same.{same_txn}
 use Rattle.e3_world.specs.Logs.{last_elected_by, last_elected, last_attempt_by, last_attempt, attempted_by, attempted, decision_by, decision, is_vote, has_voted, ops_of_vote, voted_ops, is_undecided}
 use Rattle.e3_world.specs.Orderly.{ops_ascend}
-use Rattle.e3_law_brief.specs.Brief.{vote_in, attempt_in, join_in, decision_in, open_ops}
+use Rattle.e3_world.specs.Brief.{vote_in, attempt_in, join_in, decision_in, open_ops}
 use Rattle.e3_law_brief.proofs.Lists.{fold_four}
 use Rattle.e3_law_brief.proofs.Readings.{is_of}
 use Rattle.e3_law_brief.proofs.Shape.{Said, said_of, Fit, Heard}

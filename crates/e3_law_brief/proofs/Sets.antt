@@ -33,7 +33,7 @@ use Rattle.e3_law_steps.specs.Mentions.{Stands, begun_in, of_event, of_record}
 use Rattle.e3_law_steps.proofs.Begun.Holding.{keeps_at, legal_holds}
 use Rattle.e3_law_steps.proofs.Begun.Laws.{due_mentions, records_mention}
 use Rattle.e3_law_steps.proofs.Begun.Lists.{any-get, each-join, each-within, held}
-use Rattle.e3_law_brief.specs.Brief.{txns_of}
+use Rattle.e3_world.specs.Brief.{txns_of}
 use Rattle.e3_law_steps.proofs.Ascending.{each_fold}
 use Rattle.e3_law_brief.specs.Incarnations.{IsKnown}
 

@@ -14,8 +14,7 @@ use Rattle.e3_types.specs.declared.transactions.State.TheVariants.{Q}
 use Rattle.e3_types.specs.declared.transactions.Txn.{Txn}
 use Rattle.e3_types.specs.Same.{same_txn}
 use Rattle.e3_world.specs.Logs.{last_elected_by, last_elected, last_attempt_by, last_attempt, attempted_by, attempted, decision_by, decision, is_vote, has_voted, ops_of_vote, voted_ops, state_of, logged_inc, logged_inc_by}
-use Rattle.e3_world.specs.Orderly.{is_among, is_known, ops_ascend, weights_by, weights_in}
-use Rattle.e3_law_brief.specs.Orderly.{MayFollow, OrderlyAfter, IsOrderly}
+use Rattle.e3_world.specs.Orderly.{is_among, is_known, ops_ascend, weights_by, weights_in, MayFollow, OrderlyAfter, IsOrderly}
 use Rattle.e3_law_brief.proofs.Readings.{is_of, own_of, elected_leaves, attempt_leaves, attempted_leaves, decision_leaves, vote_leaves, ops_leaves}
 use Rattle.e3_law_steps.proofs.Tests.{or_false, same_is}
 

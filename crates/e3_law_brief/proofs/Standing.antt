@@ -15,10 +15,9 @@ use Rattle.e3_types.specs.Locks.{conflicts, opposes}
 use Rattle.e3_types.specs.Same.{same_numbers, same_txn}
 use Rattle.e3_types.proofs.SameSites.{same_numbers_eq, same_numbers_refl}
 use Rattle.e3_world.specs.Logs.{has_voted, is_undecided, key_of, lock_on, ops_of_vote, voted_locks, voted_ops}
-use Rattle.e3_world.specs.Orderly.{is_free}
+use Rattle.e3_world.specs.Orderly.{is_free, MayFollow, OrderlyAfter, IsOrderly}
 use Rattle.e3_law_brief.specs.Alike.{locks_by}
-use Rattle.e3_law_brief.specs.Brief.{noted, open_ops}
-use Rattle.e3_law_brief.specs.Orderly.{MayFollow, OrderlyAfter, IsOrderly}
+use Rattle.e3_world.specs.Brief.{noted, open_ops}
 use Rattle.e3_law_brief.proofs.Briefs.{said_from, own_of_front, front}
 use Rattle.e3_law_brief.proofs.Going.{open_before}
 use Rattle.e3_law_brief.proofs.Locks.{any_back, free_is, lock_of, locks_for, locks_own, none_by, equal_tests}

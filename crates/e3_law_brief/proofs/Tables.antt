@@ -13,8 +13,7 @@ use Rattle.e3_types.specs.declared.transactions.Row.{Row}
 use Rattle.e3_types.specs.declared.transactions.Txn.{Txn}
 use Rattle.e3_types.specs.Same.{same_txn}
 use Rattle.e3_world.specs.Logs.{decision, decision_by, install_op, is_undecided, ops_of_vote, table_by, table_of, voted_ops}
-use Rattle.e3_world.specs.Orderly.{names_ascend}
-use Rattle.e3_law_brief.specs.Orderly.{MayFollow, OrderlyAfter, IsOrderly}
+use Rattle.e3_world.specs.Orderly.{names_ascend, MayFollow, OrderlyAfter, IsOrderly}
 use Rattle.e3_law_brief.proofs.Lists.{fold_alike}
 use Rattle.e3_law_brief.proofs.Shape.{ops_push, quiet_from, Quiet}
 use Rattle.e3_law_steps.proofs.Ascending.{apart, other_way}

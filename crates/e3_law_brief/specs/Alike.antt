@@ -7,7 +7,7 @@ use Rattle.e3_types.specs.declared.transactions.Txn.{Txn}
 use Rattle.e3_types.specs.Same.{same_txn}
 use Rattle.e3_world.specs.Logs.{last_elected, last_attempt, attempted, decision, has_voted, is_undecided, logged_inc, state_of, table_of, voted_ops, voted_locks}
 use Rattle.e3_world.specs.Orderly.{weights_in}
-use Rattle.e3_law_brief.specs.Brief.{born_in, txns_of}
+use Rattle.e3_world.specs.Brief.{born_in, txns_of}
 
 -- Two logs read alike: they have the same birth but for its rows, the same incarnation, table and transactions; and each
 -- transaction has the same counters, the same direction of its last attempt, decision and vote, and where it is undecided

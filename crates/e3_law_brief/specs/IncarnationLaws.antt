@@ -8,8 +8,8 @@ use Rattle.e3_world.specs.Lives.{incarnation_by, life_of, present_log}
 use Rattle.e3_world.specs.Moves.{Move}
 use Rattle.e3_world.specs.Steps.{step_of}
 use Rattle.e3_law_brief.specs.Alike.{ReadAlike}
-use Rattle.e3_law_brief.specs.Brief.{brief}
-use Rattle.e3_law_brief.specs.Orderly.{IsOrderly}
+use Rattle.e3_world.specs.Brief.{brief}
+use Rattle.e3_world.specs.Orderly.{IsOrderly}
 use Rattle.e3_law_brief.specs.Incarnations.{AlikeNow, IsInOrder, open_in}
 
 -- each input makes both do the same

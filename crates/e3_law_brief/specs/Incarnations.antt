@@ -9,8 +9,8 @@ use Rattle.e3_world.specs.Items.{known_txns}
 use Rattle.e3_world.specs.Lives.{present_log}
 use Rattle.e3_world.specs.Logs.{is_undecided}
 use Rattle.e3_law_brief.specs.Alike.{ReadAlike}
-use Rattle.e3_law_brief.specs.Brief.{txns_of}
-use Rattle.e3_law_brief.specs.Orderly.{IsOrderly}
+use Rattle.e3_world.specs.Brief.{txns_of}
+use Rattle.e3_world.specs.Orderly.{IsOrderly}
 
 -- the two rose with logs that read alike, and made the same steps since
 pub record AlikeNow (a b : Incarnation) : Type 0 where

@@ -3,10 +3,9 @@ use Rattle.std.specs.Prelude.{◌≡◌, ◌++◌, [], ℕ, false, List}
 use Rattle.e3_types.specs.declared.records.Record.{Record}
 use Rattle.e3_types.specs.declared.transactions.Txn.{Txn}
 use Rattle.e3_world.specs.Logs.{is_undecided, voted_ops}
-use Rattle.e3_world.specs.Orderly.{IsOrderly as IsOrderlyFromOne}
+use Rattle.e3_world.specs.Orderly.{IsOrderly}
 use Rattle.e3_law_brief.specs.Alike.{ReadAlike, StandAlike}
-use Rattle.e3_law_brief.specs.Brief.{brief}
-use Rattle.e3_law_brief.specs.Orderly.{IsOrderly}
+use Rattle.e3_world.specs.Brief.{brief}
 
 -- the brief of a brief is that brief
 abbrev pub BriefsAreBrief : Type 0
@@ -42,7 +41,3 @@ BriefsForget = (site : ℕ) (l : List Record) (t : Txn) → IsOrderly site l →
 -- only the empty log has an empty brief
 abbrev pub BriefsAreNotEmpty : Type 0
 BriefsAreNotEmpty = (site : ℕ) (l : List Record) → IsOrderly site l → brief l ≡ [] → l ≡ []
-
--- a log that begins in the first incarnation is orderly
-abbrev pub FirstLogsAreOrderly : Type 0
-FirstLogsAreOrderly = (site : ℕ) (l : List Record) → IsOrderlyFromOne site l → IsOrderly site l

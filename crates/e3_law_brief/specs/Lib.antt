@@ -1,5 +1,3 @@
-pub mod Orderly
-pub mod Brief
 pub mod Alike
 pub mod Laws
 pub mod Incarnations

@@ -7,7 +7,7 @@ use Rattle.e3_world.specs.Given.{IsGiven}
 use Rattle.e3_world.specs.Legal.{IsLegal}
 use Rattle.e3_world.specs.Moves.{log_of}
 use Rattle.e3_law_brief.specs.Incarnations.{IsKnown}
-use Rattle.e3_law_brief.specs.Brief.{txns_of}
+use Rattle.e3_world.specs.Brief.{txns_of}
 
 -- the sites of each transaction in the log of each site in each legal history of a given scenario are a set
 abbrev pub LoggedSitesAreSets : Type 0

@@ -2,7 +2,7 @@
 //! rose with it does what the site of the log does.
 #![tactic(auto)]
 
-ghost use Rattle.e3_law_brief.specs.Laws.{BriefsAreBrief, BriefsGoOn, BriefsAreOrderly, BriefsReadAlike, SameBriefsReadAlike, AlikeHaveSameBrief, AlikeStandAlike, BriefsForget, BriefsAreNotEmpty, FirstLogsAreOrderly};
+ghost use Rattle.e3_law_brief.specs.Laws.{BriefsAreBrief, BriefsGoOn, BriefsAreOrderly, BriefsReadAlike, SameBriefsReadAlike, AlikeHaveSameBrief, AlikeStandAlike, BriefsForget, BriefsAreNotEmpty};
 ghost use Rattle.e3_law_brief.specs.IncarnationLaws.{AlikeGoOn, AlikeTurned, LogsAreAlike, OpensAreAlike, OrdersAreAlike, RisesAreAlike, StepsAreAlike};
 ghost use Rattle.e3_law_brief.specs.Sets.{LoggedSitesAreSets};
 
@@ -24,11 +24,6 @@ pub fn briefs_read_alike()
     ensures back { AlikeHaveSameBrief }
     ensures stand { AlikeStandAlike }
     ensures forgotten { BriefsForget }
-{}
-
-/// A log whose first incarnation is 1 is orderly.
-pub fn first_logs_are_orderly()
-    ensures { FirstLogsAreOrderly }
 {}
 
 /// Each input makes incarnations that are alike do the same: the same records, packets and events. And they have the same

@@ -5,7 +5,7 @@ ghost use Rattle.e3_law_serial.specs.Claims.{LegalSerial, LegalTables, LegalVote
 ghost use Rattle.e3_law_serial.specs.InLine.{in_line, middle_one, oldest_one, youngest_one};
 ghost use Rattle.e3_law_serial.specs.Waiters.{WaitsAt};
 ghost use Rattle.e3_law_serial.specs.Waits.{NoCycle, OlderWaits};
-ghost use Rattle.e3_law_serial.specs.Orderly.{LogsAreOrderly, TailsAreLogs, TailsAreOrderly};
+ghost use Rattle.e3_law_serial.specs.Orderly.{IncarnationsCountUp, LogsAreOrderly, TailsAreLogs, TailsAreOrderly};
 ghost use Rattle.e3_law_serial.specs.Turns.{RecordsComeInTurn};
 
 use e3_law_agreement::histories_agree;
@@ -77,6 +77,7 @@ pub fn records_come_in_turn()
 /// legal history. A log's order counts the votes of all its incarnations.
 pub fn logs_are_orderly()
     ensures logs { LogsAreOrderly }
+    ensures count { IncarnationsCountUp }
     ensures others { TailsAreLogs }
     ensures tails { TailsAreOrderly }
 {

@@ -1,8 +1,8 @@
 -- Frames that hold a log, with more records, and turned to its brief.
 use Rattle.std.proofs.Common.{◌≡◌, ◌++◌, ◌∷◌, [], ℕ, List, refl, sym, ap, subst, ◌∙◌, append-nil, append_assoc}
 use Rattle.e3_codec.specs.Fields.{AllCanBeReadBack}
-use Rattle.e3_law_brief.specs.Brief.{brief}
-use Rattle.e3_law_brief.specs.Orderly.{IsOrderly, OrderlyAfter}
+use Rattle.e3_world.specs.Brief.{brief}
+use Rattle.e3_world.specs.Orderly.{IsOrderly, OrderlyAfter}
 use Rattle.e3_law_brief.proofs.Following.{brief_orderly}
 use Rattle.e3_law_brief.proofs.Going.{orderly_on, read_on}
 use Rattle.e3_law_brief.proofs.Laws.{are_brief, same_alike, same_brief}

@@ -4,7 +4,7 @@ use Rattle.std.specs.Prelude.{if◌then◌else◌, min, nat_lt, IfErr, OnOk, Res
 use Rattle.std.proofs.Math.Nat.{min-le_left, min-le_right, le-min}
 use Rattle.std.proofs.lemmas.Bool.{le-ltb, lt-ltb, ltb-false, ltb-true}
 use Rattle.e3_disk.specs.Meters.{HasFailed, Keeps, LAST, Meters, raised}
-use Rattle.e3_law_brief.specs.Brief.{brief}
+use Rattle.e3_world.specs.Brief.{brief}
 use Rattle.e3_law_brief.proofs.Laws.{are_some}
 use Rattle.e3_log.specs.Frames.{frames}
 use Rattle.e3_log.specs.Fronts.{bodies_in as handed_out}

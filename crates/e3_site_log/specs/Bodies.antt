@@ -3,8 +3,8 @@ use Rattle.std.specs.Prelude.{◌≡◌, ◌≤◌, ◌<◌, ◌^◌, ◌++◌, 
 use Rattle.std.specs.List.{flat_map}
 use Rattle.e3_codec.specs.Fields.{AllCanBeReadBack}
 use Rattle.e3_disk.specs.Meters.{Meters}
-use Rattle.e3_law_brief.specs.Brief.{brief}
-use Rattle.e3_law_brief.specs.Orderly.{IsOrderly}
+use Rattle.e3_world.specs.Brief.{brief}
+use Rattle.e3_world.specs.Orderly.{IsOrderly}
 use Rattle.e3_log.specs.Reading.{ReadsAs as BytesReadAs}
 use Rattle.e3_log.specs.Stands.{LogState, Stands}
 use Rattle.e3_types.specs.Spelling.{spelling}

@@ -2,7 +2,7 @@
 use Rattle.std.specs.Prelude.{◌≡◌, ◌≢◌, ◌⊎◌, ◌+◌, ◌<◌, ◌≤◌, ◌∷◌, [], ℕ, nat_lt, if◌then◌else◌, List, Option, Some, None, length}
 use Rattle.e3_codec.specs.Fields.{AllCanBeReadBack}
 use Rattle.e3_disk.specs.Meters.{Meters, HasFailed}
-use Rattle.e3_law_brief.specs.Brief.{brief}
+use Rattle.e3_world.specs.Brief.{brief}
 use Rattle.e3_log.specs.Frames.{frames}
 use Rattle.e3_log.specs.Regions.{limit, other, start}
 use Rattle.e3_log.specs.Stands.{LogState}

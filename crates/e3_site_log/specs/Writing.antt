@@ -2,7 +2,7 @@
 use Rattle.std.specs.Prelude.{◌+◌, ◌++◌, ℕ, List, Option, Result, IfErr, OnOk}
 use Rattle.e3_codec.specs.Fields.{AllCanBeReadBack}
 use Rattle.e3_disk.specs.Meters.{Meters}
-use Rattle.e3_law_brief.specs.Orderly.{IsOrderly}
+use Rattle.e3_world.specs.Orderly.{IsOrderly}
 use Rattle.e3_log.specs.Stands.{LogState}
 use Rattle.e3_site_log.specs.Bodies.{IsLogged, ReadsLeft}
 use Rattle.e3_site_log.specs.Ends.{IsDue, IsReason, IsShortIf, size_of}

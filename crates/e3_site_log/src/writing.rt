@@ -2,8 +2,8 @@
 ghost use Rattle.std.specs.Prelude.{◌≡◌, ◌≢◌, ◌+◌, ◌<◌, ◌≤◌, ◌++◌, [], ℕ, true, false, length, List as Items, OnOk, IfErr, Some as Given, Err};
 ghost use Rattle.e3_codec.specs.Fields.{AllCanBeReadBack};
 ghost use Rattle.e3_disk.specs.Meters.{HasFailed, Keeps};
-ghost use Rattle.e3_law_brief.specs.Brief.{brief};
-ghost use Rattle.e3_law_brief.specs.Orderly.{IsOrderly};
+ghost use Rattle.e3_world.specs.Brief.{brief};
+ghost use Rattle.e3_world.specs.Orderly.{IsOrderly};
 ghost use Rattle.e3_log.specs.Regions.{limit, other, start};
 ghost use Rattle.e3_site_log.specs.Bodies.{IsLogged, ReadsLeft};
 ghost use Rattle.e3_site_log.specs.Ends.{EndsAt, HasRoom, IsReason, IsShortOf, MayTurn, Takes, calls_for, turn_why, turned_to, why_of};

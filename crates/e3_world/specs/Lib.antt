@@ -1,6 +1,7 @@
 pub mod Roomy
 pub mod Logs
 pub mod Orderly
+pub mod Brief
 pub mod Moves
 pub mod Lives
 pub mod Fate

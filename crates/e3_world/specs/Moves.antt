@@ -1,5 +1,5 @@
 -- What a site has done, as a list of moves. A record in doubt is no move until a later rise has kept it.
-use Rattle.std.specs.Prelude.{◌+◌, ◌==◌, ◌++◌, ◌∷◌, [], if◌then◌else◌, ℕ, Bool, true, false, List, length, fold, map, filter, sum, Option, Some, None}
+use Rattle.std.specs.Prelude.{◌==◌, ◌++◌, ◌∷◌, [], if◌then◌else◌, ℕ, Bool, true, false, List, fold, map, filter, Option, Some, None}
 use Rattle.std.specs.List.{flat_map}
 use Rattle.e3_types.specs.declared.entries.Act.{Act}
 use Rattle.e3_types.specs.declared.entries.Act.TheVariants.{Step, Fall, Rise, RiseFall, Miss, Cut}
@@ -15,7 +15,6 @@ use Rattle.e3_types.specs.declared.entries.Why.{Why}
 use Rattle.e3_types.specs.declared.entries.Why.TheVariants.{Fault}
 use Rattle.e3_types.specs.declared.entries.Input.TheVariants as input
 use Rattle.e3_types.specs.declared.records.Record.TheVariants as log
-use Rattle.e3_types.specs.Spelling.{spelling}
 use Rattle.e3_world.specs.Logs.{set_row}
 
 -- A step, with packets that have number 0. A silent move: a fall's inputs and records that a later rise kept, or the
@@ -169,12 +168,3 @@ is_up mine = fold (λ was e. by was e.act) false mine
     by was Cut = false
     by was (Fall inputs records why) = false
     by was _ = was
-
--- the size of the frame of what one move recorded: 5 bytes and the spelling of its records; none without records
-abbrev pub frame_size : List Record → ℕ
-frame_size [] = 0
-frame_size (r ∷ rs) = 5 + length (spelling (r ∷ rs))
-
--- the size of a log: that of its frames
-abbrev pub log_size : List Move → ℕ
-log_size moves = sum (map (λ m. frame_size (recorded m)) moves)

@@ -1,4 +1,5 @@
--- Which lists of records are the log of a site: each record is judged over those before it.
+-- Which lists of records are the log of a site: each record is judged over those before it. A log may begin in a later
+-- incarnation: its birth may have been made anew, behind records that are left out since.
 use Rattle.std.specs.Prelude.{◌≡◌, ◌≢◌, ◌<◌, ◌≤◌, ◌&&◌, ◌++◌, ◌∷◌, [], ℕ, suc, nat_lt, nat_le, Bool, true, false, List, length, fold}
 use Rattle.std.specs.List.{list_all}
 use Rattle.std.specs.Ordering.{nat_cmp, match_ordering}
@@ -64,10 +65,11 @@ pub record IsBirth (site : ℕ) (before : List Record) (format number : ℕ) (we
   pub weighed : list_all (λ w. nat_le 1 w && nat_le w 1000) weights ≡ true
   pub ascending : names_ascend rows ≡ true
 
--- the first incarnation is 1 and stands behind the birth; each later one is one more than the last
+-- the incarnation behind the birth is at least 1; each later one is one more than the last
 pub record IsInc (before : List Record) (inc : ℕ) : Type 0 where
   pub born : before ≢ []
-  pub next : inc ≡ suc (logged_inc before)
+  pub first : logged_inc before ≡ 0 → 1 ≤ inc
+  pub next : 1 ≤ logged_inc before → inc ≡ suc (logged_inc before)
 
 -- a vote is the transaction's first record, and none of its locks conflicts with one of an undecided voter
 pub record IsVote (site : ℕ) (before : List Record) (t : Txn) (ops : List NumOp) : Type 0 where

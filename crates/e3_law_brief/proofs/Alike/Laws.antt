@@ -15,8 +15,8 @@ use Rattle.e3_world.specs.Logs.{logged_inc}
 use Rattle.e3_world.specs.Moves.{Did, Stepped, Silent, Rose, plain_input}
 use Rattle.e3_world.specs.Steps.{step_at, step_of}
 use Rattle.e3_law_brief.specs.Alike.{ReadAlike}
-use Rattle.e3_law_brief.specs.Brief.{txns_of}
-use Rattle.e3_law_brief.specs.Orderly.{IsOrderly, OrderlyAfter}
+use Rattle.e3_world.specs.Brief.{txns_of}
+use Rattle.e3_world.specs.Orderly.{IsOrderly, OrderlyAfter}
 use Rattle.e3_law_brief.proofs.Going.{orderly_on, read_on}
 use Rattle.e3_law_brief.proofs.Laws.{same_alike}
 use Rattle.e3_law_brief.proofs.Standing.{orderly_append}

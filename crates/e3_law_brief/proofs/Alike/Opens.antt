@@ -12,7 +12,7 @@ use Rattle.e3_world.specs.declared.lives.Moment.{Moment}
 use Rattle.e3_world.specs.Items.{add_txn, began_in, known_txns, txn_of_record}
 use Rattle.e3_world.specs.Logs.{is_undecided}
 use Rattle.e3_world.specs.Operations.{arrivals}
-use Rattle.e3_law_brief.specs.Brief.{txns_of}
+use Rattle.e3_world.specs.Brief.{txns_of}
 use Rattle.e3_law_steps.proofs.Ascending.{Ascends, IsLater, ascends_fold, later_from, other_way}
 use Rattle.e3_law_steps.proofs.Each.{each-filter, each-weaker}
 use Rattle.e3_law_steps.proofs.Tests.{same_is}

@@ -1,5 +1,5 @@
 -- A log whose records stand in place, come in turn, suit their site and whose votes fit is orderly.
-use Rattle.std.proofs.Common.{◌≡◌, ◌≢◌, ◌≤◌, ◌++◌, ◌∷◌, [], ℕ, true, List, length, refl, sym, subst, ap, ◌∙◌, arith, eq-eqb}
+use Rattle.std.proofs.Common.{◌≡◌, ◌≢◌, ◌≤◌, ◌++◌, ◌∷◌, [], ℕ, suc, true, List, length, refl, sym, subst, ap, ◌∙◌, append-nil, append_assoc, arith, eq-eqb}
 use Rattle.std.specs.List.{AllByRecursion as Each}
 use Rattle.std.proofs.lemmas.Bool.{and_from, le-leb}
 use Rattle.std.proofs.lemmas.Grind.{fold-append}
@@ -18,7 +18,7 @@ use Rattle.e3_law_steps.specs.Bounds.{SuitsLog}
 use Rattle.e3_law_steps.specs.Trails.{TrailsAreSound, LogsAreOfTrails}
 use Rattle.e3_law_steps.proofs.Suits.Holding.{Holds, legal_holds}
 use Rattle.e3_law_serial.specs.Claims.{LogsAreOrdered}
-use Rattle.e3_law_serial.specs.Orderly.{LogsAreOrderly}
+use Rattle.e3_law_serial.specs.Orderly.{IncarnationsCountUp, LogsAreOrderly}
 use Rattle.e3_law_serial.specs.Turns.{ComesInTurn, InTurnAfter}
 use Rattle.e3_law_serial.proofs.Orderly.Logs.{come_in_turn}
 use Rattle.e3_law_serial.proofs.Orderly.Rows.{rows_ascend}
@@ -61,7 +61,11 @@ may_follow sc site before (log.Birth format number weights rows) given has stand
     let P : List Record → Type 0 = λ l. MayFollow site l (log.Birth format number weights rows) in
     let Q : Record → Type 0 = λ r. MayFollow site [] r in
     subst P (sym stands.0) (subst Q (sym stands.1) (birth_follows sc site given stands.2))
-may_follow sc site before (log.Inc n) given has stands suits turn fits = record { born = stands.0; next = stands.1 }
+may_follow sc site before (log.Inc n) given has stands suits turn fits = record {
+  born = stands.0;
+  first = λ zero. omega (arith, stands.1);
+  next = λ some. stands.1;
+}
 may_follow sc site before (log.Vote t ops) given has stands suits turn fits = record {
   known = known sc site before t has stands suits.0;
   fresh = turn.fresh;
@@ -129,3 +133,16 @@ logs_are_orderly sound logs ordered sc h site given legal =
     let holds : Holds sc h = legal_holds sc h given legal in
     combine sc site [] (log_of sc h site) given (λ e. absurd (e refl)) (legal_shaped sc h site given legal).log
     (subst Q (life_log_at (moves_of sc h site)) (holds.now.sites site).life.log) (come_in_turn sc h site given legal) (legal_fit sound logs ordered sc h site given legal)
+
+-- an incarnation in the middle stands behind what is before it
+inc_stands : (sc : Scenario) (site : ℕ) (before xs rest : List Record) (n : ℕ) → StandAfter sc site before (xs ++ log.Inc n ∷ rest) → n ≡ suc (logged_inc (before ++ xs))
+inc_stands sc site before [] rest n stand =
+    let P : List Record → Type 0 = λ l. n ≡ suc (logged_inc l) in subst P (sym (append-nil before)) stand.0.1
+inc_stands sc site before (x ∷ xs) rest n stand =
+    let P : List Record → Type 0 = λ l. n ≡ suc (logged_inc l) in
+    subst P (append_assoc before (x ∷ []) xs) (inc_stands sc site (before ++ x ∷ []) xs rest n stand.1)
+
+pub incarnations_count_up : IncarnationsCountUp
+incarnations_count_up sc h site before rest n given legal is =
+    let P : List Record → Type 0 = λ l. StandAfter sc site [] l in
+    inc_stands sc site [] before rest n (subst P is (legal_shaped sc h site given legal).log)
