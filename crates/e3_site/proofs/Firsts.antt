@@ -2,7 +2,7 @@
 use Rattle.std.proofs.Common.{◌≡◌, ◌<◌, ◌++◌, ◌∷◌, [], ℕ, suc, ◌+◌, Bool, true, false, List, length, take, Option, Some, None, MatchOption, refl, sym, subst, ◌∙◌, arith, length-append}
 use Rattle.std.proofs.lemmas.Bool.{false≢true}
 use Rattle.e3_types.specs.declared.records.Record.{Record}
-use Rattle.e3_law_brief.specs.Orderly.{IsOrderly, OrderlyAfter}
+use Rattle.e3_world.specs.Orderly.{IsOrderly, OrderlyAfter}
 use Rattle.e3_site.specs.Orderly.{is_orderly_next, disorder_after, disorder_in, IsFirstDisorder}
 use Rattle.e3_site.proofs.Follows.{follows, passes}
 

@@ -14,8 +14,7 @@ use Rattle.e3_types.specs.declared.transactions.Txn.{Txn}
 use Rattle.e3_types.specs.Same.{same_dir, same_state}
 use Rattle.e3_types.specs.Sets.{has_site}
 use Rattle.e3_world.specs.Logs.{last_elected, state_of, logged_inc}
-use Rattle.e3_world.specs.Orderly.{IsBirth, IsVote, IsJoin, IsAttempt, IsDecision, is_among}
-use Rattle.e3_law_brief.specs.Orderly.{MayFollow, IsInc}
+use Rattle.e3_world.specs.Orderly.{IsBirth, IsVote, IsJoin, IsAttempt, IsDecision, is_among, MayFollow, IsInc}
 use Rattle.e3_site.specs.Orderly.{is_weighed, is_birth, is_next_inc, is_first_vote, is_next_join, is_next_attempt, is_first_decision, is_orderly_next}
 
 -- a list is empty where its length is 0

@@ -5,8 +5,7 @@ use Rattle.std.proofs.lemmas.Bool.{and_from}
 use Rattle.e3_types.specs.declared.records.Record.{Record}
 use Rattle.e3_types.specs.declared.records.Record.TheVariants as log
 use Rattle.e3_types.specs.declared.transactions.Txn.{Txn}
-use Rattle.e3_world.specs.Orderly.{is_known}
-use Rattle.e3_law_brief.specs.Orderly.{IsOrderly, MayFollow, OrderlyAfter}
+use Rattle.e3_world.specs.Orderly.{is_known, IsOrderly, MayFollow, OrderlyAfter}
 use Rattle.e3_past.specs.declared.logged.Logged.{Logged}
 use Rattle.e3_past.specs.Standing.{LoggedStand, may_all_be_read, may_be_read}
 use Rattle.e3_law_steps.proofs.Adding.{idle_open}

@@ -1,4 +1,5 @@
 pub mod Standing
+pub mod Alike
 mod Freedom
 mod Follows
 mod Firsts

@@ -6,11 +6,16 @@ use Rattle.e3_types.specs.declared.scenarios.Scenario.{Scenario}
 use Rattle.e3_past.specs.Standing.{TablesStand}
 use Rattle.e3_past.specs.declared.tables.Tables.{Tables}
 use Rattle.e3_site.specs.SiteView.{SiteView, Stands, risen_with}
-use Rattle.e3_site.specs.StandsFor.{StandsRisen}
+use Rattle.e3_site.specs.StandsFor.{IsRisenWith, StandsRisen}
 use Rattle.e3_world.specs.Lives.{life_of}
-use Rattle.e3_world.specs.Orderly.{weights_by, weights_in}
-use Rattle.e3_law_brief.specs.Orderly.{IsOrderly, OrderlyAfter, MayFollow}
-use Rattle.e3_site.specs.Rebuilt.{IsRebuilt, StandsForEach}
+use Rattle.e3_world.specs.Orderly.{weights_by, weights_in, IsOrderly, OrderlyAfter, MayFollow}
+use Rattle.e3_site.specs.Rebuilt.{IsRebuilt, StandsForBrief, StandsForEach}
+use Rattle.e3_law_brief.specs.Alike.{ReadAlike}
+use Rattle.e3_law_brief.proofs.Laws.{are_some, same_alike}
+use Rattle.e3_law_serial.specs.Orderly.{LogsAreOrderly}
+use Rattle.e3_world.specs.Brief.{brief}
+use Rattle.e3_world.specs.Moves.{log_of}
+use Rattle.e3_site.proofs.Alike.{rises}
 use Rattle.e3_site.proofs.Births.{IsBorn, log_born}
 
 pub some_records : (records : List Record) → 0 < length records → records ≢ []
@@ -62,3 +67,14 @@ stands_for_each site records s some all built risen = λ sc h legal last.
     let P : List Record → Type 0 = IsBorn sc s.site in
     let O : ℕ → Type 0 = λ x. IsOrderly x records in
     risen sc h (built.weights_are ∙ weights_born sc s.site records some (subst O (sym built.site_is) all) (subst P (sym last.log_is) (log_born sc h s.site legal))) last
+
+-- and for those with a log of the same brief
+pub stands_for_brief : LogsAreOrderly → (site : ℕ) (records : List Record) (s : SiteView) → records ≢ [] → IsOrderly site records → IsRebuilt site records s → StandsForBrief records s
+stands_for_brief logs site records s some orderly built = λ sc h log given legal risen same.
+    let mine : IsOrderly s.site records = subst (λ (n : ℕ). IsOrderly n records) (sym built.site_is) orderly in
+    let its : log ≡ log_of sc h s.site = risen.log_is in
+    let theirs : IsOrderly s.site log = subst (λ (l : List Record). IsOrderly s.site l) (sym its) (logs sc h s.site given legal) in
+    let born : IsBorn sc s.site log = subst (λ (l : List Record). IsBorn sc s.site l) (sym its) (log_born sc h s.site legal) in
+    let alike : ReadAlike records log = same_alike s.site records log mine theirs (sym same) in
+    let there : log ≢ [] = λ none. some (are_some s.site records mine (sym same ∙ ap brief none)) in
+    rises sc h s.site s records log (built.weights_are ∙ alike.weights ∙ weights_born sc s.site log there theirs born) refl built.stands risen mine theirs (sym same)

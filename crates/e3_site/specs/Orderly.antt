@@ -12,7 +12,7 @@ use Rattle.e3_types.specs.declared.transactions.Txn.{Txn}
 use Rattle.e3_types.specs.Same.{same_dir, same_state}
 use Rattle.e3_world.specs.Logs.{last_elected, last_attempt, has_voted, state_of, is_undecided, logged_inc}
 use Rattle.e3_world.specs.Orderly.{names_ascend, ops_ascend, is_known, is_free}
-use Rattle.e3_law_brief.specs.Orderly.{IsOrderly}
+use Rattle.e3_world.specs.Orderly.{IsOrderly}
 
 -- the site has a weight among these
 abbrev pub is_weighed : List ℕ → ℕ → Bool

@@ -3,8 +3,7 @@ use Rattle.std.specs.Prelude.{◌≡◌, ℕ, List}
 use Rattle.std.specs.Option.{IsSome}
 use Rattle.e3_types.specs.declared.records.Record.{Record}
 use Rattle.e3_world.specs.Logs.{logged_inc}
-use Rattle.e3_world.specs.Orderly.{weights_in}
-use Rattle.e3_law_brief.specs.Orderly.{IsOrderly}
+use Rattle.e3_world.specs.Orderly.{weights_in, IsOrderly}
 use Rattle.e3_past.specs.declared.logged.Logged.{Logged}
 use Rattle.e3_past.specs.Standing.{LoggedStand}
 use Rattle.e3_site.specs.declared.disorder.Walk.{Walk}

@@ -4,10 +4,12 @@ use Rattle.e3_types.specs.declared.entries.Entry.{Entry}
 use Rattle.e3_types.specs.declared.records.Record.{Record}
 use Rattle.e3_types.specs.declared.scenarios.Scenario.{Scenario}
 use Rattle.e3_site.specs.SiteView.{SiteView, Stands, risen_with}
+use Rattle.e3_site.specs.StandsAlike.{StandsAlike}
 use Rattle.e3_site.specs.StandsFor.{StandsFor, IsRisenWith}
+use Rattle.e3_world.specs.Brief.{brief}
+use Rattle.e3_world.specs.Given.{IsGiven}
 use Rattle.e3_world.specs.Legal.{IsLegal}
-use Rattle.e3_world.specs.Orderly.{weights_in}
-use Rattle.e3_law_brief.specs.Orderly.{IsOrderly}
+use Rattle.e3_world.specs.Orderly.{weights_in, IsOrderly}
 use Rattle.e3_site.specs.declared.rebuilding.RebuildFault.{RebuildFault}
 use Rattle.e3_site.specs.declared.rebuilding.RebuildFault.TheVariants.{Order, NoMemory}
 use Rattle.e3_site.specs.Orderly.{IsFirstDisorder}
@@ -28,3 +30,9 @@ pub record IsRebuilt (site : ℕ) (records : List Record) (s : SiteView) : Type 
 abbrev pub StandsForEach : List Record → SiteView → Type 0
 StandsForEach records s =
     (sc : Scenario) (h : List Entry) → IsLegal sc h → IsRisenWith sc h s.site records → StandsFor sc h s.site s
+
+-- and, by what the records read as, for every legal history in which it is the rise with a log of the same brief
+abbrev pub StandsForBrief : List Record → SiteView → Type 0
+StandsForBrief records s =
+    (sc : Scenario) (h : List Entry) (log : List Record) → IsGiven sc → IsLegal sc h → IsRisenWith sc h s.site log → brief log ≡ brief records →
+    StandsAlike sc h s.site records s

@@ -1,6 +1,6 @@
 // Where records stop being the log of a site.
 ghost use Rattle.std.specs.Prelude.{◌≡◌, IfOk, MatchOption};
-ghost use Rattle.e3_law_brief.specs.Orderly.{IsOrderly};
+ghost use Rattle.e3_world.specs.Orderly.{IsOrderly};
 ghost use Rattle.e3_site.specs.Orderly.{IsFirstDisorder, disorder_in};
 ghost use Rattle.e3_site.specs.Reading.{IsWalk};
 

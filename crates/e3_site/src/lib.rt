@@ -6,6 +6,7 @@
 mod before;
 mod disorder;
 mod headings;
+mod laws;
 mod locks;
 mod order;
 mod plan;
@@ -13,6 +14,7 @@ mod rebuilding;
 mod site;
 
 pub use disorder::first_disorder;
+pub use laws::{alike_sites_do_the_same, alike_sites_stay_alike};
 pub use plan::Plan;
 pub use rebuilding::{RebuildFault, rebuild};
 pub use site::Site;

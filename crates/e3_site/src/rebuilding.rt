@@ -1,15 +1,15 @@
 // The site that rose with a log.
 ghost use Rattle.std.specs.Prelude.{◌≡◌, ◌<◌, IfOk, IfErr, length};
 ghost use Rattle.e3_past.specs.Standing.{TablesStand};
-ghost use Rattle.e3_site.specs.Rebuilt.{IsFaultOf, IsRebuilt, StandsForEach};
+ghost use Rattle.e3_site.specs.Rebuilt.{IsFaultOf, IsRebuilt, StandsForBrief, StandsForEach};
 ghost use Rattle.e3_site.specs.SiteView.{risen_with};
 ghost use Rattle.e3_world.specs.Lives.{life_of};
-ghost use Rattle.e3_law_brief.specs.Orderly.{IsOrderly};
-ghost use Rattle.e3_world.specs.Orderly.{weights_in};
+ghost use Rattle.e3_world.specs.Orderly.{IsOrderly, weights_in};
 
 use crate::Site;
 use crate::disorder::{Walk, first_disorder, read_in_order};
 use crate::headings::weights_in;
+use e3_law_serial::logs_are_orderly;
 use e3_past::Tables;
 use e3_types::{List, NoMemory, Record};
 use std::alloc::Global;
@@ -64,7 +64,9 @@ pub fn rebuild(alloc: Global, site: u32, records: &[Record]) -> Result<Site, Reb
     ensures fault { IfErr result (IsFaultOf site records.now) }
     ensures risen { IfOk result (IsRebuilt site records.now) }
     ensures stands { IfOk result (StandsForEach records.now) }
+    ensures alike { IfOk result (StandsForBrief records.now) }
 {
+    logs_are_orderly();
     let tables = tables_of(alloc, site, records)?;
     match weights_of(alloc, records) {
         Ok(weights) => Ok(Site::rise(alloc, weights, site, tables)),

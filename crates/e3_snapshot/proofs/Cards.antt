@@ -23,7 +23,7 @@ use Rattle.e3_world.specs.declared.lives.Asked.{Asked}
 use Rattle.e3_world.specs.declared.lives.Life.{Life}
 use Rattle.e3_world.specs.Items.{txn_of_record}
 use Rattle.e3_world.specs.Logs.{is_undecided, ops_of_vote, voted_ops}
-use Rattle.e3_law_brief.specs.Brief.{noted, open_ops, txns_of}
+use Rattle.e3_world.specs.Brief.{noted, open_ops, txns_of}
 use Rattle.e3_law_brief.proofs.Readings.{own_of, none_of, elected_from, attempt_from, attempted_from, decision_from, voted_from}
 use Rattle.e3_law_steps.proofs.Ascending.{IsLater, Ascends, ascends_fold, off_fold, same_from}
 use Rattle.e3_law_steps.proofs.Tests.{same_is, same_self}

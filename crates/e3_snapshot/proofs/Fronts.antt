@@ -3,9 +3,8 @@ use Rattle.std.proofs.Common.{◌≡◌, ◌≢◌, ◌++◌, ◌∷◌, [], ℕ
 use Rattle.e3_types.specs.declared.records.Record.{Record}
 use Rattle.e3_types.specs.declared.records.Record.TheVariants as log
 use Rattle.e3_types.specs.declared.transactions.Row.{Row}
-use Rattle.e3_world.specs.Orderly.{weights_in}
-use Rattle.e3_law_brief.specs.Brief.{born_by, born_in}
-use Rattle.e3_law_brief.specs.Orderly.{MayFollow, OrderlyAfter, IsOrderly}
+use Rattle.e3_world.specs.Orderly.{weights_in, MayFollow, OrderlyAfter, IsOrderly}
+use Rattle.e3_world.specs.Brief.{born_by, born_in}
 use Rattle.e3_law_brief.proofs.Lists.{no_push}
 use Rattle.e3_law_brief.proofs.Shape.{keeps_weights}
 

@@ -12,13 +12,11 @@ use Rattle.e3_world.specs.Legal.{IsLegal}
 use Rattle.e3_world.specs.Lives.{life_at}
 use Rattle.e3_world.specs.Logs.{logged_inc, logged_inc_by}
 use Rattle.e3_world.specs.Moves.{Move, Did, Stepped, Silent, Rose, birth, log_by, log_of, moves_at, moves_of, recorded, rise_records, trail_of}
-use Rattle.e3_world.specs.Orderly.{weights_in}
+use Rattle.e3_world.specs.Orderly.{weights_in, IsOrderly, MayFollow, OrderlyAfter}
 use Rattle.e3_world.specs.Sound.{IsSound, IsSoundMove, SoundAfter}
 use Rattle.e3_world.proofs.Pushes.{life_log_at, log_push}
 use Rattle.e3_world.proofs.Trails.{trail_moves}
-use Rattle.e3_law_brief.specs.Brief.{txns_of}
-use Rattle.e3_law_brief.specs.Laws.{FirstLogsAreOrderly}
-use Rattle.e3_law_brief.specs.Orderly.{IsOrderly, MayFollow, OrderlyAfter}
+use Rattle.e3_world.specs.Brief.{txns_of}
 use Rattle.e3_law_serial.specs.Orderly.{LogsAreOrderly}
 use Rattle.e3_law_agreement.proofs.Refinement.Following.{moves_here, moves_there}
 use Rattle.e3_law_serial.proofs.Site.Sites.{AllKeep, SiteKeeps, all_keep, move_keeps}
@@ -98,15 +96,15 @@ has_begun sc site l orderly (inr b) = subst (λ (x : List Record). HasBegun sc x
     ordered : IsOrderly site (birth sc site ∷ log.Inc b.0 ∷ b.1)
     ordered = subst (λ (x : List Record). IsOrderly site x) b.2 orderly
 
-pub in_order : TrailsAreSound → LogsAreOrderly → FirstLogsAreOrderly → (sc : Scenario) (h : List Entry) (site : ℕ) → IsGiven sc → IsLegal sc h → IsInOrder sc.weights site (life_at (moves_of sc h site))
-in_order sounds logs first sc h site given legal =
+pub in_order : TrailsAreSound → LogsAreOrderly → (sc : Scenario) (h : List Entry) (site : ℕ) → IsGiven sc → IsLegal sc h → IsInOrder sc.weights site (life_at (moves_of sc h site))
+in_order sounds logs sc h site given legal =
     let mine : List Move = moves_of sc h site in
     let trail : List Move = trail_of sc h in
     let sound : IsSound sc trail = sounds sc h given legal in
     let same : moves_at site trail ≡ mine = trail_moves sc site h in
     let log_is : (life_at mine).log ≡ log_of sc h site = life_log_at mine in
     let back : log_of sc h site ≡ (life_at mine).log = sym log_is in
-    let orderly : IsOrderly site (log_of sc h site) = first site (log_of sc h site) (logs sc h site given legal) in
+    let orderly : IsOrderly site (log_of sc h site) = logs sc h site given legal in
     let begun : Begun sc site (log_of sc h site) =
     subst (λ (ms : List Move). Begun sc site (log_by ms)) same (begun_after sc trail [] sound (all_keep sc [] tt) (λ s. inl refl) site) in
     let has : HasBegun sc (life_at mine).log = subst (λ (l : List Record). HasBegun sc l) back (has_begun sc site (log_of sc h site) orderly begun) in

@@ -4,3 +4,4 @@ mod Cards
 mod Fronts
 mod Telling
 pub mod Legal
+pub mod Alike

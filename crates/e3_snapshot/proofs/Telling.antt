@@ -12,7 +12,7 @@ use Rattle.e3_types.specs.declared.records.Record.{Record}
 use Rattle.e3_types.specs.declared.records.Record.TheVariants as log
 use Rattle.e3_world.specs.declared.lives.Life.{Life}
 use Rattle.e3_world.specs.Logs.{logged_inc, table_of}
-use Rattle.e3_law_brief.specs.Brief.{born_in, brief, inc_in, noted, txns_of}
+use Rattle.e3_world.specs.Brief.{born_in, brief, inc_in, noted, txns_of}
 use Rattle.e3_law_brief.proofs.Tables.{table_ascends}
 use Rattle.e3_cards.specs.Tables.{key_cmp}
 use Rattle.e3_places.specs.Keeping.{at_name}

@@ -13,9 +13,8 @@ use Rattle.e3_types.specs.Sites.{sites_of, bits_of}
 use Rattle.e3_world.specs.declared.lives.Asked.{Asked}
 use Rattle.e3_world.specs.declared.lives.Life.{Life}
 use Rattle.e3_world.specs.Logs.{logged_inc}
-use Rattle.e3_world.specs.Orderly.{weights_in}
-use Rattle.e3_law_brief.specs.Brief.{vote_in, attempt_in, join_in, decision_in, txns_of}
-use Rattle.e3_law_brief.specs.Orderly.{IsOrderly}
+use Rattle.e3_world.specs.Orderly.{weights_in, IsOrderly}
+use Rattle.e3_world.specs.Brief.{vote_in, attempt_in, join_in, decision_in, txns_of}
 use Rattle.e3_cards.specs.declared.card.Card.{Card}
 use Rattle.e3_cards.specs.declared.keys.TxnKey.{TxnKey}
 use Rattle.e3_cards.specs.declared.seen.Seen.{Seen}

@@ -1,7 +1,7 @@
 // The brief of a log.
 ghost use Rattle.std.specs.Prelude.{◌≡◌, ◌++◌, IfOk};
 ghost use Rattle.std.specs.List.{flat_map};
-ghost use Rattle.e3_law_brief.specs.Brief.{born_by, born_in, brief, inc_in, noted, txns_of};
+ghost use Rattle.e3_world.specs.Brief.{born_by, born_in, brief, inc_in, noted, txns_of};
 ghost use Rattle.e3_world.specs.Items.{txn_of_record};
 
 use crate::notes::add_noted;

@@ -1,6 +1,6 @@
 // What a brief has of one transaction.
 ghost use Rattle.std.specs.Prelude.{◌≡◌, ◌++◌, IfOk};
-ghost use Rattle.e3_law_brief.specs.Brief.{attempt_in, decision_in, join_in, noted, open_ops, vote_in};
+ghost use Rattle.e3_world.specs.Brief.{attempt_in, decision_in, join_in, noted, open_ops, vote_in};
 ghost use Rattle.e3_snapshot.specs.Tables.{seen_notes};
 
 use e3_cards::Seen;

@@ -7,7 +7,7 @@ ghost use Rattle.std.specs.BTreeMap.{is_at};
 ghost use Rattle.std.specs.Cmp.Lexicographic.{slice_cmp};
 ghost use Rattle.std.specs.Ordering.{nat_cmp};
 ghost use Rattle.e3_cards.specs.Tables.{key_cmp};
-ghost use Rattle.e3_law_brief.specs.Brief.{brief};
+ghost use Rattle.e3_world.specs.Brief.{brief};
 ghost use Rattle.e3_past.specs.Standing.{TablesStand};
 ghost use Rattle.e3_places.specs.Keeping.{at_name};
 ghost use Rattle.e3_snapshot.specs.Tables.{IsInOrder, KeyFits, brief_by, card_notes, front_by, op_of, ops_at, row_at, txn_of};

@@ -1,5 +1,5 @@
 use Rattle.std.proofs.Common.{◌≡◌, ◌++◌, take}
-use Rattle.e3_law_brief.specs.Brief.{born_in}
+use Rattle.e3_world.specs.Brief.{born_in}
 use Rattle.e3_snapshot.proofs.briefs.add_births.Given as goal
 
 abbrev pub invariant-loop-r : goal.invariant-loop-r

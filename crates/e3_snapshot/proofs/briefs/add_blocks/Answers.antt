@@ -3,7 +3,7 @@ use Rattle.std.specs.List.{flat_map}
 use Rattle.std.proofs.lemmas.List.{flat_map_more, take_more}
 use Rattle.e3_types.specs.declared.records.Record.{Record}
 use Rattle.e3_types.specs.declared.transactions.Txn.{Txn}
-use Rattle.e3_law_brief.specs.Brief.{noted}
+use Rattle.e3_world.specs.Brief.{noted}
 use Rattle.e3_snapshot.proofs.briefs.add_blocks.Goals as goal
 
 pub loop-t-preserved : goal.loop-t-preserved

@@ -1,6 +1,6 @@
 use Rattle.std.proofs.Common.{◌≡◌, ◌++◌, take}
 use Rattle.std.specs.List.{flat_map}
-use Rattle.e3_law_brief.specs.Brief.{noted}
+use Rattle.e3_world.specs.Brief.{noted}
 use Rattle.e3_snapshot.proofs.briefs.add_blocks.Given as goal
 
 abbrev pub invariant-loop-t : goal.invariant-loop-t

@@ -1,12 +1,17 @@
 use Rattle.std.proofs.Common.{◌≡◌, ℕ, List, ap, sym, subst, ◌∙◌}
 use Rattle.e3_past.specs.declared.tables.Tables.{Tables}
 use Rattle.e3_past.specs.Standing.{TablesStand}
+use Rattle.e3_world.specs.declared.lives.Incarnation.{Incarnation}
 use Rattle.e3_world.specs.declared.lives.Life.{Life}
-use Rattle.e3_world.specs.Lives.{life_at, life_of}
-use Rattle.e3_world.specs.Moves.{Move, moves_of}
+use Rattle.e3_world.specs.Lives.{life_at, life_of, present_log}
+use Rattle.e3_world.specs.Moves.{Move, log_of, moves_of}
 use Rattle.e3_world.proofs.Pushes.{life_log, life_log_at}
-use Rattle.e3_law_brief.specs.Brief.{brief}
+use Rattle.e3_world.specs.Brief.{brief}
 use Rattle.e3_snapshot.specs.Tables.{IsInOrder}
+use Rattle.e3_law_brief.specs.Alike.{ReadAlike}
+use Rattle.e3_law_brief.proofs.Laws.{same_brief}
+use Rattle.e3_site.specs.StandsAlike.{now_with}
+use Rattle.e3_snapshot.proofs.Alike.{in_order_alike}
 use Rattle.e3_snapshot.proofs.Legal.{in_order}
 use Rattle.e3_snapshot.proofs.sites.of_site.Goals as goal
 use Rattle.e3_snapshot.proofs.sites.of_site.Goals.{In_ok-brief}
@@ -27,5 +32,13 @@ returns-clause-stands c = λ sc history given legal stands.
     let s = c.args.site.now in
     let mine : List Move = moves_of sc history s.site in
     let order : IsInOrder sc.weights s.site (life_at mine) =
-    in_order c.trails_are_sound.ensures.sound c.logs_are_orderly.ensures.logs c.first_logs_are_orderly.ensures sc history s.site given legal in
+    in_order c.trails_are_sound.ensures.sound c.logs_are_orderly.ensures.logs sc history s.site given legal in
     told c (life_at mine) stands.stands (subst (λ (w : List ℕ). IsInOrder w s.site (life_at mine)) (sym stands.weights_are) order) ∙ ap brief (life_log_at mine)
+
+pub returns-clause-alike : goal.returns-clause-alike
+returns-clause-alike c = λ sc history rose given legal orderly stands.
+    let s = c.args.site.now in
+    let now : Incarnation = now_with rose sc history s.site in
+    let both : IsInOrder s.weights s.site (life_of now) × ReadAlike (log_of sc history s.site) (present_log now) =
+    in_order_alike c.trails_are_sound.ensures.sound c.logs_are_orderly.ensures.logs sc history s.site rose s given legal stands orderly in
+    told c (life_of now) stands.stands both.0 ∙ ap brief (life_log now) ∙ sym (same_brief (log_of sc history s.site) (present_log now) both.1)

@@ -1,7 +1,5 @@
-//! A site that was made of the brief of a log stands for the site of the log. Nothing here runs.
-#![tactic(auto)]
-
-ghost use Rattle.e3_law_stands.specs.Laws.{ExactIsAlike, GoesOnAlike, ListsOpenAlike, PlansAlike, RisesAlike, StillAlike};
+// A site that was made of the brief of a log stands for the site of the log.
+ghost use Rattle.e3_site.specs.AlikeLaws.{ExactIsAlike, GoesOnAlike, ListsOpenAlike, PlansAlike, RisesAlike, StillAlike};
 
 /// A site that stands for an incarnation that is alike to that of a history's site, whose log is in order, plans the step that
 /// the history makes, and has the same open transactions.

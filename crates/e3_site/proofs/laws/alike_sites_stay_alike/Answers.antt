@@ -1,5 +1,5 @@
-use Rattle.e3_law_stands.proofs.Standing as laws
-use Rattle.e3_law_stands.proofs.alike_sites_stay_alike.Goals as goal
+use Rattle.e3_site.proofs.Alike as laws
+use Rattle.e3_site.proofs.laws.alike_sites_stay_alike.Goals as goal
 
 pub returns-clause-exact : goal.returns-clause-exact
 returns-clause-exact c = laws.exact

@@ -10,9 +10,9 @@ use Rattle.e3_world.specs.Legal.{entry_of, made_by}
 use Rattle.e3_world.specs.Lives.{incarnation_of, life_of}
 use Rattle.e3_world.specs.Moves.{log_of, moves_of}
 use Rattle.e3_readings.specs.Opens.{open_in}
-use Rattle.e3_law_brief.specs.Brief.{brief}
-use Rattle.e3_law_brief.specs.Orderly.{IsOrderly}
-use Rattle.e3_law_stands.specs.StandsAlike.{IsLogInOrder, StandsAlike, now_with}
+use Rattle.e3_world.specs.Brief.{brief}
+use Rattle.e3_world.specs.Orderly.{IsOrderly}
+use Rattle.e3_site.specs.StandsAlike.{IsLogInOrder, StandsAlike, now_with}
 use Rattle.e3_site.specs.SiteView.{SiteView, Stands, planned_step, risen_with, step_kept, with_step}
 use Rattle.e3_site.specs.StandsFor.{IsRisenWith, StandsFor}
 

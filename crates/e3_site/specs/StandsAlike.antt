@@ -10,8 +10,8 @@ use Rattle.e3_world.specs.Lives.{incarnation_of}
 use Rattle.e3_world.specs.Moves.{moves_of}
 use Rattle.e3_law_brief.specs.Incarnations.{IsKnown}
 use Rattle.e3_law_brief.specs.Alike.{ReadAlike}
-use Rattle.e3_law_brief.specs.Brief.{txns_of}
-use Rattle.e3_law_brief.specs.Orderly.{IsOrderly}
+use Rattle.e3_world.specs.Brief.{txns_of}
+use Rattle.e3_world.specs.Orderly.{IsOrderly}
 use Rattle.e3_site.specs.SiteView.{SiteView, Stands}
 
 -- the incarnation of a site that rose with these records, and made the steps that the history's site made since its rise

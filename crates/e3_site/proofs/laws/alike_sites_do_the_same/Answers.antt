@@ -1,5 +1,5 @@
-use Rattle.e3_law_stands.proofs.Standing as laws
-use Rattle.e3_law_stands.proofs.alike_sites_do_the_same.Goals as goal
+use Rattle.e3_site.proofs.Alike as laws
+use Rattle.e3_site.proofs.laws.alike_sites_do_the_same.Goals as goal
 
 pub returns-clause-plans : goal.returns-clause-plans
 returns-clause-plans c = laws.plans

@@ -1,2 +1,0 @@
-pub mod StandsAlike
-pub mod Laws
