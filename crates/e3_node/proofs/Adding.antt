@@ -17,8 +17,8 @@ use Rattle.e3_node.specs.declared.batching.Batch.{Batch}
 use Rattle.e3_node.specs.declared.drafts.Draft.{Draft}
 use Rattle.e3_node.specs.declared.fault.InputFault.{InputFault}
 use Rattle.e3_site.specs.SiteView.{SiteView, Stands as SiteStands, count_on, entry_of_plan, planned_step, step_kept, with_step}
-use Rattle.e3_law_stands.specs.StandsAlike.{IsLogInOrder, StandsAlike, now_with}
-use Rattle.e3_law_stands.proofs.Standing.{on, plans}
+use Rattle.e3_site.specs.StandsAlike.{IsLogInOrder, StandsAlike, now_with}
+use Rattle.e3_site.proofs.Alike.{on, plans}
 use Rattle.e3_types.specs.Spelling.{spell_record, spelling}
 use Rattle.e3_types.specs.declared.entries.Entry.{Entry}
 use Rattle.e3_types.specs.declared.entries.Input.{Input}

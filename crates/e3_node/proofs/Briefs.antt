@@ -4,13 +4,12 @@ use Rattle.std.specs.Prelude.{if◌then◌else◌, fold, is_none, nat_lt, max, R
 use Rattle.e3_disk.specs.Meters.{Meters}
 use Rattle.std.specs.List.{AllByRecursion as Each, flat_map}
 use Rattle.e3_law_brief.specs.Alike.{ReadAlike}
-use Rattle.e3_law_brief.specs.Brief.{attempt_in, born_by, born_in, brief, decision_in, inc_in, join_in, noted, open_ops, txns_of, vote_in}
-use Rattle.e3_law_brief.specs.Orderly.{IsOrderly}
-use Rattle.e3_law_brief.proofs.Alike.Laws as alike_laws
-use Rattle.e3_law_brief.proofs.Laws.{are_some, first_logs, same_brief}
+use Rattle.e3_world.specs.Brief.{attempt_in, born_by, born_in, brief, decision_in, inc_in, join_in, noted, open_ops, txns_of, vote_in}
+use Rattle.e3_world.specs.Orderly.{IsOrderly, weights_in}
+use Rattle.e3_law_brief.proofs.Laws.{are_some, same_brief}
 use Rattle.e3_law_serial.specs.Orderly.{LogsAreOrderly}
-use Rattle.e3_law_brief.specs.Incarnations.{AlikeNow, IsInOrder as IsInOrderNow, IsKnown}
-use Rattle.e3_law_stands.specs.StandsAlike.{IsLogInOrder, StandsAlike, now_with}
+use Rattle.e3_law_brief.specs.Incarnations.{IsKnown}
+use Rattle.e3_site.specs.StandsAlike.{IsLogInOrder, StandsAlike, now_with}
 use Rattle.e3_law_steps.specs.Begun.{BegunAreTransactions, RecordsMentionWhatStands}
 use Rattle.e3_law_steps.specs.Bounds.{IsHere}
 use Rattle.e3_law_steps.specs.Trails.{TrailsAreSound, VotesAtTheirSite}
@@ -24,7 +23,7 @@ use Rattle.e3_site.specs.SiteView.{SiteView, risen_with}
 use Rattle.e3_site_log.specs.Ends.{IsDue}
 use Rattle.e3_site_log.specs.declared.writing.Short.{Short}
 use Rattle.e3_snapshot.specs.Tables.{IsInOrder}
-use Rattle.e3_snapshot.proofs.Legal.{in_order}
+use Rattle.e3_snapshot.proofs.Alike.{in_order_alike}
 use Rattle.e3_types.specs.declared.entries.Entry.{Entry}
 use Rattle.e3_types.specs.declared.scenarios.Scenario.{Scenario}
 use Rattle.e3_types.specs.Same.{same_txn}
@@ -39,33 +38,12 @@ use Rattle.e3_types.specs.declared.transactions.Txn.{Txn}
 use Rattle.e3_world.specs.Given.{IsGiven}
 use Rattle.e3_world.specs.Items.{txn_of_record}
 use Rattle.e3_world.specs.Legal.{IsLegal}
-use Rattle.e3_world.specs.Lives.{incarnation_of, life_at, life_by, life_of, present_log}
-use Rattle.e3_world.specs.Moves.{log_of, moves_of}
-use Rattle.e3_world.specs.Orderly.{weights_in}
+use Rattle.e3_world.specs.Lives.{life_of, present_log}
+use Rattle.e3_world.specs.Moves.{log_of}
 use Rattle.e3_world.specs.declared.lives.Incarnation.{Incarnation}
-use Rattle.e3_world.specs.declared.lives.Life.{Life}
-use Rattle.e3_world.specs.declared.lives.SiteStep.{SiteStep}
-use Rattle.e3_world.proofs.Pushes.{life_log, life_log_at, present_is_log}
+use Rattle.e3_world.proofs.Pushes.{life_log}
 use Rattle.e3_world.specs.Logs.{attempted, decision, has_voted, is_undecided, last_attempt, last_elected, logged_inc, ops_of_vote, table_of, voted_ops}
 use Rattle.e3_node.proofs.Owning.{log_own}
-
--- logs of which one reads as the other
-back : (a b : List Record) → ReadAlike a b → ReadAlike b a
-back a b alike = record {
-  empty = alike.some;
-  some = alike.empty;
-  born = λ rows. sym (alike.born rows);
-  weights = sym alike.weights;
-  inc = sym alike.inc;
-  table = sym alike.table;
-  txns = sym alike.txns;
-  elected = λ t. sym (alike.elected t);
-  attempt = λ t. sym (alike.attempt t);
-  attempted = λ t. sym (alike.attempted t);
-  decided = λ t. sym (alike.decided t);
-  voted = λ t. sym (alike.voted t);
-  ops = λ t is. sym (alike.ops t (ap is_none (alike.decided t) ∙ is));
-}
 
 abbrev IsOne : Txn → Type 0
 IsOne t = is_txn t ≡ true
@@ -170,11 +148,6 @@ read_some site read l is some = λ none.
 pub read_none : (site : ℕ) (read l : List Record) → IsReadBrief site read l → read ≡ [] → l ≡ []
 read_none site read l is none = are_some site l is.log_orderly (sym is.same ∙ ap brief none)
 
--- steps leave the incarnation of a life
-inc_kept : (life : Life) (since : List SiteStep) → (fold life_by life since).inc ≡ life.inc
-inc_kept life [] = refl
-inc_kept life (s ∷ since) = inc_kept (life_by life s) since
-
 -- a site that is up tells the brief of its log
 pub brief_now : LogsAreOrderly → TrailsAreSound → RecordsMentionWhatStands → BegunAreTransactions → VotesAtTheirSite → (sc : Scenario) (h : List Entry) (site : ℕ) (rose : List Record)
     (s : SiteView) → IsGiven sc → IsLegal sc h → StandsAlike sc h site rose s → IsOrderly site rose → IsLogInOrder site (log_of sc h site) → log_of sc h site ≢ [] →
@@ -182,15 +155,8 @@ pub brief_now : LogsAreOrderly → TrailsAreSound → RecordsMentionWhatStands �
 brief_now logs sounds mentions begun votes sc h site rose s given legal stands rose_orderly order some = record {
   now = now;
   stands = stands.stands;
-  order = subst (λ (n : ℕ). IsInOrder s.weights n (life_of now)) (sym stands.site_is) (record {
-    orderly = subst (λ (l : List Record). IsOrderly site l) (sym (life_log now)) in_now.orderly;
-    weights_are = λ any. ap weights_in (life_log now) ∙ sym reads.weights ∙ ap weights_in (sym whole) ∙ all.weights_are (λ none. some (sym whole ∙ none)) ∙ sym stands.weights_are;
-    inc_is =
-        inc_kept _ now.since ∙ stands.alike.inc ∙ sym (inc_kept _ their.since) ∙ all.inc_is ∙ ap logged_inc whole ∙ reads.inc ∙ ap logged_inc (sym (life_log now));
-    begun = λ zero. absurd (some (sym whole ∙ all.begun (ap logged_inc whole ∙ reads.inc ∙ ap logged_inc (sym (life_log now)) ∙ zero)));
-    known = subst (λ (l : List Record). Each IsKnown (txns_of l)) (sym (life_log now)) in_now.known;
-  });
-  same = same_brief (present_log now) (log_of sc h site) (back (log_of sc h site) (present_log now) reads);
+  order = both.0;
+  same = sym (same_brief (log_of sc h site) (present_log now) both.1);
   orderly = subst (λ (n : ℕ). IsOrderly n (log_of sc h site)) (sym stands.site_is) order.orderly;
   some = some;
   own = subst (λ (n : ℕ). Each (IsOwn n) (brief (log_of sc h site))) (sym stands.site_is) (brief_own site (log_of sc h site) (log_own mentions begun votes sc h site given legal));
@@ -199,32 +165,8 @@ brief_now logs sounds mentions begun votes sc h site rose s given legal stands r
     now : Incarnation
     now = now_with rose sc h site
 
-    their : Incarnation
-    their = incarnation_of (moves_of sc h site)
-
-    present : log_of sc h site ≡ present_log their
-    present = sym (present_is_log (moves_of sc h site))
-
-    in_their : IsInOrderNow site their
-    in_their = record {
-      orderly = subst (λ (l : List Record). IsOrderly site l) present order.orderly;
-      known = subst (λ (l : List Record). Each IsKnown (txns_of l)) present order.known;
-    }
-
-    alike : AlikeNow their now
-    alike = record { rose = back rose their.rose stands.alike; since = refl }
-
-    in_now : IsInOrderNow site now
-    in_now = alike_laws.orders_alike site their now in_their rose_orderly alike
-
-    reads : ReadAlike (log_of sc h site) (present_log now)
-    reads = subst (λ (l : List Record). ReadAlike l (present_log now)) (sym present) (alike_laws.logs_alike site their now in_their.orderly alike)
-
-    all : IsInOrder sc.weights site (life_at (moves_of sc h site))
-    all = in_order sounds logs first_logs sc h site given legal
-
-    whole : (life_at (moves_of sc h site)).log ≡ log_of sc h site
-    whole = life_log_at (moves_of sc h site)
+    both : IsInOrder s.weights s.site (life_of now) × ReadAlike (log_of sc h site) (present_log now)
+    both = in_order_alike sounds logs sc h site rose s given legal stands rose_orderly
 
 -- a site that was rebuilt of records tells the brief of each log with their brief
 pub brief_read : (site : ℕ) (read l : List Record) (up : SiteView) → IsRebuilt site read up → IsReadBrief site read l → l ≢ [] → (logged_inc read ≡ 0 → ⊥) → IsBriefOf up l

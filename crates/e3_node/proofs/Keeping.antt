@@ -4,7 +4,7 @@ use Rattle.std.proofs.Common.{◌≡◌, ◌≢◌, ◌++◌, ◌∷◌, [], ℕ
 use Rattle.std.proofs.lemmas.Bool.{le-ltb}
 use Rattle.e3_disk.specs.Images.{IsBlank}
 use Rattle.e3_disk.specs.Meters.{Meters}
-use Rattle.e3_law_brief.specs.Brief.{brief}
+use Rattle.e3_world.specs.Brief.{brief}
 use Rattle.e3_log.specs.Reading.{ReadsAs as BytesReadAs}
 use Rattle.e3_log.specs.Stands.{LogState}
 use Rattle.e3_log.proofs.Unique.{blank_text}
@@ -14,8 +14,8 @@ use Rattle.e3_node.specs.NodeStands.{IsFallen, IsIn, StandsBy, is_step, logged_i
 use Rattle.e3_node.specs.NodeView.{disk_of, is_up_in}
 use Rattle.e3_node.specs.declared.state.State.{State}
 use Rattle.e3_node.specs.declared.state.State.TheVariants.{Down, Up}
-use Rattle.e3_law_stands.specs.StandsAlike.{IsLogInOrder}
-use Rattle.e3_law_stands.proofs.Standing.{still}
+use Rattle.e3_site.specs.StandsAlike.{IsLogInOrder}
+use Rattle.e3_site.proofs.Alike.{still}
 use Rattle.e3_site.specs.SiteView.{SiteView}
 use Rattle.e3_site_log.specs.Bodies.{IsLogged, ReadsAs, bodies_in, counted, joined}
 use Rattle.e3_site_log.proofs.Holding.{hold_nothing}

@@ -2,7 +2,7 @@
 use Rattle.std.proofs.Common.{◌≡◌, ◌<◌, ◌≤◌, ◌^◌, ◌++◌, ℕ, Bool, true, false, List, Option, length, refl, sym, ap, append-nil, arith}
 use Rattle.std.specs.Prelude.{nat_lt}
 use Rattle.e3_disk.specs.Meters.{Meters}
-use Rattle.e3_law_brief.specs.Brief.{brief}
+use Rattle.e3_world.specs.Brief.{brief}
 use Rattle.e3_log.specs.Reading.{ReadsAs as BytesReadAs}
 use Rattle.e3_log.specs.Stands.{LogState, Stands}
 use Rattle.e3_site_log.specs.Bodies.{ReadsAs, ReadsLeft, joined, with_kept}

@@ -2,10 +2,9 @@
 use Rattle.std.proofs.Common.{◌≡◌, ◌≢◌, ◌≤◌, ◌++◌, ◌∷◌, [], ℕ, Bool, true, false, List, refl, sym, ◌∙◌}
 use Rattle.std.specs.Prelude.{fold, None}
 use Rattle.std.proofs.lemmas.Grind.{flat_map-append}
-use Rattle.e3_law_brief.proofs.Laws.{first_logs}
 use Rattle.e3_law_serial.specs.Orderly.{LogsAreOrderly}
 use Rattle.e3_law_brief.specs.Sets.{LoggedSitesAreSets}
-use Rattle.e3_law_stands.specs.StandsAlike.{IsLogInOrder}
+use Rattle.e3_site.specs.StandsAlike.{IsLogInOrder}
 use Rattle.e3_node.specs.Batches.{stepped}
 use Rattle.e3_types.specs.declared.entries.Act.{Act}
 use Rattle.e3_types.specs.declared.entries.Act.TheVariants.{Step, Fall, Rise, RiseFall, Miss, Cut, Drop, Parts, Line}
@@ -25,7 +24,7 @@ use Rattle.e3_world.proofs.Turns.{self}
 
 pub log_in_order : LogsAreOrderly → LoggedSitesAreSets → (sc : Scenario) (h : List Entry) (site : ℕ) → IsGiven sc → IsLegal sc h → IsLogInOrder site (log_of sc h site)
 log_in_order logs sets sc h site given legal = record {
-  orderly = first_logs site (log_of sc h site) (logs sc h site given legal);
+  orderly = logs sc h site given legal;
   known = sets sc h site given legal;
 }
 

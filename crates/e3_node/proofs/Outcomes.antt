@@ -9,8 +9,8 @@ use Rattle.e3_node.specs.Bodies.{DiskTells, ReadsTold, entries_at}
 use Rattle.e3_node.specs.Several.{MayEnterAll, claims_for}
 use Rattle.e3_node.specs.Turns.{Meanwhile}
 use Rattle.e3_site.specs.SiteView.{SiteView}
-use Rattle.e3_law_stands.specs.StandsAlike.{StandsAlike}
-use Rattle.e3_law_stands.proofs.Standing.{still}
+use Rattle.e3_site.specs.StandsAlike.{StandsAlike}
+use Rattle.e3_site.proofs.Alike.{still}
 use Rattle.e3_types.specs.declared.entries.Entry.{Entry}
 use Rattle.e3_types.specs.declared.entries.Input.{Input}
 use Rattle.e3_types.specs.declared.entries.Input.TheVariants as input

@@ -12,7 +12,7 @@ use Rattle.e3_site_log.specs.Ends.{IsShortIf, MayTurn}
 use Rattle.e3_site_log.specs.declared.writing.Short.{Short}
 use Rattle.e3_node.specs.declared.fault.InputFault.{InputFault}
 use Rattle.e3_site.specs.SiteView.{SiteView}
-use Rattle.e3_law_stands.specs.StandsAlike.{StandsAlike}
+use Rattle.e3_site.specs.StandsAlike.{StandsAlike}
 use Rattle.e3_turn.specs.Chronicles.{count_of}
 use Rattle.e3_turn.specs.Passes.{GrewByOthers, GrewByOwners, Owns, SameOwners, last_of, owners_of, seen_by}
 use Rattle.e3_types.specs.declared.entries.Entry.{Entry}

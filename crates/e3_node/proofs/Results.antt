@@ -10,7 +10,7 @@ use Rattle.e3_law_local.specs.Drafts.{MayTakeAll}
 use Rattle.e3_law_local.specs.Least.{AreFirstTo}
 use Rattle.e3_law_local.specs.Others.{Allows, numbered_on}
 use Rattle.e3_law_serial.specs.Orderly.{LogsAreOrderly}
-use Rattle.e3_law_brief.specs.Orderly.{IsOrderly}
+use Rattle.e3_world.specs.Orderly.{IsOrderly}
 use Rattle.e3_law_brief.specs.Sets.{LoggedSitesAreSets}
 use Rattle.e3_law_steps.specs.Trails.{VotesAtTheirSite}
 use Rattle.e3_log.specs.Frames.{frames}

@@ -20,14 +20,17 @@ use Rattle.e3_types.specs.declared.entries.Act.TheVariants.{Miss}
 use Rattle.e3_types.specs.declared.entries.Entry.{Entry}
 use Rattle.e3_types.specs.declared.entries.Why.{Why}
 use Rattle.e3_types.specs.declared.scenarios.Scenario.{Scenario}
+use Rattle.e3_law_serial.specs.Orderly.{TailsAreOrderly}
 use Rattle.e3_wire.specs.Marks.{entries_of, scenario_of}
 use Rattle.e3_wire.specs.declared.marks.Mark.{Mark}
 use Rattle.e3_world.specs.Items.{is_up_at}
-use Rattle.e3_world.specs.Legal.{IsRising}
+use Rattle.e3_world.specs.Given.{IsGiven}
+use Rattle.e3_world.specs.Legal.{IsLegal, IsRising}
 use Rattle.e3_world.specs.Moves.{Move, Past, moves_of, open_tail, rows_at}
 use Rattle.e3_world.proofs.Readings.{up_same}
 use Rattle.e3_world.proofs.Turns.{self}
 use Rattle.e3_node.proofs.Left.{told_later}
+use Rattle.e3_node.proofs.Told.{kept_exactly}
 use Rattle.e3_node.proofs.Pasts.{entries_on, past_on}
 use Rattle.e3_node.proofs.Steps.{node_with}
 
@@ -105,44 +108,58 @@ node_risen content image meters sc now h more old new state r was down made same
 
 -- what is told of it is so
 rose_as : {D : Type 0} (content : D → List ℕ) (image : D → List ℕ → Type 0) (meters : D → Meters) (sc : Scenario) (h more : List Entry)
-    (site : ℕ) (old : D) (state : State D) (r : Raised) → RiseMakes content image meters sc h site old state r → more ≡ h ++ entered_by site r →
-    IfOk (told_of r) (λ inc. HasRisen sc h site inc more (meters old).capacity (image old))
-rose_as content image meters sc h more site old (Up s l rose logged) (Rose kept inc) made entered =
-    record { kept = kept; allowed = made.allowed; entered = entered; read = made.read }
-rose_as content image meters sc h more site old (Up s l rose logged) (Failed kept inc why) made entered = absurd made
-rose_as content image meters sc h more site old (Up s l rose logged) Missed made entered = absurd made
-rose_as content image meters sc h more site old (Up s l rose logged) NoMemory made entered = absurd made
-rose_as content image meters sc h more site old (Up s l rose logged) Foreign made entered = absurd made
-rose_as content image meters sc h more site old (Down new logged) (Rose kept inc) made entered = absurd made
-rose_as content image meters sc h more site old (Down new logged) (Failed kept inc why) made entered = tt
-rose_as content image meters sc h more site old (Down new logged) Missed made entered = tt
-rose_as content image meters sc h more site old (Down new logged) NoMemory made entered = tt
-rose_as content image meters sc h more site old (Down new logged) Foreign made entered = absurd made
+    (site : ℕ) (old : D) (state : State D) (r : Raised) → TailsAreOrderly → IsGiven sc → IsLegal sc h → RiseMakes content image meters sc h site old state r →
+    more ≡ h ++ entered_by site r → IfOk (told_of r) (λ inc. HasRisen sc h site inc more (meters old).capacity (image old))
+rose_as content image meters sc h more site old (Up s l rose logged) (Rose kept inc) tails given legal made entered =
+    record {
+      kept = kept;
+      allowed = made.allowed;
+      entered = entered;
+      read = made.read;
+      exactly = kept_exactly tails sc h site (meters old).capacity inc kept (image old) given legal made.allowed made.read;
+    }
+rose_as content image meters sc h more site old (Up s l rose logged) (Failed kept inc why) tails given legal made entered = absurd made
+rose_as content image meters sc h more site old (Up s l rose logged) Missed tails given legal made entered = absurd made
+rose_as content image meters sc h more site old (Up s l rose logged) NoMemory tails given legal made entered = absurd made
+rose_as content image meters sc h more site old (Up s l rose logged) Foreign tails given legal made entered = absurd made
+rose_as content image meters sc h more site old (Down new logged) (Rose kept inc) tails given legal made entered = absurd made
+rose_as content image meters sc h more site old (Down new logged) (Failed kept inc why) tails given legal made entered = tt
+rose_as content image meters sc h more site old (Down new logged) Missed tails given legal made entered = tt
+rose_as content image meters sc h more site old (Down new logged) NoMemory tails given legal made entered = tt
+rose_as content image meters sc h more site old (Down new logged) Foreign tails given legal made entered = absurd made
 
 pub rose_told : {D : Type 0} (content : D → List ℕ) (image : D → List ℕ → Type 0) (meters : D → Meters) (sc : Scenario) (h more : List Entry)
-    (site : ℕ) (old : D) (state : State D) (r : Raised) (told : Result ℕ RiseFault) → RiseMakes content image meters sc h site old state r →
-    more ≡ h ++ entered_by site r → told ≡ told_of r → IfOk told (λ inc. HasRisen sc h site inc more (meters old).capacity (image old))
-rose_told content image meters sc h more site old state r told made entered is =
+    (site : ℕ) (old : D) (state : State D) (r : Raised) (told : Result ℕ RiseFault) → TailsAreOrderly → IsGiven sc → IsLegal sc h →
+    RiseMakes content image meters sc h site old state r → more ≡ h ++ entered_by site r → told ≡ told_of r → IfOk told (λ inc. HasRisen sc h site inc more (meters old).capacity (image old))
+rose_told content image meters sc h more site old state r told tails given legal made entered is =
     subst (λ (t : Result ℕ RiseFault). IfOk t (λ inc. HasRisen sc h site inc more (meters old).capacity (image old))) (sym is)
-    (rose_as content image meters sc h more site old state r made entered)
+    (rose_as content image meters sc h more site old state r tails given legal made entered)
 
 pub failed_told : {D : Type 0} (content : D → List ℕ) (image : D → List ℕ → Type 0) (meters : D → Meters) (sc : Scenario) (h more : List Entry)
-    (site : ℕ) (old : D) (state : State D) (r : Raised) → RiseMakes content image meters sc h site old state r →
+    (site : ℕ) (old : D) (state : State D) (r : Raised) → TailsAreOrderly → IsGiven sc → IsLegal sc h → RiseMakes content image meters sc h site old state r →
     more ≡ h ++ entered_by site r → (why : Why) → told_of r ≡ Err (rise_fault.Failed why) →
     HasFailedToRise sc h site why more (meters old) (meters (disk_of state)) (image old)
-failed_told content image meters sc h more site old (Up s l rose logged) (Rose kept inc) made entered why is = absurd cc
-failed_told content image meters sc h more site old (Up s l rose logged) (Failed kept inc because) made entered why is = absurd made
-failed_told content image meters sc h more site old (Up s l rose logged) Missed made entered why is = absurd made
-failed_told content image meters sc h more site old (Up s l rose logged) NoMemory made entered why is = absurd made
-failed_told content image meters sc h more site old (Up s l rose logged) Foreign made entered why is = absurd made
-failed_told content image meters sc h more site old (Down new logged) (Rose kept inc) made entered why is = absurd made
-failed_told content image meters sc h more site old (Down new logged) (Failed kept inc because) made entered why is =
+failed_told content image meters sc h more site old (Up s l rose logged) (Rose kept inc) tails given legal made entered why is = absurd cc
+failed_told content image meters sc h more site old (Up s l rose logged) (Failed kept inc because) tails given legal made entered why is = absurd made
+failed_told content image meters sc h more site old (Up s l rose logged) Missed tails given legal made entered why is = absurd made
+failed_told content image meters sc h more site old (Up s l rose logged) NoMemory tails given legal made entered why is = absurd made
+failed_told content image meters sc h more site old (Up s l rose logged) Foreign tails given legal made entered why is = absurd made
+failed_told content image meters sc h more site old (Down new logged) (Rose kept inc) tails given legal made entered why is = absurd made
+failed_told content image meters sc h more site old (Down new logged) (Failed kept inc because) tails given legal made entered why is =
     let same : because ≡ why = cc in
     subst (λ (w : Why). HasFailedToRise sc h site w more (meters old) (meters new) (image old)) same
-    (record { kept = kept; inc = inc; allowed = made.allowed; entered = entered; read = made.read; reason = made.reason })
-failed_told content image meters sc h more site old (Down new logged) Missed made entered why is = absurd cc
-failed_told content image meters sc h more site old (Down new logged) NoMemory made entered why is = absurd cc
-failed_told content image meters sc h more site old (Down new logged) Foreign made entered why is = absurd made
+    (record {
+      kept = kept;
+      inc = inc;
+      allowed = made.allowed;
+      entered = entered;
+      read = made.read;
+      exactly = kept_exactly tails sc h site (meters old).capacity inc kept (image old) given legal made.allowed made.read;
+      reason = made.reason;
+    })
+failed_told content image meters sc h more site old (Down new logged) Missed tails given legal made entered why is = absurd cc
+failed_told content image meters sc h more site old (Down new logged) NoMemory tails given legal made entered why is = absurd cc
+failed_told content image meters sc h more site old (Down new logged) Foreign tails given legal made entered why is = absurd made
 
 pub missed_told : {D : Type 0} (content : D → List ℕ) (image : D → List ℕ → Type 0) (meters : D → Meters) (sc : Scenario) (h : List Entry)
     (site : ℕ) (old : D) (state : State D) (r : Raised) → RiseMakes content image meters sc h site old state r →

@@ -8,14 +8,14 @@ use Rattle.e3_codec.specs.Fields.{AllCanBeReadBack}
 use Rattle.e3_disk.specs.Images.{Within}
 use Rattle.e3_disk.specs.Meters.{Keeps, Meters, HasFailed}
 use Rattle.e3_law_brief.specs.Alike.{ReadAlike}
-use Rattle.e3_law_brief.specs.Brief.{brief, txns_of}
+use Rattle.e3_world.specs.Brief.{brief, txns_of}
 use Rattle.e3_law_brief.specs.Incarnations.{IsKnown}
-use Rattle.e3_law_brief.specs.Orderly.{IsOrderly}
+use Rattle.e3_world.specs.Orderly.{IsOrderly, weights_in}
 use Rattle.e3_law_brief.specs.Sets.{LoggedSitesAreSets}
-use Rattle.e3_law_brief.proofs.Laws.{are_some, first_logs, same_alike}
+use Rattle.e3_law_brief.proofs.Laws.{are_some, same_alike}
 use Rattle.e3_law_serial.specs.Orderly.{LogsAreOrderly}
-use Rattle.e3_law_stands.specs.StandsAlike.{IsLogInOrder, StandsAlike}
-use Rattle.e3_law_stands.proofs.Standing.{rises}
+use Rattle.e3_site.specs.StandsAlike.{IsLogInOrder, StandsAlike}
+use Rattle.e3_site.proofs.Alike.{rises}
 use Rattle.e3_law_steps.specs.Begun.{BegunAreTransactions, RecordsMentionWhatStands}
 use Rattle.e3_law_steps.specs.Trails.{TrailsAreSound, VotesAtTheirSite}
 use Rattle.e3_law_steps.proofs.Each.{each-left}
@@ -58,7 +58,6 @@ use Rattle.e3_world.specs.Legal.{IsLegal, IsRise}
 use Rattle.e3_world.specs.Lives.{life_at}
 use Rattle.e3_world.specs.Logs.{logged_inc}
 use Rattle.e3_world.specs.Moves.{Move, Tail, left_by, log_of, moves_of, open_tail, rise_records, rows_at}
-use Rattle.e3_world.specs.Orderly.{weights_in}
 use Rattle.e3_world.proofs.Pushes.{legal_push, life_log_at}
 use Rattle.e3_world.proofs.Readings.{up_same}
 use Rattle.e3_world.proofs.Turns.{self}
@@ -151,7 +150,7 @@ module _ (logs : LogsAreOrderly) (sets : LoggedSitesAreSets) (sounds : TrailsAre
 
     weights_are : weights_in (before ++ mine) ≡ sc.weights
     weights_are =
-        let all = in_order sounds logs first_logs sc (h ++ e ∷ []) of_wish may.given legal in
+        let all = in_order sounds logs sc (h ++ e ∷ []) of_wish may.given legal in
         let life_is : (life_at (moves_of sc (h ++ e ∷ []) of_wish)).log ≡ before ++ mine = life_log_at (moves_of sc (h ++ e ∷ []) of_wish) ∙ log_is in
         ap weights_in (sym life_is) ∙ all.weights_are (λ none. some_behind (sym life_is ∙ none))
       where

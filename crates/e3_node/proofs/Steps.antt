@@ -23,8 +23,8 @@ use Rattle.e3_node.specs.declared.state.State.TheVariants.{Down, Up}
 use Rattle.e3_play.specs.Entering.{fall_of}
 use Rattle.e3_site.specs.SiteView.{HasRoomFor, IsPlanOf, PlanView, SiteView, Stands as SiteStands, count_on, entry_of_plan, planned_step, step_kept, with_step}
 use Rattle.e3_site_log.specs.Bodies.{IsLogged, ReadsLeft}
-use Rattle.e3_law_stands.specs.StandsAlike.{IsLogInOrder, now_with}
-use Rattle.e3_law_stands.proofs.Standing.{on, opens, plans, still as stands_still}
+use Rattle.e3_site.specs.StandsAlike.{IsLogInOrder, now_with}
+use Rattle.e3_site.proofs.Alike.{on, opens, plans, still as stands_still}
 use Rattle.e3_readings.specs.Opens.{open_in}
 use Rattle.e3_types.specs.declared.entries.Act.TheVariants.{Fall, Cut}
 use Rattle.e3_types.specs.declared.entries.Entry.{Entry}

@@ -4,8 +4,8 @@ use Rattle.std.specs.List.{flat_map}
 use Rattle.std.proofs.lemmas.List.{take-append-drop}
 use Rattle.e3_codec.specs.Fields.{AllCanBeReadBack}
 use Rattle.e3_codec.proofs.Records.{never_bad, one_list}
-use Rattle.e3_law_brief.specs.Brief.{brief}
-use Rattle.e3_law_brief.specs.Orderly.{IsOrderly, OrderlyAfter}
+use Rattle.e3_world.specs.Brief.{brief}
+use Rattle.e3_world.specs.Orderly.{IsOrderly, OrderlyAfter}
 use Rattle.e3_law_brief.specs.Sets.{LoggedSitesAreSets}
 use Rattle.e3_law_serial.specs.Orderly.{LogsAreOrderly}
 use Rattle.e3_law_steps.specs.Trails.{TrailsAreSound}

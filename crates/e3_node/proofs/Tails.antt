@@ -3,8 +3,8 @@ use Rattle.std.proofs.Common.{◌≡◌, ◌≢◌, ◌≤◌, ◌<◌, ◌++◌
 use Rattle.std.proofs.lemmas.Bool.{or_left, or_right, true≢false}
 use Rattle.std.proofs.lemmas.Grind.{fold-append}
 use Rattle.std.proofs.lemmas.List.Folds.{list_any-append}
-use Rattle.e3_law_brief.specs.Brief.{brief}
-use Rattle.e3_law_brief.specs.Orderly.{IsOrderly, MayFollow, OrderlyAfter}
+use Rattle.e3_world.specs.Brief.{brief}
+use Rattle.e3_world.specs.Orderly.{IsOrderly, MayFollow, OrderlyAfter}
 use Rattle.e3_law_brief.proofs.Going.{orderly_on}
 use Rattle.e3_law_brief.proofs.Laws.{same_alike}
 use Rattle.e3_law_brief.proofs.Shape.{quiet_from}

@@ -1,11 +1,11 @@
 -- A tail has records, and so a log with it has another brief.
-use Rattle.std.proofs.Common.{◌≡◌, ◌≢◌, ◌==◌, ◌++◌, ◌∷◌, [], ℕ, zero, suc, Bool, true, false, List, Option, Some, None, map, refl, sym, subst, ap, ◌∙◌, append-nil, append_assoc}
-use Rattle.e3_law_brief.specs.Brief.{brief}
-use Rattle.e3_law_brief.specs.Orderly.{IsOrderly}
-use Rattle.e3_law_brief.proofs.Laws.{first_logs}
+use Rattle.std.proofs.Common.{◌≡◌, ◌≢◌, ◌↔◌, ◌==◌, ◌++◌, ◌∷◌, [], ℕ, zero, suc, Bool, true, false, List, Option, Some, None, map, refl, sym, subst, ap, ◌∙◌, append-nil, append_assoc}
+use Rattle.e3_world.specs.Brief.{brief}
+use Rattle.e3_world.specs.Orderly.{IsOrderly}
 use Rattle.e3_law_serial.specs.Orderly.{TailsAreOrderly}
 use Rattle.e3_law_steps.specs.Trails.{tail_records}
-use Rattle.e3_node.specs.Bodies.{log_with}
+use Rattle.e3_node.specs.Bodies.{IsKeptExactly, IsRead, entries_at, log_with}
+use Rattle.e3_site_log.specs.Bodies.{joined}
 use Rattle.e3_node.specs.Told.{ReadingsAreTold, TailsAreTold}
 use Rattle.e3_types.specs.declared.entries.Act.{Act}
 use Rattle.e3_types.specs.declared.entries.Act.TheVariants.{Step, Fall, Rise, RiseFall, Miss, Cut, Drop, Parts, Line}
@@ -15,7 +15,8 @@ use Rattle.e3_types.specs.declared.entries.Why.{Why}
 use Rattle.e3_types.specs.declared.entries.Why.TheVariants.{Fault, Full}
 use Rattle.e3_types.specs.declared.records.Record.{Record}
 use Rattle.e3_types.specs.declared.scenarios.Scenario.{Scenario}
-use Rattle.e3_world.specs.Legal.{Guard, LegalAfter}
+use Rattle.e3_world.specs.Given.{IsGiven}
+use Rattle.e3_world.specs.Legal.{Guard, IsLegal, IsRise, LegalAfter}
 use Rattle.e3_world.specs.Moves.{Move, Past, Silent, Tail, kept_moves, left_by, log_by, log_of, moves_of, open_tail, own, past_of, plain_input, rise_records, tail_of_act}
 use Rattle.e3_world.proofs.Pushes.{log_push, past_push}
 use Rattle.e3_world.proofs.Readings.{own_other, own_same}
@@ -64,7 +65,7 @@ some_behind sc before (e ∷ rest) site legal some =
     (some_behind sc (before ++ e ∷ []) rest site legal.1 (entry_some sc before site e legal.0 some))
 
 pub tails_told : TailsAreOrderly → TailsAreTold
-tails_told tails sc h site given legal has = by (open_tail sc h site) (some_behind sc [] h site legal tt) (first_logs site _ (tails sc h site given legal)) has
+tails_told tails sc h site given legal has = by (open_tail sc h site) (some_behind sc [] h site legal tt) (tails sc h site given legal) has
   where
     by : (tail : Option Tail) → HasSome tail → IsOrderly site (log_of sc h site ++ tail_records tail) → tail ≢ None →
         brief (log_by (moves_of sc h site ++ kept_moves site true tail)) ≢ brief (log_of sc h site)
@@ -80,3 +81,14 @@ readings_told tails sc h site capacity most false bytes given legal has reads =
       λ is. absurd (let both : false ≡ true = is in cc),
       λ same. absurd (tails_told tails sc h site given legal has (sym same ∙ reads.hold.same ∙ quiet)),
     )
+
+-- so a rise keeps it exactly there
+pub kept_exactly : TailsAreOrderly → (sc : Scenario) (h : List Entry) (site capacity inc : ℕ) (kept : Bool) (image : List ℕ → Type 0) → IsGiven sc → IsLegal sc h →
+    IsRise sc h site kept inc → (read : IsRead sc h site capacity kept image) → IsKeptExactly sc h site kept (joined read.reads.lists)
+kept_exactly tails sc h site capacity inc kept image given legal allowed read = (
+  λ is. (allowed.has_tail is, (told (allowed.has_tail is)).0 is),
+  λ both. (told both.0).1 both.1,
+)
+  where
+    told : open_tail sc h site ≢ None → (kept ≡ true) ↔ (brief (joined read.reads.lists) ≡ brief (log_with sc h site true))
+    told has = readings_told tails sc h site capacity (entries_at h site) kept read.bytes given legal has read.reads

@@ -2,7 +2,7 @@
 use Rattle.std.proofs.Common.{◌≡◌, ◌≤◌, ◌++◌, ◌∙◌, ℕ, true, List, Option, sym, subst, ap}
 use Rattle.std.specs.List.{AllByRecursion as Each}
 use Rattle.e3_codec.specs.Fields.{AllCanBeReadBack}
-use Rattle.e3_law_brief.specs.Orderly.{IsOrderly}
+use Rattle.e3_world.specs.Orderly.{IsOrderly}
 use Rattle.e3_law_brief.specs.Sets.{LoggedSitesAreSets}
 use Rattle.e3_law_serial.specs.Orderly.{LogsAreOrderly}
 use Rattle.e3_law_steps.specs.Begun.{BegunAreTransactions, RecordsMentionWhatStands}

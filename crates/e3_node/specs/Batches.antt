@@ -2,7 +2,7 @@
 use Rattle.std.specs.Prelude.{◌≡◌, ◌≢◌, ◌⊎◌, ◌+◌, ◌<◌, ◌++◌, ◌∷◌, [], ℕ, List, Result, Ok, Err, length, map, take}
 use Rattle.e3_disk.specs.Meters.{Meters}
 use Rattle.e3_log.specs.Frames.{frames}
-use Rattle.e3_law_brief.specs.Brief.{brief}
+use Rattle.e3_world.specs.Brief.{brief}
 use Rattle.e3_log.specs.Regions.{start}
 use Rattle.e3_log.specs.declared.region.Region.{Region}
 use Rattle.e3_node.specs.NodeView.{disk_of, end_of}

@@ -1,9 +1,10 @@
 -- What the disk of a site stands for in a history.
-use Rattle.std.specs.Prelude.{◌≡◌, ◌≢◌, ◌<◌, ◌^◌, ◌++◌, ℕ, Bool, true, nat_lt, List, Option, None, length}
+use Rattle.std.specs.Prelude.{◌≡◌, ◌≢◌, ◌<◌, ◌^◌, ◌++◌, ◌↔◌, ℕ, Bool, true, nat_lt, List, Option, None, length}
 use Rattle.e3_site_log.specs.Bodies.{ReadsAs, joined}
 use Rattle.e3_types.specs.declared.entries.Entry.{Entry}
 use Rattle.e3_types.specs.declared.records.Record.{Record}
 use Rattle.e3_types.specs.declared.scenarios.Scenario.{Scenario}
+use Rattle.e3_world.specs.Brief.{brief}
 use Rattle.e3_world.specs.Moves.{Move, Tail, kept_moves, log_by, moves_of, open_tail, own}
 
 -- how many entries a site has in a history: its log was turned no more often
@@ -45,6 +46,11 @@ pub record IsRead (sc : Scenario) (history : List Entry) (site capacity : ℕ) (
   pub bytes : List ℕ
   pub at : image bytes
   pub reads : ReadsAs site capacity (entries_at history site) (log_with sc history site kept) bytes
+
+-- A tail is kept exactly where one is open and the records read have the brief of the log followed by it.
+abbrev pub IsKeptExactly : Scenario → List Entry → ℕ → Bool → List Record → Type 0
+IsKeptExactly sc history site kept records =
+    (kept ≡ true) ↔ ((open_tail sc history site ≢ None) × (brief records ≡ brief (log_with sc history site true)))
 
 -- A disk of this capacity with these images stands for a site of a history. Bytes read as one list of records at most, of one
 -- generation, so it reads as such a log and as no other.

@@ -1,10 +1,10 @@
 -- Of which logs a site of the program, or records, tell the brief; and how many bytes packets may want.
 use Rattle.std.specs.Prelude.{◌≡◌, ◌≢◌, ◌+◌, ◌*◌, [], ℕ, min, List, length, fold}
 use Rattle.std.specs.List.{AllByRecursion as Each}
-use Rattle.e3_law_brief.specs.Brief.{brief, txns_of}
+use Rattle.e3_world.specs.Brief.{brief, txns_of}
 use Rattle.e3_law_brief.specs.Incarnations.{IsKnown}
-use Rattle.e3_law_brief.specs.Orderly.{IsOrderly}
-use Rattle.e3_law_stands.specs.StandsAlike.{StandsAlike}
+use Rattle.e3_world.specs.Orderly.{IsOrderly}
+use Rattle.e3_site.specs.StandsAlike.{StandsAlike}
 use Rattle.e3_node.specs.Telling.{IsOwn}
 use Rattle.e3_places.specs.Keeping.{claims_at, txn_key}
 use Rattle.e3_site.specs.SiteView.{SiteView, Stands}

@@ -2,7 +2,7 @@
 use Rattle.std.specs.Prelude.{◌≡◌, ◌<◌, ◌^◌, ◌∷◌, [], ℕ, List, length}
 use Rattle.std.specs.List.{AllByRecursion as Each}
 use Rattle.e3_codec.specs.Fields.{AllCanBeReadBack}
-use Rattle.e3_law_stands.specs.StandsAlike.{StandsAlike}
+use Rattle.e3_site.specs.StandsAlike.{StandsAlike}
 use Rattle.e3_node.specs.Telling.{IsOwn}
 use Rattle.e3_node.specs.declared.drafts.Draft.{Draft}
 use Rattle.e3_site.specs.SiteView.{HasRoomFor, IsPlanOf, SiteView, planned_step}

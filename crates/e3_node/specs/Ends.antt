@@ -17,7 +17,8 @@ use Rattle.e3_wire.specs.declared.fault.WireFault.{WireFault}
 use Rattle.e3_wire.specs.declared.fault.WireFault.TheVariants as wire_fault
 use Rattle.e3_world.specs.Legal.{IsRise, made_by}
 use Rattle.e3_world.specs.Moves.{rise_records}
-use Rattle.e3_node.specs.Bodies.{IsRead, log_with}
+use Rattle.e3_node.specs.Bodies.{IsKeptExactly, IsRead, log_with}
+use Rattle.e3_site_log.specs.Bodies.{joined}
 use Rattle.e3_site_log.specs.Ends.{IsReason}
 
 -- the site fell over an input for this reason: its step records something, and the fall is entered in its place
@@ -31,6 +32,7 @@ pub record HasRisen (sc : Scenario) (history : List Entry) (site inc : ℕ) (mor
   pub allowed : IsRise sc history site kept inc
   pub entered : more ≡ history ++ record { owner = site; act = Rise kept inc } ∷ []
   pub read : IsRead sc history site capacity kept image
+  pub exactly : IsKeptExactly sc history site kept (joined read.reads.lists)
 
 -- The rise of the site failed for this reason: its records are those of a rise behind what it kept.
 pub record HasFailedToRise (sc : Scenario) (history : List Entry) (site : ℕ) (why : Why) (more : List Entry) (old new : Meters)
@@ -40,6 +42,7 @@ pub record HasFailedToRise (sc : Scenario) (history : List Entry) (site : ℕ) (
   pub allowed : IsRise sc history site kept inc
   pub entered : more ≡ history ++ record { owner = site; act = RiseFall kept inc why } ∷ []
   pub read : IsRead sc history site old.capacity kept image
+  pub exactly : IsKeptExactly sc history site kept (joined read.reads.lists)
   pub reason : IsReason why (log_with sc history site kept) (rise_records sc site inc (log_with sc history site kept)) old new
 
 -- the fault has an entry

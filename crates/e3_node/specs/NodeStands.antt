@@ -6,8 +6,8 @@ use Rattle.e3_node.specs.Bodies.{DiskTells, entries_at}
 use Rattle.e3_node.specs.NodeView.{NodeView, disk_of}
 use Rattle.e3_node.specs.declared.state.State.{State}
 use Rattle.e3_node.specs.declared.state.State.TheVariants.{Down, Up}
-use Rattle.e3_law_stands.specs.StandsAlike.{IsLogInOrder, StandsAlike}
-use Rattle.e3_law_brief.specs.Orderly.{IsOrderly}
+use Rattle.e3_site.specs.StandsAlike.{IsLogInOrder, StandsAlike}
+use Rattle.e3_world.specs.Orderly.{IsOrderly}
 use Rattle.e3_site.specs.SiteView.{SiteView}
 use Rattle.e3_site_log.specs.Bodies.{IsLogged}
 use Rattle.e3_types.specs.declared.entries.Act.{Act}

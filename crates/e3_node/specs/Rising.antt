@@ -37,7 +37,7 @@ use Rattle.e3_wire.specs.declared.marks.Mark.{Mark}
 use Rattle.e3_world.specs.Given.{IsGiven}
 use Rattle.e3_world.specs.Legal.{IsLegal, IsRise, IsRising}
 use Rattle.e3_world.specs.Logs.{logged_inc}
-use Rattle.e3_law_brief.specs.Orderly.{IsOrderly}
+use Rattle.e3_world.specs.Orderly.{IsOrderly}
 use Rattle.e3_world.specs.Moves.{rise_records, rows_at}
 
 -- what a rise takes with it to the disk is this site's

@@ -1,6 +1,6 @@
 -- What a rise keeps is told by what it read.
 use Rattle.std.specs.Prelude.{◌≡◌, ◌≢◌, ◌↔◌, ℕ, Bool, true, List, None}
-use Rattle.e3_law_brief.specs.Brief.{brief}
+use Rattle.e3_world.specs.Brief.{brief}
 use Rattle.e3_node.specs.Bodies.{log_with}
 use Rattle.e3_site_log.specs.Bodies.{ReadsAs, joined}
 use Rattle.e3_types.specs.declared.entries.Entry.{Entry}

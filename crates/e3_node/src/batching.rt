@@ -1,6 +1,6 @@
 // Several packets of a site that is up, by its worker: their steps have one frame.
 ghost use Rattle.std.specs.Prelude.{◌≡◌, ◌≤◌, ◌<◌, ◌+◌, ◌++◌, ◌∷◌, [], None, false, ℕ, length, take, fold, vec_capacity, IfOk, OnOk, OnErr, List as Items};
-ghost use Rattle.e3_law_stands.specs.StandsAlike.{IsLogInOrder, StandsAlike};
+ghost use Rattle.e3_site.specs.StandsAlike.{IsLogInOrder, StandsAlike};
 ghost use Rattle.e3_node.specs.Batched.{BatchAt, HasPlanned, IsBatchAt, OnlyForMemory, first_of};
 ghost use Rattle.e3_node.specs.Batches.{stepped};
 ghost use Rattle.e3_node.specs.Briefing.{BriefsAreTold};

@@ -1,8 +1,8 @@
 // The short log that a log is turned to, where a frame has no room behind it.
 ghost use Rattle.std.specs.Prelude.{◌≡◌, ◌≢◌, ◌≤◌, ◌<◌, [], ℕ, false, length, take, List as Items, IfOk, Some as Given, None, Ok, Err};
 ghost use Rattle.std.specs.List.{AllByRecursion as Each};
-ghost use Rattle.e3_law_brief.specs.Brief.{brief};
-ghost use Rattle.e3_law_brief.specs.Orderly.{IsOrderly};
+ghost use Rattle.e3_world.specs.Brief.{brief};
+ghost use Rattle.e3_world.specs.Orderly.{IsOrderly};
 ghost use Rattle.e3_node.specs.Briefing.{IsBriefOf, IsReadBrief, asked_of, spare_for, spare_of};
 ghost use Rattle.e3_node.specs.Telling.{IsOwn};
 ghost use Rattle.e3_node.specs.declared.readying.Unready.TheVariants as unready;

@@ -42,6 +42,7 @@ use crate::turning::take_by_turns;
 use crate::{CutFault, InputFault, RiseFault, State};
 use core::mem::replace_with;
 use e3_disk::{Disk, Drill};
+use e3_law_serial::logs_are_orderly;
 use e3_types::{Act, Entry, Input, Leave, List, NoMemory, Row, Txn};
 use e3_wire::{Shared, Wire, WirePass};
 use std::alloc::Global;
@@ -131,7 +132,8 @@ impl<D: Disk + Drill + Drop> Node<D> {
     }
 
     /// A rise of the site, which reads the log of its disk. With Ok it is up in this incarnation: the frame of the rise is
-    /// durable, and then the rise is entered. What of a step or a rise in doubt is found on the disk is kept, all of it.
+    /// durable, and then the rise is entered. What of a step or a rise in doubt is found on the disk is kept, all of it: exactly
+    /// where the records read have the brief of the log followed by it.
     pub fn rise(&mut self, shared: &mut Shared) -> Result<u32, RiseFault>
         requires shared { SharedStands shared.old }
         requires standing { NodeStands D.content D.image D.meters (scenario_of shared.old) (entries_of shared.old) self.old }
@@ -161,6 +163,7 @@ impl<D: Disk + Drill + Drop> Node<D> {
         ensures takes { OnOk result (Takes 5 (D.meters (disk_of self.old.state)) (D.meters (disk_of self.new.state))) }
         ensures spares { result ≡ Err rise_fault.NoMemory → Takes 0 (D.meters (disk_of self.old.state)) (D.meters (disk_of self.new.state)) }
     {
+        logs_are_orderly();
         if self.is_up() {
             return Err(RiseFault::Up);
         }

@@ -5,7 +5,7 @@ ghost use Rattle.e3_node.specs.Rising.{IsForeign, IsReady, IsWish, born_by, reco
 ghost use Rattle.e3_node.specs.declared.readying.Unready.TheVariants as unready;
 ghost use Rattle.e3_site.specs.Rebuilt.{IsRebuilt, StandsForEach};
 ghost use Rattle.e3_world.specs.Logs.{logged_inc};
-ghost use Rattle.e3_law_brief.specs.Orderly.{IsOrderly};
+ghost use Rattle.e3_world.specs.Orderly.{IsOrderly};
 
 use crate::fitting::spelled;
 use crate::reading::{add_records, read_frames};

@@ -1,7 +1,7 @@
 use Rattle.std.proofs.Common.{◌≡◌, ◌<◌, ◌≤◌, ◌+◌, ◌++◌, ◌∷◌, [], ℕ, List, length, take, ap, sym, subst, ◌∙◌, arith}
 use Rattle.std.specs.Prelude.{IsErrAnd, OnErr, OnOk, Result, Ok, Err}
 use Rattle.std.proofs.lemmas.List.{take_more}
-use Rattle.e3_law_stands.specs.StandsAlike.{IsLogInOrder}
+use Rattle.e3_site.specs.StandsAlike.{IsLogInOrder}
 use Rattle.e3_node.specs.Batched.{IsBatchAt}
 use Rattle.e3_node.specs.Batches.{inputs_in, stepped}
 use Rattle.e3_node.specs.Briefing.{BriefsAreTold}

@@ -1,6 +1,6 @@
 -- the site is in the incarnation that the steps so far make
 use Rattle.e3_node.specs.Batches.{stepped}
-use Rattle.e3_law_stands.specs.StandsAlike.{now_with}
+use Rattle.e3_site.specs.StandsAlike.{now_with}
 use Rattle.e3_node.proofs.batching.add_one.Given as goal
 
 abbrev pub ghost-prepare : goal.ghost-prepare

@@ -1,5 +1,5 @@
 use Rattle.std.proofs.Common.{◌≤◌, ◌+◌, ℕ, List, length, take, refl, sym, subst, arith}
-use Rattle.e3_law_stands.specs.StandsAlike.{IsLogInOrder, StandsAlike}
+use Rattle.e3_site.specs.StandsAlike.{IsLogInOrder, StandsAlike}
 use Rattle.e3_node.specs.Batches.{stepped}
 use Rattle.e3_node.specs.Briefing.{BriefsAreTold}
 use Rattle.e3_turn.specs.Passes.{last_of, owners_of, seen_by}

@@ -1,6 +1,6 @@
 use Rattle.std.proofs.Common.{◌++◌, ◌+◌, ◌∙◌, ℕ, ap, sym, subst, length, List}
 use Rattle.e3_codec.specs.Fields.{AllCanBeReadBack}
-use Rattle.e3_law_brief.specs.Orderly.{IsOrderly}
+use Rattle.e3_world.specs.Orderly.{IsOrderly}
 use Rattle.e3_node.specs.Bodies.{entries_at, log_with}
 use Rattle.e3_node.specs.Rising.{HasNotRaised}
 use Rattle.e3_site_log.specs.Bodies.{IsLogged, ReadsLeft}

@@ -1,5 +1,5 @@
 use Rattle.std.proofs.Common.{ap, sym, subst, Err, List}
-use Rattle.e3_law_brief.specs.Orderly.{IsOrderly}
+use Rattle.e3_world.specs.Orderly.{IsOrderly}
 use Rattle.e3_node.specs.Bodies.{DiskTells, log_with}
 use Rattle.e3_node.specs.Briefing.{IsReadBrief}
 use Rattle.e3_node.specs.Rising.{RiseMakes}

@@ -1,5 +1,5 @@
 use Rattle.e3_wire.specs.Marks.{entries_of, scenario_of}
-use Rattle.e3_law_stands.specs.StandsAlike.{now_with}
+use Rattle.e3_site.specs.StandsAlike.{now_with}
 use Rattle.e3_node.proofs.stepping.step.Given as goal
 
 abbrev pub ghost-prepare : goal.ghost-prepare

@@ -1,6 +1,6 @@
 use Rattle.std.proofs.Common.{◌≡◌, ◌≢◌, ◌≤◌, ◌+◌, ◌++◌, ◌∷◌, [], ℕ, true, List, length, take, refl, sym, subst, ap, ◌∙◌}
 use Rattle.e3_law_local.specs.Others.{numbered_on}
-use Rattle.e3_law_stands.specs.StandsAlike.{IsLogInOrder}
+use Rattle.e3_site.specs.StandsAlike.{IsLogInOrder}
 use Rattle.e3_node.specs.Batched.{HasPlanned}
 use Rattle.e3_node.specs.Batches.{stepped}
 use Rattle.e3_node.specs.Bodies.{entries_at}

@@ -1,6 +1,6 @@
 use Rattle.std.proofs.Common.{◌≡◌, ◌++◌, ◌∷◌, [], ◌∙◌, ℕ, ap, refl, sym, subst, List, length, arith}
 use Rattle.e3_law_local.specs.Others.{numbered_on}
-use Rattle.e3_law_stands.specs.StandsAlike.{IsLogInOrder}
+use Rattle.e3_site.specs.StandsAlike.{IsLogInOrder}
 use Rattle.e3_node.specs.Bodies.{DiskTells, entries_at}
 use Rattle.e3_node.specs.NodeStands.{IsUp, StandsBy}
 use Rattle.e3_node.specs.Turns.{IsStill, history_seen, scenario_seen}

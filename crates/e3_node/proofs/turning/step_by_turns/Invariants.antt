@@ -1,5 +1,5 @@
 use Rattle.e3_node.specs.Turns.{history_seen, scenario_seen}
-use Rattle.e3_law_stands.specs.StandsAlike.{now_with}
+use Rattle.e3_site.specs.StandsAlike.{now_with}
 use Rattle.e3_node.proofs.turning.step_by_turns.Given as goal
 
 abbrev pub ghost-prepare_by_turns : goal.ghost-prepare_by_turns

@@ -84,7 +84,7 @@ returns-clause-rose g c =
     let has : RiseIsEntered c.self.inside.site r v c.enter_rise.new.shared = c.enter_rise.ensures.entered v c.in_ok-claim.ensures.claimed in
     let entered : entries_of c.enter_rise.new.shared ≡ h ++ entered_by node.site r = has.entries ∙ ap (λ (x : NodeView _). h ++ entered_by x.site r) c.self.view_is in
     rose_told g.D.Disk.content g.D.Disk.image g.D.Disk.meters sc h (entries_of c.enter_rise.new.shared) node.site (disk_of node.state) state r c.told.result
-    made entered c.told.ensures
+    c.logs_are_orderly.ensures.tails may.given may.legal made entered c.told.ensures
 
 pub returns-clause-failed : goal.returns-clause-failed
 returns-clause-failed g c =
@@ -109,7 +109,7 @@ returns-clause-failed g c =
     let has : RiseIsEntered c.self.inside.site r v c.enter_rise.new.shared = c.enter_rise.ensures.entered v c.in_ok-claim.ensures.claimed in
     let entered : entries_of c.enter_rise.new.shared ≡ h ++ entered_by node.site r = has.entries ∙ ap (λ (x : NodeView _). h ++ entered_by x.site r) c.self.view_is in
     λ why told. failed_told g.D.Disk.content g.D.Disk.image g.D.Disk.meters sc h (entries_of c.enter_rise.new.shared) node.site (disk_of node.state) state r
-    made entered why (sym c.told.ensures ∙ told)
+    c.logs_are_orderly.ensures.tails may.given may.legal made entered why (sym c.told.ensures ∙ told)
 
 pub returns-clause-cause : goal.returns-clause-cause
 returns-clause-cause g c =
