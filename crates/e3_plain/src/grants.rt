@@ -1,52 +1,13 @@
 // Which requests a decision grants.
-ghost use Rattle.std.specs.Prelude.{◌≡◌, ◌++◌, ◌∷◌, [], IfOk, fold, take, length};
-ghost use Rattle.std.specs.List.{flat_map};
-ghost use Rattle.e3_world.specs.Making.{log_now, steps_now, add_name, names_of, asked_on, granted_on, granted, grants_after};
+ghost use Rattle.std.specs.Prelude.{◌≡◌, ◌++◌, IfOk};
+ghost use Rattle.e3_world.specs.Making.{names_of, asked_on, granted_on, granted, grants_after};
 
 use crate::reading::{log_now, steps_now};
 use e3_locks::front;
-use e3_readings::{holders, key_of, queue, waiting};
+use e3_readings::{add_asked, add_name, copy_asked, first_asked, holders, key_of, queue, waiting};
 use e3_types::{List, Name, NoMemory};
 use e3_world::{Asked, At, Made};
 use std::alloc::Global;
-use std::cmp::Ordering;
-
-fn add_names(names: &[Name], out: &mut List<Name>) -> Result<(), NoMemory>
-    ensures { IfOk result (λ u. out.new ≡ out.old ++ names.now) }
-{
-    for name in names {
-        out.push(name.copy())?;
-    }
-    Ok(())
-}
-
-fn put_name(names: &[Name], new: &Name, out: &mut List<Name>) -> Result<(), NoMemory>
-    ensures { IfOk result (λ u. out.new ≡ out.old ++ add_name names.now new.now) }
-{
-    match names {
-        [] => out.push(new.copy()),
-        [name, rest @ ..] => match new.bytes().cmp(name.bytes()) {
-            Ordering::Less => {
-                out.push(new.copy())?;
-                add_names(names, out)
-            }
-            Ordering::Equal => add_names(names, out),
-            Ordering::Greater => {
-                out.push(name.copy())?;
-                put_name(rest, new, out)
-            }
-        },
-    }
-}
-
-/// The names with one more, each once, in byte order.
-pub fn add_name(alloc: Global, names: &[Name], new: &Name) -> Result<List<Name>, NoMemory>
-    ensures { IfOk result (λ out. out ≡ add_name names.now new.now) }
-{
-    let mut out = List::new(alloc);
-    put_name(names, new, &mut out)?;
-    Ok(out)
-}
 
 /// The names on which these operations are, each once, in byte order.
 pub fn names_of(alloc: Global, asked: &[Asked]) -> Result<List<Name>, NoMemory>
@@ -57,16 +18,6 @@ pub fn names_of(alloc: Global, asked: &[Asked]) -> Result<List<Name>, NoMemory>
         names = add_name(alloc, names.as_slice(), &key_of(&q.op).name)?;
     }
     Ok(names)
-}
-
-fn copy_asked(q: &Asked) -> Asked
-    ensures { result ≡ q.now }
-{
-    Asked {
-        txn: q.txn,
-        n: q.n,
-        op: q.op.copy(),
-    }
 }
 
 /// The operations that are on a name.
@@ -80,14 +31,6 @@ pub fn asked_on(alloc: Global, name: &Name, asked: &[Asked]) -> Result<List<Aske
         }
     }
     Ok(out)
-}
-
-fn taken(count: u64, asked: List<Asked>) -> List<Asked>
-    ensures { result ≡ take count asked }
-{
-    let mut items = asked.into_vec();
-    items.truncate(count as usize);
-    List::from_vec(items)
 }
 
 /// The requests on a name that are granted: the longest front of its queue that the other holders allow.
@@ -106,16 +49,7 @@ pub fn granted_on(
     let here = asked_on(alloc, name, asked)?;
     let queue = queue(alloc, name, here.as_slice())?;
     let front = front(alloc, holders.as_slice(), queue.as_slice())?;
-    Ok(taken(front.len(), here))
-}
-
-fn add_asked(asked: &[Asked], out: &mut List<Asked>) -> Result<(), NoMemory>
-    ensures { IfOk result (λ u. out.new ≡ out.old ++ asked.now) }
-{
-    for q in asked {
-        out.push(copy_asked(q))?;
-    }
-    Ok(())
+    Ok(first_asked(front.len(), here))
 }
 
 fn add_granted(
