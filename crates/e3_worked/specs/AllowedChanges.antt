@@ -1,19 +1,14 @@
 -- Changes that break no guard: some leave the scenario unfinished, some do nothing to it.
-use Rattle.std.specs.Prelude.{◌∷◌, [], List}
-use Rattle.e3_types.specs.declared.entries.Act.TheVariants.{Fall}
-use Rattle.e3_types.specs.declared.transactions.Dir.TheVariants.{Abort}
+use Rattle.std.specs.Prelude.{List}
 use Rattle.e3_types.specs.declared.entries.Entry.{Entry}
 use Rattle.e3_types.specs.declared.entries.Why.TheVariants.{Full}
-use Rattle.e3_types.specs.declared.entries.Input.TheVariants as input
-use Rattle.e3_types.specs.declared.records.Record.TheVariants as log
-use Rattle.e3_worked.specs.Damage.{left_out, swapped, acted}
+use Rattle.e3_worked.specs.Damage.{left_out, swapped, acted, with_why}
 use Rattle.e3_worked.specs.DroppedPackets.{dropped_packets_history}
 use Rattle.e3_worked.specs.FallenGroup.{fallen_group_history}
 use Rattle.e3_worked.specs.MissedAndFailedRises.{missed_and_failed_rises_history}
 use Rattle.e3_worked.specs.OneWrite.{one_write_history}
 use Rattle.e3_worked.specs.SplitInHalves.{split_in_halves_history}
 use Rattle.e3_worked.specs.TwoSitesAtOnce.{two_sites_at_once_history}
-use Rattle.e3_worked.specs.DroppedPackets as dropped
 
 -- the last item was not taken
 abbrev pub last_step_left_out : List Entry
@@ -45,4 +40,4 @@ drop_behind_a_delivery = swapped 12 dropped_packets_history
 
 -- the site falls for want of room
 abbrev pub fall_for_another_cause : List Entry
-fall_for_another_cause = acted 27 (λ act. Fall (input.Deliver dropped.p12 ∷ []) (log.Attempt dropped.t1_1_1 2 Abort ∷ []) (Full 120 100)) dropped_packets_history
+fall_for_another_cause = acted 27 (with_why (Full 120 100)) dropped_packets_history

@@ -1,6 +1,5 @@
 -- Every packet is lost: calls are refused as busy, a cancel aborts, and a later commit is refused as over.
-use Rattle.std.specs.Prelude.{◌∷◌, [], ℕ, false, List, codes, ◌++◌}
-use Rattle.e3_types.specs.declared.entries.Act.TheVariants.{Step, Rise, Line}
+use Rattle.std.specs.Prelude.{◌++◌, ◌∷◌, [], ℕ, List, codes}
 use Rattle.e3_types.specs.declared.transactions.Dir.TheVariants.{Abort}
 use Rattle.e3_types.specs.declared.entries.Entry.{Entry}
 use Rattle.e3_types.specs.declared.transactions.Op.TheVariants.{Read}
@@ -13,25 +12,20 @@ use Rattle.e3_types.specs.declared.messages.Message.TheVariants as msg
 use Rattle.e3_types.specs.declared.records.Record.TheVariants as log
 use Rattle.e3_types.specs.declared.entries.Refusal.TheVariants as refusal
 use Rattle.e3_types.specs.declared.entries.Told.TheVariants as told
-use Rattle.e3_worked.specs.Names.{bare, s1_2, key_1_y, key_2_x}
-
--- its transactions
-abbrev pub t1_1_1 : Txn
-t1_1_1 = record { site = 1; inc = 1; seq = 1; sites = s1_2 }
+use Rattle.e3_worked.specs.Entries.{packet, line, takes}
+use Rattle.e3_worked.specs.Openings.{begun}
+use Rattle.e3_worked.specs.Names.{one_by_one, txn, s1_2, key_1_y, key_2_x}
 
 -- the scenario
 abbrev pub busy_cancel_over : Scenario
-busy_cancel_over = record (bare (1 ∷ 1 ∷ [])) {
-  loss = 100;
-  steps =
-      (item.Begin (codes "t") 1 s1_2 ∷ []) ∷
-      (item.Read (codes "t") key_2_x ∷ []) ∷
-      (item.Read (codes "t") key_1_y ∷ []) ∷
-      (item.Commit (codes "t") ∷ []) ∷
-      (item.Cancel (codes "t") ∷ []) ∷
-      (item.Commit (codes "t") ∷ []) ∷
-      [];
-}
+busy_cancel_over = record (one_by_one (1 ∷ 1 ∷ []) (
+    item.Begin (codes "t") 1 s1_2 ∷
+    item.Read (codes "t") key_2_x ∷
+    item.Read (codes "t") key_1_y ∷
+    item.Commit (codes "t") ∷
+    item.Cancel (codes "t") ∷
+    item.Commit (codes "t") ∷
+    [])) { loss = 100 }
 
 -- its text
 abbrev pub busy_cancel_over_text : List ℕ
@@ -49,30 +43,28 @@ busy_cancel_over_text =
     codes "  \"commit t\",\n" ++
     codes "]\n"
 
--- the packets, by their numbers
-abbrev pub p1 : Packet
-p1 = record { number = 1; «from» = 1; to = 2; msg = msg.Do t1_1_1 1 (Read key_2_x) }
+-- its transaction
+abbrev pub t1_1_1 : Txn
+t1_1_1 = txn 1 1 s1_2
 
-abbrev pub p2 : Packet
-p2 = record { number = 2; «from» = 1; to = 2; msg = msg.Decide t1_1_1 Abort }
+-- the request for the read, which is lost
+abbrev pub p1 : Packet
+p1 = packet 1 1 2 (msg.Do t1_1_1 1 (Read key_2_x))
 
 -- its history, entry by entry
 abbrev pub busy_cancel_over_history : List Entry
 busy_cancel_over_history =
-    record { owner = 1; act = Rise false 1 } ∷
-    record { owner = 2; act = Rise false 1 } ∷
-    record { owner = 0; act = Line 1 } ∷
-    record { owner = 1; act = Step (input.Begin s1_2) ([]) ([]) (told.Began t1_1_1 ∷ []) } ∷
-    record { owner = 0; act = Line 2 } ∷
-    record { owner = 1; act = Step (input.Do t1_1_1 (Read key_2_x)) ([]) (p1 ∷ []) ([]) } ∷
-    record { owner = 0; act = Line 3 } ∷
-    record { owner = 1; act = Step (input.Do t1_1_1 (Read key_1_y)) ([]) ([]) (told.Refused t1_1_1 (refusal.Busy 1) ∷ []) } ∷
-    record { owner = 0; act = Line 4 } ∷
-    record { owner = 1; act = Step (input.Commit t1_1_1) ([]) ([]) (told.Refused t1_1_1 (refusal.Busy 1) ∷ []) } ∷
-    record { owner = 0; act = Line 5 } ∷
-    record { owner = 1; act = Step (input.Cancel t1_1_1) (log.Decision t1_1_1 Abort ∷ []) (p2 ∷ []) (told.Ended t1_1_1 Abort ∷ []) } ∷
-    record { owner = 0; act = Line 6 } ∷
-    record { owner = 1; act = Step (input.Commit t1_1_1) ([]) ([]) (told.Refused t1_1_1 (refusal.Over Abort) ∷ []) } ∷
+    let p2 = packet 2 1 2 (msg.Decide t1_1_1 Abort) in
+    begun t1_1_1 ++
+    takes 1 (input.Do t1_1_1 (Read key_2_x)) [] (p1 ∷ []) [] ∷
+    line 3 ∷
+    takes 1 (input.Do t1_1_1 (Read key_1_y)) [] [] (told.Refused t1_1_1 (refusal.Busy 1) ∷ []) ∷
+    line 4 ∷
+    takes 1 (input.Commit t1_1_1) [] [] (told.Refused t1_1_1 (refusal.Busy 1) ∷ []) ∷
+    line 5 ∷
+    takes 1 (input.Cancel t1_1_1) (log.Decision t1_1_1 Abort ∷ []) (p2 ∷ []) (told.Ended t1_1_1 Abort ∷ []) ∷
+    line 6 ∷
+    takes 1 (input.Commit t1_1_1) [] [] (told.Refused t1_1_1 (refusal.Over Abort) ∷ []) ∷
     []
 
 -- its report

@@ -1,43 +1,19 @@
 -- Two electors attempt different directions; a later attempt that is kept turns the end to an abort. It begins as the cascade
 -- that commits.
-use Rattle.std.specs.Prelude.{◌∷◌, [], ℕ, true, false, List, codes, ◌++◌}
-use Rattle.e3_types.specs.declared.entries.Act.TheVariants.{Step, Rise, Cut, Line}
-use Rattle.e3_types.specs.declared.transactions.Dir.TheVariants.{Abort, Commit}
+use Rattle.std.specs.Prelude.{◌++◌, ◌∷◌, ℕ, List, codes}
+use Rattle.e3_types.specs.declared.transactions.Dir.TheVariants.{Abort}
 use Rattle.e3_types.specs.declared.entries.Entry.{Entry}
-use Rattle.e3_types.specs.declared.transactions.Op.TheVariants.{Write}
-use Rattle.e3_types.specs.declared.messages.Packet.{Packet}
 use Rattle.e3_types.specs.declared.scenarios.Scenario.{Scenario}
 use Rattle.e3_types.specs.declared.transactions.State.TheVariants.{Pa, A}
-use Rattle.e3_types.specs.declared.entries.Input.TheVariants as input
-use Rattle.e3_types.specs.declared.scenarios.Item.TheVariants as item
 use Rattle.e3_types.specs.declared.scenarios.Leave.TheVariants as leave
-use Rattle.e3_types.specs.declared.messages.Message.TheVariants as msg
-use Rattle.e3_types.specs.declared.records.Record.TheVariants as log
-use Rattle.e3_types.specs.declared.entries.Told.TheVariants as told
 use Rattle.e3_types.specs.declared.verdicts.Verdict.TheVariants as verdict
-use Rattle.e3_worked.specs.Names.{bare, s1_2_3, s2_3, s1_3, key_1_x, key_2_y, key_3_z}
-use Rattle.e3_worked.specs.CascadeCommits.{t1_1_1, before_its_rise, p14, p15, p16, p21, p22, p23, p24, p25, p26, p27}
+use Rattle.e3_worked.specs.Entries.{rises_kept}
+use Rattle.e3_worked.specs.Elections.{reported}
+use Rattle.e3_worked.specs.CascadeCommits.{cascade, before_its_rise, behind_its_rise}
 
--- the scenario
+-- the scenario: the frame is kept
 abbrev pub cascade_aborts : Scenario
-cascade_aborts = record (bare (1 ∷ 1 ∷ 1 ∷ [])) {
-  steps =
-      (item.Begin (codes "t") 1 s1_2_3 ∷ []) ∷
-      (item.Write (codes "t") key_1_x (codes "a") ∷ []) ∷
-      (item.Write (codes "t") key_2_y (codes "b") ∷ []) ∷
-      (item.Write (codes "t") key_3_z (codes "c") ∷ []) ∷
-      (item.Stop 1 8 leave.All ∷ []) ∷
-      (item.Commit (codes "t") ∷ []) ∷
-      (item.Stop 3 8 leave.All ∷ []) ∷
-      (item.Elect 2 (codes "t") s2_3 ∷ []) ∷
-      (item.Restart 1 ∷ []) ∷
-      (item.Restart 3 ∷ []) ∷
-      (item.Crash 2 ∷ []) ∷
-      (item.Recover s1_3 ∷ []) ∷
-      (item.Restart 2 ∷ []) ∷
-      (item.Recover s1_2_3 ∷ []) ∷
-      [];
-}
+cascade_aborts = cascade 8 leave.All
 
 -- its text
 abbrev pub cascade_aborts_text : List ℕ
@@ -62,59 +38,12 @@ cascade_aborts_text =
     codes "  \"recover 1,2,3\",\n" ++
     codes "]\n"
 
--- the packets that are others than there, by their numbers
-abbrev pub p17 : Packet
-p17 = record { number = 17; «from» = 3; to = 1; msg = msg.Report t1_1_1 3 Pa 2 }
-
-abbrev pub p18 : Packet
-p18 = record { number = 18; «from» = 1; to = 3; msg = msg.Pre t1_1_1 3 Abort }
-
-abbrev pub p19 : Packet
-p19 = record { number = 19; «from» = 3; to = 1; msg = msg.Ack t1_1_1 3 Abort }
-
-abbrev pub p20 : Packet
-p20 = record { number = 20; «from» = 1; to = 3; msg = msg.Decide t1_1_1 Abort }
-
-abbrev pub p28 : Packet
-p28 = record { number = 28; «from» = 3; to = 1; msg = msg.Report t1_1_1 4 A 3 }
-
-abbrev pub p29 : Packet
-p29 = record { number = 29; «from» = 1; to = 2; msg = msg.Decide t1_1_1 Abort }
-
-abbrev pub p30 : Packet
-p30 = record { number = 30; «from» = 1; to = 3; msg = msg.Decide t1_1_1 Abort }
-
--- its history, entry by entry: up to the rise of the third site it is that one
+-- its history: it is that one up to the rise of site 3, whose attempt to abort is kept
 abbrev pub cascade_aborts_history : List Entry
 cascade_aborts_history =
     before_its_rise ++
-    record { owner = 3; act = Rise true 2 } ∷
-    record { owner = 0; act = Line 11 } ∷
-    record { owner = 2; act = Cut } ∷
-    record { owner = 0; act = Line 12 } ∷
-    record { owner = 1; act = Step (input.Elect t1_1_1 s1_3) ([]) (p14 ∷ []) ([]) } ∷
-    record { owner = 3; act = Step (input.Deliver p14) ([]) (p15 ∷ []) ([]) } ∷
-    record { owner = 1; act = Step (input.Deliver p15) (log.Join t1_1_1 3 ∷ []) (p16 ∷ []) ([]) } ∷
-    record { owner = 3; act = Step (input.Deliver p16) (log.Join t1_1_1 3 ∷ []) (p17 ∷ []) ([]) } ∷
-    record { owner = 1; act = Step (input.Deliver p17) (log.Attempt t1_1_1 3 Abort ∷ []) (p18 ∷ []) (told.Verdict t1_1_1 3 verdict.PreAbort ∷ []) } ∷
-    record { owner = 3; act = Step (input.Deliver p18) (log.Attempt t1_1_1 3 Abort ∷ []) (p19 ∷ []) ([]) } ∷
-    record { owner = 1; act = Step (input.Deliver p19) (log.Decision t1_1_1 Abort ∷ []) (p20 ∷ []) ([]) } ∷
-    record { owner = 3; act = Step (input.Deliver p20) (log.Decision t1_1_1 Abort ∷ []) ([]) ([]) } ∷
-    record { owner = 0; act = Line 13 } ∷
-    record { owner = 2; act = Rise false 2 } ∷
-    record { owner = 0; act = Line 14 } ∷
-    record { owner = 1; act = Step (input.Elect t1_1_1 s1_2_3) ([]) (p21 ∷ p22 ∷ []) ([]) } ∷
-    record { owner = 2; act = Step (input.Deliver p21) ([]) (p23 ∷ []) ([]) } ∷
-    record { owner = 3; act = Step (input.Deliver p22) ([]) (p24 ∷ []) ([]) } ∷
-    record { owner = 1; act = Step (input.Deliver p23) ([]) ([]) ([]) } ∷
-    record { owner = 1; act = Step (input.Deliver p24) (log.Join t1_1_1 4 ∷ []) (p25 ∷ p26 ∷ []) ([]) } ∷
-    record { owner = 2; act = Step (input.Deliver p25) (log.Join t1_1_1 4 ∷ []) (p27 ∷ []) ([]) } ∷
-    record { owner = 3; act = Step (input.Deliver p26) (log.Join t1_1_1 4 ∷ []) (p28 ∷ []) ([]) } ∷
-    record { owner = 1; act = Step (input.Deliver p27) ([]) ([]) ([]) } ∷
-    record { owner = 1; act = Step (input.Deliver p28) ([]) (p29 ∷ p30 ∷ []) (told.Verdict t1_1_1 4 verdict.Abort ∷ []) } ∷
-    record { owner = 2; act = Step (input.Deliver p29) (log.Decision t1_1_1 Abort ∷ []) ([]) ([]) } ∷
-    record { owner = 3; act = Step (input.Deliver p30) ([]) ([]) ([]) } ∷
-    []
+    rises_kept 3 2 ∷
+    behind_its_rise (reported Pa 2) Abort A verdict.PreAbort verdict.Abort
 
 -- its report
 abbrev pub cascade_aborts_report : List ℕ

@@ -1,49 +1,52 @@
 -- Two electors attempt different directions; a tail that is kept decides between them.
-use Rattle.std.specs.Prelude.{◌∷◌, [], ℕ, true, false, List, codes, ◌++◌}
-use Rattle.e3_types.specs.declared.entries.Act.TheVariants.{Step, Fall, Rise, Cut, Line}
+use Rattle.std.specs.Prelude.{◌++◌, ◌∷◌, [], ℕ, true, List, codes}
 use Rattle.e3_types.specs.declared.transactions.Answer.TheVariants.{Written}
+use Rattle.e3_types.specs.declared.transactions.Dir.{Dir}
 use Rattle.e3_types.specs.declared.transactions.Dir.TheVariants.{Abort, Commit}
 use Rattle.e3_types.specs.declared.entries.Entry.{Entry}
+use Rattle.e3_types.specs.declared.scenarios.Leave.{Leave}
 use Rattle.e3_types.specs.declared.transactions.Op.TheVariants.{Write}
 use Rattle.e3_types.specs.declared.messages.Packet.{Packet}
 use Rattle.e3_types.specs.declared.scenarios.Scenario.{Scenario}
+use Rattle.e3_types.specs.declared.transactions.State.{State}
 use Rattle.e3_types.specs.declared.transactions.State.TheVariants.{W, Pa, C}
 use Rattle.e3_types.specs.declared.transactions.Txn.{Txn}
-use Rattle.e3_types.specs.declared.entries.Why.TheVariants.{Fault}
+use Rattle.e3_types.specs.declared.verdicts.Verdict.{Verdict}
 use Rattle.e3_types.specs.declared.entries.Input.TheVariants as input
 use Rattle.e3_types.specs.declared.scenarios.Item.TheVariants as item
 use Rattle.e3_types.specs.declared.scenarios.Leave.TheVariants as leave
-use Rattle.e3_types.specs.declared.records.Record.TheVariants as log
 use Rattle.e3_types.specs.declared.messages.Message.TheVariants as msg
-use Rattle.e3_types.specs.declared.entries.Told.TheVariants as told
+use Rattle.e3_types.specs.declared.records.Record.TheVariants as log
 use Rattle.e3_types.specs.declared.verdicts.Verdict.TheVariants as verdict
-use Rattle.e3_worked.specs.Names.{bare, s1_2_3, s2_3, s1_3, key_1_x, key_2_y, key_3_z}
+use Rattle.e3_worked.specs.Entries.{packet, call, operation, line, rises, rises_kept, cut, falls, gets, remote_operation, asks_votes}
+use Rattle.e3_worked.specs.Openings.{written_here}
+use Rattle.e3_worked.specs.Elections.{Reported, Election, reported, elects, concludes, elects_and_attempts, all_follow}
+use Rattle.e3_worked.specs.Names.{one_by_one, txn, s1_3, s2_3, s1_2_3, key_1_x, key_2_y, key_3_z}
 use Rattle.e3_worked.specs.Worked.{Outcome, one_row}
 
--- its transactions
-abbrev pub t1_1_1 : Txn
-t1_1_1 = record { site = 1; inc = 1; seq = 1; sites = s1_2_3 }
+-- The scenario, by the stop of site 3: the call in which its disk stops, and what that leaves. Site 3 falls in the frame of its
+-- attempt to abort.
+abbrev pub cascade : ℕ → Leave → Scenario
+cascade count left = one_by_one (1 ∷ 1 ∷ 1 ∷ []) (
+    item.Begin (codes "t") 1 s1_2_3 ∷
+    item.Write (codes "t") key_1_x (codes "a") ∷
+    item.Write (codes "t") key_2_y (codes "b") ∷
+    item.Write (codes "t") key_3_z (codes "c") ∷
+    item.Stop 1 8 leave.All ∷
+    item.Commit (codes "t") ∷
+    item.Stop 3 count left ∷
+    item.Elect 2 (codes "t") s2_3 ∷
+    item.Restart 1 ∷
+    item.Restart 3 ∷
+    item.Crash 2 ∷
+    item.Recover s1_3 ∷
+    item.Restart 2 ∷
+    item.Recover s1_2_3 ∷
+    [])
 
--- the scenario
+-- the scenario: the frame is lost
 abbrev pub cascade_commits : Scenario
-cascade_commits = record (bare (1 ∷ 1 ∷ 1 ∷ [])) {
-  steps =
-      (item.Begin (codes "t") 1 s1_2_3 ∷ []) ∷
-      (item.Write (codes "t") key_1_x (codes "a") ∷ []) ∷
-      (item.Write (codes "t") key_2_y (codes "b") ∷ []) ∷
-      (item.Write (codes "t") key_3_z (codes "c") ∷ []) ∷
-      (item.Stop 1 8 leave.All ∷ []) ∷
-      (item.Commit (codes "t") ∷ []) ∷
-      (item.Stop 3 5 leave.None ∷ []) ∷
-      (item.Elect 2 (codes "t") s2_3 ∷ []) ∷
-      (item.Restart 1 ∷ []) ∷
-      (item.Restart 3 ∷ []) ∷
-      (item.Crash 2 ∷ []) ∷
-      (item.Recover s1_3 ∷ []) ∷
-      (item.Restart 2 ∷ []) ∷
-      (item.Recover s1_2_3 ∷ []) ∷
-      [];
-}
+cascade_commits = cascade 5 leave.None
 
 -- its text
 abbrev pub cascade_commits_text : List ℕ
@@ -68,166 +71,108 @@ cascade_commits_text =
     codes "  \"recover 1,2,3\",\n" ++
     codes "]\n"
 
--- the packets, by their numbers
-abbrev pub p1 : Packet
-p1 = record { number = 1; «from» = 1; to = 2; msg = msg.Do t1_1_1 2 (Write key_2_y (codes "b")) }
+-- its transaction
+abbrev pub t1_1_1 : Txn
+t1_1_1 = txn 1 1 s1_2_3
 
-abbrev pub p2 : Packet
-p2 = record { number = 2; «from» = 2; to = 1; msg = msg.Done t1_1_1 2 1 Written }
-
-abbrev pub p3 : Packet
-p3 = record { number = 3; «from» = 1; to = 3; msg = msg.Do t1_1_1 3 (Write key_3_z (codes "c")) }
-
-abbrev pub p4 : Packet
-p4 = record { number = 4; «from» = 3; to = 1; msg = msg.Done t1_1_1 3 1 Written }
-
-abbrev pub p5 : Packet
-p5 = record { number = 5; «from» = 1; to = 2; msg = msg.VoteReq t1_1_1 1 1 }
-
-abbrev pub p6 : Packet
-p6 = record { number = 6; «from» = 1; to = 3; msg = msg.VoteReq t1_1_1 1 1 }
-
+-- the votes of sites 2 and 3, in packets 7 and 8
 abbrev pub p7 : Packet
-p7 = record { number = 7; «from» = 2; to = 1; msg = msg.Vote t1_1_1 true }
+p7 = packet 7 2 1 (msg.Vote t1_1_1 true)
 
 abbrev pub p8 : Packet
-p8 = record { number = 8; «from» = 3; to = 1; msg = msg.Vote t1_1_1 true }
+p8 = packet 8 3 1 (msg.Vote t1_1_1 true)
 
-abbrev pub p9 : Packet
-p9 = record { number = 9; «from» = 2; to = 3; msg = msg.Ask t1_1_1 (record { inc = 1; seq = 1 }) }
+-- the election of site 2, which has not heard of the attempt to commit: packets 9 to 13
+abbrev pub first_election : Election
+first_election = record {
+  txn = t1_1_1;
+  elector = 2;
+  others = 3 ∷ [];
+  call = call 1 1;
+  first = 9;
+  joined = 1 ∷ [];
+  number = 2;
+  states = reported W 0 ∷ [];
+}
 
-abbrev pub p10 : Packet
-p10 = record { number = 10; «from» = 3; to = 2; msg = msg.LastElected t1_1_1 (record { inc = 1; seq = 1 }) 1 }
-
-abbrev pub p11 : Packet
-p11 = record { number = 11; «from» = 2; to = 3; msg = msg.Elected t1_1_1 2 }
-
-abbrev pub p12 : Packet
-p12 = record { number = 12; «from» = 3; to = 2; msg = msg.Report t1_1_1 2 W 0 }
-
-abbrev pub p13 : Packet
-p13 = record { number = 13; «from» = 2; to = 3; msg = msg.Pre t1_1_1 2 Abort }
-
-abbrev pub p14 : Packet
-p14 = record { number = 14; «from» = 1; to = 3; msg = msg.Ask t1_1_1 (record { inc = 2; seq = 1 }) }
-
-abbrev pub p15 : Packet
-p15 = record { number = 15; «from» = 3; to = 1; msg = msg.LastElected t1_1_1 (record { inc = 2; seq = 1 }) 2 }
-
-abbrev pub p16 : Packet
-p16 = record { number = 16; «from» = 1; to = 3; msg = msg.Elected t1_1_1 3 }
-
-abbrev pub p17 : Packet
-p17 = record { number = 17; «from» = 3; to = 1; msg = msg.Report t1_1_1 3 W 0 }
-
-abbrev pub p18 : Packet
-p18 = record { number = 18; «from» = 1; to = 3; msg = msg.Pre t1_1_1 3 Commit }
-
-abbrev pub p19 : Packet
-p19 = record { number = 19; «from» = 3; to = 1; msg = msg.Ack t1_1_1 3 Commit }
-
-abbrev pub p20 : Packet
-p20 = record { number = 20; «from» = 1; to = 3; msg = msg.Decide t1_1_1 Commit }
-
-abbrev pub p21 : Packet
-p21 = record { number = 21; «from» = 1; to = 2; msg = msg.Ask t1_1_1 (record { inc = 2; seq = 2 }) }
-
-abbrev pub p22 : Packet
-p22 = record { number = 22; «from» = 1; to = 3; msg = msg.Ask t1_1_1 (record { inc = 2; seq = 2 }) }
-
-abbrev pub p23 : Packet
-p23 = record { number = 23; «from» = 2; to = 1; msg = msg.LastElected t1_1_1 (record { inc = 2; seq = 2 }) 2 }
-
-abbrev pub p24 : Packet
-p24 = record { number = 24; «from» = 3; to = 1; msg = msg.LastElected t1_1_1 (record { inc = 2; seq = 2 }) 3 }
-
-abbrev pub p25 : Packet
-p25 = record { number = 25; «from» = 1; to = 2; msg = msg.Elected t1_1_1 4 }
-
-abbrev pub p26 : Packet
-p26 = record { number = 26; «from» = 1; to = 3; msg = msg.Elected t1_1_1 4 }
-
-abbrev pub p27 : Packet
-p27 = record { number = 27; «from» = 2; to = 1; msg = msg.Report t1_1_1 4 Pa 2 }
-
-abbrev pub p28 : Packet
-p28 = record { number = 28; «from» = 3; to = 1; msg = msg.Report t1_1_1 4 C 3 }
-
-abbrev pub p29 : Packet
-p29 = record { number = 29; «from» = 1; to = 2; msg = msg.Decide t1_1_1 Commit }
-
-abbrev pub p30 : Packet
-p30 = record { number = 30; «from» = 1; to = 3; msg = msg.Decide t1_1_1 Commit }
-
--- its history up to the rise of the third site, entry by entry
+-- Its history up to the rise of site 3. Sites 1 and 3 fall in the frames of their attempts: site 1 attempts to commit, and
+-- site 3, with site 2, to abort.
 abbrev pub before_its_rise : List Entry
 before_its_rise =
-    record { owner = 1; act = Rise false 1 } ∷
-    record { owner = 2; act = Rise false 1 } ∷
-    record { owner = 3; act = Rise false 1 } ∷
-    record { owner = 0; act = Line 1 } ∷
-    record { owner = 1; act = Step (input.Begin s1_2_3) ([]) ([]) (told.Began t1_1_1 ∷ []) } ∷
-    record { owner = 0; act = Line 2 } ∷
-    record { owner = 1; act = Step (input.Do t1_1_1 (Write key_1_x (codes "a"))) ([]) ([]) (told.Op t1_1_1 1 Written ∷ []) } ∷
-    record { owner = 0; act = Line 3 } ∷
-    record { owner = 1; act = Step (input.Do t1_1_1 (Write key_2_y (codes "b"))) ([]) (p1 ∷ []) ([]) } ∷
-    record { owner = 2; act = Step (input.Deliver p1) ([]) (p2 ∷ []) ([]) } ∷
-    record { owner = 1; act = Step (input.Deliver p2) ([]) ([]) (told.Op t1_1_1 2 Written ∷ []) } ∷
-    record { owner = 0; act = Line 4 } ∷
-    record { owner = 1; act = Step (input.Do t1_1_1 (Write key_3_z (codes "c"))) ([]) (p3 ∷ []) ([]) } ∷
-    record { owner = 3; act = Step (input.Deliver p3) ([]) (p4 ∷ []) ([]) } ∷
-    record { owner = 1; act = Step (input.Deliver p4) ([]) ([]) (told.Op t1_1_1 3 Written ∷ []) } ∷
-    record { owner = 0; act = Line 5 } ∷
-    record { owner = 0; act = Line 6 } ∷
-    record { owner = 1; act = Step (input.Commit t1_1_1) (log.Vote t1_1_1 (record { n = 1; op = Write key_1_x (codes "a") } ∷ []) ∷ []) (p5 ∷ p6 ∷ []) ([]) } ∷
-    record { owner = 2; act = Step (input.Deliver p5) (log.Vote t1_1_1 (record { n = 2; op = Write key_2_y (codes "b") } ∷ []) ∷ []) (p7 ∷ []) ([]) } ∷
-    record { owner = 3; act = Step (input.Deliver p6) (log.Vote t1_1_1 (record { n = 3; op = Write key_3_z (codes "c") } ∷ []) ∷ []) (p8 ∷ []) ([]) } ∷
-    record { owner = 1; act = Step (input.Deliver p7) ([]) ([]) ([]) } ∷
-    record { owner = 1; act = Fall (input.Deliver p8 ∷ []) (log.Attempt t1_1_1 1 Commit ∷ []) Fault } ∷
-    record { owner = 0; act = Line 7 } ∷
-    record { owner = 0; act = Line 8 } ∷
-    record { owner = 2; act = Step (input.Elect t1_1_1 s2_3) ([]) (p9 ∷ []) ([]) } ∷
-    record { owner = 3; act = Step (input.Deliver p9) ([]) (p10 ∷ []) ([]) } ∷
-    record { owner = 2; act = Step (input.Deliver p10) (log.Join t1_1_1 2 ∷ []) (p11 ∷ []) ([]) } ∷
-    record { owner = 3; act = Step (input.Deliver p11) (log.Join t1_1_1 2 ∷ []) (p12 ∷ []) ([]) } ∷
-    record { owner = 2; act = Step (input.Deliver p12) (log.Attempt t1_1_1 2 Abort ∷ []) (p13 ∷ []) (told.Verdict t1_1_1 2 verdict.PreAbort ∷ []) } ∷
-    record { owner = 3; act = Fall (input.Deliver p13 ∷ []) (log.Attempt t1_1_1 2 Abort ∷ []) Fault } ∷
-    record { owner = 0; act = Line 9 } ∷
-    record { owner = 1; act = Rise true 2 } ∷
-    record { owner = 0; act = Line 10 } ∷
+    let p5 = packet 5 1 2 (msg.VoteReq t1_1_1 1 1) in
+    let p6 = packet 6 1 3 (msg.VoteReq t1_1_1 1 1) in
+    written_here t1_1_1 ++
+    remote_operation t1_1_1 2 (Write key_2_y (codes "b")) Written 1 ++
+    line 4 ∷
+    remote_operation t1_1_1 3 (Write key_3_z (codes "c")) Written 3 ++
+    line 5 ∷
+    line 6 ∷
+    asks_votes t1_1_1 (operation 1 (Write key_1_x (codes "a")) ∷ []) (p5 ∷ p6 ∷ []) ∷
+    gets 2 p5 (log.Vote t1_1_1 (operation 2 (Write key_2_y (codes "b")) ∷ []) ∷ []) (p7 ∷ []) [] ∷
+    gets 3 p6 (log.Vote t1_1_1 (operation 3 (Write key_3_z (codes "c")) ∷ []) ∷ []) (p8 ∷ []) [] ∷
+    gets 1 p7 [] [] [] ∷
+    falls 1 (input.Deliver p8) (log.Attempt t1_1_1 1 Commit ∷ []) ∷
+    line 7 ∷
+    line 8 ∷
+    elects_and_attempts first_election Abort verdict.PreAbort ++
+    falls 3 (input.Deliver (packet 13 2 3 (msg.Pre t1_1_1 2 Abort))) (log.Attempt t1_1_1 2 Abort ∷ []) ∷
+    line 9 ∷
+    rises_kept 1 2 ∷
+    line 10 ∷
     []
 
--- its history, entry by entry
+-- the election of site 1, where site 3 reports this: packets 14 to 20, to the decision
+abbrev pub second_election : Reported → Election
+second_election by_3 = record {
+  txn = t1_1_1;
+  elector = 1;
+  others = 3 ∷ [];
+  call = call 2 1;
+  first = 14;
+  joined = 2 ∷ [];
+  number = 3;
+  states = by_3 ∷ [];
+}
+
+-- the election of site 1 with both, where site 3 has decided and is in this state: packets 21 to 28
+abbrev pub third_election : State → Election
+third_election state_of_3 = record {
+  txn = t1_1_1;
+  elector = 1;
+  others = s2_3;
+  call = call 2 2;
+  first = 21;
+  joined = 2 ∷ 3 ∷ [];
+  number = 4;
+  states = reported Pa 2 ∷ reported state_of_3 3 ∷ [];
+}
+
+-- What is behind the rise of site 3. It reports this to site 1: so both attempt this direction, by the first of these verdicts,
+-- and decide, which leaves site 3 in this state. Site 2 rises, and hears of the decision by the second verdict.
+abbrev pub behind_its_rise : Reported → Dir → State → Verdict → Verdict → List Entry
+behind_its_rise by_3 dir decided first second =
+    let p29 = packet 29 1 2 (msg.Decide t1_1_1 dir) in
+    let p30 = packet 30 1 3 (msg.Decide t1_1_1 dir) in
+    line 11 ∷
+    cut 2 ∷
+    line 12 ∷
+    elects_and_attempts (second_election by_3) dir first ++
+    all_follow (second_election by_3) 1 dir [] ++
+    line 13 ∷
+    rises 2 2 ∷
+    line 14 ∷
+    elects (third_election decided) ++
+    concludes (third_election decided) [] (p29 ∷ p30 ∷ []) second ++
+    gets 2 p29 (log.Decision t1_1_1 dir ∷ []) [] [] ∷
+    gets 3 p30 [] [] [] ∷
+    []
+
+-- its history: nothing is kept of the attempt to abort
 abbrev pub cascade_commits_history : List Entry
 cascade_commits_history =
     before_its_rise ++
-    record { owner = 3; act = Rise false 2 } ∷
-    record { owner = 0; act = Line 11 } ∷
-    record { owner = 2; act = Cut } ∷
-    record { owner = 0; act = Line 12 } ∷
-    record { owner = 1; act = Step (input.Elect t1_1_1 s1_3) ([]) (p14 ∷ []) ([]) } ∷
-    record { owner = 3; act = Step (input.Deliver p14) ([]) (p15 ∷ []) ([]) } ∷
-    record { owner = 1; act = Step (input.Deliver p15) (log.Join t1_1_1 3 ∷ []) (p16 ∷ []) ([]) } ∷
-    record { owner = 3; act = Step (input.Deliver p16) (log.Join t1_1_1 3 ∷ []) (p17 ∷ []) ([]) } ∷
-    record { owner = 1; act = Step (input.Deliver p17) (log.Attempt t1_1_1 3 Commit ∷ []) (p18 ∷ []) (told.Verdict t1_1_1 3 verdict.PreCommit ∷ []) } ∷
-    record { owner = 3; act = Step (input.Deliver p18) (log.Attempt t1_1_1 3 Commit ∷ []) (p19 ∷ []) ([]) } ∷
-    record { owner = 1; act = Step (input.Deliver p19) (log.Decision t1_1_1 Commit ∷ []) (p20 ∷ []) ([]) } ∷
-    record { owner = 3; act = Step (input.Deliver p20) (log.Decision t1_1_1 Commit ∷ []) ([]) ([]) } ∷
-    record { owner = 0; act = Line 13 } ∷
-    record { owner = 2; act = Rise false 2 } ∷
-    record { owner = 0; act = Line 14 } ∷
-    record { owner = 1; act = Step (input.Elect t1_1_1 s1_2_3) ([]) (p21 ∷ p22 ∷ []) ([]) } ∷
-    record { owner = 2; act = Step (input.Deliver p21) ([]) (p23 ∷ []) ([]) } ∷
-    record { owner = 3; act = Step (input.Deliver p22) ([]) (p24 ∷ []) ([]) } ∷
-    record { owner = 1; act = Step (input.Deliver p23) ([]) ([]) ([]) } ∷
-    record { owner = 1; act = Step (input.Deliver p24) (log.Join t1_1_1 4 ∷ []) (p25 ∷ p26 ∷ []) ([]) } ∷
-    record { owner = 2; act = Step (input.Deliver p25) (log.Join t1_1_1 4 ∷ []) (p27 ∷ []) ([]) } ∷
-    record { owner = 3; act = Step (input.Deliver p26) (log.Join t1_1_1 4 ∷ []) (p28 ∷ []) ([]) } ∷
-    record { owner = 1; act = Step (input.Deliver p27) ([]) ([]) ([]) } ∷
-    record { owner = 1; act = Step (input.Deliver p28) ([]) (p29 ∷ p30 ∷ []) (told.Verdict t1_1_1 4 verdict.Commit ∷ []) } ∷
-    record { owner = 2; act = Step (input.Deliver p29) (log.Decision t1_1_1 Commit ∷ []) ([]) ([]) } ∷
-    record { owner = 3; act = Step (input.Deliver p30) ([]) ([]) ([]) } ∷
-    []
+    rises 3 2 ∷
+    behind_its_rise (reported W 0) Commit C verdict.PreCommit verdict.Commit
 
 -- what it comes to
 abbrev pub cascade_commits_outcome : Outcome

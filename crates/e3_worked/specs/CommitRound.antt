@@ -1,85 +1,68 @@
 -- A commit over two sites in which nothing fails: one step of six entries, as many as the commit round has at most.
-use Rattle.std.specs.Prelude.{◌∷◌, [], false, true, List, codes}
-use Rattle.e3_types.specs.declared.entries.Act.TheVariants.{Step, Rise, Line}
-use Rattle.e3_types.specs.declared.transactions.Answer.TheVariants.{Written}
+use Rattle.std.specs.Prelude.{◌++◌, ◌∷◌, [], ◌+◌, true, List, codes}
 use Rattle.e3_types.specs.declared.transactions.Dir.TheVariants.{Commit}
 use Rattle.e3_types.specs.declared.entries.Entry.{Entry}
+use Rattle.e3_types.specs.declared.transactions.NumOp.{NumOp}
 use Rattle.e3_types.specs.declared.transactions.Op.TheVariants.{Write}
 use Rattle.e3_types.specs.declared.messages.Packet.{Packet}
 use Rattle.e3_types.specs.declared.scenarios.Scenario.{Scenario}
 use Rattle.e3_types.specs.declared.transactions.Txn.{Txn}
-use Rattle.e3_types.specs.declared.entries.Input.TheVariants as input
 use Rattle.e3_types.specs.declared.scenarios.Item.TheVariants as item
 use Rattle.e3_types.specs.declared.messages.Message.TheVariants as msg
 use Rattle.e3_types.specs.declared.records.Record.TheVariants as log
 use Rattle.e3_types.specs.declared.entries.Told.TheVariants as told
-use Rattle.e3_worked.specs.Names.{bare, s1_2, key_1_x}
+use Rattle.e3_worked.specs.Entries.{packet, operation, gets, asks_votes}
+use Rattle.e3_worked.specs.Openings.{written_here}
+use Rattle.e3_worked.specs.Names.{one_by_one, txn, s1_2, key_1_x}
 use Rattle.e3_worked.specs.Worked.{Outcome, one_row}
-
--- its transactions
-abbrev pub t1_1_1 : Txn
-t1_1_1 = record { site = 1; inc = 1; seq = 1; sites = s1_2 }
 
 -- the scenario
 abbrev pub commit_round : Scenario
-commit_round = record (bare (1 ∷ 1 ∷ [])) {
-  steps =
-      (item.Begin (codes "t") 1 s1_2 ∷ []) ∷
-      (item.Write (codes "t") key_1_x (codes "a") ∷ []) ∷
-      (item.Commit (codes "t") ∷ []) ∷
-      [];
-}
+commit_round = one_by_one (1 ∷ 1 ∷ []) (
+    item.Begin (codes "t") 1 s1_2 ∷
+    item.Write (codes "t") key_1_x (codes "a") ∷
+    item.Commit (codes "t") ∷
+    [])
 
--- the packets, by their numbers
-abbrev pub p1 : Packet
-p1 = record { number = 1; «from» = 1; to = 2; msg = msg.VoteReq t1_1_1 0 0 }
+-- its transaction
+abbrev pub t1_1_1 : Txn
+t1_1_1 = txn 1 1 s1_2
 
-abbrev pub p2 : Packet
-p2 = record { number = 2; «from» = 2; to = 1; msg = msg.Vote t1_1_1 true }
-
-abbrev pub p3 : Packet
-p3 = record { number = 3; «from» = 1; to = 2; msg = msg.Pre t1_1_1 1 Commit }
-
-abbrev pub p4 : Packet
-p4 = record { number = 4; «from» = 2; to = 1; msg = msg.Ack t1_1_1 1 Commit }
-
-abbrev pub p5 : Packet
-p5 = record { number = 5; «from» = 1; to = 2; msg = msg.Decide t1_1_1 Commit }
-
--- its history up to the step of the commit, entry by entry
-abbrev pub before_commit : List Entry
-before_commit =
-    record { owner = 1; act = Rise false 1 } ∷
-    record { owner = 2; act = Rise false 1 } ∷
-    record { owner = 0; act = Line 1 } ∷
-    record { owner = 1; act = Step (input.Begin s1_2) ([]) ([]) (told.Began t1_1_1 ∷ []) } ∷
-    record { owner = 0; act = Line 2 } ∷
-    record { owner = 1; act = Step (input.Do t1_1_1 (Write key_1_x (codes "a"))) ([]) ([]) (told.Op t1_1_1 1 Written ∷ []) } ∷
-    record { owner = 0; act = Line 3 } ∷
+-- What comes of a coordinator's request for the vote of its one other site, where nothing fails: the other site votes for the
+-- operations that it did, both attempt to commit, and both commit.
+abbrev pub behind_request : Txn → List NumOp → Packet → List Entry
+behind_request t ops request =
+    let other = request.to in
+    let vote = packet (request.number + 1) other t.site (msg.Vote t true) in
+    let pre = packet (request.number + 2) t.site other (msg.Pre t 1 Commit) in
+    let ack = packet (request.number + 3) other t.site (msg.Ack t 1 Commit) in
+    let decide = packet (request.number + 4) t.site other (msg.Decide t Commit) in
+    gets other request (log.Vote t ops ∷ []) (vote ∷ []) [] ∷
+    gets t.site vote (log.Attempt t 1 Commit ∷ []) (pre ∷ []) [] ∷
+    gets other pre (log.Attempt t 1 Commit ∷ []) (ack ∷ []) [] ∷
+    gets t.site ack (log.Decision t Commit ∷ []) (decide ∷ []) (told.Ended t Commit ∷ []) ∷
+    gets other decide (log.Decision t Commit ∷ []) [] [] ∷
     []
+
+-- the request for the vote of site 2, which did nothing for the transaction: the first packet
+abbrev pub p1 : Packet
+p1 = packet 1 1 2 (msg.VoteReq t1_1_1 0 0)
+
+-- what is before the Commit
+abbrev pub before_commit : List Entry
+before_commit = written_here t1_1_1
+
+-- the Commit: site 1 votes, and asks site 2
+abbrev pub the_commit : Entry
+the_commit = asks_votes t1_1_1 (operation 1 (Write key_1_x (codes "a")) ∷ []) (p1 ∷ [])
 
 -- what is behind the Commit
 abbrev pub behind_commit : List Entry
-behind_commit =
-    record { owner = 2; act = Step (input.Deliver p1) (log.Vote t1_1_1 ([]) ∷ []) (p2 ∷ []) ([]) } ∷
-    record { owner = 1; act = Step (input.Deliver p2) (log.Attempt t1_1_1 1 Commit ∷ []) (p3 ∷ []) ([]) } ∷
-    record { owner = 2; act = Step (input.Deliver p3) (log.Attempt t1_1_1 1 Commit ∷ []) (p4 ∷ []) ([]) } ∷
-    record { owner = 1; act = Step (input.Deliver p4) (log.Decision t1_1_1 Commit ∷ []) (p5 ∷ []) (told.Ended t1_1_1 Commit ∷ []) } ∷
-    record { owner = 2; act = Step (input.Deliver p5) (log.Decision t1_1_1 Commit ∷ []) ([]) ([]) } ∷
-    []
+behind_commit = behind_request t1_1_1 [] p1
 
--- its history, entry by entry
+-- its history
 abbrev pub commit_round_history : List Entry
-commit_round_history =
-    record { owner = 1; act = Rise false 1 } ∷
-    record { owner = 2; act = Rise false 1 } ∷
-    record { owner = 0; act = Line 1 } ∷
-    record { owner = 1; act = Step (input.Begin s1_2) ([]) ([]) (told.Began t1_1_1 ∷ []) } ∷
-    record { owner = 0; act = Line 2 } ∷
-    record { owner = 1; act = Step (input.Do t1_1_1 (Write key_1_x (codes "a"))) ([]) ([]) (told.Op t1_1_1 1 Written ∷ []) } ∷
-    record { owner = 0; act = Line 3 } ∷
-    record { owner = 1; act = Step (input.Commit t1_1_1) (log.Vote t1_1_1 (record { n = 1; op = Write key_1_x (codes "a") } ∷ []) ∷ []) (p1 ∷ []) ([]) } ∷
-    behind_commit
+commit_round_history = before_commit ++ the_commit ∷ behind_commit
 
 -- what it comes to
 abbrev pub commit_round_outcome : Outcome

@@ -9,6 +9,7 @@ use Rattle.e3_types.specs.declared.entries.Input.{Input}
 use Rattle.e3_types.specs.declared.entries.Told.{Told}
 use Rattle.e3_types.specs.declared.messages.Packet.{Packet}
 use Rattle.e3_types.specs.declared.records.Record.{Record}
+use Rattle.e3_types.specs.declared.entries.Why.{Why}
 
 -- the breach of this guard by the entry at this place
 abbrev pub breach_at : ℕ → rule.Guard → Option Breach
@@ -53,6 +54,11 @@ abbrev pub with_input : Input → Act → Act
 with_input i (Step j records outs events) = Step i records outs events
 with_input i (Fall inputs records why) = Fall (i ∷ []) records why
 with_input i act = act
+
+-- a fall has this cause in place of its own
+abbrev pub with_why : Why → Act → Act
+with_why why (Fall inputs records other) = Fall inputs records why
+with_why why act = act
 
 -- a fall has these inputs in place of its own
 abbrev pub with_inputs : List Input → Act → Act

@@ -1,11 +1,8 @@
 -- A site that joined an election of its own gives no vote; a recovery aborts.
-use Rattle.std.specs.Prelude.{◌∷◌, [], ℕ, true, false, List, codes, ◌++◌}
-use Rattle.e3_types.specs.declared.entries.Act.TheVariants.{Step, Rise, Line}
-use Rattle.e3_types.specs.declared.transactions.Answer.TheVariants.{Written}
+use Rattle.std.specs.Prelude.{◌++◌, ◌∷◌, [], ℕ, true, List, codes}
 use Rattle.e3_types.specs.declared.transactions.Dir.TheVariants.{Abort}
 use Rattle.e3_types.specs.declared.entries.Entry.{Entry}
 use Rattle.e3_types.specs.declared.transactions.Op.TheVariants.{Write}
-use Rattle.e3_types.specs.declared.messages.Packet.{Packet}
 use Rattle.e3_types.specs.declared.scenarios.Scenario.{Scenario}
 use Rattle.e3_types.specs.declared.transactions.State.TheVariants.{Q, W}
 use Rattle.e3_types.specs.declared.transactions.Txn.{Txn}
@@ -15,23 +12,20 @@ use Rattle.e3_types.specs.declared.messages.Message.TheVariants as msg
 use Rattle.e3_types.specs.declared.records.Record.TheVariants as log
 use Rattle.e3_types.specs.declared.entries.Told.TheVariants as told
 use Rattle.e3_types.specs.declared.verdicts.Verdict.TheVariants as verdict
-use Rattle.e3_worked.specs.Names.{bare, s1_2_3, s2, key_1_x}
-
--- its transactions
-abbrev pub t1_1_1 : Txn
-t1_1_1 = record { site = 1; inc = 1; seq = 1; sites = s1_2_3 }
+use Rattle.e3_worked.specs.Entries.{packet, call, operation, line, takes, gets, asks_votes}
+use Rattle.e3_worked.specs.Openings.{written_here}
+use Rattle.e3_worked.specs.Elections.{Election, reported, elects_and_attempts, all_follow}
+use Rattle.e3_worked.specs.Names.{one_by_one, txn, s2, s2_3, s1_2_3, key_1_x}
 
 -- the scenario
 abbrev pub elected_site_stays_silent : Scenario
-elected_site_stays_silent = record (bare (1 ∷ 1 ∷ 1 ∷ [])) {
-  steps =
-      (item.Begin (codes "t") 1 s1_2_3 ∷ []) ∷
-      (item.Write (codes "t") key_1_x (codes "a") ∷ []) ∷
-      (item.Elect 2 (codes "t") s2 ∷ []) ∷
-      (item.Commit (codes "t") ∷ []) ∷
-      (item.Recover s1_2_3 ∷ []) ∷
-      [];
-}
+elected_site_stays_silent = one_by_one (1 ∷ 1 ∷ 1 ∷ []) (
+    item.Begin (codes "t") 1 s1_2_3 ∷
+    item.Write (codes "t") key_1_x (codes "a") ∷
+    item.Elect 2 (codes "t") s2 ∷
+    item.Commit (codes "t") ∷
+    item.Recover s1_2_3 ∷
+    [])
 
 -- its text
 abbrev pub elected_site_stays_silent_text : List ℕ
@@ -47,92 +41,39 @@ elected_site_stays_silent_text =
     codes "  \"recover 1,2,3\",\n" ++
     codes "]\n"
 
--- the packets, by their numbers
-abbrev pub p1 : Packet
-p1 = record { number = 1; «from» = 1; to = 2; msg = msg.VoteReq t1_1_1 0 0 }
+-- its transaction
+abbrev pub t1_1_1 : Txn
+t1_1_1 = txn 1 1 s1_2_3
 
-abbrev pub p2 : Packet
-p2 = record { number = 2; «from» = 1; to = 3; msg = msg.VoteReq t1_1_1 0 0 }
+-- the election of the recovery: packets 4 to 17
+abbrev pub recovery : Election
+recovery = record {
+  txn = t1_1_1;
+  elector = 1;
+  others = s2_3;
+  call = call 1 1;
+  first = 4;
+  joined = 2 ∷ 1 ∷ [];
+  number = 3;
+  states = reported Q 0 ∷ reported W 0 ∷ [];
+}
 
-abbrev pub p3 : Packet
-p3 = record { number = 3; «from» = 3; to = 1; msg = msg.Vote t1_1_1 true }
-
-abbrev pub p4 : Packet
-p4 = record { number = 4; «from» = 1; to = 2; msg = msg.Ask t1_1_1 (record { inc = 1; seq = 1 }) }
-
-abbrev pub p5 : Packet
-p5 = record { number = 5; «from» = 1; to = 3; msg = msg.Ask t1_1_1 (record { inc = 1; seq = 1 }) }
-
-abbrev pub p6 : Packet
-p6 = record { number = 6; «from» = 2; to = 1; msg = msg.LastElected t1_1_1 (record { inc = 1; seq = 1 }) 2 }
-
-abbrev pub p7 : Packet
-p7 = record { number = 7; «from» = 3; to = 1; msg = msg.LastElected t1_1_1 (record { inc = 1; seq = 1 }) 1 }
-
-abbrev pub p8 : Packet
-p8 = record { number = 8; «from» = 1; to = 2; msg = msg.Elected t1_1_1 3 }
-
-abbrev pub p9 : Packet
-p9 = record { number = 9; «from» = 1; to = 3; msg = msg.Elected t1_1_1 3 }
-
-abbrev pub p10 : Packet
-p10 = record { number = 10; «from» = 2; to = 1; msg = msg.Report t1_1_1 3 Q 0 }
-
-abbrev pub p11 : Packet
-p11 = record { number = 11; «from» = 3; to = 1; msg = msg.Report t1_1_1 3 W 0 }
-
-abbrev pub p12 : Packet
-p12 = record { number = 12; «from» = 1; to = 2; msg = msg.Pre t1_1_1 3 Abort }
-
-abbrev pub p13 : Packet
-p13 = record { number = 13; «from» = 1; to = 3; msg = msg.Pre t1_1_1 3 Abort }
-
-abbrev pub p14 : Packet
-p14 = record { number = 14; «from» = 2; to = 1; msg = msg.Ack t1_1_1 3 Abort }
-
-abbrev pub p15 : Packet
-p15 = record { number = 15; «from» = 3; to = 1; msg = msg.Ack t1_1_1 3 Abort }
-
-abbrev pub p16 : Packet
-p16 = record { number = 16; «from» = 1; to = 2; msg = msg.Decide t1_1_1 Abort }
-
-abbrev pub p17 : Packet
-p17 = record { number = 17; «from» = 1; to = 3; msg = msg.Decide t1_1_1 Abort }
-
--- its history, entry by entry
+-- its history, entry by entry up to the recovery
 abbrev pub elected_site_stays_silent_history : List Entry
 elected_site_stays_silent_history =
-    record { owner = 1; act = Rise false 1 } ∷
-    record { owner = 2; act = Rise false 1 } ∷
-    record { owner = 3; act = Rise false 1 } ∷
-    record { owner = 0; act = Line 1 } ∷
-    record { owner = 1; act = Step (input.Begin s1_2_3) ([]) ([]) (told.Began t1_1_1 ∷ []) } ∷
-    record { owner = 0; act = Line 2 } ∷
-    record { owner = 1; act = Step (input.Do t1_1_1 (Write key_1_x (codes "a"))) ([]) ([]) (told.Op t1_1_1 1 Written ∷ []) } ∷
-    record { owner = 0; act = Line 3 } ∷
-    record { owner = 2; act = Step (input.Elect t1_1_1 s2) (log.Join t1_1_1 2 ∷ []) ([]) (told.Verdict t1_1_1 2 (verdict.Block 1 3) ∷ []) } ∷
-    record { owner = 0; act = Line 4 } ∷
-    record { owner = 1; act = Step (input.Commit t1_1_1) (log.Vote t1_1_1 (record { n = 1; op = Write key_1_x (codes "a") } ∷ []) ∷ []) (p1 ∷ p2 ∷ []) ([]) } ∷
-    record { owner = 2; act = Step (input.Deliver p1) ([]) ([]) ([]) } ∷
-    record { owner = 3; act = Step (input.Deliver p2) (log.Vote t1_1_1 ([]) ∷ []) (p3 ∷ []) ([]) } ∷
-    record { owner = 1; act = Step (input.Deliver p3) ([]) ([]) ([]) } ∷
-    record { owner = 0; act = Line 5 } ∷
-    record { owner = 1; act = Step (input.Elect t1_1_1 s1_2_3) ([]) (p4 ∷ p5 ∷ []) ([]) } ∷
-    record { owner = 2; act = Step (input.Deliver p4) ([]) (p6 ∷ []) ([]) } ∷
-    record { owner = 3; act = Step (input.Deliver p5) ([]) (p7 ∷ []) ([]) } ∷
-    record { owner = 1; act = Step (input.Deliver p6) ([]) ([]) ([]) } ∷
-    record { owner = 1; act = Step (input.Deliver p7) (log.Join t1_1_1 3 ∷ []) (p8 ∷ p9 ∷ []) ([]) } ∷
-    record { owner = 2; act = Step (input.Deliver p8) (log.Join t1_1_1 3 ∷ []) (p10 ∷ []) ([]) } ∷
-    record { owner = 3; act = Step (input.Deliver p9) (log.Join t1_1_1 3 ∷ []) (p11 ∷ []) ([]) } ∷
-    record { owner = 1; act = Step (input.Deliver p10) ([]) ([]) ([]) } ∷
-    record { owner = 1; act = Step (input.Deliver p11) (log.Attempt t1_1_1 3 Abort ∷ []) (p12 ∷ p13 ∷ []) (told.Verdict t1_1_1 3 verdict.PreAbort ∷ []) } ∷
-    record { owner = 2; act = Step (input.Deliver p12) (log.Attempt t1_1_1 3 Abort ∷ []) (p14 ∷ []) ([]) } ∷
-    record { owner = 3; act = Step (input.Deliver p13) (log.Attempt t1_1_1 3 Abort ∷ []) (p15 ∷ []) ([]) } ∷
-    record { owner = 1; act = Step (input.Deliver p14) (log.Decision t1_1_1 Abort ∷ []) (p16 ∷ p17 ∷ []) (told.Ended t1_1_1 Abort ∷ []) } ∷
-    record { owner = 1; act = Step (input.Deliver p15) ([]) ([]) ([]) } ∷
-    record { owner = 2; act = Step (input.Deliver p16) (log.Decision t1_1_1 Abort ∷ []) ([]) ([]) } ∷
-    record { owner = 3; act = Step (input.Deliver p17) (log.Decision t1_1_1 Abort ∷ []) ([]) ([]) } ∷
-    []
+    let p1 = packet 1 1 2 (msg.VoteReq t1_1_1 0 0) in
+    let p2 = packet 2 1 3 (msg.VoteReq t1_1_1 0 0) in
+    let p3 = packet 3 3 1 (msg.Vote t1_1_1 true) in
+    written_here t1_1_1 ++
+    takes 2 (input.Elect t1_1_1 s2) (log.Join t1_1_1 2 ∷ []) [] (told.Verdict t1_1_1 2 (verdict.Block 1 3) ∷ []) ∷
+    line 4 ∷
+    asks_votes t1_1_1 (operation 1 (Write key_1_x (codes "a")) ∷ []) (p1 ∷ p2 ∷ []) ∷
+    gets 2 p1 [] [] [] ∷
+    gets 3 p2 (log.Vote t1_1_1 [] ∷ []) (p3 ∷ []) [] ∷
+    gets 1 p3 [] [] [] ∷
+    line 5 ∷
+    elects_and_attempts recovery Abort verdict.PreAbort ++
+    all_follow recovery 1 Abort (told.Ended t1_1_1 Abort ∷ [])
 
 -- its report
 abbrev pub elected_site_stays_silent_report : List ℕ

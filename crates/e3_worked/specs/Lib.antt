@@ -1,5 +1,8 @@
 pub mod Worked
 pub mod Names
+pub mod Entries
+pub mod Openings
+pub mod Elections
 pub mod BusyCancelOver
 pub mod CascadeAborts
 pub mod CascadeCommits

@@ -1,26 +1,30 @@
 -- A rise that never read the log, one that failed, and one that keeps what the failed one wrote.
-use Rattle.std.specs.Prelude.{◌∷◌, [], true, false, List, codes, ℕ, ◌++◌}
-use Rattle.e3_types.specs.declared.entries.Act.TheVariants.{Rise, RiseFall, Miss, Cut, Line}
+use Rattle.std.specs.Prelude.{◌++◌, ◌∷◌, [], ℕ, false, List, codes}
+use Rattle.e3_types.specs.declared.entries.Act.TheVariants.{RiseFall, Miss}
 use Rattle.e3_types.specs.declared.entries.Entry.{Entry}
+use Rattle.e3_types.specs.declared.scenarios.Leave.{Leave}
 use Rattle.e3_types.specs.declared.scenarios.Scenario.{Scenario}
 use Rattle.e3_types.specs.declared.entries.Why.TheVariants.{Fault}
 use Rattle.e3_types.specs.declared.scenarios.Item.TheVariants as item
 use Rattle.e3_types.specs.declared.scenarios.Leave.TheVariants as leave
-use Rattle.e3_worked.specs.Names.{bare}
+use Rattle.e3_worked.specs.Entries.{line, rises, rises_kept, cut}
+use Rattle.e3_worked.specs.Names.{one_by_one}
+
+-- a scenario in which one rise is missed, and one fails by a stop that leaves this
+abbrev pub missed_and_failed : Leave → Scenario
+missed_and_failed left = one_by_one (1 ∷ []) (
+    item.Crash 1 ∷
+    item.Stop 1 1 leave.None ∷
+    item.Restart 1 ∷
+    item.Stop 1 5 left ∷
+    item.Restart 1 ∷
+    item.Restart 1 ∷
+    item.Restart 1 ∷
+    [])
 
 -- the scenario
 abbrev pub missed_and_failed_rises : Scenario
-missed_and_failed_rises = record (bare (1 ∷ [])) {
-  steps =
-      (item.Crash 1 ∷ []) ∷
-      (item.Stop 1 1 leave.None ∷ []) ∷
-      (item.Restart 1 ∷ []) ∷
-      (item.Stop 1 5 leave.All ∷ []) ∷
-      (item.Restart 1 ∷ []) ∷
-      (item.Restart 1 ∷ []) ∷
-      (item.Restart 1 ∷ []) ∷
-      [];
-}
+missed_and_failed_rises = missed_and_failed leave.All
 
 -- its text
 abbrev pub missed_and_failed_rises_text : List ℕ
@@ -41,46 +45,36 @@ missed_and_failed_rises_text =
 -- its history up to the rise that does not fail, entry by entry
 abbrev pub before_the_last_rise : List Entry
 before_the_last_rise =
-    record { owner = 1; act = Rise false 1 } ∷
-    record { owner = 0; act = Line 1 } ∷
-    record { owner = 1; act = Cut } ∷
-    record { owner = 0; act = Line 2 } ∷
-    record { owner = 0; act = Line 3 } ∷
+    rises 1 1 ∷
+    line 1 ∷
+    cut 1 ∷
+    line 2 ∷
+    line 3 ∷
     record { owner = 1; act = Miss } ∷
-    record { owner = 0; act = Line 4 } ∷
-    record { owner = 0; act = Line 5 } ∷
+    line 4 ∷
+    line 5 ∷
     record { owner = 1; act = RiseFall false 2 Fault } ∷
-    record { owner = 0; act = Line 6 } ∷
+    line 6 ∷
     []
 
 -- its history, entry by entry
 abbrev pub missed_and_failed_rises_history : List Entry
 missed_and_failed_rises_history =
     before_the_last_rise ++
-    record { owner = 1; act = Rise true 3 } ∷
-    record { owner = 0; act = Line 7 } ∷
+    rises_kept 1 3 ∷
+    line 7 ∷
     []
 
 -- the same, but that the stop of the failed rise leaves nothing
 abbrev pub failed_rise_lost : Scenario
-failed_rise_lost = record missed_and_failed_rises {
-  steps =
-      (item.Crash 1 ∷ []) ∷
-      (item.Stop 1 1 leave.None ∷ []) ∷
-      (item.Restart 1 ∷ []) ∷
-      (item.Stop 1 5 leave.None ∷ []) ∷
-      (item.Restart 1 ∷ []) ∷
-      (item.Restart 1 ∷ []) ∷
-      (item.Restart 1 ∷ []) ∷
-      [];
-}
+failed_rise_lost = missed_and_failed leave.None
 
 -- its history: the last rise keeps nothing, so it has the incarnation of the failed one
 abbrev pub failed_rise_lost_history : List Entry
 failed_rise_lost_history =
     before_the_last_rise ++
-    record { owner = 1; act = Rise false 2 } ∷
-    record { owner = 0; act = Line 7 } ∷
+    rises 1 2 ∷
+    line 7 ∷
     []
 
 -- its report

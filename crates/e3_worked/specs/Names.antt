@@ -1,12 +1,22 @@
--- Names that worked histories share: scenarios over some weights, sets of sites by their numbers, and keys by their site and
--- their name.
-use Rattle.std.specs.Prelude.{◌∷◌, [], ℕ, List, codes}
+-- Names that worked histories share: scenarios over some weights, transactions, sets of sites by their numbers, and keys by
+-- their site and their name.
+use Rattle.std.specs.Prelude.{◌∷◌, [], ℕ, List, codes, map}
+use Rattle.e3_types.specs.declared.scenarios.Item.{Item}
 use Rattle.e3_types.specs.declared.scenarios.Scenario.{Scenario}
 use Rattle.e3_types.specs.declared.transactions.Key.{Key}
+use Rattle.e3_types.specs.declared.transactions.Txn.{Txn}
 
 -- sites of these weights: no rows, no step, and no packet is lost or comes twice
 abbrev pub bare : List ℕ → Scenario
 bare weights = record { weights = weights; rows = []; loss = 0; repeat = 0; luck = 0; steps = [] }
+
+-- sites of these weights, and a step for each of these items
+abbrev pub one_by_one : List ℕ → List Item → Scenario
+one_by_one weights items = record (bare weights) { steps = map (λ item. item ∷ []) items }
+
+-- the transaction that a site begins in its first incarnation, by its number there, over these sites
+abbrev pub txn : ℕ → ℕ → List ℕ → Txn
+txn site seq sites = record { site = site; inc = 1; seq = seq; sites = sites }
 
 -- sets of sites
 abbrev pub s1 : List ℕ

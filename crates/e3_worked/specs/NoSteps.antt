@@ -1,8 +1,8 @@
 -- A site that rises, and nothing more.
-use Rattle.std.specs.Prelude.{◌∷◌, [], List, false, codes, ℕ, ◌++◌}
-use Rattle.e3_types.specs.declared.entries.Act.TheVariants.{Rise}
+use Rattle.std.specs.Prelude.{◌++◌, ◌∷◌, [], ℕ, List, codes}
 use Rattle.e3_types.specs.declared.entries.Entry.{Entry}
 use Rattle.e3_types.specs.declared.scenarios.Scenario.{Scenario}
+use Rattle.e3_worked.specs.Entries.{rises}
 use Rattle.e3_worked.specs.Names.{bare}
 
 -- the scenario
@@ -18,7 +18,7 @@ no_steps_text =
 
 -- its history, entry by entry
 abbrev pub no_steps_history : List Entry
-no_steps_history = record { owner = 1; act = Rise false 1 } ∷ []
+no_steps_history = rises 1 1 ∷ []
 
 -- its report
 abbrev pub no_steps_report : List ℕ

@@ -1,41 +1,33 @@
 -- The older transaction waits for a lock; the younger dies.
-use Rattle.std.specs.Prelude.{◌∷◌, [], ℕ, true, false, List, codes, ◌++◌, take}
-use Rattle.e3_types.specs.declared.entries.Act.TheVariants.{Step, Rise, Line}
-use Rattle.e3_types.specs.declared.transactions.Answer.TheVariants.{Absent, Written}
-use Rattle.e3_types.specs.declared.transactions.Dir.TheVariants.{Abort, Commit}
+use Rattle.std.specs.Prelude.{◌++◌, ◌∷◌, [], ℕ, List, codes, take}
+use Rattle.e3_types.specs.declared.transactions.Answer.TheVariants.{Written, Absent}
+use Rattle.e3_types.specs.declared.transactions.Dir.TheVariants.{Abort}
 use Rattle.e3_types.specs.declared.entries.Entry.{Entry}
 use Rattle.e3_types.specs.declared.transactions.Op.TheVariants.{Read, Write}
-use Rattle.e3_types.specs.declared.messages.Packet.{Packet}
 use Rattle.e3_types.specs.declared.scenarios.Scenario.{Scenario}
 use Rattle.e3_types.specs.declared.transactions.Txn.{Txn}
 use Rattle.e3_types.specs.declared.entries.Input.TheVariants as input
 use Rattle.e3_types.specs.declared.scenarios.Item.TheVariants as item
-use Rattle.e3_types.specs.declared.records.Record.TheVariants as log
 use Rattle.e3_types.specs.declared.messages.Message.TheVariants as msg
+use Rattle.e3_types.specs.declared.records.Record.TheVariants as log
 use Rattle.e3_types.specs.declared.entries.Told.TheVariants as told
-use Rattle.e3_worked.specs.Names.{bare, s1_2, key_1_x, key_2_y}
+use Rattle.e3_worked.specs.Entries.{packet, operation, line, takes, gets, begins, local_operation, asks_votes}
+use Rattle.e3_worked.specs.Openings.{begun}
+use Rattle.e3_worked.specs.Names.{one_by_one, txn, s1_2, key_1_x, key_2_y}
 use Rattle.e3_worked.specs.Worked.{Outcome, one_row}
-
--- its transactions
-abbrev pub t1_1_1 : Txn
-t1_1_1 = record { site = 1; inc = 1; seq = 1; sites = s1_2 }
-
-abbrev pub t2_1_1 : Txn
-t2_1_1 = record { site = 2; inc = 1; seq = 1; sites = s1_2 }
+use Rattle.e3_worked.specs.CommitRound.{behind_request}
 
 -- the scenario
 abbrev pub older_waits_younger_dies : Scenario
-older_waits_younger_dies = record (bare (1 ∷ 1 ∷ [])) {
-  steps =
-      (item.Begin (codes "t") 1 s1_2 ∷ []) ∷
-      (item.Begin (codes "u") 2 s1_2 ∷ []) ∷
-      (item.Write (codes "t") key_1_x (codes "a") ∷ []) ∷
-      (item.Write (codes "u") key_2_y (codes "b") ∷ []) ∷
-      (item.Read (codes "t") key_2_y ∷ []) ∷
-      (item.Read (codes "u") key_1_x ∷ []) ∷
-      (item.Commit (codes "t") ∷ []) ∷
-      [];
-}
+older_waits_younger_dies = one_by_one (1 ∷ 1 ∷ []) (
+    item.Begin (codes "t") 1 s1_2 ∷
+    item.Begin (codes "u") 2 s1_2 ∷
+    item.Write (codes "t") key_1_x (codes "a") ∷
+    item.Write (codes "u") key_2_y (codes "b") ∷
+    item.Read (codes "t") key_2_y ∷
+    item.Read (codes "u") key_1_x ∷
+    item.Commit (codes "t") ∷
+    [])
 
 -- its text
 abbrev pub older_waits_younger_dies_text : List ℕ
@@ -53,67 +45,40 @@ older_waits_younger_dies_text =
     codes "  \"commit t\",\n" ++
     codes "]\n"
 
--- the packets, by their numbers
-abbrev pub p1 : Packet
-p1 = record { number = 1; «from» = 1; to = 2; msg = msg.Do t1_1_1 2 (Read key_2_y) }
+-- its transactions
+abbrev pub t1_1_1 : Txn
+t1_1_1 = txn 1 1 s1_2
 
-abbrev pub p2 : Packet
-p2 = record { number = 2; «from» = 2; to = 1; msg = msg.Do t2_1_1 2 (Read key_1_x) }
-
-abbrev pub p3 : Packet
-p3 = record { number = 3; «from» = 1; to = 2; msg = msg.Died t2_1_1 2 t1_1_1 }
-
-abbrev pub p4 : Packet
-p4 = record { number = 4; «from» = 2; to = 1; msg = msg.Decide t2_1_1 Abort }
-
-abbrev pub p5 : Packet
-p5 = record { number = 5; «from» = 2; to = 1; msg = msg.Done t1_1_1 2 1 Absent }
-
-abbrev pub p6 : Packet
-p6 = record { number = 6; «from» = 1; to = 2; msg = msg.VoteReq t1_1_1 1 1 }
-
-abbrev pub p7 : Packet
-p7 = record { number = 7; «from» = 2; to = 1; msg = msg.Vote t1_1_1 true }
-
-abbrev pub p8 : Packet
-p8 = record { number = 8; «from» = 1; to = 2; msg = msg.Pre t1_1_1 1 Commit }
-
-abbrev pub p9 : Packet
-p9 = record { number = 9; «from» = 2; to = 1; msg = msg.Ack t1_1_1 1 Commit }
-
-abbrev pub p10 : Packet
-p10 = record { number = 10; «from» = 1; to = 2; msg = msg.Decide t1_1_1 Commit }
+abbrev pub t2_1_1 : Txn
+t2_1_1 = txn 2 1 s1_2
 
 -- its history, entry by entry
 abbrev pub older_waits_younger_dies_history : List Entry
 older_waits_younger_dies_history =
-    record { owner = 1; act = Rise false 1 } ∷
-    record { owner = 2; act = Rise false 1 } ∷
-    record { owner = 0; act = Line 1 } ∷
-    record { owner = 1; act = Step (input.Begin s1_2) ([]) ([]) (told.Began t1_1_1 ∷ []) } ∷
-    record { owner = 0; act = Line 2 } ∷
-    record { owner = 2; act = Step (input.Begin s1_2) ([]) ([]) (told.Began t2_1_1 ∷ []) } ∷
-    record { owner = 0; act = Line 3 } ∷
-    record { owner = 1; act = Step (input.Do t1_1_1 (Write key_1_x (codes "a"))) ([]) ([]) (told.Op t1_1_1 1 Written ∷ []) } ∷
-    record { owner = 0; act = Line 4 } ∷
-    record { owner = 2; act = Step (input.Do t2_1_1 (Write key_2_y (codes "b"))) ([]) ([]) (told.Op t2_1_1 1 Written ∷ []) } ∷
-    record { owner = 0; act = Line 5 } ∷
-    record { owner = 1; act = Step (input.Do t1_1_1 (Read key_2_y)) ([]) (p1 ∷ []) ([]) } ∷
-    record { owner = 2; act = Step (input.Deliver p1) ([]) ([]) ([]) } ∷
-    record { owner = 0; act = Line 6 } ∷
-    record { owner = 2; act = Step (input.Do t2_1_1 (Read key_1_x)) ([]) (p2 ∷ []) ([]) } ∷
-    record { owner = 1; act = Step (input.Deliver p2) (log.Decision t2_1_1 Abort ∷ []) (p3 ∷ []) ([]) } ∷
-    record { owner = 2; act = Step (input.Deliver p3) (log.Decision t2_1_1 Abort ∷ []) (p4 ∷ p5 ∷ []) (told.Died t2_1_1 t1_1_1 ∷ []) } ∷
-    record { owner = 1; act = Step (input.Deliver p4) ([]) ([]) ([]) } ∷
-    record { owner = 1; act = Step (input.Deliver p5) ([]) ([]) (told.Op t1_1_1 2 Absent ∷ []) } ∷
-    record { owner = 0; act = Line 7 } ∷
-    record { owner = 1; act = Step (input.Commit t1_1_1) (log.Vote t1_1_1 (record { n = 1; op = Write key_1_x (codes "a") } ∷ []) ∷ []) (p6 ∷ []) ([]) } ∷
-    record { owner = 2; act = Step (input.Deliver p6) (log.Vote t1_1_1 (record { n = 2; op = Read key_2_y } ∷ []) ∷ []) (p7 ∷ []) ([]) } ∷
-    record { owner = 1; act = Step (input.Deliver p7) (log.Attempt t1_1_1 1 Commit ∷ []) (p8 ∷ []) ([]) } ∷
-    record { owner = 2; act = Step (input.Deliver p8) (log.Attempt t1_1_1 1 Commit ∷ []) (p9 ∷ []) ([]) } ∷
-    record { owner = 1; act = Step (input.Deliver p9) (log.Decision t1_1_1 Commit ∷ []) (p10 ∷ []) (told.Ended t1_1_1 Commit ∷ []) } ∷
-    record { owner = 2; act = Step (input.Deliver p10) (log.Decision t1_1_1 Commit ∷ []) ([]) ([]) } ∷
-    []
+    let p1 = packet 1 1 2 (msg.Do t1_1_1 2 (Read key_2_y)) in
+    let p2 = packet 2 2 1 (msg.Do t2_1_1 2 (Read key_1_x)) in
+    let p3 = packet 3 1 2 (msg.Died t2_1_1 2 t1_1_1) in
+    let p4 = packet 4 2 1 (msg.Decide t2_1_1 Abort) in
+    let p5 = packet 5 2 1 (msg.Done t1_1_1 2 1 Absent) in
+    let p6 = packet 6 1 2 (msg.VoteReq t1_1_1 1 1) in
+    begun t1_1_1 ++
+    begins t2_1_1 ∷
+    line 3 ∷
+    local_operation t1_1_1 1 (Write key_1_x (codes "a")) Written ∷
+    line 4 ∷
+    local_operation t2_1_1 1 (Write key_2_y (codes "b")) Written ∷
+    line 5 ∷
+    takes 1 (input.Do t1_1_1 (Read key_2_y)) [] (p1 ∷ []) [] ∷
+    gets 2 p1 [] [] [] ∷
+    line 6 ∷
+    takes 2 (input.Do t2_1_1 (Read key_1_x)) [] (p2 ∷ []) [] ∷
+    gets 1 p2 (log.Decision t2_1_1 Abort ∷ []) (p3 ∷ []) [] ∷
+    gets 2 p3 (log.Decision t2_1_1 Abort ∷ []) (p4 ∷ p5 ∷ []) (told.Died t2_1_1 t1_1_1 ∷ []) ∷
+    gets 1 p4 [] [] [] ∷
+    gets 1 p5 [] [] (told.Op t1_1_1 2 Absent ∷ []) ∷
+    line 7 ∷
+    asks_votes t1_1_1 (operation 1 (Write key_1_x (codes "a")) ∷ []) (p6 ∷ []) ∷
+    behind_request t1_1_1 (operation 2 (Read key_2_y) ∷ []) p6
 
 -- its front up to the step in which the older transaction's read comes to the key that the younger one wrote
 abbrev pub until_it_waits : List Entry

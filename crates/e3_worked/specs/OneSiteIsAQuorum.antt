@@ -1,34 +1,26 @@
 -- The coordinator is a quorum by itself: it attempts and commits in one step.
-use Rattle.std.specs.Prelude.{◌∷◌, [], ℕ, true, false, List, codes, ◌++◌}
-use Rattle.e3_types.specs.declared.entries.Act.TheVariants.{Step, Rise, Line}
-use Rattle.e3_types.specs.declared.transactions.Answer.TheVariants.{Written}
+use Rattle.std.specs.Prelude.{◌++◌, ◌∷◌, [], ℕ, true, List, codes}
 use Rattle.e3_types.specs.declared.transactions.Dir.TheVariants.{Commit}
 use Rattle.e3_types.specs.declared.entries.Entry.{Entry}
 use Rattle.e3_types.specs.declared.transactions.Op.TheVariants.{Write}
-use Rattle.e3_types.specs.declared.messages.Packet.{Packet}
 use Rattle.e3_types.specs.declared.scenarios.Scenario.{Scenario}
 use Rattle.e3_types.specs.declared.transactions.Txn.{Txn}
-use Rattle.e3_types.specs.declared.entries.Input.TheVariants as input
 use Rattle.e3_types.specs.declared.scenarios.Item.TheVariants as item
 use Rattle.e3_types.specs.declared.messages.Message.TheVariants as msg
 use Rattle.e3_types.specs.declared.records.Record.TheVariants as log
 use Rattle.e3_types.specs.declared.entries.Told.TheVariants as told
-use Rattle.e3_worked.specs.Names.{bare, s1_2_3, key_2_y}
+use Rattle.e3_worked.specs.Entries.{packet, operation, gets, asks_votes}
+use Rattle.e3_worked.specs.Openings.{written_there}
+use Rattle.e3_worked.specs.Names.{one_by_one, txn, s1_2_3, key_2_y}
 use Rattle.e3_worked.specs.Worked.{Outcome, one_row}
-
--- its transactions
-abbrev pub t1_1_1 : Txn
-t1_1_1 = record { site = 1; inc = 1; seq = 1; sites = s1_2_3 }
 
 -- the scenario
 abbrev pub one_site_is_a_quorum : Scenario
-one_site_is_a_quorum = record (bare (5 ∷ 1 ∷ 1 ∷ [])) {
-  steps =
-      (item.Begin (codes "t") 1 s1_2_3 ∷ []) ∷
-      (item.Write (codes "t") key_2_y (codes "b") ∷ []) ∷
-      (item.Commit (codes "t") ∷ []) ∷
-      [];
-}
+one_site_is_a_quorum = one_by_one (5 ∷ 1 ∷ 1 ∷ []) (
+    item.Begin (codes "t") 1 s1_2_3 ∷
+    item.Write (codes "t") key_2_y (codes "b") ∷
+    item.Commit (codes "t") ∷
+    [])
 
 -- its text
 abbrev pub one_site_is_a_quorum_text : List ℕ
@@ -41,51 +33,27 @@ one_site_is_a_quorum_text =
     codes "  \"commit t\",\n" ++
     codes "]\n"
 
--- the packets, by their numbers
-abbrev pub p1 : Packet
-p1 = record { number = 1; «from» = 1; to = 2; msg = msg.Do t1_1_1 1 (Write key_2_y (codes "b")) }
-
-abbrev pub p2 : Packet
-p2 = record { number = 2; «from» = 2; to = 1; msg = msg.Done t1_1_1 1 1 Written }
-
-abbrev pub p3 : Packet
-p3 = record { number = 3; «from» = 1; to = 2; msg = msg.VoteReq t1_1_1 1 1 }
-
-abbrev pub p4 : Packet
-p4 = record { number = 4; «from» = 1; to = 3; msg = msg.VoteReq t1_1_1 0 0 }
-
-abbrev pub p5 : Packet
-p5 = record { number = 5; «from» = 2; to = 1; msg = msg.Vote t1_1_1 true }
-
-abbrev pub p6 : Packet
-p6 = record { number = 6; «from» = 3; to = 1; msg = msg.Vote t1_1_1 true }
-
-abbrev pub p7 : Packet
-p7 = record { number = 7; «from» = 1; to = 2; msg = msg.Decide t1_1_1 Commit }
-
-abbrev pub p8 : Packet
-p8 = record { number = 8; «from» = 1; to = 3; msg = msg.Decide t1_1_1 Commit }
+-- its transaction
+abbrev pub t1_1_1 : Txn
+t1_1_1 = txn 1 1 s1_2_3
 
 -- its history, entry by entry
 abbrev pub one_site_is_a_quorum_history : List Entry
 one_site_is_a_quorum_history =
-    record { owner = 1; act = Rise false 1 } ∷
-    record { owner = 2; act = Rise false 1 } ∷
-    record { owner = 3; act = Rise false 1 } ∷
-    record { owner = 0; act = Line 1 } ∷
-    record { owner = 1; act = Step (input.Begin s1_2_3) ([]) ([]) (told.Began t1_1_1 ∷ []) } ∷
-    record { owner = 0; act = Line 2 } ∷
-    record { owner = 1; act = Step (input.Do t1_1_1 (Write key_2_y (codes "b"))) ([]) (p1 ∷ []) ([]) } ∷
-    record { owner = 2; act = Step (input.Deliver p1) ([]) (p2 ∷ []) ([]) } ∷
-    record { owner = 1; act = Step (input.Deliver p2) ([]) ([]) (told.Op t1_1_1 1 Written ∷ []) } ∷
-    record { owner = 0; act = Line 3 } ∷
-    record { owner = 1; act = Step (input.Commit t1_1_1) (log.Vote t1_1_1 ([]) ∷ []) (p3 ∷ p4 ∷ []) ([]) } ∷
-    record { owner = 2; act = Step (input.Deliver p3) (log.Vote t1_1_1 (record { n = 1; op = Write key_2_y (codes "b") } ∷ []) ∷ []) (p5 ∷ []) ([]) } ∷
-    record { owner = 3; act = Step (input.Deliver p4) (log.Vote t1_1_1 ([]) ∷ []) (p6 ∷ []) ([]) } ∷
-    record { owner = 1; act = Step (input.Deliver p5) ([]) ([]) ([]) } ∷
-    record { owner = 1; act = Step (input.Deliver p6) (log.Attempt t1_1_1 1 Commit ∷ log.Decision t1_1_1 Commit ∷ []) (p7 ∷ p8 ∷ []) (told.Ended t1_1_1 Commit ∷ []) } ∷
-    record { owner = 2; act = Step (input.Deliver p7) (log.Decision t1_1_1 Commit ∷ []) ([]) ([]) } ∷
-    record { owner = 3; act = Step (input.Deliver p8) (log.Decision t1_1_1 Commit ∷ []) ([]) ([]) } ∷
+    let p3 = packet 3 1 2 (msg.VoteReq t1_1_1 1 1) in
+    let p4 = packet 4 1 3 (msg.VoteReq t1_1_1 0 0) in
+    let p5 = packet 5 2 1 (msg.Vote t1_1_1 true) in
+    let p6 = packet 6 3 1 (msg.Vote t1_1_1 true) in
+    let p7 = packet 7 1 2 (msg.Decide t1_1_1 Commit) in
+    let p8 = packet 8 1 3 (msg.Decide t1_1_1 Commit) in
+    written_there t1_1_1 ++
+    asks_votes t1_1_1 [] (p3 ∷ p4 ∷ []) ∷
+    gets 2 p3 (log.Vote t1_1_1 (operation 1 (Write key_2_y (codes "b")) ∷ []) ∷ []) (p5 ∷ []) [] ∷
+    gets 3 p4 (log.Vote t1_1_1 [] ∷ []) (p6 ∷ []) [] ∷
+    gets 1 p5 [] [] [] ∷
+    gets 1 p6 (log.Attempt t1_1_1 1 Commit ∷ log.Decision t1_1_1 Commit ∷ []) (p7 ∷ p8 ∷ []) (told.Ended t1_1_1 Commit ∷ []) ∷
+    gets 2 p7 (log.Decision t1_1_1 Commit ∷ []) [] [] ∷
+    gets 3 p8 (log.Decision t1_1_1 Commit ∷ []) [] [] ∷
     []
 
 -- what it comes to

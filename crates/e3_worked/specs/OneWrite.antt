@@ -1,32 +1,27 @@
--- One write at one site, and its commit.
-use Rattle.std.specs.Prelude.{◌∷◌, [], ℕ, false, List, codes, ◌++◌}
+-- One write at one site, and its commit. Its entries stand in full.
+use Rattle.std.specs.Prelude.{◌++◌, ◌∷◌, [], ℕ, false, List, codes}
 use Rattle.e3_types.specs.declared.entries.Act.TheVariants.{Step, Rise, Line}
 use Rattle.e3_types.specs.declared.transactions.Answer.TheVariants.{Written}
 use Rattle.e3_types.specs.declared.transactions.Dir.TheVariants.{Commit}
 use Rattle.e3_types.specs.declared.entries.Entry.{Entry}
 use Rattle.e3_types.specs.declared.transactions.Op.TheVariants.{Write}
+use Rattle.e3_types.specs.declared.records.Record.{Record}
 use Rattle.e3_types.specs.declared.scenarios.Scenario.{Scenario}
 use Rattle.e3_types.specs.declared.transactions.Txn.{Txn}
 use Rattle.e3_types.specs.declared.entries.Input.TheVariants as input
 use Rattle.e3_types.specs.declared.scenarios.Item.TheVariants as item
 use Rattle.e3_types.specs.declared.records.Record.TheVariants as log
 use Rattle.e3_types.specs.declared.entries.Told.TheVariants as told
-use Rattle.e3_worked.specs.Names.{bare, s1, key_1_x}
+use Rattle.e3_worked.specs.Names.{one_by_one, txn, s1, key_1_x}
 use Rattle.e3_worked.specs.Worked.{Outcome, one_row}
-
--- its transactions
-abbrev pub t1_1_1 : Txn
-t1_1_1 = record { site = 1; inc = 1; seq = 1; sites = s1 }
 
 -- the scenario
 abbrev pub one_write : Scenario
-one_write = record (bare (1 ∷ [])) {
-  steps =
-      (item.Begin (codes "t") 1 s1 ∷ []) ∷
-      (item.Write (codes "t") key_1_x (codes "a") ∷ []) ∷
-      (item.Commit (codes "t") ∷ []) ∷
-      [];
-}
+one_write = one_by_one (1 ∷ []) (
+    item.Begin (codes "t") 1 s1 ∷
+    item.Write (codes "t") key_1_x (codes "a") ∷
+    item.Commit (codes "t") ∷
+    [])
 
 -- its text
 abbrev pub one_write_text : List ℕ
@@ -39,16 +34,34 @@ one_write_text =
     codes "  \"commit t\",\n" ++
     codes "]\n"
 
+-- its transaction
+abbrev pub t1_1_1 : Txn
+t1_1_1 = txn 1 1 s1
+
+-- its history up to the line of the commit, entry by entry
+abbrev pub before_the_commit : List Entry
+before_the_commit =
+    record { owner = 1; act = Rise false 1 } ∷
+    record { owner = 0; act = Line 1 } ∷
+    record { owner = 1; act = Step (input.Begin s1) [] [] (told.Began t1_1_1 ∷ []) } ∷
+    record { owner = 0; act = Line 2 } ∷
+    record { owner = 1; act = Step (input.Do t1_1_1 (Write key_1_x (codes "a"))) [] [] (told.Op t1_1_1 1 Written ∷ []) } ∷
+    record { owner = 0; act = Line 3 } ∷
+    []
+
+-- the vote for the write
+abbrev pub one_vote : Record
+one_vote = log.Vote t1_1_1 (record { n = 1; op = Write key_1_x (codes "a") } ∷ [])
+
+-- the frame of the commit
+abbrev pub commit_frame : List Record
+commit_frame = one_vote ∷ log.Attempt t1_1_1 1 Commit ∷ log.Decision t1_1_1 Commit ∷ []
+
 -- its history, entry by entry
 abbrev pub one_write_history : List Entry
 one_write_history =
-    record { owner = 1; act = Rise false 1 } ∷
-    record { owner = 0; act = Line 1 } ∷
-    record { owner = 1; act = Step (input.Begin s1) ([]) ([]) (told.Began t1_1_1 ∷ []) } ∷
-    record { owner = 0; act = Line 2 } ∷
-    record { owner = 1; act = Step (input.Do t1_1_1 (Write key_1_x (codes "a"))) ([]) ([]) (told.Op t1_1_1 1 Written ∷ []) } ∷
-    record { owner = 0; act = Line 3 } ∷
-    record { owner = 1; act = Step (input.Commit t1_1_1) (log.Vote t1_1_1 (record { n = 1; op = Write key_1_x (codes "a") } ∷ []) ∷ log.Attempt t1_1_1 1 Commit ∷ log.Decision t1_1_1 Commit ∷ []) ([]) (told.Ended t1_1_1 Commit ∷ []) } ∷
+    before_the_commit ++
+    record { owner = 1; act = Step (input.Commit t1_1_1) commit_frame [] (told.Ended t1_1_1 Commit ∷ []) } ∷
     []
 
 -- what it comes to

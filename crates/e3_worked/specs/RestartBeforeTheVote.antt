@@ -1,9 +1,9 @@
 -- A site restarts before it is asked for its vote: it votes no.
-use Rattle.std.specs.Prelude.{◌∷◌, [], ℕ, false, List, codes, ◌++◌}
-use Rattle.e3_types.specs.declared.entries.Act.TheVariants.{Step, Rise, Cut, Line}
+use Rattle.std.specs.Prelude.{◌++◌, ◌∷◌, [], ℕ, false, List, codes}
 use Rattle.e3_types.specs.declared.transactions.Answer.TheVariants.{Value}
 use Rattle.e3_types.specs.declared.transactions.Dir.TheVariants.{Abort}
 use Rattle.e3_types.specs.declared.entries.Entry.{Entry}
+use Rattle.e3_types.specs.declared.scenarios.Item.{Item}
 use Rattle.e3_types.specs.declared.transactions.Op.TheVariants.{Read}
 use Rattle.e3_types.specs.declared.messages.Packet.{Packet}
 use Rattle.e3_types.specs.declared.scenarios.Scenario.{Scenario}
@@ -13,25 +13,23 @@ use Rattle.e3_types.specs.declared.scenarios.Item.TheVariants as item
 use Rattle.e3_types.specs.declared.messages.Message.TheVariants as msg
 use Rattle.e3_types.specs.declared.records.Record.TheVariants as log
 use Rattle.e3_types.specs.declared.entries.Told.TheVariants as told
-use Rattle.e3_worked.specs.Names.{bare, s1_2, key_2_x}
+use Rattle.e3_worked.specs.Entries.{packet, line, rises, cut, takes, gets, asks_votes}
+use Rattle.e3_worked.specs.Openings.{begun}
+use Rattle.e3_worked.specs.Names.{one_by_one, txn, s1_2, key_2_x}
 use Rattle.e3_worked.specs.Worked.{Outcome, one_row}
 
--- its transactions
-abbrev pub t1_1_1 : Txn
-t1_1_1 = record { site = 1; inc = 1; seq = 1; sites = s1_2 }
+-- a scenario in which the transaction reads at site 2, which restarts; then these items come
+abbrev pub restart_before : List Item → Scenario
+restart_before items = record (one_by_one (1 ∷ 1 ∷ []) (
+    item.Begin (codes "t") 1 s1_2 ∷
+    item.Read (codes "t") key_2_x ∷
+    item.Crash 2 ∷
+    item.Restart 2 ∷
+    items)) { rows = record { key = key_2_x; val = codes "a" } ∷ [] }
 
 -- the scenario
 abbrev pub restart_before_the_vote : Scenario
-restart_before_the_vote = record (bare (1 ∷ 1 ∷ [])) {
-  rows = record { key = key_2_x; val = codes "a" } ∷ [];
-  steps =
-      (item.Begin (codes "t") 1 s1_2 ∷ []) ∷
-      (item.Read (codes "t") key_2_x ∷ []) ∷
-      (item.Crash 2 ∷ []) ∷
-      (item.Restart 2 ∷ []) ∷
-      (item.Commit (codes "t") ∷ []) ∷
-      [];
-}
+restart_before_the_vote = restart_before (item.Commit (codes "t") ∷ [])
 
 -- its text
 abbrev pub restart_before_the_vote_text : List ℕ
@@ -48,42 +46,42 @@ restart_before_the_vote_text =
     codes "  \"commit t\",\n" ++
     codes "]\n"
 
--- the packets, by their numbers
+-- its transaction
+abbrev pub t1_1_1 : Txn
+t1_1_1 = txn 1 1 s1_2
+
+-- the read and its answer, in packets 1 and 2
 abbrev pub p1 : Packet
-p1 = record { number = 1; «from» = 1; to = 2; msg = msg.Do t1_1_1 1 (Read key_2_x) }
+p1 = packet 1 1 2 (msg.Do t1_1_1 1 (Read key_2_x))
 
 abbrev pub p2 : Packet
-p2 = record { number = 2; «from» = 2; to = 1; msg = msg.Done t1_1_1 1 1 (Value (codes "a")) }
+p2 = packet 2 2 1 (msg.Done t1_1_1 1 1 (Value (codes "a")))
 
-abbrev pub p3 : Packet
-p3 = record { number = 3; «from» = 1; to = 2; msg = msg.VoteReq t1_1_1 1 1 }
-
-abbrev pub p4 : Packet
-p4 = record { number = 4; «from» = 2; to = 1; msg = msg.Vote t1_1_1 false }
-
-abbrev pub p5 : Packet
-p5 = record { number = 5; «from» = 1; to = 2; msg = msg.Decide t1_1_1 Abort }
+-- its history up to the line behind the restart, entry by entry
+abbrev pub until_the_restart : List Entry
+until_the_restart =
+    begun t1_1_1 ++
+    takes 1 (input.Do t1_1_1 (Read key_2_x)) [] (p1 ∷ []) [] ∷
+    gets 2 p1 [] (p2 ∷ []) [] ∷
+    gets 1 p2 [] [] (told.Op t1_1_1 1 (Value (codes "a")) ∷ []) ∷
+    line 3 ∷
+    cut 2 ∷
+    line 4 ∷
+    rises 2 2 ∷
+    line 5 ∷
+    []
 
 -- its history, entry by entry
 abbrev pub restart_before_the_vote_history : List Entry
 restart_before_the_vote_history =
-    record { owner = 1; act = Rise false 1 } ∷
-    record { owner = 2; act = Rise false 1 } ∷
-    record { owner = 0; act = Line 1 } ∷
-    record { owner = 1; act = Step (input.Begin s1_2) ([]) ([]) (told.Began t1_1_1 ∷ []) } ∷
-    record { owner = 0; act = Line 2 } ∷
-    record { owner = 1; act = Step (input.Do t1_1_1 (Read key_2_x)) ([]) (p1 ∷ []) ([]) } ∷
-    record { owner = 2; act = Step (input.Deliver p1) ([]) (p2 ∷ []) ([]) } ∷
-    record { owner = 1; act = Step (input.Deliver p2) ([]) ([]) (told.Op t1_1_1 1 (Value (codes "a")) ∷ []) } ∷
-    record { owner = 0; act = Line 3 } ∷
-    record { owner = 2; act = Cut } ∷
-    record { owner = 0; act = Line 4 } ∷
-    record { owner = 2; act = Rise false 2 } ∷
-    record { owner = 0; act = Line 5 } ∷
-    record { owner = 1; act = Step (input.Commit t1_1_1) (log.Vote t1_1_1 ([]) ∷ []) (p3 ∷ []) ([]) } ∷
-    record { owner = 2; act = Step (input.Deliver p3) (log.Decision t1_1_1 Abort ∷ []) (p4 ∷ []) ([]) } ∷
-    record { owner = 1; act = Step (input.Deliver p4) (log.Decision t1_1_1 Abort ∷ []) (p5 ∷ []) (told.Ended t1_1_1 Abort ∷ []) } ∷
-    record { owner = 2; act = Step (input.Deliver p5) ([]) ([]) ([]) } ∷
+    let p3 = packet 3 1 2 (msg.VoteReq t1_1_1 1 1) in
+    let p4 = packet 4 2 1 (msg.Vote t1_1_1 false) in
+    let p5 = packet 5 1 2 (msg.Decide t1_1_1 Abort) in
+    until_the_restart ++
+    asks_votes t1_1_1 [] (p3 ∷ []) ∷
+    gets 2 p3 (log.Decision t1_1_1 Abort ∷ []) (p4 ∷ []) [] ∷
+    gets 1 p4 (log.Decision t1_1_1 Abort ∷ []) (p5 ∷ []) (told.Ended t1_1_1 Abort ∷ []) ∷
+    gets 2 p5 [] [] [] ∷
     []
 
 -- what it comes to

@@ -1,39 +1,25 @@
--- A site restarts between two reads: the transaction is doomed.
-use Rattle.std.specs.Prelude.{◌∷◌, [], ℕ, false, List, codes, ◌++◌}
-use Rattle.e3_types.specs.declared.entries.Act.TheVariants.{Step, Rise, Cut, Line}
+-- A site restarts between two reads: the transaction is doomed. Up to the restart it goes as where the site restarts before the
+-- vote.
+use Rattle.std.specs.Prelude.{◌++◌, ◌∷◌, [], ℕ, List, codes}
 use Rattle.e3_types.specs.declared.transactions.Answer.TheVariants.{Value}
 use Rattle.e3_types.specs.declared.transactions.Dir.TheVariants.{Abort}
 use Rattle.e3_types.specs.declared.entries.Entry.{Entry}
 use Rattle.e3_types.specs.declared.transactions.Op.TheVariants.{Read}
-use Rattle.e3_types.specs.declared.messages.Packet.{Packet}
 use Rattle.e3_types.specs.declared.scenarios.Scenario.{Scenario}
-use Rattle.e3_types.specs.declared.transactions.Txn.{Txn}
 use Rattle.e3_types.specs.declared.entries.Input.TheVariants as input
 use Rattle.e3_types.specs.declared.scenarios.Item.TheVariants as item
-use Rattle.e3_types.specs.declared.records.Record.TheVariants as log
 use Rattle.e3_types.specs.declared.messages.Message.TheVariants as msg
+use Rattle.e3_types.specs.declared.records.Record.TheVariants as log
 use Rattle.e3_types.specs.declared.entries.Refusal.TheVariants as refusal
 use Rattle.e3_types.specs.declared.entries.Told.TheVariants as told
-use Rattle.e3_worked.specs.Names.{bare, s1_2, key_2_x}
-use Rattle.e3_worked.specs.Worked.{Outcome, one_row}
-
--- its transactions
-abbrev pub t1_1_1 : Txn
-t1_1_1 = record { site = 1; inc = 1; seq = 1; sites = s1_2 }
+use Rattle.e3_worked.specs.Entries.{packet, line, takes, gets}
+use Rattle.e3_worked.specs.Names.{key_2_x}
+use Rattle.e3_worked.specs.Worked.{Outcome}
+use Rattle.e3_worked.specs.RestartBeforeTheVote.{t1_1_1, restart_before, until_the_restart, restart_before_the_vote_outcome}
 
 -- the scenario
 abbrev pub restart_dooms : Scenario
-restart_dooms = record (bare (1 ∷ 1 ∷ [])) {
-  rows = record { key = key_2_x; val = codes "a" } ∷ [];
-  steps =
-      (item.Begin (codes "t") 1 s1_2 ∷ []) ∷
-      (item.Read (codes "t") key_2_x ∷ []) ∷
-      (item.Crash 2 ∷ []) ∷
-      (item.Restart 2 ∷ []) ∷
-      (item.Read (codes "t") key_2_x ∷ []) ∷
-      (item.Commit (codes "t") ∷ []) ∷
-      [];
-}
+restart_dooms = restart_before (item.Read (codes "t") key_2_x ∷ item.Commit (codes "t") ∷ [])
 
 -- its text
 abbrev pub restart_dooms_text : List ℕ
@@ -51,52 +37,24 @@ restart_dooms_text =
     codes "  \"commit t\",\n" ++
     codes "]\n"
 
--- the packets, by their numbers
-abbrev pub p1 : Packet
-p1 = record { number = 1; «from» = 1; to = 2; msg = msg.Do t1_1_1 1 (Read key_2_x) }
-
-abbrev pub p2 : Packet
-p2 = record { number = 2; «from» = 2; to = 1; msg = msg.Done t1_1_1 1 1 (Value (codes "a")) }
-
-abbrev pub p3 : Packet
-p3 = record { number = 3; «from» = 1; to = 2; msg = msg.Do t1_1_1 2 (Read key_2_x) }
-
-abbrev pub p4 : Packet
-p4 = record { number = 4; «from» = 2; to = 1; msg = msg.Done t1_1_1 2 2 (Value (codes "a")) }
-
-abbrev pub p5 : Packet
-p5 = record { number = 5; «from» = 1; to = 2; msg = msg.Decide t1_1_1 Abort }
-
 -- its history, entry by entry
 abbrev pub restart_dooms_history : List Entry
 restart_dooms_history =
-    record { owner = 1; act = Rise false 1 } ∷
-    record { owner = 2; act = Rise false 1 } ∷
-    record { owner = 0; act = Line 1 } ∷
-    record { owner = 1; act = Step (input.Begin s1_2) ([]) ([]) (told.Began t1_1_1 ∷ []) } ∷
-    record { owner = 0; act = Line 2 } ∷
-    record { owner = 1; act = Step (input.Do t1_1_1 (Read key_2_x)) ([]) (p1 ∷ []) ([]) } ∷
-    record { owner = 2; act = Step (input.Deliver p1) ([]) (p2 ∷ []) ([]) } ∷
-    record { owner = 1; act = Step (input.Deliver p2) ([]) ([]) (told.Op t1_1_1 1 (Value (codes "a")) ∷ []) } ∷
-    record { owner = 0; act = Line 3 } ∷
-    record { owner = 2; act = Cut } ∷
-    record { owner = 0; act = Line 4 } ∷
-    record { owner = 2; act = Rise false 2 } ∷
-    record { owner = 0; act = Line 5 } ∷
-    record { owner = 1; act = Step (input.Do t1_1_1 (Read key_2_x)) ([]) (p3 ∷ []) ([]) } ∷
-    record { owner = 2; act = Step (input.Deliver p3) ([]) (p4 ∷ []) ([]) } ∷
-    record { owner = 1; act = Step (input.Deliver p4) (log.Decision t1_1_1 Abort ∷ []) (p5 ∷ []) (told.Doomed t1_1_1 2 1 2 ∷ []) } ∷
-    record { owner = 2; act = Step (input.Deliver p5) (log.Decision t1_1_1 Abort ∷ []) ([]) ([]) } ∷
-    record { owner = 0; act = Line 6 } ∷
-    record { owner = 1; act = Step (input.Commit t1_1_1) ([]) ([]) (told.Refused t1_1_1 (refusal.Doomed 2 1 2) ∷ []) } ∷
+    let p3 = packet 3 1 2 (msg.Do t1_1_1 2 (Read key_2_x)) in
+    let p4 = packet 4 2 1 (msg.Done t1_1_1 2 2 (Value (codes "a"))) in
+    let p5 = packet 5 1 2 (msg.Decide t1_1_1 Abort) in
+    until_the_restart ++
+    takes 1 (input.Do t1_1_1 (Read key_2_x)) [] (p3 ∷ []) [] ∷
+    gets 2 p3 [] (p4 ∷ []) [] ∷
+    gets 1 p4 (log.Decision t1_1_1 Abort ∷ []) (p5 ∷ []) (told.Doomed t1_1_1 2 1 2 ∷ []) ∷
+    gets 2 p5 (log.Decision t1_1_1 Abort ∷ []) [] [] ∷
+    line 6 ∷
+    takes 1 (input.Commit t1_1_1) [] [] (told.Refused t1_1_1 (refusal.Doomed 2 1 2) ∷ []) ∷
     []
 
--- what it comes to
+-- what it comes to: it aborts as well
 abbrev pub restart_dooms_outcome : Outcome
-restart_dooms_outcome = record {
-  order = [];
-  tables = [] ∷ one_row (codes "x") (codes "a") ∷ [];
-}
+restart_dooms_outcome = restart_before_the_vote_outcome
 
 -- its report
 abbrev pub restart_dooms_report : List ℕ

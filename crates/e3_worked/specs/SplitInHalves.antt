@@ -1,7 +1,5 @@
 -- A split in halves blocks a commit; after the merge a recovery ends it.
-use Rattle.std.specs.Prelude.{◌∷◌, [], ℕ, true, false, List, codes, ◌++◌}
-use Rattle.e3_types.specs.declared.entries.Act.TheVariants.{Step, Rise, Parts, Line}
-use Rattle.e3_types.specs.declared.transactions.Answer.TheVariants.{Written}
+use Rattle.std.specs.Prelude.{◌++◌, ◌∷◌, [], ℕ, true, List, codes}
 use Rattle.e3_types.specs.declared.transactions.Dir.TheVariants.{Abort}
 use Rattle.e3_types.specs.declared.entries.Entry.{Entry}
 use Rattle.e3_types.specs.declared.transactions.Op.TheVariants.{Write}
@@ -11,30 +9,27 @@ use Rattle.e3_types.specs.declared.transactions.State.TheVariants.{Q, W}
 use Rattle.e3_types.specs.declared.transactions.Txn.{Txn}
 use Rattle.e3_types.specs.declared.entries.Input.TheVariants as input
 use Rattle.e3_types.specs.declared.scenarios.Item.TheVariants as item
-use Rattle.e3_types.specs.declared.records.Record.TheVariants as log
 use Rattle.e3_types.specs.declared.messages.Message.TheVariants as msg
+use Rattle.e3_types.specs.declared.records.Record.TheVariants as log
 use Rattle.e3_types.specs.declared.entries.Told.TheVariants as told
 use Rattle.e3_types.specs.declared.verdicts.Verdict.TheVariants as verdict
-use Rattle.e3_worked.specs.Names.{bare, s1_2_3_4, s1_2, s3_4, key_1_x}
-
--- its transactions
-abbrev pub t1_1_1 : Txn
-t1_1_1 = record { site = 1; inc = 1; seq = 1; sites = s1_2_3_4 }
+use Rattle.e3_worked.specs.Entries.{packet, call, operation, line, parts, takes, gets, asks_votes}
+use Rattle.e3_worked.specs.Openings.{written_here}
+use Rattle.e3_worked.specs.Elections.{Election, reported, elects_and_attempts, all_follow}
+use Rattle.e3_worked.specs.Names.{one_by_one, txn, s1_2, s3_4, s1_2_3_4, key_1_x}
 
 -- the scenario
 abbrev pub split_in_halves : Scenario
-split_in_halves = record (bare (1 ∷ 1 ∷ 1 ∷ 1 ∷ [])) {
-  steps =
-      (item.Begin (codes "t") 1 s1_2_3_4 ∷ []) ∷
-      (item.Write (codes "t") key_1_x (codes "a") ∷ []) ∷
-      (item.Split (s1_2 ∷ s3_4 ∷ []) ∷ []) ∷
-      (item.Commit (codes "t") ∷ []) ∷
-      (item.Recover s1_2 ∷ []) ∷
-      (item.Recover s3_4 ∷ []) ∷
-      (item.Merge ∷ []) ∷
-      (item.Recover s1_2_3_4 ∷ []) ∷
-      [];
-}
+split_in_halves = one_by_one (1 ∷ 1 ∷ 1 ∷ 1 ∷ []) (
+    item.Begin (codes "t") 1 s1_2_3_4 ∷
+    item.Write (codes "t") key_1_x (codes "a") ∷
+    item.Split (s1_2 ∷ s3_4 ∷ []) ∷
+    item.Commit (codes "t") ∷
+    item.Recover s1_2 ∷
+    item.Recover s3_4 ∷
+    item.Merge ∷
+    item.Recover s1_2_3_4 ∷
+    [])
 
 -- its text
 abbrev pub split_in_halves_text : List ℕ
@@ -53,144 +48,69 @@ split_in_halves_text =
     codes "  \"recover 1,2,3,4\",\n" ++
     codes "]\n"
 
--- the packets, by their numbers
+-- its transaction
+abbrev pub t1_1_1 : Txn
+t1_1_1 = txn 1 1 s1_2_3_4
+
+-- the packets up to the merge, by their numbers
 abbrev pub p1 : Packet
-p1 = record { number = 1; «from» = 1; to = 2; msg = msg.VoteReq t1_1_1 0 0 }
+p1 = packet 1 1 2 (msg.VoteReq t1_1_1 0 0)
 
 abbrev pub p2 : Packet
-p2 = record { number = 2; «from» = 1; to = 3; msg = msg.VoteReq t1_1_1 0 0 }
+p2 = packet 2 1 3 (msg.VoteReq t1_1_1 0 0)
 
 abbrev pub p3 : Packet
-p3 = record { number = 3; «from» = 1; to = 4; msg = msg.VoteReq t1_1_1 0 0 }
+p3 = packet 3 1 4 (msg.VoteReq t1_1_1 0 0)
 
 abbrev pub p4 : Packet
-p4 = record { number = 4; «from» = 2; to = 1; msg = msg.Vote t1_1_1 true }
+p4 = packet 4 2 1 (msg.Vote t1_1_1 true)
 
 abbrev pub p5 : Packet
-p5 = record { number = 5; «from» = 1; to = 2; msg = msg.Ask t1_1_1 (record { inc = 1; seq = 1 }) }
+p5 = packet 5 1 2 (msg.Ask t1_1_1 (call 1 1))
 
 abbrev pub p6 : Packet
-p6 = record { number = 6; «from» = 2; to = 1; msg = msg.LastElected t1_1_1 (record { inc = 1; seq = 1 }) 1 }
+p6 = packet 6 2 1 (msg.LastElected t1_1_1 (call 1 1) 1)
 
 abbrev pub p7 : Packet
-p7 = record { number = 7; «from» = 1; to = 2; msg = msg.Elected t1_1_1 2 }
+p7 = packet 7 1 2 (msg.Elected t1_1_1 2)
 
 abbrev pub p8 : Packet
-p8 = record { number = 8; «from» = 2; to = 1; msg = msg.Report t1_1_1 2 W 0 }
+p8 = packet 8 2 1 (msg.Report t1_1_1 2 W 0)
 
-abbrev pub p9 : Packet
-p9 = record { number = 9; «from» = 1; to = 2; msg = msg.Ask t1_1_1 (record { inc = 1; seq = 2 }) }
+-- the election of the last recovery, which is a quorum's: packets 9 to 29
+abbrev pub recovery : Election
+recovery = record {
+  txn = t1_1_1;
+  elector = 1;
+  others = 2 ∷ 3 ∷ 4 ∷ [];
+  call = call 1 2;
+  first = 9;
+  joined = 2 ∷ 1 ∷ 1 ∷ [];
+  number = 3;
+  states = reported W 0 ∷ reported Q 0 ∷ reported Q 0 ∷ [];
+}
 
-abbrev pub p10 : Packet
-p10 = record { number = 10; «from» = 1; to = 3; msg = msg.Ask t1_1_1 (record { inc = 1; seq = 2 }) }
-
-abbrev pub p11 : Packet
-p11 = record { number = 11; «from» = 1; to = 4; msg = msg.Ask t1_1_1 (record { inc = 1; seq = 2 }) }
-
-abbrev pub p12 : Packet
-p12 = record { number = 12; «from» = 2; to = 1; msg = msg.LastElected t1_1_1 (record { inc = 1; seq = 2 }) 2 }
-
-abbrev pub p13 : Packet
-p13 = record { number = 13; «from» = 3; to = 1; msg = msg.LastElected t1_1_1 (record { inc = 1; seq = 2 }) 1 }
-
-abbrev pub p14 : Packet
-p14 = record { number = 14; «from» = 4; to = 1; msg = msg.LastElected t1_1_1 (record { inc = 1; seq = 2 }) 1 }
-
-abbrev pub p15 : Packet
-p15 = record { number = 15; «from» = 1; to = 2; msg = msg.Elected t1_1_1 3 }
-
-abbrev pub p16 : Packet
-p16 = record { number = 16; «from» = 1; to = 3; msg = msg.Elected t1_1_1 3 }
-
-abbrev pub p17 : Packet
-p17 = record { number = 17; «from» = 1; to = 4; msg = msg.Elected t1_1_1 3 }
-
-abbrev pub p18 : Packet
-p18 = record { number = 18; «from» = 2; to = 1; msg = msg.Report t1_1_1 3 W 0 }
-
-abbrev pub p19 : Packet
-p19 = record { number = 19; «from» = 3; to = 1; msg = msg.Report t1_1_1 3 Q 0 }
-
-abbrev pub p20 : Packet
-p20 = record { number = 20; «from» = 4; to = 1; msg = msg.Report t1_1_1 3 Q 0 }
-
-abbrev pub p21 : Packet
-p21 = record { number = 21; «from» = 1; to = 2; msg = msg.Pre t1_1_1 3 Abort }
-
-abbrev pub p22 : Packet
-p22 = record { number = 22; «from» = 1; to = 3; msg = msg.Pre t1_1_1 3 Abort }
-
-abbrev pub p23 : Packet
-p23 = record { number = 23; «from» = 1; to = 4; msg = msg.Pre t1_1_1 3 Abort }
-
-abbrev pub p24 : Packet
-p24 = record { number = 24; «from» = 2; to = 1; msg = msg.Ack t1_1_1 3 Abort }
-
-abbrev pub p25 : Packet
-p25 = record { number = 25; «from» = 3; to = 1; msg = msg.Ack t1_1_1 3 Abort }
-
-abbrev pub p26 : Packet
-p26 = record { number = 26; «from» = 4; to = 1; msg = msg.Ack t1_1_1 3 Abort }
-
-abbrev pub p27 : Packet
-p27 = record { number = 27; «from» = 1; to = 2; msg = msg.Decide t1_1_1 Abort }
-
-abbrev pub p28 : Packet
-p28 = record { number = 28; «from» = 1; to = 3; msg = msg.Decide t1_1_1 Abort }
-
-abbrev pub p29 : Packet
-p29 = record { number = 29; «from» = 1; to = 4; msg = msg.Decide t1_1_1 Abort }
-
--- its history, entry by entry
+-- its history, entry by entry up to the last recovery, which has entries 24 to 45, counted from 0
 abbrev pub split_in_halves_history : List Entry
 split_in_halves_history =
-    record { owner = 1; act = Rise false 1 } ∷
-    record { owner = 2; act = Rise false 1 } ∷
-    record { owner = 3; act = Rise false 1 } ∷
-    record { owner = 4; act = Rise false 1 } ∷
-    record { owner = 0; act = Line 1 } ∷
-    record { owner = 1; act = Step (input.Begin s1_2_3_4) ([]) ([]) (told.Began t1_1_1 ∷ []) } ∷
-    record { owner = 0; act = Line 2 } ∷
-    record { owner = 1; act = Step (input.Do t1_1_1 (Write key_1_x (codes "a"))) ([]) ([]) (told.Op t1_1_1 1 Written ∷ []) } ∷
-    record { owner = 0; act = Line 3 } ∷
-    record { owner = 0; act = Parts (s1_2 ∷ s3_4 ∷ []) } ∷
-    record { owner = 0; act = Line 4 } ∷
-    record { owner = 1; act = Step (input.Commit t1_1_1) (log.Vote t1_1_1 (record { n = 1; op = Write key_1_x (codes "a") } ∷ []) ∷ []) (p1 ∷ p2 ∷ p3 ∷ []) ([]) } ∷
-    record { owner = 2; act = Step (input.Deliver p1) (log.Vote t1_1_1 ([]) ∷ []) (p4 ∷ []) ([]) } ∷
-    record { owner = 1; act = Step (input.Deliver p4) ([]) ([]) ([]) } ∷
-    record { owner = 0; act = Line 5 } ∷
-    record { owner = 1; act = Step (input.Elect t1_1_1 s1_2) ([]) (p5 ∷ []) ([]) } ∷
-    record { owner = 2; act = Step (input.Deliver p5) ([]) (p6 ∷ []) ([]) } ∷
-    record { owner = 1; act = Step (input.Deliver p6) (log.Join t1_1_1 2 ∷ []) (p7 ∷ []) ([]) } ∷
-    record { owner = 2; act = Step (input.Deliver p7) (log.Join t1_1_1 2 ∷ []) (p8 ∷ []) ([]) } ∷
-    record { owner = 1; act = Step (input.Deliver p8) ([]) ([]) (told.Verdict t1_1_1 2 (verdict.Block 2 4) ∷ []) } ∷
-    record { owner = 0; act = Line 6 } ∷
-    record { owner = 0; act = Line 7 } ∷
-    record { owner = 0; act = Parts (s1_2_3_4 ∷ []) } ∷
-    record { owner = 0; act = Line 8 } ∷
-    record { owner = 1; act = Step (input.Elect t1_1_1 s1_2_3_4) ([]) (p9 ∷ p10 ∷ p11 ∷ []) ([]) } ∷
-    record { owner = 2; act = Step (input.Deliver p9) ([]) (p12 ∷ []) ([]) } ∷
-    record { owner = 3; act = Step (input.Deliver p10) ([]) (p13 ∷ []) ([]) } ∷
-    record { owner = 4; act = Step (input.Deliver p11) ([]) (p14 ∷ []) ([]) } ∷
-    record { owner = 1; act = Step (input.Deliver p12) ([]) ([]) ([]) } ∷
-    record { owner = 1; act = Step (input.Deliver p13) ([]) ([]) ([]) } ∷
-    record { owner = 1; act = Step (input.Deliver p14) (log.Join t1_1_1 3 ∷ []) (p15 ∷ p16 ∷ p17 ∷ []) ([]) } ∷
-    record { owner = 2; act = Step (input.Deliver p15) (log.Join t1_1_1 3 ∷ []) (p18 ∷ []) ([]) } ∷
-    record { owner = 3; act = Step (input.Deliver p16) (log.Join t1_1_1 3 ∷ []) (p19 ∷ []) ([]) } ∷
-    record { owner = 4; act = Step (input.Deliver p17) (log.Join t1_1_1 3 ∷ []) (p20 ∷ []) ([]) } ∷
-    record { owner = 1; act = Step (input.Deliver p18) ([]) ([]) ([]) } ∷
-    record { owner = 1; act = Step (input.Deliver p19) ([]) ([]) ([]) } ∷
-    record { owner = 1; act = Step (input.Deliver p20) (log.Attempt t1_1_1 3 Abort ∷ []) (p21 ∷ p22 ∷ p23 ∷ []) (told.Verdict t1_1_1 3 verdict.PreAbort ∷ []) } ∷
-    record { owner = 2; act = Step (input.Deliver p21) (log.Attempt t1_1_1 3 Abort ∷ []) (p24 ∷ []) ([]) } ∷
-    record { owner = 3; act = Step (input.Deliver p22) (log.Attempt t1_1_1 3 Abort ∷ []) (p25 ∷ []) ([]) } ∷
-    record { owner = 4; act = Step (input.Deliver p23) (log.Attempt t1_1_1 3 Abort ∷ []) (p26 ∷ []) ([]) } ∷
-    record { owner = 1; act = Step (input.Deliver p24) ([]) ([]) ([]) } ∷
-    record { owner = 1; act = Step (input.Deliver p25) (log.Decision t1_1_1 Abort ∷ []) (p27 ∷ p28 ∷ p29 ∷ []) (told.Ended t1_1_1 Abort ∷ []) } ∷
-    record { owner = 1; act = Step (input.Deliver p26) ([]) ([]) ([]) } ∷
-    record { owner = 2; act = Step (input.Deliver p27) (log.Decision t1_1_1 Abort ∷ []) ([]) ([]) } ∷
-    record { owner = 3; act = Step (input.Deliver p28) (log.Decision t1_1_1 Abort ∷ []) ([]) ([]) } ∷
-    record { owner = 4; act = Step (input.Deliver p29) (log.Decision t1_1_1 Abort ∷ []) ([]) ([]) } ∷
-    []
+    written_here t1_1_1 ++
+    parts (s1_2 ∷ s3_4 ∷ []) ∷
+    line 4 ∷
+    asks_votes t1_1_1 (operation 1 (Write key_1_x (codes "a")) ∷ []) (p1 ∷ p2 ∷ p3 ∷ []) ∷
+    gets 2 p1 (log.Vote t1_1_1 [] ∷ []) (p4 ∷ []) [] ∷
+    gets 1 p4 [] [] [] ∷
+    line 5 ∷
+    takes 1 (input.Elect t1_1_1 s1_2) [] (p5 ∷ []) [] ∷
+    gets 2 p5 [] (p6 ∷ []) [] ∷
+    gets 1 p6 (log.Join t1_1_1 2 ∷ []) (p7 ∷ []) [] ∷
+    gets 2 p7 (log.Join t1_1_1 2 ∷ []) (p8 ∷ []) [] ∷
+    gets 1 p8 [] [] (told.Verdict t1_1_1 2 (verdict.Block 2 4) ∷ []) ∷
+    line 6 ∷
+    line 7 ∷
+    parts (s1_2_3_4 ∷ []) ∷
+    line 8 ∷
+    elects_and_attempts recovery Abort verdict.PreAbort ++
+    all_follow recovery 2 Abort (told.Ended t1_1_1 Abort ∷ [])
 
 -- its report
 abbrev pub split_in_halves_report : List ℕ

@@ -1,51 +1,41 @@
 -- Three transactions over three sites, all committed.
-use Rattle.std.specs.Prelude.{◌∷◌, [], ℕ, true, false, List, codes, ◌++◌}
-use Rattle.e3_types.specs.declared.entries.Act.TheVariants.{Step, Rise, Line}
+use Rattle.std.specs.Prelude.{◌++◌, ◌∷◌, [], ◌+◌, ℕ, List, codes}
+use Rattle.e3_types.specs.declared.transactions.Answer.{Answer}
 use Rattle.e3_types.specs.declared.transactions.Answer.TheVariants.{Value, Written}
-use Rattle.e3_types.specs.declared.transactions.Dir.TheVariants.{Commit}
 use Rattle.e3_types.specs.declared.entries.Entry.{Entry}
+use Rattle.e3_types.specs.declared.transactions.NumOp.{NumOp}
+use Rattle.e3_types.specs.declared.transactions.Op.{Op}
 use Rattle.e3_types.specs.declared.transactions.Op.TheVariants.{Read, Write}
 use Rattle.e3_types.specs.declared.messages.Packet.{Packet}
 use Rattle.e3_types.specs.declared.scenarios.Scenario.{Scenario}
 use Rattle.e3_types.specs.declared.transactions.Txn.{Txn}
-use Rattle.e3_types.specs.declared.entries.Input.TheVariants as input
 use Rattle.e3_types.specs.declared.scenarios.Item.TheVariants as item
-use Rattle.e3_types.specs.declared.records.Record.TheVariants as log
 use Rattle.e3_types.specs.declared.messages.Message.TheVariants as msg
-use Rattle.e3_types.specs.declared.entries.Told.TheVariants as told
-use Rattle.e3_worked.specs.Names.{bare, s1_2, s2_3, key_1_ann, key_2_bob, key_3_cid}
+use Rattle.e3_worked.specs.Entries.{packet, operation, line, begins, local_operation, remote_operation, asks_votes}
+use Rattle.e3_worked.specs.Openings.{all_rise}
+use Rattle.e3_worked.specs.Names.{one_by_one, txn, s1_2, s2_3, s1_2_3, key_1_ann, key_2_bob, key_3_cid}
 use Rattle.e3_worked.specs.Worked.{Outcome, one_row}
-
--- its transactions
-abbrev pub t1_1_1 : Txn
-t1_1_1 = record { site = 1; inc = 1; seq = 1; sites = s1_2 }
-
-abbrev pub t3_1_1 : Txn
-t3_1_1 = record { site = 3; inc = 1; seq = 1; sites = s2_3 }
-
-abbrev pub t2_1_1 : Txn
-t2_1_1 = record { site = 2; inc = 1; seq = 1; sites = s1_2 }
+use Rattle.e3_worked.specs.CommitRound.{behind_request}
 
 -- the scenario
 abbrev pub three_sites : Scenario
-three_sites = record (bare (1 ∷ 1 ∷ 1 ∷ [])) {
-  rows = record { key = key_1_ann; val = codes "100" } ∷ record { key = key_2_bob; val = codes "50" } ∷ record { key = key_3_cid; val = codes "7" } ∷ [];
-  steps =
-      (item.Begin (codes "a") 1 s1_2 ∷ []) ∷
-      (item.Read (codes "a") key_1_ann ∷ []) ∷
-      (item.Read (codes "a") key_2_bob ∷ []) ∷
-      (item.Write (codes "a") key_1_ann (codes "90") ∷ []) ∷
-      (item.Write (codes "a") key_2_bob (codes "60") ∷ []) ∷
-      (item.Commit (codes "a") ∷ []) ∷
-      (item.Begin (codes "b") 3 s2_3 ∷ []) ∷
-      (item.Write (codes "b") key_3_cid (codes "17") ∷ []) ∷
-      (item.Read (codes "b") key_2_bob ∷ []) ∷
-      (item.Commit (codes "b") ∷ []) ∷
-      (item.Begin (codes "c") 2 s1_2 ∷ []) ∷
-      (item.Read (codes "c") key_1_ann ∷ []) ∷
-      (item.Commit (codes "c") ∷ []) ∷
-      [];
-}
+three_sites = record (one_by_one (1 ∷ 1 ∷ 1 ∷ []) (
+    item.Begin (codes "a") 1 s1_2 ∷
+    item.Read (codes "a") key_1_ann ∷
+    item.Read (codes "a") key_2_bob ∷
+    item.Write (codes "a") key_1_ann (codes "90") ∷
+    item.Write (codes "a") key_2_bob (codes "60") ∷
+    item.Commit (codes "a") ∷
+    item.Begin (codes "b") 3 s2_3 ∷
+    item.Write (codes "b") key_3_cid (codes "17") ∷
+    item.Read (codes "b") key_2_bob ∷
+    item.Commit (codes "b") ∷
+    item.Begin (codes "c") 2 s1_2 ∷
+    item.Read (codes "c") key_1_ann ∷
+    item.Commit (codes "c") ∷
+    [])) {
+      rows = record { key = key_1_ann; val = codes "100" } ∷ record { key = key_2_bob; val = codes "50" } ∷ record { key = key_3_cid; val = codes "7" } ∷ [];
+    }
 
 -- its text
 abbrev pub three_sites_text : List ℕ
@@ -69,132 +59,63 @@ three_sites_text =
     codes "  \"commit c\",\n" ++
     codes "]\n"
 
--- the packets, by their numbers
-abbrev pub p1 : Packet
-p1 = record { number = 1; «from» = 1; to = 2; msg = msg.Do t1_1_1 2 (Read key_2_bob) }
+-- its transactions
+abbrev pub t1_1_1 : Txn
+t1_1_1 = txn 1 1 s1_2
 
-abbrev pub p2 : Packet
-p2 = record { number = 2; «from» = 2; to = 1; msg = msg.Done t1_1_1 2 1 (Value (codes "50")) }
+abbrev pub t3_1_1 : Txn
+t3_1_1 = txn 3 1 s2_3
 
-abbrev pub p3 : Packet
-p3 = record { number = 3; «from» = 1; to = 2; msg = msg.Do t1_1_1 4 (Write key_2_bob (codes "60")) }
+abbrev pub t2_1_1 : Txn
+t2_1_1 = txn 2 1 s1_2
 
-abbrev pub p4 : Packet
-p4 = record { number = 4; «from» = 2; to = 1; msg = msg.Done t1_1_1 4 1 Written }
+-- The history, by how an operation at another site goes, by what comes of a request for the vote of the one other site, and by
+-- how many packets are sent in each.
+abbrev pub three_transactions : (Txn → ℕ → Op → Answer → ℕ → List Entry) → (Txn → List NumOp → Packet → List Entry) → ℕ → ℕ → List Entry
+three_transactions remote behind of_operation of_commit =
+    let first_write = 1 + of_operation in
+    let first_commit = first_write + of_operation in
+    let second_read = first_commit + of_commit in
+    let second_commit = second_read + of_operation in
+    let third_read = second_commit + of_commit in
+    let third_commit = third_read + of_operation in
+    let first_request = packet first_commit 1 2 (msg.VoteReq t1_1_1 1 2) in
+    let second_request = packet second_commit 3 2 (msg.VoteReq t3_1_1 1 1) in
+    let third_request = packet third_commit 2 1 (msg.VoteReq t2_1_1 1 1) in
+    all_rise s1_2_3 ++
+    line 1 ∷
+    begins t1_1_1 ∷
+    line 2 ∷
+    local_operation t1_1_1 1 (Read key_1_ann) (Value (codes "100")) ∷
+    line 3 ∷
+    remote t1_1_1 2 (Read key_2_bob) (Value (codes "50")) 1 ++
+    line 4 ∷
+    local_operation t1_1_1 3 (Write key_1_ann (codes "90")) Written ∷
+    line 5 ∷
+    remote t1_1_1 4 (Write key_2_bob (codes "60")) Written first_write ++
+    line 6 ∷
+    asks_votes t1_1_1 (operation 1 (Read key_1_ann) ∷ operation 3 (Write key_1_ann (codes "90")) ∷ []) (first_request ∷ []) ∷
+    behind t1_1_1 (operation 2 (Read key_2_bob) ∷ operation 4 (Write key_2_bob (codes "60")) ∷ []) first_request ++
+    line 7 ∷
+    begins t3_1_1 ∷
+    line 8 ∷
+    local_operation t3_1_1 1 (Write key_3_cid (codes "17")) Written ∷
+    line 9 ∷
+    remote t3_1_1 2 (Read key_2_bob) (Value (codes "60")) second_read ++
+    line 10 ∷
+    asks_votes t3_1_1 (operation 1 (Write key_3_cid (codes "17")) ∷ []) (second_request ∷ []) ∷
+    behind t3_1_1 (operation 2 (Read key_2_bob) ∷ []) second_request ++
+    line 11 ∷
+    begins t2_1_1 ∷
+    line 12 ∷
+    remote t2_1_1 1 (Read key_1_ann) (Value (codes "90")) third_read ++
+    line 13 ∷
+    asks_votes t2_1_1 [] (third_request ∷ []) ∷
+    behind t2_1_1 (operation 1 (Read key_1_ann) ∷ []) third_request
 
-abbrev pub p5 : Packet
-p5 = record { number = 5; «from» = 1; to = 2; msg = msg.VoteReq t1_1_1 1 2 }
-
-abbrev pub p6 : Packet
-p6 = record { number = 6; «from» = 2; to = 1; msg = msg.Vote t1_1_1 true }
-
-abbrev pub p7 : Packet
-p7 = record { number = 7; «from» = 1; to = 2; msg = msg.Pre t1_1_1 1 Commit }
-
-abbrev pub p8 : Packet
-p8 = record { number = 8; «from» = 2; to = 1; msg = msg.Ack t1_1_1 1 Commit }
-
-abbrev pub p9 : Packet
-p9 = record { number = 9; «from» = 1; to = 2; msg = msg.Decide t1_1_1 Commit }
-
-abbrev pub p10 : Packet
-p10 = record { number = 10; «from» = 3; to = 2; msg = msg.Do t3_1_1 2 (Read key_2_bob) }
-
-abbrev pub p11 : Packet
-p11 = record { number = 11; «from» = 2; to = 3; msg = msg.Done t3_1_1 2 1 (Value (codes "60")) }
-
-abbrev pub p12 : Packet
-p12 = record { number = 12; «from» = 3; to = 2; msg = msg.VoteReq t3_1_1 1 1 }
-
-abbrev pub p13 : Packet
-p13 = record { number = 13; «from» = 2; to = 3; msg = msg.Vote t3_1_1 true }
-
-abbrev pub p14 : Packet
-p14 = record { number = 14; «from» = 3; to = 2; msg = msg.Pre t3_1_1 1 Commit }
-
-abbrev pub p15 : Packet
-p15 = record { number = 15; «from» = 2; to = 3; msg = msg.Ack t3_1_1 1 Commit }
-
-abbrev pub p16 : Packet
-p16 = record { number = 16; «from» = 3; to = 2; msg = msg.Decide t3_1_1 Commit }
-
-abbrev pub p17 : Packet
-p17 = record { number = 17; «from» = 2; to = 1; msg = msg.Do t2_1_1 1 (Read key_1_ann) }
-
-abbrev pub p18 : Packet
-p18 = record { number = 18; «from» = 1; to = 2; msg = msg.Done t2_1_1 1 1 (Value (codes "90")) }
-
-abbrev pub p19 : Packet
-p19 = record { number = 19; «from» = 2; to = 1; msg = msg.VoteReq t2_1_1 1 1 }
-
-abbrev pub p20 : Packet
-p20 = record { number = 20; «from» = 1; to = 2; msg = msg.Vote t2_1_1 true }
-
-abbrev pub p21 : Packet
-p21 = record { number = 21; «from» = 2; to = 1; msg = msg.Pre t2_1_1 1 Commit }
-
-abbrev pub p22 : Packet
-p22 = record { number = 22; «from» = 1; to = 2; msg = msg.Ack t2_1_1 1 Commit }
-
-abbrev pub p23 : Packet
-p23 = record { number = 23; «from» = 2; to = 1; msg = msg.Decide t2_1_1 Commit }
-
--- its history, entry by entry
+-- its history: each commit goes as that of CommitRound
 abbrev pub three_sites_history : List Entry
-three_sites_history =
-    record { owner = 1; act = Rise false 1 } ∷
-    record { owner = 2; act = Rise false 1 } ∷
-    record { owner = 3; act = Rise false 1 } ∷
-    record { owner = 0; act = Line 1 } ∷
-    record { owner = 1; act = Step (input.Begin s1_2) ([]) ([]) (told.Began t1_1_1 ∷ []) } ∷
-    record { owner = 0; act = Line 2 } ∷
-    record { owner = 1; act = Step (input.Do t1_1_1 (Read key_1_ann)) ([]) ([]) (told.Op t1_1_1 1 (Value (codes "100")) ∷ []) } ∷
-    record { owner = 0; act = Line 3 } ∷
-    record { owner = 1; act = Step (input.Do t1_1_1 (Read key_2_bob)) ([]) (p1 ∷ []) ([]) } ∷
-    record { owner = 2; act = Step (input.Deliver p1) ([]) (p2 ∷ []) ([]) } ∷
-    record { owner = 1; act = Step (input.Deliver p2) ([]) ([]) (told.Op t1_1_1 2 (Value (codes "50")) ∷ []) } ∷
-    record { owner = 0; act = Line 4 } ∷
-    record { owner = 1; act = Step (input.Do t1_1_1 (Write key_1_ann (codes "90"))) ([]) ([]) (told.Op t1_1_1 3 Written ∷ []) } ∷
-    record { owner = 0; act = Line 5 } ∷
-    record { owner = 1; act = Step (input.Do t1_1_1 (Write key_2_bob (codes "60"))) ([]) (p3 ∷ []) ([]) } ∷
-    record { owner = 2; act = Step (input.Deliver p3) ([]) (p4 ∷ []) ([]) } ∷
-    record { owner = 1; act = Step (input.Deliver p4) ([]) ([]) (told.Op t1_1_1 4 Written ∷ []) } ∷
-    record { owner = 0; act = Line 6 } ∷
-    record { owner = 1; act = Step (input.Commit t1_1_1) (log.Vote t1_1_1 (record { n = 1; op = Read key_1_ann } ∷ record { n = 3; op = Write key_1_ann (codes "90") } ∷ []) ∷ []) (p5 ∷ []) ([]) } ∷
-    record { owner = 2; act = Step (input.Deliver p5) (log.Vote t1_1_1 (record { n = 2; op = Read key_2_bob } ∷ record { n = 4; op = Write key_2_bob (codes "60") } ∷ []) ∷ []) (p6 ∷ []) ([]) } ∷
-    record { owner = 1; act = Step (input.Deliver p6) (log.Attempt t1_1_1 1 Commit ∷ []) (p7 ∷ []) ([]) } ∷
-    record { owner = 2; act = Step (input.Deliver p7) (log.Attempt t1_1_1 1 Commit ∷ []) (p8 ∷ []) ([]) } ∷
-    record { owner = 1; act = Step (input.Deliver p8) (log.Decision t1_1_1 Commit ∷ []) (p9 ∷ []) (told.Ended t1_1_1 Commit ∷ []) } ∷
-    record { owner = 2; act = Step (input.Deliver p9) (log.Decision t1_1_1 Commit ∷ []) ([]) ([]) } ∷
-    record { owner = 0; act = Line 7 } ∷
-    record { owner = 3; act = Step (input.Begin s2_3) ([]) ([]) (told.Began t3_1_1 ∷ []) } ∷
-    record { owner = 0; act = Line 8 } ∷
-    record { owner = 3; act = Step (input.Do t3_1_1 (Write key_3_cid (codes "17"))) ([]) ([]) (told.Op t3_1_1 1 Written ∷ []) } ∷
-    record { owner = 0; act = Line 9 } ∷
-    record { owner = 3; act = Step (input.Do t3_1_1 (Read key_2_bob)) ([]) (p10 ∷ []) ([]) } ∷
-    record { owner = 2; act = Step (input.Deliver p10) ([]) (p11 ∷ []) ([]) } ∷
-    record { owner = 3; act = Step (input.Deliver p11) ([]) ([]) (told.Op t3_1_1 2 (Value (codes "60")) ∷ []) } ∷
-    record { owner = 0; act = Line 10 } ∷
-    record { owner = 3; act = Step (input.Commit t3_1_1) (log.Vote t3_1_1 (record { n = 1; op = Write key_3_cid (codes "17") } ∷ []) ∷ []) (p12 ∷ []) ([]) } ∷
-    record { owner = 2; act = Step (input.Deliver p12) (log.Vote t3_1_1 (record { n = 2; op = Read key_2_bob } ∷ []) ∷ []) (p13 ∷ []) ([]) } ∷
-    record { owner = 3; act = Step (input.Deliver p13) (log.Attempt t3_1_1 1 Commit ∷ []) (p14 ∷ []) ([]) } ∷
-    record { owner = 2; act = Step (input.Deliver p14) (log.Attempt t3_1_1 1 Commit ∷ []) (p15 ∷ []) ([]) } ∷
-    record { owner = 3; act = Step (input.Deliver p15) (log.Decision t3_1_1 Commit ∷ []) (p16 ∷ []) (told.Ended t3_1_1 Commit ∷ []) } ∷
-    record { owner = 2; act = Step (input.Deliver p16) (log.Decision t3_1_1 Commit ∷ []) ([]) ([]) } ∷
-    record { owner = 0; act = Line 11 } ∷
-    record { owner = 2; act = Step (input.Begin s1_2) ([]) ([]) (told.Began t2_1_1 ∷ []) } ∷
-    record { owner = 0; act = Line 12 } ∷
-    record { owner = 2; act = Step (input.Do t2_1_1 (Read key_1_ann)) ([]) (p17 ∷ []) ([]) } ∷
-    record { owner = 1; act = Step (input.Deliver p17) ([]) (p18 ∷ []) ([]) } ∷
-    record { owner = 2; act = Step (input.Deliver p18) ([]) ([]) (told.Op t2_1_1 1 (Value (codes "90")) ∷ []) } ∷
-    record { owner = 0; act = Line 13 } ∷
-    record { owner = 2; act = Step (input.Commit t2_1_1) (log.Vote t2_1_1 ([]) ∷ []) (p19 ∷ []) ([]) } ∷
-    record { owner = 1; act = Step (input.Deliver p19) (log.Vote t2_1_1 (record { n = 1; op = Read key_1_ann } ∷ []) ∷ []) (p20 ∷ []) ([]) } ∷
-    record { owner = 2; act = Step (input.Deliver p20) (log.Attempt t2_1_1 1 Commit ∷ []) (p21 ∷ []) ([]) } ∷
-    record { owner = 1; act = Step (input.Deliver p21) (log.Attempt t2_1_1 1 Commit ∷ []) (p22 ∷ []) ([]) } ∷
-    record { owner = 2; act = Step (input.Deliver p22) (log.Decision t2_1_1 Commit ∷ []) (p23 ∷ []) (told.Ended t2_1_1 Commit ∷ []) } ∷
-    record { owner = 1; act = Step (input.Deliver p23) (log.Decision t2_1_1 Commit ∷ []) ([]) ([]) } ∷
-    []
+three_sites_history = three_transactions remote_operation behind_request 2 5
 
 -- what it comes to
 abbrev pub three_sites_outcome : Outcome

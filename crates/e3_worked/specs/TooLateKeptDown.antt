@@ -1,15 +1,11 @@
 -- A cancel comes too late, an expiry keeps the state, and items of a site that is down are skipped.
-use Rattle.std.specs.Prelude.{◌∷◌, [], ℕ, true, false, List, codes, ◌++◌}
-use Rattle.e3_types.specs.declared.entries.Act.TheVariants.{Step, Fall, Rise, Cut, Line}
-use Rattle.e3_types.specs.declared.transactions.Answer.TheVariants.{Written}
+use Rattle.std.specs.Prelude.{◌++◌, ◌∷◌, [], ℕ, true, List, codes}
 use Rattle.e3_types.specs.declared.transactions.Dir.TheVariants.{Commit}
 use Rattle.e3_types.specs.declared.entries.Entry.{Entry}
 use Rattle.e3_types.specs.declared.transactions.Op.TheVariants.{Read, Write}
-use Rattle.e3_types.specs.declared.messages.Packet.{Packet}
 use Rattle.e3_types.specs.declared.scenarios.Scenario.{Scenario}
 use Rattle.e3_types.specs.declared.transactions.State.TheVariants.{W}
 use Rattle.e3_types.specs.declared.transactions.Txn.{Txn}
-use Rattle.e3_types.specs.declared.entries.Why.TheVariants.{Fault}
 use Rattle.e3_types.specs.declared.entries.Input.TheVariants as input
 use Rattle.e3_types.specs.declared.scenarios.Item.TheVariants as item
 use Rattle.e3_types.specs.declared.scenarios.Leave.TheVariants as leave
@@ -17,30 +13,26 @@ use Rattle.e3_types.specs.declared.messages.Message.TheVariants as msg
 use Rattle.e3_types.specs.declared.records.Record.TheVariants as log
 use Rattle.e3_types.specs.declared.entries.Refusal.TheVariants as refusal
 use Rattle.e3_types.specs.declared.entries.Told.TheVariants as told
-use Rattle.e3_worked.specs.Names.{bare, s1_2, s1, key_1_x}
-
--- its transactions
-abbrev pub t1_1_1 : Txn
-t1_1_1 = record { site = 1; inc = 1; seq = 1; sites = s1_2 }
+use Rattle.e3_worked.specs.Entries.{packet, operation, line, rises, cut, falls, takes, gets, asks_votes}
+use Rattle.e3_worked.specs.Openings.{written_here}
+use Rattle.e3_worked.specs.Names.{one_by_one, txn, s1, s1_2, key_1_x}
 
 -- the scenario
 abbrev pub too_late_kept_down : Scenario
-too_late_kept_down = record (bare (1 ∷ 1 ∷ [])) {
-  steps =
-      (item.Begin (codes "t") 1 s1_2 ∷ []) ∷
-      (item.Write (codes "t") key_1_x (codes "a") ∷ []) ∷
-      (item.Stop 2 5 leave.None ∷ []) ∷
-      (item.Commit (codes "t") ∷ []) ∷
-      (item.Cancel (codes "t") ∷ []) ∷
-      (item.Restart 2 ∷ []) ∷
-      (item.Expire 2 (codes "t") ∷ []) ∷
-      (item.Crash 1 ∷ []) ∷
-      (item.Begin (codes "u") 1 s1 ∷ []) ∷
-      (item.Write (codes "u") key_1_x (codes "b") ∷ []) ∷
-      (item.Restart 1 ∷ []) ∷
-      (item.Read (codes "t") key_1_x ∷ []) ∷
-      [];
-}
+too_late_kept_down = one_by_one (1 ∷ 1 ∷ []) (
+    item.Begin (codes "t") 1 s1_2 ∷
+    item.Write (codes "t") key_1_x (codes "a") ∷
+    item.Stop 2 5 leave.None ∷
+    item.Commit (codes "t") ∷
+    item.Cancel (codes "t") ∷
+    item.Restart 2 ∷
+    item.Expire 2 (codes "t") ∷
+    item.Crash 1 ∷
+    item.Begin (codes "u") 1 s1 ∷
+    item.Write (codes "u") key_1_x (codes "b") ∷
+    item.Restart 1 ∷
+    item.Read (codes "t") key_1_x ∷
+    [])
 
 -- its text
 abbrev pub too_late_kept_down_text : List ℕ
@@ -62,45 +54,36 @@ too_late_kept_down_text =
     codes "  \"read t 1.x\",\n" ++
     codes "]\n"
 
--- the packets, by their numbers
-abbrev pub p1 : Packet
-p1 = record { number = 1; «from» = 1; to = 2; msg = msg.VoteReq t1_1_1 0 0 }
-
-abbrev pub p2 : Packet
-p2 = record { number = 2; «from» = 2; to = 1; msg = msg.Vote t1_1_1 true }
-
-abbrev pub p3 : Packet
-p3 = record { number = 3; «from» = 1; to = 2; msg = msg.Pre t1_1_1 1 Commit }
+-- its transaction
+abbrev pub t1_1_1 : Txn
+t1_1_1 = txn 1 1 s1_2
 
 -- its history, entry by entry
 abbrev pub too_late_kept_down_history : List Entry
 too_late_kept_down_history =
-    record { owner = 1; act = Rise false 1 } ∷
-    record { owner = 2; act = Rise false 1 } ∷
-    record { owner = 0; act = Line 1 } ∷
-    record { owner = 1; act = Step (input.Begin s1_2) ([]) ([]) (told.Began t1_1_1 ∷ []) } ∷
-    record { owner = 0; act = Line 2 } ∷
-    record { owner = 1; act = Step (input.Do t1_1_1 (Write key_1_x (codes "a"))) ([]) ([]) (told.Op t1_1_1 1 Written ∷ []) } ∷
-    record { owner = 0; act = Line 3 } ∷
-    record { owner = 0; act = Line 4 } ∷
-    record { owner = 1; act = Step (input.Commit t1_1_1) (log.Vote t1_1_1 (record { n = 1; op = Write key_1_x (codes "a") } ∷ []) ∷ []) (p1 ∷ []) ([]) } ∷
-    record { owner = 2; act = Step (input.Deliver p1) (log.Vote t1_1_1 ([]) ∷ []) (p2 ∷ []) ([]) } ∷
-    record { owner = 1; act = Step (input.Deliver p2) (log.Attempt t1_1_1 1 Commit ∷ []) (p3 ∷ []) ([]) } ∷
-    record { owner = 2; act = Fall (input.Deliver p3 ∷ []) (log.Attempt t1_1_1 1 Commit ∷ []) Fault } ∷
-    record { owner = 0; act = Line 5 } ∷
-    record { owner = 1; act = Step (input.Cancel t1_1_1) ([]) ([]) (told.Refused t1_1_1 (refusal.TooLate 1) ∷ []) } ∷
-    record { owner = 0; act = Line 6 } ∷
-    record { owner = 2; act = Rise false 2 } ∷
-    record { owner = 0; act = Line 7 } ∷
-    record { owner = 2; act = Step (input.Expire t1_1_1) ([]) ([]) (told.Kept t1_1_1 W ∷ []) } ∷
-    record { owner = 0; act = Line 8 } ∷
-    record { owner = 1; act = Cut } ∷
-    record { owner = 0; act = Line 9 } ∷
-    record { owner = 0; act = Line 10 } ∷
-    record { owner = 0; act = Line 11 } ∷
-    record { owner = 1; act = Rise false 2 } ∷
-    record { owner = 0; act = Line 12 } ∷
-    record { owner = 1; act = Step (input.Do t1_1_1 (Read key_1_x)) ([]) ([]) (told.Refused t1_1_1 refusal.NoTxn ∷ []) } ∷
+    let p1 = packet 1 1 2 (msg.VoteReq t1_1_1 0 0) in
+    let p2 = packet 2 2 1 (msg.Vote t1_1_1 true) in
+    let p3 = packet 3 1 2 (msg.Pre t1_1_1 1 Commit) in
+    written_here t1_1_1 ++
+    line 4 ∷
+    asks_votes t1_1_1 (operation 1 (Write key_1_x (codes "a")) ∷ []) (p1 ∷ []) ∷
+    gets 2 p1 (log.Vote t1_1_1 [] ∷ []) (p2 ∷ []) [] ∷
+    gets 1 p2 (log.Attempt t1_1_1 1 Commit ∷ []) (p3 ∷ []) [] ∷
+    falls 2 (input.Deliver p3) (log.Attempt t1_1_1 1 Commit ∷ []) ∷
+    line 5 ∷
+    takes 1 (input.Cancel t1_1_1) [] [] (told.Refused t1_1_1 (refusal.TooLate 1) ∷ []) ∷
+    line 6 ∷
+    rises 2 2 ∷
+    line 7 ∷
+    takes 2 (input.Expire t1_1_1) [] [] (told.Kept t1_1_1 W ∷ []) ∷
+    line 8 ∷
+    cut 1 ∷
+    line 9 ∷
+    line 10 ∷
+    line 11 ∷
+    rises 1 2 ∷
+    line 12 ∷
+    takes 1 (input.Do t1_1_1 (Read key_1_x)) [] [] (told.Refused t1_1_1 refusal.NoTxn ∷ []) ∷
     []
 
 -- its report

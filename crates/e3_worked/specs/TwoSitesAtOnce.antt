@@ -1,24 +1,17 @@
 -- Two coordinators begin, and write, in one step.
-use Rattle.std.specs.Prelude.{◌∷◌, [], ℕ, false, List, codes, ◌++◌}
-use Rattle.e3_types.specs.declared.entries.Act.TheVariants.{Step, Rise, Line}
+use Rattle.std.specs.Prelude.{◌++◌, ◌∷◌, [], ℕ, List, codes}
 use Rattle.e3_types.specs.declared.transactions.Answer.TheVariants.{Written}
 use Rattle.e3_types.specs.declared.entries.Entry.{Entry}
 use Rattle.e3_types.specs.declared.transactions.Op.TheVariants.{Write}
-use Rattle.e3_types.specs.declared.messages.Packet.{Packet}
 use Rattle.e3_types.specs.declared.scenarios.Scenario.{Scenario}
 use Rattle.e3_types.specs.declared.transactions.Txn.{Txn}
 use Rattle.e3_types.specs.declared.entries.Input.TheVariants as input
 use Rattle.e3_types.specs.declared.scenarios.Item.TheVariants as item
 use Rattle.e3_types.specs.declared.messages.Message.TheVariants as msg
 use Rattle.e3_types.specs.declared.entries.Told.TheVariants as told
-use Rattle.e3_worked.specs.Names.{bare, s1_2, key_1_x, key_2_y}
-
--- its transactions
-abbrev pub t1_1_1 : Txn
-t1_1_1 = record { site = 1; inc = 1; seq = 1; sites = s1_2 }
-
-abbrev pub t2_1_1 : Txn
-t2_1_1 = record { site = 2; inc = 1; seq = 1; sites = s1_2 }
+use Rattle.e3_worked.specs.Entries.{packet, line, takes, gets, begins}
+use Rattle.e3_worked.specs.Openings.{all_rise}
+use Rattle.e3_worked.specs.Names.{bare, txn, s1_2, key_1_x, key_2_y}
 
 -- the scenario
 abbrev pub two_sites_at_once : Scenario
@@ -39,34 +32,31 @@ two_sites_at_once_text =
     codes "  [\"write t 2.y a\", \"write u 1.x b\"],\n" ++
     codes "]\n"
 
--- the packets, by their numbers
-abbrev pub p1 : Packet
-p1 = record { number = 1; «from» = 1; to = 2; msg = msg.Do t1_1_1 1 (Write key_2_y (codes "a")) }
+-- its transactions
+abbrev pub t1_1_1 : Txn
+t1_1_1 = txn 1 1 s1_2
 
-abbrev pub p2 : Packet
-p2 = record { number = 2; «from» = 2; to = 1; msg = msg.Do t2_1_1 1 (Write key_1_x (codes "b")) }
-
-abbrev pub p3 : Packet
-p3 = record { number = 3; «from» = 2; to = 1; msg = msg.Done t1_1_1 1 1 Written }
-
-abbrev pub p4 : Packet
-p4 = record { number = 4; «from» = 1; to = 2; msg = msg.Done t2_1_1 1 1 Written }
+abbrev pub t2_1_1 : Txn
+t2_1_1 = txn 2 1 s1_2
 
 -- its history, entry by entry
 abbrev pub two_sites_at_once_history : List Entry
 two_sites_at_once_history =
-    record { owner = 1; act = Rise false 1 } ∷
-    record { owner = 2; act = Rise false 1 } ∷
-    record { owner = 0; act = Line 1 } ∷
-    record { owner = 1; act = Step (input.Begin s1_2) ([]) ([]) (told.Began t1_1_1 ∷ []) } ∷
-    record { owner = 2; act = Step (input.Begin s1_2) ([]) ([]) (told.Began t2_1_1 ∷ []) } ∷
-    record { owner = 0; act = Line 2 } ∷
-    record { owner = 1; act = Step (input.Do t1_1_1 (Write key_2_y (codes "a"))) ([]) (p1 ∷ []) ([]) } ∷
-    record { owner = 2; act = Step (input.Do t2_1_1 (Write key_1_x (codes "b"))) ([]) (p2 ∷ []) ([]) } ∷
-    record { owner = 2; act = Step (input.Deliver p1) ([]) (p3 ∷ []) ([]) } ∷
-    record { owner = 1; act = Step (input.Deliver p2) ([]) (p4 ∷ []) ([]) } ∷
-    record { owner = 1; act = Step (input.Deliver p3) ([]) ([]) (told.Op t1_1_1 1 Written ∷ []) } ∷
-    record { owner = 2; act = Step (input.Deliver p4) ([]) ([]) (told.Op t2_1_1 1 Written ∷ []) } ∷
+    let p1 = packet 1 1 2 (msg.Do t1_1_1 1 (Write key_2_y (codes "a"))) in
+    let p2 = packet 2 2 1 (msg.Do t2_1_1 1 (Write key_1_x (codes "b"))) in
+    let p3 = packet 3 2 1 (msg.Done t1_1_1 1 1 Written) in
+    let p4 = packet 4 1 2 (msg.Done t2_1_1 1 1 Written) in
+    all_rise s1_2 ++
+    line 1 ∷
+    begins t1_1_1 ∷
+    begins t2_1_1 ∷
+    line 2 ∷
+    takes 1 (input.Do t1_1_1 (Write key_2_y (codes "a"))) [] (p1 ∷ []) [] ∷
+    takes 2 (input.Do t2_1_1 (Write key_1_x (codes "b"))) [] (p2 ∷ []) [] ∷
+    gets 2 p1 [] (p3 ∷ []) [] ∷
+    gets 1 p2 [] (p4 ∷ []) [] ∷
+    gets 1 p3 [] [] (told.Op t1_1_1 1 Written ∷ []) ∷
+    gets 2 p4 [] [] (told.Op t2_1_1 1 Written ∷ []) ∷
     []
 
 -- its report

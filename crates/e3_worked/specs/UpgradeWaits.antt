@@ -1,8 +1,7 @@
 -- A lock is raised from shared to exclusive: the older transaction waits, the younger dies.
-use Rattle.std.specs.Prelude.{◌∷◌, [], ℕ, false, List, codes, ◌++◌}
-use Rattle.e3_types.specs.declared.entries.Act.TheVariants.{Step, Rise, Line}
+use Rattle.std.specs.Prelude.{◌++◌, ◌∷◌, [], ℕ, List, codes}
 use Rattle.e3_types.specs.declared.transactions.Answer.TheVariants.{Value, Written}
-use Rattle.e3_types.specs.declared.transactions.Dir.TheVariants.{Abort, Commit}
+use Rattle.e3_types.specs.declared.transactions.Dir.TheVariants.{Abort}
 use Rattle.e3_types.specs.declared.entries.Entry.{Entry}
 use Rattle.e3_types.specs.declared.transactions.Op.TheVariants.{Read, Write}
 use Rattle.e3_types.specs.declared.scenarios.Scenario.{Scenario}
@@ -11,30 +10,22 @@ use Rattle.e3_types.specs.declared.entries.Input.TheVariants as input
 use Rattle.e3_types.specs.declared.scenarios.Item.TheVariants as item
 use Rattle.e3_types.specs.declared.records.Record.TheVariants as log
 use Rattle.e3_types.specs.declared.entries.Told.TheVariants as told
-use Rattle.e3_worked.specs.Names.{bare, s1, key_1_x}
+use Rattle.e3_worked.specs.Entries.{operation, line, takes, begins, local_operation, commits_alone}
+use Rattle.e3_worked.specs.Openings.{begun}
+use Rattle.e3_worked.specs.Names.{one_by_one, txn, s1, key_1_x}
 use Rattle.e3_worked.specs.Worked.{Outcome, one_row}
-
--- its transactions
-abbrev pub t1_1_1 : Txn
-t1_1_1 = record { site = 1; inc = 1; seq = 1; sites = s1 }
-
-abbrev pub t1_1_2 : Txn
-t1_1_2 = record { site = 1; inc = 1; seq = 2; sites = s1 }
 
 -- the scenario
 abbrev pub upgrade_waits : Scenario
-upgrade_waits = record (bare (1 ∷ [])) {
-  rows = record { key = key_1_x; val = codes "a" } ∷ [];
-  steps =
-      (item.Begin (codes "t") 1 s1 ∷ []) ∷
-      (item.Begin (codes "u") 1 s1 ∷ []) ∷
-      (item.Read (codes "t") key_1_x ∷ []) ∷
-      (item.Read (codes "u") key_1_x ∷ []) ∷
-      (item.Write (codes "t") key_1_x (codes "b") ∷ []) ∷
-      (item.Write (codes "u") key_1_x (codes "c") ∷ []) ∷
-      (item.Commit (codes "t") ∷ []) ∷
-      [];
-}
+upgrade_waits = record (one_by_one (1 ∷ []) (
+    item.Begin (codes "t") 1 s1 ∷
+    item.Begin (codes "u") 1 s1 ∷
+    item.Read (codes "t") key_1_x ∷
+    item.Read (codes "u") key_1_x ∷
+    item.Write (codes "t") key_1_x (codes "b") ∷
+    item.Write (codes "u") key_1_x (codes "c") ∷
+    item.Commit (codes "t") ∷
+    [])) { rows = record { key = key_1_x; val = codes "a" } ∷ [] }
 
 -- its text
 abbrev pub upgrade_waits_text : List ℕ
@@ -53,24 +44,28 @@ upgrade_waits_text =
     codes "  \"commit t\",\n" ++
     codes "]\n"
 
+-- its transactions
+abbrev pub t1_1_1 : Txn
+t1_1_1 = txn 1 1 s1
+
+abbrev pub t1_1_2 : Txn
+t1_1_2 = txn 1 2 s1
+
 -- its history, entry by entry
 abbrev pub upgrade_waits_history : List Entry
 upgrade_waits_history =
-    record { owner = 1; act = Rise false 1 } ∷
-    record { owner = 0; act = Line 1 } ∷
-    record { owner = 1; act = Step (input.Begin s1) ([]) ([]) (told.Began t1_1_1 ∷ []) } ∷
-    record { owner = 0; act = Line 2 } ∷
-    record { owner = 1; act = Step (input.Begin s1) ([]) ([]) (told.Began t1_1_2 ∷ []) } ∷
-    record { owner = 0; act = Line 3 } ∷
-    record { owner = 1; act = Step (input.Do t1_1_1 (Read key_1_x)) ([]) ([]) (told.Op t1_1_1 1 (Value (codes "a")) ∷ []) } ∷
-    record { owner = 0; act = Line 4 } ∷
-    record { owner = 1; act = Step (input.Do t1_1_2 (Read key_1_x)) ([]) ([]) (told.Op t1_1_2 1 (Value (codes "a")) ∷ []) } ∷
-    record { owner = 0; act = Line 5 } ∷
-    record { owner = 1; act = Step (input.Do t1_1_1 (Write key_1_x (codes "b"))) ([]) ([]) ([]) } ∷
-    record { owner = 0; act = Line 6 } ∷
-    record { owner = 1; act = Step (input.Do t1_1_2 (Write key_1_x (codes "c"))) (log.Decision t1_1_2 Abort ∷ []) ([]) (told.Died t1_1_2 t1_1_1 ∷ told.Op t1_1_1 2 Written ∷ []) } ∷
-    record { owner = 0; act = Line 7 } ∷
-    record { owner = 1; act = Step (input.Commit t1_1_1) (log.Vote t1_1_1 (record { n = 1; op = Read key_1_x } ∷ record { n = 2; op = Write key_1_x (codes "b") } ∷ []) ∷ log.Attempt t1_1_1 1 Commit ∷ log.Decision t1_1_1 Commit ∷ []) ([]) (told.Ended t1_1_1 Commit ∷ []) } ∷
+    begun t1_1_1 ++
+    begins t1_1_2 ∷
+    line 3 ∷
+    local_operation t1_1_1 1 (Read key_1_x) (Value (codes "a")) ∷
+    line 4 ∷
+    local_operation t1_1_2 1 (Read key_1_x) (Value (codes "a")) ∷
+    line 5 ∷
+    takes 1 (input.Do t1_1_1 (Write key_1_x (codes "b"))) [] [] [] ∷
+    line 6 ∷
+    takes 1 (input.Do t1_1_2 (Write key_1_x (codes "c"))) (log.Decision t1_1_2 Abort ∷ []) [] (told.Died t1_1_2 t1_1_1 ∷ told.Op t1_1_1 2 Written ∷ []) ∷
+    line 7 ∷
+    commits_alone t1_1_1 (operation 1 (Read key_1_x) ∷ operation 2 (Write key_1_x (codes "b")) ∷ []) ∷
     []
 
 -- what it comes to

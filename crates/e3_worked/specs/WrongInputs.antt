@@ -1,6 +1,5 @@
 -- Inputs that are not due at their site.
 use Rattle.std.specs.Prelude.{◌∷◌, [], List, codes}
-use Rattle.e3_types.specs.declared.entries.Act.TheVariants.{Step}
 use Rattle.e3_types.specs.declared.transactions.Dir.TheVariants.{Abort}
 use Rattle.e3_types.specs.declared.entries.Entry.{Entry}
 use Rattle.e3_types.specs.declared.transactions.Op.TheVariants.{Write}
@@ -24,6 +23,7 @@ use Rattle.e3_worked.specs.OneWrite as one
 use Rattle.e3_worked.specs.SplitInHalves as halves
 use Rattle.e3_worked.specs.ThreeSites as three
 use Rattle.e3_worked.specs.TwoSitesAtOnce as two
+use Rattle.e3_worked.specs.Entries.{packet, takes, gets}
 use Rattle.e3_worked.specs.Names.{s1_2, s1_2_3, key_1_x}
 
 -- the line of the write is left out
@@ -56,7 +56,7 @@ begin_for_other_sites = acted 3 (with_input (input.Begin (1 ∷ []))) older_wait
 
 -- an item is taken again behind a delivery
 abbrev pub item_behind_a_delivery : List Entry
-item_behind_a_delivery = put_in 9 (record { owner = 2; act = Step (input.Do two.t2_1_1 (Write key_1_x (codes "b"))) [] [] [] }) two_sites_at_once_history
+item_behind_a_delivery = put_in 9 (takes 2 (input.Do two.t2_1_1 (Write key_1_x (codes "b"))) [] [] []) two_sites_at_once_history
 
 -- the elector asks a part of its group
 abbrev pub elect_of_another_group : List Entry
@@ -92,11 +92,11 @@ delivery_to_another_site = owned 12 3 split_in_halves_history
 
 -- a packet between two parts is delivered
 abbrev pub delivery_of_a_split_packet : List Entry
-delivery_of_a_split_packet = put_in 13 (record { owner = 3; act = Step (input.Deliver halves.p2) [] [] [] }) split_in_halves_history
+delivery_of_a_split_packet = put_in 13 (gets 3 halves.p2 [] [] []) split_in_halves_history
 
 -- a packet that was lost is delivered
 abbrev pub delivery_of_a_lost_packet : List Entry
-delivery_of_a_lost_packet = put_in 6 (record { owner = 2; act = Step (input.Deliver busy.p1) [] [] [] }) busy_cancel_over_history
+delivery_of_a_lost_packet = put_in 6 (gets 2 busy.p1 [] [] []) busy_cancel_over_history
 
 -- a packet is delivered before it is sent
 abbrev pub delivery_before_it_is_sent : List Entry
@@ -112,7 +112,7 @@ delivery_of_another_election = acted 18 (with_input (input.Deliver (record halve
 
 -- the packet brings the other decision
 abbrev pub delivery_of_another_decision : List Entry
-delivery_of_another_decision = acted 23 (with_input (input.Deliver (record three.p9 { msg = msg.Decide three.t1_1_1 Abort }))) three_sites_history
+delivery_of_another_decision = acted 23 (with_input (input.Deliver (packet 9 1 2 (msg.Decide three.t1_1_1 Abort)))) three_sites_history
 
 -- a site takes a packet before its item
 abbrev pub delivery_before_all_items : List Entry

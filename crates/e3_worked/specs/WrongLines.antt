@@ -10,7 +10,8 @@ use Rattle.e3_worked.specs.FallenGroup.{fallen_group_history}
 use Rattle.e3_worked.specs.OneWrite.{one_write_history}
 use Rattle.e3_worked.specs.RestartDooms.{restart_dooms_history}
 use Rattle.e3_worked.specs.SplitInHalves.{split_in_halves_history}
-use Rattle.e3_worked.specs.Names.{s1_2, s3_4, s1_2_3_4}
+use Rattle.e3_worked.specs.Entries.{line, parts, drops}
+use Rattle.e3_worked.specs.Names.{s1, s1_2, s3_4, s1_2_3_4}
 
 -- the line of a step that asks nothing of a site is left out
 abbrev pub line_left_out : List Entry
@@ -34,7 +35,7 @@ line_zero = acted 1 (λ act. Line 0) one_write_history
 
 -- there is a line more than the scenario has
 abbrev pub line_past_the_last : List Entry
-line_past_the_last = put_in 7 (record { owner = 0; act = Line 4 }) one_write_history
+line_past_the_last = put_in 7 (line 4) one_write_history
 
 -- the rise of the site is left out
 abbrev pub line_before_a_rise : List Entry
@@ -58,7 +59,7 @@ line_before_the_parts = swapped 9 split_in_halves_history
 
 -- the line behind a recover step stands before its round
 abbrev pub line_before_the_round : List Entry
-line_before_the_round = put_in 15 (record { owner = 0; act = Line 6 }) split_in_halves_history
+line_before_the_round = put_in 15 (line 6) split_in_halves_history
 
 -- the cut is left out
 abbrev pub line_before_the_cut : List Entry
@@ -70,11 +71,11 @@ line_before_the_restart = left_out 11 restart_dooms_history
 
 -- the network is parted in a step that has no split
 abbrev pub parts_without_a_split : List Entry
-parts_without_a_split = put_in 2 (record { owner = 0; act = Parts ((1 ∷ []) ∷ []) }) one_write_history
+parts_without_a_split = put_in 2 (parts (s1 ∷ [])) one_write_history
 
 -- the network is parted before the first line
 abbrev pub parts_before_the_first_line : List Entry
-parts_before_the_first_line = put_in 4 (record { owner = 0; act = Parts (s1_2_3_4 ∷ []) }) split_in_halves_history
+parts_before_the_first_line = put_in 4 (parts (s1_2_3_4 ∷ [])) split_in_halves_history
 
 -- all sites are one part in the step of the split
 abbrev pub parts_of_another_split : List Entry
@@ -98,15 +99,15 @@ merge_into_halves = acted 22 (λ act. Parts (s1_2 ∷ s3_4 ∷ [])) split_in_hal
 
 -- the packet is dropped, though its receiver is up
 abbrev pub drop_at_a_site_that_is_up : List Entry
-drop_at_a_site_that_is_up = put_in 12 (record { owner = 0; act = Drop 1 }) split_in_halves_history
+drop_at_a_site_that_is_up = put_in 12 (drops 1) split_in_halves_history
 
 -- a packet between two parts is dropped
 abbrev pub drop_of_a_split_packet : List Entry
-drop_of_a_split_packet = put_in 12 (record { owner = 0; act = Drop 2 }) split_in_halves_history
+drop_of_a_split_packet = put_in 12 (drops 2) split_in_halves_history
 
 -- a packet that was lost is dropped
 abbrev pub drop_of_a_lost_packet : List Entry
-drop_of_a_lost_packet = put_in 6 (record { owner = 0; act = Drop 1 }) busy_cancel_over_history
+drop_of_a_lost_packet = put_in 6 (drops 1) busy_cancel_over_history
 
 -- a packet is dropped twice, of which there is one copy
 abbrev pub drop_twice : List Entry
@@ -118,11 +119,11 @@ drop_of_another_number = acted 12 (λ act. Drop 3) dropped_packets_history
 
 -- the packet is dropped before it is sent
 abbrev pub drop_before_it_is_sent : List Entry
-drop_before_it_is_sent = put_in 10 (record { owner = 0; act = Drop 2 }) dropped_packets_history
+drop_before_it_is_sent = put_in 10 (drops 2) dropped_packets_history
 
 -- a packet is dropped over which the site fell
 abbrev pub drop_of_a_delivered_packet : List Entry
-drop_of_a_delivered_packet = put_in 22 (record { owner = 0; act = Drop 8 }) cascade_commits_history
+drop_of_a_delivered_packet = put_in 22 (drops 8) cascade_commits_history
 
 -- in a recover step the second packet is dropped before the first
 abbrev pub drop_out_of_order : List Entry

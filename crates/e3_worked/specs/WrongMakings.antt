@@ -4,8 +4,7 @@ use Rattle.e3_types.specs.declared.entries.Act.TheVariants.{Rise}
 use Rattle.e3_types.specs.declared.transactions.Answer.TheVariants.{Value, Written}
 use Rattle.e3_types.specs.declared.transactions.Dir.TheVariants.{Abort, Commit}
 use Rattle.e3_types.specs.declared.entries.Entry.{Entry}
-use Rattle.e3_types.specs.declared.transactions.Op.TheVariants.{Read, Write}
-use Rattle.e3_types.specs.declared.records.Record.{Record}
+use Rattle.e3_types.specs.declared.transactions.Op.TheVariants.{Read}
 use Rattle.e3_types.specs.declared.messages.Message.TheVariants as msg
 use Rattle.e3_types.specs.declared.records.Record.TheVariants as log
 use Rattle.e3_types.specs.declared.entries.Refusal.TheVariants as refusal
@@ -14,7 +13,7 @@ use Rattle.e3_types.specs.declared.verdicts.Verdict.TheVariants as verdict
 use Rattle.e3_worked.specs.Damage.{left_out, acted, with_records, with_outs, with_told}
 use Rattle.e3_worked.specs.CascadeCommits.{cascade_commits_history}
 use Rattle.e3_worked.specs.OlderWaitsYoungerDies.{older_waits_younger_dies_history}
-use Rattle.e3_worked.specs.OneWrite.{one_write_history}
+use Rattle.e3_worked.specs.OneWrite.{one_vote, one_write_history}
 use Rattle.e3_worked.specs.RestartDooms.{restart_dooms_history}
 use Rattle.e3_worked.specs.SplitInHalves.{split_in_halves_history}
 use Rattle.e3_worked.specs.ThreeSites.{three_sites_history}
@@ -22,15 +21,12 @@ use Rattle.e3_worked.specs.UpgradeWaits.{upgrade_waits_history}
 use Rattle.e3_worked.specs.CascadeCommits as cascade
 use Rattle.e3_worked.specs.OlderWaitsYoungerDies as older
 use Rattle.e3_worked.specs.OneWrite as one
-use Rattle.e3_worked.specs.RestartDooms as dooms
+use Rattle.e3_worked.specs.RestartBeforeTheVote as restart
 use Rattle.e3_worked.specs.SplitInHalves as halves
 use Rattle.e3_worked.specs.ThreeSites as three
 use Rattle.e3_worked.specs.UpgradeWaits as upgrade
-use Rattle.e3_worked.specs.Names.{key_1_ann, key_1_x}
-
--- the vote of the one write
-abbrev pub one_vote : Record
-one_vote = log.Vote one.t1_1_1 (record { n = 1; op = Write key_1_x (codes "a") } ∷ [])
+use Rattle.e3_worked.specs.Entries.{packet, call, operation}
+use Rattle.e3_worked.specs.Names.{key_1_ann}
 
 -- the attempt is left out
 abbrev pub record_left_out : List Entry
@@ -42,7 +38,7 @@ records_in_another_order = acted 6 (with_records (log.Attempt one.t1_1_1 1 Commi
 
 -- the vote leaves out the write
 abbrev pub vote_with_an_operation_less : List Entry
-vote_with_an_operation_less = acted 18 (with_records (log.Vote three.t1_1_1 (record { n = 1; op = Read key_1_ann } ∷ []) ∷ [])) three_sites_history
+vote_with_an_operation_less = acted 18 (with_records (log.Vote three.t1_1_1 (operation 1 (Read key_1_ann) ∷ []) ∷ [])) three_sites_history
 
 -- the site joins a greater number
 abbrev pub join_of_another_number : List Entry
@@ -86,7 +82,7 @@ packet_more = acted 12 (with_outs (halves.p4 ∷ record halves.p4 { number = 5 }
 
 -- a begin sends a packet
 abbrev pub packet_where_none_is_due : List Entry
-packet_where_none_is_due = acted 2 (with_outs (record { number = 1; «from» = 1; to = 1; msg = msg.Decide one.t1_1_1 Commit } ∷ [])) one_write_history
+packet_where_none_is_due = acted 2 (with_outs (packet 1 1 1 (msg.Decide one.t1_1_1 Commit) ∷ [])) one_write_history
 
 -- the packet skips a number
 abbrev pub packet_of_another_number : List Entry
@@ -106,11 +102,11 @@ vote_turned = acted 12 (with_outs (record halves.p4 { msg = msg.Vote halves.t1_1
 
 -- the site answers that it joined a greater number
 abbrev pub elected_number_changed : List Entry
-elected_number_changed = acted 16 (with_outs (record halves.p6 { msg = msg.LastElected halves.t1_1_1 (record { inc = 1; seq = 1 }) 2 } ∷ [])) split_in_halves_history
+elected_number_changed = acted 16 (with_outs (record halves.p6 { msg = msg.LastElected halves.t1_1_1 (call 1 1) 2 } ∷ [])) split_in_halves_history
 
 -- the read is answered with another value
 abbrev pub read_sent_with_another_value : List Entry
-read_sent_with_another_value = acted 6 (with_outs (record dooms.p2 { msg = msg.Done dooms.t1_1_1 1 1 (Value (codes "b")) } ∷ [])) restart_dooms_history
+read_sent_with_another_value = acted 6 (with_outs (record restart.p2 { msg = msg.Done restart.t1_1_1 1 1 (Value (codes "b")) } ∷ [])) restart_dooms_history
 
 -- the tail with the attempt is kept, and the site reports as if it were not
 abbrev pub kept_put_on : List Entry
@@ -130,7 +126,7 @@ refusal_for_an_answer = acted 4 (with_told (told.Refused one.t1_1_1 refusal.NoTx
 
 -- the commit is refused for another cause
 abbrev pub another_refusal : List Entry
-another_refusal = acted 18 (with_told (told.Refused dooms.t1_1_1 (refusal.Over Abort) ∷ [])) restart_dooms_history
+another_refusal = acted 18 (with_told (told.Refused restart.t1_1_1 (refusal.Over Abort) ∷ [])) restart_dooms_history
 
 -- the end is not told
 abbrev pub told_left_out : List Entry

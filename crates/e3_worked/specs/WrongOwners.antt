@@ -1,9 +1,8 @@
 -- Entries of an owner that may not enter them, and sites that are up or down where they must not be.
 use Rattle.std.specs.Prelude.{◌∷◌, [], false, List}
-use Rattle.e3_types.specs.declared.entries.Act.TheVariants.{Step, Rise, RiseFall, Miss}
+use Rattle.e3_types.specs.declared.entries.Act.TheVariants.{RiseFall, Miss}
 use Rattle.e3_types.specs.declared.entries.Entry.{Entry}
 use Rattle.e3_types.specs.declared.entries.Why.TheVariants.{Fault}
-use Rattle.e3_types.specs.declared.entries.Input.TheVariants as input
 use Rattle.e3_worked.specs.Damage.{put_in, twice, owned, acted}
 use Rattle.e3_worked.specs.CascadeCommits.{cascade_commits_history}
 use Rattle.e3_worked.specs.DroppedPackets.{dropped_packets_history}
@@ -12,8 +11,9 @@ use Rattle.e3_worked.specs.OneWrite.{one_write_history}
 use Rattle.e3_worked.specs.RestartDooms.{restart_dooms_history}
 use Rattle.e3_worked.specs.SplitInHalves.{split_in_halves_history}
 use Rattle.e3_worked.specs.TooLateKeptDown.{too_late_kept_down_history}
+use Rattle.e3_worked.specs.Entries.{rises, gets}
 use Rattle.e3_worked.specs.CascadeCommits as cascade
-use Rattle.e3_worked.specs.RestartDooms as dooms
+use Rattle.e3_worked.specs.RestartBeforeTheVote as restart
 
 -- the first line is entered by the site
 abbrev pub line_by_a_site : List Entry
@@ -29,7 +29,7 @@ step_of_no_site = owned 2 2 one_write_history
 
 -- a second site rises, where there is one alone
 abbrev pub rise_of_no_site : List Entry
-rise_of_no_site = put_in 1 (record { owner = 2; act = Rise false 1 }) one_write_history
+rise_of_no_site = put_in 1 (rises 2 1) one_write_history
 
 -- the parts are entered by a site
 abbrev pub parts_by_a_site : List Entry
@@ -73,11 +73,11 @@ step_of_a_site_that_is_down = acted 15 (λ act. Miss) too_late_kept_down_history
 
 -- the site fell over a packet, and takes it all the same
 abbrev pub step_behind_a_fall : List Entry
-step_behind_a_fall = put_in 22 (record { owner = 1; act = Step (input.Deliver cascade.p8) [] [] [] }) cascade_commits_history
+step_behind_a_fall = put_in 22 (gets 1 cascade.p8 [] [] []) cascade_commits_history
 
 -- a site whose power was cut takes a packet
 abbrev pub step_behind_a_cut : List Entry
-step_behind_a_cut = put_in 10 (record { owner = 2; act = Step (input.Deliver dooms.p1) [] (dooms.p2 ∷ []) [] }) restart_dooms_history
+step_behind_a_cut = put_in 10 (gets 2 restart.p1 [] (restart.p2 ∷ []) []) restart_dooms_history
 
 -- a site falls twice
 abbrev pub fall_of_a_site_that_is_down : List Entry

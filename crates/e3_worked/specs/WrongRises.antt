@@ -1,21 +1,18 @@
 -- Cuts and rises that no step asks for, tails that are not open, and wrong incarnations.
-use Rattle.std.specs.Prelude.{◌∷◌, [], true, false, List}
-use Rattle.e3_types.specs.declared.entries.Act.TheVariants.{Fall, Rise, RiseFall, Miss, Cut}
-use Rattle.e3_types.specs.declared.transactions.Dir.TheVariants.{Commit}
+use Rattle.std.specs.Prelude.{true, false, List}
+use Rattle.e3_types.specs.declared.entries.Act.TheVariants.{Rise, RiseFall, Miss}
 use Rattle.e3_types.specs.declared.entries.Entry.{Entry}
 use Rattle.e3_types.specs.declared.entries.Why.TheVariants.{Fault, Full}
-use Rattle.e3_types.specs.declared.entries.Input.TheVariants as input
-use Rattle.e3_types.specs.declared.records.Record.TheVariants as log
-use Rattle.e3_worked.specs.Damage.{put_in, twice, swapped, owned, acted}
+use Rattle.e3_worked.specs.Damage.{put_in, twice, swapped, owned, acted, with_why}
 use Rattle.e3_worked.specs.CascadeCommits.{cascade_commits_history}
 use Rattle.e3_worked.specs.MissedAndFailedRises.{missed_and_failed_rises_history}
 use Rattle.e3_worked.specs.OneWrite.{one_write_history}
 use Rattle.e3_worked.specs.RestartDooms.{restart_dooms_history}
-use Rattle.e3_worked.specs.CascadeCommits as cascade
+use Rattle.e3_worked.specs.Entries.{rises, cut}
 
 -- a site's power is cut in a step that has no crash
 abbrev pub cut_outside_its_crash : List Entry
-cut_outside_its_crash = put_in 4 (record { owner = 2; act = Cut }) restart_dooms_history
+cut_outside_its_crash = put_in 4 (cut 2) restart_dooms_history
 
 -- the power of another site is cut than the crash names
 abbrev pub cut_of_another_site : List Entry
@@ -47,7 +44,7 @@ failed_rise_before_its_line = swapped 7 missed_and_failed_rises_history
 
 -- the site misses its rise, and rises in the same step
 abbrev pub rise_behind_a_missed_rise : List Entry
-rise_behind_a_missed_rise = put_in 6 (record { owner = 1; act = Rise false 2 }) missed_and_failed_rises_history
+rise_behind_a_missed_rise = put_in 6 (rises 1 2) missed_and_failed_rises_history
 
 -- a tail is kept at the first rise of a site
 abbrev pub kept_at_the_first_rise : List Entry
@@ -63,7 +60,7 @@ kept_at_a_failed_rise = acted 8 (λ act. RiseFall true 2 Fault) missed_and_faile
 
 -- the frame did not fit, which leaves no tail, and a tail is kept
 abbrev pub kept_behind_a_full_disk : List Entry
-kept_behind_a_full_disk = acted 21 (λ act. Fall (input.Deliver cascade.p8 ∷ []) (log.Attempt cascade.t1_1_1 1 Commit ∷ []) (Full 120 100)) cascade_commits_history
+kept_behind_a_full_disk = acted 21 (with_why (Full 120 100)) cascade_commits_history
 
 -- the rise that failed was missed, which leaves no tail, and one is kept
 abbrev pub kept_behind_a_missed_rise : List Entry
