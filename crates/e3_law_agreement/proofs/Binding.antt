@@ -20,7 +20,7 @@ use Rattle.e3_types.specs.Same.{same_txn}
 use Rattle.e3_world.specs.Given.{IsGiven}
 use Rattle.e3_world.specs.Legal.{IsLegal}
 use Rattle.e3_world.specs.Logs.{last_elected, last_attempt, has_voted, state_of}
-use Rattle.e3_world.specs.Moves.{log_by, log_of, trail_of, plain}
+use Rattle.e3_world.specs.Moves.{log_by, log_of, trail_of, unnumbered}
 use Rattle.e3_world.specs.Packets.{sent}
 use Rattle.e3_world.specs.Sound.{sends}
 use Rattle.e3_world.proofs.Sending.{trail_sends}
@@ -81,17 +81,17 @@ lifted sc h t given legal = record {
     ok : TrailOk sc t (trail_of sc h) marks
     ok = made_ok sc t (trail_of sc h) made
 
-    out : (p : Packet) → Contains (sent h) p → IsIn (plain p) (flat_map sends (trail_of sc h))
-    out p k = subst (λ z. IsIn (plain p) z) (sym (trail_sends sc h)) (in_map_to plain p (sent h) (in_from_contains (sent h) p k))
+    out : (p : Packet) → Contains (sent h) p → IsIn (unnumbered p) (flat_map sends (trail_of sc h))
+    out p k = subst (λ z. IsIn (unnumbered p) z) (sym (trail_sends sc h)) (in_map_to unnumbered p (sent h) (in_from_contains (sent h) p k))
 
     carried : (p : Packet) (w : Word) → Contains (sent h) p → IsIn w (words_of t p.msg) → IsIn (letter p.«from» p.to w) (situation_of marks).sent
-    carried p w k j = ok.sent (plain p) (out p k) (letter p.«from» p.to w) (in_map_to (letter p.«from» p.to) w (words_of t p.msg) j)
+    carried p w k j = ok.sent (unnumbered p) (out p k) (letter p.«from» p.to w) (in_map_to (letter p.«from» p.to) w (words_of t p.msg) j)
 
     heard : (x : ℕ) (m : Message) (w : Word) → HasSent h x m → IsIn w (words_of t m) → (y : ℕ) × IsIn (letter x y w) (situation_of marks).sent × ((y == x) ≡ false)
     heard x m w said k =
         let p : Packet = said.0 in
         let there : IsIn (letter p.«from» p.to w) (situation_of marks).sent = carried p w said.1 (subst (λ (z : Message). IsIn w (words_of t z)) (sym said.3) k) in
-        let apart : (p.to == p.«from») ≡ false = ok.outs (plain p) (out p said.1) in
+        let apart : (p.to == p.«from») ≡ false = ok.outs (unnumbered p) (out p said.1) in
         (p.to, subst (λ z. IsIn (letter z p.to w) (situation_of marks).sent) said.2 there, subst (λ z. (p.to == z) ≡ false) said.2 apart)
 
 -- notes that have no leader stand behind those of records

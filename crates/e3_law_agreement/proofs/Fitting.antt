@@ -20,7 +20,7 @@ use Rattle.e3_world.specs.declared.names.Addressed.{Addressed}
 use Rattle.e3_world.specs.declared.names.Binding.{Binding}
 use Rattle.e3_world.specs.declared.names.Bound.{Bound}
 use Rattle.e3_world.specs.Given.{IsGiven}
-use Rattle.e3_world.specs.Items.{Split, split_by, to_line, since_line, binding_by, last_bound, txn_of, input_of, inputs_to, inputs_at, inputs_of, is_delivery, is_up_at, turn_of, open_at, add_txn, elected_txn, RecoveryRound, listed, recover_group, rounds_left, due_round}
+use Rattle.e3_world.specs.Items.{AroundLine, around_by, to_line, since_line, binding_by, last_bound, txn_of, input_of, inputs_to, inputs_at, inputs_of, is_delivery, is_up_at, turn_of, open_at, add_txn, elected_txn, RecoveryRound, listed, recover_group, rounds_left, due_round}
 use Rattle.e3_world.specs.Legal.{IsDue, AreDue, IsNextItem, IsRound, Guard, LegalAfter, IsLegal, entry_of}
 use Rattle.e3_world.specs.Packets.{is_line, lines, present_items, step_items, all_sites}
 use Rattle.e3_world.proofs.Readings.{up_same}
@@ -58,21 +58,21 @@ bound_on sc was [] b k = k
 bound_on sc was (e ∷ more) b k = bound_on sc (binding_by sc was e) more b (binds_more sc was e.owner e.act b k)
 
 -- a history is its two parts
-split_from : (w : Split) (h : List Entry) → (fold split_by w h).to ++ (fold split_by w h).since ≡ (w.to ++ w.since) ++ h
+split_from : (w : AroundLine) (h : List Entry) → (fold around_by w h).to ++ (fold around_by w h).since ≡ (w.to ++ w.since) ++ h
 split_from w [] = sym (append-nil (w.to ++ w.since))
 split_from w (e ∷ h) = by (is_line e) refl (λ v. split_from v h)
   where
-    by : (b : Bool) → is_line e ≡ b → ((v : Split) → (fold split_by v h).to ++ (fold split_by v h).since ≡ (v.to ++ v.since) ++ h)
-        → (fold split_by w (e ∷ h)).to ++ (fold split_by w (e ∷ h)).since ≡ (w.to ++ w.since) ++ e ∷ h
+    by : (b : Bool) → is_line e ≡ b → ((v : AroundLine) → (fold around_by v h).to ++ (fold around_by v h).since ≡ (v.to ++ v.since) ++ h)
+        → (fold around_by w (e ∷ h)).to ++ (fold around_by w (e ∷ h)).since ≡ (w.to ++ w.since) ++ e ∷ h
     by true is rest =
-        let v : Split = record { to = w.to ++ w.since ++ e ∷ []; since = [] } in
-        let same : split_by w e ≡ v = rw is refl in
-        ap (λ (u : Split). (fold split_by u h).to ++ (fold split_by u h).since) same ∙ rest v
+        let v : AroundLine = record { to = w.to ++ w.since ++ e ∷ []; since = [] } in
+        let same : around_by w e ≡ v = rw is refl in
+        ap (λ (u : AroundLine). (fold around_by u h).to ++ (fold around_by u h).since) same ∙ rest v
         ∙ ap (λ z. z ++ h) (append-nil (w.to ++ w.since ++ e ∷ [])) ∙ append_assoc (w.to ++ w.since) (e ∷ []) h
     by false is rest =
-        let v : Split = record { to = w.to; since = w.since ++ e ∷ [] } in
-        let same : split_by w e ≡ v = rw is refl in
-        ap (λ (u : Split). (fold split_by u h).to ++ (fold split_by u h).since) same ∙ rest v
+        let v : AroundLine = record { to = w.to; since = w.since ++ e ∷ [] } in
+        let same : around_by w e ≡ v = rw is refl in
+        ap (λ (u : AroundLine). (fold around_by u h).to ++ (fold around_by u h).since) same ∙ rest v
         ∙ ap (λ z. z ++ h) (sym (append_assoc w.to w.since (e ∷ []))) ∙ append_assoc (w.to ++ w.since) (e ∷ []) h
 
 -- what is bound up to the last line is bound

@@ -18,7 +18,7 @@ use Rattle.e3_types.specs.declared.records.Record.{Record}
 use Rattle.e3_types.specs.declared.scenarios.Scenario.{Scenario}
 use Rattle.e3_world.specs.Items.{is_delivery, is_up_at}
 use Rattle.e3_world.specs.Legal.{made_by, entry_of, IsDue, AreDue, records_by, IsStep, IsFall, Guard, LegalAfter, IsLegal}
-use Rattle.e3_world.specs.Moves.{log_of, plain, Silent, Move, Tail, Past, own, moves_at, moves_of, log_by, rise_records, kept_moves, left_by, moves_of_act, tail_of_act, past_by, past_of, plain_input, trail_after, trail_of, recorded}
+use Rattle.e3_world.specs.Moves.{log_of, unnumbered, Silent, Move, Tail, Past, own, moves_at, moves_of, log_by, rise_records, kept_moves, left_by, moves_of_act, tail_of_act, past_by, past_of, unnumbered_input, trail_after, trail_of, recorded}
 use Rattle.e3_world.specs.Progress.{up_behind}
 use Rattle.e3_world.specs.Sound.{sends, WasSent, step_move, records_in_turn}
 use Rattle.e3_world.proofs.InTrail.{due_was_sent}
@@ -62,7 +62,7 @@ made_append sc before (m ∷ xs) ys a b =
 
 -- an input that is due may be taken, and was sent
 pub due_taken : (sc : Scenario) (h : List Entry) (site : ℕ) (i : Input) → IsDue sc h site i → (is_delivery i ≡ false → MayTake site i)
-    → MayTake site (plain_input i) × WasSent (trail_of sc h) (plain_input i)
+    → MayTake site (unnumbered_input i) × WasSent (trail_of sc h) (unnumbered_input i)
 due_taken sc h site (input.Deliver packet) due fits = (due.to, due_was_sent sc h site packet due)
 due_taken sc h site (input.Begin sites) due fits = (tt, tt)
 due_taken sc h site (input.Do u op) due fits = (fits refl, tt)
@@ -72,7 +72,7 @@ due_taken sc h site (input.Expire u) due fits = (fits refl, tt)
 due_taken sc h site (input.Elect u group) due fits = (fits refl, tt)
 
 -- the move of a step in the trail
-move_is : (sc : Scenario) (h : List Entry) (site : ℕ) (i : Input) → step_move sc site (moves_of sc h site) i ≡ step_move sc site (moves_at site (trail_of sc h)) (plain_input i)
+move_is : (sc : Scenario) (h : List Entry) (site : ℕ) (i : Input) → step_move sc site (moves_of sc h site) i ≡ step_move sc site (moves_at site (trail_of sc h)) (unnumbered_input i)
 move_is sc h site i =
     ap (λ z. step_move sc site z i) (sym (trail_moves sc site h)) ∙ sym (step_move_plain sc site (moves_at site (trail_of sc h)) i)
 
@@ -90,8 +90,8 @@ step_made sc h site i records outs events step fits =
 -- what the inputs of a fall are, behind those before them
 abbrev FallsOk : Scenario → ℕ → List Entry → List Input → Type 0
 FallsOk sc site h inputs =
-    TakenInTurn sc (trail_of sc h) site (moves_at site (trail_of sc h)) (map plain_input inputs)
-    × (records_by sc h site inputs ≡ records_in_turn sc site (moves_at site (trail_of sc h)) (map plain_input inputs))
+    TakenInTurn sc (trail_of sc h) site (moves_at site (trail_of sc h)) (map unnumbered_input inputs)
+    × (records_by sc h site inputs ≡ records_in_turn sc site (moves_at site (trail_of sc h)) (map unnumbered_input inputs))
 
 falls_more : (sc : Scenario) (site : ℕ) (h : List Entry) (i : Input) (inputs : List Input) → IsDue sc h site i → (is_delivery i ≡ false → MayTake site i)
     → FallsOk sc site (h ++ entry_of sc h site i ∷ []) inputs → FallsOk sc site h (i ∷ inputs)
@@ -99,20 +99,20 @@ falls_more sc site h i inputs due fits rest = (
   (
     taken.0,
     taken.1,
-    subst (λ z. TakenInTurn sc (trail_of sc h ++ m ∷ []) site z (map plain_input inputs)) mine
-        (subst (λ z. TakenInTurn sc z site (moves_at site z) (map plain_input inputs)) trail rest.0),
+    subst (λ z. TakenInTurn sc (trail_of sc h ++ m ∷ []) site z (map unnumbered_input inputs)) mine
+        (subst (λ z. TakenInTurn sc z site (moves_at site z) (map unnumbered_input inputs)) trail rest.0),
   ),
   ap (λ z. z ++ records_by sc later site inputs) records ∙ ap (λ z. recorded m ++ z)
-      (rest.1 ∙ ap (λ z. records_in_turn sc site (moves_at site z) (map plain_input inputs)) trail ∙ ap (λ z. records_in_turn sc site z (map plain_input inputs)) mine),
+      (rest.1 ∙ ap (λ z. records_in_turn sc site (moves_at site z) (map unnumbered_input inputs)) trail ∙ ap (λ z. records_in_turn sc site z (map unnumbered_input inputs)) mine),
 )
   where
     later : List Entry
     later = h ++ entry_of sc h site i ∷ []
 
     m : Move
-    m = step_move sc site (moves_at site (trail_of sc h)) (plain_input i)
+    m = step_move sc site (moves_at site (trail_of sc h)) (unnumbered_input i)
 
-    taken : MayTake site (plain_input i) × WasSent (trail_of sc h) (plain_input i)
+    taken : MayTake site (unnumbered_input i) × WasSent (trail_of sc h) (unnumbered_input i)
     taken = due_taken sc h site i due fits
 
     trail : trail_of sc later ≡ trail_of sc h ++ m ∷ []
@@ -138,7 +138,7 @@ TailOk sc trail site None = Unit {0}
 TailOk sc trail site (Some tail) = IsMadeMove sc trail (record { site = site; did = Silent tail.inputs tail.records })
 
 fall_made : (sc : Scenario) (h : List Entry) (site : ℕ) (inputs : List Input) (records : List Record) → IsFall sc h site inputs records
-    → ((i : Input) → Contains inputs i → is_delivery i ≡ false → MayTake site i) → IsMadeMove sc (trail_of sc h) (record { site = site; did = Silent (map plain_input inputs) records })
+    → ((i : Input) → Contains inputs i → is_delivery i ≡ false → MayTake site i) → IsMadeMove sc (trail_of sc h) (record { site = site; did = Silent (map unnumbered_input inputs) records })
 fall_made sc h site [] records fall fits = absurd (fall.some fall.made)
 fall_made sc h site (i ∷ inputs) records fall fits =
     let k = falls sc site h (i ∷ inputs) fall.due fits in
@@ -277,9 +277,9 @@ ActOk sc h site act =
 
 fall_tail : (sc : Scenario) (h : List Entry) (site : ℕ) (inputs : List Input) (records : List Record) (why : Why) → IsFall sc h site inputs records
     → ((i : Input) → Contains inputs i → is_delivery i ≡ false → MayTake site i)
-    → TailOk sc (trail_of sc (h ++ record { owner = site; act = Fall inputs records why } ∷ [])) site (left_by why (map plain_input inputs) records)
+    → TailOk sc (trail_of sc (h ++ record { owner = site; act = Fall inputs records why } ∷ [])) site (left_by why (map unnumbered_input inputs) records)
 fall_tail sc h site inputs records Fault fall fits =
-    subst (λ z. IsMadeMove sc z (record { site = site; did = Silent (map plain_input inputs) records }))
+    subst (λ z. IsMadeMove sc z (record { site = site; did = Silent (map unnumbered_input inputs) records }))
     (sym (trail_push sc h (record { owner = site; act = Fall inputs records Fault }) ∙ append-nil (trail_of sc h))) (fall_made sc h site inputs records fall fits)
 fall_tail sc h site inputs records (Full need room) fall fits = tt
 
@@ -359,6 +359,6 @@ given_voted sc h given legal = made_voted sc (trail_of sc h) (legal_made sc h le
 pub given_told : (sc : Scenario) (h : List Entry) → IsGiven sc → IsLegal sc h → (p : Packet) (s : Said) → Contains (sent h) p → Contains (said_msg p.msg) s
     → Contains (log_of sc h p.«from») (log.Decision s.txn s.dir)
 given_told sc h given legal p s k says =
-    let out : Contains (flat_map sends (trail_of sc h)) (plain p) =
-    subst (λ z. Contains z (plain p)) (sym (trail_sends sc h)) (contains_from_in (map plain (sent h)) (plain p) (in_map_to plain p (sent h) (in_from_contains (sent h) p k))) in
-    subst (λ z. Contains (log_by z) (log.Decision s.txn s.dir)) (trail_moves sc p.«from» h) (made_stands sc (trail_of sc h) (legal_made sc h legal (given_fit sc h given legal)) (plain p) s out says)
+    let out : Contains (flat_map sends (trail_of sc h)) (unnumbered p) =
+    subst (λ z. Contains z (unnumbered p)) (sym (trail_sends sc h)) (contains_from_in (map unnumbered (sent h)) (unnumbered p) (in_map_to unnumbered p (sent h) (in_from_contains (sent h) p k))) in
+    subst (λ z. Contains (log_by z) (log.Decision s.txn s.dir)) (trail_moves sc p.«from» h) (made_stands sc (trail_of sc h) (legal_made sc h legal (given_fit sc h given legal)) (unnumbered p) s out says)

@@ -13,7 +13,7 @@ use Rattle.e3_world.specs.Given.{IsGiven}
 use Rattle.e3_world.specs.Legal.{IsLegal}
 use Rattle.e3_world.specs.Lives.{incarnation_of}
 use Rattle.e3_world.specs.Logs.{last_elected}
-use Rattle.e3_world.specs.Moves.{Did, Stepped, Silent, Rose, Move, moves_at, recorded, log_by, plain, trail_of}
+use Rattle.e3_world.specs.Moves.{Did, Stepped, Silent, Rose, Move, moves_at, recorded, log_by, unnumbered, trail_of}
 use Rattle.e3_world.specs.Packets.{sent}
 use Rattle.e3_world.specs.Sound.{sends, step_move}
 use Rattle.e3_world.specs.Steps.{step_of}
@@ -60,22 +60,22 @@ count_more : (s : ℕ) (t : Txn) (n : ℕ) (xs ys : List Packet) → count_by (r
 count_more s t n xs ys = count_append (reports_of s t n) xs ys
 
 -- the packets of a site, without their numbers
-count_own : (x : ℕ) (t : Txn) (n : ℕ) (ps : List Packet) → ((p : Packet) → IsIn p ps → p.«from» ≡ x) → count_by (reports_of x t n) (map plain ps) ≡ count_by (reports_in t n) ps
+count_own : (x : ℕ) (t : Txn) (n : ℕ) (ps : List Packet) → ((p : Packet) → IsIn p ps → p.«from» ≡ x) → count_by (reports_of x t n) (map unnumbered ps) ≡ count_by (reports_in t n) ps
 count_own x t n [] own = refl
 count_own x t n (p ∷ ps) own =
-    let rest : count_by (reports_of x t n) (map plain ps) ≡ count_by (reports_in t n) ps = count_own x t n ps (λ q k. own q (inr k)) in
+    let rest : count_by (reports_of x t n) (map unnumbered ps) ≡ count_by (reports_in t n) ps = count_own x t n ps (λ q k. own q (inr k)) in
     let here : (p.«from» == x) ≡ true = eq-eqb p.«from» x (own p (inl refl)) in
     let same : one_if (p.«from» == x && reports_in t n p) ≡ one_if (reports_in t n p) = ap (λ b. one_if (b && reports_in t n p)) here in
-    count_cons (reports_of x t n) (plain p) (map plain ps) ∙ omega (arith, rest, same) ∙ sym (count_cons (reports_in t n) p ps)
+    count_cons (reports_of x t n) (unnumbered p) (map unnumbered ps) ∙ omega (arith, rest, same) ∙ sym (count_cons (reports_in t n) p ps)
 
 -- another site has no part in them
-count_other : (s x : ℕ) (t : Txn) (n : ℕ) (ps : List Packet) → (s ≡ x → ⊥) → ((p : Packet) → IsIn p ps → p.«from» ≡ x) → count_by (reports_of s t n) (map plain ps) ≡ 0
+count_other : (s x : ℕ) (t : Txn) (n : ℕ) (ps : List Packet) → (s ≡ x → ⊥) → ((p : Packet) → IsIn p ps → p.«from» ≡ x) → count_by (reports_of s t n) (map unnumbered ps) ≡ 0
 count_other s x t n [] other own = refl
 count_other s x t n (p ∷ ps) other own =
-    let rest : count_by (reports_of s t n) (map plain ps) ≡ 0 = count_other s x t n ps other (λ q k. own q (inr k)) in
+    let rest : count_by (reports_of s t n) (map unnumbered ps) ≡ 0 = count_other s x t n ps other (λ q k. own q (inr k)) in
     let there : (p.«from» == s) ≡ false = false_from_ne_true (p.«from» == s) (λ q. other (sym (eqb-true p.«from» s q) ∙ own p (inl refl))) in
     let none : one_if (p.«from» == s && reports_in t n p) ≡ 0 = ap (λ b. one_if (b && reports_in t n p)) there in
-    count_cons (reports_of s t n) (plain p) (map plain ps) ∙ omega (arith, rest, none)
+    count_cons (reports_of s t n) (unnumbered p) (map unnumbered ps) ∙ omega (arith, rest, none)
 
 -- packets more that are none, and records more
 quiet_more : (t : Txn) (s n : ℕ) (outs more : List Packet) (records rest : List Record) → count_by (reports_of s t n) more ≡ 0 → SentOnce t s n outs records → SentOnce t s n (outs ++ more) (records ++ rest)
@@ -84,10 +84,10 @@ quiet_more t s n outs more records rest none (inr was) = inr (count_more s t n o
 
 -- a step of the site
 step_once : (t : Txn) (x n : ℕ) (outs : List Packet) (records : List Record) (made : Made) → Orderly (face t (records ++ made.records)) → ((p : Packet) → IsIn p made.outs → p.«from» ≡ x)
-    → ReportsOnce t n made.outs made.records → SentOnce t x n outs records → SentOnce t x n (outs ++ map plain made.outs) (records ++ made.records)
-step_once t x n outs records made o own (inl none) was = quiet_more t x n outs (map plain made.outs) records made.records (count_own x t n made.outs own ∙ none) was
+    → ReportsOnce t n made.outs made.records → SentOnce t x n outs records → SentOnce t x n (outs ++ map unnumbered made.outs) (records ++ made.records)
+step_once t x n outs records made o own (inl none) was = quiet_more t x n outs (map unnumbered made.outs) records made.records (count_own x t n made.outs own ∙ none) was
 step_once t x n outs records made o own (inr one) (inl was) =
-    inr (count_more x t n outs (map plain made.outs) ∙ omega (arith, was, count_own x t n made.outs own, one.0), in_right (log.Join t n) records made.records one.1)
+    inr (count_more x t n outs (map unnumbered made.outs) ∙ omega (arith, was, count_own x t n made.outs own, one.0), in_right (log.Join t n) records made.records one.1)
 step_once t x n outs records made o own (inr one) (inr was) = absurd (joins_once t n records made.records o was.1 one.1)
 
 -- along a trail
@@ -143,9 +143,9 @@ trail_once sc before (m ∷ rest) made more once =
         (quiet_more t s n (flat_map sends before) (sends m) (log_by (moves_at s before)) [] (move_other sc before m.site m.did made more.0 t s n other) (once t s n))))
 
 -- numbers of packets do not matter
-count_plain : (s : ℕ) (t : Txn) (n : ℕ) (ps : List Packet) → count_by (reports_of s t n) (map plain ps) ≡ count_by (reports_of s t n) ps
+count_plain : (s : ℕ) (t : Txn) (n : ℕ) (ps : List Packet) → count_by (reports_of s t n) (map unnumbered ps) ≡ count_by (reports_of s t n) ps
 count_plain s t n [] = refl
-count_plain s t n (p ∷ ps) = count_cons (reports_of s t n) (plain p) (map plain ps) ∙ ap (λ k. one_if (reports_of s t n p) + k) (count_plain s t n ps) ∙ sym (count_cons (reports_of s t n) p ps)
+count_plain s t n (p ∷ ps) = count_cons (reports_of s t n) (unnumbered p) (map unnumbered ps) ∙ ap (λ k. one_if (reports_of s t n p) + k) (count_plain s t n ps) ∙ sym (count_cons (reports_of s t n) p ps)
 
 -- a site of a legal history reports at most once for a number
 pub reports_once : (sc : Scenario) (h : List Entry) (t : Txn) (s n : ℕ) → IsGiven sc → IsLegal sc h → count_by (reports_of s t n) (sent h) ≤ 1

@@ -16,7 +16,7 @@ use Rattle.e3_world.specs.Given.{IsGiven}
 use Rattle.e3_world.specs.Items.{is_delivery}
 use Rattle.e3_world.specs.Legal.{numbered, made_by, IsStep, Guard, LegalAfter, IsLegal}
 use Rattle.e3_world.specs.Lives.{incarnation_of, life_at}
-use Rattle.e3_world.specs.Moves.{Move, Past, own, moves_at, moves_of, log_by, log_of, recorded, past_of, moves_of_act, trail_of, plain_input}
+use Rattle.e3_world.specs.Moves.{Move, Past, own, moves_at, moves_of, log_by, log_of, recorded, past_of, moves_of_act, trail_of, unnumbered_input}
 use Rattle.e3_world.specs.Packets.{outs_of, sent}
 use Rattle.e3_world.specs.Safe.{Said, said_told, said_msg, said_act, ToldStands}
 use Rattle.e3_world.specs.Sound.{WasSent}
@@ -85,7 +85,7 @@ step_stands sc h site i records outs events s given legal step fits k = by (in_p
     is_made : IsMade sc (trail_of sc h)
     is_made = let front : IsLegal sc h = legal_front sc h (e ∷ []) legal in legal_made sc h front (given_fit sc h given front)
 
-    taken : MayTake site (plain_input i) × WasSent (trail_of sc h) (plain_input i)
+    taken : MayTake site (unnumbered_input i) × WasSent (trail_of sc h) (unnumbered_input i)
     taken = due_taken sc h site i step.due fits
 
     same_records : records ≡ made.records
@@ -111,7 +111,7 @@ step_stands sc h site i records outs events s given legal step fits k = by (in_p
 
     tells : AllTold (moves_of sc h site) made
     tells =
-        let now = step_tells sc (trail_of sc h) site (plain_input i) is_made taken.0 taken.1 (made_lives_tell sc (trail_of sc h) is_made site) in
+        let now = step_tells sc (trail_of sc h) site (unnumbered_input i) is_made taken.0 taken.1 (made_lives_tell sc (trail_of sc h) is_made site) in
         subst (λ z. AllTold z (step_of sc.weights site (incarnation_of z) i)) (trail_moves sc site h)
         (subst (λ (m : Made). AllTold (moves_at site (trail_of sc h)) m) (step_plain sc.weights site (incarnation_of (moves_at site (trail_of sc h))) i) now.told)
 
@@ -120,7 +120,7 @@ step_stands sc h site i records outs events s given legal step fits k = by (in_p
     own_outs =
         subst (λ z. (p : Packet) → IsIn p (step_of sc.weights site (incarnation_of z) i).outs → p.«from» ≡ site) (trail_moves sc site h)
         (subst (λ (m : Made). (p : Packet) → IsIn p m.outs → p.«from» ≡ site) (step_plain sc.weights site (incarnation_of (moves_at site (trail_of sc h))) i)
-        (sends_own sc (trail_of sc h) site (plain_input i) is_made taken.0 taken.1 s.txn))
+        (sends_own sc (trail_of sc h) site (unnumbered_input i) is_made taken.0 taken.1 s.txn))
 
     by : IsIn s (flat_map said_told events) ⊎ IsIn s (flat_map (λ (p : Packet). said_msg p.msg) outs) → IsIn (log.Decision s.txn s.dir) (log_of sc (h ++ e ∷ []) site)
     by (inl told_it) =

@@ -16,7 +16,7 @@ use Rattle.e3_world.specs.declared.lives.Life.{Life}
 use Rattle.e3_world.specs.declared.lives.Made.{Made}
 use Rattle.e3_world.specs.declared.lives.Moment.{Moment}
 use Rattle.e3_world.specs.Lives.{present_log, incarnation_of, life_of, life_by, life_at}
-use Rattle.e3_world.specs.Moves.{Did, Stepped, Silent, Rose, Move, moves_at, plain, plain_input}
+use Rattle.e3_world.specs.Moves.{Did, Stepped, Silent, Rose, Move, moves_at, unnumbered, unnumbered_input}
 use Rattle.e3_world.specs.Sound.{sends, WasSent, step_move}
 use Rattle.e3_world.specs.Steps.{step_of, step_at}
 use Rattle.e3_world.proofs.Pushes.{incarnation_push, life_push}
@@ -40,7 +40,7 @@ use Rattle.e3_law_agreement.proofs.Protocol.Reached.{in_parts}
 
 -- the place of a step
 abbrev pub place : Scenario → ℕ → Life → Input → At
-place sc x life i = record { weights = sc.weights; site = x; life = life; input = plain_input i }
+place sc x life i = record { weights = sc.weights; site = x; life = life; input = unnumbered_input i }
 
 delivered : (before : List Move) (i : Input) → WasSent before i → Delivers before i
 delivered before (input.Deliver packet) was = in_from_contains (flat_map sends before) packet was
@@ -53,7 +53,7 @@ delivered before (input.Elect u group) was = tt
 
 -- a packet that is taken was heard
 heard : (sc : Scenario) (t : Txn) (before : List Move) (marks : List Mark) (x : ℕ) (life : Life) (i : Input) → SentOk t before marks → MayTake x i → Delivers before i
-    → WasHeard (here sc t marks x life i) (plain_input i)
+    → WasHeard (here sc t marks x life i) (unnumbered_input i)
 heard sc t before marks x life (input.Deliver packet) ok fits was = λ w k.
     subst (λ y. Came (sent_of marks) packet.«from» y w) fits
     (ok packet was (letter packet.«from» packet.to w) (in_map_to (letter packet.«from» packet.to) w (words_of t packet.msg) k))
@@ -65,7 +65,7 @@ heard sc t before marks x life (input.Expire u) ok fits was = tt
 heard sc t before marks x life (input.Elect u group) ok fits was = tt
 
 -- it comes from another site
-away : (before : List Move) (x : ℕ) (i : Input) → OutsOk before → MayTake x i → Delivers before i → IsFromAway x (plain_input i)
+away : (before : List Move) (x : ℕ) (i : Input) → OutsOk before → MayTake x i → Delivers before i → IsFromAway x (unnumbered_input i)
 away before x (input.Deliver packet) ok fits was =
     let apart : (packet.to == packet.«from») ≡ false = ok packet was in
     false_from_ne_true (packet.«from» == x) (λ q. (let same : (packet.to == packet.«from») ≡ true = eq-eqb packet.to packet.«from» (fits ∙ sym (eqb-true packet.«from» x q)) in cc))
@@ -116,7 +116,7 @@ life_tells : (sc : Scenario) (x : ℕ) (life : Life) (i : Input) (made : Made) �
 life_tells sc x life i made old new m k = by m (in_parts m life.steps (this ∷ []) k)
   where
     this : Moment
-    this = record { before = life.log; input = plain_input i; records = made.records; outs = map plain made.outs; told = made.told }
+    this = record { before = life.log; input = unnumbered_input i; records = made.records; outs = map unnumbered made.outs; told = made.told }
 
     by : (m : Moment) → IsIn m life.steps ⊎ IsIn m (this ∷ []) → (e : Told) → IsIn e m.told → AllStood (life.log ++ made.records) e
     by m (inl q) e j s says = in_left (log.Decision s.txn s.dir) life.log made.records (old m q e j s says)

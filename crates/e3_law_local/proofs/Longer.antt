@@ -14,7 +14,7 @@ use Rattle.e3_types.specs.declared.scenarios.Item.TheVariants as item
 use Rattle.e3_types.specs.declared.scenarios.Scenario.{Scenario}
 use Rattle.e3_world.specs.declared.names.Binding.{Binding}
 use Rattle.e3_world.specs.Fate.{copies_of, fate_by}
-use Rattle.e3_world.specs.Items.{Split, binding_by, due_round, input_of, inputs_at, inputs_to, is_up_at, items_through, last_bound, plan_of, split_by, to_line, turn_of, txn_of}
+use Rattle.e3_world.specs.Items.{AroundLine, binding_by, due_round, input_of, inputs_at, inputs_to, is_up_at, items_through, last_bound, plan_of, around_by, to_line, turn_of, txn_of}
 use Rattle.e3_world.specs.Legal.{AreDue, Guard, IsDue, IsNextItem, IsRise, IsRising, LegalAfter, entry_of, first_pending, is_made, is_through, may_rise, parts_due}
 use Rattle.e3_world.specs.Packets.{all_sites, fate_of, is_calm, is_line, left_after, lines, outs_of, parts_of, pending, present_items, taken}
 use Rattle.e3_world.proofs.Guards.{lines_push}
@@ -35,20 +35,20 @@ low_append n [] ys a b = b
 low_append n (x ∷ xs) ys a b = (a.0, low_append n xs ys a.1 b)
 
 -- up to the last line
-low_split : (n : ℕ) (w : Split) (h : List Entry) → Low n w.to → Low n w.since → Low n h → Low n (fold split_by w h).to
+low_split : (n : ℕ) (w : AroundLine) (h : List Entry) → Low n w.to → Low n w.since → Low n h → Low n (fold around_by w h).to
 low_split n w [] a b c = a
 low_split n w (e ∷ h) a b c = by (is_line e) refl (λ v x y. low_split n v h x y c.1)
   where
-    by : (l : Bool) → is_line e ≡ l → ((v : Split) → Low n v.to → Low n v.since → Low n (fold split_by v h).to) → Low n (fold split_by (split_by w e) h).to
+    by : (l : Bool) → is_line e ≡ l → ((v : AroundLine) → Low n v.to → Low n v.since → Low n (fold around_by v h).to) → Low n (fold around_by (around_by w e) h).to
     by true is rest =
-        let v : Split = record { to = w.to ++ w.since ++ e ∷ []; since = [] } in
-        let same : split_by w e ≡ v = rw is refl in
-        let P : Split → Type 0 = λ v. Low n (fold split_by v h).to in
+        let v : AroundLine = record { to = w.to ++ w.since ++ e ∷ []; since = [] } in
+        let same : around_by w e ≡ v = rw is refl in
+        let P : AroundLine → Type 0 = λ v. Low n (fold around_by v h).to in
         subst P (sym same) (rest v (low_append n (w.to ++ w.since) (e ∷ []) (low_append n w.to w.since a b) (c.0, tt)) tt)
     by false is rest =
-        let v : Split = record { to = w.to; since = w.since ++ e ∷ [] } in
-        let same : split_by w e ≡ v = rw is refl in
-        let P : Split → Type 0 = λ v. Low n (fold split_by v h).to in
+        let v : AroundLine = record { to = w.to; since = w.since ++ e ∷ [] } in
+        let same : around_by w e ≡ v = rw is refl in
+        let P : AroundLine → Type 0 = λ v. Low n (fold around_by v h).to in
         subst P (sym same) (rest v a (low_append n w.since (e ∷ []) b (c.0, tt)))
 
 low_to : (n : ℕ) (h : List Entry) → Low n h → Low n (to_line h)

@@ -12,14 +12,14 @@ use Rattle.e3_world.specs.declared.lives.Incarnation.{Incarnation}
 use Rattle.e3_world.specs.declared.lives.Life.{Life}
 use Rattle.e3_world.specs.declared.lives.Made.{Made}
 use Rattle.e3_world.specs.Lives.{life_of}
-use Rattle.e3_world.specs.Moves.{plain, plain_input}
+use Rattle.e3_world.specs.Moves.{unnumbered, unnumbered_input}
 use Rattle.e3_world.specs.Steps.{step_of}
 
 -- the incarnation of a site with one more step, and with those that inputs make one after the other
 abbrev pub with_step : Incarnation → Input → Made → Incarnation
 with_step now i made = record {
   rose = now.rose;
-  since = now.since ++ record { input = plain_input i; records = made.records; outs = map plain made.outs; told = made.told } ∷ [];
+  since = now.since ++ record { input = unnumbered_input i; records = made.records; outs = map unnumbered made.outs; told = made.told } ∷ [];
 }
 
 abbrev pub with_steps : List ℕ → ℕ → Incarnation → List Input → Incarnation

@@ -13,7 +13,7 @@ use Rattle.e3_world.specs.declared.lives.Made.{Made}
 use Rattle.e3_world.specs.Lives.{life_of}
 use Rattle.e3_world.specs.Making.{nothing, and_grants}
 use Rattle.e3_world.specs.Messages.{on_message}
-use Rattle.e3_world.specs.Moves.{plain, plain_input}
+use Rattle.e3_world.specs.Moves.{unnumbered, unnumbered_input}
 use Rattle.e3_world.specs.Operations.{expected}
 use Rattle.e3_world.specs.Steps.{on_input, handled}
 use Rattle.e3_law_steps.specs.Waiting.{is_answer, may_wait, ranks_below}
@@ -81,7 +81,7 @@ answers_first a k some = record { own = λ t n answer. rw (self a.life.inc, some
 
 pub own_end : OwnMessagesEnd
 own_end weights site now i =
-    let a : At = record { weights = weights; site = site; life = life_of now; input = plain_input i } in
+    let a : At = record { weights = weights; site = site; life = life_of now; input = unnumbered_input i } in
     (settles a 12 (and_grants a 0 (on_input a a.input nothing)) (keep_grants _ _ a 0 _ (answers_first a 12 refl) (keep_input a a.input))).own
 
 some_rank : (x : Message) → is_answer x ≡ false → nat_lt 0 (rank x) ≡ true
@@ -100,7 +100,7 @@ some_rank (msg.Decide t dir) asks = refl
 
 pub packets_fall : PacketRanksFall
 packets_fall weights site now packet asks =
-    let a : At = record { weights = weights; site = site; life = life_of now; input = input.Deliver (plain packet) } in
+    let a : At = record { weights = weights; site = site; life = life_of now; input = input.Deliver (unnumbered packet) } in
     let k : ℕ = rank packet.msg in
     let some : nat_lt 0 k ≡ true = some_rank packet.msg asks in
     (settles a k (and_grants a 0 (on_message a packet.«from» packet.msg nothing)) (

@@ -8,7 +8,7 @@ use Rattle.e3_types.specs.declared.scenarios.Scenario.{Scenario}
 use Rattle.e3_world.specs.declared.lives.At.{At}
 use Rattle.e3_world.specs.Legal.{entry_of, made_by, numbered}
 use Rattle.e3_world.specs.Lives.{life_at}
-use Rattle.e3_world.specs.Moves.{Move, log_by, recorded, log_of, moves_of, own, past_of, plain, plain_input}
+use Rattle.e3_world.specs.Moves.{Move, log_by, recorded, log_of, moves_of, own, past_of, unnumbered, unnumbered_input}
 use Rattle.e3_world.specs.Packets.{outs_of, sent}
 use Rattle.e3_world.specs.Sound.{step_move}
 use Rattle.e3_world.proofs.Numbers.{entered_move}
@@ -18,7 +18,7 @@ use Rattle.e3_world.proofs.Turns.{self}
 
 -- the place of a step
 abbrev pub place : Scenario → List Entry → ℕ → Input → At
-place sc h site i = record { weights = sc.weights; site = site; life = life_at (moves_of sc h site); input = plain_input i }
+place sc h site i = record { weights = sc.weights; site = site; life = life_at (moves_of sc h site); input = unnumbered_input i }
 
 -- its log is that of the site
 pub place_log : (sc : Scenario) (h : List Entry) (site : ℕ) (i : Input) → (place sc h site i).life.log ≡ log_of sc h site
@@ -46,9 +46,9 @@ pub log_still : (sc : Scenario) (h : List Entry) (site s : ℕ) (i : Input) → 
 log_still sc h site s i other = ap log_by (moves_still sc h site s i other)
 
 -- numbers are nothing to a packet
-pub plain_numbered : (n : ℕ) (ps : List Packet) → map plain (numbered n ps) ≡ map plain ps
+pub plain_numbered : (n : ℕ) (ps : List Packet) → map unnumbered (numbered n ps) ≡ map unnumbered ps
 plain_numbered n [] = refl
-plain_numbered n (p ∷ ps) = ap (λ rest. plain p ∷ rest) (plain_numbered _ ps)
+plain_numbered n (p ∷ ps) = ap (λ rest. unnumbered p ∷ rest) (plain_numbered _ ps)
 
 pub log_append : (xs ys : List Move) → log_by (xs ++ ys) ≡ log_by xs ++ log_by ys
 log_append xs ys = flat_map-append recorded xs ys

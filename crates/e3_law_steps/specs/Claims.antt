@@ -11,7 +11,7 @@ use Rattle.e3_world.specs.declared.lives.At.{At}
 use Rattle.e3_world.specs.declared.lives.Incarnation.{Incarnation}
 use Rattle.e3_world.specs.declared.lives.Made.{Made}
 use Rattle.e3_world.specs.Legal.{IsLegal, made_by, entry_of}
-use Rattle.e3_world.specs.Moves.{own, plain, plain_input}
+use Rattle.e3_world.specs.Moves.{own, unnumbered, unnumbered_input}
 use Rattle.e3_world.specs.Packets.{outs_of}
 use Rattle.e3_world.specs.Steps.{handled, step_of}
 use Rattle.e3_law_steps.specs.Waiting.{is_answer, may_wait, ranks_below}
@@ -42,9 +42,9 @@ StepIsOwn = (sc : Scenario) (h k : List Entry) (site : ℕ) (i : Input) → own 
 -- All that the rest of the history adds to a step's entry are the numbers of its packets.
 abbrev pub NumbersAreAll : Type 0
 NumbersAreAll = (sc : Scenario) (h : List Entry) (site : ℕ) (i : Input) →
-    map plain (outs_of (entry_of sc h site i).act) ≡ map plain (made_by sc h site i).outs
+    map unnumbered (outs_of (entry_of sc h site i).act) ≡ map unnumbered (made_by sc h site i).outs
 
 -- The number of a packet that a step takes is nothing to it.
 abbrev pub TakenNumberIsNothing : Type 0
 TakenNumberIsNothing = (weights : List ℕ) (site : ℕ) (now : Incarnation) (i : Input) →
-    step_of weights site now (plain_input i) ≡ step_of weights site now i
+    step_of weights site now (unnumbered_input i) ≡ step_of weights site now i

@@ -10,3 +10,4 @@ pub mod Verdicts
 pub mod Ranks
 pub mod Spelling
 pub mod SpellingExample
+pub mod Sorted

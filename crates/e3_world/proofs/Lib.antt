@@ -9,3 +9,4 @@ pub mod Turns
 pub mod Guards
 pub mod Lines
 pub mod Rises
+pub mod AllSites

@@ -10,7 +10,7 @@ use Rattle.e3_types.specs.declared.scenarios.Scenario.{Scenario}
 use Rattle.e3_types.specs.declared.transactions.Txn.{Txn}
 use Rattle.e3_types.specs.Same.{same_txn}
 use Rattle.e3_world.specs.Given.{is_groupable}
-use Rattle.e3_world.specs.Items.{Split, split_by, to_line, since_line, inputs_of, elected_txn, RecoveryRound, rounds_left}
+use Rattle.e3_world.specs.Items.{AroundLine, around_by, to_line, since_line, inputs_of, elected_txn, RecoveryRound, rounds_left}
 use Rattle.e3_world.specs.Legal.{IsLegal, is_through}
 use Rattle.e3_world.specs.Packets.{is_line, lines, present_items, step_items, pending}
 use Rattle.e3_world.specs.Progress.{Delivering, ItemsDone}
@@ -21,30 +21,30 @@ use Rattle.e3_world.proofs.Guards.{next_line, at_line, lines_push, made_group, s
 lines_append : (xs ys : List Entry) → lines (xs ++ ys) ≡ lines xs + lines ys
 lines_append xs ys = sum_by-append _ xs ys
 
-lines_from : (w : Split) (h : List Entry) → lines w.since ≡ 0 → lines (fold split_by w h).to ≡ lines w.to + lines h
+lines_from : (w : AroundLine) (h : List Entry) → lines w.since ≡ 0 → lines (fold around_by w h).to ≡ lines w.to + lines h
 lines_from w [] none = omega arith
 lines_from w (e ∷ h) none = by (λ v. lines_from v h) (is_line e) refl
   where
     rest : lines (e ∷ h) ≡ lines (e ∷ []) + lines h
     rest = lines_append (e ∷ []) h
 
-    by : ((v : Split) → lines v.since ≡ 0 → lines (fold split_by v h).to ≡ lines v.to + lines h) → (b : Bool) → is_line e ≡ b →
-        lines (fold split_by w (e ∷ h)).to ≡ lines w.to + lines (e ∷ h)
+    by : ((v : AroundLine) → lines v.since ≡ 0 → lines (fold around_by v h).to ≡ lines v.to + lines h) → (b : Bool) → is_line e ≡ b →
+        lines (fold around_by w (e ∷ h)).to ≡ lines w.to + lines (e ∷ h)
     by more true is =
-        let v : Split = record { to = w.to ++ w.since ++ e ∷ []; since = [] } in
-        let same : split_by w e ≡ v = rw is refl in
+        let v : AroundLine = record { to = w.to ++ w.since ++ e ∷ []; since = [] } in
+        let same : around_by w e ≡ v = rw is refl in
         let one : lines (e ∷ []) ≡ 1 = rw is refl in
         let long : lines v.to ≡ lines (w.to ++ w.since) + lines (e ∷ []) = lines_append (w.to ++ w.since) (e ∷ []) in
         let two : lines (w.to ++ w.since) ≡ lines w.to + lines w.since = lines_append w.to w.since in
-        let now : lines (fold split_by v h).to ≡ lines v.to + lines h = more v refl in
-        ap (λ u. lines (fold split_by u h).to) same ∙ (omega (arith, now, rest, one, long, two, none))
+        let now : lines (fold around_by v h).to ≡ lines v.to + lines h = more v refl in
+        ap (λ u. lines (fold around_by u h).to) same ∙ (omega (arith, now, rest, one, long, two, none))
     by more false is =
-        let v : Split = record { to = w.to; since = w.since ++ e ∷ [] } in
-        let same : split_by w e ≡ v = rw is refl in
+        let v : AroundLine = record { to = w.to; since = w.since ++ e ∷ [] } in
+        let same : around_by w e ≡ v = rw is refl in
         let one : lines (e ∷ []) ≡ 0 = rw is refl in
         let two : lines (w.since ++ e ∷ []) ≡ lines w.since + lines (e ∷ []) = lines_append w.since (e ∷ []) in
-        let now : lines (fold split_by v h).to ≡ lines v.to + lines h = more v (omega (arith, two, one, none)) in
-        ap (λ u. lines (fold split_by u h).to) same ∙ (omega (arith, now, rest, one))
+        let now : lines (fold around_by v h).to ≡ lines v.to + lines h = more v (omega (arith, two, one, none)) in
+        ap (λ u. lines (fold around_by u h).to) same ∙ (omega (arith, now, rest, one))
 
 -- the lines are those up to the last line
 pub lines_to : (h : List Entry) → lines (to_line h) ≡ lines h

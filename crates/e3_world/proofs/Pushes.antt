@@ -11,7 +11,7 @@ use Rattle.e3_world.specs.declared.lives.Life.{Life}
 use Rattle.e3_world.specs.declared.lives.SiteStep.{SiteStep}
 use Rattle.e3_world.specs.Legal.{IsLegal, LegalAfter, Guard}
 use Rattle.e3_world.specs.Lives.{present_log, incarnation_of, incarnation_by, life_of, life_by, life_at}
-use Rattle.e3_world.specs.Moves.{Move, Did, Stepped, Silent, Rose, past_of, past_by, log_by, recorded, plain_input}
+use Rattle.e3_world.specs.Moves.{Move, Did, Stepped, Silent, Rose, past_of, past_by, log_by, recorded, unnumbered_input}
 use Rattle.e3_world.specs.Steps.{step_of}
 
 -- an entry that meets its guard keeps a history legal
@@ -75,7 +75,7 @@ pub life_log_at : (mine : List Move) → (life_at mine).log ≡ log_by mine
 life_log_at mine = life_log (incarnation_of mine) ∙ present_is_log mine
 
 -- the number of a packet does not matter to a step
-pub step_plain : (weights : List ℕ) (site : ℕ) (now : Incarnation) (i : Input) → step_of weights site now (plain_input i) ≡ step_of weights site now i
+pub step_plain : (weights : List ℕ) (site : ℕ) (now : Incarnation) (i : Input) → step_of weights site now (unnumbered_input i) ≡ step_of weights site now i
 step_plain weights site now (input.Begin sites) = refl
 step_plain weights site now (input.Do t op) = refl
 step_plain weights site now (input.Commit t) = refl

@@ -3,13 +3,13 @@ use Rattle.std.proofs.Common.{◌≡◌, ◌==◌, ℕ, true, false, List, [], �
 use Rattle.std.proofs.lemmas.Grind.{fold-append, flat_map-append}
 use Rattle.std.proofs.lemmas.List.Elements.{filter-append}
 use Rattle.e3_types.specs.declared.entries.Entry.{Entry}
-use Rattle.e3_world.specs.Items.{split_by, split_of, since_line, to_line, inputs_of, taken_at, is_up_at}
+use Rattle.e3_world.specs.Items.{around_by, around_line, since_line, to_line, inputs_of, taken_at, is_up_at}
 use Rattle.e3_world.specs.Moves.{own}
 use Rattle.e3_world.specs.Packets.{is_line}
 use Rattle.e3_world.specs.Progress.{up_behind}
 
-pub split_push : (h : List Entry) (e : Entry) → split_of (h ++ e ∷ []) ≡ split_by (split_of h) e
-split_push h e = fold-append split_by _ h (e ∷ [])
+pub split_push : (h : List Entry) (e : Entry) → around_line (h ++ e ∷ []) ≡ around_by (around_line h) e
+split_push h e = fold-append around_by _ h (e ∷ [])
 
 pub since_push : (h : List Entry) (e : Entry) → is_line e ≡ false → since_line (h ++ e ∷ []) ≡ since_line h ++ e ∷ []
 since_push h e stays = ap (λ w. w.since) (split_push h e) ∙ rw stays refl

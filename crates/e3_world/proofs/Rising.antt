@@ -6,7 +6,7 @@ use Rattle.e3_types.specs.declared.entries.Act.TheVariants.{Step, Fall, Rise, Ri
 use Rattle.e3_types.specs.declared.entries.Entry.{Entry}
 use Rattle.e3_types.specs.declared.scenarios.Scenario.{Scenario}
 use Rattle.e3_types.specs.declared.records.Record.{Record}
-use Rattle.e3_world.specs.Moves.{Move, Stepped, Rose, Past, past_of, past_by, moves_of_act, kept_moves, is_up, plain, plain_input, rise_records, log_by}
+use Rattle.e3_world.specs.Moves.{Move, Stepped, Rose, Past, past_of, past_by, moves_of_act, kept_moves, is_up, unnumbered, unnumbered_input, rise_records, log_by}
 use Rattle.e3_world.specs.Sound.{has_risen}
 
 -- whether a site is up behind one more act
@@ -26,7 +26,7 @@ risen_by moves silent site inc records =
 
 one_act : (sc : Scenario) (site : ℕ) (w : Past) (was : Bool) (act : Act) → (was ≡ true → has_risen w.moves ≡ true) →
     up_behind was act ≡ true → has_risen (w.moves ++ moves_of_act sc site w act) ≡ true
-one_act sc site w was (Step i records outs events) h up = fold-append _ _ w.moves (record { site = site; did = Stepped (record { input = plain_input i; records = records; outs = map plain outs; told = events }) } ∷ []) ∙ h up
+one_act sc site w was (Step i records outs events) h up = fold-append _ _ w.moves (record { site = site; did = Stepped (record { input = unnumbered_input i; records = records; outs = map unnumbered outs; told = events }) } ∷ []) ∙ h up
 one_act sc site w was (Rise kept inc) h up = risen_by w.moves (kept_moves site kept w.tail) site inc (rise_records sc site inc (log_by (w.moves ++ kept_moves site kept w.tail)))
 one_act sc site w was (RiseFall kept inc why) h up = cc
 one_act sc site w was (Fall inputs records why) h up = cc

@@ -28,27 +28,27 @@ use Rattle.e3_world.specs.Operations.{arrivals}
 use Rattle.e3_world.specs.Packets.{is_line, step_items, present_items, all_sites}
 
 -- a history in two: up to its last line, and behind it
-pub record Split : Type 0 where
+pub record AroundLine : Type 0 where
   pub to : List Entry
   pub since : List Entry
 
 -- one more entry of it
-abbrev pub split_by : Split → Entry → Split
-split_by w e =
+abbrev pub around_by : AroundLine → Entry → AroundLine
+around_by w e =
     if is_line e then record { to = w.to ++ w.since ++ e ∷ []; since = [] }
     else record { to = w.to; since = w.since ++ e ∷ [] }
 
 -- a history in two
-abbrev pub split_of : List Entry → Split
-split_of history = fold split_by (record { to = []; since = [] }) history
+abbrev pub around_line : List Entry → AroundLine
+around_line history = fold around_by (record { to = []; since = [] }) history
 
 -- the entries behind the last line
 abbrev pub since_line : List Entry → List Entry
-since_line history = (split_of history).since
+since_line history = (around_line history).since
 
 -- the entries up to the last line
 abbrev pub to_line : List Entry → List Entry
-to_line history = (split_of history).to
+to_line history = (around_line history).to
 
 -- the name of a begin item that goes to this site
 abbrev pub begin_name : ℕ → Item → List (List ℕ)

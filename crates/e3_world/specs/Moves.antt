@@ -67,13 +67,13 @@ rise_records sc site inc [] = birth sc site ∷ log.Inc inc ∷ []
 rise_records sc site inc (r ∷ rs) = log.Inc inc ∷ []
 
 -- the packet without its number
-abbrev pub plain : Packet → Packet
-plain packet = record packet { number = 0 }
+abbrev pub unnumbered : Packet → Packet
+unnumbered packet = record packet { number = 0 }
 
 -- the input without its packet's number
-abbrev pub plain_input : Input → Input
-plain_input (input.Deliver packet) = input.Deliver (plain packet)
-plain_input i = i
+abbrev pub unnumbered_input : Input → Input
+unnumbered_input (input.Deliver packet) = input.Deliver (unnumbered packet)
+unnumbered_input i = i
 
 -- records that may or may not be on the disk, with the inputs that made them
 pub record Tail : Type 0 where
@@ -98,7 +98,7 @@ left_by _ inputs records = None
 -- the moves that an act of a site adds to those it has
 abbrev pub moves_of_act : Scenario → ℕ → Past → Act → List Move
 moves_of_act sc site w (Step i records outs events) =
-    record { site = site; did = Stepped (record { input = plain_input i; records = records; outs = map plain outs; told = events }) } ∷ []
+    record { site = site; did = Stepped (record { input = unnumbered_input i; records = records; outs = map unnumbered outs; told = events }) } ∷ []
 moves_of_act sc site w (Rise kept inc) = rise (kept_moves site kept w.tail)
   where
     rise : List Move → List Move
@@ -109,7 +109,7 @@ moves_of_act sc site w _ = []
 
 -- the tail that is open behind an act
 abbrev pub tail_of_act : Scenario → ℕ → Past → Act → Option Tail
-tail_of_act sc site w (Fall inputs records why) = left_by why (map plain_input inputs) records
+tail_of_act sc site w (Fall inputs records why) = left_by why (map unnumbered_input inputs) records
 tail_of_act sc site w (Rise kept inc) = None
 tail_of_act sc site w (RiseFall kept inc why) =
     left_by why [] (rise_records sc site inc (log_by (w.moves ++ kept_moves site kept w.tail)))

@@ -21,7 +21,7 @@ use Rattle.e3_types.specs.Same.{same_txn}
 use Rattle.e3_types.specs.Sets.{has_site, others, is_within}
 use Rattle.e3_world.specs.Lives.{incarnation_of, life_at}
 use Rattle.e3_world.specs.Logs.{state_of, logged_inc, key_of}
-use Rattle.e3_world.specs.Moves.{Did, Stepped, Silent, Rose, Move, moves_at, recorded, log_by, rise_records, plain, plain_input}
+use Rattle.e3_world.specs.Moves.{Did, Stepped, Silent, Rose, Move, moves_at, recorded, log_by, rise_records, unnumbered, unnumbered_input}
 use Rattle.e3_world.specs.Operations.{issued, done, waiting}
 use Rattle.e3_world.specs.Orderly.{is_among}
 use Rattle.e3_world.specs.Steps.{step_of}
@@ -117,7 +117,7 @@ abbrev pub step_move : Scenario → ℕ → List Move → Input → Move
 step_move sc site mine i = by (step_of sc.weights site (incarnation_of mine) i)
   where
     by : Made → Move
-    by made = record { site = site; did = Stepped (record { input = plain_input i; records = made.records; outs = map plain made.outs; told = made.told }) }
+    by made = record { site = site; did = Stepped (record { input = unnumbered_input i; records = made.records; outs = map unnumbered made.outs; told = made.told }) }
 
 -- the site's last move that is no step is a rise
 abbrev pub has_risen : List Move → Bool

@@ -22,7 +22,7 @@ use Rattle.e3_world.specs.Lives.{life_of}
 use Rattle.e3_world.specs.Logs.{decision, key_of}
 use Rattle.e3_world.specs.Making.{nothing, log_now, state_now, elected_now, attempt_now, is_present, may_abort, and_tell, and_send, and_cast, and_decide, and_abort, and_attempt, and_vote, and_grants}
 use Rattle.e3_world.specs.declared.lives.Incarnation.{Incarnation}
-use Rattle.e3_world.specs.Moves.{plain_input}
+use Rattle.e3_world.specs.Moves.{unnumbered_input}
 use Rattle.e3_world.specs.Operations.{issued, unanswered, expected, kept_reason}
 use Rattle.e3_world.specs.declared.lives.Expected.{Expected}
 use Rattle.e3_world.specs.ElectionRules.{and_join}
@@ -143,4 +143,4 @@ step_at a = settle 3 a (and_grants a 0 (on_input a a.input nothing))
 -- What an input makes a site do: a function of the weights, of the log that the site rose with, of its steps since, and
 -- of nothing else. The number of a delivered packet is nothing to it.
 abbrev pub step_of : List ℕ → ℕ → Incarnation → Input → Made
-step_of weights site now i = step_at (record { weights = weights; site = site; life = life_of now; input = plain_input i })
+step_of weights site now i = step_at (record { weights = weights; site = site; life = life_of now; input = unnumbered_input i })

@@ -7,9 +7,11 @@ mod gatherings;
 mod history;
 mod lives;
 mod names;
+mod sites;
 
 pub use fate::fate_word;
 pub use gatherings::{Election, Elections, Named, Round, Rounds};
 pub use history::History;
 pub use lives::{Asked, At, Expected, Incarnation, Life, Made, Moment, Performed, SiteStep};
 pub use names::{Addressed, Binding, Bound};
+pub use sites::{all_sites, sites_to};

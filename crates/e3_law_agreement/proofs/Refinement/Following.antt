@@ -18,7 +18,7 @@ use Rattle.e3_world.specs.declared.lives.Life.{Life}
 use Rattle.e3_world.specs.declared.lives.Made.{Made}
 use Rattle.e3_world.specs.declared.lives.SiteStep.{SiteStep}
 use Rattle.e3_world.specs.Lives.{present_log, incarnation_of, life_of, life_by, life_at}
-use Rattle.e3_world.specs.Moves.{Did, Stepped, Silent, Rose, Move, moves_at, log_by, rise_records, plain, plain_input}
+use Rattle.e3_world.specs.Moves.{Did, Stepped, Silent, Rose, Move, moves_at, log_by, rise_records, unnumbered, unnumbered_input}
 use Rattle.e3_world.specs.Sound.{sends, WasSent, step_move, records_in_turn}
 use Rattle.e3_world.specs.Steps.{step_of}
 use Rattle.e3_world.proofs.Pushes.{incarnation_push, life_push, log_push, present_is_log, life_log_at}
@@ -64,7 +64,7 @@ Delivers before (input.Deliver packet) = IsIn packet (flat_map sends before)
 Delivers before i = Unit {0}
 
 was_heard : (sc : Scenario) (t : Txn) (before : List Move) (marks : List Mark) (x : ℕ) (life : Life) (i : Input) → SentOk t before marks → MayTake x i → Delivers before i
-    → WasHeard (here sc t marks x life i) (plain_input i)
+    → WasHeard (here sc t marks x life i) (unnumbered_input i)
 was_heard sc t before marks x life (input.Deliver packet) ok fits was = λ w k.
     subst (λ y. Came (sent_of marks) packet.«from» y w) fits
     (ok packet was (letter packet.«from» packet.to w) (in_map_to (letter packet.«from» packet.to) w (words_of t packet.msg) k))
@@ -79,7 +79,7 @@ was_heard sc t before marks x life (input.Elect u group) ok fits was = tt
 abbrev pub OutsOk : List Move → Type 0
 OutsOk before = (p : Packet) → IsIn p (flat_map sends before) → (p.to == p.«from») ≡ false
 
-from_away : (before : List Move) (x : ℕ) (i : Input) → OutsOk before → MayTake x i → Delivers before i → IsFromAway x (plain_input i)
+from_away : (before : List Move) (x : ℕ) (i : Input) → OutsOk before → MayTake x i → Delivers before i → IsFromAway x (unnumbered_input i)
 from_away before x (input.Deliver packet) ok fits was =
     let apart : (packet.to == packet.«from») ≡ false = ok packet was in
     false_from_ne_true (packet.«from» == x) (λ q. (let same : (packet.to == packet.«from») ≡ true = eq-eqb packet.to packet.«from» (fits ∙ sym (eqb-true packet.«from» x q)) in cc))
@@ -103,7 +103,7 @@ delivers before all x (input.Cancel u) first fits was = tt
 delivers before all x (input.Expire u) first fits was = tt
 delivers before all x (input.Elect u group) first fits was = tt
 
-leader_plain : (x : ℕ) (i : Input) → leader_of x (plain_input i) ≡ leader_of x i
+leader_plain : (x : ℕ) (i : Input) → leader_of x (unnumbered_input i) ≡ leader_of x i
 leader_plain x (input.Deliver packet) = refl
 leader_plain x (input.Begin sites) = refl
 leader_plain x (input.Do u op) = refl
@@ -112,7 +112,7 @@ leader_plain x (input.Cancel u) = refl
 leader_plain x (input.Expire u) = refl
 leader_plain x (input.Elect u group) = refl
 
-letters_plain : (t : Txn) (ps : List Packet) → letters_of t (map plain ps) ≡ letters_of t ps
+letters_plain : (t : Txn) (ps : List Packet) → letters_of t (map unnumbered ps) ≡ letters_of t ps
 letters_plain t [] = refl
 letters_plain t (p ∷ ps) = ap (λ z. letters_in t p ++ z) (letters_plain t ps)
 
@@ -147,9 +147,9 @@ first_more before all x m first none p k q = by (in_parts p (flat_map sends all)
     by (inr new) = absurd (none p new q)
 
 -- a step sends nothing to its own site
-none_here : (x : ℕ) (made : Made) → ((p : Packet) → IsIn p made.outs → (p.«from» ≡ x) × ((p.to == x) ≡ false)) → (p : Packet) → IsIn p (map plain made.outs) → p.to ≡ x → ⊥
+none_here : (x : ℕ) (made : Made) → ((p : Packet) → IsIn p made.outs → (p.«from» ≡ x) × ((p.to == x) ≡ false)) → (p : Packet) → IsIn p (map unnumbered made.outs) → p.to ≡ x → ⊥
 none_here x made outs p k q =
-    let f = in_map plain p made.outs k in
+    let f = in_map unnumbered p made.outs k in
     let apart : (f.0.to == x) ≡ false = (outs f.0 f.1).1 in
     let to : p.to ≡ f.0.to = ap (λ (z : Packet). z.to) f.2 in
     let same : (f.0.to == x) ≡ true = eq-eqb f.0.to x (sym to ∙ q) in
@@ -341,27 +341,27 @@ step_ok sc t before marks x i ok fits was =
     step : Stepping sc t marks x (life_at mine) i (letters_of t made.outs)
     step = stepping sc t marks x (life_at mine) i (letters_of t made.outs) ok.reach (ok.sites x) ok.well fits (was_heard sc t before marks x (life_at mine) i ok.sent fits came) (from_away before x i ok.outs fits came) (λ p k. k)
 
-    same : mark ≡ record { site = x; notes = notes_of t (leader_of x (plain_input i)) made.records; sends = letters_of t (map plain made.outs) }
-    same = ap (λ ls. let k : Mark = record { site = x; notes = notes_of t (leader_of x (plain_input i)) made.records; sends = ls } in k) (sym (letters_plain t made.outs))
+    same : mark ≡ record { site = x; notes = notes_of t (leader_of x (unnumbered_input i)) made.records; sends = letters_of t (map unnumbered made.outs) }
+    same = ap (λ ls. let k : Mark = record { site = x; notes = notes_of t (leader_of x (unnumbered_input i)) made.records; sends = ls } in k) (sym (letters_plain t made.outs))
 
     outs : OutsOk (before ++ m ∷ [])
-    outs p k = by (in_parts p (flat_map sends before) (map plain made.outs) (subst (λ z. IsIn p z) (sends_with before m) k))
+    outs p k = by (in_parts p (flat_map sends before) (map unnumbered made.outs) (subst (λ z. IsIn p z) (sends_with before m) k))
       where
-        by : IsIn p (flat_map sends before) ⊎ IsIn p (map plain made.outs) → (p.to == p.«from») ≡ false
+        by : IsIn p (flat_map sends before) ⊎ IsIn p (map unnumbered made.outs) → (p.to == p.«from») ≡ false
         by (inl old) = ok.outs p old
         by (inr new) =
-            let f = in_map plain p made.outs new in
+            let f = in_map unnumbered p made.outs new in
             let o = step.outs f.0 f.1 in
             subst (λ (z : Packet). (z.to == z.«from») ≡ false) (sym f.2) (subst (λ y. (f.0.to == y) ≡ false) (sym o.0) o.1)
 
     sent : SentOk t (before ++ m ∷ []) (marks ++ mark ∷ [])
-    sent p k q j = by (in_parts p (flat_map sends before) (map plain made.outs) (subst (λ z. IsIn p z) (sends_with before m) k))
+    sent p k q j = by (in_parts p (flat_map sends before) (map unnumbered made.outs) (subst (λ z. IsIn p z) (sends_with before m) k))
       where
-        by : IsIn p (flat_map sends before) ⊎ IsIn p (map plain made.outs) → IsIn q (sent_of (marks ++ mark ∷ []))
+        by : IsIn p (flat_map sends before) ⊎ IsIn p (map unnumbered made.outs) → IsIn q (sent_of (marks ++ mark ∷ []))
         by (inl old) = sent_stays marks mark q (ok.sent p old q j)
         by (inr new) =
             subst (λ z. IsIn q z) (sym (sent_more marks mark))
-            (in_right q (sent_of marks) (letters_of t made.outs) (subst (λ z. IsIn q z) (letters_plain t made.outs) (in_letters t p (map plain made.outs) q new j)))
+            (in_right q (sent_of marks) (letters_of t made.outs) (subst (λ z. IsIn q z) (letters_plain t made.outs) (in_letters t p (map unnumbered made.outs) q new j)))
 
 move_ok : (sc : Scenario) (t : Txn) (before : List Move) (marks : List Mark) (x : ℕ) (d : Did) → TrailOk sc t before marks → IsMadeMove sc before (record { site = x; did = d })
     → MoveOk sc t before marks (record { site = x; did = d })

@@ -13,7 +13,7 @@ use Rattle.e3_world.specs.declared.lives.Moment.{Moment}
 use Rattle.e3_world.specs.declared.lives.SiteStep.{SiteStep}
 use Rattle.e3_world.specs.Lives.{life_by}
 use Rattle.e3_world.specs.Logs.{state_of, last_attempt}
-use Rattle.e3_world.specs.Moves.{plain, plain_input}
+use Rattle.e3_world.specs.Moves.{unnumbered, unnumbered_input}
 use Rattle.e3_world.specs.Steps.{step_at}
 use Rattle.e3_law_agreement.specs.Logs.{IsIn, Note, Vote, Join, Attempt, Decision, attempt, status, before_join, Orderly}
 use Rattle.e3_law_agreement.specs.Rules.{Party, Letter, letter, Came, MayWrite, Reachable}
@@ -35,7 +35,7 @@ use Rattle.e3_law_agreement.proofs.Refinement.Whole.{good_step}
 abbrev pub here : Scenario → Txn → List Mark → ℕ → Life → Input → Here
 here sc t marks x life i = record {
   txn = t;
-  at = record { weights = sc.weights; site = x; life = life; input = plain_input i };
+  at = record { weights = sc.weights; site = x; life = life; input = unnumbered_input i };
   before = situation_of marks;
 }
 
@@ -105,18 +105,18 @@ site_stays sc t g marks m x life other ok = record {
 
 -- the mark of a step
 abbrev pub step_mark : Txn → ℕ → Input → Made → List Letter → Mark
-step_mark t x i made sends = record { site = x; notes = notes_of t (leader_of x (plain_input i)) made.records; sends = sends }
+step_mark t x i made sends = record { site = x; notes = notes_of t (leader_of x (unnumbered_input i)) made.records; sends = sends }
 
 abbrev pub site_step : Input → Made → SiteStep
-site_step i made = record { input = plain_input i; records = made.records; outs = map plain made.outs; told = made.told }
+site_step i made = record { input = unnumbered_input i; records = made.records; outs = map unnumbered made.outs; told = made.told }
 
 -- the site behind its step
 pub site_steps : (sc : Scenario) (t : Txn) (g : Party) (marks : List Mark) (x : ℕ) (life : Life) (i : Input) (made : Made) (sends : List Letter)
-    → SiteOk sc t marks x life → Orderly (log_of x marks) → WasHeard (here sc t marks x life i) (plain_input i) → ElectFits x (plain_input i)
-    → MayWriteAll g (sent_of marks) (log_of x marks) x (notes_of t (leader_of x (plain_input i)) made.records) → Good (here sc t marks x life i) made
+    → SiteOk sc t marks x life → Orderly (log_of x marks) → WasHeard (here sc t marks x life i) (unnumbered_input i) → ElectFits x (unnumbered_input i)
+    → MayWriteAll g (sent_of marks) (log_of x marks) x (notes_of t (leader_of x (unnumbered_input i)) made.records) → Good (here sc t marks x life i) made
     → SiteOk sc t (marks ++ step_mark t x i made sends ∷ []) x (life_by life (site_step i made))
 site_steps sc t g marks x life i made sends ok ordered heard fits may good = record {
-  reads = subst (λ l. Reads t (life.log ++ made.records) l) (sym (log_here marks mark)) (reads_more t (leader_of x (plain_input i)) life.log (log_of x marks) made.records ok.reads);
+  reads = subst (λ l. Reads t (life.log ++ made.records) l) (sym (log_here marks mark)) (reads_more t (leader_of x (unnumbered_input i)) life.log (log_of x marks) made.records ok.reads);
   left = λ j m q. left j m (in_parts m life.steps (this ∷ []) q);
 }
   where
@@ -124,10 +124,10 @@ site_steps sc t g marks x life i made sends ok ordered heard fits may good = rec
     mark = step_mark t x i made sends
 
     notes : List Note
-    notes = notes_of t (leader_of x (plain_input i)) made.records
+    notes = notes_of t (leader_of x (unnumbered_input i)) made.records
 
     this : Moment
-    this = record { before = life.log; input = plain_input i; records = made.records; outs = map plain made.outs; told = made.told }
+    this = record { before = life.log; input = unnumbered_input i; records = made.records; outs = map unnumbered made.outs; told = made.told }
 
     later : List Mark
     later = marks ++ mark ∷ []
@@ -137,7 +137,7 @@ site_steps sc t g marks x life i made sends ok ordered heard fits may good = rec
 
     joins : (j : Input) → JoinStands (here sc t later x after j) this
     joins j n is =
-        let e : ℕ = leader_of x (plain_input i) in
+        let e : ℕ = leader_of x (unnumbered_input i) in
         let first = good.joins n is in
         let log : log_of x later ≡ behind (Join n e ∷ log_of x marks) first.0 = log_here marks mark ∙ ap (behind (log_of x marks)) first.1 in
         let all : MayWriteAll g (sent_of marks) (log_of x marks) x (Join n e ∷ first.0) = subst (λ z. MayWriteAll g (sent_of marks) (log_of x marks) x z) first.1 may in
@@ -154,14 +154,14 @@ site_steps sc t g marks x life i made sends ok ordered heard fits may good = rec
     left j m (inl q) =
         left_stays sc t g marks later x life after notes j m (sent_stays marks mark) (log_here marks mark) may (λ r k. in_left r life.log made.records k) (ok.left j m q)
     left j m (inr (inl e)) = subst (λ (z : Moment). Left (here sc t later x after j) z) (sym e) (record {
-      heard = heard_stays (here sc t marks x life i) (here sc t later x after j) (plain_input i) refl refl (sent_stays marks mark) heard;
+      heard = heard_stays (here sc t marks x life i) (here sc t later x after j) (unnumbered_input i) refl refl (sent_stays marks mark) heard;
       fits = fits;
       recorded = λ r k. in_right r life.log made.records k;
       joins = joins j;
     })
     left j m (inr (inr e)) = absurd e
 
-pub elect_fits : (x : ℕ) (i : Input) → MayTake x i → ElectFits x (plain_input i)
+pub elect_fits : (x : ℕ) (i : Input) → MayTake x i → ElectFits x (unnumbered_input i)
 elect_fits x (input.Elect u group) fits = (fits.1, fits.2)
 elect_fits x (input.Begin sites) fits = tt
 elect_fits x (input.Do u op) fits = tt
@@ -170,7 +170,7 @@ elect_fits x (input.Cancel u) fits = tt
 elect_fits x (input.Expire u) fits = tt
 elect_fits x (input.Deliver packet) fits = tt
 
-pub takes_plain : (x : ℕ) (i : Input) → MayTake x i → MayTake x (plain_input i)
+pub takes_plain : (x : ℕ) (i : Input) → MayTake x i → MayTake x (unnumbered_input i)
 takes_plain x (input.Deliver packet) fits = fits
 takes_plain x (input.Elect u group) fits = fits
 takes_plain x (input.Begin sites) fits = fits
@@ -188,7 +188,7 @@ pub record Stepping (sc : Scenario) (t : Txn) (marks : List Mark) (x : ℕ) (lif
   pub site : SiteOk sc t (marks ++ step_mark t x i (step_at (here sc t marks x life i).at) sends ∷ []) x (life_by life (site_step i (step_at (here sc t marks x life i).at)))
 
 pub stepping : (sc : Scenario) (t : Txn) (marks : List Mark) (x : ℕ) (life : Life) (i : Input) (sends : List Letter) → Reachable (party_of sc.weights t) (situation_of marks)
-    → SiteOk sc t marks x life → ((p : Letter) → IsIn p (sent_of marks) → IsWell t p) → MayTake x i → WasHeard (here sc t marks x life i) (plain_input i) → IsFromAway x (plain_input i)
+    → SiteOk sc t marks x life → ((p : Letter) → IsIn p (sent_of marks) → IsWell t p) → MayTake x i → WasHeard (here sc t marks x life i) (unnumbered_input i) → IsFromAway x (unnumbered_input i)
     → ((p : Letter) → IsIn p sends → IsIn p (letters_of t (step_at (here sc t marks x life i).at).outs)) → Stepping sc t marks x life i sends
 stepping sc t marks x life i sends reach ok well fits heard away some = record {
   may = may;

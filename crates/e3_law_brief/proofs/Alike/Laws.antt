@@ -12,7 +12,7 @@ use Rattle.e3_world.specs.declared.lives.SiteStep.{SiteStep}
 use Rattle.e3_world.specs.Items.{add_txn, txn_of_record}
 use Rattle.e3_world.specs.Lives.{incarnation_by, life_of, present_log}
 use Rattle.e3_world.specs.Logs.{logged_inc}
-use Rattle.e3_world.specs.Moves.{Did, Stepped, Silent, Rose, plain_input}
+use Rattle.e3_world.specs.Moves.{Did, Stepped, Silent, Rose, unnumbered_input}
 use Rattle.e3_world.specs.Steps.{step_at, step_of}
 use Rattle.e3_law_brief.specs.Alike.{ReadAlike}
 use Rattle.e3_world.specs.Brief.{txns_of}
@@ -91,15 +91,15 @@ pair_of weights site x y ss i rose now known = record {
   known = all_known (x ++ of_steps ss) known;
   known_too = all_known (y ++ of_steps ss) (subst (λ (ts : List Txn). Each IsKnown ts) now.txns known);
   steps = twins x y (notes_of x y rose) ss;
-  input = plain_input i;
+  input = unnumbered_input i;
 }
 
 same_since : (weights : List ℕ) (site : ℕ) (x y : List Record) (ss : List SiteStep) (i : Input) → IsInOrder site (record { rose = x; since = ss }) → ReadAlike x y
     → step_of weights site (record { rose = x; since = ss }) i ≡ step_of weights site (record { rose = y; since = ss }) i
 same_since weights site x y ss i order rose =
-    ap (λ (life : Life). step_at (record { weights = weights; site = site; life = life; input = plain_input i })) (life_left x y (notes_of x y rose) ss)
+    ap (λ (life : Life). step_at (record { weights = weights; site = site; life = life; input = unnumbered_input i })) (life_left x y (notes_of x y rose) ss)
     ∙ step_same (pair_of weights site x y ss i rose (present_alike site x y ss order.orderly rose) order.known)
-    ∙ ap (λ (life : Life). step_at (record { weights = weights; site = site; life = life; input = plain_input i })) (sym (life_right x y (notes_of x y rose) ss rose.inc))
+    ∙ ap (λ (life : Life). step_at (record { weights = weights; site = site; life = life; input = unnumbered_input i })) (sym (life_right x y (notes_of x y rose) ss rose.inc))
 
 pub steps_alike : StepsAreAlike
 steps_alike weights site a b i order alike =

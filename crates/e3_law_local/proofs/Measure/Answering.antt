@@ -24,7 +24,7 @@ use Rattle.e3_world.specs.Lives.{life_of}
 use Rattle.e3_world.specs.Logs.{is_undecided}
 use Rattle.e3_world.specs.Making.{nothing, steps_now, is_coordinator, is_present, open_now, attempt_now, may_abort, and_tell, and_send, and_record, and_abort_for, and_grants}
 use Rattle.e3_world.specs.Messages.{on_message}
-use Rattle.e3_world.specs.Moves.{plain}
+use Rattle.e3_world.specs.Moves.{unnumbered}
 use Rattle.e3_world.specs.OperationRules.{on_done}
 use Rattle.e3_world.specs.Operations.{expected, issued, issued_in}
 use Rattle.e3_world.specs.Sound.{txn_in}
@@ -48,7 +48,7 @@ Does a t made = Calm made ⊎ ((why : Told) × (made ≡ and_abort_for a t why n
 
 -- the place of a step that takes a packet
 abbrev place : List ℕ → ℕ → Incarnation → Packet → At
-place weights site now p = record { weights = weights; site = site; life = life_of now; input = input.Deliver (plain p) }
+place weights site now p = record { weights = weights; site = site; life = life_of now; input = input.Deliver (unnumbered p) }
 
 choice : (a : At) (t : Txn) (b : Bool) (x y : Made) → Does a t x → Does a t y → Does a t (if b then x else y)
 choice a t true x y first second = first
@@ -130,7 +130,7 @@ doomed : (weights : List ℕ) (site : ℕ) (now : Incarnation) (p : Packet) (t :
     Dooms site now t (step_at a))
 doomed weights site now p t why is may some = record {
   coordinator = eqb-true t.site site (and_parts (is_coordinator a t) (open_now a t nothing) parts.0).0;
-  issues = λ none. some (issued_still a t (plain p) refl ∙ none);
+  issues = λ none. some (issued_still a t (unnumbered p) refl ∙ none);
   undecided = subst (λ l. is_undecided t l ≡ true) (append-nil a.life.log ∙ life_log now) (and_parts (is_coordinator a t) (open_now a t nothing) parts.0).1;
   aborted = follows.records ∙ cast.records;
   sends = rw (follows.outs, list_all-append, cast.outs is_last_word refl refl, answers_last a.site follows.dones follows.are_answers) refl;

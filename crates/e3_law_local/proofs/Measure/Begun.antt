@@ -22,7 +22,7 @@ use Rattle.e3_world.specs.Given.{IsGiven}
 use Rattle.e3_world.specs.Items.{began_in, binding_by, binds}
 use Rattle.e3_world.specs.Legal.{IsDue, IsLegal, entry_of, made_by}
 use Rattle.e3_world.specs.Lives.{incarnation_of, life_of}
-use Rattle.e3_world.specs.Moves.{moves_of, plain_input}
+use Rattle.e3_world.specs.Moves.{moves_of, unnumbered_input}
 use Rattle.e3_law_steps.proofs.Sound.Clocks.{due_says}
 use Rattle.e3_law_steps.proofs.Each.{each-append, each-weaker}
 use Rattle.e3_law_steps.proofs.Suits.Holding.{legal_holds}
@@ -45,7 +45,7 @@ begun_later h es t has = let P : List Txn → Type 0 = λ l. Contains l t in
 
 -- the place of a step
 abbrev place : List ℕ → ℕ → Incarnation → Input → At
-place weights site now i = record { weights = weights; site = site; life = life_of now; input = plain_input i }
+place weights site now i = record { weights = weights; site = site; life = life_of now; input = unnumbered_input i }
 
 -- what a delivery tells
 none_told : (sc : Scenario) (h : List Entry) (site : ℕ) (p : Packet) → Says (place sc.weights site (incarnation_of (moves_of sc h site)) (input.Deliver p)) (made_by sc h site (input.Deliver p)) →

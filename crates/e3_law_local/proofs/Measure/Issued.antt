@@ -24,7 +24,7 @@ use Rattle.e3_world.specs.declared.names.Bound.{Bound}
 use Rattle.e3_world.specs.Items.{input_of, inputs_at, last_bound, plan_of, since_line, to_line, turn_of, txn_of}
 use Rattle.e3_world.specs.Legal.{Guard, IsDue, IsLegal, IsNextItem, LegalAfter}
 use Rattle.e3_world.specs.Lives.{incarnation_by, incarnation_of, life_at, life_by}
-use Rattle.e3_world.specs.Moves.{Did, Move, Past, Rose, Silent, Stepped, Tail, kept_moves, moves_of, moves_of_act, own, past_of, plain_input}
+use Rattle.e3_world.specs.Moves.{Did, Move, Past, Rose, Silent, Stepped, Tail, kept_moves, moves_of, moves_of_act, own, past_of, unnumbered_input}
 use Rattle.e3_world.specs.Operations.{issued, issued_in}
 use Rattle.e3_world.specs.Packets.{present_items}
 use Rattle.e3_world.proofs.Pushes.{past_push}
@@ -127,7 +127,7 @@ next_known sc h site t op next =
     (each-filter (λ a. KnownInput (begun k) a.input) (λ a. a.site == site) (plan_of sc h) (plan_known sc k (present_items sc k)))) next.next in
     subst P (split_from (record { to = []; since = [] }) h) (begun_later k (since_line h) t was)
 
-due_known : (sc : Scenario) (h : List Entry) (e : Entry) (site : ℕ) (i : Input) → IsDue sc h site i → KnownInput (begun (h ++ e ∷ [])) (plain_input i)
+due_known : (sc : Scenario) (h : List Entry) (e : Entry) (site : ℕ) (i : Input) → IsDue sc h site i → KnownInput (begun (h ++ e ∷ [])) (unnumbered_input i)
 due_known sc h e site (input.Do t op) due = begun_more h e t (next_known sc h site t op due)
 due_known sc h e site (input.Begin sites) due = tt
 due_known sc h e site (input.Commit t) due = tt

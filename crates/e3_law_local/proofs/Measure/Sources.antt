@@ -9,7 +9,7 @@ use Rattle.e3_world.specs.declared.lives.Incarnation.{Incarnation}
 use Rattle.e3_world.specs.declared.lives.Made.{Made}
 use Rattle.e3_world.specs.Lives.{life_of}
 use Rattle.e3_world.specs.Making.{and_send}
-use Rattle.e3_world.specs.Moves.{plain_input}
+use Rattle.e3_world.specs.Moves.{unnumbered_input}
 use Rattle.e3_world.specs.Steps.{step_at, step_of}
 use Rattle.e3_world.proofs.Turns.{self}
 use Rattle.e3_law_steps.proofs.Adding.{Preserves}
@@ -41,7 +41,7 @@ kept a = record {
 -- a whole step
 pub sends_own : (weights : List ℕ) (site : ℕ) (now : Incarnation) (i : Input) → list_all (λ p. p.«from» == site) (step_of weights site now i).outs ≡ true
 sends_own weights site now i =
-    let a : At = record { weights = weights; site = site; life = life_of now; input = plain_input i } in
+    let a : At = record { weights = weights; site = site; life = life_of now; input = unnumbered_input i } in
     let all : From a (step_at a) = keep_whole a AnyRecord (From a)
     (record { vote = λ t made free. tt; join = λ t n. tt; attempt = λ t n dir made free. tt; decision = λ t dir made free. tt })
     (kept a) (λ made so_far. record { outs = so_far.outs }) (record { outs = refl }) in

@@ -27,7 +27,7 @@ use Rattle.e3_world.specs.Legal.{entry_of, made_by}
 use Rattle.e3_world.specs.Lives.{life_at}
 use Rattle.e3_world.specs.Logs.{decision, is_undecided, last_attempt, last_attempt_by, last_elected}
 use Rattle.e3_world.specs.Making.{nothing, and_attempt, and_decide, and_send, elected_now, log_now, state_now}
-use Rattle.e3_world.specs.Moves.{log_of, moves_of, plain, plain_input}
+use Rattle.e3_world.specs.Moves.{log_of, moves_of, unnumbered, unnumbered_input}
 use Rattle.e3_world.specs.Operations.{done, expected, is_refusal, waiting}
 use Rattle.e3_world.specs.Packets.{pending}
 use Rattle.e3_world.specs.Steps.{and_ask, on_commit, on_input, refuse}
@@ -176,7 +176,7 @@ begins sc start t s = choose (rest_of t) refl
     untried : last_attempt t (log_of sc start t.site) ≡ 0
     untried = none_attempted t (log_of sc start t.site) 0 home.says.tried
 
-    taken : on_input a (plain_input (input.Commit t)) nothing ≡ on_commit a t nothing
+    taken : on_input a (unnumbered_input (input.Commit t)) nothing ≡ on_commit a t nothing
     taken = rw (s.not_refused) refl
 
     load_none : weight sc t start ≡ 0
@@ -226,7 +226,7 @@ begins sc start t s = choose (rest_of t) refl
           leads = record {
             says = subst (λ l. Says t l None None true) (sym st.log) (says_voted t (log_of sc start t.site) ops None None false home.says);
             untried = ap (last_attempt t) st.log ∙ vote_attempt;
-            gathered = votes_on sc t start (input.Commit t) ∙ gathers (made_by sc start t.site (input.Commit t)).told (yes_votes t (steps_at sc start t.site)) (life_at (moves_of sc start t.site)).log (made_by sc start t.site (input.Commit t)).records (map plain (made_by sc start t.site (input.Commit t)).outs)
+            gathered = votes_on sc t start (input.Commit t) ∙ gathers (made_by sc start t.site (input.Commit t)).told (yes_votes t (steps_at sc start t.site)) (life_at (moves_of sc start t.site)).log (made_by sc start t.site (input.Commit t)).records (map unnumbered (made_by sc start t.site (input.Commit t)).outs)
                 (ap (list_any is_refusal) st.beside.told ∙ none_refused st.beside.ops st.beside.tell_others);
             few = ap (λ l. is_within l []) some;
           };

@@ -14,7 +14,7 @@ use Rattle.e3_world.specs.declared.lives.Made.{Made}
 use Rattle.e3_world.specs.Legal.{entry_of, made_by, numbered}
 use Rattle.e3_world.specs.Lives.{life_at}
 use Rattle.e3_world.specs.Making.{nothing}
-use Rattle.e3_world.specs.Moves.{log_of, moves_of, plain_input}
+use Rattle.e3_world.specs.Moves.{log_of, moves_of, unnumbered_input}
 use Rattle.e3_world.specs.Packets.{fate_of, outs_of, pending, sent, taken, taken_by, takes_input}
 use Rattle.e3_world.specs.Operations.{waiting}
 use Rattle.e3_types.specs.Same.{same_txn}
@@ -55,7 +55,7 @@ blind_total w blind n (p ∷ ps) =
     omega (arith, first, rest)
 
 total_append : (w : Packet → ℕ) (xs ys : List Packet) → total w (xs ++ ys) ≡ total w xs + total w ys
-total_append w [] ys = let plain : total w ys ≡ 0 + total w ys = omega arith in plain
+total_append w [] ys = let unnumbered : total w ys ≡ 0 + total w ys = omega arith in unnumbered
 total_append w (x ∷ xs) ys = let rest : total w (xs ++ ys) ≡ total w xs + total w ys = total_append w xs ys in omega (arith, rest)
 
 pub total_none : (w : Packet → ℕ) (P : Packet → Bool) → ((p : Packet) → P p ≡ true → w p ≡ 0) → (ps : List Packet) → list_all P ps ≡ true → total w ps ≡ 0
@@ -153,8 +153,8 @@ pub record Stepped (sc : Scenario) (t : Txn) (h : List Entry) (s : ℕ) (i : Inp
   pub sends : Sends sc t h s i was.outs
 
 pub stepped : (sc : Scenario) (t : Txn) (h : List Entry) (s : ℕ) (i : Input) (was : Made) → IsCounted sc h → OnceOnly sc t h (entry_of sc h s i) →
-    ((n : ℕ) → length (sent h) < n → takes_input n i ≡ false) → brings_none (plain_input i) ≡ true → Still t s (log_of sc h s) (life_at (moves_of sc h s)).steps →
-    on_input (place sc h s i) (plain_input i) nothing ≡ was → was.own ≡ [] → Stepped sc t h s i was
+    ((n : ℕ) → length (sent h) < n → takes_input n i ≡ false) → brings_none (unnumbered_input i) ≡ true → Still t s (log_of sc h s) (life_at (moves_of sc h s)).steps →
+    on_input (place sc h s i) (unnumbered_input i) nothing ≡ was → was.own ≡ [] → Stepped sc t h s i was
 stepped sc t h s i was counted once low brings still is none = record {
   beside = beside;
   log = log_on sc h s i ∙ ap (λ l. log_of sc h s ++ l) beside.records;

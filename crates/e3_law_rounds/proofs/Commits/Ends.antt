@@ -21,7 +21,7 @@ use Rattle.e3_world.specs.declared.lives.Life.{Life}
 use Rattle.e3_world.specs.Items.{input_of, inputs_at, inputs_of, inputs_to, is_delivery, is_up_at, taken_at, turn_of}
 use Rattle.e3_world.specs.Legal.{IsDue, IsLegal, IsNextItem, LegalAfter, entry_of, may_rise, numbered, parts_due}
 use Rattle.e3_world.specs.Lives.{life_at}
-use Rattle.e3_world.specs.Moves.{log_of, moves_of, past_of, plain_input}
+use Rattle.e3_world.specs.Moves.{log_of, moves_of, past_of, unnumbered_input}
 use Rattle.e3_world.specs.Operations.{waiting}
 use Rattle.e3_world.specs.Packets.{fate_of, is_line, lines, outs_of, pending, present_items, sent}
 use Rattle.e3_world.proofs.Pushes.{legal_push}
@@ -97,20 +97,20 @@ none_of : (t : Txn) (ps : List Packet) → list_all (other_packet t) ps ≡ true
 none_of t [] all = refl
 none_of t (p ∷ ps) all = let parts = and_parts (other_packet t p) (list_all (other_packet t) ps) all in rw (other_not t p parts.0) (none_of t ps parts.1)
 
-brings_shaped : (t : Txn) (wants : ℕ → Expected) (k : ℕ) (p : Packet) → is_shaped t wants k p ≡ true → brings_none (plain_input (input.Deliver p)) ≡ true
+brings_shaped : (t : Txn) (wants : ℕ → Expected) (k : ℕ) (p : Packet) → is_shaped t wants k p ≡ true → brings_none (unnumbered_input (input.Deliver p)) ≡ true
 brings_shaped t wants k p shaped = by p.msg refl
   where
-    by : (m : Message) → p.msg ≡ m → brings_none (plain_input (input.Deliver p)) ≡ true
+    by : (m : Message) → p.msg ≡ m → brings_none (unnumbered_input (input.Deliver p)) ≡ true
     by (msg.Do u n op) is = absurd (let off : is_shaped t wants k p ≡ false = rw is refl in true≢false (sym shaped ∙ off))
     by m is = ap (λ x. brings_none (input.Deliver (record { number = 0; «from» = p.«from»; to = p.to; msg = x }))) is
 
-brings_of : (sc : Scenario) (t : Txn) (wants : ℕ → Expected) (h : List Entry) (p : Packet) (n : ℕ) → Stage sc t wants h n → IsIn p (pending sc h) → brings_none (plain_input (input.Deliver p)) ≡ true
+brings_of : (sc : Scenario) (t : Txn) (wants : ℕ → Expected) (h : List Entry) (p : Packet) (n : ℕ) → Stage sc t wants h n → IsIn p (pending sc h) → brings_none (unnumbered_input (input.Deliver p)) ≡ true
 brings_of sc t wants h p n (Stage.One o) has = brings_shaped t wants 1 p (one_in (is_shaped t wants 1) (pending sc h) p o.shaped has)
 brings_of sc t wants h p n (Stage.Two o) has = brings_shaped t wants 2 p (one_in (is_shaped t wants 2) (pending sc h) p o.shaped has)
 brings_of sc t wants h p n (Stage.Three o) has = brings_shaped t wants 3 p (one_in (is_shaped t wants 3) (pending sc h) p o.shaped has)
 
 -- no operation waits behind a step that brings none
-pub still_on : (sc : Scenario) (t : Txn) (h : List Entry) (s y : ℕ) (i : Input) → brings_none (plain_input i) ≡ true → Still t y (log_of sc h y) (steps_at sc h y) →
+pub still_on : (sc : Scenario) (t : Txn) (h : List Entry) (s y : ℕ) (i : Input) → brings_none (unnumbered_input i) ≡ true → Still t y (log_of sc h y) (steps_at sc h y) →
     Still t y (log_of sc (h ++ entry_of sc h s i ∷ []) y) (steps_at sc (h ++ entry_of sc h s i ∷ []) y)
 still_on sc t h s y i brings was = by (s == y) refl
   where

@@ -29,7 +29,7 @@ use Rattle.e3_world.specs.Lives.{life_at}
 use Rattle.e3_world.specs.Logs.{decision, has_voted, is_undecided, last_attempt, last_elected}
 use Rattle.e3_world.specs.Making.{nothing, and_attempt, and_decide, steps_now}
 use Rattle.e3_world.specs.Messages.{on_message}
-use Rattle.e3_world.specs.Moves.{log_of, moves_of, plain}
+use Rattle.e3_world.specs.Moves.{log_of, moves_of, unnumbered}
 use Rattle.e3_world.specs.Packets.{pending}
 use Rattle.e3_world.specs.Rounds.{count_ack, round_by, round_by_record, round_in_progress}
 use Rattle.e3_world.specs.Votes.{yes_by, yes_votes}
@@ -60,15 +60,15 @@ abbrev pub said : Packet → Message → Packet
 said p m = record { number = 0; «from» = p.«from»; to = p.to; msg = m }
 
 pub yes_voice : (t : Txn) (p : Packet) (came : List ℕ) (b r : List Record) (o : List Packet) (e : List Told) → p.msg ≡ msg.Vote t true →
-    yes_by t (Some came) (mom b r o e (plain p)) ≡ Some (came ++ p.«from» ∷ [])
+    yes_by t (Some came) (mom b r o e (unnumbered p)) ≡ Some (came ++ p.«from» ∷ [])
 yes_voice t p came b r o e is = ap (λ m. yes_by t (Some came) (mom b r o e (said p m))) is ∙ rw (same_self t) refl
 
 pub round_voice : (s : ℕ) (t : Txn) (p : Packet) (w : Rounds) (b r : List Record) (o : List Packet) (e : List Told) → p.msg ≡ msg.Vote t true →
-    (round_by s t w (mom b r o e (plain p))).now ≡ fold (round_by_record s t w.group) w.now r
+    (round_by s t w (mom b r o e (unnumbered p))).now ≡ fold (round_by_record s t w.group) w.now r
 round_voice s t p w b r o e is = ap (λ m. (round_by s t w (mom b r o e (said p m))).now) is
 
 pub round_ack : (s : ℕ) (t : Txn) (p : Packet) (w : Rounds) (b r : List Record) (o : List Packet) (e : List Told) → p.msg ≡ msg.Ack t 1 Commit →
-    (round_by s t w (mom b r o e (plain p))).now ≡ fold (round_by_record s t w.group) (option_map (λ x. count_ack x p.«from» 1 Commit) w.now) r
+    (round_by s t w (mom b r o e (unnumbered p))).now ≡ fold (round_by_record s t w.group) (option_map (λ x. count_ack x p.«from» 1 Commit) w.now) r
 round_ack s t p w b r o e is = ap (λ m. (round_by s t w (mom b r o e (said p m))).now) is ∙ rw (same_self t) refl
 
 -- a packet that comes to the coordinator from another site
@@ -99,7 +99,7 @@ round_now : (sc : Scenario) (t : Txn) (h : List Entry) (p : Packet) (was : Made)
     ≡ fold (round_by_record t.site t (fold (round_by t.site t) (record { group = []; now = None }) (steps_at sc h t.site)).group) o was.records
 round_now sc t h p was o st is gathers =
     round_on sc t h (input.Deliver p)
-    ∙ round_voice t.site t p (fold (round_by t.site t) (record { group = []; now = None }) (steps_at sc h t.site)) (life_at (moves_of sc h t.site)).log (made_by sc h t.site (input.Deliver p)).records (map plain (made_by sc h t.site (input.Deliver p)).outs) (made_by sc h t.site (input.Deliver p)).told is
+    ∙ round_voice t.site t p (fold (round_by t.site t) (record { group = []; now = None }) (steps_at sc h t.site)) (life_at (moves_of sc h t.site)).log (made_by sc h t.site (input.Deliver p)).records (map unnumbered (made_by sc h t.site (input.Deliver p)).outs) (made_by sc h t.site (input.Deliver p)).told is
     ∙ ap (λ l. fold (round_by_record t.site t (fold (round_by t.site t) (record { group = []; now = None }) (steps_at sc h t.site)).group) (round_in_progress t.site t (steps_at sc h t.site)) l) st.beside.records
     ∙ ap (λ x. fold (round_by_record t.site t (fold (round_by t.site t) (record { group = []; now = None }) (steps_at sc h t.site)).group) x was.records) gathers
 
@@ -278,7 +278,7 @@ voice_one sc t wants h p n g is o = choose (is_within (rest_of t) (o.came ++ p.�
     a = place sc h t.site (input.Deliver p)
 
     gathered : yes_votes t (steps_now a nothing) ≡ Some (o.came ++ p.«from» ∷ [])
-    gathered = fold-append (yes_by t) None (steps_at sc h t.site) (mom a.life.log [] [] [] (plain p) ∷ []) ∙ ap (λ x. yes_by t x (mom a.life.log [] [] [] (plain p))) o.leads.gathered ∙ yes_voice t p o.came a.life.log [] [] [] is
+    gathered = fold-append (yes_by t) None (steps_at sc h t.site) (mom a.life.log [] [] [] (unnumbered p) ∷ []) ∙ ap (λ x. yes_by t x (mom a.life.log [] [] [] (unnumbered p))) o.leads.gathered ∙ yes_voice t p o.came a.life.log [] [] [] is
 
     choose : (b : Bool) → is_within (rest_of t) (o.came ++ p.«from» ∷ []) ≡ b → Stage sc t wants (after sc h t.site p) (suc n)
     choose true all = last_voice sc t wants h p n g is o gathered all
@@ -293,7 +293,7 @@ voice_one sc t wants h p n g is o = choose (is_within (rest_of t) (o.came ++ p.�
             says = subst (λ l. Says t l None None true) (sym (same_home sc t h p nothing st refl)) o.leads.says;
             untried = ap (last_attempt t) (same_home sc t h p nothing st refl) ∙ o.leads.untried;
             gathered = votes_on sc t h (input.Deliver p) ∙ ap (λ x. yes_by t x (moment_of (life_at (moves_of sc h t.site)) (input.Deliver p) (made_by sc h t.site (input.Deliver p)))) o.leads.gathered
-                ∙ yes_voice t p o.came (life_at (moves_of sc h t.site)).log (made_by sc h t.site (input.Deliver p)).records (map plain (made_by sc h t.site (input.Deliver p)).outs) (made_by sc h t.site (input.Deliver p)).told is;
+                ∙ yes_voice t p o.came (life_at (moves_of sc h t.site)).log (made_by sc h t.site (input.Deliver p)).records (map unnumbered (made_by sc h t.site (input.Deliver p)).outs) (made_by sc h t.site (input.Deliver p)).told is;
             few = few;
           };
           each = λ y has. at y has (p.«from» == y) refl (o.each y has);
@@ -438,7 +438,7 @@ ack_two sc t wants h p n g is o = choose (is_quorum sc.weights (t.site ∷ q.ack
           round = q;
           leads = record {
             says = subst (λ l. Says t l None (Some Commit) true) (sym (same_home sc t h p nothing st refl)) o.leads.says;
-            gathers = round_on sc t h (input.Deliver p) ∙ round_ack t.site t p start (life_at (moves_of sc h t.site)).log (made_by sc h t.site (input.Deliver p)).records (map plain (made_by sc h t.site (input.Deliver p)).outs) (made_by sc h t.site (input.Deliver p)).told is
+            gathers = round_on sc t h (input.Deliver p) ∙ round_ack t.site t p start (life_at (moves_of sc h t.site)).log (made_by sc h t.site (input.Deliver p)).records (map unnumbered (made_by sc h t.site (input.Deliver p)).outs) (made_by sc h t.site (input.Deliver p)).told is
                 ∙ ap (λ l. fold (round_by_record t.site t start.group) (option_map (λ x. count_ack x p.«from» 1 Commit) start.now) l) st.beside.records
                 ∙ ap (option_map (λ x. count_ack x p.«from» 1 Commit)) o.leads.gathers;
             first = counted.n ∙ o.leads.first;

@@ -22,7 +22,7 @@ use Rattle.e3_world.specs.Legal.{entry_of, made_by, numbered}
 use Rattle.e3_world.specs.Logs.{last_attempt}
 use Rattle.e3_world.specs.Making.{nothing}
 use Rattle.e3_world.specs.Messages.{on_message}
-use Rattle.e3_world.specs.Moves.{log_of, moves_of, plain, plain_input}
+use Rattle.e3_world.specs.Moves.{log_of, moves_of, unnumbered, unnumbered_input}
 use Rattle.e3_world.specs.Packets.{outs_of, pending, sent}
 use Rattle.e3_world.specs.Rounds.{round_by, round_by_record}
 use Rattle.e3_world.specs.Sound.{txn_in}
@@ -122,19 +122,19 @@ stage_on sc t wants h k n home u (Stage.Three o) = Stage.Three (record {
 })
 
 -- another transaction's packet adds nothing to what the coordinator gathers
-yes_other : (t : Txn) (p : Packet) (w : Option (List ℕ)) (b r : List Record) (o : List Packet) (e : List Told) → other_packet t p ≡ true → yes_by t w (mom b r o e (plain p)) ≡ w
+yes_other : (t : Txn) (p : Packet) (w : Option (List ℕ)) (b r : List Record) (o : List Packet) (e : List Told) → other_packet t p ≡ true → yes_by t w (mom b r o e (unnumbered p)) ≡ w
 yes_other t p w b r o e other = by p.msg refl
   where
-    by : (m : Message) → p.msg ≡ m → yes_by t w (mom b r o e (plain p)) ≡ w
+    by : (m : Message) → p.msg ≡ m → yes_by t w (mom b r o e (unnumbered p)) ≡ w
     by (msg.Done u n inc answer) is = ap (λ m. yes_by t w (mom b r o e (said p m))) is
     by (msg.Decide u dir) is = ap (λ m. yes_by t w (mom b r o e (said p m))) is
     by m is = absurd (let off : other_packet t p ≡ false = rw is refl in true≢false (sym other ∙ off))
 
 round_other : (s : ℕ) (t : Txn) (p : Packet) (w : Rounds) (b r : List Record) (o : List Packet) (e : List Told) → other_packet t p ≡ true →
-    (round_by s t w (mom b r o e (plain p))).now ≡ fold (round_by_record s t w.group) w.now r
+    (round_by s t w (mom b r o e (unnumbered p))).now ≡ fold (round_by_record s t w.group) w.now r
 round_other s t p w b r o e other = by p.msg refl
   where
-    by : (m : Message) → p.msg ≡ m → (round_by s t w (mom b r o e (plain p))).now ≡ fold (round_by_record s t w.group) w.now r
+    by : (m : Message) → p.msg ≡ m → (round_by s t w (mom b r o e (unnumbered p))).now ≡ fold (round_by_record s t w.group) w.now r
     by (msg.Done u n inc answer) is = ap (λ m. (round_by s t w (mom b r o e (said p m))).now) is
     by (msg.Decide u dir) is = ap (λ m. (round_by s t w (mom b r o e (said p m))).now) is
     by m is = absurd (let off : other_packet t p ≡ false = rw is refl in true≢false (sym other ∙ off))
@@ -148,7 +148,7 @@ gathers_other : (sc : Scenario) (t : Txn) (h : List Entry) (p : Packet) (was : M
 gathers_other sc t h p was came st foreign other carries g = record {
   says = carries.log None None true g.says;
   untried = ap (last_attempt t) st.log ∙ attempt_still t (log_of sc h t.site) was.records 0 foreign.records g.untried;
-  gathered = votes_on sc t h (input.Deliver p) ∙ yes_other t p (yes_votes t (steps_at sc h t.site)) (life_at (moves_of sc h t.site)).log (made_by sc h t.site (input.Deliver p)).records (map plain (made_by sc h t.site (input.Deliver p)).outs) (made_by sc h t.site (input.Deliver p)).told other ∙ g.gathered;
+  gathered = votes_on sc t h (input.Deliver p) ∙ yes_other t p (yes_votes t (steps_at sc h t.site)) (life_at (moves_of sc h t.site)).log (made_by sc h t.site (input.Deliver p)).records (map unnumbered (made_by sc h t.site (input.Deliver p)).outs) (made_by sc h t.site (input.Deliver p)).told other ∙ g.gathered;
   few = g.few;
 }
 
@@ -157,7 +157,7 @@ tries_other : (sc : Scenario) (t : Txn) (h : List Entry) (p : Packet) (was : Mad
 tries_other sc t h p was r st foreign other carries g =
     let start : Rounds = fold (round_by t.site t) (record { group = []; now = None }) (steps_at sc h t.site) in record {
       says = carries.log None (Some Commit) true g.says;
-      gathers = round_on sc t h (input.Deliver p) ∙ round_other t.site t p start (life_at (moves_of sc h t.site)).log (made_by sc h t.site (input.Deliver p)).records (map plain (made_by sc h t.site (input.Deliver p)).outs) (made_by sc h t.site (input.Deliver p)).told other
+      gathers = round_on sc t h (input.Deliver p) ∙ round_other t.site t p start (life_at (moves_of sc h t.site)).log (made_by sc h t.site (input.Deliver p)).records (map unnumbered (made_by sc h t.site (input.Deliver p)).outs) (made_by sc h t.site (input.Deliver p)).told other
           ∙ ap (λ l. fold (round_by_record t.site t start.group) start.now l) st.beside.records
           ∙ fold_other t.site t start.group start.now was.records foreign.records ∙ g.gathers;
       first = g.first;
@@ -249,10 +249,10 @@ other_on sc t wants h s p turn other = record {
     foreign : Foreign t was
     foreign = foreign_message t (place sc h s (input.Deliver p)) p.«from» p.msg other
 
-    brings : brings_none (plain_input (input.Deliver p)) ≡ true
+    brings : brings_none (unnumbered_input (input.Deliver p)) ≡ true
     brings = by p.msg refl
       where
-        by : (m : Message) → p.msg ≡ m → brings_none (plain_input (input.Deliver p)) ≡ true
+        by : (m : Message) → p.msg ≡ m → brings_none (unnumbered_input (input.Deliver p)) ≡ true
         by (msg.Do u n op) is = absurd (let off : other_packet t p ≡ false = rw is refl in true≢false (sym other ∙ off))
         by m is = ap (λ x. brings_none (input.Deliver (said p x))) is
 

@@ -23,7 +23,7 @@ use Rattle.e3_world.specs.Items.{is_up_at}
 use Rattle.e3_world.specs.Legal.{IsLegal, entry_of, made_by}
 use Rattle.e3_world.specs.Lives.{life_at}
 use Rattle.e3_world.specs.Logs.{decision, is_undecided, last_attempt}
-use Rattle.e3_world.specs.Moves.{log_by, log_of, moves_of, plain_input}
+use Rattle.e3_world.specs.Moves.{log_by, log_of, moves_of, unnumbered_input}
 use Rattle.e3_world.specs.Operations.{done}
 use Rattle.e3_world.specs.Packets.{pending}
 use Rattle.e3_world.specs.Rounds.{round_by, round_in_progress}
@@ -178,7 +178,7 @@ carries_other sc t h s y i other = carries_same sc t h (h ++ entry_of sc h s i �
 
 -- a site that takes another transaction's packet
 pub carries_foreign : (sc : Scenario) (t : Txn) (h : List Entry) (s : ℕ) (p : Packet) (was : Made) → Stepped sc t h s (input.Deliver p) was → Foreign t was →
-    Still t s (log_of sc h s) (steps_at sc h s) → brings_none (plain_input (input.Deliver p)) ≡ true → Carries sc t h (h ++ entry_of sc h s (input.Deliver p) ∷ []) s
+    Still t s (log_of sc h s) (steps_at sc h s) → brings_none (unnumbered_input (input.Deliver p)) ≡ true → Carries sc t h (h ++ entry_of sc h s (input.Deliver p) ∷ []) s
 carries_foreign sc t h s p was st foreign still brings = record {
   log = λ d a v says. subst (λ l. Says t l d a v) (sym st.log) (says_still t (log_of sc h s) was.records d a v foreign.records says);
   decided = λ d is. ap (decision t) st.log ∙ decided_still t (log_of sc h s) was.records d foreign.records is;

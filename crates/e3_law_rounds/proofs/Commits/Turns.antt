@@ -19,7 +19,7 @@ use Rattle.e3_world.specs.Legal.{IsLegal, entry_of}
 use Rattle.e3_world.specs.Logs.{decision, last_attempt}
 use Rattle.e3_world.specs.Making.{nothing}
 use Rattle.e3_world.specs.Messages.{on_message}
-use Rattle.e3_world.specs.Moves.{Move, log_by, log_of, moves_of, plain_input}
+use Rattle.e3_world.specs.Moves.{Move, log_by, log_of, moves_of, unnumbered_input}
 use Rattle.e3_world.specs.Packets.{pending}
 use Rattle.e3_world.specs.Rounds.{round_in_progress}
 use Rattle.e3_world.specs.Votes.{yes_votes}
@@ -46,7 +46,7 @@ pub record Turn (sc : Scenario) (t : Txn) (h : List Entry) (s : ℕ) (p : Packet
   pub legal : IsLegal sc (after sc h s p)
 
 pub steps : (sc : Scenario) (t : Txn) (h : List Entry) (s : ℕ) (p : Packet) (was : Made) → Turn sc t h s p → has_site t.sites s ≡ true →
-    brings_none (plain_input (input.Deliver p)) ≡ true → on_message (place sc h s (input.Deliver p)) p.«from» p.msg nothing ≡ was → was.own ≡ [] → Stepped sc t h s (input.Deliver p) was
+    brings_none (unnumbered_input (input.Deliver p)) ≡ true → on_message (place sc h s (input.Deliver p)) p.«from» p.msg nothing ≡ was → was.own ≡ [] → Stepped sc t h s (input.Deliver p) was
 steps sc t h s p was turn member brings is none =
     stepped sc t h s (input.Deliver p) was turn.ground.counted turn.once (low_delivery sc h p turn.ground.counted turn.has) brings (turn.ground.still s member) is none
 

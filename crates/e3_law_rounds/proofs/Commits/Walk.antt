@@ -18,7 +18,7 @@ use Rattle.e3_world.specs.declared.lives.Expected.{Expected}
 use Rattle.e3_world.specs.Given.{IsGiven}
 use Rattle.e3_world.specs.Items.{is_delivery, is_up_at}
 use Rattle.e3_world.specs.Legal.{AreDue, IsDue, IsLegal, entry_of, made_by}
-use Rattle.e3_world.specs.Moves.{moves_of, past_of, plain_input}
+use Rattle.e3_world.specs.Moves.{moves_of, past_of, unnumbered_input}
 use Rattle.e3_world.specs.Packets.{outs_of, pending, sent, taken_by, takes_input}
 use Rattle.e3_world.proofs.Guards.{guard_step, up_some}
 use Rattle.e3_world.proofs.Pushes.{legal_push}
@@ -150,9 +150,9 @@ sent_own : (sc : Scenario) (h : List Entry) (site : ℕ) (i : Input) → IsGiven
 sent_own sc h site i given legal due fits =
     subst (λ z. (p : Packet) → IsIn p (step_of sc.weights site (incarnation_of z) i).outs → p.«from» ≡ site) (trail_moves sc site h)
     (subst (λ (m : Made). (p : Packet) → IsIn p m.outs → p.«from» ≡ site) (step_plain sc.weights site (incarnation_of (moves_at site (trail_of sc h))) i)
-    (sends_own sc (trail_of sc h) site (plain_input i) (legal_made sc h legal (given_fit sc h given legal)) taken_is.0 taken_is.1 some_txn))
+    (sends_own sc (trail_of sc h) site (unnumbered_input i) (legal_made sc h legal (given_fit sc h given legal)) taken_is.0 taken_is.1 some_txn))
   where
-    taken_is : MayTake site (plain_input i) × WasSent (trail_of sc h) (plain_input i)
+    taken_is : MayTake site (unnumbered_input i) × WasSent (trail_of sc h) (unnumbered_input i)
     taken_is = due_taken sc h site i due fits
 
     some_txn : Txn

@@ -21,7 +21,7 @@ use Rattle.e3_world.specs.Given.{IsGiven}
 use Rattle.e3_world.specs.Items.{is_delivery, is_up_at}
 use Rattle.e3_world.specs.Legal.{AreDue, Guard, IsDue, IsLegal, LegalAfter, entry_of, made_by, numbered}
 use Rattle.e3_world.specs.Lives.{incarnation_of}
-use Rattle.e3_world.specs.Moves.{moves_at, plain, plain_input, trail_of}
+use Rattle.e3_world.specs.Moves.{moves_at, unnumbered, unnumbered_input, trail_of}
 use Rattle.e3_world.specs.Packets.{outs_of, pending, sent, taken, taken_by, takes_input}
 use Rattle.e3_world.specs.Sound.{WasSent}
 use Rattle.e3_world.specs.Steps.{step_of}
@@ -57,8 +57,8 @@ made_of sc h given legal = legal_made sc h legal (given_fit sc h given legal)
 -- what was sent goes to another site
 pub sent_away : (sc : Scenario) (h : List Entry) (p : Packet) → IsGiven sc → IsLegal sc h → IsIn p (sent h) → (p.to == p.«from») ≡ false
 sent_away sc h p given legal was =
-    (made_ok sc some_txn (trail_of sc h) (made_of sc h given legal)).outs (plain p)
-    (subst (λ l. IsIn (plain p) l) (sym (trail_sends sc h)) (in_map_to plain p (sent h) was))
+    (made_ok sc some_txn (trail_of sc h) (made_of sc h given legal)).outs (unnumbered p)
+    (subst (λ l. IsIn (unnumbered p) l) (sym (trail_sends sc h)) (in_map_to unnumbered p (sent h) was))
 
 -- what a step of a legal history sends comes from its site
 sent_own : (sc : Scenario) (h : List Entry) (site : ℕ) (i : Input) → IsGiven sc → IsLegal sc h → IsDue sc h site i → (is_delivery i ≡ false → MayTake site i) →
@@ -66,9 +66,9 @@ sent_own : (sc : Scenario) (h : List Entry) (site : ℕ) (i : Input) → IsGiven
 sent_own sc h site i given legal due fits =
     subst (λ z. (p : Packet) → IsIn p (step_of sc.weights site (incarnation_of z) i).outs → p.«from» ≡ site) (trail_moves sc site h)
     (subst (λ (m : Made). (p : Packet) → IsIn p m.outs → p.«from» ≡ site) (step_plain sc.weights site (incarnation_of (moves_at site (trail_of sc h))) i)
-    (sends_own sc (trail_of sc h) site (plain_input i) (made_of sc h given legal) taken_is.0 taken_is.1 some_txn))
+    (sends_own sc (trail_of sc h) site (unnumbered_input i) (made_of sc h given legal) taken_is.0 taken_is.1 some_txn))
   where
-    taken_is : MayTake site (plain_input i) × WasSent (trail_of sc h) (plain_input i)
+    taken_is : MayTake site (unnumbered_input i) × WasSent (trail_of sc h) (unnumbered_input i)
     taken_is = due_taken sc h site i due fits
 
 each_in : {X : Type 0} (P : X → Bool) (xs : List X) → ((x : X) → IsIn x xs → P x ≡ true) → list_all P xs ≡ true

@@ -14,7 +14,7 @@ use Rattle.e3_world.specs.Fate.{same_part}
 use Rattle.e3_world.specs.Items.{RecoveryRound}
 use Rattle.e3_world.specs.Legal.{entry_of, made_by, numbered}
 use Rattle.e3_world.specs.Lives.{life_at}
-use Rattle.e3_world.specs.Moves.{moves_of, plain}
+use Rattle.e3_world.specs.Moves.{moves_of, unnumbered}
 use Rattle.e3_world.specs.Packets.{is_calm, parts_of, sent}
 use Rattle.e3_world.specs.Steps.{step_at}
 use Rattle.e3_law_rounds.specs.Queues.{IsQueue, are_within}
@@ -30,38 +30,38 @@ taking sc h q = record { weights = sc.weights; site = q.to; life = life_at (move
 -- the next entry of a round whose queue begins with this packet, and what it leaves
 pub record Delivery (sc : Scenario) (members : List ℕ) (h more : List Entry) (q : Packet) (rest : List Packet) : Type 0 where
   pub p : Packet
-  pub same : plain p ≡ q
+  pub same : unnumbered p ≡ q
   pub later : List Entry
   pub is : more ≡ entry_of sc h q.to (input.Deliver p) ∷ later
   pub on : Rest sc members (h ++ entry_of sc h q.to (input.Deliver p) ∷ []) later
   pub made : made_by sc h q.to (input.Deliver p) ≡ step_at (taking sc h q)
   pub shifts : (made : Made) → step_at (taking sc h q) ≡ made → are_within (parts_of sc h) made.outs ≡ true →
-      (queue : List Packet) × IsQueue sc (h ++ entry_of sc h q.to (input.Deliver p) ∷ []) queue × (map plain queue ≡ rest ++ map plain made.outs)
+      (queue : List Packet) × IsQueue sc (h ++ entry_of sc h q.to (input.Deliver p) ∷ []) queue × (map unnumbered queue ≡ rest ++ map unnumbered made.outs)
   pub shifts_any : (queue : List Packet) × IsQueue sc (h ++ entry_of sc h q.to (input.Deliver p) ∷ []) queue
-      × (map plain queue ≡ rest ++ staying (parts_of sc h) (map plain (step_at (taking sc h q)).outs))
+      × (map unnumbered queue ≡ rest ++ staying (parts_of sc h) (map unnumbered (step_at (taking sc h q)).outs))
 
 record First (q : Packet) (rest queue : List Packet) : Type 0 where
   p : Packet
   ps : List Packet
   is : queue ≡ p ∷ ps
-  first : plain p ≡ q
-  others : map plain ps ≡ rest
+  first : unnumbered p ≡ q
+  others : map unnumbered ps ≡ rest
 
-first_of : (queue : List Packet) (q : Packet) (rest : List Packet) → map plain queue ≡ q ∷ rest → First q rest queue
+first_of : (queue : List Packet) (q : Packet) (rest : List Packet) → map unnumbered queue ≡ q ∷ rest → First q rest queue
 first_of [] q rest is = absurd cc
 first_of (p ∷ ps) q rest is = record { p = p; ps = ps; is = refl; first = cc; others = cc }
 
-pub plain_staying : (parts : List (List ℕ)) (ps : List Packet) → map plain (staying parts ps) ≡ staying parts (map plain ps)
+pub plain_staying : (parts : List (List ℕ)) (ps : List Packet) → map unnumbered (staying parts ps) ≡ staying parts (map unnumbered ps)
 plain_staying parts [] = refl
 plain_staying parts (p ∷ ps) = by (plain_staying parts ps) (same_part parts p.«from» p.to) refl
   where
-    by : map plain (staying parts ps) ≡ staying parts (map plain ps) → (b : Bool) → same_part parts p.«from» p.to ≡ b →
-        map plain (staying parts (p ∷ ps)) ≡ staying parts (map plain (p ∷ ps))
-    by rest true is = rw is (ap (λ l. plain p ∷ l) rest)
+    by : map unnumbered (staying parts ps) ≡ staying parts (map unnumbered ps) → (b : Bool) → same_part parts p.«from» p.to ≡ b →
+        map unnumbered (staying parts (p ∷ ps)) ≡ staying parts (map unnumbered (p ∷ ps))
+    by rest true is = rw is (ap (λ l. unnumbered p ∷ l) rest)
     by rest false is = rw is rest
 
 pub deliver : (sc : Scenario) (members : List ℕ) (h more : List Entry) (queue : List Packet) (q : Packet) (left : List Packet) →
-    Rest sc members h more → IsQueue sc h queue → map plain queue ≡ q ∷ left → has_site members q.to ≡ true →
+    Rest sc members h more → IsQueue sc h queue → map unnumbered queue ≡ q ∷ left → has_site members q.to ≡ true →
     Delivery sc members h more q left
 deliver sc members h more queue q left rest is_queue is member = record {
   p = first.p;
@@ -77,18 +77,18 @@ deliver sc members h more queue q left rest is_queue is member = record {
       let shifted : P q.to = subst P to (delivery_shifts sc h first.p first.ps ready (ap is_calm rest.recovers)) in (
         first.ps ++ numbered (suc (length (sent h))) (made_by sc h q.to (input.Deliver first.p)).outs,
         shifted (ap (λ (x : Made). are_within (parts_of sc h) x.outs) made_is ∙ within),
-        map-append plain first.ps (numbered (suc (length (sent h))) (made_by sc h q.to (input.Deliver first.p)).outs)
-            ∙ ap (λ l. l ++ map plain (numbered (suc (length (sent h))) (made_by sc h q.to (input.Deliver first.p)).outs)) first.others
-            ∙ ap (λ l. left ++ l) (plain_numbered (suc (length (sent h))) (made_by sc h q.to (input.Deliver first.p)).outs ∙ ap (λ (x : Made). map plain x.outs) made_is),
+        map-append unnumbered first.ps (numbered (suc (length (sent h))) (made_by sc h q.to (input.Deliver first.p)).outs)
+            ∙ ap (λ l. l ++ map unnumbered (numbered (suc (length (sent h))) (made_by sc h q.to (input.Deliver first.p)).outs)) first.others
+            ∙ ap (λ l. left ++ l) (plain_numbered (suc (length (sent h))) (made_by sc h q.to (input.Deliver first.p)).outs ∙ ap (λ (x : Made). map unnumbered x.outs) made_is),
       );
   shifts_any = (
     first.ps ++ staying (parts_of sc h) new,
     subst (λ s. IsQueue sc (h ++ entry_of sc h s (input.Deliver first.p) ∷ []) (first.ps ++ staying (parts_of sc h) (numbered (suc (length (sent h))) (made_by sc h s (input.Deliver first.p)).outs))) to
         (delivery_shifts_any sc h first.p first.ps ready (ap is_calm rest.recovers)),
-    map-append plain first.ps (staying (parts_of sc h) new)
-        ∙ ap (λ l. l ++ map plain (staying (parts_of sc h) new)) first.others
+    map-append unnumbered first.ps (staying (parts_of sc h) new)
+        ∙ ap (λ l. l ++ map unnumbered (staying (parts_of sc h) new)) first.others
         ∙ ap (λ l. left ++ l) (plain_staying (parts_of sc h) new
-        ∙ ap (staying (parts_of sc h)) (plain_numbered (suc (length (sent h))) (made_by sc h q.to (input.Deliver first.p)).outs ∙ ap (λ (x : Made). map plain x.outs) made_is)),
+        ∙ ap (staying (parts_of sc h)) (plain_numbered (suc (length (sent h))) (made_by sc h q.to (input.Deliver first.p)).outs ∙ ap (λ (x : Made). map unnumbered x.outs) made_is)),
   );
 }
   where

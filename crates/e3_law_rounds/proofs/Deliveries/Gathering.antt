@@ -16,7 +16,7 @@ use Rattle.e3_world.specs.declared.lives.Moment.{Moment}
 use Rattle.e3_world.specs.Elections.{election_by, is_elect}
 use Rattle.e3_world.specs.Legal.{entry_of, made_by}
 use Rattle.e3_world.specs.Lives.{incarnation_of, life_at, life_of}
-use Rattle.e3_world.specs.Moves.{moves_of, plain, plain_input}
+use Rattle.e3_world.specs.Moves.{moves_of, unnumbered, unnumbered_input}
 use Rattle.e3_world.specs.Rounds.{round_by}
 use Rattle.e3_world.specs.Sound.{step_move}
 use Rattle.e3_world.proofs.Pushes.{incarnation_push, life_push}
@@ -24,7 +24,7 @@ use Rattle.e3_law_steps.proofs.Moving.{moves_on, moves_still}
 
 -- a step as it is kept
 abbrev pub moment_of : Life → Input → Made → Moment
-moment_of life i made = record { before = life.log; input = plain_input i; records = made.records; outs = map plain made.outs; told = made.told }
+moment_of life i made = record { before = life.log; input = unnumbered_input i; records = made.records; outs = map unnumbered made.outs; told = made.told }
 
 abbrev pub life_with : Life → Input → Made → Life
 life_with life i made = record { log = life.log ++ made.records; inc = life.inc; steps = life.steps ++ moment_of life i made ∷ [] }

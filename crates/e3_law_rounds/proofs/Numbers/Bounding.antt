@@ -25,7 +25,7 @@ use Rattle.e3_world.specs.Elections.{election_by, greatest_heard}
 use Rattle.e3_world.specs.Legal.{IsDue, entry_of, made_by, numbered}
 use Rattle.e3_world.specs.Lives.{life_at}
 use Rattle.e3_world.specs.Logs.{last_elected, last_elected_by}
-use Rattle.e3_world.specs.Moves.{Past, Tail, log_of, moves_of, open_tail, own, past_of, plain, plain_input}
+use Rattle.e3_world.specs.Moves.{Past, Tail, log_of, moves_of, open_tail, own, past_of, unnumbered, unnumbered_input}
 use Rattle.e3_world.specs.Packets.{outs_of, sent}
 use Rattle.e3_world.specs.Steps.{step_at}
 use Rattle.e3_world.proofs.InTrail.{pending_sent}
@@ -150,7 +150,7 @@ one_of P (y ∷ ys) x all has = elim (Contains-append_cases (y ∷ []) ys x has)
   | inr more ↦ one_of P ys x (and_parts (P y) (list_all P ys) all).1 more
 ]
 
-due_low : (sc : Scenario) (h : List Entry) (t : Txn) (b s : ℕ) (i : Input) → Bounded sc h t b → IsDue sc h s i → InputLow t b s (plain_input i)
+due_low : (sc : Scenario) (h : List Entry) (t : Txn) (b s : ℕ) (i : Input) → Bounded sc h t b → IsDue sc h s i → InputLow t b s (unnumbered_input i)
 due_low sc h t b s (input.Deliver p) was due =
     let parts = and_parts (low_message t b p.msg) (not (p.to == p.«from»)) (one_of (low_packet t b) (sent h) p was.packets (pending_sent sc h p due.is_pending)) in
     (parts.0, back p.«from» (subst (λ x. not (x == p.«from») ≡ true) due.to parts.1))
@@ -164,7 +164,7 @@ due_low sc h t b s (input.Cancel u) was due = tt
 due_low sc h t b s (input.Expire u) was due = tt
 due_low sc h t b s (input.Elect u group) was due = tt
 
-elects_plain : (t : Txn) (i : Input) → elects_of t (plain_input i) ≡ elects_of t i
+elects_plain : (t : Txn) (i : Input) → elects_of t (unnumbered_input i) ≡ elects_of t i
 elects_plain t (input.Deliver p) = refl
 elects_plain t (input.Begin sites) = refl
 elects_plain t (input.Do u op) = refl
@@ -204,9 +204,9 @@ stepped sc h t b s limit i was few due = record {
   };
   records = one.low.records;
   within = (
-      let awaited : one.top + awaits (election_after) ≤ limit + elects_of t (plain_input i) = one.fits.within in
+      let awaited : one.top + awaits (election_after) ≤ limit + elects_of t (unnumbered_input i) = one.fits.within in
       let same : awaits_at sc (h ++ e ∷ []) t s ≡ awaits (election_after) = ap awaits election_is in
-      let counted : elects_of t (plain_input i) ≡ elects_of t i = elects_plain t i in
+      let counted : elects_of t (unnumbered_input i) ≡ elects_of t i = elects_plain t i in
       omega (arith, awaited, same, counted)
       );
 }
@@ -221,13 +221,13 @@ stepped sc h t b s limit i was few due = record {
     made = made_by sc h s i
 
     election_after : Option Election
-    election_after = (election_by s life.inc t (elections_of s t life) (moment life (plain_input i) made.records (map plain made.outs) made.told)).now
+    election_after = (election_by s life.inc t (elections_of s t life) (moment life (unnumbered_input i) made.records (map unnumbered made.outs) made.told)).now
 
     log_is : life.log ≡ log_of sc h s
     log_is = life_log_at (moves_of sc h s)
 
-    one : Goes t b (limit + elects_of t (plain_input i)) (step_at (at sc.weights s life (plain_input i))) (election_after)
-    one = goes t b limit sc.weights s life (elections_of s t life) (plain_input i) made.records (map plain made.outs) made.told
+    one : Goes t b (limit + elects_of t (unnumbered_input i)) (step_at (at sc.weights s life (unnumbered_input i))) (election_after)
+    one = goes t b limit sc.weights s life (elections_of s t life) (unnumbered_input i) made.records (map unnumbered made.outs) made.told
         (elected_low t b life.log was.some (ap (list_all (low_record t b)) log_is ∙ was.logs s)) refl (record { heard = was.elections s; within = few }) (due_low sc h t b s i was due)
 
     election_is : now_at s t (life_at (moves_of sc (h ++ e ∷ []) s)) ≡ election_after

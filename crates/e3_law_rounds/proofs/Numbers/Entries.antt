@@ -16,7 +16,7 @@ use Rattle.e3_world.specs.declared.gatherings.Election.{Election}
 use Rattle.e3_world.specs.Given.{IsGiven}
 use Rattle.e3_world.specs.Legal.{AreDue, Guard, LegalAfter, entry_of, made_by, records_by}
 use Rattle.e3_world.specs.Lives.{life_at, life_of}
-use Rattle.e3_world.specs.Moves.{Move, Past, Rose, Silent, Tail, kept_moves, left_by, log_by, log_of, moves_of, moves_of_act, open_tail, own, past_by, past_of, plain_input, rise_records, tail_of_act}
+use Rattle.e3_world.specs.Moves.{Move, Past, Rose, Silent, Tail, kept_moves, left_by, log_by, log_of, moves_of, moves_of_act, open_tail, own, past_by, past_of, unnumbered_input, rise_records, tail_of_act}
 use Rattle.e3_world.specs.Packets.{outs_of, sent}
 use Rattle.e3_world.proofs.Pushes.{incarnation_push, past_push}
 use Rattle.e3_world.proofs.Readings.{own_other, own_same}
@@ -218,7 +218,7 @@ act_bounded sc h t b (suc s) (Fall inputs records why) given was guard =
     more_records t ((b + 1) + elects_in t inputs) (b + 18) (records_by sc h (suc s) inputs) less (fall_low sc h t b (suc s) (b + 1) inputs was (omega (arith, awaited)) guard.due) in
     left_bounded sc h t b (b + 18) (suc s) (Fall inputs records why) (omega arith) was
     (still sc h t b (b + 18) (suc s) (Fall inputs records why) (omega arith) was refl refl
-    (left_by_low t (b + 18) why (map plain_input inputs) records (ap (list_all (low_record t (b + 18))) guard.made ∙ low)))
+    (left_by_low t (b + 18) why (map unnumbered_input inputs) records (ap (list_all (low_record t (b + 18))) guard.made ∙ low)))
 act_bounded sc h t b o (Rise kept inc) given was guard = left_bounded sc h t b (b + 18) o (Rise kept inc) (omega arith) was (rises sc h t b (b + 18) o inc kept (omega arith) was)
 act_bounded sc h t b o (RiseFall kept inc why) given was guard =
     left_bounded sc h t b (b + 18) o (RiseFall kept inc why) (omega arith) was (fails_to_rise sc h t b (b + 18) o inc kept why (omega arith) was)

@@ -28,7 +28,7 @@ use Rattle.e3_world.specs.Legal.{entry_of, made_by, numbered}
 use Rattle.e3_world.specs.Lives.{life_at}
 use Rattle.e3_world.specs.Logs.{is_undecided}
 use Rattle.e3_world.specs.Making.{nothing, and_decide, is_coordinator, is_present, may_decide}
-use Rattle.e3_world.specs.Moves.{log_of, moves_of, plain}
+use Rattle.e3_world.specs.Moves.{log_of, moves_of, unnumbered}
 use Rattle.e3_world.specs.Packets.{parts_of}
 use Rattle.e3_world.specs.Rounds.{count_ack, round_by}
 use Rattle.e3_world.specs.Steps.{step_at}
@@ -60,7 +60,7 @@ round_with r n dir done = record { n = n; dir = dir; to = others r.elector r.mem
 pub record Acknowledged (sc : Scenario) (start : List Entry) (r : RecoveryRound) (base : List Entry) (n : ℕ) (dir : Dir) (h : List Entry) (own : ℕ) (said : List Said) (done todo : List ℕ) : Type 0 where
   pub queue : List Packet
   pub is_queue : IsQueue sc h queue
-  pub plain_queue : map plain queue ≡ map (ack_mail r n dir) todo
+  pub plain_queue : map unnumbered queue ≡ map (ack_mail r n dir) todo
   pub logs : (s : ℕ) → log_of sc h s ≡ log_of sc base s
   pub round : (rounds_of r.elector r.txn (life_at (moves_of sc h r.elector))).now ≡ Some (round_with r n dir done)
   pub entered : Entered start h r own said
@@ -138,7 +138,7 @@ pub record Won (sc : Scenario) (start : List Entry) (r : RecoveryRound) (base : 
   pub queue : List Packet
   pub is_queue : IsQueue sc h queue
   pub lates : List Packet
-  pub plain_queue : map plain queue ≡ map (ack_mail r n dir) todo ++ (map (decide_mail r dir) (others r.elector r.members) ++ lates)
+  pub plain_queue : map unnumbered queue ≡ map (ack_mail r n dir) todo ++ (map (decide_mail r dir) (others r.elector r.members) ++ lates)
   pub are_late : list_all (is_late r) lates ≡ true
   pub logs : (s : ℕ) → (r.elector == s) ≡ false → log_of sc h s ≡ log_of sc base s
   pub decided : is_undecided r.txn (log_of sc h r.elector) ≡ false
@@ -216,16 +216,16 @@ won_begins sc start r base n dir h more own said done todo m member leads away r
         ∙ ap (λ l. map (decide_mail r dir) l ++ follows.dones) (others_again r.elector r.members)
 
     lates : List Packet
-    lates = staying (parts_of sc h) (map plain follows.dones)
+    lates = staying (parts_of sc h) (map unnumbered follows.dones)
 
     mails_stay : staying (parts_of sc h) mails ≡ mails
     mails_stay = all_stay (parts_of sc h) mails (within_all (parts_of sc h) r.elector (msg.Decide t dir) r.members (λ x has. rest.together r.elector x leads has))
 
-    sent_are : staying (parts_of sc h) (map plain (step_at a).outs) ≡ mails ++ lates
+    sent_are : staying (parts_of sc h) (map unnumbered (step_at a).outs) ≡ mails ++ lates
     sent_are =
-        ap (λ l. staying (parts_of sc h) (map plain l)) outs_are
-        ∙ ap (staying (parts_of sc h)) (map-append plain mails follows.dones)
-        ∙ filter-append (λ p. same_part (parts_of sc h) p.«from» p.to) (map plain mails) (map plain follows.dones)
+        ap (λ l. staying (parts_of sc h) (map unnumbered l)) outs_are
+        ∙ ap (staying (parts_of sc h)) (map-append unnumbered mails follows.dones)
+        ∙ filter-append (λ p. same_part (parts_of sc h) p.«from» p.to) (map unnumbered mails) (map unnumbered follows.dones)
         ∙ ap (λ l. staying (parts_of sc h) l ++ lates) (plain_mails r.elector (msg.Decide t dir) (others r.elector r.members))
         ∙ ap (λ l. l ++ lates) mails_stay
 
@@ -233,7 +233,7 @@ won_begins sc start r base n dir h more own said done todo m member leads away r
     records_are = follows.records ∙ (decide_parts a t dir).0
 
     After : Packet → List Record → Type 0
-    After x rs = (round_by r.elector t (rounds_of r.elector t life) (record { before = life.log; input = input.Deliver x; records = rs; outs = map plain (step_at a).outs; told = (step_at a).told })).now ≡ None
+    After x rs = (round_by r.elector t (rounds_of r.elector t life) (record { before = life.log; input = input.Deliver x; records = rs; outs = map unnumbered (step_at a).outs; told = (step_at a).told })).now ≡ None
 
     ended : After q (log.Decision t dir ∷ [])
     ended = rw (was.round, same_self t) refl
@@ -258,7 +258,7 @@ won_begins sc start r base n dir h more own said done todo m member leads away r
       is_queue = d.shifts_any.1;
       lates = lates;
       plain_queue = d.shifts_any.2 ∙ ap (λ l. map (ack_mail r n dir) todo ++ l) sent_are;
-      are_late = late_staying r (parts_of sc h) (map plain follows.dones) (late_plain r follows.dones ∙ late_answers r r.elector follows.dones follows.are_answers);
+      are_late = late_staying r (parts_of sc h) (map unnumbered follows.dones) (late_plain r follows.dones ∙ late_answers r r.elector follows.dones follows.are_answers);
       logs = λ s other. log_still sc h r.elector s (input.Deliver d.p) other ∙ was.logs s;
       decided =
           ap (is_undecided t) (log_on sc h r.elector (input.Deliver d.p) ∙ ap (λ (x : Made). log_of sc h r.elector ++ x.records) d.made ∙ ap (λ rs. log_of sc h r.elector ++ rs) records_are)

@@ -17,7 +17,7 @@ use Rattle.e3_world.specs.Items.{RecoveryRound}
 use Rattle.e3_world.specs.Legal.{entry_of, made_by, numbered}
 use Rattle.e3_world.specs.Lives.{life_at}
 use Rattle.e3_world.specs.Logs.{last_elected}
-use Rattle.e3_world.specs.Moves.{log_of, moves_of, plain}
+use Rattle.e3_world.specs.Moves.{log_of, moves_of, unnumbered}
 use Rattle.e3_world.specs.Packets.{is_calm, parts_of, pending, present_items, sent}
 use Rattle.e3_world.proofs.Turns.{self}
 use Rattle.e3_law_rounds.specs.Queues.{IsCounted, IsQueue, are_within}
@@ -45,7 +45,7 @@ answer sc start r m = mail m (msg.LastElected r.txn (call_of sc start r) (last_e
 pub record Asked (sc : Scenario) (start : List Entry) (r : RecoveryRound) (h : List Entry) (done todo : List ℕ) : Type 0 where
   pub queue : List Packet
   pub is_queue : IsQueue sc h queue
-  pub plain_queue : map plain queue ≡ map (ask sc start r) todo ++ map (answer sc start r) done
+  pub plain_queue : map unnumbered queue ≡ map (ask sc start r) todo ++ map (answer sc start r) done
   pub logs : (s : ℕ) → log_of sc h s ≡ log_of sc start s
   pub elector : moves_of sc h r.elector ≡ moves_of sc (start ++ elect_entry sc start r ∷ []) r.elector
   pub entered : Entered start h r (1 + length done) []
@@ -55,10 +55,10 @@ record First (q : Packet) (rest queue : List Packet) : Type 0 where
   p : Packet
   ps : List Packet
   is : queue ≡ p ∷ ps
-  first : plain p ≡ q
-  others : map plain ps ≡ rest
+  first : unnumbered p ≡ q
+  others : map unnumbered ps ≡ rest
 
-first_of : (queue : List Packet) (q : Packet) (rest : List Packet) → map plain queue ≡ q ∷ rest → First q rest queue
+first_of : (queue : List Packet) (q : Packet) (rest : List Packet) → map unnumbered queue ≡ q ∷ rest → First q rest queue
 first_of [] q rest is = absurd cc
 first_of (p ∷ ps) q rest is = record { p = p; ps = ps; is = refl; first = cc; others = cc }
 
@@ -92,7 +92,7 @@ asked_on sc start r h more done todo m member leads from_other to_other rest was
 
     takes : Takes (place sc h p.to (input.Deliver p)) r.elector (msg.Ask t (call_of sc start r))
     takes = record {
-      packet = plain p;
+      packet = unnumbered p;
       is = refl;
       sender = ap (λ (q : Packet). q.«from») first.first;
       says = ap (λ (q : Packet). q.msg) first.first;
@@ -119,9 +119,9 @@ asked_on sc start r h more done todo m member leads from_other to_other rest was
       queue = first.ps ++ numbered (suc (length (sent h))) (made_by sc h p.to (input.Deliver p)).outs;
       is_queue = delivery_shifts sc h p first.ps queue calm within;
       plain_queue =
-          map-append plain first.ps (numbered (suc (length (sent h))) (made_by sc h p.to (input.Deliver p)).outs)
-          ∙ ap (λ l. l ++ map plain (numbered (suc (length (sent h))) (made_by sc h p.to (input.Deliver p)).outs)) first.others
-          ∙ ap (λ l. (map (ask sc start r) todo ++ map (answer sc start r) done) ++ l) (plain_numbered (suc (length (sent h))) (made_by sc h p.to (input.Deliver p)).outs ∙ ap (λ (x : Made). map plain x.outs) made)
+          map-append unnumbered first.ps (numbered (suc (length (sent h))) (made_by sc h p.to (input.Deliver p)).outs)
+          ∙ ap (λ l. l ++ map unnumbered (numbered (suc (length (sent h))) (made_by sc h p.to (input.Deliver p)).outs)) first.others
+          ∙ ap (λ l. (map (ask sc start r) todo ++ map (answer sc start r) done) ++ l) (plain_numbered (suc (length (sent h))) (made_by sc h p.to (input.Deliver p)).outs ∙ ap (λ (x : Made). map unnumbered x.outs) made)
           ∙ append_assoc (map (ask sc start r) todo) (map (answer sc start r) done) (answer sc start r m ∷ [])
           ∙ ap (λ l. map (ask sc start r) todo ++ l) (sym (map-append (answer sc start r) done (m ∷ [])));
       logs = λ s. log_now s (p.to == s) refl;
@@ -157,7 +157,7 @@ within_all parts s m (x ∷ xs) each =
         let here : same_part parts s x ≡ true = each x (rw (self x) refl) in
         rw (is, here) rest
 
-pub plain_mails : (s : ℕ) (m : Message) (xs : List ℕ) → map plain (map (mail s m) xs) ≡ map (mail s m) xs
+pub plain_mails : (s : ℕ) (m : Message) (xs : List ℕ) → map unnumbered (map (mail s m) xs) ≡ map (mail s m) xs
 plain_mails s m [] = refl
 plain_mails s m (x ∷ xs) = ap (λ l. mail s m x ∷ l) (plain_mails s m xs)
 
@@ -171,7 +171,7 @@ asked_begins sc start r counted none calm several together = record {
   is_queue = queue_entry sc start r.elector (input.Elect r.txn r.members) [] counted calm tt (queue_begins sc start counted none).waiting within;
   plain_queue =
       plain_numbered (suc (length (sent start))) (made_by sc start r.elector (input.Elect r.txn r.members)).outs
-      ∙ ap (λ (x : Made). map plain x.outs) made
+      ∙ ap (λ (x : Made). map unnumbered x.outs) made
       ∙ plain_mails r.elector (msg.Ask r.txn (call_of sc start r)) (others r.elector r.members)
       ∙ sym (append-nil (map (ask sc start r) (others r.elector r.members)));
   logs = λ s. log_now s (r.elector == s) refl;

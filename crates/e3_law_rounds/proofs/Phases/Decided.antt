@@ -24,7 +24,7 @@ use Rattle.e3_world.specs.Legal.{entry_of, made_by, numbered}
 use Rattle.e3_world.specs.Logs.{decision_by, has_voted, is_undecided}
 use Rattle.e3_world.specs.Making.{nothing, and_decide, is_coordinator, is_present, may_decide}
 use Rattle.e3_world.specs.Messages.{on_message}
-use Rattle.e3_world.specs.Moves.{log_of, moves_of, plain}
+use Rattle.e3_world.specs.Moves.{log_of, moves_of, unnumbered}
 use Rattle.e3_world.specs.Packets.{parts_of}
 use Rattle.e3_world.specs.Steps.{step_at}
 use Rattle.e3_world.proofs.Pushes.{life_log_at}
@@ -54,7 +54,7 @@ pub record Decided (sc : Scenario) (start : List Entry) (r : RecoveryRound) (bas
   pub queue : List Packet
   pub is_queue : IsQueue sc h queue
   pub lates : List Packet
-  pub plain_queue : map plain queue ≡ map (decide_mail r dir) todo ++ lates
+  pub plain_queue : map unnumbered queue ≡ map (decide_mail r dir) todo ++ lates
   pub are_late : list_all (is_late r) lates ≡ true
   pub logs : (s : ℕ) → has_site todo s ≡ true → log_of sc h s ≡ log_of sc base s
   pub decided : (s : ℕ) → has_site (r.elector ∷ done) s ≡ true → is_undecided r.txn (log_of sc h s) ≡ false
@@ -99,7 +99,7 @@ decided_by a f t dir either = by (may_decide a t dir nothing) refl
             choose false off = off
             choose true on = absurd (let both : (is_undecided t a.life.log && fits t dir a.life.log) ≡ true = rw (on, fit) refl in let clash : true ≡ false = sym both ∙ none in cc)
 
-pub late_plain : (r : RecoveryRound) (ps : List Packet) → list_all (is_late r) (map plain ps) ≡ list_all (is_late r) ps
+pub late_plain : (r : RecoveryRound) (ps : List Packet) → list_all (is_late r) (map unnumbered ps) ≡ list_all (is_late r) ps
 late_plain r [] = refl
 late_plain r (p ∷ ps) = ap (λ b. is_late r p && b) (late_plain r ps)
 
@@ -172,10 +172,10 @@ decided_on sc start r base dir h more own said done todo m member leads other_si
     now = record {
       queue = d.shifts_any.0;
       is_queue = d.shifts_any.1;
-      lates = was.lates ++ staying (parts_of sc h) (map plain (step_at a).outs);
-      plain_queue = d.shifts_any.2 ∙ append_assoc (map (decide_mail r dir) todo) was.lates (staying (parts_of sc h) (map plain (step_at a).outs));
-      are_late = both_all (is_late r) was.lates (staying (parts_of sc h) (map plain (step_at a).outs)) was.are_late
-          (late_staying r (parts_of sc h) (map plain (step_at a).outs) (late_plain r (step_at a).outs ∙ outs_late));
+      lates = was.lates ++ staying (parts_of sc h) (map unnumbered (step_at a).outs);
+      plain_queue = d.shifts_any.2 ∙ append_assoc (map (decide_mail r dir) todo) was.lates (staying (parts_of sc h) (map unnumbered (step_at a).outs));
+      are_late = both_all (is_late r) was.lates (staying (parts_of sc h) (map unnumbered (step_at a).outs)) was.are_late
+          (late_staying r (parts_of sc h) (map unnumbered (step_at a).outs) (late_plain r (step_at a).outs ∙ outs_late));
       logs = λ s has. log_still sc h m s (input.Deliver d.p) (differs s has) ∙ was.logs s (ap (λ b. (m == s) || b) has ∙ or_true (m == s));
       decided = λ s has. decided_now s has (m == s) refl;
       entered = entered_on start h r own said e was.entered mine silent;

@@ -24,7 +24,7 @@ use Rattle.e3_world.specs.Legal.{entry_of, made_by}
 use Rattle.e3_world.specs.Lives.{life_at}
 use Rattle.e3_world.specs.Logs.{last_elected}
 use Rattle.e3_world.specs.Making.{nothing}
-use Rattle.e3_world.specs.Moves.{log_of, moves_of, plain}
+use Rattle.e3_world.specs.Moves.{log_of, moves_of, unnumbered}
 use Rattle.e3_world.specs.Steps.{step_at}
 use Rattle.e3_world.proofs.Pushes.{life_log_at}
 use Rattle.e3_world.proofs.Turns.{self}
@@ -56,7 +56,7 @@ election sc start r done = record {
 pub record Heard (sc : Scenario) (start : List Entry) (r : RecoveryRound) (h : List Entry) (own : ℕ) (done todo : List ℕ) : Type 0 where
   pub queue : List Packet
   pub is_queue : IsQueue sc h queue
-  pub plain_queue : map plain queue ≡ map (answer sc start r) todo
+  pub plain_queue : map unnumbered queue ≡ map (answer sc start r) todo
   pub logs : (s : ℕ) → log_of sc h s ≡ log_of sc start s
   pub gathered : (elections_of r.elector r.txn (life_at (moves_of sc h r.elector))).now ≡ Some (election sc start r done)
   pub grouped : group_at sc h r.elector r.txn ≡ r.members
@@ -131,7 +131,7 @@ heard_on sc start r h more own done todo m member leads away fresh awaits rest w
           ap (λ (l : Life). (elections_of r.elector t l).now) (life_on sc h r.elector (input.Deliver d.p))
           ∙ ap (λ (x : Made). (elections_of r.elector t (life_with life (input.Deliver d.p) x)).now) made
           ∙ ap (λ (x : Elections). x.now) (elections_on r.elector t life (input.Deliver d.p) nothing)
-          ∙ heard (plain d.p) d.same;
+          ∙ heard (unnumbered d.p) d.same;
       grouped = group_on sc h r.elector r.elector t d.p ∙ was.grouped;
       entered = entered_next sc start h more q (map (answer sc start r) todo) r own [] nothing d was.entered member (same_self t) step refl;
     }
@@ -190,5 +190,5 @@ heard_begins sc start r h all several was = record {
 
     begins : (calls count : ℕ) → calls ≡ count → (l : List Record) → l ≡ log_of sc start r.elector →
         (election_by r.elector life.inc t (record { calls = calls; now = (elections_of r.elector t life).now })
-        (record { before = l; input = i; records = []; outs = map plain makes_now.outs; told = [] })).now ≡ Some (record (begun_as count (log_of sc start r.elector)) { number = None })
+        (record { before = l; input = i; records = []; outs = map unnumbered makes_now.outs; told = [] })).now ≡ Some (record (begun_as count (log_of sc start r.elector)) { number = None })
     begins calls count same l log_is = rw (same_self t, several) (ap (λ k. Some (begun_as k l)) same ∙ ap (λ x. Some (begun_as count x)) log_is)

@@ -22,7 +22,7 @@ use Rattle.e3_world.specs.Items.{RecoveryRound}
 use Rattle.e3_world.specs.Legal.{entry_of, made_by}
 use Rattle.e3_world.specs.Lives.{life_at}
 use Rattle.e3_world.specs.Logs.{last_attempt, last_elected, state_of}
-use Rattle.e3_world.specs.Moves.{log_of, moves_of, plain}
+use Rattle.e3_world.specs.Moves.{log_of, moves_of, unnumbered}
 use Rattle.e3_world.specs.Packets.{parts_of}
 use Rattle.e3_world.specs.Steps.{step_at}
 use Rattle.e3_world.proofs.Pushes.{life_log_at}
@@ -69,7 +69,7 @@ join_of r n joined s = if has_site (r.elector ∷ joined) s then log.Join r.txn 
 pub record Joined (sc : Scenario) (start : List Entry) (r : RecoveryRound) (all : List ℕ) (h : List Entry) (own : ℕ) (done todo : List ℕ) : Type 0 where
   pub queue : List Packet
   pub is_queue : IsQueue sc h queue
-  pub plain_queue : map plain queue ≡ map (number_mail r (number_of sc start r all)) todo ++ map (report_mail sc start r (number_of sc start r all)) done
+  pub plain_queue : map unnumbered queue ≡ map (number_mail r (number_of sc start r all)) todo ++ map (report_mail sc start r (number_of sc start r all)) done
   pub logs : (s : ℕ) → log_of sc h s ≡ log_of sc start s ++ join_of r (number_of sc start r all) done s
   pub gathered : (elections_of r.elector r.txn (life_at (moves_of sc h r.elector))).now ≡ Some (numbered_election sc start r all [])
   pub grouped : group_at sc h r.elector r.txn ≡ r.members
@@ -131,7 +131,7 @@ joined_begins sc start r h more own done m s ss member leads away fresh heard_al
     after : List Record → Packet → Type 0
     after l x =
         (election_by r.elector life.inc t (elections_of r.elector t life)
-        (record { before = l; input = input.Deliver x; records = log.Join t n ∷ []; outs = map plain makes_now.outs; told = [] })).now ≡ Some (numbered_election sc start r all [])
+        (record { before = l; input = input.Deliver x; records = log.Join t n ∷ []; outs = map unnumbered makes_now.outs; told = [] })).now ≡ Some (numbered_election sc start r all [])
 
     joins : after (log_of sc start r.elector) q
     joins = rw (was.gathered, same_self t, hear_is, heard_all, same_self t) refl

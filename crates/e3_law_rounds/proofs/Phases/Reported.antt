@@ -24,7 +24,7 @@ use Rattle.e3_world.specs.Legal.{entry_of, made_by}
 use Rattle.e3_world.specs.Lives.{life_at}
 use Rattle.e3_world.specs.Logs.{last_attempt, state_of}
 use Rattle.e3_world.specs.Making.{nothing}
-use Rattle.e3_world.specs.Moves.{log_of, moves_of, plain}
+use Rattle.e3_world.specs.Moves.{log_of, moves_of, unnumbered}
 use Rattle.e3_world.specs.Packets.{pending}
 use Rattle.e3_world.specs.Steps.{step_at}
 use Rattle.e3_world.proofs.Turns.{self}
@@ -43,7 +43,7 @@ use Rattle.e3_law_steps.proofs.Tests.{same_self}
 pub record Reported (sc : Scenario) (start : List Entry) (r : RecoveryRound) (all : List ℕ) (h : List Entry) (own : ℕ) (done todo : List ℕ) : Type 0 where
   pub queue : List Packet
   pub is_queue : IsQueue sc h queue
-  pub plain_queue : map plain queue ≡ map (report_mail sc start r (number_of sc start r all)) todo
+  pub plain_queue : map unnumbered queue ≡ map (report_mail sc start r (number_of sc start r all)) todo
   pub logs : (s : ℕ) → log_of sc h s ≡ log_of sc start s ++ join_of r (number_of sc start r all) all s
   pub gathered : (elections_of r.elector r.txn (life_at (moves_of sc h r.elector))).now ≡ Some (numbered_election sc start r all done)
   pub grouped : group_at sc h r.elector r.txn ≡ r.members
@@ -175,7 +175,7 @@ block_ends sc start r all h more own have total done m member leads away fresh c
     step = row_block (taking sc h q) m t n (state_of t (log_of sc start m)) (last_attempt t (log_of sc start m)) (numbered_election sc start r all done) (numbered_election sc start r all (done ++ m ∷ [])) have total
         (record { packet = q; is = refl; sender = refl; says = refl; away = away }) was.gathered (takes sc start r all done m member fresh) complete blocked
 
-    no_packets : (ps : List Packet) → map plain ps ≡ [] → ps ≡ []
+    no_packets : (ps : List Packet) → map unnumbered ps ≡ [] → ps ≡ []
     no_packets [] is = refl
     no_packets (p ∷ ps) is = absurd cc
 

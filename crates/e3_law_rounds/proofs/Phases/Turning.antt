@@ -32,7 +32,7 @@ use Rattle.e3_world.specs.Lives.{life_at}
 use Rattle.e3_world.specs.Logs.{is_undecided, last_attempt, last_elected, state_of}
 use Rattle.e3_world.specs.Making.{nothing, and_cast}
 use Rattle.e3_world.specs.Messages.{on_message}
-use Rattle.e3_world.specs.Moves.{log_of, moves_of, plain}
+use Rattle.e3_world.specs.Moves.{log_of, moves_of, unnumbered}
 use Rattle.e3_world.specs.Packets.{parts_of, sent}
 use Rattle.e3_world.specs.Rounds.{round_by}
 use Rattle.e3_world.specs.Steps.{step_at}
@@ -120,7 +120,7 @@ prepared_begins sc start r all dir h more own done m member leads away fresh com
     After : Packet → Type 0
     After x =
         (round_by r.elector t (rounds_of r.elector t life)
-        (record { before = life.log; input = input.Deliver x; records = log.Attempt t n dir ∷ []; outs = map plain makes_now.outs; told = makes_now.told })).now ≡ Some (round_with r n dir [])
+        (record { before = life.log; input = input.Deliver x; records = log.Attempt t n dir ∷ []; outs = map unnumbered makes_now.outs; told = makes_now.told })).now ≡ Some (round_with r n dir [])
 
     begins : After q
     begins = rw (same_self t, later_number, was.grouped) refl
@@ -203,16 +203,16 @@ conclusion_begins sc start r all dir v x h more own done m member leads away row
     outs_are = follows.outs ∙ ap (λ l. (l ++ mails) ++ follows.dones) concludes.outs
 
     lates : List Packet
-    lates = staying (parts_of sc h) (map plain follows.dones)
+    lates = staying (parts_of sc h) (map unnumbered follows.dones)
 
     mails_stay : staying (parts_of sc h) mails ≡ mails
     mails_stay = all_stay (parts_of sc h) mails (within_all (parts_of sc h) r.elector (msg.Decide t dir) r.members (λ y has. rest.together r.elector y leads has))
 
-    sent_are : staying (parts_of sc h) (map plain (step_at a).outs) ≡ mails ++ lates
+    sent_are : staying (parts_of sc h) (map unnumbered (step_at a).outs) ≡ mails ++ lates
     sent_are =
-        ap (λ l. staying (parts_of sc h) (map plain l)) outs_are
-        ∙ ap (staying (parts_of sc h)) (map-append plain mails follows.dones)
-        ∙ filter-append (λ p. same_part (parts_of sc h) p.«from» p.to) (map plain mails) (map plain follows.dones)
+        ap (λ l. staying (parts_of sc h) (map unnumbered l)) outs_are
+        ∙ ap (staying (parts_of sc h)) (map-append unnumbered mails follows.dones)
+        ∙ filter-append (λ p. same_part (parts_of sc h) p.«from» p.to) (map unnumbered mails) (map unnumbered follows.dones)
         ∙ ap (λ l. staying (parts_of sc h) l ++ lates) (plain_mails r.elector (msg.Decide t dir) (others r.elector r.members))
         ∙ ap (λ l. l ++ lates) mails_stay
 
@@ -239,7 +239,7 @@ conclusion_begins sc start r all dir v x h more own done m member leads away row
       is_queue = d.shifts_any.1;
       lates = lates;
       plain_queue = d.shifts_any.2 ∙ sent_are;
-      are_late = late_staying r (parts_of sc h) (map plain follows.dones) (late_plain r follows.dones ∙ late_answers r r.elector follows.dones follows.are_answers);
+      are_late = late_staying r (parts_of sc h) (map unnumbered follows.dones) (late_plain r follows.dones ∙ late_answers r r.elector follows.dones follows.are_answers);
       logs = λ s has. log_still sc h r.elector s (input.Deliver d.p) (others_apart r.elector r.members s has);
       decided = λ s has. only s has (r.elector == s) refl;
       entered = entered_told start h r own [] (record { site = r.elector; verdict = v } ∷ []) e was.entered (own_next sc h more q [] r d member (same_self t)) says;

@@ -23,7 +23,7 @@ use Rattle.e3_world.specs.Legal.{entry_of, made_by}
 use Rattle.e3_world.specs.Lives.{life_at}
 use Rattle.e3_world.specs.Logs.{is_undecided, last_attempt, last_elected}
 use Rattle.e3_world.specs.Making.{nothing}
-use Rattle.e3_world.specs.Moves.{log_of, moves_of, plain}
+use Rattle.e3_world.specs.Moves.{log_of, moves_of, unnumbered}
 use Rattle.e3_world.specs.Packets.{parts_of}
 use Rattle.e3_world.specs.Rounds.{round_by}
 use Rattle.e3_world.specs.Steps.{step_at}
@@ -51,7 +51,7 @@ attempt_of r n dir tried s = if has_site (r.elector ∷ tried) s then log.Attemp
 pub record Prepared (sc : Scenario) (start : List Entry) (r : RecoveryRound) (base : List Entry) (n : ℕ) (dir : Dir) (h : List Entry) (own : ℕ) (said : List Said) (done todo : List ℕ) : Type 0 where
   pub queue : List Packet
   pub is_queue : IsQueue sc h queue
-  pub plain_queue : map plain queue ≡ map (pre_mail r n dir) todo ++ map (ack_mail r n dir) done
+  pub plain_queue : map unnumbered queue ≡ map (pre_mail r n dir) todo ++ map (ack_mail r n dir) done
   pub logs : (s : ℕ) → log_of sc h s ≡ log_of sc base s ++ attempt_of r n dir done s
   pub round : (rounds_of r.elector r.txn (life_at (moves_of sc h r.elector))).now ≡ Some (round_with r n dir [])
   pub entered : Entered start h r own said

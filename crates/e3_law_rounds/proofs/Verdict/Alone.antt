@@ -23,7 +23,7 @@ use Rattle.e3_world.specs.Items.{RecoveryRound}
 use Rattle.e3_world.specs.Legal.{made_by, numbered}
 use Rattle.e3_world.specs.Logs.{is_undecided, last_attempt, last_elected, state_of}
 use Rattle.e3_world.specs.Making.{nothing, and_cast}
-use Rattle.e3_world.specs.Moves.{log_of, plain}
+use Rattle.e3_world.specs.Moves.{log_of, unnumbered}
 use Rattle.e3_world.specs.Packets.{is_calm, parts_of, pending, present_items, sent}
 use Rattle.e3_world.specs.Steps.{on_input, step_at}
 use Rattle.e3_world.proofs.Turns.{self}
@@ -80,8 +80,8 @@ alone_concludes sc start r dir n v x one counted none calm row concludes = recor
   is_queue = queue_entry_any sc start r.elector i [] counted calm tt (queue_begins sc start counted none).waiting;
   lates = lates;
   plain_queue = plain_staying (parts_of sc start) (numbered (suc (length (sent start))) (made_by sc start r.elector i).outs)
-      ∙ ap (staying (parts_of sc start)) (plain_numbered (suc (length (sent start))) (made_by sc start r.elector i).outs ∙ ap (map plain) outs_are);
-  are_late = late_staying r (parts_of sc start) (map plain follows.dones) (late_plain r follows.dones ∙ late_answers r r.elector follows.dones follows.are_answers);
+      ∙ ap (staying (parts_of sc start)) (plain_numbered (suc (length (sent start))) (made_by sc start r.elector i).outs ∙ ap (map unnumbered) outs_are);
+  are_late = late_staying r (parts_of sc start) (map unnumbered follows.dones) (late_plain r follows.dones ∙ late_answers r r.elector follows.dones follows.are_answers);
   logs = λ s has. absurd cc;
   decided = λ s has. only s has (r.elector == s) refl;
   entered = record {
@@ -121,7 +121,7 @@ alone_concludes sc start r dir n v x one counted none calm row concludes = recor
         ∙ ap (λ l. map (mail r.elector (msg.Decide t dir)) l ++ follows.dones) nobody
 
     lates : List Packet
-    lates = staying (parts_of sc start) (map plain follows.dones)
+    lates = staying (parts_of sc start) (map unnumbered follows.dones)
 
     told_is : made.told ≡ told.Verdict t n v ∷ (concludes.more ++ follows.ops)
     told_is = follows.told ∙ ap (λ l. l ++ follows.ops) concludes.told

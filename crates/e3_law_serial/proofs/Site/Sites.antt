@@ -15,11 +15,11 @@ use Rattle.e3_world.specs.Sound.{Fits}
 use Rattle.e3_world.specs.Steps.{step_at, step_of}
 use Rattle.e3_law_serial.proofs.Step.Shapes.{FromAway, step_shape}
 use Rattle.e3_law_serial.proofs.Step.Steadying.{others_lack}
-use Rattle.e3_world.specs.Moves.{plain}
+use Rattle.e3_world.specs.Moves.{unnumbered}
 use Rattle.e3_law_serial.proofs.Site.Recording.{RecordMade, rule_made, shaped_records}
 use Rattle.e3_law_serial.proofs.Site.Keeping.{Keeps, next, append_split, step_keeps, IsRising, rise_keeps, start_keeps}
 use Rattle.e3_world.specs.Lives.{incarnation_of, life_of, life_at}
-use Rattle.e3_world.specs.Moves.{Did, Stepped, Silent, Rose, Move, moves_at, recorded, log_by, birth, rise_records, plain_input}
+use Rattle.e3_world.specs.Moves.{Did, Stepped, Silent, Rose, Move, moves_at, recorded, log_by, birth, rise_records, unnumbered_input}
 use Rattle.e3_world.specs.Sound.{step_move, has_risen, FitInTurn, records_in_turn, IsSoundMove, SoundAfter, IsSound}
 use Rattle.e3_world.proofs.Pushes.{incarnation_push, life_push, log_push, present_is_log, life_log_at}
 use Rattle.e3_law_agreement.proofs.Refinement.Following.{moves_here, moves_there}
@@ -54,20 +54,20 @@ life_rose site mine inc rs = ap life_of (incarnation_push mine (record { site = 
 
 -- the place of a step
 abbrev pub place : List ℕ → ℕ → Life → Input → At
-place weights site life i = record { weights = weights; site = site; life = life; input = plain_input i }
+place weights site life i = record { weights = weights; site = site; life = life; input = unnumbered_input i }
 
 pub life_step : (sc : Scenario) (site : ℕ) (mine : List Move) (i : Input) → life_at (mine ++ step_move sc site mine i ∷ []) ≡ next (place sc.weights site (life_at mine) i)
 life_step sc site mine i =
     ap life_of (incarnation_push mine (step_move sc site mine i))
     ∙ life_push (incarnation_of mine) (record {
-      input = plain_input i;
+      input = unnumbered_input i;
       records = (step_of sc.weights site (incarnation_of mine) i).records;
-      outs = map plain (step_of sc.weights site (incarnation_of mine) i).outs;
+      outs = map unnumbered (step_of sc.weights site (incarnation_of mine) i).outs;
       told = (step_of sc.weights site (incarnation_of mine) i).told;
     })
 
 -- what fits a site fits it without the packet's number
-pub fits_plain : (weights : List ℕ) (site : ℕ) (life : Life) (i : Input) → Fits weights site life i → Fits weights site life (plain_input i)
+pub fits_plain : (weights : List ℕ) (site : ℕ) (life : Life) (i : Input) → Fits weights site life i → Fits weights site life (unnumbered_input i)
 fits_plain weights site life (input.Deliver packet) f = record { among = f.among; to = f.to; sender = f.sender; message = f.message }
 fits_plain weights site life (input.Begin sites) f = f
 fits_plain weights site life (input.Do t op) f = f
@@ -76,7 +76,7 @@ fits_plain weights site life (input.Cancel t) f = f
 fits_plain weights site life (input.Expire t) f = f
 fits_plain weights site life (input.Elect t group) f = f
 
-pub fits_away : (weights : List ℕ) (site : ℕ) (life : Life) (i : Input) → Fits weights site life i → FromAway site (plain_input i)
+pub fits_away : (weights : List ℕ) (site : ℕ) (life : Life) (i : Input) → Fits weights site life i → FromAway site (unnumbered_input i)
 fits_away weights site life (input.Deliver packet) f = false_from_ne_true _ (λ y. others_lack site packet.«from» (Rattle.e3_world.specs.Sound.txn_in packet.msg).sites f.sender (eqb-true packet.«from» site y))
 fits_away weights site life (input.Begin sites) f = tt
 fits_away weights site life (input.Do t op) f = tt
@@ -133,7 +133,7 @@ step_site sc site mine i k up fits = record {
     a : At
     a = place sc.weights site (life_at mine) i
 
-    away : FromAway site (plain_input i)
+    away : FromAway site (unnumbered_input i)
     away = fits_away sc.weights site (life_at mine) i fits
 
     born : (before after : List Record) (r : Record) → ((rest : List Record) × (log_by mine ≡ before ++ r ∷ rest)) ⊎ ((front : List Record) × (before ≡ log_by mine ++ front) × (recorded (step_move sc site mine i) ≡ front ++ r ∷ after)) → Born sc site before r

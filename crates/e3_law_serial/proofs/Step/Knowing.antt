@@ -22,7 +22,7 @@ use Rattle.e3_law_serial.proofs.Step.Shapes.{FromAway}
 use Rattle.e3_law_serial.proofs.Step.Arrivals.{arrivals_push, answers_push, answered_from, answered_first, Steady}
 use Rattle.e3_law_serial.proofs.Step.Steadying.{some_inj, any_in, in_any, arrivals_stay, steady_push}
 use Rattle.e3_law_serial.proofs.Step.Answering.{Cause, Heard, Locked, Repeated, Granted}
-use Rattle.e3_world.specs.Moves.{plain}
+use Rattle.e3_world.specs.Moves.{unnumbered}
 use Rattle.e3_law_serial.proofs.Step.Stepping.{moment, is_moment, shaped_calm, same_answered, newly, comes_taken, lock_absent, granted_arrived, heard_elsewhere}
 use Rattle.e3_law_steps.proofs.Tests.{same_is}
 use Rattle.e3_law_steps.proofs.Operations.Issuing.{nth_more, issued_push}
@@ -53,8 +53,8 @@ known_start site q h = absurd (true≢false (sym h))
 pub refused_answers : (a : At) → Refuses (step_at a) → (q : Asked) → answers q (a.life.steps ++ moment a ∷ []) ≡ answers q a.life.steps
 refused_answers a r q =
     answers_push q a.life.steps (moment a)
-    ∙ ap (λ l. answers q a.life.steps ++ (flat_map (answer_told q) l ++ flat_map (answer_sent q) (map plain (step_at a).outs))) r.told.2
-    ∙ ap (λ l. answers q a.life.steps ++ flat_map (answer_sent q) (map plain l)) r.outs
+    ∙ ap (λ l. answers q a.life.steps ++ (flat_map (answer_told q) l ++ flat_map (answer_sent q) (map unnumbered (step_at a).outs))) r.told.2
+    ∙ ap (λ l. answers q a.life.steps ++ flat_map (answer_sent q) (map unnumbered l)) r.outs
     ∙ append-nil (answers q a.life.steps)
 
 came_more : (site : ℕ) (steps : List Moment) (m : Moment) (q : Asked) → Came site steps q → Came site (steps ++ m ∷ []) q

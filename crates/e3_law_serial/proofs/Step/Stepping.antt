@@ -32,7 +32,7 @@ use Rattle.e3_law_serial.proofs.Step.Shapes.{FromAway}
 use Rattle.e3_law_serial.proofs.Step.Arrivals.{arrivals_push, answers_push, answered_from, answered_first, unanswered_none, turn_same, of_txn, Steady}
 use Rattle.e3_law_serial.proofs.Step.Steadying.{some_inj, in_any, IsMoment, turns_before, steady_push}
 use Rattle.e3_law_serial.proofs.Step.Answering.{Cause, Heard, Locked, Repeated, Granted, told_cause, sent_cause}
-use Rattle.e3_world.specs.Moves.{plain}
+use Rattle.e3_world.specs.Moves.{unnumbered}
 use Rattle.e3_law_steps.proofs.Each.{each-append, each-push}
 use Rattle.e3_law_steps.proofs.Adding.{idle_open}
 use Rattle.e3_law_steps.proofs.Tests.{same_is}
@@ -40,7 +40,7 @@ use Rattle.e3_law_steps.proofs.Operations.Issuing.{issued_push}
 
 -- the moment of the step at a place, as it is kept
 abbrev pub moment : At → Moment
-moment a = record { before = a.life.log; input = a.input; records = (step_at a).records; outs = map plain (step_at a).outs; told = (step_at a).told }
+moment a = record { before = a.life.log; input = a.input; records = (step_at a).records; outs = map unnumbered (step_at a).outs; told = (step_at a).told }
 
 -- the moment of a step as far as it is made
 abbrev pub so_far : At → Made → Moment
@@ -241,14 +241,14 @@ told_in q (told.Refused t why ∷ l) v h = inr (told_in q l v h)
 told_in q (told.Verdict t n x ∷ l) v h = inr (told_in q l v h)
 told_in q (told.Kept t st ∷ l) v h = inr (told_in q l v h)
 
-sent_in : (q : Asked) (l : List Packet) (v : Answer) → In v (flat_map (answer_sent q) (map plain l)) → (p : Packet) × (inc : ℕ) × In p l × (p.msg ≡ msg.Done q.txn q.n inc v)
+sent_in : (q : Asked) (l : List Packet) (v : Answer) → In v (flat_map (answer_sent q) (map unnumbered l)) → (p : Packet) × (inc : ℕ) × In p l × (p.msg ≡ msg.Done q.txn q.n inc v)
 sent_in q [] v h = absurd h
-sent_in q (p ∷ l) v h = by p.msg refl (in_append (answer_sent q (plain p)) (flat_map (answer_sent q) (map plain l)) v h) (sent_in q l v)
+sent_in q (p ∷ l) v h = by p.msg refl (in_append (answer_sent q (unnumbered p)) (flat_map (answer_sent q) (map unnumbered l)) v h) (sent_in q l v)
   where
     later : (x : Packet) × (inc : ℕ) × In x l × (x.msg ≡ msg.Done q.txn q.n inc v) → (x : Packet) × (inc : ℕ) × In x (p ∷ l) × (x.msg ≡ msg.Done q.txn q.n inc v)
     later z = (z.0, z.1, inr z.2, z.3)
 
-    nothing_here : (m : Message) → p.msg ≡ m → answer_sent q (plain p) ≡ [] → In v (answer_sent q (plain p)) → (x : Packet) × (inc : ℕ) × In x (p ∷ l) × (x.msg ≡ msg.Done q.txn q.n inc v)
+    nothing_here : (m : Message) → p.msg ≡ m → answer_sent q (unnumbered p) ≡ [] → In v (answer_sent q (unnumbered p)) → (x : Packet) × (inc : ℕ) × In x (p ∷ l) × (x.msg ≡ msg.Done q.txn q.n inc v)
     nothing_here m is e k = absurd (subst (λ z. In v z) e k)
 
     here : (t : Txn) (n inc : ℕ) (answer : Answer) → p.msg ≡ msg.Done t n inc answer → (b : Bool) → (q.n == n && same_txn q.txn t) ≡ b → In v (if b then answer ∷ [] else []) →
@@ -260,10 +260,10 @@ sent_in q (p ∷ l) v h = by p.msg refl (in_append (answer_sent q (plain p)) (fl
     here t n inc answer is true test (inr k) = absurd k
     here t n inc answer is false test k = absurd k
 
-    by : (m : Message) → p.msg ≡ m → In v (answer_sent q (plain p)) ⊎ In v (flat_map (answer_sent q) (map plain l)) →
-        (In v (flat_map (answer_sent q) (map plain l)) → (x : Packet) × (inc : ℕ) × In x l × (x.msg ≡ msg.Done q.txn q.n inc v)) → (x : Packet) × (inc : ℕ) × In x (p ∷ l) × (x.msg ≡ msg.Done q.txn q.n inc v)
+    by : (m : Message) → p.msg ≡ m → In v (answer_sent q (unnumbered p)) ⊎ In v (flat_map (answer_sent q) (map unnumbered l)) →
+        (In v (flat_map (answer_sent q) (map unnumbered l)) → (x : Packet) × (inc : ℕ) × In x l × (x.msg ≡ msg.Done q.txn q.n inc v)) → (x : Packet) × (inc : ℕ) × In x (p ∷ l) × (x.msg ≡ msg.Done q.txn q.n inc v)
     by m is (inr k) ih = later (ih k)
-    by (msg.Done t n inc answer) is (inl k) ih = here t n inc answer is (q.n == n && same_txn q.txn t) refl (subst (λ z. In v z) (let e : answer_sent q (plain p) ≡ (if q.n == n && same_txn q.txn t then answer ∷ [] else []) = rw is refl in e) k)
+    by (msg.Done t n inc answer) is (inl k) ih = here t n inc answer is (q.n == n && same_txn q.txn t) refl (subst (λ z. In v z) (let e : answer_sent q (unnumbered p) ≡ (if q.n == n && same_txn q.txn t then answer ∷ [] else []) = rw is refl in e) k)
     by (msg.Do t n op) is (inl k) ih = nothing_here (msg.Do t n op) is (rw is refl) k
     by (msg.Died t n older) is (inl k) ih = nothing_here (msg.Died t n older) is (rw is refl) k
     by (msg.Ask t call) is (inl k) ih = nothing_here (msg.Ask t call) is (rw is refl) k
@@ -280,12 +280,12 @@ sent_in q (p ∷ l) v h = by p.msg refl (in_append (answer_sent q (plain p)) (fl
 pub newly : (a : At) (s : Shaped a (step_at a)) (q : Asked) (v : Answer) (more : List Answer) → is_answered a.life.steps q ≡ false → answers q (a.life.steps ++ moment a ∷ []) ≡ v ∷ more →
     Cause a s.rule q.txn q.n v
 newly a s q v more none is =
-    by (in_append (flat_map (answer_told q) (step_at a).told) (flat_map (answer_sent q) (map plain (step_at a).outs)) v (subst (λ l. In v l) (sym now) (inl refl)))
+    by (in_append (flat_map (answer_told q) (step_at a).told) (flat_map (answer_sent q) (map unnumbered (step_at a).outs)) v (subst (λ l. In v l) (sym now) (inl refl)))
   where
-    now : flat_map (answer_told q) (step_at a).told ++ flat_map (answer_sent q) (map plain (step_at a).outs) ≡ v ∷ more
-    now = ap (λ l. l ++ (flat_map (answer_told q) (step_at a).told ++ flat_map (answer_sent q) (map plain (step_at a).outs))) (sym (unanswered_none a.life.steps q none)) ∙ sym (answers_push q a.life.steps (moment a)) ∙ is
+    now : flat_map (answer_told q) (step_at a).told ++ flat_map (answer_sent q) (map unnumbered (step_at a).outs) ≡ v ∷ more
+    now = ap (λ l. l ++ (flat_map (answer_told q) (step_at a).told ++ flat_map (answer_sent q) (map unnumbered (step_at a).outs))) (sym (unanswered_none a.life.steps q none)) ∙ sym (answers_push q a.life.steps (moment a)) ∙ is
 
-    by : In v (flat_map (answer_told q) (step_at a).told) ⊎ In v (flat_map (answer_sent q) (map plain (step_at a).outs)) → Cause a s.rule q.txn q.n v
+    by : In v (flat_map (answer_told q) (step_at a).told) ⊎ In v (flat_map (answer_sent q) (map unnumbered (step_at a).outs)) → Cause a s.rule q.txn q.n v
     by (inl k) = told_cause a (step_at a) s q.txn q.n v (told_in q (step_at a).told v k)
     by (inr k) = let p = sent_in q (step_at a).outs v k in sent_cause a (step_at a) s q.txn q.n p.1 v p.0 p.2 p.3
 

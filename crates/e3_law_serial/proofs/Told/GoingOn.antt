@@ -37,7 +37,7 @@ use Rattle.e3_law_serial.proofs.Step.Shapes.{FromAway}
 use Rattle.e3_law_serial.proofs.Step.Arrivals.{told_push}
 use Rattle.e3_law_serial.proofs.Step.Steadying.{some_inj, any_in, in_any, last_told, steady_push}
 use Rattle.e3_law_serial.proofs.Step.Answering.{told_cause}
-use Rattle.e3_world.specs.Moves.{plain}
+use Rattle.e3_world.specs.Moves.{unnumbered}
 use Rattle.e3_law_serial.proofs.Step.Stepping.{moment, so_far, is_moment, shaped_calm, issued_calm}
 use Rattle.e3_law_serial.proofs.Lists.Facts.{vote_has}
 use Rattle.e3_law_serial.proofs.Lists.Members.{in_split}
@@ -62,7 +62,7 @@ use Rattle.e3_law_steps.proofs.Operations.Issuing.{issued_push}
 -- the move of the step at a place
 pub record IsNext (a : At) (mine : List Move) (m : Move) : Type 0 where
   pub life : life_at (mine ++ m ∷ []) ≡ next a
-  pub sends_are : sends m ≡ map plain (step_at a).outs
+  pub sends_are : sends m ≡ map unnumbered (step_at a).outs
   pub tells_are : tells m ≡ (step_at a).told
   pub records_are : recorded m ≡ (step_at a).records
   pub risen : has_risen (mine ++ m ∷ []) ≡ true
@@ -144,9 +144,9 @@ module _ (weights : List ℕ) (a : At) (k : Keeps a.site a.life) (fits : Fits we
   mine' : List Move
   mine' = mine ++ m ∷ []
 
-  sends_split : (p : Packet) → In p (flat_map sends (mine ++ m ∷ [])) → In p (flat_map sends mine) ⊎ In p (map plain (step_at a).outs)
-  sends_split p h = in_append (flat_map sends mine) (map plain (step_at a).outs) p (subst (λ l. In p l)
-      (flat_map-append sends mine (m ∷ []) ∙ ap (λ l. flat_map sends mine ++ (l ++ [])) is.sends_are ∙ ap (λ l. flat_map sends mine ++ l) (append-nil (map plain (step_at a).outs))) h)
+  sends_split : (p : Packet) → In p (flat_map sends (mine ++ m ∷ [])) → In p (flat_map sends mine) ⊎ In p (map unnumbered (step_at a).outs)
+  sends_split p h = in_append (flat_map sends mine) (map unnumbered (step_at a).outs) p (subst (λ l. In p l)
+      (flat_map-append sends mine (m ∷ []) ∙ ap (λ l. flat_map sends mine ++ (l ++ [])) is.sends_are ∙ ap (λ l. flat_map sends mine ++ l) (append-nil (map unnumbered (step_at a).outs))) h)
 
   tells_split : (e : Told) → In e (flat_map tells (mine ++ m ∷ [])) → In e (flat_map tells mine) ⊎ In e (step_at a).told
   tells_split e h = in_append (flat_map tells mine) (step_at a).told e (subst (λ l. In e l)
@@ -281,7 +281,7 @@ module _ (weights : List ℕ) (a : At) (k : Keeps a.site a.life) (fits : Fits we
           (sym (grows t (key_of op).site (expected a.site a.life.inc t a.life.steps (key_of op).site) (moment a) g.packet n g.inc v g.takes (eq-eqb g.packet.«from» (key_of op).site source) g.says tells))
           (record { packet = g.packet; sent_in = more g.packet (was_sent g.packet g.takes); source = source; says = g.says }, (omega arith))
 
-  does_new : (p : Packet) (t : Txn) (n : ℕ) (op : Op) → In p (map plain (step_at a).outs) → p.msg ≡ msg.Do t n op → nth_op n (iss' t) ≡ Some op
+  does_new : (p : Packet) (t : Txn) (n : ℕ) (op : Op) → In p (map unnumbered (step_at a).outs) → p.msg ≡ msg.Do t n op → nth_op n (iss' t) ≡ Some op
   does_new p t n op h says =
       let x = plain_in (step_at a).outs p h in
       let s = shaped_sent weights a k fits away sent iss iss' mine up life_is story was_sent well own_iss on p h in
@@ -303,10 +303,10 @@ module _ (weights : List ℕ) (a : At) (k : Keeps a.site a.life) (fits : Fits we
         | inr most ↦ last_told a t c.allowed x low (let h : x ≤ length (issued t a.life.steps) = subst (λ l. x ≤ length l) same high in omega (arith, h, most))
       ]
 
-  asks_new : (p : Packet) (t : Txn) (inc count : ℕ) → In p (map plain (step_at a).outs) → p.msg ≡ msg.VoteReq t inc count → Request sent' iss' a.site (mine ++ m ∷ []) p t inc count
+  asks_new : (p : Packet) (t : Txn) (inc count : ℕ) → In p (map unnumbered (step_at a).outs) → p.msg ≡ msg.VoteReq t inc count → Request sent' iss' a.site (mine ++ m ∷ []) p t inc count
   asks_new p t inc count h says = made x.1 w
     where
-      x : (y : Packet) × In y (step_at a).outs × (plain y ≡ p)
+      x : (y : Packet) × In y (step_at a).outs × (unnumbered y ≡ p)
       x = plain_in (step_at a).outs p h
 
       w : MessageIs a (step_at a).records p.to (msg.VoteReq t inc count)
@@ -400,15 +400,15 @@ module _ (weights : List ℕ) (a : At) (k : Keeps a.site a.life) (fits : Fits we
     asks = λ p t inc count h says. asks p t inc count says (sends_split p h);
   }
     where
-      source : (p : Packet) → In p (flat_map sends mine) ⊎ In p (map plain (step_at a).outs) → p.«from» ≡ a.site
+      source : (p : Packet) → In p (flat_map sends mine) ⊎ In p (map unnumbered (step_at a).outs) → p.«from» ≡ a.site
       source p (inl old) = story.source p old
       source p (inr new) = let x = plain_in (step_at a).outs p new in ap (λ (z : Packet). z.«from») (sym x.2) ∙ (step_sent a away x.0 x.1).0
 
-      does : (p : Packet) (t : Txn) (n : ℕ) (op : Op) → p.msg ≡ msg.Do t n op → In p (flat_map sends mine) ⊎ In p (map plain (step_at a).outs) → nth_op n (iss' t) ≡ Some op
+      does : (p : Packet) (t : Txn) (n : ℕ) (op : Op) → p.msg ≡ msg.Do t n op → In p (flat_map sends mine) ⊎ In p (map unnumbered (step_at a).outs) → nth_op n (iss' t) ≡ Some op
       does p t n op says (inl old) = nth_on iss iss' on t n op (story.does p t n op old says)
       does p t n op says (inr new) = does_new p t n op new says
 
-      dones : (p : Packet) (t : Txn) (n inc : ℕ) (v : Answer) → p.msg ≡ msg.Done t n inc v → In p (flat_map sends mine) ⊎ In p (map plain (step_at a).outs) → Given iss' a.site (has_risen (mine ++ m ∷ [])) (next a) t n inc v
+      dones : (p : Packet) (t : Txn) (n inc : ℕ) (v : Answer) → p.msg ≡ msg.Done t n inc v → In p (flat_map sends mine) ⊎ In p (map unnumbered (step_at a).outs) → Given iss' a.site (has_risen (mine ++ m ∷ [])) (next a) t n inc v
       dones p t n inc v says (inl old) = given_old weights a k fits away sent iss iss' mine up life_is story was_sent well own_iss on t n inc v (story.dones p t n inc v old says) (has_risen (mine ++ m ∷ []))
       dones p t n inc v says (inr new) = dones_new weights a k fits away sent iss iss' mine up life_is story was_sent well own_iss on p t n inc v new says (has_risen (mine ++ m ∷ []))
 
@@ -426,6 +426,6 @@ module _ (weights : List ℕ) (a : At) (k : Keeps a.site a.life) (fits : Fits we
           let r = tolds_new weights a k fits away sent iss iss' mine up life_is story was_sent well own_iss on t n v new (has_risen (mine ++ m ∷ [])) in
           (r.0, r.1, r.2, (λ here. subst (λ l. Given iss' a.site (has_risen (mine ++ m ∷ [])) l t n t.inc v) (sym is.life) (r.3 here)))
 
-      asks : (p : Packet) (t : Txn) (inc count : ℕ) → p.msg ≡ msg.VoteReq t inc count → In p (flat_map sends mine) ⊎ In p (map plain (step_at a).outs) → Request sent' iss' a.site (mine ++ m ∷ []) p t inc count
+      asks : (p : Packet) (t : Txn) (inc count : ℕ) → p.msg ≡ msg.VoteReq t inc count → In p (flat_map sends mine) ⊎ In p (map unnumbered (step_at a).outs) → Request sent' iss' a.site (mine ++ m ∷ []) p t inc count
       asks p t inc count says (inl old) = asks_old p t inc count (story.asks p t inc count old says)
       asks p t inc count says (inr new) = asks_new p t inc count new says

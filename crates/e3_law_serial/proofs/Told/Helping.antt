@@ -31,7 +31,7 @@ use Rattle.e3_law_serial.proofs.Lists.Members.{in_append}
 use Rattle.e3_law_serial.proofs.Step.Arrivals.{answers_push, told_push, answered_from, op_told_answered}
 use Rattle.e3_law_serial.proofs.Step.Steadying.{some_inj, in_any}
 use Rattle.e3_law_serial.proofs.Step.Answering.{in_each}
-use Rattle.e3_world.specs.Moves.{plain}
+use Rattle.e3_world.specs.Moves.{unnumbered}
 use Rattle.e3_law_serial.proofs.Step.Stepping.{moment, grants_made}
 use Rattle.e3_law_serial.proofs.Site.Keeping.{IsRising}
 use Rattle.e3_law_steps.proofs.Tests.{same_is}
@@ -124,26 +124,26 @@ pub told_shown : (a : At) (t : Txn) (n : ℕ) (v : Answer) → In (told.Op t n v
 told_shown a t n v h q same num = op_told_answered q (a.life.steps ++ moment a ∷ []) (told_push q.txn q.n a.life.steps (moment a) ∙ or_right _ _
     (in_any (tells_op q.txn q.n) (step_at a).told (told.Op t n v) h (and_from (q.n == n) (same_txn q.txn t) (eq-eqb q.n n num) (same_from q.txn t same))))
 
-sent_answers : (q : Asked) (l : List Packet) (p : Packet) (inc : ℕ) (v : Answer) → In p l → p.msg ≡ msg.Done q.txn q.n inc v → (w : Answer) × (more : List Answer) × (flat_map (answer_sent q) (map plain l) ≡ w ∷ more)
+sent_answers : (q : Asked) (l : List Packet) (p : Packet) (inc : ℕ) (v : Answer) → In p l → p.msg ≡ msg.Done q.txn q.n inc v → (w : Answer) × (more : List Answer) × (flat_map (answer_sent q) (map unnumbered l) ≡ w ∷ more)
 sent_answers q [] p inc v h says = absurd h
-sent_answers q (x ∷ l) p inc v (inl e) says = some_app (answer_sent q (plain x)) (flat_map (answer_sent q) (map plain l)) v [] one
+sent_answers q (x ∷ l) p inc v (inl e) says = some_app (answer_sent q (unnumbered x)) (flat_map (answer_sent q) (map unnumbered l)) v [] one
   where
-    one : answer_sent q (plain x) ≡ v ∷ []
+    one : answer_sent q (unnumbered x) ≡ v ∷ []
     one = go x.msg refl
       where
         says' : x.msg ≡ msg.Done q.txn q.n inc v
         says' = ap (λ (z : Packet). z.msg) e ∙ says
 
-        go : (m : Message) → x.msg ≡ m → answer_sent q (plain x) ≡ v ∷ []
+        go : (m : Message) → x.msg ≡ m → answer_sent q (unnumbered x) ≡ v ∷ []
         go m is = rw (says', eq-eqb q.n q.n refl, same_from q.txn q.txn refl) refl
 sent_answers q (x ∷ l) p inc v (inr k) says =
-    let r = sent_answers q l p inc v k says in some_behind (answer_sent q (plain x)) (flat_map (answer_sent q) (map plain l)) r.0 r.1 r.2
+    let r = sent_answers q l p inc v k says in some_behind (answer_sent q (unnumbered x)) (flat_map (answer_sent q) (map unnumbered l)) r.0 r.1 r.2
 
 pub sent_shown : (a : At) (t : Txn) (n inc : ℕ) (v : Answer) (p : Packet) → In p (step_at a).outs → p.msg ≡ msg.Done t n inc v → (q : Asked) → q.txn ≡ t → q.n ≡ n → is_answered (a.life.steps ++ moment a ∷ []) q ≡ true
 sent_shown a t n inc v p h says q same num =
     let r = sent_answers q (step_at a).outs p inc v h (says ∙ (λ i. msg.Done (sym same i) (sym num i) inc v)) in
-    let z = some_behind (flat_map (answer_told q) (step_at a).told) (flat_map (answer_sent q) (map plain (step_at a).outs)) r.0 r.1 r.2 in
-    let w = some_behind (answers q a.life.steps) (flat_map (answer_told q) (step_at a).told ++ flat_map (answer_sent q) (map plain (step_at a).outs)) z.0 z.1 z.2 in
+    let z = some_behind (flat_map (answer_told q) (step_at a).told) (flat_map (answer_sent q) (map unnumbered (step_at a).outs)) r.0 r.1 r.2 in
+    let w = some_behind (answers q a.life.steps) (flat_map (answer_told q) (step_at a).told ++ flat_map (answer_sent q) (map unnumbered (step_at a).outs)) z.0 z.1 z.2 in
     answered_from (a.life.steps ++ moment a ∷ []) q w.0 w.1 (answers_push q a.life.steps (moment a) ∙ w.2)
 
 -- what is unanswered is the last that was issued, and was not told

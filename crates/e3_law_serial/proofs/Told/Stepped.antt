@@ -31,7 +31,7 @@ use Rattle.e3_law_serial.proofs.Step.Shapes.{FromAway, step_shape}
 use Rattle.e3_law_serial.proofs.Step.Arrivals.{arrivals_push}
 use Rattle.e3_law_serial.proofs.Step.Steadying.{taken_own, arrived_in, some_inj, issued_one, steady_push}
 use Rattle.e3_law_serial.proofs.Step.Answering.{Cause, told_cause, sent_cause}
-use Rattle.e3_world.specs.Moves.{plain}
+use Rattle.e3_world.specs.Moves.{unnumbered}
 use Rattle.e3_law_serial.proofs.Step.Stepping.{moment, is_moment, calm_allowed, heard_elsewhere}
 use Rattle.e3_law_serial.proofs.Site.Keeping.{Keeps, next}
 use Rattle.e3_world.specs.Lives.{life_at}
@@ -49,7 +49,7 @@ pub record SentWell (sent : List Packet) (iss : Txn → List Op) : Type 0 where
   pub does : (p : Packet) (t : Txn) (n : ℕ) (op : Op) → In p sent → p.msg ≡ msg.Do t n op → nth_op n (iss t) ≡ Some op
   pub dones : (p : Packet) (t : Txn) (n inc : ℕ) (v : Answer) → In p sent → p.msg ≡ msg.Done t n inc v → (op : Op) × (nth_op n (iss t) ≡ Some op) × ((key_of op).site ≡ p.«from»)
 
-pub plain_in : (ps : List Packet) (p : Packet) → In p (map plain ps) → (x : Packet) × In x ps × (plain x ≡ p)
+pub plain_in : (ps : List Packet) (p : Packet) → In p (map unnumbered ps) → (x : Packet) × In x ps × (unnumbered x ≡ p)
 plain_in [] p h = absurd h
 plain_in (x ∷ ps) p (inl e) = (x, inl refl, e)
 plain_in (x ∷ ps) p (inr k) = let r = plain_in ps p k in (r.0, inr r.1, r.2)
@@ -176,7 +176,7 @@ module _ (weights : List ℕ) (a : At) (k : Keeps a.site a.life) (fits : Fits we
   }
 
   -- what a new answer is
-  pub sent_gave : (p : Packet) (t : Txn) (n inc : ℕ) (v : Answer) → In p (map plain (step_at a).outs) → p.msg ≡ msg.Done t n inc v → (s : Shaped a (step_at a)) → (inc ≡ a.life.inc) × ((t.site == a.site) ≡ false) × Gave a t n v × Cause a s.rule t n v
+  pub sent_gave : (p : Packet) (t : Txn) (n inc : ℕ) (v : Answer) → In p (map unnumbered (step_at a).outs) → p.msg ≡ msg.Done t n inc v → (s : Shaped a (step_at a)) → (inc ≡ a.life.inc) × ((t.site == a.site) ≡ false) × Gave a t n v × Cause a s.rule t n v
   sent_gave p t n inc v h says s =
       let x = plain_in (step_at a).outs p h in
       let says' : x.0.msg ≡ msg.Done t n inc v = ap (λ (z : Packet). z.msg) x.2 ∙ says in
@@ -191,13 +191,13 @@ module _ (weights : List ℕ) (a : At) (k : Keeps a.site a.life) (fits : Fits we
         cause,
       )
 
-  pub shaped_sent : (p : Packet) → In p (map plain (step_at a).outs) → Shaped a (step_at a)
-  shaped_sent p h = elim (step_shape a away) [ inl r ↦ absurd (subst (λ l. In p (map plain l)) r.outs h) | inr s ↦ s ]
+  pub shaped_sent : (p : Packet) → In p (map unnumbered (step_at a).outs) → Shaped a (step_at a)
+  shaped_sent p h = elim (step_shape a away) [ inl r ↦ absurd (subst (λ l. In p (map unnumbered l)) r.outs h) | inr s ↦ s ]
 
   pub shaped_told : (t : Txn) (n : ℕ) (v : Answer) → In (told.Op t n v) (step_at a).told → Shaped a (step_at a)
   shaped_told t n v h = elim (step_shape a away) [ inl r ↦ absurd (not_op (step_at a).told t r.told.0 n v r.told.1 r.told.2 h) | inr s ↦ s ]
 
-  pub dones_new : (p : Packet) (t : Txn) (n inc : ℕ) (v : Answer) → In p (map plain (step_at a).outs) → p.msg ≡ msg.Done t n inc v → (now_up : Bool) → Given iss' a.site now_up (next a) t n inc v
+  pub dones_new : (p : Packet) (t : Txn) (n inc : ℕ) (v : Answer) → In p (map unnumbered (step_at a).outs) → p.msg ≡ msg.Done t n inc v → (now_up : Bool) → Given iss' a.site now_up (next a) t n inc v
   dones_new p t n inc v h says now_up =
       let g = sent_gave p t n inc v h says (shaped_sent p h) in
       let e = g.0 in

@@ -34,7 +34,7 @@ use Rattle.e3_law_serial.proofs.Step.Shapes.{FromAway}
 use Rattle.e3_law_serial.proofs.Step.Arrivals.{answers_push, answered_from, answered_first, answered_more, InTurn, of_txn}
 use Rattle.e3_law_serial.proofs.Step.Steadying.{some_inj, performed_of, turns_before, arrivals_stay, steady_push}
 use Rattle.e3_law_serial.proofs.Step.Answering.{Cause, Heard, Locked, Repeated, Granted}
-use Rattle.e3_world.specs.Moves.{plain}
+use Rattle.e3_world.specs.Moves.{unnumbered}
 use Rattle.e3_law_serial.proofs.Step.Stepping.{moment, so_far, is_moment, shaped_calm, same_answers, same_answered, waits_parts, granted_waits, granted_arrived, heard_elsewhere, cause_why, new_why}
 use Rattle.e3_law_serial.proofs.Step.Knowing.{Elsewhere, lock_arrives}
 use Rattle.e3_law_serial.proofs.Lists.Members.{in_split}
@@ -184,8 +184,8 @@ module _ (weights : List ℕ) (a : At) (k : Keeps a.site a.life) (fits : Fits we
 
       behind : (w : Answer) (more : List Answer) → answers q a.life.steps ≡ w ∷ more → (more' : List Answer) × (answers q (a.life.steps ++ moment a ∷ []) ≡ w ∷ more')
       behind w more is = (
-        more ++ (flat_map (answer_told q) (step_at a).told ++ flat_map (answer_sent q) (map plain (step_at a).outs)),
-        answers_push q a.life.steps (moment a) ∙ ap (λ l. l ++ (flat_map (answer_told q) (step_at a).told ++ flat_map (answer_sent q) (map plain (step_at a).outs))) is,
+        more ++ (flat_map (answer_told q) (step_at a).told ++ flat_map (answer_sent q) (map unnumbered (step_at a).outs)),
+        answers_push q a.life.steps (moment a) ∙ ap (λ l. l ++ (flat_map (answer_told q) (step_at a).told ++ flat_map (answer_sent q) (map unnumbered (step_at a).outs))) is,
       )
 
       by : (b : Bool) → is_answered a.life.steps q ≡ b → Gave a q.txn q.n v

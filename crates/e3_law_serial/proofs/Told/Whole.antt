@@ -18,14 +18,14 @@ use Rattle.e3_world.specs.Operations.{issued_in}
 use Rattle.e3_world.specs.Steps.{step_of}
 use Rattle.e3_law_serial.proofs.Lists.Entries.{In}
 use Rattle.e3_law_serial.proofs.Lists.Members.{in_append, in_front, filter_in}
-use Rattle.e3_world.specs.Moves.{plain}
+use Rattle.e3_world.specs.Moves.{unnumbered}
 use Rattle.e3_law_serial.proofs.Step.Stepping.{in_flat}
 use Rattle.e3_law_serial.proofs.Site.Holding.{in_flat_from}
 use Rattle.e3_law_serial.proofs.Lists.Members.{in_split}
 use Rattle.e3_law_serial.proofs.Site.Keeping.{rising_in, append_split, IsRising}
 use Rattle.e3_world.specs.declared.lives.SiteStep.{SiteStep}
 use Rattle.e3_world.specs.Lives.{incarnation_of, life_at}
-use Rattle.e3_world.specs.Moves.{Did, Stepped, Silent, Rose, Move, moves_at, recorded, log_by, rise_records, plain_input}
+use Rattle.e3_world.specs.Moves.{Did, Stepped, Silent, Rose, Move, moves_at, recorded, log_by, rise_records, unnumbered_input}
 use Rattle.e3_world.specs.Sound.{sends, WasSent, step_move, has_risen, IsSoundStep, FitInTurn, records_in_turn, IsSoundMove, SoundAfter, IsSound}
 use Rattle.e3_world.proofs.Pushes.{log_push, life_log_at}
 use Rattle.e3_law_agreement.proofs.Refinement.Following.{moves_here, moves_there, in_from_contains}
@@ -48,7 +48,7 @@ AllStories before = (site : ℕ) → Story (flat_map sends before) (iss_of befor
 
 -- all packets are without numbers
 abbrev pub AllPlain : List Move → Type 0
-AllPlain before = (p : Packet) → In p (flat_map sends before) → plain p ≡ p
+AllPlain before = (p : Packet) → In p (flat_map sends before) → unnumbered p ≡ p
 
 -- a packet was sent by some site
 pub sent_at : (before : List Move) (p : Packet) → In p (flat_map sends before) → (s : ℕ) × In p (flat_map sends (moves_at s before))
@@ -127,8 +127,8 @@ module _ (sc : Scenario) (sent : List Packet) (iss : Txn → List Op) (site : �
   rose_story = story_rest sent iss site mine (record { site = site; did = Rose inc rs }) rs
       (record { life = life_rose site mine inc rs; quiet = refl; untold = refl; records = refl }) (inr rise_less) (let l = rise_less in omega (arith, l)) story rise_votes
 
-plain_deliver : (i : Input) (p : Packet) → plain_input i ≡ input.Deliver p → (packet : Packet) × (i ≡ input.Deliver packet) × (p ≡ plain packet)
-plain_deliver (input.Deliver packet) p e = (packet, refl, (let one : plain packet ≡ p = cc in sym one))
+plain_deliver : (i : Input) (p : Packet) → unnumbered_input i ≡ input.Deliver p → (packet : Packet) × (i ≡ input.Deliver packet) × (p ≡ unnumbered packet)
+plain_deliver (input.Deliver packet) p e = (packet, refl, (let one : unnumbered packet ≡ p = cc in sym one))
 plain_deliver (input.Begin sites) p e = absurd (cc)
 plain_deliver (input.Do t op) p e = absurd (cc)
 plain_deliver (input.Commit t) p e = absurd (cc)
@@ -137,7 +137,7 @@ plain_deliver (input.Expire t) p e = absurd (cc)
 plain_deliver (input.Elect t g) p e = absurd (cc)
 
 -- a packet that is taken was sent
-taken_sent : (before : List Move) → AllPlain before → (i : Input) → WasSent before i → (p : Packet) → plain_input i ≡ input.Deliver p → In p (flat_map sends before)
+taken_sent : (before : List Move) → AllPlain before → (i : Input) → WasSent before i → (p : Packet) → unnumbered_input i ≡ input.Deliver p → In p (flat_map sends before)
 taken_sent before plains i was p e =
     let d = plain_deliver i p e in
     let c : Contains (flat_map sends before) d.0 = subst (λ z. WasSent before z) d.1 was in
@@ -225,22 +225,22 @@ own_story sc before m sound keep stories plains = by m.did refl sound
         (rose_story sc (flat_map sends before) (iss_of before) m.site (moves_at m.site before) inc rs h.next h.made story)
 
 -- what a move sends has no numbers
-move_plain : (sc : Scenario) (before : List Move) (m : Move) → IsSoundMove sc before m → (p : Packet) → In p (sends m) → plain p ≡ p
+move_plain : (sc : Scenario) (before : List Move) (m : Move) → IsSoundMove sc before m → (p : Packet) → In p (sends m) → unnumbered p ≡ p
 move_plain sc before m sound p h = by m.did refl sound
   where
-    plains : (ps : List Packet) → In p (map plain ps) → plain p ≡ p
+    plains : (ps : List Packet) → In p (map unnumbered ps) → unnumbered p ≡ p
     plains [] x = absurd x
-    plains (q ∷ ps) (inl e) = subst (λ z. plain z ≡ z) e refl
+    plains (q ∷ ps) (inl e) = subst (λ z. unnumbered z ≡ z) e refl
     plains (q ∷ ps) (inr x) = plains ps x
 
-    quiet : (d : Did) → m.did ≡ d → sends (record { site = m.site; did = d }) ≡ [] → plain p ≡ p
+    quiet : (d : Did) → m.did ≡ d → sends (record { site = m.site; did = d }) ≡ [] → unnumbered p ≡ p
     quiet d e none = absurd (subst (λ l. In p l) (ap (λ d. sends (record { site = m.site; did = d })) e ∙ none) h)
 
-    step : (s : SiteStep) → m.did ≡ Stepped s → IsSoundMove sc before (record { site = m.site; did = Stepped s }) → plain p ≡ p
+    step : (s : SiteStep) → m.did ≡ Stepped s → IsSoundMove sc before (record { site = m.site; did = Stepped s }) → unnumbered p ≡ p
     step s e x = plains (step_of sc.weights m.site (incarnation_of (moves_at m.site before)) s.input).outs
         (subst (λ l. In p l) (ap (λ d. sends (record { site = m.site; did = d })) e ∙ ap sends x.made) h)
 
-    by : (d : Did) → m.did ≡ d → IsSoundMove sc before (record { site = m.site; did = d }) → plain p ≡ p
+    by : (d : Did) → m.did ≡ d → IsSoundMove sc before (record { site = m.site; did = d }) → unnumbered p ≡ p
     by (Stepped s) e x = step s e x
     by (Silent inputs rs) e x = quiet (Silent inputs rs) e refl
     by (Rose inc rs) e x = quiet (Rose inc rs) e refl
@@ -257,7 +257,7 @@ move_stands sc before m sound s = record {
   plains = λ p h. plain_all p (in_append (flat_map sends before) (flat_map sends (m ∷ [])) p (subst (λ l. In p l) (flat_map-append sends before (m ∷ [])) h));
 }
   where
-    plain_all : (p : Packet) → In p (flat_map sends before) ⊎ In p (flat_map sends (m ∷ [])) → plain p ≡ p
+    plain_all : (p : Packet) → In p (flat_map sends before) ⊎ In p (flat_map sends (m ∷ [])) → unnumbered p ≡ p
     plain_all p (inl old) = s.plains p old
     plain_all p (inr new) = move_plain sc before m sound p (subst (λ l. In p l) (append-nil (sends m)) new)
 

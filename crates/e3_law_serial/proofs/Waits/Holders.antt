@@ -13,7 +13,7 @@ use Rattle.e3_world.specs.declared.lives.Asked.{Asked}
 use Rattle.e3_world.specs.declared.lives.At.{At}
 use Rattle.e3_world.specs.declared.lives.Made.{Made}
 use Rattle.e3_world.specs.Making.{steps_now, and_send, grants_after, decides, and_grant, and_grants}
-use Rattle.e3_world.specs.Moves.{plain}
+use Rattle.e3_world.specs.Moves.{unnumbered}
 use Rattle.e3_world.specs.Operations.{arrivals, answer_told, answer_sent, answers, is_answered}
 use Rattle.e3_world.specs.Sound.{Fits}
 use Rattle.e3_world.specs.Steps.{step_at}
@@ -95,9 +95,9 @@ grants_outs a made p h = by (list_any decides (drop 0 made.records)) refl
     by true is = rw is (granted_outs a (grants_after a made) made p h)
     by false is = rw is h
 
-in_plain : (ps : List Packet) (p : Packet) → In p ps → In (plain p) (map plain ps)
+in_plain : (ps : List Packet) (p : Packet) → In p ps → In (unnumbered p) (map unnumbered ps)
 in_plain [] p h = absurd h
-in_plain (x ∷ ps) p (inl e) = inl (ap plain e)
+in_plain (x ∷ ps) p (inl e) = inl (ap unnumbered e)
 in_plain (x ∷ ps) p (inr h) = inr (in_plain ps p h)
 
 -- what a rule has answered, its step has answered
@@ -112,19 +112,19 @@ answered_so_far a s q h =
     tells v k = subst (λ l. In v (flat_map (answer_told q) l)) (sym (s.told ∙ ap (λ l. l ++ s.events) (grants_made a s.rule).1))
         (subst (λ l. In v l) (sym (flat_map-append (answer_told q) s.rule.told s.events)) (in_front (flat_map (answer_told q) s.rule.told) (flat_map (answer_told q) s.events) v k))
 
-    sends : (v : Answer) → In v (flat_map (answer_sent q) s.rule.outs) → In v (flat_map (answer_sent q) (map plain (step_at a).outs))
+    sends : (v : Answer) → In v (flat_map (answer_sent q) s.rule.outs) → In v (flat_map (answer_sent q) (map unnumbered (step_at a).outs))
     sends v k =
         let p = in_flat (answer_sent q) s.rule.outs v k in
-        in_flat_from (answer_sent q) (map plain (step_at a).outs) (plain p.0) v
+        in_flat_from (answer_sent q) (map unnumbered (step_at a).outs) (unnumbered p.0) v
         (in_plain (step_at a).outs p.0 (subst (λ l. In p.0 l) (sym s.outs) (grants_outs a s.rule p.0 p.1))) p.2
 
     now : (v : Answer) → In v (flat_map (answer_told q) s.rule.told) ⊎ In v (flat_map (answer_sent q) s.rule.outs) →
-        In v (answers q a.life.steps ++ (flat_map (answer_told q) (step_at a).told ++ flat_map (answer_sent q) (map plain (step_at a).outs)))
-    now v (inl k) = in_back (answers q a.life.steps) _ v (in_front (flat_map (answer_told q) (step_at a).told) (flat_map (answer_sent q) (map plain (step_at a).outs)) v (tells v k))
-    now v (inr k) = in_back (answers q a.life.steps) _ v (in_back (flat_map (answer_told q) (step_at a).told) (flat_map (answer_sent q) (map plain (step_at a).outs)) v (sends v k))
+        In v (answers q a.life.steps ++ (flat_map (answer_told q) (step_at a).told ++ flat_map (answer_sent q) (map unnumbered (step_at a).outs)))
+    now v (inl k) = in_back (answers q a.life.steps) _ v (in_front (flat_map (answer_told q) (step_at a).told) (flat_map (answer_sent q) (map unnumbered (step_at a).outs)) v (tells v k))
+    now v (inr k) = in_back (answers q a.life.steps) _ v (in_back (flat_map (answer_told q) (step_at a).told) (flat_map (answer_sent q) (map unnumbered (step_at a).outs)) v (sends v k))
 
     shown : (v : Answer) → In v (answers q a.life.steps ++ (flat_map (answer_told q) s.rule.told ++ flat_map (answer_sent q) s.rule.outs)) →
-        In v (answers q a.life.steps ++ (flat_map (answer_told q) (step_at a).told ++ flat_map (answer_sent q) (map plain (step_at a).outs)))
+        In v (answers q a.life.steps ++ (flat_map (answer_told q) (step_at a).told ++ flat_map (answer_sent q) (map unnumbered (step_at a).outs)))
     shown v k = elim (in_append (answers q a.life.steps) (flat_map (answer_told q) s.rule.told ++ flat_map (answer_sent q) s.rule.outs) v k) [
       | inl old ↦ in_front (answers q a.life.steps) _ v old
       | inr new ↦ now v (in_append (flat_map (answer_told q) s.rule.told) (flat_map (answer_sent q) s.rule.outs) v new)

@@ -18,7 +18,7 @@ use Rattle.e3_world.specs.declared.lives.Made.{Made}
 use Rattle.e3_world.specs.declared.lives.Moment.{Moment}
 use Rattle.e3_world.specs.Logs.{state_of, is_undecided, mode_of}
 use Rattle.e3_world.specs.Making.{nothing, log_now, steps_now, grants_after}
-use Rattle.e3_world.specs.Moves.{plain}
+use Rattle.e3_world.specs.Moves.{unnumbered}
 use Rattle.e3_world.specs.Operations.{taken_up, same_asked, is_fresh, and_arrived, arrivals, answer_told, answer_sent, answers, is_answered, waiting, holders}
 use Rattle.e3_world.specs.Sound.{Fits}
 use Rattle.e3_world.specs.Steps.{step_at}
@@ -225,7 +225,7 @@ module _ (weights : List ℕ) (a : At) (k : Keeps a.site a.life) (fits : Fits we
     quiet_answers : step_at a ≡ nothing → (q : Asked) → answers q (steps_behind a) ≡ answers q a.life.steps
     quiet_answers none q =
         answers_push q a.life.steps (moment a)
-        ∙ ap (λ (m : Made). answers q a.life.steps ++ (flat_map (answer_told q) m.told ++ flat_map (answer_sent q) (map plain m.outs))) none
+        ∙ ap (λ (m : Made). answers q a.life.steps ++ (flat_map (answer_told q) m.told ++ flat_map (answer_sent q) (map unnumbered m.outs))) none
         ∙ append-nil (answers q a.life.steps)
 
     push_holders : (q : Asked) → In q (arrivals a.site (steps_behind a)) → Open (log_behind a) (steps_behind a) q →

@@ -28,7 +28,7 @@ use Rattle.e3_world.specs.declared.lives.Performed.{Performed}
 use Rattle.e3_world.specs.Logs.{is_undecided, key_of}
 use Rattle.e3_world.specs.Making.{nothing, log_now, steps_now, state_now, open_now, is_coordinator, is_present, and_record, and_tell, and_send, and_decide, and_abort_for, answer_now, and_do, and_grants}
 use Rattle.e3_world.specs.Messages.{on_message}
-use Rattle.e3_world.specs.Moves.{plain}
+use Rattle.e3_world.specs.Moves.{unnumbered}
 use Rattle.e3_world.specs.OperationRules.{on_do, on_done}
 use Rattle.e3_world.specs.Operations.{issued, issued_in, nth_op, taken_up, same_asked, answer_told, answer_sent, answers, is_answered, done, waiting, holders, queue, op_told, unanswered, expected}
 use Rattle.e3_world.specs.Sound.{Fits, FitsDo, FitsMessage, FitsPacket}
@@ -253,11 +253,11 @@ module _ (weights : List ℕ) (a : At) (fits : Fits weights a.site a.life a.inpu
           others_lack a.site p.«from» q.txn.sites (subst (λ x. has_site (others a.site (Rattle.e3_world.specs.Sound.txn_in x).sites) p.«from» ≡ true) says f.sender) (d.coordinator ∙ own)
 
   -- the answer that a step sends or tells
-  shown : (m : Made) → step_at a ≡ m → In (answer_now a q.txn q.op nothing) (flat_map (answer_told q) m.told ++ flat_map (answer_sent q) (map plain m.outs)) →
+  shown : (m : Made) → step_at a ≡ m → In (answer_now a q.txn q.op nothing) (flat_map (answer_told q) m.told ++ flat_map (answer_sent q) (map unnumbered m.outs)) →
       is_answered (a.life.steps ++ moment a ∷ []) q ≡ true
   shown m is h = answered_some (a.life.steps ++ moment a ∷ []) q (answer_now a q.txn q.op nothing)
       (subst (λ l. In (answer_now a q.txn q.op nothing) l) (sym (answers_push q a.life.steps (moment a)))
-      (in_back (answers q a.life.steps) _ _ (subst (λ (z : Made). In (answer_now a q.txn q.op nothing) (flat_map (answer_told q) z.told ++ flat_map (answer_sent q) (map plain z.outs))) (sym is) h)))
+      (in_back (answers q a.life.steps) _ _ (subst (λ (z : Made). In (answer_now a q.txn q.op nothing) (flat_map (answer_told q) z.told ++ flat_map (answer_sent q) (map unnumbered z.outs))) (sym is) h)))
 
   same : (q.n == q.n && same_txn q.txn q.txn) ≡ true
   same = and_from (q.n == q.n) (same_txn q.txn q.txn) (eq-eqb q.n q.n refl) (same_from q.txn q.txn refl)

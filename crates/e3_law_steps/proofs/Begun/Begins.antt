@@ -21,7 +21,7 @@ use Rattle.e3_world.specs.Items.{is_up_at, began_in}
 use Rattle.e3_world.specs.Legal.{Guard, IsLegal, LegalAfter, IsDue, numbered, made_by, entry_of}
 use Rattle.e3_world.specs.Lives.{present_log, incarnation_of, life_of, life_at}
 use Rattle.e3_world.specs.Logs.{logged_inc, logged_inc_by}
-use Rattle.e3_world.specs.Moves.{Move, Stepped, Rose, Past, own, past_of, past_by, moves_of, moves_of_act, kept_moves, log_by, rise_records, plain, plain_input}
+use Rattle.e3_world.specs.Moves.{Move, Stepped, Rose, Past, own, past_of, past_by, moves_of, moves_of_act, kept_moves, log_by, rise_records, unnumbered, unnumbered_input}
 use Rattle.e3_world.specs.Orderly.{is_among}
 use Rattle.e3_world.specs.Packets.{sent}
 use Rattle.e3_world.specs.Progress.{up_behind}
@@ -127,7 +127,7 @@ step_begins sc h site i given was guard up due = record {
   begun = each-push (λ e. Each (IsOf sc) (begun_in e.act)) h (entry_of sc h site i) was.begun
       (each-join (IsOf sc) began_in made.told (each-weaker (Tells (Stands sc h) (IsOf sc)) (λ e. Each (IsOf sc) (began_in e)) (λ e this. this.1) made.told keeps.told));
   incs = incs_push sc h site (entry_of sc h site i).act was.incs (λ now. let R : ℕ → Type 0 = λ n. 1 ≤ n in
-      subst R (sym (step_inc (moves_of sc h site) site (record { input = plain_input i; records = made.records; outs = map plain (numbered (suc (length (sent h))) made.outs); told = made.told })))
+      subst R (sym (step_inc (moves_of sc h site) site (record { input = unnumbered_input i; records = made.records; outs = map unnumbered (numbered (suc (length (sent h))) made.outs); told = made.told })))
       (was.incs site up));
 }
   where

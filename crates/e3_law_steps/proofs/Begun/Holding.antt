@@ -28,7 +28,7 @@ use Rattle.e3_world.specs.declared.names.Bound.{Bound}
 use Rattle.e3_world.specs.Items.{begin_names, binds, binding_by, to_line, began_in}
 use Rattle.e3_world.specs.Legal.{Guard, IsLegal, LegalAfter, IsDue, AreDue, numbered, made_by, entry_of, records_by}
 use Rattle.e3_world.specs.Lives.{present_log, incarnation_of, life_of, life_at, life_by}
-use Rattle.e3_world.specs.Moves.{Move, Did, Stepped, Silent, Rose, Past, Tail, own, past_of, past_by, moves_of, moves_of_act, tail_of_act, kept_moves, left_by, log_by, rise_records, rows_at, plain, plain_input}
+use Rattle.e3_world.specs.Moves.{Move, Did, Stepped, Silent, Rose, Past, Tail, own, past_of, past_by, moves_of, moves_of_act, tail_of_act, kept_moves, left_by, log_by, rise_records, rows_at, unnumbered, unnumbered_input}
 use Rattle.e3_world.specs.Packets.{sent, outs_of, is_line, step_items}
 use Rattle.e3_world.proofs.Pushes.{past_push, incarnation_push, life_push, life_log}
 use Rattle.e3_world.proofs.Readings.{to_push, own_same, own_other}
@@ -169,7 +169,7 @@ module _ (P : Mention → Type 0) (D : Told → Type 0) (sc : Scenario) where
       SiteIs P D (past_by sc site w (record { owner = site; act = Fall inputs records why }))
   fall_past site w inputs records why was all = record {
     life = let R : List Move → Type 0 = λ l. LifeIs P D (life_at l) in subst R (sym (append-nil w.moves)) was.life;
-    tail = left_is why (map plain_input inputs) records all;
+    tail = left_is why (map unnumbered_input inputs) records all;
   }
 
   -- an act that makes no move and leaves the tail
@@ -206,9 +206,9 @@ step_said P B D sc h site i was known keeps begun = record {
       subst R (sym (sent_push h (entry_of sc h site i))) (each-append (PacketIs P) (sent h) _ was.sent (numbered_are P site (suc (length (sent h))) made.outs keeps.outs));
   sites = sites_push (SiteIs P D) sc h site (entry_of sc h site i).act was.sites (record {
     life = life_stepped P D sc site (moves_of sc h site)
-        (record { input = plain_input i; records = made.records; outs = map plain (numbered (suc (length (sent h))) made.outs); told = made.told })
+        (record { input = unnumbered_input i; records = made.records; outs = map unnumbered (numbered (suc (length (sent h))) made.outs); told = made.told })
         (was.sites site).life (plain_known i known)
-        (each-map (PacketIs P) plain (numbered (suc (length (sent h))) made.outs) (numbered_are P site (suc (length (sent h))) made.outs keeps.outs))
+        (each-map (PacketIs P) unnumbered (numbered (suc (length (sent h))) made.outs) (numbered_are P site (suc (length (sent h))) made.outs keeps.outs))
         (each-weaker (Tells P B) (EventIs P) (λ e this. this.0) made.told keeps.told) begun keeps.records;
     tail = (was.sites site).tail;
   });
@@ -217,7 +217,7 @@ step_said P B D sc h site i was known keeps begun = record {
     made : Made
     made = made_by sc h site i
 
-    plain_known : (x : Input) → Each P (of_input x) → Each P (of_input (plain_input x))
+    plain_known : (x : Input) → Each P (of_input x) → Each P (of_input (unnumbered_input x))
     plain_known (input.Deliver p) this = this
     plain_known x this = this
 

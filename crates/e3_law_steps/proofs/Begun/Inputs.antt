@@ -16,7 +16,7 @@ use Rattle.e3_world.specs.declared.lives.Made.{Made}
 use Rattle.e3_world.specs.Lives.{life_of}
 use Rattle.e3_world.specs.Logs.{decision}
 use Rattle.e3_world.specs.Making.{nothing, log_now, state_now, attempt_now, is_present}
-use Rattle.e3_world.specs.Moves.{plain_input}
+use Rattle.e3_world.specs.Moves.{unnumbered_input}
 use Rattle.e3_world.specs.Operations.{unanswered, kept_reason}
 use Rattle.e3_world.specs.Sound.{txn_in}
 use Rattle.e3_world.specs.Steps.{refuse_late, refuse, step_of}
@@ -89,11 +89,11 @@ module _ (P : Mention → Type 0) (B : Txn → Type 0) where
   takes a (input.Elect t group) this begins ready = (allows P B a t this.0 ready, casts P B a (msg.Ask t (next_election a t group).call) group (this.0, tt), joins P B a t (next_election a t group) this.0)
   takes a (input.Deliver p) this begins ready = (allows P B a (txn_in p.msg) (known P B p.msg this) ready, hears P B a p.«from» p.msg this ready)
 
-  plain_is : (i : Input) → Each P (of_input i) → Each P (of_input (plain_input i))
+  plain_is : (i : Input) → Each P (of_input i) → Each P (of_input (unnumbered_input i))
   plain_is (input.Deliver p) this = this
   plain_is i this = this
 
-  plain_begins : (a : At) (i : Input) → BeginIs B a i → BeginIs B a (plain_input i)
+  plain_begins : (a : At) (i : Input) → BeginIs B a i → BeginIs B a (unnumbered_input i)
   plain_begins a (input.Deliver p) this = this
   plain_begins a i this = this
 

@@ -28,7 +28,7 @@ use Rattle.e3_world.specs.Items.{begin_names, binds, binding_by, last_bound, txn
 use Rattle.e3_world.specs.Legal.{IsDue, IsNextItem, entry_of, made_by, numbered}
 use Rattle.e3_world.specs.Lives.{life_at}
 use Rattle.e3_world.specs.Logs.{logged_inc}
-use Rattle.e3_world.specs.Moves.{Past, own, past_of, moves_of, log_of, plain, plain_input}
+use Rattle.e3_world.specs.Moves.{Past, own, past_of, moves_of, log_of, unnumbered, unnumbered_input}
 use Rattle.e3_world.specs.Packets.{sent, lines, present_items, step_items, is_line}
 use Rattle.e3_world.specs.Steps.{is_begin}
 use Rattle.e3_world.specs.Operations.{issued}
@@ -364,7 +364,7 @@ line_fresh sc h number was took adv = fresh_same sc h e was adv (ap (λ w. w.bou
     ]
 
 -- a step: what it does is what it took
-step_one : (t : Txn) (m : Moment) (i : Input) → m.input ≡ plain_input i →
+step_one : (t : Txn) (m : Moment) (i : Input) → m.input ≡ unnumbered_input i →
     count_by (λ x. does t x.input) (m ∷ []) ≤ count_by (does t) (filter (λ j. not (is_delivery j)) (i ∷ []))
 step_one t m (input.Do u op) same = by (same_txn t u) refl
   where
@@ -375,7 +375,7 @@ step_one t m (input.Do u op) same = by (same_txn t u) refl
     by false is = let one : _ = count_not (λ x. does t x.input) m [] (ap (does t) same ∙ is) in omega (arith, one)
 step_one t m i same = let one : _ = count_not (λ x. does t x.input) m [] (ap (does t) same) in omega (arith, one)
 
-plain_known : (bound : List Bound) (i : Input) → KnownInput bound i → KnownInput bound (plain_input i)
+plain_known : (bound : List Bound) (i : Input) → KnownInput bound i → KnownInput bound (unnumbered_input i)
 plain_known bound (input.Do t op) known = known
 plain_known bound (input.Deliver p) known = tt
 plain_known bound i known = tt
@@ -409,7 +409,7 @@ module _ (sc : Scenario) (h : List Entry) (site : ℕ) (i : Input) (was : Fresh 
           ≤ count_by (does b.txn) (items_taken (h ++ entry_of sc h site i ∷ []) s)
       by true is =
           let w : Past = past_of sc s (own s h) in
-          let m : Moment = record { before = (life_at w.moves).log; input = plain_input i; records = (made_by sc h site i).records; outs = map plain (numbered (suc (length (sent h))) (made_by sc h site i).outs); told = (made_by sc h site i).told } in
+          let m : Moment = record { before = (life_at w.moves).log; input = unnumbered_input i; records = (made_by sc h site i).records; outs = map unnumbered (numbered (suc (length (sent h))) (made_by sc h site i).outs); told = (made_by sc h site i).told } in
           let now : more_at sc h (entry_of sc h site i) s ≡ m ∷ [] = rw is refl in
           let count : _ = ap (count_by (λ x. does b.txn x.input)) now in
           let one : _ = step_one b.txn m i refl in

@@ -29,7 +29,7 @@ use Rattle.e3_world.specs.Legal.{IsDue, IsDelivery, numbered, made_by, entry_of}
 use Rattle.e3_world.specs.Lives.{incarnation_of, life_at}
 use Rattle.e3_world.specs.Logs.{key_of}
 use Rattle.e3_world.specs.Making.{nothing, and_send, and_grants}
-use Rattle.e3_world.specs.Moves.{past_of, moves_of, plain, plain_input}
+use Rattle.e3_world.specs.Moves.{past_of, moves_of, unnumbered, unnumbered_input}
 use Rattle.e3_world.specs.Operations.{issued, issued_in, nth_op, tells_op, is_answered, answers, answer_told, answer_sent}
 use Rattle.e3_world.specs.Packets.{sent, outs_of}
 use Rattle.e3_world.specs.Steps.{refuse, or_refused, settle}
@@ -57,9 +57,9 @@ use Rattle.e3_law_steps.proofs.Items.{binding}
 abbrev pub moment_of : Scenario → List Entry → ℕ → Input → Moment
 moment_of sc h site i = record {
   before = (life_in sc h site).log;
-  input = plain_input i;
+  input = unnumbered_input i;
   records = (made_by sc h site i).records;
-  outs = map plain (numbered (suc (length (sent h))) (made_by sc h site i).outs);
+  outs = map unnumbered (numbered (suc (length (sent h))) (made_by sc h site i).outs);
   told = (made_by sc h site i).told;
 }
 
@@ -67,7 +67,7 @@ moment_of sc h site i = record {
 abbrev pub place_in : Scenario → List Entry → ℕ → Input → At
 place_in sc h site i = place sc.weights site (incarnation_of (moves_of sc h site)) i
 
-plain_do : (i : Input) (t : Txn) (op : Op) → plain_input i ≡ input.Do t op → i ≡ input.Do t op
+plain_do : (i : Input) (t : Txn) (op : Op) → unnumbered_input i ≡ input.Do t op → i ≡ input.Do t op
 plain_do (input.Deliver p) t op is = absurd cc
 plain_do i t op is = is
 
@@ -75,11 +75,11 @@ abbrev packet_or : Packet → Input → Packet
 packet_or other (input.Deliver p) = p
 packet_or other i = other
 
-plain_deliver : (i : Input) (packet : Packet) → plain_input i ≡ input.Deliver packet → (p : Packet) × (i ≡ input.Deliver p) × (plain p ≡ packet)
+plain_deliver : (i : Input) (packet : Packet) → unnumbered_input i ≡ input.Deliver packet → (p : Packet) × (i ≡ input.Deliver p) × (unnumbered p ≡ packet)
 plain_deliver (input.Deliver p) packet is = (p, refl, ap (packet_or packet) is)
 plain_deliver i packet is = absurd cc
 
-do_packet : (t : Txn) (n : ℕ) (i : Input) → is_do t n (plain_input i) ≡ true → (p : Packet) × (op : Op) × (i ≡ input.Deliver p) × (p.msg ≡ msg.Do t n op)
+do_packet : (t : Txn) (n : ℕ) (i : Input) → is_do t n (unnumbered_input i) ≡ true → (p : Packet) × (op : Op) × (i ≡ input.Deliver p) × (p.msg ≡ msg.Do t n op)
 do_packet t n (input.Deliver p) is = by p.msg refl is
   where
     by : (x : Message) → p.msg ≡ x → is_do t n (input.Deliver (record { number = 0; «from» = p.«from»; to = p.to; msg = x })) ≡ true →
@@ -94,16 +94,16 @@ numbered_each : (P : Packet → Type 0) → ((p : Packet) (n : ℕ) → P p → 
 numbered_each P any n [] all = tt
 numbered_each P any n (p ∷ ps) all = (any p n all.0, numbered_each P any (suc n) ps all.1)
 
-answer_one : (q : Asked) (p : Packet) → IsAnswer q.txn q.n p → any_answer (answer_sent q (plain p)) ≡ true
+answer_one : (q : Asked) (p : Packet) → IsAnswer q.txn q.n p → any_answer (answer_sent q (unnumbered p)) ≡ true
 answer_one q p is = rw (is.2, eq-eqb q.n q.n refl, same_self q.txn) refl
 
-sent_any : (q : Asked) (ps : List Packet) (p : Packet) → Contains ps p → IsAnswer q.txn q.n p → any_answer (flat_map (answer_sent q) (map plain ps)) ≡ true
+sent_any : (q : Asked) (ps : List Packet) (p : Packet) → Contains ps p → IsAnswer q.txn q.n p → any_answer (flat_map (answer_sent q) (map unnumbered ps)) ≡ true
 sent_any q [] p has is = absurd (omega (arith, has.1))
-sent_any q (x ∷ ps) p (zero, low, same) is = any_left (answer_sent q (plain x)) (flat_map (answer_sent q) (map plain ps))
-    (let P : Packet → Type 0 = λ z. any_answer (answer_sent q (plain z)) ≡ true in subst P (sym same) (answer_one q p is))
-sent_any q (x ∷ ps) p (suc k, low, same) is = any_right (answer_sent q (plain x)) (flat_map (answer_sent q) (map plain ps)) (sent_any q ps p (k, omega (arith, low), same) is)
+sent_any q (x ∷ ps) p (zero, low, same) is = any_left (answer_sent q (unnumbered x)) (flat_map (answer_sent q) (map unnumbered ps))
+    (let P : Packet → Type 0 = λ z. any_answer (answer_sent q (unnumbered z)) ≡ true in subst P (sym same) (answer_one q p is))
+sent_any q (x ∷ ps) p (suc k, low, same) is = any_right (answer_sent q (unnumbered x)) (flat_map (answer_sent q) (map unnumbered ps)) (sent_any q ps p (k, omega (arith, low), same) is)
 
-answered_now : (steps : List Moment) (m : Moment) (ps : List Packet) (q : Asked) (p : Packet) → m.outs ≡ map plain ps → Contains ps p → IsAnswer q.txn q.n p →
+answered_now : (steps : List Moment) (m : Moment) (ps : List Packet) (q : Asked) (p : Packet) → m.outs ≡ map unnumbered ps → Contains ps p → IsAnswer q.txn q.n p →
     is_answered (steps ++ m ∷ []) q ≡ true
 answered_now steps m ps q p outs has is =
     ap any_answer (flat_map-append (λ x. flat_map (answer_told q) x.told ++ flat_map (answer_sent q) x.outs) steps (m ∷ []))
@@ -124,7 +124,7 @@ sent_issue sc h site i to t n op fit traces said = record {
   home = (let P : Input → Type 0 = Suits sc.weights site in let suits : Suits sc.weights site (input.Do t op) = subst P (plain_do i t op said.takes) fit in suits.1);
   present = may.present;
   answered = may.answered;
-  grows = same_issued t (plain_input i) (made_by sc h site i).told (none_refused (place_in sc h site i) (made_by sc h site i).told traces.told)
+  grows = same_issued t (unnumbered_input i) (made_by sc h site i).told (none_refused (place_in sc h site i) (made_by sc h site i).told traces.told)
       ∙ ap (λ j. issued_in t j []) said.takes ∙ one_issued t op;
 }
   where
@@ -188,8 +188,8 @@ do_issues sc h site u op fit traces = by (refuse a u false nothing) refl
     )
 
 issues_of : (sc : Scenario) (h : List Entry) (site : ℕ) (i : Input) (t : Txn) → Suits sc.weights site i → Says (place_in sc h site i) (made_by sc h site i) →
-    (issued_in t (plain_input i) (made_by sc h site i).told ≡ []) ⊎ ((n : ℕ) × (op : Op) × Issue sc h site i (moment_of sc h site i) t n op)
-issues_of sc h site i t fit (inl refuses) = inl (refused_none t (plain_input i) (made_by sc h site i).told refuses.told.0 refuses.told.1 refuses.told.2)
+    (issued_in t (unnumbered_input i) (made_by sc h site i).told ≡ []) ⊎ ((n : ℕ) × (op : Op) × Issue sc h site i (moment_of sc h site i) t n op)
+issues_of sc h site i t fit (inl refuses) = inl (refused_none t (unnumbered_input i) (made_by sc h site i).told refuses.told.0 refuses.told.1 refuses.told.2)
 issues_of sc h site (input.Do u op) t fit (inr traces) = by (same_txn t u) refl
   where
     by : (b : Bool) → same_txn t u ≡ b →

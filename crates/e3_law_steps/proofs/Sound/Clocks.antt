@@ -20,7 +20,7 @@ use Rattle.e3_world.specs.Items.{is_up_at}
 use Rattle.e3_world.specs.Legal.{Guard, IsDue, AreDue, numbered, made_by, entry_of, records_by}
 use Rattle.e3_world.specs.Lives.{present_log, incarnation_of, life_of, life_at, life_by}
 use Rattle.e3_world.specs.Logs.{logged_inc, logged_inc_by}
-use Rattle.e3_world.specs.Moves.{Move, Stepped, Silent, Rose, Past, Tail, own, past_of, past_by, moves_of, moves_of_act, tail_of_act, kept_moves, left_by, log_by, rise_records, open_tail, plain, plain_input}
+use Rattle.e3_world.specs.Moves.{Move, Stepped, Silent, Rose, Past, Tail, own, past_of, past_by, moves_of, moves_of_act, tail_of_act, kept_moves, left_by, log_by, rise_records, open_tail, unnumbered, unnumbered_input}
 use Rattle.e3_world.specs.Packets.{sent}
 use Rattle.e3_world.specs.Progress.{up_behind}
 use Rattle.e3_world.proofs.Pushes.{past_push, incarnation_push, life_push, log_push}
@@ -73,7 +73,7 @@ pub record Advances (w : Past) (up : Bool) (v : Past) (next : Bool) (more : List
 -- the step of an act
 abbrev pub moments_of : Past → Act → List Moment
 moments_of w (Step i records outs events) =
-    record { before = (life_at w.moves).log; input = plain_input i; records = records; outs = map plain outs; told = events } ∷ []
+    record { before = (life_at w.moves).log; input = unnumbered_input i; records = records; outs = map unnumbered outs; told = events } ∷ []
 moments_of w _ = []
 
 -- both
@@ -179,7 +179,7 @@ fallen sc site w inputs records why up was all = record {
   clocked = record {
     same = λ is. absurd cc;
     shut = λ is. absurd cc;
-    tail = left_clock (log_by (w.moves ++ [])) why (map plain_input inputs) records (let now : _ = inc_more (log_by (w.moves ++ [])) records all in omega (arith, now));
+    tail = left_clock (log_by (w.moves ++ [])) why (map unnumbered_input inputs) records (let now : _ = inc_more (log_by (w.moves ++ [])) records all in omega (arith, now));
   };
   advances = record { logs = (let same : _ = ap (λ l. logged_inc (log_by l)) (append-nil w.moves) in omega (arith, same)); lives = λ is. absurd cc };
 }
@@ -249,7 +249,7 @@ by_owner sc h e s was mine = by (e.owner == s) refl
 pub stepped_inc : (sc : Scenario) (h : List Entry) (site : ℕ) (i : Input) → (life_at (moves_of sc (h ++ entry_of sc h site i ∷ []) site)).inc ≡ (life_at (moves_of sc h site)).inc
 stepped_inc sc h site i =
     let w : Past = past_of sc site (own site h) in
-    let st : SiteStep = record { input = plain_input i; records = (made_by sc h site i).records; outs = map plain (numbered (suc (length (sent h))) (made_by sc h site i).outs); told = (made_by sc h site i).told } in
+    let st : SiteStep = record { input = unnumbered_input i; records = (made_by sc h site i).records; outs = map unnumbered (numbered (suc (length (sent h))) (made_by sc h site i).outs); told = (made_by sc h site i).told } in
     ap (λ p. (life_at p.moves).inc) (ap (past_of sc site) (own_same site h (entry_of sc h site i) (eq-eqb site site refl)) ∙ past_push sc site (own site h) (entry_of sc h site i))
     ∙ ap (λ x. (life_of x).inc) (incarnation_push w.moves (record { site = site; did = Stepped st })) ∙ ap (λ l. l.inc) (life_push (incarnation_of w.moves) st)
 

@@ -16,7 +16,7 @@ use Rattle.e3_world.specs.Given.{IsGiven}
 use Rattle.e3_world.specs.Items.{is_up_at, began_in}
 use Rattle.e3_world.specs.Legal.{Guard, IsLegal, LegalAfter, IsDue, made_by, entry_of}
 use Rattle.e3_world.specs.Logs.{logged_inc}
-use Rattle.e3_world.specs.Moves.{Tail, own, past_of, moves_of_act, kept_moves, log_of, open_tail, plain_input, trail_of}
+use Rattle.e3_world.specs.Moves.{Tail, own, past_of, moves_of_act, kept_moves, log_of, open_tail, unnumbered_input, trail_of}
 use Rattle.e3_world.specs.Sound.{tells}
 use Rattle.e3_world.specs.Steps.{is_begin}
 use Rattle.e3_law_steps.specs.Trails.{begun_by, DifferInName, AllDiffer}
@@ -116,19 +116,19 @@ named_more sc h site sites given lasts up due was =
         omega (arith, few, seq)
 
 -- a step that takes no begin tells none
-none_began : (sc : Scenario) (h : List Entry) (site : ℕ) (i : Input) (l : List Told) → ((sites : List ℕ) → plain_input i ≡ input.Begin sites → ⊥) →
+none_began : (sc : Scenario) (h : List Entry) (site : ℕ) (i : Input) (l : List Told) → ((sites : List ℕ) → unnumbered_input i ≡ input.Begin sites → ⊥) →
     Each (Tells (place_in sc h site i)) l → flat_map began_in l ≡ []
 none_began sc h site i [] not all = refl
 none_began sc h site i (told.Began t ∷ l) not all = absurd (not all.0.0 all.0.1)
 none_began sc h site i (e ∷ l) not all = none_began sc h site i l not all.1
 
-said_none : (sc : Scenario) (h : List Entry) (site : ℕ) (i : Input) → ((sites : List ℕ) → plain_input i ≡ input.Begin sites → ⊥) → Says (place_in sc h site i) (made_by sc h site i) →
+said_none : (sc : Scenario) (h : List Entry) (site : ℕ) (i : Input) → ((sites : List ℕ) → unnumbered_input i ≡ input.Begin sites → ⊥) → Says (place_in sc h site i) (made_by sc h site i) →
     flat_map began_in (made_by sc h site i).told ++ [] ≡ []
 said_none sc h site i not (inl refuses) = ap (λ l. flat_map began_in l ++ []) refuses.told.2
 said_none sc h site i not (inr traces) = ap (λ l. l ++ []) (none_began sc h site i (made_by sc h site i).told not traces.told)
 
 named_step : (sc : Scenario) (h : List Entry) (site : ℕ) (i : Input) → IsGiven sc → Lasts sc h → is_up_at h site ≡ true → IsDue sc h site i →
-    ((sites : List ℕ) → plain_input i ≡ input.Begin sites → ⊥) →
+    ((sites : List ℕ) → unnumbered_input i ≡ input.Begin sites → ⊥) →
     Named sc h (begun_by (trail_of sc h)) → Named sc (h ++ entry_of sc h site i ∷ []) (begun_by (trail_of sc (h ++ entry_of sc h site i ∷ [])))
 named_step sc h site i given lasts up due not was = named_same sc h (entry_of sc h site i)
     (step_advance sc h site i given up due lasts.holds lasts.fresh.clocks) (said_none sc h site i not (due_says sc h site i given due lasts.holds)) was

@@ -21,7 +21,7 @@ use Rattle.e3_world.specs.Items.{is_up_at}
 use Rattle.e3_world.specs.Legal.{Guard, IsLegal, LegalAfter, IsDue, AreDue, IsRise, made_by, entry_of, records_by}
 use Rattle.e3_world.specs.Lives.{life_at}
 use Rattle.e3_world.specs.Logs.{logged_inc}
-use Rattle.e3_world.specs.Moves.{Move, Silent, Tail, own, moves_at, past_of, moves_of, moves_of_act, tail_of_act, kept_moves, left_by, log_by, open_tail, recorded, rise_records, plain, plain_input, trail_after, trail_of}
+use Rattle.e3_world.specs.Moves.{Move, Silent, Tail, own, moves_at, past_of, moves_of, moves_of_act, tail_of_act, kept_moves, left_by, log_by, open_tail, recorded, rise_records, unnumbered, unnumbered_input, trail_after, trail_of}
 use Rattle.e3_world.specs.Packets.{sent}
 use Rattle.e3_world.specs.Sound.{Fits, WasSent, sends, step_move, has_risen, FitInTurn, records_in_turn, IsSoundRise, IsSoundMove, SoundAfter, IsSound}
 use Rattle.e3_world.proofs.InTrail.{pending_sent, due_was_sent}
@@ -105,12 +105,12 @@ sent_later before more (input.Deliver p) has = let P : List Packet → Type 0 = 
 sent_later before more i has = tt
 
 -- the number of a packet does not matter
-fits_plain : (weights : List ℕ) (site : ℕ) (life : Life) (i : Input) → Fits weights site life i → Fits weights site life (plain_input i)
+fits_plain : (weights : List ℕ) (site : ℕ) (life : Life) (i : Input) → Fits weights site life i → Fits weights site life (unnumbered_input i)
 fits_plain weights site life (input.Deliver p) fit = record { among = fit.among; to = fit.to; sender = fit.sender; message = fit.message }
 fits_plain weights site life i fit = fit
 
 -- a step's move
-was_sent : (sc : Scenario) (h : List Entry) (site : ℕ) (i : Input) → IsDue sc h site i → WasSent (trail_of sc h) (plain_input i)
+was_sent : (sc : Scenario) (h : List Entry) (site : ℕ) (i : Input) → IsDue sc h site i → WasSent (trail_of sc h) (unnumbered_input i)
 was_sent sc h site (input.Deliver p) due = due_was_sent sc h site p due
 was_sent sc h site i due = tt
 
@@ -118,7 +118,7 @@ step_sound : (sc : Scenario) (h : List Entry) (site : ℕ) (i : Input) → IsGiv
     IsSoundMove sc (trail_of sc h) (step_move sc site (moves_of sc h site) i)
 step_sound sc h site i given was up due =
     let P : List Move → Type 0 = λ l. has_risen l ≡ true in
-    let Q : List Move → Type 0 = λ l. Fits sc.weights site (life_at l) (plain_input i) in
+    let Q : List Move → Type 0 = λ l. Fits sc.weights site (life_at l) (unnumbered_input i) in
     record {
       risen = subst P (sym (trail_moves sc site h)) (up_risen sc site (own site h) up);
       fits = subst Q (sym (trail_moves sc site h)) (fits_plain sc.weights site (life_at (moves_of sc h site)) i (due_fits sc h site i given was up due));
@@ -127,26 +127,26 @@ step_sound sc h site i given was up due =
     }
 
 -- a packet that was sent was sent by a move of the trail
-contains_plain : (xs : List Packet) (x : Packet) → Contains xs x → Contains (map plain xs) (plain x)
+contains_plain : (xs : List Packet) (x : Packet) → Contains xs x → Contains (map unnumbered xs) (unnumbered x)
 contains_plain [] x has = absurd (omega (arith, has.1))
-contains_plain (y ∷ ys) x (zero, low, is) = (0, omega arith, ap (λ z. plain z) is)
-contains_plain (y ∷ ys) x (suc k, low, is) = Contains-append_right (plain y ∷ []) (map plain ys) (plain x) (contains_plain ys x (k, omega (arith, low), is))
+contains_plain (y ∷ ys) x (zero, low, is) = (0, omega arith, ap (λ z. unnumbered z) is)
+contains_plain (y ∷ ys) x (suc k, low, is) = Contains-append_right (unnumbered y ∷ []) (map unnumbered ys) (unnumbered x) (contains_plain ys x (k, omega (arith, low), is))
 
 -- what was sent up to here, but for what the site sends in the steps of its fall
 abbrev SentBefore : List Entry → List Entry → ℕ → Type 0
 SentBefore h k site = (p : Packet) → Contains (sent k) p → Contains (sent h) p ⊎ (p.«from» ≡ site)
 
-fall_sent : (sc : Scenario) (h k : List Entry) (site : ℕ) (i : Input) → SentBefore h k site → Suits sc.weights site i → IsDue sc k site i → WasSent (trail_of sc h) (plain_input i)
+fall_sent : (sc : Scenario) (h k : List Entry) (site : ℕ) (i : Input) → SentBefore h k site → Suits sc.weights site i → IsDue sc k site i → WasSent (trail_of sc h) (unnumbered_input i)
 fall_sent sc h k site (input.Deliver p) old fit due = elim (old p (pending_sent sc k p due.is_pending)) [
-  | inl has ↦ (let P : List Packet → Type 0 = λ l. Contains l (plain p) in subst P (sym (trail_sends sc h)) (contains_plain (sent h) p has))
+  | inl has ↦ (let P : List Packet → Type 0 = λ l. Contains l (unnumbered p) in subst P (sym (trail_sends sc h)) (contains_plain (sent h) p has))
   | inr own ↦ absurd (eqb-false p.«from» site fit.1 own)
 ]
 fall_sent sc h k site i old fit due = tt
 
 -- the inputs of a fall fit in turn, and make its records
 record FallsWell (sc : Scenario) (h : List Entry) (site : ℕ) (mine : List Move) (inputs : List Input) (records : List Record) : Type 0 where
-  pub fits : FitInTurn sc (trail_of sc h) site mine (map plain_input inputs)
-  pub made : records ≡ records_in_turn sc site mine (map plain_input inputs)
+  pub fits : FitInTurn sc (trail_of sc h) site mine (map unnumbered_input inputs)
+  pub made : records ≡ records_in_turn sc site mine (map unnumbered_input inputs)
 
 fall_well : (sc : Scenario) (inputs : List Input) (h k : List Entry) (site : ℕ) → IsGiven sc → Lasts sc k → SentBefore h k site → is_up_at k site ≡ true → AreDue sc k site inputs →
     FallsWell sc h site (moves_of sc k site) inputs (records_by sc k site inputs)
@@ -160,18 +160,18 @@ fall_well sc (i ∷ inputs) h k site given was old up due =
       | inl before ↦ old p before
       | inr new ↦ inr new.own
     ]) (facts.ups site ∙ up) due.1 in
-    let same : moves_of sc (k ++ entry_of sc k site i ∷ []) site ≡ moves_of sc k site ++ step_move sc site (moves_of sc k site) (plain_input i) ∷ [] =
+    let same : moves_of sc (k ++ entry_of sc k site i ∷ []) site ≡ moves_of sc k site ++ step_move sc site (moves_of sc k site) (unnumbered_input i) ∷ [] =
     moves_on sc k site i ∙ ap (λ m. moves_of sc k site ++ m ∷ []) (sym (step_move_plain sc site (moves_of sc k site) i)) in
-    let P : List Move → Type 0 = λ l. FitInTurn sc (trail_of sc h) site l (map plain_input inputs) in
+    let P : List Move → Type 0 = λ l. FitInTurn sc (trail_of sc h) site l (map unnumbered_input inputs) in
     record {
       fits = (fits_plain sc.weights site (life_at (moves_of sc k site)) i (due_fits sc k site i given was up due.0), fall_sent sc h k site i old fit due.0, subst P same more.fits);
-      made = ap (λ l. (made_by sc k site i).records ++ l) (more.made ∙ ap (λ l. records_in_turn sc site l (map plain_input inputs)) same)
-          ∙ ap (λ m. recorded m ++ records_in_turn sc site (moves_of sc k site ++ step_move sc site (moves_of sc k site) (plain_input i) ∷ []) (map plain_input inputs))
+      made = ap (λ l. (made_by sc k site i).records ++ l) (more.made ∙ ap (λ l. records_in_turn sc site l (map unnumbered_input inputs)) same)
+          ∙ ap (λ m. recorded m ++ records_in_turn sc site (moves_of sc k site ++ step_move sc site (moves_of sc k site) (unnumbered_input i) ∷ []) (map unnumbered_input inputs))
           (sym (step_move_plain sc site (moves_of sc k site) i));
     }
 
 fall_move : (sc : Scenario) (h : List Entry) (site : ℕ) (inputs : List Input) (records : List Record) → has_risen (moves_at site (trail_of sc h)) ≡ true → (records ≡ [] → ⊥) →
-    FallsWell sc h site (moves_at site (trail_of sc h)) inputs records → IsSoundMove sc (trail_of sc h) (record { site = site; did = Silent (map plain_input inputs) records })
+    FallsWell sc h site (moves_at site (trail_of sc h)) inputs records → IsSoundMove sc (trail_of sc h) (record { site = site; did = Silent (map unnumbered_input inputs) records })
 fall_move sc h site [] records risen some well = absurd (some well.made)
 fall_move sc h site (i ∷ inputs) records risen some well = record { risen = risen; fits = well.fits; made = well.made }
 
@@ -181,12 +181,12 @@ fall_left sc trail site inputs records Fault is = is
 fall_left sc trail site inputs records why is = tt
 
 fall_tail : (sc : Scenario) (h : List Entry) (site : ℕ) (inputs : List Input) (records : List Record) (why : Why) → IsGiven sc → Lasts sc h → is_up_at h site ≡ true →
-    AreDue sc h site inputs → (records ≡ [] → ⊥) → records ≡ records_by sc h site inputs → TailSound sc (trail_of sc h) site (left_by why (map plain_input inputs) records)
+    AreDue sc h site inputs → (records ≡ [] → ⊥) → records ≡ records_by sc h site inputs → TailSound sc (trail_of sc h) site (left_by why (map unnumbered_input inputs) records)
 fall_tail sc h site inputs records why given was up due some made =
     let P : List Move → Type 0 = λ l. has_risen l ≡ true in
     let Q : List Move → Type 0 = λ l. FallsWell sc h site l inputs records in
     let R : List Record → Type 0 = FallsWell sc h site (moves_of sc h site) inputs in
-    fall_left sc (trail_of sc h) site (map plain_input inputs) records why
+    fall_left sc (trail_of sc h) site (map unnumbered_input inputs) records why
     (fall_move sc h site inputs records (subst P (sym (trail_moves sc site h)) (up_risen sc site (own site h) up)) some
     (subst Q (sym (trail_moves sc site h)) (subst R (sym made) (fall_well sc inputs h h site given was (λ p has. inl has) up due))))
 
@@ -246,7 +246,7 @@ guard_sound sc h (suc s) (Step i records outs events) given was trail guard =
     subst P (sym guard.made) (entry_sound sc h (suc s) i given was guard.up guard.due)
 guard_sound sc h (suc s) (Fall inputs records why) given was trail guard = record {
   moves = tt;
-  tail = quiet_sound sc h (suc s) (left_by why (map plain_input inputs) records) (fall_tail sc h (suc s) inputs records why given was guard.up guard.due guard.some guard.made);
+  tail = quiet_sound sc h (suc s) (left_by why (map unnumbered_input inputs) records) (fall_tail sc h (suc s) inputs records why given was guard.up guard.due guard.some guard.made);
 }
 guard_sound sc h (suc s) Cut given was trail guard = record { moves = tt; tail = quiet_sound sc h (suc s) (open_tail sc h (suc s)) (trail.tails (suc s)) }
 guard_sound sc h (suc s) (Rise kept inc) given was trail guard = record {

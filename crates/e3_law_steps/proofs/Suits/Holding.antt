@@ -17,10 +17,10 @@ use Rattle.e3_world.specs.declared.lives.Moment.{Moment}
 use Rattle.e3_world.specs.declared.lives.SiteStep.{SiteStep}
 use Rattle.e3_world.specs.declared.names.Binding.{Binding}
 use Rattle.e3_world.specs.Given.{IsGiven}
-use Rattle.e3_world.specs.Items.{Split, split_by, to_line, inputs_of, inputs_at, is_up_at, binding_by}
+use Rattle.e3_world.specs.Items.{AroundLine, around_by, to_line, inputs_of, inputs_at, is_up_at, binding_by}
 use Rattle.e3_world.specs.Legal.{Guard, IsLegal, LegalAfter, IsDue, AreDue, numbered, made_by, entry_of, records_by}
 use Rattle.e3_world.specs.Lives.{present_log, incarnation_of, life_of, life_at, life_by}
-use Rattle.e3_world.specs.Moves.{Move, Did, Stepped, Silent, Rose, Past, Tail, own, past_of, past_by, moves_of, moves_of_act, tail_of_act, kept_moves, left_by, log_by, rise_records, plain, plain_input}
+use Rattle.e3_world.specs.Moves.{Move, Did, Stepped, Silent, Rose, Past, Tail, own, past_of, past_by, moves_of, moves_of_act, tail_of_act, kept_moves, left_by, log_by, rise_records, unnumbered, unnumbered_input}
 use Rattle.e3_world.specs.Packets.{sent, outs_of, is_line, lines, present_items}
 use Rattle.e3_world.specs.Progress.{up_behind}
 use Rattle.e3_world.proofs.Guards.{lines_push}
@@ -121,7 +121,7 @@ fall_past : (sc : Scenario) (site : ℕ) (w : Past) (inputs : List Input) (recor
     Each (SuitsLog sc.weights site) records → SiteSuits sc.weights site (past_by sc site w (record { owner = site; act = Fall inputs records why }))
 fall_past sc site w inputs records why was all = record {
   life = let P : List Move → Type 0 = λ l. LifeSuits sc.weights site (life_at l) in subst P (sym (append-nil w.moves)) was.life;
-  tail = left_suits sc.weights site why (map plain_input inputs) records all;
+  tail = left_suits sc.weights site why (map unnumbered_input inputs) records all;
 }
 
 -- an act that makes no move and leaves the tail
@@ -161,7 +161,7 @@ step_holds sc h site i given up due was = record {
         subst P (sym (sent_push h (entry_of sc h site i))) (each-append (GoesBetween sc.weights) (sent h) _ was.now.sent (numbered_go sc.weights site _ made.outs keeps.outs));
     sites = sites_push sc h site (entry_of sc h site i).act was.now.sites (record {
       life = life_stepped sc.weights site (moves_of sc h site)
-          (record { input = plain_input i; records = made.records; outs = map plain (numbered (suc (length (sent h))) made.outs); told = made.told })
+          (record { input = unnumbered_input i; records = made.records; outs = map unnumbered (numbered (suc (length (sent h))) made.outs); told = made.told })
           (was.now.sites site).life (suits_plain sc.weights site i fit) keeps.told keeps.records;
       tail = (was.now.sites site).tail;
     });
@@ -192,11 +192,11 @@ fall_records sc (i ∷ inputs) h site given up due was =
     (step_holds sc h site i given up due.0 was))
 
 -- a history in two
-pub split_from : (w : Split) (h : List Entry) → (fold split_by w h).to ++ (fold split_by w h).since ≡ (w.to ++ w.since) ++ h
+pub split_from : (w : AroundLine) (h : List Entry) → (fold around_by w h).to ++ (fold around_by w h).since ≡ (w.to ++ w.since) ++ h
 split_from w [] = sym (append-nil (w.to ++ w.since))
-split_from w (e ∷ h) = split_from (split_by w e) h ∙ ap (λ l. l ++ h) (by (is_line e) refl) ∙ append_assoc (w.to ++ w.since) (e ∷ []) h
+split_from w (e ∷ h) = split_from (around_by w e) h ∙ ap (λ l. l ++ h) (by (is_line e) refl) ∙ append_assoc (w.to ++ w.since) (e ∷ []) h
   where
-    by : (b : Bool) → is_line e ≡ b → (split_by w e).to ++ (split_by w e).since ≡ (w.to ++ w.since) ++ e ∷ []
+    by : (b : Bool) → is_line e ≡ b → (around_by w e).to ++ (around_by w e).since ≡ (w.to ++ w.since) ++ e ∷ []
     by true is = rw is (append-nil ((w.to ++ w.since) ++ e ∷ []))
     by false is = rw is (sym (append_assoc w.to w.since (e ∷ [])))
 

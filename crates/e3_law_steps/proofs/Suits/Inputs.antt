@@ -11,7 +11,7 @@ use Rattle.e3_world.specs.declared.lives.At.{At}
 use Rattle.e3_world.specs.declared.lives.Incarnation.{Incarnation}
 use Rattle.e3_world.specs.Lives.{life_of}
 use Rattle.e3_world.specs.Logs.{key_of}
-use Rattle.e3_world.specs.Moves.{plain_input}
+use Rattle.e3_world.specs.Moves.{unnumbered_input}
 use Rattle.e3_world.specs.Operations.{expected, issued}
 use Rattle.e3_world.specs.Sound.{txn_in}
 use Rattle.e3_world.specs.Steps.{step_of}
@@ -51,13 +51,13 @@ takes a (input.Expire t) fit ready = (allows a t fit ready, aborts a t fit)
 takes a (input.Elect t group) fit ready = (allows a t fit.0 ready, casts a (msg.Ask t (next_election a t group).call) group fit.0 fit.2 (λ s. tt), joins a t (next_election a t group) fit.0 fit.2)
 takes a (input.Deliver p) fit ready = (allows a (txn_in p.msg) fit.2.among ready, hears a p.«from» p.msg fit.2 ready)
 
-pub suits_plain : (weights : List ℕ) (site : ℕ) (i : Input) → Suits weights site i → Suits weights site (plain_input i)
+pub suits_plain : (weights : List ℕ) (site : ℕ) (i : Input) → Suits weights site i → Suits weights site (unnumbered_input i)
 suits_plain weights site (input.Deliver p) fit = fit
 suits_plain weights site i fit = fit
 
 -- the place of a step
 abbrev pub place : List ℕ → ℕ → Incarnation → Input → At
-place weights site now i = record { weights = weights; site = site; life = life_of now; input = plain_input i }
+place weights site now i = record { weights = weights; site = site; life = life_of now; input = unnumbered_input i }
 
 pub step_keeps : (weights : List ℕ) (site : ℕ) (now : Incarnation) (i : Input) → AllSuit weights site (life_of now).steps → Suits weights site i →
     Keeps (place weights site now i) (step_of weights site now i)

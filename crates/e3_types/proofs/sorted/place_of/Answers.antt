@@ -3,8 +3,8 @@ use Rattle.std.proofs.Common.{rules, ◌≡◌, ℕ, ◌+◌, ◌-◌, ◌<◌, 
 use Rattle.std.specs.Ordering.{nat_cmp}
 use Rattle.std.specs.declared.cmp.Ordering.TheVariants.{Less, Equal, Greater}
 use Rattle.std.specs.Cmp.Lexicographic.{slice_cmp}
-use Rattle.e3_sorted.proofs.Ascending.{lower, upper, found}
-use Rattle.e3_sorted.proofs.sorted.place_of.Goals as goal
+use Rattle.e3_types.proofs.Ascending.{lower, upper, found}
+use Rattle.e3_types.proofs.sorted.place_of.Goals as goal
 
 pub halves-preserved-in-Less : goal.halves-preserved-in-Less
 halves-preserved-in-Less g c =

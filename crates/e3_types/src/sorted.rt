@@ -1,8 +1,8 @@
 // The search by halving.
 ghost use Rattle.std.specs.Prelude.{◌≡◌, ℕ, List, MatchResult};
-ghost use Rattle.e3_sorted.specs.Sorted.{IsAscending, IsAt, IsGap};
+ghost use Rattle.e3_types.specs.Sorted.{IsAscending, IsAt, IsGap};
 
-use e3_types::{Name, Row};
+use crate::{Name, Row};
 use std::cmp::Ordering;
 
 /// An item with a name.

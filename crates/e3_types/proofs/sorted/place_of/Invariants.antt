@@ -1,7 +1,7 @@
 -- what stands before the one end comes before the name, what stands behind the other end behind it
 use Rattle.std.proofs.Common.{◌≤◌, ◌-◌, length, take, drop}
-use Rattle.e3_sorted.specs.Sorted.{AreUnder, AreOver}
-use Rattle.e3_sorted.proofs.sorted.place_of.Given as goal
+use Rattle.e3_types.specs.Sorted.{AreUnder, AreOver}
+use Rattle.e3_types.proofs.sorted.place_of.Given as goal
 
 abbrev pub invariant-halves : goal.invariant-halves
 invariant-halves g l = record {

@@ -7,8 +7,8 @@ use Rattle.std.proofs.Common.{ap, sym, subst, ◌∙◌, get_or, drop-cons, arit
 use Rattle.std.proofs.lemmas.Cmp.{tied_itself}
 use Rattle.std.proofs.lemmas.Map.Lookups.{exact_bytes}
 use Rattle.std.proofs.lemmas.List.{length-take-le, take_more}
-use Rattle.e3_sorted.specs.Sorted.{IsUnder, AreUnder, AreOver, IsAscending, IsAt, IsGap}
-use Rattle.e3_sorted.proofs.Edits.{at_place, gap_place}
+use Rattle.e3_types.specs.Sorted.{IsUnder, AreUnder, AreOver, IsAscending, IsAt, IsGap}
+use Rattle.e3_types.proofs.Edits.{at_place, gap_place}
 
 pub turned : (n m : List ℕ) → slice_cmp nat_cmp n m ≡ Greater → IsUnder m n
 turned n m e = let t = nat_list_cmp_total.antisymm m n in t ∙ ap ordering_reverse e
