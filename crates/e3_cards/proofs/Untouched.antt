@@ -30,7 +30,6 @@ use Rattle.e3_world.specs.Elections.{is_decision, is_join, tells_verdict}
 use Rattle.e3_world.specs.Operations.{issued_in, reason_in}
 use Rattle.e3_world.specs.Rounds.{round_by, round_by_record}
 use Rattle.e3_world.specs.Sound.{txn_in}
-use Rattle.e3_world.specs.Votes.{yes_by}
 use Rattle.e3_readings.proofs.Tests.{none_left, none_right}
 use Rattle.e3_cards.specs.declared.card.Card.{Card}
 use Rattle.e3_cards.specs.declared.card.Counted.{Counted}
@@ -38,6 +37,7 @@ use Rattle.e3_cards.specs.declared.seen.Seen.{Seen}
 use Rattle.e3_cards.specs.Arriving.{came_by, taken_now, heard_in, heard_told, heard_sent}
 use Rattle.e3_cards.specs.Cards.{card_by, moment_of, moment_with}
 use Rattle.e3_cards.specs.Electing.{election_now, election_upon, election_behind, election_taking}
+use Rattle.e3_cards.specs.Gathering.{votes_by}
 use Rattle.e3_cards.specs.Issued.{number_told, counted_in}
 use Rattle.e3_cards.specs.Seeing.{seen_by}
 use Rattle.e3_cards.specs.Tables.{txn_key, key_cmp, IsKnown, named, input_txns, record_txns, told_txns, sent_txns}
@@ -123,16 +123,16 @@ reason_one t (told.Died u older) e = rw (none_left (same_txn t u) false e) refl
 reason_one t (told.Doomed u site had now) e = rw (none_left (same_txn t u) false e) refl
 reason_one t _ e = refl
 
-yes_one : (t : Txn) (was : Option (List ℕ)) (s : SiteStep) → list_any (same_txn t) (input_txns s.input) ≡ false → yes_by t was (moment_with s.input s.told) ≡ was
-yes_one t was s e = by s.input e
+votes_one : (site : ℕ) (t : Txn) (was : Option (List ℕ)) (s : SiteStep) → list_any (same_txn t) (input_txns s.input) ≡ false → votes_by site t was (moment_with s.input s.told) ≡ was
+votes_one site t was s e = by s.input e
   where
     by_msg : (packet : Packet) (k : Message) → list_any (same_txn t) (input_txns (input.Deliver (record packet { msg = k }))) ≡ false
-        → yes_by t was (moment_with (input.Deliver (record packet { msg = k })) s.told) ≡ was
+        → votes_by site t was (moment_with (input.Deliver (record packet { msg = k })) s.told) ≡ was
     by_msg packet (msg.Vote u true) e = rw (none_left (same_txn t u) false e) refl
     by_msg packet (msg.Vote u false) e = refl
     by_msg packet _ e = refl
 
-    by : (i : Input) → list_any (same_txn t) (input_txns i) ≡ false → yes_by t was (moment_with i s.told) ≡ was
+    by : (i : Input) → list_any (same_txn t) (input_txns i) ≡ false → votes_by site t was (moment_with i s.told) ≡ was
     by (input.Commit u) e = rw (none_left (same_txn t u) false e) refl
     by (input.Deliver packet) e = by_msg packet packet.msg e
     by _ e = refl
@@ -246,7 +246,7 @@ untouched site call t c s e =
     let events : flat_map (heard_told t) s.told ≡ [] = none_flat (same_txn t) (heard_told t) told_txns (told_one t) s.told of_told in
     let packets : flat_map (heard_sent t) s.outs ≡ [] = none_flat (same_txn t) (heard_sent t) sent_txns (sent_one t) s.outs of_outs in
     let heard : c.heard ++ heard_in t s.told s.outs ≡ c.heard = rw (events, packets) (append-nil c.heard) in
-    let yes = yes_one t c.yes s of_input in
+    let votes = votes_one site t c.votes s of_input in
     let election = election_one site call t c.seen c.election s of_input of_records of_told in
     let rounds = rounds_one site t c.rounds s of_input of_records in
     λ i. record {
@@ -257,7 +257,7 @@ untouched site call t c s e =
       reasons = why i;
       came = came i;
       heard = heard i;
-      yes = yes i;
+      votes = votes i;
       election = election i;
       rounds = rounds i;
     }

@@ -13,12 +13,13 @@ use Rattle.e3_world.specs.declared.lives.SiteStep.{SiteStep}
 use Rattle.e3_world.specs.Elections.{election_in_progress}
 use Rattle.e3_world.specs.Operations.{issued, issued_in, kept_reason, reason_in}
 use Rattle.e3_world.specs.Rounds.{round_by}
-use Rattle.e3_world.specs.Votes.{yes_by, yes_votes}
+use Rattle.e3_world.specs.Votes.{yes_votes}
 use Rattle.e3_cards.specs.declared.card.Card.{Card}
 use Rattle.e3_cards.specs.Seeing.{seen_of, seen_by, unseen}
 use Rattle.e3_cards.specs.Issued.{numbers_told, number_told, counted_of, counted_in}
 use Rattle.e3_cards.specs.Arriving.{came_of, came_by, heard_of, heard_in, taken_now}
 use Rattle.e3_cards.specs.Electing.{election_now}
+use Rattle.e3_cards.specs.Gathering.{missing_yes, votes_by}
 
 -- the group and the round of a transaction at a site
 abbrev pub rounds_of : ℕ → Txn → List Moment → Rounds
@@ -34,7 +35,7 @@ card_of site t life = record {
   reasons = kept_reason t life.steps;
   came = came_of site t life.steps;
   heard = heard_of t life.steps;
-  yes = yes_votes t life.steps;
+  votes = missing_yes site t (yes_votes t life.steps);
   election = election_in_progress site life.inc t life.steps;
   rounds = rounds_of site t life.steps;
 }
@@ -49,7 +50,7 @@ blank = record {
   reasons = [];
   came = [];
   heard = [];
-  yes = None;
+  votes = None;
   election = None;
   rounds = record { group = []; now = None };
 }
@@ -72,7 +73,7 @@ card_by site call t was s = record {
   reasons = was.reasons ++ flat_map (reason_in t) s.told;
   came = came_by was.seen was.came (taken_now site t was.issued s.input s.told);
   heard = was.heard ++ heard_in t s.told s.outs;
-  yes = yes_by t was.yes (moment_with s.input s.told);
+  votes = votes_by site t was.votes (moment_with s.input s.told);
   election = election_now site call t was.seen was.election s;
   rounds = round_by site t was.rounds (moment_of s);
 }

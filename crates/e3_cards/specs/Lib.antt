@@ -2,6 +2,7 @@ pub mod Seeing
 pub mod Issued
 pub mod Arriving
 pub mod Electing
+pub mod Gathering
 pub mod Cards
 pub mod Tables
 pub mod Readings

@@ -3,6 +3,7 @@ ghost use Rattle.std.specs.Prelude.{◌≡◌};
 ghost use Rattle.e3_cards.specs.Cards.{blank};
 
 use crate::seen::{Seen, unseen};
+use e3_commit::Votes;
 use e3_types::{Answer, List, Op, Refusal, SiteSet, Txn};
 use e3_world::{Asked, Election, Rounds};
 use std::alloc::Global;
@@ -22,8 +23,8 @@ pub struct Counted {
 }
 
 /// All that is kept of a transaction. Of the log: `seen`. At its coordinator: the operations issued, the numbers of those
-/// whose answers were told, the answers of other sites that count, the reasons told in place of an end, and the sites whose
-/// yes came. At any site: the operations that came while it was in q, in the order of arrival, the answers that were told
+/// whose answers were told, the answers of other sites that count, the reasons told in place of an end, and the votes that
+/// are gathered. At any site: the operations that came while it was in q, in the order of arrival, the answers that were told
 /// or sent, the election in progress, and the last group with the round in progress.
 #[derive(Drop)]
 pub struct Card {
@@ -34,7 +35,7 @@ pub struct Card {
     pub reasons: List<Refusal>,
     pub came: List<Asked>,
     pub heard: List<Heard>,
-    pub yes: Option<List<u32>>,
+    pub votes: Option<Votes>,
     pub election: Option<Election>,
     pub rounds: Rounds,
 }
@@ -58,7 +59,7 @@ pub fn blank(alloc: Global) -> Card
         reasons: List::new(alloc),
         came: List::new(alloc),
         heard: List::new(alloc),
-        yes: None,
+        votes: None,
         election: None,
         rounds: Rounds {
             group: SiteSet::empty(),

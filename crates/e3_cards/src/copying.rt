@@ -54,19 +54,6 @@ pub(crate) fn copy_heard(alloc: Global, heard: &[Heard]) -> Result<List<Heard>, 
     Ok(out)
 }
 
-/// A copy of the sites whose yes came.
-pub(crate) fn copy_yes(
-    alloc: Global,
-    yes: &Option<List<u32>>,
-) -> Result<Option<List<u32>>, NoMemory>
-    ensures { IfOk result (λ out. out ≡ yes.now) }
-{
-    match yes {
-        Some(sites) => Ok(Some(copy_all(alloc, sites.as_slice())?)),
-        None => Ok(None),
-    }
-}
-
 fn copy_started(alloc: Global, e: &Election) -> Result<Election, NoMemory>
     ensures { IfOk result (λ out. out ≡ e.now) }
 {
@@ -143,12 +130,12 @@ fn copy_arrived(alloc: Global, card: &Card, out: &mut Card) -> Result<(), NoMemo
 // The votes, the election and the round in progress are those of the card.
 fn copy_gathered(alloc: Global, card: &Card, out: &mut Card) -> Result<(), NoMemory>
     ensures { IfOk result (λ u. out.new ≡ record out.old {
-      yes = card.now.yes;
+      votes = card.now.votes;
       election = card.now.election;
       rounds = card.now.rounds;
     }) }
 {
-    out.yes = copy_yes(alloc, &card.yes)?;
+    out.votes = card.votes;
     out.election = copy_election(alloc, &card.election)?;
     out.rounds = Rounds {
         group: card.rounds.group,

@@ -13,6 +13,16 @@ use e3_types::{Call, Input, Message, NoMemory, Packet, Record, SiteReport, SiteS
 use e3_world::{Election, SiteStep};
 use std::alloc::Global;
 
+// A transaction at a site, with what was seen of it before a step, and the records of the step.
+#[derive(Drop)]
+struct Electing<'a> {
+    alloc: Global,
+    site: u32,
+    t: &'a Txn,
+    seen: &'a Seen,
+    records: &'a [Record],
+}
+
 fn own_report(site: u32, seen: &Seen) -> SiteReport
     ensures { result ≡ record { site = site; state = seen_state seen.now; attempt = seen.now.attempt } }
 {
@@ -23,40 +33,30 @@ fn own_report(site: u32, seen: &Seen) -> SiteReport
     }
 }
 
-fn heard_all(
-    alloc: Global,
-    site: u32,
-    t: &Txn,
-    seen: &Seen,
-    records: &[Record],
-    e: Election,
-) -> Result<Option<Election>, NoMemory>
-    ensures { IfOk result (λ o. o ≡ heard_all site t.now seen.now records.now e) }
+fn heard_all(at: &Electing<'_>, e: Election) -> Result<Option<Election>, NoMemory>
+    ensures { IfOk result (λ o. o ≡ heard_all at.now.site at.now.t.now at.now.seen.now at.now.records.now e) }
 {
     if !all_heard(&e) {
         return Ok(Some(e));
     }
-    match joined_in(t, records) {
-        Some(n) => Ok(Some(joined(alloc, e, n, own_report(site, seen))?)),
+    match joined_in(at.t, at.records) {
+        Some(n) => Ok(Some(joined(at.alloc, e, n, own_report(at.site, at.seen))?)),
         None => Ok(None),
     }
 }
 
 fn election_taking(
-    alloc: Global,
-    site: u32,
-    t: &Txn,
-    seen: &Seen,
-    records: &[Record],
+    at: &Electing<'_>,
     f: u32,
     msg: &Message,
     e: Election,
 ) -> Result<Option<Election>, NoMemory>
-    ensures { IfOk result (λ o. o ≡ election_taking site t.now seen.now records.now f msg.now e) }
+    ensures { IfOk result (λ o. o ≡ election_taking at.now.site at.now.t.now at.now.seen.now at.now.records.now f msg.now e) }
 {
+    let t = at.t;
     match msg {
         Message::LastElected { txn, call, elected } if t.is_same(txn) && is_awaited(&e, f, *call) =>
-            { heard_all(alloc, site, t, seen, records, and_heard(e, f, *elected)?) }
+            { heard_all(at, and_heard(e, f, *elected)?) }
         Message::Report {
             txn,
             n,
@@ -71,65 +71,55 @@ fn election_taking(
                 attempt: *attempt,
             },
         ),
-        Message::Elected { .. } if has_join(t, records) => Ok(None),
+        Message::Elected { .. } if has_join(t, at.records) => Ok(None),
         _ => Ok(Some(e)),
     }
 }
 
 fn election_behind(
-    alloc: Global,
-    site: u32,
-    t: &Txn,
-    seen: &Seen,
-    records: &[Record],
+    at: &Electing<'_>,
     packet: &Packet,
     was: Option<Election>,
 ) -> Result<Option<Election>, NoMemory>
-    ensures { IfOk result (λ o. o ≡ election_behind site t.now seen.now records.now packet.now was) }
+    ensures { IfOk result (λ o. o ≡ election_behind at.now.site at.now.t.now at.now.seen.now at.now.records.now packet.now was) }
 {
     match was {
-        Some(e) => election_taking(alloc, site, t, seen, records, packet.from, &packet.msg, e),
+        Some(e) => election_taking(at, packet.from, &packet.msg, e),
         None => Ok(None),
     }
 }
 
 fn election_anew(
-    alloc: Global,
-    site: u32,
+    at: &Electing<'_>,
     call: Call,
-    t: &Txn,
-    seen: &Seen,
-    records: &[Record],
     group: SiteSet,
 ) -> Result<Option<Election>, NoMemory>
-    ensures { IfOk result (λ o. o ≡ heard_all site t.now seen.now records.now (begun site call group seen.now.elected)) }
+    ensures { IfOk result (λ o. o ≡ heard_all at.now.site at.now.t.now at.now.seen.now at.now.records.now (begun at.now.site call group at.now.seen.now.elected)) }
 {
-    let e = begun(alloc, site, call, group, seen.elected)?;
-    heard_all(alloc, site, t, seen, records, e)
+    let seen = at.seen;
+    let e = begun(at.alloc, at.site, call, group, seen.elected)?;
+    heard_all(at, e)
 }
 
 fn election_upon(
-    alloc: Global,
-    site: u32,
+    at: &Electing<'_>,
     inc: u32,
     calls: u32,
-    t: &Txn,
-    seen: &Seen,
-    step: &SiteStep,
+    input: &Input,
     was: Option<Election>,
 ) -> Result<Option<Election>, NoMemory>
-    ensures { IfOk result (λ o. o ≡ election_upon site (record { inc = inc; seq = suc calls }) t.now seen.now step.now.records was step.now.input) }
+    ensures { IfOk result (λ o. o ≡ election_upon at.now.site (record { inc = inc; seq = suc calls }) at.now.t.now at.now.seen.now at.now.records.now was input.now) }
 {
-    let records = step.records.as_slice();
-    match &step.input {
+    let t = at.t;
+    match input {
         Input::Elect { txn, group } if t.is_same(txn) => {
             let call = Call {
                 inc,
                 seq: next(calls)?,
             };
-            election_anew(alloc, site, call, t, seen, records, *group)
+            election_anew(at, call, *group)
         }
-        Input::Deliver { packet } => election_behind(alloc, site, t, seen, records, packet, was),
+        Input::Deliver { packet } => election_behind(at, packet, was),
         _ => Ok(was),
     }
 }
@@ -147,8 +137,15 @@ pub(crate) fn election_now(
 ) -> Result<Option<Election>, NoMemory>
     ensures { IfOk result (λ o. o ≡ election_now site (record { inc = inc; seq = suc calls }) t.now seen.now was step.now) }
 {
-    if has_decision(t, step.records.as_slice()) || has_verdict(t, step.told.as_slice()) {
+    let at = Electing {
+        alloc,
+        site,
+        t,
+        seen,
+        records: step.records.as_slice(),
+    };
+    if has_decision(t, at.records) || has_verdict(t, step.told.as_slice()) {
         return Ok(None);
     }
-    election_upon(alloc, site, inc, calls, t, seen, step, was)
+    election_upon(&at, inc, calls, &step.input, was)
 }

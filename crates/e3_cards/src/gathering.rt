@@ -1,36 +1,54 @@
-// The votes and the acknowledgements that a site gathers for a transaction, behind one more step.
-ghost use Rattle.std.specs.Prelude.{◌≡◌, IfOk};
-ghost use Rattle.e3_world.specs.Rounds.{round_by};
-ghost use Rattle.e3_world.specs.Votes.{yes_by};
-ghost use Rattle.e3_cards.specs.Cards.{moment_of, moment_with};
+// The votes that a coordinator gathers for a transaction, behind one more step.
+ghost use Rattle.std.specs.Prelude.{◌≡◌, option_map};
+ghost use Rattle.e3_types.specs.Sets.{others};
+ghost use Rattle.e3_cards.specs.Cards.{moment_with};
+ghost use Rattle.e3_cards.specs.Gathering.{are_complete, votes_by};
 
-use e3_readings::{rounds_upon, yes_upon};
-use e3_types::{Input, List, NoMemory, Told, Txn};
-use e3_world::{Rounds, SiteStep};
-use std::alloc::Global;
+use e3_commit::Votes;
+use e3_readings::has_refusal;
+use e3_types::{Input, Message, Told, Txn};
 
-/// The sites whose yes came, behind one more step.
-pub(crate) fn yes_now(
-    alloc: Global,
-    t: &Txn,
-    was: Option<List<u32>>,
-    input: &Input,
-    events: &[Told],
-) -> Result<Option<List<u32>>, NoMemory>
-    ensures { IfOk result (λ o. o ≡ yes_by t.now was (moment_with input.now events.now)) }
+// The votes with a yes of this site.
+fn and_yes(was: Option<Votes>, from: u32) -> Option<Votes>
+    ensures { result ≡ option_map (others from) was }
 {
-    yes_upon(alloc, t, was, input, events)
+    match was {
+        Some(mut votes) => {
+            votes.yes(from);
+            Some(votes)
+        }
+        None => None,
+    }
 }
 
-/// The group and the round behind one more step.
-pub(crate) fn rounds_now(
-    alloc: Global,
+/// The votes that are gathered behind one more step, of which its input and the events are read.
+pub(crate) fn votes_now(
     site: u32,
     t: &Txn,
-    was: Rounds,
-    step: &SiteStep,
-) -> Result<Rounds, NoMemory>
-    ensures { IfOk result (λ r. r ≡ round_by site t.now was (moment_of step.now)) }
+    was: Option<Votes>,
+    input: &Input,
+    events: &[Told],
+) -> Option<Votes>
+    ensures { result ≡ votes_by site t.now was (moment_with input.now events.now) }
 {
-    rounds_upon(alloc, site, t, was, &step.input, step.records.as_slice())
+    match input {
+        Input::Commit { txn } if t.is_same(txn) && !has_refusal(events) => {
+            Some(Votes::start(t.sites, site))
+        }
+        Input::Deliver { packet } => match &packet.msg {
+            Message::Vote { txn, yes: true } if t.is_same(txn) => and_yes(was, packet.from),
+            _ => was,
+        },
+        _ => was,
+    }
+}
+
+/// Votes are being gathered, and none is missing.
+pub(crate) fn are_complete(votes: Option<Votes>) -> bool
+    ensures { result ≡ are_complete votes }
+{
+    match votes {
+        Some(votes) => votes.are_complete(),
+        None => false,
+    }
 }

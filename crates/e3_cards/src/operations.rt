@@ -13,7 +13,7 @@ use crate::card::{Card, Counted, Heard};
 use crate::copying::{copy_all, copy_came, copy_heard, copy_ops};
 use crate::issued::add_numbers;
 use crate::seen::seen_behind;
-use e3_readings::{is_among, issued_in, key_of, next, nth_op, number_behind};
+use e3_readings::{is_among, issued_in, key_of, last_own, next, nth_op, number_behind};
 use e3_types::{Answer, Input, List, Name, NoMemory, Op, Txn};
 use e3_world::{Asked, Expected, Made, Performed};
 use std::alloc::Global;
@@ -236,25 +236,6 @@ pub(crate) fn own_expected(inc: u32, done: &[Performed]) -> Result<Expected, NoM
             count: number_behind(done.len() as u64 - 1)?,
         }),
     }
-}
-
-fn own_write(name: &Name, was: Answer, p: &Performed) -> Answer
-    ensures { result ≡ own_write name.now was p.now }
-{
-    match &p.op {
-        Op::Write(key, val) if name.is_same(&key.name) => Answer::Value(val.copy()),
-        _ => was,
-    }
-}
-
-fn last_own(name: &Name, row: Answer, done: &[Performed]) -> Answer
-    ensures { result ≡ fold (own_write name.now) row done.now }
-{
-    let mut answer = row;
-    for p in done {
-        answer = own_write(name, answer, p);
-    }
-    answer
 }
 
 /// The value of the transaction's last write of this name, with the step so far, or else the row.

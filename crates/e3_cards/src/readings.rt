@@ -2,23 +2,22 @@
 ghost use Rattle.std.specs.Prelude.{◌≡◌, ◌==◌, ◌&&◌, if◌then◌else◌, IfOk, OnErr, ◌≤◌, length, fold, count_by};
 ghost use Rattle.std.specs.List.{list_any};
 ghost use Rattle.e3_types.specs.Same.{same_txn};
-ghost use Rattle.e3_types.specs.Sets.{has_site, is_within, others};
 ghost use Rattle.e3_world.specs.declared.lives.At.{At as Place};
 ghost use Rattle.e3_world.specs.Elections.{election_in_progress, next_call};
 ghost use Rattle.e3_world.specs.Making.{log_now, steps_now, own_write};
 ghost use Rattle.e3_world.specs.Operations.{answers, done, expected, issued, kept_reason, same_asked, unanswered, waiting};
 ghost use Rattle.e3_world.specs.Rounds.{round_in_progress};
 ghost use Rattle.e3_world.specs.Steps.{is_begin};
-ghost use Rattle.e3_world.specs.Votes.{yes_by};
 ghost use Rattle.e3_cards.specs.Cards.{moment_with};
-ghost use Rattle.e3_cards.specs.Readings.{first_of, is_awaited, have_come, has_every_yes, own_expected, expected_of, done_of};
+ghost use Rattle.e3_cards.specs.Gathering.{are_complete, votes_by};
+ghost use Rattle.e3_cards.specs.Readings.{first_of, is_awaited, has_every_yes, own_expected, expected_of, done_of};
 ghost use Rattle.e3_cards.specs.Seeing.{seen_of};
 ghost use Rattle.e3_cards.specs.Tables.{CardsStand, card_at, call_now};
 
 use crate::card::{Card, blank};
 use crate::cards::{Cards, card_or};
-use crate::copying::{copy_election, copy_round, copy_yes};
-use crate::gathering::yes_now;
+use crate::copying::{copy_election, copy_round};
+use crate::gathering::{are_complete, votes_now};
 use crate::keys::{known, txn_key};
 use crate::operations::{
     answer_of, awaits, done_of, done_with, expected_of, is_waiting_now, own_expected, own_with,
@@ -26,7 +25,7 @@ use crate::operations::{
 };
 use crate::seen::{Seen, unseen};
 use e3_readings::next;
-use e3_types::{Answer, Call, Input, List, Name, NoMemory, Refusal, SiteSet, Txn};
+use e3_types::{Answer, Call, Input, List, Name, NoMemory, Refusal, Txn};
 use e3_world::{Asked, Election, Expected, Made, Performed, Round};
 use std::alloc::Global;
 
@@ -50,34 +49,10 @@ fn expected_from(alloc: Global, cards: &Cards, card: &Card, of: u32) -> Result<E
     }
 }
 
-fn has_site(sites: &[u32], site: u32) -> bool
-    ensures { result ≡ has_site sites.now site }
+fn every_yes(site: u32, t: &Txn, card: &Card, input: &Input, made: &Made) -> bool
+    ensures { result ≡ are_complete (votes_by site t.now card.now.votes (moment_with input.now made.now.told)) }
 {
-    sites.iter().any(|x| *x == site)
-}
-
-fn are_within(alloc: Global, sites: SiteSet, came: &[u32]) -> Result<bool, NoMemory>
-    ensures { IfOk result (λ b. b ≡ is_within sites came.now) }
-{
-    let awaited = sites.list(alloc)?;
-    Ok(awaited.as_slice().iter().all(|site| has_site(came, *site)))
-}
-
-fn every_yes(
-    alloc: Global,
-    site: u32,
-    t: &Txn,
-    card: &Card,
-    input: &Input,
-    made: &Made,
-) -> Result<bool, NoMemory>
-    ensures { IfOk result (λ b. b ≡ have_come (others site t.now.sites) (yes_by t.now card.now.yes (moment_with input.now made.now.told))) }
-{
-    let was = copy_yes(alloc, &card.yes)?;
-    match yes_now(alloc, t, was, input, made.told.as_slice())? {
-        Some(came) => are_within(alloc, t.sites.without(site), came.as_slice()),
-        None => Ok(false),
-    }
+    are_complete(votes_now(site, t, card.votes, input, made.told.as_slice()))
 }
 
 fn first_reason(reasons: &[Refusal]) -> Option<Refusal>
@@ -234,25 +209,12 @@ impl Cards {
     }
 
     /// The votes of the transaction are being gathered, and with the step so far the yes of every other site came.
-    pub fn has_every_yes(
-        &self,
-        alloc: Global,
-        t: &Txn,
-        input: &Input,
-        made: &Made,
-    ) -> Result<bool, NoMemory>
-        ensures { (a : Place) → CardsStand a.site self.now a.life → a.input ≡ input.now → IfOk result (λ b. b ≡ has_every_yes a t.now made.now) }
+    pub fn has_every_yes(&self, alloc: Global, t: &Txn, input: &Input, made: &Made) -> bool
+        ensures { (a : Place) → CardsStand a.site self.now a.life → a.input ≡ input.now → result ≡ has_every_yes a t.now made.now }
     {
         known(t);
         let none = blank(alloc);
-        every_yes(
-            alloc,
-            self.site,
-            t,
-            card_or(&self.map, t, &none),
-            input,
-            made,
-        )
+        every_yes(self.site, t, card_or(&self.map, t, &none), input, made)
     }
 
     /// The election of the transaction that is in progress before the step, if there is one.

@@ -23,7 +23,7 @@ use Rattle.e3_world.specs.Making.{attempt_now, is_present, log_now, state_now}
 use Rattle.e3_world.specs.Operations.{expected as expected_at, issued, kept_reason, op_told, reason_in, unanswered as unanswered_at}
 use Rattle.e3_world.specs.Steps.{refuse as refuse_at, refuse_late}
 use Rattle.e3_client.specs.declared.client.Issued.{Issued}
-use Rattle.e3_client.specs.Clients.{Kept, expected, refuse, refuse_cancel, refuse_decided, unanswered}
+use Rattle.e3_client.specs.Clients.{Kept, busy_or, expected, late, late_if, refuse, refuse_cancel, refuse_decided, unanswered}
 use Rattle.e3_client.specs.Rule.{IsKept, StandsAt, is_answered}
 use Rattle.e3_client.proofs.Numbered.{all_answered, from_first, not_answered}
 
@@ -137,10 +137,6 @@ last_state : (t : Txn) (log : List Record) (dir : Dir) → decision t log ≡ So
 last_state t log Commit is = rw is refl
 last_state t log Abort is = rw is refl
 
-abbrev late : State → ℕ → Option Refusal
-late Q attempt = None
-late st attempt = Some (TooLate attempt)
-
 late_same : (a : At) (t : Txn) (made : Made) (st : State) → state_now a t made ≡ st → refuse_late a t made ≡ late st (attempt_now a t made)
 late_same a t made Q is = rw is refl
 late_same a t made W is = rw is refl
@@ -148,10 +144,6 @@ late_same a t made Pc is = rw is refl
 late_same a t made Pa is = rw is refl
 late_same a t made C is = rw is refl
 late_same a t made A is = rw is refl
-
-abbrev busy_or : State → ℕ → Option ℕ → Option Refusal
-busy_or st attempt (Some n) = Some (Busy n)
-busy_or st attempt None = late st attempt
 
 open_refuse : (st : State) (attempt : ℕ) (k : Kept) → is_last st ≡ false → refuse st attempt k ≡ busy_or st attempt (unanswered k.ops)
 open_refuse st attempt k off = by st off (unanswered k.ops) refl
@@ -196,16 +188,21 @@ refused_late : (a : At) (t : Txn) (made : Made) (why : Option Refusal) → refus
     → is_present a t ≡ true → unanswered_at t (log_now a made) a.life.steps ≡ None → refuse_at a t false made ≡ why
 refused_late a t made why same none present is = rw (none, present, is) same
 
+-- an operation or a commit of an undecided transaction of this incarnation
+pub open_at : (a : At) (t : Txn) (made : Made) → decision t (log_now a made) ≡ None → is_present a t ≡ true
+    → busy_or (state_now a t made) (attempt_now a t made) (unanswered_at t (log_now a made) a.life.steps) ≡ refuse_at a t false made
+open_at a t made none present = by (unanswered_at t (log_now a made) a.life.steps) refl
+  where
+    by : (o : Option ℕ) → unanswered_at t (log_now a made) a.life.steps ≡ o
+        → busy_or (state_now a t made) (attempt_now a t made) o ≡ refuse_at a t false made
+    by (Some n) is = rw (none, present, is) refl
+    by None is = sym (refused_late a t made (late (state_now a t made) (attempt_now a t made))
+        (late_same a t made (state_now a t made) refl) none present is)
+
 -- an operation or a commit
 pub refuse_same : (a : At) (made : Made) (k : Kept) (st : State) (attempt : ℕ) → StandsAt a made k st attempt → refuse st attempt k ≡ refuse_at a k.txn false made
 refuse_same a made k st attempt at = by (decision k.txn (log_now a made)) refl
   where
-    open_at : (o : Option ℕ) → unanswered_at k.txn (log_now a made) a.life.steps ≡ o → decision k.txn (log_now a made) ≡ None
-        → busy_or (state_now a k.txn made) (attempt_now a k.txn made) o ≡ refuse_at a k.txn false made
-    open_at (Some n) is none = rw (none, at.present, is) refl
-    open_at None is none = sym (refused_late a k.txn made (late (state_now a k.txn made) (attempt_now a k.txn made))
-        (late_same a k.txn made (state_now a k.txn made) refl) none at.present is)
-
     by : (o : Option Dir) → decision k.txn (log_now a made) ≡ o → refuse st attempt k ≡ refuse_at a k.txn false made
     by (Some dir) is =
         ap (λ (s : State). refuse s attempt k) (at.state_is ∙ last_state k.txn (log_now a made) dir is) ∙ refuse_final dir attempt k
@@ -217,10 +214,7 @@ refuse_same a made k st attempt at = by (decision k.txn (log_now a made)) refl
         ∙ ap (λ (o : Option ℕ). busy_or st attempt o) (unanswered_same a.site (log_now a made) a.life.steps k at.kept undecided)
         ∙ ap (λ (s : State). busy_or s attempt (unanswered_at k.txn (log_now a made) a.life.steps)) at.state_is
         ∙ ap (λ (n : ℕ). busy_or (state_now a k.txn made) n (unanswered_at k.txn (log_now a made) a.life.steps)) at.attempt_is
-        ∙ open_at (unanswered_at k.txn (log_now a made) a.life.steps) refl is
-
-abbrev late_if : ℕ → Option Refusal
-late_if attempt = if attempt == 0 then None else Some (TooLate attempt)
+        ∙ open_at a k.txn made is at.present
 
 open_cancel : (st : State) (attempt : ℕ) (k : Kept) → is_last st ≡ false → refuse_cancel st attempt k ≡ late_if attempt
 open_cancel Q attempt k off = refl

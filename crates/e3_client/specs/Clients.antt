@@ -76,6 +76,21 @@ refuse_decided Abort (Some (Died older)) = Some (Died older)
 refuse_decided Abort (Some (DoomedFor site had now)) = Some (DoomedFor site had now)
 refuse_decided dir why = Some (Over dir)
 
+-- the refusal of an operation or a commit where no operation is unanswered: that it is too late
+abbrev pub late : State → ℕ → Option Refusal
+late Q attempt = None
+late st attempt = Some (TooLate attempt)
+
+-- the refusal of an operation or a commit of a transaction that is undecided: that an operation is unanswered, else that it is
+-- too late
+abbrev pub busy_or : State → ℕ → Option ℕ → Option Refusal
+busy_or st attempt (Some n) = Some (Busy n)
+busy_or st attempt None = late st attempt
+
+-- the refusal of a cancel of a transaction that is undecided
+abbrev pub late_if : ℕ → Option Refusal
+late_if attempt = if attempt == 0 then None else Some (TooLate attempt)
+
 -- the refusal of an operation or a commit, in this state after this attempt, if it is refused: that it is decided, else
 -- that an operation is unanswered, else that it is too late
 abbrev pub refuse : State → ℕ → Kept → Option Refusal

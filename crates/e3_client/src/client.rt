@@ -15,6 +15,7 @@ ghost use Rattle.e3_client.specs.declared.client.Heard.TheVariants.{Taken};
 ghost use Rattle.e3_client.specs.Rule.{IsKept, IsQuiet, StandsAt, and_told, brings};
 ghost use Rattle.e3_client.specs.Clients.{unanswered, unanswered_from, expected, expected_with, is_issued_to, is_due, heard_of, with_answer, refuse, refuse_cancel, refuse_decided, or_kept};
 
+use crate::refusals::{kept_locks, refuse_attempted, refuse_open};
 use e3_types::{Dir, NoMemory, Refusal, State, Txn};
 use e3_world::Expected;
 use std::alloc::Global;
@@ -129,13 +130,7 @@ impl Client {
             State::A => return Some(self.decided(Dir::Abort)),
             _ => {}
         }
-        match self.unanswered() {
-            Some(op) => Some(Refusal::Busy { op }),
-            None => match state {
-                State::Q => None,
-                _ => Some(Refusal::TooLate { attempt }),
-            },
-        }
+        refuse_open(state, attempt, self.unanswered())
     }
 
     /// The number of the next operation. It is refused where the transaction is decided, an operation is unanswered, or it
@@ -238,7 +233,7 @@ impl Client {
             return Heard::Stale;
         }
         let (had, count) = self.expected(from);
-        if count != 0 && had != inc {
+        if !kept_locks(count, had, inc) {
             return Heard::Doomed {
                 site: from,
                 had,
@@ -274,12 +269,7 @@ impl Client {
         match state {
             State::C => Some(self.decided(Dir::Commit)),
             State::A => Some(self.decided(Dir::Abort)),
-            _ => {
-                if attempt == 0 {
-                    return None;
-                }
-                Some(Refusal::TooLate { attempt })
-            }
+            _ => refuse_attempted(attempt),
         }
     }
 

@@ -2,5 +2,7 @@
 #![tactic(auto)]
 
 mod client;
+mod refusals;
 
 pub use client::{Client, Heard, Issued, quiet_steps_pass};
+pub use refusals::{kept_locks, refuse_attempted, refuse_open};

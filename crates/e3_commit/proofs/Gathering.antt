@@ -1,7 +1,8 @@
 -- Sites that are missing, and sets of those that came.
-use Rattle.std.proofs.Common.{◌≡◌, ℕ, ◌+◌, ◌<◌, ◌≤◌, Bool, true, false, List, [], ◌∷◌, ◌++◌, length, fold, refl, ap, sym, ◌∙◌, arith, eqb}
+use Rattle.std.proofs.Common.{◌≡◌, ℕ, ◌+◌, ◌<◌, ◌≤◌, Bool, true, false, List, [], ◌∷◌, ◌++◌, length, get_or, take, fold, refl, ap, sym, ◌∙◌, arith, eqb}
 use Rattle.std.specs.Prelude.{◌==◌, ◌&&◌, ◌||◌, ◌↔◌, not, nat_lt, filter, IsTrue}
 use Rattle.std.proofs.lemmas.Grind.{common_steps}
+use Rattle.std.proofs.lemmas.List.{take_more}
 use Rattle.std.proofs.lemmas.List.Folds.{list_any-append}
 use Rattle.std.proofs.lemmas.List.Sums.{fold-append}
 use Rattle.e3_types.specs.declared.transactions.Dir.{Dir}
@@ -45,6 +46,12 @@ one_less (s ∷ ss) came f = by (has_site came s) (f == s) refl refl (one_less s
         let back : (s == f) ≡ false = grind (arith, common_steps, q) in
         rw (e, here, back) (ap (λ (l : List ℕ). s ∷ l) ih)
 
+-- the next of those that came is missing no more
+pub next_less : (all came left : List ℕ) (i d : ℕ) → i < length came → left ≡ missing all (take i came)
+    → others (get_or came i d) left ≡ missing all (take (i + 1) came)
+next_less all came left i d lt e =
+    ap (others (get_or came i d)) e ∙ one_less all (take i came) (get_or came i d) ∙ ap (missing all) (sym (take_more came i d lt))
+
 -- all came where none is missing
 pub within_missing : (all came : List ℕ) → is_within all came ≡ (length (missing all came) == 0)
 within_missing [] came = refl
@@ -53,6 +60,12 @@ within_missing (s ∷ ss) came = by (has_site came s) refl (within_missing ss ca
     by : (b : Bool) → has_site came s ≡ b → is_within ss came ≡ (length (missing ss came) == 0) → is_within (s ∷ ss) came ≡ (length (missing (s ∷ ss) came) == 0)
     by true e ih = rw (e, ih) refl
     by false e ih = rw e (grind (arith, common_steps))
+
+-- all came where none is left
+pub none_missing : (all came left : List ℕ) (i : ℕ) → length came ≤ i → left ≡ missing all (take i came) → (length left == 0) ≡ is_within all came
+none_missing all came left i past e =
+    let whole : take i came ≡ came = grind (arith, common_steps, past) in
+    ap (λ (l : List ℕ). length l == 0) (e ∙ ap (missing all) whole) ∙ sym (within_missing all came)
 
 has_filter : (p : ℕ → Bool) (xs : List ℕ) (s : ℕ) → has_site (filter p xs) s ≡ (p s && has_site xs s)
 has_filter p [] s = grind (arith, common_steps)

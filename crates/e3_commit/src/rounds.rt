@@ -1,6 +1,7 @@
 // The acknowledgements of an attempt.
-ghost use Rattle.std.specs.Prelude.{◌≡◌, ◌≤◌, []};
-ghost use Rattle.e3_types.specs.Sets.{with_site};
+ghost use Rattle.std.specs.Prelude.{◌≡◌, ◌==◌, ◌&&◌, ◌≤◌, []};
+ghost use Rattle.e3_types.specs.Same.{same_dir};
+ghost use Rattle.e3_types.specs.Sets.{has_site, with_site};
 ghost use Rattle.e3_world.specs.declared.gatherings.Round.{Round as Attempted};
 ghost use Rattle.e3_world.specs.Rounds.{count_ack};
 ghost use Rattle.e3_commit.specs.Acks.{with_ack, IsKept};
@@ -29,6 +30,14 @@ impl Model for Round {
     ghost invariant = { λ a. (1 ≤ a.site) × (a.site ≤ 64) };
 }
 
+/// An acknowledgement of this number and direction, by this site, is one of the attempt of an own number and direction that
+/// these got.
+pub fn acknowledges(own: u32, own_dir: Dir, to: SiteSet, site: u32, n: u32, dir: Dir) -> bool
+    ensures { result ≡ (own == n && same_dir own_dir dir && has_site to site) }
+{
+    own == n && own_dir.is_same(dir) && to.has(site)
+}
+
 impl Round {
     /// The attempt of this number and direction by this site, which these others have to acknowledge; none has yet.
     pub fn attempt(n: u32, dir: Dir, to: SiteSet, site: u32) -> Round
@@ -50,8 +59,7 @@ impl Round {
         ensures { self.new ≡ with_ack self.old from n dir }
     {
         let _ = self.to.count();
-        let is_this = self.n == n && self.dir.is_same(dir);
-        if is_this && self.to.has(from) && !self.acked.has(from) {
+        if acknowledges(self.n, self.dir, self.to, from, n, dir) && !self.acked.has(from) {
             self.acked = self.acked.with(from);
         }
     }

@@ -1,5 +1,5 @@
 // The votes of a transaction's sites.
-ghost use Rattle.std.specs.Prelude.{◌≡◌, ◌++◌, ◌∷◌, ◌↔◌, [], IsTrue, List, ℕ};
+ghost use Rattle.std.specs.Prelude.{◌≡◌, ◌==◌, ◌++◌, ◌∷◌, ◌↔◌, [], IsTrue, List, length, ℕ};
 ghost use Rattle.e3_types.specs.Sets.{others, is_within};
 ghost use Rattle.e3_commit.specs.Missing.{missing};
 
@@ -7,7 +7,7 @@ use e3_types::SiteSet;
 use std::marker::Model;
 
 /// The sites of a transaction whose yes has not come.
-#[derive(Drop)]
+#[derive(Clone, Copy)]
 pub struct Votes {
     missing: SiteSet,
 }
@@ -18,6 +18,20 @@ impl Model for Votes {
     ghost Value = { List ℕ };
 
     ghost view = { λ a. a.missing };
+
+    ghost inverse = { λ sites. record { missing = sites } };
+}
+
+/// Each of these sites is among those that came.
+#[tactic(auto, using(crate::proofs::Gathering::missing_none))]
+pub fn all_came(sites: SiteSet, came: &[u32]) -> bool
+    ensures { result ≡ is_within sites came.now }
+{
+    let mut left = sites;
+    for site in came {
+        left = left.without(*site);
+    }
+    left.count() == 0
 }
 
 impl Votes {
@@ -42,6 +56,13 @@ impl Votes {
             → (self.new ≡ missing sites (came ++ from ∷ [])) × (result ≡ is_within sites (came ++ from ∷ [])) }
     {
         self.missing = self.missing.without(from);
+        self.are_complete()
+    }
+
+    /// Every site has voted yes.
+    pub fn are_complete(&self) -> bool
+        ensures { result ≡ (length self.now == 0) }
+    {
         self.missing.count() == 0
     }
 }

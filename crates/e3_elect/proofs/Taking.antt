@@ -1,6 +1,6 @@
 -- What the definitions make of an answer and of a report that count.
 use Rattle.std.proofs.Common.{◌≡◌, ℕ, Bool, true, false, List, [], ◌∷◌, ◌++◌, refl, ap, sym, ◌∙◌}
-use Rattle.std.specs.Prelude.{◌==◌, Option, Some, None}
+use Rattle.std.specs.Prelude.{◌==◌, ◌&&◌, not, Option, Some, None}
 use Rattle.std.specs.List.{list_any}
 use Rattle.e3_types.specs.declared.transactions.Call.{Call}
 use Rattle.e3_types.specs.declared.verdicts.SiteReport.{SiteReport}
@@ -9,6 +9,19 @@ use Rattle.e3_types.specs.Sets.{has_site}
 use Rattle.e3_world.specs.declared.gatherings.Election.{Election}
 use Rattle.e3_world.specs.declared.gatherings.Named.{Named}
 use Rattle.e3_world.specs.Elections.{hear, take_report}
+
+-- what holds of an answer that counts
+pub awaited_parts : (same member was : Bool) → (same && member && not was) ≡ true → (same ≡ true) × (member ≡ true) × (was ≡ false)
+awaited_parts true true false h = (refl, refl, refl)
+awaited_parts true true true h = cc
+awaited_parts true false was h = cc
+awaited_parts false member was h = cc
+
+-- what holds of a report that counts
+pub owed_parts : (member was : Bool) → (member && not was) ≡ true → (member ≡ true) × (was ≡ false)
+owed_parts true false h = (refl, refl)
+owed_parts true true h = cc
+owed_parts false was h = cc
 
 pub hear_new : (e : Election) (f : ℕ) (call : Call) (n : ℕ) → same_call e.call call ≡ true → has_site e.group f ≡ true → list_any (λ h. h.site == f) e.heard ≡ false
     → hear e f call n ≡ Some (record e { heard = e.heard ++ record { site = f; elected = n } ∷ [] })

@@ -1,14 +1,13 @@
 // An election: who was heard, the number, and who reported.
-ghost use Rattle.std.specs.List.{list_any};
-ghost use Rattle.std.specs.Prelude.{◌≡◌, ◌==◌, ◌∷◌, [], IsTrue, IfOk, MatchOption, Some, None, true, false, IsSome};
+ghost use Rattle.std.specs.Prelude.{◌≡◌, ◌∷◌, [], IsTrue, IfOk, MatchOption, Some, None, true, false, IsSome};
 ghost use Rattle.e3_types.specs.Sets.{has_site};
-ghost use Rattle.e3_world.specs.Elections.{all_heard, all_reported, greatest_heard, begun, hear, take_report};
+ghost use Rattle.e3_world.specs.Elections.{all_reported, begun, hear, take_report};
 ghost use Rattle.e3_elect.specs.Calling.{number_of, is_own};
 
+use crate::counting::{are_all, is_awaited, is_owed, number_of};
 use e3_types::{Call, NoMemory, SiteReport, SiteSet};
 use e3_world::Named;
 use std::alloc::Global;
-use std::cmp::max;
 use std::marker::Model;
 
 /// An election of a group at its elector: each member tells the number of the last election that it joined, the elector
@@ -34,20 +33,6 @@ impl Model for Election {
 
     ghost invariant = { λ a. (length a.group ≤ vec_capacity a.heard) × (length a.group ≤ vec_capacity a.reports)
         × (are_members a.group (map (λ h. h.site) a.heard.items) ≡ true) × (are_members a.group (map (λ r. r.site) a.reports.items) ≡ true) };
-}
-
-// The site is among those that were heard.
-fn was_heard(heard: &[Named], site: u32) -> bool
-    ensures { result ≡ list_any (λ h. h.site == site) heard.now }
-{
-    heard.iter().any(|h| h.site == site)
-}
-
-// The site is among those that reported.
-fn has_reported(reports: &[SiteReport], site: u32) -> bool
-    ensures { result ≡ list_any (λ r. r.site == site) reports.now }
-{
-    reports.iter().any(|r| r.site == site)
 }
 
 impl Election {
@@ -82,23 +67,12 @@ impl Election {
         })
     }
 
-    // The greatest number that was heard.
-    fn greatest(&self) -> u32
-        ensures { result ≡ greatest_heard self.now }
-    {
-        self.heard.iter().fold(0, |n, h| max(n, h.elected))
-    }
-
     /// The greatest number that was heard plus one: some exactly where the whole group was heard and the greatest is below
     /// 4,294,967,295.
     pub fn number(&self) -> Option<u32>
         ensures { result ≡ number_of self.now }
     {
-        let greatest = self.greatest();
-        if self.heard.len() != self.group.count() as usize || greatest == u32::MAX {
-            return None;
-        }
-        Some(greatest + 1)
+        number_of(&self.heard, self.group)
     }
 
     /// A member's number. True exactly where it is an answer to this call by a member that was not heard yet; else nothing
@@ -106,7 +80,7 @@ impl Election {
     pub fn heard(&mut self, from: u32, call: Call, elected: u32) -> bool
         ensures { MatchOption (hear self.old from call elected) ((result ≡ false) × (self.new ≡ self.old)) (λ e. (result ≡ true) × (self.new ≡ e)) }
     {
-        if !self.call.is_same(call) || !self.group.has(from) || was_heard(&self.heard, from) {
+        if !is_awaited(self.call, self.group, &self.heard, from, call) {
             return false;
         }
         self.heard.push_reserved(Named {
@@ -137,7 +111,7 @@ impl Election {
             Some(number) => n == number,
             None => false,
         };
-        if !is_this || !self.group.has(report.site) || has_reported(&self.reports, report.site) {
+        if !is_this || !is_owed(self.group, &self.reports, report.site) {
             return false;
         }
         self.reports.push_reserved(report);
@@ -148,7 +122,7 @@ impl Election {
     pub fn complete(&self) -> bool
         ensures { result ≡ all_reported self.now }
     {
-        self.reports.len() == self.group.count() as usize
+        are_all(&self.reports, self.group)
     }
 
     /// The reports, the elector's own first.

@@ -12,7 +12,7 @@ use Rattle.e3_types.specs.declared.transactions.Txn.{Txn}
 use Rattle.e3_types.specs.Locks.{front}
 use Rattle.e3_types.specs.Same.{same_numbers, same_txn}
 use Rattle.e3_types.proofs.SameSites.{same_numbers_eq}
-use Rattle.e3_sorted.specs.Sorted.{AreUnder, AreOver, IsAscending}
+use Rattle.e3_types.specs.Sorted.{AreUnder, AreOver, IsAscending}
 use Rattle.e3_locks.specs.declared.pairs.Pair.{Pair}
 use Rattle.e3_locks.specs.LockLists.{named}
 use Rattle.e3_locks.specs.Places.{Place, others_of, without}

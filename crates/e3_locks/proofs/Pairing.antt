@@ -16,9 +16,9 @@ use Rattle.e3_types.specs.declared.transactions.Txn.{Txn}
 use Rattle.e3_types.specs.Same.{same_numbers, same_txn}
 use Rattle.e3_types.specs.Sites.{sites_of}
 use Rattle.e3_types.proofs.SameSites.{same_numbers_refl, same_numbers_eq}
-use Rattle.e3_sorted.specs.Sorted.{IsUnder, AreUnder, AreOver, IsAscending, IsAt, IsGap}
-use Rattle.e3_sorted.proofs.Ascending.{never_under, ascending_insert}
-use Rattle.e3_sorted.proofs.Edits.{take_front, drop_front, insert_parts, at_place}
+use Rattle.e3_types.specs.Sorted.{IsUnder, AreUnder, AreOver, IsAscending, IsAt, IsGap}
+use Rattle.e3_types.proofs.Ascending.{never_under, ascending_insert}
+use Rattle.e3_types.proofs.Edits.{take_front, drop_front, insert_parts, at_place}
 use Rattle.e3_locks.specs.declared.pairs.Pair.{Pair}
 use Rattle.e3_locks.specs.Places.{Place, would, released}
 use Rattle.e3_locks.specs.Replays.{with_request}

@@ -5,8 +5,8 @@ use Rattle.std.proofs.Common.{refl, ap, sym, subst, ◌∙◌}
 use Rattle.e3_types.specs.declared.locks.Grant.{Grant}
 use Rattle.e3_types.specs.declared.locks.Grant.TheVariants.{Held}
 use Rattle.e3_types.specs.declared.locks.Lock.{Lock}
-use Rattle.e3_sorted.specs.Sorted.{IsAscending, IsAt, IsGap}
-use Rattle.e3_sorted.proofs.Edits.{insert_parts, set_parts, get_parts}
+use Rattle.e3_types.specs.Sorted.{IsAscending, IsAt, IsGap}
+use Rattle.e3_types.proofs.Edits.{insert_parts, set_parts, get_parts}
 use Rattle.e3_locks.specs.LockLists.{LockLists, place}
 use Rattle.e3_locks.specs.Places.{would, requested}
 use Rattle.e3_locks.specs.Replays.{with_request}

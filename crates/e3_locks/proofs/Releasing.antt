@@ -4,9 +4,9 @@ use Rattle.std.proofs.Common.{refl, ap, sym, subst, ◌∙◌, arith}
 use Rattle.e3_types.specs.declared.transactions.Txn.{Txn}
 use Rattle.e3_types.specs.Same.{same_numbers}
 use Rattle.e3_types.proofs.SameSites.{same_numbers_refl, same_numbers_eq}
-use Rattle.e3_sorted.specs.Sorted.{AreUnder, IsAscending, IsAt, IsGap}
-use Rattle.e3_sorted.proofs.Ascending.{ascending_set}
-use Rattle.e3_sorted.proofs.Edits.{set_parts}
+use Rattle.e3_types.specs.Sorted.{AreUnder, IsAscending, IsAt, IsGap}
+use Rattle.e3_types.proofs.Ascending.{ascending_set}
+use Rattle.e3_types.proofs.Edits.{set_parts}
 use Rattle.e3_locks.specs.Places.{released}
 use Rattle.e3_locks.specs.Pairs.{with_release}
 use Rattle.e3_locks.specs.Waiting.{is_fair}

@@ -16,8 +16,8 @@ use Rattle.e3_types.specs.Locks.{front, opposes}
 use Rattle.e3_types.specs.Same.{same_numbers, same_txn}
 use Rattle.e3_types.proofs.SameSites.{same_numbers_refl, same_numbers_eq}
 use Rattle.e3_world.specs.Making.{add_name}
-use Rattle.e3_sorted.specs.Sorted.{IsUnder, AreUnder, AreOver, IsAscending}
-use Rattle.e3_sorted.proofs.Ascending.{turned_back, never_under, ascending_set, ascending_insert}
+use Rattle.e3_types.specs.Sorted.{IsUnder, AreUnder, AreOver, IsAscending}
+use Rattle.e3_types.proofs.Ascending.{turned_back, never_under, ascending_set, ascending_insert}
 use Rattle.e3_locks.specs.declared.granted.Granted.{Granted}
 use Rattle.e3_locks.specs.LockLists.{on, place, named, names_of}
 use Rattle.e3_locks.specs.Places.{Place, others_of, released, requested}

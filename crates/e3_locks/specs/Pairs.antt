@@ -7,7 +7,7 @@ use Rattle.e3_types.specs.declared.transactions.Txn.{Txn}
 use Rattle.e3_types.specs.Locks.{front}
 use Rattle.e3_types.specs.Same.{same_numbers}
 use Rattle.e3_types.specs.Sites.{sites_of, bits_of}
-use Rattle.e3_sorted.specs.Sorted.{IsUnder, IsAscending}
+use Rattle.e3_types.specs.Sorted.{IsUnder, IsAscending}
 use Rattle.e3_locks.specs.declared.pairs.Pair.{Pair}
 use Rattle.e3_locks.specs.Places.{Place, released}
 use Rattle.e3_locks.specs.Standing.{Standing, Each, place_in}

@@ -3,7 +3,7 @@ use Rattle.std.specs.Prelude.{◌≡◌, ◌+◌, ◌≤◌, ◌^◌, ◌<◌, �
 use Rattle.std.specs.List.{flat_map}
 use Rattle.e3_types.specs.declared.transactions.Txn.{Txn}
 use Rattle.e3_types.specs.Same.{same_numbers}
-use Rattle.e3_sorted.specs.Sorted.{IsAscending}
+use Rattle.e3_types.specs.Sorted.{IsAscending}
 use Rattle.e3_locks.specs.declared.granted.Granted.{Granted}
 use Rattle.e3_locks.specs.LockLists.{named}
 use Rattle.e3_locks.specs.Places.{Place, released}

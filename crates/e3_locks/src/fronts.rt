@@ -3,16 +3,14 @@ ghost use Rattle.std.specs.Prelude.{◌≡◌, ◌++◌, ◌∷◌, [], IfOk, Ma
 ghost use Rattle.std.specs.List.{list_any};
 ghost use Rattle.e3_types.specs.Locks.{front};
 ghost use Rattle.e3_types.specs.Same.{same_numbers};
-ghost use Rattle.e3_world.specs.Making.{add_name};
 ghost use Rattle.e3_locks.specs.Places.{others_of};
 ghost use Rattle.e3_locks.specs.LockLists.{on, named, names_of, grants_on, grants_after};
 ghost use Rattle.e3_locks.specs.Fronts.{IsFree};
 
 use crate::granted::is_opposed;
-use crate::{Granted, front};
+use crate::{Granted, add_name, front};
 use e3_types::{List, Lock, Name, NoMemory, Txn};
 use std::alloc::Global;
-use std::cmp::Ordering;
 
 // One of these is on the name.
 fn is_named(name: &Name, locks: &[Granted]) -> bool
@@ -91,42 +89,6 @@ pub(crate) fn all_fronts(
     for name in names.as_slice() {
         push_front(alloc, t, name, held, queue, &mut out)?;
     }
-    Ok(out)
-}
-
-fn add_names(names: &[Name], out: &mut List<Name>) -> Result<(), NoMemory>
-    ensures { IfOk result (λ u. out.new ≡ out.old ++ names.now) }
-{
-    for name in names {
-        out.push(name.copy())?;
-    }
-    Ok(())
-}
-
-fn put_name(names: &[Name], new: &Name, out: &mut List<Name>) -> Result<(), NoMemory>
-    ensures { IfOk result (λ u. out.new ≡ out.old ++ add_name names.now new.now) }
-{
-    match names {
-        [] => out.push(new.copy()),
-        [name, rest @ ..] => match new.bytes().cmp(name.bytes()) {
-            Ordering::Less => {
-                out.push(new.copy())?;
-                add_names(names, out)
-            }
-            Ordering::Equal => add_names(names, out),
-            Ordering::Greater => {
-                out.push(name.copy())?;
-                put_name(rest, new, out)
-            }
-        },
-    }
-}
-
-fn add_name(alloc: Global, names: &[Name], new: &Name) -> Result<List<Name>, NoMemory>
-    ensures { IfOk result (λ out. out ≡ add_name names.now new.now) }
-{
-    let mut out = List::new(alloc);
-    put_name(names, new, &mut out)?;
     Ok(out)
 }
 

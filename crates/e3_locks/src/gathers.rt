@@ -3,7 +3,7 @@ ghost use Rattle.std.specs.Prelude.{◌≡◌, ◌++◌, [], map, fold, IfOk};
 ghost use Rattle.std.specs.List.{flat_map};
 ghost use Rattle.e3_types.specs.Locks.{front};
 ghost use Rattle.e3_world.specs.Items.{add_txn};
-ghost use Rattle.e3_sorted.specs.Sorted.{IsAscending};
+ghost use Rattle.e3_types.specs.Sorted.{IsAscending};
 ghost use Rattle.e3_locks.specs.LockLists.{named};
 ghost use Rattle.e3_locks.specs.Places.{without};
 ghost use Rattle.e3_locks.specs.Standing.{place_in};
@@ -12,8 +12,7 @@ ghost use Rattle.e3_locks.specs.Waiting.{awaited_at};
 use crate::Granted;
 use crate::pairs::Pair;
 use crate::place::NameLocks;
-use e3_sorted::place_of;
-use e3_types::{List, Name, NoMemory, Txn};
+use e3_types::{List, Name, NoMemory, Txn, place_of};
 use std::alloc::Global;
 
 // Adds what a release of all that the transaction has would grant on this name.

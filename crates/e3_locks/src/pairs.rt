@@ -3,7 +3,7 @@ ghost use Rattle.std.specs.Prelude.{◌≡◌, ◌≤◌, ◌<◌, ◌++◌, Lis
 ghost use Rattle.std.specs.Ordering.{nat_cmp};
 ghost use Rattle.std.specs.Cmp.Lexicographic.{slice_cmp};
 ghost use Rattle.e3_types.specs.Same.{same_numbers};
-ghost use Rattle.e3_sorted.specs.Sorted.{AreUnder, IsAscending, IsAt, IsGap};
+ghost use Rattle.e3_types.specs.Sorted.{AreUnder, IsAscending, IsAt, IsGap};
 ghost use Rattle.e3_locks.specs.Standing.{Each};
 ghost use Rattle.e3_locks.specs.Pairs.{key_of, pair_key, HasKey, AreFrom, IsPut, IsKnown};
 

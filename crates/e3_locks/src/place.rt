@@ -13,8 +13,7 @@ use crate::fronts::push_named;
 use crate::granted::stronger;
 use crate::waits::add_awaited;
 use crate::{Granted, front, front_length, lock_grant};
-use e3_sorted::Named;
-use e3_types::{Grant, List, Lock, Mode, Name, NoMemory, Txn};
+use e3_types::{Grant, List, Lock, Mode, Name, Named, NoMemory, Txn};
 use std::alloc::Global;
 use std::marker::Model;
 use std::mem;
@@ -50,8 +49,8 @@ impl Named for NameLocks {
     }
 }
 
-// The strongest mode in which the transaction has one of these locks, if it has one.
-fn mode_among(txn: &Txn, locks: &[Lock]) -> Option<Mode>
+/// The strongest mode in which the transaction has one of these locks, if it has one.
+pub fn mode_among(txn: &Txn, locks: &[Lock]) -> Option<Mode>
     ensures { result ≡ mode_held txn.now locks.now }
 {
     let mut mode = None;

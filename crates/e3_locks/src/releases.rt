@@ -1,14 +1,13 @@
 // A release, name by name of those that the transaction has.
 ghost use Rattle.std.specs.Prelude.{◌≡◌, ◌≤◌, List as Items, ℕ, vec_len, vec_capacity};
-ghost use Rattle.e3_sorted.specs.Sorted.{IsAscending};
+ghost use Rattle.e3_types.specs.Sorted.{IsAscending};
 ghost use Rattle.e3_locks.specs.Places.{released};
 ghost use Rattle.e3_locks.specs.Standing.{IsTable, place_in};
 ghost use Rattle.e3_locks.specs.Pairs.{IsIndex, with_release};
 
 use crate::pairs::{Pair, first_of, known};
 use crate::place::NameLocks;
-use e3_sorted::place_of;
-use e3_types::{Name, Txn};
+use e3_types::{Name, Txn, place_of};
 
 // On this name the transaction's locks and requests leave, and what that grants is held.
 fn release_on(places: &mut Vec<NameLocks>, name: &Name, t: &Txn)

@@ -3,7 +3,7 @@ ghost use Rattle.std.specs.Prelude.{◌≡◌, ◌≤◌, ◌-◌, ◌∷◌, []
 ghost use Rattle.std.specs.List.{flat_map};
 ghost use Rattle.e3_types.specs.Locks.{front};
 ghost use Rattle.e3_world.specs.Items.{add_txn};
-ghost use Rattle.e3_sorted.specs.Sorted.{IsAt, IsGap};
+ghost use Rattle.e3_types.specs.Sorted.{IsAt, IsGap};
 ghost use Rattle.e3_locks.specs.LockLists.{place, named};
 ghost use Rattle.e3_locks.specs.Places.{would, requested, without};
 ghost use Rattle.e3_locks.specs.Replays.{with_request};
@@ -15,8 +15,7 @@ use crate::pairs::{Pair, add_put, known, pairs_of};
 use crate::place::NameLocks;
 use crate::releases::release_all;
 use crate::{Granted, Locks};
-use e3_sorted::place_of;
-use e3_types::{Grant, List, Lock, Mode, Name, NoMemory, Txn};
+use e3_types::{Grant, List, Lock, Mode, Name, NoMemory, Txn, place_of};
 use std::alloc::Global;
 use std::marker::Model;
 

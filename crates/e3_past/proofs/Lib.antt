@@ -2,4 +2,6 @@ pub mod Recalled
 pub mod Readying
 mod Undecided
 pub mod Known
-pub mod Following
+pub mod RecordsFollow
+pub mod MayFollow
+mod Taking

@@ -10,8 +10,8 @@ use Rattle.e3_cards.specs.declared.cards.Cards.{Cards}
 use Rattle.e3_cards.specs.declared.cards.Changes.{Changes}
 use Rattle.e3_cards.specs.Cards.{card_by, moment_of}
 use Rattle.e3_cards.specs.Tables.{AreChanges, CardsStand, HasRoom as HasCards, IsRoomier, call_now, card_at, put}
-use Rattle.e3_names.specs.declared.names.Names.{Names}
-use Rattle.e3_names.specs.Knowing.{AreBehind, NamesStand}
+use Rattle.e3_past.specs.declared.names.Names.{Names}
+use Rattle.e3_past.specs.Knowing.{AreBehind, NamesStand}
 use Rattle.e3_places.specs.declared.places.Place.{Place}
 use Rattle.e3_places.specs.Granting.{given}
 use Rattle.e3_places.specs.Keeping.{HasRoom as HasPlaces}

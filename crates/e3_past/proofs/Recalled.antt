@@ -11,7 +11,7 @@ use Rattle.e3_world.specs.declared.lives.Life.{Life}
 use Rattle.e3_world.specs.declared.lives.Made.{Made}
 use Rattle.e3_world.specs.Lives.{life_of}
 use Rattle.e3_world.specs.Making.{log_now, steps_now}
-use Rattle.e3_world.specs.Moves.{plain_input}
+use Rattle.e3_world.specs.Moves.{unnumbered_input}
 use Rattle.e3_world.specs.Operations.{issued, nth_op, unanswered}
 use Rattle.e3_world.specs.Steps.{step_at, step_of}
 use Rattle.e3_world.specs.Votes.{yes_votes}
@@ -60,10 +60,10 @@ own_stands site cards life h = record {
 }
 
 -- the step at the place of a site's input is the step of the site
-pub step_is : (weights : List ℕ) (site own : ℕ) (now : Incarnation) (i j : Input) (r : Result Made NoMemory) → own ≡ site → j ≡ plain_input i
+pub step_is : (weights : List ℕ) (site own : ℕ) (now : Incarnation) (i j : Input) (r : Result Made NoMemory) → own ≡ site → j ≡ unnumbered_input i
     → IfOk r (λ made. made ≡ step_at (record { weights = weights; site = own; life = life_of now; input = j }))
     → IfOk r (λ made. made ≡ step_of weights site now i)
-step_is weights site own now i j r here plain h =
+step_is weights site own now i j r here unnumbered h =
     ok_is r (step_at (record { weights = weights; site = own; life = life_of now; input = j })) (step_of weights site now i)
     (ap (λ (s : ℕ). step_at (record { weights = weights; site = s; life = life_of now; input = j })) here
-    ∙ ap (λ (x : Input). step_at (record { weights = weights; site = site; life = life_of now; input = x })) plain) h
+    ∙ ap (λ (x : Input). step_at (record { weights = weights; site = site; life = life_of now; input = x })) unnumbered) h

@@ -12,8 +12,8 @@ use Rattle.e3_cards.specs.Tables.{CardsStand}
 use Rattle.e3_places.specs.declared.places.Places.{Places}
 use Rattle.e3_places.specs.Keeping.{PlacesStand}
 use Rattle.e3_places.specs.Standing.{may_follow}
-use Rattle.e3_names.specs.declared.names.Names.{Names}
-use Rattle.e3_names.specs.Knowing.{NamesStand}
+use Rattle.e3_past.specs.declared.names.Names.{Names}
+use Rattle.e3_past.specs.Knowing.{NamesStand}
 use Rattle.e3_past.specs.declared.logged.Logged.{Logged}
 use Rattle.e3_past.specs.declared.tables.Tables.{Tables}
 use Rattle.e3_past.specs.Opening.{OpensStand}

@@ -3,7 +3,7 @@ use Rattle.std.specs.Prelude.{◌≡◌, ℕ, true}
 use Rattle.e3_world.specs.declared.lives.Life.{Life}
 use Rattle.e3_world.specs.declared.lives.SiteStep.{SiteStep}
 use Rattle.e3_cards.specs.Tables.{AreChanges, CardsStand, HasRoom as HasCards}
-use Rattle.e3_names.specs.Knowing.{AreBehind, NamesStand}
+use Rattle.e3_past.specs.Knowing.{AreBehind, NamesStand}
 use Rattle.e3_places.specs.Keeping.{HasRoom as HasPlaces}
 use Rattle.e3_places.specs.Standing.{follow}
 use Rattle.e3_past.specs.declared.tables.Behind.{Behind}

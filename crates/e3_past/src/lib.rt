@@ -3,13 +3,19 @@
 //! what a step makes of them, `ready` makes room for it, and `apply` puts it in its place. Want of memory is the only error.
 #![tactic(auto)]
 
+mod arriving;
+mod following;
+mod laws;
 mod logged;
+mod names;
 mod opening;
 mod reader;
 mod stepping;
 mod tables;
 
+pub use laws::steps_may_follow_the_log;
 pub use logged::Logged;
+pub use names::{Names, NamesBehind};
 pub use opening::open_with;
 pub use reader::step_with;
 pub use stepping::{apply, behind, ready};

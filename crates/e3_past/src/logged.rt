@@ -6,15 +6,16 @@ ghost use Rattle.e3_world.specs.Logs.{logged_inc};
 ghost use Rattle.e3_world.specs.Orderly.{IsOrderly};
 ghost use Rattle.e3_cards.specs.Noting.{unstepped};
 ghost use Rattle.e3_cards.specs.Tables.{CardsStand};
-ghost use Rattle.e3_names.specs.Knowing.{NamesStand};
+ghost use Rattle.e3_past.specs.Knowing.{NamesStand};
 ghost use Rattle.e3_places.specs.Keeping.{PlacesStand};
 ghost use Rattle.e3_places.specs.Standing.{may_follow};
 ghost use Rattle.e3_past.specs.Standing.{LoggedStand, PlacesMayStand, TablesStand, is_birth, may_be_read};
 
+use crate::following::may_follow;
+use crate::names::Names;
 use crate::opening::{no_opens, note_opens};
 use crate::tables::{Opens, Tables};
 use e3_cards::{Cards, note};
-use e3_names::{Names, may_follow};
 use e3_places::{Places, born, unborn};
 use e3_readings::logged_inc;
 use e3_types::{List, NoMemory, Record};

@@ -14,9 +14,9 @@ ghost use Rattle.e3_places.specs.Standing.{fresh_of};
 ghost use Rattle.e3_past.specs.Opening.{AreAdded, HaveRoom, OpensStand, decides, fresh_txns, undecided_among};
 ghost use Rattle.e3_past.specs.Standing.{TablesStand};
 
+use crate::arriving::fresh;
 use crate::tables::{Opens, Tables};
 use e3_cards::Cards;
-use e3_names::fresh;
 use e3_places::Standing;
 use e3_readings::{in_order, is_decision, is_undecided};
 use e3_types::{List, NoMemory, Record, Told, Txn};

@@ -6,11 +6,11 @@ ghost use Rattle.e3_world.specs.Lives.{life_of};
 ghost use Rattle.e3_world.specs.Steps.{step_at, step_of};
 ghost use Rattle.e3_past.specs.Standing.{ReadsAt, TablesStand};
 
+use crate::names;
+use crate::names::Names;
 use crate::tables::Tables;
 use e3_cards::Cards;
-use e3_names as names;
-use e3_names::Names;
-use e3_plain::plain_input;
+use e3_plain::unnumbered_input;
 use e3_step::{Past, step_at};
 use e3_types::{Answer, Call, Dir, Grant, Input, List, Name, NoMemory, Refusal, Txn};
 use e3_world::{Asked, Election, Expected, Made, Performed, Round};
@@ -30,7 +30,7 @@ impl Whose for Brand {
 }
 
 // A past over tables that stand for it. Readings of names ask that the records of the step so far may follow the log, as those
-// of each step of the definitions may: `steps_may_follow_the_log` of e3_law_follow.
+// of each step of the definitions may: `steps_may_follow_the_log`.
 #[derive(Drop)]
 struct Reader<'a, K: Whose> {
     weights: &'a [u32],
@@ -175,7 +175,7 @@ impl<'a, K: Whose> Past for Reader<'a, K> {
 
     fn has_every_yes(&self, alloc: Global, t: &Txn, made: &Made) -> Result<bool, NoMemory> {
         let cards = self.cards;
-        cards.has_every_yes(alloc, t, self.input, made)
+        Ok(cards.has_every_yes(alloc, t, self.input, made))
     }
 
     fn election(&self, alloc: Global, t: &Txn) -> Result<Option<Election>, NoMemory> {
@@ -238,6 +238,6 @@ pub fn step_with(
         weights,
         &tables.cards,
         &tables.names,
-        &plain_input(input),
+        &unnumbered_input(input),
     )
 }

@@ -6,10 +6,10 @@ ghost use Rattle.e3_places.specs.Standing.{follow};
 ghost use Rattle.e3_past.specs.Standing.{TablesStand};
 ghost use Rattle.e3_past.specs.Stepping.{ActAlike, HasRoom, IsBehind};
 
+use crate::names;
 use crate::opening::{added, apply_opens, ready_opens};
 use crate::tables::{Behind, Tables};
 use e3_cards as cards;
-use e3_names as names;
 use e3_types::NoMemory;
 use e3_world::SiteStep;
 use std::alloc::Global;
@@ -40,7 +40,7 @@ pub fn ready(alloc: Global, tables: &mut Tables, behind: &Behind) -> Result<(), 
 }
 
 /// Puts what a step makes in its place: the tables are those of the life with that step, where the step's records may follow
-/// the log. Those of the rules always may: `steps_may_follow_the_log` of e3_law_follow. It takes no memory.
+/// the log. Those of the rules always may: `steps_may_follow_the_log`. It takes no memory.
 pub fn apply(tables: &mut Tables, step: &SiteStep, behind: Behind)
     requires are { IsBehind tables.old step.now behind }
     requires room { HasRoom tables.old behind }

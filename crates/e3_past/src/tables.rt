@@ -1,6 +1,6 @@
 // What a site keeps of its past, and what a step makes of it.
+use crate::names::{Names, NamesBehind};
 use e3_cards::{Cards, Changes};
-use e3_names::{Names, NamesBehind};
 use e3_types::Txn;
 
 /// Undecided transactions that a site knows, some more than once: those of its log, in its order; those of the operations

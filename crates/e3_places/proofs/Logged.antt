@@ -16,11 +16,11 @@ use Rattle.e3_world.specs.declared.lives.Asked.{Asked}
 use Rattle.e3_world.specs.declared.lives.Life.{Life}
 use Rattle.e3_readings.proofs.Equal.{same_txn_eq}
 use Rattle.e3_readings.proofs.Tests.{none_left, none_right}
-use Rattle.e3_places.specs.declared.keys.TxnKey.{TxnKey}
+use Rattle.e3_places.specs.declared.keys.TxnId.{TxnId}
 use Rattle.e3_places.specs.declared.places.Claims.{Claims}
 use Rattle.e3_places.specs.declared.places.Place.{Place}
 use Rattle.e3_places.specs.declared.places.Places.{Places}
-use Rattle.e3_places.specs.Keeping.{PlacesStand, at_key, at_name, bare, claims_at, is_key, no_claims, place_at, txn_key}
+use Rattle.e3_places.specs.Keeping.{PlacesStand, at_key, at_name, bare, claims_at, is_key, no_claims, place_at, txn_id}
 use Rattle.e3_places.specs.Noting.{cast_more, ended, left_by, with_vote}
 use Rattle.e3_places.specs.Rising.{risen}
 use Rattle.e3_places.specs.Standing.{cast_in, cast_of, claims_by, claims_of, decided_in, follow, has_key, is_left, is_of, is_on, place_by, place_of, row_with, voted, votes_by, written}
@@ -31,7 +31,7 @@ use Rattle.e3_places.proofs.Rowing.{row_more}
 use Rattle.e3_places.proofs.Turning.{any_next, take_next, turned_at, turned_by}
 use Rattle.e3_places.proofs.Voting.{votes_more}
 
-key_eq : (k l : TxnKey) → is_key k l ≡ true → k ≡ l
+key_eq : (k l : TxnId) → is_key k l ≡ true → k ≡ l
 key_eq k l e = sym (keys_eq l k (keys_turned l k ∙ e))
 
 assoc : (xs ys zs : List Asked) → (xs ++ ys) ++ zs ≡ xs ++ (ys ++ zs)
@@ -102,7 +102,7 @@ votes_cast test votes more t ops are =
     ap (λ (l : List Asked). votes ++ l) are ∙ ap (λ (l : List Asked). votes ++ filter test l) (sym (append-nil (map (voted t) ops)))
     ∙ sym (left_all t ops (votes ++ filter test (cast_of (log.Vote t ops ∷ []))))
 
-of_votes : (k : TxnKey) (t : Txn) (ops : List NumOp) → (if has_key k t then map (voted t) ops else []) ≡ filter (is_of k) (map (voted t) ops)
+of_votes : (k : TxnId) (t : Txn) (ops : List NumOp) → (if has_key k t then map (voted t) ops else []) ≡ filter (is_of k) (map (voted t) ops)
 of_votes k t [] = by (has_key k t)
   where
     by : (b : Bool) → (if b then map (voted t) [] else []) ≡ []
@@ -125,7 +125,7 @@ place_cast name site inc before t ops was is =
     ap (λ (p : Place). fold (with_vote name) p (map (voted t) ops)) is ∙ votes_fold name there (map (voted t) ops)
     ∙ (λ i. record { claims = record { standing = []; votes = votes i }; row = there.row })
 
-claims_cast : (k : TxnKey) (site inc : ℕ) (before : List Record) (t : Txn) (ops : List NumOp) → (was : Claims) → was ≡ claims_of (is_of k) site (risen inc before)
+claims_cast : (k : TxnId) (site inc : ℕ) (before : List Record) (t : Txn) (ops : List NumOp) → (was : Claims) → was ≡ claims_of (is_of k) site (risen inc before)
     → (if has_key k t then record was { votes = was.votes ++ map (voted t) ops } else was) ≡ claims_by (is_of k) (claims_of (is_of k) site (risen inc before)) None (log.Vote t ops ∷ []) [] []
 claims_cast k site inc before t ops was is =
     let there : Claims = claims_of (is_of k) site (risen inc before) in
@@ -139,7 +139,7 @@ claims_cast k site inc before t ops was is =
 
 -- the tables of a log with a vote
 pub cast_stands : (old now : Places) (t : Txn) (ops : List NumOp) → ((name : List ℕ) → place_at now.names.entries name ≡ fold (with_vote name) (place_at old.names.entries name) (map (voted t) ops))
-    → ((k : TxnKey) → claims_at now.txns.entries k
+    → ((k : TxnId) → claims_at now.txns.entries k
     ≡ (if has_key k t then record (claims_at old.txns.entries k) { votes = (claims_at old.txns.entries k).votes ++ map (voted t) ops } else claims_at old.txns.entries k))
     → (site inc : ℕ) (before : List Record) → PlacesStand site old (risen inc before) → follow before (log.Vote t ops ∷ []) ≡ true
     → PlacesStand site now (risen inc (before ++ log.Vote t ops ∷ []))
@@ -220,7 +220,7 @@ ends_on r old cur now xs i a lt is inv done name =
     by p false false = refl
 
 -- claims and places behind a decision, by the definitions
-left_claims : (k : TxnKey) (site inc : ℕ) (before : List Record) (t : Txn) (dir : Dir)
+left_claims : (k : TxnId) (site inc : ℕ) (before : List Record) (t : Txn) (dir : Dir)
     → left_by (log.Decision t dir) (claims_of (is_of k) site (risen inc before)) ≡ claims_by (is_of k) (claims_of (is_of k) site (risen inc before)) None (log.Decision t dir ∷ []) [] []
 left_claims k site inc before t dir =
     let nil = sym (append-nil (claims_of (is_of k) site (risen inc before)).votes) in λ i. record { standing = []; votes = filter (is_left (log.Decision t dir ∷ [])) (nil i) }
@@ -241,31 +241,31 @@ any_less p q (x ∷ xs) e = by (q x) (any_less p q xs (none_right (p x) (list_an
     by false ih = ih
 
 -- a decision touches the names of the transaction's votes
-untouched : (name : List ℕ) (site inc : ℕ) (before : List Record) (txns : List (TxnKey × Claims)) (t : Txn) (dir : Dir)
-    → ((k : TxnKey) → claims_at txns k ≡ claims_of (is_of k) site (risen inc before)) → list_any (is_on name) (claims_of (is_of (txn_key t)) site (risen inc before)).votes ≡ false
+untouched : (name : List ℕ) (site inc : ℕ) (before : List Record) (txns : List (TxnId × Claims)) (t : Txn) (dir : Dir)
+    → ((k : TxnId) → claims_at txns k ≡ claims_of (is_of k) site (risen inc before)) → list_any (is_on name) (claims_of (is_of (txn_id t)) site (risen inc before)).votes ≡ false
     → list_any (same_numbers name) (names_touched txns None (log.Decision t dir ∷ []) [] []) ≡ false
 untouched name site inc before txns t dir stand e =
-    let there : Claims = claims_of (is_of (txn_key t)) site (risen inc before) in
+    let there : Claims = claims_of (is_of (txn_id t)) site (risen inc before) in
     let gone : List Asked = filter (λ a. decided_in (log.Decision t dir ∷ []) a.txn) there.votes in
-    ap (λ (c : Claims). list_any (same_numbers name) (moved_names (log.Decision t dir ∷ []) [] [] c ++ [])) (stand (txn_key t))
+    ap (λ (c : Claims). list_any (same_numbers name) (moved_names (log.Decision t dir ∷ []) [] [] c ++ [])) (stand (txn_id t))
     ∙ ap (list_any (same_numbers name)) (append-nil (map name_of gone)) ∙ any_map (same_numbers name) name_of gone
     ∙ any_less (is_on name) (λ a. decided_in (log.Decision t dir ∷ []) a.txn) there.votes e
 
 -- the tables of a log with a decision
 pub end_stands : (old now : Places) (t : Txn) (dir : Dir)
     → ((name : List ℕ) → place_at now.names.entries name
-    ≡ (if list_any (is_on name) (claims_at old.txns.entries (txn_key t)).votes then ended (log.Decision t dir) (place_at old.names.entries name) else place_at old.names.entries name))
-    → ((k : TxnKey) → claims_at now.txns.entries k ≡ (if is_key k (txn_key t) then left_by (log.Decision t dir) (claims_at old.txns.entries k) else claims_at old.txns.entries k))
+    ≡ (if list_any (is_on name) (claims_at old.txns.entries (txn_id t)).votes then ended (log.Decision t dir) (place_at old.names.entries name) else place_at old.names.entries name))
+    → ((k : TxnId) → claims_at now.txns.entries k ≡ (if is_key k (txn_id t) then left_by (log.Decision t dir) (claims_at old.txns.entries k) else claims_at old.txns.entries k))
     → (site inc : ℕ) (before : List Record) → PlacesStand site old (risen inc before) → follow before (log.Decision t dir ∷ []) ≡ true
     → PlacesStand site now (risen inc (before ++ log.Decision t dir ∷ []))
 end_stands old now t dir names txns site inc before stands h = record {
   names_stand = λ name.
       names name
-      ∙ ap (λ (c : Claims). if list_any (is_on name) c.votes then ended r (place_at old.names.entries name) else place_at old.names.entries name) (stands.txns_stand (txn_key t))
-      ∙ ap (λ (p : Place). if list_any (is_on name) (its (txn_key t)).votes then ended r p else p) (stands.names_stand name)
-      ∙ on name (list_any (is_on name) (its (txn_key t)).votes) refl ∙ sym (place_more name site inc before (r ∷ []) h);
+      ∙ ap (λ (c : Claims). if list_any (is_on name) c.votes then ended r (place_at old.names.entries name) else place_at old.names.entries name) (stands.txns_stand (txn_id t))
+      ∙ ap (λ (p : Place). if list_any (is_on name) (its (txn_id t)).votes then ended r p else p) (stands.names_stand name)
+      ∙ on name (list_any (is_on name) (its (txn_id t)).votes) refl ∙ sym (place_more name site inc before (r ∷ []) h);
   txns_stand = λ k.
-      txns k ∙ ap (λ (c : Claims). if is_key k (txn_key t) then left_by r c else c) (stands.txns_stand k) ∙ of k (is_key k (txn_key t)) refl
+      txns k ∙ ap (λ (c : Claims). if is_key k (txn_id t) then left_by r c else c) (stands.txns_stand k) ∙ of k (is_key k (txn_id t)) refl
       ∙ sym (claims_more (is_of k) site inc before (r ∷ []) h);
 }
   where
@@ -275,15 +275,15 @@ end_stands old now t dir names txns site inc before stands h = record {
     life : Life
     life = risen inc before
 
-    its : TxnKey → Claims
+    its : TxnId → Claims
     its k = claims_of (is_of k) site life
 
-    on : (name : List ℕ) (b : Bool) → list_any (is_on name) (its (txn_key t)).votes ≡ b
+    on : (name : List ℕ) (b : Bool) → list_any (is_on name) (its (txn_id t)).votes ≡ b
         → (if b then ended r (place_of name site life) else place_of name site life) ≡ place_by name (place_of name site life) None (r ∷ []) [] []
     on name true e = ended_place name site inc before t dir
     on name false e = sym (name_quiet name site life old.txns.entries None (r ∷ []) [] [] stands.txns_stand (untouched name site inc before old.txns.entries t dir stands.txns_stand e))
 
-    of : (k : TxnKey) (b : Bool) → is_key k (txn_key t) ≡ b → (if b then left_by r (its k) else its k) ≡ claims_by (is_of k) (its k) None (r ∷ []) [] []
+    of : (k : TxnId) (b : Bool) → is_key k (txn_id t) ≡ b → (if b then left_by r (its k) else its k) ≡ claims_by (is_of k) (its k) None (r ∷ []) [] []
     of k true e = left_claims k site inc before t dir
     of k false e = sym (key_quiet k site life None (r ∷ []) [] [] (ap (λ (b : Bool). b || false) e))
 
@@ -297,17 +297,17 @@ other_stands old r none undecided site inc before stands h = record {
 }
   where
     moves : Txn → List (List ℕ)
-    moves t = moved_names (r ∷ []) [] [] (claims_at old.txns.entries (txn_key t))
+    moves t = moved_names (r ∷ []) [] [] (claims_at old.txns.entries (txn_id t))
 
     names : (name : List ℕ) → list_any (same_numbers name) (names_touched old.txns.entries None (r ∷ []) [] []) ≡ false
     names name =
         ap (λ (l : List Asked). list_any (same_numbers name) (map name_of (l ++ []) ++ flat_map moves ((decided_txns r ++ []) ++ []))) none
         ∙ ap (λ (l : List Txn). list_any (same_numbers name) (flat_map moves ((l ++ []) ++ []))) undecided
 
-    keys : (k : TxnKey) → list_any (is_key k) (keys_touched None (r ∷ []) [] []) ≡ false
+    keys : (k : TxnId) → list_any (is_key k) (keys_touched None (r ∷ []) [] []) ≡ false
     keys k =
-        ap (λ (l : List Asked). list_any (is_key k) (map (λ a. txn_key a.txn) (l ++ []) ++ map txn_key ((decided_txns r ++ []) ++ []))) none
-        ∙ ap (λ (l : List Txn). list_any (is_key k) (map txn_key ((l ++ []) ++ []))) undecided
+        ap (λ (l : List Asked). list_any (is_key k) (map (λ a. txn_id a.txn) (l ++ []) ++ map txn_id ((decided_txns r ++ []) ++ []))) none
+        ∙ ap (λ (l : List Txn). list_any (is_key k) (map txn_id ((l ++ []) ++ []))) undecided
 
 -- a vote is put to what stands on its name
 pub vote_put : (ms mid ns : List (List ℕ × Place)) (name : List ℕ) (a : Asked) (place : Place) → name ≡ name_of a → place ≡ record (place_at ms name) { claims = cast_more (place_at ms name).claims a }
@@ -327,9 +327,9 @@ end_put r ms mid ns name a place is made rest done n =
     ∙ ap (λ (m : List ℕ). if same_numbers n m then ended r (place_at ms n) else place_at ms n) is
 
 -- the claims of a transaction are others from now on
-pub claims_put : (turn : Claims → Claims) (ms mid ns : List (TxnKey × Claims)) (t : Txn) (key : TxnKey) (claims : Claims) → key ≡ txn_key t → claims ≡ turn (claims_at ms key)
-    → ((k : TxnKey) → is_key k key ≡ false → claims_at mid k ≡ claims_at ms k) → ((k : TxnKey) → claims_at ns k ≡ (if is_key k key then claims else claims_at mid k))
-    → (k : TxnKey) → claims_at ns k ≡ (if is_key k (txn_key t) then turn (claims_at ms k) else claims_at ms k)
+pub claims_put : (turn : Claims → Claims) (ms mid ns : List (TxnId × Claims)) (t : Txn) (key : TxnId) (claims : Claims) → key ≡ txn_id t → claims ≡ turn (claims_at ms key)
+    → ((k : TxnId) → is_key k key ≡ false → claims_at mid k ≡ claims_at ms k) → ((k : TxnId) → claims_at ns k ≡ (if is_key k key then claims else claims_at mid k))
+    → (k : TxnId) → claims_at ns k ≡ (if is_key k (txn_id t) then turn (claims_at ms k) else claims_at ms k)
 claims_put turn ms mid ns t key claims is made rest done k =
     turned_by is_key (claims_at ms) (claims_at ns) turn key claims key_eq made (turned_at at_key is_key no_claims ms mid ns key claims rest done) k
-    ∙ ap (λ (l : TxnKey). if is_key k l then turn (claims_at ms k) else claims_at ms k) is
+    ∙ ap (λ (l : TxnId). if is_key k l then turn (claims_at ms k) else claims_at ms k) is

@@ -15,7 +15,7 @@ use Rattle.e3_world.specs.declared.lives.SiteStep.{SiteStep}
 use Rattle.e3_world.specs.Lives.{life_by}
 use Rattle.e3_world.proofs.Turns.{true_not_false}
 use Rattle.e3_places.specs.declared.changing.Changes.{Changes}
-use Rattle.e3_places.specs.declared.keys.TxnKey.{TxnKey}
+use Rattle.e3_places.specs.declared.keys.TxnId.{TxnId}
 use Rattle.e3_places.specs.declared.places.Claims.{Claims}
 use Rattle.e3_places.specs.declared.places.Place.{Place}
 use Rattle.e3_places.specs.declared.places.Places.{Places}
@@ -59,10 +59,10 @@ put_each same key value make now eq e f k (l ∷ ls) x = by (put_each same key v
     by ih false g =
         ap (λ (y : _). fold (PutBy same key value k) y (map make ls)) (step false g) ∙ ih x ∙ sym (ap (λ (b : Bool). if b || list_any (same k) ls then now k else x) g)
 
-key_eq : (k l : TxnKey) → is_key k l ≡ true → k ≡ l
+key_eq : (k l : TxnId) → is_key k l ≡ true → k ≡ l
 key_eq k l e = grind (arith, common_steps, e)
 
-pub key_ties : (k l : TxnKey) → at_key k l ≡ is_key k l
+pub key_ties : (k l : TxnId) → at_key k l ≡ is_key k l
 key_ties k l = grind (arith, common_steps)
 
 is_or : {X : Type 0} (b : Bool) (x y : X) → (b ≡ false → x ≡ y) → (if b then x else y) ≡ x
@@ -81,7 +81,7 @@ names_changed site life places new rs events outs stands name =
     (λ e. ap (λ (p : Place). place_by name p new rs events outs) (stands.names_stand name) ∙ name_quiet name site life places.txns.entries new rs events outs stands.txns_stand e
     ∙ sym (stands.names_stand name))
 
-pub txns_changed : (site : ℕ) (life : Life) (places : Places) (new : Option Standing) (rs : List Record) (events : List Told) (outs : List Packet) → PlacesStand site places life → (k : TxnKey)
+pub txns_changed : (site : ℕ) (life : Life) (places : Places) (new : Option Standing) (rs : List Record) (events : List Told) (outs : List Packet) → PlacesStand site places life → (k : TxnId)
     → fold (put_txn k) (claims_at places.txns.entries k) (map (txn_change places.txns.entries new rs events outs) (keys_touched new rs events outs))
     ≡ claims_by (is_of k) (claims_at places.txns.entries k) new rs events outs
 txns_changed site life places new rs events outs stands k =
@@ -118,7 +118,7 @@ place_step name site life s h =
 
 -- and the tables stand for the life with the step
 pub stands_on : (old now : Places) (changes : Changes) → ((name : List ℕ) → place_at now.names.entries name ≡ fold (put_name name) (place_at old.names.entries name) changes.names)
-    → ((k : TxnKey) → claims_at now.txns.entries k ≡ fold (put_txn k) (claims_at old.txns.entries k) changes.txns)
+    → ((k : TxnId) → claims_at now.txns.entries k ≡ fold (put_txn k) (claims_at old.txns.entries k) changes.txns)
     → (site : ℕ) (life : Life) (s : SiteStep) → PlacesStand site old life → AreChanges old (fresh_of site life s) s.records s.told s.outs changes → follow life.log s.records ≡ true
     → PlacesStand site now (life_by life s)
 stands_on old now changes names txns site life s stands are h = record {
@@ -192,10 +192,10 @@ names_eq k q e = same_numbers_eq k q (sym (ties k q) ∙ e)
 pub names_turned : (k q : List ℕ) → at_name k q ≡ same_numbers q k
 names_turned k q = ties k q ∙ same_turned k q
 
-pub keys_eq : (k q : TxnKey) → at_key k q ≡ true → k ≡ q
+pub keys_eq : (k q : TxnId) → at_key k q ≡ true → k ≡ q
 keys_eq k q e = key_eq k q (sym (key_ties k q) ∙ e)
 
-pub keys_turned : (k q : TxnKey) → at_key k q ≡ is_key q k
+pub keys_turned : (k q : TxnId) → at_key k q ≡ is_key q k
 keys_turned k q = key_ties k q ∙ grind (arith, common_steps)
 
 take_whole : {X : Type 0} (cs : List X) → take (length cs) cs ≡ cs

@@ -25,11 +25,11 @@ use Rattle.e3_world.specs.Operations.{arrivals}
 use Rattle.e3_world.proofs.Turns.{true_not_false}
 use Rattle.e3_readings.proofs.Equal.{same_txn_refl, same_txn_eq}
 use Rattle.e3_readings.proofs.Tests.{none_left, none_right}
-use Rattle.e3_places.specs.declared.keys.TxnKey.{TxnKey}
+use Rattle.e3_places.specs.declared.keys.TxnId.{TxnId}
 use Rattle.e3_places.specs.declared.places.Claims.{Claims}
 use Rattle.e3_places.specs.declared.places.Standing.{Standing}
 use Rattle.e3_places.specs.Standing.{is_on, is_of, has_key, stand, standing_one, standing_of, cast_of, is_open, votes_of, claims_of, place_of, row_of, decided_in, is_told, is_sent, is_heard, is_left, again, newly, standing_by, with_cast, votes_by, claims_by, written, row_with, row_by, place_by}
-use Rattle.e3_places.specs.Keeping.{txn_key, is_key, claims_at}
+use Rattle.e3_places.specs.Keeping.{txn_id, is_key, claims_at}
 use Rattle.e3_places.specs.Touching.{name_of, decided_txns, told_txns, sent_txns, reached, is_moved, moved_names, added, names_touched, keys_touched}
 use Rattle.e3_places.proofs.Voting.{filter_both}
 
@@ -169,7 +169,7 @@ reach_moved rs events outs s h =
     (λ e. decided_all s.asked.txn rs ∙ e) (reach_heard s.asked events outs) h
 
 -- a transaction has its own key
-own_key : (t : Txn) → has_key (txn_key t) t ≡ true
+own_key : (t : Txn) → has_key (txn_id t) t ≡ true
 own_key t = grind (arith, common_steps)
 
 three_turned : (f m o : Bool) → Implies m f → (f && (m && o)) ≡ (o && m)
@@ -183,16 +183,16 @@ three_turned false false false h = refl
 
 -- what moves on a name is found by the transactions that are reached
 touch_any : {X : Type 0} (asked : X → Asked) (m : X → Bool) (ts : List Txn) (name : List ℕ) → ((x : X) → Implies (m x) (list_any (same_txn (asked x).txn) ts)) → (base : List X)
-    → list_any (λ t. list_any (λ x. is_of (txn_key t) (asked x) && (m x && is_on name (asked x))) base) ts ≡ list_any (λ x. is_on name (asked x) && m x) base
+    → list_any (λ t. list_any (λ x. is_of (txn_id t) (asked x) && (m x && is_on name (asked x))) base) ts ≡ list_any (λ x. is_on name (asked x) && m x) base
 touch_any asked m ts name h base =
-    any_turned (λ t x. is_of (txn_key t) (asked x) && (m x && is_on name (asked x))) ts base
-    ∙ any_alike (λ x. list_any (λ t. is_of (txn_key t) (asked x) && (m x && is_on name (asked x))) ts) (λ x. is_on name (asked x) && m x) one base
+    any_turned (λ t x. is_of (txn_id t) (asked x) && (m x && is_on name (asked x))) ts base
+    ∙ any_alike (λ x. list_any (λ t. is_of (txn_id t) (asked x) && (m x && is_on name (asked x))) ts) (λ x. is_on name (asked x) && m x) one base
   where
-    one : (x : _) → list_any (λ t. is_of (txn_key t) (asked x) && (m x && is_on name (asked x))) ts ≡ (is_on name (asked x) && m x)
+    one : (x : _) → list_any (λ t. is_of (txn_id t) (asked x) && (m x && is_on name (asked x))) ts ≡ (is_on name (asked x) && m x)
     one x =
-        any_and (λ t. is_of (txn_key t) (asked x)) (m x && is_on name (asked x)) ts
-        ∙ three_turned (list_any (λ t. is_of (txn_key t) (asked x)) ts) (m x) (is_on name (asked x))
-        (λ e. found (asked x).txn (λ t. has_key (txn_key t) (asked x).txn) (own_key (asked x).txn) ts (h x e))
+        any_and (λ t. is_of (txn_id t) (asked x)) (m x && is_on name (asked x)) ts
+        ∙ three_turned (list_any (λ t. is_of (txn_id t) (asked x)) ts) (m x) (is_on name (asked x))
+        (λ e. found (asked x).txn (λ t. has_key (txn_id t) (asked x).txn) (own_key (asked x).txn) ts (h x e))
 
 abbrev any_asked : Asked → Bool
 any_asked a = true
@@ -230,10 +230,10 @@ votes_as test records = filter_both (is_open any_asked records) test (is_open te
 
 -- the names that a step moves of all transactions that it reaches are those on which something moves
 moved_on : (name : List ℕ) (site : ℕ) (life : Life) (rs : List Record) (events : List Told) (outs : List Packet)
-    → list_any (same_numbers name) (flat_map (λ t. moved_names rs events outs (claims_of (is_of (txn_key t)) site life)) (reached rs events outs))
+    → list_any (same_numbers name) (flat_map (λ t. moved_names rs events outs (claims_of (is_of (txn_id t)) site life)) (reached rs events outs))
     ≡ (list_any (is_moved rs events outs) (standing_of (is_on name) site life) || list_any (λ a. decided_in rs a.txn) (votes_of (is_on name) life.log))
 moved_on name site life rs events outs =
-    any_flat (same_numbers name) (λ t. moved_names rs events outs (claims_of (is_of (txn_key t)) site life)) ts
+    any_flat (same_numbers name) (λ t. moved_names rs events outs (claims_of (is_of (txn_id t)) site life)) ts
     ∙ any_alike _ (λ t. some t || voted t) one ts
     ∙ any_both some voted ts
     ∙ ap (λ (b : Bool). b || list_any voted ts) (touch_any (λ s. s.asked) m ts name (reach_moved rs events outs) base ∙ sym (ap (list_any m) (standing_as (is_on name) site life) ∙ any_filter m (λ s. is_on name s.asked) base))
@@ -256,24 +256,24 @@ moved_on name site life rs events outs =
     votes = votes_of any_asked life.log
 
     some : Txn → Bool
-    some t = list_any (λ s. is_of (txn_key t) s.asked && (m s && is_on name s.asked)) base
+    some t = list_any (λ s. is_of (txn_id t) s.asked && (m s && is_on name s.asked)) base
 
     voted : Txn → Bool
-    voted t = list_any (λ a. is_of (txn_key t) a && (d a && is_on name a)) votes
+    voted t = list_any (λ a. is_of (txn_id t) a && (d a && is_on name a)) votes
 
-    one : (t : Txn) → list_any (same_numbers name) (moved_names rs events outs (claims_of (is_of (txn_key t)) site life)) ≡ (some t || voted t)
+    one : (t : Txn) → list_any (same_numbers name) (moved_names rs events outs (claims_of (is_of (txn_id t)) site life)) ≡ (some t || voted t)
     one t =
-        list_any-append (same_numbers name) (map (λ s. name_of s.asked) (filter m (standing_of (is_of (txn_key t)) site life))) (map name_of (filter d (votes_of (is_of (txn_key t)) life.log)))
-        ∙ ap (λ (b : Bool). b || list_any (same_numbers name) (map name_of (filter d (votes_of (is_of (txn_key t)) life.log))))
-        (any_map (same_numbers name) (λ s. name_of s.asked) (filter m (standing_of (is_of (txn_key t)) site life))
-        ∙ any_filter (λ s. is_on name s.asked) m (standing_of (is_of (txn_key t)) site life)
-        ∙ ap (list_any (λ s. m s && is_on name s.asked)) (standing_as (is_of (txn_key t)) site life)
-        ∙ any_filter (λ s. m s && is_on name s.asked) (λ s. is_of (txn_key t) s.asked) base)
+        list_any-append (same_numbers name) (map (λ s. name_of s.asked) (filter m (standing_of (is_of (txn_id t)) site life))) (map name_of (filter d (votes_of (is_of (txn_id t)) life.log)))
+        ∙ ap (λ (b : Bool). b || list_any (same_numbers name) (map name_of (filter d (votes_of (is_of (txn_id t)) life.log))))
+        (any_map (same_numbers name) (λ s. name_of s.asked) (filter m (standing_of (is_of (txn_id t)) site life))
+        ∙ any_filter (λ s. is_on name s.asked) m (standing_of (is_of (txn_id t)) site life)
+        ∙ ap (list_any (λ s. m s && is_on name s.asked)) (standing_as (is_of (txn_id t)) site life)
+        ∙ any_filter (λ s. m s && is_on name s.asked) (λ s. is_of (txn_id t) s.asked) base)
         ∙ ap (λ (b : Bool). some t || b)
-        (any_map (same_numbers name) name_of (filter d (votes_of (is_of (txn_key t)) life.log))
-        ∙ any_filter (is_on name) d (votes_of (is_of (txn_key t)) life.log)
-        ∙ ap (list_any (λ a. d a && is_on name a)) (votes_as (is_of (txn_key t)) life.log)
-        ∙ any_filter (λ a. d a && is_on name a) (is_of (txn_key t)) votes)
+        (any_map (same_numbers name) name_of (filter d (votes_of (is_of (txn_id t)) life.log))
+        ∙ any_filter (is_on name) d (votes_of (is_of (txn_id t)) life.log)
+        ∙ ap (list_any (λ a. d a && is_on name a)) (votes_as (is_of (txn_id t)) life.log)
+        ∙ any_filter (λ a. d a && is_on name a) (is_of (txn_id t)) votes)
 
 -- claims of which nothing moves, and to which nothing comes
 filter_none : {X : Type 0} (p : X → Bool) (xs : List X) → list_any p xs ≡ false → filter p xs ≡ []
@@ -345,16 +345,16 @@ row_quiet votes rs c row (x ∷ xs) w =
     one (log.Attempt u n dir) w = refl
 
 -- A name that a step does not touch keeps what stands there.
-pub name_quiet : (name : List ℕ) (site : ℕ) (life : Life) (txns : List (TxnKey × Claims)) (new : Option Standing) (rs : List Record) (events : List Told) (outs : List Packet)
-    → ((k : TxnKey) → claims_at txns k ≡ claims_of (is_of k) site life) → list_any (same_numbers name) (names_touched txns new rs events outs) ≡ false
+pub name_quiet : (name : List ℕ) (site : ℕ) (life : Life) (txns : List (TxnId × Claims)) (new : Option Standing) (rs : List Record) (events : List Told) (outs : List Packet)
+    → ((k : TxnId) → claims_at txns k ≡ claims_of (is_of k) site life) → list_any (same_numbers name) (names_touched txns new rs events outs) ≡ false
     → place_by name (place_of name site life) new rs events outs ≡ place_of name site life
 name_quiet name site life txns new rs events outs stand h =
-    let parts = sym (list_any-append (same_numbers name) (map name_of (added new rs)) (flat_map (λ t. moved_names rs events outs (claims_at txns (txn_key t))) (reached rs events outs))) ∙ h in
+    let parts = sym (list_any-append (same_numbers name) (map name_of (added new rs)) (flat_map (λ t. moved_names rs events outs (claims_at txns (txn_id t))) (reached rs events outs))) ∙ h in
     let a : list_any (is_on name) (added new rs) ≡ false = sym (any_map (same_numbers name) name_of (added new rs)) ∙ none_left _ _ parts in
     let moves =
-    sym (moved_on name site life rs events outs) ∙ sym (any_flat (same_numbers name) (λ t. moved_names rs events outs (claims_at txns (txn_key t))) (reached rs events outs)
-    ∙ any_alike _ _ (λ t. ap (λ (c : Claims). list_any (same_numbers name) (moved_names rs events outs c)) (stand (txn_key t))) (reached rs events outs)
-    ∙ sym (any_flat (same_numbers name) (λ t. moved_names rs events outs (claims_of (is_of (txn_key t)) site life)) (reached rs events outs))) ∙ none_right _ _ parts in
+    sym (moved_on name site life rs events outs) ∙ sym (any_flat (same_numbers name) (λ t. moved_names rs events outs (claims_at txns (txn_id t))) (reached rs events outs)
+    ∙ any_alike _ _ (λ t. ap (λ (c : Claims). list_any (same_numbers name) (moved_names rs events outs c)) (stand (txn_id t))) (reached rs events outs)
+    ∙ sym (any_flat (same_numbers name) (λ t. moved_names rs events outs (claims_of (is_of (txn_id t)) site life)) (reached rs events outs))) ∙ none_right _ _ parts in
     let b = none_left (list_any (is_moved rs events outs) (standing_of (is_on name) site life)) _ moves in
     let c = none_right (list_any (is_moved rs events outs) (standing_of (is_on name) site life)) _ moves in
     let claims = claims_quiet (is_on name) (claims_of (is_on name) site life) new rs events outs a b c in
@@ -380,12 +380,12 @@ and_left : (b c : Bool) → (b && c) ≡ true → b ≡ true
 and_left true c e = refl
 and_left false c e = e
 
-pub key_quiet : (k : TxnKey) (site : ℕ) (life : Life) (new : Option Standing) (rs : List Record) (events : List Told) (outs : List Packet)
+pub key_quiet : (k : TxnId) (site : ℕ) (life : Life) (new : Option Standing) (rs : List Record) (events : List Told) (outs : List Packet)
     → list_any (is_key k) (keys_touched new rs events outs) ≡ false → claims_by (is_of k) (claims_of (is_of k) site life) new rs events outs ≡ claims_of (is_of k) site life
 key_quiet k site life new rs events outs h =
-    let parts = sym (list_any-append (is_key k) (map (λ a. txn_key a.txn) (added new rs)) (map txn_key (reached rs events outs))) ∙ h in
-    let a : list_any (is_of k) (added new rs) ≡ false = sym (any_map (is_key k) (λ a. txn_key a.txn) (added new rs)) ∙ none_left _ _ parts in
-    let none : list_any (has_key k) (reached rs events outs) ≡ false = sym (any_map (is_key k) txn_key (reached rs events outs)) ∙ none_right _ _ parts in
+    let parts = sym (list_any-append (is_key k) (map (λ a. txn_id a.txn) (added new rs)) (map txn_id (reached rs events outs))) ∙ h in
+    let a : list_any (is_of k) (added new rs) ≡ false = sym (any_map (is_key k) (λ a. txn_id a.txn) (added new rs)) ∙ none_left _ _ parts in
+    let none : list_any (has_key k) (reached rs events outs) ≡ false = sym (any_map (is_key k) txn_id (reached rs events outs)) ∙ none_right _ _ parts in
     let b : list_any (is_moved rs events outs) (standing_of (is_of k) site life) ≡ false =
     ap (list_any (is_moved rs events outs)) (standing_as (is_of k) site life) ∙ any_filter (is_moved rs events outs) (λ s. is_of k s.asked) (standing_of any_asked site life)
     ∙ not_then _ _ (any_then (λ s. is_of k s.asked && is_moved rs events outs s) (list_any (has_key k) (reached rs events outs))

@@ -11,7 +11,7 @@ use Rattle.e3_types.specs.Same.{same_numbers}
 use Rattle.e3_world.specs.declared.lives.Asked.{Asked}
 use Rattle.e3_world.specs.Logs.{row_value}
 use Rattle.e3_places.specs.declared.changing.Changes.{Changes}
-use Rattle.e3_places.specs.declared.keys.TxnKey.{TxnKey}
+use Rattle.e3_places.specs.declared.keys.TxnId.{TxnId}
 use Rattle.e3_places.specs.declared.places.Claims.{Claims}
 use Rattle.e3_places.specs.declared.places.Place.{Place}
 use Rattle.e3_places.specs.declared.places.Places.{Places}
@@ -36,7 +36,7 @@ place_more name site inc records rs h =
 
 -- The tables stand for the log with the records.
 pub risen_on : (old now : Places) (changes : Changes) → ((name : List ℕ) → place_at now.names.entries name ≡ fold (put_name name) (place_at old.names.entries name) changes.names)
-    → ((k : TxnKey) → claims_at now.txns.entries k ≡ fold (put_txn k) (claims_at old.txns.entries k) changes.txns)
+    → ((k : TxnId) → claims_at now.txns.entries k ≡ fold (put_txn k) (claims_at old.txns.entries k) changes.txns)
     → (site inc : ℕ) (records rs : List Record) → PlacesStand site old (risen inc records) → AreChanges old None rs [] [] changes → follow records rs ≡ true
     → PlacesStand site now (risen inc (records ++ rs))
 risen_on old now changes names txns site inc records rs stands are h = record {
@@ -46,7 +46,7 @@ risen_on old now changes names txns site inc records rs stands are h = record {
 
 -- tables that say the same act alike
 pub act_alike : (old now : Places) (changes : Changes) → ((name : List ℕ) → place_at now.names.entries name ≡ place_at old.names.entries name)
-    → ((k : TxnKey) → claims_at now.txns.entries k ≡ claims_at old.txns.entries k) → ActAlike old now changes
+    → ((k : TxnId) → claims_at now.txns.entries k ≡ claims_at old.txns.entries k) → ActAlike old now changes
 act_alike old now changes names txns = record {
   stand = λ site life stands. record {
     names_stand = λ name. names name ∙ stands.names_stand name;
@@ -64,7 +64,7 @@ act_alike old now changes names txns = record {
 pub unborn_stands : (places : Places) → places.names.entries ≡ [] → places.txns.entries ≡ [] → (site inc : ℕ) → PlacesStand site places (risen inc [])
 unborn_stands places e f site inc = record {
   names_stand = λ name. ap (λ (l : List (List ℕ × Place)). place_at l name) e;
-  txns_stand = λ k. ap (λ (l : List (TxnKey × Claims)). claims_at l k) f;
+  txns_stand = λ k. ap (λ (l : List (TxnId × Claims)). claims_at l k) f;
 }
 
 -- the tables of a birth
@@ -72,7 +72,7 @@ pub born_stands : (places : Places) (format own : ℕ) (weights : List ℕ) (row
     → (site inc : ℕ) → PlacesStand site places (risen inc (log.Birth format own weights rows ∷ []))
 born_stands places format own weights rows stand f site inc = record {
   names_stand = λ name. stand name;
-  txns_stand = λ k. ap (λ (l : List (TxnKey × Claims)). claims_at l k) f;
+  txns_stand = λ k. ap (λ (l : List (TxnId × Claims)). claims_at l k) f;
 }
 
 -- a row in front of others

@@ -15,7 +15,7 @@ use Rattle.e3_world.specs.declared.lives.Life.{Life}
 use Rattle.e3_places.specs.declared.changing.Changes.{Changes}
 use Rattle.e3_places.specs.declared.changing.NameChange.{NameChange}
 use Rattle.e3_places.specs.declared.changing.TxnChange.{TxnChange}
-use Rattle.e3_places.specs.declared.keys.TxnKey.{TxnKey}
+use Rattle.e3_places.specs.declared.keys.TxnId.{TxnId}
 use Rattle.e3_places.specs.declared.places.Claims.{Claims}
 use Rattle.e3_places.specs.declared.places.Place.{Place}
 use Rattle.e3_places.specs.declared.places.Places.{Places}
@@ -31,15 +31,15 @@ abbrev pub bare : Place
 bare = record { claims = no_claims; row = Absent }
 
 -- a transaction as a key
-abbrev pub txn_key : Txn → TxnKey
-txn_key t = record { site = t.site; inc = t.inc; seq = t.seq }
+abbrev pub txn_id : Txn → TxnId
+txn_id t = record { site = t.site; inc = t.inc; seq = t.seq }
 
 -- the two keys are one
-abbrev pub is_key : TxnKey → TxnKey → Bool
+abbrev pub is_key : TxnId → TxnId → Bool
 is_key k l = k.site == l.site && k.inc == l.inc && k.seq == l.seq
 
 -- the order of keys
-abbrev pub key_cmp : TxnKey → TxnKey → Ordering
+abbrev pub key_cmp : TxnId → TxnId → Ordering
 key_cmp a b = ordering_then (nat_cmp a.site b.site) (ordering_then (nat_cmp a.inc b.inc) (nat_cmp a.seq b.seq))
 
 -- the order finds a name
@@ -47,7 +47,7 @@ abbrev pub at_name : List ℕ → List ℕ → Bool
 at_name name = is_at (slice_cmp nat_cmp name)
 
 -- the order finds a key
-abbrev pub at_key : TxnKey → TxnKey → Bool
+abbrev pub at_key : TxnId → TxnId → Bool
 at_key k = is_at (key_cmp k)
 
 -- what entries have at a key, or else this
@@ -59,20 +59,20 @@ abbrev pub place_at : List (List ℕ × Place) → List ℕ → Place
 place_at names name = value_at at_name bare names name
 
 -- what a table has of a transaction
-abbrev pub claims_at : List (TxnKey × Claims) → TxnKey → Claims
+abbrev pub claims_at : List (TxnId × Claims) → TxnId → Claims
 claims_at txns k = value_at at_key no_claims txns k
 
 -- the tables are those of a life
 pub record PlacesStand (site : ℕ) (places : Places) (life : Life) : Type 0 where
   pub names_stand : (name : List ℕ) → place_at places.names.entries name ≡ place_of name site life
-  pub txns_stand : (k : TxnKey) → claims_at places.txns.entries k ≡ claims_of (is_of k) site life
+  pub txns_stand : (k : TxnId) → claims_at places.txns.entries k ≡ claims_of (is_of k) site life
 
 -- what a step makes of a name
 abbrev pub name_change : List (List ℕ × Place) → Option Standing → List Record → List Told → List Packet → List ℕ → NameChange
 name_change names new rs events outs name = record { name = name; place = place_by name (place_at names name) new rs events outs }
 
 -- what a step makes of a transaction
-abbrev pub txn_change : List (TxnKey × Claims) → Option Standing → List Record → List Told → List Packet → TxnKey → TxnChange
+abbrev pub txn_change : List (TxnId × Claims) → Option Standing → List Record → List Told → List Packet → TxnId → TxnChange
 txn_change txns new rs events outs k = record { key = k; claims = claims_by (is_of k) (claims_at txns k) new rs events outs }
 
 -- what is on a name where one more change is made
@@ -80,13 +80,13 @@ abbrev pub put_name : List ℕ → Place → NameChange → Place
 put_name name was c = if same_numbers name c.name then c.place else was
 
 -- what a transaction has where one more change is made
-abbrev pub put_txn : TxnKey → Claims → TxnChange → Claims
+abbrev pub put_txn : TxnId → Claims → TxnChange → Claims
 put_txn k was c = if is_key k c.key then c.claims else was
 
 -- the changes are those of a step: put in their places, they make of each name and each transaction what the step makes
 pub record AreChanges (places : Places) (new : Option Standing) (rs : List Record) (events : List Told) (outs : List Packet) (changes : Changes) : Type 0 where
   pub names : (name : List ℕ) → fold (put_name name) (place_at places.names.entries name) changes.names ≡ place_by name (place_at places.names.entries name) new rs events outs
-  pub txns : (k : TxnKey) → fold (put_txn k) (claims_at places.txns.entries k) changes.txns ≡ claims_by (is_of k) (claims_at places.txns.entries k) new rs events outs
+  pub txns : (k : TxnId) → fold (put_txn k) (claims_at places.txns.entries k) changes.txns ≡ claims_by (is_of k) (claims_at places.txns.entries k) new rs events outs
 
 -- there is an entry at a key
 abbrev pub Has : {K X : Type 0} → (K → K → Bool) → List (K × X) → K → Type 0

@@ -28,7 +28,7 @@ use Rattle.e3_world.specs.Operations.{arrivals, is_answered, is_fresh, taken_up}
 use Rattle.e3_places.specs.declared.places.Standing.{Standing}
 use Rattle.e3_places.specs.declared.places.Claims.{Claims}
 use Rattle.e3_places.specs.declared.places.Place.{Place}
-use Rattle.e3_places.specs.declared.keys.TxnKey.{TxnKey}
+use Rattle.e3_places.specs.declared.keys.TxnId.{TxnId}
 use Rattle.e3_places.specs.declared.picks.Pick.{Pick}
 use Rattle.e3_places.specs.declared.picks.Pick.TheVariants as pick
 
@@ -37,11 +37,11 @@ abbrev pub is_on : List ℕ → Asked → Bool
 is_on name a = same_numbers name (key_of a.op).name
 
 -- the transaction has this coordinator, incarnation and number
-abbrev pub has_key : TxnKey → Txn → Bool
+abbrev pub has_key : TxnId → Txn → Bool
 has_key k t = k.site == t.site && k.inc == t.inc && k.seq == t.seq
 
 -- the operation is of such a transaction
-abbrev pub is_of : TxnKey → Asked → Bool
+abbrev pub is_of : TxnId → Asked → Bool
 is_of k a = has_key k a.txn
 
 -- the operation is picked

@@ -11,11 +11,11 @@ use Rattle.e3_types.specs.declared.records.Record.TheVariants as log
 use Rattle.e3_types.specs.declared.transactions.Txn.{Txn}
 use Rattle.e3_world.specs.declared.lives.Asked.{Asked}
 use Rattle.e3_world.specs.Logs.{key_of}
-use Rattle.e3_places.specs.declared.keys.TxnKey.{TxnKey}
+use Rattle.e3_places.specs.declared.keys.TxnId.{TxnId}
 use Rattle.e3_places.specs.declared.places.Claims.{Claims}
 use Rattle.e3_places.specs.declared.places.Standing.{Standing}
 use Rattle.e3_places.specs.Standing.{cast_of, decided_in, is_heard}
-use Rattle.e3_places.specs.Keeping.{txn_key, claims_at}
+use Rattle.e3_places.specs.Keeping.{txn_id, claims_at}
 
 -- the name that an operation is on
 abbrev pub name_of : Asked → List ℕ
@@ -58,10 +58,10 @@ added None rs = cast_of rs
 added (Some new) rs = new.asked ∷ cast_of rs
 
 -- the names that a step touches
-abbrev pub names_touched : List (TxnKey × Claims) → Option Standing → List Record → List Told → List Packet → List (List ℕ)
+abbrev pub names_touched : List (TxnId × Claims) → Option Standing → List Record → List Told → List Packet → List (List ℕ)
 names_touched txns new rs events outs =
-    map name_of (added new rs) ++ flat_map (λ t. moved_names rs events outs (claims_at txns (txn_key t))) (reached rs events outs)
+    map name_of (added new rs) ++ flat_map (λ t. moved_names rs events outs (claims_at txns (txn_id t))) (reached rs events outs)
 
 -- the transactions that it touches, as keys
-abbrev pub keys_touched : Option Standing → List Record → List Told → List Packet → List TxnKey
-keys_touched new rs events outs = map (λ a. txn_key a.txn) (added new rs) ++ map txn_key (reached rs events outs)
+abbrev pub keys_touched : Option Standing → List Record → List Told → List Packet → List TxnId
+keys_touched new rs events outs = map (λ a. txn_id a.txn) (added new rs) ++ map txn_id (reached rs events outs)

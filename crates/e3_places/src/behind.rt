@@ -4,6 +4,7 @@ ghost use Rattle.std.specs.List.{flat_map, list_any};
 ghost use Rattle.e3_types.specs.Same.{same_txn};
 ghost use Rattle.e3_places.specs.Standing.{passes, is_told, is_sent, is_heard, decided_in, voted, cast_in, cast_of, is_left, again, newly, standing_by, with_cast, votes_by, claims_by, written, row_with, row_by, place_by};
 
+use crate::doings::Doings;
 use crate::picks::Pick;
 use crate::places::{Claims, Place, Standing};
 use e3_readings::{copy_asked, is_decision};
@@ -55,52 +56,49 @@ pub fn is_heard(events: &[Told], outs: &[Packet], a: &Asked) -> bool
     any_told(events, a) || any_sent(outs, a)
 }
 
-fn add_again(
-    records: &[Record],
-    events: &[Told],
-    outs: &[Packet],
-    was: &Standing,
-    out: &mut List<Standing>,
-) -> Result<(), NoMemory>
-    ensures { IfOk result (λ u. out.new ≡ out.old ++ again records.now events.now outs.now was.now) }
+fn add_again(doings: &Doings<'_>, was: &Standing, out: &mut List<Standing>) -> Result<(), NoMemory>
+    ensures { IfOk result (λ u. out.new ≡ out.old ++ again doings.now.records.now doings.now.events.now doings.now.outs.now was.now) }
 {
-    if decided_in(records, &was.asked.txn) {
+    if decided_in(doings.records, &was.asked.txn) {
         return Ok(());
     }
     out.push(Standing {
         asked: copy_asked(&was.asked),
-        answered: was.answered || is_heard(events, outs, &was.asked),
+        answered: was.answered || is_heard(doings.events, doings.outs, &was.asked),
     })
 }
 
 fn add_standing(
-    records: &[Record],
-    events: &[Told],
-    outs: &[Packet],
+    doings: &Doings<'_>,
     was: &[Standing],
     out: &mut List<Standing>,
 ) -> Result<(), NoMemory>
-    ensures { IfOk result (λ u. out.new ≡ out.old ++ flat_map (again records.now events.now outs.now) was.now) }
+    ensures { IfOk result (λ u. out.new ≡ out.old ++ flat_map (again doings.now.records.now doings.now.events.now doings.now.outs.now) was.now) }
 {
     for s in was {
-        add_again(records, events, outs, s, out)?;
+        add_again(doings, s, out)?;
     }
     Ok(())
 }
 
-fn add_newly(
-    pick: &Pick,
-    new: &Option<Standing>,
-    records: &[Record],
-    events: &[Told],
-    outs: &[Packet],
-    out: &mut List<Standing>,
-) -> Result<(), NoMemory>
-    ensures { IfOk result (λ u. out.new ≡ out.old ++ flat_map (again records.now events.now outs.now) (newly (passes pick.now) new.now)) }
+fn add_newly(doings: &Doings<'_>, pick: &Pick, out: &mut List<Standing>) -> Result<(), NoMemory>
+    ensures { IfOk result (λ u. out.new ≡ out.old ++ flat_map (again doings.now.records.now doings.now.events.now doings.now.outs.now) (newly (passes pick.now) doings.now.new.now)) }
 {
+    let new = doings.new;
     match new {
-        Some(s) if pick.passes(&s.asked) => add_again(records, events, outs, s, out),
+        Some(s) if pick.passes(&s.asked) => add_again(doings, s, out),
         _ => Ok(()),
+    }
+}
+
+/// An operation of a vote.
+pub(crate) fn voted(t: &Txn, o: &NumOp) -> Asked
+    ensures { result ≡ voted t.now o.now }
+{
+    Asked {
+        txn: *t,
+        n: o.n,
+        op: o.op.copy(),
     }
 }
 
@@ -108,11 +106,7 @@ fn add_cast(pick: &Pick, t: &Txn, ops: &[NumOp], out: &mut List<Asked>) -> Resul
     ensures { IfOk result (λ u. out.new ≡ out.old ++ filter (passes pick.now) (map (voted t.now) ops.now)) }
 {
     for o in ops {
-        let a = Asked {
-            txn: *t,
-            n: o.n,
-            op: o.op.copy(),
-        };
+        let a = voted(t, o);
         if pick.passes(&a) {
             out.push(a)?;
         }
@@ -173,30 +167,16 @@ fn votes_by(
     Ok(out)
 }
 
-/// The claims that are picked behind a step, where this operation is taken up.
-pub fn claims_by(
-    alloc: Global,
-    pick: &Pick,
-    was: &Claims,
-    new: &Option<Standing>,
-    records: &[Record],
-    events: &[Told],
-    outs: &[Packet],
-) -> Result<Claims, NoMemory>
-    ensures { IfOk result (λ c. c ≡ claims_by (passes pick.now) was.now new.now records.now events.now outs.now) }
+/// The claims that are picked behind a step.
+pub(crate) fn claims_by(doings: &Doings<'_>, pick: &Pick, was: &Claims) -> Result<Claims, NoMemory>
+    ensures { IfOk result (λ c. c ≡ claims_by (passes pick.now) was.now doings.now.new.now doings.now.records.now doings.now.events.now doings.now.outs.now) }
 {
-    let mut standing = List::new(alloc);
-    add_standing(
-        records,
-        events,
-        outs,
-        was.standing.as_slice(),
-        &mut standing,
-    )?;
-    add_newly(pick, new, records, events, outs, &mut standing)?;
+    let mut standing = List::new(doings.alloc);
+    add_standing(doings, was.standing.as_slice(), &mut standing)?;
+    add_newly(doings, pick, &mut standing)?;
     Ok(Claims {
         standing,
-        votes: votes_by(alloc, pick, was.votes.as_slice(), records)?,
+        votes: votes_by(doings.alloc, pick, was.votes.as_slice(), doings.records)?,
     })
 }
 
@@ -267,21 +247,13 @@ pub fn row_by(
     ))
 }
 
-/// What stands on a name behind a step, where this operation is taken up.
-pub fn place_by(
-    alloc: Global,
-    name: &Name,
-    was: &Place,
-    new: &Option<Standing>,
-    records: &[Record],
-    events: &[Told],
-    outs: &[Packet],
-) -> Result<Place, NoMemory>
-    ensures { IfOk result (λ p. p ≡ place_by name.now was.now new.now records.now events.now outs.now) }
+/// What stands on a name behind a step.
+pub(crate) fn place_by(doings: &Doings<'_>, name: &Name, was: &Place) -> Result<Place, NoMemory>
+    ensures { IfOk result (λ p. p ≡ place_by name.now was.now doings.now.new.now doings.now.records.now doings.now.events.now doings.now.outs.now) }
 {
     let pick = Pick::On(name.copy());
     Ok(Place {
-        claims: claims_by(alloc, &pick, &was.claims, new, records, events, outs)?,
-        row: row_by(alloc, name, was, records)?,
+        claims: claims_by(doings, &pick, &was.claims)?,
+        row: row_by(doings.alloc, name, was, doings.records)?,
     })
 }

@@ -4,20 +4,22 @@ ghost use Rattle.e3_types.specs.declared.records.Record.{Record as Entry};
 ghost use Rattle.e3_world.specs.declared.lives.Life.{Life};
 ghost use Rattle.e3_world.specs.declared.lives.SiteStep.{SiteStep};
 ghost use Rattle.e3_world.specs.Lives.{life_by};
-ghost use Rattle.e3_places.specs.declared.keys.TxnKey.{TxnKey as KeptKey};
+ghost use Rattle.e3_places.specs.declared.keys.TxnId.{TxnId as KeptKey};
 ghost use Rattle.e3_places.specs.Standing.{fresh_of, follow};
 ghost use Rattle.e3_places.specs.Touching.{names_touched, keys_touched};
 ghost use Rattle.e3_places.specs.Keeping.{no_claims, bare, at_name, at_key, place_at, claims_at, PlacesStand, name_change, txn_change, put_name, put_txn, AreChanges, Has, HasEach, IsRoomier, HasRoom, ActAlike};
 ghost use Rattle.e3_places.specs.Rising.{risen};
 
 use crate::behind::{claims_by, place_by};
-use crate::keys::TxnKey;
+use crate::doings::Doings;
+use crate::keys::TxnId;
 use crate::picks::Pick;
-use crate::places::{Claims, Place, Places, Standing, bare, no_claims};
+use crate::places::{
+    Claims, ClaimsMap, Place, PlaceMap, Places, Standing, bare, no_claims, place_or,
+};
 use crate::touching::{keys_touched, names_touched};
 use e3_types::{List, Name, NoMemory, Packet, Record, Told};
 use std::alloc::Global;
-use std::collections::BTreeMap;
 
 /// What a step makes of a name.
 #[derive(Drop)]
@@ -29,7 +31,7 @@ pub struct NameChange {
 /// What a step makes of a transaction.
 #[derive(Drop)]
 pub struct TxnChange {
-    pub key: TxnKey,
+    pub key: TxnId,
     pub claims: Claims,
 }
 
@@ -40,108 +42,60 @@ pub struct Changes {
     pub txns: List<TxnChange>,
 }
 
-pub(crate) fn place_behind(
-    alloc: Global,
-    names: &BTreeMap<Name, Place>,
-    new: &Option<Standing>,
-    records: &[Record],
-    events: &[Told],
-    outs: &[Packet],
-    name: &Name,
-) -> Result<Place, NoMemory>
-    ensures { IfOk result (λ p. p ≡ (name_change names.now.entries new.now records.now events.now outs.now name.now).place) }
+pub(crate) fn place_behind(doings: &Doings<'_>, name: &Name) -> Result<Place, NoMemory>
+    ensures { IfOk result (λ p. p ≡ (name_change doings.now.places.now.names.entries doings.now.new.now doings.now.records.now doings.now.events.now doings.now.outs.now name.now).place) }
 {
-    match names.get(name) {
-        Some(place) => place_by(alloc, name, place, new, records, events, outs),
-        None => place_by(alloc, name, &bare(alloc), new, records, events, outs),
-    }
+    let places = doings.places;
+    let none = bare(doings.alloc);
+    place_by(doings, name, place_or(&places.names, name, &none))
 }
 
-fn name_change(
-    alloc: Global,
-    names: &BTreeMap<Name, Place>,
-    new: &Option<Standing>,
-    records: &[Record],
-    events: &[Told],
-    outs: &[Packet],
-    name: &Name,
-) -> Result<NameChange, NoMemory>
-    ensures { IfOk result (λ c. c ≡ name_change names.now.entries new.now records.now events.now outs.now name.now) }
+fn name_change(doings: &Doings<'_>, name: &Name) -> Result<NameChange, NoMemory>
+    ensures { IfOk result (λ c. c ≡ name_change doings.now.places.now.names.entries doings.now.new.now doings.now.records.now doings.now.events.now doings.now.outs.now name.now) }
 {
-    let place = place_behind(alloc, names, new, records, events, outs, name)?;
+    let place = place_behind(doings, name)?;
     Ok(NameChange {
         name: name.copy(),
         place,
     })
 }
 
-fn name_changes(
-    alloc: Global,
-    places: &Places,
-    new: &Option<Standing>,
-    records: &[Record],
-    events: &[Told],
-    outs: &[Packet],
-) -> Result<List<NameChange>, NoMemory>
-    ensures { IfOk result (λ cs. cs ≡ map (name_change places.now.names.entries new.now records.now events.now outs.now)
-        (names_touched places.now.txns.entries new.now records.now events.now outs.now)) }
+fn name_changes(doings: &Doings<'_>) -> Result<List<NameChange>, NoMemory>
+    ensures { IfOk result (λ cs. cs ≡ map (name_change doings.now.places.now.names.entries doings.now.new.now doings.now.records.now doings.now.events.now doings.now.outs.now) (names_touched doings.now.places.now.txns.entries doings.now.new.now doings.now.records.now doings.now.events.now doings.now.outs.now)) }
 {
-    let touched = names_touched(alloc, &places.txns, new, records, events, outs)?;
-    let mut out = List::new(alloc);
+    let touched = names_touched(doings)?;
+    let mut out = List::new(doings.alloc);
     for name in touched.as_slice() {
-        out.push(name_change(alloc, &places.names, new, records, events, outs, name)?)?;
+        out.push(name_change(doings, name)?)?;
     }
     Ok(out)
 }
 
-fn claims_behind(
-    alloc: Global,
-    txns: &BTreeMap<TxnKey, Claims>,
-    new: &Option<Standing>,
-    records: &[Record],
-    events: &[Told],
-    outs: &[Packet],
-    key: TxnKey,
-) -> Result<Claims, NoMemory>
-    ensures { IfOk result (λ x. x ≡ (txn_change txns.now.entries new.now records.now events.now outs.now key).claims) }
+fn claims_behind(doings: &Doings<'_>, key: TxnId) -> Result<Claims, NoMemory>
+    ensures { IfOk result (λ x. x ≡ (txn_change doings.now.places.now.txns.entries doings.now.new.now doings.now.records.now doings.now.events.now doings.now.outs.now key).claims) }
 {
+    let places = doings.places;
     let pick = Pick::Of(key);
-    match txns.get(&key) {
-        Some(claims) => claims_by(alloc, &pick, claims, new, records, events, outs),
-        None => claims_by(alloc, &pick, &no_claims(alloc), new, records, events, outs),
+    match places.txns.get(&key) {
+        Some(claims) => claims_by(doings, &pick, claims),
+        None => claims_by(doings, &pick, &no_claims(doings.alloc)),
     }
 }
 
-fn txn_change(
-    alloc: Global,
-    txns: &BTreeMap<TxnKey, Claims>,
-    new: &Option<Standing>,
-    records: &[Record],
-    events: &[Told],
-    outs: &[Packet],
-    key: TxnKey,
-) -> Result<TxnChange, NoMemory>
-    ensures { IfOk result (λ c. c ≡ txn_change txns.now.entries new.now records.now events.now outs.now key) }
+fn txn_change(doings: &Doings<'_>, key: TxnId) -> Result<TxnChange, NoMemory>
+    ensures { IfOk result (λ c. c ≡ txn_change doings.now.places.now.txns.entries doings.now.new.now doings.now.records.now doings.now.events.now doings.now.outs.now key) }
 {
-    let claims = claims_behind(alloc, txns, new, records, events, outs, key)?;
+    let claims = claims_behind(doings, key)?;
     Ok(TxnChange { key, claims })
 }
 
-fn txn_changes(
-    alloc: Global,
-    places: &Places,
-    new: &Option<Standing>,
-    records: &[Record],
-    events: &[Told],
-    outs: &[Packet],
-) -> Result<List<TxnChange>, NoMemory>
-    ensures { IfOk result (λ cs. cs ≡ map (txn_change places.now.txns.entries new.now records.now events.now outs.now)
-        (keys_touched new.now records.now events.now outs.now)) }
+fn txn_changes(doings: &Doings<'_>) -> Result<List<TxnChange>, NoMemory>
+    ensures { IfOk result (λ cs. cs ≡ map (txn_change doings.now.places.now.txns.entries doings.now.new.now doings.now.records.now doings.now.events.now doings.now.outs.now) (keys_touched doings.now.new.now doings.now.records.now doings.now.events.now doings.now.outs.now)) }
 {
-    let touched = keys_touched(alloc, new, records, events, outs)?;
-    let mut out = List::new(alloc);
+    let touched = keys_touched(doings)?;
+    let mut out = List::new(doings.alloc);
     for key in touched.as_slice() {
-        out.push(txn_change(alloc, &places.txns, new, records, events, outs, *key)?)?;
+        out.push(txn_change(doings, *key)?)?;
     }
     Ok(out)
 }
@@ -159,14 +113,22 @@ pub fn changes_of(
     ensures { IfOk result (λ cs. (site : ℕ) (life : Life) → PlacesStand site places.now life
         → AreChanges places.now new.now records.now events.now outs.now cs) }
 {
+    let doings = Doings {
+        alloc,
+        places,
+        new,
+        records,
+        events,
+        outs,
+    };
     Ok(Changes {
-        names: name_changes(alloc, places, new, records, events, outs)?,
-        txns: txn_changes(alloc, places, new, records, events, outs)?,
+        names: name_changes(&doings)?,
+        txns: txn_changes(&doings)?,
     })
 }
 
 // A name on which nothing stands says what no entry says.
-fn ready_name(alloc: Global, names: &mut BTreeMap<Name, Place>, name: &Name) -> Result<(), NoMemory>
+fn ready_name(alloc: Global, names: &mut PlaceMap, name: &Name) -> Result<(), NoMemory>
     ensures same { IsRoomier at_name bare names.old.entries names.new.entries }
     ensures ok { OnOk result (Has at_name names.new.entries name.now) }
 {
@@ -179,11 +141,7 @@ fn ready_name(alloc: Global, names: &mut BTreeMap<Name, Place>, name: &Name) -> 
     }
 }
 
-fn ready_names(
-    alloc: Global,
-    names: &mut BTreeMap<Name, Place>,
-    changes: &[NameChange],
-) -> Result<(), NoMemory>
+fn ready_names(alloc: Global, names: &mut PlaceMap, changes: &[NameChange]) -> Result<(), NoMemory>
     ensures same { IsRoomier at_name bare names.old.entries names.new.entries }
     ensures ok { OnOk result (HasEach at_name names.new.entries (map (λ c. c.name) changes.now)) }
 {
@@ -196,11 +154,7 @@ fn ready_names(
     }
 }
 
-fn ready_txn(
-    alloc: Global,
-    txns: &mut BTreeMap<TxnKey, Claims>,
-    key: TxnKey,
-) -> Result<(), NoMemory>
+fn ready_txn(alloc: Global, txns: &mut ClaimsMap, key: TxnId) -> Result<(), NoMemory>
     ensures same { IsRoomier at_key no_claims txns.old.entries txns.new.entries }
     ensures ok { OnOk result (Has at_key txns.new.entries key) }
 {
@@ -213,11 +167,7 @@ fn ready_txn(
     }
 }
 
-fn ready_txns(
-    alloc: Global,
-    txns: &mut BTreeMap<TxnKey, Claims>,
-    changes: &[TxnChange],
-) -> Result<(), NoMemory>
+fn ready_txns(alloc: Global, txns: &mut ClaimsMap, changes: &[TxnChange]) -> Result<(), NoMemory>
     ensures same { IsRoomier at_key no_claims txns.old.entries txns.new.entries }
     ensures ok { OnOk result (HasEach at_key txns.new.entries (map (λ c. c.key) changes.now)) }
 {
@@ -239,7 +189,7 @@ pub fn ready(alloc: Global, places: &mut Places, changes: &Changes) -> Result<()
     ready_txns(alloc, &mut places.txns, changes.txns.as_slice())
 }
 
-fn put_name(names: &mut BTreeMap<Name, Place>, change: NameChange)
+fn put_name(names: &mut PlaceMap, change: NameChange)
     requires { Has at_name names.old.entries change.name }
     ensures values { (name : Items ℕ) → place_at names.new.entries name ≡ put_name name (place_at names.old.entries name) change }
     ensures keys { (name : Items ℕ) → Has at_name names.old.entries name → Has at_name names.new.entries name }
@@ -247,7 +197,7 @@ fn put_name(names: &mut BTreeMap<Name, Place>, change: NameChange)
     let _ = names.insert(change.name, change.place);
 }
 
-fn put_names(names: &mut BTreeMap<Name, Place>, changes: List<NameChange>)
+fn put_names(names: &mut PlaceMap, changes: List<NameChange>)
     requires { HasEach at_name names.old.entries (map (λ c. c.name) changes) }
     ensures { (name : Items ℕ) → place_at names.new.entries name ≡ fold (put_name name) (place_at names.old.entries name) changes }
 {
@@ -256,7 +206,7 @@ fn put_names(names: &mut BTreeMap<Name, Place>, changes: List<NameChange>)
     }
 }
 
-fn put_txn(txns: &mut BTreeMap<TxnKey, Claims>, change: TxnChange)
+fn put_txn(txns: &mut ClaimsMap, change: TxnChange)
     requires { Has at_key txns.old.entries change.key }
     ensures values { (k : KeptKey) → claims_at txns.new.entries k ≡ put_txn k (claims_at txns.old.entries k) change }
     ensures keys { (k : KeptKey) → Has at_key txns.old.entries k → Has at_key txns.new.entries k }
@@ -264,7 +214,7 @@ fn put_txn(txns: &mut BTreeMap<TxnKey, Claims>, change: TxnChange)
     let _ = txns.insert(change.key, change.claims);
 }
 
-fn put_txns(txns: &mut BTreeMap<TxnKey, Claims>, changes: List<TxnChange>)
+fn put_txns(txns: &mut ClaimsMap, changes: List<TxnChange>)
     requires { HasEach at_key txns.old.entries (map (λ c. c.key) changes) }
     ensures { (k : KeptKey) → claims_at txns.new.entries k ≡ fold (put_txn k) (claims_at txns.old.entries k) changes }
 {

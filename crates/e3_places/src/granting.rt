@@ -9,15 +9,15 @@ ghost use Rattle.e3_places.specs.Keeping.{PlacesStand};
 ghost use Rattle.e3_places.specs.Granting.{given, given_behind, is_restless, stirred, restless_by, in_order, granted_by, RestlessStand, step_so_far};
 
 use crate::changing::place_behind;
+use crate::doings::Doings;
 use crate::holding::{held, wanted};
-use crate::places::{Claims, Place, Places, Standing};
+use crate::places::{Claims, Places, Standing};
 use crate::touching::names_touched;
 use e3_locks::front;
 use e3_readings::{add_asked, add_name, add_names, copy_asked, first_asked};
-use e3_types::{List, Name, NoMemory, Packet, Record, Told};
+use e3_types::{List, Name, NoMemory};
 use e3_world::{Asked, Made, SiteStep};
 use std::alloc::Global;
-use std::collections::BTreeMap;
 
 fn add_waiting(s: &Standing, out: &mut List<Asked>) -> Result<(), NoMemory>
     ensures { IfOk result (λ u. out.new ≡ out.old ++ waits_by [] s.now) }
@@ -48,51 +48,27 @@ fn given(alloc: Global, name: &Name, claims: &Claims) -> Result<List<Asked>, NoM
     Ok(first_asked(first.len(), asked))
 }
 
-fn given_behind(
-    alloc: Global,
-    names: &BTreeMap<Name, Place>,
-    new: &Option<Standing>,
-    records: &[Record],
-    events: &[Told],
-    outs: &[Packet],
-    name: &Name,
-) -> Result<List<Asked>, NoMemory>
-    ensures { IfOk result (λ out. out ≡ given_behind names.now.entries new.now records.now events.now outs.now name.now) }
+fn given_behind(doings: &Doings<'_>, name: &Name) -> Result<List<Asked>, NoMemory>
+    ensures { IfOk result (λ out. out ≡ given_behind doings.now.places.now.names.entries doings.now.new.now doings.now.records.now doings.now.events.now doings.now.outs.now name.now) }
 {
-    let place = place_behind(alloc, names, new, records, events, outs, name)?;
-    given(alloc, name, &place.claims)
+    let place = place_behind(doings, name)?;
+    given(doings.alloc, name, &place.claims)
 }
 
-fn is_restless(
-    alloc: Global,
-    names: &BTreeMap<Name, Place>,
-    new: &Option<Standing>,
-    records: &[Record],
-    events: &[Told],
-    outs: &[Packet],
-    name: &Name,
-) -> Result<bool, NoMemory>
-    ensures { IfOk result (λ b. b ≡ is_restless names.now.entries new.now records.now events.now outs.now name.now) }
+fn is_restless(doings: &Doings<'_>, name: &Name) -> Result<bool, NoMemory>
+    ensures { IfOk result (λ b. b ≡ is_restless doings.now.places.now.names.entries doings.now.new.now doings.now.records.now doings.now.events.now doings.now.outs.now name.now) }
 {
-    let asked = given_behind(alloc, names, new, records, events, outs, name)?;
+    let asked = given_behind(doings, name)?;
     match asked.as_slice() {
         [] => Ok(false),
         [_, ..] => Ok(true),
     }
 }
 
-fn stirred(
-    alloc: Global,
-    places: &Places,
-    restless: &[Name],
-    new: &Option<Standing>,
-    records: &[Record],
-    events: &[Told],
-    outs: &[Packet],
-) -> Result<List<Name>, NoMemory>
-    ensures { IfOk result (λ out. out ≡ stirred places.now restless.now new.now records.now events.now outs.now) }
+fn stirred(doings: &Doings<'_>, restless: &[Name]) -> Result<List<Name>, NoMemory>
+    ensures { IfOk result (λ out. out ≡ stirred doings.now.places.now restless.now doings.now.new.now doings.now.records.now doings.now.events.now doings.now.outs.now) }
 {
-    let mut out = names_touched(alloc, &places.txns, new, records, events, outs)?;
+    let mut out = names_touched(doings)?;
     add_names(restless, &mut out)?;
     Ok(out)
 }
@@ -107,47 +83,21 @@ fn in_order(alloc: Global, names: &[Name]) -> Result<List<Name>, NoMemory>
     Ok(out)
 }
 
-fn add_given(
-    alloc: Global,
-    names: &BTreeMap<Name, Place>,
-    new: &Option<Standing>,
-    records: &[Record],
-    events: &[Told],
-    outs: &[Packet],
-    name: &Name,
-    out: &mut List<Asked>,
-) -> Result<(), NoMemory>
-    ensures { IfOk result (λ u. out.new ≡ out.old ++ given_behind names.now.entries new.now records.now events.now outs.now name.now) }
+fn add_given(doings: &Doings<'_>, name: &Name, out: &mut List<Asked>) -> Result<(), NoMemory>
+    ensures { IfOk result (λ u. out.new ≡ out.old ++ given_behind doings.now.places.now.names.entries doings.now.new.now doings.now.records.now doings.now.events.now doings.now.outs.now name.now) }
 {
-    let asked = given_behind(alloc, names, new, records, events, outs, name)?;
+    let asked = given_behind(doings, name)?;
     add_asked(asked.as_slice(), out)
 }
 
-fn granted_by(
-    alloc: Global,
-    places: &Places,
-    restless: &[Name],
-    new: &Option<Standing>,
-    records: &[Record],
-    events: &[Told],
-    outs: &[Packet],
-) -> Result<List<Asked>, NoMemory>
-    ensures { IfOk result (λ out. out ≡ granted_by places.now restless.now new.now records.now events.now outs.now) }
+fn granted_by(doings: &Doings<'_>, restless: &[Name]) -> Result<List<Asked>, NoMemory>
+    ensures { IfOk result (λ out. out ≡ granted_by doings.now.places.now restless.now doings.now.new.now doings.now.records.now doings.now.events.now doings.now.outs.now) }
 {
-    let all = stirred(alloc, places, restless, new, records, events, outs)?;
-    let names = in_order(alloc, all.as_slice())?;
-    let mut out = List::new(alloc);
+    let all = stirred(doings, restless)?;
+    let names = in_order(doings.alloc, all.as_slice())?;
+    let mut out = List::new(doings.alloc);
     for name in names.as_slice() {
-        add_given(
-            alloc,
-            &places.names,
-            new,
-            records,
-            events,
-            outs,
-            name,
-            &mut out,
-        )?;
+        add_given(doings, name, &mut out)?;
     }
     Ok(out)
 }
@@ -168,59 +118,33 @@ pub fn grants_after(
     requires follow { follow a.life.log made.now.records ≡ true }
     ensures { IfOk result (λ out. out ≡ grants_after a made.now) }
 {
-    granted_by(
+    let doings = Doings {
         alloc,
         places,
-        restless,
         new,
-        made.records.as_slice(),
-        made.told.as_slice(),
-        made.outs.as_slice(),
-    )
+        records: made.records.as_slice(),
+        events: made.told.as_slice(),
+        outs: made.outs.as_slice(),
+    };
+    granted_by(&doings, restless)
 }
 
-fn add_restless(
-    alloc: Global,
-    names: &BTreeMap<Name, Place>,
-    new: &Option<Standing>,
-    records: &[Record],
-    events: &[Told],
-    outs: &[Packet],
-    name: &Name,
-    out: &mut List<Name>,
-) -> Result<(), NoMemory>
-    ensures { IfOk result (λ u. out.new ≡ out.old ++ (if is_restless names.now.entries new.now records.now events.now outs.now name.now then name.now ∷ [] else [])) }
+fn add_restless(doings: &Doings<'_>, name: &Name, out: &mut List<Name>) -> Result<(), NoMemory>
+    ensures { IfOk result (λ u. out.new ≡ out.old ++ (if is_restless doings.now.places.now.names.entries doings.now.new.now doings.now.records.now doings.now.events.now doings.now.outs.now name.now then name.now ∷ [] else [])) }
 {
-    if is_restless(alloc, names, new, records, events, outs, name)? {
+    if is_restless(doings, name)? {
         out.push(name.copy())?;
     }
     Ok(())
 }
 
-fn restless_by(
-    alloc: Global,
-    places: &Places,
-    restless: &[Name],
-    new: &Option<Standing>,
-    records: &[Record],
-    events: &[Told],
-    outs: &[Packet],
-) -> Result<List<Name>, NoMemory>
-    ensures { IfOk result (λ out. out ≡ restless_by places.now restless.now new.now records.now events.now outs.now) }
+fn restless_by(doings: &Doings<'_>, restless: &[Name]) -> Result<List<Name>, NoMemory>
+    ensures { IfOk result (λ out. out ≡ restless_by doings.now.places.now restless.now doings.now.new.now doings.now.records.now doings.now.events.now doings.now.outs.now) }
 {
-    let all = stirred(alloc, places, restless, new, records, events, outs)?;
-    let mut out = List::new(alloc);
+    let all = stirred(doings, restless)?;
+    let mut out = List::new(doings.alloc);
     for name in all.as_slice() {
-        add_restless(
-            alloc,
-            &places.names,
-            new,
-            records,
-            events,
-            outs,
-            name,
-            &mut out,
-        )?;
+        add_restless(doings, name, &mut out)?;
     }
     Ok(out)
 }
@@ -237,13 +161,13 @@ pub fn restless_behind(
     ensures { IfOk result (λ out. (site : ℕ) (life : Life) → PlacesStand site places.now life → RestlessStand site restless.now life
         → new.now ≡ fresh_of site life step.now → follow life.log step.now.records ≡ true → RestlessStand site out (life_by life step.now)) }
 {
-    restless_by(
+    let doings = Doings {
         alloc,
         places,
-        restless,
         new,
-        step.records.as_slice(),
-        step.told.as_slice(),
-        step.outs.as_slice(),
-    )
+        records: step.records.as_slice(),
+        events: step.told.as_slice(),
+        outs: step.outs.as_slice(),
+    };
+    restless_by(&doings, restless)
 }

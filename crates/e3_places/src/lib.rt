@@ -3,6 +3,7 @@
 
 mod behind;
 mod changing;
+mod doings;
 mod granting;
 mod holding;
 mod keys;
@@ -17,7 +18,7 @@ mod touching;
 pub use changing::{Changes, NameChange, TxnChange, apply, changes_of, ready};
 pub use granting::{grants_after, restless_behind};
 pub use holding::lock_for;
-pub use keys::{TxnKey, txn_key};
+pub use keys::{TxnId, txn_id};
 pub use noting::note;
 pub use picks::Pick;
 pub use places::{Claims, Place, Places, Standing};

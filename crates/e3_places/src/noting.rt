@@ -3,25 +3,24 @@ ghost use Rattle.std.specs.Prelude.{◌≡◌, ◌++◌, ◌∷◌, [], if◌the
 ghost use Rattle.std.specs.List.{list_any};
 ghost use Rattle.e3_types.specs.declared.records.Record.{Record as Entry};
 ghost use Rattle.e3_types.specs.declared.records.Record.TheVariants as log;
-ghost use Rattle.e3_places.specs.declared.keys.TxnKey.{TxnKey as KeptKey};
+ghost use Rattle.e3_places.specs.declared.keys.TxnId.{TxnId as KeptKey};
 ghost use Rattle.e3_places.specs.Keeping.{PlacesStand, claims_at, place_at};
 ghost use Rattle.e3_places.specs.Noting.{ended, left_by, with_vote};
 ghost use Rattle.e3_places.specs.Rising.{risen};
 ghost use Rattle.e3_places.specs.Standing.{cast_in, follow, has_key, is_left, is_on, voted};
 ghost use Rattle.e3_places.specs.Touching.{decided_txns};
 
-use crate::behind::row_with;
-use crate::keys::{TxnKey, txn_key};
-use crate::places::{Claims, Place, Places};
+use crate::behind::{row_with, voted};
+use crate::keys::{TxnId, txn_id};
+use crate::places::{Claims, ClaimsMap, Place, PlaceMap, Places};
 use crate::taking::{put_claims, put_place, take_claims, take_place};
 use crate::touching::add_ops;
 use e3_readings::{copy_asked, is_decision, key_of};
 use e3_types::{Dir, List, Name, NoMemory, NumOp, Record, Txn};
 use e3_world::Asked;
 use std::alloc::Global;
-use std::collections::BTreeMap;
 
-fn add_vote(alloc: Global, names: &mut BTreeMap<Name, Place>, a: &Asked) -> Result<(), NoMemory>
+fn add_vote(alloc: Global, names: &mut PlaceMap, a: &Asked) -> Result<(), NoMemory>
     ensures { OnOk result ((n : Items ℕ) → place_at names.new.entries n ≡ with_vote n (place_at names.old.entries n) a.now) }
 {
     let name = &key_of(&a.op).name;
@@ -30,35 +29,20 @@ fn add_vote(alloc: Global, names: &mut BTreeMap<Name, Place>, a: &Asked) -> Resu
     put_place(names, name, place)
 }
 
-fn add_votes(
-    alloc: Global,
-    names: &mut BTreeMap<Name, Place>,
-    t: &Txn,
-    ops: &[NumOp],
-) -> Result<(), NoMemory>
+fn add_votes(alloc: Global, names: &mut PlaceMap, t: &Txn, ops: &[NumOp]) -> Result<(), NoMemory>
     ensures { OnOk result ((n : Items ℕ) → place_at names.new.entries n ≡ fold (with_vote n) (place_at names.old.entries n) (map (voted t.now) ops.now)) }
 {
     for o in ops {
-        let a = Asked {
-            txn: *t,
-            n: o.n,
-            op: o.op.copy(),
-        };
-        add_vote(alloc, names, &a)?;
+        add_vote(alloc, names, &voted(t, o))?;
     }
     Ok(())
 }
 
-fn add_votes_of(
-    alloc: Global,
-    txns: &mut BTreeMap<TxnKey, Claims>,
-    t: &Txn,
-    ops: &[NumOp],
-) -> Result<(), NoMemory>
+fn add_votes_of(alloc: Global, txns: &mut ClaimsMap, t: &Txn, ops: &[NumOp]) -> Result<(), NoMemory>
     ensures { OnOk result ((k : KeptKey) → claims_at txns.new.entries k
         ≡ (if has_key k t.now then record (claims_at txns.old.entries k) { votes = (claims_at txns.old.entries k).votes ++ map (voted t.now) ops.now } else claims_at txns.old.entries k)) }
 {
-    let key = txn_key(t);
+    let key = txn_id(t);
     let mut claims = take_claims(alloc, txns, key)?;
     add_ops(t, ops, &mut claims.votes)?;
     put_claims(txns, key, claims)
@@ -107,12 +91,7 @@ fn ended(r: &Record, was: Place) -> Place
     }
 }
 
-fn end_on(
-    alloc: Global,
-    names: &mut BTreeMap<Name, Place>,
-    a: &Asked,
-    r: &Record,
-) -> Result<(), NoMemory>
+fn end_on(alloc: Global, names: &mut PlaceMap, a: &Asked, r: &Record) -> Result<(), NoMemory>
     ensures { OnOk result ((n : Items ℕ) → place_at names.new.entries n ≡ (if is_on n a.now then ended r.now (place_at names.old.entries n) else place_at names.old.entries n)) }
 {
     let name = &key_of(&a.op).name;
@@ -123,7 +102,7 @@ fn end_on(
 // A name may come more than once: what has ended ends no further.
 fn end_each(
     alloc: Global,
-    names: &mut BTreeMap<Name, Place>,
+    names: &mut PlaceMap,
     votes: &[Asked],
     r: &Record,
 ) -> Result<(), NoMemory>
@@ -142,7 +121,7 @@ fn end(alloc: Global, places: &mut Places, t: &Txn, dir: Dir) -> Result<(), NoMe
         → PlacesStand site places.new (risen inc (before ++ log.Decision t.now dir ∷ []))) }
 {
     let r = Record::Decision { txn: *t, dir };
-    let key = txn_key(t);
+    let key = txn_id(t);
     let claims = take_claims(alloc, &mut places.txns, key)?;
     end_each(alloc, &mut places.names, claims.votes.as_slice(), &r)?;
     put_claims(&mut places.txns, key, left_by(&r, claims))

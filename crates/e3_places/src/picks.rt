@@ -2,7 +2,7 @@
 ghost use Rattle.std.specs.Prelude.{◌≡◌};
 ghost use Rattle.e3_places.specs.Standing.{passes};
 
-use crate::keys::TxnKey;
+use crate::keys::TxnId;
 use e3_readings::key_of;
 use e3_types::Name;
 use e3_world::Asked;
@@ -11,7 +11,7 @@ use e3_world::Asked;
 #[derive(Drop)]
 pub enum Pick {
     On(Name),
-    Of(TxnKey),
+    Of(TxnId),
 }
 
 impl Pick {

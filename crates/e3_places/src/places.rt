@@ -1,8 +1,8 @@
 // What stands on a name.
 ghost use Rattle.std.specs.Prelude.{◌≡◌};
-ghost use Rattle.e3_places.specs.Keeping.{no_claims, bare};
+ghost use Rattle.e3_places.specs.Keeping.{no_claims, bare, place_at};
 
-use crate::keys::TxnKey;
+use crate::keys::TxnId;
 use e3_types::{Answer, List, Name};
 use e3_world::Asked;
 use std::alloc::Global;
@@ -35,8 +35,14 @@ pub struct Place {
 #[derive(Drop)]
 pub struct Places {
     pub names: BTreeMap<Name, Place>,
-    pub txns: BTreeMap<TxnKey, Claims>,
+    pub txns: BTreeMap<TxnId, Claims>,
 }
+
+/// What stands on each name.
+pub(crate) type PlaceMap = BTreeMap<Name, Place>;
+
+/// What each undecided transaction has.
+pub(crate) type ClaimsMap = BTreeMap<TxnId, Claims>;
 
 /// Nothing.
 pub(crate) fn no_claims(alloc: Global) -> Claims
@@ -55,5 +61,16 @@ pub(crate) fn bare(alloc: Global) -> Place
     Place {
         claims: no_claims(alloc),
         row: Answer::Absent,
+    }
+}
+
+/// What stands on a name by a table, or this bare place.
+pub(crate) fn place_or<'a>(names: &'a PlaceMap, name: &Name, none: &'a Place) -> &'a Place
+    requires { none.now ≡ bare }
+    ensures { result.now ≡ place_at names.now.entries name.now }
+{
+    match names.get(name) {
+        Some(place) => place,
+        None => none,
     }
 }

@@ -5,46 +5,17 @@ ghost use Rattle.e3_world.specs.declared.lives.At.{At};
 ghost use Rattle.e3_world.specs.Logs.{key_of, table_of, row_value};
 ghost use Rattle.e3_world.specs.Making.{log_now};
 ghost use Rattle.e3_world.specs.Operations.{holders, queue, waiting};
-ghost use Rattle.e3_places.specs.Standing.{follow, lock_for, held_with, wanted_with, row_by};
-ghost use Rattle.e3_places.specs.Keeping.{PlacesStand, place_at};
+ghost use Rattle.e3_places.specs.Standing.{follow, lock_for};
+ghost use Rattle.e3_places.specs.Keeping.{PlacesStand};
 
 use crate::behind::row_by;
 use crate::holding::{held, lock_for, wanted};
-use crate::places::{Place, Places, bare, no_claims};
+use crate::places::{Places, bare, place_or};
 use e3_locks::lock_grant;
 use e3_readings::key_of;
-use e3_types::{Answer, Grant, List, Lock, Name, NoMemory, Record};
+use e3_types::{Answer, Grant, List, Lock, Name, NoMemory};
 use e3_world::{Asked, Made};
 use std::alloc::Global;
-use std::collections::BTreeMap;
-
-fn held_at(
-    alloc: Global,
-    names: &BTreeMap<Name, Place>,
-    name: &Name,
-    records: &[Record],
-) -> Result<List<Lock>, NoMemory>
-    ensures { IfOk result (λ out. out ≡ held_with name.now records.now (place_at names.now.entries name.now).claims) }
-{
-    match names.get(name) {
-        Some(place) => held(alloc, name, &place.claims, records),
-        None => held(alloc, name, &no_claims(alloc), records),
-    }
-}
-
-fn wanted_at(
-    alloc: Global,
-    names: &BTreeMap<Name, Place>,
-    name: &Name,
-    records: &[Record],
-) -> Result<List<Lock>, NoMemory>
-    ensures { IfOk result (λ out. out ≡ wanted_with records.now (place_at names.now.entries name.now).claims) }
-{
-    match names.get(name) {
-        Some(place) => wanted(alloc, &place.claims, records),
-        None => wanted(alloc, &no_claims(alloc), records),
-    }
-}
 
 /// The locks on a name that are held with the step's records, in the order of the definitions.
 pub fn holders(
@@ -58,7 +29,9 @@ pub fn holders(
     requires follow { follow a.life.log made.now.records ≡ true }
     ensures { IfOk result (λ out. out ≡ holders a.site name.now (log_now a made.now) a.life.steps) }
 {
-    held_at(alloc, &places.names, name, made.records.as_slice())
+    let none = bare(alloc);
+    let place = place_or(&places.names, name, &none);
+    held(alloc, name, &place.claims, made.records.as_slice())
 }
 
 /// The locks on a name for which operations waited before the step, but those of transactions that it decided, the first
@@ -73,7 +46,9 @@ pub fn queue(
     requires stand { PlacesStand a.site places.now a.life }
     ensures { IfOk result (λ out. out ≡ queue name.now (waiting a.site (log_now a made.now) a.life.steps)) }
 {
-    wanted_at(alloc, &places.names, name, made.records.as_slice())
+    let none = bare(alloc);
+    let place = place_or(&places.names, name, &none);
+    wanted(alloc, &place.claims, made.records.as_slice())
 }
 
 /// What the lock rule answers to a request, with the step's records.
@@ -90,20 +65,6 @@ pub fn lock(alloc: Global, places: &Places, q: &Asked, made: &Made) -> Result<Gr
     Ok(lock_grant(&lock_for(q), held.as_slice(), queued.as_slice()))
 }
 
-fn row_at(
-    alloc: Global,
-    names: &BTreeMap<Name, Place>,
-    name: &Name,
-    records: &[Record],
-) -> Result<Answer, NoMemory>
-    ensures { IfOk result (λ x. x ≡ row_by name.now (place_at names.now.entries name.now) records.now) }
-{
-    match names.get(name) {
-        Some(place) => row_by(alloc, name, place, records),
-        None => row_by(alloc, name, &bare(alloc), records),
-    }
-}
-
 /// The value of a name in the table, with the step's records: one look-up.
 pub fn row(alloc: Global, places: &Places, name: &Name, made: &Made) -> Result<Answer, NoMemory>
     ghost a: { At }
@@ -111,5 +72,7 @@ pub fn row(alloc: Global, places: &Places, name: &Name, made: &Made) -> Result<A
     requires follow { follow a.life.log made.now.records ≡ true }
     ensures { IfOk result (λ x. x ≡ row_value name.now (table_of (log_now a made.now))) }
 {
-    row_at(alloc, &places.names, name, made.records.as_slice())
+    let none = bare(alloc);
+    let place = place_or(&places.names, name, &none);
+    row_by(alloc, name, place, made.records.as_slice())
 }

@@ -4,7 +4,7 @@ ghost use Rattle.e3_types.specs.declared.records.Record.TheVariants as log;
 ghost use Rattle.e3_places.specs.Keeping.{place_at, PlacesStand};
 ghost use Rattle.e3_places.specs.Rising.{risen, first_row, RowsStand};
 
-use crate::places::{Place, Places, no_claims};
+use crate::places::{Place, PlaceMap, Places, no_claims};
 use e3_types::{Answer, Name, NoMemory, Row};
 use std::alloc::Global;
 use std::collections::BTreeMap;
@@ -19,7 +19,7 @@ pub fn unborn(alloc: Global) -> Places
     }
 }
 
-fn add_row(alloc: Global, names: &mut BTreeMap<Name, Place>, row: &Row) -> Result<(), NoMemory>
+fn add_row(alloc: Global, names: &mut PlaceMap, row: &Row) -> Result<(), NoMemory>
     ensures { OnOk result ((name : Items ℕ) → place_at names.new.entries name ≡ first_row name row.now (place_at names.old.entries name)) }
 {
     let place = Place {
@@ -33,7 +33,7 @@ fn add_row(alloc: Global, names: &mut BTreeMap<Name, Place>, row: &Row) -> Resul
 }
 
 // The last row first, so that of two of one name the first stands.
-fn add_rows(alloc: Global, names: &mut BTreeMap<Name, Place>, rows: &[Row]) -> Result<(), NoMemory>
+fn add_rows(alloc: Global, names: &mut PlaceMap, rows: &[Row]) -> Result<(), NoMemory>
     requires { RowsStand names.old.entries [] }
     ensures { OnOk result (RowsStand names.new.entries rows.now) }
 {

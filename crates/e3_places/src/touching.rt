@@ -1,18 +1,17 @@
 // Which names and transactions a step touches.
 ghost use Rattle.std.specs.Prelude.{◌≡◌, ◌++◌, ◌∷◌, [], if◌then◌else◌, IfOk, filter, map};
 ghost use Rattle.std.specs.List.{flat_map};
-ghost use Rattle.e3_places.specs.Keeping.{txn_key, claims_at};
+ghost use Rattle.e3_places.specs.Keeping.{txn_id, claims_at};
 ghost use Rattle.e3_places.specs.Standing.{decided_in, cast_in, cast_of, voted};
 ghost use Rattle.e3_places.specs.Touching.{name_of, decided_txns, told_txns, sent_txns, reached, is_moved, moved_names, added, names_touched, keys_touched};
 
-use crate::behind::{decided_in, is_heard};
-use crate::keys::{TxnKey, txn_key};
-use crate::places::{Claims, Standing, no_claims};
+use crate::behind::{decided_in, is_heard, voted};
+use crate::doings::Doings;
+use crate::keys::{TxnId, txn_id};
+use crate::places::{Claims, Standing};
 use e3_readings::{copy_asked, key_of};
 use e3_types::{List, Message, Name, NoMemory, NumOp, Packet, Record, Told, Txn};
 use e3_world::Asked;
-use std::alloc::Global;
-use std::collections::BTreeMap;
 
 fn name_of(a: &Asked) -> Name
     ensures { result ≡ name_of a.now }
@@ -74,18 +73,13 @@ fn add_all_sent(outs: &[Packet], out: &mut List<Txn>) -> Result<(), NoMemory>
     Ok(())
 }
 
-fn reached(
-    alloc: Global,
-    records: &[Record],
-    events: &[Told],
-    outs: &[Packet],
-) -> Result<List<Txn>, NoMemory>
-    ensures { IfOk result (λ out. out ≡ reached records.now events.now outs.now) }
+fn reached(doings: &Doings<'_>) -> Result<List<Txn>, NoMemory>
+    ensures { IfOk result (λ out. out ≡ reached doings.now.records.now doings.now.events.now doings.now.outs.now) }
 {
-    let mut out = List::new(alloc);
-    add_all_decided(records, &mut out)?;
-    add_all_told(events, &mut out)?;
-    add_all_sent(outs, &mut out)?;
+    let mut out = List::new(doings.alloc);
+    add_all_decided(doings.records, &mut out)?;
+    add_all_told(doings.events, &mut out)?;
+    add_all_sent(doings.outs, &mut out)?;
     Ok(out)
 }
 
@@ -93,11 +87,7 @@ pub(crate) fn add_ops(t: &Txn, ops: &[NumOp], out: &mut List<Asked>) -> Result<(
     ensures { IfOk result (λ u. out.new ≡ out.old ++ map (voted t.now) ops.now) }
 {
     for o in ops {
-        out.push(Asked {
-            txn: *t,
-            n: o.n,
-            op: o.op.copy(),
-        })?;
+        out.push(voted(t, o))?;
     }
     Ok(())
 }
@@ -120,48 +110,37 @@ fn add_all_cast(records: &[Record], out: &mut List<Asked>) -> Result<(), NoMemor
     Ok(())
 }
 
-/// The operation that a step takes up, and those of its votes.
-pub fn added(
-    alloc: Global,
-    new: &Option<Standing>,
-    records: &[Record],
-) -> Result<List<Asked>, NoMemory>
-    ensures { IfOk result (λ out. out ≡ added new.now records.now) }
+// The operation that a step takes up, and those of its votes.
+fn added(doings: &Doings<'_>) -> Result<List<Asked>, NoMemory>
+    ensures { IfOk result (λ out. out ≡ added doings.now.new.now doings.now.records.now) }
 {
-    let mut out = List::new(alloc);
+    let new = doings.new;
+    let mut out = List::new(doings.alloc);
     if let Some(s) = new {
         out.push(copy_asked(&s.asked))?;
     }
-    add_all_cast(records, &mut out)?;
+    add_all_cast(doings.records, &mut out)?;
     Ok(out)
 }
 
-fn add_moved(
-    records: &[Record],
-    events: &[Told],
-    outs: &[Packet],
-    s: &Standing,
-    out: &mut List<Name>,
-) -> Result<(), NoMemory>
-    ensures { IfOk result (λ u. out.new ≡ out.old ++ (if is_moved records.now events.now outs.now s.now then name_of s.now.asked ∷ [] else [])) }
+fn add_moved(doings: &Doings<'_>, s: &Standing, out: &mut List<Name>) -> Result<(), NoMemory>
+    ensures { IfOk result (λ u. out.new ≡ out.old ++ (if is_moved doings.now.records.now doings.now.events.now doings.now.outs.now s.now then name_of s.now.asked ∷ [] else [])) }
 {
-    if decided_in(records, &s.asked.txn) || is_heard(events, outs, &s.asked) {
+    if decided_in(doings.records, &s.asked.txn) || is_heard(doings.events, doings.outs, &s.asked) {
         out.push(name_of(&s.asked))?;
     }
     Ok(())
 }
 
 fn add_all_moved(
-    records: &[Record],
-    events: &[Told],
-    outs: &[Packet],
+    doings: &Doings<'_>,
     standing: &[Standing],
     out: &mut List<Name>,
 ) -> Result<(), NoMemory>
-    ensures { IfOk result (λ u. out.new ≡ out.old ++ map (λ s. name_of s.asked) (filter (is_moved records.now events.now outs.now) standing.now)) }
+    ensures { IfOk result (λ u. out.new ≡ out.old ++ map (λ s. name_of s.asked) (filter (is_moved doings.now.records.now doings.now.events.now doings.now.outs.now) standing.now)) }
 {
     for s in standing {
-        add_moved(records, events, outs, s, out)?;
+        add_moved(doings, s, out)?;
     }
     Ok(())
 }
@@ -185,46 +164,35 @@ fn add_all_ended(records: &[Record], votes: &[Asked], out: &mut List<Name>) -> R
 }
 
 fn add_moved_names(
-    records: &[Record],
-    events: &[Told],
-    outs: &[Packet],
+    doings: &Doings<'_>,
     claims: &Claims,
     out: &mut List<Name>,
 ) -> Result<(), NoMemory>
-    ensures { IfOk result (λ u. out.new ≡ out.old ++ moved_names records.now events.now outs.now claims.now) }
+    ensures { IfOk result (λ u. out.new ≡ out.old ++ moved_names doings.now.records.now doings.now.events.now doings.now.outs.now claims.now) }
 {
-    add_all_moved(records, events, outs, claims.standing.as_slice(), out)?;
-    add_all_ended(records, claims.votes.as_slice(), out)
+    add_all_moved(doings, claims.standing.as_slice(), out)?;
+    add_all_ended(doings.records, claims.votes.as_slice(), out)
 }
 
-fn add_names_of(
-    txns: &BTreeMap<TxnKey, Claims>,
-    records: &[Record],
-    events: &[Told],
-    outs: &[Packet],
-    t: &Txn,
-    out: &mut List<Name>,
-) -> Result<(), NoMemory>
-    ensures { IfOk result (λ u. out.new ≡ out.old ++ moved_names records.now events.now outs.now (claims_at txns.now.entries (txn_key t.now))) }
+fn add_names_of(doings: &Doings<'_>, t: &Txn, out: &mut List<Name>) -> Result<(), NoMemory>
+    ensures { IfOk result (λ u. out.new ≡ out.old ++ moved_names doings.now.records.now doings.now.events.now doings.now.outs.now (claims_at doings.now.places.now.txns.entries (txn_id t.now))) }
 {
-    match txns.get(&txn_key(t)) {
-        Some(claims) => add_moved_names(records, events, outs, claims, out),
+    let places = doings.places;
+    match places.txns.get(&txn_id(t)) {
+        Some(claims) => add_moved_names(doings, claims, out),
         None => Ok(()),
     }
 }
 
 fn add_names_of_all(
-    txns: &BTreeMap<TxnKey, Claims>,
-    records: &[Record],
-    events: &[Told],
-    outs: &[Packet],
+    doings: &Doings<'_>,
     reached: &[Txn],
     out: &mut List<Name>,
 ) -> Result<(), NoMemory>
-    ensures { IfOk result (λ u. out.new ≡ out.old ++ flat_map (λ t. moved_names records.now events.now outs.now (claims_at txns.now.entries (txn_key t))) reached.now) }
+    ensures { IfOk result (λ u. out.new ≡ out.old ++ flat_map (λ t. moved_names doings.now.records.now doings.now.events.now doings.now.outs.now (claims_at doings.now.places.now.txns.entries (txn_id t))) reached.now) }
 {
     for t in reached {
-        add_names_of(txns, records, events, outs, t, out)?;
+        add_names_of(doings, t, out)?;
     }
     Ok(())
 }
@@ -239,63 +207,43 @@ fn add_names(asked: &[Asked], out: &mut List<Name>) -> Result<(), NoMemory>
 }
 
 /// The names that a step touches, some of them more than once.
-pub fn names_touched(
-    alloc: Global,
-    txns: &BTreeMap<TxnKey, Claims>,
-    new: &Option<Standing>,
-    records: &[Record],
-    events: &[Told],
-    outs: &[Packet],
-) -> Result<List<Name>, NoMemory>
-    ensures { IfOk result (λ out. out ≡ names_touched txns.now.entries new.now records.now events.now outs.now) }
+pub(crate) fn names_touched(doings: &Doings<'_>) -> Result<List<Name>, NoMemory>
+    ensures { IfOk result (λ out. out ≡ names_touched doings.now.places.now.txns.entries doings.now.new.now doings.now.records.now doings.now.events.now doings.now.outs.now) }
 {
-    let mut out = List::new(alloc);
-    let asked = added(alloc, new, records)?;
+    let mut out = List::new(doings.alloc);
+    let asked = added(doings)?;
     add_names(asked.as_slice(), &mut out)?;
-    let txns_reached = reached(alloc, records, events, outs)?;
-    add_names_of_all(
-        txns,
-        records,
-        events,
-        outs,
-        txns_reached.as_slice(),
-        &mut out,
-    )?;
+    let txns = reached(doings)?;
+    add_names_of_all(doings, txns.as_slice(), &mut out)?;
     Ok(out)
 }
 
-fn add_keys(asked: &[Asked], out: &mut List<TxnKey>) -> Result<(), NoMemory>
-    ensures { IfOk result (λ u. out.new ≡ out.old ++ map (λ a. txn_key a.txn) asked.now) }
+fn add_keys(asked: &[Asked], out: &mut List<TxnId>) -> Result<(), NoMemory>
+    ensures { IfOk result (λ u. out.new ≡ out.old ++ map (λ a. txn_id a.txn) asked.now) }
 {
     for a in asked {
-        out.push(txn_key(&a.txn))?;
+        out.push(txn_id(&a.txn))?;
     }
     Ok(())
 }
 
-fn add_txn_keys(txns: &[Txn], out: &mut List<TxnKey>) -> Result<(), NoMemory>
-    ensures { IfOk result (λ u. out.new ≡ out.old ++ map txn_key txns.now) }
+fn add_txn_keys(txns: &[Txn], out: &mut List<TxnId>) -> Result<(), NoMemory>
+    ensures { IfOk result (λ u. out.new ≡ out.old ++ map txn_id txns.now) }
 {
     for t in txns {
-        out.push(txn_key(t))?;
+        out.push(txn_id(t))?;
     }
     Ok(())
 }
 
 /// The transactions that a step touches, as keys, some of them more than once.
-pub fn keys_touched(
-    alloc: Global,
-    new: &Option<Standing>,
-    records: &[Record],
-    events: &[Told],
-    outs: &[Packet],
-) -> Result<List<TxnKey>, NoMemory>
-    ensures { IfOk result (λ out. out ≡ keys_touched new.now records.now events.now outs.now) }
+pub(crate) fn keys_touched(doings: &Doings<'_>) -> Result<List<TxnId>, NoMemory>
+    ensures { IfOk result (λ out. out ≡ keys_touched doings.now.new.now doings.now.records.now doings.now.events.now doings.now.outs.now) }
 {
-    let mut out = List::new(alloc);
-    let asked = added(alloc, new, records)?;
+    let mut out = List::new(doings.alloc);
+    let asked = added(doings)?;
     add_keys(asked.as_slice(), &mut out)?;
-    let txns = reached(alloc, records, events, outs)?;
+    let txns = reached(doings)?;
     add_txn_keys(txns.as_slice(), &mut out)?;
     Ok(out)
 }

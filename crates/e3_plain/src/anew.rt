@@ -4,15 +4,15 @@ ghost use Rattle.e3_world.specs.Lives.{life_of};
 
 use crate::grants::grants_after;
 use crate::reading::{
-    all_came, begins, first_answer, first_reason, lock_now, log_now, steps_now, waits_for,
-    waits_now,
+    begins, first_answer, first_reason, lock_now, log_now, steps_now, waits_for, waits_now,
 };
+use e3_commit::all_came;
 use e3_readings::{
     answers, attempted, decision, done, election_in_progress, expected, has_voted, is_among,
-    issued, kept_reason, key_of, last_attempt, last_elected, life_of, next_call, nth_op,
+    issued, kept_reason, key_of, last_attempt, last_elected, last_own, life_of, next_call, nth_op,
     round_in_progress, row_value, table_of, unanswered, yes_votes,
 };
-use e3_step::{Past, last_own};
+use e3_step::Past;
 use e3_types::{Answer, Call, Dir, Grant, Input, List, Name, NoMemory, Record, Refusal, Txn};
 use e3_world::{Asked, At, Election, Expected, Made, Performed, Round, SiteStep};
 use std::alloc::Global;
@@ -186,7 +186,7 @@ impl Past for Anew {
         let steps = steps_now(alloc, &self.place, made)?;
         match yes_votes(alloc, t, steps.as_slice())? {
             None => Ok(false),
-            Some(came) => all_came(alloc, t.sites.without(self.place.site), came.as_slice()),
+            Some(came) => Ok(all_came(t.sites.without(self.place.site), came.as_slice())),
         }
     }
 

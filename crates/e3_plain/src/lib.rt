@@ -4,11 +4,10 @@
 
 mod anew;
 mod grants;
-mod plain_forms;
+mod packets;
 mod reading;
 mod steps;
 
 pub use anew::Anew;
-pub use plain_forms::{plain, plain_input};
-pub use reading::all_came;
+pub use packets::{unnumbered, unnumbered_input};
 pub use steps::step_of;

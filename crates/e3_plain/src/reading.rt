@@ -1,8 +1,7 @@
 // What a step reads of its site's past, each reading computed anew.
-ghost use Rattle.std.specs.Prelude.{◌≡◌, ◌++◌, ◌∷◌, [], IfOk, suc, count_by};
+ghost use Rattle.std.specs.Prelude.{◌≡◌, ◌++◌, ◌∷◌, [], IfOk, count_by};
 ghost use Rattle.std.specs.List.{list_any};
 ghost use Rattle.e3_types.specs.Same.{same_txn};
-ghost use Rattle.e3_types.specs.Sets.{has_site, is_within};
 ghost use Rattle.e3_step.specs.Asking.{lock_now, lock_of, waits_now};
 ghost use Rattle.e3_step.specs.Reading.{first_of};
 ghost use Rattle.e3_world.specs.Making.{log_now, steps_now};
@@ -11,8 +10,8 @@ ghost use Rattle.e3_world.specs.Operations.{holders, queue};
 ghost use Rattle.e3_world.specs.Steps.{is_begin};
 
 use e3_locks::lock_grant;
-use e3_readings::{holders, key_of, mode_of, queue, waiting};
-use e3_types::{Answer, Copied, Grant, Input, List, Lock, NoMemory, Record, Refusal, SiteSet, Txn};
+use e3_readings::{holders, key_of, mode_of, next, queue, waiting};
+use e3_types::{Answer, Copied, Grant, Input, List, Lock, NoMemory, Record, Refusal, Txn};
 use e3_world::{Asked, At, Made, Moment};
 use std::alloc::Global;
 
@@ -133,20 +132,6 @@ pub fn lock_now(alloc: Global, a: &At, q: &Asked, made: &Made) -> Result<Grant, 
     Ok(lock_grant(&wanted, held.as_slice(), queued.as_slice()))
 }
 
-fn has_come(came: &[u32], site: u32) -> bool
-    ensures { result ≡ has_site came.now site }
-{
-    came.iter().any(|x| *x == site)
-}
-
-/// Each of the sites is among those that came.
-pub fn all_came(alloc: Global, sites: SiteSet, came: &[u32]) -> Result<bool, NoMemory>
-    ensures { IfOk result (λ b. b ≡ is_within sites came.now) }
-{
-    let awaited = sites.list(alloc)?;
-    Ok(awaited.as_slice().iter().all(|site| has_come(came, *site)))
-}
-
 /// The step took a Begin.
 pub fn is_begin(m: &Moment) -> bool
     ensures { result ≡ is_begin m.now }
@@ -165,14 +150,4 @@ pub fn begins(steps: &[Moment]) -> Result<u32, NoMemory>
         }
     }
     Ok(n)
-}
-
-fn next(count: u32) -> Result<u32, NoMemory>
-    ensures { IfOk result (λ n. n ≡ suc count) }
-{
-    if count < 4294967295 {
-        Ok(count + 1)
-    } else {
-        Err(NoMemory)
-    }
 }

@@ -3,7 +3,7 @@ ghost use Rattle.std.specs.Prelude.{◌≡◌, IfOk};
 ghost use Rattle.e3_world.specs.Steps.{step_of};
 
 use crate::anew::Anew;
-use crate::plain_forms::plain_input;
+use crate::packets::unnumbered_input;
 use e3_step::step_at;
 use e3_types::{Input, NoMemory, Record};
 use e3_world::{Made, SiteStep};
@@ -22,6 +22,6 @@ pub fn step_of(
 ) -> Result<Made, NoMemory>
     ensures { IfOk result (λ made. made ≡ step_of weights.now site (record { rose = rose.now; since = since.now }) input.now) }
 {
-    let past = Anew::of(alloc, weights, site, rose, since, &plain_input(input))?;
+    let past = Anew::of(alloc, weights, site, rose, since, &unnumbered_input(input))?;
     step_at(alloc, &past)
 }

@@ -1,1 +1,6 @@
 pub mod Opens
+pub mod Bindings
+pub mod Inputs
+pub mod RoundOf
+pub mod Lasts
+pub mod Places

@@ -1,18 +1,25 @@
 // Operations that came to a site, in lists.
 ghost use Rattle.std.specs.Prelude.{◌≡◌, ◌++◌, IfOk, take};
 
-use e3_types::{List, NoMemory};
+use e3_types::{List, NoMemory, Op, Txn};
 use e3_world::Asked;
+
+/// The operation of this number of a transaction.
+pub fn asked_of(t: &Txn, n: u32, op: &Op) -> Asked
+    ensures { result ≡ record { txn = t.now; n = n; op = op.now } }
+{
+    Asked {
+        txn: *t,
+        n,
+        op: op.copy(),
+    }
+}
 
 /// An equal operation.
 pub fn copy_asked(a: &Asked) -> Asked
     ensures { result ≡ a.now }
 {
-    Asked {
-        txn: a.txn,
-        n: a.n,
-        op: a.op.copy(),
-    }
+    asked_of(&a.txn, a.n, &a.op)
 }
 
 /// Adds copies of these.

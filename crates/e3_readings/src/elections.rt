@@ -8,12 +8,12 @@ ghost use Rattle.e3_world.specs.Elections.{is_decision, is_join, all_heard, all_
 
 use crate::counts::{next, small};
 use crate::logs::{last_attempt, last_elected, state_of};
+use e3_elect as elect;
 use e3_types::{
     Call, Input, List, Message, NoMemory, Packet, Record, SiteReport, SiteSet, Told, Txn,
 };
 use e3_world::{Election, Elections, Moment, Named};
 use std::alloc::Global;
-use std::cmp::max;
 
 /// The record is a decision of the transaction.
 pub fn is_decision(t: &Txn, r: &Record) -> bool
@@ -39,21 +39,21 @@ pub fn is_join(t: &Txn, r: &Record) -> bool
 pub fn all_heard(e: &Election) -> bool
     ensures { result ≡ all_heard e.now }
 {
-    e.heard.len() == e.group.count() as u64
+    elect::are_all(e.heard.as_slice(), e.group)
 }
 
 /// The whole group has reported.
 pub fn all_reported(e: &Election) -> bool
     ensures { result ≡ all_reported e.now }
 {
-    e.reports.len() == e.group.count() as u64
+    elect::are_all(e.reports.as_slice(), e.group)
 }
 
 /// The greatest number that was heard.
 pub fn greatest_heard(e: &Election) -> u32
     ensures { result ≡ greatest_heard e.now }
 {
-    e.heard.as_slice().iter().fold(0, |n, h| max(n, h.elected))
+    elect::greatest_of(e.heard.as_slice())
 }
 
 /// An election that begins: it has heard its own site alone, and has no number and no report yet.
@@ -77,32 +77,20 @@ pub fn begun(
     })
 }
 
-fn is_heard(f: u32, heard: &[Named]) -> bool
-    ensures { result ≡ list_any (λ h. h.site == f) heard.now }
-{
-    heard.iter().any(|h| h.site == f)
-}
-
 /// The site is a member that the election's call has not heard yet, and this is that call.
 pub fn is_awaited(e: &Election, f: u32, call: Call) -> bool
     ensures { result ≡ (same_call e.now.call call && has_site e.now.group f && not (list_any (λ h. h.site == f) e.now.heard)) }
 {
-    e.call.is_same(call) && e.group.has(f) && !is_heard(f, e.heard.as_slice())
+    elect::is_awaited(e.call, e.group, e.heard.as_slice(), f, call)
 }
 
 /// The election with an answer of a member.
 pub fn and_heard(e: Election, f: u32, elected: u32) -> Result<Election, NoMemory>
     ensures { IfOk result (λ more. more ≡ record e { heard = e.heard ++ record { site = f; elected = elected } ∷ [] }) }
 {
-    let mut heard = e.heard;
-    heard.push(Named { site: f, elected })?;
-    Ok(Election {
-        call: e.call,
-        group: e.group,
-        heard,
-        number: e.number,
-        reports: e.reports,
-    })
+    let mut more = e;
+    more.heard.push(Named { site: f, elected })?;
+    Ok(more)
 }
 
 /// The election with an answer to its call by a member that was not heard yet. None where it is no such answer.
@@ -115,30 +103,18 @@ pub fn hear(e: Election, f: u32, call: Call, elected: u32) -> Result<Option<Elec
     Ok(Some(and_heard(e, f, elected)?))
 }
 
-fn has_reported(site: u32, reports: &[SiteReport]) -> bool
-    ensures { result ≡ list_any (λ r. r.site == site) reports.now }
-{
-    reports.iter().any(|r| r.site == site)
-}
-
 fn is_owed(e: &Election, site: u32) -> bool
     ensures { result ≡ (has_site e.now.group site && not (list_any (λ r. r.site == site) e.now.reports)) }
 {
-    e.group.has(site) && !has_reported(site, e.reports.as_slice())
+    elect::is_owed(e.group, e.reports.as_slice(), site)
 }
 
 fn and_reported(e: Election, report: SiteReport) -> Result<Election, NoMemory>
     ensures { IfOk result (λ more. more ≡ record e { reports = e.reports ++ report ∷ [] }) }
 {
-    let mut reports = e.reports;
-    reports.push(report)?;
-    Ok(Election {
-        call: e.call,
-        group: e.group,
-        heard: e.heard,
-        number: e.number,
-        reports,
-    })
+    let mut more = e;
+    more.reports.push(report)?;
+    Ok(more)
 }
 
 /// The election with a report of its number by a member that has not reported yet. None where it is no such report.
@@ -209,15 +185,11 @@ fn own_report(site: u32, t: &Txn, before: &[Record]) -> SiteReport
 pub fn joined(alloc: Global, e: Election, n: u32, own: SiteReport) -> Result<Election, NoMemory>
     ensures { IfOk result (λ more. more ≡ record e { number = Some n; reports = own ∷ [] }) }
 {
-    let mut reports = List::new(alloc);
-    reports.push(own)?;
-    Ok(Election {
-        call: e.call,
-        group: e.group,
-        heard: e.heard,
-        number: Some(n),
-        reports,
-    })
+    let mut more = e;
+    more.number = Some(n);
+    more.reports = List::new(alloc);
+    more.reports.push(own)?;
+    Ok(more)
 }
 
 /// The election behind a step in which an answer was heard. Once the whole group was heard the site joins in that step,

@@ -4,37 +4,125 @@
 #![tactic(auto)]
 
 mod asked;
+mod binding;
+mod bound_names;
 mod counts;
 mod elections;
+mod inputs;
 mod lives;
 mod logs;
-mod names;
 mod opens;
 mod operations;
+mod own;
+mod places;
+mod recovery_rounds;
 mod rounds;
+mod steps;
 mod tables;
 mod votes;
 
-pub use asked::{add_asked, copy_asked, first_asked};
-pub use counts::{next, number_behind};
-pub use elections::{
-    after_heard, all_heard, all_reported, and_heard, begun, election_by, election_in_progress,
-    ends_election, greatest_heard, has_decision, has_join, has_verdict, hear, is_awaited,
-    is_decision, is_elect, is_join, joined, joined_in, next_call, take_report, with_report,
-};
-pub use lives::{life_by, life_of, present_log};
-pub use logs::{
-    attempted, attempted_by, decision, decision_by, has_voted, is_undecided, is_vote, key_of,
-    last_attempt, last_attempt_by, last_elected, last_elected_by, lock_on, logged_inc, mode_of,
-    state_of, voted_locks, voted_ops,
-};
-pub use names::{add_name, add_names};
-pub use opens::{add_undecided_in, in_order, open_in};
-pub use operations::{
-    answers, arrivals, done, done_locks, expected, expected_by, has_refusal, holders, holds,
-    is_among, is_answered, issued, issued_in, kept_reason, nth_op, op_told, performed_by, queue,
-    reasons_in, same_asked, taken_up, tells_op, tells_own, unanswered, waiting,
-};
-pub use rounds::{count_ack, receivers, round_by, round_by_record, round_in_progress, rounds_upon};
-pub use tables::{install_op, row_value, rows_at, set_row, table_by, table_of};
-pub use votes::{yes_upon, yes_votes};
+pub use asked::add_asked;
+pub use asked::asked_of;
+pub use asked::copy_asked;
+pub use asked::first_asked;
+pub use binding::bind;
+pub use binding::nothing_bound;
+pub use bound_names::BoundNames;
+pub use counts::next;
+pub use counts::number_behind;
+pub use e3_locks::add_name;
+pub use e3_locks::add_names;
+pub use elections::after_heard;
+pub use elections::all_heard;
+pub use elections::all_reported;
+pub use elections::and_heard;
+pub use elections::begun;
+pub use elections::election_by;
+pub use elections::election_in_progress;
+pub use elections::ends_election;
+pub use elections::greatest_heard;
+pub use elections::has_decision;
+pub use elections::has_join;
+pub use elections::has_verdict;
+pub use elections::hear;
+pub use elections::is_awaited;
+pub use elections::is_decision;
+pub use elections::is_elect;
+pub use elections::is_join;
+pub use elections::joined;
+pub use elections::joined_in;
+pub use elections::next_call;
+pub use elections::take_report;
+pub use elections::with_report;
+pub use inputs::inputs_asked;
+pub use inputs::inputs_to;
+pub use lives::life_by;
+pub use lives::life_of;
+pub use lives::present_log;
+pub use logs::attempted;
+pub use logs::attempted_by;
+pub use logs::decision;
+pub use logs::decision_by;
+pub use logs::has_voted;
+pub use logs::is_undecided;
+pub use logs::is_vote;
+pub use logs::key_of;
+pub use logs::last_attempt;
+pub use logs::last_attempt_by;
+pub use logs::last_elected;
+pub use logs::last_elected_by;
+pub use logs::lock_on;
+pub use logs::logged_inc;
+pub use logs::mode_of;
+pub use logs::state_of;
+pub use logs::voted_locks;
+pub use logs::voted_ops;
+pub use opens::add_logged;
+pub use opens::add_undecided_in;
+pub use opens::in_order;
+pub use opens::open_in;
+pub use operations::answers;
+pub use operations::arrivals;
+pub use operations::done;
+pub use operations::done_locks;
+pub use operations::expected;
+pub use operations::expected_by;
+pub use operations::has_refusal;
+pub use operations::holders;
+pub use operations::holds;
+pub use operations::is_among;
+pub use operations::is_answered;
+pub use operations::issued;
+pub use operations::issued_in;
+pub use operations::kept_reason;
+pub use operations::nth_op;
+pub use operations::op_told;
+pub use operations::performed_by;
+pub use operations::queue;
+pub use operations::reasons_in;
+pub use operations::same_asked;
+pub use operations::taken_up;
+pub use operations::tells_op;
+pub use operations::tells_own;
+pub use operations::unanswered;
+pub use operations::waiting;
+pub use own::last_own;
+pub use own::own_write;
+pub use places::SiteRecord;
+pub use places::add_placed;
+pub use recovery_rounds::RecoveryRound;
+pub use recovery_rounds::rounds_of;
+pub use rounds::count_ack;
+pub use rounds::receivers;
+pub use rounds::round_by;
+pub use rounds::round_by_record;
+pub use rounds::round_in_progress;
+pub use rounds::rounds_upon;
+pub use steps::step_items;
+pub use tables::install_op;
+pub use tables::row_value;
+pub use tables::rows_at;
+pub use tables::set_row;
+pub use tables::table_by;
+pub use tables::table_of;
+pub use votes::yes_votes;

@@ -16,16 +16,16 @@ fn add_recorded(r: &Record, txns: &mut List<Txn>) -> Result<(), NoMemory>
     ensures { IfOk result (λ u. txns.new ≡ txns.old ++ txn_of_record r.now) }
 {
     match r {
-        Record::Vote { txn, .. } => txns.push(*txn),
-        Record::Join { txn, .. } => txns.push(*txn),
-        Record::Attempt { txn, .. } => txns.push(*txn),
-        Record::Decision { txn, .. } => txns.push(*txn),
+        Record::Vote { txn, .. }
+        | Record::Join { txn, .. }
+        | Record::Attempt { txn, .. }
+        | Record::Decision { txn, .. } => txns.push(*txn),
         _ => Ok(()),
     }
 }
 
-// Adds the transactions of a log.
-fn add_logged(log: &[Record], txns: &mut List<Txn>) -> Result<(), NoMemory>
+/// Adds the transactions of a log, one for each record that has one.
+pub fn add_logged(log: &[Record], txns: &mut List<Txn>) -> Result<(), NoMemory>
     ensures { IfOk result (λ u. txns.new ≡ txns.old ++ flat_map txn_of_record log.now) }
 {
     for r in log {

@@ -3,11 +3,12 @@ ghost use Rattle.std.specs.Prelude.{◌≡◌, ◌≤◌, ◌++◌, ◌∷◌, [
 ghost use Rattle.std.specs.List.{list_any, flat_map};
 ghost use Rattle.e3_types.specs.Same.{same_txn};
 ghost use Rattle.e3_world.specs.Logs.{is_undecided, key_of, lock_on};
-ghost use Rattle.e3_world.specs.Operations.{is_refusal, issued_in, issued, nth_op, taken_up, same_asked, is_fresh, and_arrived, arrived_by, arrivals, answer_told, answer_sent, answers, is_answered, performed_by, done, waiting, done_locks, holders, stronger, holds, queue, tells_op, op_told, unanswered, expected_with, expected_by, expected, reason_in, kept_reason};
+ghost use Rattle.e3_world.specs.Operations.{is_refusal, issued_in, issued, nth_op, taken_up, same_asked, is_fresh, and_arrived, arrived_by, arrivals, answer_told, answer_sent, answers, is_answered, performed_by, done, waiting, done_locks, holders, holds, queue, tells_op, op_told, unanswered, expected_with, expected_by, expected, reason_in, kept_reason};
 
-use crate::asked::copy_asked;
+use crate::asked::{asked_of, copy_asked};
 use crate::counts::{next, number_behind, small};
 use crate::logs::{is_undecided, key_of, lock_on, state_of, voted_locks};
+use e3_locks::mode_among;
 use e3_types::{
     Answer, Input, List, Lock, Message, Mode, Name, NoMemory, Op, Packet, Record, Refusal, State,
     Told, Txn,
@@ -72,21 +73,13 @@ pub fn taken_up(
 {
     match &m.input {
         Input::Deliver { packet } => match &packet.msg {
-            Message::Do { txn, n, op } => Ok(Some(Asked {
-                txn: *txn,
-                n: *n,
-                op: op.copy(),
-            })),
+            Message::Do { txn, n, op } => Ok(Some(asked_of(txn, *n, op))),
             _ => Ok(None),
         },
         Input::Do { txn, op } => {
             if !has_refusal(m.told.as_slice()) && key_of(op).site == site {
                 let earlier = issued(alloc, txn, steps)?;
-                Ok(Some(Asked {
-                    txn: *txn,
-                    n: number_behind(earlier.len())?,
-                    op: op.copy(),
-                }))
+                Ok(Some(asked_of(txn, number_behind(earlier.len())?, op)))
             } else {
                 Ok(None)
             }
@@ -317,15 +310,6 @@ pub fn holders(
     Ok(out)
 }
 
-fn stronger(was: Option<Mode>, l: &Lock) -> Option<Mode>
-    ensures { result ≡ stronger was l.now }
-{
-    match was {
-        Some(Mode::Exclusive) => Some(Mode::Exclusive),
-        _ => Some(l.mode),
-    }
-}
-
 /// The mode in which a transaction holds a name, if it does.
 pub fn holds(
     alloc: Global,
@@ -338,13 +322,7 @@ pub fn holds(
     ensures { IfOk result (λ mode. mode ≡ holds site t.now name.now log.now steps.now) }
 {
     let locks = holders(alloc, site, name, log, steps)?;
-    let mut mode = None;
-    for l in locks.as_slice() {
-        if t.is_same(&l.txn) {
-            mode = stronger(mode, l);
-        }
-    }
-    Ok(mode)
+    Ok(mode_among(t, locks.as_slice()))
 }
 
 /// The locks on a name for which these operations wait, in their order.

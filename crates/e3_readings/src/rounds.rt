@@ -1,12 +1,10 @@
 // The round in which an attempt gathers its acknowledgements, read off the steps of the present incarnation.
-ghost use Rattle.std.specs.Prelude.{◌≡◌, ◌==◌, ◌&&◌, not, Option, IfOk, fold, option_map, List as Items};
-ghost use Rattle.e3_types.specs.declared.entries.Told.{Told};
-ghost use Rattle.e3_types.specs.declared.messages.Packet.{Packet};
-ghost use Rattle.e3_types.specs.declared.records.Record.{Record as SomeRecord};
+ghost use Rattle.std.specs.Prelude.{◌≡◌, ◌==◌, ◌&&◌, [], not, Option, IfOk, fold, option_map};
 ghost use Rattle.e3_types.specs.Same.{same_dir};
 ghost use Rattle.e3_types.specs.Sets.{has_site};
 ghost use Rattle.e3_world.specs.Rounds.{count_ack, receivers, round_by_record, round_by, round_in_progress};
 
+use e3_commit::acknowledges;
 use e3_types::{Dir, Input, List, Message, NoMemory, Record, SiteSet, Txn};
 use e3_world::{Moment, Round, Rounds};
 use std::alloc::Global;
@@ -20,7 +18,7 @@ fn has_site(sites: &[u32], site: u32) -> bool
 fn is_due(r: &Round, f: u32, n: u32, dir: Dir) -> bool
     ensures { result ≡ (r.now.n == n && same_dir r.now.dir dir && has_site r.now.to f && not (has_site r.now.acked f)) }
 {
-    r.n == n && r.dir.is_same(dir) && r.to.has(f) && !has_site(r.acked.as_slice(), f)
+    acknowledges(r.n, r.dir, r.to, f, n, dir) && !has_site(r.acked.as_slice(), f)
 }
 
 /// The round with an acknowledgement of its attempt, where the sender got the attempt and did not acknowledge it yet.
@@ -30,14 +28,9 @@ pub fn count_ack(r: Round, f: u32, n: u32, dir: Dir) -> Result<Round, NoMemory>
     if !is_due(&r, f, n, dir) {
         return Ok(r);
     }
-    let mut acked = r.acked;
-    acked.push(f)?;
-    Ok(Round {
-        n: r.n,
-        dir: r.dir,
-        to: r.to,
-        acked,
-    })
+    let mut more = r;
+    more.acked.push(f)?;
+    Ok(more)
 }
 
 /// The receivers of a round of this number: the first coordinator's other sites, or the rest of the elector's group.
@@ -75,21 +68,22 @@ pub fn round_by_record(
     }
 }
 
-fn by_records(
+// The rounds of this group behind these records.
+fn rounds_with(
     alloc: Global,
     site: u32,
     t: &Txn,
     group: SiteSet,
     first: Option<Round>,
     records: &[Record],
-) -> Option<Round>
-    ensures { result ≡ fold (round_by_record site t.now group) first records.now }
+) -> Rounds
+    ensures { result ≡ record { group = group; now = fold (round_by_record site t.now group) first records.now } }
 {
     let mut round = first;
     for r in records {
         round = round_by_record(alloc, site, t, group, round, r);
     }
-    round
+    Rounds { group, now: round }
 }
 
 fn and_ack(was: Option<Round>, f: u32, n: u32, dir: Dir) -> Result<Option<Round>, NoMemory>
@@ -110,40 +104,22 @@ pub fn rounds_upon(
     input: &Input,
     records: &[Record],
 ) -> Result<Rounds, NoMemory>
-    ensures { IfOk result (λ r. (before : Items SomeRecord) → (outs : Items Packet) → (told : Items Told)
-        → r ≡ round_by site t.now was (record { before = before; input = input.now; records = records.now; outs = outs; told = told })) }
+    ensures { IfOk result (λ r. r ≡ round_by site t.now was (record { before = []; input = input.now; records = records.now; outs = []; told = [] })) }
 {
     match input {
         Input::Elect { txn, group: new } => {
             let group = if t.is_same(txn) { *new } else { was.group };
-            let now = by_records(alloc, site, t, group, was.now, records);
-            Ok(Rounds { group, now })
+            Ok(rounds_with(alloc, site, t, group, was.now, records))
         }
         Input::Deliver { packet } => match &packet.msg {
             Message::Pre { .. } => Ok(was),
             Message::Ack { txn, n, dir } if t.is_same(txn) => {
                 let acked = and_ack(was.now, packet.from, *n, *dir)?;
-                let now = by_records(alloc, site, t, was.group, acked, records);
-                Ok(Rounds {
-                    group: was.group,
-                    now,
-                })
+                Ok(rounds_with(alloc, site, t, was.group, acked, records))
             }
-            _ => {
-                let now = by_records(alloc, site, t, was.group, was.now, records);
-                Ok(Rounds {
-                    group: was.group,
-                    now,
-                })
-            }
+            _ => Ok(rounds_with(alloc, site, t, was.group, was.now, records)),
         },
-        _ => {
-            let now = by_records(alloc, site, t, was.group, was.now, records);
-            Ok(Rounds {
-                group: was.group,
-                now,
-            })
-        }
+        _ => Ok(rounds_with(alloc, site, t, was.group, was.now, records)),
     }
 }
 

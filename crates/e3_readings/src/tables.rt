@@ -6,7 +6,8 @@ ghost use Rattle.e3_world.specs.Logs.{set_row, install_op, table_by, table_of, r
 ghost use Rattle.e3_world.specs.Moves.{rows_at};
 
 use crate::logs::voted_ops;
-use e3_types::{Answer, Dir, KeyRow, List, Name, NoMemory, NumOp, Op, Record, Row};
+use e3_tables::row_written;
+use e3_types::{Answer, Dir, KeyRow, List, Name, NoMemory, NumOp, Record, Row};
 use std::alloc::Global;
 use std::cmp::Ordering;
 
@@ -52,15 +53,9 @@ pub fn set_row(alloc: Global, row: &Row, rows: &[Row]) -> Result<List<Row>, NoMe
 pub fn install_op(alloc: Global, rows: List<Row>, op: &NumOp) -> Result<List<Row>, NoMemory>
     ensures { IfOk result (λ out. out ≡ install_op rows op.now) }
 {
-    match &op.op {
-        Op::Write(key, val) => {
-            let row = Row {
-                name: key.name.copy(),
-                val: val.copy(),
-            };
-            set_row(alloc, &row, rows.as_slice())
-        }
-        Op::Read(_) => Ok(rows),
+    match row_written(op) {
+        Some(row) => set_row(alloc, &row, rows.as_slice()),
+        None => Ok(rows),
     }
 }
 

@@ -1,11 +1,9 @@
 // The votes that a coordinator gathers, read off its steps of the present incarnation.
-ghost use Rattle.std.specs.Prelude.{◌≡◌, ◌++◌, ◌∷◌, [], Option, IfOk, option_map, List as Items};
-ghost use Rattle.e3_types.specs.declared.messages.Packet.{Packet};
-ghost use Rattle.e3_types.specs.declared.records.Record.{Record};
+ghost use Rattle.std.specs.Prelude.{◌≡◌, ◌++◌, ◌∷◌, [], Option, IfOk, option_map};
 ghost use Rattle.e3_world.specs.Votes.{yes_by, yes_votes};
 
 use crate::operations::has_refusal;
-use e3_types::{Input, List, Message, NoMemory, Told, Txn};
+use e3_types::{Input, List, Message, NoMemory, Txn};
 use e3_world::Moment;
 use std::alloc::Global;
 
@@ -21,29 +19,6 @@ fn and_yes(was: Option<List<u32>>, site: u32) -> Result<Option<List<u32>>, NoMem
     }
 }
 
-/// The sites whose yes came, behind one more step, of which its input and the events are read.
-pub fn yes_upon(
-    alloc: Global,
-    t: &Txn,
-    was: Option<List<u32>>,
-    input: &Input,
-    events: &[Told],
-) -> Result<Option<List<u32>>, NoMemory>
-    ensures { IfOk result (λ o. (before records : Items Record) → (outs : Items Packet)
-        → o ≡ yes_by t.now was (record { before = before; input = input.now; records = records; outs = outs; told = events.now })) }
-{
-    match input {
-        Input::Commit { txn } if t.is_same(txn) && !has_refusal(events) => {
-            Ok(Some(List::new(alloc)))
-        }
-        Input::Deliver { packet } => match &packet.msg {
-            Message::Vote { txn, yes: true } if t.is_same(txn) => and_yes(was, packet.from),
-            _ => Ok(was),
-        },
-        _ => Ok(was),
-    }
-}
-
 fn yes_by(
     alloc: Global,
     t: &Txn,
@@ -52,7 +27,16 @@ fn yes_by(
 ) -> Result<Option<List<u32>>, NoMemory>
     ensures { IfOk result (λ o. o ≡ yes_by t.now was m.now) }
 {
-    yes_upon(alloc, t, was, &m.input, m.told.as_slice())
+    match &m.input {
+        Input::Commit { txn } if t.is_same(txn) && !has_refusal(m.told.as_slice()) => {
+            Ok(Some(List::new(alloc)))
+        }
+        Input::Deliver { packet } => match &packet.msg {
+            Message::Vote { txn, yes: true } if t.is_same(txn) => and_yes(was, packet.from),
+            _ => Ok(was),
+        },
+        _ => Ok(was),
+    }
 }
 
 /// The sites whose yes came since the Commit of the transaction that was not refused, in the order in which they came;

@@ -7,3 +7,10 @@ mod Known
 mod Walking
 mod Births
 mod Risen
+mod Merging
+mod Rows
+mod Cards
+mod Fronts
+mod Telling
+pub mod Legal
+pub mod AlikeTables

@@ -2,7 +2,7 @@
 use Rattle.std.proofs.Common.{◌≡◌, true, ℕ, List, [], ◌∷◌, ◌++◌, refl, sym, subst, ap, ◌∙◌, fold, Result, Ok, Err, IfOk}
 use Rattle.std.proofs.lemmas.List.Sums.{fold-append}
 use Rattle.e3_readings.specs.Opens.{open_in}
-use Rattle.e3_past.proofs.Following.{step_follows}
+use Rattle.e3_past.proofs.RecordsFollow.{step_follows}
 use Rattle.e3_past.specs.Standing.{TablesStand}
 use Rattle.e3_past.specs.Stepping.{ActAlike, IsBehind}
 use Rattle.e3_past.specs.declared.tables.Behind.{Behind}

@@ -5,3 +5,5 @@ pub mod AlikeLaws
 pub mod Orderly
 pub mod Reading
 pub mod Rebuilt
+pub mod Tables
+pub mod Snapshot

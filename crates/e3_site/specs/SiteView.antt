@@ -12,7 +12,7 @@ use Rattle.e3_world.specs.declared.lives.Incarnation.{Incarnation}
 use Rattle.e3_world.specs.declared.lives.Made.{Made}
 use Rattle.e3_world.specs.declared.lives.SiteStep.{SiteStep}
 use Rattle.e3_world.specs.Lives.{life_of}
-use Rattle.e3_world.specs.Moves.{plain, plain_input}
+use Rattle.e3_world.specs.Moves.{unnumbered, unnumbered_input}
 use Rattle.e3_world.specs.Steps.{step_of}
 
 -- the weights of all sites, that of site 1 first; the site's number; the inputs that it took; and its tables
@@ -36,7 +36,7 @@ with_step was step = record { rose = was.rose; since = was.since ++ step ∷ [] 
 
 -- a step as a site keeps it: its packets, and one that it took, have no number
 abbrev pub step_kept : Input → Made → SiteStep
-step_kept i made = record { input = plain_input i; records = made.records; outs = map plain made.outs; told = made.told }
+step_kept i made = record { input = unnumbered_input i; records = made.records; outs = map unnumbered made.outs; told = made.told }
 
 -- what an input makes a site in this incarnation do, as the site keeps it
 abbrev pub planned_step : Incarnation → SiteView → Input → SiteStep

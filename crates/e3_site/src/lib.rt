@@ -4,17 +4,24 @@
 #![tactic(auto)]
 
 mod before;
+mod briefs;
 mod disorder;
 mod headings;
 mod laws;
 mod locks;
+mod notes;
 mod order;
 mod plan;
 mod rebuilding;
 mod site;
+mod snapshot;
+mod tables;
 
+pub use briefs::brief;
 pub use disorder::first_disorder;
 pub use laws::{alike_sites_do_the_same, alike_sites_stay_alike};
 pub use plan::Plan;
 pub use rebuilding::{RebuildFault, rebuild};
 pub use site::Site;
+pub use snapshot::of_site;
+pub use tables::of_tables;

@@ -2,10 +2,10 @@
 ghost use Rattle.std.specs.Prelude.{◌≡◌, ◌<◌, ◌^◌, IfOk, length, map};
 ghost use Rattle.e3_past.specs.Stepping.{IsBehind};
 ghost use Rattle.e3_site.specs.SiteView.{entry_of_plan, step_kept};
-ghost use Rattle.e3_world.specs.Moves.{plain};
+ghost use Rattle.e3_world.specs.Moves.{unnumbered};
 
 use e3_past::{Behind, Tables, behind};
-use e3_plain::{plain, plain_input};
+use e3_plain::{unnumbered, unnumbered_input};
 use e3_types::{Act, Copied, Entry, Input, List, NoMemory, Packet, Record, Told};
 use e3_world::{Made, SiteStep};
 use std::alloc::Global;
@@ -29,14 +29,14 @@ impl Model for Plan {
 }
 
 // The packets without numbers, in a list with room for just these: a list that grows by pushes has room for four at least.
-fn plain_outs(alloc: Global, outs: &[Packet]) -> Result<List<Packet>, NoMemory>
-    ensures { IfOk result (λ out. out ≡ map plain outs.now) }
+fn unnumbered_outs(alloc: Global, outs: &[Packet]) -> Result<List<Packet>, NoMemory>
+    ensures { IfOk result (λ out. out ≡ map unnumbered outs.now) }
 {
     let Ok(mut out) = Vec::with_capacity(alloc, outs.len()) else {
         return Err(NoMemory);
     };
     for p in outs {
-        if out.push(plain(p)).is_err() {
+        if out.push(unnumbered(p)).is_err() {
             return Err(NoMemory);
         }
     }
@@ -57,12 +57,12 @@ fn kept(alloc: Global, input: &Input, made: Made) -> Result<SiteStep, NoMemory>
     ensures kept { IfOk result (λ step. step ≡ step_kept input.now made) }
     ensures few { IfOk result (λ step. length step.outs < 2 ^ 32) }
 {
-    let outs = plain_outs(alloc, made.outs.as_slice())?;
+    let outs = unnumbered_outs(alloc, made.outs.as_slice())?;
     if outs.len() > 4294967295 {
         return Err(NoMemory);
     }
     Ok(SiteStep {
-        input: plain_input(input),
+        input: unnumbered_input(input),
         outs,
         records: fitted(made.records),
         told: fitted(made.told),

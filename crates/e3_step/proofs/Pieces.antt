@@ -43,11 +43,11 @@ by_state a f q made Q = by_answers a q made (answers q a.life.steps)
 by_state a f q made _ = made
 
 -- a request whose transaction is in q
-pub on_do_is : (a : At) (f : ℕ) (t : Txn) (n : ℕ) (op as_told : Op) (made new : Made) → Q ≡ state_now a t made → as_told ≡ op
-    → new ≡ on_asked a (record { txn = t; n = n; op = as_told }) made → new ≡ on_do a f t n op made
-on_do_is a f t n op as_told made new d h e =
+pub on_do_is : (a : At) (f : ℕ) (t : Txn) (n : ℕ) (op : Op) (asked : Asked) (made new : Made) → Q ≡ state_now a t made → asked ≡ record { txn = t; n = n; op = op }
+    → new ≡ on_asked a asked made → new ≡ on_do a f t n op made
+on_do_is a f t n op asked made new d h e =
     let q : Asked = record { txn = t; n = n; op = op } in
-    e ∙ ap (λ (o : Op). on_asked a (record { txn = t; n = n; op = o }) made) h ∙ by_first a q made (answers q a.life.steps)
+    e ∙ ap (λ (x : Asked). on_asked a x made) h ∙ by_first a q made (answers q a.life.steps)
     ∙ ap (λ (s : State). by_state a f q made s) d
 
 -- a message that is handled

@@ -7,7 +7,7 @@ ghost use Rattle.e3_world.specs.Making.{may_decide, and_cast, and_decide};
 ghost use Rattle.e3_world.specs.AttemptRules.{on_pre, on_ack};
 
 use crate::making::{
-    and_cast, and_decide, and_record, and_send, attempt_now, elected_now, may_decide, open_now,
+    and_decide, and_record, and_send, attempt_now, cast_decision, elected_now, may_decide, open_now,
 };
 use crate::past::Past;
 use crate::weights::is_quorum;
@@ -71,7 +71,7 @@ pub fn on_ack<P: Past>(
             let quorum = has_quorum(alloc, p, t, &r)?;
             if r.n == n && r.dir == dir && may_decide(p, t, dir, made) && quorum {
                 and_decide(p, t, dir, made)?;
-                and_cast(p, r.to, &Message::Decide { txn: *t, dir }, made)
+                cast_decision(p, r.to, t, dir, made)
             } else {
                 Ok(())
             }

@@ -1,15 +1,17 @@
 // What a site does in an election: it hears, joins, reports, and concludes.
-ghost use Rattle.std.specs.Prelude.{◌≡◌, ◌<◌, IfOk, suc, if◌then◌else◌};
+ghost use Rattle.std.specs.Prelude.{◌≡◌, ◌&&◌, IfOk, MatchOption, suc, nat_le, nat_lt, if◌then◌else◌, true, false};
 ghost use Rattle.e3_types.specs.declared.messages.Message.TheVariants as msg;
 ghost use Rattle.e3_world.specs.Making.{may_decide, and_cast, and_decide};
+ghost use Rattle.e3_world.specs.Elections.{all_heard, greatest_heard};
 ghost use Rattle.e3_world.specs.ElectionRules.{and_verdict, and_join, on_last, on_elected, on_report};
 
 use crate::making::{
-    and_attempt, and_cast, and_decide, and_record, and_send, and_tell, attempt_now, elected_now,
-    may_decide, state_now,
+    and_attempt, and_cast, and_decide, and_record, and_send, and_tell, attempt_now, cast_decision,
+    elected_now, may_decide, state_now,
 };
 use crate::past::Past;
-use e3_readings::{all_heard, all_reported, greatest_heard, hear, take_report};
+use e3_elect::number_of;
+use e3_readings::{all_reported, hear, take_report};
 use e3_rule::verdict_of;
 use e3_types::{Call, Dir, Message, NoMemory, Record, SiteReport, SiteSet, Told, Txn, Verdict};
 use e3_world::{Election, Made};
@@ -28,7 +30,7 @@ fn decide_for<P: Past>(
     if may_decide(p, t, dir, made) {
         and_decide(p, t, dir, made)?;
     }
-    and_cast(p, group, &Message::Decide { txn: *t, dir }, made)
+    cast_decision(p, group, t, dir, made)
 }
 
 /// The verdict over the reports of the whole group, told, and what it asks for.
@@ -60,22 +62,23 @@ pub fn and_verdict<P: Past>(
     }
 }
 
-fn next_number(n: u32) -> u32
-    requires { n < 4294967295 }
-    ensures { result ≡ suc n }
+// The number that the site joins, where the last that it joined is this one: that of the election, if it is above.
+#[tactic(auto, using(crate::proofs::Joining::joins_above, crate::proofs::Joining::joins_low, crate::proofs::Joining::joins_none))]
+fn number_above(e: &Election, elected: u32) -> Option<u32>
+    ensures { MatchOption result ((all_heard e.now && nat_lt (greatest_heard e.now) 4294967295 && nat_le elected (greatest_heard e.now)) ≡ false)
+        (λ n. ((all_heard e.now && nat_lt (greatest_heard e.now) 4294967295 && nat_le elected (greatest_heard e.now)) ≡ true) × (n ≡ suc (greatest_heard e.now))) }
 {
-    n + 1
+    let n = number_of(e.heard.as_slice(), e.group)?;
+    if elected < n { Some(n) } else { None }
 }
 
 /// The whole group was heard: the site joins the greatest number plus one, unless it is not above its own or too great.
 pub fn and_join<P: Past>(p: &P, t: &Txn, e: &Election, made: &mut Made) -> Result<(), NoMemory>
     ensures { IfOk result (λ u. made.new ≡ and_join (P.at p.now) t.now e.now made.old) }
 {
-    let greatest = greatest_heard(e);
-    if !(all_heard(e) && greatest < 4294967295 && elected_now(p, t, made) <= greatest) {
+    let Some(n) = number_above(e, elected_now(p, t, made)) else {
         return Ok(());
-    }
-    let n = next_number(greatest);
+    };
     let report = SiteReport {
         site: p.site(),
         state: state_now(p, t, made),

@@ -8,12 +8,10 @@ mod grants;
 mod making;
 mod messages;
 mod operation_rules;
-mod own;
 mod past;
 mod steps;
 mod vote_rules;
 mod weights;
 
-pub use own::{last_own, own_write};
 pub use past::Past;
 pub use steps::step_at;

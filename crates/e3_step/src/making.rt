@@ -1,5 +1,6 @@
 // How a step of a site is put together: what is read at the site, and what a rule adds to the step.
 ghost use Rattle.std.specs.Prelude.{◌≡◌, ◌||◌, ◌++◌, ◌∷◌, [], IfOk, fold, map};
+ghost use Rattle.e3_types.specs.declared.messages.Message.TheVariants as msg;
 ghost use Rattle.e3_types.specs.Quorums.{is_quorum};
 ghost use Rattle.e3_types.specs.Sets.{others};
 ghost use Rattle.e3_world.specs.Logs.{decision, attempted, has_voted};
@@ -188,6 +189,19 @@ pub fn and_cast<P: Past>(
     Ok(())
 }
 
+/// A decision in this direction is sent to all of these sites but the own one.
+pub fn cast_decision<P: Past>(
+    p: &P,
+    sites: SiteSet,
+    t: &Txn,
+    dir: Dir,
+    made: &mut Made,
+) -> Result<(), NoMemory>
+    ensures { IfOk result (λ u. made.new ≡ and_cast (P.at p.now) sites (msg.Decide t.now dir) made.old) }
+{
+    and_cast(p, sites, &Message::Decide { txn: *t, dir }, made)
+}
+
 /// A decision is recorded; the coordinator of the present incarnation tells it.
 pub fn and_decide<P: Past>(p: &P, t: &Txn, dir: Dir, made: &mut Made) -> Result<(), NoMemory>
     ensures { IfOk result (λ u. made.new ≡ and_decide (P.at p.now) t.now dir made.old) }
@@ -204,15 +218,7 @@ pub fn and_abort<P: Past>(p: &P, t: &Txn, made: &mut Made) -> Result<(), NoMemor
     ensures { IfOk result (λ u. made.new ≡ and_abort (P.at p.now) t.now made.old) }
 {
     and_decide(p, t, Dir::Abort, made)?;
-    and_cast(
-        p,
-        t.sites,
-        &Message::Decide {
-            txn: *t,
-            dir: Dir::Abort,
-        },
-        made,
-    )
+    cast_decision(p, t.sites, t, Dir::Abort, made)
 }
 
 /// The coordinator aborts, tells this reason in place of the end, and sends the abort to all other sites.
@@ -227,15 +233,7 @@ pub fn and_abort_for<P: Past>(p: &P, t: &Txn, why: Told, made: &mut Made) -> Res
         made,
     )?;
     and_tell(why, made)?;
-    and_cast(
-        p,
-        t.sites,
-        &Message::Decide {
-            txn: *t,
-            dir: Dir::Abort,
-        },
-        made,
-    )
+    cast_decision(p, t.sites, t, Dir::Abort, made)
 }
 
 /// Behind an attempt: the decision at once where the site is a quorum by itself, else the pre-decision, to these sites.
@@ -251,7 +249,7 @@ pub fn go_on<P: Past>(
 {
     if is_quorum(p.weights(), &[p.site()], t.sites) {
         and_decide(p, t, dir, made)?;
-        and_cast(p, to, &Message::Decide { txn: *t, dir }, made)
+        cast_decision(p, to, t, dir, made)
     } else {
         and_cast(p, to, &Message::Pre { txn: *t, n, dir }, made)
     }
@@ -297,6 +295,19 @@ pub fn and_vote<P: Past>(alloc: Global, p: &P, t: &Txn, made: &mut Made) -> Resu
     and_record(Record::Vote { txn: *t, ops }, made)
 }
 
+/// The site's vote goes to a site, a yes or a no.
+pub fn send_vote<P: Past>(
+    p: &P,
+    to: u32,
+    t: &Txn,
+    yes: bool,
+    made: &mut Made,
+) -> Result<(), NoMemory>
+    ensures { IfOk result (λ u. made.new ≡ and_send (P.at p.now) to (msg.Vote t.now yes) made.old) }
+{
+    and_send(p, to, Message::Vote { txn: *t, yes }, made)
+}
+
 /// The answer to an operation that is done now.
 pub fn answer_now<P: Past>(
     alloc: Global,
@@ -317,6 +328,29 @@ pub fn answer_now<P: Past>(
     }
 }
 
+/// The answer to an operation of this number goes to the coordinator, under the site's incarnation.
+pub fn send_done<P: Past>(
+    p: &P,
+    t: &Txn,
+    n: u32,
+    answer: Answer,
+    made: &mut Made,
+) -> Result<(), NoMemory>
+    ensures { IfOk result (λ u. made.new ≡ and_send (P.at p.now) t.now.site (msg.Done t.now n (P.at p.now).life.inc answer) made.old) }
+{
+    and_send(
+        p,
+        t.site,
+        Message::Done {
+            txn: *t,
+            n,
+            inc: p.inc(),
+            answer,
+        },
+        made,
+    )
+}
+
 /// The operation is done, and its answer goes to the coordinator.
 pub fn and_do<P: Past>(
     alloc: Global,
@@ -330,15 +364,5 @@ pub fn and_do<P: Past>(
     ensures { IfOk result (λ u. made.new ≡ and_do (P.at p.now) t.now n op.now made.old) }
 {
     let answer = answer_now(alloc, p, t, op, made)?;
-    and_send(
-        p,
-        t.site,
-        Message::Done {
-            txn: *t,
-            n,
-            inc: p.inc(),
-            answer,
-        },
-        made,
-    )
+    send_done(p, t, n, answer, made)
 }

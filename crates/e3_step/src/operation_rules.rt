@@ -10,9 +10,11 @@ ghost use Rattle.e3_world.specs.OperationRules.{on_do, on_done, on_died};
 
 use crate::making::{
     and_abort, and_abort_for, and_decide, and_do, and_send, and_tell, is_coordinator, is_present,
-    may_abort, open_now, state_now,
+    may_abort, open_now, send_done, send_vote, state_now,
 };
 use crate::past::Past;
+use e3_client::kept_locks;
+use e3_readings::asked_of;
 use e3_types::{Answer, Dir, Grant, Message, NoMemory, Op, State, Told, Txn};
 use e3_world::{Asked, Expected, Made};
 use std::alloc::Global;
@@ -77,17 +79,7 @@ fn asked_by<P: Past>(
     ensures { IfOk result (λ u. made.new ≡ asked_by (P.at p.now) q.now made.old found waits grant) }
 {
     match found {
-        Some(answer) => and_send(
-            p,
-            q.txn.site,
-            Message::Done {
-                txn: q.txn,
-                n: q.n,
-                inc: p.inc(),
-                answer,
-            },
-            made,
-        ),
+        Some(answer) => send_done(p, &q.txn, q.n, answer, made),
         None => unless_waiting(alloc, p, q, waits, grant, made),
     }
 }
@@ -116,21 +108,9 @@ pub fn on_do<P: Past>(
     ensures { IfOk result (λ u. made.new ≡ on_do (P.at p.now) f t.now n op.now made.old) }
 {
     match state_now(p, t, made) {
-        State::A => and_send(
-            p,
-            f,
-            Message::Vote {
-                txn: *t,
-                yes: false,
-            },
-            made,
-        ),
+        State::A => send_vote(p, f, t, false, made),
         State::Q => {
-            let q = Asked {
-                txn: *t,
-                n,
-                op: op.copy(),
-            };
+            let q = asked_of(t, n, op);
             on_asked(alloc, p, &q, made)?;
             Ok(())
         }
@@ -151,7 +131,7 @@ fn tell_done<P: Past>(
     ensures { IfOk result (λ u. made.new ≡ (if e.count == 0 || e.inc == inc then and_tell (told.Op t.now n answer.now) made.old
         else if may_abort (P.at p.now) t.now made.old then and_abort_for (P.at p.now) t.now (told.Doomed t.now f e.inc inc) made.old else made.old)) }
 {
-    if e.count == 0 || e.inc == inc {
+    if kept_locks(e.count, e.inc, inc) {
         and_tell(
             Told::Op {
                 txn: *t,

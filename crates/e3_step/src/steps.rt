@@ -1,11 +1,13 @@
 // What a step of a site does: the records, packets and events of an input, read off the site's own past alone.
 ghost use Rattle.std.specs.Prelude.{◌≡◌, ◌∷◌, [], IfOk, Option, fold, suc, length};
-ghost use Rattle.e3_world.specs.Making.{nothing, and_send};
+ghost use Rattle.e3_client.specs.Clients.{busy_or};
+ghost use Rattle.e3_world.specs.Making.{nothing, and_send, and_tell, attempt_now, log_now, state_now};
 ghost use Rattle.e3_types.specs.declared.entries.Input.TheVariants as input;
+ghost use Rattle.e3_types.specs.declared.entries.Told.TheVariants as told;
 ghost use Rattle.e3_types.specs.declared.messages.Message.TheVariants as msg;
 ghost use Rattle.e3_world.specs.Logs.{key_of};
-ghost use Rattle.e3_world.specs.Operations.{issued};
-ghost use Rattle.e3_world.specs.Steps.{refuse_late, refuse, or_refused, on_begin, and_ask, on_commit, on_expire, on_elect, on_input, handled, settle, step_at};
+ghost use Rattle.e3_world.specs.Operations.{issued, unanswered};
+ghost use Rattle.e3_world.specs.Steps.{refuse, or_refused, on_begin, and_ask, on_commit, on_expire, on_elect, on_input, handled, settle, step_at};
 ghost use Rattle.e3_step.specs.SoFar.{IsSoFar};
 
 use crate::election_rules::and_join;
@@ -16,25 +18,29 @@ use crate::making::{
 };
 use crate::messages::on_message;
 use crate::past::Past;
-use e3_readings::{begun, key_of};
+use e3_client::{refuse_attempted, refuse_open};
+use e3_readings::{begun, key_of, next, number_behind};
 use e3_types::{Dir, Input, List, Message, NoMemory, Op, Refusal, SiteSet, State, Told, Txn};
 use e3_world::Made;
 use std::alloc::Global;
 use std::mem;
 
-/// The refusal of a Do, Commit or Cancel at the coordinator, if it is refused.
-pub fn refuse_late<P: Past>(p: &P, t: &Txn, made: &Made) -> Option<Refusal>
-    ensures { result ≡ refuse_late (P.at p.now) t.now made.now }
+// The refusal of an operation or a commit, where the transaction is undecided.
+fn refuse_undecided<P: Past>(
+    alloc: Global,
+    p: &P,
+    t: &Txn,
+    made: &Made,
+) -> Result<Option<Refusal>, NoMemory>
+    ensures { IfOk result (λ why. why ≡ busy_or (state_now (P.at p.now) t.now made.now) (attempt_now (P.at p.now) t.now made.now)
+        (unanswered t.now (log_now (P.at p.now) made.now) (P.at p.now).life.steps)) }
 {
-    match state_now(p, t, made) {
-        State::Q => None,
-        _ => Some(Refusal::TooLate {
-            attempt: attempt_now(p, t, made),
-        }),
-    }
+    let unanswered = p.unanswered(alloc, t, made)?;
+    Ok(refuse_open(state_now(p, t, made), attempt_now(p, t, made), unanswered))
 }
 
 /// The first cause that applies: no transaction of this incarnation; decided, with the reason kept; busy; too late.
+#[tactic(auto, using(e3_client::proofs::Refusing::open_at))]
 pub fn refuse<P: Past>(
     alloc: Global,
     p: &P,
@@ -55,27 +61,9 @@ pub fn refuse<P: Past>(
         return Ok(Some(Refusal::NoTxn));
     }
     if cancels {
-        let attempt = attempt_now(p, t, made);
-        return if attempt == 0 {
-            Ok(None)
-        } else {
-            Ok(Some(Refusal::TooLate { attempt }))
-        };
+        return Ok(refuse_attempted(attempt_now(p, t, made)));
     }
-    match p.unanswered(alloc, t, made)? {
-        Some(n) => Ok(Some(Refusal::Busy { op: n })),
-        None => Ok(refuse_late(p, t, made)),
-    }
-}
-
-fn next(count: u32) -> Result<u32, NoMemory>
-    ensures { IfOk result (λ n. n ≡ suc count) }
-{
-    if count < 4294967295 {
-        Ok(count + 1)
-    } else {
-        Err(NoMemory)
-    }
+    refuse_undecided(alloc, p, t, made)
 }
 
 /// A begin: the transaction has the next number of the incarnation.
@@ -178,17 +166,6 @@ pub fn on_elect<P: Past>(
     and_join(p, t, &e, made)
 }
 
-fn next_op<P: Past>(alloc: Global, p: &P, t: &Txn) -> Result<u32, NoMemory>
-    ensures { IfOk result (λ n. n ≡ suc (length (issued t.now (P.at p.now).life.steps))) }
-{
-    let count = p.issued_count(alloc, t)?;
-    if count < 4294967295 {
-        Ok(count as u32 + 1)
-    } else {
-        Err(NoMemory)
-    }
-}
-
 fn on_operation<P: Past>(
     alloc: Global,
     p: &P,
@@ -198,7 +175,7 @@ fn on_operation<P: Past>(
 ) -> Result<(), NoMemory>
     ensures { IfOk result (λ u. made.new ≡ and_send (P.at p.now) (key_of op.now).site (msg.Do t.now (suc (length (issued t.now (P.at p.now).life.steps))) op.now) made.old) }
 {
-    let n = next_op(alloc, p, t)?;
+    let n = number_behind(p.issued_count(alloc, t)?)?;
     and_send(
         p,
         key_of(op).site,
@@ -211,13 +188,19 @@ fn on_operation<P: Past>(
     )
 }
 
+fn tell_refused(t: &Txn, refusal: Refusal, made: &mut Made) -> Result<(), NoMemory>
+    ensures { IfOk result (λ u. made.new ≡ and_tell (told.Refused t.now refusal) made.old) }
+{
+    and_tell(Told::Refused { txn: *t, refusal }, made)
+}
+
 // A call for an operation, by a step that made nothing yet.
 fn take_do<P: Past>(alloc: Global, p: &P, t: &Txn, op: &Op, made: &mut Made) -> Result<(), NoMemory>
     requires { made.old ≡ nothing }
     ensures { IfOk result (λ u. made.new ≡ on_input (P.at p.now) (input.Do t.now op.now) nothing) }
 {
     match refuse(alloc, p, t, false, made)? {
-        Some(refusal) => and_tell(Told::Refused { txn: *t, refusal }, made),
+        Some(refusal) => tell_refused(t, refusal, made),
         None => on_operation(alloc, p, t, op, made),
     }
 }
@@ -228,7 +211,7 @@ fn take_commit<P: Past>(alloc: Global, p: &P, t: &Txn, made: &mut Made) -> Resul
     ensures { IfOk result (λ u. made.new ≡ on_input (P.at p.now) (input.Commit t.now) nothing) }
 {
     match refuse(alloc, p, t, false, made)? {
-        Some(refusal) => and_tell(Told::Refused { txn: *t, refusal }, made),
+        Some(refusal) => tell_refused(t, refusal, made),
         None => on_commit(alloc, p, t, made),
     }
 }
@@ -239,7 +222,7 @@ fn take_cancel<P: Past>(alloc: Global, p: &P, t: &Txn, made: &mut Made) -> Resul
     ensures { IfOk result (λ u. made.new ≡ on_input (P.at p.now) (input.Cancel t.now) nothing) }
 {
     match refuse(alloc, p, t, true, made)? {
-        Some(refusal) => and_tell(Told::Refused { txn: *t, refusal }, made),
+        Some(refusal) => tell_refused(t, refusal, made),
         None => and_abort(p, t, made),
     }
 }

@@ -6,10 +6,10 @@ ghost use Rattle.e3_types.specs.Sets.{has_site, is_within};
 ghost use Rattle.e3_world.specs.VoteRules.{vote_rule, on_vote_req, on_yes};
 
 use crate::making::{
-    and_attempt, and_decide, and_send, and_vote, elected_now, is_coordinator, state_now,
+    and_attempt, and_decide, and_vote, elected_now, is_coordinator, send_vote, state_now,
 };
 use crate::past::Past;
-use e3_types::{Dir, Message, NoMemory, State, Txn};
+use e3_types::{Dir, NoMemory, State, Txn};
 use e3_world::Made;
 use std::alloc::Global;
 
@@ -50,31 +50,15 @@ pub fn on_vote_req<P: Past>(
 {
     let first = elected_now(p, t, made) == 1;
     match (state_now(p, t, made), first) {
-        (State::A, _) => and_send(
-            p,
-            f,
-            Message::Vote {
-                txn: *t,
-                yes: false,
-            },
-            made,
-        ),
-        (State::W, true) => and_send(p, f, Message::Vote { txn: *t, yes: true }, made),
+        (State::A, _) => send_vote(p, f, t, false, made),
+        (State::W, true) => send_vote(p, f, t, true, made),
         (State::Q, true) => {
             if vote_rule(alloc, p, t, inc, count, made)? {
                 and_vote(alloc, p, t, made)?;
-                and_send(p, f, Message::Vote { txn: *t, yes: true }, made)
+                send_vote(p, f, t, true, made)
             } else {
                 and_decide(p, t, Dir::Abort, made)?;
-                and_send(
-                    p,
-                    f,
-                    Message::Vote {
-                        txn: *t,
-                        yes: false,
-                    },
-                    made,
-                )
+                send_vote(p, f, t, false, made)
             }
         }
         _ => Ok(()),

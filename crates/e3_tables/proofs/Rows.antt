@@ -22,9 +22,9 @@ use Rattle.e3_types.specs.Same.{same_numbers}
 use Rattle.e3_types.proofs.Orders.{pointwise_same}
 use Rattle.e3_types.proofs.SameSites.{same_numbers_refl, same_numbers_eq}
 use Rattle.e3_world.specs.Logs.{set_row, install_op, row_value}
-use Rattle.e3_sorted.specs.Sorted.{IsUnder, AreUnder, AreOver, IsAscending, IsAt, IsGap}
-use Rattle.e3_sorted.proofs.Ascending.{turned, turned_back, never_under, over_more}
-use Rattle.e3_sorted.proofs.Edits.{take_front, drop_front, insert_parts, set_parts}
+use Rattle.e3_types.specs.Sorted.{IsUnder, AreUnder, AreOver, IsAscending, IsAt, IsGap}
+use Rattle.e3_types.proofs.Ascending.{turned, turned_back, never_under, over_more}
+use Rattle.e3_types.proofs.Edits.{take_front, drop_front, insert_parts, set_parts}
 use Rattle.e3_tables.specs.Work.{names_differ, in_order, ascend, read_by, read_behind, installed}
 
 abbrev pub row_name : Row → List ℕ
@@ -325,7 +325,7 @@ gap_bound items count at n a =
     let place = a.place in
     grind (arith, common_steps, l, place)
 
-take_whole : (xs : List Row) → take (length xs) xs ≡ xs
+pub take_whole : (xs : List Row) → take (length xs) xs ≡ xs
 take_whole [] = refl
 take_whole (x ∷ xs) = ap (λ (l : List Row). x ∷ l) (take_whole xs)
 

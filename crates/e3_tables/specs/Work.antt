@@ -36,13 +36,14 @@ abbrev pub ascend : List NumOp → Bool
 ascend [] = true
 ascend (o ∷ ops) = list_all (λ p. nat_lt o.n p.n) ops && ascend ops
 
--- what a name reads behind one operation more
+-- what a name reads behind a write or a read more
+abbrev pub read_of : List ℕ → Answer → Op → Answer
+read_of name was (Write key val) = if same_numbers name key.name then Value val else was
+read_of name was (Read key) = was
+
+-- what it reads behind one operation more
 abbrev pub read_by : List ℕ → Answer → NumOp → Answer
-read_by name was o = by o.op
-  where
-    by : Op → Answer
-    by (Write key val) = if same_numbers name key.name then Value val else was
-    by (Read key) = was
+read_by name was o = read_of name was o.op
 
 -- what a name reads: the last write of these operations there, else the row, else absent
 abbrev pub read_behind : List ℕ → List NumOp → List Row → Answer

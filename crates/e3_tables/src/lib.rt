@@ -4,5 +4,5 @@
 mod tables;
 mod workspace;
 
-pub use tables::Tables;
-pub use workspace::Workspace;
+pub use tables::{Tables, row_written};
+pub use workspace::{Workspace, written};

@@ -2,13 +2,13 @@
 ghost use Rattle.std.specs.Prelude.{◌≡◌, ◌≤◌, ◌<◌, ◌+◌, ◌-◌, ◌++◌, true, ℕ, List as Items, length, take, drop, MatchOption, OnOk, OnErr, vec_len, vec_capacity};
 ghost use Rattle.e3_types.specs.declared.transactions.Answer.TheVariants.{Absent, Value};
 ghost use Rattle.e3_types.specs.declared.transactions.NumOp.{NumOp};
+ghost use Rattle.e3_types.specs.declared.transactions.Row.{Row};
 ghost use Rattle.e3_world.specs.Logs.{set_row, install_op, row_value};
-ghost use Rattle.e3_sorted.specs.Sorted.{IsAscending};
+ghost use Rattle.e3_types.specs.Sorted.{IsAscending};
 ghost use Rattle.e3_tables.specs.Work.{names_differ, in_order, installed, read_behind};
 
 use crate::Workspace;
-use e3_sorted::place_of;
-use e3_types::{List, Name, NoMemory, NumOp, Op, Row, Val};
+use e3_types::{List, Name, NoMemory, NumOp, Op, Row, Val, place_of};
 use std::marker::Model;
 
 /// The records of a site, in byte order of their names.
@@ -19,7 +19,7 @@ pub struct Tables {
 
 impl Model for Tables {
     ghost use Rattle.std.specs.Prelude.{◌-◌, vec_len, vec_capacity};
-    ghost use Rattle.e3_sorted.specs.Sorted.{IsAscending};
+    ghost use Rattle.e3_types.specs.Sorted.{IsAscending};
     ghost use Rattle.e3_tables.specs.Work.{TableRows};
 
     ghost Value = { TableRows };
@@ -61,6 +61,19 @@ fn sort_rows(rows: &mut Vec<Row>)
     }
 }
 
+/// The row that an operation sets, if it writes: the value under its name.
+pub fn row_written(op: &NumOp) -> Option<Row>
+    ensures { MatchOption result ((rows : Items Row) → install_op rows op.now ≡ rows) (λ row. (rows : Items Row) → install_op rows op.now ≡ set_row row rows) }
+{
+    match &op.op {
+        Op::Write(key, val) => Some(Row {
+            name: key.name.copy(),
+            val: val.copy(),
+        }),
+        Op::Read(_) => None,
+    }
+}
+
 // Installs what one operation writes.
 fn install_op(rows: &mut Vec<Row>, op: &NumOp)
     requires ordered { IsAscending (λ row. row.name) rows.old.items }
@@ -69,14 +82,10 @@ fn install_op(rows: &mut Vec<Row>, op: &NumOp)
     ensures ordered { IsAscending (λ row. row.name) rows.new.items }
     ensures room { vec_capacity rows.old ≤ vec_capacity rows.new }
 {
-    match &op.op {
-        Op::Read(_) => {}
-        Op::Write(key, val) => {
+    match row_written(op) {
+        None => {}
+        Some(row) => {
             let count = rows.len();
-            let row = Row {
-                name: key.name.copy(),
-                val: val.copy(),
-            };
             put_row(rows, count, row);
         }
     }

@@ -3,7 +3,7 @@ ghost use Rattle.std.specs.Prelude.{◌≡◌, ◌≤◌, ◌+◌, ◌++◌, ◌
 ghost use Rattle.std.specs.List.{list_all};
 ghost use Rattle.e3_types.specs.declared.transactions.Answer.{Answer as Answers};
 ghost use Rattle.e3_types.specs.declared.transactions.Answer.TheVariants.{Value};
-ghost use Rattle.e3_tables.specs.Work.{ascend, read_by, read_behind};
+ghost use Rattle.e3_tables.specs.Work.{ascend, read_by, read_behind, read_of};
 
 use crate::Tables;
 use e3_types::{Answer, Name, NoMemory, NumOp, Op, Txn, Val};
@@ -28,11 +28,11 @@ impl Model for Workspace {
     ghost invariant = { λ a. ascend a.ops.items ≡ true };
 }
 
-// What the operation writes to the name, if it does.
-fn written<'a>(op: &'a NumOp, name: &Name) -> Option<&'a Val>
-    ensures { MatchOption result ((was : Answers) → read_by name.now was op.now ≡ was) (λ val. (was : Answers) → read_by name.now was op.now ≡ Value val.now) }
+/// What the operation writes to the name, if it does.
+pub fn written<'a>(op: &'a Op, name: &Name) -> Option<&'a Val>
+    ensures { MatchOption result ((was : Answers) → read_of name.now was op.now ≡ was) (λ val. (was : Answers) → read_of name.now was op.now ≡ Value val.now) }
 {
-    match &op.op {
+    match op {
         Op::Write(key, val) if name.is_same(&key.name) => Some(val),
         _ => None,
     }
@@ -46,7 +46,7 @@ fn last_write<'a>(ops: &'a [NumOp], name: &Name) -> Option<&'a Val>
     let mut count = ops.len();
     'back: while count > 0 {
         count -= 1;
-        if let Some(val) = written(&ops[count], name) {
+        if let Some(val) = written(&ops[count].op, name) {
             return Some(val);
         }
     }

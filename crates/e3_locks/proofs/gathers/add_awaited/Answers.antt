@@ -1,7 +1,7 @@
 -- those waited for at the name's place, if it has one
 use Rattle.std.proofs.Common.{rules, ◌≡◌, List, ℕ, ap, sym, subst, fold}
 use Rattle.std.specs.Prelude.{IfOk}
-use Rattle.e3_sorted.specs.Sorted.{IsAt, IsGap}
+use Rattle.e3_types.specs.Sorted.{IsAt, IsGap}
 use Rattle.e3_world.specs.Items.{add_txn}
 use Rattle.e3_locks.specs.Places.{Place}
 use Rattle.e3_locks.specs.Standing.{Standing, place_in}

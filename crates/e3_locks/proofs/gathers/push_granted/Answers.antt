@@ -3,7 +3,7 @@ use Rattle.std.proofs.Common.{rules, ◌≡◌, ◌∙◌, ◌++◌, List, ℕ, 
 use Rattle.std.specs.Prelude.{IfOk}
 use Rattle.std.proofs.lemmas.List.{append-nil}
 use Rattle.e3_types.specs.Locks.{front}
-use Rattle.e3_sorted.specs.Sorted.{IsAt, IsGap}
+use Rattle.e3_types.specs.Sorted.{IsAt, IsGap}
 use Rattle.e3_locks.specs.declared.granted.Granted.{Granted}
 use Rattle.e3_locks.specs.LockLists.{named}
 use Rattle.e3_locks.specs.Places.{Place, without}

@@ -1,7 +1,7 @@
 -- the pair is there, or is put in its place
 use Rattle.std.proofs.Common.{rules, ◌≡◌, ◌++◌, List, ℕ}
 use Rattle.std.specs.List.{insert}
-use Rattle.e3_sorted.specs.Sorted.{IsAt, IsGap}
+use Rattle.e3_types.specs.Sorted.{IsAt, IsGap}
 use Rattle.e3_locks.specs.declared.pairs.Pair.{Pair}
 use Rattle.e3_locks.specs.Pairs.{key_of, pair_key}
 use Rattle.e3_locks.proofs.Pairing.{found_own, added_ascends, added_more, added_own}

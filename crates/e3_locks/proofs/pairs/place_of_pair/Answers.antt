@@ -3,7 +3,7 @@ use Rattle.std.proofs.Common.{rules, ◌≡◌, ℕ, ◌+◌, ◌-◌, ◌<◌, 
 use Rattle.std.specs.Ordering.{nat_cmp}
 use Rattle.std.specs.declared.cmp.Ordering.TheVariants.{Less, Equal, Greater}
 use Rattle.std.specs.Cmp.Lexicographic.{slice_cmp}
-use Rattle.e3_sorted.proofs.Ascending.{lower, upper, found}
+use Rattle.e3_types.proofs.Ascending.{lower, upper, found}
 use Rattle.e3_locks.specs.Pairs.{key_of, pair_key}
 use Rattle.e3_locks.proofs.pairs.place_of_pair.Goals as goal
 

@@ -1,6 +1,6 @@
 -- what stands before the one end comes before the pair, what stands behind the other end behind it
 use Rattle.std.proofs.Common.{◌≤◌, ◌-◌, ◌++◌, length, take, drop}
-use Rattle.e3_sorted.specs.Sorted.{AreUnder, AreOver}
+use Rattle.e3_types.specs.Sorted.{AreUnder, AreOver}
 use Rattle.e3_locks.specs.Pairs.{key_of, pair_key}
 use Rattle.e3_locks.proofs.pairs.place_of_pair.Given as goal
 

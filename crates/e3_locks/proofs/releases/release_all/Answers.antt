@@ -3,7 +3,7 @@ use Rattle.std.proofs.Common.{rules, ◌≡◌, ◌≤◌, ◌<◌, ◌∙◌, �
 use Rattle.e3_types.specs.declared.transactions.Txn.{Txn}
 use Rattle.e3_types.specs.Same.{same_numbers}
 use Rattle.e3_types.proofs.SameSites.{same_numbers_eq}
-use Rattle.e3_sorted.specs.Sorted.{AreUnder}
+use Rattle.e3_types.specs.Sorted.{AreUnder}
 use Rattle.e3_locks.specs.declared.pairs.Pair.{Pair}
 use Rattle.e3_locks.specs.Places.{released}
 use Rattle.e3_locks.specs.Standing.{Standing, place_in}

@@ -1,6 +1,6 @@
 -- the names so far are released, and their pairs are gone
 use Rattle.std.proofs.Common.{◌≡◌, ◌≤◌, ◌-◌, ℕ, List, take, drop, vec_len, vec_capacity}
-use Rattle.e3_sorted.specs.Sorted.{AreUnder, IsAscending}
+use Rattle.e3_types.specs.Sorted.{AreUnder, IsAscending}
 use Rattle.e3_locks.specs.Places.{released}
 use Rattle.e3_locks.specs.Standing.{IsTable, place_in}
 use Rattle.e3_locks.specs.Pairs.{key_of, pair_key, AreFrom, IsIndex}

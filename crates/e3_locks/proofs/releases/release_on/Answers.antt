@@ -1,6 +1,6 @@
 -- the name's place behind the release, if it has one
 use Rattle.std.proofs.Common.{rules, List, ap, slice_set}
-use Rattle.e3_sorted.specs.Sorted.{IsAt, IsGap}
+use Rattle.e3_types.specs.Sorted.{IsAt, IsGap}
 use Rattle.e3_locks.specs.Standing.{Standing}
 use Rattle.e3_locks.proofs.Placing.{name_of}
 use Rattle.e3_locks.proofs.Releasing.{release_at_ok, release_at_table, release_at_ascends, release_gap}

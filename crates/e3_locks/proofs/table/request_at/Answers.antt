@@ -3,7 +3,7 @@ use Rattle.std.proofs.Common.{◌≡◌, ◌≤◌, ◌<◌, ◌^◌, ◌∙◌,
 use Rattle.e3_types.specs.declared.locks.Grant.{Grant}
 use Rattle.e3_locks.specs.Places.{would, requested}
 use Rattle.e3_locks.specs.Standing.{Standing, count_at}
-use Rattle.e3_sorted.proofs.Edits.{set_parts, get_parts}
+use Rattle.e3_types.proofs.Edits.{set_parts, get_parts}
 use Rattle.e3_locks.proofs.Placing.{found_is, request_at_ok, request_at_table}
 use Rattle.e3_locks.proofs.table.request_at.Goals as goal
 

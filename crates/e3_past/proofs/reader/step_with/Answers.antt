@@ -1,6 +1,6 @@
 use Rattle.std.proofs.Common.{ℕ, refl, subst, sym}
 use Rattle.e3_world.specs.Lives.{life_of}
-use Rattle.e3_names.specs.Knowing.{NamesStand}
+use Rattle.e3_past.specs.Knowing.{NamesStand}
 use Rattle.e3_past.proofs.Recalled.{own_stands, step_is}
 use Rattle.e3_past.proofs.reader.step_with.Goals as goal
 
@@ -14,5 +14,5 @@ step_at_place-requires g c = record {
 
 pub returns : goal.returns
 returns g c =
-    step_is c.args.weights.now c.args._site c.args.tables.now.cards.site g.now c.args.input.now c.plain_input.result c.step_at_place.result
-    c.requires.cards_stand.site_is c.plain_input.ensures c.step_at_place.ensures
+    step_is c.args.weights.now c.args._site c.args.tables.now.cards.site g.now c.args.input.now c.unnumbered_input.result c.step_at_place.result
+    c.requires.cards_stand.site_is c.unnumbered_input.ensures c.step_at_place.ensures

@@ -4,4 +4,4 @@ use Rattle.e3_places.specs.Standing.{again}
 use Rattle.e3_places.proofs.behind.add_standing.Given as goal
 
 abbrev pub invariant-loop-s : goal.invariant-loop-s
-invariant-loop-s l = l.out ≡ l.initial.out ++ flat_map (again l.records l.events l.outs) (take l.s-index l.was)
+invariant-loop-s l = l.out ≡ l.initial.out ++ flat_map (again l.doings.records.now l.doings.events.now l.doings.outs.now) (take l.s-index l.was)

@@ -4,4 +4,4 @@ use Rattle.e3_places.specs.Granting.{given_behind}
 use Rattle.e3_places.proofs.granting.granted_by.Given as goal
 
 abbrev pub invariant-loop-name : goal.invariant-loop-name
-invariant-loop-name l = l.out ≡ flat_map (given_behind l.places.names.entries l.new l.records l.events l.outs) (take l.name-index l.name-items)
+invariant-loop-name l = l.out ≡ flat_map (given_behind l.doings.places.now.names.entries l.doings.new.now l.doings.records.now l.doings.events.now l.doings.outs.now) (take l.name-index l.name-items)

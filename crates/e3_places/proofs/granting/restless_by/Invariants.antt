@@ -3,4 +3,4 @@ use Rattle.e3_places.specs.Granting.{is_restless}
 use Rattle.e3_places.proofs.granting.restless_by.Given as goal
 
 abbrev pub invariant-loop-name : goal.invariant-loop-name
-invariant-loop-name l = l.out ≡ filter (is_restless l.places.names.entries l.new l.records l.events l.outs) (take l.name-index l.name-items)
+invariant-loop-name l = l.out ≡ filter (is_restless l.doings.places.now.names.entries l.doings.new.now l.doings.records.now l.doings.events.now l.doings.outs.now) (take l.name-index l.name-items)

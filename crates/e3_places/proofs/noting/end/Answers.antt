@@ -15,12 +15,12 @@ pub returns : goal.returns
 returns c =
     let r : Record = log.Decision c.args.t.now c.args.dir in
     let old = c.args.places.now in
-    let its : c.in_ok-claims.claims ≡ claims_at old.txns.entries c.txn_key-key.result = c.in_ok-claims.ensures.claims in
+    let its : c.in_ok-claims.claims ≡ claims_at old.txns.entries c.txn_id-key.result = c.in_ok-claims.ensures.claims in
     on_ok_weaker c.put_claims.result
     (λ put. end_stands old (record { names = c.end_each.new.names; txns = c.put_claims.new.txns }) c.args.t.now c.args.dir
     (λ n. c.in_ok-end_each.ensures n
     ∙ ap (λ (l : List Asked). if list_any (is_on n) l then ended r (place_at old.names.entries n) else place_at old.names.entries n)
-    (c.as_slice.ensures ∙ ap (λ (x : Claims). x.votes) (its ∙ ap (claims_at old.txns.entries) c.txn_key-key.ensures)))
-    (claims_put (left_by r) old.txns.entries c.take_claims.new.txns.entries c.put_claims.new.txns.entries c.args.t.now c.txn_key-key.result c.left_by.result c.txn_key-key.ensures
+    (c.as_slice.ensures ∙ ap (λ (x : Claims). x.votes) (its ∙ ap (claims_at old.txns.entries) c.txn_id-key.ensures)))
+    (claims_put (left_by r) old.txns.entries c.take_claims.new.txns.entries c.put_claims.new.txns.entries c.args.t.now c.txn_id-key.result c.left_by.result c.txn_id-key.ensures
     (c.left_by.ensures ∙ ap (left_by r) its) c.in_ok-claims.ensures.rest put))
     c.put_claims.ensures

@@ -6,7 +6,7 @@ use Rattle.e3_places.proofs.Putting.{keys_turned}
 use Rattle.e3_places.proofs.taking.take_claims.Goals as goal
 
 pub returns-in-Ok-clause-claims : goal.returns-in-Ok-clause-claims
-returns-in-Ok-clause-claims c = c.or_none.ensures ∙ ap (λ (o : Option Claims). unwrap_or o no_claims) c.in-Ok.ensures.old
+returns-in-Ok-clause-claims c = c.unwrap_or.ensures ∙ ap (unwrap_or c.in-Ok.was) c.no_claims-in-Ok.ensures ∙ ap (λ (o : Option Claims). unwrap_or o no_claims) c.in-Ok.ensures.old
 
 pub returns-in-Ok-clause-rest : goal.returns-in-Ok-clause-rest
 returns-in-Ok-clause-rest c =

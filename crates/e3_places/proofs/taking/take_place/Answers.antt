@@ -8,7 +8,7 @@ use Rattle.e3_places.proofs.taking.take_place.Goals as goal
 
 pub returns-in-Ok-clause-place : goal.returns-in-Ok-clause-place
 returns-in-Ok-clause-place c =
-    c.or_bare.ensures ∙ ap (λ (o : Option Place). unwrap_or o bare) c.in-Ok.ensures.old ∙ ap (place_at c.args.names.now.entries) c.copy.ensures
+    c.unwrap_or.ensures ∙ ap (unwrap_or c.in-Ok.was) c.bare-in-Ok.ensures ∙ ap (λ (o : Option Place). unwrap_or o bare) c.in-Ok.ensures.old ∙ ap (place_at c.args.names.now.entries) c.copy.ensures
 
 pub returns-in-Ok-clause-rest : goal.returns-in-Ok-clause-rest
 returns-in-Ok-clause-rest c =

@@ -1,6 +1,6 @@
 -- the operations so far are installed, and there is room for the others
 use Rattle.std.proofs.Common.{◌≡◌, ◌≤◌, take, vec_capacity}
-use Rattle.e3_sorted.specs.Sorted.{IsAscending}
+use Rattle.e3_types.specs.Sorted.{IsAscending}
 use Rattle.e3_tables.specs.Work.{installed}
 use Rattle.e3_tables.proofs.tables.install_all.Given as goal
 

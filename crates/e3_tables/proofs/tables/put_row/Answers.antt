@@ -2,7 +2,7 @@
 use Rattle.std.proofs.Common.{◌≡◌, ◌≤◌, ◌<◌, ◌+◌, subst, rules, arith, List, length, take, vec_len, vec_capacity}
 use Rattle.e3_types.specs.declared.transactions.Row.{Row}
 use Rattle.e3_world.specs.Logs.{set_row}
-use Rattle.e3_sorted.specs.Sorted.{IsAt, IsGap}
+use Rattle.e3_types.specs.Sorted.{IsAt, IsGap}
 use Rattle.std.specs.List.{insert}
 use Rattle.std.specs.Prelude.{IsOk}
 use Rattle.std.proofs.Common.{refl, slice_set}

@@ -1,7 +1,8 @@
-use Rattle.e3_cards.proofs.Reading.{is_card, ok_is, yes_at}
+use Rattle.std.proofs.Common.{◌∙◌}
+use Rattle.e3_cards.proofs.Reading.{is_card, yes_at}
 use Rattle.e3_cards.proofs.cards.Cards.has_every_yes.Goals as goal
 
 pub returns : goal.returns
 returns c = λ a stands input.
     let card = is_card c.args.self.now c.args.t.now c.card_or.result.now a c.card_or.ensures c.known.ensures stands in
-    ok_is c.every_yes.result _ _ (yes_at c.args.self.now.site c.args.t.now a c.args.input.now c.args.made.now c.card_or.result.now stands.site_is input card) c.every_yes.ensures
+    c.every_yes.ensures ∙ yes_at c.args.self.now.site c.args.t.now a c.args.input.now c.args.made.now c.card_or.result.now stands.site_is input card

@@ -10,34 +10,30 @@ use Rattle.e3_world.specs.declared.gatherings.Named.{Named}
 use Rattle.e3_world.specs.Elections.{hear, take_report}
 use Rattle.e3_elect.specs.Calling.{are_members}
 use Rattle.e3_elect.proofs.Members.{has_room, comes_from_member}
-use Rattle.e3_elect.proofs.Taking.{hear_new}
+use Rattle.e3_elect.proofs.Taking.{awaited_parts, hear_new}
 use Rattle.e3_elect.proofs.election.Election.heard.Goals as goal
 
 pub push_reserved-requires : goal.push_reserved-requires
 push_reserved-requires c =
-    let g : has_site c.self.inside.group c.args.from ≡ true = cc in
-    let new : list_any (λ h. h.site == c.args.from) c.self.inside.heard.items ≡ false = cc in
+    let counts = awaited_parts (same_call c.self.inside.call c.args.call) (has_site c.self.inside.group c.args.from) (list_any (λ h. h.site == c.args.from) c.self.inside.heard.items) cc in
     let n : length c.self.inside.heard.items ≡ vec_len c.self.inside.heard = ap (λ (l : List Named). length l) (sym c.deref.ensures.value) ∙ c.deref.ensures.len in
-    let room = has_room (λ (h : Named). h.site) c.self.inside.group c.self.inside.heard.items c.args.from c.self.invariant.2 g new in
+    let room = has_room (λ (h : Named). h.site) c.self.inside.group c.self.inside.heard.items c.args.from c.self.invariant.2 counts.1 counts.2 in
     omega (arith, room, n, c.self.invariant.0)
 
 pub invariant_of-self : goal.invariant_of-self
 invariant_of-self c =
-    let g : has_site c.self.inside.group c.args.from ≡ true = cc in
-    let new : list_any (λ h. h.site == c.args.from) c.self.inside.heard.items ≡ false = cc in
+    let counts = awaited_parts (same_call c.self.inside.call c.args.call) (has_site c.self.inside.group c.args.from) (list_any (λ h. h.site == c.args.from) c.self.inside.heard.items) cc in
     let x : Named = record { site = c.args.from; elected = c.args.elected } in
     let members : are_members c.self.inside.group (map (λ (h : Named). h.site) c.push_reserved.new.self.items) ≡ true =
     ap (λ (l : List Named). are_members c.self.inside.group (map (λ (h : Named). h.site) l)) c.push_reserved.ensures.items
-    ∙ comes_from_member (λ (h : Named). h.site) c.self.inside.group c.self.inside.heard.items x c.self.invariant.2 g new in
+    ∙ comes_from_member (λ (h : Named). h.site) c.self.inside.group c.self.inside.heard.items x c.self.invariant.2 counts.1 counts.2 in
     (omega (arith, c.self.invariant.0, c.push_reserved.ensures.capacity), c.self.invariant.1, members, c.self.invariant.3)
 
 pub returns : goal.returns
 returns c =
-    let same : same_call c.self.inside.call c.args.call ≡ true = cc in
-    let g : has_site c.self.inside.group c.args.from ≡ true = cc in
-    let new : list_any (λ h. h.site == c.args.from) c.self.inside.heard.items ≡ false = cc in
+    let counts = awaited_parts (same_call c.self.inside.call c.args.call) (has_site c.self.inside.group c.args.from) (list_any (λ h. h.site == c.args.from) c.self.inside.heard.items) cc in
     let e : Election = record { call = c.self.inside.call; group = c.self.inside.group; heard = c.self.inside.heard.items; number = c.self.inside.number; reports = c.self.inside.reports.items } in
     let h : hear c.args.self.now c.args.from c.args.call c.args.elected ≡ Some (record e { heard = e.heard ++ record { site = c.args.from; elected = c.args.elected } ∷ [] }) =
-    ap (λ (a : Election). hear a c.args.from c.args.call c.args.elected) (sym c.self.view_is) ∙ hear_new e c.args.from c.args.call c.args.elected same g new in
+    ap (λ (a : Election). hear a c.args.from c.args.call c.args.elected) (sym c.self.view_is) ∙ hear_new e c.args.from c.args.call c.args.elected counts.0 counts.1 counts.2 in
     let items = c.push_reserved.ensures.items in
     rw h (refl, λ i. record e { heard = items i })

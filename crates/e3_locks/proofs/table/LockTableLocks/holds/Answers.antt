@@ -1,6 +1,6 @@
 -- the locks of the name that was searched for
 use Rattle.std.proofs.Common.{◌∙◌, ap, sym, subst, List, ℕ}
-use Rattle.e3_sorted.specs.Sorted.{IsAt, IsGap}
+use Rattle.e3_types.specs.Sorted.{IsAt, IsGap}
 use Rattle.e3_locks.specs.LockLists.{LockLists, on}
 use Rattle.e3_locks.specs.Places.{Place, mode_held}
 use Rattle.e3_locks.specs.Standing.{Standing}

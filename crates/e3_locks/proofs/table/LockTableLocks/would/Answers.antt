@@ -1,7 +1,7 @@
 -- the rule over the locks of the name that was searched for
 use Rattle.std.proofs.Common.{◌∙◌, ap, sym, subst, List, ℕ}
 use Rattle.e3_types.specs.declared.locks.Lock.{Lock}
-use Rattle.e3_sorted.specs.Sorted.{IsAt, IsGap}
+use Rattle.e3_types.specs.Sorted.{IsAt, IsGap}
 use Rattle.e3_locks.specs.LockLists.{LockLists, place}
 use Rattle.e3_locks.specs.Places.{would}
 use Rattle.e3_locks.specs.Standing.{Standing}

@@ -1,5 +1,5 @@
 use Rattle.std.proofs.Common.{sym}
-use Rattle.e3_past.proofs.Following.{so_far_follows}
+use Rattle.e3_past.proofs.RecordsFollow.{so_far_follows}
 use Rattle.e3_past.proofs.reader.ReaderPast.grants_after.Goals as goal
 
 pub grants_after-requires : goal.grants_after-requires

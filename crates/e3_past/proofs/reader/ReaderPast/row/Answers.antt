@@ -1,4 +1,4 @@
-use Rattle.e3_past.proofs.Following.{so_far_follows}
+use Rattle.e3_past.proofs.RecordsFollow.{so_far_follows}
 use Rattle.e3_past.proofs.reader.ReaderPast.row.Goals as goal
 
 pub row-requires : goal.row-requires

@@ -2,10 +2,10 @@
 use Rattle.std.proofs.Common.{◌≡◌, ◌∙◌, ap, sym, subst, ℕ, List}
 use Rattle.e3_types.specs.declared.transactions.Row.{Row}
 use Rattle.e3_world.specs.Logs.{row_value}
-use Rattle.e3_sorted.specs.Sorted.{IsAt, IsGap}
+use Rattle.e3_types.specs.Sorted.{IsAt, IsGap}
 use Rattle.e3_tables.specs.Work.{TableRows}
 use Rattle.e3_types.specs.declared.transactions.Answer.TheVariants.{Value}
-use Rattle.e3_sorted.proofs.Edits.{get_parts}
+use Rattle.e3_types.proofs.Edits.{get_parts}
 use Rattle.e3_tables.proofs.Rows.{row_name, value_found, value_gap}
 use Rattle.e3_tables.proofs.tables.Tables.value.Goals as goal
 

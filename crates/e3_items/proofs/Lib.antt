@@ -1,4 +1,0 @@
-pub mod ByName
-pub mod Counting
-pub mod Planned
-pub mod Lasting

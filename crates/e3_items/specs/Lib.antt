@@ -1,4 +1,0 @@
-pub mod Bindings
-pub mod Inputs
-pub mod RoundOf
-pub mod Lasts

@@ -1,6 +1,0 @@
--- the names that are left
-use Rattle.std.proofs.Common.{length}
-use Rattle.e3_locks.proofs.fronts.+put_name.Given as goal
-
-abbrev pub decreases-put_name : goal.decreases-put_name
-decreases-put_name l = length l.names.now

@@ -1,5 +1,0 @@
-use Rattle.std.proofs.Common.{length}
-use Rattle.e3_readings.proofs.names.+put_name.Given as goal
-
-abbrev pub decreases-put_name : goal.decreases-put_name
-decreases-put_name l = length l.names.now

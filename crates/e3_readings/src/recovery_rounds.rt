@@ -1,0 +1,77 @@
+// The rounds of a recovery step, for transactions in the order in which they are taken.
+ghost use Rattle.std.specs.Prelude.{◌≡◌, ◌++◌, [], filter, IfOk};
+ghost use Rattle.std.specs.List.{flat_map};
+ghost use Rattle.e3_readings.specs.RoundOf.{round_of};
+ghost use Rattle.e3_types.specs.Sets.{has_site};
+
+use e3_types::{List, NoMemory, SiteSet, Txn};
+use std::alloc::Global;
+use std::marker::Model;
+
+/// A recovery round: a transaction, the members of the group that are up and its sites, and the least of them, which elects.
+#[derive(Drop)]
+pub struct RecoveryRound {
+    pub txn: Txn,
+    pub members: SiteSet,
+    pub elector: u32,
+}
+
+impl Model for RecoveryRound {
+    ghost use Rattle.e3_world.specs.Items.{RecoveryRound as Round};
+
+    ghost Value = { Round };
+
+    ghost view = { λ r. record { txn = r.txn; members = r.members; elector = r.elector } };
+}
+
+impl RecoveryRound {
+    /// An equal round.
+    pub fn copy(&self) -> RecoveryRound
+        ensures { result ≡ self.now }
+    {
+        RecoveryRound {
+            txn: self.txn,
+            members: self.members,
+            elector: self.elector,
+        }
+    }
+}
+
+// Those of these sites that are in the set.
+fn sites_in(alloc: Global, set: SiteSet, sites: &[u32]) -> Result<List<u32>, NoMemory>
+    ensures { IfOk result (λ out. out ≡ filter (has_site set) sites.now) }
+{
+    let mut out = List::new(alloc);
+    for site in sites {
+        if set.has(*site) {
+            out.push(*site)?;
+        }
+    }
+    Ok(out)
+}
+
+// Adds the round of a transaction with these members, where there is one. Their numbers are those of a set.
+fn add_round(t: &Txn, members: &[u32], out: &mut List<RecoveryRound>) -> Result<(), NoMemory>
+    ensures { IfOk result (λ u. out.new ≡ out.old ++ round_of t.now members.now) }
+{
+    match members {
+        [] => Ok(()),
+        [elector, ..] => out.push(RecoveryRound {
+            txn: *t,
+            members: SiteSet::of(members).ok_or(NoMemory)?,
+            elector: *elector,
+        }),
+    }
+}
+
+/// The rounds of these transactions, one after the other, by the sites that are up: none of one that none of them is a site of.
+pub fn rounds_of(alloc: Global, txns: &[Txn], up: &[u32]) -> Result<List<RecoveryRound>, NoMemory>
+    ensures { IfOk result (λ rounds. rounds ≡ flat_map (λ t. round_of t (filter (has_site t.sites) up.now)) txns.now) }
+{
+    let mut rounds = List::new(alloc);
+    for t in txns {
+        let members = sites_in(alloc, t.sites, up)?;
+        add_round(t, members.as_slice(), &mut rounds)?;
+    }
+    Ok(rounds)
+}
