@@ -2,6 +2,7 @@
 use Rattle.std.proofs.Common.{◌≡◌, ◌↔◌, ◌<◌, ◌≤◌, ◌++◌, ◌∷◌, [], inl, inr, ℕ, true, false, List, length, take, refl, sym, ap, subst, ◌∙◌, arith}
 use Rattle.std.proofs.lemmas.List.{length-take-le}
 use Rattle.std.specs.Prelude.{Result, Ok, Err}
+use Rattle.e3_disk.specs.Meaning.{Meaning}
 use Rattle.e3_disk.specs.Meters.{Keeps, Meters}
 use Rattle.e3_crew.specs.Turns.{AtStart, BehindFallOver, BehindOthers, BehindSteps, WentOn}
 use Rattle.e3_crew.specs.Workers.{HasWorked, KnowsWith}
@@ -47,19 +48,19 @@ few_taken n inputs few less =
     omega (arith, same, few, less)
 
 -- the clauses of the call
-pub record AnsweredAll {D : Type 0} (content : D → List ℕ) (image : D → List ℕ → Type 0) (meters : D → Meters)
+pub record AnsweredAll {D : Type 0} (meaning : Meaning D)
     (before marks : List Mark) (old new : NodeView D) (inputs : List Input) (answer : Result (Unit {0}) InputFault) : Type 0 where
   pub played : IsPlayed marks
   pub scenario : scenario_of marks ≡ scenario_of before
   pub most : most_of marks ≡ most_of before
   pub promised : is_up_at (entries_of before) old.site ≡ true → note_of old.site marks ≡ nothing
-  pub stands : NodeStands content image meters (scenario_of marks) (entries_of marks) new
+  pub stands : NodeStands meaning (scenario_of marks) (entries_of marks) new
   pub site : new.site ≡ old.site
-  pub ended : BatchEnded meters (scenario_of before) (entries_of before) (entries_of marks) old.site inputs old.state new.state answer
+  pub ended : BatchEnded meaning.meters (scenario_of before) (entries_of before) (entries_of marks) old.site inputs old.state new.state answer
   pub down : (answer ≡ Err input_fault.Down) ↔ (is_up_at (entries_of before) old.site ≡ false)
-  pub keeps : Keeps (meters (disk_of old.state)) (meters (disk_of new.state))
+  pub keeps : Keeps (meaning.meters (disk_of old.state)) (meaning.meters (disk_of new.state))
 
-module _ {D : Type 0} (content : D → List ℕ) (image : D → List ℕ → Type 0) (meters : D → Meters) (law : MovesStay)
+module _ {D : Type 0} (meaning : Meaning D) (law : MovesStay)
     (promise : Note) (before marks : List Mark) (old new : NodeView D) (inputs : List Input) where
   abbrev was : List Entry
   was = entries_of before
@@ -68,10 +69,10 @@ module _ {D : Type 0} (content : D → List ℕ) (image : D → List ℕ → Typ
   sc = scenario_of before
 
   abbrev first : Meters
-  first = meters (disk_of old.state)
+  first = meaning.meters (disk_of old.state)
 
   abbrev last : Meters
-  last = meters (disk_of new.state)
+  last = meaning.meters (disk_of new.state)
 
   abbrev Went : List Entry → Meters → Type 0
   Went now m = WentOn sc old.site was first now m
@@ -91,7 +92,7 @@ module _ {D : Type 0} (content : D → List ℕ) (image : D → List ℕ → Typ
     pub went : Went (entries_of marks) last
 
   stepped_went : IsPlayed before → IsLegal sc (entries_of marks) → 1 ≤ old.site → is_up_at was old.site ≡ true → Keeps first last → (done : List Input) → length done ≤ 8 →
-      HasSteppedAll meters sc was (entries_of marks) old.site done old.state new.state → Grown
+      HasSteppedAll meaning.meters sc was (entries_of marks) old.site done old.state new.state → Grown
   stepped_went played legal some up keeps done few s =
       let mine : Meanwhile 0 s.now (entries_of marks) = subst (λ (l : List Entry). Meanwhile 0 s.now l) (sym s.entered) (steps_more sc s.now old.site done some) in
       record {
@@ -108,7 +109,7 @@ module _ {D : Type 0} (content : D → List ℕ) (image : D → List ℕ → Typ
       }
 
   fallen_went : IsPlayed before → IsLegal sc (entries_of marks) → 1 ≤ old.site → is_up_at was old.site ≡ true → Keeps first last → (done : List Input) (why : Why) →
-      HasFallenOverAll meters sc was (entries_of marks) old.site done why old.state (disk_of new.state) → Grown
+      HasFallenOverAll meaning.meters sc was (entries_of marks) old.site done why old.state (disk_of new.state) → Grown
   fallen_went played legal some up keeps done why f =
       let mine : Meanwhile 0 f.now (entries_of marks) = meanwhile_own f.now (entries_of marks) (fall_over sc f.now old.site done why) some refl f.fell.entered in
       let moves : moves_of sc f.now old.site ≡ moves_of sc was old.site = moves_same f.now f.meanwhile in
@@ -126,20 +127,20 @@ module _ {D : Type 0} (content : D → List ℕ) (image : D → List ℕ → Typ
       }
 
   short_went : IsPlayed before → IsLegal sc (entries_of marks) → 1 ≤ old.site → is_up_at was old.site ≡ true → Keeps first last → length inputs ≤ 8 →
-      EndedShort meters sc was (entries_of marks) old.site inputs old.state new.state → Grown
+      EndedShort meaning.meters sc was (entries_of marks) old.site inputs old.state new.state → Grown
   short_went played legal some up keeps few (n, less, inl s) = stepped_went played legal some up keeps (take n inputs) (few_taken n inputs few less) s
   short_went played legal some up keeps few (n, less, inr (why, f)) = fallen_went played legal some up keeps (take n inputs) why f
 
-  grown : (answer : Result (Unit {0}) InputFault) → KnowsWith content image meters promise before old → is_up_at was old.site ≡ true → length inputs ≤ 8 →
-      AnsweredAll content image meters before marks old new inputs answer → IsLegal sc (entries_of marks) → Grown
+  grown : (answer : Result (Unit {0}) InputFault) → KnowsWith meaning promise before old → is_up_at was old.site ≡ true → length inputs ≤ 8 →
+      AnsweredAll meaning before marks old new inputs answer → IsLegal sc (entries_of marks) → Grown
   grown (Ok done) knows up few a legal = stepped_went knows.played legal knows.stands.some up a.keeps inputs few a.ended
   grown (Err input_fault.Down) knows up few a legal = absurd (let down : is_up_at was old.site ≡ false = a.down.0 refl in let both : true ≡ false = sym up ∙ down in cc)
   grown (Err (input_fault.Fell why)) knows up few a legal = fallen_went knows.played legal knows.stands.some up a.keeps inputs why a.ended
   grown (Err input_fault.HistoryFull) knows up few a legal = absurd a.ended
   grown (Err input_fault.NoMemory) knows up few a legal = short_went knows.played legal knows.stands.some up a.keeps few a.ended
 
-  pub batch_worked : (answer : Result (Unit {0}) InputFault) → KnowsWith content image meters promise before old → is_up_at (entries_of before) old.site ≡ true → length inputs ≤ 8 →
-      AnsweredAll content image meters before marks old new inputs answer → HasWorked content image meters before old marks new
+  pub batch_worked : (answer : Result (Unit {0}) InputFault) → KnowsWith meaning promise before old → is_up_at (entries_of before) old.site ≡ true → length inputs ≤ 8 →
+      AnsweredAll meaning before marks old new inputs answer → HasWorked meaning before old marks new
   batch_worked answer knows up few a = record {
     knows = record {
       played = a.played;

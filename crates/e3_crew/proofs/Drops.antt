@@ -11,7 +11,7 @@ use Rattle.e3_crew.specs.Drops.{AreDrops, DropHadNoRoom, HasDropped}
 use Rattle.e3_crew.specs.Turns.{AtStart, BehindOthers}
 use Rattle.e3_crew.specs.declared.worker.Worker.{Worker}
 use Rattle.e3_crew.proofs.Growing.{restless_on}
-use Rattle.e3_disk.specs.Meters.{Meters}
+use Rattle.e3_disk.specs.Meaning.{Meaning}
 use Rattle.e3_law_local.specs.Others.{AreOthers}
 use Rattle.e3_law_local.proofs.Alike.{lines_still}
 use Rattle.e3_node.specs.Claims.{NodesKeptByOthers}
@@ -179,8 +179,8 @@ came p q taken put all grew d is =
 pub same_owners : (p q r : APass) → SameOwners p q → SameOwners q r → SameOwners p r
 same_owners p q r first second = record { owners = second.owners ∙ first.owners; last = second.last ∙ first.last }
 
-module _ {D : Type 0} (content : D → List ℕ) (image : D → List ℕ → Type 0) (meters : D → Meters) (law : NodesKeptByOthers content image meters)
-    (wire : TableId) (p q : APass) (workers : List (Worker D)) (was : IsCrew content image meters wire p workers)
+module _ {D : Type 0} (meaning : Meaning D) (law : NodesKeptByOthers meaning)
+    (wire : TableId) (p q : APass) (workers : List (Worker D)) (was : IsCrew meaning wire p workers)
     (d : HasDropped (seen_by p) (seen_by q)) (idle : IsIdle wire q) (same : SameOwners p q) (played : IsPlayed (seen_by q)) where
   same_scenario : scenario_seen q ≡ scenario_seen p
   same_scenario = ap scenario_of d.is ∙ (scenario_stays (seen_by p) d.drops was.played).0
@@ -194,7 +194,7 @@ module _ {D : Type 0} (content : D → List ℕ) (image : D → List ℕ → Typ
   last_same : last_owner (seen_by q) ≡ last_owner (seen_by p)
   last_same = ap (λ (sc : Scenario). length sc.weights) same_scenario
 
-  pub crew_dropped : IsCrew content image meters wire q workers
+  pub crew_dropped : IsCrew meaning wire q workers
   crew_dropped = record {
     idle = idle;
     all = λ o low. (let P : List ℕ → Type 0 = λ l. 0 < count_of o l in subst P (sym same.owners) (was.all o (let l = same.last in omega (arith, l, low))));
@@ -206,21 +206,21 @@ module _ {D : Type 0} (content : D → List ℕ) (image : D → List ℕ → Typ
         ∙ drops_note o (note_of o (seen_by p)) d.drops d.are ∙ was.none o (let l = last_same in omega (arith, l, low));
     each = λ i x low. (let rest = was.each i x low in record {
       site = rest.site;
-      stands = (let P : Scenario → Type 0 = λ k. NodeStands content image meters k (history_seen q) (slice_index_or workers i x).node in
-          let Q : List Entry → Type 0 = λ h. NodeStands content image meters (scenario_seen p) h (slice_index_or workers i x).node in
+      stands = (let P : Scenario → Type 0 = λ k. NodeStands meaning k (history_seen q) (slice_index_or workers i x).node in
+          let Q : List Entry → Type 0 = λ h. NodeStands meaning (scenario_seen p) h (slice_index_or workers i x).node in
           let S : ℕ → Type 0 = λ s. AreOthers s (entries_of d.drops) in
           subst P (sym same_scenario) (subst Q (sym entries) (law (scenario_seen p) (history_seen p) (entries_of d.drops) (slice_index_or workers i x).node rest.stands
           (subst S (sym rest.site) (others i)))));
     });
   }
 
-  pub dropped_gone_on : HasGoneOn meters (seen_by p) workers (seen_by q) workers
+  pub dropped_gone_on : HasGoneOn meaning.meters (seen_by p) workers (seen_by q) workers
   dropped_gone_on = record {
     scenario = same_scenario;
     most = ap most_of d.is ∙ (scenario_stays (seen_by p) d.drops was.played).1;
     count = refl;
     grown = record { more = entries_of d.drops; entered = entries; no_line = drops_lines d.drops d.are };
-    went = λ i x low. BehindOthers (history_seen p) (entries_of d.drops) (history_seen q) (meters (disk_of (slice_index_or workers i x).node.state)) AtStart (others i) entries;
+    went = λ i x low. BehindOthers (history_seen p) (entries_of d.drops) (history_seen q) (meaning.meters (disk_of (slice_index_or workers i x).node.state)) AtStart (others i) entries;
   }
 
 -- the driver's refusal, at the bound
@@ -259,12 +259,12 @@ site_some : (s : ℕ) → 1 ≤ s → (0 == s) ≡ false
 site_some s some = ne_eqb 0 s (λ is. omega (arith, is, some))
 
 -- a node stands behind drops
-pub dropped_stands : {D : Type 0} (content : D → List ℕ) (image : D → List ℕ → Type 0) (meters : D → Meters) → NodesKeptByOthers content image meters → (before now : List Mark) →
-    IsPlayed before → HasDropped before now → (node : NodeView D) → NodeStands content image meters (scenario_of before) (entries_of before) node →
-    NodeStands content image meters (scenario_of now) (entries_of now) node
-dropped_stands content image meters law before now played d node was =
-    let P : Scenario → Type 0 = λ k. NodeStands content image meters k (entries_of now) node in
-    let Q : List Entry → Type 0 = λ h. NodeStands content image meters (scenario_of before) h node in
+pub dropped_stands : {D : Type 0} (meaning : Meaning D) → NodesKeptByOthers meaning → (before now : List Mark) →
+    IsPlayed before → HasDropped before now → (node : NodeView D) → NodeStands meaning (scenario_of before) (entries_of before) node →
+    NodeStands meaning (scenario_of now) (entries_of now) node
+dropped_stands meaning law before now played d node was =
+    let P : Scenario → Type 0 = λ k. NodeStands meaning k (entries_of now) node in
+    let Q : List Entry → Type 0 = λ h. NodeStands meaning (scenario_of before) h node in
     subst P (sym (ap scenario_of d.is ∙ (scenario_stays before d.drops played).0)) (subst Q (sym (dropped_entries before now d))
     (law (scenario_of before) (entries_of before) (entries_of d.drops) node was (drops_others node.site d.drops (site_some node.site was.some) d.are)))
 

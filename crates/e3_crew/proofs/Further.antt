@@ -6,6 +6,7 @@ use Rattle.e3_crew.specs.Crews.{HasGoneOn, IsCrew}
 use Rattle.e3_crew.specs.Turns.{AtStart, WentOn}
 use Rattle.e3_crew.specs.declared.worker.Worker.{Worker}
 use Rattle.e3_crew.proofs.Turning.{went_on}
+use Rattle.e3_disk.specs.Meaning.{Meaning}
 use Rattle.e3_disk.specs.Meters.{Meters}
 use Rattle.e3_node.specs.NodeStands.{NodeStands}
 use Rattle.e3_node.specs.NodeView.{NodeView, disk_of}
@@ -51,10 +52,10 @@ module _ {D : Type 0} (meters : D → Meters) where
   }
 
 -- the same crew with other items
-pub crew_same : {D : Type 0} (content : D → List ℕ) (image : D → List ℕ → Type 0) (meters : D → Meters) (wire : TableId) (p : APass) (olds news : List (Worker D)) →
-    IsCrew content image meters wire p olds → length news ≡ length olds →
-    ((i : ℕ) (d : Worker D) → i < length olds → (slice_index_or news i d).node ≡ (slice_index_or olds i d).node) → IsCrew content image meters wire p news
-crew_same {D} content image meters wire p olds news was count same = record {
+pub crew_same : {D : Type 0} (meaning : Meaning D) (wire : TableId) (p : APass) (olds news : List (Worker D)) →
+    IsCrew meaning wire p olds → length news ≡ length olds →
+    ((i : ℕ) (d : Worker D) → i < length olds → (slice_index_or news i d).node ≡ (slice_index_or olds i d).node) → IsCrew meaning wire p news
+crew_same {D} meaning wire p olds news was count same = record {
   idle = was.idle;
   all = was.all;
   last = was.last ∙ sym count;
@@ -65,7 +66,7 @@ crew_same {D} content image meters wire p olds news was count same = record {
   each = λ i d low.
       (let low2 : i < length olds = omega (arith, count, low) in
       let rest = was.each i d low2 in
-      let P : NodeView D → Type 0 = λ n. NodeStands content image meters (scenario_seen p) (history_seen p) n in record {
+      let P : NodeView D → Type 0 = λ n. NodeStands meaning (scenario_seen p) (history_seen p) n in record {
         site = ap (λ (n : NodeView D). n.site) (same i d low2) ∙ rest.site;
         stands = subst P (sym (same i d low2)) rest.stands;
       });

@@ -1,6 +1,7 @@
 -- What an answer of a node to an input comes to.
 use Rattle.std.proofs.Common.{◌≡◌, ◌↔◌, ◌≤◌, ◌++◌, ◌∷◌, [], inl, inr, ℕ, Bool, true, false, List, refl, sym, ap, subst, ◌∙◌, arith}
 use Rattle.std.specs.Prelude.{Result, Ok, Err, OnOk}
+use Rattle.e3_disk.specs.Meaning.{Meaning}
 use Rattle.e3_disk.specs.Meters.{Keeps, Meters}
 use Rattle.e3_crew.specs.Turns.{AtStart, BehindFall, BehindOthers, BehindStep, WentOn, given}
 use Rattle.e3_crew.specs.Workers.{HasGiven, HasWorked, Knows}
@@ -42,14 +43,14 @@ none_still was now none places room =
     ∙ ap (λ (n : ℕ). let w : Note = record { places = 0; room = n } in w) zero_room
 
 -- the clauses of the call
-pub record Answered {D : Type 0} (content : D → List ℕ) (image : D → List ℕ → Type 0) (meters : D → Meters)
+pub record Answered {D : Type 0} (meaning : Meaning D)
     (before marks : List Mark) (old new : NodeView D) (i : Input) (answer : Result (Unit {0}) InputFault) : Type 0 where
   pub played : IsPlayed marks
   pub scenario : scenario_of marks ≡ scenario_of before
   pub most : most_of marks ≡ most_of before
   pub promised : (note_of old.site marks).places ≡ (note_of old.site before).places
   pub room : (note_of old.site marks).room ≤ (note_of old.site before).room
-  pub stands : NodeStands content image meters (scenario_of marks) (entries_of marks) new
+  pub stands : NodeStands meaning (scenario_of marks) (entries_of marks) new
   pub site : new.site ≡ old.site
   pub stepped : OnOk answer ((now : List Entry) × Meanwhile old.site (entries_of before) now
       × (entries_of marks ≡ now ++ entry_of (scenario_of before) now old.site i ∷ []))
@@ -61,10 +62,10 @@ pub record Answered {D : Type 0} (content : D → List ℕ) (image : D → List 
       Meanwhile old.site (entries_of before) (entries_of marks) × (disk_of new.state ≡ disk_of old.state)
   pub why : (why : Why) → answer ≡ Err (input_fault.Fell why) →
       IsReason why (log_of (scenario_of before) (entries_of before) old.site)
-      (made_by (scenario_of before) (entries_of before) old.site i).records (meters (disk_of old.state)) (meters (disk_of new.state))
-  pub keeps : Keeps (meters (disk_of old.state)) (meters (disk_of new.state))
+      (made_by (scenario_of before) (entries_of before) old.site i).records (meaning.meters (disk_of old.state)) (meaning.meters (disk_of new.state))
+  pub keeps : Keeps (meaning.meters (disk_of old.state)) (meaning.meters (disk_of new.state))
   pub takes : OnOk answer (Takes (calls_for (made_by (scenario_of before) (entries_of before) old.site i).records)
-      (meters (disk_of old.state)) (meters (disk_of new.state)))
+      (meaning.meters (disk_of old.state)) (meaning.meters (disk_of new.state)))
   pub none_back : HasGivenNoneBack old.site before marks
 
 -- what a site did is the same behind entries of others
@@ -75,7 +76,7 @@ made_same : MovesStay → (sc : Scenario) (site : ℕ) (h now : List Entry) (i :
 made_same law sc site h now i m = ap (λ moves. step_of sc.weights site (incarnation_of moves) i) (moves_same law sc site h now m)
 
 -- what the call came to, by the up or down of the site
-module _ {D : Type 0} (content : D → List ℕ) (image : D → List ℕ → Type 0) (meters : D → Meters) (law : MovesStay)
+module _ {D : Type 0} (meaning : Meaning D) (law : MovesStay)
     (before marks : List Mark) (old new : NodeView D) (i : Input) where
   abbrev was : List Entry
   was = entries_of before
@@ -84,10 +85,10 @@ module _ {D : Type 0} (content : D → List ℕ) (image : D → List ℕ → Typ
   sc = scenario_of before
 
   abbrev first : Meters
-  first = meters (disk_of old.state)
+  first = meaning.meters (disk_of old.state)
 
   abbrev last : Meters
-  last = meters (disk_of new.state)
+  last = meaning.meters (disk_of new.state)
 
   abbrev Went : List Entry → Meters → Type 0
   Went now m = WentOn sc old.site was first now m
@@ -122,10 +123,10 @@ module _ {D : Type 0} (content : D → List ℕ) (image : D → List ℕ → Typ
   })
 
   kept_went : Meanwhile old.site was (entries_of marks) → disk_of new.state ≡ disk_of old.state → Went (entries_of marks) last
-  kept_went m disk = subst (Went (entries_of marks)) (ap meters (sym disk)) (behind (entries_of marks) m)
+  kept_went m disk = subst (Went (entries_of marks)) (ap meaning.meters (sym disk)) (behind (entries_of marks) m)
 
-  worked_by : (answer : Result (Unit {0}) InputFault) → Knows content image meters before old → Answered content image meters before marks old new i answer →
-      Meanwhile 0 was (entries_of marks) → Went (entries_of marks) last → HasWorked content image meters before old marks new
+  worked_by : (answer : Result (Unit {0}) InputFault) → Knows meaning before old → Answered meaning before marks old new i answer →
+      Meanwhile 0 was (entries_of marks) → Went (entries_of marks) last → HasWorked meaning before old marks new
   worked_by answer knows a grew went = record {
     knows = record {
       played = a.played;
@@ -141,16 +142,16 @@ module _ {D : Type 0} (content : D → List ℕ) (image : D → List ℕ → Typ
     went = went;
   }
 
-  legal_now : (answer : Result (Unit {0}) InputFault) → Answered content image meters before marks old new i answer → IsLegal sc (entries_of marks)
+  legal_now : (answer : Result (Unit {0}) InputFault) → Answered meaning before marks old new i answer → IsLegal sc (entries_of marks)
   legal_now answer a = let P : Scenario → Type 0 = λ k. IsLegal k (entries_of marks) in subst P a.scenario a.played.legal
 
   is_up_or : (b : Bool) → is_up_at was old.site ≡ b → (is_up_at was old.site ≡ false → ⊥) → is_up_at was old.site ≡ true
   is_up_or true is not_down = is
   is_up_or false is not_down = absurd (not_down is)
 
-  refused : (fault : InputFault) → is_fall fault ≡ false → (fault ≡ input_fault.Down → ⊥) → Knows content image meters before old →
-      Answered content image meters before marks old new i (Err fault) →
-      HasWorked content image meters before old marks new × Meanwhile old.site was (entries_of marks) × (is_up_at was old.site ≡ true)
+  refused : (fault : InputFault) → is_fall fault ≡ false → (fault ≡ input_fault.Down → ⊥) → Knows meaning before old →
+      Answered meaning before marks old new i (Err fault) →
+      HasWorked meaning before old marks new × Meanwhile old.site was (entries_of marks) × (is_up_at was old.site ≡ true)
   refused fault no_fall no_down knows a =
       let k = a.kept fault refl no_fall in (
         worked_by (Err fault) knows a (meanwhile_all old.site was (entries_of marks) k.0) (kept_went k.0 k.1),
@@ -158,8 +159,8 @@ module _ {D : Type 0} (content : D → List ℕ) (image : D → List ℕ → Typ
         is_up_or (is_up_at was old.site) refl (λ down. no_down (let two : Err fault ≡ Err input_fault.Down = a.down.1 down in cc)),
       )
 
-  pub gave : (answer : Result (Unit {0}) InputFault) → Knows content image meters before old →
-      Answered content image meters before marks old new i answer → HasGiven content image meters before old i marks new (given answer)
+  pub gave : (answer : Result (Unit {0}) InputFault) → Knows meaning before old →
+      Answered meaning before marks old new i answer → HasGiven meaning before old i marks new (given answer)
   gave (Ok done) knows a =
       let up = is_up_or (is_up_at was old.site) refl (λ down. (let two : Ok done ≡ Err input_fault.Down = a.down.1 down in cc)) in
       let s = a.stepped in record {

@@ -12,7 +12,7 @@ use Rattle.e3_crew.proofs.Places.{own_behind, own_in_all, used_stays}
 use Rattle.e3_crew.proofs.Rounding.{Round, crew_again, gone_on, same_scenario}
 use Rattle.e3_crew.proofs.Taking.{done_meanwhile}
 use Rattle.e3_crew.proofs.Turning.{meanwhile_foreign}
-use Rattle.e3_disk.specs.Meters.{Meters}
+use Rattle.e3_disk.specs.Meaning.{Meaning}
 use Rattle.e3_law_local.specs.Workers.{AtItems}
 use Rattle.e3_law_local.proofs.Due.{next_on}
 use Rattle.e3_node.specs.Claims.{NodesKeptByOthers}
@@ -81,14 +81,14 @@ at_bound nothing all now none full =
     let within = now.within in
     (omega (arith, just, within), omega (arith, just, full))
 
-module _ {D : Type 0} (content : D → List ℕ) (image : D → List ℕ → Type 0) (meters : D → Meters) where
+module _ {D : Type 0} (meaning : Meaning D) where
   -- what a worker knows once it has its pass
-  pub knows_dealt : (wire : TableId) (p : APass) (olds : List (Worker D)) (after : Worker D) (i : ℕ) (d : Worker D) → IsCrew content image meters wire p olds → i < length olds →
-      IsDealt wire (seen_by p) (slice_index_or olds i d) after → Knows content image meters (seen_of after) after.node
+  pub knows_dealt : (wire : TableId) (p : APass) (olds : List (Worker D)) (after : Worker D) (i : ℕ) (d : Worker D) → IsCrew meaning wire p olds → i < length olds →
+      IsDealt wire (seen_by p) (slice_index_or olds i d) after → Knows meaning (seen_of after) after.node
   knows_dealt wire p olds after i d crew low dealt =
       let rest = crew.each i d low in
-      let P : List Mark → Type 0 = λ l. Knows content image meters l after.node in
-      let Q : NodeView D → Type 0 = λ n. Knows content image meters (seen_by p) n in
+      let P : List Mark → Type 0 = λ l. Knows meaning l after.node in
+      let Q : NodeView D → Type 0 = λ n. Knows meaning (seen_by p) n in
       subst P (sym dealt.seen) (subst Q (sym dealt.node) (record {
         played = crew.played;
         restless = crew.restless;
@@ -97,9 +97,9 @@ module _ {D : Type 0} (content : D → List ℕ) (image : D → List ℕ → Typ
         stands = rest.stands;
       }))
 
-  pub can_take : (wire : TableId) (p : APass) (olds : List (Worker D)) (after : Worker D) (i : ℕ) (d : Worker D) → IsCrew content image meters wire p olds → i < length olds →
+  pub can_take : (wire : TableId) (p : APass) (olds : List (Worker D)) (after : Worker D) (i : ℕ) (d : Worker D) → IsCrew meaning wire p olds → i < length olds →
       IsDealt wire (seen_by p) (slice_index_or olds i d) after → (slice_index_or olds i d).items ≡ inputs_at (scenario_seen p) (history_seen p) (i + 1) →
-      ((s : ℕ) → taken_at (history_seen p) s ≡ []) → CanTakeItems content image meters wire after
+      ((s : ℕ) → taken_at (history_seen p) s ≡ []) → CanTakeItems meaning wire after
   can_take wire p olds after i d crew low dealt items fresh =
       let site : after.node.site ≡ i + 1 = ap (λ (n : NodeView D). n.site) dealt.node ∙ (crew.each i d low).site in
       let mine : after.items ≡ inputs_at (scenario_seen p) (history_seen p) (i + 1) = dealt.items ∙ items in
@@ -107,15 +107,15 @@ module _ {D : Type 0} (content : D → List ℕ) (image : D → List ℕ → Typ
       let Q : ℕ → Type 0 = λ s. AreDone (scenario_seen p) (history_seen p) s after.items 0 in record {
         pass = dealt.pass;
         knows = knows_dealt wire p olds after i d crew low dealt;
-        plain = rw mine (inputs_plain (scenario_seen p) (history_seen p) (i + 1));
+        no_packets = rw mine (inputs_plain (scenario_seen p) (history_seen p) (i + 1));
         begun = subst P (sym dealt.seen) (subst Q (sym site) (λ up. at_first (scenario_seen p) (history_seen p) (i + 1) after.items mine (fresh (i + 1))));
       }
 
-  module _ (law : NodesKeptByOthers content image meters) (wire : TableId) (p q : APass) (olds dealts turned news : List (Worker D))
-      (r : Round content image meters law wire p q olds dealts turned news) (begun : lines (history_seen p) ≢ 0)
+  module _ (law : NodesKeptByOthers meaning) (wire : TableId) (p q : APass) (olds dealts turned news : List (Worker D))
+      (r : Round meaning law wire p q olds dealts turned news) (begun : lines (history_seen p) ≢ 0)
       (asks : is_asking (present_items (scenario_seen p) (history_seen p)) ≡ true)
       (items : (i : ℕ) (d : Worker D) → i < length olds → (slice_index_or olds i d).items ≡ inputs_at (scenario_seen p) (history_seen p) (i + 1))
-      (took : (i : ℕ) (d : Worker D) → i < length olds → HasTakenItems content image meters wire (slice_index_or dealts i d) (slice_index_or turned i d)) where
+      (took : (i : ℕ) (d : Worker D) → i < length olds → HasTakenItems meaning wire (slice_index_or dealts i d) (slice_index_or turned i d)) where
     abbrev sc : Scenario
     sc = scenario_seen p
 
@@ -123,7 +123,7 @@ module _ {D : Type 0} (content : D → List ℕ) (image : D → List ℕ → Typ
     last = history_seen q
 
     legal : IsLegal sc last
-    legal = let P : Scenario → Type 0 = λ k. IsLegal k last in subst P (same_scenario content image meters law wire p q olds dealts turned news r) r.played.legal
+    legal = let P : Scenario → Type 0 = λ k. IsLegal k last in subst P (same_scenario meaning law wire p q olds dealts turned news r) r.played.legal
 
     -- a worker's history is gathered with entries of others behind it
     meanwhile : (i : ℕ) (d : Worker D) → i < length olds → Meanwhile (i + 1) (entries_of (seen_of (slice_index_or turned i d))) last
@@ -196,7 +196,7 @@ module _ {D : Type 0} (content : D → List ℕ) (image : D → List ℕ → Typ
         (λ o few. own_behind o (seen_by p) (seen_of a) (seen_by q) r.driver.0 back.0 after.0
         (none_back o (omega (arith, few, last_is))) r.driver.1 start after.1) in
         let all : used_of (seen_by q) ≡ used_of (seen_of a ++ after.0) = ap used_of after.1 in
-        let most_last : most_of (seen_by q) ≡ most_of (seen_by p) = (gone_on content image meters law wire p q olds dealts turned news r).most in
+        let most_last : most_of (seen_by q) ≡ most_of (seen_by p) = (gone_on meaning law wire p q olds dealts turned news r).most in
         omega (arith, full, stays, all, most, most_last)
 
     -- a worker that was refused for a full history had an item that is due
@@ -215,9 +215,9 @@ module _ {D : Type 0} (content : D → List ℕ) (image : D → List ℕ → Typ
         let U : ℕ → Type 0 = λ s. is_up_at (entries_of (seen_of a)) s ≡ true in
         let N : ℕ → Type 0 = λ s. IsNextItem (scenario_of (seen_of a)) (entries_of (seen_of a)) s had.item in
         let M : Scenario → Type 0 = λ k. IsNextItem k (entries_of (seen_of a)) (i + 1) had.item in
-        let step = same_step sc (history_seen p) last (gone_on content image meters law wire p q olds dealts turned news r).grown in
-        let most_last : most_of (seen_by q) ≡ most_of (seen_by p) = (gone_on content image meters law wire p q olds dealts turned news r).most in
-        let room = at_bound nothing (seen_by q) r.played (crew_again content image meters law wire p q olds dealts turned news r).none (still_full i d low had.full) in
+        let step = same_step sc (history_seen p) last (gone_on meaning law wire p q olds dealts turned news r).grown in
+        let most_last : most_of (seen_by q) ≡ most_of (seen_by p) = (gone_on meaning law wire p q olds dealts turned news r).most in
+        let room = at_bound nothing (seen_by q) r.played (crew_again meaning law wire p q olds dealts turned news r).none (still_full i d low had.full) in
         item_full sc last (most_of (seen_by p)) (record {
           site = i + 1;
           item = had.item;

@@ -9,7 +9,7 @@ use Rattle.e3_crew.proofs.Growing.{through_meanwhile}
 use Rattle.e3_crew.proofs.Items.{knows_dealt}
 use Rattle.e3_crew.proofs.Rounding.{Round, same_scenario}
 use Rattle.e3_crew.proofs.Turning.{meanwhile_foreign}
-use Rattle.e3_disk.specs.Meters.{Meters}
+use Rattle.e3_disk.specs.Meaning.{Meaning}
 use Rattle.e3_node.specs.Claims.{NodesKeptByOthers}
 use Rattle.e3_node.specs.Turns.{history_seen, scenario_seen}
 use Rattle.e3_turn.specs.Passes.{seen_by}
@@ -21,17 +21,17 @@ use Rattle.e3_wire.specs.Marks.{entries_of, scenario_of}
 use Rattle.e3_world.specs.Legal.{IsLegal}
 use Rattle.e3_world.specs.Progress.{Delivering, Through}
 
-module _ {D : Type 0} (content : D → List ℕ) (image : D → List ℕ → Type 0) (meters : D → Meters) where
-  pub can_take : (wire : TableId) (p : APass) (olds : List (Worker D)) (after : Worker D) (i : ℕ) (d : Worker D) → IsCrew content image meters wire p olds → i < length olds →
-      IsDealt wire (seen_by p) (slice_index_or olds i d) after → Through (scenario_seen p) (history_seen p) → CanTakePackets content image meters wire after
+module _ {D : Type 0} (meaning : Meaning D) where
+  pub can_take : (wire : TableId) (p : APass) (olds : List (Worker D)) (after : Worker D) (i : ℕ) (d : Worker D) → IsCrew meaning wire p olds → i < length olds →
+      IsDealt wire (seen_by p) (slice_index_or olds i d) after → Through (scenario_seen p) (history_seen p) → CanTakePackets meaning wire after
   can_take wire p olds after i d crew low dealt through = record {
     pass = dealt.pass;
-    knows = knows_dealt content image meters wire p olds after i d crew low dealt;
+    knows = knows_dealt meaning wire p olds after i d crew low dealt;
     through = (let P : List Mark → Type 0 = λ l. Through (scenario_of l) (entries_of l) in subst P (sym dealt.seen) through);
   }
 
-  module _ (law : NodesKeptByOthers content image meters) (wire : TableId) (p q : APass) (olds dealts turned news : List (Worker D))
-      (r : Round content image meters law wire p q olds dealts turned news) where
+  module _ (law : NodesKeptByOthers meaning) (wire : TableId) (p q : APass) (olds dealts turned news : List (Worker D))
+      (r : Round meaning law wire p q olds dealts turned news) where
     abbrev sc : Scenario
     sc = scenario_seen p
 
@@ -39,7 +39,7 @@ module _ {D : Type 0} (content : D → List ℕ) (image : D → List ℕ → Typ
     last = history_seen q
 
     legal : IsLegal sc last
-    legal = let P : Scenario → Type 0 = λ k. IsLegal k last in subst P (same_scenario content image meters law wire p q olds dealts turned news r) r.played.legal
+    legal = let P : Scenario → Type 0 = λ k. IsLegal k last in subst P (same_scenario meaning law wire p q olds dealts turned news r) r.played.legal
 
     pub still_delivering : Through sc (history_seen p) → Delivering sc last
     still_delivering through = record {

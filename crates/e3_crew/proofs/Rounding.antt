@@ -9,7 +9,7 @@ use Rattle.e3_crew.specs.Workers.{AddedByOthers, HasWorked, IsDealt, KeepsItsOwn
 use Rattle.e3_crew.specs.declared.worker.Worker.{Worker}
 use Rattle.e3_crew.proofs.Growing.{lines_meanwhile, restless_on}
 use Rattle.e3_crew.proofs.Turning.{meanwhile_foreign, worked_behind, worked_on}
-use Rattle.e3_disk.specs.Meters.{Meters}
+use Rattle.e3_disk.specs.Meaning.{Meaning}
 use Rattle.e3_law_local.specs.Others.{AreOthers}
 use Rattle.e3_node.specs.Claims.{NodesKeptByOthers}
 use Rattle.e3_node.specs.NodeView.{NodeView, disk_of}
@@ -33,22 +33,22 @@ no_lines site (e ∷ more) others = rw others.1 (no_lines site more others.2)
 pub stays_in_step : (site : ℕ) (h now : List Entry) → Meanwhile site h now → StaysInStep h now
 stays_in_step site h now m = record { more = m.others; entered = m.is; no_line = no_lines site m.others m.of_others }
 
-module _ {D : Type 0} (content : D → List ℕ) (image : D → List ℕ → Type 0) (meters : D → Meters) (law : NodesKeptByOthers content image meters) where
+module _ {D : Type 0} (meaning : Meaning D) (law : NodesKeptByOthers meaning) where
   -- what a worker came to, by the marks that are gathered
-  pub gathered : (at : ℕ) (before marks all : List Mark) (old new : NodeView D) → new.site ≡ at + 1 → HasWorked content image meters before old marks new →
-      AddedByOthers (at + 1) marks all → IsPlayed all → HasWorked content image meters before old all new
+  pub gathered : (at : ℕ) (before marks all : List Mark) (old new : NodeView D) → new.site ≡ at + 1 → HasWorked meaning before old marks new →
+      AddedByOthers (at + 1) marks all → IsPlayed all → HasWorked meaning before old all new
   gathered at before marks all old new site worked added played =
       let P : ℕ → Type 0 = λ s. AreForeign s added.0 in
-      worked_on content image meters before marks all old new new worked
-      (worked_behind content image meters law marks added.0 all new worked.knows (subst P (sym site) added.2) played added.1)
+      worked_on meaning before marks all old new new worked
+      (worked_behind meaning law marks added.0 all new worked.knows (subst P (sym site) added.2) played added.1)
 
   pub record Round (wire : TableId) (p q : APass) (olds dealts turned news : List (Worker D)) : Type 0 where
-    pub was : IsCrew content image meters wire p olds
+    pub was : IsCrew meaning wire p olds
     pub dealt_count : length dealts ≡ length olds
     pub turned_count : length turned ≡ length olds
     pub count : length news ≡ length olds
     pub dealt : (i : ℕ) (d : Worker D) → i < length olds → IsDealt wire (seen_by p) (slice_index_or olds i d) (slice_index_or dealts i d)
-    pub worked : (i : ℕ) (d : Worker D) → i < length olds → HasWorked content image meters (seen_of (slice_index_or dealts i d)) (slice_index_or dealts i d).node
+    pub worked : (i : ℕ) (d : Worker D) → i < length olds → HasWorked meaning (seen_of (slice_index_or dealts i d)) (slice_index_or dealts i d).node
         (seen_of (slice_index_or turned i d)) (slice_index_or turned i d).node
     pub same : (i : ℕ) (d : Worker D) → i < length olds → KeepsItsOwn (slice_index_or turned i d) (slice_index_or news i d)
     pub each : (i : ℕ) (d : Worker D) → i < length olds → AddedByOthers (i + 1) (seen_of (slice_index_or turned i d)) (seen_by q)
@@ -61,16 +61,16 @@ module _ {D : Type 0} (content : D → List ℕ) (image : D → List ℕ → Typ
   module _ (wire : TableId) (p q : APass) (olds dealts turned news : List (Worker D)) (r : Round wire p q olds dealts turned news) where
     -- each worker, from the first marks to the last
     pub each_worked : (i : ℕ) (d : Worker D) → i < length olds →
-        HasWorked content image meters (seen_by p) (slice_index_or olds i d).node (seen_by q) (slice_index_or news i d).node
+        HasWorked meaning (seen_by p) (slice_index_or olds i d).node (seen_by q) (slice_index_or news i d).node
     each_worked i d low =
         let dealt = r.dealt i d low in
         let worked = r.worked i d low in
         let site : (slice_index_or turned i d).node.site ≡ i + 1 = worked.site ∙ ap (λ (n : NodeView D). n.site) dealt.node ∙ (r.was.each i d low).site in
         let all = gathered i (seen_of (slice_index_or dealts i d)) (seen_of (slice_index_or turned i d)) (seen_by q) (slice_index_or dealts i d).node (slice_index_or turned i d).node
         site worked (r.each i d low) r.played in
-        let P : List Mark → Type 0 = λ l. HasWorked content image meters l (slice_index_or olds i d).node (seen_by q) (slice_index_or news i d).node in
-        let Q : NodeView D → Type 0 = λ n. HasWorked content image meters (seen_of (slice_index_or dealts i d)) n (seen_by q) (slice_index_or news i d).node in
-        let R : NodeView D → Type 0 = λ n. HasWorked content image meters (seen_of (slice_index_or dealts i d)) (slice_index_or dealts i d).node (seen_by q) n in
+        let P : List Mark → Type 0 = λ l. HasWorked meaning l (slice_index_or olds i d).node (seen_by q) (slice_index_or news i d).node in
+        let Q : NodeView D → Type 0 = λ n. HasWorked meaning (seen_of (slice_index_or dealts i d)) n (seen_by q) (slice_index_or news i d).node in
+        let R : NodeView D → Type 0 = λ n. HasWorked meaning (seen_of (slice_index_or dealts i d)) (slice_index_or dealts i d).node (seen_by q) n in
         subst P dealt.seen (subst Q dealt.node (subst R (sym (r.same i d low).node) all))
 
     pub site_of : (i : ℕ) (d : Worker D) → i < length olds → (slice_index_or news i d).node.site ≡ i + 1
@@ -100,7 +100,7 @@ module _ {D : Type 0} (content : D → List ℕ) (image : D → List ℕ → Typ
             let P : ℕ → Type 0 = λ s. note_of s (seen_by q) ≡ nothing in
             subst P (here ∙ same) (each_worked k d less).knows.promised
 
-    pub crew_again : IsCrew content image meters wire q news
+    pub crew_again : IsCrew meaning wire q news
     crew_again = record {
       idle = r.idle;
       all = λ o low. r.owns o (let a = r.last in let b = r.was.last in omega (arith, a, b, low));
@@ -116,12 +116,12 @@ module _ {D : Type 0} (content : D → List ℕ) (image : D → List ℕ → Typ
       });
     }
 
-    pub gone_on : HasGoneOn meters (seen_by p) olds (seen_by q) news
+    pub gone_on : HasGoneOn meaning.meters (seen_by p) olds (seen_by q) news
     gone_on = record {
       scenario = same_scenario;
       most = ap most_of r.driver.1 ∙ (scenario_stays (seen_by p) r.driver.0 r.was.played).1;
       count = r.count;
       grown = stays_in_step 0 (history_seen p) (history_seen q) since;
-      went = λ i d low. (let P : ℕ → Type 0 = λ s. WentOn (scenario_seen p) s (history_seen p) (meters (disk_of (slice_index_or olds i d).node.state)) (history_seen q)
-          (meters (disk_of (slice_index_or news i d).node.state)) in subst P (r.was.each i d low).site (each_worked i d low).went);
+      went = λ i d low. (let P : ℕ → Type 0 = λ s. WentOn (scenario_seen p) s (history_seen p) (meaning.meters (disk_of (slice_index_or olds i d).node.state)) (history_seen q)
+          (meaning.meters (disk_of (slice_index_or news i d).node.state)) in subst P (r.was.each i d low).site (each_worked i d low).went);
     }

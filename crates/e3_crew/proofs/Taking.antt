@@ -7,7 +7,7 @@ use Rattle.e3_crew.specs.Turns.{AreDone, HasTaken}
 use Rattle.e3_crew.specs.Workers.{HasGiven, HasTakenItems, HasWorked, HasWorkedWith, IsPassFor, ItemHadNoRoom, Knows, seen_of}
 use Rattle.e3_crew.specs.declared.worker.Worker.{Worker}
 use Rattle.e3_crew.proofs.Growing.{alike_meanwhile, meanwhile_own, through_meanwhile}
-use Rattle.e3_disk.specs.Meters.{Meters}
+use Rattle.e3_disk.specs.Meaning.{Meaning}
 use Rattle.e3_law_local.specs.Drafts.{MayTake, MayTakeAll}
 use Rattle.e3_law_local.specs.Least.{IsLeastTo, queue_to}
 use Rattle.e3_law_local.specs.Workers.{AtItems}
@@ -109,11 +109,11 @@ pub item_may : (sc : Scenario) (site : ℕ) (items : List Input) (k : ℕ) (i : 
     AreDone sc h site items k → is_up_at h site ≡ true → MayTake sc h site i
 item_may sc site items k i h got plain done up = (next_item sc site h items k i (done up) got plain).1
 
-module _ {D : Type 0} (content : D → List ℕ) (image : D → List ℕ → Type 0) (meters : D → Meters) where
+module _ {D : Type 0} (meaning : Meaning D) where
   -- the next item is done
   pub next_given : (before marks : List Mark) (old new : NodeView D) (i : Input) (items : List Input) (k : ℕ) →
-      slice_get items k ≡ Some i → is_delivery i ≡ false → Knows content image meters before old →
-      AreDone (scenario_of before) (entries_of before) old.site items k → HasWorked content image meters before old marks new →
+      slice_get items k ≡ Some i → is_delivery i ≡ false → Knows meaning before old →
+      AreDone (scenario_of before) (entries_of before) old.site items k → HasWorked meaning before old marks new →
       HasTaken (scenario_of before) old.site i (entries_of before) (entries_of marks) →
       AreDone (scenario_of marks) (entries_of marks) new.site items (suc k)
   next_given before marks old new i items k got plain knows done worked taken =
@@ -125,8 +125,8 @@ module _ {D : Type 0} (content : D → List ℕ) (image : D → List ℕ → Typ
 
   -- an item that was refused is due
   pub item_refused : (before marks : List Mark) (old new : NodeView D) (i : Input) (items : List Input) (k : ℕ) (answer : Result (Unit {0}) RunFault) →
-      slice_get items k ≡ Some i → Knows content image meters before old → AreDone (scenario_of before) (entries_of before) old.site items k →
-      HasGiven content image meters before old i marks new answer → answer ≡ Err HistoryFull → ItemHadNoRoom marks old.site
+      slice_get items k ≡ Some i → Knows meaning before old → AreDone (scenario_of before) (entries_of before) old.site items k →
+      HasGiven meaning before old i marks new answer → answer ≡ Err HistoryFull → ItemHadNoRoom marks old.site
   item_refused before marks old new i items k (Ok done) got knows at gave is = absurd cc
   item_refused before marks old new i items k (Err fault) got knows at gave is = record {
     full = gave.full is;
@@ -148,7 +148,7 @@ module _ {D : Type 0} (content : D → List ℕ) (image : D → List ℕ → Typ
       here = items_meanwhile sc old.site (entries_of before) (entries_of marks) items k knows.played.given legal gave.kept (at gave.up)
 
   -- all items stay through
-  pub through_worked : {w : Note} (before marks : List Mark) (old new : NodeView D) → IsGiven (scenario_of before) → HasWorkedWith content image meters w before old marks new →
+  pub through_worked : {w : Note} (before marks : List Mark) (old new : NodeView D) → IsGiven (scenario_of before) → HasWorkedWith meaning w before old marks new →
       Through (scenario_of before) (entries_of before) → Through (scenario_of marks) (entries_of marks)
   through_worked before marks old new given worked all =
       let P : Scenario → Type 0 = λ k. Through k (entries_of marks) in
@@ -178,15 +178,15 @@ packets_may sc h site (p ∷ few) rest given legal some up calm all queue =
     )
 
 -- a turn with items, once the worker has its pass again
-pub took_items : {D : Type 0} (content : D → List ℕ) (image : D → List ℕ → Type 0) (meters : D → Meters) (wire : TableId) (before : Worker D) (marks : List Mark) (old : NodeView D)
+pub took_items : {D : Type 0} (meaning : Meaning D) (wire : TableId) (before : Worker D) (marks : List Mark) (old : NodeView D)
     (items : List Input) (p : APass) (new : NodeView D) (kept : List Input) (answer : Result (Unit {0}) RunFault) → marks ≡ seen_of before → old ≡ before.node → items ≡ before.items →
-    IsPassFor wire new.site p → HasWorked content image meters marks old (seen_by p) new →
+    IsPassFor wire new.site p → HasWorked meaning marks old (seen_by p) new →
     OnOk answer (AreDone (scenario_of marks) (entries_of (seen_by p)) old.site items (length items)) → (answer ≡ Err HistoryFull → ItemHadNoRoom (seen_by p) old.site) →
-    HasGivenNoneBack old.site marks (seen_by p) → HasTakenItems content image meters wire before (record { node = new; pass = Some p; items = kept; ended = answer })
-took_items {D} content image meters wire before marks old items p new kept answer seen node all pass worked done full back = record {
+    HasGivenNoneBack old.site marks (seen_by p) → HasTakenItems meaning wire before (record { node = new; pass = Some p; items = kept; ended = answer })
+took_items {D} meaning wire before marks old items p new kept answer seen node all pass worked done full back = record {
   pass = (p, refl, pass);
-  worked = (let P : List Mark → Type 0 = λ l. HasWorked content image meters l before.node (seen_by p) new in
-      let Q : NodeView D → Type 0 = λ n. HasWorked content image meters marks n (seen_by p) new in subst P seen (subst Q node worked));
+  worked = (let P : List Mark → Type 0 = λ l. HasWorked meaning l before.node (seen_by p) new in
+      let Q : NodeView D → Type 0 = λ n. HasWorked meaning marks n (seen_by p) new in subst P seen (subst Q node worked));
   done = (let P : List Mark → Type 0 = λ l. OnOk answer (AreDone (scenario_of l) (entries_of (seen_by p)) before.node.site before.items (length before.items)) in
       let Q : NodeView D → Type 0 = λ n. OnOk answer (AreDone (scenario_of marks) (entries_of (seen_by p)) n.site before.items (length before.items)) in
       let R : List Input → Type 0 = λ l. OnOk answer (AreDone (scenario_of marks) (entries_of (seen_by p)) old.site l (length l)) in

@@ -1,5 +1,6 @@
 -- What workers know stays true while others go on, and turns follow one another.
 use Rattle.std.proofs.Common.{◌≡◌, ◌+◌, ◌<◌, ◌≤◌, ◌++◌, ◌∷◌, [], ℕ, false, List, refl, sym, ap, subst, ◌∙◌, arith}
+use Rattle.e3_disk.specs.Meaning.{Meaning}
 use Rattle.e3_disk.specs.Meters.{Meters}
 use Rattle.e3_crew.specs.Turns.{AtStart, BehindFall, BehindFallOver, BehindOthers, BehindStep, BehindSteps, WentOn}
 use Rattle.e3_crew.specs.Workers.{HasWorked, HasWorkedWith, KnowsWith, places_alone}
@@ -40,8 +41,8 @@ meanwhile_foreign site before since marks played foreign is = record {
   is = ap entries_of is ∙ entries_append before since;
 }
 
-module _ {D : Type 0} (content : D → List ℕ) (image : D → List ℕ → Type 0) (meters : D → Meters) where
-  pub worked_none : {w : Note} (marks : List Mark) (node : NodeView D) → KnowsWith content image meters w marks node → HasWorkedWith content image meters w marks node marks node
+module _ {D : Type 0} (meaning : Meaning D) where
+  pub worked_none : {w : Note} (marks : List Mark) (node : NodeView D) → KnowsWith meaning w marks node → HasWorkedWith meaning w marks node marks node
   worked_none marks node knows = record {
     knows = knows;
     site = refl;
@@ -51,38 +52,38 @@ module _ {D : Type 0} (content : D → List ℕ) (image : D → List ℕ → Typ
     went = AtStart;
   }
 
-  pub worked_on : {w x : Note} (a b c : List Mark) (l m n : NodeView D) → HasWorkedWith content image meters w a l b m → HasWorkedWith content image meters x b m c n →
-      HasWorkedWith content image meters x a l c n
+  pub worked_on : {w x : Note} (a b c : List Mark) (l m n : NodeView D) → HasWorkedWith meaning w a l b m → HasWorkedWith meaning x b m c n →
+      HasWorkedWith meaning x a l c n
   worked_on a b c l m n first second = record {
     knows = second.knows;
     site = second.site ∙ first.site;
     scenario = second.scenario ∙ first.scenario;
     most = second.most ∙ first.most;
     grew = meanwhile_on 0 (entries_of a) (entries_of b) (entries_of c) first.grew second.grew;
-    went = went_on (scenario_of a) l.site (entries_of a) (entries_of b) (meters (disk_of l.state)) (meters (disk_of m.state)) (entries_of c) (meters (disk_of n.state)) first.went
-        (let P : Scenario → Type 0 = λ sc. WentOn sc l.site (entries_of b) (meters (disk_of m.state)) (entries_of c) (meters (disk_of n.state)) in
-        let Q : ℕ → Type 0 = λ s. WentOn (scenario_of b) s (entries_of b) (meters (disk_of m.state)) (entries_of c) (meters (disk_of n.state)) in
+    went = went_on (scenario_of a) l.site (entries_of a) (entries_of b) (meaning.meters (disk_of l.state)) (meaning.meters (disk_of m.state)) (entries_of c) (meaning.meters (disk_of n.state)) first.went
+        (let P : Scenario → Type 0 = λ sc. WentOn sc l.site (entries_of b) (meaning.meters (disk_of m.state)) (entries_of c) (meaning.meters (disk_of n.state)) in
+        let Q : ℕ → Type 0 = λ s. WentOn (scenario_of b) s (entries_of b) (meaning.meters (disk_of m.state)) (entries_of c) (meaning.meters (disk_of n.state)) in
         subst P first.scenario (subst Q first.site second.went));
   }
 
   -- while a worker only looks
-  pub worked_behind : {w : Note} → NodesKeptByOthers content image meters → (before since marks : List Mark) (node : NodeView D) → KnowsWith content image meters w before node →
-      AreForeign node.site since → IsPlayed marks → marks ≡ before ++ since → HasWorkedWith content image meters w before node marks node
+  pub worked_behind : {w : Note} → NodesKeptByOthers meaning → (before since marks : List Mark) (node : NodeView D) → KnowsWith meaning w before node →
+      AreForeign node.site since → IsPlayed marks → marks ≡ before ++ since → HasWorkedWith meaning w before node marks node
   worked_behind law before since marks node knows foreign played is = record {
     knows = record {
       played = played;
       restless = (let P : Scenario → Type 0 = λ k. is_calm (present_items k (entries_of marks)) ≡ false in
           subst P (sym same) (restless_on (scenario_of before) (entries_of before) (entries_of marks) (lines_meanwhile node.site (entries_of before) (entries_of marks) m) knows.restless));
       promised = ap (λ (l : List Mark). note_of node.site l) is ∙ notes_stay node.site before since foreign ∙ knows.promised;
-      stands = (let P : Scenario → Type 0 = λ k. NodeStands content image meters k (entries_of marks) node in
-          let Q : List Entry → Type 0 = λ k. NodeStands content image meters (scenario_of before) k node in
+      stands = (let P : Scenario → Type 0 = λ k. NodeStands meaning k (entries_of marks) node in
+          let Q : List Entry → Type 0 = λ k. NodeStands meaning (scenario_of before) k node in
           subst P (sym same) (subst Q (sym m.is) (law (scenario_of before) (entries_of before) m.others node knows.stands m.of_others)));
     };
     site = refl;
     scenario = same;
     most = ap most_of is ∙ (scenario_stays before since knows.played).1;
     grew = meanwhile_all node.site (entries_of before) (entries_of marks) m;
-    went = BehindOthers (entries_of before) m.others (entries_of marks) (meters (disk_of node.state)) AtStart m.of_others m.is;
+    went = BehindOthers (entries_of before) m.others (entries_of marks) (meaning.meters (disk_of node.state)) AtStart m.of_others m.is;
   }
     where
       m : Meanwhile node.site (entries_of before) (entries_of marks)
@@ -92,25 +93,25 @@ module _ {D : Type 0} (content : D → List ℕ) (image : D → List ℕ → Typ
       same = ap scenario_of is ∙ (scenario_stays before since knows.played).0
 
   -- where it only promises places to its site, of which so many are left
-  pub worked_promised : PlacesPromise → (before between marks : List Mark) (old new : NodeView D) (n : ℕ) → HasWorked content image meters before old between new →
-      used_of between + n ≤ most_of between → marks ≡ between ++ places_for new.site n → HasWorkedWith content image meters (places_alone n) before old marks new
+  pub worked_promised : PlacesPromise → (before between marks : List Mark) (old new : NodeView D) (n : ℕ) → HasWorked meaning before old between new →
+      used_of between + n ≤ most_of between → marks ≡ between ++ places_for new.site n → HasWorkedWith meaning (places_alone n) before old marks new
   worked_promised law before between marks old new n worked left is =
-      subst (λ (l : List Mark). HasWorkedWith content image meters (places_alone n) before old l new) (sym is) (record {
+      subst (λ (l : List Mark). HasWorkedWith meaning (places_alone n) before old l new) (sym is) (record {
         knows = record {
           played = noted.played;
           restless = (let P : Scenario → Type 0 = λ k. is_calm (present_items k (entries_of (between ++ places_for new.site n))) ≡ false in
               let Q : List Entry → Type 0 = λ h. is_calm (present_items (scenario_of between) h) ≡ false in
               subst P (sym noted.scenario) (subst Q (sym noted.entries) worked.knows.restless));
           promised = noted.own ∙ ap (λ (w : Note). let x : Note = record { places = w.places + n; room = w.room } in x) worked.knows.promised ∙ ap places_alone plain;
-          stands = (let P : Scenario → Type 0 = λ k. NodeStands content image meters k (entries_of (between ++ places_for new.site n)) new in
-              let Q : List Entry → Type 0 = λ h. NodeStands content image meters (scenario_of between) h new in
+          stands = (let P : Scenario → Type 0 = λ k. NodeStands meaning k (entries_of (between ++ places_for new.site n)) new in
+              let Q : List Entry → Type 0 = λ h. NodeStands meaning (scenario_of between) h new in
               subst P (sym noted.scenario) (subst Q (sym noted.entries) worked.knows.stands));
         };
         site = worked.site;
         scenario = noted.scenario ∙ worked.scenario;
         most = noted.most ∙ worked.most;
         grew = subst (λ (h : List Entry). Meanwhile 0 (entries_of before) h) (sym noted.entries) worked.grew;
-        went = subst (λ (h : List Entry). WentOn (scenario_of before) old.site (entries_of before) (meters (disk_of old.state)) h (meters (disk_of new.state)))
+        went = subst (λ (h : List Entry). WentOn (scenario_of before) old.site (entries_of before) (meaning.meters (disk_of old.state)) h (meaning.meters (disk_of new.state)))
             (sym noted.entries) worked.went;
       })
     where

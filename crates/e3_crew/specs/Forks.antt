@@ -5,19 +5,19 @@ use Rattle.e3_crew.specs.Workers.{CanTakeItems, CanTakePackets, HasTakenItems, H
 use Rattle.e3_crew.specs.declared.crew.Turn.{Turn}
 use Rattle.e3_crew.specs.declared.crew.Turn.TheVariants as turn
 use Rattle.e3_crew.specs.declared.worker.Worker.{Worker}
-use Rattle.e3_disk.specs.Meters.{Meters}
+use Rattle.e3_disk.specs.Meaning.{Meaning}
 
 -- a worker that may have its turn
-abbrev pub CanTake : {D : Type 0} → Turn → (D → List ℕ) → (D → List ℕ → Type 0) → (D → Meters) → TableId → Worker D → Type 0
-CanTake turn.Items content image meters wire w = CanTakeItems content image meters wire w
-CanTake turn.Packets content image meters wire w = CanTakePackets content image meters wire w
+abbrev pub CanTake : {D : Type 0} → Turn → Meaning D → TableId → Worker D → Type 0
+CanTake turn.Items meaning wire w = CanTakeItems meaning wire w
+CanTake turn.Packets meaning wire w = CanTakePackets meaning wire w
 
 -- it had its turn
-abbrev pub HasTaken : {D : Type 0} → Turn → (D → List ℕ) → (D → List ℕ → Type 0) → (D → Meters) → TableId → Worker D → Worker D → Type 0
-HasTaken turn.Items content image meters wire before after = HasTakenItems content image meters wire before after
-HasTaken turn.Packets content image meters wire before after = HasTakenPackets content image meters wire before after
+abbrev pub HasTaken : {D : Type 0} → Turn → Meaning D → TableId → Worker D → Worker D → Type 0
+HasTaken turn.Items meaning wire before after = HasTakenItems meaning wire before after
+HasTaken turn.Packets meaning wire before after = HasTakenPackets meaning wire before after
 
 -- each of them had
-abbrev pub AllTook : {D : Type 0} → Turn → (D → List ℕ) → (D → List ℕ → Type 0) → (D → Meters) → TableId → List (Worker D) → List (Worker D) → Type 0
-AllTook {D} t content image meters wire xs ys =
-    (i : ℕ) (d : Worker D) → i < length xs → HasTaken t content image meters wire (slice_index_or xs i d) (slice_index_or ys i d)
+abbrev pub AllTook : {D : Type 0} → Turn → Meaning D → TableId → List (Worker D) → List (Worker D) → Type 0
+AllTook {D} t meaning wire xs ys =
+    (i : ℕ) (d : Worker D) → i < length xs → HasTaken t meaning wire (slice_index_or xs i d) (slice_index_or ys i d)

@@ -4,7 +4,7 @@ use Rattle.std.specs.List.{list_any}
 use Rattle.atomic_table.specs.Seated.{TableId}
 use Rattle.e3_crew.specs.Turns.{AreDone, HasTaken, WentOn}
 use Rattle.e3_crew.specs.declared.worker.Worker.{Worker}
-use Rattle.e3_disk.specs.Meters.{Meters}
+use Rattle.e3_disk.specs.Meaning.{Meaning}
 use Rattle.e3_law_local.specs.Least.{IsLeastTo, queue_to}
 use Rattle.e3_node.specs.NodeStands.{NodeStands}
 use Rattle.e3_node.specs.NodeView.{NodeView, disk_of}
@@ -44,30 +44,30 @@ seen_of w = seen_in w.pass
 
 -- What is true of a node and the marks that the pass for its site has seen: the node stands for their history, no recover
 -- step is on, and this is promised to the site.
-pub record KnowsWith {D : Type 0} (content : D → List ℕ) (image : D → List ℕ → Type 0) (meters : D → Meters) (promise : Note)
+pub record KnowsWith {D : Type 0} (meaning : Meaning D) (promise : Note)
     (marks : List Mark) (node : NodeView D) : Type 0 where
   pub played : IsPlayed marks
   pub restless : is_calm (present_items (scenario_of marks) (entries_of marks)) ≡ false
   pub promised : note_of node.site marks ≡ promise
-  pub stands : NodeStands content image meters (scenario_of marks) (entries_of marks) node
+  pub stands : NodeStands meaning (scenario_of marks) (entries_of marks) node
 
 -- the same, and neither a place nor room is promised to the site
-abbrev pub Knows : {D : Type 0} → (D → List ℕ) → (D → List ℕ → Type 0) → (D → Meters) → List Mark → NodeView D → Type 0
-Knows content image meters marks node = KnowsWith content image meters nothing marks node
+abbrev pub Knows : {D : Type 0} → Meaning D → List Mark → NodeView D → Type 0
+Knows meaning marks node = KnowsWith meaning nothing marks node
 
 -- what a node and the marks that its pass has seen came to, while all sites worked, and what is promised to the site then
-pub record HasWorkedWith {D : Type 0} (content : D → List ℕ) (image : D → List ℕ → Type 0) (meters : D → Meters) (promise : Note)
+pub record HasWorkedWith {D : Type 0} (meaning : Meaning D) (promise : Note)
     (before : List Mark) (old : NodeView D) (marks : List Mark) (new : NodeView D) : Type 0 where
-  pub knows : KnowsWith content image meters promise marks new
+  pub knows : KnowsWith meaning promise marks new
   pub site : new.site ≡ old.site
   pub scenario : scenario_of marks ≡ scenario_of before
   pub most : most_of marks ≡ most_of before
   pub grew : Meanwhile 0 (entries_of before) (entries_of marks)
-  pub went : WentOn (scenario_of before) old.site (entries_of before) (meters (disk_of old.state)) (entries_of marks) (meters (disk_of new.state))
+  pub went : WentOn (scenario_of before) old.site (entries_of before) (meaning.meters (disk_of old.state)) (entries_of marks) (meaning.meters (disk_of new.state))
 
 -- the same, and neither a place nor room is promised to the site then
-abbrev pub HasWorked : {D : Type 0} → (D → List ℕ) → (D → List ℕ → Type 0) → (D → Meters) → List Mark → NodeView D → List Mark → NodeView D → Type 0
-HasWorked content image meters before old marks new = HasWorkedWith content image meters nothing before old marks new
+abbrev pub HasWorked : {D : Type 0} → Meaning D → List Mark → NodeView D → List Mark → NodeView D → Type 0
+HasWorked meaning before old marks new = HasWorkedWith meaning nothing before old marks new
 
 -- a place for each of so many entries, and no room
 abbrev pub places_alone : ℕ → Note
@@ -75,9 +75,9 @@ places_alone n = record { places = n; room = 0 }
 
 -- What an input that a worker gave to its node came to: the site took it, or was down; or it was refused, which only a site
 -- that is up was.
-pub record HasGiven {D : Type 0} (content : D → List ℕ) (image : D → List ℕ → Type 0) (meters : D → Meters)
+pub record HasGiven {D : Type 0} (meaning : Meaning D)
     (before : List Mark) (old : NodeView D) (i : Input) (marks : List Mark) (new : NodeView D) (answer : Result (Unit {0}) RunFault) : Type 0 where
-  pub worked : HasWorked content image meters before old marks new
+  pub worked : HasWorked meaning before old marks new
   pub taken : OnOk answer (HasTaken (scenario_of before) old.site i (entries_of before) (entries_of marks))
   pub kept : OnErr answer (Meanwhile old.site (entries_of before) (entries_of marks))
   pub up : OnErr answer (is_up_at (entries_of before) old.site ≡ true)
@@ -103,31 +103,31 @@ abbrev pub NonePending : List Mark → ℕ → Type 0
 NonePending marks site = is_up_at (entries_of marks) site ≡ true → (p : Packet) → IsLeastTo (scenario_of marks) (entries_of marks) site p → ⊥
 
 -- a worker with a pass and with items of which none is done
-pub record CanTakeItems {D : Type 0} (content : D → List ℕ) (image : D → List ℕ → Type 0) (meters : D → Meters) (wire : TableId) (w : Worker D) : Type 0 where
+pub record CanTakeItems {D : Type 0} (meaning : Meaning D) (wire : TableId) (w : Worker D) : Type 0 where
   pub pass : HasPass wire w
-  pub knows : Knows content image meters (seen_of w) w.node
-  pub plain : list_any is_delivery w.items ≡ false
+  pub knows : Knows meaning (seen_of w) w.node
+  pub no_packets : list_any is_delivery w.items ≡ false
   pub begun : AreDone (scenario_of (seen_of w)) (entries_of (seen_of w)) w.node.site w.items 0
 
 -- It gave its items to its node, all of them where it was not refused. Its site gave no promised place back.
-pub record HasTakenItems {D : Type 0} (content : D → List ℕ) (image : D → List ℕ → Type 0) (meters : D → Meters) (wire : TableId) (before after : Worker D) : Type 0 where
+pub record HasTakenItems {D : Type 0} (meaning : Meaning D) (wire : TableId) (before after : Worker D) : Type 0 where
   pub pass : HasPass wire after
-  pub worked : HasWorked content image meters (seen_of before) before.node (seen_of after) after.node
+  pub worked : HasWorked meaning (seen_of before) before.node (seen_of after) after.node
   pub done : OnOk after.ended (AreDone (scenario_of (seen_of before)) (entries_of (seen_of after)) before.node.site before.items (length before.items))
   pub full : after.ended ≡ Err HistoryFull → ItemHadNoRoom (seen_of after) before.node.site
   pub none_back : HasGivenNoneBack before.node.site (seen_of before) (seen_of after)
 
 -- a worker with a pass, behind all items of all sites
-pub record CanTakePackets {D : Type 0} (content : D → List ℕ) (image : D → List ℕ → Type 0) (meters : D → Meters) (wire : TableId) (w : Worker D) : Type 0 where
+pub record CanTakePackets {D : Type 0} (meaning : Meaning D) (wire : TableId) (w : Worker D) : Type 0 where
   pub pass : HasPass wire w
-  pub knows : Knows content image meters (seen_of w) w.node
+  pub knows : Knows meaning (seen_of w) w.node
   pub through : Through (scenario_of (seen_of w)) (entries_of (seen_of w))
 
 -- It gave packets to its node, until none was pending where it was not refused. Where it was, the driver looks whether the
 -- history is full.
-pub record HasTakenPackets {D : Type 0} (content : D → List ℕ) (image : D → List ℕ → Type 0) (meters : D → Meters) (wire : TableId) (before after : Worker D) : Type 0 where
+pub record HasTakenPackets {D : Type 0} (meaning : Meaning D) (wire : TableId) (before after : Worker D) : Type 0 where
   pub pass : HasPass wire after
-  pub worked : HasWorked content image meters (seen_of before) before.node (seen_of after) after.node
+  pub worked : HasWorked meaning (seen_of before) before.node (seen_of after) after.node
   pub done : OnOk after.ended (NonePending (seen_of after) before.node.site)
 
 -- behind these marks others than the owner put some

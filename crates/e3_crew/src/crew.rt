@@ -10,11 +10,11 @@ ghost use Rattle.e3_wire.specs.Wires.{IsPlayed};
 use crate::Worker;
 use crate::worker::take_pass;
 use crate::working::{take_items, take_packets};
+use crate::works::Works;
 use e3_disk::{Disk, Drill};
 use e3_outside::Gate;
 use e3_types::SiteSet;
 use e3_wire::{Wire, WirePass};
-use std::alloc::Global;
 use std::sync::Wait;
 use std::thread;
 use std::thread::{Threads, join_mut};
@@ -29,50 +29,41 @@ pub enum Turn {
 /// A round of turns: what workers take in it, and the sites that have something to take when it begins.
 #[derive(Drop)]
 pub struct Round {
-    pub alloc: Global,
     pub turn: Turn,
     pub busy: SiteSet,
-    /// How many packets a worker takes for one turn of work at most: from 1 to 8, and 8 for every other number.
-    pub packets: u32,
 }
 
 // A worker's turn.
 fn take_turn<D: Disk + Drill + Drop, G: Gate, R: Wait>(
     rt: &R,
-    alloc: Global,
-    wire: &Wire,
-    gate: &G,
+    works: &Works<G>,
     turn: Turn,
-    packets: u32,
     worker: &mut Worker<D>,
 )
-    requires { CanTake turn D.content D.image D.meters wire.now worker.old }
-    ensures { HasTaken turn D.content D.image D.meters wire.now worker.old worker.new }
+    requires { CanTake turn D.meaning works.now.wire.now worker.old }
+    ensures { HasTaken turn D.meaning works.now.wire.now worker.old worker.new }
 {
     match turn {
-        Turn::Items => take_items(rt, alloc, wire, worker),
-        Turn::Packets => take_packets(rt, alloc, wire, gate, packets, worker),
+        Turn::Items => take_items(rt, works, worker),
+        Turn::Packets => take_packets(rt, works, worker),
     }
 }
 
 // The turns of these workers one after the other, on the caller's thread.
 fn take_in_order<D: Disk + Drill + Drop + Send, G: Gate + Sync, R: Wait + Threads + Sync>(
     rt: &R,
-    alloc: Global,
-    wire: &Wire,
-    gate: &G,
+    works: &Works<G>,
     turn: Turn,
-    packets: u32,
     workers: &mut [Worker<D>],
 )
-    requires { All (CanTake turn D.content D.image D.meters wire.now) workers.old }
-    ensures { AllTook turn D.content D.image D.meters wire.now workers.old workers.new }
+    requires { All (CanTake turn D.meaning works.now.wire.now) workers.old }
+    ensures { AllTook turn D.meaning works.now.wire.now workers.old workers.new }
 {
     thread::for_each_mut(
         rt,
         workers,
         1,
-        &|_, worker| take_turn(rt, alloc, wire, gate, turn, packets, worker),
+        &|_, worker| take_turn(rt, works, turn, worker),
     );
 }
 
@@ -106,31 +97,28 @@ fn middle_of<D: Disk + Drill + Drop>(workers: &[Worker<D>], busy: SiteSet) -> us
 #[cycle(forks)]
 pub fn all_take<D: Disk + Drill + Drop + Send, G: Gate + Sync, R: Wait + Threads + Sync>(
     rt: &R,
-    wire: &Wire,
-    gate: &G,
+    works: &Works<G>,
     round: &Round,
     threads: usize,
     workers: &mut [Worker<D>],
 )
-    requires { All (CanTake round.now.turn D.content D.image D.meters wire.now) workers.old }
-    ensures { AllTook round.now.turn D.content D.image D.meters wire.now workers.old workers.new }
+    requires { All (CanTake round.now.turn D.meaning works.now.wire.now) workers.old }
+    ensures { AllTook round.now.turn D.meaning works.now.wire.now workers.old workers.new }
 {
     if threads < 2 || workers.len() < 2 || busy_among(workers, round.busy) < 2 {
-        let (turn, packets) = (round.turn, round.packets);
-        take_in_order(rt, round.alloc, wire, gate, turn, packets, workers);
+        take_in_order(rt, works, round.turn, workers);
         return;
     }
     let few = threads / 2;
     let (front, back) = workers.split_at_mut(middle_of(workers, round.busy));
-    both_take(rt, wire, gate, round, few, threads - few, front, back);
+    both_take(rt, works, round, few, threads - few, front, back);
 }
 
 // A function of its own, so that what the closures ask is what it is given.
 #[cycle(forks)]
 fn both_take<D: Disk + Drill + Drop + Send, G: Gate + Sync, R: Wait + Threads + Sync>(
     rt: &R,
-    wire: &Wire,
-    gate: &G,
+    works: &Works<G>,
     round: &Round,
     few: usize,
     others: usize,
@@ -138,19 +126,19 @@ fn both_take<D: Disk + Drill + Drop + Send, G: Gate + Sync, R: Wait + Threads + 
     back: &mut [Worker<D>],
 )
     requires some { (0 < length front.old) × (0 < length back.old) }
-    requires front { All (CanTake round.now.turn D.content D.image D.meters wire.now) front.old }
-    requires back { All (CanTake round.now.turn D.content D.image D.meters wire.now) back.old }
-    ensures front { AllTook round.now.turn D.content D.image D.meters wire.now front.old front.new }
-    ensures back { AllTook round.now.turn D.content D.image D.meters wire.now back.old back.new }
+    requires front { All (CanTake round.now.turn D.meaning works.now.wire.now) front.old }
+    requires back { All (CanTake round.now.turn D.meaning works.now.wire.now) back.old }
+    ensures front { AllTook round.now.turn D.meaning works.now.wire.now front.old front.new }
+    ensures back { AllTook round.now.turn D.meaning works.now.wire.now back.old back.new }
 {
     let mut there = ||
-        requires { IsSync R.row × IsSync G.row × IsSend D.row × All (CanTake round.now.turn D.content D.image D.meters wire.now) front.now }
-        ensures { AllTook round.entry.now.turn D.content D.image D.meters wire.entry.now front.entry.now front.exit.now }
-    { all_take(rt, wire, gate, round, few, front) };
+        requires { IsSync R.row × IsSync G.row × IsSend D.row × All (CanTake round.now.turn D.meaning works.now.wire.now) front.now }
+        ensures { AllTook round.entry.now.turn D.meaning works.entry.now.wire.now front.entry.now front.exit.now }
+    { all_take(rt, works, round, few, front) };
     let mut here = ||
-        requires { IsSync R.row × IsSync G.row × IsSend D.row × All (CanTake round.now.turn D.content D.image D.meters wire.now) back.now }
-        ensures { AllTook round.entry.now.turn D.content D.image D.meters wire.entry.now back.entry.now back.exit.now }
-    { all_take(rt, wire, gate, round, others, back) };
+        requires { IsSync R.row × IsSync G.row × IsSend D.row × All (CanTake round.now.turn D.meaning works.now.wire.now) back.now }
+        ensures { AllTook round.entry.now.turn D.meaning works.entry.now.wire.now back.entry.now back.exit.now }
+    { all_take(rt, works, round, others, back) };
     join_mut(rt, &mut there, &mut here);
 }
 

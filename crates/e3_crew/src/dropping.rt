@@ -1,6 +1,6 @@
 // The driver's turn between rounds: it drops the packets to sites that are down.
-ghost use Rattle.std.specs.Prelude.{◌≡◌, ◌≢◌, ◌<◌, [], ℕ, false, length, slice_index_or, None, Err, IfOk};
-ghost use Rattle.e3_crew.specs.Crews.{HasGoneOn, IsCrew};
+ghost use Rattle.std.specs.Prelude.{◌≡◌, ◌<◌, [], ℕ, false, length, slice_index_or, None, Err, IfOk};
+ghost use Rattle.e3_crew.specs.Crews.{HasDelivered, IsDelivering};
 ghost use Rattle.e3_crew.specs.Drops.{DropHadNoRoom, HasDropped};
 ghost use Rattle.e3_crew.specs.declared.worker.Worker.{Worker as Workers};
 ghost use Rattle.e3_node.specs.NodeStands.{NodeStands};
@@ -11,8 +11,7 @@ ghost use Rattle.e3_turn.specs.Passes.{seen_by};
 ghost use Rattle.e3_wire.specs.Wires.{IsPlayed};
 ghost use Rattle.e3_wire.specs.Marks.{entries_of, most_of, scenario_of};
 ghost use Rattle.e3_world.specs.Items.{is_up_at};
-ghost use Rattle.e3_world.specs.Packets.{is_calm, lines, pending, present_items};
-ghost use Rattle.e3_world.specs.Progress.{Delivering};
+ghost use Rattle.e3_world.specs.Packets.{is_calm, pending, present_items};
 
 use crate::Worker;
 use crate::fault::run_fault;
@@ -50,7 +49,7 @@ fn drop_to<D: Disk + Drill + Drop, R: Wait>(
 ) -> Result<(), RunFault>
     requires played { IsPlayed shared.old }
     requires restless { is_calm (present_items (scenario_of shared.old) (entries_of shared.old)) ≡ false }
-    requires standing { NodeStands D.content D.image D.meters (scenario_of shared.old) (entries_of shared.old) worker.now.node }
+    requires standing { NodeStands D.meaning (scenario_of shared.old) (entries_of shared.old) worker.now.node }
     ensures dropped { HasDropped shared.old shared.new }
     ensures full { result ≡ Err HistoryFull → DropHadNoRoom shared.new }
 {
@@ -83,7 +82,7 @@ fn drop_in<D: Disk + Drill + Drop, R: Wait>(
     requires played { IsPlayed shared.old }
     requires restless { is_calm (present_items (scenario_of shared.old) (entries_of shared.old)) ≡ false }
     requires standing { (i : ℕ) (d : Workers D) → i < length workers.now →
-        NodeStands D.content D.image D.meters (scenario_of shared.old) (entries_of shared.old) (slice_index_or workers.now i d).node }
+        NodeStands D.meaning (scenario_of shared.old) (entries_of shared.old) (slice_index_or workers.now i d).node }
     ensures dropped { HasDropped shared.old shared.new }
     ensures full { result ≡ Err HistoryFull → DropHadNoRoom shared.new }
 {
@@ -119,12 +118,8 @@ pub(crate) fn drop_down<D: Disk + Drill + Drop, R: Wait>(
     pass: &mut WirePass,
     workers: &[Worker<D>],
 ) -> Result<Option<SiteSet>, RunFault>
-    requires crew { IsCrew D.content D.image D.meters wire.now pass.old workers.now }
-    requires begun { lines (history_seen pass.old) ≢ 0 }
-    requires delivering { Delivering (scenario_seen pass.old) (history_seen pass.old) }
-    ensures crew { IsCrew D.content D.image D.meters wire.now pass.new workers.now }
-    ensures on { HasGoneOn D.meters (seen_by pass.old) workers.now (seen_by pass.new) workers.now }
-    ensures delivering { Delivering (scenario_seen pass.old) (history_seen pass.new) }
+    requires { IsDelivering D.meaning wire.now pass.old workers.now }
+    ensures went { HasDelivered D.meaning wire.now pass.old workers.now pass.new workers.now }
     ensures none { IfOk result (λ busy. busy ≡ None → pending (scenario_seen pass.old) (history_seen pass.new) ≡ []) }
     ensures full { result ≡ Err HistoryFull → IsFullBefore IsPacketDue (scenario_seen pass.old) (history_seen pass.new) (most_of (seen_by pass.old)) }
 {

@@ -9,6 +9,7 @@ mod rounds;
 mod settling;
 mod worker;
 mod working;
+mod works;
 
 pub use settling::settle;
 pub use worker::Worker;

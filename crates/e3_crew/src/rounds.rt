@@ -1,6 +1,6 @@
 // Rounds of all workers: passes are dealt, the workers work, and the passes are gathered again.
 ghost use Rattle.std.specs.Prelude.{◌≡◌, ◌≢◌, ◌+◌, ◌<◌, [], ℕ, true, length, slice_index_or, OnOk, Err};
-ghost use Rattle.e3_crew.specs.Crews.{AllEndedWell, HasGoneOn, IsCrew, OneWasRefused};
+ghost use Rattle.e3_crew.specs.Crews.{AllEndedWell, HasDelivered, HasGoneOn, IsCrew, IsDelivering, OneWasRefused};
 ghost use Rattle.e3_crew.specs.declared.worker.Worker.{Worker as Workers};
 ghost use Rattle.e3_node.specs.Turns.{history_seen, scenario_seen};
 ghost use Rattle.e3_play.specs.Delivered.{IsFullBefore, IsItemDue};
@@ -15,13 +15,13 @@ ghost use Rattle.e3_world.specs.Progress.{Delivering};
 
 use crate::Worker;
 use crate::crew::{Round, Turn, all_take, deal, gather};
+use crate::works::Works;
 use e3_disk::{Disk, Drill};
 use e3_node::others_leave_nodes;
 use e3_outside::Gate;
 use e3_play::RunFault;
 use e3_types::SiteSet;
-use e3_wire::{Wire, WirePass, marks_add_up};
-use std::alloc::Global;
+use e3_wire::{WirePass, marks_add_up};
 use std::sync::Wait;
 use std::thread::Threads;
 
@@ -70,35 +70,30 @@ fn without_full(told: Result<(), RunFault>) -> Result<(), RunFault>
 /// gives a promised place back meanwhile, so a history that was full for one of them is full when all are done.
 pub(crate) fn item_round<D: Disk + Drill + Drop + Send, G: Gate + Sync, R: Wait + Threads + Sync>(
     rt: &R,
-    alloc: Global,
-    wire: &Wire,
-    gate: &G,
-    most_threads: usize,
+    works: &Works<G>,
     pass: &mut WirePass,
     workers: &mut [Worker<D>],
 ) -> Result<(), RunFault>
-    requires crew { IsCrew D.content D.image D.meters wire.now pass.old workers.old }
+    requires crew { IsCrew D.meaning works.now.wire.now pass.old workers.old }
     requires begun { lines (history_seen pass.old) ≢ 0 }
     requires form { is_asking (present_items (scenario_seen pass.old) (history_seen pass.old)) ≡ true }
     requires items { (i : ℕ) (d : Workers D) → i < length workers.old →
         (slice_index_or workers.old i d).items ≡ inputs_at (scenario_seen pass.old) (history_seen pass.old) (i + 1) }
     requires fresh { (site : ℕ) → taken_at (history_seen pass.old) site ≡ [] }
-    ensures crew { IsCrew D.content D.image D.meters wire.now pass.new workers.new }
-    ensures on { HasGoneOn D.meters (seen_by pass.old) workers.old (seen_by pass.new) workers.new }
+    ensures crew { IsCrew D.meaning works.now.wire.now pass.new workers.new }
+    ensures on { HasGoneOn D.meaning.meters (seen_by pass.old) workers.old (seen_by pass.new) workers.new }
     ensures done { OnOk result (Delivering (scenario_seen pass.old) (history_seen pass.new)) }
     ensures full { result ≡ Err HistoryFull → IsFullBefore IsItemDue (scenario_seen pass.old) (history_seen pass.new) (most_of (seen_by pass.old)) }
 {
     others_leave_nodes::<D>();
     marks_add_up();
     let round = Round {
-        alloc,
         turn: Turn::Items,
         busy: asked_sites(workers),
-        packets: 1,
     };
-    deal(wire, workers, pass);
-    all_take(rt, wire, gate, &round, most_threads, workers);
-    gather(wire, workers, pass);
+    deal(works.wire, workers, pass);
+    all_take(rt, works, &round, works.threads, workers);
+    gather(works.wire, workers, pass);
     ended(workers)
 }
 
@@ -107,33 +102,23 @@ pub(crate) fn item_round<D: Disk + Drill + Drop + Send, G: Gate + Sync, R: Wait 
 /// looks whether it is full before the next round.
 pub(crate) fn packet_round<D: Disk + Drill + Drop + Send, G: Gate + Sync, R: Wait + Threads + Sync>(
     rt: &R,
-    alloc: Global,
-    wire: &Wire,
-    gate: &G,
+    works: &Works<G>,
     busy: SiteSet,
-    most_threads: usize,
-    most_packets: u32,
     pass: &mut WirePass,
     workers: &mut [Worker<D>],
 ) -> Result<(), RunFault>
-    requires crew { IsCrew D.content D.image D.meters wire.now pass.old workers.old }
-    requires begun { lines (history_seen pass.old) ≢ 0 }
-    requires delivering { Delivering (scenario_seen pass.old) (history_seen pass.old) }
-    ensures crew { IsCrew D.content D.image D.meters wire.now pass.new workers.new }
-    ensures on { HasGoneOn D.meters (seen_by pass.old) workers.old (seen_by pass.new) workers.new }
-    ensures delivering { Delivering (scenario_seen pass.old) (history_seen pass.new) }
+    requires { IsDelivering D.meaning works.now.wire.now pass.old workers.old }
+    ensures went { HasDelivered D.meaning works.now.wire.now pass.old workers.old pass.new workers.new }
     ensures never { result ≡ Err HistoryFull → ⊥ }
 {
     others_leave_nodes::<D>();
     marks_add_up();
     let round = Round {
-        alloc,
         turn: Turn::Packets,
         busy,
-        packets: most_packets,
     };
-    deal(wire, workers, pass);
-    all_take(rt, wire, gate, &round, most_threads, workers);
-    gather(wire, workers, pass);
+    deal(works.wire, workers, pass);
+    all_take(rt, works, &round, works.threads, workers);
+    gather(works.wire, workers, pass);
     without_full(ended(workers))
 }

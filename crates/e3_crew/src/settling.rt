@@ -1,6 +1,6 @@
 // A step settles: its items go to the workers, and then packets, in rounds.
 ghost use Rattle.std.specs.Prelude.{◌≡◌, ◌≢◌, ◌<◌, [], ℕ, true, length, slice_index_or, IfOk, OnOk, Err};
-ghost use Rattle.e3_crew.specs.Crews.{HasGoneOn, IsCrew};
+ghost use Rattle.e3_crew.specs.Crews.{HasDelivered, HasGoneOn, IsCrew, IsDelivering};
 ghost use Rattle.e3_crew.specs.declared.worker.Worker.{Worker as Workers};
 ghost use Rattle.e3_node.specs.Turns.{history_seen, scenario_seen};
 ghost use Rattle.e3_play.specs.Delivered.{IsFullBefore, IsItemOrPacket, IsPacketDue};
@@ -15,10 +15,11 @@ ghost use Rattle.e3_world.specs.Progress.{Delivering};
 use crate::Worker;
 use crate::dropping::drop_down;
 use crate::rounds::{item_round, packet_round};
+use crate::works::Works;
 use e3_disk::{Disk, Drill};
-use e3_items::inputs_to;
 use e3_outside::Gate;
 use e3_play::RunFault;
+use e3_readings::inputs_to;
 use e3_types::NoMemory;
 use e3_wire::{Wire, WirePass};
 use e3_world::Addressed;
@@ -47,38 +48,20 @@ fn hand_out<D: Disk + Drill + Drop>(
 // sites that are down. Where packets to one site alone are pending no thread is started.
 fn deliver<D: Disk + Drill + Drop + Send, G: Gate + Sync, R: Wait + Threads + Sync>(
     rt: &R,
-    alloc: Global,
-    wire: &Wire,
-    gate: &G,
-    most_threads: usize,
-    most_packets: u32,
+    works: &Works<G>,
     pass: &mut WirePass,
     workers: &mut [Worker<D>],
 ) -> Result<(), RunFault>
-    requires crew { IsCrew D.content D.image D.meters wire.now pass.old workers.old }
-    requires begun { lines (history_seen pass.old) ≢ 0 }
-    requires delivering { Delivering (scenario_seen pass.old) (history_seen pass.old) }
-    ensures crew { IsCrew D.content D.image D.meters wire.now pass.new workers.new }
-    ensures on { HasGoneOn D.meters (seen_by pass.old) workers.old (seen_by pass.new) workers.new }
-    ensures delivering { Delivering (scenario_seen pass.old) (history_seen pass.new) }
+    requires { IsDelivering D.meaning works.now.wire.now pass.old workers.old }
+    ensures went { HasDelivered D.meaning works.now.wire.now pass.old workers.old pass.new workers.new }
     ensures settled { OnOk result (pending (scenario_seen pass.old) (history_seen pass.new) ≡ []) }
     ensures full { result ≡ Err HistoryFull → IsFullBefore IsPacketDue (scenario_seen pass.old) (history_seen pass.new) (most_of (seen_by pass.old)) }
 {
     for _ in rt.forever() {
-        let Some(busy) = drop_down(rt, wire, pass, workers)? else {
+        let Some(busy) = drop_down(rt, works.wire, pass, workers)? else {
             return Ok(());
         };
-        packet_round(
-            rt,
-            alloc,
-            wire,
-            gate,
-            busy,
-            most_threads,
-            most_packets,
-            pass,
-            workers,
-        )?;
+        packet_round(rt, works, busy, pass, workers)?;
     }
     unreachable!()
 }
@@ -99,27 +82,25 @@ pub fn settle<D: Disk + Drill + Drop + Send, G: Gate + Sync, R: Wait + Threads +
     workers: &mut [Worker<D>],
     inputs: &[Addressed],
 ) -> Result<(), RunFault>
-    requires crew { IsCrew D.content D.image D.meters wire.now pass.old workers.old }
+    requires crew { IsCrew D.meaning wire.now pass.old workers.old }
     requires begun { lines (history_seen pass.old) ≢ 0 }
     requires form { is_asking (present_items (scenario_seen pass.old) (history_seen pass.old)) ≡ true }
     requires asked { inputs.now ≡ plan_of (scenario_seen pass.old) (history_seen pass.old) }
     requires fresh { (site : ℕ) → taken_at (history_seen pass.old) site ≡ [] }
-    ensures crew { IsCrew D.content D.image D.meters wire.now pass.new workers.new }
-    ensures on { HasGoneOn D.meters (seen_by pass.old) workers.old (seen_by pass.new) workers.new }
+    ensures crew { IsCrew D.meaning wire.now pass.new workers.new }
+    ensures on { HasGoneOn D.meaning.meters (seen_by pass.old) workers.old (seen_by pass.new) workers.new }
     ensures delivering { OnOk result (Delivering (scenario_seen pass.old) (history_seen pass.new)) }
     ensures settled { OnOk result (pending (scenario_seen pass.old) (history_seen pass.new) ≡ []) }
     ensures full { result ≡ Err HistoryFull → IsFullBefore IsItemOrPacket (scenario_seen pass.old) (history_seen pass.new) (most_of (seen_by pass.old)) }
 {
-    hand_out(alloc, workers, inputs)?;
-    item_round(rt, alloc, wire, gate, most_threads, pass, workers)?;
-    deliver(
-        rt,
+    let works = Works {
         alloc,
         wire,
         gate,
-        most_threads,
-        most_packets,
-        pass,
-        workers,
-    )
+        threads: most_threads,
+        packets: most_packets,
+    };
+    hand_out(alloc, workers, inputs)?;
+    item_round(rt, &works, pass, workers)?;
+    deliver(rt, &works, pass, workers)
 }

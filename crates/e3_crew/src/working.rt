@@ -16,71 +16,58 @@ ghost use Rattle.e3_world.specs.Progress.{Through};
 use crate::Worker;
 use crate::fault::{given, run_fault};
 use crate::worker::take_pass;
+use crate::works::Works;
 use e3_disk::{Disk, Drill};
 use e3_node::{Node, others_leave_nodes};
 use e3_outside::Gate;
 use e3_play::RunFault;
 use e3_types::{Input, List, NoMemory, Packet};
-use e3_wire::{Wire, WirePass, places_are_noted};
+use e3_wire::{WirePass, places_are_noted};
 use std::alloc::Global;
 use std::sync::Wait;
 
 // Gives an input to a node, while others go on. Where its site is down it is passed over.
-fn give<D: Disk + Drill + Drop, R: Wait>(
+fn give<D: Disk + Drill + Drop, G, R: Wait>(
     rt: &R,
-    alloc: Global,
-    wire: &Wire,
+    works: &Works<G>,
     pass: &mut WirePass,
     node: &mut Node<D>,
     input: Input,
 ) -> Result<(), RunFault>
-    requires pass { IsPassFor wire.now node.old.site pass.old }
-    requires knows { Knows D.content D.image D.meters (seen_by pass.old) node.old }
+    requires pass { IsPassFor works.now.wire.now node.old.site pass.old }
+    requires knows { Knows D.meaning (seen_by pass.old) node.old }
     requires due { is_up_at (history_seen pass.old) node.old.site ≡ true → MayTake (scenario_seen pass.old) (history_seen pass.old) node.old.site input }
     requires takes { is_up_at (history_seen pass.old) node.old.site ≡ true → TakesLeast (scenario_seen pass.old) (history_seen pass.old) node.old.site input }
-    ensures pass { IsPassFor wire.now node.new.site pass.new }
-    ensures given { HasGiven D.content D.image D.meters (seen_by pass.old) node.old input (seen_by pass.new) node.new result }
+    ensures pass { IsPassFor works.now.wire.now node.new.site pass.new }
+    ensures given { HasGiven D.meaning (seen_by pass.old) node.old input (seen_by pass.new) node.new result }
 {
     others_leave_nodes::<D>();
-    let answer = node.input_by_turns(rt, alloc, wire, pass, input);
+    let answer = node.input_by_turns(rt, works.alloc, works.wire, pass, input);
     given(answer)
 }
 
 // Gives the items of a site to its node, in their order.
-fn give_items<D: Disk + Drill + Drop, R: Wait>(
+fn give_items<D: Disk + Drill + Drop, G, R: Wait>(
     rt: &R,
-    alloc: Global,
-    wire: &Wire,
+    works: &Works<G>,
     pass: &mut WirePass,
     node: &mut Node<D>,
     items: &[Input],
 ) -> Result<(), RunFault>
-    requires pass { IsPassFor wire.now node.old.site pass.old }
-    requires knows { Knows D.content D.image D.meters (seen_by pass.old) node.old }
-    requires plain { list_any is_delivery items.now ≡ false }
+    requires pass { IsPassFor works.now.wire.now node.old.site pass.old }
+    requires knows { Knows D.meaning (seen_by pass.old) node.old }
+    requires no_packets { list_any is_delivery items.now ≡ false }
     requires begun { AreDone (scenario_seen pass.old) (history_seen pass.old) node.old.site items.now 0 }
-    ensures pass { IsPassFor wire.now node.new.site pass.new }
-    ensures worked { HasWorked D.content D.image D.meters (seen_by pass.old) node.old (seen_by pass.new) node.new }
+    ensures pass { IsPassFor works.now.wire.now node.new.site pass.new }
+    ensures worked { HasWorked D.meaning (seen_by pass.old) node.old (seen_by pass.new) node.new }
     ensures done { OnOk result (AreDone (scenario_seen pass.old) (history_seen pass.new) node.old.site items.now (length items.now)) }
     ensures full { result ≡ Err HistoryFull → ItemHadNoRoom (seen_by pass.new) node.old.site }
     ensures none_back { HasGivenNoneBack node.old.site (seen_by pass.old) (seen_by pass.new) }
 {
     for item in items {
-        give(rt, alloc, wire, pass, node, item.copy())?;
+        give(rt, works, pass, node, item.copy())?;
     }
     Ok(())
-}
-
-// How many packets a worker takes for one turn at most.
-fn few_of(packets: u32) -> u32
-    ensures some { 1 ≤ result }
-    ensures most { result ≤ 8 }
-{
-    if packets == 0 || packets > 8 {
-        8
-    } else {
-        packets
-    }
 }
 
 // Memory for the deliveries of so many packets. It is taken before a place is promised for any of them, so that nothing is
@@ -111,21 +98,20 @@ fn deliveries(few: &[Packet], memory: Vec<Input>) -> List<Input>
 
 // The first packets to a node's site, so many at most, if its site is up; none only where none is pending to it. A place for
 // each of them is promised to the site.
-fn next_packets<D: Disk + Drill + Drop, R: Wait>(
+fn next_packets<D: Disk + Drill + Drop, G, R: Wait>(
     rt: &R,
-    alloc: Global,
-    wire: &Wire,
+    works: &Works<G>,
     pass: &mut WirePass,
     node: &Node<D>,
     most: u32,
 ) -> Result<List<Packet>, RunFault>
-    requires pass { IsPassFor wire.now node.now.site pass.old }
-    requires knows { Knows D.content D.image D.meters (seen_by pass.old) node.now }
+    requires pass { IsPassFor works.now.wire.now node.now.site pass.old }
+    requires knows { Knows D.meaning (seen_by pass.old) node.now }
     requires some { 1 ≤ most }
     requires most { most ≤ 8 }
-    ensures pass { IsPassFor wire.now node.now.site pass.new }
-    ensures promised { IfOk result (λ few. HasWorkedWith D.content D.image D.meters (places_alone (length few)) (seen_by pass.old) node.now (seen_by pass.new) node.now) }
-    ensures kept { OnErr result (HasWorked D.content D.image D.meters (seen_by pass.old) node.now (seen_by pass.new) node.now) }
+    ensures pass { IsPassFor works.now.wire.now node.now.site pass.new }
+    ensures promised { IfOk result (λ few. HasWorkedWith D.meaning (places_alone (length few)) (seen_by pass.old) node.now (seen_by pass.new) node.now) }
+    ensures kept { OnErr result (HasWorked D.meaning (seen_by pass.old) node.now (seen_by pass.new) node.now) }
     ensures few { IfOk result (λ few. length few ≤ most) }
     ensures some { IfOk result (λ few. few ≢ [] → AreTheFirst (seen_by pass.new) node.now.site few) }
     ensures none { IfOk result (λ few. few ≡ [] → NonePending (seen_by pass.new) node.now.site) }
@@ -133,9 +119,12 @@ fn next_packets<D: Disk + Drill + Drop, R: Wait>(
     others_leave_nodes::<D>();
     places_are_noted();
     if !node.is_up() {
-        return Ok(List::new(alloc));
+        return Ok(List::new(works.alloc));
     }
-    match wire.next_few(rt, alloc, pass, node.site(), most) {
+    match works
+        .wire
+        .next_few(rt, works.alloc, pass, node.site(), most)
+    {
         Ok(few) => Ok(few),
         Err(fault) => Err(run_fault(fault)),
     }
@@ -143,80 +132,83 @@ fn next_packets<D: Disk + Drill + Drop, R: Wait>(
 
 // Gives packets to a node that is up, the first to its site, in one batch, while others go on. A place for each of them is
 // promised to the site; behind the batch nothing is.
-fn give_few<D: Disk + Drill + Drop, R: Wait>(
+fn give_few<D: Disk + Drill + Drop, G, R: Wait>(
     rt: &R,
-    alloc: Global,
-    wire: &Wire,
+    works: &Works<G>,
     pass: &mut WirePass,
     node: &mut Node<D>,
     few: List<Packet>,
     memory: Vec<Input>,
 ) -> Result<(), RunFault>
-    requires pass { IsPassFor wire.now node.old.site pass.old }
-    requires knows { KnowsWith D.content D.image D.meters (places_alone (length few)) (seen_by pass.old) node.old }
+    requires pass { IsPassFor works.now.wire.now node.old.site pass.old }
+    requires knows { KnowsWith D.meaning (places_alone (length few)) (seen_by pass.old) node.old }
     requires some { few ≢ [] }
     requires first { AreTheFirst (seen_by pass.old) node.old.site few }
     requires through { Through (scenario_seen pass.old) (history_seen pass.old) }
     requires empty { memory.items ≡ [] }
     requires enough { length few ≤ vec_capacity memory }
-    ensures pass { IsPassFor wire.now node.new.site pass.new }
-    ensures worked { HasWorked D.content D.image D.meters (seen_by pass.old) node.old (seen_by pass.new) node.new }
+    ensures pass { IsPassFor works.now.wire.now node.new.site pass.new }
+    ensures worked { HasWorked D.meaning (seen_by pass.old) node.old (seen_by pass.new) node.new }
 {
     others_leave_nodes::<D>();
     let inputs = deliveries(few.as_slice(), memory);
-    let answer = node.batch(rt, alloc, wire, pass, inputs);
+    let answer = node.batch(rt, works.alloc, works.wire, pass, inputs);
     given(answer)
 }
 
-// A turn of work: the first packets to a node, so many at most. It tells whether there were any.
+// How many packets a worker takes for one turn at most.
+fn few_of(packets: u32) -> u32
+    ensures some { 1 ≤ result }
+    ensures most { result ≤ 8 }
+{
+    if packets == 0 || packets > 8 {
+        8
+    } else {
+        packets
+    }
+}
+
+// A turn of work: the first packets to a node. It tells whether there were any.
 fn take_few<D: Disk + Drill + Drop, G: Gate, R: Wait>(
     rt: &R,
-    alloc: Global,
-    wire: &Wire,
-    gate: &G,
+    works: &Works<G>,
     pass: &mut WirePass,
     node: &mut Node<D>,
-    most: u32,
 ) -> Result<bool, RunFault>
-    requires pass { IsPassFor wire.now node.old.site pass.old }
-    requires knows { Knows D.content D.image D.meters (seen_by pass.old) node.old }
+    requires pass { IsPassFor works.now.wire.now node.old.site pass.old }
+    requires knows { Knows D.meaning (seen_by pass.old) node.old }
     requires through { Through (scenario_seen pass.old) (history_seen pass.old) }
-    requires some { 1 ≤ most }
-    requires most { most ≤ 8 }
-    ensures pass { IsPassFor wire.now node.new.site pass.new }
-    ensures worked { HasWorked D.content D.image D.meters (seen_by pass.old) node.old (seen_by pass.new) node.new }
+    ensures pass { IsPassFor works.now.wire.now node.new.site pass.new }
+    ensures worked { HasWorked D.meaning (seen_by pass.old) node.old (seen_by pass.new) node.new }
     ensures done { IfOk result (λ some. some ≡ false → NonePending (seen_by pass.new) node.old.site) }
 {
-    let memory = memory_for(alloc, most)?;
-    let few = next_packets(rt, alloc, wire, pass, node, most)?;
+    let most = few_of(works.packets);
+    let memory = memory_for(works.alloc, most)?;
+    let few = next_packets(rt, works, pass, node, most)?;
     if few.is_empty() {
         return Ok(false);
     }
-    gate.enter(node.site());
-    give_few(rt, alloc, wire, pass, node, few, memory)?;
+    works.gate.enter(node.site());
+    give_few(rt, works, pass, node, few, memory)?;
     Ok(true)
 }
 
 // Gives packets to a node, the first to its site, so many in one turn of work, until none is pending to it.
 fn give_packets<D: Disk + Drill + Drop, G: Gate, R: Wait>(
     rt: &R,
-    alloc: Global,
-    wire: &Wire,
-    gate: &G,
+    works: &Works<G>,
     pass: &mut WirePass,
     node: &mut Node<D>,
-    packets: u32,
 ) -> Result<(), RunFault>
-    requires pass { IsPassFor wire.now node.old.site pass.old }
-    requires knows { Knows D.content D.image D.meters (seen_by pass.old) node.old }
+    requires pass { IsPassFor works.now.wire.now node.old.site pass.old }
+    requires knows { Knows D.meaning (seen_by pass.old) node.old }
     requires through { Through (scenario_seen pass.old) (history_seen pass.old) }
-    ensures pass { IsPassFor wire.now node.new.site pass.new }
-    ensures worked { HasWorked D.content D.image D.meters (seen_by pass.old) node.old (seen_by pass.new) node.new }
+    ensures pass { IsPassFor works.now.wire.now node.new.site pass.new }
+    ensures worked { HasWorked D.meaning (seen_by pass.old) node.old (seen_by pass.new) node.new }
     ensures done { OnOk result (NonePending (seen_by pass.new) node.old.site) }
 {
-    let most = few_of(packets);
     for _ in rt.forever() {
-        if !take_few(rt, alloc, wire, gate, pass, node, most)? {
+        if !take_few(rt, works, pass, node)? {
             return Ok(());
         }
     }
@@ -224,20 +216,18 @@ fn give_packets<D: Disk + Drill + Drop, G: Gate, R: Wait>(
 }
 
 /// A worker's turn with its items. The worker has its pass again, whatever it met.
-pub(crate) fn take_items<D: Disk + Drill + Drop, R: Wait>(
+pub(crate) fn take_items<D: Disk + Drill + Drop, G, R: Wait>(
     rt: &R,
-    alloc: Global,
-    wire: &Wire,
+    works: &Works<G>,
     worker: &mut Worker<D>,
 )
-    requires { CanTakeItems D.content D.image D.meters wire.now worker.old }
-    ensures { HasTakenItems D.content D.image D.meters wire.now worker.old worker.new }
+    requires { CanTakeItems D.meaning works.now.wire.now worker.old }
+    ensures { HasTakenItems D.meaning works.now.wire.now worker.old worker.new }
 {
-    let mut pass = take_pass(worker, wire);
+    let mut pass = take_pass(worker, works.wire);
     worker.ended = give_items(
         rt,
-        alloc,
-        wire,
+        works,
         &mut pass,
         &mut worker.node,
         worker.items.as_slice(),
@@ -245,19 +235,16 @@ pub(crate) fn take_items<D: Disk + Drill + Drop, R: Wait>(
     worker.pass = Some(pass);
 }
 
-/// A worker's turn with packets, so many for one turn of work.
+/// A worker's turn with packets. The worker has its pass again, whatever it met.
 pub(crate) fn take_packets<D: Disk + Drill + Drop, G: Gate, R: Wait>(
     rt: &R,
-    alloc: Global,
-    wire: &Wire,
-    gate: &G,
-    packets: u32,
+    works: &Works<G>,
     worker: &mut Worker<D>,
 )
-    requires { CanTakePackets D.content D.image D.meters wire.now worker.old }
-    ensures { HasTakenPackets D.content D.image D.meters wire.now worker.old worker.new }
+    requires { CanTakePackets D.meaning works.now.wire.now worker.old }
+    ensures { HasTakenPackets D.meaning works.now.wire.now worker.old worker.new }
 {
-    let mut pass = take_pass(worker, wire);
-    worker.ended = give_packets(rt, alloc, wire, gate, &mut pass, &mut worker.node, packets);
+    let mut pass = take_pass(worker, works.wire);
+    worker.ended = give_packets(rt, works, &mut pass, &mut worker.node);
     worker.pass = Some(pass);
 }

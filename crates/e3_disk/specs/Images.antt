@@ -1,6 +1,6 @@
 -- What a disk holds, and what a crash may leave of it.
 use Rattle.std.specs.Prelude.{◌≡◌, ◌⊎◌, ℕ, ◌+◌, ◌/◌, ◌<◌, ◌≤◌, max, List, [], ◌∷◌, ◌++◌, length, take, drop, replicate, slice_index}
-use Rattle.e3_disk.specs.Meters.{Meters}
+use Rattle.e3_disk.specs.Meaning.{Meaning}
 
 -- These bytes with others written over them from a place on, past their end too.
 abbrev pub overwritten : List ℕ → ℕ → List ℕ → List ℕ
@@ -35,18 +35,18 @@ abbrev pub Only : List ℕ → (List ℕ → Type 0) → Type 0
 Only content images = (c : List ℕ) → images c → c ≡ content
 
 -- A call changed nothing of a disk: neither its content nor its images nor its numbers.
-abbrev pub Untouched : {D M : Type 0} → (D → List ℕ) → (D → List ℕ → Type 0) → (D → M) → D → D → Type 0
-Untouched content image meters old new =
-    (content new ≡ content old) × (meters new ≡ meters old) × SameImages (image old) (image new)
+abbrev pub Untouched : {D : Type 0} → Meaning D → D → D → Type 0
+Untouched meaning old new =
+    (meaning.content new ≡ meaning.content old) × (meaning.meters new ≡ meaning.meters old) × SameImages (meaning.image old) (meaning.image new)
 
 -- what a blank disk of this capacity holds: 00 in its first half, rounded down, and one more
 abbrev pub blank_bytes : ℕ → List ℕ
 blank_bytes capacity = replicate (capacity / 2 + 1) 0
 
 -- A disk is blank: it holds that, and it is its only image.
-abbrev pub IsBlank : {D : Type 0} → (D → List ℕ) → (D → List ℕ → Type 0) → (D → Meters) → D → Type 0
-IsBlank content image meters disk =
-    (content disk ≡ blank_bytes (meters disk).capacity) × Only (content disk) (image disk)
+abbrev pub IsBlank : {D : Type 0} → Meaning D → D → Type 0
+IsBlank meaning disk =
+    (meaning.content disk ≡ blank_bytes (meaning.meters disk).capacity) × Only (meaning.content disk) (meaning.image disk)
 
 -- What a crash may leave after these writes, each given by its place and its length, with no sync between them.
 abbrev pub TornBy : List (ℕ × ℕ) → List ℕ → List ℕ → Type 0

@@ -2,6 +2,7 @@ pub mod Images
 pub mod Padding
 pub mod Leaves
 pub mod Meters
+pub mod Meaning
 pub mod Panel
 pub mod Stored
 pub mod Memory

@@ -8,6 +8,7 @@ use Rattle.e3_disk.specs.declared.memory.MemDisk.{MemDisk}
 use Rattle.e3_disk.specs.declared.panel.Turn.{Turn}
 use Rattle.e3_disk.specs.declared.store.Store.{Store}
 use Rattle.e3_disk.specs.Images.{Torn, blank_bytes}
+use Rattle.e3_disk.specs.Meaning.{Meaning}
 use Rattle.e3_disk.specs.Meters.{Meters, raised, armed, cut, lit, new_meters}
 use Rattle.e3_disk.specs.Leaves.{code_of}
 use Rattle.e3_disk.specs.Panel.{is_listed, meters_of, by_turn, turn_of, after_turn, goes_on, after_read}
@@ -41,6 +42,14 @@ state_of d = record {
 -- The images that a crash now may leave: of the durable bytes, with the pending range torn.
 abbrev pub images_of : DiskState → List ℕ → Type 0
 images_of s image = Torn s.bytes.from (s.bytes.to - s.bytes.from) s.bytes.durable image
+
+-- What a disk in memory means.
+abbrev pub memory_meaning : Meaning MemDisk
+memory_meaning = record {
+  content = λ d. (state_of d).bytes.content;
+  image = λ d. images_of (state_of d);
+  meters = λ d. (state_of d).meters;
+}
 
 -- A blank disk of this capacity, of which these calls are to fail.
 abbrev pub blank_state : ℕ → List ℕ → DiskState

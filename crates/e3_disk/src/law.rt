@@ -24,8 +24,8 @@ pub struct Piece {
 
 // Makes these writes in turn, up to the first that does not succeed.
 fn make_writes<D: Disk>(disk: &mut D, pieces: &[Piece]) -> Result<(), DiskFault>
-    requires { All (λ p. p.place ≤ length (D.content disk.old)) pieces.now }
-    ensures { TearsBy (ranges_of pieces.now) (D.image disk.old) (D.image disk.new) }
+    requires { All (λ p. p.place ≤ length (D.meaning.content disk.old)) pieces.now }
+    ensures { TearsBy (ranges_of pieces.now) (D.meaning.image disk.old) (D.meaning.image disk.new) }
 {
     for piece in pieces {
         disk.write_at(piece.place, piece.bytes.as_slice())?;
@@ -36,15 +36,15 @@ fn make_writes<D: Disk>(disk: &mut D, pieces: &[Piece]) -> Result<(), DiskFault>
 /// Makes these writes in turn, up to the first that does not succeed, and no sync. What is said of the images holds
 /// however it ends, so also for a stop in any of the writes, or between two of them.
 pub fn write_pieces<D: Disk>(disk: &mut D, pieces: &[Piece]) -> Result<(), DiskFault>
-    requires { All (λ p. p.place ≤ length (D.content disk.old)) pieces.now }
+    requires { All (λ p. p.place ≤ length (D.meaning.content disk.old)) pieces.now }
     // each image is one from before, of which these writes were torn
-    ensures images { TearsBy (ranges_of pieces.now) (D.image disk.old) (D.image disk.new) }
+    ensures images { TearsBy (ranges_of pieces.now) (D.meaning.image disk.old) (D.meaning.image disk.new) }
 
     // behind a sync that succeeded, bytes outside of each range are what they were, and the length is between
-    ensures outside { (image : Items ℕ) (i : ℕ) → Only (D.content disk.old) (D.image disk.old) → D.image disk.new image →
-        i < length (D.content disk.old) → Outside i (ranges_of pieces.now) → slice_index image i ≡ slice_index (D.content disk.old) i }
-    ensures lengths { (image : Items ℕ) → Only (D.content disk.old) (D.image disk.old) → D.image disk.new image →
-        (length (D.content disk.old) ≤ length image) × (length image ≤ greatest (length (D.content disk.old)) (ranges_of pieces.now)) }
+    ensures outside { (image : Items ℕ) (i : ℕ) → Only (D.meaning.content disk.old) (D.meaning.image disk.old) → D.meaning.image disk.new image →
+        i < length (D.meaning.content disk.old) → Outside i (ranges_of pieces.now) → slice_index image i ≡ slice_index (D.meaning.content disk.old) i }
+    ensures lengths { (image : Items ℕ) → Only (D.meaning.content disk.old) (D.meaning.image disk.old) → D.meaning.image disk.new image →
+        (length (D.meaning.content disk.old) ≤ length image) × (length image ≤ greatest (length (D.meaning.content disk.old)) (ranges_of pieces.now)) }
 {
     make_writes(disk, pieces)
 }

@@ -23,14 +23,9 @@ pub struct MemDisk {
 }
 
 impl Disk for MemDisk {
-    ghost use Rattle.e3_disk.specs.Panel.{meters_of};
-    ghost use Rattle.e3_disk.specs.Memory.{state_of, images_of, reads_next, after_look, write_answer, after_write, sync_answer, after_sync, CountsOnlyOwn};
+    ghost use Rattle.e3_disk.specs.Memory.{state_of, images_of, memory_meaning, reads_next, after_look, write_answer, after_write, sync_answer, after_sync, CountsOnlyOwn};
 
-    ghost content = { λ d. d.store.content.bytes };
-
-    ghost image = { λ d. images_of (state_of d) };
-
-    ghost meters = { λ d. meters_of d.panel };
+    ghost meaning = { memory_meaning };
 
     ghost reads_an_image = { λ d. d.store.torn };
 
@@ -98,7 +93,7 @@ impl Disk for MemDisk {
             (result ≡ Err (Full (place + length bytes.now) (state_of self.old).meters.capacity)) }
         ensures only_full { IfErr result (λ e. e ≢ Failed → (state_of self.old).meters.capacity < place + length bytes.now) }
         ensures untouched { (state_of self.old).meters.capacity < place + length bytes.now →
-            Untouched (λ d. (state_of d).bytes.content) (λ d. images_of (state_of d)) (λ d. (state_of d).meters) self.old self.new }
+            Untouched memory_meaning self.old self.new }
         ensures meters { Writes (state_of self.old).meters (state_of self.new).meters result }
         // exactly
         ensures answer { result ≡ write_answer place bytes.now (state_of self.old) }
@@ -193,13 +188,13 @@ impl Drill for MemDisk {
 }
 
 impl MemDisk {
-    ghost use Rattle.e3_disk.specs.Memory.{state_of, images_of, blank_state};
+    ghost use Rattle.e3_disk.specs.Memory.{state_of, memory_meaning, blank_state};
 
     /// A blank disk of this capacity. Of the memory that it takes, none is touched before a write reaches it.
     pub fn blank(alloc: Global, capacity: u64) -> Result<MemDisk, NoMemory>
         requires least { 2 ≤ capacity }
         requires most { capacity ≤ 2 ^ 30 }
-        ensures blank { IfOk result (λ d. IsBlank (λ b. (state_of b).bytes.content) (λ b. images_of (state_of b)) (λ b. (state_of b).meters) d) }
+        ensures blank { IfOk result (IsBlank memory_meaning) }
         ensures state { IfOk result (λ d. state_of d ≡ blank_state capacity []) }
     {
         MemDisk::with_faults(alloc, capacity, List::new(alloc))
@@ -210,7 +205,7 @@ impl MemDisk {
     pub fn with_faults(alloc: Global, capacity: u64, fails: List<u64>) -> Result<MemDisk, NoMemory>
         requires least { 2 ≤ capacity }
         requires most { capacity ≤ 2 ^ 30 }
-        ensures blank { IfOk result (λ d. IsBlank (λ b. (state_of b).bytes.content) (λ b. images_of (state_of b)) (λ b. (state_of b).meters) d) }
+        ensures blank { IfOk result (IsBlank memory_meaning) }
         ensures state { IfOk result (λ d. state_of d ≡ blank_state capacity fails) }
     {
         let store = Store::blank(alloc, capacity as usize)?;

@@ -1,21 +1,22 @@
 -- What is shared behind an entry of the driver.
-use Rattle.std.proofs.Common.{◌≡◌, ◌≢◌, ◌≤◌, ◌==◌, ◌++◌, ◌∷◌, [], ℕ, List, length, Some, None, refl, sym, subst, ap, ◌∙◌, arith, eq-eqb}
+use Rattle.std.proofs.Common.{◌≡◌, ◌≢◌, ◌≤◌, ◌==◌, ◌++◌, ◌∷◌, [], ℕ, List, length, Some, None, refl, sym, subst, ap, ◌∙◌, arith}
 use Rattle.std.specs.Prelude.{Result, Ok, Err, OnOk, OnErr, IfOk, Option, ◌↔◌, find}
 use Rattle.std.proofs.lemmas.List.Elements.{All-nil, All-cons}
-use Rattle.e3_fleet.specs.Fleets.{drop_answer, wire_answer}
+use Rattle.e3_fleet.specs.Fleets.{HasDriven, drop_answer, wire_answer}
 use Rattle.e3_law_local.specs.Least.{IsLeastTo}
 use Rattle.e3_law_local.proofs.Least.{first_is_least}
 use Rattle.e3_node.specs.SharedStands.{SharedStands}
 use Rattle.e3_node.proofs.Sharing.{no_growth, under, used_is}
 use Rattle.e3_play.specs.declared.sites.RunFault.{RunFault}
 use Rattle.e3_play.specs.declared.sites.RunFault.TheVariants as run_fault
+use Rattle.e3_types.specs.declared.entries.Act.{Act}
 use Rattle.e3_types.specs.declared.entries.Act.TheVariants.{Drop}
 use Rattle.e3_types.specs.declared.entries.Entry.{Entry}
 use Rattle.e3_types.specs.declared.messages.Packet.{Packet}
 use Rattle.e3_types.specs.declared.scenarios.Scenario.{Scenario}
 use Rattle.e3_wire.specs.Claims.{HasOwner, HaveGrown}
 use Rattle.e3_wire.specs.Marks.{NothingIsPromised, entries_of, last_owner, most_of, scenario_of, used_of}
-use Rattle.e3_wire.specs.Wires.{IsDroppedFor, IsPlayed}
+use Rattle.e3_wire.specs.Wires.{IsDriven, IsDroppedFor, IsPlayed}
 use Rattle.e3_wire.specs.declared.fault.WireFault.{WireFault}
 use Rattle.e3_wire.specs.declared.fault.WireFault.TheVariants as wire_fault
 use Rattle.e3_wire.specs.declared.marks.Mark.{Mark}
@@ -26,56 +27,48 @@ use Rattle.e3_wire.proofs.Spending.{entries_promise_nothing}
 use Rattle.e3_world.specs.Legal.{first_pending}
 use Rattle.e3_world.specs.Packets.{pending}
 
--- what a call of the driver made
-pub record Driven (was now : List Mark) (e : Entry) (answer : Result (Unit {0}) RunFault) : Type 0 where
-  pub stands : SharedStands now
-  pub grew : HaveGrown was now
-  pub same : (scenario_of now ≡ scenario_of was) × (most_of now ≡ most_of was)
-  pub entered : OnOk answer (entries_of now ≡ entries_of was ++ e ∷ [])
-  pub kept : OnErr answer (entries_of now ≡ entries_of was)
+-- an answer of a full history comes exactly where there are as many entries as there may be
+abbrev IsFullFor : List Mark → Result (Unit {0}) RunFault → Type 0
+IsFullFor was answer = (answer ≡ Err run_fault.HistoryFull) ↔ (most_of was ≤ length (entries_of was))
 
-driven_on : (was now : List Mark) (e : Entry) → SharedStands was → IsPlayed now → e.owner ≡ 0 → now ≡ was ++ mark.Entered e ∷ [] → Driven was now e (Ok tt)
-driven_on was now e stood played driver entered = record {
+-- what is shared behind one entry more, or behind none
+driven_on : (act : Act) (was now : List Mark) → SharedStands was → IsPlayed now → now ≡ was ++ mark.Entered (record { owner = 0; act = act }) ∷ [] →
+    IsFullFor was (Ok tt) → HasDriven act was now (Ok tt)
+driven_on act was now stood played entered full = record {
   stands = record {
     played = played;
     within = under now played;
     none = (let P : List Mark → Type 0 = λ l. NothingIsPromised l in subst P (sym entered) (entries_promise_nothing was e stood.played stood.none));
   };
-  grew = (mark.Entered e ∷ [], entered, All-cons (HasOwner (last_owner was)) (mark.Entered e) [] (0, omega arith, rw (eq-eqb e.owner 0 driver) refl) (All-nil (HasOwner (last_owner was))));
+  grew = (mark.Entered e ∷ [], entered, All-cons (HasOwner (last_owner was)) (mark.Entered e) [] (0, omega arith, refl) (All-nil (HasOwner (last_owner was))));
   same = (ap (λ (l : List Mark). scenario_of l) entered ∙ stay.0, ap (λ (l : List Mark). most_of l) entered ∙ stay.1);
   entered = ap (λ (l : List Mark). entries_of l) entered ∙ entries_append was (mark.Entered e ∷ []);
   kept = tt;
+  full = full;
 }
   where
+    e : Entry
+    e = record { owner = 0; act = act }
+
     stay : (scenario_of (was ++ mark.Entered e ∷ []) ≡ scenario_of was) × (most_of (was ++ mark.Entered e ∷ []) ≡ most_of was)
     stay = scenario_stays was (mark.Entered e ∷ []) stood.played
 
-driven_still : (was now : List Mark) (e : Entry) (fault : WireFault) → SharedStands was → now ≡ was → Driven was now e (wire_answer (Err fault))
-driven_still was now e wire_fault.HistoryFull stood kept = record {
+driven_still : (act : Act) (was now : List Mark) (fault : RunFault) → SharedStands was → now ≡ was → IsFullFor was (Err fault) → HasDriven act was now (Err fault)
+driven_still act was now fault stood kept full = record {
   stands = (let P : List Mark → Type 0 = λ l. SharedStands l in subst P (sym kept) stood);
   grew = no_growth was now kept;
   same = (ap (λ (l : List Mark). scenario_of l) kept, ap (λ (l : List Mark). most_of l) kept);
   entered = tt;
   kept = ap (λ (l : List Mark). entries_of l) kept;
-}
-driven_still was now e wire_fault.NoMemory stood kept = record {
-  stands = (let P : List Mark → Type 0 = λ l. SharedStands l in subst P (sym kept) stood);
-  grew = no_growth was now kept;
-  same = (ap (λ (l : List Mark). scenario_of l) kept, ap (λ (l : List Mark). most_of l) kept);
-  entered = tt;
-  kept = ap (λ (l : List Mark). entries_of l) kept;
+  full = full;
 }
 
-driven_as : (was now : List Mark) (e : Entry) (answer : Result (Unit {0}) WireFault) → SharedStands was → IsPlayed now → e.owner ≡ 0 →
-    OnOk answer (now ≡ was ++ mark.Entered e ∷ []) → OnErr answer (now ≡ was) → Driven was now e (wire_answer answer)
-driven_as was now e (Ok done) stood played driver entered kept = driven_on was now e stood played driver entered
-driven_as was now e (Err fault) stood played driver entered kept = driven_still was now e fault stood kept
-
-pub driven : (was now : List Mark) (e : Entry) (answer : Result (Unit {0}) WireFault) (told : Result (Unit {0}) RunFault) → SharedStands was → IsPlayed now → e.owner ≡ 0 →
-    OnOk answer (now ≡ was ++ mark.Entered e ∷ []) → OnErr answer (now ≡ was) → told ≡ wire_answer answer → Driven was now e told
-driven was now e answer told stood played driver entered kept is =
-    let P : Result (Unit {0}) RunFault → Type 0 = λ r. Driven was now e r in
-    subst P (sym is) (driven_as was now e answer stood played driver entered kept)
+driven_as : (act : Act) (was now : List Mark) (answer : Result (Unit {0}) WireFault) → SharedStands was → IsPlayed now →
+    OnOk answer (now ≡ was ++ mark.Entered (record { owner = 0; act = act }) ∷ []) → OnErr answer (now ≡ was) → IsFullFor was (wire_answer answer) →
+    HasDriven act was now (wire_answer answer)
+driven_as act was now (Ok done) stood played entered kept full = driven_on act was now stood played entered full
+driven_as act was now (Err wire_fault.HistoryFull) stood played entered kept full = driven_still act was now run_fault.HistoryFull stood kept full
+driven_as act was now (Err wire_fault.NoMemory) stood played entered kept full = driven_still act was now run_fault.NoMemory stood kept full
 
 -- it is refused exactly where there are as many entries as there may be
 full_as : (was : List Mark) (answer : Result (Unit {0}) WireFault) (full : Type 0) → ((answer ≡ Err wire_fault.HistoryFull) ↔ full) →
@@ -84,12 +77,13 @@ full_as was (Ok done) full told = (λ is. absurd cc, λ is. absurd (let no = tol
 full_as was (Err wire_fault.HistoryFull) full told = (λ is. told.0 refl, λ is. refl)
 full_as was (Err wire_fault.NoMemory) full told = (λ is. absurd cc, λ is. absurd (let no = told.1 is in cc))
 
-pub full_driven : (was : List Mark) (answer : Result (Unit {0}) WireFault) (told : Result (Unit {0}) RunFault) → SharedStands was → told ≡ wire_answer answer →
-    ((answer ≡ Err wire_fault.HistoryFull) ↔ (most_of was ≤ used_of was)) → (told ≡ Err run_fault.HistoryFull) ↔ (most_of was ≤ length (entries_of was))
-full_driven was answer told stood is full =
-    let P : Result (Unit {0}) RunFault → Type 0 = λ r. (r ≡ Err run_fault.HistoryFull) ↔ (most_of was ≤ length (entries_of was)) in
+pub driven : (act : Act) (was now : List Mark) (answer : Result (Unit {0}) WireFault) (told : Result (Unit {0}) RunFault) → SharedStands was → IsPlayed now →
+    IsDriven act was now answer → told ≡ wire_answer answer → HasDriven act was now told
+driven act was now answer told stood played is same =
+    let P : Result (Unit {0}) RunFault → Type 0 = λ r. HasDriven act was now r in
     let Q : ℕ → Type 0 = λ n. (answer ≡ Err wire_fault.HistoryFull) ↔ (most_of was ≤ n) in
-    subst P (sym is) (full_as was answer (most_of was ≤ length (entries_of was)) (subst Q (used_is was stood) full))
+    subst P (sym same) (driven_as act was now answer stood played is.entered is.kept
+    (full_as was answer (most_of was ≤ length (entries_of was)) (subst Q (used_is was stood) is.full)))
 
 -- a drop, without its number
 abbrev without_number : Result (Option ℕ) WireFault → Result (Unit {0}) WireFault
@@ -115,19 +109,11 @@ not_dropped : (was now : List Mark) (answer : Result (Option ℕ) WireFault) →
 not_dropped was now (Ok number) kept = tt
 not_dropped was now (Err fault) kept = kept
 
-pub driven_drop : (was now : List Mark) (p : Packet) (answer : Result (Option ℕ) WireFault) (told : Result (Unit {0}) RunFault) → SharedStands was → IsPlayed now →
-    first_pending (scenario_of was) (entries_of was) ≡ Some p → IfOk answer (λ number. IsDroppedFor p.to number was now) → OnErr answer (now ≡ was) → told ≡ drop_answer answer →
-    Driven was now (record { owner = 0; act = Drop p.number }) told
-driven_drop was now p answer told stood played first is kept same =
-    driven was now (record { owner = 0; act = Drop p.number }) (without_number answer) told stood played refl (dropped was now p answer first is) (not_dropped was now answer kept)
-    (same ∙ drop_told answer)
-
 -- there is a packet to its receiver
-pub full_drop : (was : List Mark) (p : Packet) (answer : Result (Option ℕ) WireFault) (told : Result (Unit {0}) RunFault) → SharedStands was → told ≡ drop_answer answer →
-    first_pending (scenario_of was) (entries_of was) ≡ Some p →
+full_drop : (was : List Mark) (p : Packet) (answer : Result (Option ℕ) WireFault) → first_pending (scenario_of was) (entries_of was) ≡ Some p →
     ((answer ≡ Err wire_fault.HistoryFull) ↔ ((most_of was ≤ used_of was) × (find (λ q. q.to == p.to) (pending (scenario_of was) (entries_of was)) ≢ None))) →
-    (told ≡ Err run_fault.HistoryFull) ↔ (most_of was ≤ length (entries_of was))
-full_drop was p answer told stood is first full = full_driven was (without_number answer) told stood (is ∙ drop_told answer) (told_as answer full)
+    (without_number answer ≡ Err wire_fault.HistoryFull) ↔ (most_of was ≤ used_of was)
+full_drop was p answer first full = told_as answer full
   where
     some : find (λ q. q.to == p.to) (pending (scenario_of was) (entries_of was)) ≢ None
     some none = let both = sym none ∙ first_is_least (scenario_of was) (entries_of was) p first in cc
@@ -140,6 +126,15 @@ full_drop was p answer told stood is first full = full_driven was (without_numbe
       λ is. (full.0 (ap (λ (f : WireFault). Err f) (let same : fault ≡ wire_fault.HistoryFull = cc in same))).0,
       λ few. (let so = full.1 (few, some) in let same : fault ≡ wire_fault.HistoryFull = cc in ap (λ (f : WireFault). Err f) same),
     )
+
+pub driven_drop : (was now : List Mark) (p : Packet) (answer : Result (Option ℕ) WireFault) (told : Result (Unit {0}) RunFault) → SharedStands was → IsPlayed now →
+    first_pending (scenario_of was) (entries_of was) ≡ Some p → IfOk answer (λ number. IsDroppedFor p.to number was now) → OnErr answer (now ≡ was) →
+    ((answer ≡ Err wire_fault.HistoryFull) ↔ ((most_of was ≤ used_of was) × (find (λ q. q.to == p.to) (pending (scenario_of was) (entries_of was)) ≢ None))) →
+    told ≡ drop_answer answer → HasDriven (Drop p.number) was now told
+driven_drop was now p answer told stood played first is kept full same =
+    driven (Drop p.number) was now (without_number answer) told stood played
+    (record { entered = dropped was now p answer first is; kept = not_dropped was now answer kept; full = full_drop was p answer first full })
+    (same ∙ drop_told answer)
 
 -- what was opened stands
 pub opened : (sc : Scenario) (most : ℕ) (marks : List Mark) → marks ≡ mark.Start sc most ∷ [] → IsPlayed marks → SharedStands marks

@@ -2,6 +2,7 @@
 use Rattle.std.proofs.Common.{◌≡◌, ◌≤◌, ◌<◌, ◌++◌, ◌∷◌, [], ℕ, suc, List, length, Some, refl, sym, ap, subst, ◌∙◌, ◌+◌, arith, length-append}
 use Rattle.std.specs.Prelude.{slice_get, option_map}
 use Rattle.std.proofs.lemmas.Option.{slice_get-map}
+use Rattle.e3_disk.specs.Meaning.{Meaning}
 use Rattle.e3_disk.specs.Meters.{Meters, IsCounted}
 use Rattle.e3_fleet.specs.Over.{AreBlank, AreOver, HadNoRooms, IsFresh, IsOver}
 use Rattle.e3_fleet.specs.Fleets.{AreSeated, AreUnarmed, HasKept, HaveKept, disks_of}
@@ -17,21 +18,21 @@ use Rattle.e3_types.specs.declared.entries.Entry.{Entry}
 use Rattle.e3_types.specs.declared.scenarios.Scenario.{Scenario}
 
 -- a run that never began
-pub never_began : {D : Type 0} (content : D → List ℕ) (image : D → List ℕ → Type 0) (meters : D → Meters) → ((d : D) → IsCounted (meters d)) → (sc : Scenario) (disks : List D) →
-    ((at : ℕ) (d : D) → slice_get disks at ≡ Some d → 2 ≤ (meters d).capacity) → AreBlank content image meters disks → AreOver image meters sc [] disks disks
-never_began {D} content image meters counted sc disks halves blank = record {
+pub never_began : {D : Type 0} (meaning : Meaning D) → ((d : D) → IsCounted (meaning.meters d)) → (sc : Scenario) (disks : List D) →
+    ((at : ℕ) (d : D) → slice_get disks at ≡ Some d → 2 ≤ (meaning.meters d).capacity) → AreBlank meaning disks → AreOver meaning sc [] disks disks
+never_began {D} meaning counted sc disks halves blank = record {
   count = refl;
-  sites = λ at old new low is was. (let one : old ≡ new = cc in subst (λ (d : D). IsOver image meters sc [] (suc at) old d) one (over at old (halves at old is) (blank at old is)));
+  sites = λ at old new low is was. (let one : old ≡ new = cc in subst (λ (d : D). IsOver meaning sc [] (suc at) old d) one (over at old (halves at old is) (blank at old is)));
   others = λ at old new far is was. (let one : new ≡ old = cc in one);
 }
   where
-    over : (at : ℕ) (d : D) → 2 ≤ (meters d).capacity → IsFresh content image meters d → IsOver image meters sc [] (suc at) d d
+    over : (at : ℕ) (d : D) → 2 ≤ (meaning.meters d).capacity → IsFresh meaning d → IsOver meaning sc [] (suc at) d d
     over at d least fresh = record {
       stands = record {
-        holds = tells_holds sc [] (suc at) (meters d).capacity 0 (image d) (blank_tells content image meters sc (suc at) d least fresh.blank);
+        holds = tells_holds sc [] (suc at) (meaning.meters d).capacity 0 (meaning.image d) (blank_tells meaning sc (suc at) d least fresh.blank);
       };
-      served = served_start sc (suc at) (meters d) (counted d);
-      rooms = rooms_empty sc (suc at) (meters d).capacity;
+      served = served_start sc (suc at) (meaning.meters d) (counted d);
+      rooms = rooms_empty sc (suc at) (meaning.meters d).capacity;
     }
 
 disks_length : {D : Type 0} (nodes : List (NodeView D)) → length (disks_of nodes) ≡ length nodes
@@ -39,11 +40,11 @@ disks_length [] = refl
 disks_length (n ∷ nodes) = ap suc (disks_length nodes)
 
 -- a run that ended with these nodes, whose disks came back before the others
-pub came_back : {D : Type 0} (content : D → List ℕ) (image : D → List ℕ → Type 0) (meters : D → Meters) → NodesDisks content image meters →
+pub came_back : {D : Type 0} (meaning : Meaning D) → NodesDisks meaning →
     (sc : Scenario) (h : List Entry) (olds news : List (NodeView D)) (rest before now : List D) → length olds ≡ length sc.weights →
-    AreSeated content image meters sc h news → HaveKept meters sc h olds news →
-    disks_of olds ++ rest ≡ before → now ≡ disks_of news ++ rest → AreOver image meters sc h before now
-came_back {D} content image meters law sc h olds news rest before now all seated kept was is = record {
+    AreSeated meaning sc h news → HaveKept meaning.meters sc h olds news →
+    disks_of olds ++ rest ≡ before → now ≡ disks_of news ++ rest → AreOver meaning sc h before now
+came_back {D} meaning law sc h olds news rest before now all seated kept was is = record {
   count = lengths;
   sites = λ at old new low there here. site at old new low there here;
   others = λ at old new far there here. other at old new far there here;
@@ -76,21 +77,21 @@ came_back {D} content image meters law sc h olds news rest before now all seated
         let both : Some d ≡ Some (disk_of n.state) = sym here ∙ front ∙ some in cc
 
     one_site : (at : ℕ) (x y : NodeView D) (old new : D) → slice_get olds at ≡ Some x → slice_get news at ≡ Some y →
-        old ≡ disk_of x.state → new ≡ disk_of y.state → IsOver image meters sc h (suc at) old new
+        old ≡ disk_of x.state → new ≡ disk_of y.state → IsOver meaning sc h (suc at) old new
     one_site at x y old new there here one two =
-        subst (λ (d : D). IsOver image meters sc h (suc at) d new) (sym one)
-        (subst (λ (d : D). IsOver image meters sc h (suc at) (disk_of x.state) d) (sym two) (record {
-          stands = subst (λ (s : ℕ). DiskStands sc h s (meters (disk_of y.state)).capacity (image (disk_of y.state))) (seated at y here).site (law sc h y (seated at y here).stands);
+        subst (λ (d : D). IsOver meaning sc h (suc at) d new) (sym one)
+        (subst (λ (d : D). IsOver meaning sc h (suc at) (disk_of x.state) d) (sym two) (record {
+          stands = subst (λ (s : ℕ). DiskStands sc h s (meaning.meters (disk_of y.state)).capacity (meaning.image (disk_of y.state))) (seated at y here).site (law sc h y (seated at y here).stands);
           served = (kept.each at x y there here).served;
           rooms = subst (λ (n : ℕ). HadNoRooms sc h (suc at) n) (kept.each at x y there here).served.capacity (seated at y here).rooms;
         }))
 
     site : (at : ℕ) (old new : D) → at < length sc.weights → slice_get before at ≡ Some old → slice_get now at ≡ Some new →
-        IsOver image meters sc h (suc at) old new
+        IsOver meaning sc h (suc at) old new
     site at old new low there here =
         by (get_some olds at (omega (arith, low, all))) (let count = kept.count in get_some news at (omega (arith, low, all, count)))
       where
-        by : (x : NodeView D) × (slice_get olds at ≡ Some x) → (y : NodeView D) × (slice_get news at ≡ Some y) → IsOver image meters sc h (suc at) old new
+        by : (x : NodeView D) × (slice_get olds at ≡ Some x) → (y : NodeView D) × (slice_get news at ≡ Some y) → IsOver meaning sc h (suc at) old new
         by (x, x_at) (y, y_at) = one_site at x y old new x_at y_at
             (place olds at x old (omega (arith, low, all)) x_at (ap (λ (ds : List D). slice_get ds at) was ∙ there))
             (place news at y new (let count = kept.count in omega (arith, low, all, count)) y_at (ap (λ (ds : List D). slice_get ds at) (sym is) ∙ here))
@@ -102,9 +103,9 @@ came_back {D} content image meters law sc h olds news rest before now all seated
         let both : Some old ≡ Some new = sym there ∙ sym (ap (λ (ds : List D). slice_get ds at) was) ∙ back ∙ sym (ap (λ (ds : List D). slice_get ds at) is) ∙ here in cc
 
 -- nodes over the first of these disks, none of which is armed
-pub unarmed : {D : Type 0} (content : D → List ℕ) (image : D → List ℕ → Type 0) (meters : D → Meters) (nodes : List (NodeView D)) (rest disks : List D) →
-    disks_of nodes ++ rest ≡ disks → AreBlank content image meters disks → AreUnarmed meters nodes
-unarmed {D} content image meters nodes rest disks is blank at node there = (blank at (disk_of node.state) here).unarmed
+pub unarmed : {D : Type 0} (meaning : Meaning D) (nodes : List (NodeView D)) (rest disks : List D) →
+    disks_of nodes ++ rest ≡ disks → AreBlank meaning disks → AreUnarmed meaning.meters nodes
+unarmed {D} meaning nodes rest disks is blank at node there = (blank at (disk_of node.state) here).unarmed
   where
     here : slice_get disks at ≡ Some (disk_of node.state)
     here = ap (λ (ds : List D). slice_get ds at) (sym is)

@@ -6,7 +6,7 @@ use Rattle.std.proofs.lemmas.Option.{slice_get-get_or, slice_get-map}
 use Rattle.atomic_table.specs.Seated.{TableId}
 use Rattle.e3_crew.specs.Crews.{IsAtRest, IsCrew}
 use Rattle.e3_crew.specs.declared.worker.Worker.{Worker}
-use Rattle.e3_disk.specs.Meters.{Meters}
+use Rattle.e3_disk.specs.Meaning.{Meaning}
 use Rattle.e3_fleet.specs.Fleets.{FleetIsHeld, FleetStands, IsFleetOn, IsTaken, nodes_of}
 use Rattle.e3_node.specs.NodeStands.{NodeStands}
 use Rattle.e3_node.specs.NodeView.{NodeView}
@@ -45,10 +45,10 @@ module _ {D : Type 0} where
   nodes_more (v ∷ ws) w = ap (λ ns. v.node ∷ ns) (nodes_more ws w)
 
 -- a call of the node of a worker
-pub worker_on : {D : Type 0} (content : D → List ℕ) (image : D → List ℕ → Type 0) (meters : D → Meters) (was now : List Mark) (ws : List (Worker D)) (at : ℕ) (w : Worker D) →
-    IsFleetOn content image meters was now (nodes_of ws) (slice_set (nodes_of ws) at w.node) → IsFleetOn content image meters was now (nodes_of ws) (nodes_of (slice_set ws at w))
-worker_on {D} content image meters was now ws at w on =
-    let P : List (NodeView D) → Type 0 = λ ns. IsFleetOn content image meters was now (nodes_of ws) ns in subst P (sym (nodes_set ws at w)) on
+pub worker_on : {D : Type 0} (meaning : Meaning D) (was now : List Mark) (ws : List (Worker D)) (at : ℕ) (w : Worker D) →
+    IsFleetOn meaning was now (nodes_of ws) (slice_set (nodes_of ws) at w.node) → IsFleetOn meaning was now (nodes_of ws) (nodes_of (slice_set ws at w))
+worker_on {D} meaning was now ws at w on =
+    let P : List (NodeView D) → Type 0 = λ ns. IsFleetOn meaning was now (nodes_of ws) ns in subst P (sym (nodes_set ws at w)) on
 
 -- more owners' marks may be put behind what was taken
 pub taken_on : (wire : TableId) (p : APass) (was now : List Mark) → IsTaken wire p was → HaveGrown was now → IsTaken wire p now
@@ -61,9 +61,9 @@ taken_on wire p was now t grew = record {
 }
 
 -- a call of the driver, or of a node, which it holds still
-pub held_on : {D : Type 0} (content : D → List ℕ) (image : D → List ℕ → Type 0) (meters : D → Meters) (wire : TableId) (p : APass) (was now : List Mark) (olds news : List (NodeView D)) →
-    FleetIsHeld content image meters wire p was olds → IsFleetOn content image meters was now olds news → HaveGrown was now → FleetIsHeld content image meters wire p now news
-held_on content image meters wire p was now olds news held on grew = record { fleet = on.stands; taken = taken_on wire p was now held.taken grew }
+pub held_on : {D : Type 0} (meaning : Meaning D) (wire : TableId) (p : APass) (was now : List Mark) (olds news : List (NodeView D)) →
+    FleetIsHeld meaning wire p was olds → IsFleetOn meaning was now olds news → HaveGrown was now → FleetIsHeld meaning wire p now news
+held_on meaning wire p was now olds news held on grew = record { fleet = on.stands; taken = taken_on wire p was now held.taken grew }
 
 -- it may be put back
 pub may_put : (wire : TableId) (p : APass) (shared : List Mark) → IsTaken wire p shared → GrewByOwners belongs p shared
@@ -111,10 +111,10 @@ taken_again wire p q shared all last turn same seen grew played = record {
 }
 
 -- what was put back, with the workers, is a crew
-pub crew_of : {D : Type 0} (content : D → List ℕ) (image : D → List ℕ → Type 0) (meters : D → Meters) (wire : TableId) (p q : APass) (shared : List Mark) (ws : List (Worker D)) →
-    IsTaken wire p shared → FleetStands content image meters shared (nodes_of ws) → is_asking (present_items (scenario_of shared) (entries_of shared)) ≡ true →
-    IsIdle wire q → SameOwners p q → seen_by q ≡ shared → IsPlayed (seen_by q) → IsCrew content image meters wire q ws
-crew_of {D} content image meters wire p q shared ws t fleet form idle same seen played = record {
+pub crew_of : {D : Type 0} (meaning : Meaning D) (wire : TableId) (p q : APass) (shared : List Mark) (ws : List (Worker D)) →
+    IsTaken wire p shared → FleetStands meaning shared (nodes_of ws) → is_asking (present_items (scenario_of shared) (entries_of shared)) ≡ true →
+    IsIdle wire q → SameOwners p q → seen_by q ≡ shared → IsPlayed (seen_by q) → IsCrew meaning wire q ws
+crew_of {D} meaning wire p q shared ws t fleet form idle same seen played = record {
   idle = idle;
   all = owns_same p q same t.all;
   last = same.last ∙ held_last wire p shared t ∙ sym fleet.count ∙ nodes_length ws;
@@ -126,10 +126,10 @@ crew_of {D} content image meters wire p q shared ws t fleet form idle same seen 
   each = λ i d low. rest i (slice_index_or ws i d) (slice_get-get_or ws i d low);
 }
   where
-    rest : (i : ℕ) (w : Worker D) → slice_get ws i ≡ Some w → IsAtRest content image meters (scenario_of (seen_by q)) (entries_of (seen_by q)) i w
+    rest : (i : ℕ) (w : Worker D) → slice_get ws i ≡ Some w → IsAtRest meaning (scenario_of (seen_by q)) (entries_of (seen_by q)) i w
     rest i w is =
         let seat = fleet.seated i w.node (node_there ws i w is) in
-        let P : List Mark → Type 0 = λ l. NodeStands content image meters (scenario_of l) (entries_of l) w.node in
+        let P : List Mark → Type 0 = λ l. NodeStands meaning (scenario_of l) (entries_of l) w.node in
         record { site = seat.site ∙ (let same : suc i ≡ i + 1 = omega arith in same); stands = subst P (sym seen) seat.stands }
 
 -- what is told of two values, told of two others that are the same

@@ -2,7 +2,7 @@
 use Rattle.std.proofs.Common.{◌≢◌, ◌==◌, Bool, true, false, Option, eqb-true, eq-eqb, ◌≡◌, ◌⊎◌, inl, inr, ◌+◌, ◌++◌, ◌∷◌, [], ℕ, zero, suc, List, length, Some, refl, sym, ap, subst, ◌∙◌, append_assoc, arith}
 use Rattle.std.specs.Prelude.{slice_get, remove}
 use Rattle.e3_disk.specs.Memory.{blank_state, state_of}
-use Rattle.e3_disk.specs.Meters.{Meters}
+use Rattle.e3_disk.specs.Meaning.{Meaning}
 use Rattle.e3_disk.specs.declared.memory.MemDisk.{MemDisk}
 use Rattle.e3_fleet.specs.MemoryDisks.{AreMade, fails_at}
 use Rattle.e3_world.proofs.Turns.{true_not_false}
@@ -26,24 +26,24 @@ get_last (z ∷ xs) x y (suc i) is = by (get_last xs x y i is)
     by (inr k) = inr (ap suc k.0, k.1)
 
 -- one more node is seated
-pub seat_more : {D : Type 0} (content : D → List ℕ) (image : D → List ℕ → Type 0) (meters : D → Meters) (sc : Scenario) (nodes : List (NodeView D)) (n : NodeView D) →
-    AreSeated content image meters sc [] nodes → n.site ≡ length nodes + 1 → NodeStands content image meters sc [] n →
-    AreSeated content image meters sc [] (nodes ++ n ∷ [])
-seat_more {D} content image meters sc nodes n seated site stands at node there = by (get_last nodes n node at there)
+pub seat_more : {D : Type 0} (meaning : Meaning D) (sc : Scenario) (nodes : List (NodeView D)) (n : NodeView D) →
+    AreSeated meaning sc [] nodes → n.site ≡ length nodes + 1 → NodeStands meaning sc [] n →
+    AreSeated meaning sc [] (nodes ++ n ∷ [])
+seat_more {D} meaning sc nodes n seated site stands at node there = by (get_last nodes n node at there)
   where
-    by : (slice_get nodes at ≡ Some node) ⊎ ((at ≡ length nodes) × (n ≡ node)) → Seated content image meters sc [] at node
+    by : (slice_get nodes at ≡ Some node) ⊎ ((at ≡ length nodes) × (n ≡ node)) → Seated meaning sc [] at node
     by (inl k) = seated at node k
-    by (inr k) = subst (λ (m : NodeView D). Seated content image meters sc [] at m) k.1 (record {
+    by (inr k) = subst (λ (m : NodeView D). Seated meaning sc [] at m) k.1 (record {
       site = let place = k.0 in omega (arith, site, place);
       stands = stands;
-      rooms = rooms_empty sc (suc at) (meters (disk_of n.state)).capacity;
+      rooms = rooms_empty sc (suc at) (meaning.meters (disk_of n.state)).capacity;
     })
 
 -- the disks behind the first are blank too
-pub rest_blank : {D : Type 0} (content : D → List ℕ) (image : D → List ℕ → Type 0) (meters : D → Meters) (disks : List D) →
-    AreBlank content image meters disks → AreBlank content image meters (remove disks 0)
-rest_blank content image meters [] blank at d there = blank at d there
-rest_blank content image meters (x ∷ disks) blank at d there = blank (suc at) d there
+pub rest_blank : {D : Type 0} (meaning : Meaning D) (disks : List D) →
+    AreBlank meaning disks → AreBlank meaning (remove disks 0)
+rest_blank meaning [] blank at d there = blank at d there
+rest_blank meaning (x ∷ disks) blank at d there = blank (suc at) d there
 
 -- the first of a list, and what is behind it
 pub first_of : {X : Type 0} (xs : List X) (x : X) → slice_get xs 0 ≡ Some x → xs ≡ x ∷ remove xs 0
@@ -72,13 +72,13 @@ give_back {D} nodes rest n disks more d last same is =
     ∙ ap (λ (ns : List (NodeView D)). disks_of ns ++ disks) (sym last)
 
 -- one more blank disk
-pub blank_more : {D : Type 0} (content : D → List ℕ) (image : D → List ℕ → Type 0) (meters : D → Meters) (disks : List D) (d : D) →
-    AreBlank content image meters disks → IsFresh content image meters d → AreBlank content image meters (disks ++ d ∷ [])
-blank_more {D} content image meters disks d blank fresh at disk there = by (get_last disks d disk at there)
+pub blank_more : {D : Type 0} (meaning : Meaning D) (disks : List D) (d : D) →
+    AreBlank meaning disks → IsFresh meaning d → AreBlank meaning (disks ++ d ∷ [])
+blank_more {D} meaning disks d blank fresh at disk there = by (get_last disks d disk at there)
   where
-    by : (slice_get disks at ≡ Some disk) ⊎ ((at ≡ length disks) × (d ≡ disk)) → IsFresh content image meters disk
+    by : (slice_get disks at ≡ Some disk) ⊎ ((at ≡ length disks) × (d ≡ disk)) → IsFresh meaning disk
     by (inl k) = blank at disk k
-    by (inr k) = subst (IsFresh content image meters) k.1 fresh
+    by (inr k) = subst (IsFresh meaning) k.1 fresh
 
 -- the calls that fail of the next disk in memory
 pub next_fails : (site the_one : ℕ) (fails listed : List ℕ) (now was : Option (List ℕ)) → (was ≡ Some fails ⊎ (site ≢ the_one)) →

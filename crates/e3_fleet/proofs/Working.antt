@@ -6,6 +6,7 @@ use Rattle.atomic_table.specs.Seated.{TableId}
 use Rattle.e3_crew.specs.Crews.{HasGoneOn, IsCrew}
 use Rattle.e3_crew.specs.Turns.{AtStart, BehindFall, BehindFallOver, BehindOthers, BehindStep, BehindSteps, IsFallBy, IsStepBy, WentOn}
 use Rattle.e3_crew.specs.declared.worker.Worker.{Worker}
+use Rattle.e3_disk.specs.Meaning.{Meaning}
 use Rattle.e3_disk.specs.Meters.{IsCounted, Keeps, LAST, Meters, raised}
 use Rattle.e3_fleet.specs.Fleets.{FleetStands, HasKept, HaveKept, IsFleetOn, Seated, nodes_of}
 use Rattle.e3_fleet.specs.Over.{HadNoRooms}
@@ -172,9 +173,9 @@ worked sc site start first now m counted low (BehindFallOver before end is why k
       rooms = λ was. fall_rooms sc before now site is why k m fall (old.rooms was);
     }
 
-module _ {D : Type 0} (content : D → List ℕ) (image : D → List ℕ → Type 0) (meters : D → Meters) where
+module _ {D : Type 0} (meaning : Meaning D) where
   abbrev numbers : NodeView D → Meters
-  numbers node = meters (disk_of node.state)
+  numbers node = meaning.meters (disk_of node.state)
 
   -- the node of the worker at a place, whatever is asked for past the end
   node_is : (ws : List (Worker D)) (at : ℕ) (node : NodeView D) → slice_get (nodes_of ws) at ≡ Some node → (d : Worker D) → (slice_index_or ws at d).node ≡ node
@@ -191,9 +192,9 @@ module _ {D : Type 0} (content : D → List ℕ) (image : D → List ℕ → Typ
           ap (λ (v : Worker D). v.node) one ∙ same
 
   -- a crew that worked: the fleet went on
-  pub crew_on : ((d : D) → IsCounted (meters d)) → (wire : TableId) (p q : APass) (olds news : List (Worker D)) → FleetStands content image meters (seen_by p) (nodes_of olds) →
-      IsCrew content image meters wire q news → HasGoneOn meters (seen_by p) olds (seen_by q) news →
-      IsFleetOn content image meters (seen_by p) (seen_by q) (nodes_of olds) (nodes_of news)
+  pub crew_on : ((d : D) → IsCounted (meaning.meters d)) → (wire : TableId) (p q : APass) (olds news : List (Worker D)) → FleetStands meaning (seen_by p) (nodes_of olds) →
+      IsCrew meaning wire q news → HasGoneOn meaning.meters (seen_by p) olds (seen_by q) news →
+      IsFleetOn meaning (seen_by p) (seen_by q) (nodes_of olds) (nodes_of news)
   crew_on counted wire p q olds news fleet crew on = record {
     stands = record {
       shared_stands = record { played = crew.played; within = under (seen_by q) crew.played; none = crew.none };
@@ -235,32 +236,32 @@ module _ {D : Type 0} (content : D → List ℕ) (image : D → List ℕ → Typ
               (subst P (next at) (subst R (node_is news at y here d) (subst Q (node_is olds at x there d) (on.went at d (low_of at y here)))))
 
       -- the last node at its place
-      stands : (at : ℕ) (node : NodeView D) → slice_get (nodes_of news) at ≡ Some node → (node.site ≡ suc at) × NodeStands content image meters (scenario_of (seen_by q)) (entries_of (seen_by q)) node
+      stands : (at : ℕ) (node : NodeView D) → slice_get (nodes_of news) at ≡ Some node → (node.site ≡ suc at) × NodeStands meaning (scenario_of (seen_by q)) (entries_of (seen_by q)) node
       stands at node there = by (get_some olds at (low_of at node there))
         where
-          by : (d : Worker D) × (slice_get olds at ≡ Some d) → (node.site ≡ suc at) × NodeStands content image meters (scenario_of (seen_by q)) (entries_of (seen_by q)) node
+          by : (d : Worker D) × (slice_get olds at ≡ Some d) → (node.site ≡ suc at) × NodeStands meaning (scenario_of (seen_by q)) (entries_of (seen_by q)) node
           by (d, is) =
               let rest = crew.each at d (let less = low_of at node there in let same = on.count in omega (arith, less, same)) in
               let same : (slice_index_or news at d).node ≡ node = node_is news at node there d in
-              let P : NodeView D → Type 0 = λ n. NodeStands content image meters (scenario_of (seen_by q)) (entries_of (seen_by q)) n in
+              let P : NodeView D → Type 0 = λ n. NodeStands meaning (scenario_of (seen_by q)) (entries_of (seen_by q)) n in
               (ap (λ (n : NodeView D). n.site) (sym same) ∙ rest.site ∙ next at, subst P same rest.stands)
 
-      seat : (at : ℕ) (node : NodeView D) → slice_get (nodes_of news) at ≡ Some node → Seated content image meters (scenario_of (seen_by q)) (entries_of (seen_by q)) at node
+      seat : (at : ℕ) (node : NodeView D) → slice_get (nodes_of news) at ≡ Some node → Seated meaning (scenario_of (seen_by q)) (entries_of (seen_by q)) at node
       seat at node there = by (was at node there) (stands at node there)
         where
-          by : (x : NodeView D) × (slice_get (nodes_of olds) at ≡ Some x) → (node.site ≡ suc at) × NodeStands content image meters (scenario_of (seen_by q)) (entries_of (seen_by q)) node →
-              Seated content image meters (scenario_of (seen_by q)) (entries_of (seen_by q)) at node
+          by : (x : NodeView D) × (slice_get (nodes_of olds) at ≡ Some x) → (node.site ≡ suc at) × NodeStands meaning (scenario_of (seen_by q)) (entries_of (seen_by q)) node →
+              Seated meaning (scenario_of (seen_by q)) (entries_of (seen_by q)) at node
           by (x, old) rest =
               let P : Scenario → Type 0 = λ k. HadNoRooms k (entries_of (seen_by q)) (suc at) (numbers node).capacity in
               record { site = rest.0; stands = rest.1; rooms = subst P (sym on.scenario) ((all at x node old there).rooms (fleet.seated at x old).rooms) }
 
-      each : (starts : List (NodeView D)) → HaveKept meters sc (entries_of (seen_by p)) starts (nodes_of olds) → (at : ℕ) (start node : NodeView D) →
+      each : (starts : List (NodeView D)) → HaveKept meaning.meters sc (entries_of (seen_by p)) starts (nodes_of olds) → (at : ℕ) (start node : NodeView D) →
           slice_get starts at ≡ Some start → slice_get (nodes_of news) at ≡ Some node →
-          HasKept (scenario_of (seen_by q)) (entries_of (seen_by q)) (suc at) (meters (disk_of start.state)) (meters (disk_of node.state))
+          HasKept (scenario_of (seen_by q)) (entries_of (seen_by q)) (suc at) (meaning.meters (disk_of start.state)) (meaning.meters (disk_of node.state))
       each starts kept at start node is there = by (was at node there)
         where
           by : (x : NodeView D) × (slice_get (nodes_of olds) at ≡ Some x) →
-              HasKept (scenario_of (seen_by q)) (entries_of (seen_by q)) (suc at) (meters (disk_of start.state)) (meters (disk_of node.state))
+              HasKept (scenario_of (seen_by q)) (entries_of (seen_by q)) (suc at) (meaning.meters (disk_of start.state)) (meaning.meters (disk_of node.state))
           by (x, old) =
-              let P : Scenario → Type 0 = λ k. HasKept k (entries_of (seen_by q)) (suc at) (meters (disk_of start.state)) (meters (disk_of node.state)) in
+              let P : Scenario → Type 0 = λ k. HasKept k (entries_of (seen_by q)) (suc at) (meaning.meters (disk_of start.state)) (meaning.meters (disk_of node.state)) in
               subst P (sym on.scenario) ((all at x node old there).kept (numbers start) (kept.each at start x is old))

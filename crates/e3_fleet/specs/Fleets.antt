@@ -1,9 +1,11 @@
 -- The nodes of all sites, and what is always true of them.
-use Rattle.std.specs.Prelude.{◌≡◌, ◌+◌, ◌≤◌, ◌<◌, ◌++◌, ◌∷◌, [], ℕ, suc, false, List, length, map, slice_get, Option, Some, Result, Ok, Err}
+use Rattle.std.specs.Prelude.{◌≡◌, ◌+◌, ◌≤◌, ◌<◌, ◌↔◌, ◌++◌, ◌∷◌, [], ℕ, suc, false, List, length, map, slice_get, Option, Some, Result, Ok, Err, OnOk, OnErr}
 use Rattle.atomic_table.specs.Seated.{TableId}
 use Rattle.e3_crew.specs.declared.worker.Worker.{Worker}
+use Rattle.e3_disk.specs.Meaning.{Meaning}
 use Rattle.e3_disk.specs.Meters.{Meters, LAST}
 use Rattle.e3_fleet.specs.Over.{HadNoRooms, HasServed}
+use Rattle.e3_fleet.specs.declared.held.Held.{Held}
 use Rattle.e3_fleet.specs.Stops.{Arm, PayFor, arm_by, arms_of, is_over}
 use Rattle.e3_node.specs.NodeStands.{NodeStands}
 use Rattle.e3_node.specs.declared.fault.CutFault.{CutFault}
@@ -17,6 +19,7 @@ use Rattle.e3_play.specs.declared.sites.RunFault.TheVariants as run_fault
 use Rattle.e3_node.specs.NodeView.{NodeView, disk_of}
 use Rattle.e3_node.specs.SharedStands.{SharedStands}
 use Rattle.e3_turn.specs.Passes.{HasTurn, OwnsAll, last_of, seen_by}
+use Rattle.e3_types.specs.declared.entries.Act.{Act}
 use Rattle.e3_types.specs.declared.entries.Entry.{Entry}
 use Rattle.e3_types.specs.declared.scenarios.Scenario.{Scenario}
 use Rattle.e3_wire.specs.Claims.{APass, HaveGrown}
@@ -27,11 +30,10 @@ use Rattle.e3_wire.specs.declared.fault.WireFault.TheVariants as wire_fault
 use Rattle.e3_wire.specs.declared.marks.Mark.{Mark}
 
 -- the node at this place, counted from 0, is that of the next site, and stands for it
-pub record Seated {D : Type 0} (content : D → List ℕ) (image : D → List ℕ → Type 0) (meters : D → Meters)
-    (sc : Scenario) (history : List Entry) (at : ℕ) (node : NodeView D) : Type 0 where
+pub record Seated {D : Type 0} (meaning : Meaning D) (sc : Scenario) (history : List Entry) (at : ℕ) (node : NodeView D) : Type 0 where
   pub site : node.site ≡ suc at
-  pub stands : NodeStands content image meters sc history node
-  pub rooms : HadNoRooms sc history (suc at) (meters (disk_of node.state)).capacity
+  pub stands : NodeStands meaning sc history node
+  pub rooms : HadNoRooms sc history (suc at) (meaning.meters (disk_of node.state)).capacity
 
 -- the nodes of workers, in their order
 abbrev pub nodes_of : {D : Type 0} → List (Worker D) → List (NodeView D)
@@ -42,16 +44,15 @@ abbrev pub disks_of : {D : Type 0} → List (NodeView D) → List D
 disks_of nodes = map (λ n. disk_of n.state) nodes
 
 -- these are the nodes of the first sites
-abbrev pub AreSeated : {D : Type 0} → (D → List ℕ) → (D → List ℕ → Type 0) → (D → Meters) → Scenario → List Entry → List (NodeView D) → Type 0
-AreSeated {D} content image meters sc history nodes =
-    (at : ℕ) (node : NodeView D) → slice_get nodes at ≡ Some node → Seated content image meters sc history at node
+abbrev pub AreSeated : {D : Type 0} → Meaning D → Scenario → List Entry → List (NodeView D) → Type 0
+AreSeated {D} meaning sc history nodes =
+    (at : ℕ) (node : NodeView D) → slice_get nodes at ≡ Some node → Seated meaning sc history at node
 
 -- what the sites share stands, and there is a node for each of them
-pub record FleetStands {D : Type 0} (content : D → List ℕ) (image : D → List ℕ → Type 0) (meters : D → Meters)
-    (shared : List Mark) (nodes : List (NodeView D)) : Type 0 where
+pub record FleetStands {D : Type 0} (meaning : Meaning D) (shared : List Mark) (nodes : List (NodeView D)) : Type 0 where
   pub shared_stands : SharedStands shared
   pub count : length nodes ≡ length (scenario_of shared).weights
-  pub seated : AreSeated content image meters (scenario_of shared) (entries_of shared) nodes
+  pub seated : AreSeated meaning (scenario_of shared) (entries_of shared) nodes
 
 -- The driver's pass has the turn of this wire and owns all. Behind what it had seen only owners' marks were put into what was
 -- taken, so it may be put back.
@@ -63,9 +64,8 @@ pub record IsTaken (wire : TableId) (p : APass) (shared : List Mark) : Type 0 wh
   pub grown : HaveGrown (seen_by p) shared
 
 -- a fleet stands, and the driver holds what its sites share
-pub record FleetIsHeld {D : Type 0} (content : D → List ℕ) (image : D → List ℕ → Type 0) (meters : D → Meters)
-    (wire : TableId) (p : APass) (shared : List Mark) (nodes : List (NodeView D)) : Type 0 where
-  pub fleet : FleetStands content image meters shared nodes
+pub record FleetIsHeld {D : Type 0} (meaning : Meaning D) (wire : TableId) (p : APass) (shared : List Mark) (nodes : List (NodeView D)) : Type 0 where
+  pub fleet : FleetStands meaning shared nodes
   pub taken : IsTaken wire p shared
 
 -- While a stop may still come: where no entry behind the line of a stop ended its arm, the disk is armed, and what pays for
@@ -99,12 +99,26 @@ AreUnarmed {D} meters nodes = (at : ℕ) (node : NodeView D) → slice_get nodes
 
 -- What a call made of a fleet: it still stands, it plays the same scenario within the same bound, and its disks
 -- kept on.
-pub record IsFleetOn {D : Type 0} (content : D → List ℕ) (image : D → List ℕ → Type 0) (meters : D → Meters)
-    (was now : List Mark) (olds news : List (NodeView D)) : Type 0 where
-  pub stands : FleetStands content image meters now news
+pub record IsFleetOn {D : Type 0} (meaning : Meaning D) (was now : List Mark) (olds news : List (NodeView D)) : Type 0 where
+  pub stands : FleetStands meaning now news
   pub scenario : scenario_of now ≡ scenario_of was
   pub most : most_of now ≡ most_of was
-  pub kept : (starts : List (NodeView D)) → HaveKept meters (scenario_of was) (entries_of was) starts olds → HaveKept meters (scenario_of now) (entries_of now) starts news
+  pub kept : (starts : List (NodeView D)) → HaveKept meaning.meters (scenario_of was) (entries_of was) starts olds → HaveKept meaning.meters (scenario_of now) (entries_of now) starts news
+
+-- what the driver holds came to this, and what was put into it is the owners'
+pub record HeldWentOn {D : Type 0} (meaning : Meaning D) (was now : Held D) : Type 0 where
+  pub on : IsFleetOn meaning was.shared now.shared (nodes_of was.workers.items) (nodes_of now.workers.items)
+  pub grew : HaveGrown was.shared now.shared
+
+-- The driver entered this act, or was refused and entered nothing: what the sites share still stands. It is refused for a full
+-- history exactly where there are as many entries as there may be.
+pub record HasDriven (act : Act) (was now : List Mark) (answer : Result (Unit {0}) RunFault) : Type 0 where
+  pub stands : SharedStands now
+  pub grew : HaveGrown was now
+  pub same : (scenario_of now ≡ scenario_of was) × (most_of now ≡ most_of was)
+  pub entered : OnOk answer (entries_of now ≡ entries_of was ++ record { owner = 0; act = act } ∷ [])
+  pub kept : OnErr answer (entries_of now ≡ entries_of was)
+  pub full : (answer ≡ Err run_fault.HistoryFull) ↔ (most_of was ≤ length (entries_of was))
 
 -- what a rise is to the run: one that failed or was missed is entered, and the run goes on
 abbrev pub rise_answer : Result ℕ RiseFault → Result (Unit {0}) RunFault

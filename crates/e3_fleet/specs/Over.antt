@@ -1,6 +1,7 @@
 -- What a run makes of the disks that it was given.
 use Rattle.std.specs.Prelude.{◌≡◌, ◌⊎◌, ◌+◌, ◌<◌, ◌≤◌, ◌++◌, ◌∷◌, ℕ, suc, Bool, true, false, List, length, count_by, slice_get, Some}
 use Rattle.e3_disk.specs.Images.{IsBlank}
+use Rattle.e3_disk.specs.Meaning.{Meaning}
 use Rattle.e3_disk.specs.Meters.{Meters, LAST, raised}
 use Rattle.e3_fleet.specs.Stops.{NoStopIsPassed, arms_of, calls_in, codes_in, cuts_at}
 use Rattle.e3_node.specs.Bodies.{DiskStands, log_with}
@@ -13,14 +14,14 @@ use Rattle.e3_types.specs.declared.scenarios.Scenario.{Scenario}
 use Rattle.e3_world.specs.Moves.{log_of, own, rise_records}
 
 -- a disk is blank, has power and is not armed
-pub record IsFresh {D : Type 0} (content : D → List ℕ) (image : D → List ℕ → Type 0) (meters : D → Meters) (disk : D) : Type 0 where
-  pub blank : IsBlank content image meters disk
-  pub lit : (meters disk).powered ≡ true
-  pub unarmed : (meters disk).calls_left ≡ 0
+pub record IsFresh {D : Type 0} (meaning : Meaning D) (disk : D) : Type 0 where
+  pub blank : IsBlank meaning disk
+  pub lit : (meaning.meters disk).powered ≡ true
+  pub unarmed : (meaning.meters disk).calls_left ≡ 0
 
 -- each of these disks is so
-abbrev pub AreBlank : {D : Type 0} → (D → List ℕ) → (D → List ℕ → Type 0) → (D → Meters) → List D → Type 0
-AreBlank {D} content image meters disks = (at : ℕ) (disk : D) → slice_get disks at ≡ Some disk → IsFresh content image meters disk
+abbrev pub AreBlank : {D : Type 0} → Meaning D → List D → Type 0
+AreBlank {D} meaning disks = (at : ℕ) (disk : D) → slice_get disks at ≡ Some disk → IsFresh meaning disk
 
 -- the disk failed: a fall, a failed rise or a missed one, but none for want of room
 abbrev pub is_fault : Entry → Bool
@@ -73,15 +74,15 @@ pub record HasServed (sc : Scenario) (history : List Entry) (site : ℕ) (old ne
   pub stopped : NoStopIsPassed sc history site
 
 -- what the disk of a site came to: it stands for the site's log, and so it served
-pub record IsOver {D : Type 0} (image : D → List ℕ → Type 0) (meters : D → Meters) (sc : Scenario) (history : List Entry) (site : ℕ) (old new : D) : Type 0 where
-  pub stands : DiskStands sc history site (meters new).capacity (image new)
-  pub served : HasServed sc history site (meters old) (meters new)
-  pub rooms : HadNoRooms sc history site (meters old).capacity
+pub record IsOver {D : Type 0} (meaning : Meaning D) (sc : Scenario) (history : List Entry) (site : ℕ) (old new : D) : Type 0 where
+  pub stands : DiskStands sc history site (meaning.meters new).capacity (meaning.image new)
+  pub served : HasServed sc history site (meaning.meters old) (meaning.meters new)
+  pub rooms : HadNoRooms sc history site (meaning.meters old).capacity
 
 -- What the disks came to, that of site 1 first: each of a site so, and those past the sites of the scenario are as they
 -- were.
-pub record AreOver {D : Type 0} (image : D → List ℕ → Type 0) (meters : D → Meters) (sc : Scenario) (history : List Entry) (olds news : List D) : Type 0 where
+pub record AreOver {D : Type 0} (meaning : Meaning D) (sc : Scenario) (history : List Entry) (olds news : List D) : Type 0 where
   pub count : length news ≡ length olds
   pub sites : (at : ℕ) (old new : D) → at < length sc.weights → slice_get olds at ≡ Some old → slice_get news at ≡ Some new →
-      IsOver image meters sc history (suc at) old new
+      IsOver meaning sc history (suc at) old new
   pub others : (at : ℕ) (old new : D) → length sc.weights ≤ at → slice_get olds at ≡ Some old → slice_get news at ≡ Some new → new ≡ old

@@ -1,5 +1,6 @@
 -- What workers make of a fleet in a step.
 use Rattle.std.specs.Prelude.{◌≡◌, ◌≢◌, [], ℕ, true, List, OnOk, Result, Err}
+use Rattle.e3_disk.specs.Meaning.{Meaning}
 use Rattle.e3_disk.specs.Meters.{Meters}
 use Rattle.e3_fleet.specs.Fleets.{FleetIsHeld, HaveKept, IsFleetOn, nodes_of}
 use Rattle.e3_fleet.specs.declared.fleet.Fleet.{Fleet}
@@ -26,10 +27,10 @@ module _ {D : Type 0} where
   abbrev pub most_in : Fleet D → ℕ
   most_in f = most_of f.held.shared
 
-module _ {D : Type 0} (content : D → List ℕ) (image : D → List ℕ → Type 0) (meters : D → Meters) where
+module _ {D : Type 0} (meaning : Meaning D) where
   -- it stands, and the driver holds what its sites share
   abbrev pub Stands : Fleet D → Type 0
-  Stands f = FleetIsHeld content image meters f.wire f.pass f.held.shared (nodes_of f.held.workers.items)
+  Stands f = FleetIsHeld meaning f.wire f.pass f.held.shared (nodes_of f.held.workers.items)
 
   -- A fleet behind the line of a step, and its parts, that asks these inputs of sites which took nothing of them yet.
   pub record CanSettle (f : Fleet D) (inputs : List Addressed) : Type 0 where
@@ -42,7 +43,7 @@ module _ {D : Type 0} (content : D → List ℕ) (image : D → List ℕ → Typ
   -- What came of it: the step went on, and with Ok all that it asks is done and nothing is pending.
   pub record HasSettled (was now : Fleet D) (answer : Result (Unit {0}) RunFault) : Type 0 where
     pub stands : Stands now
-    pub on : IsFleetOn content image meters was.held.shared now.held.shared (nodes_of was.held.workers.items) (nodes_of now.held.workers.items)
+    pub on : IsFleetOn meaning was.held.shared now.held.shared (nodes_of was.held.workers.items) (nodes_of now.held.workers.items)
     pub grown : StaysInStep (history_in was) (history_in now)
     pub delivering : OnOk answer (Delivering (scenario_in was) (history_in now))
     pub settled : OnOk answer (pending (scenario_in was) (history_in now) ≡ [])

@@ -1,11 +1,10 @@
 // What the driver enters.
-ghost use Rattle.std.specs.Prelude.{◌≡◌, ◌≤◌, ◌++◌, ◌∷◌, ◌↔◌, [], false, length, OnOk, OnErr, Err, Some};
-ghost use Rattle.e3_fleet.specs.Fleets.{drop_answer, wire_answer};
+ghost use Rattle.std.specs.Prelude.{◌≡◌, false, Some};
+ghost use Rattle.e3_fleet.specs.Fleets.{HasDriven, drop_answer, wire_answer};
 ghost use Rattle.e3_node.specs.SharedStands.{SharedStands};
-ghost use Rattle.e3_play.specs.declared.sites.RunFault.TheVariants.{HistoryFull};
 ghost use Rattle.e3_types.specs.declared.entries.Act.TheVariants as act;
-ghost use Rattle.e3_wire.specs.Claims.{HaveGrown};
-ghost use Rattle.e3_wire.specs.Marks.{entries_of, most_of, scenario_of};
+ghost use Rattle.e3_wire.specs.Marks.{entries_of, scenario_of};
+ghost use Rattle.e3_wire.specs.Wires.{IsPlayed};
 ghost use Rattle.e3_world.specs.Items.{is_up_at};
 ghost use Rattle.e3_world.specs.Legal.{IsLine, IsParts, first_pending};
 
@@ -19,10 +18,8 @@ fn wire_answer(answer: Result<(), WireFault>) -> Result<(), RunFault>
 {
     match answer {
         Ok(()) => Ok(()),
-        Err(fault) => match fault {
-            WireFault::HistoryFull => Err(RunFault::HistoryFull),
-            WireFault::NoMemory => Err(RunFault::NoMemory),
-        },
+        Err(WireFault::HistoryFull) => Err(RunFault::HistoryFull),
+        Err(WireFault::NoMemory) => Err(RunFault::NoMemory),
     }
 }
 
@@ -36,36 +33,33 @@ fn drop_answer(answer: Result<Option<u64>, WireFault>) -> Result<(), RunFault>
     }
 }
 
+// What an answer of the wire is to the run, and what is always true of what is shared behind it.
+fn told(shared: &Shared, answer: Result<(), WireFault>) -> Result<(), RunFault>
+    ensures played { IsPlayed shared.now }
+    ensures answer { result ≡ wire_answer answer }
+{
+    shared.tell();
+    wire_answer(answer)
+}
+
 /// Enters the line of the next step.
 pub(crate) fn enter_line(shared: &mut Shared, number: u32) -> Result<(), RunFault>
     requires standing { SharedStands shared.old }
     requires due { IsLine (scenario_of shared.old) (entries_of shared.old) number }
-    ensures stands { SharedStands shared.new }
-    ensures grew { HaveGrown shared.old shared.new }
-    ensures same { (scenario_of shared.new ≡ scenario_of shared.old) × (most_of shared.new ≡ most_of shared.old) }
-    ensures entered { OnOk result (entries_of shared.new ≡ entries_of shared.old ++ record { owner = 0; act = act.Line number } ∷ []) }
-    ensures kept { OnErr result (entries_of shared.new ≡ entries_of shared.old) }
-    ensures full { (result ≡ Err HistoryFull) ↔ (most_of shared.old ≤ length (entries_of shared.old)) }
+    ensures { HasDriven (act.Line number) shared.old shared.new result }
 {
     let entered = shared.line(number);
-    shared.tell();
-    wire_answer(entered)
+    told(shared, entered)
 }
 
 /// Enters the parts into which the network falls, directly behind the line of a split or a merge.
 pub(crate) fn enter_parts(shared: &mut Shared, parted: List<SiteSet>) -> Result<(), RunFault>
     requires standing { SharedStands shared.old }
     requires due { IsParts (scenario_of shared.old) (entries_of shared.old) parted }
-    ensures stands { SharedStands shared.new }
-    ensures grew { HaveGrown shared.old shared.new }
-    ensures same { (scenario_of shared.new ≡ scenario_of shared.old) × (most_of shared.new ≡ most_of shared.old) }
-    ensures entered { OnOk result (entries_of shared.new ≡ entries_of shared.old ++ record { owner = 0; act = act.Parts parted } ∷ []) }
-    ensures kept { OnErr result (entries_of shared.new ≡ entries_of shared.old) }
-    ensures full { (result ≡ Err HistoryFull) ↔ (most_of shared.old ≤ length (entries_of shared.old)) }
+    ensures { HasDriven (act.Parts parted) shared.old shared.new result }
 {
     let entered = shared.parts(parted);
-    shared.tell();
-    wire_answer(entered)
+    told(shared, entered)
 }
 
 /// Drops the first pending packet, since its site is down.
@@ -73,12 +67,7 @@ pub(crate) fn enter_drop(shared: &mut Shared, packet: &Packet) -> Result<(), Run
     requires standing { SharedStands shared.old }
     requires first { first_pending (scenario_of shared.old) (entries_of shared.old) ≡ Some packet.now }
     requires down { is_up_at (entries_of shared.old) packet.now.to ≡ false }
-    ensures stands { SharedStands shared.new }
-    ensures grew { HaveGrown shared.old shared.new }
-    ensures same { (scenario_of shared.new ≡ scenario_of shared.old) × (most_of shared.new ≡ most_of shared.old) }
-    ensures entered { OnOk result (entries_of shared.new ≡ entries_of shared.old ++ record { owner = 0; act = act.Drop packet.now.number } ∷ []) }
-    ensures kept { OnErr result (entries_of shared.new ≡ entries_of shared.old) }
-    ensures full { (result ≡ Err HistoryFull) ↔ (most_of shared.old ≤ length (entries_of shared.old)) }
+    ensures { HasDriven (act.Drop packet.now.number) shared.old shared.new result }
 {
     let dropped = shared.drop_for(packet.to);
     shared.tell();

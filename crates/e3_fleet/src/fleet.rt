@@ -29,9 +29,9 @@ impl<D: Disk + Drill + Drop> Sites for Fleet<D> {
 
     ghost most = { λ f. most_of f.held.shared };
 
-    ghost stands = { λ f. FleetIsHeld D.content D.image D.meters f.wire f.pass f.held.shared (nodes_of f.held.workers.items) };
+    ghost stands = { λ f. FleetIsHeld D.meaning f.wire f.pass f.held.shared (nodes_of f.held.workers.items) };
 
-    ghost since = { λ start f. HaveKept D.meters (scenario_of f.held.shared) (entries_of f.held.shared)
+    ghost since = { λ start f. HaveKept D.meaning.meters (scenario_of f.held.shared) (entries_of f.held.shared)
         (nodes_of start.held.workers.items) (nodes_of f.held.workers.items) };
 
     ghost is_legal = { λ f s. s.fleet.shared_stands.played.legal };

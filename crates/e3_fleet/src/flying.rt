@@ -15,6 +15,7 @@ ghost use Rattle.e3_world.specs.Legal.{IsLegal, IsWhole};
 use crate::counting::{disks_are_counted, have_halves};
 use crate::fleet::Fleet;
 use crate::held::Held;
+use crate::pace::Pace;
 use crate::playing::play;
 use crate::seating::{seat_all, unseat_all};
 use e3_crew::Worker;
@@ -88,12 +89,12 @@ fn open<D: Disk + Drill + Drop, R: Wait>(
     requires empty { workers.old.items ≡ [] }
     requires given { IsGiven scenario.now }
     requires enough { length scenario.now.weights ≤ length disks.old.items }
-    requires blank { AreBlank D.content D.image D.meters disks.old.items }
-    ensures seated { AreSeated D.content D.image D.meters scenario.now [] (nodes_of workers.new.items) }
+    requires blank { AreBlank D.meaning disks.old.items }
+    ensures seated { AreSeated D.meaning scenario.now [] (nodes_of workers.new.items) }
     ensures disks { disks_of (nodes_of workers.new.items) ++ disks.new.items ≡ disks.old.items }
     ensures disks_room { vec_capacity disks.new ≡ vec_capacity disks.old }
     ensures taken { IfOk result (λ o. IsTaken o.wire o.pass o.shared) }
-    ensures stands { IfOk result (λ o. FleetStands D.content D.image D.meters o.shared (nodes_of workers.new.items)) }
+    ensures stands { IfOk result (λ o. FleetStands D.meaning o.shared (nodes_of workers.new.items)) }
     ensures new { IfOk result (λ o. (scenario_of o.shared ≡ scenario.now) × (entries_of o.shared ≡ []) × (most_of o.shared ≡ most)) }
 {
     let opened = open_wire(rt, alloc, scenario, most)?;
@@ -113,8 +114,8 @@ impl<D: Disk + Drill + Drop> Fleet<D> {
     ) -> Result<Fleet<D>, NoMemory>
         requires given { IsGiven scenario.now }
         requires enough { length scenario.now.weights ≤ length disks.items }
-        requires blank { AreBlank D.content D.image D.meters disks.items }
-        ensures stands { IfOk result (λ f. Stands D.content D.image D.meters f) }
+        requires blank { AreBlank D.meaning disks.items }
+        ensures stands { IfOk result (λ f. Stands D.meaning f) }
         ensures new { IfOk result (λ f. (scenario_in f ≡ scenario.now) × (history_in f ≡ []) × (most_in f ≡ most)) }
     {
         let mut disks = disks;
@@ -152,16 +153,16 @@ fn fly<D: Disk + Drill + Drop + Send, G: Gate + Sync, R: Wait + Threads + Sync>(
     requires played { scenario_of opened.shared ≡ scenario.now }
     requires empty { entries_of opened.shared ≡ [] }
     requires taken { IsTaken opened.wire opened.pass opened.shared }
-    requires stands { FleetStands D.content D.image D.meters opened.shared (nodes_of workers.items) }
+    requires stands { FleetStands D.meaning opened.shared (nodes_of workers.items) }
     requires given { IsGiven scenario.now }
     requires most { most_of opened.shared ≤ 2000000 }
-    requires unarmed { AreUnarmed D.meters (nodes_of workers.items) }
+    requires unarmed { AreUnarmed D.meaning.meters (nodes_of workers.items) }
     ensures legal { IsLegal scenario.now result.history.entries }
     ensures within { length result.history.entries ≤ most_of opened.shared }
     ensures whole { OnOk result.ended (IsWhole scenario.now result.history.entries) }
     ensures full { result.ended ≡ Err HistoryFull → IsFull scenario.now result.history.entries (most_of opened.shared) }
-    ensures seated { AreSeated D.content D.image D.meters scenario.now result.history.entries (nodes_of result.workers.items) }
-    ensures kept { HaveKept D.meters scenario.now result.history.entries (nodes_of workers.items) (nodes_of result.workers.items) }
+    ensures seated { AreSeated D.meaning scenario.now result.history.entries (nodes_of result.workers.items) }
+    ensures kept { HaveKept D.meaning.meters scenario.now result.history.entries (nodes_of workers.items) (nodes_of result.workers.items) }
     ensures count { length result.workers.items ≡ length workers.items }
 {
     disks_are_counted::<D>();
@@ -172,7 +173,12 @@ fn fly<D: Disk + Drill + Drop + Send, G: Gate + Sync, R: Wait + Threads + Sync>(
         pass,
         held: Held { shared, workers },
     };
-    let ended = play(rt, scenario, gate, threads, packets, &mut fleet);
+    let pace = Pace {
+        gate,
+        threads,
+        packets,
+    };
+    let ended = play(rt, scenario, &pace, &mut fleet);
     let Fleet { held, .. } = fleet;
     let Held { shared, workers } = held;
     Flown {
@@ -199,12 +205,12 @@ pub fn play_over<D: Disk + Drill + Drop + Send, G: Gate + Sync, R: Wait + Thread
     requires given { IsGiven scenario.now }
     requires most { most ≤ 2000000 }
     requires enough { length scenario.now.weights ≤ length disks.items }
-    requires blank { AreBlank D.content D.image D.meters disks.items }
+    requires blank { AreBlank D.meaning disks.items }
     ensures legal { IsLegal scenario.now result.history.entries }
     ensures within { length result.history.entries ≤ most }
     ensures whole { OnOk result.ended (IsWhole scenario.now result.history.entries) }
     ensures full { result.ended ≡ Err HistoryFull → IsFull scenario.now result.history.entries most }
-    ensures disks { AreOver D.image D.meters scenario.now result.history.entries disks.items result.disks.items }
+    ensures disks { AreOver D.meaning scenario.now result.history.entries disks.items result.disks.items }
 {
     a_node_tells_of_its_disk::<D>();
     disks_are_counted::<D>();

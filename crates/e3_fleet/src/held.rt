@@ -1,12 +1,11 @@
 // What the driver holds between the rounds of workers, and what the sites do of a run, each by the node of the worker at its
 // place.
 ghost use Rattle.std.specs.Prelude.{◌≡◌, ◌≤◌, ◌<◌, ◌++◌, ◌∷◌, [], suc, true, fold, length, IfOk, OnOk, OnErr, Err};
-ghost use Rattle.e3_fleet.specs.Fleets.{FleetStands, IsFleetOn, cut_answer, input_answer, nodes_of, rise_answer};
+ghost use Rattle.e3_fleet.specs.Fleets.{FleetStands, HeldWentOn, cut_answer, input_answer, nodes_of, rise_answer};
 ghost use Rattle.e3_play.specs.Entering.{AfterInput, AfterRise, IsFirst};
 ghost use Rattle.e3_play.specs.declared.sites.RunFault.TheVariants.{HistoryFull};
 ghost use Rattle.e3_types.specs.declared.entries.Act.TheVariants as act;
 ghost use Rattle.e3_types.specs.declared.scenarios.Item.TheVariants as item;
-ghost use Rattle.e3_wire.specs.Claims.{HaveGrown};
 ghost use Rattle.e3_wire.specs.Marks.{entries_of, most_of, scenario_of};
 ghost use Rattle.e3_world.specs.Items.{add_txn, is_up_at, open_at};
 ghost use Rattle.e3_world.specs.Legal.{IsCut, IsDue, IsLine, IsRising};
@@ -34,12 +33,9 @@ fn rise_answer(answer: Result<u32, RiseFault>) -> Result<(), RunFault>
     ensures { result ≡ rise_answer answer }
 {
     match answer {
-        Ok(_incarnation) => Ok(()),
-        Err(fault) => match fault {
-            RiseFault::HistoryFull => Err(RunFault::HistoryFull),
-            RiseFault::Up | RiseFault::NoMemory => Err(RunFault::NoMemory),
-            RiseFault::Missed | RiseFault::Failed { .. } => Ok(()),
-        },
+        Err(RiseFault::HistoryFull) => Err(RunFault::HistoryFull),
+        Err(RiseFault::Up | RiseFault::NoMemory) => Err(RunFault::NoMemory),
+        Ok(_) | Err(RiseFault::Missed | RiseFault::Failed { .. }) => Ok(()),
     }
 }
 
@@ -48,12 +44,9 @@ fn input_answer(answer: Result<(), InputFault>) -> Result<(), RunFault>
     ensures { result ≡ input_answer answer }
 {
     match answer {
-        Ok(()) => Ok(()),
-        Err(fault) => match fault {
-            InputFault::HistoryFull => Err(RunFault::HistoryFull),
-            InputFault::Fell { .. } => Ok(()),
-            InputFault::Down | InputFault::NoMemory => Err(RunFault::NoMemory),
-        },
+        Err(InputFault::HistoryFull) => Err(RunFault::HistoryFull),
+        Err(InputFault::Down | InputFault::NoMemory) => Err(RunFault::NoMemory),
+        Ok(()) | Err(InputFault::Fell { .. }) => Ok(()),
     }
 }
 
@@ -62,18 +55,16 @@ fn cut_answer(answer: Result<(), CutFault>) -> Result<(), RunFault>
     ensures { result ≡ cut_answer answer }
 {
     match answer {
+        Err(CutFault::HistoryFull) => Err(RunFault::HistoryFull),
+        Err(CutFault::Down | CutFault::NoMemory) => Err(RunFault::NoMemory),
         Ok(()) => Ok(()),
-        Err(fault) => match fault {
-            CutFault::HistoryFull => Err(RunFault::HistoryFull),
-            CutFault::Down | CutFault::NoMemory => Err(RunFault::NoMemory),
-        },
     }
 }
 
 impl<D: Disk + Drill + Drop> Held<D> {
     // Whether the node at this place is up.
     pub(crate) fn is_up_at(&self, at: usize) -> bool
-        requires standing { FleetStands D.content D.image D.meters self.now.shared (nodes_of self.now.workers.items) }
+        requires standing { FleetStands D.meaning self.now.shared (nodes_of self.now.workers.items) }
         requires within { at < length self.now.workers.items }
         ensures { result ≡ is_up_at (entries_of self.now.shared) (suc at) }
     {
@@ -82,7 +73,7 @@ impl<D: Disk + Drill + Drop> Held<D> {
 
     // The undecided transactions that the node at this place knows, which is up.
     pub(crate) fn open_txns_at(&self, alloc: Global, at: usize) -> Result<List<Txn>, NoMemory>
-        requires standing { FleetStands D.content D.image D.meters self.now.shared (nodes_of self.now.workers.items) }
+        requires standing { FleetStands D.meaning self.now.shared (nodes_of self.now.workers.items) }
         requires within { at < length self.now.workers.items }
         requires up { is_up_at (entries_of self.now.shared) (suc at) ≡ true }
         ensures { IfOk result (λ txns. txns ≡ fold add_txn [] (open_at (scenario_of self.now.shared) (entries_of self.now.shared) (suc at))) }
@@ -92,11 +83,10 @@ impl<D: Disk + Drill + Drop> Held<D> {
 
     // A rise of the node at this place.
     pub(crate) fn rise_at(&mut self, at: usize) -> Result<(), RunFault>
-        requires standing { FleetStands D.content D.image D.meters self.old.shared (nodes_of self.old.workers.items) }
+        requires standing { FleetStands D.meaning self.old.shared (nodes_of self.old.workers.items) }
         requires within { at < length self.old.workers.items }
         requires turn { IsRising (scenario_of self.old.shared) (entries_of self.old.shared) (suc at) }
-        ensures on { IsFleetOn D.content D.image D.meters self.old.shared self.new.shared (nodes_of self.old.workers.items) (nodes_of self.new.workers.items) }
-        ensures grew { HaveGrown self.old.shared self.new.shared }
+        ensures went { HeldWentOn D.meaning self.old self.new }
         ensures rose { OnOk result (AfterRise (scenario_of self.old.shared) (entries_of self.old.shared) (suc at) (entries_of self.new.shared)) }
         ensures kept { OnErr result (entries_of self.new.shared ≡ entries_of self.old.shared) }
         ensures full { result ≡ Err HistoryFull → most_of self.old.shared ≤ length (entries_of self.old.shared) }
@@ -108,13 +98,12 @@ impl<D: Disk + Drill + Drop> Held<D> {
 
     // An input for the node at this place, which is up.
     pub(crate) fn input_at(&mut self, at: usize, input: Input) -> Result<(), RunFault>
-        requires standing { FleetStands D.content D.image D.meters self.old.shared (nodes_of self.old.workers.items) }
+        requires standing { FleetStands D.meaning self.old.shared (nodes_of self.old.workers.items) }
         requires within { at < length self.old.workers.items }
         requires up { is_up_at (entries_of self.old.shared) (suc at) ≡ true }
         requires due { IsDue (scenario_of self.old.shared) (entries_of self.old.shared) (suc at) input }
         requires first { IsFirst (scenario_of self.old.shared) (entries_of self.old.shared) input }
-        ensures on { IsFleetOn D.content D.image D.meters self.old.shared self.new.shared (nodes_of self.old.workers.items) (nodes_of self.new.workers.items) }
-        ensures grew { HaveGrown self.old.shared self.new.shared }
+        ensures went { HeldWentOn D.meaning self.old self.new }
         ensures entered { OnOk result (AfterInput (scenario_of self.old.shared) (entries_of self.old.shared) (suc at) input (entries_of self.new.shared)) }
         ensures kept { OnErr result (entries_of self.new.shared ≡ entries_of self.old.shared) }
         ensures full { result ≡ Err HistoryFull → most_of self.old.shared ≤ length (entries_of self.old.shared) }
@@ -126,11 +115,10 @@ impl<D: Disk + Drill + Drop> Held<D> {
 
     // The power of the node at this place is cut, which is up.
     pub(crate) fn cut_at(&mut self, at: usize) -> Result<(), RunFault>
-        requires standing { FleetStands D.content D.image D.meters self.old.shared (nodes_of self.old.workers.items) }
+        requires standing { FleetStands D.meaning self.old.shared (nodes_of self.old.workers.items) }
         requires within { at < length self.old.workers.items }
         requires due { IsCut (scenario_of self.old.shared) (entries_of self.old.shared) (suc at) }
-        ensures on { IsFleetOn D.content D.image D.meters self.old.shared self.new.shared (nodes_of self.old.workers.items) (nodes_of self.new.workers.items) }
-        ensures grew { HaveGrown self.old.shared self.new.shared }
+        ensures went { HeldWentOn D.meaning self.old self.new }
         ensures entered { OnOk result (entries_of self.new.shared ≡ entries_of self.old.shared ++ record { owner = suc at; act = act.Cut } ∷ []) }
         ensures kept { OnErr result (entries_of self.new.shared ≡ entries_of self.old.shared) }
         ensures full { result ≡ Err HistoryFull → most_of self.old.shared ≤ length (entries_of self.old.shared) }
@@ -149,13 +137,12 @@ impl<D: Disk + Drill + Drop> Held<D> {
         calls: u32,
         leave: Leave,
     ) -> Result<(), RunFault>
-        requires standing { FleetStands D.content D.image D.meters self.old.shared (nodes_of self.old.workers.items) }
+        requires standing { FleetStands D.meaning self.old.shared (nodes_of self.old.workers.items) }
         requires within { at < length self.old.workers.items }
         requires due { IsLine (scenario_of self.old.shared) (entries_of self.old.shared) number }
         requires step { step_items (scenario_of self.old.shared) number ≡ item.Stop (suc at) calls leave ∷ [] }
         requires some { 1 ≤ calls }
-        ensures on { IsFleetOn D.content D.image D.meters self.old.shared self.new.shared (nodes_of self.old.workers.items) (nodes_of self.new.workers.items) }
-        ensures grew { HaveGrown self.old.shared self.new.shared }
+        ensures went { HeldWentOn D.meaning self.old self.new }
         ensures entered { OnOk result (entries_of self.new.shared ≡ entries_of self.old.shared ++ record { owner = 0; act = act.Line number } ∷ []) }
         ensures kept { OnErr result (entries_of self.new.shared ≡ entries_of self.old.shared) }
         ensures full { result ≡ Err HistoryFull → most_of self.old.shared ≤ length (entries_of self.old.shared) }

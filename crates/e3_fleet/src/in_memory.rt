@@ -12,7 +12,7 @@ use std::alloc::Global;
 fn blank_disk(alloc: Global, capacity: u64, fails: List<u64>) -> Result<MemDisk, NoMemory>
     requires least { 2 ≤ capacity }
     requires most { capacity ≤ 2 ^ 30 }
-    ensures fresh { IfOk result (λ disk. IsFresh ⟦<MemDisk as Disk>⟧.content ⟦<MemDisk as Disk>⟧.image ⟦<MemDisk as Disk>⟧.meters disk) }
+    ensures fresh { IfOk result (λ disk. IsFresh ⟦<MemDisk as Disk>⟧.meaning disk) }
     ensures state { IfOk result (λ disk. state_of disk ≡ blank_state capacity fails) }
 {
     MemDisk::with_faults(alloc, capacity, fails)
@@ -40,7 +40,7 @@ pub fn memory_disks(
     requires least { 2 ≤ capacity }
     requires most { capacity ≤ 2 ^ 30 }
     ensures sixteen { IfOk result (λ disks. length disks.items ≡ 16) }
-    ensures blank { IfOk result (λ disks. AreBlank ⟦<MemDisk as Disk>⟧.content ⟦<MemDisk as Disk>⟧.image ⟦<MemDisk as Disk>⟧.meters disks.items) }
+    ensures blank { IfOk result (λ disks. AreBlank ⟦<MemDisk as Disk>⟧.meaning disks.items) }
     ensures made { IfOk result (λ disks. AreMade capacity site fails disks.items) }
 {
     let mut disks = List::new(alloc);

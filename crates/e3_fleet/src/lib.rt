@@ -7,6 +7,7 @@ mod fleet;
 mod flying;
 mod held;
 mod in_memory;
+mod pace;
 mod playing;
 mod seating;
 mod settling;

@@ -11,6 +11,7 @@ ghost use Rattle.e3_world.specs.Given.{IsGiven};
 ghost use Rattle.e3_world.specs.Legal.{IsWhole};
 
 use crate::fleet::Fleet;
+use crate::pace::Pace;
 use crate::settling::settle_fleet;
 use e3_disk::{Disk, Drill};
 use e3_outside::Gate;
@@ -23,22 +24,20 @@ use std::thread::Threads;
 fn play_step<D: Disk + Drill + Drop + Send, G: Gate + Sync, R: Wait + Threads + Sync>(
     rt: &R,
     scenario: &Scenario,
-    gate: &G,
-    threads: usize,
-    packets: u32,
+    pace: &Pace<G>,
+    done: u32,
     fleet: &mut Fleet<D>,
     names: &mut Names,
-    done: u32,
 ) -> Result<(), RunFault>
     requires played { scenario_in fleet.old ≡ scenario.now }
-    requires standing { Stands D.content D.image D.meters fleet.old }
+    requires standing { Stands D.meaning fleet.old }
     requires given { IsGiven scenario.now }
     requires most { most_in fleet.old ≤ 2000000 }
     requires more { suc done ≤ length scenario.now.steps }
     requires few { length scenario.now.steps < 2 ^ 32 }
     requires settled { IsSettled scenario.now (history_in fleet.old) done }
     requires known { KnowsNames scenario.now (history_in fleet.old) names.old }
-    ensures on { SitesGoOn (Stands D.content D.image D.meters) (Since D.meters) scenario_in most_in fleet.old fleet.new }
+    ensures on { SitesGoOn (Stands D.meaning) (Since D.meaning.meters) scenario_in most_in fleet.old fleet.new }
     ensures known { OnOk result (KnowsNames scenario.now (history_in fleet.new) names.new) }
     ensures settles { OnOk result (IsSettled scenario.now (history_in fleet.new) (suc done)) }
     ensures full { result ≡ Err HistoryFull → IsFull scenario.now (history_in fleet.new) (most_in fleet.old) }
@@ -46,7 +45,7 @@ fn play_step<D: Disk + Drill + Drop + Send, G: Gate + Sync, R: Wait + Threads + 
     let alloc = fleet.alloc;
     let asked = begin_step(alloc, scenario, fleet, names, done)?;
     match asked {
-        Some(inputs) => settle_fleet(rt, gate, threads, packets, fleet, inputs),
+        Some(inputs) => settle_fleet(rt, pace.gate, pace.threads, pace.packets, fleet, inputs),
         None => Ok(()),
     }
 }
@@ -63,22 +62,25 @@ pub fn play_first<D: Disk + Drill + Drop + Send, G: Gate + Sync, R: Wait + Threa
     count: u32,
 ) -> Result<(), RunFault>
     requires played { scenario_in fleet.old ≡ scenario.now }
-    requires standing { Stands D.content D.image D.meters fleet.old }
+    requires standing { Stands D.meaning fleet.old }
     requires given { IsGiven scenario.now }
     requires most { most_in fleet.old ≤ 2000000 }
     requires few { length scenario.now.steps < 2 ^ 32 }
     requires within { count ≤ length scenario.now.steps }
     requires empty { history_in fleet.old ≡ [] }
-    ensures on { SitesGoOn (Stands D.content D.image D.meters) (Since D.meters) scenario_in most_in fleet.old fleet.new }
+    ensures on { SitesGoOn (Stands D.meaning) (Since D.meaning.meters) scenario_in most_in fleet.old fleet.new }
     ensures settled { OnOk result (IsSettled scenario.now (history_in fleet.new) count) }
     ensures full { result ≡ Err HistoryFull → IsFull scenario.now (history_in fleet.new) (most_in fleet.old) }
 {
+    let pace = Pace {
+        gate,
+        threads,
+        packets,
+    };
     rise_all(fleet, scenario.weights.len() as u32)?;
     let mut names = Names::new(fleet.alloc);
     for done in 0..count {
-        play_step(
-            rt, scenario, gate, threads, packets, fleet, &mut names, done,
-        )?;
+        play_step(rt, scenario, &pace, done, fleet, &mut names)?;
     }
     Ok(())
 }
@@ -87,23 +89,29 @@ pub fn play_first<D: Disk + Drill + Drop + Send, G: Gate + Sync, R: Wait + Threa
 pub(crate) fn play<D: Disk + Drill + Drop + Send, G: Gate + Sync, R: Wait + Threads + Sync>(
     rt: &R,
     scenario: &Scenario,
-    gate: &G,
-    threads: usize,
-    packets: u32,
+    pace: &Pace<G>,
     fleet: &mut Fleet<D>,
 ) -> Result<(), RunFault>
     requires played { scenario_in fleet.old ≡ scenario.now }
-    requires standing { Stands D.content D.image D.meters fleet.old }
+    requires standing { Stands D.meaning fleet.old }
     requires given { IsGiven scenario.now }
     requires most { most_in fleet.old ≤ 2000000 }
     requires empty { history_in fleet.old ≡ [] }
-    ensures on { SitesGoOn (Stands D.content D.image D.meters) (Since D.meters) scenario_in most_in fleet.old fleet.new }
+    ensures on { SitesGoOn (Stands D.meaning) (Since D.meaning.meters) scenario_in most_in fleet.old fleet.new }
     ensures whole { OnOk result (IsWhole scenario.now (history_in fleet.new)) }
     ensures full { result ≡ Err HistoryFull → IsFull scenario.now (history_in fleet.new) (most_in fleet.old) }
 {
     let Ok(steps) = u32::try_from(scenario.steps.len()) else {
         return Err(RunFault::NoMemory);
     };
-    play_first(rt, scenario, gate, threads, packets, fleet, steps)?;
+    play_first(
+        rt,
+        scenario,
+        pace.gate,
+        pace.threads,
+        pace.packets,
+        fleet,
+        steps,
+    )?;
     Ok(())
 }

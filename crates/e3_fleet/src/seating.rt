@@ -39,12 +39,12 @@ fn seat_next<D: Disk + Drill + Drop>(
     requires site { length workers.old.items < length scenario.now.weights }
     requires few { length scenario.now.weights ≤ 64 }
     requires enough { 0 < length disks.old.items }
-    requires blank { AreBlank D.content D.image D.meters disks.old.items }
-    requires seated { AreSeated D.content D.image D.meters scenario.now [] (nodes_of workers.old.items) }
-    ensures seated { AreSeated D.content D.image D.meters scenario.now [] (nodes_of workers.new.items) }
+    requires blank { AreBlank D.meaning disks.old.items }
+    requires seated { AreSeated D.meaning scenario.now [] (nodes_of workers.old.items) }
+    ensures seated { AreSeated D.meaning scenario.now [] (nodes_of workers.new.items) }
     ensures disks { disks_of (nodes_of workers.new.items) ++ disks.new.items ≡ disks_of (nodes_of workers.old.items) ++ disks.old.items }
     ensures more { OnOk result (length workers.new.items ≡ length workers.old.items + 1) }
-    ensures blank { AreBlank D.content D.image D.meters disks.new.items }
+    ensures blank { AreBlank D.meaning disks.new.items }
     ensures workers_room { vec_capacity workers.old ≤ vec_capacity workers.new }
     ensures disks_room { vec_capacity disks.new ≡ vec_capacity disks.old }
 {
@@ -68,8 +68,8 @@ pub fn seat_all<D: Disk + Drill + Drop>(
     requires empty { workers.old.items ≡ [] }
     requires few { length scenario.now.weights ≤ 64 }
     requires enough { length scenario.now.weights ≤ length disks.old.items }
-    requires blank { AreBlank D.content D.image D.meters disks.old.items }
-    ensures seated { AreSeated D.content D.image D.meters scenario.now [] (nodes_of workers.new.items) }
+    requires blank { AreBlank D.meaning disks.old.items }
+    ensures seated { AreSeated D.meaning scenario.now [] (nodes_of workers.new.items) }
     ensures all { OnOk result (length workers.new.items ≡ length scenario.now.weights) }
     ensures disks { disks_of (nodes_of workers.new.items) ++ disks.new.items ≡ disks.old.items }
     ensures disks_room { vec_capacity disks.new ≡ vec_capacity disks.old }

@@ -39,13 +39,13 @@ fn settled_by<D: Disk + Drill + Drop + Send, R: Wait + Threads + Sync, G: Gate +
     inputs: &[Addressed],
 ) -> (Held<D>, Result<(), RunFault>)
     requires taken { IsTaken wire.now pass.old held.shared }
-    requires standing { FleetStands D.content D.image D.meters held.shared (nodes_of held.workers.items) }
+    requires standing { FleetStands D.meaning held.shared (nodes_of held.workers.items) }
     requires begun { lines (entries_of held.shared) ≢ 0 }
     requires form { is_asking (present_items (scenario_of held.shared) (entries_of held.shared)) ≡ true }
     requires asked { inputs.now ≡ plan_of (scenario_of held.shared) (entries_of held.shared) }
     requires fresh { (site : ℕ) → taken_at (entries_of held.shared) site ≡ [] }
     ensures taken { IsTaken wire.now pass.new result.0.shared }
-    ensures on { IsFleetOn D.content D.image D.meters held.shared result.0.shared (nodes_of held.workers.items) (nodes_of result.0.workers.items) }
+    ensures on { IsFleetOn D.meaning held.shared result.0.shared (nodes_of held.workers.items) (nodes_of result.0.workers.items) }
     ensures grown { StaysInStep (entries_of held.shared) (entries_of result.0.shared) }
     ensures delivering { OnOk result.1 (Delivering (scenario_of held.shared) (entries_of result.0.shared)) }
     ensures settled { OnOk result.1 (pending (scenario_of held.shared) (entries_of result.0.shared) ≡ []) }
@@ -81,8 +81,8 @@ fn settled<D: Disk + Drill + Drop + Send, G: Gate + Sync, R: Wait + Threads + Sy
     fleet: Fleet<D>,
     inputs: List<Addressed>,
 ) -> (Fleet<D>, Result<(), RunFault>)
-    requires { CanSettle D.content D.image D.meters fleet inputs }
-    ensures { HasSettled D.content D.image D.meters fleet result.0 result.1 }
+    requires { CanSettle D.meaning fleet inputs }
+    ensures { HasSettled D.meaning fleet result.0 result.1 }
 {
     let Fleet {
         alloc,
@@ -121,14 +121,14 @@ pub(crate) fn settle_fleet<D: Disk + Drill + Drop + Send, G: Gate + Sync, R: Wai
     fleet: &mut Fleet<D>,
     inputs: List<Addressed>,
 ) -> Result<(), RunFault>
-    requires { CanSettle D.content D.image D.meters fleet.old inputs }
-    ensures { HasSettled D.content D.image D.meters fleet.old fleet.new result }
+    requires { CanSettle D.meaning fleet.old inputs }
+    ensures { HasSettled D.meaning fleet.old fleet.new result }
 {
     replace_with(
         fleet,
         inputs,
         |fleet: Fleet<D>, inputs: List<Addressed>| -> (Fleet<D>, Result<(), RunFault>)
-            requires { CanSettle D.content D.image D.meters fleet inputs }
+            requires { CanSettle D.meaning fleet inputs }
         { settled(rt, gate, threads, packets, fleet, inputs) },
     )
 }

@@ -1,7 +1,7 @@
 -- What a log stands for that was opened.
 use Rattle.std.proofs.Common.{◌≡◌, ℕ, false, List, refl, sym, subst}
 use Rattle.e3_disk.specs.Images.{Only}
-use Rattle.e3_disk.specs.Meters.{Meters}
+use Rattle.e3_disk.specs.Meaning.{Meaning}
 use Rattle.e3_log.specs.declared.prepare.Held.{Held}
 use Rattle.e3_log.specs.Found.{bodies_of, IsHeld, Opened}
 use Rattle.e3_log.specs.Reading.{ReadsAs}
@@ -9,12 +9,12 @@ use Rattle.e3_log.specs.Reading.{ReadsAs}
 pub held_reads : (capacity : ℕ) (bytes : List ℕ) (h : Held) → IsHeld capacity bytes h → ReadsAs capacity h.generation (bodies_of h.frames) bytes
 held_reads capacity bytes h held = record { region = h.region; raw = held.raw; spare = held.spare; holds = held.holds; bodies_are = held.bodies_are }
 
-pub opened_from : {D : Type 0} (content : D → List ℕ) (image : D → List ℕ → Type 0) (meters : D → Meters) (old new : D) (h : Held) → IsHeld (meters old).capacity (content old) h
-    → content new ≡ content old → Only (content old) (image new) → (meters new).capacity ≡ (meters old).capacity
-    → Opened content image meters h.frames (record { disk = new; region = h.region; generation = h.generation; end = h.end; spare_open = h.spare_open; failed = false })
-opened_from content image meters old new h held same only room =
-    let here : IsHeld (meters new).capacity (content new) h =
-    subst (λ (k : ℕ). IsHeld k (content new) h) (sym room) (subst (λ (l : List ℕ). IsHeld (meters old).capacity l h) (sym same) held) in
+pub opened_from : {D : Type 0} (meaning : Meaning D) (old new : D) (h : Held) → IsHeld (meaning.meters old).capacity (meaning.content old) h
+    → meaning.content new ≡ meaning.content old → Only (meaning.content old) (meaning.image new) → (meaning.meters new).capacity ≡ (meaning.meters old).capacity
+    → Opened meaning h.frames (record { disk = new; region = h.region; generation = h.generation; end = h.end; spare_open = h.spare_open; failed = false })
+opened_from meaning old new h held same only room =
+    let here : IsHeld (meaning.meters new).capacity (meaning.content new) h =
+    subst (λ (k : ℕ). IsHeld k (meaning.content new) h) (sym room) (subst (λ (l : List ℕ). IsHeld (meaning.meters old).capacity l h) (sym same) held) in
     record {
       stands = record {
         sound = refl;
@@ -24,7 +24,7 @@ opened_from content image meters old new h held same only room =
         bodies_are = here.bodies_are;
         end_is = here.end_is;
         spare_is = here.spare_is;
-        only = subst (λ (l : List ℕ). Only l (image new)) (sym same) only;
+        only = subst (λ (l : List ℕ). Only l (meaning.image new)) (sym same) only;
       };
       places = here.places;
     }

@@ -4,7 +4,7 @@ use Rattle.std.specs.Prelude.{slice_index, nat_lt}
 use Rattle.std.proofs.lemmas.Bool.{lt-ltb, le-ltb}
 use Rattle.std.specs.Int.{w32, to_be_bytes}
 use Rattle.e3_disk.specs.Images.{Torn, Only, overwritten}
-use Rattle.e3_disk.specs.Meters.{Meters}
+use Rattle.e3_disk.specs.Meaning.{Meaning}
 use Rattle.e3_log.specs.declared.region.Front.{Front}
 use Rattle.e3_log.specs.declared.region.Front.TheVariants.{Shut, Whole, Broken}
 use Rattle.e3_log.specs.declared.region.Found.TheVariants.{Active}
@@ -31,96 +31,96 @@ open_from : (raw : List (List ℕ)) → is_open (front_of raw) ≡ nat_lt 0 (len
 open_from [] = refl
 open_from (b ∷ bs) = sym (lt-ltb 0 (length (frames (b ∷ bs))) (omega (arith, length-append (frame b) (frames bs))))
 
-module _ {D : Type 0} (content : D → List ℕ) (image : D → List ℕ → Type 0) (meters : D → Meters) (bodies : List (List ℕ)) (log : LogState D) (st : Stands content image meters bodies log) where
+module _ {D : Type 0} (meaning : Meaning D) (bodies : List (List ℕ)) (log : LogState D) (st : Stands meaning bodies log) where
   abbrev capacity : ℕ
-  capacity = (meters log.disk).capacity
+  capacity = (meaning.meters log.disk).capacity
 
   -- bodies are those that the frames hand out
   named : (g : ℕ) (c : List ℕ) → ReadsAs capacity g (bodies_in st.raw) c → ReadsAs capacity g bodies c
   named g c reads = subst (λ (bs : List (List ℕ)). ReadsAs capacity g bs c) (sym st.bodies_are) reads
 
-  pub stands_each : (c : List ℕ) → image log.disk c → ReadsAs capacity log.generation bodies c
+  pub stands_each : (c : List ℕ) → meaning.image log.disk c → ReadsAs capacity log.generation bodies c
   stands_each c at =
-      let now : ReadsAs capacity log.generation bodies (content log.disk) = record { region = log.region; raw = st.raw; spare = st.spare; holds = st.holds; bodies_are = st.bodies_are } in
+      let now : ReadsAs capacity log.generation bodies (meaning.content log.disk) = record { region = log.region; raw = st.raw; spare = st.spare; holds = st.holds; bodies_are = st.bodies_are } in
       subst (λ (l : List ℕ). ReadsAs capacity log.generation bodies l) (sym (st.only c at)) now
 
   -- the same frames on another disk
-  pub stands_on : (new : LogState D) → HoldsAs capacity log.region log.generation st.raw st.spare (content new.disk) → Only (content new.disk) (image new.disk)
-      → (meters new.disk).capacity ≡ capacity → new.region ≡ log.region → new.generation ≡ log.generation → new.end ≡ log.end → new.spare_open ≡ log.spare_open → new.failed ≡ false
-      → Stands content image meters bodies new
+  pub stands_on : (new : LogState D) → HoldsAs capacity log.region log.generation st.raw st.spare (meaning.content new.disk) → Only (meaning.content new.disk) (meaning.image new.disk)
+      → (meaning.meters new.disk).capacity ≡ capacity → new.region ≡ log.region → new.generation ≡ log.generation → new.end ≡ log.end → new.spare_open ≡ log.spare_open → new.failed ≡ false
+      → Stands meaning bodies new
   stands_on new holds only room region generation end spare sound = record {
     sound = sound;
     raw = st.raw;
     spare = st.spare;
-    holds = moved new.region new.generation (meters new.disk).capacity region generation room;
+    holds = moved new.region new.generation (meaning.meters new.disk).capacity region generation room;
     bodies_are = st.bodies_are;
     end_is = end ∙ st.end_is ∙ (λ i. start (sym room i) (sym region i) + length (frames st.raw));
     spare_is = spare ∙ st.spare_is;
     only = only;
   }
     where
-      moved : (r : Region) (g k : ℕ) → r ≡ log.region → g ≡ log.generation → k ≡ capacity → HoldsAs k r g st.raw st.spare (content new.disk)
+      moved : (r : Region) (g k : ℕ) → r ≡ log.region → g ≡ log.generation → k ≡ capacity → HoldsAs k r g st.raw st.spare (meaning.content new.disk)
       moved r g k er eg ek =
-          subst (λ (x : ℕ). HoldsAs x r g st.raw st.spare (content new.disk)) (sym ek)
-          (subst (λ (x : Region). HoldsAs capacity x g st.raw st.spare (content new.disk)) (sym er)
-          (subst (λ (x : ℕ). HoldsAs capacity log.region x st.raw st.spare (content new.disk)) (sym eg) holds))
+          subst (λ (x : ℕ). HoldsAs x r g st.raw st.spare (meaning.content new.disk)) (sym ek)
+          (subst (λ (x : Region). HoldsAs capacity x g st.raw st.spare (meaning.content new.disk)) (sym er)
+          (subst (λ (x : ℕ). HoldsAs capacity log.region x st.raw st.spare (meaning.content new.disk)) (sym eg) holds))
 
   module _ (body : List ℕ) (fits : Fits body) (tag : slice_index body 0 ≢ TURN) (need : log.end + 6 + length body ≤ limit capacity log.region) where
-    pub append_images : (now : List ℕ → Type 0) → ((c : List ℕ) → now c → Leaves (content log.disk) log.end (staged body) c)
+    pub append_images : (now : List ℕ → Type 0) → ((c : List ℕ) → now c → Leaves (meaning.content log.disk) log.end (staged body) c)
         → EachReadsAs capacity log.generation bodies log.generation (bodies ++ body ∷ []) now
     append_images now leaves c at =
-        elim (append_leaves capacity log.region log.generation st.raw st.spare (content log.disk) st.holds log.end st.end_is body fits tag need c (leaves c at)) [
+        elim (append_leaves capacity log.region log.generation st.raw st.spare (meaning.content log.disk) st.holds log.end st.end_is body fits tag need c (leaves c at)) [
           | inl before ↦ inl (named log.generation c before)
           | inr after ↦ inr (subst (λ (bs : List (List ℕ)). ReadsAs capacity log.generation (bs ++ body ∷ []) c) (sym st.bodies_are) after)
         ]
 
-    pub append_stands : (new : LogState D) → content new.disk ≡ overwritten (overwritten (content log.disk) (log.end + 1) (staged body)) log.end (OPEN ∷ [])
-        → Only (content new.disk) (image new.disk) → (meters new.disk).capacity ≡ capacity → new.region ≡ log.region → new.generation ≡ log.generation
-        → new.end ≡ log.end + (5 + length body) → new.spare_open ≡ log.spare_open → new.failed ≡ false → Stands content image meters (bodies ++ body ∷ []) new
+    pub append_stands : (new : LogState D) → meaning.content new.disk ≡ overwritten (overwritten (meaning.content log.disk) (log.end + 1) (staged body)) log.end (OPEN ∷ [])
+        → Only (meaning.content new.disk) (meaning.image new.disk) → (meaning.meters new.disk).capacity ≡ capacity → new.region ≡ log.region → new.generation ≡ log.generation
+        → new.end ≡ log.end + (5 + length body) → new.spare_open ≡ log.spare_open → new.failed ≡ false → Stands meaning (bodies ++ body ∷ []) new
     append_stands new written only room region generation end spare sound = record {
       sound = sound;
       raw = st.raw ++ body ∷ [];
       spare = st.spare;
-      holds = moved new.region new.generation (meters new.disk).capacity region generation room
-          (appended capacity log.region log.generation st.raw st.spare (content log.disk) st.holds log.end st.end_is body fits tag need (content new.disk) written);
+      holds = moved new.region new.generation (meaning.meters new.disk).capacity region generation room
+          (appended capacity log.region log.generation st.raw st.spare (meaning.content log.disk) st.holds log.end st.end_is body fits tag need (meaning.content new.disk) written);
       bodies_are = ap (λ bs. bs ++ body ∷ []) st.bodies_are ∙ sym (bodies_push st.raw body (untold body tag));
       end_is = end ∙ omega (arith, end_push st.raw body (start capacity log.region) log.end st.end_is) ∙ (λ i. start (sym room i) (sym region i) + length (frames (st.raw ++ body ∷ [])));
       spare_is = spare ∙ st.spare_is;
       only = only;
     }
       where
-        moved : (r : Region) (g k : ℕ) → r ≡ log.region → g ≡ log.generation → k ≡ capacity → HoldsAs capacity log.region log.generation (st.raw ++ body ∷ []) st.spare (content new.disk)
-            → HoldsAs k r g (st.raw ++ body ∷ []) st.spare (content new.disk)
+        moved : (r : Region) (g k : ℕ) → r ≡ log.region → g ≡ log.generation → k ≡ capacity → HoldsAs capacity log.region log.generation (st.raw ++ body ∷ []) st.spare (meaning.content new.disk)
+            → HoldsAs k r g (st.raw ++ body ∷ []) st.spare (meaning.content new.disk)
         moved r g k er eg ek holds =
-            subst (λ (x : ℕ). HoldsAs x r g (st.raw ++ body ∷ []) st.spare (content new.disk)) (sym ek)
-            (subst (λ (x : Region). HoldsAs capacity x g (st.raw ++ body ∷ []) st.spare (content new.disk)) (sym er)
-            (subst (λ (x : ℕ). HoldsAs capacity log.region x (st.raw ++ body ∷ []) st.spare (content new.disk)) (sym eg) holds))
+            subst (λ (x : ℕ). HoldsAs x r g (st.raw ++ body ∷ []) st.spare (meaning.content new.disk)) (sym ek)
+            (subst (λ (x : Region). HoldsAs capacity x g (st.raw ++ body ∷ []) st.spare (meaning.content new.disk)) (sym er)
+            (subst (λ (x : ℕ). HoldsAs capacity log.region x (st.raw ++ body ∷ []) st.spare (meaning.content new.disk)) (sym eg) holds))
 
   module _ (opens : log.spare_open ≡ true) (place : ℕ) (place_is : place ≡ start capacity (other log.region)) (room : place + 1 ≤ limit capacity (other log.region)) where
-    pub clear_images : (now : List ℕ → Type 0) → ((c : List ℕ) → now c → Torn place 1 (content log.disk) c) → (c : List ℕ) → now c → ReadsAs capacity log.generation bodies c
+    pub clear_images : (now : List ℕ → Type 0) → ((c : List ℕ) → now c → Torn place 1 (meaning.content log.disk) c) → (c : List ℕ) → now c → ReadsAs capacity log.generation bodies c
     clear_images now torn c at =
-        named log.generation c (clear_leaves capacity log.region log.generation st.raw st.spare (content log.disk) st.holds (sym st.spare_is ∙ opens) place place_is room c (torn c at))
+        named log.generation c (clear_leaves capacity log.region log.generation st.raw st.spare (meaning.content log.disk) st.holds (sym st.spare_is ∙ opens) place place_is room c (torn c at))
 
-    pub clear_stands : (new : LogState D) → content new.disk ≡ overwritten (content log.disk) place (0 ∷ []) → Only (content new.disk) (image new.disk) → (meters new.disk).capacity ≡ capacity
-        → new.region ≡ log.region → new.generation ≡ log.generation → new.end ≡ log.end → new.spare_open ≡ false → new.failed ≡ false → Stands content image meters bodies new
+    pub clear_stands : (new : LogState D) → meaning.content new.disk ≡ overwritten (meaning.content log.disk) place (0 ∷ []) → Only (meaning.content new.disk) (meaning.image new.disk) → (meaning.meters new.disk).capacity ≡ capacity
+        → new.region ≡ log.region → new.generation ≡ log.generation → new.end ≡ log.end → new.spare_open ≡ false → new.failed ≡ false → Stands meaning bodies new
     clear_stands new written only same region generation end spare sound = record {
       sound = sound;
       raw = st.raw;
       spare = Shut;
-      holds = moved new.region new.generation (meters new.disk).capacity region generation same
-          (cleared capacity log.region log.generation st.raw st.spare (content log.disk) st.holds (sym st.spare_is ∙ opens) place place_is room (content new.disk) written);
+      holds = moved new.region new.generation (meaning.meters new.disk).capacity region generation same
+          (cleared capacity log.region log.generation st.raw st.spare (meaning.content log.disk) st.holds (sym st.spare_is ∙ opens) place place_is room (meaning.content new.disk) written);
       bodies_are = st.bodies_are;
       end_is = end ∙ st.end_is ∙ (λ i. start (sym same i) (sym region i) + length (frames st.raw));
       spare_is = spare;
       only = only;
     }
       where
-        moved : (r : Region) (g k : ℕ) → r ≡ log.region → g ≡ log.generation → k ≡ capacity → HoldsAs capacity log.region log.generation st.raw Shut (content new.disk)
-            → HoldsAs k r g st.raw Shut (content new.disk)
+        moved : (r : Region) (g k : ℕ) → r ≡ log.region → g ≡ log.generation → k ≡ capacity → HoldsAs capacity log.region log.generation st.raw Shut (meaning.content new.disk)
+            → HoldsAs k r g st.raw Shut (meaning.content new.disk)
         moved r g k er eg ek holds =
-            subst (λ (x : ℕ). HoldsAs x r g st.raw Shut (content new.disk)) (sym ek)
-            (subst (λ (x : Region). HoldsAs capacity x g st.raw Shut (content new.disk)) (sym er)
-            (subst (λ (x : ℕ). HoldsAs capacity log.region x st.raw Shut (content new.disk)) (sym eg) holds))
+            subst (λ (x : ℕ). HoldsAs x r g st.raw Shut (meaning.content new.disk)) (sym ek)
+            (subst (λ (x : Region). HoldsAs capacity x g st.raw Shut (meaning.content new.disk)) (sym er)
+            (subst (λ (x : ℕ). HoldsAs capacity log.region x st.raw Shut (meaning.content new.disk)) (sym eg) holds))
 
   module _ (shut : log.spare_open ≡ false) (body : List ℕ) (few : log.generation < 4294967295) (fits : length body + 5 < 2 ^ 32)
       (place : ℕ) (place_is : place ≡ start capacity (other log.region)) (need : place + 11 + length body ≤ limit capacity (other log.region)) where
@@ -133,29 +133,29 @@ module _ {D : Type 0} (content : D → List ℕ) (image : D → List ℕ → Typ
     next_few : log.generation + 1 < 2 ^ 32
     next_few = omega (arith, few)
 
-    shut_holds : HoldsAs capacity log.region log.generation st.raw Shut (content log.disk)
+    shut_holds : HoldsAs capacity log.region log.generation st.raw Shut (meaning.content log.disk)
     shut_holds =
-        subst (λ (f : Front). HoldsAs capacity log.region log.generation st.raw f (content log.disk))
+        subst (λ (f : Front). HoldsAs capacity log.region log.generation st.raw f (meaning.content log.disk))
         (shut_from log.region st.raw st.spare log.generation st.holds.active (sym shut ∙ st.spare_is)) st.holds
 
-    pub turn_images : (now : List ℕ → Type 0) → ((c : List ℕ) → now c → Leaves (content log.disk) place (staged (turned (log.generation + 1) body)) c)
+    pub turn_images : (now : List ℕ → Type 0) → ((c : List ℕ) → now c → Leaves (meaning.content log.disk) place (staged (turned (log.generation + 1) body)) c)
         → EachReadsAs capacity log.generation bodies (log.generation + 1) (body ∷ []) now
     turn_images now leaves c at =
-        elim (turn_leaves capacity log.region log.generation st.raw (content log.disk) shut_holds body next_few first_fits place place_is first_need c (leaves c at)) [
+        elim (turn_leaves capacity log.region log.generation st.raw (meaning.content log.disk) shut_holds body next_few first_fits place place_is first_need c (leaves c at)) [
           | inl before ↦ inl (named log.generation c before)
           | inr after ↦ inr after
         ]
 
-    pub turn_stands : (new : LogState D) → content new.disk ≡ overwritten (overwritten (content log.disk) (place + 1) (staged (turned (log.generation + 1) body))) place (OPEN ∷ [])
-        → Only (content new.disk) (image new.disk) → (meters new.disk).capacity ≡ capacity → new.region ≡ other log.region → new.generation ≡ log.generation + 1
+    pub turn_stands : (new : LogState D) → meaning.content new.disk ≡ overwritten (overwritten (meaning.content log.disk) (place + 1) (staged (turned (log.generation + 1) body))) place (OPEN ∷ [])
+        → Only (meaning.content new.disk) (meaning.image new.disk) → (meaning.meters new.disk).capacity ≡ capacity → new.region ≡ other log.region → new.generation ≡ log.generation + 1
         → new.end ≡ place + 10 + length body → new.spare_open ≡ nat_lt (start capacity log.region) log.end → new.failed ≡ false
-        → Stands content image meters (body ∷ []) new
+        → Stands meaning (body ∷ []) new
     turn_stands new written only room region generation end spare sound = record {
       sound = sound;
       raw = turned (log.generation + 1) body ∷ [];
       spare = front_of st.raw;
-      holds = moved new.region new.generation (meters new.disk).capacity region generation room
-          (turned_to capacity log.region log.generation st.raw (content log.disk) shut_holds body next_few first_fits place place_is first_need (content new.disk) written);
+      holds = moved new.region new.generation (meaning.meters new.disk).capacity region generation room
+          (turned_to capacity log.region log.generation st.raw (meaning.content log.disk) shut_holds body next_few first_fits place place_is first_need (meaning.content new.disk) written);
       bodies_are = ap (λ b. b ∷ []) (sym (handed_turned (log.generation + 1) body next_few));
       end_is = end ∙ last ∙ (λ i. start (sym room i) (sym region i) + length (frames (turned (log.generation + 1) body ∷ [])));
       spare_is = spare ∙ opened ∙ sym (open_from st.raw);
@@ -163,12 +163,12 @@ module _ {D : Type 0} (content : D → List ℕ) (image : D → List ℕ → Typ
     }
       where
         moved : (r : Region) (g k : ℕ) → r ≡ other log.region → g ≡ log.generation + 1 → k ≡ capacity
-            → HoldsAs capacity (other log.region) (log.generation + 1) (turned (log.generation + 1) body ∷ []) (front_of st.raw) (content new.disk)
-            → HoldsAs k r g (turned (log.generation + 1) body ∷ []) (front_of st.raw) (content new.disk)
+            → HoldsAs capacity (other log.region) (log.generation + 1) (turned (log.generation + 1) body ∷ []) (front_of st.raw) (meaning.content new.disk)
+            → HoldsAs k r g (turned (log.generation + 1) body ∷ []) (front_of st.raw) (meaning.content new.disk)
         moved r g k er eg ek holds =
-            subst (λ (x : ℕ). HoldsAs x r g (turned (log.generation + 1) body ∷ []) (front_of st.raw) (content new.disk)) (sym ek)
-            (subst (λ (x : Region). HoldsAs capacity x g (turned (log.generation + 1) body ∷ []) (front_of st.raw) (content new.disk)) (sym er)
-            (subst (λ (x : ℕ). HoldsAs capacity (other log.region) x (turned (log.generation + 1) body ∷ []) (front_of st.raw) (content new.disk)) (sym eg) holds))
+            subst (λ (x : ℕ). HoldsAs x r g (turned (log.generation + 1) body ∷ []) (front_of st.raw) (meaning.content new.disk)) (sym ek)
+            (subst (λ (x : Region). HoldsAs capacity x g (turned (log.generation + 1) body ∷ []) (front_of st.raw) (meaning.content new.disk)) (sym er)
+            (subst (λ (x : ℕ). HoldsAs capacity (other log.region) x (turned (log.generation + 1) body ∷ []) (front_of st.raw) (meaning.content new.disk)) (sym eg) holds))
 
         last : place + 10 + length body ≡ start capacity (other log.region) + length (frames (turned (log.generation + 1) body ∷ []))
         last =

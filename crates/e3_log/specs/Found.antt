@@ -1,6 +1,6 @@
 -- The frames that were found.
 use Rattle.std.specs.Prelude.{◌≡◌, ℕ, ◌+◌, List, [], ◌∷◌, Option, Some, None, length, drop, map}
-use Rattle.e3_disk.specs.Meters.{Meters}
+use Rattle.e3_disk.specs.Meaning.{Meaning}
 use Rattle.e3_log.specs.declared.open.Frame.{Frame}
 use Rattle.e3_log.specs.declared.prepare.Held.{Held}
 use Rattle.e3_log.specs.declared.region.Front.{Front}
@@ -54,6 +54,6 @@ pub record IsHeld (capacity : ℕ) (bytes : List ℕ) (h : Held) : Type 0 where
   pub spare_is : h.spare_open ≡ is_open spare
 
 -- A log and what it was opened with: it stands for the bodies, and each frame tells where its body begins on the disk.
-pub record Opened {D : Type 0} (content : D → List ℕ) (image : D → List ℕ → Type 0) (meters : D → Meters) (found : List Frame) (log : LogState D) : Type 0 where
-  pub stands : Stands content image meters (bodies_of found) log
-  pub places : found ≡ handed_frames (frames_from (start (meters log.disk).capacity log.region) stands.raw)
+pub record Opened {D : Type 0} (meaning : Meaning D) (found : List Frame) (log : LogState D) : Type 0 where
+  pub stands : Stands meaning (bodies_of found) log
+  pub places : found ≡ handed_frames (frames_from (start (meaning.meters log.disk).capacity log.region) stands.raw)

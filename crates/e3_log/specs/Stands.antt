@@ -2,6 +2,7 @@
 use Rattle.std.specs.Prelude.{◌≡◌, ◌⊎◌, ℕ, ◌+◌, ◌-◌, ◌<◌, Bool, true, false, Result, OnOk, OnErr, List, [], ◌∷◌, ◌++◌, length}
 use Rattle.std.specs.Int.{w32, to_be_bytes}
 use Rattle.e3_disk.specs.Images.{Only, Torn, overwritten}
+use Rattle.e3_disk.specs.Meaning.{Meaning}
 use Rattle.e3_disk.specs.Meters.{Meters, HasFailed, Keeps}
 use Rattle.e3_log.specs.declared.region.Front.{Front}
 use Rattle.e3_log.specs.declared.region.Region.{Region}
@@ -22,15 +23,15 @@ pub record LogState (D : Type 0) : Type 0 where
 
 -- A log stands for these bodies: it keeps no failure, its disk holds frames that hand them out, and the disk as it reads is
 -- all that a crash may leave.
-pub record Stands {D : Type 0} (content : D → List ℕ) (image : D → List ℕ → Type 0) (meters : D → Meters) (bodies : List (List ℕ)) (log : LogState D) : Type 0 where
+pub record Stands {D : Type 0} (meaning : Meaning D) (bodies : List (List ℕ)) (log : LogState D) : Type 0 where
   pub sound : log.failed ≡ false
   pub raw : List (List ℕ)
   pub spare : Front
-  pub holds : HoldsAs (meters log.disk).capacity log.region log.generation raw spare (content log.disk)
+  pub holds : HoldsAs (meaning.meters log.disk).capacity log.region log.generation raw spare (meaning.content log.disk)
   pub bodies_are : bodies ≡ bodies_in raw
-  pub end_is : log.end ≡ start (meters log.disk).capacity log.region + length (frames raw)
+  pub end_is : log.end ≡ start (meaning.meters log.disk).capacity log.region + length (frames raw)
   pub spare_is : log.spare_open ≡ is_open spare
-  pub only : Only (content log.disk) (image log.disk)
+  pub only : Only (meaning.content log.disk) (meaning.image log.disk)
 
 -- Each image reads as bodies of the first generation, or as others of the second one.
 abbrev pub EachReadsAs : ℕ → ℕ → List (List ℕ) → ℕ → List (List ℕ) → (List ℕ → Type 0) → Type 0

@@ -44,16 +44,16 @@ pub fn put_turned(buffer: &mut Vec<u8>, generation: u32, body: &[u8])
 
 // Writes what stands behind the closed gate, and makes it durable.
 fn write_frame<D: Disk>(disk: &mut D, end: u64, bytes: &[u8]) -> Result<(), DiskFault>
-    requires gate { end < length (D.content disk.old) }
-    requires room { end + 1 + length bytes.now ≤ (D.meters disk.old).capacity }
-    requires bound { (D.meters disk.old).capacity ≤ 2 ^ 30 }
-    ensures written { OnOk result (Holds (D.content disk.old) (end + 1) bytes.now (D.content disk.new)) }
-    ensures durable { OnOk result (Only (D.content disk.new) (D.image disk.new)) }
-    ensures images { Tears (end + 1) (length bytes.now) (D.image disk.old) (D.image disk.new) }
+    requires gate { end < length (D.meaning.content disk.old) }
+    requires room { end + 1 + length bytes.now ≤ (D.meaning.meters disk.old).capacity }
+    requires bound { (D.meaning.meters disk.old).capacity ≤ 2 ^ 30 }
+    ensures written { OnOk result (Holds (D.meaning.content disk.old) (end + 1) bytes.now (D.meaning.content disk.new)) }
+    ensures durable { OnOk result (Only (D.meaning.content disk.new) (D.meaning.image disk.new)) }
+    ensures images { Tears (end + 1) (length bytes.now) (D.meaning.image disk.old) (D.meaning.image disk.new) }
     ensures failed { IfErr result (λ e. e ≡ Failed) }
-    ensures meters { Spends 2 (D.meters disk.old) (D.meters disk.new) result }
-    ensures long { OnOk result (length (D.content disk.old) ≤ length (D.content disk.new)) }
-    ensures behind { OnOk result (end + 1 + length bytes.now ≤ length (D.content disk.new)) }
+    ensures meters { Spends 2 (D.meaning.meters disk.old) (D.meaning.meters disk.new) result }
+    ensures long { OnOk result (length (D.meaning.content disk.old) ≤ length (D.meaning.content disk.new)) }
+    ensures behind { OnOk result (end + 1 + length bytes.now ≤ length (D.meaning.content disk.new)) }
 {
     disk.write_at(end + 1, bytes)?;
     disk.sync()?;
@@ -62,14 +62,14 @@ fn write_frame<D: Disk>(disk: &mut D, end: u64, bytes: &[u8]) -> Result<(), Disk
 
 // Sets one gate, and makes it durable.
 fn set_gate<D: Disk>(disk: &mut D, place: u64, gate: u8) -> Result<(), DiskFault>
-    requires gate { place < length (D.content disk.old) }
-    requires room { place + 1 ≤ (D.meters disk.old).capacity }
-    ensures written { OnOk result (Holds (D.content disk.old) place (gate ∷ []) (D.content disk.new)) }
-    ensures durable { OnOk result (Only (D.content disk.new) (D.image disk.new)) }
-    ensures images { Tears place 1 (D.image disk.old) (D.image disk.new) }
+    requires gate { place < length (D.meaning.content disk.old) }
+    requires room { place + 1 ≤ (D.meaning.meters disk.old).capacity }
+    ensures written { OnOk result (Holds (D.meaning.content disk.old) place (gate ∷ []) (D.meaning.content disk.new)) }
+    ensures durable { OnOk result (Only (D.meaning.content disk.new) (D.meaning.image disk.new)) }
+    ensures images { Tears place 1 (D.meaning.image disk.old) (D.meaning.image disk.new) }
     ensures failed { IfErr result (λ e. e ≡ Failed) }
-    ensures meters { Spends 2 (D.meters disk.old) (D.meters disk.new) result }
-    ensures long { OnOk result (length (D.content disk.old) ≤ length (D.content disk.new)) }
+    ensures meters { Spends 2 (D.meaning.meters disk.old) (D.meaning.meters disk.new) result }
+    ensures long { OnOk result (length (D.meaning.content disk.old) ≤ length (D.meaning.content disk.new)) }
 {
     disk.write_at(place, &[gate])?;
     disk.sync()?;
@@ -78,30 +78,30 @@ fn set_gate<D: Disk>(disk: &mut D, place: u64, gate: u8) -> Result<(), DiskFault
 
 /// Closes a gate.
 pub fn shut_gate<D: Disk>(disk: &mut D, place: u64) -> Result<(), DiskFault>
-    requires gate { place < length (D.content disk.old) }
-    requires room { place + 1 ≤ (D.meters disk.old).capacity }
-    ensures written { OnOk result (D.content disk.new ≡ overwritten (D.content disk.old) place (0 ∷ [])) }
-    ensures durable { OnOk result (Only (D.content disk.new) (D.image disk.new)) }
-    ensures images { Only (D.content disk.old) (D.image disk.old) → (c : List ℕ) → D.image disk.new c → Torn place 1 (D.content disk.old) c }
+    requires gate { place < length (D.meaning.content disk.old) }
+    requires room { place + 1 ≤ (D.meaning.meters disk.old).capacity }
+    ensures written { OnOk result (D.meaning.content disk.new ≡ overwritten (D.meaning.content disk.old) place (0 ∷ [])) }
+    ensures durable { OnOk result (Only (D.meaning.content disk.new) (D.meaning.image disk.new)) }
+    ensures images { Only (D.meaning.content disk.old) (D.meaning.image disk.old) → (c : List ℕ) → D.meaning.image disk.new c → Torn place 1 (D.meaning.content disk.old) c }
     ensures failed { IfErr result (λ e. e ≡ Failed) }
-    ensures meters { Spends 2 (D.meters disk.old) (D.meters disk.new) result }
-    ensures long { OnOk result (length (D.content disk.old) ≤ length (D.content disk.new)) }
+    ensures meters { Spends 2 (D.meaning.meters disk.old) (D.meaning.meters disk.new) result }
+    ensures long { OnOk result (length (D.meaning.content disk.old) ≤ length (D.meaning.content disk.new)) }
 {
     set_gate(disk, place, 0)
 }
 
 /// Adds a frame, of which these bytes stand behind its gate, at a closed gate: by four calls of the disk.
 pub fn commit<D: Disk>(disk: &mut D, end: u64, bytes: &[u8]) -> Result<(), DiskFault>
-    requires gate { end < length (D.content disk.old) }
-    requires room { end + 1 + length bytes.now ≤ (D.meters disk.old).capacity }
-    requires bound { (D.meters disk.old).capacity ≤ 2 ^ 30 }
-    ensures written { OnOk result (D.content disk.new ≡ overwritten (overwritten (D.content disk.old) (end + 1) bytes.now) end (OPEN_GATE ∷ [])) }
-    ensures durable { OnOk result (Only (D.content disk.new) (D.image disk.new)) }
-    ensures images { Only (D.content disk.old) (D.image disk.old) → (c : List ℕ) → D.image disk.new c → Leaves (D.content disk.old) end bytes.now c }
+    requires gate { end < length (D.meaning.content disk.old) }
+    requires room { end + 1 + length bytes.now ≤ (D.meaning.meters disk.old).capacity }
+    requires bound { (D.meaning.meters disk.old).capacity ≤ 2 ^ 30 }
+    ensures written { OnOk result (D.meaning.content disk.new ≡ overwritten (overwritten (D.meaning.content disk.old) (end + 1) bytes.now) end (OPEN_GATE ∷ [])) }
+    ensures durable { OnOk result (Only (D.meaning.content disk.new) (D.meaning.image disk.new)) }
+    ensures images { Only (D.meaning.content disk.old) (D.meaning.image disk.old) → (c : List ℕ) → D.meaning.image disk.new c → Leaves (D.meaning.content disk.old) end bytes.now c }
     ensures failed { IfErr result (λ e. e ≡ Failed) }
-    ensures meters { Spends 4 (D.meters disk.old) (D.meters disk.new) result }
-    ensures long { OnOk result (length (D.content disk.old) ≤ length (D.content disk.new)) }
-    ensures behind { OnOk result (end + 1 + length bytes.now ≤ length (D.content disk.new)) }
+    ensures meters { Spends 4 (D.meaning.meters disk.old) (D.meaning.meters disk.new) result }
+    ensures long { OnOk result (length (D.meaning.content disk.old) ≤ length (D.meaning.content disk.new)) }
+    ensures behind { OnOk result (end + 1 + length bytes.now ≤ length (D.meaning.content disk.new)) }
 {
     write_frame(disk, end, bytes)?;
     set_gate(disk, end, OPEN)?;

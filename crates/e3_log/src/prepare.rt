@@ -47,17 +47,17 @@ fn span_of(region: Region, capacity: u64, len: u64) -> Span
 
 // How both regions begin.
 fn read_fronts<D: Disk>(disk: &mut D, capacity: u64, len: u64) -> Result<(Front, Front), OpenCause>
-    requires length { len ≡ length (D.content disk.old) }
+    requires length { len ≡ length (D.meaning.content disk.old) }
     requires whole { half capacity < len }
     requires within { len ≤ capacity }
     requires least { 2 ≤ capacity }
     requires most { capacity ≤ 2 ^ 30 }
-    requires power { (D.meters disk.old).powered ≡ true }
-    ensures fronts { IfOk result (λ r. HasFronts capacity (D.content disk.old) r.0 r.1) }
+    requires power { (D.meaning.meters disk.old).powered ≡ true }
+    ensures fronts { IfOk result (λ r. HasFronts capacity (D.meaning.content disk.old) r.0 r.1) }
     ensures cause { IfErr result (λ e. e ≡ OpenCause.Failed) }
-    ensures same { (IsErrOf result OpenCause.Failed → ⊥) → D.content disk.new ≡ D.content disk.old }
-    ensures images { Within (D.image disk.old) (D.image disk.new) }
-    ensures meters { Looks (D.meters disk.old) (D.meters disk.new) result }
+    ensures same { (IsErrOf result OpenCause.Failed → ⊥) → D.meaning.content disk.new ≡ D.meaning.content disk.old }
+    ensures images { Within (D.meaning.image disk.old) (D.meaning.image disk.new) }
+    ensures meters { Looks (D.meaning.meters disk.old) (D.meaning.meters disk.new) result }
 {
     let first = read_front(disk, span_of(Region::First, capacity, len))?;
     let second = read_front(disk, span_of(Region::Second, capacity, len))?;
@@ -102,19 +102,19 @@ fn read_region<D: Disk>(
     generation: u32,
     fronts: (Front, Front),
 ) -> Result<Held, OpenCause>
-    requires length { len ≡ length (D.content disk.old) }
+    requires length { len ≡ length (D.meaning.content disk.old) }
     requires within { len ≤ capacity }
     requires least { 2 ≤ capacity }
     requires most { capacity ≤ 2 ^ 30 }
-    requires power { (D.meters disk.old).powered ≡ true }
-    requires fronts { HasFronts capacity (D.content disk.old) fronts.0 fronts.1 }
+    requires power { (D.meaning.meters disk.old).powered ≡ true }
+    requires fronts { HasFronts capacity (D.meaning.content disk.old) fronts.0 fronts.1 }
     requires found { active_of fronts.0 fronts.1 ≡ Found.Active region generation }
-    ensures held { IfOk result (IsHeld capacity (D.content disk.old)) }
-    ensures end { IfOk result (λ h. (h.end < limit capacity h.region) × (h.end < length (D.content disk.old)) × (start capacity h.region ≤ h.end)) }
-    ensures damaged { (place : ℕ) → result ≡ Err (OpenCause.Damaged place) → HasBadFrame capacity (D.content disk.old) place }
-    ensures same { (IsErrOf result OpenCause.Failed → ⊥) → D.content disk.new ≡ D.content disk.old }
-    ensures images { Within (D.image disk.old) (D.image disk.new) }
-    ensures meters { Looks (D.meters disk.old) (D.meters disk.new) result }
+    ensures held { IfOk result (IsHeld capacity (D.meaning.content disk.old)) }
+    ensures end { IfOk result (λ h. (h.end < limit capacity h.region) × (h.end < length (D.meaning.content disk.old)) × (start capacity h.region ≤ h.end)) }
+    ensures damaged { (place : ℕ) → result ≡ Err (OpenCause.Damaged place) → HasBadFrame capacity (D.meaning.content disk.old) place }
+    ensures same { (IsErrOf result OpenCause.Failed → ⊥) → D.meaning.content disk.new ≡ D.meaning.content disk.old }
+    ensures images { Within (D.meaning.image disk.old) (D.meaning.image disk.new) }
+    ensures meters { Looks (D.meaning.meters disk.old) (D.meaning.meters disk.new) result }
 {
     let start = region.start(capacity);
     let (found, end) = read_frames(alloc, disk, span_of(region, capacity, len))?;
@@ -135,18 +135,18 @@ fn read_regions<D: Disk>(
     capacity: u64,
     len: u64,
 ) -> Result<Held, OpenCause>
-    requires length { len ≡ length (D.content disk.old) }
+    requires length { len ≡ length (D.meaning.content disk.old) }
     requires within { len ≤ capacity }
     requires least { 2 ≤ capacity }
     requires most { capacity ≤ 2 ^ 30 }
-    requires power { (D.meters disk.old).powered ≡ true }
-    ensures held { IfOk result (IsHeld capacity (D.content disk.old)) }
-    ensures end { IfOk result (λ h. (h.end < limit capacity h.region) × (h.end < length (D.content disk.old)) × (start capacity h.region ≤ h.end)) }
-    ensures whole { IfOk result (λ h. half capacity < length (D.content disk.old)) }
-    ensures damaged { (place : ℕ) → result ≡ Err (OpenCause.Damaged place) → DamagedAt capacity (D.content disk.old) place }
-    ensures same { (IsErrOf result OpenCause.Failed → ⊥) → D.content disk.new ≡ D.content disk.old }
-    ensures images { Within (D.image disk.old) (D.image disk.new) }
-    ensures meters { Looks (D.meters disk.old) (D.meters disk.new) result }
+    requires power { (D.meaning.meters disk.old).powered ≡ true }
+    ensures held { IfOk result (IsHeld capacity (D.meaning.content disk.old)) }
+    ensures end { IfOk result (λ h. (h.end < limit capacity h.region) × (h.end < length (D.meaning.content disk.old)) × (start capacity h.region ≤ h.end)) }
+    ensures whole { IfOk result (λ h. half capacity < length (D.meaning.content disk.old)) }
+    ensures damaged { (place : ℕ) → result ≡ Err (OpenCause.Damaged place) → DamagedAt capacity (D.meaning.content disk.old) place }
+    ensures same { (IsErrOf result OpenCause.Failed → ⊥) → D.meaning.content disk.new ≡ D.meaning.content disk.old }
+    ensures images { Within (D.meaning.image disk.old) (D.meaning.image disk.new) }
+    ensures meters { Looks (D.meaning.meters disk.old) (D.meaning.meters disk.new) result }
 {
     if len <= half(capacity) {
         return Err(OpenCause::Damaged { at: len });
@@ -164,20 +164,20 @@ fn read_regions<D: Disk>(
 
 /// Makes the disk durable, reads its regions, and takes room for the largest frame.
 pub fn prepare<D: Disk>(alloc: Global, disk: &mut D) -> Result<(Held, Vec<u8>), OpenCause>
-    ensures held { IfOk result (λ r. IsHeld (D.meters disk.old).capacity (D.content disk.old) r.0) }
-    ensures end { IfOk result (λ r. (r.0.end < limit (D.meters disk.old).capacity r.0.region) × (r.0.end < length (D.content disk.old))
-        × (start (D.meters disk.old).capacity r.0.region ≤ r.0.end)) }
-    ensures whole { IfOk result (λ r. half (D.meters disk.old).capacity < length (D.content disk.old)) }
+    ensures held { IfOk result (λ r. IsHeld (D.meaning.meters disk.old).capacity (D.meaning.content disk.old) r.0) }
+    ensures end { IfOk result (λ r. (r.0.end < limit (D.meaning.meters disk.old).capacity r.0.region) × (r.0.end < length (D.meaning.content disk.old))
+        × (start (D.meaning.meters disk.old).capacity r.0.region ≤ r.0.end)) }
+    ensures whole { IfOk result (λ r. half (D.meaning.meters disk.old).capacity < length (D.meaning.content disk.old)) }
     ensures bound { IfOk result (λ r. r.0.end ≤ 2 ^ 30) }
-    ensures room { IfOk result (λ r. (D.meters disk.old).capacity - half (D.meters disk.old).capacity ≤ vec_capacity r.1) }
-    ensures same { (IsErrOf result OpenCause.Failed → ⊥) → D.content disk.new ≡ D.content disk.old }
-    ensures damaged { (at : ℕ) → result ≡ Err (OpenCause.Damaged at) → DamagedAt (D.meters disk.old).capacity (D.content disk.old) at }
-    ensures images { Within (D.image disk.old) (D.image disk.new) }
-    ensures failed { IsErrOf result OpenCause.Failed → Failing (D.meters disk.old) (D.meters disk.new) }
-    ensures keeps { Keeps (D.meters disk.old) (D.meters disk.new) }
-    ensures calls { (IsErrOf result OpenCause.Failed → ⊥) → TakesOne (D.meters disk.old) (D.meters disk.new) }
-    ensures power { (IsErrOf result OpenCause.Failed → ⊥) → Passing (D.meters disk.old) (D.meters disk.new) }
-    ensures durable { (IsErrOf result OpenCause.Failed → ⊥) → Only (D.content disk.old) (D.image disk.new) }
+    ensures room { IfOk result (λ r. (D.meaning.meters disk.old).capacity - half (D.meaning.meters disk.old).capacity ≤ vec_capacity r.1) }
+    ensures same { (IsErrOf result OpenCause.Failed → ⊥) → D.meaning.content disk.new ≡ D.meaning.content disk.old }
+    ensures damaged { (at : ℕ) → result ≡ Err (OpenCause.Damaged at) → DamagedAt (D.meaning.meters disk.old).capacity (D.meaning.content disk.old) at }
+    ensures images { Within (D.meaning.image disk.old) (D.meaning.image disk.new) }
+    ensures failed { IsErrOf result OpenCause.Failed → Failing (D.meaning.meters disk.old) (D.meaning.meters disk.new) }
+    ensures keeps { Keeps (D.meaning.meters disk.old) (D.meaning.meters disk.new) }
+    ensures calls { (IsErrOf result OpenCause.Failed → ⊥) → TakesOne (D.meaning.meters disk.old) (D.meaning.meters disk.new) }
+    ensures power { (IsErrOf result OpenCause.Failed → ⊥) → Passing (D.meaning.meters disk.old) (D.meaning.meters disk.new) }
+    ensures durable { (IsErrOf result OpenCause.Failed → ⊥) → Only (D.meaning.content disk.old) (D.meaning.image disk.new) }
 {
     disk.sync()?;
     let len = disk.len()?;

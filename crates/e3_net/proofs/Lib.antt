@@ -4,7 +4,6 @@ pub mod Pushing
 pub mod Taking
 pub mod Keeping
 pub mod Showing
-pub mod AllSites
 pub mod Sending
 pub mod Entering
 pub mod Queues

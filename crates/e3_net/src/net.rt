@@ -2,11 +2,10 @@
 ghost use Rattle.std.specs.Prelude.{◌≡◌, ◌+◌, ◌-◌, ◌^◌, ◌<◌, ◌≤◌, suc, length, take, IfOk, OnOk, option_copied, option_map, slice_get};
 ghost use Rattle.e3_net.specs.Traffic.{copies_now, fresh, packet_to, queue_in, sends, sends_all, takes};
 ghost use Rattle.e3_world.specs.Legal.{numbered};
-ghost use Rattle.e3_world.specs.Packets.{sites_to};
 
 use crate::queue::{self, Queue};
-use e3_types::{List, Message, NoMemory, Packet, SiteSet};
-use e3_world::fate_word;
+use e3_types::{List, Message, NoMemory, Packet, Scenario, SiteSet};
+use e3_world::{fate_word, sites_to};
 use std::alloc::Global;
 use std::marker::Model;
 
@@ -44,19 +43,6 @@ impl Model for Net {
     ghost invariant = { λ n. (n.loss + n.repeat ≤ 100) × (n.waiting.given ≤ n.sent) };
 }
 
-// All sites up to this one.
-#[tactic(auto, using(crate::proofs::AllSites::next_site))]
-fn sites_to(count: u32) -> SiteSet
-    requires { count ≤ 64 }
-    ensures { result ≡ sites_to count }
-{
-    let mut sites = SiteSet::empty();
-    for site in 0..count {
-        sites = sites.with(site + 1);
-    }
-    sites
-}
-
 impl Net {
     /// The network of so many sites, all in one part. Of a hundred packets about `loss` are lost, and about `repeat` come
     /// twice; which, the luck decides. Want of memory is the only error.
@@ -82,6 +68,21 @@ impl Net {
             sent: 0,
             waiting: Queue::new(alloc)?,
         })
+    }
+
+    /// The network of a scenario: of its sites, with its luck and its shares. Want of memory is the only error.
+    pub fn of(alloc: Global, scenario: &Scenario) -> Result<Net, NoMemory>
+        requires sites { length scenario.now.weights ≤ 64 }
+        requires shares { scenario.now.loss + scenario.now.repeat ≤ 100 }
+        ensures { IfOk result (λ net. net.traffic ≡ fresh (length scenario.now.weights) scenario.now.luck scenario.now.loss scenario.now.repeat) }
+    {
+        Net::new(
+            alloc,
+            scenario.weights.len() as u32,
+            scenario.luck,
+            scenario.loss,
+            scenario.repeat,
+        )
     }
 
     /// Makes room for so many packets more. Want of memory is the only error.

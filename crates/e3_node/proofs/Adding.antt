@@ -7,7 +7,7 @@ use Rattle.e3_codec.specs.Fields.{AllCanBeReadBack}
 use Rattle.e3_disk.specs.Meters.{Meters}
 use Rattle.e3_log.specs.Stands.{LogState}
 use Rattle.e3_node.specs.Batched.{IsBatch, OnlyForMemory, first_of}
-use Rattle.e3_node.specs.Batches.{inputs_in, plain_of, plain_steps, stepped}
+use Rattle.e3_node.specs.Batches.{inputs_in, unnumbered_of, unnumbered_steps, stepped}
 use Rattle.e3_node.specs.Briefing.{BriefsAreTold, IsBriefOf}
 use Rattle.e3_node.specs.Drafts.{IsAsBefore, IsReady}
 use Rattle.e3_node.specs.Ends.{input_fault_of}
@@ -49,13 +49,13 @@ each_right P [] ys all = all
 each_right P (x ∷ xs) ys all = each_right P xs ys all.1
 
 -- the inputs of its steps are those that it has
-pub inputs_done : (sc : Scenario) (h : List Entry) (site : ℕ) (done : List Input) → inputs_in (plain_steps sc h site done) ≡ done
+pub inputs_done : (sc : Scenario) (h : List Entry) (site : ℕ) (done : List Input) → inputs_in (unnumbered_steps sc h site done) ≡ done
 inputs_done sc h site [] = refl
 inputs_done sc h site (i ∷ done) = ap (λ (l : List Input). i ∷ l) (inputs_done sc (h ++ entry_of sc h site i ∷ []) site done)
 
 -- the entry of a step that the history makes
 step_plain : (sc : Scenario) (h : List Entry) (site : ℕ) (i : Input) (step : SiteStep) → step ≡ step_kept i (made_by sc h site i) →
-    entry_of_plan site i step ≡ plain_of site i (made_by sc h site i)
+    entry_of_plan site i step ≡ unnumbered_of site i (made_by sc h site i)
 step_plain sc h site i step is = ap (λ (p : SiteStep). entry_of_plan site i p) is
 
 -- what is said of a refusal
@@ -140,7 +140,7 @@ module _ {D : Type 0} (meters : D → Meters) (on_disk : LogState D) where
         ((l : List Record) → (b.records ≡ [] → IsBriefOf t l) → c.records ≢ [] → b.short ≡ None → IsDue meters on_disk l short (length c.body)) →
         then ≡ now ++ mark.Place site outs ∷ [] → IsBatch meters on_disk sc h site rose marks first (done ++ i ∷ []) c new then
     batch_added b c s t new now then outs i d made step short was order told ready still made_is go weights number counted step_is outs_are steps records body shorts is_short may due claim = record {
-      steps_are = steps ∙ ap (λ (l : List Entry). l ++ step ∷ []) was.steps_are ∙ ap (λ (x : Entry). plain_steps sc h site done ++ x ∷ []) entry ∙ sym (plain_push sc h site done i);
+      steps_are = steps ∙ ap (λ (l : List Entry). l ++ step ∷ []) was.steps_are ∙ ap (λ (x : Entry). unnumbered_steps sc h site done ++ x ∷ []) entry ∙ sym (plain_push sc h site done i);
       records_are = records_now;
       body_is =
           body ∙ ap (λ (l : List ℕ). l ++ d.body) was.body_is ∙ ap (λ (l : List ℕ). spelling (records_by sc h site done) ++ l) (ready.drafted.body_is ∙ ap spelling recorded)
@@ -163,10 +163,10 @@ module _ {D : Type 0} (meters : D → Meters) (on_disk : LogState D) where
           omega (arith, few, same, one, long, counted);
       claimed =
           claim ∙ ap (λ (l : List Mark). l ++ mark.Place site outs ∷ []) was.claimed
-          ∙ append_assoc marks (claims_for (plain_steps sc h site done)) (mark.Place site outs ∷ [])
-          ∙ ap (λ (l : List Mark). marks ++ l) (ap (λ (n : ℕ). claims_for (plain_steps sc h site done) ++ mark.Place site n ∷ [])
+          ∙ append_assoc marks (claims_for (unnumbered_steps sc h site done)) (mark.Place site outs ∷ [])
+          ∙ ap (λ (l : List Mark). marks ++ l) (ap (λ (n : ℕ). claims_for (unnumbered_steps sc h site done) ++ mark.Place site n ∷ [])
           (outs_are ∙ ap (λ (p : SiteStep). length p.outs) is_made.step_is)
-          ∙ sym (claims_push (plain_steps sc h site done) (plain_of site i (made_by sc here site i))) ∙ ap claims_for (sym (plain_push sc h site done i)));
+          ∙ sym (claims_push (unnumbered_steps sc h site done) (unnumbered_of site i (made_by sc here site i))) ∙ ap claims_for (sym (plain_push sc h site done i)));
       short =
           let P : ℕ → Type 0 = λ n. IsShortIf n l short in
           let Q : Option Short → Type 0 = λ o. IsShortIf site l o in
@@ -196,7 +196,7 @@ module _ {D : Type 0} (meters : D → Meters) (on_disk : LogState D) where
         records_now = records ∙ ap (λ (x : List Record). x ++ d.plan.step.records) was.records_are ∙ ap (λ (x : List Record). records_by sc h site done ++ x) recorded
             ∙ sym (records_push sc h site done i)
 
-        entry : step ≡ plain_of site i (made_by sc here site i)
+        entry : step ≡ unnumbered_of site i (made_by sc here site i)
         entry = step_is ∙ step_plain sc here site i made (made_is ∙ is_made.step_is)
 
         there : t.site ≡ site

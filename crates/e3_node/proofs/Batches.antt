@@ -2,7 +2,7 @@
 use Rattle.std.proofs.Common.{◌≡◌, ◌≤◌, ◌++◌, ◌∷◌, [], ℕ, true, List, refl, sym, ap, ◌∙◌, append-nil, append_assoc}
 use Rattle.std.specs.List.{AllByRecursion as Each}
 use Rattle.e3_law_steps.specs.Begun.{BegunAreTransactions, RecordsMentionWhatStands}
-use Rattle.e3_node.specs.Batches.{plain_of, plain_steps, stepped}
+use Rattle.e3_node.specs.Batches.{unnumbered_of, unnumbered_steps, stepped}
 use Rattle.e3_node.specs.Telling.{IsOwn}
 use Rattle.e3_law_steps.specs.Trails.{VotesAtTheirSite}
 use Rattle.e3_types.specs.declared.entries.Entry.{Entry}
@@ -30,9 +30,9 @@ stepped_push sc h site [] i = refl
 stepped_push sc h site (j ∷ inputs) i = stepped_push sc (h ++ entry_of sc h site j ∷ []) site inputs i
 
 pub plain_push : (sc : Scenario) (h : List Entry) (site : ℕ) (inputs : List Input) (i : Input) →
-    plain_steps sc h site (inputs ++ i ∷ []) ≡ plain_steps sc h site inputs ++ plain_of site i (made_by sc (stepped sc h site inputs) site i) ∷ []
+    unnumbered_steps sc h site (inputs ++ i ∷ []) ≡ unnumbered_steps sc h site inputs ++ unnumbered_of site i (made_by sc (stepped sc h site inputs) site i) ∷ []
 plain_push sc h site [] i = refl
-plain_push sc h site (j ∷ inputs) i = ap (λ l. plain_of site j (made_by sc h site j) ∷ l) (plain_push sc (h ++ entry_of sc h site j ∷ []) site inputs i)
+plain_push sc h site (j ∷ inputs) i = ap (λ l. unnumbered_of site j (made_by sc h site j) ∷ l) (plain_push sc (h ++ entry_of sc h site j ∷ []) site inputs i)
 
 pub records_push : (sc : Scenario) (h : List Entry) (site : ℕ) (inputs : List Input) (i : Input) →
     records_by sc h site (inputs ++ i ∷ []) ≡ records_by sc h site inputs ++ (made_by sc (stepped sc h site inputs) site i).records
@@ -55,12 +55,12 @@ stepped_same sc site h k (i ∷ inputs) same =
     stepped_same sc site (h ++ entry_of sc h site i ∷ []) (k ++ entry_of sc k site i ∷ []) inputs (next_same sc site h k i same)
 
 pub plain_same : (sc : Scenario) (site : ℕ) (h k : List Entry) (inputs : List Input) → moves_of sc k site ≡ moves_of sc h site →
-    plain_steps sc k site inputs ≡ plain_steps sc h site inputs
+    unnumbered_steps sc k site inputs ≡ unnumbered_steps sc h site inputs
 plain_same sc site h k [] same = refl
 plain_same sc site h k (i ∷ inputs) same =
-    let rest : List Entry = plain_steps sc (k ++ entry_of sc k site i ∷ []) site inputs in
-    ap (λ (ms : List Move). plain_of site i (step_of sc.weights site (incarnation_of ms) i) ∷ rest) same
-    ∙ ap (λ l. plain_of site i (made_by sc h site i) ∷ l)
+    let rest : List Entry = unnumbered_steps sc (k ++ entry_of sc k site i ∷ []) site inputs in
+    ap (λ (ms : List Move). unnumbered_of site i (step_of sc.weights site (incarnation_of ms) i) ∷ rest) same
+    ∙ ap (λ l. unnumbered_of site i (made_by sc h site i) ∷ l)
     (plain_same sc site (h ++ entry_of sc h site i ∷ []) (k ++ entry_of sc k site i ∷ []) inputs (next_same sc site h k i same))
 
 pub records_same : (sc : Scenario) (site : ℕ) (h k : List Entry) (inputs : List Input) → moves_of sc k site ≡ moves_of sc h site →

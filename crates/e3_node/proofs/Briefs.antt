@@ -1,6 +1,6 @@
 -- What a brief has is the site's own; and of which logs a site that is up, or a rise, tells the brief.
 use Rattle.std.proofs.Common.{◌≡◌, ◌≢◌, ◌<◌, length, arith, ◌++◌, ◌∷◌, [], ℕ, Bool, true, false, List, Option, Some, None, inr, refl, sym, subst, ap, ◌∙◌, append-nil}
-use Rattle.std.specs.Prelude.{if◌then◌else◌, fold, is_none, nat_lt, max, Result, Ok, Err, IfOk}
+use Rattle.std.specs.Prelude.{if◌then◌else◌, nat_lt, max, Result, Ok, Err, IfOk}
 use Rattle.e3_disk.specs.Meters.{Meters}
 use Rattle.std.specs.List.{AllByRecursion as Each, flat_map}
 use Rattle.e3_law_brief.specs.Alike.{ReadAlike}
@@ -22,8 +22,8 @@ use Rattle.e3_site.specs.Rebuilt.{IsRebuilt}
 use Rattle.e3_site.specs.SiteView.{SiteView, risen_with}
 use Rattle.e3_site_log.specs.Ends.{IsDue}
 use Rattle.e3_site_log.specs.declared.writing.Short.{Short}
-use Rattle.e3_snapshot.specs.Tables.{IsInOrder}
-use Rattle.e3_snapshot.proofs.Alike.{in_order_alike}
+use Rattle.e3_site.specs.Tables.{IsInOrder}
+use Rattle.e3_site.proofs.AlikeTables.{in_order_alike}
 use Rattle.e3_types.specs.declared.entries.Entry.{Entry}
 use Rattle.e3_types.specs.declared.scenarios.Scenario.{Scenario}
 use Rattle.e3_types.specs.Same.{same_txn}

@@ -2,7 +2,7 @@
 use Rattle.std.proofs.Common.{◌≡◌, ◌+◌, ◌-◌, ◌≤◌, ◌++◌, ◌∷◌, [], ℕ, suc, true, false, List, length, refl, sym, subst, ap, ◌∙◌, append-nil, append_assoc, map, arith}
 use Rattle.std.specs.List.{flat_map}
 use Rattle.std.proofs.lemmas.Grind.{flat_map-append}
-use Rattle.e3_disk.specs.Meters.{Meters}
+use Rattle.e3_disk.specs.Meaning.{Meaning}
 use Rattle.e3_law_local.specs.Drafts.{MayTakeAll}
 use Rattle.e3_law_local.specs.Least.{AreFirstTo, AreOfSites, IsLeastTo, queue_to}
 use Rattle.e3_law_local.specs.Others.{Allows, AreOthers, numbered_on}
@@ -10,7 +10,7 @@ use Rattle.e3_law_local.proofs.Alike.{all_on}
 use Rattle.e3_law_local.proofs.Due.{all_due, calm_on}
 use Rattle.e3_law_local.proofs.Laws.{legal_behind}
 use Rattle.e3_law_local.proofs.Queues.{first_are_waiting, front_is_least, queue_goes_on, queue_stays}
-use Rattle.e3_node.specs.Batches.{plain_of, plain_steps, stepped}
+use Rattle.e3_node.specs.Batches.{unnumbered_of, unnumbered_steps, stepped}
 use Rattle.e3_node.specs.Bodies.{entries_at}
 use Rattle.e3_node.specs.NodeStands.{steps_at}
 use Rattle.e3_node.specs.Several.{AreOf, MayEnterAll}
@@ -32,7 +32,7 @@ use Rattle.e3_wire.proofs.Spending.{used_numbered}
 use Rattle.e3_world.specs.Given.{IsGiven}
 use Rattle.e3_world.specs.Items.{is_up_at}
 use Rattle.e3_world.specs.Legal.{AreDue, Guard, IsDue, IsLegal, entry_of, made_by, records_by}
-use Rattle.e3_world.specs.Moves.{Move, log_by, log_of, moves_of, plain, recorded}
+use Rattle.e3_world.specs.Moves.{Move, log_by, log_of, moves_of, unnumbered, recorded}
 use Rattle.e3_world.specs.Packets.{is_calm, present_items}
 use Rattle.e3_world.specs.Sound.{step_move}
 use Rattle.e3_world.proofs.Guards.{guard_step}
@@ -47,38 +47,38 @@ use Rattle.e3_node.proofs.Pasts.{entries_on}
 use Rattle.e3_node.proofs.Steps.{one_step_more, step_moves}
 
 -- the entry of a step, once its packets have numbers
-pub plain_entry : (sc : Scenario) (h : List Entry) (site : ℕ) (i : Input) → numbered_on h (plain_of site i (made_by sc h site i)) ≡ entry_of sc h site i
+pub plain_entry : (sc : Scenario) (h : List Entry) (site : ℕ) (i : Input) → numbered_on h (unnumbered_of site i (made_by sc h site i)) ≡ entry_of sc h site i
 plain_entry sc h site i =
-    step_entry sc h site i (made_by sc h site i).records (map plain (made_by sc h site i).outs) (made_by sc h site i).told refl refl refl
+    step_entry sc h site i (made_by sc h site i).records (map unnumbered (made_by sc h site i).outs) (made_by sc h site i).told refl refl refl
 
 -- the steps are the site's, one for each input
-pub plain_own : (sc : Scenario) (h : List Entry) (site : ℕ) (inputs : List Input) → AreOf site (plain_steps sc h site inputs)
+pub plain_own : (sc : Scenario) (h : List Entry) (site : ℕ) (inputs : List Input) → AreOf site (unnumbered_steps sc h site inputs)
 plain_own sc h site [] = tt
 plain_own sc h site (i ∷ inputs) = (refl, plain_own sc (h ++ entry_of sc h site i ∷ []) site inputs)
 
-pub plain_length : (sc : Scenario) (h : List Entry) (site : ℕ) (inputs : List Input) → length (plain_steps sc h site inputs) ≡ length inputs
+pub plain_length : (sc : Scenario) (h : List Entry) (site : ℕ) (inputs : List Input) → length (unnumbered_steps sc h site inputs) ≡ length inputs
 plain_length sc h site [] = refl
 plain_length sc h site (i ∷ inputs) = ap suc (plain_length sc (h ++ entry_of sc h site i ∷ []) site inputs)
 
 -- the history that they make
-pub plain_list : (sc : Scenario) (h : List Entry) (site : ℕ) (inputs : List Input) → enter_list h (plain_steps sc h site inputs) ≡ stepped sc h site inputs
+pub plain_list : (sc : Scenario) (h : List Entry) (site : ℕ) (inputs : List Input) → enter_list h (unnumbered_steps sc h site inputs) ≡ stepped sc h site inputs
 plain_list sc h site [] = refl
 plain_list sc h site (i ∷ inputs) =
-    ap (λ (x : Entry). enter_list (h ++ x ∷ []) (plain_steps sc (h ++ entry_of sc h site i ∷ []) site inputs)) (plain_entry sc h site i)
+    ap (λ (x : Entry). enter_list (h ++ x ∷ []) (unnumbered_steps sc (h ++ entry_of sc h site i ∷ []) site inputs)) (plain_entry sc h site i)
     ∙ plain_list sc (h ++ entry_of sc h site i ∷ []) site inputs
 
 -- they use just what was claimed for them
 pub steps_use : (sc : Scenario) (h : List Entry) (site : ℕ) (inputs : List Input) (p r : ℕ) →
-    used_all (record { places = p + length (plain_steps sc h site inputs); room = r + outs_in (plain_steps sc h site inputs) }) (plain_steps sc h site inputs)
+    used_all (record { places = p + length (unnumbered_steps sc h site inputs); room = r + outs_in (unnumbered_steps sc h site inputs) }) (unnumbered_steps sc h site inputs)
     ≡ record { places = p; room = r }
 steps_use sc h site [] p r =
     let places : p + 0 ≡ p = omega arith in
     let room : r + 0 ≡ r = omega arith in
     ap (λ (n : ℕ). let w : Note = record { places = n; room = r + 0 } in w) places ∙ ap (λ (n : ℕ). let w : Note = record { places = p; room = n } in w) room
 steps_use sc h site (i ∷ inputs) p r =
-    let e : Entry = plain_of site i (made_by sc h site i) in
-    let rest : List Entry = plain_steps sc (h ++ entry_of sc h site i ∷ []) site inputs in
-    let outs : ℕ = length (map plain (made_by sc h site i).outs) in
+    let e : Entry = unnumbered_of site i (made_by sc h site i) in
+    let rest : List Entry = unnumbered_steps sc (h ++ entry_of sc h site i ∷ []) site inputs in
+    let outs : ℕ = length (map unnumbered (made_by sc h site i).outs) in
     let places : (p + suc (length rest)) - 1 ≡ p + length rest = omega arith in
     let room : (r + (outs + outs_in rest)) - outs ≡ r + outs_in rest = omega arith in
     ap (λ (n : ℕ). let w : Note = record { places = n; room = (r + (outs + outs_in rest)) - outs } in used_all w rest) places
@@ -120,17 +120,17 @@ steps_entries sc h site (i ∷ inputs) =
     omega (arith, rest, one)
 
 -- behind some of them a log on a disk that was written holds it
-pub steps_logged : {D : Type 0} (content : D → List ℕ) (image : D → List ℕ → Type 0) (meters : D → Meters) (sc : Scenario) (h : List Entry) (site : ℕ) (inputs : List Input)
+pub steps_logged : {D : Type 0} (meaning : Meaning D) (sc : Scenario) (h : List Entry) (site : ℕ) (inputs : List Input)
     (records : List Record) (logged : ℕ) (new : LogState D) → 1 ≤ length inputs → records ≡ records_by sc h site inputs →
-    IsLogged content image meters site (entries_at h site + 1) (log_of sc h site ++ records) logged new →
-    IsLogged content image meters site (entries_at (stepped sc h site inputs) site) (log_of sc (stepped sc h site inputs) site) logged new
-steps_logged content image meters sc h site inputs records logged new some made wrote =
+    IsLogged meaning site (entries_at h site + 1) (log_of sc h site ++ records) logged new →
+    IsLogged meaning site (entries_at (stepped sc h site inputs) site) (log_of sc (stepped sc h site inputs) site) logged new
+steps_logged meaning sc h site inputs records logged new some made wrote =
     let now : log_of sc (stepped sc h site inputs) site ≡ log_of sc h site ++ records =
     steps_log sc h site inputs ∙ ap (λ (rs : List Record). log_of sc h site ++ rs) (sym made) in
     let many = steps_entries sc h site inputs in
-    let P : List Record → Type 0 = λ l. IsLogged content image meters site (entries_at (stepped sc h site inputs) site) l logged new in
+    let P : List Record → Type 0 = λ l. IsLogged meaning site (entries_at (stepped sc h site inputs) site) l logged new in
     subst P (sym now)
-    (logged_later content image meters site (entries_at h site + 1) (log_of sc h site ++ records) (entries_at (stepped sc h site inputs) site) logged new (omega (arith, many, some)) wrote)
+    (logged_later meaning site (entries_at h site + 1) (log_of sc h site ++ records) (entries_at (stepped sc h site inputs) site) logged new (omega (arith, many, some)) wrote)
 
 -- so many steps more
 pub stepped_count : (sc : Scenario) (h : List Entry) (site : ℕ) (inputs : List Input) → steps_at (stepped sc h site inputs) site ≡ steps_at h site + length inputs
@@ -187,10 +187,10 @@ pub may_enter_all : (sc : Scenario) (most : ℕ) (more : List Mark) (h : List En
     entries_of (mark.Start sc most ∷ more) ≡ h → IsLegal sc h → 1 ≤ site → site ≤ length sc.weights → is_up_at h site ≡ true →
     AreDue sc h site (map input.Deliver packets) → queue_to sc h site ≡ packets ++ rest →
     note_of site (mark.Start sc most ∷ more) ≡ record {
-      places = p + length (plain_steps sc h site (map input.Deliver packets));
-      room = r + outs_in (plain_steps sc h site (map input.Deliver packets));
+      places = p + length (unnumbered_steps sc h site (map input.Deliver packets));
+      room = r + outs_in (unnumbered_steps sc h site (map input.Deliver packets));
     } →
-    MayEnterAll (mark.Start sc most ∷ more) (plain_steps sc h site (map input.Deliver packets))
+    MayEnterAll (mark.Start sc most ∷ more) (unnumbered_steps sc h site (map input.Deliver packets))
 may_enter_all sc most more h site [] rest p r is legal one exists up due queue note = tt
 may_enter_all sc most more h site (q ∷ packets) rest p r is legal one exists up due queue note = (
   record {
@@ -214,13 +214,13 @@ may_enter_all sc most more h site (q ∷ packets) rest p r is legal one exists u
     M = mark.Start sc most ∷ more
 
     e : Entry
-    e = plain_of site i (made_by sc h site i)
+    e = unnumbered_of site i (made_by sc h site i)
 
     x : Entry
     x = entry_of sc h site i
 
     after : List Entry
-    after = plain_steps sc (h ++ x ∷ []) site (map input.Deliver packets)
+    after = unnumbered_steps sc (h ++ x ∷ []) site (map input.Deliver packets)
 
     guard : Guard sc h x
     guard = guard_step sc h site i one up due.0
@@ -229,7 +229,7 @@ may_enter_all sc most more h site (q ∷ packets) rest p r is legal one exists u
     on = queue_goes_on sc h site q (packets ++ rest) legal queue
 
     outs : ℕ
-    outs = length (map plain (made_by sc h site i).outs)
+    outs = length (map unnumbered (made_by sc h site i).outs)
 
     noted : note_of site (M ++ mark.Entered x ∷ []) ≡ record { places = p + length after; room = r + outs_in after }
     noted =

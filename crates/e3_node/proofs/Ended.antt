@@ -2,10 +2,11 @@
 use Rattle.std.proofs.Common.{◌≡◌, inl, inr, ℕ, false, List, length, take, refl, sym, subst, ap, ◌∙◌}
 use Rattle.std.proofs.Math.Seq.{take-length}
 use Rattle.std.specs.Prelude.{None, Option, Result, Some, Ok, Err}
-use Rattle.e3_disk.specs.Meters.{Keeps, Meters}
+use Rattle.e3_disk.specs.Meaning.{Meaning}
+use Rattle.e3_disk.specs.Meters.{Keeps}
 use Rattle.e3_node.specs.Batched.{OnlyForMemory}
 use Rattle.e3_node.specs.Batches.{BatchEnded, HasFallenOverAll, HasSteppedAll, fall_over}
-use Rattle.e3_node.specs.Ending.{Came, EndsIn, EndsWith, answer_by}
+use Rattle.e3_node.specs.Ending.{Came, EndsWith, answer_by}
 use Rattle.e3_node.specs.NodeStands.{IsDown, IsIn, logged_in}
 use Rattle.e3_node.specs.NodeView.{disk_of}
 use Rattle.e3_node.specs.declared.fault.InputFault.{InputFault}
@@ -38,77 +39,56 @@ refused_down (Err fault) fell is = is
 all_of : (n : ℕ) (inputs : List Input) → n ≡ length inputs → take n inputs ≡ inputs
 all_of n inputs is = ap (λ (k : ℕ). take k inputs) is ∙ take-length inputs
 
-module _ {D : Type 0} (content : D → List ℕ) (image : D → List ℕ → Type 0) (meters : D → Meters) (sc : Scenario) (before more : List Entry) (site : ℕ) (inputs : List Input)
+module _ {D : Type 0} (meaning : Meaning D) (sc : Scenario) (before more : List Entry) (site : ℕ) (inputs : List Input)
     (old : State D) where
-  -- how a batch of a site that was up ended is how one of any site does
-  pub ends_up : (mid : State D) (r : Result (Unit {0}) InputFault) (fell : Option Why) → OnlyForMemory r →
-      EndsWith content image meters sc before more site inputs old mid r fell → EndsIn content image meters sc before more site inputs old mid r fell
-  ends_up mid (Ok done) fell never ends = ends
-  ends_up mid (Err input_fault.NoMemory) fell never ends = ends
-  ends_up mid (Err input_fault.HistoryFull) fell never ends = absurd never
-  ends_up mid (Err input_fault.Down) fell never ends = absurd never
-  ends_up mid (Err (input_fault.Fell why)) fell never ends = absurd never
-
   -- with its steps, or a fall over them
-  steps_told : (mid new : State D) (done : List Input) → Came content image meters sc before more site done old mid None → new ≡ mid →
-      HasSteppedAll meters sc before more site done old new
-  steps_told mid new done came same = subst (λ (s : State D). HasSteppedAll meters sc before more site done old s) (sym same) came.0
+  steps_told : (mid new : State D) (done : List Input) → Came meaning sc before more site done old mid None → new ≡ mid →
+      HasSteppedAll meaning.meters sc before more site done old new
+  steps_told mid new done came same = subst (λ (s : State D). HasSteppedAll meaning.meters sc before more site done old s) (sym same) came.0
 
-  fall_told : (mid new : State D) (done : List Input) (why : Why) → Came content image meters sc before more site done old mid (Some why) → new ≡ Down (disk_of mid) (logged_in mid) →
-      HasFallenOverAll meters sc before more site done why old (disk_of new)
+  fall_told : (mid new : State D) (done : List Input) (why : Why) → Came meaning sc before more site done old mid (Some why) → new ≡ Down (disk_of mid) (logged_in mid) →
+      HasFallenOverAll meaning.meters sc before more site done why old (disk_of new)
   fall_told mid new done why came down =
       let same : disk_of new ≡ disk_of mid = ap (λ (s : State D). disk_of s) down in
-      subst (λ (d : D). HasFallenOverAll meters sc before more site done why old d) (sym same) came.0
+      subst (λ (d : D). HasFallenOverAll meaning.meters sc before more site done why old d) (sym same) came.0
 
-  pub ended_told : (mid new : State D) (r : Result (Unit {0}) InputFault) (fell : Option Why) → EndsIn content image meters sc before more site inputs old mid r fell →
-      ((why : Why) → fell ≡ Some why → new ≡ Down (disk_of mid) (logged_in mid)) → (fell ≡ None → new ≡ mid) → BatchEnded meters sc before more site inputs old new (answer_by r fell)
-  ended_told mid new (Ok done) None ends down kept =
-      subst (λ (l : List Input). HasSteppedAll meters sc before more site l old new) (all_of ends.count inputs ends.all)
+  pub ended_told : (mid new : State D) (r : Result (Unit {0}) InputFault) (fell : Option Why) → OnlyForMemory r →
+      EndsWith meaning sc before more site inputs old mid r fell →
+      ((why : Why) → fell ≡ Some why → new ≡ Down (disk_of mid) (logged_in mid)) → (fell ≡ None → new ≡ mid) → BatchEnded meaning.meters sc before more site inputs old new (answer_by r fell)
+  ended_told mid new (Ok done) None never ends down kept =
+      subst (λ (l : List Input). HasSteppedAll meaning.meters sc before more site l old new) (all_of ends.count inputs ends.all)
       (steps_told mid new (take ends.count inputs) ends.came (kept refl))
-  ended_told mid new (Ok done) (Some why) ends down kept =
-      subst (λ (l : List Input). HasFallenOverAll meters sc before more site l why old (disk_of new)) (all_of ends.count inputs ends.all)
+  ended_told mid new (Ok done) (Some why) never ends down kept =
+      subst (λ (l : List Input). HasFallenOverAll meaning.meters sc before more site l why old (disk_of new)) (all_of ends.count inputs ends.all)
       (fall_told mid new (take ends.count inputs) why ends.came (down why refl))
-  ended_told mid new (Err input_fault.Down) fell ends down kept = (ends.history, kept ends.none ∙ ends.state)
-  ended_told mid new (Err (input_fault.Fell why)) fell ends down kept = absurd ends
-  ended_told mid new (Err input_fault.HistoryFull) fell ends down kept = absurd ends
-  ended_told mid new (Err input_fault.NoMemory) None ends down kept = (ends.count, ends.short, inl (steps_told mid new (take ends.count inputs) ends.came (kept refl)))
-  ended_told mid new (Err input_fault.NoMemory) (Some why) ends down kept =
+  ended_told mid new (Err input_fault.Down) fell never ends down kept = absurd never
+  ended_told mid new (Err (input_fault.Fell why)) fell never ends down kept = absurd never
+  ended_told mid new (Err input_fault.HistoryFull) fell never ends down kept = absurd never
+  ended_told mid new (Err input_fault.NoMemory) None never ends down kept = (ends.count, ends.short, inl (steps_told mid new (take ends.count inputs) ends.came (kept refl)))
+  ended_told mid new (Err input_fault.NoMemory) (Some why) never ends down kept =
       (ends.count, ends.short, inr (why, fall_told mid new (take ends.count inputs) why ends.came (down why refl)))
 
   -- and how the site stands
-  came_in : (mid new : State D) (done : List Input) (fell : Option Why) → Came content image meters sc before more site done old mid fell →
-      ((why : Why) → fell ≡ Some why → new ≡ Down (disk_of mid) (logged_in mid)) → (fell ≡ None → new ≡ mid) → IsIn content image meters sc more site new
-  came_in mid new done None came down kept = subst (λ (s : State D). IsIn content image meters sc more site s) (sym (kept refl)) came.1
+  came_in : (mid new : State D) (done : List Input) (fell : Option Why) → Came meaning sc before more site done old mid fell →
+      ((why : Why) → fell ≡ Some why → new ≡ Down (disk_of mid) (logged_in mid)) → (fell ≡ None → new ≡ mid) → IsIn meaning sc more site new
+  came_in mid new done None came down kept = subst (λ (s : State D). IsIn meaning sc more site s) (sym (kept refl)) came.1
   came_in mid new done (Some why) came down kept =
       let fallen = came.0 in
       let gone : is_up_at more site ≡ false = ap (λ (l : List Entry). is_up_at l site) fallen.fell.entered ∙ up_same fallen.now (fall_over sc fallen.now site done why) site (self site) in
-      let there : IsDown image meters sc more site (disk_of mid) (logged_in mid) = record { down = gone; stands = came.1 } in
-      subst (λ (s : State D). IsIn content image meters sc more site s) (sym (down why refl)) there
+      let there : IsDown meaning sc more site (disk_of mid) (logged_in mid) = record { down = gone; stands = came.1 } in
+      subst (λ (s : State D). IsIn meaning sc more site s) (sym (down why refl)) there
 
   came_disk : (mid new : State D) (fell : Option Why) → ((why : Why) → fell ≡ Some why → new ≡ Down (disk_of mid) (logged_in mid)) → (fell ≡ None → new ≡ mid) → disk_of new ≡ disk_of mid
   came_disk mid new None down kept = ap (λ (s : State D). disk_of s) (kept refl)
   came_disk mid new (Some why) down kept = ap (λ (s : State D). disk_of s) (down why refl)
 
   pub record StandsBehind (new : State D) : Type 0 where
-    pub stands : IsIn content image meters sc more site new
-    pub keeps : Keeps (meters (disk_of old)) (meters (disk_of new))
+    pub stands : IsIn meaning sc more site new
+    pub keeps : Keeps (meaning.meters (disk_of old)) (meaning.meters (disk_of new))
 
-  ended_up : (mid new : State D) (r : Result (Unit {0}) InputFault) (fell : Option Why) → EndsWith content image meters sc before more site inputs old mid r fell →
+  pub ended_up : (mid new : State D) (r : Result (Unit {0}) InputFault) (fell : Option Why) → EndsWith meaning sc before more site inputs old mid r fell →
       ((why : Why) → fell ≡ Some why → new ≡ Down (disk_of mid) (logged_in mid)) → (fell ≡ None → new ≡ mid) → StandsBehind new
   ended_up mid new r fell ends down kept = record {
     stands = came_in mid new (take ends.count inputs) fell ends.came down kept;
-    keeps = subst (λ (d : D). Keeps (meters (disk_of old)) (meters d)) (sym (came_disk mid new fell down kept)) ends.keeps;
+    keeps = subst (λ (d : D). Keeps (meaning.meters (disk_of old)) (meaning.meters d)) (sym (came_disk mid new fell down kept)) ends.keeps;
   }
-
-  pub ended_in : (mid new : State D) (r : Result (Unit {0}) InputFault) (fell : Option Why) → EndsIn content image meters sc before more site inputs old mid r fell →
-      ((why : Why) → fell ≡ Some why → new ≡ Down (disk_of mid) (logged_in mid)) → (fell ≡ None → new ≡ mid) → StandsBehind new
-  ended_in mid new (Ok done) fell ends down kept = ended_up mid new (Ok done) fell ends down kept
-  ended_in mid new (Err input_fault.HistoryFull) fell ends down kept = absurd ends
-  ended_in mid new (Err input_fault.NoMemory) fell ends down kept = ended_up mid new (Err input_fault.NoMemory) fell ends down kept
-  ended_in mid new (Err (input_fault.Fell why)) fell ends down kept = absurd ends
-  ended_in mid new (Err input_fault.Down) fell ends down kept =
-      let same : new ≡ mid = kept ends.none in
-      record {
-        stands = subst (λ (s : State D). IsIn content image meters sc more site s) (sym same) ends.stands;
-        keeps = subst (λ (s : State D). Keeps (meters (disk_of old)) (meters (disk_of s))) (sym same) ends.keeps;
-      }

@@ -15,17 +15,17 @@ use Rattle.e3_types.specs.declared.scenarios.Scenario.{Scenario}
 use Rattle.e3_wire.specs.Wires.{TakesLeast}
 use Rattle.e3_world.specs.Items.{is_up_at}
 use Rattle.e3_world.specs.Legal.{Guard, IsCut, IsDue, IsRise, IsRising, entry_of, made_by, numbered}
-use Rattle.e3_world.specs.Moves.{plain}
+use Rattle.e3_world.specs.Moves.{unnumbered}
 use Rattle.e3_world.specs.Packets.{sent}
 
 -- numbers do not matter to what is numbered
-numbered_plain : (n : ℕ) (ps : List Packet) → numbered n (map plain ps) ≡ numbered n ps
+numbered_plain : (n : ℕ) (ps : List Packet) → numbered n (map unnumbered ps) ≡ numbered n ps
 numbered_plain n [] = refl
 numbered_plain n (p ∷ ps) = ap (λ (rest : List Packet). record p { number = n } ∷ rest) (numbered_plain (suc n) ps)
 
 -- the entry of a planned step
 pub step_entry : (sc : Scenario) (h : List Entry) (site : ℕ) (i : Input) (records : List Record) (outs : List Packet) (told : List Told) →
-    records ≡ (made_by sc h site i).records → outs ≡ map plain (made_by sc h site i).outs → told ≡ (made_by sc h site i).told →
+    records ≡ (made_by sc h site i).records → outs ≡ map unnumbered (made_by sc h site i).outs → told ≡ (made_by sc h site i).told →
     record { owner = site; act = Step i records (numbered (suc (length (sent h))) outs) told } ≡ entry_of sc h site i
 step_entry sc h site i records outs told rs os ts =
     let n : ℕ = suc (length (sent h)) in

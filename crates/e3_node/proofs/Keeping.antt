@@ -3,7 +3,7 @@ use Rattle.std.specs.Prelude.{◌≤◌, filter}
 use Rattle.std.proofs.Common.{◌≡◌, ◌≢◌, ◌++◌, ◌∷◌, [], ℕ, true, false, List, Option, length, refl, sym, subst, ap, ◌∙◌, append-nil, arith}
 use Rattle.std.proofs.lemmas.Bool.{le-ltb}
 use Rattle.e3_disk.specs.Images.{IsBlank}
-use Rattle.e3_disk.specs.Meters.{Meters}
+use Rattle.e3_disk.specs.Meaning.{Meaning}
 use Rattle.e3_world.specs.Brief.{brief}
 use Rattle.e3_log.specs.Reading.{ReadsAs as BytesReadAs}
 use Rattle.e3_log.specs.Stands.{LogState}
@@ -59,18 +59,18 @@ site_kept sc h e site rose s was other = record {
       subst P (sym (moves_kept sc h e site other)) was.order;
 }
 
-pub in_kept : {D : Type 0} (content : D → List ℕ) (image : D → List ℕ → Type 0) (meters : D → Meters)
-    (sc : Scenario) (h : List Entry) (e : Entry) (site : ℕ) (state : State D) → IsIn content image meters sc h site state → e.owner ≢ site →
-    IsIn content image meters sc (h ++ e ∷ []) site state
-in_kept content image meters sc h e site (Down disk logged) was other = record {
+pub in_kept : {D : Type 0} (meaning : Meaning D)
+    (sc : Scenario) (h : List Entry) (e : Entry) (site : ℕ) (state : State D) → IsIn meaning sc h site state → e.owner ≢ site →
+    IsIn meaning sc (h ++ e ∷ []) site state
+in_kept meaning sc h e site (Down disk logged) was other = record {
   down = up_kept h e site other ∙ was.down;
-  stands = told_kept sc h e site (meters disk).capacity logged (image disk) was.stands other;
+  stands = told_kept sc h e site (meaning.meters disk).capacity logged (meaning.image disk) was.stands other;
 }
-in_kept content image meters sc h e site (Up s log rose logged) was other = record {
+in_kept meaning sc h e site (Up s log rose logged) was other = record {
   up = up_kept h e site other ∙ was.up;
   stands = site_kept sc h e site rose s was.stands other;
   logged =
-      let P : List Entry → Type 0 = λ mine. IsLogged content image meters site (length mine) (log_by (past_of sc site mine).moves) logged log in
+      let P : List Entry → Type 0 = λ mine. IsLogged meaning site (length mine) (log_by (past_of sc site mine).moves) logged log in
       subst P (sym (own_kept site h e other)) was.logged;
   lit = was.lit;
   inputs =
@@ -78,76 +78,74 @@ in_kept content image meters sc h e site (Up s log rose logged) was other = reco
       subst P (sym (own_kept site h e other)) was.inputs;
 }
 
-pub node_kept : {D : Type 0} (content : D → List ℕ) (image : D → List ℕ → Type 0) (meters : D → Meters) → NodesKept content image meters
-node_kept content image meters sc h e node was other = record {
+pub node_kept : {D : Type 0} (meaning : Meaning D) → NodesKept meaning
+node_kept meaning sc h e node was other = record {
   some = was.some;
   exists = was.exists;
   weights_are = was.weights_are;
   rows_are = was.rows_are;
-  state = in_kept content image meters sc h e node.site node.state was.state other;
+  state = in_kept meaning sc h e node.site node.state was.state other;
 }
 
 -- what a log holds its disk tells: no tail is open to it
-pub logged_tells : {D : Type 0} (content : D → List ℕ) (image : D → List ℕ → Type 0) (meters : D → Meters) (site most logged : ℕ) (moves : List Move) (tail : Option Tail)
-    (log : LogState D) → IsLogged content image meters site most (log_by moves) logged log → (bytes : List ℕ) → image log.disk bytes →
-    ReadsTold site (meters log.disk).capacity most logged moves tail bytes
-logged_tells content image meters site most logged moves tail log was bytes at =
+pub logged_tells : {D : Type 0} (meaning : Meaning D) (site most logged : ℕ) (moves : List Move) (tail : Option Tail)
+    (log : LogState D) → IsLogged meaning site most (log_by moves) logged log → (bytes : List ℕ) → meaning.image log.disk bytes →
+    ReadsTold site (meaning.meters log.disk).capacity most logged moves tail bytes
+logged_tells meaning site most logged moves tail log was bytes at =
     let count : logged ≡ counted (length (joined was.lists)) = was.logged_is in
-    let it : ReadsAs site (meters log.disk).capacity most (log_by moves) bytes = record {
+    let it : ReadsAs site (meaning.meters log.disk).capacity most (log_by moves) bytes = record {
       lists = was.lists;
       hold = was.hold;
       generation = log.generation;
       few = was.few;
-      reads = subst (λ (b : List ℕ). BytesReadAs (meters log.disk).capacity log.generation (bodies_in was.lists) b) (sym (was.stands.only bytes at))
-          (opened_reads content image meters (bodies_in was.lists) log was.stands);
+      reads = subst (λ (b : List ℕ). BytesReadAs (meaning.meters log.disk).capacity log.generation (bodies_in was.lists) b) (sym (was.stands.only bytes at))
+          (opened_reads meaning (bodies_in was.lists) log was.stands);
     } in
     record {
       kept = false;
-      reads = reads_alike site (meters log.disk).capacity most (log_by moves) (log_by (moves ++ [])) bytes (ap (λ (ms : List Move). brief (log_by ms)) (sym (append-nil moves))) it;
+      reads = reads_alike site (meaning.meters log.disk).capacity most (log_by moves) (log_by (moves ++ [])) bytes (ap (λ (ms : List Move). brief (log_by ms)) (sym (append-nil moves))) it;
       told = λ few. sym (le-ltb logged (length (joined was.lists)) (omega (arith, few, count)));
       some = λ yes. absurd (let both : false ≡ true = yes in cc);
     }
 
 -- so the disk of a state tells
-pub told_in : {D : Type 0} (content : D → List ℕ) (image : D → List ℕ → Type 0) (meters : D → Meters)
-    (sc : Scenario) (h : List Entry) (site : ℕ) (state : State D) → IsIn content image meters sc h site state → IsFallen image meters sc h site state
-told_in content image meters sc h site (Down disk logged) was = was.stands
-told_in content image meters sc h site (Up s log rose logged) was = λ bytes at.
-    logged_tells content image meters site (entries_at h site) logged (moves_of sc h site) (open_tail sc h site) log was.logged bytes at
+pub told_in : {D : Type 0} (meaning : Meaning D)
+    (sc : Scenario) (h : List Entry) (site : ℕ) (state : State D) → IsIn meaning sc h site state → IsFallen meaning sc h site state
+told_in meaning sc h site (Down disk logged) was = was.stands
+told_in meaning sc h site (Up s log rose logged) was = λ bytes at.
+    logged_tells meaning site (entries_at h site) logged (moves_of sc h site) (open_tail sc h site) log was.logged bytes at
 
-pub disk_in : {D : Type 0} (content : D → List ℕ) (image : D → List ℕ → Type 0) (meters : D → Meters)
-    (sc : Scenario) (h : List Entry) (site : ℕ) (state : State D) → IsIn content image meters sc h site state →
-    DiskHolds sc h site (meters (disk_of state)).capacity (image (disk_of state))
-disk_in content image meters sc h site state was =
-    tells_holds sc h site (meters (disk_of state)).capacity (logged_in state) (image (disk_of state)) (told_in content image meters sc h site state was)
+pub disk_in : {D : Type 0} (meaning : Meaning D) (sc : Scenario) (h : List Entry) (site : ℕ) (state : State D) → IsIn meaning sc h site state →
+    DiskHolds sc h site (meaning.meters (disk_of state)).capacity (meaning.image (disk_of state))
+disk_in meaning sc h site state was =
+    tells_holds sc h site (meaning.meters (disk_of state)).capacity (logged_in state) (meaning.image (disk_of state)) (told_in meaning sc h site state was)
 
 -- a blank disk stands for a site without entries
-pub blank_tells : {D : Type 0} (content : D → List ℕ) (image : D → List ℕ → Type 0) (meters : D → Meters) (sc : Scenario) (site : ℕ) (d : D) →
-    2 ≤ (meters d).capacity → IsBlank content image meters d → DiskTells sc [] site (meters d).capacity 0 (image d)
-blank_tells content image meters sc site d least blank = λ bytes left. record {
+pub blank_tells : {D : Type 0} (meaning : Meaning D) (sc : Scenario) (site : ℕ) (d : D) →
+    2 ≤ (meaning.meters d).capacity → IsBlank meaning d → DiskTells sc [] site (meaning.meters d).capacity 0 (meaning.image d)
+blank_tells meaning sc site d least blank = λ bytes left. record {
   kept = false;
   reads = record {
     lists = [];
     hold = hold_nothing site;
     generation = 0;
     few = omega arith;
-    reads = subst (λ (b : List ℕ). BytesReadAs (meters d).capacity 0 [] b) (sym (blank.1 bytes left ∙ blank.0)) (blank_text (meters d).capacity least);
+    reads = subst (λ (b : List ℕ). BytesReadAs (meaning.meters d).capacity 0 [] b) (sym (blank.1 bytes left ∙ blank.0)) (blank_text (meaning.meters d).capacity least);
   };
   told = λ few. refl;
   some = λ yes. absurd (let both : false ≡ true = yes in cc);
 }
 
-pub node_disk : {D : Type 0} (content : D → List ℕ) (image : D → List ℕ → Type 0) (meters : D → Meters) → NodesDisks content image meters
-node_disk content image meters sc h node was = record { holds = disk_in content image meters sc h node.site node.state was.state }
+pub node_disk : {D : Type 0} (meaning : Meaning D) → NodesDisks meaning
+node_disk meaning sc h node was = record { holds = disk_in meaning sc h node.site node.state was.state }
 
-pub up_in : {D : Type 0} (content : D → List ℕ) (image : D → List ℕ → Type 0) (meters : D → Meters)
-    (sc : Scenario) (h : List Entry) (site : ℕ) (state : State D) → IsIn content image meters sc h site state →
+pub up_in : {D : Type 0} (meaning : Meaning D) (sc : Scenario) (h : List Entry) (site : ℕ) (state : State D) → IsIn meaning sc h site state →
     is_up_in state ≡ is_up_at h site
-up_in content image meters sc h site (Down disk logged) was = sym was.down
-up_in content image meters sc h site (Up s log rose logged) was = sym was.up
+up_in meaning sc h site (Down disk logged) was = sym was.down
+up_in meaning sc h site (Up s log rose logged) was = sym was.up
 
-pub node_up : {D : Type 0} (content : D → List ℕ) (image : D → List ℕ → Type 0) (meters : D → Meters) → NodesUp content image meters
-node_up content image meters sc h node was = up_in content image meters sc h node.site node.state was.state
+pub node_up : {D : Type 0} (meaning : Meaning D) → NodesUp meaning
+node_up meaning sc h node was = up_in meaning sc h node.site node.state was.state
 
-pub disks_kept : {D : Type 0} (image : D → List ℕ → Type 0) (meters : D → Meters) → DisksKept image meters
-disks_kept image meters sc h e site disk stands other = record { holds = disk_kept sc h e site (meters disk).capacity (image disk) stands.holds other }
+pub disks_kept : {D : Type 0} (meaning : Meaning D) → DisksKept meaning
+disks_kept meaning sc h e site disk stands other = record { holds = disk_kept sc h e site (meaning.meters disk).capacity (meaning.image disk) stands.holds other }

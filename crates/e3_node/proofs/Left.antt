@@ -1,7 +1,7 @@
 -- What a disk holds and tells, as a site goes on.
 use Rattle.std.proofs.Common.{◌≡◌, ◌<◌, ◌≤◌, ◌^◌, ◌++◌, ℕ, Bool, true, false, List, Option, length, refl, sym, ap, append-nil, arith}
 use Rattle.std.specs.Prelude.{nat_lt}
-use Rattle.e3_disk.specs.Meters.{Meters}
+use Rattle.e3_disk.specs.Meaning.{Meaning}
 use Rattle.e3_world.specs.Brief.{brief}
 use Rattle.e3_log.specs.Reading.{ReadsAs as BytesReadAs}
 use Rattle.e3_log.specs.Stands.{LogState, Stands}
@@ -18,9 +18,9 @@ use Rattle.e3_world.specs.Moves.{Move, Silent, Tail, kept_moves, left_by, log_by
 use Rattle.e3_world.proofs.Pushes.{log_push}
 
 -- what a log that stands for bodies reads as
-abbrev pub opened_reads : {D : Type 0} (content : D → List ℕ) (image : D → List ℕ → Type 0) (meters : D → Meters) (bodies : List (List ℕ)) (log : LogState D) →
-    Stands content image meters bodies log → BytesReadAs (meters log.disk).capacity log.generation bodies (content log.disk)
-opened_reads content image meters bodies log stands = record {
+abbrev pub opened_reads : {D : Type 0} (meaning : Meaning D) (bodies : List (List ℕ)) (log : LogState D) →
+    Stands meaning bodies log → BytesReadAs (meaning.meters log.disk).capacity log.generation bodies (meaning.content log.disk)
+opened_reads meaning bodies log stands = record {
   region = log.region;
   raw = stands.raw;
   spare = stands.spare;

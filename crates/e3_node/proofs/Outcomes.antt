@@ -4,7 +4,7 @@ use Rattle.std.proofs.lemmas.List.{take-append-drop, take-map}
 use Rattle.e3_law_local.specs.Drafts.{MayTakeAll}
 use Rattle.e3_law_local.specs.Least.{AreFirstTo, queue_to}
 use Rattle.e3_law_local.proofs.Queues.{front_is_least}
-use Rattle.e3_node.specs.Batches.{fall_over, plain_steps}
+use Rattle.e3_node.specs.Batches.{fall_over, unnumbered_steps}
 use Rattle.e3_node.specs.Bodies.{DiskTells, ReadsTold, entries_at}
 use Rattle.e3_node.specs.Several.{MayEnterAll, claims_for}
 use Rattle.e3_node.specs.Turns.{Meanwhile}
@@ -27,7 +27,7 @@ use Rattle.e3_wire.proofs.Foreign.{notes_stay}
 use Rattle.e3_world.specs.Given.{IsGiven}
 use Rattle.e3_world.specs.Items.{is_up_at}
 use Rattle.e3_world.specs.Legal.{AreDue, IsLegal, entry_of, records_by}
-use Rattle.e3_world.specs.Moves.{Move, Past, left_by, log_of, moves_of, plain_input}
+use Rattle.e3_world.specs.Moves.{Move, Past, left_by, log_of, moves_of, unnumbered_input}
 use Rattle.e3_world.specs.Packets.{is_calm, lines, present_items, step_items}
 use Rattle.e3_law_local.proofs.Alike.{all_on}
 use Rattle.e3_law_local.proofs.Laws.{legal_behind}
@@ -117,13 +117,13 @@ begins (mark.Freed o ∷ more) played = absurd (let some = played.given.some in 
 
 -- steps whose places were claimed may be entered behind what others put since
 module _ (sc : Scenario) (h : List Entry) (site first : ℕ) (done : List Input) (p r : ℕ) (marks second now : List Mark) where
-  pub may_all : IsPlayed now → now ≡ (marks ++ claims_for (plain_steps sc h site done)) ++ second → AreForeign site second →
+  pub may_all : IsPlayed now → now ≡ (marks ++ claims_for (unnumbered_steps sc h site done)) ++ second → AreForeign site second →
       scenario_of now ≡ sc → (k : List Entry) → entries_of now ≡ k → Meanwhile site h k → 1 ≤ site → site ≤ length sc.weights → is_up_at k site ≡ true →
       AreFirstTo sc k site done → AreDue sc k site done → note_of site marks ≡ record { places = p; room = r } →
-      MayEnterAll now (plain_steps sc h site done)
+      MayEnterAll now (unnumbered_steps sc h site done)
   may_all played is foreign keys k entries m one exists up firsts due note =
-      let steps : List Entry = plain_steps sc h site done in
-      let same : plain_steps sc k site done ≡ steps = plain_same sc site h k done (moves_meanwhile sc h k site m) in
+      let steps : List Entry = unnumbered_steps sc h site done in
+      let same : unnumbered_steps sc k site done ≡ steps = plain_same sc site h k done (moves_meanwhile sc h k site m) in
       let b : Begins now = begins now played in
       let start : now ≡ mark.Start sc b.most ∷ b.more = b.is ∙ ap (λ (s : Scenario). mark.Start s b.most ∷ b.more) keys in
       let noted : note_of site now ≡ record { places = p + length steps; room = r + outs_in steps } =
@@ -133,9 +133,9 @@ module _ (sc : Scenario) (h : List Entry) (site first : ℕ) (done : List Input)
       let deliver : done ≡ map input.Deliver packets = firsts.deliver in
       let P : List Mark → Type 0 = λ l. MayEnterAll l steps in
       let Q : List Entry → Type 0 = λ es. MayEnterAll (mark.Start sc b.most ∷ b.more) es in
-      let R : List Input → Type 0 = λ l. MayEnterAll (mark.Start sc b.most ∷ b.more) (plain_steps sc k site l) in
+      let R : List Input → Type 0 = λ l. MayEnterAll (mark.Start sc b.most ∷ b.more) (unnumbered_steps sc k site l) in
       let D : List Input → Type 0 = λ l. AreDue sc k site l in
-      let N : List Input → Type 0 = λ l. note_of site (mark.Start sc b.most ∷ b.more) ≡ record { places = p + length (plain_steps sc k site l); room = r + outs_in (plain_steps sc k site l) } in
+      let N : List Input → Type 0 = λ l. note_of site (mark.Start sc b.most ∷ b.more) ≡ record { places = p + length (unnumbered_steps sc k site l); room = r + outs_in (unnumbered_steps sc k site l) } in
       let S : List Entry → Type 0 = λ es. note_of site (mark.Start sc b.most ∷ b.more) ≡ record { places = p + length es; room = r + outs_in es } in
       subst P (sym start) (subst Q same (subst R (sym deliver)
       (may_enter_all sc b.most b.more k site packets firsts.rest p r (ap entries_of (sym start) ∙ entries)
@@ -149,11 +149,11 @@ pub fallen_all_tells : (sc : Scenario) (h : List Entry) (site capacity : ℕ) (i
     DiskTells sc (h ++ fall_over sc h site inputs why ∷ []) site capacity logged image
 fallen_all_tells sc h site capacity inputs records why logged image made left = λ bytes at.
     let e : Entry = fall_over sc h site inputs why in
-    let plain : List Input = map plain_input inputs in
+    let unnumbered : List Input = map unnumbered_input inputs in
     let n : ℕ = entries_at h site + 1 in
     let P : Past → Type 0 = λ p. ReadsTold site capacity (entries_at (h ++ e ∷ []) site) logged p.moves p.tail bytes in
-    let M : ℕ → Type 0 = λ m. ReadsTold site capacity m logged (moves_of sc h site ++ []) (left_by why plain (records_by sc h site inputs)) bytes in
-    let Q : List Move → Type 0 = λ ms. ReadsTold site capacity n logged ms (left_by why plain (records_by sc h site inputs)) bytes in
-    let R : List Record → Type 0 = λ rs. ReadsTold site capacity n logged (moves_of sc h site) (left_by why plain rs) bytes in
+    let M : ℕ → Type 0 = λ m. ReadsTold site capacity m logged (moves_of sc h site ++ []) (left_by why unnumbered (records_by sc h site inputs)) bytes in
+    let Q : List Move → Type 0 = λ ms. ReadsTold site capacity n logged ms (left_by why unnumbered (records_by sc h site inputs)) bytes in
+    let R : List Record → Type 0 = λ rs. ReadsTold site capacity n logged (moves_of sc h site) (left_by why unnumbered rs) bytes in
     subst P (sym (past_on sc h site e refl)) (subst M (sym (entries_on h site e refl)) (subst Q (sym (append-nil (moves_of sc h site)))
-    (subst R made (left_tells site capacity n logged (moves_of sc h site) why plain records bytes (left bytes at)))))
+    (subst R made (left_tells site capacity n logged (moves_of sc h site) why unnumbered records bytes (left bytes at)))))

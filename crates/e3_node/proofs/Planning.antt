@@ -4,7 +4,7 @@ use Rattle.std.specs.Prelude.{None, Result, OnOk, OnErr}
 use Rattle.e3_disk.specs.Meters.{Meters}
 use Rattle.e3_log.specs.Stands.{LogState}
 use Rattle.e3_node.specs.Batched.{HasPlanned, IsBatch}
-use Rattle.e3_node.specs.Batches.{plain_steps}
+use Rattle.e3_node.specs.Batches.{unnumbered_steps}
 use Rattle.e3_node.specs.Several.{AreOwned, claims_for, marks_in}
 use Rattle.e3_node.specs.Turns.{Meanwhile}
 use Rattle.e3_node.specs.declared.batching.Batch.{Batch}
@@ -114,7 +114,7 @@ pub claims_grew : {D : Type 0} (meters : D → Meters) (on_disk : LogState D) (p
     Owns p site → SameOwners p q → seen_by q ≡ marks → freed ≡ marks ++ mark.Freed site ∷ [] →
     Added meters on_disk (scenario_of freed) (entries_of freed) site rose freed first inputs answer batch s now → GrewByOwners belongs q now
 claims_grew meters on_disk p q site rose first inputs answer batch s marks freed now owns same seen free added =
-    let steps : List Entry = plain_steps (scenario_of freed) (entries_of freed) site (take added.0 inputs) in
+    let steps : List Entry = unnumbered_steps (scenario_of freed) (entries_of freed) site (take added.0 inputs) in
     let has : 0 < count_of site (owners_of q) = subst (λ (l : List ℕ). 0 < count_of site l) (sym same.owners) owns in
     grew_own (last_of q) (owners_of q) (seen_by q) marks now (mark.Freed site ∷ claims_for steps) seen
     (added.4.claimed ∙ ap (λ (l : List Mark). l ++ claims_for steps) free ∙ append_assoc marks (mark.Freed site ∷ []) (claims_for steps))

@@ -4,6 +4,7 @@ use Rattle.std.proofs.lemmas.List.{length-take-le}
 use Rattle.std.specs.Prelude.{None, Option, Result, Some}
 use Rattle.atomic_table.specs.Seated.{TableId}
 use Rattle.e3_codec.specs.Fields.{AllCanBeReadBack}
+use Rattle.e3_disk.specs.Meaning.{Meaning}
 use Rattle.e3_disk.specs.Meters.{Keeps, Meters}
 use Rattle.e3_law_steps.specs.Begun.{BegunAreTransactions, RecordsMentionWhatStands}
 use Rattle.e3_law_local.specs.Drafts.{MayTakeAll}
@@ -17,7 +18,7 @@ use Rattle.e3_log.specs.Frames.{frames}
 use Rattle.e3_log.specs.Regions.{other, start}
 use Rattle.e3_log.specs.Stands.{LogState}
 use Rattle.e3_node.specs.Batched.{HasPlanned, IsBatch}
-use Rattle.e3_node.specs.Batches.{IsOneFrame, fall_over, plain_steps, stepped}
+use Rattle.e3_node.specs.Batches.{IsOneFrame, fall_over, unnumbered_steps, stepped}
 use Rattle.e3_node.specs.Bodies.{DiskTells, entries_at}
 use Rattle.e3_node.specs.Ending.{EndsWith}
 use Rattle.e3_site_log.specs.Bodies.{IsLogged, ReadsLeft, body_of}
@@ -122,7 +123,7 @@ module _ {rose : List Record} {D0 : Type 0} (meters0 : D0 → Meters) (on_disk :
   done = take plan.count inputs
 
   abbrev steps : List Entry
-  steps = plain_steps sc h1 site done
+  steps = unnumbered_steps sc h1 site done
 
   pub first_while : Meanwhile site h h1
   first_while = seen_while p site owns was b plan.grew plan.played
@@ -163,10 +164,10 @@ module _ {rose : List Record} {D0 : Type 0} (meters0 : D0 → Meters) (on_disk :
   )
 
   -- a site that was up is so behind what others put
-  pub up_first : {D : Type 0} (content : D → List ℕ) (image : D → List ℕ → Type 0) (meters : D → Meters) (s0 : SiteView) (old : LogState D) (n : ℕ) →
-      IsUp content image meters sc h site s0 old rose n → is_up_at h1 site ≡ true
-  up_first content image meters s0 old n stood =
-      let there : IsUp content image meters sc h1 site s0 old rose n = up_meanwhile content image meters sc h h1 site (Up s0 old rose n) first_while stood in there.up
+  pub up_first : {D : Type 0} (meaning : Meaning D) (s0 : SiteView) (old : LogState D) (n : ℕ) →
+      IsUp meaning sc h site s0 old rose n → is_up_at h1 site ≡ true
+  up_first meaning s0 old n stood =
+      let there : IsUp meaning sc h1 site s0 old rose n = up_meanwhile meaning sc h h1 site (Up s0 old rose n) first_while stood in there.up
 
   module _ (some : 1 ≤ site) (up : is_up_at h site ≡ true) (calm : is_calm (present_items sc h) ≡ false) (may : MayTakeAll sc h site inputs)
       (firsts : AreFirstTo sc h site inputs) where
@@ -233,7 +234,7 @@ module _ {rose : List Record} {D0 : Type 0} (meters0 : D0 → Meters) (on_disk :
       pub all_2 : AreFirstTo sc k site done × AreDue sc k site done × (is_calm (present_items sc k) ≡ false)
       all_2 = due_meanwhile sc h1 k site done was.given legal_2 second_while all_1.2 all_1.0 all_1.1
 
-      pub same_steps : batch.steps.items ≡ plain_steps sc k site done
+      pub same_steps : batch.steps.items ≡ unnumbered_steps sc k site done
       same_steps = made.steps_are ∙ sym (plain_same sc site h1 k done (moves_meanwhile sc h1 k site second_while))
 
       pub same_records : batch.records ≡ records_by sc k site done
@@ -286,11 +287,11 @@ module _ {rose : List Record} {D0 : Type 0} (meters0 : D0 → Meters) (on_disk :
       pub history_stepped : (now : List Mark) → now ≡ marks ++ marks_in k batch.steps.items → entries_of now ≡ stepped sc k site done
       history_stepped now is =
           ap (λ (l : List Mark). entries_of l) is ∙ ap (λ (l : List Entry). entries_of (marks ++ marks_in k l)) same_steps
-          ∙ entries_in marks (plain_steps sc k site done) ∙ plain_list sc k site done
+          ∙ entries_in marks (unnumbered_steps sc k site done) ∙ plain_list sc k site done
 
       pub note_stepped : (now : List Mark) → now ≡ marks ++ marks_in k batch.steps.items → note_of site now ≡ nothing
       note_stepped now is =
-          let mine : List Entry = plain_steps sc k site done in
+          let mine : List Entry = unnumbered_steps sc k site done in
           let same : steps ≡ mine = sym made.steps_are ∙ same_steps in
           let there : note_of site marks ≡ record { places = 0 + length mine; room = 0 + outs_in mine } =
           note_same q site owns_q played_q marks grew ∙ note_q
@@ -335,33 +336,33 @@ module _ {rose : List Record} {D0 : Type 0} (meters0 : D0 → Meters) (on_disk :
       }
 
       -- the site is up behind that
-      pub up_second : {D : Type 0} (content : D → List ℕ) (image : D → List ℕ → Type 0) (meters : D → Meters) (s0 : SiteView) (old : LogState D) (n : ℕ) →
-          IsUp content image meters sc h site s0 old rose n → is_up_at k site ≡ true
-      up_second content image meters s0 old n stood =
-          let there : IsUp content image meters sc k site s0 old rose n = up_meanwhile content image meters sc h k site (Up s0 old rose n) all_while stood in there.up
+      pub up_second : {D : Type 0} (meaning : Meaning D) (s0 : SiteView) (old : LogState D) (n : ℕ) →
+          IsUp meaning sc h site s0 old rose n → is_up_at k site ≡ true
+      up_second meaning s0 old n stood =
+          let there : IsUp meaning sc k site s0 old rose n = up_meanwhile meaning sc h k site (Up s0 old rose n) all_while stood in there.up
 
-      module _ {D : Type 0} (content : D → List ℕ) (image : D → List ℕ → Type 0) (meters : D → Meters) (s0 : SiteView) (old new : LogState D) (n0 n : ℕ)
-          (stood : IsUp content image meters sc h site s0 old rose n0) (begins : first ≡ s0.inputs) where
-        pub up_2 : IsUp content image meters sc k site s0 old rose n0
-        up_2 = up_meanwhile content image meters sc h k site (Up s0 old rose n0) all_while stood
+      module _ {D : Type 0} (meaning : Meaning D) (s0 : SiteView) (old new : LogState D) (n0 n : ℕ)
+          (stood : IsUp meaning sc h site s0 old rose n0) (begins : first ≡ s0.inputs) where
+        pub up_2 : IsUp meaning sc k site s0 old rose n0
+        up_2 = up_meanwhile meaning sc h k site (Up s0 old rose n0) all_while stood
 
         -- the log holds the records of the steps: of none, what it held
         all_logged : (is : List Input) → done ≡ is → (batch.records ≡ [] → (new ≡ old) × (n ≡ n0)) →
-            IsLogged content image meters site (entries_at k site + 1) (log_of sc k site ++ batch.records) n new →
-            IsLogged content image meters site (entries_at (stepped sc k site is) site) (log_of sc (stepped sc k site is) site) n new
+            IsLogged meaning site (entries_at k site + 1) (log_of sc k site ++ batch.records) n new →
+            IsLogged meaning site (entries_at (stepped sc k site is) site) (log_of sc (stepped sc k site is) site) n new
         all_logged [] none still wrote =
             let same = still (same_records ∙ ap (λ (l : List Input). records_by sc k site l) none) in
-            let P : LogState D → Type 0 = λ l. IsLogged content image meters site (entries_at k site) (log_of sc k site) n l in
-            let Q : ℕ → Type 0 = λ m. IsLogged content image meters site (entries_at k site) (log_of sc k site) m old in
+            let P : LogState D → Type 0 = λ l. IsLogged meaning site (entries_at k site) (log_of sc k site) n l in
+            let Q : ℕ → Type 0 = λ m. IsLogged meaning site (entries_at k site) (log_of sc k site) m old in
             subst P (sym same.0) (subst Q (sym same.1) up_2.logged)
         all_logged (i ∷ is) some still wrote =
-            steps_logged content image meters sc k site (i ∷ is) batch.records n new (omega arith) (same_records ∙ ap (λ (l : List Input). records_by sc k site l) some) wrote
+            steps_logged meaning sc k site (i ∷ is) batch.records n new (omega arith) (same_records ∙ ap (λ (l : List Input). records_by sc k site l) some) wrote
 
         pub stepped_stands : LogsAreOrderly → LoggedSitesAreSets → (batch.records ≡ [] → (new ≡ old) × (n ≡ n0)) →
-            IsLogged content image meters site (entries_at k site + 1) (log_of sc k site ++ batch.records) n new →
-            (meters new.disk).powered ≡ true → (more : List Entry) → more ≡ stepped sc k site done → IsUp content image meters sc more site s new rose n
+            IsLogged meaning site (entries_at k site + 1) (log_of sc k site ++ batch.records) n new →
+            (meaning.meters new.disk).powered ≡ true → (more : List Entry) → more ≡ stepped sc k site done → IsUp meaning sc more site s new rose n
         stepped_stands logs sets still wrote lit more entered =
-            let R : List Entry → Type 0 = λ l. IsUp content image meters sc l site s new rose n in
+            let R : List Entry → Type 0 = λ l. IsUp meaning sc l site s new rose n in
             subst R (sym entered) (record {
               up = stepped_up sc k site done up_2.up;
               stands = record {
@@ -384,15 +385,15 @@ module _ {rose : List Record} {D0 : Type 0} (meters0 : D0 → Meters) (on_disk :
 
         -- the steps are its end
         pub steps_end : LogsAreOrderly → LoggedSitesAreSets → (short : Option Short) → IsShortIf site (log_of sc k site) short → (batch.records ≡ [] → (new ≡ old) × (n ≡ n0)) →
-            IsLogged content image meters site (entries_at k site + 1) (log_of sc k site ++ batch.records) n new →
-            (meters new.disk).powered ≡ true → Takes (calls_for batch.records) (meters old.disk) (meters new.disk) → Keeps (meters old.disk) (meters new.disk) →
-            (batch.records ≢ [] → EndsAt meters old short batch.records new.end) → (now : List Mark) → now ≡ marks ++ marks_in k batch.steps.items →
-            EndsWith content image meters sc h (entries_of now) site inputs (Up s0 old rose n0) (Up s new rose n) answer None
+            IsLogged meaning site (entries_at k site + 1) (log_of sc k site ++ batch.records) n new →
+            (meaning.meters new.disk).powered ≡ true → Takes (calls_for batch.records) (meaning.meters old.disk) (meaning.meters new.disk) → Keeps (meaning.meters old.disk) (meaning.meters new.disk) →
+            (batch.records ≢ [] → EndsAt meaning.meters old short batch.records new.end) → (now : List Mark) → now ≡ marks ++ marks_in k batch.steps.items →
+            EndsWith meaning sc h (entries_of now) site inputs (Up s0 old rose n0) (Up s new rose n) answer None
         steps_end logs sets short is_short still wrote lit takes keeps end now is =
             let entered : entries_of now ≡ stepped sc k site done = history_stepped now is in
-            let T : List Record → Type 0 = λ rs. Takes (calls_for rs) (meters old.disk) (meters new.disk) in
-            let F : List Record → Type 0 = λ rs. IsOneFrame (log_of sc h site) rs old.end new.end (meters old.disk).capacity in
-            let G : List Record → Type 0 = λ l. IsOneFrame l batch.records old.end new.end (meters old.disk).capacity in
+            let T : List Record → Type 0 = λ rs. Takes (calls_for rs) (meaning.meters old.disk) (meaning.meters new.disk) in
+            let F : List Record → Type 0 = λ rs. IsOneFrame (log_of sc h site) rs old.end new.end (meaning.meters old.disk).capacity in
+            let G : List Record → Type 0 = λ l. IsOneFrame l batch.records old.end new.end (meaning.meters old.disk).capacity in
             record {
               count = plan.count;
               within = plan.within;
@@ -404,7 +405,7 @@ module _ {rose : List Record} {D0 : Type 0} (meters0 : D0 → Meters) (on_disk :
                   meanwhile = all_while;
                   entered = entered;
                   takes = subst T seen_records takes;
-                  frame = subst F seen_records (subst G log_while (one_frame meters site old new (log_of sc k site) batch.records short is_short (λ none. (still none).0) end));
+                  frame = subst F seen_records (subst G log_while (one_frame meaning.meters site old new (log_of sc k site) batch.records short is_short (λ none. (still none).0) end));
                 },
                 stepped_stands logs sets still wrote lit (entries_of now) entered,
               );
@@ -413,16 +414,16 @@ module _ {rose : List Record} {D0 : Type 0} (meters0 : D0 → Meters) (on_disk :
 
         -- or the fall is
         pub fall_end : (why : Why) → batch.records ≢ [] →
-            ((bytes : List ℕ) → image new.disk bytes → ReadsLeft site (meters new.disk).capacity (entries_at k site + 1) (log_of sc k site) batch.records n why bytes) →
-            IsReason why (log_of sc k site) batch.records (meters old.disk) (meters new.disk) → Keeps (meters old.disk) (meters new.disk) →
+            ((bytes : List ℕ) → meaning.image new.disk bytes → ReadsLeft site (meaning.meters new.disk).capacity (entries_at k site + 1) (log_of sc k site) batch.records n why bytes) →
+            IsReason why (log_of sc k site) batch.records (meaning.meters old.disk) (meaning.meters new.disk) → Keeps (meaning.meters old.disk) (meaning.meters new.disk) →
             (over : List Input) → over ≡ done → (now : List Mark) →
             now ≡ marks ++ mark.Entered (numbered_on k (record { owner = site; act = Fall over batch.records why })) ∷ [] →
-            EndsWith content image meters sc h (entries_of now) site inputs (Up s0 old rose n0) (Up s new rose n) answer (Some why)
+            EndsWith meaning sc h (entries_of now) site inputs (Up s0 old rose n0) (Up s new rose n) answer (Some why)
         fall_end why some_records left reason keeps over over_is now is =
             let entered : entries_of now ≡ k ++ fall_over sc k site done why ∷ [] = history_fallen over why now over_is is in
-            let H : List Entry → Type 0 = λ l. DiskTells sc l site (meters new.disk).capacity n (image new.disk) in
-            let R : List Record → Type 0 = λ rs. IsReason why (log_of sc h site) rs (meters old.disk) (meters new.disk) in
-            let L : List Record → Type 0 = λ l. IsReason why l batch.records (meters old.disk) (meters new.disk) in
+            let H : List Entry → Type 0 = λ l. DiskTells sc l site (meaning.meters new.disk).capacity n (meaning.image new.disk) in
+            let R : List Record → Type 0 = λ rs. IsReason why (log_of sc h site) rs (meaning.meters old.disk) (meaning.meters new.disk) in
+            let L : List Record → Type 0 = λ l. IsReason why l batch.records (meaning.meters old.disk) (meaning.meters new.disk) in
             record {
               count = plan.count;
               within = plan.within;
@@ -435,7 +436,7 @@ module _ {rose : List Record} {D0 : Type 0} (meters0 : D0 → Meters) (on_disk :
                   fell = record { some = λ none. some_records (same_records ∙ none); entered = entered };
                   reason = subst R seen_records (subst L log_while reason);
                 },
-                subst H (sym entered) (fallen_all_tells sc k site (meters new.disk).capacity done batch.records why n (image new.disk) same_records left),
+                subst H (sym entered) (fallen_all_tells sc k site (meaning.meters new.disk).capacity done batch.records why n (meaning.image new.disk) same_records left),
               );
               keeps = keeps;
             }

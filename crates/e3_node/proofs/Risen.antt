@@ -1,7 +1,8 @@
 -- The whole node behind a rise, and what is told of it.
 use Rattle.std.proofs.Common.{◌≡◌, ◌+◌, ◌++◌, ◌∷◌, [], ◌≤◌, ℕ, false, List, Result, Err, refl, sym, subst, ap, ◌∙◌, append-nil, arith}
 use Rattle.std.specs.Prelude.{IfOk}
-use Rattle.e3_disk.specs.Meters.{Meters, HasFailed}
+use Rattle.e3_disk.specs.Meaning.{Meaning}
+use Rattle.e3_disk.specs.Meters.{HasFailed}
 use Rattle.e3_node.specs.Bodies.{DiskTells, ReadsTold, entries_at}
 use Rattle.e3_node.specs.Ends.{HasFailedToRise, HasRisen}
 use Rattle.e3_node.specs.NodeStands.{IsDown, IsIn, NodeStands}
@@ -35,10 +36,10 @@ use Rattle.e3_node.proofs.Pasts.{entries_on, past_on}
 use Rattle.e3_node.proofs.Steps.{node_with}
 
 -- what a node that stands takes with it, where it may rise
-pub may_rise : {D : Type 0} (content : D → List ℕ) (image : D → List ℕ → Type 0) (meters : D → Meters) (marks : List Mark) (node : NodeView D)
-    (wish : Wish) → SharedStands marks → NodeStands content image meters (scenario_of marks) (entries_of marks) node → IsRising (scenario_of marks) (entries_of marks) node.site →
+pub may_rise : {D : Type 0} (meaning : Meaning D) (marks : List Mark) (node : NodeView D)
+    (wish : Wish) → SharedStands marks → NodeStands meaning (scenario_of marks) (entries_of marks) node → IsRising (scenario_of marks) (entries_of marks) node.site →
     IsWish node.site node.weights node.rows wish → MayRise (scenario_of marks) (entries_of marks) wish
-may_rise content image meters marks node wish shared was rising is = record {
+may_rise meaning marks node wish shared was rising is = record {
   given = shared.played.given;
   legal = shared.played.legal;
   rising = subst (λ (n : ℕ). IsRising (scenario_of marks) (entries_of marks) n) (sym is.site_is) rising;
@@ -48,19 +49,19 @@ may_rise content image meters marks node wish shared was rising is = record {
 }
 
 -- what a rise made is allowed
-pub allowed_of : {D : Type 0} (content : D → List ℕ) (image : D → List ℕ → Type 0) (meters : D → Meters) (sc : Scenario) (h : List Entry)
-    (site : ℕ) (old : D) (state : State D) (r : Raised) → IsRising sc h site → RiseMakes content image meters sc h site old state r →
+pub allowed_of : {D : Type 0} (meaning : Meaning D) (sc : Scenario) (h : List Entry)
+    (site : ℕ) (old : D) (state : State D) (r : Raised) → IsRising sc h site → RiseMakes meaning sc h site old state r →
     IsAllowed sc h site r
-allowed_of content image meters sc h site old (Up s l rose logged) (Rose kept inc) rising made = made.allowed
-allowed_of content image meters sc h site old (Up s l rose logged) (Failed kept inc why) rising made = absurd made
-allowed_of content image meters sc h site old (Up s l rose logged) Missed rising made = absurd made
-allowed_of content image meters sc h site old (Up s l rose logged) NoMemory rising made = absurd made
-allowed_of content image meters sc h site old (Up s l rose logged) Foreign rising made = absurd made
-allowed_of content image meters sc h site old (Down new logged) (Rose kept inc) rising made = absurd made
-allowed_of content image meters sc h site old (Down new logged) (Failed kept inc why) rising made = made.allowed
-allowed_of content image meters sc h site old (Down new logged) Missed rising made = rising
-allowed_of content image meters sc h site old (Down new logged) NoMemory rising made = tt
-allowed_of content image meters sc h site old (Down new logged) Foreign rising made = absurd made
+allowed_of meaning sc h site old (Up s l rose logged) (Rose kept inc) rising made = made.allowed
+allowed_of meaning sc h site old (Up s l rose logged) (Failed kept inc why) rising made = absurd made
+allowed_of meaning sc h site old (Up s l rose logged) Missed rising made = absurd made
+allowed_of meaning sc h site old (Up s l rose logged) NoMemory rising made = absurd made
+allowed_of meaning sc h site old (Up s l rose logged) Foreign rising made = absurd made
+allowed_of meaning sc h site old (Down new logged) (Rose kept inc) rising made = absurd made
+allowed_of meaning sc h site old (Down new logged) (Failed kept inc why) rising made = made.allowed
+allowed_of meaning sc h site old (Down new logged) Missed rising made = rising
+allowed_of meaning sc h site old (Down new logged) NoMemory rising made = tt
+allowed_of meaning sc h site old (Down new logged) Foreign rising made = absurd made
 
 -- a missed rise leaves the disk as it stands
 missed_disk : (sc : Scenario) (h : List Entry) (site capacity logged : ℕ) (image : List ℕ → Type 0) → DiskTells sc h site capacity logged image →
@@ -74,118 +75,118 @@ missed_disk sc h site capacity logged image tells = λ bytes at.
     subst P (sym (past_on sc h site e refl)) (subst Q (sym (append-nil (moves_of sc h site)))
     (told_later site capacity (entries_at h site) n logged (moves_of sc h site) (open_tail sc h site) bytes (omega (arith, more)) (tells bytes at)))
 
-rise_in : {D : Type 0} (content : D → List ℕ) (image : D → List ℕ → Type 0) (meters : D → Meters) (sc : Scenario) (h : List Entry)
-    (site : ℕ) (old : D) (state : State D) (r : Raised) → is_up_at h site ≡ false → RiseMakes content image meters sc h site old state r →
-    IsIn content image meters sc (h ++ entered_by site r) site state
-rise_in content image meters sc h site old (Up s l rose logged) (Rose kept inc) down made = made.up
-rise_in content image meters sc h site old (Up s l rose logged) (Failed kept inc why) down made = absurd made
-rise_in content image meters sc h site old (Up s l rose logged) Missed down made = absurd made
-rise_in content image meters sc h site old (Up s l rose logged) NoMemory down made = absurd made
-rise_in content image meters sc h site old (Up s l rose logged) Foreign down made = absurd made
-rise_in content image meters sc h site old (Down new logged) (Rose kept inc) down made = absurd made
-rise_in content image meters sc h site old (Down new logged) (Failed kept inc why) down made = record {
+rise_in : {D : Type 0} (meaning : Meaning D) (sc : Scenario) (h : List Entry)
+    (site : ℕ) (old : D) (state : State D) (r : Raised) → is_up_at h site ≡ false → RiseMakes meaning sc h site old state r →
+    IsIn meaning sc (h ++ entered_by site r) site state
+rise_in meaning sc h site old (Up s l rose logged) (Rose kept inc) down made = made.up
+rise_in meaning sc h site old (Up s l rose logged) (Failed kept inc why) down made = absurd made
+rise_in meaning sc h site old (Up s l rose logged) Missed down made = absurd made
+rise_in meaning sc h site old (Up s l rose logged) NoMemory down made = absurd made
+rise_in meaning sc h site old (Up s l rose logged) Foreign down made = absurd made
+rise_in meaning sc h site old (Down new logged) (Rose kept inc) down made = absurd made
+rise_in meaning sc h site old (Down new logged) (Failed kept inc why) down made = record {
   down = up_same h (rise_fall_of site kept inc why) site (self site);
   stands = made.stands;
 }
-rise_in content image meters sc h site old (Down new logged) Missed down made = record {
+rise_in meaning sc h site old (Down new logged) Missed down made = record {
   down = up_same h (record { owner = site; act = Miss }) site (self site);
-  stands = missed_disk sc h site (meters new).capacity logged (image new) made.0;
+  stands = missed_disk sc h site (meaning.meters new).capacity logged (meaning.image new) made.0;
 }
-rise_in content image meters sc h site old (Down new logged) NoMemory down made =
-    subst (λ (l : List Entry). IsDown image meters sc l site new logged) (sym (append-nil h)) (record { down = down; stands = made })
-rise_in content image meters sc h site old (Down new logged) Foreign down made = absurd made
+rise_in meaning sc h site old (Down new logged) NoMemory down made =
+    subst (λ (l : List Entry). IsDown meaning sc l site new logged) (sym (append-nil h)) (record { down = down; stands = made })
+rise_in meaning sc h site old (Down new logged) Foreign down made = absurd made
 
 -- so the whole node stands for the history with what comes of its rise
-pub node_risen : {D : Type 0} (content : D → List ℕ) (image : D → List ℕ → Type 0) (meters : D → Meters) (sc now : Scenario) (h more : List Entry)
-    (old new : NodeView D) (state : State D) (r : Raised) → NodeStands content image meters sc h old → is_up_at h old.site ≡ false →
-    RiseMakes content image meters sc h old.site (disk_of old.state) state r → now ≡ sc → more ≡ h ++ entered_by old.site r →
-    new ≡ record { site = old.site; weights = old.weights; rows = old.rows; state = state } → NodeStands content image meters now more new
-node_risen content image meters sc now h more old new state r was down made same entered is =
-    node_with content image meters sc now h more old new state was same
-    (subst (λ (l : List Entry). IsIn content image meters sc l old.site state) (sym entered)
-    (rise_in content image meters sc h old.site (disk_of old.state) state r down made))
+pub node_risen : {D : Type 0} (meaning : Meaning D) (sc now : Scenario) (h more : List Entry)
+    (old new : NodeView D) (state : State D) (r : Raised) → NodeStands meaning sc h old → is_up_at h old.site ≡ false →
+    RiseMakes meaning sc h old.site (disk_of old.state) state r → now ≡ sc → more ≡ h ++ entered_by old.site r →
+    new ≡ record { site = old.site; weights = old.weights; rows = old.rows; state = state } → NodeStands meaning now more new
+node_risen meaning sc now h more old new state r was down made same entered is =
+    node_with meaning sc now h more old new state was same
+    (subst (λ (l : List Entry). IsIn meaning sc l old.site state) (sym entered)
+    (rise_in meaning sc h old.site (disk_of old.state) state r down made))
     is
 
 -- what is told of it is so
-rose_as : {D : Type 0} (content : D → List ℕ) (image : D → List ℕ → Type 0) (meters : D → Meters) (sc : Scenario) (h more : List Entry)
-    (site : ℕ) (old : D) (state : State D) (r : Raised) → TailsAreOrderly → IsGiven sc → IsLegal sc h → RiseMakes content image meters sc h site old state r →
-    more ≡ h ++ entered_by site r → IfOk (told_of r) (λ inc. HasRisen sc h site inc more (meters old).capacity (image old))
-rose_as content image meters sc h more site old (Up s l rose logged) (Rose kept inc) tails given legal made entered =
+rose_as : {D : Type 0} (meaning : Meaning D) (sc : Scenario) (h more : List Entry)
+    (site : ℕ) (old : D) (state : State D) (r : Raised) → TailsAreOrderly → IsGiven sc → IsLegal sc h → RiseMakes meaning sc h site old state r →
+    more ≡ h ++ entered_by site r → IfOk (told_of r) (λ inc. HasRisen sc h site inc more (meaning.meters old).capacity (meaning.image old))
+rose_as meaning sc h more site old (Up s l rose logged) (Rose kept inc) tails given legal made entered =
     record {
       kept = kept;
       allowed = made.allowed;
       entered = entered;
       read = made.read;
-      exactly = kept_exactly tails sc h site (meters old).capacity inc kept (image old) given legal made.allowed made.read;
+      exactly = kept_exactly tails sc h site (meaning.meters old).capacity inc kept (meaning.image old) given legal made.allowed made.read;
     }
-rose_as content image meters sc h more site old (Up s l rose logged) (Failed kept inc why) tails given legal made entered = absurd made
-rose_as content image meters sc h more site old (Up s l rose logged) Missed tails given legal made entered = absurd made
-rose_as content image meters sc h more site old (Up s l rose logged) NoMemory tails given legal made entered = absurd made
-rose_as content image meters sc h more site old (Up s l rose logged) Foreign tails given legal made entered = absurd made
-rose_as content image meters sc h more site old (Down new logged) (Rose kept inc) tails given legal made entered = absurd made
-rose_as content image meters sc h more site old (Down new logged) (Failed kept inc why) tails given legal made entered = tt
-rose_as content image meters sc h more site old (Down new logged) Missed tails given legal made entered = tt
-rose_as content image meters sc h more site old (Down new logged) NoMemory tails given legal made entered = tt
-rose_as content image meters sc h more site old (Down new logged) Foreign tails given legal made entered = absurd made
+rose_as meaning sc h more site old (Up s l rose logged) (Failed kept inc why) tails given legal made entered = absurd made
+rose_as meaning sc h more site old (Up s l rose logged) Missed tails given legal made entered = absurd made
+rose_as meaning sc h more site old (Up s l rose logged) NoMemory tails given legal made entered = absurd made
+rose_as meaning sc h more site old (Up s l rose logged) Foreign tails given legal made entered = absurd made
+rose_as meaning sc h more site old (Down new logged) (Rose kept inc) tails given legal made entered = absurd made
+rose_as meaning sc h more site old (Down new logged) (Failed kept inc why) tails given legal made entered = tt
+rose_as meaning sc h more site old (Down new logged) Missed tails given legal made entered = tt
+rose_as meaning sc h more site old (Down new logged) NoMemory tails given legal made entered = tt
+rose_as meaning sc h more site old (Down new logged) Foreign tails given legal made entered = absurd made
 
-pub rose_told : {D : Type 0} (content : D → List ℕ) (image : D → List ℕ → Type 0) (meters : D → Meters) (sc : Scenario) (h more : List Entry)
+pub rose_told : {D : Type 0} (meaning : Meaning D) (sc : Scenario) (h more : List Entry)
     (site : ℕ) (old : D) (state : State D) (r : Raised) (told : Result ℕ RiseFault) → TailsAreOrderly → IsGiven sc → IsLegal sc h →
-    RiseMakes content image meters sc h site old state r → more ≡ h ++ entered_by site r → told ≡ told_of r → IfOk told (λ inc. HasRisen sc h site inc more (meters old).capacity (image old))
-rose_told content image meters sc h more site old state r told tails given legal made entered is =
-    subst (λ (t : Result ℕ RiseFault). IfOk t (λ inc. HasRisen sc h site inc more (meters old).capacity (image old))) (sym is)
-    (rose_as content image meters sc h more site old state r tails given legal made entered)
+    RiseMakes meaning sc h site old state r → more ≡ h ++ entered_by site r → told ≡ told_of r → IfOk told (λ inc. HasRisen sc h site inc more (meaning.meters old).capacity (meaning.image old))
+rose_told meaning sc h more site old state r told tails given legal made entered is =
+    subst (λ (t : Result ℕ RiseFault). IfOk t (λ inc. HasRisen sc h site inc more (meaning.meters old).capacity (meaning.image old))) (sym is)
+    (rose_as meaning sc h more site old state r tails given legal made entered)
 
-pub failed_told : {D : Type 0} (content : D → List ℕ) (image : D → List ℕ → Type 0) (meters : D → Meters) (sc : Scenario) (h more : List Entry)
-    (site : ℕ) (old : D) (state : State D) (r : Raised) → TailsAreOrderly → IsGiven sc → IsLegal sc h → RiseMakes content image meters sc h site old state r →
+pub failed_told : {D : Type 0} (meaning : Meaning D) (sc : Scenario) (h more : List Entry)
+    (site : ℕ) (old : D) (state : State D) (r : Raised) → TailsAreOrderly → IsGiven sc → IsLegal sc h → RiseMakes meaning sc h site old state r →
     more ≡ h ++ entered_by site r → (why : Why) → told_of r ≡ Err (rise_fault.Failed why) →
-    HasFailedToRise sc h site why more (meters old) (meters (disk_of state)) (image old)
-failed_told content image meters sc h more site old (Up s l rose logged) (Rose kept inc) tails given legal made entered why is = absurd cc
-failed_told content image meters sc h more site old (Up s l rose logged) (Failed kept inc because) tails given legal made entered why is = absurd made
-failed_told content image meters sc h more site old (Up s l rose logged) Missed tails given legal made entered why is = absurd made
-failed_told content image meters sc h more site old (Up s l rose logged) NoMemory tails given legal made entered why is = absurd made
-failed_told content image meters sc h more site old (Up s l rose logged) Foreign tails given legal made entered why is = absurd made
-failed_told content image meters sc h more site old (Down new logged) (Rose kept inc) tails given legal made entered why is = absurd made
-failed_told content image meters sc h more site old (Down new logged) (Failed kept inc because) tails given legal made entered why is =
+    HasFailedToRise sc h site why more (meaning.meters old) (meaning.meters (disk_of state)) (meaning.image old)
+failed_told meaning sc h more site old (Up s l rose logged) (Rose kept inc) tails given legal made entered why is = absurd cc
+failed_told meaning sc h more site old (Up s l rose logged) (Failed kept inc because) tails given legal made entered why is = absurd made
+failed_told meaning sc h more site old (Up s l rose logged) Missed tails given legal made entered why is = absurd made
+failed_told meaning sc h more site old (Up s l rose logged) NoMemory tails given legal made entered why is = absurd made
+failed_told meaning sc h more site old (Up s l rose logged) Foreign tails given legal made entered why is = absurd made
+failed_told meaning sc h more site old (Down new logged) (Rose kept inc) tails given legal made entered why is = absurd made
+failed_told meaning sc h more site old (Down new logged) (Failed kept inc because) tails given legal made entered why is =
     let same : because ≡ why = cc in
-    subst (λ (w : Why). HasFailedToRise sc h site w more (meters old) (meters new) (image old)) same
+    subst (λ (w : Why). HasFailedToRise sc h site w more (meaning.meters old) (meaning.meters new) (meaning.image old)) same
     (record {
       kept = kept;
       inc = inc;
       allowed = made.allowed;
       entered = entered;
       read = made.read;
-      exactly = kept_exactly tails sc h site (meters old).capacity inc kept (image old) given legal made.allowed made.read;
+      exactly = kept_exactly tails sc h site (meaning.meters old).capacity inc kept (meaning.image old) given legal made.allowed made.read;
       reason = made.reason;
     })
-failed_told content image meters sc h more site old (Down new logged) Missed tails given legal made entered why is = absurd cc
-failed_told content image meters sc h more site old (Down new logged) NoMemory tails given legal made entered why is = absurd cc
-failed_told content image meters sc h more site old (Down new logged) Foreign tails given legal made entered why is = absurd made
+failed_told meaning sc h more site old (Down new logged) Missed tails given legal made entered why is = absurd cc
+failed_told meaning sc h more site old (Down new logged) NoMemory tails given legal made entered why is = absurd cc
+failed_told meaning sc h more site old (Down new logged) Foreign tails given legal made entered why is = absurd made
 
-pub missed_told : {D : Type 0} (content : D → List ℕ) (image : D → List ℕ → Type 0) (meters : D → Meters) (sc : Scenario) (h : List Entry)
-    (site : ℕ) (old : D) (state : State D) (r : Raised) → RiseMakes content image meters sc h site old state r →
-    told_of r ≡ Err rise_fault.Missed → HasFailed (meters old).faults (meters (disk_of state)).faults
-missed_told content image meters sc h site old (Up s l rose logged) (Rose kept inc) made is = absurd cc
-missed_told content image meters sc h site old (Up s l rose logged) (Failed kept inc why) made is = absurd made
-missed_told content image meters sc h site old (Up s l rose logged) Missed made is = absurd made
-missed_told content image meters sc h site old (Up s l rose logged) NoMemory made is = absurd made
-missed_told content image meters sc h site old (Up s l rose logged) Foreign made is = absurd made
-missed_told content image meters sc h site old (Down new logged) (Rose kept inc) made is = absurd made
-missed_told content image meters sc h site old (Down new logged) (Failed kept inc why) made is = absurd cc
-missed_told content image meters sc h site old (Down new logged) Missed made is = made.1
-missed_told content image meters sc h site old (Down new logged) NoMemory made is = absurd cc
-missed_told content image meters sc h site old (Down new logged) Foreign made is = absurd made
+pub missed_told : {D : Type 0} (meaning : Meaning D) (sc : Scenario) (h : List Entry)
+    (site : ℕ) (old : D) (state : State D) (r : Raised) → RiseMakes meaning sc h site old state r →
+    told_of r ≡ Err rise_fault.Missed → HasFailed (meaning.meters old).faults (meaning.meters (disk_of state)).faults
+missed_told meaning sc h site old (Up s l rose logged) (Rose kept inc) made is = absurd cc
+missed_told meaning sc h site old (Up s l rose logged) (Failed kept inc why) made is = absurd made
+missed_told meaning sc h site old (Up s l rose logged) Missed made is = absurd made
+missed_told meaning sc h site old (Up s l rose logged) NoMemory made is = absurd made
+missed_told meaning sc h site old (Up s l rose logged) Foreign made is = absurd made
+missed_told meaning sc h site old (Down new logged) (Rose kept inc) made is = absurd made
+missed_told meaning sc h site old (Down new logged) (Failed kept inc why) made is = absurd cc
+missed_told meaning sc h site old (Down new logged) Missed made is = made.1
+missed_told meaning sc h site old (Down new logged) NoMemory made is = absurd cc
+missed_told meaning sc h site old (Down new logged) Foreign made is = absurd made
 
 -- a rise that is told as wanting memory left of an arm what there was, less the sync
-pub spared_told : {D : Type 0} (content : D → List ℕ) (image : D → List ℕ → Type 0) (meters : D → Meters) (sc : Scenario) (h : List Entry)
-    (site : ℕ) (old : D) (state : State D) (r : Raised) → RiseMakes content image meters sc h site old state r →
-    RiseTakes 5 r (meters old) (meters (disk_of state)) → told_of r ≡ Err rise_fault.NoMemory → Takes 0 (meters old) (meters (disk_of state))
-spared_told content image meters sc h site old (Up s l rose logged) (Rose kept inc) made takes is = absurd cc
-spared_told content image meters sc h site old (Up s l rose logged) (Failed kept inc why) made takes is = absurd made
-spared_told content image meters sc h site old (Up s l rose logged) Missed made takes is = absurd made
-spared_told content image meters sc h site old (Up s l rose logged) NoMemory made takes is = absurd made
-spared_told content image meters sc h site old (Up s l rose logged) Foreign made takes is = absurd made
-spared_told content image meters sc h site old (Down new logged) (Rose kept inc) made takes is = absurd made
-spared_told content image meters sc h site old (Down new logged) (Failed kept inc why) made takes is = absurd cc
-spared_told content image meters sc h site old (Down new logged) Missed made takes is = absurd cc
-spared_told content image meters sc h site old (Down new logged) NoMemory made takes is = takes
-spared_told content image meters sc h site old (Down new logged) Foreign made takes is = absurd made
+pub spared_told : {D : Type 0} (meaning : Meaning D) (sc : Scenario) (h : List Entry)
+    (site : ℕ) (old : D) (state : State D) (r : Raised) → RiseMakes meaning sc h site old state r →
+    RiseTakes 5 r (meaning.meters old) (meaning.meters (disk_of state)) → told_of r ≡ Err rise_fault.NoMemory → Takes 0 (meaning.meters old) (meaning.meters (disk_of state))
+spared_told meaning sc h site old (Up s l rose logged) (Rose kept inc) made takes is = absurd cc
+spared_told meaning sc h site old (Up s l rose logged) (Failed kept inc why) made takes is = absurd made
+spared_told meaning sc h site old (Up s l rose logged) Missed made takes is = absurd made
+spared_told meaning sc h site old (Up s l rose logged) NoMemory made takes is = absurd made
+spared_told meaning sc h site old (Up s l rose logged) Foreign made takes is = absurd made
+spared_told meaning sc h site old (Down new logged) (Rose kept inc) made takes is = absurd made
+spared_told meaning sc h site old (Down new logged) (Failed kept inc why) made takes is = absurd cc
+spared_told meaning sc h site old (Down new logged) Missed made takes is = absurd cc
+spared_told meaning sc h site old (Down new logged) NoMemory made takes is = takes
+spared_told meaning sc h site old (Down new logged) Foreign made takes is = absurd made

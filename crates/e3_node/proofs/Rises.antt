@@ -6,6 +6,7 @@ use Rattle.std.proofs.lemmas.Grind.{flat_map-append}
 use Rattle.e3_codec.proofs.Records.{one_list}
 use Rattle.e3_codec.specs.Fields.{AllCanBeReadBack}
 use Rattle.e3_disk.specs.Images.{Within}
+use Rattle.e3_disk.specs.Meaning.{Meaning}
 use Rattle.e3_disk.specs.Meters.{Keeps, Meters, HasFailed}
 use Rattle.e3_law_brief.specs.Alike.{ReadAlike}
 use Rattle.e3_world.specs.Brief.{brief, txns_of}
@@ -43,7 +44,7 @@ use Rattle.e3_site_log.specs.Bodies.{IsLogged, ReadsAs, ReadsLeft, bodies_in, jo
 use Rattle.e3_site_log.specs.Ends.{IsFull, IsReason}
 use Rattle.e3_site_log.proofs.Frames.{spells}
 use Rattle.e3_site_log.proofs.Holding.{fronts, same_go_on}
-use Rattle.e3_snapshot.proofs.Legal.{in_order}
+use Rattle.e3_site.proofs.Legal.{in_order}
 use Rattle.e3_types.specs.declared.entries.Entry.{Entry}
 use Rattle.e3_types.specs.declared.entries.Why.{Why}
 use Rattle.e3_types.specs.declared.entries.Why.TheVariants.{Fault, Full}
@@ -201,34 +202,34 @@ ready_some wish logged bodies ready is = λ none. by (born_by wish is.read) (sym
     by (r ∷ rs) is_none = cc
 
 -- a rise that is ready, over a log that was opened on a disk that stands
-module _ {D : Type 0} (content : D → List ℕ) (image : D → List ℕ → Type 0) (meters : D → Meters) (logs : LogsAreOrderly) (sets : LoggedSitesAreSets) (sounds : TrailsAreSound)
+module _ {D : Type 0} (meaning : Meaning D) (logs : LogsAreOrderly) (sets : LoggedSitesAreSets) (sounds : TrailsAreSound)
     (sc : Scenario) (h : List Entry) (wish : Wish) (logged : ℕ) (bodies : List (List ℕ)) (ready : Readied) (old : LogState D) (may : MayRise sc h wish)
-    (is : IsReady wish logged bodies ready) (stands : Stands content image meters bodies old)
-    (tells : DiskTells sc h wish.site (meters old.disk).capacity logged (image old.disk)) (at : image old.disk (content old.disk)) where
+    (is : IsReady wish logged bodies ready) (stands : Stands meaning bodies old)
+    (tells : DiskTells sc h wish.site (meaning.meters old.disk).capacity logged (meaning.image old.disk)) (at : meaning.image old.disk (meaning.content old.disk)) where
   abbrev kept_log : List Record
   kept_log = log_with sc h wish.site ready.kept
 
   abbrev up_next : ℕ
   up_next = suc (logged_inc kept_log)
 
-  what : Found sc h wish.site (meters old.disk).capacity old.generation (content old.disk) bodies is.read ready.kept
-  what = found sc h wish.site (meters old.disk).capacity logged old.generation (content old.disk) bodies is.read ready.kept
-      (opened_reads content image meters bodies old stands) is.back is.spelled is.few is.kept_is (tells (content old.disk) at)
+  what : Found sc h wish.site (meaning.meters old.disk).capacity old.generation (meaning.content old.disk) bodies is.read ready.kept
+  what = found sc h wish.site (meaning.meters old.disk).capacity logged old.generation (meaning.content old.disk) bodies is.read ready.kept
+      (opened_reads meaning bodies old stands) is.back is.spelled is.few is.kept_is (tells (meaning.content old.disk) at)
 
-  pub was_logged : IsLogged content image meters wish.site (entries_at h wish.site) kept_log ready.read old
+  pub was_logged : IsLogged meaning wish.site (entries_at h wish.site) kept_log ready.read old
   was_logged =
       let few : what.reads.generation ≤ entries_at h wish.site = what.reads.few in
       let count : length is.read ≡ length (joined what.reads.lists) = ap length what.read_is in
       record {
         lists = what.reads.lists;
         hold = what.reads.hold;
-        stands = subst (λ (bs : List (List ℕ)). Stands content image meters bs old) what.are stands;
+        stands = subst (λ (bs : List (List ℕ)). Stands meaning bs old) what.are stands;
         few = omega (arith, few, what.turns);
         logged_is = omega (arith, is.read_is, is.few, count);
       }
 
-  pub was_read : IsRead sc h wish.site (meters old.disk).capacity ready.kept (image old.disk)
-  was_read = record { bytes = content old.disk; at = at; reads = what.reads }
+  pub was_read : IsRead sc h wish.site (meaning.meters old.disk).capacity ready.kept (meaning.image old.disk)
+  was_read = record { bytes = meaning.content old.disk; at = at; reads = what.reads }
 
   orderly_read : IsOrderly wish.site is.read
   orderly_read = subst (λ (l : List Record). IsOrderly wish.site l) (sym what.read_is) what.reads.hold.orderly
@@ -271,17 +272,17 @@ module _ {D : Type 0} (content : D → List ℕ) (image : D → List ℕ → Typ
   may_follow = subst (λ (rs : List Record). IsOrderly wish.site (kept_log ++ rs)) (sym records_now) (behind logs sets sounds sc h wish may ready.kept what.some)
 
   -- the frame was added: the site is up
-  pub raised : (n : ℕ) (new : LogState D) → IsLogged content image meters wish.site (entries_at h wish.site + 1) (kept_log ++ ready.records) n new →
-      (meters new.disk).powered ≡ true → HasRaised content image meters sc h wish.site old.disk ready.up new ready.rose n ready.kept ready.inc
+  pub raised : (n : ℕ) (new : LogState D) → IsLogged meaning wish.site (entries_at h wish.site + 1) (kept_log ++ ready.records) n new →
+      (meaning.meters new.disk).powered ≡ true → HasRaised meaning sc h wish.site old.disk ready.up new ready.rose n ready.kept ready.inc
   raised n new wrote lit =
       let e : Entry = rise_of wish.site ready.kept up_next in
       let mine : List Record = rise_records sc wish.site up_next kept_log in
       let now : log_of sc (h ++ e ∷ []) wish.site ≡ kept_log ++ ready.records =
       rise_log sc h wish.site ready.kept up_next ∙ ap (λ (rs : List Record). kept_log ++ rs) (sym records_now) in
-      let P : ℕ → Type 0 = λ k. HasRaised content image meters sc h wish.site old.disk ready.up new ready.rose n ready.kept k in
+      let P : ℕ → Type 0 = λ k. HasRaised meaning sc h wish.site old.disk ready.up new ready.rose n ready.kept k in
       let R : List Record → Type 0 = λ rs. StandsAlike sc (h ++ e ∷ []) wish.site rs ready.up in
-      let Q : ℕ → Type 0 = λ m. IsLogged content image meters wish.site m (log_of sc (h ++ e ∷ []) wish.site) n new in
-      let L : List Record → Type 0 = λ l. IsLogged content image meters wish.site (entries_at h wish.site + 1) l n new in
+      let Q : ℕ → Type 0 = λ m. IsLogged meaning wish.site m (log_of sc (h ++ e ∷ []) wish.site) n new in
+      let L : List Record → Type 0 = λ l. IsLogged meaning wish.site (entries_at h wish.site + 1) l n new in
       let rebuilt : IsRebuilt wish.site (is.read ++ mine) ready.up = subst (λ (rs : List Record). IsRebuilt wish.site (is.read ++ rs) ready.up) records_now is.risen in
       subst P (sym inc_now) (record {
         allowed = allowed logs sets sounds sc h wish may ready.kept what.some;
@@ -303,14 +304,14 @@ module _ {D : Type 0} (content : D → List ℕ) (image : D → List ℕ → Typ
 
   -- or it was not, or may not have been
   pub not_raised : (n : ℕ) (new : LogState D) (why : Why) →
-      ((bytes : List ℕ) → image new.disk bytes → ReadsLeft wish.site (meters new.disk).capacity (entries_at h wish.site + 1) kept_log ready.records n why bytes) →
-      IsReason why kept_log ready.records (meters old.disk) (meters new.disk) →
-      HasNotRaised image meters sc h wish.site old.disk new.disk n ready.kept ready.inc why
+      ((bytes : List ℕ) → meaning.image new.disk bytes → ReadsLeft wish.site (meaning.meters new.disk).capacity (entries_at h wish.site + 1) kept_log ready.records n why bytes) →
+      IsReason why kept_log ready.records (meaning.meters old.disk) (meaning.meters new.disk) →
+      HasNotRaised meaning sc h wish.site old.disk new.disk n ready.kept ready.inc why
   not_raised n new why left reason =
       let e : Entry = rise_fall_of wish.site ready.kept up_next why in
       let mine : List Record = rise_records sc wish.site up_next kept_log in
-      let cap : ℕ = (meters new.disk).capacity in
-      let P : ℕ → Type 0 = λ k. HasNotRaised image meters sc h wish.site old.disk new.disk n ready.kept k why in
+      let cap : ℕ = (meaning.meters new.disk).capacity in
+      let P : ℕ → Type 0 = λ k. HasNotRaised meaning sc h wish.site old.disk new.disk n ready.kept k why in
       subst P (sym inc_now) (record {
         allowed = allowed logs sets sounds sc h wish may ready.kept what.some;
         read = was_read;
@@ -323,7 +324,7 @@ module _ {D : Type 0} (content : D → List ℕ) (image : D → List ℕ → Typ
             (subst Q (sym (rise_fall_moves sc h wish.site ready.kept up_next why))
             (subst R records_now
             (left_tells wish.site cap (entries_at h wish.site + 1) n (moves_with sc h wish.site ready.kept) why [] ready.records bytes (left bytes there)))));
-        reason = subst (λ (rs : List Record). IsReason why kept_log rs (meters old.disk) (meters new.disk)) records_now reason;
+        reason = subst (λ (rs : List Record). IsReason why kept_log rs (meaning.meters old.disk) (meaning.meters new.disk)) records_now reason;
       })
 
 -- what was read of a disk was read of what it came from
@@ -337,52 +338,52 @@ reason_since Fault log records old mid new keeps reason = rose_since old.faults 
 reason_since (Full need room) log records old mid new keeps reason = subst (λ (c : ℕ). IsFull c log records need room) keeps.capacity reason
 
 -- what a rise makes of a disk it makes of what that came from
-pub makes_since : {D : Type 0} (content : D → List ℕ) (image : D → List ℕ → Type 0) (meters : D → Meters) (sc : Scenario) (h : List Entry)
-    (site : ℕ) (old mid : D) (state : State D) (r : Raised) → Within (image old) (image mid) → Keeps (meters old) (meters mid) →
-    RiseMakes content image meters sc h site mid state r → RiseMakes content image meters sc h site old state r
-makes_since content image meters sc h site old mid (Up s l rose logged) (Rose kept inc) within keeps made = record {
+pub makes_since : {D : Type 0} (meaning : Meaning D) (sc : Scenario) (h : List Entry)
+    (site : ℕ) (old mid : D) (state : State D) (r : Raised) → Within (meaning.image old) (meaning.image mid) → Keeps (meaning.meters old) (meaning.meters mid) →
+    RiseMakes meaning sc h site mid state r → RiseMakes meaning sc h site old state r
+makes_since meaning sc h site old mid (Up s l rose logged) (Rose kept inc) within keeps made = record {
   allowed = made.allowed;
-  read = subst (λ (c : ℕ). IsRead sc h site c kept (image old)) keeps.capacity (read_since image sc h site (meters mid).capacity kept old mid within made.read);
+  read = subst (λ (c : ℕ). IsRead sc h site c kept (meaning.image old)) keeps.capacity (read_since meaning.image sc h site (meaning.meters mid).capacity kept old mid within made.read);
   up = made.up;
 }
-makes_since content image meters sc h site old mid (Up s l rose logged) (Failed kept inc why) within keeps made = absurd made
-makes_since content image meters sc h site old mid (Up s l rose logged) Missed within keeps made = absurd made
-makes_since content image meters sc h site old mid (Up s l rose logged) NoMemory within keeps made = absurd made
-makes_since content image meters sc h site old mid (Up s l rose logged) Foreign within keeps made = absurd made
-makes_since content image meters sc h site old mid (Down new logged) (Rose kept inc) within keeps made = absurd made
-makes_since content image meters sc h site old mid (Down new logged) (Failed kept inc why) within keeps made = record {
+makes_since meaning sc h site old mid (Up s l rose logged) (Failed kept inc why) within keeps made = absurd made
+makes_since meaning sc h site old mid (Up s l rose logged) Missed within keeps made = absurd made
+makes_since meaning sc h site old mid (Up s l rose logged) NoMemory within keeps made = absurd made
+makes_since meaning sc h site old mid (Up s l rose logged) Foreign within keeps made = absurd made
+makes_since meaning sc h site old mid (Down new logged) (Rose kept inc) within keeps made = absurd made
+makes_since meaning sc h site old mid (Down new logged) (Failed kept inc why) within keeps made = record {
   allowed = made.allowed;
-  read = subst (λ (c : ℕ). IsRead sc h site c kept (image old)) keeps.capacity (read_since image sc h site (meters mid).capacity kept old mid within made.read);
+  read = subst (λ (c : ℕ). IsRead sc h site c kept (meaning.image old)) keeps.capacity (read_since meaning.image sc h site (meaning.meters mid).capacity kept old mid within made.read);
   stands = made.stands;
-  reason = reason_since why _ _ (meters old) (meters mid) (meters new) keeps made.reason;
+  reason = reason_since why _ _ (meaning.meters old) (meaning.meters mid) (meaning.meters new) keeps made.reason;
 }
-makes_since content image meters sc h site old mid (Down new logged) Missed within keeps made =
-    (made.0, rose_since (meters old).faults (meters mid).faults (meters new).faults keeps.faults made.1)
-makes_since content image meters sc h site old mid (Down new logged) NoMemory within keeps made = made
-makes_since content image meters sc h site old mid (Down new logged) Foreign within keeps made = absurd made
+makes_since meaning sc h site old mid (Down new logged) Missed within keeps made =
+    (made.0, rose_since (meaning.meters old).faults (meaning.meters mid).faults (meaning.meters new).faults keeps.faults made.1)
+makes_since meaning sc h site old mid (Down new logged) NoMemory within keeps made = made
+makes_since meaning sc h site old mid (Down new logged) Foreign within keeps made = absurd made
 
 -- a disk whose images are some of another's tells what that does
-pub disk_within : {D : Type 0} (image : D → List ℕ → Type 0) (meters : D → Meters) (sc : Scenario) (h : List Entry) (site logged : ℕ) (old new : D) →
-    Within (image old) (image new) → (meters new).capacity ≡ (meters old).capacity → DiskTells sc h site (meters old).capacity logged (image old) →
-    DiskTells sc h site (meters new).capacity logged (image new)
-disk_within image meters sc h site logged old new within same tells =
-    subst (λ (c : ℕ). DiskTells sc h site c logged (image new)) (sym same) (λ bytes at. tells bytes (within bytes at))
+pub disk_within : {D : Type 0} (meaning : Meaning D) (sc : Scenario) (h : List Entry) (site logged : ℕ) (old new : D) →
+    Within (meaning.image old) (meaning.image new) → (meaning.meters new).capacity ≡ (meaning.meters old).capacity → DiskTells sc h site (meaning.meters old).capacity logged (meaning.image old) →
+    DiskTells sc h site (meaning.meters new).capacity logged (meaning.image new)
+disk_within meaning sc h site logged old new within same tells =
+    subst (λ (c : ℕ). DiskTells sc h site c logged (meaning.image new)) (sym same) (λ bytes at. tells bytes (within bytes at))
 
 -- what a log that could not be opened makes of a rise, where the disk is not damaged
-pub not_opened : {D : Type 0} (content : D → List ℕ) (image : D → List ℕ → Type 0) (meters : D → Meters) (sc : Scenario) (h : List Entry)
-    (site logged : ℕ) (old new : D) (cause : OpenCause) → Within (image old) (image new) → (meters new).capacity ≡ (meters old).capacity →
-    DiskTells sc h site (meters old).capacity logged (image old) → (cause ≡ causes.Failed → HasFailed (meters old).faults (meters new).faults) →
-    ((at : ℕ) → cause ≡ causes.Damaged at → ⊥) → RiseMakes content image meters sc h site old (Down new logged) (raised_of cause)
-not_opened content image meters sc h site logged old new causes.Failed within same tells rose sound = (disk_within image meters sc h site logged old new within same tells, rose refl)
-not_opened content image meters sc h site logged old new (causes.Damaged at) within same tells rose sound = absurd (sound at refl)
-not_opened content image meters sc h site logged old new causes.NoMemory within same tells rose sound = disk_within image meters sc h site logged old new within same tells
+pub not_opened : {D : Type 0} (meaning : Meaning D) (sc : Scenario) (h : List Entry)
+    (site logged : ℕ) (old new : D) (cause : OpenCause) → Within (meaning.image old) (meaning.image new) → (meaning.meters new).capacity ≡ (meaning.meters old).capacity →
+    DiskTells sc h site (meaning.meters old).capacity logged (meaning.image old) → (cause ≡ causes.Failed → HasFailed (meaning.meters old).faults (meaning.meters new).faults) →
+    ((at : ℕ) → cause ≡ causes.Damaged at → ⊥) → RiseMakes meaning sc h site old (Down new logged) (raised_of cause)
+not_opened meaning sc h site logged old new causes.Failed within same tells rose sound = (disk_within meaning sc h site logged old new within same tells, rose refl)
+not_opened meaning sc h site logged old new (causes.Damaged at) within same tells rose sound = absurd (sound at refl)
+not_opened meaning sc h site logged old new causes.NoMemory within same tells rose sound = disk_within meaning sc h site logged old new within same tells
 
 -- a rise that wanted memory, or whose disk is foreign, which it never is
-pub unshortened : {D : Type 0} (content : D → List ℕ) (image : D → List ℕ → Type 0) (meters : D → Meters) (sc : Scenario) (h : List Entry) (site logged : ℕ)
-    (old new : D) (fault : Unready) → (fault ≡ unready.Foreign → ⊥) → DiskTells sc h site (meters new).capacity logged (image new) →
-    RiseMakes content image meters sc h site old (Down new logged) (raised_by fault)
-unshortened content image meters sc h site logged old new unready.NoMemory never tells = tells
-unshortened content image meters sc h site logged old new unready.Foreign never tells = absurd (never refl)
+pub unshortened : {D : Type 0} (meaning : Meaning D) (sc : Scenario) (h : List Entry) (site logged : ℕ)
+    (old new : D) (fault : Unready) → (fault ≡ unready.Foreign → ⊥) → DiskTells sc h site (meaning.meters new).capacity logged (meaning.image new) →
+    RiseMakes meaning sc h site old (Down new logged) (raised_by fault)
+unshortened meaning sc h site logged old new unready.NoMemory never tells = tells
+unshortened meaning sc h site logged old new unready.Foreign never tells = absurd (never refl)
 
 -- what was read is the front of the records that a rise has
 pub read_front : (wish : Wish) (logged : ℕ) (bodies : List (List ℕ)) (ready : Readied) → (is : IsReady wish logged bodies ready) → take ready.read ready.rose ≡ is.read

@@ -6,7 +6,7 @@ use Rattle.std.specs.List.{AllByRecursion as Each}
 use Rattle.std.proofs.lemmas.List.Elements.{filter-append}
 use Rattle.e3_codec.specs.Fields.{AllCanBeReadBack}
 use Rattle.e3_disk.specs.Images.{Within}
-use Rattle.e3_disk.specs.Meters.{Meters}
+use Rattle.e3_disk.specs.Meaning.{Meaning}
 use Rattle.e3_log.specs.Stands.{LogState}
 use Rattle.e3_law_local.specs.Others.{Allows, numbered_on}
 use Rattle.e3_node.specs.Bodies.{DiskTells, ReadsTold, entries_at}
@@ -40,7 +40,7 @@ use Rattle.e3_world.specs.Legal.{Guard, IsDue, entry_of, made_by}
 use Rattle.e3_world.specs.Lives.{life_of}
 use Rattle.e3_world.specs.declared.lives.Incarnation.{Incarnation}
 use Rattle.e3_world.specs.declared.lives.SiteStep.{SiteStep}
-use Rattle.e3_world.specs.Moves.{Move, Past, left_by, log_by, log_of, moves_of, open_tail, own, plain_input}
+use Rattle.e3_world.specs.Moves.{Move, Past, left_by, log_by, log_of, moves_of, open_tail, own, unnumbered_input}
 use Rattle.e3_world.specs.Sound.{step_move}
 use Rattle.e3_world.proofs.Guards.{guard_step}
 use Rattle.e3_world.proofs.Numbers.{entered_move}
@@ -72,24 +72,24 @@ pub step_log : (sc : Scenario) (h : List Entry) (site : ℕ) (i : Input) → log
 step_log sc h site i = ap log_by (step_moves sc h site i) ∙ log_push (moves_of sc h site) (step_move sc site (moves_of sc h site) i)
 
 -- the log behind a step, whose frame was written
-pub step_logged : {D : Type 0} (content : D → List ℕ) (image : D → List ℕ → Type 0) (meters : D → Meters) (sc : Scenario) (h : List Entry) (site : ℕ) (i : Input)
+pub step_logged : {D : Type 0} (meaning : Meaning D) (sc : Scenario) (h : List Entry) (site : ℕ) (i : Input)
     (records : List Record) (logged : ℕ) (new : LogState D) → records ≡ (made_by sc h site i).records →
-    IsLogged content image meters site (entries_at h site + 1) (log_of sc h site ++ records) logged new →
-    IsLogged content image meters site (entries_at (h ++ entry_of sc h site i ∷ []) site) (log_of sc (h ++ entry_of sc h site i ∷ []) site) logged new
-step_logged content image meters sc h site i records logged new made wrote =
-    let P : ℕ → Type 0 = λ n. IsLogged content image meters site n (log_of sc (h ++ entry_of sc h site i ∷ []) site) logged new in
-    let Q : List Record → Type 0 = λ l. IsLogged content image meters site (entries_at h site + 1) l logged new in
+    IsLogged meaning site (entries_at h site + 1) (log_of sc h site ++ records) logged new →
+    IsLogged meaning site (entries_at (h ++ entry_of sc h site i ∷ []) site) (log_of sc (h ++ entry_of sc h site i ∷ []) site) logged new
+step_logged meaning sc h site i records logged new made wrote =
+    let P : ℕ → Type 0 = λ n. IsLogged meaning site n (log_of sc (h ++ entry_of sc h site i ∷ []) site) logged new in
+    let Q : List Record → Type 0 = λ l. IsLogged meaning site (entries_at h site + 1) l logged new in
     subst P (sym (entries_on h site (entry_of sc h site i) refl))
     (subst Q (ap (λ (rs : List Record). log_of sc h site ++ rs) made ∙ sym (step_log sc h site i)) wrote)
 
 -- a site that made the planned step
-pub stepped_up : {D : Type 0} {rose : List Record} (content : D → List ℕ) (image : D → List ℕ → Type 0) (meters : D → Meters)
+pub stepped_up : {D : Type 0} {rose : List Record} (meaning : Meaning D)
     (sc : Scenario) (h : List Entry) (site : ℕ) (i : Input) (s : SiteView) (l : LogState D) (logged : ℕ) → is_up_at h site ≡ true →
     StandsBy sc (h ++ entry_of sc h site i ∷ []) site rose s →
-    IsLogged content image meters site (entries_at (h ++ entry_of sc h site i ∷ []) site) (log_of sc (h ++ entry_of sc h site i ∷ []) site) logged l → (meters l.disk).powered ≡ true →
+    IsLogged meaning site (entries_at (h ++ entry_of sc h site i ∷ []) site) (log_of sc (h ++ entry_of sc h site i ∷ []) site) logged l → (meaning.meters l.disk).powered ≡ true →
     s.inputs ≤ steps_at (h ++ entry_of sc h site i ∷ []) site →
-    IsUp content image meters sc (h ++ entry_of sc h site i ∷ []) site s l rose logged
-stepped_up content image meters sc h site i s l n up stands logged lit few = record {
+    IsUp meaning sc (h ++ entry_of sc h site i ∷ []) site s l rose logged
+stepped_up meaning sc h site i s l n up stands logged lit few = record {
   up = up_same h (entry_of sc h site i) site (self site) ∙ up;
   stands = stands;
   logged = logged;
@@ -223,7 +223,7 @@ pub fallen_tells : (sc : Scenario) (h : List Entry) (site capacity : ℕ) (i : I
     DiskTells sc (h ++ fall_of sc h site i why ∷ []) site capacity logged image
 fallen_tells sc h site capacity i records why logged image made left = λ bytes at.
     let e : Entry = fall_of sc h site i why in
-    let inputs : List Input = map plain_input (i ∷ []) in
+    let inputs : List Input = map unnumbered_input (i ∷ []) in
     let n : ℕ = entries_at h site + 1 in
     let P : Past → Type 0 = λ p. ReadsTold site capacity (entries_at (h ++ e ∷ []) site) logged p.moves p.tail bytes in
     let M : ℕ → Type 0 = λ m. ReadsTold site capacity m logged (moves_of sc h site ++ []) (left_by why inputs (made_by sc h site i).records) bytes in
@@ -232,20 +232,19 @@ fallen_tells sc h site capacity i records why logged image made left = λ bytes 
     subst P (sym (past_on sc h site e refl)) (subst M (sym (entries_on h site e refl)) (subst Q (sym (append-nil (moves_of sc h site)))
     (subst R made (left_tells site capacity n logged (moves_of sc h site) why inputs records bytes (left bytes at)))))
 
-pub fallen_down : {D : Type 0} (image : D → List ℕ → Type 0) (meters : D → Meters)
-    (sc : Scenario) (h : List Entry) (site : ℕ) (i : Input) (why : Why) (disk : D) (logged : ℕ) →
-    DiskTells sc (h ++ fall_of sc h site i why ∷ []) site (meters disk).capacity logged (image disk) →
-    IsDown image meters sc (h ++ fall_of sc h site i why ∷ []) site disk logged
-fallen_down image meters sc h site i why disk logged stands = record {
+pub fallen_down : {D : Type 0} (meaning : Meaning D) (sc : Scenario) (h : List Entry) (site : ℕ) (i : Input) (why : Why) (disk : D) (logged : ℕ) →
+    DiskTells sc (h ++ fall_of sc h site i why ∷ []) site (meaning.meters disk).capacity logged (meaning.image disk) →
+    IsDown meaning sc (h ++ fall_of sc h site i why ∷ []) site disk logged
+fallen_down meaning sc h site i why disk logged stands = record {
   down = up_same h (fall_of sc h site i why) site (self site);
   stands = stands;
 }
 
 -- a site that was made ready is up as before
-pub ready_up : {D : Type 0} {rose : List Record} (content : D → List ℕ) (image : D → List ℕ → Type 0) (meters : D → Meters)
-    (sc : Scenario) (h : List Entry) (site : ℕ) (s new : SiteView) (l : LogState D) (logged : ℕ) → IsUp content image meters sc h site s l rose logged →
-    IsAsBefore s new → IsUp content image meters sc h site new l rose logged
-ready_up {D} {rose} content image meters sc h site s new l logged was is = record {
+pub ready_up : {D : Type 0} {rose : List Record} (meaning : Meaning D)
+    (sc : Scenario) (h : List Entry) (site : ℕ) (s new : SiteView) (l : LogState D) (logged : ℕ) → IsUp meaning sc h site s l rose logged →
+    IsAsBefore s new → IsUp meaning sc h site new l rose logged
+ready_up {D} {rose} meaning sc h site s new l logged was is = record {
   up = was.up;
   stands = record { alike = is.stands sc h site rose was.stands.alike; risen = was.stands.risen; order = was.stands.order };
   logged = was.logged;
@@ -253,35 +252,34 @@ ready_up {D} {rose} content image meters sc h site s new l logged was is = recor
   inputs = let P : ℕ → Type 0 = λ n. n ≤ steps_at h site in subst P (sym (ap (λ (v : SiteView). v.inputs) is.same)) was.inputs;
 }
 
-still : {D : Type 0} (content : D → List ℕ) (image : D → List ℕ → Type 0) (meters : D → Meters)
-    (sc : Scenario) (h more : List Entry) (site : ℕ) (mid new : State D) → (more ≡ h) × IsIn content image meters sc h site mid → new ≡ mid →
-    IsIn content image meters sc more site new
-still content image meters sc h more site mid new kept same =
-    subst (λ (s : State _). IsIn content image meters sc more site s) (sym same)
-    (subst (λ (l : List Entry). IsIn content image meters sc l site mid) (sym kept.0) kept.1)
+still : {D : Type 0} (meaning : Meaning D)
+    (sc : Scenario) (h more : List Entry) (site : ℕ) (mid new : State D) → (more ≡ h) × IsIn meaning sc h site mid → new ≡ mid →
+    IsIn meaning sc more site new
+still meaning sc h more site mid new kept same =
+    subst (λ (s : State _). IsIn meaning sc more site s) (sym same)
+    (subst (λ (l : List Entry). IsIn meaning sc l site mid) (sym kept.0) kept.1)
 
 -- a node behind an input that it did not take: it fell, or it is as before
-pub input_in : {D : Type 0} (content : D → List ℕ) (image : D → List ℕ → Type 0) (meters : D → Meters)
-    (sc : Scenario) (h more : List Entry) (site : ℕ) (i : Input) (fault : InputFault) (mid new : State D) →
-    (is_fall fault ≡ false → (more ≡ h) × IsIn content image meters sc h site mid) →
-    ((why : Why) → fault ≡ input_fault.Fell why → FellOver sc h site i why more × IsFallen image meters sc more site mid) →
-    (is_fall fault ≡ true → new ≡ Down (disk_of mid) (logged_in mid)) → (is_fall fault ≡ false → new ≡ mid) → IsIn content image meters sc more site new
-input_in content image meters sc h more site i (input_fault.Fell why) mid new kept fell down same =
+pub input_in : {D : Type 0} (meaning : Meaning D) (sc : Scenario) (h more : List Entry) (site : ℕ) (i : Input) (fault : InputFault) (mid new : State D) →
+    (is_fall fault ≡ false → (more ≡ h) × IsIn meaning sc h site mid) →
+    ((why : Why) → fault ≡ input_fault.Fell why → FellOver sc h site i why more × IsFallen meaning sc more site mid) →
+    (is_fall fault ≡ true → new ≡ Down (disk_of mid) (logged_in mid)) → (is_fall fault ≡ false → new ≡ mid) → IsIn meaning sc more site new
+input_in meaning sc h more site i (input_fault.Fell why) mid new kept fell down same =
     let f = fell why refl in
-    let P : List Entry → Type 0 = λ l. IsFallen image meters sc l site mid in
-    subst (λ (s : State _). IsIn content image meters sc more site s) (sym (down refl))
-    (subst (λ (l : List Entry). IsIn content image meters sc l site (Down (disk_of mid) (logged_in mid))) (sym f.0.entered)
-    (fallen_down image meters sc h site i why (disk_of mid) (logged_in mid) (subst P f.0.entered f.1)))
-input_in content image meters sc h more site i input_fault.Down mid new kept fell down same = still content image meters sc h more site mid new (kept refl) (same refl)
-input_in content image meters sc h more site i input_fault.HistoryFull mid new kept fell down same = still content image meters sc h more site mid new (kept refl) (same refl)
-input_in content image meters sc h more site i input_fault.NoMemory mid new kept fell down same = still content image meters sc h more site mid new (kept refl) (same refl)
+    let P : List Entry → Type 0 = λ l. IsFallen meaning sc l site mid in
+    subst (λ (s : State _). IsIn meaning sc more site s) (sym (down refl))
+    (subst (λ (l : List Entry). IsIn meaning sc l site (Down (disk_of mid) (logged_in mid))) (sym f.0.entered)
+    (fallen_down meaning sc h site i why (disk_of mid) (logged_in mid) (subst P f.0.entered f.1)))
+input_in meaning sc h more site i input_fault.Down mid new kept fell down same = still meaning sc h more site mid new (kept refl) (same refl)
+input_in meaning sc h more site i input_fault.HistoryFull mid new kept fell down same = still meaning sc h more site mid new (kept refl) (same refl)
+input_in meaning sc h more site i input_fault.NoMemory mid new kept fell down same = still meaning sc h more site mid new (kept refl) (same refl)
 
-pub node_with : {D : Type 0} (content : D → List ℕ) (image : D → List ℕ → Type 0) (meters : D → Meters) (sc now : Scenario) (h more : List Entry)
-    (old new : NodeView D) (state : State D) → NodeStands content image meters sc h old → now ≡ sc → IsIn content image meters sc more old.site state →
-    new ≡ record { site = old.site; weights = old.weights; rows = old.rows; state = state } → NodeStands content image meters now more new
-node_with content image meters sc now h more old new state was same is now_is =
-    subst (λ (s : Scenario). NodeStands content image meters s more new) (sym same)
-    (subst (λ (n : NodeView _). NodeStands content image meters sc more n) (sym now_is) (record {
+pub node_with : {D : Type 0} (meaning : Meaning D) (sc now : Scenario) (h more : List Entry)
+    (old new : NodeView D) (state : State D) → NodeStands meaning sc h old → now ≡ sc → IsIn meaning sc more old.site state →
+    new ≡ record { site = old.site; weights = old.weights; rows = old.rows; state = state } → NodeStands meaning now more new
+node_with meaning sc now h more old new state was same is now_is =
+    subst (λ (s : Scenario). NodeStands meaning s more new) (sym same)
+    (subst (λ (n : NodeView _). NodeStands meaning sc more n) (sym now_is) (record {
       some = was.some;
       exists = was.exists;
       weights_are = was.weights_are;
@@ -290,23 +288,23 @@ node_with content image meters sc now h more old new state was same is now_is =
     }))
 
 -- a site whose power is cut is down, and its disk stands
-pub cut_in : {D : Type 0} (content : D → List ℕ) (image : D → List ℕ → Type 0) (meters : D → Meters)
-    (sc : Scenario) (h : List Entry) (site : ℕ) (old new : State D) → IsIn content image meters sc h site old → is_up_in new ≡ false →
-    logged_in new ≡ logged_in old → Within (image (disk_of old)) (image (disk_of new)) → (meters (disk_of new)).capacity ≡ (meters (disk_of old)).capacity →
-    IsIn content image meters sc (h ++ record { owner = site; act = Cut } ∷ []) site new
-cut_in content image meters sc h site old (Up s l rose logged) was down same within room = absurd cc
-cut_in content image meters sc h site old (Down disk logged) was down same within room = record {
+pub cut_in : {D : Type 0} (meaning : Meaning D)
+    (sc : Scenario) (h : List Entry) (site : ℕ) (old new : State D) → IsIn meaning sc h site old → is_up_in new ≡ false →
+    logged_in new ≡ logged_in old → Within (meaning.image (disk_of old)) (meaning.image (disk_of new)) → (meaning.meters (disk_of new)).capacity ≡ (meaning.meters (disk_of old)).capacity →
+    IsIn meaning sc (h ++ record { owner = site; act = Cut } ∷ []) site new
+cut_in meaning sc h site old (Up s l rose logged) was down same within room = absurd cc
+cut_in meaning sc h site old (Down disk logged) was down same within room = record {
   down = up_same h (record { owner = site; act = Cut }) site (self site);
   stands = λ bytes at.
       let e : Entry = record { owner = site; act = Cut } in
-      let told = told_in content image meters sc h site old was bytes (within bytes at) in
-      let P : Past → Type 0 = λ p. ReadsTold site (meters disk).capacity (entries_at (h ++ e ∷ []) site) logged p.moves p.tail bytes in
-      let Q : List Move → Type 0 = λ ms. ReadsTold site (meters disk).capacity (entries_at (h ++ e ∷ []) site) logged ms (open_tail sc h site) bytes in
+      let told = told_in meaning sc h site old was bytes (within bytes at) in
+      let P : Past → Type 0 = λ p. ReadsTold site (meaning.meters disk).capacity (entries_at (h ++ e ∷ []) site) logged p.moves p.tail bytes in
+      let Q : List Move → Type 0 = λ ms. ReadsTold site (meaning.meters disk).capacity (entries_at (h ++ e ∷ []) site) logged ms (open_tail sc h site) bytes in
       let R : ℕ → Type 0 = λ n. ReadsTold site n (entries_at h site) logged (moves_of sc h site) (open_tail sc h site) bytes in
-      let N : ℕ → Type 0 = λ n. ReadsTold site (meters (disk_of old)).capacity (entries_at h site) n (moves_of sc h site) (open_tail sc h site) bytes in
+      let N : ℕ → Type 0 = λ n. ReadsTold site (meaning.meters (disk_of old)).capacity (entries_at h site) n (moves_of sc h site) (open_tail sc h site) bytes in
       let more : entries_at (h ++ e ∷ []) site ≡ entries_at h site + 1 = entries_on h site e refl in
       subst P (sym (past_on sc h site e refl)) (subst Q (sym (append-nil (moves_of sc h site)))
-      (told_later site (meters disk).capacity (entries_at h site) (entries_at (h ++ e ∷ []) site) logged (moves_of sc h site) (open_tail sc h site) bytes (omega (arith, more))
+      (told_later site (meaning.meters disk).capacity (entries_at h site) (entries_at (h ++ e ∷ []) site) logged (moves_of sc h site) (open_tail sc h site) bytes (omega (arith, more))
       (subst R (sym room) (subst N (sym same) told))));
 }
 

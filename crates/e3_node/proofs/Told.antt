@@ -17,7 +17,7 @@ use Rattle.e3_types.specs.declared.records.Record.{Record}
 use Rattle.e3_types.specs.declared.scenarios.Scenario.{Scenario}
 use Rattle.e3_world.specs.Given.{IsGiven}
 use Rattle.e3_world.specs.Legal.{Guard, IsLegal, IsRise, LegalAfter}
-use Rattle.e3_world.specs.Moves.{Move, Past, Silent, Tail, kept_moves, left_by, log_by, log_of, moves_of, open_tail, own, past_of, plain_input, rise_records, tail_of_act}
+use Rattle.e3_world.specs.Moves.{Move, Past, Silent, Tail, kept_moves, left_by, log_by, log_of, moves_of, open_tail, own, past_of, unnumbered_input, rise_records, tail_of_act}
 use Rattle.e3_world.proofs.Pushes.{log_push, past_push}
 use Rattle.e3_world.proofs.Readings.{own_other, own_same}
 use Rattle.e3_node.proofs.Tails.{more_is_told}
@@ -39,7 +39,7 @@ rise_some sc site inc (r ∷ rs) = λ none. cc
 act_some : (sc : Scenario) (h : List Entry) (site owner : ℕ) (w : Past) (act : Act) → Guard sc h (record { owner = owner; act = act }) → HasSome w.tail →
     HasSome (tail_of_act sc site w act)
 act_some sc h site zero w (Fall inputs records why) guard before = absurd guard
-act_some sc h site (suc s) w (Fall inputs records why) guard before = left_some why (map plain_input inputs) records guard.some
+act_some sc h site (suc s) w (Fall inputs records why) guard before = left_some why (map unnumbered_input inputs) records guard.some
 act_some sc h site owner w (Rise kept inc) guard before = tt
 act_some sc h site owner w (RiseFall kept inc why) guard before =
     left_some why [] (rise_records sc site inc (log_by (w.moves ++ kept_moves site kept w.tail))) (rise_some sc site inc (log_by (w.moves ++ kept_moves site kept w.tail)))

@@ -1,7 +1,7 @@
 -- What is told of an input of a worker.
 use Rattle.std.proofs.Common.{◌≡◌, ℕ, true, false, List, Err, refl, sym, subst, ap}
 use Rattle.std.specs.Prelude.{IsErrAnd, Ok, Result}
-use Rattle.e3_disk.specs.Meters.{Meters}
+use Rattle.e3_disk.specs.Meaning.{Meaning}
 use Rattle.e3_node.specs.Ends.{FellOver, input_fault_of, is_fall}
 use Rattle.e3_node.specs.NodeStands.{IsFallen, IsIn, logged_in}
 use Rattle.e3_node.specs.NodeView.{disk_of}
@@ -18,9 +18,9 @@ use Rattle.e3_wire.specs.declared.fault.WireFault.{WireFault}
 use Rattle.e3_wire.specs.declared.fault.WireFault.TheVariants as wire_fault
 use Rattle.e3_node.proofs.Steps.{fallen_down}
 
-module _ {D : Type 0} (content : D → List ℕ) (image : D → List ℕ → Type 0) (meters : D → Meters) (sc : Scenario) (before more : List Entry) (site : ℕ) (i : Input)
+module _ {D : Type 0} (meaning : Meaning D) (sc : Scenario) (before more : List Entry) (site : ℕ) (i : Input)
     (old mid : State D) where
-  pub fell_told : (fault : InputFault) → EndsSo content image meters sc before more site i old mid (Err fault) → (why : Why) → fault ≡ input_fault.Fell why →
+  pub fell_told : (fault : InputFault) → EndsSo meaning sc before more site i old mid (Err fault) → (why : Why) → fault ≡ input_fault.Fell why →
       (now : List Entry) × Meanwhile site before now × FellOver sc now site i why more
   fell_told (input_fault.Fell because) ended why is =
       let same : because ≡ why = cc in
@@ -29,7 +29,7 @@ module _ {D : Type 0} (content : D → List ℕ) (image : D → List ℕ → Typ
   fell_told input_fault.HistoryFull ended why is = absurd cc
   fell_told input_fault.NoMemory ended why is = absurd cc
 
-  pub kept_told : (fault : InputFault) → EndsSo content image meters sc before more site i old mid (Err fault) → is_fall fault ≡ false →
+  pub kept_told : (fault : InputFault) → EndsSo meaning sc before more site i old mid (Err fault) → is_fall fault ≡ false →
       Meanwhile site before more × (disk_of mid ≡ disk_of old)
   kept_told (input_fault.Fell because) ended none = absurd cc
   kept_told input_fault.Down ended none = (ended.meanwhile, ended.disk)
@@ -37,16 +37,16 @@ module _ {D : Type 0} (content : D → List ℕ) (image : D → List ℕ → Typ
   kept_told input_fault.NoMemory ended none = (ended.meanwhile, ended.disk)
 
   -- what the node is behind it: it fell, or it is as before
-  pub in_told : (fault : InputFault) (new : State D) → EndsSo content image meters sc before more site i old mid (Err fault) →
-      (is_fall fault ≡ true → new ≡ Down (disk_of mid) (logged_in mid)) → (is_fall fault ≡ false → new ≡ mid) → IsIn content image meters sc more site new
+  pub in_told : (fault : InputFault) (new : State D) → EndsSo meaning sc before more site i old mid (Err fault) →
+      (is_fall fault ≡ true → new ≡ Down (disk_of mid) (logged_in mid)) → (is_fall fault ≡ false → new ≡ mid) → IsIn meaning sc more site new
   in_told (input_fault.Fell why) new ended down same =
-      let P : List Entry → Type 0 = λ l. IsFallen image meters sc l site mid in
-      subst (λ (s : State _). IsIn content image meters sc more site s) (sym (down refl))
-      (subst (λ (l : List Entry). IsIn content image meters sc l site (Down (disk_of mid) (logged_in mid))) (sym ended.fell.entered)
-      (fallen_down image meters sc ended.now site i why (disk_of mid) (logged_in mid) (subst P ended.fell.entered ended.stands)))
-  in_told input_fault.Down new ended down same = subst (λ (s : State _). IsIn content image meters sc more site s) (sym (same refl)) ended.stands
-  in_told input_fault.HistoryFull new ended down same = subst (λ (s : State _). IsIn content image meters sc more site s) (sym (same refl)) ended.stands
-  in_told input_fault.NoMemory new ended down same = subst (λ (s : State _). IsIn content image meters sc more site s) (sym (same refl)) ended.stands
+      let P : List Entry → Type 0 = λ l. IsFallen meaning sc l site mid in
+      subst (λ (s : State _). IsIn meaning sc more site s) (sym (down refl))
+      (subst (λ (l : List Entry). IsIn meaning sc l site (Down (disk_of mid) (logged_in mid))) (sym ended.fell.entered)
+      (fallen_down meaning sc ended.now site i why (disk_of mid) (logged_in mid) (subst P ended.fell.entered ended.stands)))
+  in_told input_fault.Down new ended down same = subst (λ (s : State _). IsIn meaning sc more site s) (sym (same refl)) ended.stands
+  in_told input_fault.HistoryFull new ended down same = subst (λ (s : State _). IsIn meaning sc more site s) (sym (same refl)) ended.stands
+  in_told input_fault.NoMemory new ended down same = subst (λ (s : State _). IsIn meaning sc more site s) (sym (same refl)) ended.stands
 
   -- the disk is that of the node
   pub disk_told : (fault : InputFault) (new : State D) → (is_fall fault ≡ true → new ≡ Down (disk_of mid) (logged_in mid)) → (is_fall fault ≡ false → new ≡ mid) → disk_of new ≡ disk_of mid
@@ -57,9 +57,9 @@ module _ {D : Type 0} (content : D → List ℕ) (image : D → List ℕ → Typ
 
   -- a claim that was refused
   pub refused : (w : WireFault) (r : Result (Unit {0}) InputFault) → IsErrAnd r (λ fault. fault ≡ input_fault_of w) →
-      IsStill content image meters sc before more site old mid → EndsSo content image meters sc before more site i old mid r
+      IsStill meaning sc before more site old mid → EndsSo meaning sc before more site i old mid r
   refused w (Ok done) is still = absurd is
   refused wire_fault.HistoryFull (Err fault) is still =
-      let P : InputFault → Type 0 = λ f. EndsSo content image meters sc before more site i old mid (Err f) in subst P (sym is) still
+      let P : InputFault → Type 0 = λ f. EndsSo meaning sc before more site i old mid (Err f) in subst P (sym is) still
   refused wire_fault.NoMemory (Err fault) is still =
-      let P : InputFault → Type 0 = λ f. EndsSo content image meters sc before more site i old mid (Err f) in subst P (sym is) still
+      let P : InputFault → Type 0 = λ f. EndsSo meaning sc before more site i old mid (Err f) in subst P (sym is) still

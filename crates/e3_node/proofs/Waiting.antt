@@ -3,7 +3,7 @@ use Rattle.std.proofs.Common.{◌≡◌, ◌≤◌, ◌<◌, ◌++◌, ◌∷◌
 use Rattle.std.specs.List.{AllByRecursion as Each}
 use Rattle.atomic_table.specs.Seated.{TableId}
 use Rattle.e3_codec.specs.Fields.{AllCanBeReadBack}
-use Rattle.e3_disk.specs.Meters.{Meters}
+use Rattle.e3_disk.specs.Meaning.{Meaning}
 use Rattle.e3_law_local.specs.Least.{AreOfSites}
 use Rattle.e3_law_local.specs.Others.{Allows, AreOthers, numbered_on}
 use Rattle.e3_law_local.proofs.Alike.{all_on}
@@ -58,23 +58,23 @@ moves_stay sc site h (e ∷ more) others =
     ap (λ (l : List Entry). moves_of sc l site) (sym (one_more h more e)) ∙ moves_stay sc site (h ++ e ∷ []) more others.2
     ∙ moves_kept sc h e site (other_one site e others.0)
 
-pub in_others : {D : Type 0} (content : D → List ℕ) (image : D → List ℕ → Type 0) (meters : D → Meters)
-    (sc : Scenario) (h more : List Entry) (site : ℕ) (state : State D) → IsIn content image meters sc h site state → AreOthers site more →
-    IsIn content image meters sc (h ++ more) site state
-in_others content image meters sc h [] site state was others =
-    let P : List Entry → Type 0 = λ l. IsIn content image meters sc l site state in subst P (sym (append-nil h)) was
-in_others content image meters sc h (e ∷ more) site state was others =
-    let P : List Entry → Type 0 = λ l. IsIn content image meters sc l site state in
-    subst P (one_more h more e) (in_others content image meters sc (h ++ e ∷ []) more site state
-    (in_kept content image meters sc h e site state was (other_one site e others.0)) others.2)
+pub in_others : {D : Type 0} (meaning : Meaning D)
+    (sc : Scenario) (h more : List Entry) (site : ℕ) (state : State D) → IsIn meaning sc h site state → AreOthers site more →
+    IsIn meaning sc (h ++ more) site state
+in_others meaning sc h [] site state was others =
+    let P : List Entry → Type 0 = λ l. IsIn meaning sc l site state in subst P (sym (append-nil h)) was
+in_others meaning sc h (e ∷ more) site state was others =
+    let P : List Entry → Type 0 = λ l. IsIn meaning sc l site state in
+    subst P (one_more h more e) (in_others meaning sc (h ++ e ∷ []) more site state
+    (in_kept meaning sc h e site state was (other_one site e others.0)) others.2)
 
-pub node_others : {D : Type 0} (content : D → List ℕ) (image : D → List ℕ → Type 0) (meters : D → Meters) → NodesKeptByOthers content image meters
-node_others content image meters sc h [] node was others =
-    let P : List Entry → Type 0 = λ l. NodeStands content image meters sc l node in subst P (sym (append-nil h)) was
-node_others content image meters sc h (e ∷ more) node was others =
-    let P : List Entry → Type 0 = λ l. NodeStands content image meters sc l node in
-    subst P (one_more h more e) (node_others content image meters sc (h ++ e ∷ []) more node
-    (node_kept content image meters sc h e node was (other_one node.site e others.0)) others.2)
+pub node_others : {D : Type 0} (meaning : Meaning D) → NodesKeptByOthers meaning
+node_others meaning sc h [] node was others =
+    let P : List Entry → Type 0 = λ l. NodeStands meaning sc l node in subst P (sym (append-nil h)) was
+node_others meaning sc h (e ∷ more) node was others =
+    let P : List Entry → Type 0 = λ l. NodeStands meaning sc l node in
+    subst P (one_more h more e) (node_others meaning sc (h ++ e ∷ []) more node
+    (node_kept meaning sc h e node was (other_one node.site e others.0)) others.2)
 
 pub both_others : (site : ℕ) (xs ys : List Entry) → AreOthers site xs → AreOthers site ys → AreOthers site (xs ++ ys)
 both_others site [] ys first second = second
@@ -286,12 +286,12 @@ still_restless p claimed between site outs owns grew front is was at_claim restl
     ∙ ap (λ (n : ℕ). is_calm (step_items sc n)) line ∙ restless
 
 -- a site that is up is so meanwhile
-pub up_meanwhile : {D : Type 0} (content : D → List ℕ) (image : D → List ℕ → Type 0) (meters : D → Meters)
-    (sc : Scenario) (h now : List Entry) (site : ℕ) (state : State D) → Meanwhile site h now → IsIn content image meters sc h site state →
-    IsIn content image meters sc now site state
-up_meanwhile content image meters sc h now site state m was =
-    let P : List Entry → Type 0 = λ l. IsIn content image meters sc l site state in
-    subst P (sym m.is) (in_others content image meters sc h m.others site state was m.of_others)
+pub up_meanwhile : {D : Type 0} (meaning : Meaning D)
+    (sc : Scenario) (h now : List Entry) (site : ℕ) (state : State D) → Meanwhile site h now → IsIn meaning sc h site state →
+    IsIn meaning sc now site state
+up_meanwhile meaning sc h now site state m was =
+    let P : List Entry → Type 0 = λ l. IsIn meaning sc l site state in
+    subst P (sym m.is) (in_others meaning sc h m.others site state was m.of_others)
 
 -- and what a draft has is what it makes meanwhile
 pub made_meanwhile : (sc : Scenario) (h now : List Entry) (site : ℕ) (i : Input) (d : Draft) → Meanwhile site h now → IsMade sc h site i d → IsMade sc now site i d
@@ -340,16 +340,16 @@ pub same_pass : (lock : TableId) (p : APass) (site : ℕ) → IsIdle lock p → 
 same_pass lock p site idle played = record { turned = same_turn lock p idle played; promised = refl; room = omega arith }
 
 -- while a pass of the site rests, others leave a node standing
-pub node_behind : {D : Type 0} (content : D → List ℕ) (image : D → List ℕ → Type 0) (meters : D → Meters) → NodesStandBehindOthers content image meters
-node_behind content image meters p marks node owns grew was played stands =
+pub node_behind : {D : Type 0} (meaning : Meaning D) → NodesStandBehindOthers meaning
+node_behind meaning p marks node owns grew was played stands =
     let one = are_others_marks p node.site marks owns grew in
     let P : List Mark → Type 0 = λ l. IsPlayed l in
     let m : Meanwhile node.site (entries_of (seen_by p)) (entries_of (seen_by p ++ one.0)) = one_while node.site (seen_by p) one.0 was (subst P one.1 played) one.2 in
-    let there : NodeStands content image meters (scenario_of (seen_by p)) (entries_of (seen_by p) ++ m.others) node =
-    node_others content image meters (scenario_of (seen_by p)) (entries_of (seen_by p)) m.others node stands m.of_others in
-    let Q : List Entry → Type 0 = λ h. NodeStands content image meters (scenario_of (seen_by p)) h node in
-    let R : Scenario → Type 0 = λ sc. NodeStands content image meters sc (entries_of (seen_by p ++ one.0)) node in
-    let S : List Mark → Type 0 = λ l. NodeStands content image meters (scenario_of l) (entries_of l) node in
+    let there : NodeStands meaning (scenario_of (seen_by p)) (entries_of (seen_by p) ++ m.others) node =
+    node_others meaning (scenario_of (seen_by p)) (entries_of (seen_by p)) m.others node stands m.of_others in
+    let Q : List Entry → Type 0 = λ h. NodeStands meaning (scenario_of (seen_by p)) h node in
+    let R : Scenario → Type 0 = λ sc. NodeStands meaning sc (entries_of (seen_by p ++ one.0)) node in
+    let S : List Mark → Type 0 = λ l. NodeStands meaning (scenario_of l) (entries_of l) node in
     subst S (sym one.1) (subst R (sym (scenario_stays (seen_by p) one.0 was).0) (subst Q (sym m.is) there))
 
 -- a claim and its entry
@@ -374,11 +374,11 @@ full_told wire_fault.HistoryFull between seen is full told = let P : List Mark �
 full_told wire_fault.NoMemory between seen is full told = absurd cc
 
 -- a site that only made ready is up meanwhile
-pub still_up : {D : Type 0} {rose : List Record} (content : D → List ℕ) (image : D → List ℕ → Type 0) (meters : D → Meters)
-    (sc : Scenario) (h more : List Entry) (site : ℕ) (s new : SiteView) (l : LogState D) (logged : ℕ) → Meanwhile site h more → IsUp content image meters sc h site s l rose logged →
-    IsAsBefore s new → IsUp content image meters sc more site new l rose logged
-still_up {D} {rose} content image meters sc h more site s new l logged m was is =
-    ready_up content image meters sc more site s new l logged (up_meanwhile content image meters sc h more site (Up s l rose logged) m was) is
+pub still_up : {D : Type 0} {rose : List Record} (meaning : Meaning D)
+    (sc : Scenario) (h more : List Entry) (site : ℕ) (s new : SiteView) (l : LogState D) (logged : ℕ) → Meanwhile site h more → IsUp meaning sc h site s l rose logged →
+    IsAsBefore s new → IsUp meaning sc more site new l rose logged
+still_up {D} {rose} meaning sc h more site s new l logged m was is =
+    ready_up meaning sc more site s new l logged (up_meanwhile meaning sc h more site (Up s l rose logged) m was) is
 
 -- the scenario stays
 pub keys_stay : (p q : APass) → IsPlayed (seen_by p) → HasSeenMore p q → (scenario_seen q ≡ scenario_seen p) × (most_of (seen_by q) ≡ most_of (seen_by p))

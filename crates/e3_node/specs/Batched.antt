@@ -4,7 +4,7 @@ use Rattle.std.specs.List.{AllByRecursion as Each}
 use Rattle.e3_codec.specs.Fields.{AllCanBeReadBack}
 use Rattle.e3_disk.specs.Meters.{Meters}
 use Rattle.e3_log.specs.Stands.{LogState}
-use Rattle.e3_node.specs.Batches.{plain_steps, stepped}
+use Rattle.e3_node.specs.Batches.{unnumbered_steps, stepped}
 use Rattle.e3_node.specs.Several.{claims_for}
 use Rattle.e3_node.specs.Telling.{IsOwn}
 use Rattle.e3_node.specs.declared.batching.Batch.{Batch}
@@ -49,13 +49,13 @@ first_of None old = old
 -- unless its frame has room.
 pub record IsBatch {D : Type 0} (meters : D → Meters) (on_disk : LogState D) (sc : Scenario) (history : List Entry) (site : ℕ) (rose : List Record) (marks : List Mark) (first : ℕ) (done : List Input) (batch : Batch)
     (s : SiteView) (now : List Mark) : Type 0 where
-  pub steps_are : batch.steps.items ≡ plain_steps sc history site done
+  pub steps_are : batch.steps.items ≡ unnumbered_steps sc history site done
   pub records_are : batch.records ≡ records_by sc history site done
   pub body_is : batch.body ≡ spelling (records_by sc history site done)
   pub back : Each (IsOwn site) (records_by sc history site done) → AllCanBeReadBack site (records_by sc history site done)
   pub stands : StandsAlike sc (stepped sc history site done) site rose s
   pub inputs : s.inputs ≤ first + length done
-  pub claimed : now ≡ marks ++ claims_for (plain_steps sc history site done)
+  pub claimed : now ≡ marks ++ claims_for (unnumbered_steps sc history site done)
   pub short : IsShortIf site (log_of sc history site) batch.short
   pub may : MayTurn on_disk batch.short
   pub due : records_by sc history site done ≢ [] → IsDue meters on_disk (log_of sc history site) batch.short (length batch.body)

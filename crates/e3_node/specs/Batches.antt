@@ -21,7 +21,7 @@ use Rattle.e3_types.specs.declared.scenarios.Scenario.{Scenario}
 use Rattle.e3_world.specs.declared.lives.Made.{Made}
 use Rattle.e3_world.specs.Items.{inputs_of}
 use Rattle.e3_world.specs.Legal.{entry_of, made_by, records_by}
-use Rattle.e3_world.specs.Moves.{log_of, plain}
+use Rattle.e3_world.specs.Moves.{log_of, unnumbered}
 
 -- the history with the steps of these inputs, each behind those before it
 abbrev pub stepped : Scenario → List Entry → ℕ → List Input → List Entry
@@ -34,14 +34,14 @@ inputs_in [] = []
 inputs_in (e ∷ es) = inputs_of e.act ++ inputs_in es
 
 -- the entry of a step, its packets without numbers
-abbrev pub plain_of : ℕ → Input → Made → Entry
-plain_of site i made = record { owner = site; act = Step i made.records (map plain made.outs) made.told }
+abbrev pub unnumbered_of : ℕ → Input → Made → Entry
+unnumbered_of site i made = record { owner = site; act = Step i made.records (map unnumbered made.outs) made.told }
 
 -- the entries of these steps
-abbrev pub plain_steps : Scenario → List Entry → ℕ → List Input → List Entry
-plain_steps sc history site [] = []
-plain_steps sc history site (i ∷ inputs) =
-    plain_of site i (made_by sc history site i) ∷ plain_steps sc (history ++ entry_of sc history site i ∷ []) site inputs
+abbrev pub unnumbered_steps : Scenario → List Entry → ℕ → List Input → List Entry
+unnumbered_steps sc history site [] = []
+unnumbered_steps sc history site (i ∷ inputs) =
+    unnumbered_of site i (made_by sc history site i) ∷ unnumbered_steps sc (history ++ entry_of sc history site i ∷ []) site inputs
 
 -- the fall over these inputs
 abbrev pub fall_over : Scenario → List Entry → ℕ → List Input → Why → Entry

@@ -6,9 +6,9 @@ use Rattle.e3_law_brief.specs.Incarnations.{IsKnown}
 use Rattle.e3_world.specs.Orderly.{IsOrderly}
 use Rattle.e3_site.specs.StandsAlike.{StandsAlike}
 use Rattle.e3_node.specs.Telling.{IsOwn}
-use Rattle.e3_places.specs.Keeping.{claims_at, txn_key}
+use Rattle.e3_places.specs.Keeping.{claims_at, txn_id}
 use Rattle.e3_site.specs.SiteView.{SiteView, Stands}
-use Rattle.e3_snapshot.specs.Tables.{IsInOrder}
+use Rattle.e3_site.specs.Tables.{IsInOrder}
 use Rattle.e3_types.specs.declared.entries.Entry.{Entry}
 use Rattle.e3_types.specs.declared.entries.Input.{Input}
 use Rattle.e3_types.specs.declared.entries.Input.TheVariants as input
@@ -46,7 +46,7 @@ pub record IsReadBrief (site : ℕ) (read log : List Record) : Type 0 where
 
 -- how many operations of a transaction stand at a site
 abbrev pub asked_of : SiteView → Txn → ℕ
-asked_of s t = length (claims_at s.tables.names.places.txns.entries (txn_key t)).standing
+asked_of s t = length (claims_at s.tables.names.places.txns.entries (txn_id t)).standing
 
 -- a sum as 64 bits have it
 abbrev pub capped : ℕ → ℕ

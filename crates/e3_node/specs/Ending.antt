@@ -1,6 +1,7 @@
 -- How a batch of a site that was up ends.
 use Rattle.std.specs.Prelude.{◌≡◌, ◌≤◌, ◌<◌, ℕ, List, Option, Some, None, Result, Ok, Err, OnErr, OnOk, length, take}
-use Rattle.e3_disk.specs.Meters.{Keeps, Meters}
+use Rattle.e3_disk.specs.Meaning.{Meaning}
+use Rattle.e3_disk.specs.Meters.{Keeps}
 use Rattle.e3_node.specs.Batches.{HasFallenOverAll, HasSteppedAll}
 use Rattle.e3_node.specs.NodeStands.{IsFallen, IsIn}
 use Rattle.e3_node.specs.NodeView.{disk_of}
@@ -18,13 +19,13 @@ answer_by (Ok done) None = Ok done
 answer_by (Ok done) (Some why) = Err (input_fault.Fell why)
 answer_by (Err fault) fell = Err fault
 
-module _ {D : Type 0} (content : D → List ℕ) (image : D → List ℕ → Type 0) (meters : D → Meters) where
+module _ {D : Type 0} (meaning : Meaning D) where
   -- with the steps of these inputs, or with a fall over them
   abbrev pub Came : Scenario → List Entry → List Entry → ℕ → List Input → State D → State D → Option Why → Type 0
   Came sc before more site done old new None =
-      HasSteppedAll meters sc before more site done old new × IsIn content image meters sc more site new
+      HasSteppedAll meaning.meters sc before more site done old new × IsIn meaning sc more site new
   Came sc before more site done old new (Some why) =
-      HasFallenOverAll meters sc before more site done why old (disk_of new) × IsFallen image meters sc more site new
+      HasFallenOverAll meaning.meters sc before more site done why old (disk_of new) × IsFallen meaning sc more site new
 
   -- It did so with as many inputs as were not refused.
   pub record EndsWith (sc : Scenario) (before more : List Entry) (site : ℕ) (inputs : List Input) (old new : State D)
@@ -34,18 +35,4 @@ module _ {D : Type 0} (content : D → List ℕ) (image : D → List ℕ → Typ
     pub all : OnOk refused (count ≡ length inputs)
     pub short : OnErr refused (count < length inputs)
     pub came : Came sc before more site (take count inputs) old new fell
-    pub keeps : Keeps (meters (disk_of old)) (meters (disk_of new))
-
-  -- a site that was down did nothing
-  pub record DidNothing (sc : Scenario) (before more : List Entry) (site : ℕ) (old new : State D) (fell : Option Why) : Type 0 where
-    pub history : more ≡ before
-    pub state : new ≡ old
-    pub stands : IsIn content image meters sc more site new
-    pub keeps : Keeps (meters (disk_of old)) (meters (disk_of new))
-    pub none : fell ≡ None
-
-  abbrev pub EndsIn : Scenario → List Entry → List Entry → ℕ → List Input → State D → State D → Result (Unit {0}) InputFault → Option Why → Type 0
-  EndsIn sc before more site inputs old new (Err input_fault.Down) fell = DidNothing sc before more site old new fell
-  EndsIn sc before more site inputs old new (Err (input_fault.Fell why)) fell = ⊥
-  EndsIn sc before more site inputs old new (Err input_fault.HistoryFull) fell = ⊥
-  EndsIn sc before more site inputs old new refused fell = EndsWith sc before more site inputs old new refused fell
+    pub keeps : Keeps (meaning.meters (disk_of old)) (meaning.meters (disk_of new))

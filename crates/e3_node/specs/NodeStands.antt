@@ -1,6 +1,6 @@
 -- A node stands for its site in a history.
 use Rattle.std.specs.Prelude.{◌≡◌, ◌≤◌, ℕ, Bool, true, false, List, length, filter}
-use Rattle.e3_disk.specs.Meters.{Meters}
+use Rattle.e3_disk.specs.Meaning.{Meaning}
 use Rattle.e3_log.specs.Stands.{LogState}
 use Rattle.e3_node.specs.Bodies.{DiskTells, entries_at}
 use Rattle.e3_node.specs.NodeView.{NodeView, disk_of}
@@ -32,9 +32,9 @@ steps_at history site = length (filter is_step (own site history))
 
 -- The history has the site down, and the disk holds the site's log in it, with power or without; the number tells what of a
 -- tail it has.
-pub record IsDown {D : Type 0} (image : D → List ℕ → Type 0) (meters : D → Meters) (sc : Scenario) (history : List Entry) (site : ℕ) (disk : D) (logged : ℕ) : Type 0 where
+pub record IsDown {D : Type 0} (meaning : Meaning D) (sc : Scenario) (history : List Entry) (site : ℕ) (disk : D) (logged : ℕ) : Type 0 where
   pub down : is_up_at history site ≡ false
-  pub stands : DiskTells sc history site (meters disk).capacity logged (image disk)
+  pub stands : DiskTells sc history site (meaning.meters disk).capacity logged (meaning.image disk)
 
 -- the site stands for the history as one that rose with these records, which are orderly, and its log there is in order
 pub record StandsBy (sc : Scenario) (history : List Entry) (site : ℕ) (rose : List Record) (s : SiteView) : Type 0 where
@@ -44,18 +44,18 @@ pub record StandsBy (sc : Scenario) (history : List Entry) (site : ℕ) (rose : 
 
 -- The history has the site up, the site stands for it by the records that it rose with, the log on the disk is the site's, as
 -- many records as the number says, and the disk has power. The site counts no more inputs than it has steps.
-pub record IsUp {D : Type 0} (content : D → List ℕ) (image : D → List ℕ → Type 0) (meters : D → Meters)
+pub record IsUp {D : Type 0} (meaning : Meaning D)
     (sc : Scenario) (history : List Entry) (site : ℕ) (s : SiteView) (log : LogState D) (rose : List Record) (count : ℕ) : Type 0 where
   pub up : is_up_at history site ≡ true
   pub stands : StandsBy sc history site rose s
-  pub logged : IsLogged content image meters site (entries_at history site) (log_of sc history site) count log
-  pub lit : (meters log.disk).powered ≡ true
+  pub logged : IsLogged meaning site (entries_at history site) (log_of sc history site) count log
+  pub lit : (meaning.meters log.disk).powered ≡ true
   pub inputs : s.inputs ≤ steps_at history site
 
 -- it is up exactly where the history has the site up
-abbrev pub IsIn : {D : Type 0} → (D → List ℕ) → (D → List ℕ → Type 0) → (D → Meters) → Scenario → List Entry → ℕ → State D → Type 0
-IsIn content image meters sc history site (Down disk logged) = IsDown image meters sc history site disk logged
-IsIn content image meters sc history site (Up s log rose logged) = IsUp content image meters sc history site s log rose logged
+abbrev pub IsIn : {D : Type 0} → Meaning D → Scenario → List Entry → ℕ → State D → Type 0
+IsIn meaning sc history site (Down disk logged) = IsDown meaning sc history site disk logged
+IsIn meaning sc history site (Up s log rose logged) = IsUp meaning sc history site s log rose logged
 
 -- the number with which a state tells of its disk
 abbrev pub logged_in : {D : Type 0} → State D → ℕ
@@ -63,14 +63,13 @@ logged_in (Down disk logged) = logged
 logged_in (Up s log rose logged) = logged
 
 -- a site that fell is not put down yet: its disk stands
-abbrev pub IsFallen : {D : Type 0} → (D → List ℕ → Type 0) → (D → Meters) → Scenario → List Entry → ℕ → State D → Type 0
-IsFallen image meters sc history site state = DiskTells sc history site (meters (disk_of state)).capacity (logged_in state) (image (disk_of state))
+abbrev pub IsFallen : {D : Type 0} → Meaning D → Scenario → List Entry → ℕ → State D → Type 0
+IsFallen meaning sc history site state = DiskTells sc history site (meaning.meters (disk_of state)).capacity (logged_in state) (meaning.image (disk_of state))
 
 -- The site is one of the scenario's, the weights and the rows are the scenario's, and the state is as the history has it.
-pub record NodeStands {D : Type 0} (content : D → List ℕ) (image : D → List ℕ → Type 0) (meters : D → Meters)
-    (sc : Scenario) (history : List Entry) (node : NodeView D) : Type 0 where
+pub record NodeStands {D : Type 0} (meaning : Meaning D) (sc : Scenario) (history : List Entry) (node : NodeView D) : Type 0 where
   pub some : 1 ≤ node.site
   pub exists : node.site ≤ length sc.weights
   pub weights_are : node.weights ≡ sc.weights
   pub rows_are : node.rows ≡ rows_at node.site sc.rows
-  pub state : IsIn content image meters sc history node.site node.state
+  pub state : IsIn meaning sc history node.site node.state

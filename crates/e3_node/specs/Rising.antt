@@ -3,6 +3,7 @@ use Rattle.std.specs.Prelude.{◌≡◌, ◌⊎◌, ◌<◌, ◌≤◌, ◌^◌,
 use Rattle.std.specs.List.{flat_map}
 use Rattle.e3_codec.specs.Fields.{AllCanBeReadBack}
 use Rattle.e3_codec.specs.Places.{FirstBad}
+use Rattle.e3_disk.specs.Meaning.{Meaning}
 use Rattle.e3_disk.specs.Meters.{Meters, HasFailed}
 use Rattle.e3_log.specs.declared.fault.OpenCause.{OpenCause}
 use Rattle.e3_log.specs.declared.fault.OpenCause.TheVariants as causes
@@ -111,28 +112,33 @@ abbrev pub rise_fall_of : ℕ → Bool → ℕ → Why → Entry
 rise_fall_of site kept inc why = record { owner = site; act = act.RiseFall kept inc why }
 
 -- the site rose over a disk: it stands for the history with its rise
-pub record HasRaised {D : Type 0} (content : D → List ℕ) (image : D → List ℕ → Type 0) (meters : D → Meters) (sc : Scenario)
+pub record HasRaised {D : Type 0} (meaning : Meaning D) (sc : Scenario)
     (history : List Entry) (site : ℕ) (old : D) (s : SiteView) (l : LogState D) (rose : List Record) (logged : ℕ) (kept : Bool) (inc : ℕ) : Type 0 where
   pub allowed : IsRise sc history site kept inc
-  pub read : IsRead sc history site (meters old).capacity kept (image old)
-  pub up : IsUp content image meters sc (history ++ rise_of site kept inc ∷ []) site s l rose logged
+  pub read : IsRead sc history site (meaning.meters old).capacity kept (meaning.image old)
+  pub up : IsUp meaning sc (history ++ rise_of site kept inc ∷ []) site s l rose logged
 
 -- the rise failed: the disk stands for the history with the failed rise
-pub record HasNotRaised {D : Type 0} (image : D → List ℕ → Type 0) (meters : D → Meters) (sc : Scenario)
+pub record HasNotRaised {D : Type 0} (meaning : Meaning D) (sc : Scenario)
     (history : List Entry) (site : ℕ) (old new : D) (logged : ℕ) (kept : Bool) (inc : ℕ) (why : Why) : Type 0 where
   pub allowed : IsRise sc history site kept inc
-  pub read : IsRead sc history site (meters old).capacity kept (image old)
-  pub stands : DiskTells sc (history ++ rise_fall_of site kept inc why ∷ []) site (meters new).capacity logged (image new)
-  pub reason : IsReason why (log_with sc history site kept) (rise_records sc site inc (log_with sc history site kept)) (meters old) (meters new)
+  pub read : IsRead sc history site (meaning.meters old).capacity kept (meaning.image old)
+  pub stands : DiskTells sc (history ++ rise_fall_of site kept inc why ∷ []) site (meaning.meters new).capacity logged (meaning.image new)
+  pub reason : IsReason why (log_with sc history site kept) (rise_records sc site inc (log_with sc history site kept)) (meaning.meters old) (meaning.meters new)
 
 -- what a rise makes of a disk; a log that is not the site's comes of no disk that stands
-abbrev pub RiseMakes : {D : Type 0} → (D → List ℕ) → (D → List ℕ → Type 0) → (D → Meters) → Scenario → List Entry → ℕ → D → State D → Raised → Type 0
-RiseMakes content image meters sc history site old (Up s l rose logged) (Rose kept inc) = HasRaised content image meters sc history site old s l rose logged kept inc
-RiseMakes content image meters sc history site old (Down new logged) (Failed kept inc why) = HasNotRaised image meters sc history site old new logged kept inc why
-RiseMakes content image meters sc history site old (Down new logged) Missed =
-    DiskTells sc history site (meters new).capacity logged (image new) × HasFailed (meters old).faults (meters new).faults
-RiseMakes content image meters sc history site old (Down new logged) NoMemory = DiskTells sc history site (meters new).capacity logged (image new)
-RiseMakes content image meters sc history site old _ _ = ⊥
+abbrev pub RiseMakes : {D : Type 0} → Meaning D → Scenario → List Entry → ℕ → D → State D → Raised → Type 0
+RiseMakes meaning sc history site old (Up s l rose logged) (Rose kept inc) = HasRaised meaning sc history site old s l rose logged kept inc
+RiseMakes meaning sc history site old (Down new logged) (Failed kept inc why) = HasNotRaised meaning sc history site old new logged kept inc why
+RiseMakes meaning sc history site old (Down new logged) Missed =
+    DiskTells sc history site (meaning.meters new).capacity logged (meaning.image new) × HasFailed (meaning.meters old).faults (meaning.meters new).faults
+RiseMakes meaning sc history site old (Down new logged) NoMemory = DiskTells sc history site (meaning.meters new).capacity logged (meaning.image new)
+RiseMakes meaning sc history site old _ _ = ⊥
+
+-- the same for each history in which the site may rise and of which the disk tells, by so many records
+abbrev pub RiseOver : {D : Type 0} → Meaning D → Wish → ℕ → D → State D → Raised → Type 0
+RiseOver meaning wish logged old new raised = (sc : Scenario) (history : List Entry) → MayRise sc history wish →
+    DiskTells sc history wish.site (meaning.meters old).capacity logged (meaning.image old) → RiseMakes meaning sc history wish.site old new raised
 
 -- what it takes of an arm, where its frame takes so many calls and what is before it so many
 abbrev pub RiseTakes : ℕ → Raised → Meters → Meters → Type 0

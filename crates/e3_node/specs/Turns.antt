@@ -1,7 +1,7 @@
 -- What a call of a site makes of what its pass has seen, while other sites go on.
-use Rattle.std.specs.Prelude.{◌≡◌, ◌≤◌, ◌++◌, ◌∷◌, [], ℕ, List, Result, Ok, Err}
+use Rattle.std.specs.Prelude.{◌≡◌, ◌≤◌, ◌++◌, ◌∷◌, [], ℕ, false, List, Result, Ok, Err}
 use Rattle.atomic_table.specs.Seated.{TableId}
-use Rattle.e3_disk.specs.Meters.{Meters}
+use Rattle.e3_disk.specs.Meaning.{Meaning}
 use Rattle.e3_law_local.specs.Least.{AreOfSites}
 use Rattle.e3_law_local.specs.Others.{AreOthers}
 use Rattle.e3_node.specs.Ends.{FellOver}
@@ -10,16 +10,17 @@ use Rattle.e3_node.specs.NodeView.{disk_of}
 use Rattle.e3_node.specs.declared.fault.InputFault.{InputFault}
 use Rattle.e3_node.specs.declared.fault.InputFault.TheVariants.{Fell}
 use Rattle.e3_node.specs.declared.state.State.{State}
-use Rattle.e3_turn.specs.Passes.{IsIdle, SameOwners, seen_by}
+use Rattle.e3_turn.specs.Passes.{IsIdle, Owns, SameOwners, seen_by}
 use Rattle.e3_types.specs.declared.entries.Entry.{Entry}
 use Rattle.e3_types.specs.declared.entries.Input.{Input}
 use Rattle.e3_types.specs.declared.entries.Why.{Why}
 use Rattle.e3_types.specs.declared.scenarios.Scenario.{Scenario}
 use Rattle.e3_wire.specs.Claims.{APass}
-use Rattle.e3_wire.specs.Marks.{entries_of, note_of, scenario_of}
+use Rattle.e3_wire.specs.Marks.{entries_of, last_owner, note_of, scenario_of}
 use Rattle.e3_wire.specs.Wires.{IsPlayed}
 use Rattle.e3_wire.specs.declared.marks.Mark.{Mark}
 use Rattle.e3_world.specs.Legal.{entry_of}
+use Rattle.e3_world.specs.Packets.{is_calm, present_items}
 
 -- the scenario and the history of the marks that a pass has seen
 abbrev pub scenario_seen : APass → Scenario
@@ -27,6 +28,15 @@ scenario_seen p = scenario_of (seen_by p)
 
 abbrev pub history_seen : APass → List Entry
 history_seen p = entries_of (seen_by p)
+
+-- A call of the site may take turns by this pass: it rests and speaks for the site, one of the scenario, outside of a recover step.
+pub record MayTakeTurns (lock : TableId) (site : ℕ) (p : APass) : Type 0 where
+  pub idle : IsIdle lock p
+  pub owns : Owns p site
+  pub played : IsPlayed (seen_by p)
+  pub some : 1 ≤ site
+  pub exists : site ≤ last_owner (seen_by p)
+  pub restless : is_calm (present_items (scenario_seen p) (history_seen p)) ≡ false
 
 -- behind the first history other sites than this entered something, and nobody else
 pub record Meanwhile (site : ℕ) (before now : List Entry) : Type 0 where
@@ -52,26 +62,26 @@ pub record HasKeptPromises (lock : TableId) (site : ℕ) (p q : APass) : Type 0 
   pub promised : (note_of site (seen_by q)).places ≡ (note_of site (seen_by p)).places
   pub room : (note_of site (seen_by q)).room ≤ (note_of site (seen_by p)).room
 
-module _ {D : Type 0} (content : D → List ℕ) (image : D → List ℕ → Type 0) (meters : D → Meters) where
+module _ {D : Type 0} (meaning : Meaning D) where
   -- the site made the step of an input behind what others entered
   pub record HasStepped (sc : Scenario) (before more : List Entry) (site : ℕ) (i : Input) (new : State D) : Type 0 where
     pub now : List Entry
     pub meanwhile : Meanwhile site before now
     pub entered : more ≡ now ++ entry_of sc now site i ∷ []
-    pub stands : IsIn content image meters sc more site new
+    pub stands : IsIn meaning sc more site new
 
   -- it fell over the input
   pub record HasFallen (sc : Scenario) (before more : List Entry) (site : ℕ) (i : Input) (why : Why) (new : State D) : Type 0 where
     pub now : List Entry
     pub meanwhile : Meanwhile site before now
     pub fell : FellOver sc now site i why more
-    pub stands : IsFallen image meters sc more site new
+    pub stands : IsFallen meaning sc more site new
 
   -- or it did nothing
   pub record IsStill (sc : Scenario) (before more : List Entry) (site : ℕ) (old new : State D) : Type 0 where
     pub meanwhile : Meanwhile site before more
     pub disk : disk_of new ≡ disk_of old
-    pub stands : IsIn content image meters sc more site new
+    pub stands : IsIn meaning sc more site new
 
   -- how an input of the site ended
   abbrev pub EndsSo : Scenario → List Entry → List Entry → ℕ → Input → State D → State D → Result (Unit {0}) InputFault → Type 0

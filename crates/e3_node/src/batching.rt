@@ -1,5 +1,5 @@
 // Several packets of a site that is up, by its worker: their steps have one frame.
-ghost use Rattle.std.specs.Prelude.{◌≡◌, ◌≤◌, ◌<◌, ◌+◌, ◌++◌, ◌∷◌, [], None, false, ℕ, length, take, fold, vec_capacity, IfOk, OnOk, OnErr, List as Items};
+ghost use Rattle.std.specs.Prelude.{◌≡◌, ◌≤◌, ◌<◌, ◌+◌, ◌++◌, ◌∷◌, [], None, false, ℕ, length, take, vec_capacity, IfOk, OnOk, OnErr, List as Items};
 ghost use Rattle.e3_site.specs.StandsAlike.{IsLogInOrder, StandsAlike};
 ghost use Rattle.e3_node.specs.Batched.{BatchAt, HasPlanned, IsBatchAt, OnlyForMemory, first_of};
 ghost use Rattle.e3_node.specs.Batches.{stepped};
@@ -93,7 +93,7 @@ fn add_one<D: Disk>(
     ghost at: { BatchAt }
     requires owner { number ≤ last_owner shared.old }
     requires site { number ≡ at.site }
-    requires made { IsBatchAt D.meters log.now at batch.old site.old shared.old }
+    requires made { IsBatchAt D.meaning.meters log.now at batch.old site.old shared.old }
     requires sound { log.now.failed ≡ false }
     requires order { IsLogInOrder at.site (log_of at.scenario (stepped at.scenario at.history at.site at.done) at.site) }
     requires brief { BriefsAreTold at.scenario (stepped at.scenario at.history at.site at.done) at.site at.rose }
@@ -101,8 +101,8 @@ fn add_one<D: Disk>(
     ensures owners { last_owner shared.new ≡ last_owner shared.old }
     ensures most { most_of shared.new ≡ most_of shared.old }
     ensures used { used_of shared.new ≤ used_of shared.old + 1 }
-    ensures added { OnOk result (IsBatchAt D.meters log.now (record at { done = at.done ++ input.now ∷ [] }) batch.new site.new shared.new) }
-    ensures kept { OnErr result (IsBatchAt D.meters log.now at batch.new site.new shared.new) }
+    ensures added { OnOk result (IsBatchAt D.meaning.meters log.now (record at { done = at.done ++ input.now ∷ [] }) batch.new site.new shared.new) }
+    ensures kept { OnErr result (IsBatchAt D.meaning.meters log.now at batch.new site.new shared.new) }
     ensures refused { OnlyForMemory result }
 {
     let alloc = shared.alloc();
@@ -142,13 +142,13 @@ fn add_all<D: Disk>(
     ghost at: { BatchAt }
     requires owner { number ≤ last_owner shared.old }
     requires site { number ≡ at.site }
-    requires made { IsBatchAt D.meters log.now (record at { done = [] }) batch.old site.old shared.old }
+    requires made { IsBatchAt D.meaning.meters log.now (record at { done = [] }) batch.old site.old shared.old }
     requires sound { log.now.failed ≡ false }
     requires orders { (n : ℕ) → n ≤ length inputs.now → IsLogInOrder at.site (log_of at.scenario (stepped at.scenario at.history at.site (take n inputs.now)) at.site) }
     requires briefs { (n : ℕ) → n ≤ length inputs.now → BriefsAreTold at.scenario (stepped at.scenario at.history at.site (take n inputs.now)) at.site at.rose }
     requires left { used_of shared.old + length inputs.now ≤ most_of shared.old }
     ensures added { (n : ℕ) × (n ≤ length inputs.now) × OnOk result (n ≡ length inputs.now) × OnErr result (n < length inputs.now)
-        × IsBatchAt D.meters log.now (record at { done = take n inputs.now }) batch.new site.new shared.new }
+        × IsBatchAt D.meaning.meters log.now (record at { done = take n inputs.now }) batch.new site.new shared.new }
     ensures refused { OnlyForMemory result }
 {
     let spare = spare_for(site, inputs);
@@ -188,7 +188,7 @@ pub(crate) fn plan_all<R: Wait, D: Disk>(
     ensures idle { IsIdle wire.now pass.new }
     ensures same { SameOwners pass.old pass.new }
     ensures played { IsPlayed (seen_by pass.new) }
-    ensures planned { HasPlanned D.meters log.now pass.old number rose.now site.old.inputs inputs.now result batch.new site.new (seen_by pass.new) }
+    ensures planned { HasPlanned D.meaning.meters log.now pass.old number rose.now site.old.inputs inputs.now result batch.new site.new (seen_by pass.new) }
     ensures refused { OnlyForMemory result }
 {
     let mut shared = wire.take(rt, pass);

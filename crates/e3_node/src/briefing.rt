@@ -15,11 +15,10 @@ use crate::fitting::spelled;
 use crate::readying::{Readied, Unready, Wish, rebuilt};
 use e3_disk::Disk;
 use e3_log::Log;
-use e3_places::txn_key;
+use e3_places::txn_id;
 use e3_readings::logged_inc;
-use e3_site::Site;
+use e3_site::{Site, brief, of_site};
 use e3_site_log::Short;
-use e3_snapshot::{brief, of_site};
 use e3_types::{Input, List, Message, NoMemory, Record, Txn};
 use std::alloc::Global;
 
@@ -54,7 +53,7 @@ pub(crate) fn shorten<D: Disk>(
 ) -> Result<Option<Short>, NoMemory>
     ensures short { (l : Items Records) → IsBriefOf site.now l → IfOk result (IsShortIf site.now.site l) }
     ensures due { (l : Items Records) → IsBriefOf site.now l → log.now.failed ≡ false → records.now ≢ [] →
-        IfOk result (λ s. IsDue D.meters log.now l s len) }
+        IfOk result (λ s. IsDue D.meaning.meters log.now l s len) }
     ensures may { IfOk result (MayTurn log.now) }
 {
     if records.is_empty() || log.fits(len) {
@@ -86,7 +85,7 @@ pub(crate) fn shorten_read<D: Disk>(
     requires { rise.now.read ≤ length rise.now.rose }
     ensures short { (l : Items Records) → IsReadBrief wish.now.site (take rise.now.read rise.now.rose) l → IfOk result (IsShortIf wish.now.site l) }
     ensures due { (l : Items Records) → IsReadBrief wish.now.site (take rise.now.read rise.now.rose) l → log.now.failed ≡ false →
-        IfOk result (λ s. IsDue D.meters log.now l s (length rise.now.body)) }
+        IfOk result (λ s. IsDue D.meaning.meters log.now l s (length rise.now.body)) }
     ensures may { IfOk result (MayTurn log.now) }
     ensures never { IsOrderly wish.now.site (take rise.now.read rise.now.rose) → result ≡ Err unready.Foreign → ⊥ }
 {
@@ -102,7 +101,7 @@ pub(crate) fn shorten_read<D: Disk>(
 fn asked_of(site: &Site, t: &Txn) -> u64
     ensures { result ≡ asked_of site.now t.now }
 {
-    match site.tables().names.places.txns.get(&txn_key(t)) {
+    match site.tables().names.places.txns.get(&txn_id(t)) {
         Some(claims) => claims.standing.len(),
         None => 0,
     }
@@ -148,7 +147,7 @@ pub(crate) fn shorten_batch<D: Disk>(
 ) -> Result<Option<Short>, NoMemory>
     ensures short { (l : Items Records) → (batch.now.records ≡ [] → IsBriefOf site.now l) → IfOk result (IsShortIf site.now.site l) }
     ensures due { (l : Items Records) → (batch.now.records ≡ [] → IsBriefOf site.now l) → log.now.failed ≡ false → records.now ≢ [] →
-        batch.now.short ≡ None → IfOk result (λ s. IsDue D.meters log.now l s len) }
+        batch.now.short ≡ None → IfOk result (λ s. IsDue D.meaning.meters log.now l s len) }
     ensures may { IfOk result (MayTurn log.now) }
     ensures none { (s : Shorts) → batch.now.short ≡ Given s → result ≡ Ok None }
 {

@@ -92,16 +92,6 @@ pub enum CutFault {
     NoMemory,
 }
 
-impl From<NoMemory> for CutFault {
-    ghost use Rattle.e3_node.specs.declared.fault.CutFault.TheVariants as fault;
-
-    ghost from_gives = { λ _ f. f ≡ fault.NoMemory };
-
-    fn from(_cause: NoMemory) -> CutFault {
-        CutFault::NoMemory
-    }
-}
-
 impl From<WireFault> for CutFault {
     ghost use Rattle.e3_node.specs.Ends.{cut_fault_of};
 

@@ -76,9 +76,9 @@ impl<D: Disk + Drill + Drop> Node<D> {
     pub fn down(site: u32, weights: List<u32>, rows: List<Row>, disk: D) -> Node<D>
         requires some { 1 ≤ site }
         requires exists { site ≤ length weights }
-        requires blank { IsBlank D.content D.image D.meters disk }
+        requires blank { IsBlank D.meaning disk }
         ensures stands { (sc : Scenario) → weights ≡ sc.weights → rows ≡ rows_at site sc.rows →
-            NodeStands D.content D.image D.meters sc [] result }
+            NodeStands D.meaning sc [] result }
         ensures same { (result.site ≡ site) × (disk_of result.state ≡ disk) }
     {
         let _capacity = disk.capacity();
@@ -100,7 +100,7 @@ impl<D: Disk + Drill + Drop> Node<D> {
     /// The site is up.
     pub fn is_up(&self) -> bool
         ensures is { result ≡ is_up_in self.now.state }
-        ensures stands { (sc : Scenario) (h : Items Entries) → NodeStands D.content D.image D.meters sc h self.now →
+        ensures stands { (sc : Scenario) (h : Items Entries) → NodeStands D.meaning sc h self.now →
             result ≡ is_up_at h self.now.site }
     {
         match &self.state {
@@ -112,8 +112,8 @@ impl<D: Disk + Drill + Drop> Node<D> {
     /// The disk, as the node leaves it.
     pub fn into_disk(self) -> D
         ensures is { result ≡ disk_of self.state }
-        ensures stands { (sc : Scenario) (h : Items Entries) → NodeStands D.content D.image D.meters sc h self →
-            DiskStands sc h self.site (D.meters result).capacity (D.image result) }
+        ensures stands { (sc : Scenario) (h : Items Entries) → NodeStands D.meaning sc h self →
+            DiskStands sc h self.site (D.meaning.meters result).capacity (D.meaning.image result) }
     {
         into_disk(self.state)
     }
@@ -121,7 +121,7 @@ impl<D: Disk + Drill + Drop> Node<D> {
     /// The undecided transactions that the site knows, each once and ascending; none where it is down. Want of memory is
     /// the only error.
     pub fn open_txns(&self, alloc: Global) -> Result<List<Txn>, NoMemory>
-        ensures up { (sc : Scenario) (h : Items Entries) → NodeStands D.content D.image D.meters sc h self.now → is_up_at h self.now.site ≡ true →
+        ensures up { (sc : Scenario) (h : Items Entries) → NodeStands D.meaning sc h self.now → is_up_at h self.now.site ≡ true →
             IfOk result (λ txns. txns ≡ fold add_txn [] (open_at sc h self.now.site)) }
         ensures down { is_up_in self.now.state ≡ false → IfOk result (λ txns. txns ≡ []) }
     {
@@ -136,21 +136,21 @@ impl<D: Disk + Drill + Drop> Node<D> {
     /// where the records read have the brief of the log followed by it.
     pub fn rise(&mut self, shared: &mut Shared) -> Result<u32, RiseFault>
         requires shared { SharedStands shared.old }
-        requires standing { NodeStands D.content D.image D.meters (scenario_of shared.old) (entries_of shared.old) self.old }
+        requires standing { NodeStands D.meaning (scenario_of shared.old) (entries_of shared.old) self.old }
         requires turn { is_up_at (entries_of shared.old) self.old.site ≡ false → IsRising (scenario_of shared.old) (entries_of shared.old) self.old.site }
         ensures shared { SharedStands shared.new }
         ensures grew { HaveGrown shared.old shared.new }
         ensures same { (scenario_of shared.new ≡ scenario_of shared.old) × (most_of shared.new ≡ most_of shared.old) }
-        ensures stands { NodeStands D.content D.image D.meters (scenario_of shared.new) (entries_of shared.new) self.new }
+        ensures stands { NodeStands D.meaning (scenario_of shared.new) (entries_of shared.new) self.new }
         ensures site { self.new.site ≡ self.old.site }
         ensures up { (result ≡ Err rise_fault.Up) ↔ (is_up_at (entries_of shared.old) self.old.site ≡ true) }
         ensures full { is_up_at (entries_of shared.old) self.old.site ≡ false →
             (result ≡ Err rise_fault.HistoryFull) ↔ (most_of shared.old ≤ length (entries_of shared.old)) }
         ensures rose { IfOk result (λ inc. HasRisen (scenario_of shared.old) (entries_of shared.old) self.old.site inc (entries_of shared.new)
-            (D.meters (disk_of self.old.state)).capacity (D.image (disk_of self.old.state))) }
+            (D.meaning.meters (disk_of self.old.state)).capacity (D.meaning.image (disk_of self.old.state))) }
         ensures failed { (why : Why) → result ≡ Err (rise_fault.Failed why) →
             HasFailedToRise (scenario_of shared.old) (entries_of shared.old) self.old.site why (entries_of shared.new)
-            (D.meters (disk_of self.old.state)) (D.meters (disk_of self.new.state)) (D.image (disk_of self.old.state)) }
+            (D.meaning.meters (disk_of self.old.state)) (D.meaning.meters (disk_of self.new.state)) (D.meaning.image (disk_of self.old.state)) }
         ensures missed { result ≡ Err rise_fault.Missed → entries_of shared.new ≡ entries_of shared.old ++ record { owner = self.old.site; act = act.Miss } ∷ [] }
         ensures kept { (result ≡ Err rise_fault.Up) ⊎ (result ≡ Err rise_fault.HistoryFull) →
             (entries_of shared.new ≡ entries_of shared.old) × (self.new ≡ self.old) }
@@ -158,10 +158,10 @@ impl<D: Disk + Drill + Drop> Node<D> {
 
         // a rise that was missed has a fault of the disk as its cause; no call arms or cuts the disk, and what is left of an
         // arm pays for the calls: a sync and the four of a frame
-        ensures cause { result ≡ Err rise_fault.Missed → HasFailed (D.meters (disk_of self.old.state)).faults (D.meters (disk_of self.new.state)).faults }
-        ensures meters { Keeps (D.meters (disk_of self.old.state)) (D.meters (disk_of self.new.state)) }
-        ensures takes { OnOk result (Takes 5 (D.meters (disk_of self.old.state)) (D.meters (disk_of self.new.state))) }
-        ensures spares { result ≡ Err rise_fault.NoMemory → Takes 0 (D.meters (disk_of self.old.state)) (D.meters (disk_of self.new.state)) }
+        ensures cause { result ≡ Err rise_fault.Missed → HasFailed (D.meaning.meters (disk_of self.old.state)).faults (D.meaning.meters (disk_of self.new.state)).faults }
+        ensures meters { Keeps (D.meaning.meters (disk_of self.old.state)) (D.meaning.meters (disk_of self.new.state)) }
+        ensures takes { OnOk result (Takes 5 (D.meaning.meters (disk_of self.old.state)) (D.meaning.meters (disk_of self.new.state))) }
+        ensures spares { result ≡ Err rise_fault.NoMemory → Takes 0 (D.meaning.meters (disk_of self.old.state)) (D.meaning.meters (disk_of self.new.state)) }
     {
         logs_are_orderly();
         if self.is_up() {
@@ -182,13 +182,13 @@ impl<D: Disk + Drill + Drop> Node<D> {
     /// that frame was not written, or may not have been. A packet that is delivered leaves the network with the entry.
     pub fn input(&mut self, shared: &mut Shared, input: Input) -> Result<(), InputFault>
         requires shared { SharedStands shared.old }
-        requires standing { NodeStands D.content D.image D.meters (scenario_of shared.old) (entries_of shared.old) self.old }
+        requires standing { NodeStands D.meaning (scenario_of shared.old) (entries_of shared.old) self.old }
         requires due { is_up_at (entries_of shared.old) self.old.site ≡ true → IsDue (scenario_of shared.old) (entries_of shared.old) self.old.site input }
         requires first { is_up_at (entries_of shared.old) self.old.site ≡ true → IsFirst (scenario_of shared.old) (entries_of shared.old) input }
         ensures shared { SharedStands shared.new }
         ensures grew { HaveGrown shared.old shared.new }
         ensures same { (scenario_of shared.new ≡ scenario_of shared.old) × (most_of shared.new ≡ most_of shared.old) }
-        ensures stands { NodeStands D.content D.image D.meters (scenario_of shared.new) (entries_of shared.new) self.new }
+        ensures stands { NodeStands D.meaning (scenario_of shared.new) (entries_of shared.new) self.new }
         ensures site { self.new.site ≡ self.old.site }
         ensures stepped { OnOk result (entries_of shared.new ≡ entries_of shared.old ++ entry_of (scenario_of shared.old) (entries_of shared.old) self.old.site input ∷ []) }
         ensures fell { (why : Why) → result ≡ Err (input_fault.Fell why) →
@@ -204,10 +204,10 @@ impl<D: Disk + Drill + Drop> Node<D> {
         ensures why { (why : Why) → result ≡ Err (input_fault.Fell why) →
             IsReason why (log_of (scenario_of shared.old) (entries_of shared.old) self.old.site)
             (made_by (scenario_of shared.old) (entries_of shared.old) self.old.site input).records
-            (D.meters (disk_of self.old.state)) (D.meters (disk_of self.new.state)) }
-        ensures meters { Keeps (D.meters (disk_of self.old.state)) (D.meters (disk_of self.new.state)) }
+            (D.meaning.meters (disk_of self.old.state)) (D.meaning.meters (disk_of self.new.state)) }
+        ensures meters { Keeps (D.meaning.meters (disk_of self.old.state)) (D.meaning.meters (disk_of self.new.state)) }
         ensures takes { OnOk result (Takes (calls_for (made_by (scenario_of shared.old) (entries_of shared.old) self.old.site input).records)
-            (D.meters (disk_of self.old.state)) (D.meters (disk_of self.new.state))) }
+            (D.meaning.meters (disk_of self.old.state)) (D.meaning.meters (disk_of self.new.state))) }
     {
         match take_input(self.site, &mut self.state, shared, input) {
             Ok(()) => Ok(()),
@@ -232,7 +232,7 @@ impl<D: Disk + Drill + Drop> Node<D> {
         requires idle { IsIdle wire.now pass.old }
         requires owns { Owns pass.old self.old.site }
         requires played { IsPlayed (seen_by pass.old) }
-        requires standing { NodeStands D.content D.image D.meters (scenario_seen pass.old) (history_seen pass.old) self.old }
+        requires standing { NodeStands D.meaning (scenario_seen pass.old) (history_seen pass.old) self.old }
         requires restless { is_calm (present_items (scenario_seen pass.old) (history_seen pass.old)) ≡ false }
         requires due { is_up_at (history_seen pass.old) self.old.site ≡ true → MayTake (scenario_seen pass.old) (history_seen pass.old) self.old.site input }
         requires takes { is_up_at (history_seen pass.old) self.old.site ≡ true → TakesLeast (scenario_seen pass.old) (history_seen pass.old) self.old.site input }
@@ -248,7 +248,7 @@ impl<D: Disk + Drill + Drop> Node<D> {
         ensures room { (note_of self.old.site (seen_by pass.new)).room ≤ (note_of self.old.site (seen_by pass.old)).room }
         ensures none_back { HasGivenNoneBack self.old.site (seen_by pass.old) (seen_by pass.new) }
 
-        ensures stands { NodeStands D.content D.image D.meters (scenario_seen pass.new) (history_seen pass.new) self.new }
+        ensures stands { NodeStands D.meaning (scenario_seen pass.new) (history_seen pass.new) self.new }
         ensures site { self.new.site ≡ self.old.site }
         ensures stepped { OnOk result ((now : Items Entries) × Meanwhile self.old.site (history_seen pass.old) now
             × (history_seen pass.new ≡ now ++ entry_of (scenario_seen pass.old) now self.old.site input ∷ [])) }
@@ -263,10 +263,10 @@ impl<D: Disk + Drill + Drop> Node<D> {
         ensures why { (why : Why) → result ≡ Err (input_fault.Fell why) →
             IsReason why (log_of (scenario_seen pass.old) (history_seen pass.old) self.old.site)
             (made_by (scenario_seen pass.old) (history_seen pass.old) self.old.site input).records
-            (D.meters (disk_of self.old.state)) (D.meters (disk_of self.new.state)) }
-        ensures meters { Keeps (D.meters (disk_of self.old.state)) (D.meters (disk_of self.new.state)) }
+            (D.meaning.meters (disk_of self.old.state)) (D.meaning.meters (disk_of self.new.state)) }
+        ensures meters { Keeps (D.meaning.meters (disk_of self.old.state)) (D.meaning.meters (disk_of self.new.state)) }
         ensures takes { OnOk result (Takes (calls_for (made_by (scenario_seen pass.old) (history_seen pass.old) self.old.site input).records)
-            (D.meters (disk_of self.old.state)) (D.meters (disk_of self.new.state))) }
+            (D.meaning.meters (disk_of self.old.state)) (D.meaning.meters (disk_of self.new.state))) }
     {
         let state = &mut self.state;
         match take_by_turns(rt, alloc, wire, pass, self.site, state, input) {
@@ -295,7 +295,7 @@ impl<D: Disk + Drill + Drop> Node<D> {
         requires idle { IsIdle wire.now pass.old }
         requires owns { Owns pass.old self.old.site }
         requires played { IsPlayed (seen_by pass.old) }
-        requires standing { NodeStands D.content D.image D.meters (scenario_seen pass.old) (history_seen pass.old) self.old }
+        requires standing { NodeStands D.meaning (scenario_seen pass.old) (history_seen pass.old) self.old }
         requires restless { is_calm (present_items (scenario_seen pass.old) (history_seen pass.old)) ≡ false }
         requires few { (1 ≤ length inputs) × (length inputs ≤ 8) }
         requires due { is_up_at (history_seen pass.old) self.old.site ≡ true → MayTakeAll (scenario_seen pass.old) (history_seen pass.old) self.old.site inputs }
@@ -312,12 +312,12 @@ impl<D: Disk + Drill + Drop> Node<D> {
         ensures kept { is_up_at (history_seen pass.old) self.old.site ≡ false → note_of self.old.site (seen_by pass.new) ≡ note_of self.old.site (seen_by pass.old) }
 
         // how it ended, and what the disk has of it
-        ensures stands { NodeStands D.content D.image D.meters (scenario_seen pass.new) (history_seen pass.new) self.new }
+        ensures stands { NodeStands D.meaning (scenario_seen pass.new) (history_seen pass.new) self.new }
         ensures site { self.new.site ≡ self.old.site }
-        ensures ended { BatchEnded D.meters (scenario_seen pass.old) (history_seen pass.old) (history_seen pass.new) self.old.site inputs self.old.state self.new.state result }
+        ensures ended { BatchEnded D.meaning.meters (scenario_seen pass.old) (history_seen pass.old) (history_seen pass.new) self.old.site inputs self.old.state self.new.state result }
         ensures down { (result ≡ Err input_fault.Down) ↔ (is_up_at (history_seen pass.old) self.old.site ≡ false) }
         ensures never { result ≡ Err input_fault.HistoryFull → ⊥ }
-        ensures meters { Keeps (D.meters (disk_of self.old.state)) (D.meters (disk_of self.new.state)) }
+        ensures meters { Keeps (D.meaning.meters (disk_of self.old.state)) (D.meaning.meters (disk_of self.new.state)) }
     {
         take_all(rt, alloc, wire, pass, self.site, &mut self.state, inputs)
     }
@@ -325,19 +325,19 @@ impl<D: Disk + Drill + Drop> Node<D> {
     /// The power of a site that is up is cut: the site is down.
     pub fn cut(&mut self, shared: &mut Shared) -> Result<(), CutFault>
         requires shared { SharedStands shared.old }
-        requires standing { NodeStands D.content D.image D.meters (scenario_of shared.old) (entries_of shared.old) self.old }
+        requires standing { NodeStands D.meaning (scenario_of shared.old) (entries_of shared.old) self.old }
         requires crash { is_up_at (entries_of shared.old) self.old.site ≡ true → IsCut (scenario_of shared.old) (entries_of shared.old) self.old.site }
         ensures shared { SharedStands shared.new }
         ensures grew { HaveGrown shared.old shared.new }
         ensures same { (scenario_of shared.new ≡ scenario_of shared.old) × (most_of shared.new ≡ most_of shared.old) }
-        ensures stands { NodeStands D.content D.image D.meters (scenario_of shared.new) (entries_of shared.new) self.new }
+        ensures stands { NodeStands D.meaning (scenario_of shared.new) (entries_of shared.new) self.new }
         ensures site { self.new.site ≡ self.old.site }
         ensures entered { OnOk result (entries_of shared.new ≡ entries_of shared.old ++ record { owner = self.old.site; act = act.Cut } ∷ []) }
         ensures kept { OnErr result ((entries_of shared.new ≡ entries_of shared.old) × (disk_of self.new.state ≡ disk_of self.old.state)) }
         ensures down { (result ≡ Err cut_fault.Down) ↔ (is_up_at (entries_of shared.old) self.old.site ≡ false) }
         ensures full { is_up_at (entries_of shared.old) self.old.site ≡ true →
             (result ≡ Err cut_fault.HistoryFull) ↔ (most_of shared.old ≤ length (entries_of shared.old)) }
-        ensures meters { OnOk result (D.meters (disk_of self.new.state) ≡ cut (D.meters (disk_of self.old.state))) }
+        ensures meters { OnOk result (D.meaning.meters (disk_of self.new.state) ≡ cut (D.meaning.meters (disk_of self.old.state))) }
     {
         if !self.is_up() {
             return Err(CutFault::Down);
@@ -355,10 +355,10 @@ impl<D: Disk + Drill + Drop> Node<D> {
     /// Arms the disk, once, whether the site is up or down. It takes no memory and enters nothing.
     pub fn stop(&mut self, calls: u32, leave: Leave)
         requires { 1 ≤ calls }
-        ensures stands { (sc : Scenario) (h : Items Entries) → NodeStands D.content D.image D.meters sc h self.old →
-            NodeStands D.content D.image D.meters sc h self.new }
+        ensures stands { (sc : Scenario) (h : Items Entries) → NodeStands D.meaning sc h self.old →
+            NodeStands D.meaning sc h self.new }
         ensures site { self.new.site ≡ self.old.site }
-        ensures meters { D.meters (disk_of self.new.state) ≡ armed (D.meters (disk_of self.old.state)) calls (code_of leave) }
+        ensures meters { D.meaning.meters (disk_of self.new.state) ≡ armed (D.meaning.meters (disk_of self.old.state)) calls (code_of leave) }
     {
         arm(&mut self.state, calls, leave);
     }

@@ -7,7 +7,7 @@ ghost use Rattle.e3_node.specs.Bodies.{DiskTells, log_with};
 ghost use Rattle.e3_node.specs.NodeStands.{IsFallen};
 ghost use Rattle.e3_node.specs.NodeView.{disk_of, is_up_in};
 ghost use Rattle.e3_node.specs.declared.readying.Wish.{Wish as Wishes};
-ghost use Rattle.e3_node.specs.Rising.{IsAllowed, IsReady, MayRise, RiseMakes, RiseTakes, RiseIsEntered, raised_by, raised_of, told_of};
+ghost use Rattle.e3_node.specs.Rising.{IsAllowed, IsReady, MayRise, RiseIsEntered, RiseMakes, RiseOver, RiseTakes, raised_by, raised_of, told_of};
 ghost use Rattle.e3_site_log.specs.Ends.{IsDue, IsShortIf, MayTurn};
 ghost use Rattle.e3_node.specs.SharedStands.{IsClaimed};
 ghost use Rattle.e3_types.specs.Spelling.{spelling};
@@ -18,16 +18,11 @@ ghost use Rattle.e3_wire.specs.declared.marks.Mark.{Mark as MarkValue};
 
 use crate::briefing::shorten_read;
 use crate::entering::enter;
+use crate::law::logs_are_sound;
 use crate::readying::{Readied, Unready, Wish, ready};
 use crate::{RiseFault, State};
 use e3_disk::{Disk, Drill};
-use e3_law_brief::logged_sites_are_sets;
-use e3_law_serial::logs_are_orderly;
-use e3_law_steps::{
-    begun_are_transactions, legal_histories_mention_what_stands, records_suit_their_site,
-    trails_are_sound,
-};
-use e3_log::{Frame, Log, OpenCause, OpenRefused};
+use e3_log::{Frame, Log, OpenCause};
 use e3_site_log::{Short, write};
 use e3_types::{Act, Entry, List, Why};
 use e3_wire::Shared;
@@ -65,18 +60,16 @@ fn log_rise<D: Disk + Drop>(
 ) -> (State<D>, Raised)
     requires spelled { rise.body ≡ spelling rise.records }
     requires some { rise.records ≢ [] }
-    requires lit { (D.meters log.disk).powered ≡ true }
+    requires lit { (D.meaning.meters log.disk).powered ≡ true }
     requires may { MayTurn log short }
     ensures makes { (sc : Scenario) (h : Items Entries) (wish : Wishes) (logged : ℕ) (bodies : Items (Items ℕ)) → MayRise sc h wish → IsReady wish logged bodies rise →
-        Stands D.content D.image D.meters bodies log → DiskTells sc h wish.site (D.meters log.disk).capacity logged (D.image log.disk) →
-        IsShortIf wish.site (log_with sc h wish.site rise.kept) short → IsDue D.meters log (log_with sc h wish.site rise.kept) short (length rise.body) →
-        RiseMakes D.content D.image D.meters sc h wish.site log.disk result.0 result.1 }
-    ensures keeps { Keeps (D.meters log.disk) (D.meters (disk_of result.0)) }
-    ensures takes { RiseTakes 4 result.1 (D.meters log.disk) (D.meters (disk_of result.0)) }
+        Stands D.meaning bodies log → DiskTells sc h wish.site (D.meaning.meters log.disk).capacity logged (D.meaning.image log.disk) →
+        IsShortIf wish.site (log_with sc h wish.site rise.kept) short → IsDue D.meaning.meters log (log_with sc h wish.site rise.kept) short (length rise.body) →
+        RiseMakes D.meaning sc h wish.site log.disk result.0 result.1 }
+    ensures keeps { Keeps (D.meaning.meters log.disk) (D.meaning.meters (disk_of result.0)) }
+    ensures takes { RiseTakes 4 result.1 (D.meaning.meters log.disk) (D.meaning.meters (disk_of result.0)) }
 {
-    logs_are_orderly();
-    logged_sites_are_sets();
-    trails_are_sound();
+    logs_are_sound();
     let kept = rise.kept;
     let inc = rise.inc;
     let mut logged = rise.read;
@@ -109,20 +102,13 @@ fn shorten_and_log<D: Disk + Drop>(
     rise: Readied,
     wish: &Wish,
 ) -> (State<D>, Raised)
-    requires lit { (D.meters log.disk).powered ≡ true }
-    requires ready { (bodies : Items (Items ℕ)) × IsReady wish.now logged bodies rise × Stands D.content D.image D.meters bodies log }
-    ensures makes { (sc : Scenario) (h : Items Entries) → MayRise sc h wish.now →
-        DiskTells sc h wish.now.site (D.meters log.disk).capacity logged (D.image log.disk) →
-        RiseMakes D.content D.image D.meters sc h wish.now.site log.disk result.0 result.1 }
-    ensures keeps { Keeps (D.meters log.disk) (D.meters (disk_of result.0)) }
-    ensures takes { RiseTakes 4 result.1 (D.meters log.disk) (D.meters (disk_of result.0)) }
+    requires lit { (D.meaning.meters log.disk).powered ≡ true }
+    requires ready { (bodies : Items (Items ℕ)) × IsReady wish.now logged bodies rise × Stands D.meaning bodies log }
+    ensures makes { RiseOver D.meaning wish.now logged log.disk result.0 result.1 }
+    ensures keeps { Keeps (D.meaning.meters log.disk) (D.meaning.meters (disk_of result.0)) }
+    ensures takes { RiseTakes 4 result.1 (D.meaning.meters log.disk) (D.meaning.meters (disk_of result.0)) }
 {
-    legal_histories_mention_what_stands();
-    begun_are_transactions();
-    records_suit_their_site();
-    logs_are_orderly();
-    logged_sites_are_sets();
-    trails_are_sound();
+    logs_are_sound();
     match shorten_read(wish, &log, &rise) {
         Ok(short) => log_rise(log, rise, short),
         Err(fault) => (State::Down(log.into_disk(), logged), raised_by(fault)),
@@ -136,17 +122,13 @@ fn rise_over<D: Disk + Drop>(
     frames: &List<Frame>,
     wish: &Wish,
 ) -> (State<D>, Raised)
-    requires stands { Stands D.content D.image D.meters (bodies_of frames.now) log }
-    requires lit { (D.meters log.disk).powered ≡ true }
-    ensures makes { (sc : Scenario) (h : Items Entries) → MayRise sc h wish.now →
-        DiskTells sc h wish.now.site (D.meters log.disk).capacity logged (D.image log.disk) →
-        RiseMakes D.content D.image D.meters sc h wish.now.site log.disk result.0 result.1 }
-    ensures keeps { Keeps (D.meters log.disk) (D.meters (disk_of result.0)) }
-    ensures takes { RiseTakes 4 result.1 (D.meters log.disk) (D.meters (disk_of result.0)) }
+    requires stands { Stands D.meaning (bodies_of frames.now) log }
+    requires lit { (D.meaning.meters log.disk).powered ≡ true }
+    ensures makes { RiseOver D.meaning wish.now logged log.disk result.0 result.1 }
+    ensures keeps { Keeps (D.meaning.meters log.disk) (D.meaning.meters (disk_of result.0)) }
+    ensures takes { RiseTakes 4 result.1 (D.meaning.meters log.disk) (D.meaning.meters (disk_of result.0)) }
 {
-    logs_are_orderly();
-    logged_sites_are_sets();
-    trails_are_sound();
+    logs_are_sound();
     match ready(wish, logged, frames.as_slice()) {
         Ok(rise) => shorten_and_log(log, logged, rise, wish),
         Err(fault) => (State::Down(log.into_disk(), logged), raised_by(fault)),
@@ -155,12 +137,10 @@ fn rise_over<D: Disk + Drop>(
 
 // The log is read. Its sync is one call of an arm.
 fn open<D: Disk + Drop>(disk: D, logged: u64, wish: &Wish) -> (State<D>, Raised)
-    requires lit { (D.meters disk).powered ≡ true }
-    ensures makes { (sc : Scenario) (h : Items Entries) → MayRise sc h wish.now →
-        DiskTells sc h wish.now.site (D.meters disk).capacity logged (D.image disk) →
-        RiseMakes D.content D.image D.meters sc h wish.now.site disk result.0 result.1 }
-    ensures keeps { Keeps (D.meters disk) (D.meters (disk_of result.0)) }
-    ensures takes { RiseTakes 5 result.1 (D.meters disk) (D.meters (disk_of result.0)) }
+    requires lit { (D.meaning.meters disk).powered ≡ true }
+    ensures makes { RiseOver D.meaning wish.now logged disk result.0 result.1 }
+    ensures keeps { Keeps (D.meaning.meters disk) (D.meaning.meters (disk_of result.0)) }
+    ensures takes { RiseTakes 5 result.1 (D.meaning.meters disk) (D.meaning.meters (disk_of result.0)) }
 {
     match Log::open(wish.alloc, disk) {
         Ok((log, frames)) => rise_over(log, logged, &frames, wish),
@@ -170,11 +150,9 @@ fn open<D: Disk + Drop>(disk: D, logged: u64, wish: &Wish) -> (State<D>, Raised)
 
 // The disk has power from here on.
 fn raise<D: Disk + Drill + Drop>(mut disk: D, logged: u64, wish: &Wish) -> (State<D>, Raised)
-    ensures makes { (sc : Scenario) (h : Items Entries) → MayRise sc h wish.now →
-        DiskTells sc h wish.now.site (D.meters disk).capacity logged (D.image disk) →
-        RiseMakes D.content D.image D.meters sc h wish.now.site disk result.0 result.1 }
-    ensures keeps { Keeps (D.meters disk) (D.meters (disk_of result.0)) }
-    ensures takes { RiseTakes 5 result.1 (D.meters disk) (D.meters (disk_of result.0)) }
+    ensures makes { RiseOver D.meaning wish.now logged disk result.0 result.1 }
+    ensures keeps { Keeps (D.meaning.meters disk) (D.meaning.meters (disk_of result.0)) }
+    ensures takes { RiseTakes 5 result.1 (D.meaning.meters disk) (D.meaning.meters (disk_of result.0)) }
 {
     disk.power_on();
     open(disk, logged, wish)
@@ -183,10 +161,10 @@ fn raise<D: Disk + Drill + Drop>(mut disk: D, logged: u64, wish: &Wish) -> (Stat
 /// What a rise makes of a site that is down, over its disk.
 pub(crate) fn risen<D: Disk + Drill + Drop>(state: State<D>, wish: Wish) -> (State<D>, Raised)
     requires down { is_up_in state ≡ false }
-    ensures makes { (sc : Scenario) (h : Items Entries) → MayRise sc h wish → IsFallen D.image D.meters sc h wish.site state →
-        RiseMakes D.content D.image D.meters sc h wish.site (disk_of state) result.0 result.1 }
-    ensures keeps { Keeps (D.meters (disk_of state)) (D.meters (disk_of result.0)) }
-    ensures takes { RiseTakes 5 result.1 (D.meters (disk_of state)) (D.meters (disk_of result.0)) }
+    ensures makes { (sc : Scenario) (h : Items Entries) → MayRise sc h wish → IsFallen D.meaning sc h wish.site state →
+        RiseMakes D.meaning sc h wish.site (disk_of state) result.0 result.1 }
+    ensures keeps { Keeps (D.meaning.meters (disk_of state)) (D.meaning.meters (disk_of result.0)) }
+    ensures takes { RiseTakes 5 result.1 (D.meaning.meters (disk_of state)) (D.meaning.meters (disk_of result.0)) }
 {
     match state {
         State::Down(disk, logged) => raise(disk, logged, &wish),

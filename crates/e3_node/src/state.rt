@@ -44,9 +44,9 @@ fn logged_of<D: Disk + Drop>(state: &State<D>) -> u64
 /// A site without power: it is down.
 pub(crate) fn unpowered<D: Disk + Drill + Drop>(state: State<D>, _unit: ()) -> (State<D>, ())
     ensures down { is_up_in result.0 ≡ false }
-    ensures images { Within (D.image (disk_of state)) (D.image (disk_of result.0)) }
+    ensures images { Within (D.meaning.image (disk_of state)) (D.meaning.image (disk_of result.0)) }
     ensures logged { logged_in result.0 ≡ logged_in state }
-    ensures meters { D.meters (disk_of result.0) ≡ cut (D.meters (disk_of state)) }
+    ensures meters { D.meaning.meters (disk_of result.0) ≡ cut (D.meaning.meters (disk_of state)) }
 {
     let logged = logged_of(&state);
     let mut disk = into_disk(state);
@@ -57,9 +57,9 @@ pub(crate) fn unpowered<D: Disk + Drill + Drop>(state: State<D>, _unit: ()) -> (
 /// Arms the disk, once.
 pub(crate) fn arm<D: Disk + Drill + Drop>(state: &mut State<D>, calls: u32, leave: Leave)
     requires { 1 ≤ calls }
-    ensures stands { (sc : Scenario) (h : Items Entry) (site : ℕ) → IsIn D.content D.image D.meters sc h site state.old →
-        IsIn D.content D.image D.meters sc h site state.new }
-    ensures meters { D.meters (disk_of state.new) ≡ armed (D.meters (disk_of state.old)) calls (code_of leave) }
+    ensures stands { (sc : Scenario) (h : Items Entry) (site : ℕ) → IsIn D.meaning sc h site state.old →
+        IsIn D.meaning sc h site state.new }
+    ensures meters { D.meaning.meters (disk_of state.new) ≡ armed (D.meaning.meters (disk_of state.old)) calls (code_of leave) }
 {
     match state {
         State::Down(disk, _) => disk.arm(calls, leave),

@@ -1,5 +1,5 @@
 // An input of a site that is up.
-ghost use Rattle.std.specs.Prelude.{◌≡◌, ◌≢◌, ◌^◌, ◌<◌, ◌≤◌, ◌++◌, ◌∷◌, ◌↔◌, [], true, false, length, OnOk, Err};
+ghost use Rattle.std.specs.Prelude.{◌≡◌, ◌^◌, ◌<◌, ◌≤◌, ◌++◌, ◌∷◌, ◌↔◌, [], true, false, length, OnOk, Err};
 ghost use Rattle.e3_disk.specs.Meters.{Keeps};
 ghost use Rattle.e3_node.specs.Bodies.{DiskTells};
 ghost use Rattle.e3_node.specs.Ends.{FellOver, is_fall};
@@ -22,15 +22,10 @@ ghost use Rattle.e3_world.specs.Moves.{log_of};
 use crate::briefing::shorten;
 use crate::drafts::prepare;
 use crate::entering::{claim, enter, is_full};
+use crate::law::logs_are_sound;
 use crate::{InputFault, State};
 use core::mem::replace_with;
 use e3_disk::Disk;
-use e3_law_brief::logged_sites_are_sets;
-use e3_law_serial::logs_are_orderly;
-use e3_law_steps::{
-    begun_are_transactions, legal_histories_mention_what_stands, records_suit_their_site,
-    trails_are_sound,
-};
 use e3_log::Log;
 use e3_site::Site;
 use e3_site_log::write;
@@ -85,35 +80,30 @@ fn step<D: Disk>(
     requires shared { SharedStands shared.old }
     requires some { 1 ≤ number }
     requires exists { number ≤ last_owner shared.old }
-    requires up { IsUp D.content D.image D.meters (scenario_of shared.old) (entries_of shared.old) number site.old log.old rose.now logged.old }
+    requires up { IsUp D.meaning (scenario_of shared.old) (entries_of shared.old) number site.old log.old rose.now logged.old }
     requires due { IsDue (scenario_of shared.old) (entries_of shared.old) number input }
     requires first { IsFirst (scenario_of shared.old) (entries_of shared.old) input }
     ensures shared { SharedStands shared.new }
     ensures grew { HaveGrown shared.old shared.new }
     ensures same { (scenario_of shared.new ≡ scenario_of shared.old) × (most_of shared.new ≡ most_of shared.old) }
     ensures stepped { OnOk result (entries_of shared.new ≡ entries_of shared.old ++ entry_of (scenario_of shared.old) (entries_of shared.old) number input ∷ []) }
-    ensures up { OnOk result (IsUp D.content D.image D.meters (scenario_of shared.old) (entries_of shared.new) number site.new log.new rose.now logged.new) }
+    ensures up { OnOk result (IsUp D.meaning (scenario_of shared.old) (entries_of shared.new) number site.new log.new rose.now logged.new) }
     ensures never { result ≡ Err input_fault.Down → ⊥ }
     ensures kept { (fault : InputFaults) → result ≡ Err fault → is_fall fault ≡ false →
         (entries_of shared.new ≡ entries_of shared.old) × (log.new ≡ log.old)
-        × IsUp D.content D.image D.meters (scenario_of shared.old) (entries_of shared.old) number site.new log.new rose.now logged.new }
+        × IsUp D.meaning (scenario_of shared.old) (entries_of shared.old) number site.new log.new rose.now logged.new }
     ensures fell { (why : Whys) → result ≡ Err (input_fault.Fell why) →
         FellOver (scenario_of shared.old) (entries_of shared.old) number input why (entries_of shared.new)
-        × DiskTells (scenario_of shared.old) (entries_of shared.new) number (D.meters log.new.disk).capacity logged.new (D.image log.new.disk) }
+        × DiskTells (scenario_of shared.old) (entries_of shared.new) number (D.meaning.meters log.new.disk).capacity logged.new (D.meaning.image log.new.disk) }
     ensures why { (why : Whys) → result ≡ Err (input_fault.Fell why) →
         IsReason why (log_of (scenario_of shared.old) (entries_of shared.old) number)
-        (made_by (scenario_of shared.old) (entries_of shared.old) number input).records (D.meters log.old.disk) (D.meters log.new.disk) }
+        (made_by (scenario_of shared.old) (entries_of shared.old) number input).records (D.meaning.meters log.old.disk) (D.meaning.meters log.new.disk) }
     ensures full { (result ≡ Err input_fault.HistoryFull) ↔ (most_of shared.old ≤ length (entries_of shared.old)) }
-    ensures keeps { Keeps (D.meters log.old.disk) (D.meters log.new.disk) }
+    ensures keeps { Keeps (D.meaning.meters log.old.disk) (D.meaning.meters log.new.disk) }
     ensures takes { OnOk result (Takes (calls_for (made_by (scenario_of shared.old) (entries_of shared.old) number input).records)
-        (D.meters log.old.disk) (D.meters log.new.disk)) }
+        (D.meaning.meters log.old.disk) (D.meaning.meters log.new.disk)) }
 {
-    legal_histories_mention_what_stands();
-    begun_are_transactions();
-    records_suit_their_site();
-    logs_are_orderly();
-    logged_sites_are_sets();
-    trails_are_sound();
+    logs_are_sound();
     if is_full(shared) {
         return Err(InputFault::HistoryFull);
     }
@@ -147,29 +137,29 @@ pub(crate) fn take_input<D: Disk + Drop>(
     requires shared { SharedStands shared.old }
     requires some { 1 ≤ number }
     requires exists { number ≤ last_owner shared.old }
-    requires stands { IsIn D.content D.image D.meters (scenario_of shared.old) (entries_of shared.old) number state.old }
+    requires stands { IsIn D.meaning (scenario_of shared.old) (entries_of shared.old) number state.old }
     requires due { is_up_at (entries_of shared.old) number ≡ true → IsDue (scenario_of shared.old) (entries_of shared.old) number input }
     requires first { is_up_at (entries_of shared.old) number ≡ true → IsFirst (scenario_of shared.old) (entries_of shared.old) input }
     ensures shared { SharedStands shared.new }
     ensures grew { HaveGrown shared.old shared.new }
     ensures same { (scenario_of shared.new ≡ scenario_of shared.old) × (most_of shared.new ≡ most_of shared.old) }
     ensures stepped { OnOk result (entries_of shared.new ≡ entries_of shared.old ++ entry_of (scenario_of shared.old) (entries_of shared.old) number input ∷ []) }
-    ensures up { OnOk result (IsIn D.content D.image D.meters (scenario_of shared.old) (entries_of shared.new) number state.new) }
+    ensures up { OnOk result (IsIn D.meaning (scenario_of shared.old) (entries_of shared.new) number state.new) }
     ensures down { (result ≡ Err input_fault.Down) ↔ (is_up_at (entries_of shared.old) number ≡ false) }
     ensures kept { (fault : InputFaults) → result ≡ Err fault → is_fall fault ≡ false →
         (entries_of shared.new ≡ entries_of shared.old) × (disk_of state.new ≡ disk_of state.old)
-        × IsIn D.content D.image D.meters (scenario_of shared.old) (entries_of shared.old) number state.new }
+        × IsIn D.meaning (scenario_of shared.old) (entries_of shared.old) number state.new }
     ensures fell { (why : Whys) → result ≡ Err (input_fault.Fell why) →
         FellOver (scenario_of shared.old) (entries_of shared.old) number input why (entries_of shared.new)
-        × IsFallen D.image D.meters (scenario_of shared.old) (entries_of shared.new) number state.new }
+        × IsFallen D.meaning (scenario_of shared.old) (entries_of shared.new) number state.new }
     ensures why { (why : Whys) → result ≡ Err (input_fault.Fell why) →
         IsReason why (log_of (scenario_of shared.old) (entries_of shared.old) number)
-        (made_by (scenario_of shared.old) (entries_of shared.old) number input).records (D.meters (disk_of state.old)) (D.meters (disk_of state.new)) }
+        (made_by (scenario_of shared.old) (entries_of shared.old) number input).records (D.meaning.meters (disk_of state.old)) (D.meaning.meters (disk_of state.new)) }
     ensures full { is_up_at (entries_of shared.old) number ≡ true →
         (result ≡ Err input_fault.HistoryFull) ↔ (most_of shared.old ≤ length (entries_of shared.old)) }
-    ensures keeps { Keeps (D.meters (disk_of state.old)) (D.meters (disk_of state.new)) }
+    ensures keeps { Keeps (D.meaning.meters (disk_of state.old)) (D.meaning.meters (disk_of state.new)) }
     ensures takes { OnOk result (Takes (calls_for (made_by (scenario_of shared.old) (entries_of shared.old) number input).records)
-        (D.meters (disk_of state.old)) (D.meters (disk_of state.new))) }
+        (D.meaning.meters (disk_of state.old)) (D.meaning.meters (disk_of state.new))) }
 {
     match state {
         State::Down(_, _) => Err(InputFault::Down),

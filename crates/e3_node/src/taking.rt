@@ -5,33 +5,27 @@ ghost use Rattle.e3_law_local.specs.Drafts.{MayTakeAll};
 ghost use Rattle.e3_law_local.specs.Least.{AreFirstTo};
 ghost use Rattle.e3_node.specs.Batched.{OnlyForMemory};
 ghost use Rattle.e3_node.specs.Batches.{BatchEnded};
-ghost use Rattle.e3_node.specs.Ending.{EndsIn, EndsWith, answer_by};
+ghost use Rattle.e3_node.specs.Ending.{EndsWith, answer_by};
 ghost use Rattle.e3_node.specs.NodeStands.{IsIn, IsUp, logged_in};
 ghost use Rattle.e3_node.specs.NodeView.{disk_of};
-ghost use Rattle.e3_node.specs.Turns.{HasTurned, history_seen, scenario_seen};
+ghost use Rattle.e3_node.specs.Turns.{HasTurned, MayTakeTurns, history_seen, scenario_seen};
 ghost use Rattle.e3_node.specs.declared.fault.InputFault.TheVariants as input_fault;
 ghost use Rattle.e3_node.specs.declared.state.State.TheVariants as state;
-ghost use Rattle.e3_turn.specs.Passes.{IsIdle, Owns, seen_by};
+ghost use Rattle.e3_turn.specs.Passes.{seen_by};
 ghost use Rattle.e3_types.specs.declared.entries.Why.{Why as Whys};
-ghost use Rattle.e3_wire.specs.Marks.{last_owner, note_of, nothing};
-ghost use Rattle.e3_wire.specs.Wires.{IsPlayed};
+ghost use Rattle.e3_wire.specs.Marks.{note_of, nothing};
 ghost use Rattle.e3_world.specs.Items.{is_up_at};
-ghost use Rattle.e3_world.specs.Packets.{is_calm, present_items};
 
 use crate::batching::{Batch, enter_steps, plan_all};
+use crate::law::logs_are_sound;
 use crate::stepping::{fall_of, laid_down};
-use crate::turning::write;
+use crate::turning::must_rest;
 use crate::{InputFault, State};
 use core::mem::replace_with;
 use e3_disk::Disk;
-use e3_law_brief::logged_sites_are_sets;
-use e3_law_serial::logs_are_orderly;
-use e3_law_steps::{
-    begun_are_transactions, legal_histories_mention_what_stands, records_suit_their_site,
-    trails_are_sound,
-};
 use e3_log::Log;
 use e3_site::Site;
+use e3_site_log::write;
 use e3_types::{Entry, Input, List, Record, Why};
 use e3_wire::{Wire, WirePass};
 use std::alloc::Global;
@@ -80,30 +74,20 @@ fn step_all<R: Wait, D: Disk>(
     logged: &mut u64,
     inputs: List<Input>,
 ) -> BatchEnd
-    requires idle { IsIdle wire.now pass.old }
-    requires owns { Owns pass.old number }
-    requires played { IsPlayed (seen_by pass.old) }
-    requires some { 1 ≤ number }
-    requires exists { number ≤ last_owner (seen_by pass.old) }
-    requires up { IsUp D.content D.image D.meters (scenario_seen pass.old) (history_seen pass.old) number site.old log.old rose.now logged.old }
-    requires restless { is_calm (present_items (scenario_seen pass.old) (history_seen pass.old)) ≡ false }
+    requires turns { MayTakeTurns wire.now number pass.old }
+    requires up { IsUp D.meaning (scenario_seen pass.old) (history_seen pass.old) number site.old log.old rose.now logged.old }
     requires any { 1 ≤ length inputs }
     requires due { MayTakeAll (scenario_seen pass.old) (history_seen pass.old) number inputs }
     requires takes { AreFirstTo (scenario_seen pass.old) (history_seen pass.old) number inputs }
     requires places { length inputs ≤ (note_of number (seen_by pass.old)).places }
     ensures turned { HasTurned wire.now pass.old pass.new }
-    ensures ended { EndsWith D.content D.image D.meters (scenario_seen pass.old) (history_seen pass.old) (history_seen pass.new) number inputs
+    ensures ended { EndsWith D.meaning (scenario_seen pass.old) (history_seen pass.old) (history_seen pass.new) number inputs
         (state.Up site.old log.old rose.now logged.old) (state.Up site.new log.new rose.now logged.new) result.refused result.fell }
     ensures refused { OnlyForMemory result.refused }
     ensures never { result.refused ≡ Err input_fault.Down → ⊥ }
     ensures none { note_of number (seen_by pass.new) ≡ nothing }
 {
-    legal_histories_mention_what_stands();
-    begun_are_transactions();
-    records_suit_their_site();
-    logs_are_orderly();
-    logged_sites_are_sets();
-    trails_are_sound();
+    logs_are_sound();
     let mut batch = Batch {
         steps: Vec::new(alloc),
         records: List::new(alloc),
@@ -121,9 +105,8 @@ fn step_all<R: Wait, D: Disk>(
         &mut batch,
         inputs.as_slice(),
     );
+    must_rest(wire, pass);
     match write(
-        wire,
-        pass,
         log,
         logged,
         &batch.short,
@@ -149,45 +132,6 @@ fn step_all<R: Wait, D: Disk>(
     }
 }
 
-// The packets go to the site where it is up.
-fn step_or_not<R: Wait, D: Disk + Drop>(
-    rt: &R,
-    alloc: Global,
-    wire: &Wire,
-    pass: &mut WirePass,
-    number: u32,
-    state: &mut State<D>,
-    inputs: List<Input>,
-) -> BatchEnd
-    requires idle { IsIdle wire.now pass.old }
-    requires owns { Owns pass.old number }
-    requires played { IsPlayed (seen_by pass.old) }
-    requires some { 1 ≤ number }
-    requires exists { number ≤ last_owner (seen_by pass.old) }
-    requires stands { IsIn D.content D.image D.meters (scenario_seen pass.old) (history_seen pass.old) number state.old }
-    requires restless { is_calm (present_items (scenario_seen pass.old) (history_seen pass.old)) ≡ false }
-    requires any { 1 ≤ length inputs }
-    requires due { is_up_at (history_seen pass.old) number ≡ true → MayTakeAll (scenario_seen pass.old) (history_seen pass.old) number inputs }
-    requires takes { is_up_at (history_seen pass.old) number ≡ true → AreFirstTo (scenario_seen pass.old) (history_seen pass.old) number inputs }
-    requires places { is_up_at (history_seen pass.old) number ≡ true → length inputs ≤ (note_of number (seen_by pass.old)).places }
-    ensures turned { HasTurned wire.now pass.old pass.new }
-    ensures ended { EndsIn D.content D.image D.meters (scenario_seen pass.old) (history_seen pass.old) (history_seen pass.new) number inputs
-        state.old state.new result.refused result.fell }
-    ensures down { (result.refused ≡ Err input_fault.Down) ↔ (is_up_at (history_seen pass.old) number ≡ false) }
-    ensures none { is_up_at (history_seen pass.old) number ≡ true → note_of number (seen_by pass.new) ≡ nothing }
-    ensures kept { is_up_at (history_seen pass.old) number ≡ false → note_of number (seen_by pass.new) ≡ note_of number (seen_by pass.old) }
-{
-    match state {
-        State::Down(_, _) => BatchEnd {
-            refused: Err(InputFault::Down),
-            fell: None,
-        },
-        State::Up(site, log, rose, logged) => step_all(
-            rt, alloc, wire, pass, number, site, log, rose, logged, inputs,
-        ),
-    }
-}
-
 // A site that fell is down, over the disk of its log.
 fn settle_batch<D: Disk + Drop>(state: &mut State<D>, fell: Option<Why>)
     ensures fell { (why : Whys) → fell ≡ Some why → state.new ≡ State.Down (disk_of state.old) (logged_in state.old) }
@@ -209,27 +153,29 @@ pub(crate) fn take_all<R: Wait, D: Disk + Drop>(
     state: &mut State<D>,
     inputs: List<Input>,
 ) -> Result<(), InputFault>
-    requires idle { IsIdle wire.now pass.old }
-    requires owns { Owns pass.old number }
-    requires played { IsPlayed (seen_by pass.old) }
-    requires some { 1 ≤ number }
-    requires exists { number ≤ last_owner (seen_by pass.old) }
-    requires stands { IsIn D.content D.image D.meters (scenario_seen pass.old) (history_seen pass.old) number state.old }
-    requires restless { is_calm (present_items (scenario_seen pass.old) (history_seen pass.old)) ≡ false }
+    requires turns { MayTakeTurns wire.now number pass.old }
+    requires stands { IsIn D.meaning (scenario_seen pass.old) (history_seen pass.old) number state.old }
     requires any { 1 ≤ length inputs }
     requires due { is_up_at (history_seen pass.old) number ≡ true → MayTakeAll (scenario_seen pass.old) (history_seen pass.old) number inputs }
     requires takes { is_up_at (history_seen pass.old) number ≡ true → AreFirstTo (scenario_seen pass.old) (history_seen pass.old) number inputs }
     requires places { is_up_at (history_seen pass.old) number ≡ true → length inputs ≤ (note_of number (seen_by pass.old)).places }
     ensures turned { HasTurned wire.now pass.old pass.new }
-    ensures stands { IsIn D.content D.image D.meters (scenario_seen pass.old) (history_seen pass.new) number state.new }
-    ensures ended { BatchEnded D.meters (scenario_seen pass.old) (history_seen pass.old) (history_seen pass.new) number inputs state.old state.new result }
+    ensures stands { IsIn D.meaning (scenario_seen pass.old) (history_seen pass.new) number state.new }
+    ensures ended { BatchEnded D.meaning.meters (scenario_seen pass.old) (history_seen pass.old) (history_seen pass.new) number inputs state.old state.new result }
     ensures down { (result ≡ Err input_fault.Down) ↔ (is_up_at (history_seen pass.old) number ≡ false) }
     ensures never { result ≡ Err input_fault.HistoryFull → ⊥ }
     ensures none { is_up_at (history_seen pass.old) number ≡ true → note_of number (seen_by pass.new) ≡ nothing }
     ensures kept { is_up_at (history_seen pass.old) number ≡ false → note_of number (seen_by pass.new) ≡ note_of number (seen_by pass.old) }
-    ensures keeps { Keeps (D.meters (disk_of state.old)) (D.meters (disk_of state.new)) }
+    ensures keeps { Keeps (D.meaning.meters (disk_of state.old)) (D.meaning.meters (disk_of state.new)) }
 {
-    let end = step_or_not(rt, alloc, wire, pass, number, state, inputs);
-    settle_batch(state, end.fell);
-    answer_of(end)
+    match state {
+        State::Down(_, _) => Err(InputFault::Down),
+        State::Up(site, log, rose, logged) => {
+            let end = step_all(
+                rt, alloc, wire, pass, number, site, log, rose, logged, inputs,
+            );
+            settle_batch(state, end.fell);
+            answer_of(end)
+        }
+    }
 }

@@ -1,71 +1,42 @@
 // An input of a site that is up, by its worker.
-ghost use Rattle.std.specs.Prelude.{◌≡◌, ◌≢◌, ◌++◌, ◌≤◌, ◌↔◌, [], true, false, OnOk, IfErr, Err};
+ghost use Rattle.std.specs.Prelude.{◌≡◌, ◌≤◌, ◌↔◌, true, false, OnOk, Err};
 ghost use Rattle.e3_disk.specs.Meters.{Keeps};
 ghost use Rattle.e3_law_local.specs.Drafts.{MayTake};
 ghost use Rattle.e3_node.specs.NodeStands.{IsIn, IsUp};
 ghost use Rattle.e3_node.specs.NodeView.{disk_of};
 ghost use Rattle.e3_node.specs.Places.{HasGivenNoneBack};
-ghost use Rattle.e3_node.specs.Turns.{EndsSo, HasKeptPromises, history_seen, scenario_seen};
+ghost use Rattle.e3_node.specs.Turns.{EndsSo, HasKeptPromises, MayTakeTurns, history_seen, scenario_seen};
 ghost use Rattle.e3_node.specs.declared.fault.InputFault.TheVariants as input_fault;
 ghost use Rattle.e3_node.specs.declared.state.State.TheVariants as state;
-ghost use Rattle.e3_site_log.specs.Ends.{EndsAt, IsReason, MayTurn, Takes, calls_for};
-ghost use Rattle.e3_site_log.specs.Writing.{Leaves, Reasons, Writes};
-ghost use Rattle.e3_turn.specs.Passes.{IsIdle, Owns, seen_by};
-ghost use Rattle.e3_types.specs.Spelling.{spelling};
+ghost use Rattle.e3_site_log.specs.Ends.{IsReason, Takes, calls_for};
+ghost use Rattle.e3_turn.specs.Passes.{IsIdle, seen_by};
 ghost use Rattle.e3_types.specs.declared.entries.Why.{Why as Whys};
-ghost use Rattle.e3_wire.specs.Marks.{last_owner, most_of, used_of};
-ghost use Rattle.e3_wire.specs.Wires.{IsPlayed, TakesLeast};
+ghost use Rattle.e3_wire.specs.Marks.{most_of, used_of};
+ghost use Rattle.e3_wire.specs.Wires.{TakesLeast};
 ghost use Rattle.e3_world.specs.Items.{is_up_at};
 ghost use Rattle.e3_world.specs.Legal.{made_by};
 ghost use Rattle.e3_world.specs.Moves.{log_of};
-ghost use Rattle.e3_world.specs.Packets.{is_calm, present_items};
 
 use crate::briefing::shorten;
 use crate::drafts::prepare_by_turns;
+use crate::law::logs_are_sound;
 use crate::stepping::{fall_of, room_for, step_of};
 use crate::{InputFault, State};
 use e3_disk::Disk;
-use e3_law_brief::logged_sites_are_sets;
-use e3_law_serial::logs_are_orderly;
-use e3_law_steps::{
-    begun_are_transactions, legal_histories_mention_what_stands, records_suit_their_site,
-    trails_are_sound,
-};
 use e3_log::Log;
 use e3_site::Site;
-use e3_site_log::Short;
-use e3_types::{Input, List, Record, Why};
+use e3_site_log::write;
+use e3_types::{Input, List, Record};
 use e3_wire::{Wire, WirePass};
 use std::alloc::Global;
 use std::sync::Wait;
 
-// The frame of a step, by a worker: it is written outside of the turn, so that the others go on meanwhile.
-pub(crate) fn write<D: Disk>(
-    wire: &Wire,
-    pass: &WirePass,
-    log: &mut Log<D>,
-    logged: &mut u64,
-    short: &Option<Short>,
-    records: &[Record],
-    body: &[u8],
-) -> Result<(), Why>
-    requires idle { IsIdle wire.now pass.now }
-    requires spelled { body.now ≡ spelling records.now }
-    requires lit { (D.meters log.old.disk).powered ≡ true }
-    requires may { MayTurn log.old short.now }
-    ensures logged { Writes D.content D.image D.meters log.old log.new logged.old logged.new short.now records.now result }
-    ensures left { Leaves D.content D.image D.meters log.old log.new logged.old logged.new short.now records.now result }
-    ensures reason { Reasons D.content D.image D.meters log.old log.new logged.old logged.new short.now records.now result }
-    ensures end { OnOk result (records.now ≢ [] → EndsAt D.meters log.old short.now records.now log.new.end) }
-    ensures some { IfErr result (λ _. records.now ≢ []) }
-    ensures same { records.now ≡ [] → (log.new ≡ log.old) × (logged.new ≡ logged.old) }
-    ensures keeps { Keeps (D.meters log.old.disk) (D.meters log.new.disk) }
-    ensures lit { OnOk result ((D.meters log.new.disk).powered ≡ true) }
-    ensures takes { OnOk result (Takes (calls_for records.now) (D.meters log.old.disk) (D.meters log.new.disk)) }
+/// Asks that the pass rests: what comes next is done outside of a turn, so that others go on meanwhile.
+pub(crate) fn must_rest(wire: &Wire, pass: &WirePass)
+    requires { IsIdle wire.now pass.now }
 {
     let _ = wire;
     let _ = pass;
-    e3_site_log::write(log, logged, short, records, body)
 }
 
 // A site that is up takes an input: its step is planned, a place is claimed for it, its frame is written outside of the
@@ -82,40 +53,31 @@ fn step_by_turns<R: Wait, D: Disk>(
     logged: &mut u64,
     input: Input,
 ) -> Result<(), InputFault>
-    requires idle { IsIdle wire.now pass.old }
-    requires owns { Owns pass.old number }
-    requires played { IsPlayed (seen_by pass.old) }
-    requires some { 1 ≤ number }
-    requires exists { number ≤ last_owner (seen_by pass.old) }
-    requires up { IsUp D.content D.image D.meters (scenario_seen pass.old) (history_seen pass.old) number site.old log.old rose.now logged.old }
-    requires restless { is_calm (present_items (scenario_seen pass.old) (history_seen pass.old)) ≡ false }
+    requires turns { MayTakeTurns wire.now number pass.old }
+    requires up { IsUp D.meaning (scenario_seen pass.old) (history_seen pass.old) number site.old log.old rose.now logged.old }
     requires due { MayTake (scenario_seen pass.old) (history_seen pass.old) number input }
     requires takes { TakesLeast (scenario_seen pass.old) (history_seen pass.old) number input }
     ensures turned { HasKeptPromises wire.now number pass.old pass.new }
     ensures none_back { HasGivenNoneBack number (seen_by pass.old) (seen_by pass.new) }
-    ensures ended { EndsSo D.content D.image D.meters (scenario_seen pass.old) (history_seen pass.old) (history_seen pass.new) number input
+    ensures ended { EndsSo D.meaning (scenario_seen pass.old) (history_seen pass.old) (history_seen pass.new) number input
         (state.Up site.old log.old rose.now logged.old) (state.Up site.new log.new rose.now logged.new) result }
     ensures never { result ≡ Err input_fault.Down → ⊥ }
     ensures why { (why : Whys) → result ≡ Err (input_fault.Fell why) →
         IsReason why (log_of (scenario_seen pass.old) (history_seen pass.old) number)
-        (made_by (scenario_seen pass.old) (history_seen pass.old) number input).records (D.meters log.old.disk) (D.meters log.new.disk) }
+        (made_by (scenario_seen pass.old) (history_seen pass.old) number input).records (D.meaning.meters log.old.disk) (D.meaning.meters log.new.disk) }
     ensures full { result ≡ Err input_fault.HistoryFull → most_of (seen_by pass.new) ≤ used_of (seen_by pass.new) }
-    ensures keeps { Keeps (D.meters log.old.disk) (D.meters log.new.disk) }
+    ensures keeps { Keeps (D.meaning.meters log.old.disk) (D.meaning.meters log.new.disk) }
     ensures takes { OnOk result (Takes (calls_for (made_by (scenario_seen pass.old) (history_seen pass.old) number input).records)
-        (D.meters log.old.disk) (D.meters log.new.disk)) }
+        (D.meaning.meters log.old.disk) (D.meaning.meters log.new.disk)) }
 {
-    legal_histories_mention_what_stands();
-    begun_are_transactions();
-    records_suit_their_site();
-    logs_are_orderly();
-    logged_sites_are_sets();
-    trails_are_sound();
+    logs_are_sound();
     let draft = prepare_by_turns(alloc, site, rose, &input, pass)?;
     let (records, body) = (draft.plan.records(), draft.body.as_slice());
     let short = shorten(alloc, site, log, records, draft.body.len())?;
     let room = room_for(draft.plan.outs());
     wire.claim(rt, pass, number, room)?;
-    match write(wire, pass, log, logged, &short, records, body) {
+    must_rest(wire, pass);
+    match write(log, logged, &short, records, body) {
         Ok(()) => {
             let step = step_of(number, input, site.apply(draft.plan));
             wire.commit_entry(rt, pass, step);
@@ -140,27 +102,22 @@ pub(crate) fn take_by_turns<R: Wait, D: Disk + Drop>(
     state: &mut State<D>,
     input: Input,
 ) -> Result<(), InputFault>
-    requires idle { IsIdle wire.now pass.old }
-    requires owns { Owns pass.old number }
-    requires played { IsPlayed (seen_by pass.old) }
-    requires some { 1 ≤ number }
-    requires exists { number ≤ last_owner (seen_by pass.old) }
-    requires stands { IsIn D.content D.image D.meters (scenario_seen pass.old) (history_seen pass.old) number state.old }
-    requires restless { is_calm (present_items (scenario_seen pass.old) (history_seen pass.old)) ≡ false }
+    requires turns { MayTakeTurns wire.now number pass.old }
+    requires stands { IsIn D.meaning (scenario_seen pass.old) (history_seen pass.old) number state.old }
     requires due { is_up_at (history_seen pass.old) number ≡ true → MayTake (scenario_seen pass.old) (history_seen pass.old) number input }
     requires takes { is_up_at (history_seen pass.old) number ≡ true → TakesLeast (scenario_seen pass.old) (history_seen pass.old) number input }
     ensures turned { HasKeptPromises wire.now number pass.old pass.new }
     ensures none_back { HasGivenNoneBack number (seen_by pass.old) (seen_by pass.new) }
-    ensures ended { EndsSo D.content D.image D.meters (scenario_seen pass.old) (history_seen pass.old) (history_seen pass.new) number input
+    ensures ended { EndsSo D.meaning (scenario_seen pass.old) (history_seen pass.old) (history_seen pass.new) number input
         state.old state.new result }
     ensures down { (result ≡ Err input_fault.Down) ↔ (is_up_at (history_seen pass.old) number ≡ false) }
     ensures why { (why : Whys) → result ≡ Err (input_fault.Fell why) →
         IsReason why (log_of (scenario_seen pass.old) (history_seen pass.old) number)
-        (made_by (scenario_seen pass.old) (history_seen pass.old) number input).records (D.meters (disk_of state.old)) (D.meters (disk_of state.new)) }
+        (made_by (scenario_seen pass.old) (history_seen pass.old) number input).records (D.meaning.meters (disk_of state.old)) (D.meaning.meters (disk_of state.new)) }
     ensures full { result ≡ Err input_fault.HistoryFull → most_of (seen_by pass.new) ≤ used_of (seen_by pass.new) }
-    ensures keeps { Keeps (D.meters (disk_of state.old)) (D.meters (disk_of state.new)) }
+    ensures keeps { Keeps (D.meaning.meters (disk_of state.old)) (D.meaning.meters (disk_of state.new)) }
     ensures takes { OnOk result (Takes (calls_for (made_by (scenario_seen pass.old) (history_seen pass.old) number input).records)
-        (D.meters (disk_of state.old)) (D.meters (disk_of state.new))) }
+        (D.meaning.meters (disk_of state.old)) (D.meaning.meters (disk_of state.new))) }
 {
     match state {
         State::Down(_, _) => Err(InputFault::Down),

@@ -24,7 +24,7 @@ use Rattle.e3_law_rounds.specs.Rounds.{elects}
 use Rattle.e3_law_rounds.proofs.Beginning.{kept_site}
 use Rattle.e3_play.specs.Reports.{is_fall_of, one_falls}
 use Rattle.e3_play.specs.Rounds.{AfterRound}
-use Rattle.e3_items.specs.RoundOf.{round_of}
+use Rattle.e3_readings.specs.RoundOf.{round_of}
 
 -- the members of a round were up at these entries, and its elector is one of them
 pub record WasUp (start : List Entry) (r : RecoveryRound) : Type 0 where

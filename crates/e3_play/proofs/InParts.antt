@@ -6,7 +6,7 @@ use Rattle.e3_types.specs.declared.scenarios.Scenario.{Scenario}
 use Rattle.e3_types.specs.declared.transactions.Txn.{Txn}
 use Rattle.e3_types.specs.Sets.{has_site}
 use Rattle.e3_world.specs.Items.{RecoveryRound, add_txn, is_up_at, listed, open_at}
-use Rattle.e3_items.specs.RoundOf.{round_of}
+use Rattle.e3_readings.specs.RoundOf.{round_of}
 use Rattle.e3_play.proofs.Order.{add_parts}
 
 abbrev rounds_by : List Txn → List ℕ → List RecoveryRound

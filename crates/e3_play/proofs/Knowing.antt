@@ -3,9 +3,9 @@ use Rattle.std.proofs.Common.{◌≡◌, ◌++◌, ◌∷◌, [], ◌+◌, ◌-�
 use Rattle.std.specs.Prelude.{filter_map}
 use Rattle.std.proofs.lemmas.Grind.{fold-append}
 use Rattle.std.proofs.lemmas.List.{take-append-drop, take-append-le}
-use Rattle.e3_items.specs.Bindings.{bound_behind, nothing_bound}
-use Rattle.e3_items.specs.Inputs.{input_with}
-use Rattle.e3_items.proofs.ByName.{inputs_are}
+use Rattle.e3_readings.specs.Bindings.{bound_behind, nothing_bound}
+use Rattle.e3_readings.specs.Inputs.{input_with}
+use Rattle.e3_readings.proofs.ByName.{inputs_are}
 use Rattle.e3_types.specs.declared.entries.Entry.{Entry}
 use Rattle.e3_types.specs.declared.scenarios.Item.{Item}
 use Rattle.e3_types.specs.declared.scenarios.Scenario.{Scenario}

@@ -13,7 +13,7 @@ use Rattle.e3_world.specs.Packets.{is_line, present_items}
 use Rattle.e3_world.proofs.Lines.{left_push, made_push, made_txns}
 use Rattle.e3_world.proofs.Readings.{to_push}
 use Rattle.e3_world.proofs.Turns.{true_not_false}
-use Rattle.e3_items.specs.RoundOf.{round_of}
+use Rattle.e3_readings.specs.RoundOf.{round_of}
 use Rattle.e3_play.proofs.Order.{Ascending, Behind, ascending_all, same_is, same_self}
 
 -- none of these rounds is of the transaction of the first

@@ -6,7 +6,7 @@ use Rattle.e3_play.proofs.Packets.{StaysDelivering, stays_delivering}
 use Rattle.e3_types.specs.declared.entries.Entry.{Entry}
 use Rattle.e3_types.specs.declared.scenarios.Item.TheVariants as item
 use Rattle.e3_types.specs.declared.scenarios.Scenario.{Scenario}
-use Rattle.e3_world.specs.Items.{RecoveryRound, Split, elected_txn, input_of, inputs_at, inputs_of, inputs_to, listed, plan_of, rounds_left, since_line, split_by, to_line}
+use Rattle.e3_world.specs.Items.{RecoveryRound, AroundLine, elected_txn, input_of, inputs_at, inputs_of, inputs_to, listed, plan_of, rounds_left, since_line, around_by, to_line}
 use Rattle.e3_world.specs.Legal.{IsLegal}
 use Rattle.e3_world.specs.Packets.{is_line, lines, pending, present_items, step_items}
 use Rattle.e3_world.specs.Progress.{Delivering, Through}
@@ -27,11 +27,11 @@ pub record InRounds (sc : Scenario) (start : List Entry) (group : List ℕ) (res
   pub at : AtRounds sc h group rest
 
 -- a history in two is the history
-in_two : (w : Split) (h : List Entry) → (fold split_by w h).to ++ (fold split_by w h).since ≡ w.to ++ w.since ++ h
+in_two : (w : AroundLine) (h : List Entry) → (fold around_by w h).to ++ (fold around_by w h).since ≡ w.to ++ w.since ++ h
 in_two w [] = sym (append-nil (w.to ++ w.since))
-in_two w (e ∷ h) = in_two (split_by w e) h ∙ ap (λ l. l ++ h) (one (is_line e) refl) ∙ append_assoc (w.to ++ w.since) (e ∷ []) h
+in_two w (e ∷ h) = in_two (around_by w e) h ∙ ap (λ l. l ++ h) (one (is_line e) refl) ∙ append_assoc (w.to ++ w.since) (e ∷ []) h
   where
-    one : (b : Bool) → is_line e ≡ b → (split_by w e).to ++ (split_by w e).since ≡ (w.to ++ w.since) ++ e ∷ []
+    one : (b : Bool) → is_line e ≡ b → (around_by w e).to ++ (around_by w e).since ≡ (w.to ++ w.since) ++ e ∷ []
     one true is = rw is (append-nil (w.to ++ w.since ++ e ∷ []))
     one false is = rw is (sym (append_assoc w.to w.since (e ∷ [])))
 

@@ -1,6 +1,6 @@
 -- What the driver knows of names.
 use Rattle.std.specs.Prelude.{◌≡◌, ◌≤◌, List, length, take}
-use Rattle.e3_items.specs.Bindings.{bound_behind}
+use Rattle.e3_readings.specs.Bindings.{bound_behind}
 use Rattle.e3_play.specs.declared.names.Names.{Names}
 use Rattle.e3_types.specs.declared.entries.Entry.{Entry}
 use Rattle.e3_types.specs.declared.scenarios.Scenario.{Scenario}

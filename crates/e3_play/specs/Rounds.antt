@@ -1,12 +1,21 @@
 -- The rounds of a recovery step, and what comes of one.
-use Rattle.std.specs.Prelude.{◌≡◌, ◌⊎◌, [], true, false, List}
+use Rattle.std.specs.Prelude.{◌≡◌, ◌≢◌, ◌⊎◌, [], true, false, List, Some}
 use Rattle.e3_play.specs.Delivered.{Delivers}
 use Rattle.e3_play.specs.Entering.{AfterInput}
 use Rattle.e3_types.specs.declared.entries.Entry.{Entry}
 use Rattle.e3_types.specs.declared.entries.Input.TheVariants as input
 use Rattle.e3_types.specs.declared.scenarios.Scenario.{Scenario}
-use Rattle.e3_world.specs.Items.{RecoveryRound, is_up_at}
-use Rattle.e3_world.specs.Packets.{pending}
+use Rattle.e3_world.specs.Items.{RecoveryRound, due_round, is_up_at}
+use Rattle.e3_world.specs.Packets.{lines, pending}
+use Rattle.e3_world.specs.Progress.{Delivering}
+
+-- The sites stand within a step that delivers, nothing is pending, and the round is due, if its elector is up.
+pub record IsAtTurn {S : Type 0} (stands : S → Type 0) (scenario_in : S → Scenario) (entries_in : S → List Entry) (sites : S) (r : RecoveryRound) : Type 0 where
+  pub standing : stands sites
+  pub delivering : Delivering (scenario_in sites) (entries_in sites)
+  pub begun : lines (entries_in sites) ≢ 0
+  pub settled : pending (scenario_in sites) (entries_in sites) ≡ []
+  pub turn : is_up_at (entries_in sites) r.elector ≡ true → due_round (scenario_in sites) (entries_in sites) ≡ Some r
 
 -- a round was made: its elector was up and elected, or fell over it, and then no packet was left
 pub record IsMade (sc : Scenario) (history : List Entry) (r : RecoveryRound) (more : List Entry) : Type 0 where

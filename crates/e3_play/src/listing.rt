@@ -4,8 +4,7 @@ ghost use Rattle.std.specs.List.{flat_map};
 ghost use Rattle.e3_world.specs.Items.{add_txn, is_up_at, listed, open_at};
 
 use crate::Sites;
-use e3_items::{RecoveryRound, rounds_of};
-use e3_readings::in_order;
+use e3_readings::{RecoveryRound, in_order, rounds_of};
 use e3_types::{List, NoMemory, SiteSet, Txn};
 use std::alloc::Global;
 

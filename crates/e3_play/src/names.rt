@@ -1,9 +1,9 @@
 // What names stand for, kept from step to step.
 ghost use Rattle.std.specs.Prelude.{◌≡◌, IfOk, length};
-ghost use Rattle.e3_items.specs.Bindings.{bound_behind, nothing_bound};
+ghost use Rattle.e3_readings.specs.Bindings.{bound_behind, nothing_bound};
 ghost use Rattle.e3_play.specs.Known.{KnowsNames};
 
-use e3_items::{BoundNames, bind, nothing_bound};
+use e3_readings::{BoundNames, bind, nothing_bound};
 use e3_types::{Entry, NoMemory, Scenario};
 use std::alloc::Global;
 

@@ -4,29 +4,15 @@ ghost use Rattle.e3_play.specs.Played.{parts_asked};
 ghost use Rattle.e3_world.specs.Packets.{all_sites};
 
 use e3_types::{Copied, Item, List, NoMemory, Scenario, SiteSet};
+use e3_world::all_sites;
 use std::alloc::Global;
-
-// All sites of the scenario. More than 64 are no set of sites, and no memory is enough for them.
-fn all_sites(alloc: Global, scenario: &Scenario) -> Result<SiteSet, NoMemory>
-    ensures { IfOk result (λ sites. sites ≡ all_sites scenario.now) }
-{
-    let count = scenario.weights.len();
-    if count > 64 {
-        return Err(NoMemory);
-    }
-    let mut sites = List::new(alloc);
-    for site in 0..count {
-        sites.push(site as u32 + 1)?;
-    }
-    SiteSet::of(sites.as_slice()).ok_or(NoMemory)
-}
 
 // One part of all sites, which a merge asks for.
 fn one_part(alloc: Global, scenario: &Scenario) -> Result<List<SiteSet>, NoMemory>
     ensures { IfOk result (λ parts. parts ≡ all_sites scenario.now ∷ []) }
 {
     let mut parts = List::new(alloc);
-    parts.push(all_sites(alloc, scenario)?)?;
+    parts.push(all_sites(scenario)?)?;
     Ok(parts)
 }
 

@@ -15,7 +15,7 @@ use crate::kinds::{Kind, kind_of};
 use crate::names::Names;
 use crate::parting::parts_asked;
 use crate::{RunFault, Sites};
-use e3_items::{inputs_asked, step_items};
+use e3_readings::{inputs_asked, step_items};
 use e3_types::{Item, List, Scenario, SiteSet};
 use e3_world::Addressed;
 use std::alloc::Global;

@@ -1,31 +1,25 @@
 // The rounds of a recovery step.
-ghost use Rattle.std.specs.Prelude.{◌≡◌, ◌≢◌, ◌≤◌, ◌∷◌, [], drop, length, true, Some, IfOk, OnOk, Err};
+ghost use Rattle.std.specs.Prelude.{◌≡◌, ◌≤◌, ◌∷◌, [], drop, length, IfOk, OnOk, Err};
 ghost use Rattle.e3_play.specs.GoingOn.{SitesGoOn};
 ghost use Rattle.e3_play.specs.Reports.{HadTurns, IsRecovered, IsReport};
-ghost use Rattle.e3_play.specs.Rounds.{AfterRound};
+ghost use Rattle.e3_play.specs.Rounds.{AfterRound, IsAtTurn};
 ghost use Rattle.e3_play.specs.Delivered.{IsFullBefore, IsPacketOrRound};
 ghost use Rattle.e3_play.specs.Settled.{StaysInStep};
 ghost use Rattle.e3_play.specs.declared.sites.RunFault.TheVariants.{HistoryFull};
 ghost use Rattle.e3_types.specs.declared.scenarios.Item.TheVariants as item;
-ghost use Rattle.e3_world.specs.Items.{due_round, is_up_at, listed, since_line};
-ghost use Rattle.e3_world.specs.Packets.{lines, pending, present_items};
-ghost use Rattle.e3_world.specs.Progress.{Delivering};
+ghost use Rattle.e3_world.specs.Items.{listed, since_line};
+ghost use Rattle.e3_world.specs.Packets.{pending, present_items};
 
 use crate::listing::listed;
 use crate::reporting::{RoundReport, round_report};
 use crate::{RunFault, Sites, deliver_all};
-use e3_items::RecoveryRound;
+use e3_readings::RecoveryRound;
 use e3_types::{Entry, Input, List, SiteSet};
 use std::alloc::Global;
 
 // A round at its turn: its elector elects with the members, and packets are delivered. Where it is down, nothing is done.
 fn make_round<S: Sites>(sites: &mut S, round: &RecoveryRound) -> Result<(), RunFault>
-    requires standing { S.stands sites.old }
-    requires delivering { Delivering (S.scenario sites.old) (S.entries sites.old) }
-    requires begun { lines (S.entries sites.old) ≢ 0 }
-    requires settled { pending (S.scenario sites.old) (S.entries sites.old) ≡ [] }
-    requires turn { is_up_at (S.entries sites.old) round.now.elector ≡ true →
-        due_round (S.scenario sites.old) (S.entries sites.old) ≡ Some round.now }
+    requires { IsAtTurn S.stands S.scenario S.entries sites.old round.now }
     ensures on { SitesGoOn S.stands S.since S.scenario S.most sites.old sites.new }
     ensures grown { StaysInStep (S.entries sites.old) (S.entries sites.new) }
     ensures made { OnOk result (AfterRound (S.scenario sites.old) (S.entries sites.old) round.now (S.entries sites.new)) }
@@ -54,12 +48,7 @@ fn behind(history: &[Entry], count: usize) -> &[Entry]
 
 // A round at its turn, and what is reported of it.
 fn take_turn<S: Sites>(sites: &mut S, round: &RecoveryRound) -> Result<RoundReport, RunFault>
-    requires standing { S.stands sites.old }
-    requires delivering { Delivering (S.scenario sites.old) (S.entries sites.old) }
-    requires begun { lines (S.entries sites.old) ≢ 0 }
-    requires settled { pending (S.scenario sites.old) (S.entries sites.old) ≡ [] }
-    requires turn { is_up_at (S.entries sites.old) round.now.elector ≡ true →
-        due_round (S.scenario sites.old) (S.entries sites.old) ≡ Some round.now }
+    requires { IsAtTurn S.stands S.scenario S.entries sites.old round.now }
     ensures on { SitesGoOn S.stands S.since S.scenario S.most sites.old sites.new }
     ensures grown { StaysInStep (S.entries sites.old) (S.entries sites.new) }
     ensures made { OnOk result (AfterRound (S.scenario sites.old) (S.entries sites.old) round.now (S.entries sites.new)) }

@@ -4,7 +4,7 @@ ghost use Rattle.std.specs.List.{flat_map};
 ghost use Rattle.e3_law_rounds.specs.Rounds.{said_at, verdict_in};
 ghost use Rattle.e3_play.specs.Reports.{later, later_of, verdict_of};
 
-use e3_items::RecoveryRound;
+use e3_readings::RecoveryRound;
 use e3_types::{Act, Entry, Told, Txn, Verdict};
 
 /// What came of the round of a transaction: the last verdict on it that its elector told in it. There is none where none was

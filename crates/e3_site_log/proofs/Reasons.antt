@@ -3,6 +3,7 @@ use Rattle.std.proofs.Common.{◌≡◌, ◌≢◌, ◌⊎◌, ◌+◌, ◌<◌,
 use Rattle.std.specs.Prelude.{if◌then◌else◌, min, nat_lt, IfErr, OnOk, Result, Ok, Err}
 use Rattle.std.proofs.Math.Nat.{min-le_left, min-le_right, le-min}
 use Rattle.std.proofs.lemmas.Bool.{le-ltb, lt-ltb, ltb-false, ltb-true}
+use Rattle.e3_disk.specs.Meaning.{Meaning}
 use Rattle.e3_disk.specs.Meters.{HasFailed, Keeps, LAST, Meters, raised}
 use Rattle.e3_world.specs.Brief.{brief}
 use Rattle.e3_law_brief.proofs.Laws.{are_some}
@@ -158,13 +159,13 @@ none_raw : (raw : List (List ℕ)) → handed_out raw ≡ [] → raw ≡ []
 none_raw [] is = refl
 none_raw (first ∷ more) is = absurd cc
 
-module _ {D : Type 0} (content : D → List ℕ) (image : D → List ℕ → Type 0) (meters : D → Meters) (site most : ℕ) where
+module _ {D : Type 0} (meaning : Meaning D) (site most : ℕ) where
   -- so its region begins with the closed gate
-  pub empty_end : (l : List Record) (n : ℕ) (log : LogState D) → IsLogged content image meters site most l n log → l ≡ [] → log.end ≡ start (meters log.disk).capacity log.region
+  pub empty_end : (l : List Record) (n : ℕ) (log : LogState D) → IsLogged meaning site most l n log → l ≡ [] → log.end ≡ start (meaning.meters log.disk).capacity log.region
   empty_end l n log was none =
       let no_records : joined was.lists ≡ [] = are_some site (joined was.lists) was.hold.orderly (was.hold.same ∙ ap brief none) in
       let no_raw : was.stands.raw ≡ [] = none_raw was.stands.raw (sym was.stands.bodies_are ∙ no_bodies was.lists no_records) in
-      let place : log.end ≡ start (meters log.disk).capacity log.region + length (frames was.stands.raw) = was.stands.end_is in
+      let place : log.end ≡ start (meaning.meters log.disk).capacity log.region + length (frames was.stands.raw) = was.stands.end_is in
       let size : length (frames was.stands.raw) ≡ 0 = ap (λ (bs : List (List ℕ)). length (frames bs)) no_raw in
       omega (arith, place, size)
 

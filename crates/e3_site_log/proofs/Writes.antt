@@ -2,7 +2,7 @@
 use Rattle.std.proofs.Common.{◌≡◌, ◌≢◌, ◌⊎◌, ◌+◌, ◌<◌, ◌≤◌, ◌^◌, ◌++◌, ◌∷◌, [], inl, inr, ℕ, Bool, true, false, max, List, length, refl, sym, subst, ap, ◌∙◌, append-nil, length-append, arith}
 use Rattle.std.proofs.lemmas.Bool.{le-ltb, lt-ltb}
 use Rattle.e3_codec.specs.Fields.{AllCanBeReadBack}
-use Rattle.e3_disk.specs.Meters.{Meters}
+use Rattle.e3_disk.specs.Meaning.{Meaning}
 use Rattle.e3_world.specs.Brief.{brief}
 use Rattle.e3_world.specs.Orderly.{IsOrderly}
 use Rattle.e3_log.specs.Reading.{HoldsAs, ReadsAs as BytesReadAs}
@@ -68,8 +68,8 @@ left_later site capacity most later m l more why c le it = record {
   doubt = it.doubt;
 }
 
-module _ {D : Type 0} (content : D → List ℕ) (image : D → List ℕ → Type 0) (meters : D → Meters) (site most : ℕ) (l : List Record) where
-  pub logged_later : (later n : ℕ) (log : LogState D) → most ≤ later → IsLogged content image meters site most l n log → IsLogged content image meters site later l n log
+module _ {D : Type 0} (meaning : Meaning D) (site most : ℕ) (l : List Record) where
+  pub logged_later : (later n : ℕ) (log : LogState D) → most ≤ later → IsLogged meaning site most l n log → IsLogged meaning site later l n log
   logged_later later n log le was = record {
     lists = was.lists;
     hold = was.hold;
@@ -79,8 +79,8 @@ module _ {D : Type 0} (content : D → List ℕ) (image : D → List ℕ → Typ
   }
 
   -- each image of a log that holds records reads as them
-  pub image_reads : (n : ℕ) (log : LogState D) → (was : IsLogged content image meters site most l n log) → (c : List ℕ) → image log.disk c
-      → ReadsAs site (meters log.disk).capacity most l c
+  pub image_reads : (n : ℕ) (log : LogState D) → (was : IsLogged meaning site most l n log) → (c : List ℕ) → meaning.image log.disk c
+      → ReadsAs site (meaning.meters log.disk).capacity most l c
   image_reads n log was c at = record {
     lists = was.lists;
     hold = was.hold;
@@ -90,16 +90,16 @@ module _ {D : Type 0} (content : D → List ℕ) (image : D → List ℕ → Typ
       region = log.region;
       raw = was.stands.raw;
       spare = was.stands.spare;
-      holds = subst (λ (b : List ℕ). HoldsAs (meters log.disk).capacity log.region log.generation was.stands.raw was.stands.spare b) (sym (was.stands.only c at)) was.stands.holds;
+      holds = subst (λ (b : List ℕ). HoldsAs (meaning.meters log.disk).capacity log.region log.generation was.stands.raw was.stands.spare b) (sym (was.stands.only c at)) was.stands.holds;
       bodies_are = was.stands.bodies_are;
     };
   }
 
   -- with one frame more
   pub added : (n m : ℕ) (old new : LogState D) (records : List Record) (body : List ℕ) → body ≡ spelling records → records ≢ [] →
-      (was : IsLogged content image meters site most l n old) → IsOrderly site (l ++ records) → AllCanBeReadBack site records →
-      ((bodies : List (List ℕ)) → Stands content image meters bodies old → Stands content image meters (bodies ++ body ∷ []) new) →
-      new.generation ≡ old.generation → m ≡ counted (n + length records) → IsLogged content image meters site most (l ++ records) m new
+      (was : IsLogged meaning site most l n old) → IsOrderly site (l ++ records) → AllCanBeReadBack site records →
+      ((bodies : List (List ℕ)) → Stands meaning bodies old → Stands meaning (bodies ++ body ∷ []) new) →
+      new.generation ≡ old.generation → m ≡ counted (n + length records) → IsLogged meaning site most (l ++ records) m new
   added n m old new records body is some was orderly back wrote same count =
       let bodies : bodies_in was.lists ++ body ∷ [] ≡ bodies_in (was.lists ++ records ∷ []) =
       with_body (bodies_in was.lists) records body is some ∙ sym (bodies_push was.lists records) in
@@ -108,17 +108,17 @@ module _ {D : Type 0} (content : D → List ℕ) (image : D → List ℕ → Typ
       record {
         lists = was.lists ++ records ∷ [];
         hold = hold_on site l records was.lists was.hold orderly back;
-        stands = subst (λ (bs : List (List ℕ)). Stands content image meters bs new) bodies (wrote (bodies_in was.lists) was.stands);
+        stands = subst (λ (bs : List (List ℕ)). Stands meaning bs new) bodies (wrote (bodies_in was.lists) was.stands);
         few = (let few : old.generation ≤ most = was.few in omega (arith, few, same));
         logged_is = (let before : n ≡ counted (length (joined was.lists)) = was.logged_is in omega (arith, all, count, before));
       }
 
   -- the disk failed meanwhile: the frame is there, or not
   pub left_failed : (n : ℕ) (old new : LogState D) (records : List Record) (body : List ℕ) → body ≡ spelling records → records ≢ [] →
-      (was : IsLogged content image meters site most l n old) → IsOrderly site (l ++ records) → AllCanBeReadBack site records →
-      EachReadsAs (meters old.disk).capacity old.generation (bodies_in was.lists) old.generation (bodies_in was.lists ++ body ∷ []) (image new.disk) →
-      (meters new.disk).capacity ≡ (meters old.disk).capacity → (c : List ℕ) → image new.disk c →
-      ReadsLeft site (meters new.disk).capacity most l records n Fault c
+      (was : IsLogged meaning site most l n old) → IsOrderly site (l ++ records) → AllCanBeReadBack site records →
+      EachReadsAs (meaning.meters old.disk).capacity old.generation (bodies_in was.lists) old.generation (bodies_in was.lists ++ body ∷ []) (meaning.image new.disk) →
+      (meaning.meters new.disk).capacity ≡ (meaning.meters old.disk).capacity → (c : List ℕ) → meaning.image new.disk c →
+      ReadsLeft site (meaning.meters new.disk).capacity most l records n Fault c
   left_failed n old new records body is some was orderly back each same c at =
       subst (λ (k : ℕ). ReadsLeft site k most l records n Fault c) (sym same) (by (each c at))
     where
@@ -131,46 +131,46 @@ module _ {D : Type 0} (content : D → List ℕ) (image : D → List ℕ → Typ
       more : 0 < length records
       more = some_more records some
 
-      by : BytesReadAs (meters old.disk).capacity old.generation (bodies_in was.lists) c
-          ⊎ BytesReadAs (meters old.disk).capacity old.generation (bodies_in was.lists ++ body ∷ []) c →
-          ReadsLeft site (meters old.disk).capacity most l records n Fault c
-      by (inl reads) = left_quiet site (meters old.disk).capacity most n l records Fault c
+      by : BytesReadAs (meaning.meters old.disk).capacity old.generation (bodies_in was.lists) c
+          ⊎ BytesReadAs (meaning.meters old.disk).capacity old.generation (bodies_in was.lists ++ body ∷ []) c →
+          ReadsLeft site (meaning.meters old.disk).capacity most l records n Fault c
+      by (inl reads) = left_quiet site (meaning.meters old.disk).capacity most n l records Fault c
           (record { lists = was.lists; hold = was.hold; generation = old.generation; few = was.few; reads = reads })
           (λ few. omega (arith, few, before))
-      by (inr reads) = left_more site (meters old.disk).capacity most n l records c
+      by (inr reads) = left_more site (meaning.meters old.disk).capacity most n l records c
           (record {
             lists = was.lists ++ records ∷ [];
             hold = hold_on site l records was.lists was.hold orderly back;
             generation = old.generation;
             few = was.few;
-            reads = subst (λ (bs : List (List ℕ)). BytesReadAs (meters old.disk).capacity old.generation bs c)
+            reads = subst (λ (bs : List (List ℕ)). BytesReadAs (meaning.meters old.disk).capacity old.generation bs c)
                 (with_body (bodies_in was.lists) records body is some ∙ sym (bodies_push was.lists records)) reads;
           })
           (λ few. omega (arith, few, before, all, more))
 
   -- nothing was written
-  pub left_same : (n : ℕ) (old new : LogState D) (more : List Record) (why : Why) → IsLogged content image meters site most l n old → new ≡ old →
-      (c : List ℕ) → image new.disk c → ReadsLeft site (meters new.disk).capacity most l more n why c
+  pub left_same : (n : ℕ) (old new : LogState D) (more : List Record) (why : Why) → IsLogged meaning site most l n old → new ≡ old →
+      (c : List ℕ) → meaning.image new.disk c → ReadsLeft site (meaning.meters new.disk).capacity most l more n why c
   unfolding image_reads
   left_same n old new more why was same c at =
       let before : n ≡ counted (length (joined was.lists)) = was.logged_is in
-      subst (λ (x : LogState D). image x.disk c → ReadsLeft site (meters x.disk).capacity most l more n why c) (sym same)
-      (λ here. left_quiet site (meters old.disk).capacity most n l more why c (image_reads n old was c here) (λ few. omega (arith, few, before))) at
+      subst (λ (x : LogState D). meaning.image x.disk c → ReadsLeft site (meaning.meters x.disk).capacity most l more n why c) (sym same)
+      (λ here. left_quiet site (meaning.meters old.disk).capacity most n l more why c (image_reads n old was c here) (λ few. omega (arith, few, before))) at
 
   -- an append that failed did either
   pub left_add : (n : ℕ) (old new : LogState D) (records : List Record) (body : List ℕ) (fault : AppendFault) → body ≡ spelling records → records ≢ [] →
-      (was : IsLogged content image meters site most l n old) → IsOrderly site (l ++ records) → AllCanBeReadBack site records →
-      EachReadsAs (meters old.disk).capacity old.generation (bodies_in was.lists) old.generation (bodies_in was.lists ++ body ∷ []) (image new.disk) →
-      ((need room : ℕ) → fault ≡ append_fault.Full need room → new ≡ old) → (meters new.disk).capacity ≡ (meters old.disk).capacity →
-      (c : List ℕ) → image new.disk c → ReadsLeft site (meters new.disk).capacity most l records n (why_of fault) c
+      (was : IsLogged meaning site most l n old) → IsOrderly site (l ++ records) → AllCanBeReadBack site records →
+      EachReadsAs (meaning.meters old.disk).capacity old.generation (bodies_in was.lists) old.generation (bodies_in was.lists ++ body ∷ []) (meaning.image new.disk) →
+      ((need room : ℕ) → fault ≡ append_fault.Full need room → new ≡ old) → (meaning.meters new.disk).capacity ≡ (meaning.meters old.disk).capacity →
+      (c : List ℕ) → meaning.image new.disk c → ReadsLeft site (meaning.meters new.disk).capacity most l records n (why_of fault) c
   left_add n old new records body append_fault.Failed is some was orderly back each full same c at =
       left_failed n old new records body is some was orderly back each same c at
   left_add n old new records body (append_fault.Full need room) is some was orderly back each full same c at =
       left_same n old new records (Full need room) was (full need room refl) c at
 
   -- the other region was closed
-  pub cleared : (n : ℕ) (old new : LogState D) → (was : IsLogged content image meters site most l n old) → Stands content image meters (bodies_in was.lists) new →
-      new.generation ≡ old.generation → IsLogged content image meters site most l n new
+  pub cleared : (n : ℕ) (old new : LogState D) → (was : IsLogged meaning site most l n old) → Stands meaning (bodies_in was.lists) new →
+      new.generation ≡ old.generation → IsLogged meaning site most l n new
   cleared n old new was stands same = record {
     lists = was.lists;
     hold = was.hold;
@@ -179,19 +179,19 @@ module _ {D : Type 0} (content : D → List ℕ) (image : D → List ℕ → Typ
     logged_is = was.logged_is;
   }
 
-  pub left_cleared : (n : ℕ) (old new : LogState D) (more : List Record) (why : Why) → (was : IsLogged content image meters site most l n old) →
-      ((c : List ℕ) → image new.disk c → BytesReadAs (meters old.disk).capacity old.generation (bodies_in was.lists) c) →
-      (meters new.disk).capacity ≡ (meters old.disk).capacity → (c : List ℕ) → image new.disk c →
-      ReadsLeft site (meters new.disk).capacity most l more n why c
+  pub left_cleared : (n : ℕ) (old new : LogState D) (more : List Record) (why : Why) → (was : IsLogged meaning site most l n old) →
+      ((c : List ℕ) → meaning.image new.disk c → BytesReadAs (meaning.meters old.disk).capacity old.generation (bodies_in was.lists) c) →
+      (meaning.meters new.disk).capacity ≡ (meaning.meters old.disk).capacity → (c : List ℕ) → meaning.image new.disk c →
+      ReadsLeft site (meaning.meters new.disk).capacity most l more n why c
   left_cleared n old new more why was each same c at =
       let before : n ≡ counted (length (joined was.lists)) = was.logged_is in
       subst (λ (k : ℕ). ReadsLeft site k most l more n why c) (sym same)
-      (left_quiet site (meters old.disk).capacity most n l more why c
+      (left_quiet site (meaning.meters old.disk).capacity most n l more why c
       (record { lists = was.lists; hold = was.hold; generation = old.generation; few = was.few; reads = each c at })
       (λ few. omega (arith, few, before)))
 
   -- the brief alone holds the log
-  brief_holds : (n : ℕ) (old : LogState D) (short : Short) → IsLogged content image meters site most l n old → IsShortOf site l short → Hold site l (brief l ∷ [])
+  brief_holds : (n : ℕ) (old : LogState D) (short : Short) → IsLogged meaning site most l n old → IsShortOf site l short → Hold site l (brief l ∷ [])
   brief_holds n old short was is =
       let r = joined was.lists in
       let same : brief r ≡ brief l = was.hold.same in
@@ -210,23 +210,23 @@ module _ {D : Type 0} (content : D → List ℕ) (image : D → List ℕ → Typ
   brief_length = ap length (append-nil (brief l))
 
   -- the log was turned
-  pub turned_log : (n m : ℕ) (old new : LogState D) (short : Short) → IsLogged content image meters site most l n old → IsShortOf site l short →
-      0 < length short.body → ((bodies : List (List ℕ)) → Stands content image meters bodies old → Stands content image meters (short.body ∷ []) new) →
-      new.generation ≡ old.generation + 1 → m ≡ short.count → IsLogged content image meters site (most + 1) l m new
+  pub turned_log : (n m : ℕ) (old new : LogState D) (short : Short) → IsLogged meaning site most l n old → IsShortOf site l short →
+      0 < length short.body → ((bodies : List (List ℕ)) → Stands meaning bodies old → Stands meaning (short.body ∷ []) new) →
+      new.generation ≡ old.generation + 1 → m ≡ short.count → IsLogged meaning site (most + 1) l m new
   turned_log n m old new short was is some turned next count = record {
     lists = brief l ∷ [];
     hold = brief_holds n old short was is;
-    stands = subst (λ (bs : List (List ℕ)). Stands content image meters bs new) (short_body short is some) (turned (bodies_in was.lists) was.stands);
+    stands = subst (λ (bs : List (List ℕ)). Stands meaning bs new) (short_body short is some) (turned (bodies_in was.lists) was.stands);
     few = (let few : old.generation ≤ most = was.few in omega (arith, few, next));
     logged_is = count ∙ is.count_is ∙ ap counted (sym brief_length);
   }
 
   -- or it may have been
-  pub left_turned : (n m : ℕ) (old new : LogState D) (short : Short) (more : List Record) (why : Why) → (was : IsLogged content image meters site most l n old) →
+  pub left_turned : (n m : ℕ) (old new : LogState D) (short : Short) (more : List Record) (why : Why) → (was : IsLogged meaning site most l n old) →
       IsShortOf site l short → 0 < length short.body →
-      EachReadsAs (meters old.disk).capacity old.generation (bodies_in was.lists) (old.generation + 1) (short.body ∷ []) (image new.disk) →
-      (meters new.disk).capacity ≡ (meters old.disk).capacity → m ≡ max n short.count → (c : List ℕ) → image new.disk c →
-      ReadsLeft site (meters new.disk).capacity (most + 1) l more m why c
+      EachReadsAs (meaning.meters old.disk).capacity old.generation (bodies_in was.lists) (old.generation + 1) (short.body ∷ []) (meaning.image new.disk) →
+      (meaning.meters new.disk).capacity ≡ (meaning.meters old.disk).capacity → m ≡ max n short.count → (c : List ℕ) → meaning.image new.disk c →
+      ReadsLeft site (meaning.meters new.disk).capacity (most + 1) l more m why c
   left_turned n m old new short more why was is some each same greater c at =
       subst (λ (k : ℕ). ReadsLeft site k (most + 1) l more m why c) (sym same) (by (each c at))
     where
@@ -239,18 +239,18 @@ module _ {D : Type 0} (content : D → List ℕ) (image : D → List ℕ → Typ
       after : short.count ≡ counted (length (brief l))
       after = is.count_is
 
-      by : BytesReadAs (meters old.disk).capacity old.generation (bodies_in was.lists) c
-          ⊎ BytesReadAs (meters old.disk).capacity (old.generation + 1) (short.body ∷ []) c →
-          ReadsLeft site (meters old.disk).capacity (most + 1) l more m why c
-      by (inl reads) = left_quiet site (meters old.disk).capacity (most + 1) m l more why c
+      by : BytesReadAs (meaning.meters old.disk).capacity old.generation (bodies_in was.lists) c
+          ⊎ BytesReadAs (meaning.meters old.disk).capacity (old.generation + 1) (short.body ∷ []) c →
+          ReadsLeft site (meaning.meters old.disk).capacity (most + 1) l more m why c
+      by (inl reads) = left_quiet site (meaning.meters old.disk).capacity (most + 1) m l more why c
           (record { lists = was.lists; hold = was.hold; generation = old.generation; few = omega (arith, few); reads = reads })
           (λ low. omega (arith, low, before, greater))
-      by (inr reads) = left_quiet site (meters old.disk).capacity (most + 1) m l more why c
+      by (inr reads) = left_quiet site (meaning.meters old.disk).capacity (most + 1) m l more why c
           (record {
             lists = brief l ∷ [];
             hold = brief_holds n old short was is;
             generation = old.generation + 1;
             few = omega (arith, few);
-            reads = subst (λ (bs : List (List ℕ)). BytesReadAs (meters old.disk).capacity (old.generation + 1) bs c) (short_body short is some) reads;
+            reads = subst (λ (bs : List (List ℕ)). BytesReadAs (meaning.meters old.disk).capacity (old.generation + 1) bs c) (short_body short is some) reads;
           })
           (λ low. omega (arith, low, after, greater, brief_length))

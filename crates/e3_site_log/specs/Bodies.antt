@@ -2,7 +2,7 @@
 use Rattle.std.specs.Prelude.{◌≡◌, ◌≤◌, ◌<◌, ◌^◌, ◌++◌, ◌∷◌, [], ℕ, Bool, true, false, nat_lt, min, List, length}
 use Rattle.std.specs.List.{flat_map}
 use Rattle.e3_codec.specs.Fields.{AllCanBeReadBack}
-use Rattle.e3_disk.specs.Meters.{Meters}
+use Rattle.e3_disk.specs.Meaning.{Meaning}
 use Rattle.e3_world.specs.Brief.{brief}
 use Rattle.e3_world.specs.Orderly.{IsOrderly}
 use Rattle.e3_log.specs.Reading.{ReadsAs as BytesReadAs}
@@ -45,11 +45,11 @@ abbrev pub counted : ℕ → ℕ
 counted n = min n 18446744073709551615
 
 -- A log on a disk holds a log of the site, in a generation that is at most `most`, and has so many records.
-pub record IsLogged {D : Type 0} (content : D → List ℕ) (image : D → List ℕ → Type 0) (meters : D → Meters) (site most : ℕ) (log : List Record)
+pub record IsLogged {D : Type 0} (meaning : Meaning D) (site most : ℕ) (log : List Record)
     (logged : ℕ) (on_disk : LogState D) : Type 0 where
   pub lists : List (List Record)
   pub hold : Hold site log lists
-  pub stands : Stands content image meters (bodies_in lists) on_disk
+  pub stands : Stands meaning (bodies_in lists) on_disk
   pub few : on_disk.generation ≤ most
   pub logged_is : logged ≡ counted (length (joined lists))
 

@@ -40,21 +40,21 @@ fn add<D: Disk>(
 ) -> Result<(), Why>
     requires spelled { body.now ≡ spelling records.now }
     requires some { records.now ≢ [] }
-    ensures logged { (site most : ℕ) (l : Items Records) → IsLogged D.content D.image D.meters site most l logged.old log.old →
+    ensures logged { (site most : ℕ) (l : Items Records) → IsLogged D.meaning site most l logged.old log.old →
         IsOrderly site (l ++ records.now) → AllCanBeReadBack site records.now →
-        OnOk result (IsLogged D.content D.image D.meters site most (l ++ records.now) logged.new log.new) }
-    ensures left { (site most : ℕ) (l : Items Records) → IsLogged D.content D.image D.meters site most l logged.old log.old →
+        OnOk result (IsLogged D.meaning site most (l ++ records.now) logged.new log.new) }
+    ensures left { (site most : ℕ) (l : Items Records) → IsLogged D.meaning site most l logged.old log.old →
         IsOrderly site (l ++ records.now) → AllCanBeReadBack site records.now →
-        IfErr result (λ why. (bytes : Items ℕ) → D.image log.new.disk bytes →
-        ReadsLeft site (D.meters log.new.disk).capacity most l records.now logged.new why bytes) }
-    ensures fault { log.old.failed ≡ false → result ≡ Err Why.Fault → HasFailed (D.meters log.old.disk).faults (D.meters log.new.disk).faults }
+        IfErr result (λ why. (bytes : Items ℕ) → D.meaning.image log.new.disk bytes →
+        ReadsLeft site (D.meaning.meters log.new.disk).capacity most l records.now logged.new why bytes) }
+    ensures fault { log.old.failed ≡ false → result ≡ Err Why.Fault → HasFailed (D.meaning.meters log.old.disk).faults (D.meaning.meters log.new.disk).faults }
     ensures full { (need room : ℕ) → result ≡ Err (Why.Full need room) →
-        (limit (D.meters log.old.disk).capacity log.old.region < log.old.end + 6 + length body.now)
-        × (need ≡ log.old.end + 6 + length body.now) × (room ≡ limit (D.meters log.old.disk).capacity log.old.region) }
+        (limit (D.meaning.meters log.old.disk).capacity log.old.region < log.old.end + 6 + length body.now)
+        × (need ≡ log.old.end + 6 + length body.now) × (room ≡ limit (D.meaning.meters log.old.disk).capacity log.old.region) }
     ensures end { OnOk result (log.new.end ≡ log.old.end + 5 + length body.now) }
-    ensures keeps { Keeps (D.meters log.old.disk) (D.meters log.new.disk) }
-    ensures lit { OnOk result ((D.meters log.new.disk).powered ≡ true) }
-    ensures takes { OnOk result (Takes 4 (D.meters log.old.disk) (D.meters log.new.disk)) }
+    ensures keeps { Keeps (D.meaning.meters log.old.disk) (D.meaning.meters log.new.disk) }
+    ensures lit { OnOk result ((D.meaning.meters log.new.disk).powered ≡ true) }
+    ensures takes { OnOk result (Takes 4 (D.meaning.meters log.old.disk) (D.meaning.meters log.new.disk)) }
 {
     match log.append(body) {
         Ok(()) => {
@@ -67,18 +67,18 @@ fn add<D: Disk>(
 
 // Closes the other region: what it has is older than the log.
 fn clear<D: Disk>(log: &mut Log<D>) -> Result<(), Why>
-    ensures logged { (site most logged : ℕ) (l : Items Records) → IsLogged D.content D.image D.meters site most l logged log.old →
-        OnOk result (IsLogged D.content D.image D.meters site most l logged log.new) }
-    ensures left { (site most logged : ℕ) (l more : Items Records) → IsLogged D.content D.image D.meters site most l logged log.old →
-        IfErr result (λ why. (bytes : Items ℕ) → D.image log.new.disk bytes →
-        ReadsLeft site (D.meters log.new.disk).capacity most l more logged why bytes) }
-    ensures fault { log.old.failed ≡ false → IfErr result (λ why. (why ≡ Why.Fault) × HasFailed (D.meters log.old.disk).faults (D.meters log.new.disk).faults) }
+    ensures logged { (site most logged : ℕ) (l : Items Records) → IsLogged D.meaning site most l logged log.old →
+        OnOk result (IsLogged D.meaning site most l logged log.new) }
+    ensures left { (site most logged : ℕ) (l more : Items Records) → IsLogged D.meaning site most l logged log.old →
+        IfErr result (λ why. (bytes : Items ℕ) → D.meaning.image log.new.disk bytes →
+        ReadsLeft site (D.meaning.meters log.new.disk).capacity most l more logged why bytes) }
+    ensures fault { log.old.failed ≡ false → IfErr result (λ why. (why ≡ Why.Fault) × HasFailed (D.meaning.meters log.old.disk).faults (D.meaning.meters log.new.disk).faults) }
     ensures shut { OnOk result (log.new.spare_open ≡ false) }
     ensures sound { OnOk result (log.new.failed ≡ false) }
     ensures log { (log.new.region ≡ log.old.region) × (log.new.generation ≡ log.old.generation) }
-    ensures keeps { Keeps (D.meters log.old.disk) (D.meters log.new.disk) }
-    ensures stops { OnOk result ((D.meters log.new.disk).stops ≡ (D.meters log.old.disk).stops) }
-    ensures takes { OnOk result (Takes 0 (D.meters log.old.disk) (D.meters log.new.disk)) }
+    ensures keeps { Keeps (D.meaning.meters log.old.disk) (D.meaning.meters log.new.disk) }
+    ensures stops { OnOk result ((D.meaning.meters log.new.disk).stops ≡ (D.meaning.meters log.old.disk).stops) }
+    ensures takes { OnOk result (Takes 0 (D.meaning.meters log.old.disk) (D.meaning.meters log.new.disk)) }
 {
     match log.clear() {
         Ok(()) => Ok(()),
@@ -95,62 +95,36 @@ fn turn_why(fault: TurnFault) -> Why
     }
 }
 
-// Turns the log to a short one, whose region is closed.
-fn turn<D: Disk>(log: &mut Log<D>, logged: &mut u64, short: &Short) -> Result<(), Why>
-    requires shut { log.old.spare_open ≡ false }
-    requires next { log.old.generation < 4294967295 }
-    requires some { 0 < length short.now.body }
-    ensures logged { (site most : ℕ) (l : Items Records) → IsLogged D.content D.image D.meters site most l logged.old log.old →
-        IsShortOf site l short.now → OnOk result (IsLogged D.content D.image D.meters site (most + 1) l logged.new log.new) }
-    ensures left { (site most : ℕ) (l more : Items Records) → IsLogged D.content D.image D.meters site most l logged.old log.old →
-        IsShortOf site l short.now → IfErr result (λ why. (bytes : Items ℕ) → D.image log.new.disk bytes →
-        ReadsLeft site (D.meters log.new.disk).capacity (most + 1) l more logged.new why bytes) }
-    ensures fault { log.old.failed ≡ false → result ≡ Err Why.Fault → HasFailed (D.meters log.old.disk).faults (D.meters log.new.disk).faults }
-    ensures full { (need room : ℕ) → result ≡ Err (Why.Full need room) →
-        (limit (D.meters log.old.disk).capacity (other log.old.region) < start (D.meters log.old.disk).capacity (other log.old.region) + 11 + length short.now.body)
-        × (need ≡ start (D.meters log.old.disk).capacity (other log.old.region) + 11 + length short.now.body)
-        × (room ≡ limit (D.meters log.old.disk).capacity (other log.old.region)) }
-    ensures fits { OnOk result (start (D.meters log.old.disk).capacity (other log.old.region) + 11 + length short.now.body
-        ≤ limit (D.meters log.old.disk).capacity (other log.old.region)) }
-    ensures log { OnOk result ((log.new.region ≡ other log.old.region)
-        × (log.new.end ≡ start (D.meters log.old.disk).capacity (other log.old.region) + 10 + length short.now.body)) }
-    ensures keeps { Keeps (D.meters log.old.disk) (D.meters log.new.disk) }
-    ensures stops { OnOk result ((D.meters log.new.disk).stops ≡ (D.meters log.old.disk).stops) }
-    ensures takes { OnOk result (Takes 4 (D.meters log.old.disk) (D.meters log.new.disk)) }
-{
-    match log.turn(short.body.as_slice()) {
-        Ok(()) => {
-            *logged = short.count;
-            Ok(())
-        }
-        Err(fault) => {
-            *logged = (*logged).max(short.count);
-            Err(turn_why(fault))
-        }
-    }
-}
-
-// Turns the log, whose other region may have an older one.
+// Turns the log to a short one, in the other region, which is closed before: it may have an older log.
 fn turn_to<D: Disk>(log: &mut Log<D>, logged: &mut u64, short: &Short) -> Result<(), Why>
     requires next { log.old.generation < 4294967295 }
     requires some { 0 < length short.now.body }
-    ensures logged { (site most : ℕ) (l : Items Records) → IsLogged D.content D.image D.meters site most l logged.old log.old →
-        IsShortOf site l short.now → OnOk result (IsLogged D.content D.image D.meters site (most + 1) l logged.new log.new) }
-    ensures left { (site most : ℕ) (l more : Items Records) → IsLogged D.content D.image D.meters site most l logged.old log.old →
-        IsShortOf site l short.now → IfErr result (λ why. (bytes : Items ℕ) → D.image log.new.disk bytes →
-        ReadsLeft site (D.meters log.new.disk).capacity (most + 1) l more logged.new why bytes) }
+    ensures logged { (site most : ℕ) (l : Items Records) → IsLogged D.meaning site most l logged.old log.old →
+        IsShortOf site l short.now → OnOk result (IsLogged D.meaning site (most + 1) l logged.new log.new) }
+    ensures left { (site most : ℕ) (l more : Items Records) → IsLogged D.meaning site most l logged.old log.old →
+        IsShortOf site l short.now → IfErr result (λ why. (bytes : Items ℕ) → D.meaning.image log.new.disk bytes →
+        ReadsLeft site (D.meaning.meters log.new.disk).capacity (most + 1) l more logged.new why bytes) }
     ensures reason { (l records : Items Records) → l ≢ [] → short.now.body ≡ spelling (brief l) → log.old.failed ≡ false →
-        IfErr result (λ why. IsReason why l records (D.meters log.old.disk) (D.meters log.new.disk)) }
-    ensures fits { OnOk result (start (D.meters log.old.disk).capacity (other log.old.region) + 11 + length short.now.body
-        ≤ limit (D.meters log.old.disk).capacity (other log.old.region)) }
+        IfErr result (λ why. IsReason why l records (D.meaning.meters log.old.disk) (D.meaning.meters log.new.disk)) }
+    ensures fits { OnOk result (start (D.meaning.meters log.old.disk).capacity (other log.old.region) + 11 + length short.now.body
+        ≤ limit (D.meaning.meters log.old.disk).capacity (other log.old.region)) }
     ensures log { OnOk result ((log.new.region ≡ other log.old.region)
-        × (log.new.end ≡ start (D.meters log.old.disk).capacity (other log.old.region) + 10 + length short.now.body)) }
-    ensures keeps { Keeps (D.meters log.old.disk) (D.meters log.new.disk) }
-    ensures stops { OnOk result ((D.meters log.new.disk).stops ≡ (D.meters log.old.disk).stops) }
-    ensures takes { OnOk result (Takes 4 (D.meters log.old.disk) (D.meters log.new.disk)) }
+        × (log.new.end ≡ start (D.meaning.meters log.old.disk).capacity (other log.old.region) + 10 + length short.now.body)) }
+    ensures keeps { Keeps (D.meaning.meters log.old.disk) (D.meaning.meters log.new.disk) }
+    ensures stops { OnOk result ((D.meaning.meters log.new.disk).stops ≡ (D.meaning.meters log.old.disk).stops) }
+    ensures takes { OnOk result (Takes 4 (D.meaning.meters log.old.disk) (D.meaning.meters log.new.disk)) }
 {
     match clear(log) {
-        Ok(()) => turn(log, logged, short),
+        Ok(()) => match log.turn(short.body.as_slice()) {
+            Ok(()) => {
+                *logged = short.count;
+                Ok(())
+            }
+            Err(fault) => {
+                *logged = (*logged).max(short.count);
+                Err(turn_why(fault))
+            }
+        },
         Err(why) => Err(why),
     }
 }
@@ -167,13 +141,13 @@ fn turn_and_add<D: Disk>(
     requires some { records.now ≢ [] }
     requires next { log.old.generation < 4294967295 }
     requires body { 0 < length short.now.body }
-    ensures logged { Writes D.content D.image D.meters log.old log.new logged.old logged.new (Given short.now) records.now result }
-    ensures left { Leaves D.content D.image D.meters log.old log.new logged.old logged.new (Given short.now) records.now result }
-    ensures reason { Reasons D.content D.image D.meters log.old log.new logged.old logged.new (Given short.now) records.now result }
-    ensures end { OnOk result (log.new.end ≡ turned_to D.meters log.old short.now records.now) }
-    ensures keeps { Keeps (D.meters log.old.disk) (D.meters log.new.disk) }
-    ensures lit { OnOk result ((D.meters log.new.disk).powered ≡ true) }
-    ensures takes { OnOk result (Takes 4 (D.meters log.old.disk) (D.meters log.new.disk)) }
+    ensures logged { Writes D.meaning log.old log.new logged.old logged.new (Given short.now) records.now result }
+    ensures left { Leaves D.meaning log.old log.new logged.old logged.new (Given short.now) records.now result }
+    ensures reason { Reasons D.meaning log.old log.new logged.old logged.new (Given short.now) records.now result }
+    ensures end { OnOk result (log.new.end ≡ turned_to D.meaning.meters log.old short.now records.now) }
+    ensures keeps { Keeps (D.meaning.meters log.old.disk) (D.meaning.meters log.new.disk) }
+    ensures lit { OnOk result ((D.meaning.meters log.new.disk).powered ≡ true) }
+    ensures takes { OnOk result (Takes 4 (D.meaning.meters log.old.disk) (D.meaning.meters log.new.disk)) }
 {
     match turn_to(log, logged, short) {
         Ok(()) => add(log, logged, records, body),
@@ -192,19 +166,19 @@ pub fn write<D: Disk>(
     body: &[u8],
 ) -> Result<(), Why>
     requires spelled { body.now ≡ spelling records.now }
-    requires lit { (D.meters log.old.disk).powered ≡ true }
+    requires lit { (D.meaning.meters log.old.disk).powered ≡ true }
     requires may { MayTurn log.old short.now }
-    ensures logged { Writes D.content D.image D.meters log.old log.new logged.old logged.new short.now records.now result }
-    ensures left { Leaves D.content D.image D.meters log.old log.new logged.old logged.new short.now records.now result }
-    ensures reason { Reasons D.content D.image D.meters log.old log.new logged.old logged.new short.now records.now result }
-    ensures end { OnOk result (records.now ≢ [] → EndsAt D.meters log.old short.now records.now log.new.end) }
-    ensures stays { log.old.failed ≡ false → HasRoom D.meters log.old (length body.now) → OnOk result (records.now ≢ [] → log.new.end ≡ log.old.end + 5 + length body.now) }
-    ensures room { log.old.failed ≡ false → HasRoom D.meters log.old (length body.now) → IfErr result (λ why. why ≡ Why.Fault) }
+    ensures logged { Writes D.meaning log.old log.new logged.old logged.new short.now records.now result }
+    ensures left { Leaves D.meaning log.old log.new logged.old logged.new short.now records.now result }
+    ensures reason { Reasons D.meaning log.old log.new logged.old logged.new short.now records.now result }
+    ensures end { OnOk result (records.now ≢ [] → EndsAt D.meaning.meters log.old short.now records.now log.new.end) }
+    ensures stays { log.old.failed ≡ false → HasRoom D.meaning.meters log.old (length body.now) → OnOk result (records.now ≢ [] → log.new.end ≡ log.old.end + 5 + length body.now) }
+    ensures room { log.old.failed ≡ false → HasRoom D.meaning.meters log.old (length body.now) → IfErr result (λ why. why ≡ Why.Fault) }
     ensures some { IfErr result (λ _. records.now ≢ []) }
     ensures same { records.now ≡ [] → (log.new ≡ log.old) × (logged.new ≡ logged.old) }
-    ensures keeps { Keeps (D.meters log.old.disk) (D.meters log.new.disk) }
-    ensures lit { OnOk result ((D.meters log.new.disk).powered ≡ true) }
-    ensures takes { OnOk result (Takes (calls_for records.now) (D.meters log.old.disk) (D.meters log.new.disk)) }
+    ensures keeps { Keeps (D.meaning.meters log.old.disk) (D.meaning.meters log.new.disk) }
+    ensures lit { OnOk result ((D.meaning.meters log.new.disk).powered ≡ true) }
+    ensures takes { OnOk result (Takes (calls_for records.now) (D.meaning.meters log.old.disk) (D.meaning.meters log.new.disk)) }
 {
     if records.is_empty() {
         return Ok(());

@@ -1,9 +1,9 @@
 -- What a pass shows. A lock is seen as its identity.
-use Rattle.std.specs.Prelude.{◌≡◌, ℕ, ◌<◌, ◌≤◌, Bool, List, Option}
+use Rattle.std.specs.Prelude.{◌≡◌, ℕ, ◌<◌, ◌≤◌, Bool, List, [], ◌∷◌, ◌++◌, Option}
 use Rattle.atomic_table.specs.Seated.{TableId}
 use Rattle.atomic_table.specs.declared.shared.Seat.{Seat}
 use Rattle.e3_turn.specs.declared.view.View.{View}
-use Rattle.e3_turn.specs.Chronicles.{count_of, ExtendsByOthers, ExtendsByOwners, LongerExtends}
+use Rattle.e3_turn.specs.Chronicles.{count_of, longer, without, ExtendsByOthers, ExtendsByOwners, LongerExtends}
 use Rattle.e3_turn.specs.Steps.{Rests, IsServed}
 
 -- a pass of a lock round an X whose marks are M
@@ -56,3 +56,20 @@ module _ {X M : Type 0} (belongs : M → ℕ → Bool) where
   -- of the chronicles that two passes have seen the longer begins with the shorter, and no mark behind that belongs to an owner of the pass that had seen the shorter
   abbrev pub Agree : PassOf X M → PassOf X M → Type 0
   Agree p q = LongerExtends belongs (last_of p) (owners_of p) (seen_by p) (owners_of q) (seen_by q)
+
+module _ {X M : Type 0} where
+  -- a pass gave one of its owners to a part of its own, and both have seen what it had seen
+  pub record HasSplit (lock : TableId) (owner : ℕ) (old new part : PassOf X M) : Type 0 where
+    pub idle : IsIdle lock new × IsIdle lock part
+    pub owners : (owners_of new ≡ without owner (owners_of old)) × (owners_of part ≡ owner ∷ [])
+    pub last : (last_of new ≡ last_of old) × (last_of part ≡ last_of old)
+    pub seen : (seen_by new ≡ seen_by old) × (seen_by part ≡ seen_by old)
+
+module _ {X M : Type 0} (belongs : M → ℕ → Bool) where
+  -- a pass speaks for the owners of another too, and has seen the longer chronicle
+  pub record HasJoined (lock : TableId) (old other new : PassOf X M) : Type 0 where
+    pub idle : IsIdle lock new
+    pub owners : owners_of new ≡ owners_of old ++ owners_of other
+    pub last : last_of new ≡ last_of old
+    pub seen : seen_by new ≡ longer (seen_by old) (seen_by other)
+    pub agree : Agree belongs old other

@@ -1,8 +1,8 @@
 // The lock: its calls, each made of a few atomic steps.
-ghost use Rattle.std.specs.Prelude.{◌≡◌, ◌%◌, ◌^◌, ◌<◌, ◌++◌, length, IfOk, [], ◌∷◌, Some, MatchOption};
-ghost use Rattle.e3_turn.specs.Chronicles.{down_from, longer, without};
+ghost use Rattle.std.specs.Prelude.{◌≡◌, ◌%◌, ◌^◌, ◌<◌, length, IfOk, [], ◌∷◌, Some, MatchOption};
+ghost use Rattle.e3_turn.specs.Chronicles.{down_from};
 ghost use Rattle.e3_turn.specs.Steps.{Rests, Took, Waits};
-ghost use Rattle.e3_turn.specs.Passes.{Agree, GrewByOthers, GrewByOwners, HasTurn, IsIdle, Owns, OwnsAll, SameOwners, last_of, owners_of, seen_by};
+ghost use Rattle.e3_turn.specs.Passes.{GrewByOthers, GrewByOwners, HasJoined, HasSplit, HasTurn, IsIdle, Owns, OwnsAll, SameOwners, last_of, owners_of, seen_by};
 
 use crate::chronicle::Chronicle;
 use crate::plays::{Chooses, Draws, GivesAway, Learns, Looks, PassesOn, PutsTogether};
@@ -215,10 +215,7 @@ impl<V: Chronicle + Drop> TurnLock<V> {
         requires idle { IsIdle self.now pass.old }
         requires owns { Owns pass.old owner }
         requires keeps { 1 < length (owners_of pass.old) }
-        ensures idle { IsIdle self.now pass.new × IsIdle self.now result }
-        ensures owners { (owners_of pass.new ≡ without owner (owners_of pass.old)) × (owners_of result ≡ owner ∷ []) }
-        ensures last { (last_of pass.new ≡ last_of pass.old) × (last_of result ≡ last_of pass.old) }
-        ensures seen { (seen_by pass.new ≡ seen_by pass.old) × (seen_by result ≡ seen_by pass.old) }
+        ensures { HasSplit self.now owner pass.old pass.new result }
     {
         self.table
             .shared
@@ -231,11 +228,7 @@ impl<V: Chronicle + Drop> TurnLock<V> {
     pub fn join(&self, pass: &mut Pass<V>, other: Pass<V>)
         requires idle { IsIdle self.now pass.old }
         requires other { IsIdle self.now other }
-        ensures idle { IsIdle self.now pass.new }
-        ensures owners { owners_of pass.new ≡ owners_of pass.old ++ owners_of other }
-        ensures last { last_of pass.new ≡ last_of pass.old }
-        ensures seen { seen_by pass.new ≡ longer (seen_by pass.old) (seen_by other) }
-        ensures agree { Agree V.belongs pass.old other }
+        ensures { HasJoined V.belongs self.now pass.old other pass.new }
     {
         self.table.shared.join_seat::<PutsTogether>(pass, other);
         self.table.shared.load::<Learns<V>>(pass, DRAWN);

@@ -1,5 +1,5 @@
 -- What is always true of the marks, and what an entry asks of them.
-use Rattle.std.specs.Prelude.{◌≡◌, ◌≢◌, ◌≤◌, ◌-◌, ◌∷◌, [], ◌++◌, ℕ, true, List, length, min, take, Option, Some, None}
+use Rattle.std.specs.Prelude.{◌≡◌, ◌≢◌, ◌≤◌, ◌-◌, ◌↔◌, ◌∷◌, [], ◌++◌, ℕ, true, List, length, min, take, Option, Some, None, Result, Err, OnOk, OnErr}
 use Rattle.e3_types.specs.declared.entries.Act.{Act}
 use Rattle.e3_types.specs.declared.entries.Act.TheVariants.{Drop, Step}
 use Rattle.e3_types.specs.declared.entries.Entry.{Entry}
@@ -15,6 +15,8 @@ use Rattle.e3_world.specs.Given.{IsGiven}
 use Rattle.e3_world.specs.Items.{inputs_of}
 use Rattle.e3_world.specs.Legal.{IsLegal, first_pending, numbered}
 use Rattle.e3_world.specs.Packets.{is_calm, outs_of, present_items}
+use Rattle.e3_wire.specs.declared.fault.WireFault.{WireFault}
+use Rattle.e3_wire.specs.declared.fault.WireFault.TheVariants.{HistoryFull}
 use Rattle.e3_wire.specs.declared.marks.Mark.{Mark}
 use Rattle.e3_wire.specs.declared.marks.Mark.TheVariants as mark
 use Rattle.e3_wire.specs.Marks.{entries_of, last_owner, most_of, note_of, scenario_of, used_of}
@@ -68,6 +70,13 @@ first_few marks site most = take (min most (places_left marks)) (queue_to (scena
 -- some packet to the site is asked for and pending, and no place is left for it
 abbrev pub HasNoPlaceFor : List Mark → ℕ → ℕ → Type 0
 HasNoPlaceFor marks site most = (1 ≤ most) × (queue_to (scenario_of marks) (entries_of marks) site ≢ []) × (most_of marks ≤ used_of marks)
+
+-- The driver entered an act behind these marks, or was refused and changed nothing. It is refused for a full history exactly
+-- where entries and promised places are as many as there may be entries.
+pub record IsDriven (act : Act) (before now : List Mark) (answer : Result (Unit {0}) WireFault) : Type 0 where
+  pub entered : OnOk answer (now ≡ before ++ mark.Entered (record { owner = 0; act = act }) ∷ [])
+  pub kept : OnErr answer (now ≡ before)
+  pub full : (answer ≡ Err HistoryFull) ↔ (most_of before ≤ used_of before)
 
 -- in a recover step the first pending packet goes to this site
 abbrev pub IsInTurn : Scenario → List Entry → ℕ → Type 0

@@ -1,9 +1,9 @@
 // What is under the lock.
-ghost use Rattle.std.specs.Prelude.{◌≡◌, ◌++◌, [], ◌∷◌, ◌+◌, ◌≤◌, ◌<◌, ◌≢◌, ◌==◌, ◌↔◌, ℕ, List as Items, true, false, nat_le, length, IfOk, OnOk, OnErr, Err, Some, None, find, slice_get, option_copied};
+ghost use Rattle.std.specs.Prelude.{◌≡◌, ◌++◌, [], ◌∷◌, ◌+◌, ◌≤◌, ◌<◌, ◌≢◌, ◌==◌, ◌↔◌, ℕ, List as Items, true, false, nat_le, length, IfOk, OnOk, OnErr, Err, None, find};
 ghost use Rattle.e3_law_local.specs.Others.{numbered_on};
 ghost use Rattle.e3_types.specs.declared.entries.Act.TheVariants as act;
 ghost use Rattle.e3_wire.specs.Marks.{entries_of, last_owner, most_of, note_of, places_for, scenario_of, used_of};
-ghost use Rattle.e3_wire.specs.Wires.{EndsInPromise, HasNoPlaceFor, IsDroppedFor, IsInTurn, IsPlayed, MayEnterBehind, first_few, places_left};
+ghost use Rattle.e3_wire.specs.Wires.{EndsInPromise, HasNoPlaceFor, IsDriven, IsDroppedFor, IsInTurn, IsPlayed, MayEnterBehind, first_few, places_left};
 ghost use Rattle.e3_wire.specs.declared.fault.WireFault.TheVariants.{HistoryFull};
 ghost use Rattle.e3_wire.specs.declared.marks.Mark.{Mark as MarkValue};
 ghost use Rattle.e3_wire.specs.declared.marks.Mark.TheVariants as mark;
@@ -12,7 +12,7 @@ ghost use Rattle.e3_world.specs.Items.{is_up_at};
 ghost use Rattle.e3_world.specs.Legal.{IsLine, IsParts, first_pending};
 ghost use Rattle.e3_world.specs.Packets.{pending};
 
-use crate::growing::{make_room, push, push_places};
+use crate::growing::Store;
 use crate::passing::{is_calm_in, pass_on};
 use crate::promises::{no_notes, note_act, note_claim, note_freed, unnote_claim};
 use crate::{Mark, Note, Stored, WireFault};
@@ -30,14 +30,11 @@ pub struct Shared {
     scenario: Scenario,
     most: u32,
     net: Net,
-    history: History,
-    stored: Vec<Stored>,
+    store: Store,
     // What is promised to each owner, that of the driver first; and in all, how many places, and room for how many packets.
     notes: Vec<Note>,
     places: u64,
     room: u64,
-    // For how many more entries the history has room at least.
-    spare: u64,
 }
 
 impl Model for Shared {
@@ -48,10 +45,10 @@ impl Model for Shared {
 
     ghost use Rattle.e3_wire.specs.Stores.{IsKept, marks_from};
 
-    ghost view = { λ s. marks_from s.scenario s.most s.history.entries s.stored.items };
+    ghost view = { λ s. marks_from s.scenario s.most s.store.history.entries s.store.stored.items };
 
-    ghost invariant = { λ s. IsKept s.scenario s.most s.history.entries s.stored.items s.net.traffic s.notes.items s.places s.room
-        s.spare s.history.room (vec_capacity s.stored) s.net.room };
+    ghost invariant = { λ s. IsKept s.scenario s.most s.store.history.entries s.store.stored.items s.net.traffic s.notes.items s.places s.room
+        s.store.spare s.store.history.room (vec_capacity s.store.stored) s.net.room };
 }
 
 impl Chronicle for Shared {
@@ -72,24 +69,16 @@ impl Shared {
     {
         let sites = scenario.weights.len();
         let notes = no_notes(alloc, sites as usize + 1)?;
-        let net = Net::new(
-            alloc,
-            sites as u32,
-            scenario.luck,
-            scenario.loss,
-            scenario.repeat,
-        )?;
+        let net = Net::of(alloc, &scenario)?;
         Ok(Shared {
             alloc,
             scenario,
             most,
             net,
-            history: History::new(alloc),
-            stored: Vec::new(alloc),
+            store: Store::new(alloc),
             notes,
             places: 0,
             room: 0,
-            spare: 0,
         })
     }
 
@@ -116,21 +105,21 @@ impl Shared {
     pub fn history(&self) -> &[Entry]
         ensures { result.now ≡ entries_of self.now }
     {
-        self.history.as_slice()
+        self.store.history.as_slice()
     }
 
     /// Its entries and promised places are as many as it may have entries.
     pub fn is_full(&self) -> bool
         ensures { result ≡ nat_le (most_of self.now) (used_of self.now) }
     {
-        u64::from(self.most) <= self.history.len() + self.places
+        u64::from(self.most) <= self.store.history.len() + self.places
     }
 
     // How many places are neither used nor promised.
     fn places_left(&self) -> u32
         ensures { result ≡ places_left self.now }
     {
-        let used = self.history.len() + self.places;
+        let used = self.store.history.len() + self.places;
         u64::from(self.most).saturating_sub(used) as u32
     }
 
@@ -171,14 +160,10 @@ impl Shared {
             return Err(NoMemory);
         }
         self.net.reserve(wanted)?;
-        make_room(
-            &mut self.history,
-            &mut self.spare,
-            &mut self.stored,
-            self.places,
-            1,
-        )?;
-        self.stored.push_reserved(Stored::Place { owner, outs });
+        self.store.make_room(self.places, 1)?;
+        self.store
+            .stored
+            .push_reserved(Stored::Place { owner, outs });
         note_claim(&mut self.notes, owner, 1, outs);
         self.places += 1;
         self.room = room;
@@ -208,14 +193,8 @@ impl Shared {
         ensures ok { OnOk result (self.new ≡ self.old ++ places_for owner count) }
         ensures kept { OnErr result (self.new ≡ self.old) }
     {
-        make_room(
-            &mut self.history,
-            &mut self.spare,
-            &mut self.stored,
-            self.places,
-            count,
-        )?;
-        push_places(&mut self.stored, owner, count);
+        self.store.make_room(self.places, count)?;
+        self.store.push_places(owner, count);
         note_claim(&mut self.notes, owner, count, 0);
         self.places += u64::from(count);
         Ok(())
@@ -259,7 +238,7 @@ impl Shared {
         ensures { self.new ≡ self.old ++ mark.Freed owner ∷ [] }
     {
         let was = note_freed(&mut self.notes, owner);
-        self.stored.push_reserved(Stored::Freed { owner });
+        self.store.stored.push_reserved(Stored::Freed { owner });
         self.places -= was.places;
         self.room -= was.room;
     }
@@ -270,8 +249,8 @@ impl Shared {
         requires { (before : Items MarkValue) × EndsInPromise owner outs before self.old }
         ensures { (before : Items MarkValue) → self.old ≡ before ++ mark.Place owner outs ∷ [] → self.new ≡ before }
     {
-        let kept = self.stored.as_slice().len() - 1;
-        self.stored.truncate(kept);
+        let kept = self.store.stored.as_slice().len() - 1;
+        self.store.stored.truncate(kept);
         unnote_claim(&mut self.notes, owner, outs);
         self.places -= 1;
         self.room -= u64::from(outs);
@@ -286,12 +265,7 @@ impl Shared {
         let owner = entry.owner;
         let act = pass_on(&mut self.net, entry.act);
         let used = note_act(&mut self.notes, owner, &act);
-        push(
-            &mut self.history,
-            &mut self.spare,
-            &mut self.stored,
-            Entry { owner, act },
-        );
+        self.store.push(Entry { owner, act });
         self.places -= used.places;
         self.room -= used.room;
     }
@@ -300,31 +274,18 @@ impl Shared {
     /// exactly where the entries and promised places are as many as there may be entries.
     pub fn line(&mut self, number: u32) -> Result<(), WireFault>
         requires { IsLine (scenario_of self.old) (entries_of self.old) number }
-        ensures entered { OnOk result (self.new ≡ self.old ++ mark.Entered (record { owner = 0; act = act.Line number }) ∷ []) }
-        ensures kept { OnErr result (self.new ≡ self.old) }
-        ensures full { (result ≡ Err HistoryFull) ↔ (most_of self.old ≤ used_of self.old) }
+        ensures { IsDriven (act.Line number) self.old self.new result }
     {
         if self.is_full() {
             return Err(WireFault::HistoryFull);
         }
-        make_room(
-            &mut self.history,
-            &mut self.spare,
-            &mut self.stored,
-            self.places,
-            1,
-        )?;
+        self.store.make_room(self.places, 1)?;
         let calm = is_calm_in(&self.scenario, number);
         self.net.calm(calm);
-        push(
-            &mut self.history,
-            &mut self.spare,
-            &mut self.stored,
-            Entry {
-                owner: 0,
-                act: Act::Line { number },
-            },
-        );
+        self.store.push(Entry {
+            owner: 0,
+            act: Act::Line { number },
+        });
         Ok(())
     }
 
@@ -332,31 +293,18 @@ impl Shared {
     /// where the entries and promised places are as many as there may be entries.
     pub fn parts(&mut self, parted: List<SiteSet>) -> Result<(), WireFault>
         requires { IsParts (scenario_of self.old) (entries_of self.old) parted }
-        ensures entered { OnOk result (self.new ≡ self.old ++ mark.Entered (record { owner = 0; act = act.Parts parted }) ∷ []) }
-        ensures kept { OnErr result (self.new ≡ self.old) }
-        ensures full { (result ≡ Err HistoryFull) ↔ (most_of self.old ≤ used_of self.old) }
+        ensures { IsDriven (act.Parts parted) self.old self.new result }
     {
         if self.is_full() {
             return Err(WireFault::HistoryFull);
         }
-        make_room(
-            &mut self.history,
-            &mut self.spare,
-            &mut self.stored,
-            self.places,
-            1,
-        )?;
+        self.store.make_room(self.places, 1)?;
         let kept = parted.copied(self.alloc)?;
         self.net.parts(kept);
-        push(
-            &mut self.history,
-            &mut self.spare,
-            &mut self.stored,
-            Entry {
-                owner: 0,
-                act: Act::Parts { parts: parted },
-            },
-        );
+        self.store.push(Entry {
+            owner: 0,
+            act: Act::Parts { parts: parted },
+        });
         Ok(())
     }
 
@@ -377,42 +325,22 @@ impl Shared {
         if self.is_full() {
             return Err(WireFault::HistoryFull);
         }
-        make_room(
-            &mut self.history,
-            &mut self.spare,
-            &mut self.stored,
-            self.places,
-            1,
-        )?;
+        self.store.make_room(self.places, 1)?;
         let _taken = self.net.take(site);
-        push(
-            &mut self.history,
-            &mut self.spare,
-            &mut self.stored,
-            Entry {
-                owner: 0,
-                act: Act::Drop {
-                    packet: packet.number,
-                },
+        self.store.push(Entry {
+            owner: 0,
+            act: Act::Drop {
+                packet: packet.number,
             },
-        );
+        });
         Ok(Some(packet.number))
-    }
-
-    /// A copy of the entry at this place, counted from 0; none past the end. Want of memory is the only error.
-    pub fn entry(&self, alloc: Global, at: u64) -> Result<Option<Entry>, NoMemory>
-        ensures { IfOk result (λ found. found ≡ slice_get (entries_of self.now) at) }
-    {
-        match self.history.entry(at) {
-            Some(entry) => Ok(Some(entry.copied(alloc)?)),
-            None => Ok(None),
-        }
     }
 
     /// The history. What was promised and not used falls away.
     pub fn close(self) -> History
         ensures { result.entries ≡ entries_of self }
     {
-        self.history
+        let store = self.store;
+        store.history
     }
 }

@@ -1,8 +1,8 @@
 // The wire, in turns.
-ghost use Rattle.std.specs.Prelude.{◌≡◌, ◌<◌, ◌≤◌, ◌++◌, ◌∷◌, ◌↔◌, [], ℕ, List as Items, length, nat_le, true, IfOk, OnOk, OnErr, Err, slice_get};
+ghost use Rattle.std.specs.Prelude.{◌≡◌, ◌<◌, ◌≤◌, ◌++◌, ◌∷◌, ◌↔◌, [], ℕ, List as Items, length, true, IfOk, OnOk, OnErr, Err};
 ghost use Rattle.e3_law_local.specs.Others.{numbered_on};
-ghost use Rattle.e3_turn.specs.Chronicles.{down_from, longer, without};
-ghost use Rattle.e3_turn.specs.Passes.{Agree, GrewByOthers, GrewByOwners, HasTurn, IsIdle, Owns, OwnsAll, SameOwners, last_of, owners_of, seen_by};
+ghost use Rattle.e3_turn.specs.Chronicles.{down_from};
+ghost use Rattle.e3_turn.specs.Passes.{GrewByOthers, GrewByOwners, HasJoined, HasSplit, HasTurn, IsIdle, Owns, OwnsAll, SameOwners, last_of, owners_of, seen_by};
 ghost use Rattle.e3_types.specs.declared.entries.Act.TheVariants as act;
 ghost use Rattle.e3_wire.specs.Marks.{belongs, entries_of, last_owner, most_of, places_for, scenario_of, used_of};
 ghost use Rattle.e3_wire.specs.Wires.{HasNoPlaceFor, IsPlayed, MayEnterBehind, first_few};
@@ -10,12 +10,11 @@ ghost use Rattle.e3_wire.specs.declared.fault.WireFault.TheVariants.{HistoryFull
 ghost use Rattle.e3_wire.specs.declared.marks.Mark.{Mark};
 ghost use Rattle.e3_wire.specs.declared.marks.Mark.TheVariants as mark;
 ghost use Rattle.e3_world.specs.Given.{IsGiven};
-ghost use Rattle.e3_world.specs.Legal.{first_pending};
 ghost use Rattle.e3_world.specs.Packets.{is_calm, present_items};
 
 use crate::{Shared, WireFault};
 use e3_turn::{Pass, TurnLock};
-use e3_types::{Copied, Entry, List, NoMemory, Packet, Scenario};
+use e3_types::{Entry, List, NoMemory, Packet, Scenario};
 use e3_world::History;
 use std::alloc::Global;
 use std::marker::Model;
@@ -138,36 +137,6 @@ impl Wire {
         found
     }
 
-    /// The pending packet of least number, if one is pending; it stays pending.
-    pub fn first<R: Wait>(&self, rt: &R, pass: &mut WirePass) -> Option<Packet>
-        requires { IsIdle self.now pass.old }
-        ensures idle { IsIdle self.now pass.new }
-        ensures same { SameOwners pass.old pass.new }
-        ensures grew { GrewByOthers belongs pass.old (seen_by pass.new) }
-        ensures found { result ≡ first_pending (scenario_of (seen_by pass.new)) (entries_of (seen_by pass.new)) }
-        ensures played { IsPlayed (seen_by pass.new) }
-    {
-        let shared = self.take(rt, pass);
-        let found = shared.first();
-        self.put(pass, shared);
-        found
-    }
-
-    /// The entries and promised places that the pass has seen then are as many as there may be entries.
-    pub fn is_full<R: Wait>(&self, rt: &R, pass: &mut WirePass) -> bool
-        requires { IsIdle self.now pass.old }
-        ensures idle { IsIdle self.now pass.new }
-        ensures same { SameOwners pass.old pass.new }
-        ensures grew { GrewByOthers belongs pass.old (seen_by pass.new) }
-        ensures is { result ≡ nat_le (most_of (seen_by pass.new)) (used_of (seen_by pass.new)) }
-        ensures played { IsPlayed (seen_by pass.new) }
-    {
-        let shared = self.take(rt, pass);
-        let full = shared.is_full();
-        self.put(pass, shared);
-        full
-    }
-
     /// The number of entries of the history that the pass has seen then.
     pub fn len<R: Wait>(&self, rt: &R, pass: &mut WirePass) -> u64
         requires { IsIdle self.now pass.old }
@@ -181,28 +150,6 @@ impl Wire {
         let len = shared.history().len() as u64;
         self.put(pass, shared);
         len
-    }
-
-    /// A copy of the entry at this place, counted from 0, of the history that the pass has seen then; none past its end.
-    /// Want of memory is the only error.
-    pub fn entry<R: Wait>(
-        &self,
-        rt: &R,
-        alloc: Global,
-        pass: &mut WirePass,
-        at: u64,
-    ) -> Result<Option<Entry>, NoMemory>
-        requires { IsIdle self.now pass.old }
-        ensures idle { IsIdle self.now pass.new }
-        ensures same { SameOwners pass.old pass.new }
-        ensures grew { GrewByOthers belongs pass.old (seen_by pass.new) }
-        ensures found { IfOk result (λ found. found ≡ slice_get (entries_of (seen_by pass.new)) at) }
-        ensures played { IsPlayed (seen_by pass.new) }
-    {
-        let shared = self.take(rt, pass);
-        let found = shared.entry(alloc, at);
-        self.put(pass, shared);
-        found
     }
 
     /// Enters an entry of a site of the pass, behind all that is entered now. It was allowed, but for the numbers of its
@@ -229,10 +176,7 @@ impl Wire {
         requires idle { IsIdle self.now pass.old }
         requires owns { Owns pass.old owner }
         requires keeps { 1 < length (owners_of pass.old) }
-        ensures idle { IsIdle self.now pass.new × IsIdle self.now result }
-        ensures owners { (owners_of pass.new ≡ without owner (owners_of pass.old)) × (owners_of result ≡ owner ∷ []) }
-        ensures last { (last_of pass.new ≡ last_of pass.old) × (last_of result ≡ last_of pass.old) }
-        ensures seen { (seen_by pass.new ≡ seen_by pass.old) × (seen_by result ≡ seen_by pass.old) }
+        ensures { HasSplit self.now owner pass.old pass.new result }
     {
         self.lock.split(pass, owner)
     }
@@ -241,11 +185,7 @@ impl Wire {
     pub fn join(&self, pass: &mut WirePass, other: WirePass)
         requires idle { IsIdle self.now pass.old }
         requires other { IsIdle self.now other }
-        ensures idle { IsIdle self.now pass.new }
-        ensures owners { owners_of pass.new ≡ owners_of pass.old ++ owners_of other }
-        ensures last { last_of pass.new ≡ last_of pass.old }
-        ensures seen { seen_by pass.new ≡ longer (seen_by pass.old) (seen_by other) }
-        ensures agree { Agree belongs pass.old other }
+        ensures { HasJoined belongs self.now pass.old other pass.new }
     {
         self.lock.join(pass, other);
     }

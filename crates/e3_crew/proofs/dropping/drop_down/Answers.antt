@@ -19,7 +19,7 @@ drop_in-dropped-requires-clause-restless g c =
 
 pub drop_in-dropped-requires-clause-standing : goal.drop_in-dropped-requires-clause-standing
 drop_in-dropped-requires-clause-standing g c i d low =
-    let P : List Mark → Type 0 = λ l. NodeStands g.D.Disk.content g.D.Disk.image g.D.Disk.meters (scenario_of l) (entries_of l) (slice_index_or c.args.workers.now i d).node in
+    let P : List Mark → Type 0 = λ l. NodeStands g.D.Disk.meaning (scenario_of l) (entries_of l) (slice_index_or c.args.workers.now i d).node in
     subst P (sym (alone c.args.pass.now c.take-shared.result c.requires.crew.all c.take-shared.ensures.grew)) (c.requires.crew.each i d low).stands
 
 pub put-requires-clause-grew : goal.put-requires-clause-grew
@@ -33,41 +33,37 @@ put-requires-clause-grew g c =
     (d.is ∙ ap (λ l. l ++ d.drops) (sym c.take-shared.ensures.seen))
     (drops_owned (last_of c.take-shared.new.pass) d.drops d.are)
 
-pub returns-clause-crew : goal.returns-clause-crew
-returns-clause-crew g c =
-    crew_dropped g.D.Disk.content g.D.Disk.image g.D.Disk.meters c.others_leave_nodes.ensures.nodes c.args.wire.now c.args.pass.now c.put.new.pass c.args.workers.now c.requires.crew (came c.args.pass.now c.put.new.pass c.take-shared.result c.drop_in-dropped.new.shared c.requires.crew.all c.take-shared.ensures.grew c.drop_in-dropped.ensures.dropped c.put.ensures.seen)
-    c.put.ensures.idle (same_owners c.args.pass.now c.take-shared.new.pass c.put.new.pass c.take-shared.ensures.same c.put.ensures.same) c.put.ensures.played
+pub returns-clause-went : goal.returns-clause-went
+returns-clause-went g c = record {
+  crew =
+      crew_dropped g.D.Disk.meaning c.others_leave_nodes.ensures.nodes c.args.wire.now c.args.pass.now c.put.new.pass c.args.workers.now c.requires.crew (came c.args.pass.now c.put.new.pass c.take-shared.result c.drop_in-dropped.new.shared c.requires.crew.all c.take-shared.ensures.grew c.drop_in-dropped.ensures.dropped c.put.ensures.seen)
+      c.put.ensures.idle (same_owners c.args.pass.now c.take-shared.new.pass c.put.new.pass c.take-shared.ensures.same c.put.ensures.same) c.put.ensures.played;
+  on =
+      dropped_gone_on g.D.Disk.meaning c.others_leave_nodes.ensures.nodes c.args.wire.now c.args.pass.now c.put.new.pass c.args.workers.now c.requires.crew (came c.args.pass.now c.put.new.pass c.take-shared.result c.drop_in-dropped.new.shared c.requires.crew.all c.take-shared.ensures.grew c.drop_in-dropped.ensures.dropped c.put.ensures.seen)
+      c.put.ensures.idle (same_owners c.args.pass.now c.take-shared.new.pass c.put.new.pass c.take-shared.ensures.same c.put.ensures.same) c.put.ensures.played;
+  delivering =
+      dropped_through (seen_by c.args.pass.now) (seen_by c.put.new.pass) c.requires.crew.played c.put.ensures.played
+      (came c.args.pass.now c.put.new.pass c.take-shared.result c.drop_in-dropped.new.shared c.requires.crew.all c.take-shared.ensures.grew c.drop_in-dropped.ensures.dropped c.put.ensures.seen)
+      c.requires.delivering;
+}
 
-pub returns-clause-on : goal.returns-clause-on
-returns-clause-on g c =
-    dropped_gone_on g.D.Disk.content g.D.Disk.image g.D.Disk.meters c.others_leave_nodes.ensures.nodes c.args.wire.now c.args.pass.now c.put.new.pass c.args.workers.now c.requires.crew (came c.args.pass.now c.put.new.pass c.take-shared.result c.drop_in-dropped.new.shared c.requires.crew.all c.take-shared.ensures.grew c.drop_in-dropped.ensures.dropped c.put.ensures.seen)
-    c.put.ensures.idle (same_owners c.args.pass.now c.take-shared.new.pass c.put.new.pass c.take-shared.ensures.same c.put.ensures.same) c.put.ensures.played
-
-pub returns-clause-delivering : goal.returns-clause-delivering
-returns-clause-delivering g c =
-    dropped_through (seen_by c.args.pass.now) (seen_by c.put.new.pass) c.requires.crew.played c.put.ensures.played
-    (came c.args.pass.now c.put.new.pass c.take-shared.result c.drop_in-dropped.new.shared c.requires.crew.all c.take-shared.ensures.grew c.drop_in-dropped.ensures.dropped c.put.ensures.seen)
-    c.requires.delivering
-
-pub returns-in_err-dropped-clause-crew : goal.returns-in_err-dropped-clause-crew
-returns-in_err-dropped-clause-crew g c =
-    crew_dropped g.D.Disk.content g.D.Disk.image g.D.Disk.meters c.others_leave_nodes.ensures.nodes c.args.wire.now c.args.pass.now c.put.new.pass c.args.workers.now c.requires.crew (came c.args.pass.now c.put.new.pass c.take-shared.result c.drop_in-dropped.new.shared c.requires.crew.all c.take-shared.ensures.grew c.drop_in-dropped.ensures.dropped c.put.ensures.seen)
-    c.put.ensures.idle (same_owners c.args.pass.now c.take-shared.new.pass c.put.new.pass c.take-shared.ensures.same c.put.ensures.same) c.put.ensures.played
-
-pub returns-in_err-dropped-clause-on : goal.returns-in_err-dropped-clause-on
-returns-in_err-dropped-clause-on g c =
-    dropped_gone_on g.D.Disk.content g.D.Disk.image g.D.Disk.meters c.others_leave_nodes.ensures.nodes c.args.wire.now c.args.pass.now c.put.new.pass c.args.workers.now c.requires.crew (came c.args.pass.now c.put.new.pass c.take-shared.result c.drop_in-dropped.new.shared c.requires.crew.all c.take-shared.ensures.grew c.drop_in-dropped.ensures.dropped c.put.ensures.seen)
-    c.put.ensures.idle (same_owners c.args.pass.now c.take-shared.new.pass c.put.new.pass c.take-shared.ensures.same c.put.ensures.same) c.put.ensures.played
-
-pub returns-in_err-dropped-clause-delivering : goal.returns-in_err-dropped-clause-delivering
-returns-in_err-dropped-clause-delivering g c =
-    dropped_through (seen_by c.args.pass.now) (seen_by c.put.new.pass) c.requires.crew.played c.put.ensures.played
-    (came c.args.pass.now c.put.new.pass c.take-shared.result c.drop_in-dropped.new.shared c.requires.crew.all c.take-shared.ensures.grew c.drop_in-dropped.ensures.dropped c.put.ensures.seen)
-    c.requires.delivering
+pub returns-in_err-dropped-clause-went : goal.returns-in_err-dropped-clause-went
+returns-in_err-dropped-clause-went g c = record {
+  crew =
+      crew_dropped g.D.Disk.meaning c.others_leave_nodes.ensures.nodes c.args.wire.now c.args.pass.now c.put.new.pass c.args.workers.now c.requires.crew (came c.args.pass.now c.put.new.pass c.take-shared.result c.drop_in-dropped.new.shared c.requires.crew.all c.take-shared.ensures.grew c.drop_in-dropped.ensures.dropped c.put.ensures.seen)
+      c.put.ensures.idle (same_owners c.args.pass.now c.take-shared.new.pass c.put.new.pass c.take-shared.ensures.same c.put.ensures.same) c.put.ensures.played;
+  on =
+      dropped_gone_on g.D.Disk.meaning c.others_leave_nodes.ensures.nodes c.args.wire.now c.args.pass.now c.put.new.pass c.args.workers.now c.requires.crew (came c.args.pass.now c.put.new.pass c.take-shared.result c.drop_in-dropped.new.shared c.requires.crew.all c.take-shared.ensures.grew c.drop_in-dropped.ensures.dropped c.put.ensures.seen)
+      c.put.ensures.idle (same_owners c.args.pass.now c.take-shared.new.pass c.put.new.pass c.take-shared.ensures.same c.put.ensures.same) c.put.ensures.played;
+  delivering =
+      dropped_through (seen_by c.args.pass.now) (seen_by c.put.new.pass) c.requires.crew.played c.put.ensures.played
+      (came c.args.pass.now c.put.new.pass c.take-shared.result c.drop_in-dropped.new.shared c.requires.crew.all c.take-shared.ensures.grew c.drop_in-dropped.ensures.dropped c.put.ensures.seen)
+      c.requires.delivering;
+}
 
 pub returns-clause-none : goal.returns-clause-none
 returns-clause-none g c = λ zero.
-    let on = dropped_gone_on g.D.Disk.content g.D.Disk.image g.D.Disk.meters c.others_leave_nodes.ensures.nodes c.args.wire.now c.args.pass.now c.put.new.pass c.args.workers.now c.requires.crew (came c.args.pass.now c.put.new.pass c.take-shared.result c.drop_in-dropped.new.shared c.requires.crew.all c.take-shared.ensures.grew c.drop_in-dropped.ensures.dropped c.put.ensures.seen)
+    let on = dropped_gone_on g.D.Disk.meaning c.others_leave_nodes.ensures.nodes c.args.wire.now c.args.pass.now c.put.new.pass c.args.workers.now c.requires.crew (came c.args.pass.now c.put.new.pass c.take-shared.result c.drop_in-dropped.new.shared c.requires.crew.all c.take-shared.ensures.grew c.drop_in-dropped.ensures.dropped c.put.ensures.seen)
     c.put.ensures.idle (same_owners c.args.pass.now c.take-shared.new.pass c.put.new.pass c.take-shared.ensures.same c.put.ensures.same) c.put.ensures.played in
     let P : List Mark → Type 0 = λ l. pending (scenario_of l) (entries_of l) ≡ [] in
     settled_on (seen_by c.args.pass.now) (seen_by c.put.new.pass) on.scenario (entries_of (seen_by c.put.new.pass)) (subst P (sym c.put.ensures.seen) (c.busy_sites-busy.ensures zero))
@@ -75,7 +71,7 @@ returns-clause-none g c = λ zero.
 pub returns-in_err-dropped-clause-full : goal.returns-in_err-dropped-clause-full
 returns-in_err-dropped-clause-full g c = λ is.
     let full : c.drop_in-dropped.result ≡ Err HistoryFull = search rules in
-    let crew = crew_dropped g.D.Disk.content g.D.Disk.image g.D.Disk.meters c.others_leave_nodes.ensures.nodes c.args.wire.now c.args.pass.now c.put.new.pass c.args.workers.now c.requires.crew (came c.args.pass.now c.put.new.pass c.take-shared.result c.drop_in-dropped.new.shared c.requires.crew.all c.take-shared.ensures.grew c.drop_in-dropped.ensures.dropped c.put.ensures.seen)
+    let crew = crew_dropped g.D.Disk.meaning c.others_leave_nodes.ensures.nodes c.args.wire.now c.args.pass.now c.put.new.pass c.args.workers.now c.requires.crew (came c.args.pass.now c.put.new.pass c.take-shared.result c.drop_in-dropped.new.shared c.requires.crew.all c.take-shared.ensures.grew c.drop_in-dropped.ensures.dropped c.put.ensures.seen)
     c.put.ensures.idle (same_owners c.args.pass.now c.take-shared.new.pass c.put.new.pass c.take-shared.ensures.same c.put.ensures.same) c.put.ensures.played in
     drop_full c.marks_add_up.ensures.none (seen_by c.args.pass.now) (seen_by c.put.new.pass) c.requires.crew.played c.put.ensures.played
     (came c.args.pass.now c.put.new.pass c.take-shared.result c.drop_in-dropped.new.shared c.requires.crew.all c.take-shared.ensures.grew c.drop_in-dropped.ensures.dropped c.put.ensures.seen)

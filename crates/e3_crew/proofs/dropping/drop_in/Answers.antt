@@ -11,8 +11,8 @@ drop_to-requires-clause-restless g c = dropped_restless c.args.shared.now c.loop
 pub drop_to-requires-clause-standing : goal.drop_to-requires-clause-standing
 drop_to-requires-clause-standing g c =
     let w = c.worker-item.result in
-    dropped_stands g.D.Disk.content g.D.Disk.image g.D.Disk.meters c.others_leave_nodes.ensures.nodes c.args.shared.now c.loop-worker.shared c.requires.played c.loop-worker.invariant.dropped w.node
-    (subst (λ (z : Worker g.row.D.Denot). NodeStands g.D.Disk.content g.D.Disk.image g.D.Disk.meters (scenario_of c.args.shared.now) (entries_of c.args.shared.now) z.node) (sym c.worker-item.is)
+    dropped_stands g.D.Disk.meaning c.others_leave_nodes.ensures.nodes c.args.shared.now c.loop-worker.shared c.requires.played c.loop-worker.invariant.dropped w.node
+    (subst (λ (z : Worker g.row.D.Denot). NodeStands g.D.Disk.meaning (scenario_of c.args.shared.now) (entries_of c.args.shared.now) z.node) (sym c.worker-item.is)
     (c.requires.standing c.loop-worker.worker-index w c.loop-worker-test.true))
 
 pub loop-worker-preserved : goal.loop-worker-preserved

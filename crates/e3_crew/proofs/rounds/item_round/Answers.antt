@@ -16,7 +16,7 @@ deal-requires-clause-sites g c i d low = (c.requires.crew.each i d low).site
 pub all_take-requires-after_bounds : goal.all_take-requires-after_bounds
 all_take-requires-after_bounds g c κs lives k d lt =
     let low : k < length c.args.workers.now = omega (arith, lt, c.deal.auto.workers) in
-    can_take g.D.Disk.content g.D.Disk.image g.D.Disk.meters c.args.wire.now c.args.pass.now c.args.workers.now (slice_index_or c.deal.new.workers k d) k d c.requires.crew low
+    can_take g.D.Disk.meaning c.args.works.now.wire.now c.args.pass.now c.args.workers.now (slice_index_or c.deal.new.workers k d) k d c.requires.crew low
     (c.deal.ensures.dealt k d low) (c.requires.items k d low) c.requires.fresh
 
 pub gather-requires-clause-played : goal.gather-requires-clause-played
@@ -33,7 +33,7 @@ gather-requires-clause-each_played g c i d lt =
     (c.all_take.ensures i d (omega (arith, lt, c.all_take.auto.workers))).worked.knows.played
 
 pub returns-clause-crew : goal.returns-clause-crew
-returns-clause-crew g c = crew_again g.D.Disk.content g.D.Disk.image g.D.Disk.meters c.others_leave_nodes.ensures.nodes c.args.wire.now c.args.pass.now c.gather.new.pass c.args.workers.now c.deal.new.workers c.all_take.new.workers c.gather.new.workers
+returns-clause-crew g c = crew_again g.D.Disk.meaning c.others_leave_nodes.ensures.nodes c.args.works.now.wire.now c.args.pass.now c.gather.new.pass c.args.workers.now c.deal.new.workers c.all_take.new.workers c.gather.new.workers
     (record {
       was = c.requires.crew;
       dealt_count = c.deal.auto.workers;
@@ -51,7 +51,7 @@ returns-clause-crew g c = crew_again g.D.Disk.content g.D.Disk.image g.D.Disk.me
     })
 
 pub returns-clause-on : goal.returns-clause-on
-returns-clause-on g c = gone_on g.D.Disk.content g.D.Disk.image g.D.Disk.meters c.others_leave_nodes.ensures.nodes c.args.wire.now c.args.pass.now c.gather.new.pass c.args.workers.now c.deal.new.workers c.all_take.new.workers c.gather.new.workers
+returns-clause-on g c = gone_on g.D.Disk.meaning c.others_leave_nodes.ensures.nodes c.args.works.now.wire.now c.args.pass.now c.gather.new.pass c.args.workers.now c.deal.new.workers c.all_take.new.workers c.gather.new.workers
     (record {
       was = c.requires.crew;
       dealt_count = c.deal.auto.workers;
@@ -69,7 +69,7 @@ returns-clause-on g c = gone_on g.D.Disk.content g.D.Disk.image g.D.Disk.meters 
     })
 
 pub returns-clause-done : goal.returns-clause-done
-returns-clause-done g c = items_done g.D.Disk.content g.D.Disk.image g.D.Disk.meters c.others_leave_nodes.ensures.nodes c.args.wire.now c.args.pass.now c.gather.new.pass c.args.workers.now c.deal.new.workers c.all_take.new.workers c.gather.new.workers
+returns-clause-done g c = items_done g.D.Disk.meaning c.others_leave_nodes.ensures.nodes c.args.works.now.wire.now c.args.pass.now c.gather.new.pass c.args.workers.now c.deal.new.workers c.all_take.new.workers c.gather.new.workers
     (record {
       was = c.requires.crew;
       dealt_count = c.deal.auto.workers;
@@ -88,7 +88,7 @@ returns-clause-done g c = items_done g.D.Disk.content g.D.Disk.image g.D.Disk.me
     (λ i d low. c.all_take.ensures i d (omega (arith, low, c.deal.auto.workers))) c.ended.result c.ended.ensures.well
 
 pub returns-clause-full : goal.returns-clause-full
-returns-clause-full g c = λ is. items_full g.D.Disk.content g.D.Disk.image g.D.Disk.meters c.others_leave_nodes.ensures.nodes c.args.wire.now c.args.pass.now c.gather.new.pass c.args.workers.now c.deal.new.workers c.all_take.new.workers c.gather.new.workers
+returns-clause-full g c = λ is. items_full g.D.Disk.meaning c.others_leave_nodes.ensures.nodes c.args.works.now.wire.now c.args.pass.now c.gather.new.pass c.args.workers.now c.deal.new.workers c.all_take.new.workers c.gather.new.workers
     (record {
       was = c.requires.crew;
       dealt_count = c.deal.auto.workers;

@@ -9,45 +9,49 @@ use Rattle.e3_crew.proofs.settling.deliver.Goals as goal
 pub loop-init : goal.loop-init
 loop-init g c = record {
   crew = c.requires.crew;
-  on = gone_none g.D.Disk.meters (seen_by c.args.pass.now) c.args.workers.now c.args.workers.now refl (λ i d low. refl);
+  on = gone_none g.D.Disk.meaning.meters (seen_by c.args.pass.now) c.args.workers.now c.args.workers.now refl (λ i d low. refl);
   delivering = c.requires.delivering;
 }
 
-pub drop_down-requires-clause-begun : goal.drop_down-requires-clause-begun
-drop_down-requires-clause-begun g c = begun_on (history_seen c.args.pass.now) (history_seen c.loop.pass) (scenario_seen c.args.pass.now) c.loop.invariant.on.grown c.requires.begun
+pub drop_down-requires : goal.drop_down-requires
+drop_down-requires g c = record {
+  crew = c.loop.invariant.crew;
+  begun = begun_on (history_seen c.args.pass.now) (history_seen c.loop.pass) (scenario_seen c.args.pass.now) c.loop.invariant.on.grown c.requires.begun;
+  delivering = delivering_back (seen_by c.args.pass.now) (seen_by c.loop.pass) c.loop.invariant.on.scenario (history_seen c.loop.pass) c.loop.invariant.delivering;
+}
 
-pub drop_down-requires-clause-delivering : goal.drop_down-requires-clause-delivering
-drop_down-requires-clause-delivering g c = delivering_back (seen_by c.args.pass.now) (seen_by c.loop.pass) c.loop.invariant.on.scenario (history_seen c.loop.pass) c.loop.invariant.delivering
-
-pub packet_round-requires-clause-begun : goal.packet_round-requires-clause-begun
-packet_round-requires-clause-begun g c κs lives =
-    let on = (gone_further g.D.Disk.meters (seen_by c.args.pass.now) (seen_by c.loop.pass) (seen_by c.drop_down.new.pass) c.args.workers.now c.loop.workers c.loop.workers c.loop.invariant.on c.drop_down.ensures.on) in
-    begun_on (history_seen c.args.pass.now) (history_seen c.drop_down.new.pass) (scenario_seen c.args.pass.now) on.grown c.requires.begun
-
-pub packet_round-requires-clause-delivering : goal.packet_round-requires-clause-delivering
-packet_round-requires-clause-delivering g c κs lives =
-    delivering_back (seen_by c.loop.pass) (seen_by c.drop_down.new.pass) c.drop_down.ensures.on.scenario (history_seen c.drop_down.new.pass) c.drop_down.ensures.delivering
+pub packet_round-requires-after_bounds : goal.packet_round-requires-after_bounds
+packet_round-requires-after_bounds g c κs lives = record {
+  crew = c.drop_down.ensures.went.crew;
+  begun =
+      (let on = (gone_further g.D.Disk.meaning.meters (seen_by c.args.pass.now) (seen_by c.loop.pass) (seen_by c.drop_down.new.pass) c.args.workers.now c.loop.workers c.loop.workers c.loop.invariant.on c.drop_down.ensures.went.on) in
+      begun_on (history_seen c.args.pass.now) (history_seen c.drop_down.new.pass) (scenario_seen c.args.pass.now) on.grown c.requires.begun);
+  delivering =
+      delivering_back (seen_by c.loop.pass) (seen_by c.drop_down.new.pass) c.drop_down.ensures.went.on.scenario (history_seen c.drop_down.new.pass) c.drop_down.ensures.went.delivering;
+}
 
 pub loop-preserved : goal.loop-preserved
 loop-preserved g c = record {
-  crew = c.packet_round.ensures.crew;
-  on = (gone_further g.D.Disk.meters (seen_by c.args.pass.now) (seen_by c.drop_down.new.pass) (seen_by c.packet_round.new.pass) c.args.workers.now c.loop.workers c.packet_round.new.workers (gone_further g.D.Disk.meters (seen_by c.args.pass.now) (seen_by c.loop.pass) (seen_by c.drop_down.new.pass) c.args.workers.now c.loop.workers c.loop.workers c.loop.invariant.on c.drop_down.ensures.on) c.packet_round.ensures.on);
+  crew = c.packet_round.ensures.went.crew;
+  on = (gone_further g.D.Disk.meaning.meters (seen_by c.args.pass.now) (seen_by c.drop_down.new.pass) (seen_by c.packet_round.new.pass) c.args.workers.now c.loop.workers c.packet_round.new.workers (gone_further g.D.Disk.meaning.meters (seen_by c.args.pass.now) (seen_by c.loop.pass) (seen_by c.drop_down.new.pass) c.args.workers.now c.loop.workers c.loop.workers c.loop.invariant.on c.drop_down.ensures.went.on) c.packet_round.ensures.went.on);
   delivering =
-      (let on = (gone_further g.D.Disk.meters (seen_by c.args.pass.now) (seen_by c.loop.pass) (seen_by c.drop_down.new.pass) c.args.workers.now c.loop.workers c.loop.workers c.loop.invariant.on c.drop_down.ensures.on) in
-      delivering_on (seen_by c.args.pass.now) (seen_by c.drop_down.new.pass) on.scenario (history_seen c.packet_round.new.pass) c.packet_round.ensures.delivering);
+      (let on = (gone_further g.D.Disk.meaning.meters (seen_by c.args.pass.now) (seen_by c.loop.pass) (seen_by c.drop_down.new.pass) c.args.workers.now c.loop.workers c.loop.workers c.loop.invariant.on c.drop_down.ensures.went.on) in
+      delivering_on (seen_by c.args.pass.now) (seen_by c.drop_down.new.pass) on.scenario (history_seen c.packet_round.new.pass) c.packet_round.ensures.went.delivering);
 }
 
-pub returns-in_default-clause-on : goal.returns-in_default-clause-on
-returns-in_default-clause-on g c = (gone_further g.D.Disk.meters (seen_by c.args.pass.now) (seen_by c.loop.pass) (seen_by c.drop_down.new.pass) c.args.workers.now c.loop.workers c.loop.workers c.loop.invariant.on c.drop_down.ensures.on)
+pub returns-in_default-clause-went : goal.returns-in_default-clause-went
+returns-in_default-clause-went g c = record {
+  crew = c.drop_down.ensures.went.crew;
+  on = gone_further g.D.Disk.meaning.meters (seen_by c.args.pass.now) (seen_by c.loop.pass) (seen_by c.drop_down.new.pass) c.args.workers.now c.loop.workers c.loop.workers c.loop.invariant.on c.drop_down.ensures.went.on;
+  delivering = delivering_on (seen_by c.args.pass.now) (seen_by c.loop.pass) c.loop.invariant.on.scenario (history_seen c.drop_down.new.pass) c.drop_down.ensures.went.delivering;
+}
 
-pub returns-in_default-clause-delivering : goal.returns-in_default-clause-delivering
-returns-in_default-clause-delivering g c = delivering_on (seen_by c.args.pass.now) (seen_by c.loop.pass) c.loop.invariant.on.scenario (history_seen c.drop_down.new.pass) c.drop_down.ensures.delivering
-
-pub returns-in_err-busy-clause-on : goal.returns-in_err-busy-clause-on
-returns-in_err-busy-clause-on g c = (gone_further g.D.Disk.meters (seen_by c.args.pass.now) (seen_by c.loop.pass) (seen_by c.drop_down.new.pass) c.args.workers.now c.loop.workers c.loop.workers c.loop.invariant.on c.drop_down.ensures.on)
-
-pub returns-in_err-busy-clause-delivering : goal.returns-in_err-busy-clause-delivering
-returns-in_err-busy-clause-delivering g c = delivering_on (seen_by c.args.pass.now) (seen_by c.loop.pass) c.loop.invariant.on.scenario (history_seen c.drop_down.new.pass) c.drop_down.ensures.delivering
+pub returns-in_err-busy-clause-went : goal.returns-in_err-busy-clause-went
+returns-in_err-busy-clause-went g c = record {
+  crew = c.drop_down.ensures.went.crew;
+  on = gone_further g.D.Disk.meaning.meters (seen_by c.args.pass.now) (seen_by c.loop.pass) (seen_by c.drop_down.new.pass) c.args.workers.now c.loop.workers c.loop.workers c.loop.invariant.on c.drop_down.ensures.went.on;
+  delivering = delivering_on (seen_by c.args.pass.now) (seen_by c.loop.pass) c.loop.invariant.on.scenario (history_seen c.drop_down.new.pass) c.drop_down.ensures.went.delivering;
+}
 
 pub returns-in_default-clause-settled : goal.returns-in_default-clause-settled
 returns-in_default-clause-settled g c = settled_on (seen_by c.args.pass.now) (seen_by c.loop.pass) c.loop.invariant.on.scenario (history_seen c.drop_down.new.pass) (c.in_ok-busy.ensures.none (search rules))
@@ -57,13 +61,13 @@ returns-in_err-busy-clause-full g c = λ is.
     let full : c.drop_down.result ≡ Err HistoryFull = search rules in
     full_on IsPacketDue (seen_by c.args.pass.now) (seen_by c.loop.pass) c.loop.invariant.on.scenario c.loop.invariant.on.most (history_seen c.drop_down.new.pass) (c.drop_down.ensures.full full)
 
-pub returns-in_err-packet_round-clause-on : goal.returns-in_err-packet_round-clause-on
-returns-in_err-packet_round-clause-on g c = (gone_further g.D.Disk.meters (seen_by c.args.pass.now) (seen_by c.drop_down.new.pass) (seen_by c.packet_round.new.pass) c.args.workers.now c.loop.workers c.packet_round.new.workers (gone_further g.D.Disk.meters (seen_by c.args.pass.now) (seen_by c.loop.pass) (seen_by c.drop_down.new.pass) c.args.workers.now c.loop.workers c.loop.workers c.loop.invariant.on c.drop_down.ensures.on) c.packet_round.ensures.on)
-
-pub returns-in_err-packet_round-clause-delivering : goal.returns-in_err-packet_round-clause-delivering
-returns-in_err-packet_round-clause-delivering g c =
-    let on = (gone_further g.D.Disk.meters (seen_by c.args.pass.now) (seen_by c.loop.pass) (seen_by c.drop_down.new.pass) c.args.workers.now c.loop.workers c.loop.workers c.loop.invariant.on c.drop_down.ensures.on) in
-    delivering_on (seen_by c.args.pass.now) (seen_by c.drop_down.new.pass) on.scenario (history_seen c.packet_round.new.pass) c.packet_round.ensures.delivering
+pub returns-in_err-packet_round-clause-went : goal.returns-in_err-packet_round-clause-went
+returns-in_err-packet_round-clause-went g c = record {
+  crew = c.packet_round.ensures.went.crew;
+  on = gone_further g.D.Disk.meaning.meters (seen_by c.args.pass.now) (seen_by c.drop_down.new.pass) (seen_by c.packet_round.new.pass) c.args.workers.now c.loop.workers c.packet_round.new.workers (gone_further g.D.Disk.meaning.meters (seen_by c.args.pass.now) (seen_by c.loop.pass) (seen_by c.drop_down.new.pass) c.args.workers.now c.loop.workers c.loop.workers c.loop.invariant.on c.drop_down.ensures.went.on) c.packet_round.ensures.went.on;
+  delivering = (let on = (gone_further g.D.Disk.meaning.meters (seen_by c.args.pass.now) (seen_by c.loop.pass) (seen_by c.drop_down.new.pass) c.args.workers.now c.loop.workers c.loop.workers c.loop.invariant.on c.drop_down.ensures.went.on) in
+      delivering_on (seen_by c.args.pass.now) (seen_by c.drop_down.new.pass) on.scenario (history_seen c.packet_round.new.pass) c.packet_round.ensures.went.delivering);
+}
 
 pub returns-in_err-packet_round-clause-full : goal.returns-in_err-packet_round-clause-full
 returns-in_err-packet_round-clause-full g c = λ is.

@@ -6,7 +6,7 @@ use Rattle.e3_crew.proofs.settling.deliver.Given as goal
 
 abbrev pub invariant-loop : goal.invariant-loop
 invariant-loop g l = record {
-  crew : IsCrew g.D.Disk.content g.D.Disk.image g.D.Disk.meters l.wire l.pass l.workers;
-  on : HasGoneOn g.D.Disk.meters (seen_by l.fn.pass) l.fn.workers (seen_by l.pass) l.workers;
+  crew : IsCrew g.D.Disk.meaning l.works.wire.now l.pass l.workers;
+  on : HasGoneOn g.D.Disk.meaning.meters (seen_by l.fn.pass) l.fn.workers (seen_by l.pass) l.workers;
   delivering : Delivering (scenario_seen l.fn.pass) (history_seen l.pass);
 }

@@ -15,13 +15,13 @@ use Rattle.e3_world.specs.Packets.{pending}
 use Rattle.e3_crew.proofs.settling.settle.Goals as goal
 
 pub returns-in_err-hand_out-clause-crew : goal.returns-in_err-hand_out-clause-crew
-returns-in_err-hand_out-clause-crew g c = (crew_same g.D.Disk.content g.D.Disk.image g.D.Disk.meters c.args.wire.now c.args.pass.now c.args.workers.now c.hand_out.new.workers c.requires.crew c.hand_out.auto.workers c.hand_out.ensures.same)
+returns-in_err-hand_out-clause-crew g c = (crew_same g.D.Disk.meaning c.args.wire.now c.args.pass.now c.args.workers.now c.hand_out.new.workers c.requires.crew c.hand_out.auto.workers c.hand_out.ensures.same)
 
 pub returns-in_err-hand_out-clause-on : goal.returns-in_err-hand_out-clause-on
-returns-in_err-hand_out-clause-on g c = (gone_none g.D.Disk.meters (seen_by c.args.pass.now) c.args.workers.now c.hand_out.new.workers c.hand_out.auto.workers c.hand_out.ensures.same)
+returns-in_err-hand_out-clause-on g c = (gone_none g.D.Disk.meaning.meters (seen_by c.args.pass.now) c.args.workers.now c.hand_out.new.workers c.hand_out.auto.workers c.hand_out.ensures.same)
 
 pub item_round-requires-clause-crew : goal.item_round-requires-clause-crew
-item_round-requires-clause-crew g c κs lives = (crew_same g.D.Disk.content g.D.Disk.image g.D.Disk.meters c.args.wire.now c.args.pass.now c.args.workers.now c.hand_out.new.workers c.requires.crew c.hand_out.auto.workers c.hand_out.ensures.same)
+item_round-requires-clause-crew g c κs lives = (crew_same g.D.Disk.meaning c.args.wire.now c.args.pass.now c.args.workers.now c.hand_out.new.workers c.requires.crew c.hand_out.auto.workers c.hand_out.ensures.same)
 
 pub item_round-requires-clause-items : goal.item_round-requires-clause-items
 item_round-requires-clause-items g c κs lives i d less =
@@ -29,22 +29,24 @@ item_round-requires-clause-items g c κs lives i d less =
     c.in_ok-hand_out.ensures.items i d low ∙ ap (λ (s : ℕ). inputs_to s c.args.inputs.now) (c.requires.crew.each i d low).site ∙ ap (inputs_to (i + 1)) c.requires.asked
 
 pub returns-in_err-item_round-clause-on : goal.returns-in_err-item_round-clause-on
-returns-in_err-item_round-clause-on g c = (gone_further g.D.Disk.meters (seen_by c.args.pass.now) (seen_by c.args.pass.now) (seen_by c.item_round.new.pass) c.args.workers.now c.hand_out.new.workers c.item_round.new.workers (gone_none g.D.Disk.meters (seen_by c.args.pass.now) c.args.workers.now c.hand_out.new.workers c.hand_out.auto.workers c.hand_out.ensures.same) c.item_round.ensures.on)
+returns-in_err-item_round-clause-on g c = (gone_further g.D.Disk.meaning.meters (seen_by c.args.pass.now) (seen_by c.args.pass.now) (seen_by c.item_round.new.pass) c.args.workers.now c.hand_out.new.workers c.item_round.new.workers (gone_none g.D.Disk.meaning.meters (seen_by c.args.pass.now) c.args.workers.now c.hand_out.new.workers c.hand_out.auto.workers c.hand_out.ensures.same) c.item_round.ensures.on)
 
-pub deliver-requires-clause-begun : goal.deliver-requires-clause-begun
-deliver-requires-clause-begun g c κs lives =
-    begun_on (history_seen c.args.pass.now) (history_seen c.item_round.new.pass) (scenario_seen c.args.pass.now) c.item_round.ensures.on.grown c.requires.begun
+pub deliver-requires-after_bounds : goal.deliver-requires-after_bounds
+deliver-requires-after_bounds g c κs lives = record {
+  crew = c.item_round.ensures.crew;
+  begun = begun_on (history_seen c.args.pass.now) (history_seen c.item_round.new.pass) (scenario_seen c.args.pass.now) c.item_round.ensures.on.grown c.requires.begun;
+  delivering = delivering_back (seen_by c.args.pass.now) (seen_by c.item_round.new.pass) c.item_round.ensures.on.scenario (history_seen c.item_round.new.pass) c.in_ok-item_round.ensures.done;
+}
 
-pub deliver-requires-clause-delivering : goal.deliver-requires-clause-delivering
-deliver-requires-clause-delivering g c κs lives =
-    delivering_back (seen_by c.args.pass.now) (seen_by c.item_round.new.pass) c.item_round.ensures.on.scenario (history_seen c.item_round.new.pass) c.in_ok-item_round.ensures.done
+pub returns-clause-crew : goal.returns-clause-crew
+returns-clause-crew g c = c.deliver.ensures.went.crew
 
 pub returns-clause-on : goal.returns-clause-on
-returns-clause-on g c = (gone_further g.D.Disk.meters (seen_by c.args.pass.now) (seen_by c.item_round.new.pass) (seen_by c.deliver.new.pass) c.args.workers.now c.item_round.new.workers c.deliver.new.workers (gone_further g.D.Disk.meters (seen_by c.args.pass.now) (seen_by c.args.pass.now) (seen_by c.item_round.new.pass) c.args.workers.now c.hand_out.new.workers c.item_round.new.workers (gone_none g.D.Disk.meters (seen_by c.args.pass.now) c.args.workers.now c.hand_out.new.workers c.hand_out.auto.workers c.hand_out.ensures.same) c.item_round.ensures.on) c.deliver.ensures.on)
+returns-clause-on g c = (gone_further g.D.Disk.meaning.meters (seen_by c.args.pass.now) (seen_by c.item_round.new.pass) (seen_by c.deliver.new.pass) c.args.workers.now c.item_round.new.workers c.deliver.new.workers (gone_further g.D.Disk.meaning.meters (seen_by c.args.pass.now) (seen_by c.args.pass.now) (seen_by c.item_round.new.pass) c.args.workers.now c.hand_out.new.workers c.item_round.new.workers (gone_none g.D.Disk.meaning.meters (seen_by c.args.pass.now) c.args.workers.now c.hand_out.new.workers c.hand_out.auto.workers c.hand_out.ensures.same) c.item_round.ensures.on) c.deliver.ensures.went.on)
 
 pub returns-clause-delivering : goal.returns-clause-delivering
 returns-clause-delivering g c =
-    ok_of c.deliver.result (delivering_on (seen_by c.args.pass.now) (seen_by c.item_round.new.pass) c.item_round.ensures.on.scenario (history_seen c.deliver.new.pass) c.deliver.ensures.delivering)
+    ok_of c.deliver.result (delivering_on (seen_by c.args.pass.now) (seen_by c.item_round.new.pass) c.item_round.ensures.on.scenario (history_seen c.deliver.new.pass) c.deliver.ensures.went.delivering)
 
 pub returns-clause-settled : goal.returns-clause-settled
 returns-clause-settled g c =

@@ -17,10 +17,10 @@ returns-clause-pass g c = record {
 pub returns-clause-given : goal.returns-clause-given
 returns-clause-given g c =
     let e = c.input_by_turns-answer.ensures in
-    let P = HasGiven g.D.Disk.content g.D.Disk.image g.D.Disk.meters (seen_by c.args.pass.now) c.args.node.now c.args.input
+    let P = HasGiven g.D.Disk.meaning (seen_by c.args.pass.now) c.args.node.now c.args.input
     (seen_by c.input_by_turns-answer.new.pass) c.input_by_turns-answer.new.self in
     subst P (sym c.given.ensures)
-    (gave g.D.Disk.content g.D.Disk.image g.D.Disk.meters c.others_leave_nodes.ensures.moves (seen_by c.args.pass.now)
+    (gave g.D.Disk.meaning c.others_leave_nodes.ensures.moves (seen_by c.args.pass.now)
     (seen_by c.input_by_turns-answer.new.pass) c.args.node.now c.input_by_turns-answer.new.self c.args.input c.input_by_turns-answer.result c.requires.knows (record {
       played = e.played;
       scenario = e.scenario.0;

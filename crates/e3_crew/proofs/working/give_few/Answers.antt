@@ -69,7 +69,7 @@ returns-clause-worked g c =
     let e = c.batch-answer.ensures in
     let long = as_long c.deliveries-inputs.result c.as_slice.result.now c.args.few c.deliveries-inputs.ensures c.as_slice.ensures in
     let most = c.requires.first.most in
-    batch_worked g.D.Disk.content g.D.Disk.image g.D.Disk.meters c.others_leave_nodes.ensures.moves (places_alone (length c.args.few)) (seen_by c.args.pass.now)
+    batch_worked g.D.Disk.meaning c.others_leave_nodes.ensures.moves (places_alone (length c.args.few)) (seen_by c.args.pass.now)
     (seen_by c.batch-answer.new.pass) c.args.node.now c.batch-answer.new.self c.deliveries-inputs.result c.batch-answer.result c.requires.knows c.requires.first.up
     (omega (arith, long, most)) (record {
       played = e.played;

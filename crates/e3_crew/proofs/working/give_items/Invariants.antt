@@ -7,8 +7,8 @@ use Rattle.e3_crew.proofs.working.give_items.Given as goal
 
 abbrev pub invariant-loop-item : goal.invariant-loop-item
 invariant-loop-item g l = record {
-  pass : IsPassFor l.wire l.node.site l.pass;
-  worked : HasWorked g.D.Disk.content g.D.Disk.image g.D.Disk.meters (seen_by l.fn.pass) l.fn.node (seen_by l.pass) l.node;
+  pass : IsPassFor l.works.wire.now l.node.site l.pass;
+  worked : HasWorked g.D.Disk.meaning (seen_by l.fn.pass) l.fn.node (seen_by l.pass) l.node;
   none_back : HasGivenNoneBack l.fn.node.site (seen_by l.fn.pass) (seen_by l.pass);
   done : AreDone (scenario_of (seen_by l.pass)) (entries_of (seen_by l.pass)) l.node.site l.items l.item-index;
 }

@@ -4,6 +4,6 @@ use Rattle.e3_crew.proofs.working.give_packets.Given as goal
 
 abbrev pub invariant-loop : goal.invariant-loop
 invariant-loop g l = record {
-  pass : IsPassFor l.wire l.node.site l.pass;
-  worked : HasWorked g.D.Disk.content g.D.Disk.image g.D.Disk.meters (seen_by l.fn.pass) l.fn.node (seen_by l.pass) l.node;
+  pass : IsPassFor l.works.wire.now l.node.site l.pass;
+  worked : HasWorked g.D.Disk.meaning (seen_by l.fn.pass) l.fn.node (seen_by l.pass) l.node;
 }

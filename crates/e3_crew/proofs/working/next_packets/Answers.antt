@@ -24,10 +24,10 @@ returns-in-Ok-clause-promised g c =
     let between : List Mark = found.0 in
     let node = c.args.node.now in
     let since = are_others_marks c.args.pass.now node.site between (owns_one _ _ c.requires.pass.owner_is) found.1 in
-    let worked = worked_behind g.D.Disk.content g.D.Disk.image g.D.Disk.meters c.others_leave_nodes.ensures.nodes (seen_by c.args.pass.now) since.0 between
+    let worked = worked_behind g.D.Disk.meaning c.others_leave_nodes.ensures.nodes (seen_by c.args.pass.now) since.0 between
     node c.requires.knows since.2 found.5 since.1 in
     let P : ℕ → Type 0 = λ site. seen_by c.next_few.new.pass ≡ between ++ places_for site (length c.in-Ok.few) in
-    worked_promised g.D.Disk.content g.D.Disk.image g.D.Disk.meters c.places_are_noted.ensures.promised (seen_by c.args.pass.now) between (seen_by c.next_few.new.pass)
+    worked_promised g.D.Disk.meaning c.places_are_noted.ensures.promised (seen_by c.args.pass.now) between (seen_by c.next_few.new.pass)
     node node (length c.in-Ok.few) worked (few_found between c.site.result c.args.most c.in-Ok.few found.2.0 found.5).1 (subst P c.site.ensures found.2.1)
 
 pub returns-in-Ok-clause-few : goal.returns-in-Ok-clause-few
@@ -43,13 +43,13 @@ returns-in-Ok-clause-some g c = λ some.
     let node = c.args.node.now in
     let few : List Packet = c.in-Ok.few in
     let since = are_others_marks c.args.pass.now node.site between (owns_one _ _ c.requires.pass.owner_is) found.1 in
-    let worked = worked_behind g.D.Disk.content g.D.Disk.image g.D.Disk.meters c.others_leave_nodes.ensures.nodes (seen_by c.args.pass.now) since.0 between
+    let worked = worked_behind g.D.Disk.meaning c.others_leave_nodes.ensures.nodes (seen_by c.args.pass.now) since.0 between
     node c.requires.knows since.2 found.5 since.1 in
     let F : ℕ → Type 0 = λ site. few ≡ first_few between site c.args.most in
     let P : ℕ → Type 0 = λ site. marks ≡ between ++ places_for site (length few) in
     let left = (few_found between c.site.result c.args.most few found.2.0 found.5).1 in
     let is = subst P c.site.ensures found.2.1 in
-    let now = worked_promised g.D.Disk.content g.D.Disk.image g.D.Disk.meters c.places_are_noted.ensures.promised (seen_by c.args.pass.now) between marks
+    let now = worked_promised g.D.Disk.meaning c.places_are_noted.ensures.promised (seen_by c.args.pass.now) between marks
     node node (length few) worked left is in
     let up = sym (c.is_up.ensures.stands (scenario_of marks) (entries_of marks) now.knows.stands) ∙ c.if-not-is_up.false in
     let same = same_queue c.places_are_noted.ensures.promised between marks node.site (length few) found.5 worked.knows.stands.exists left is in
@@ -64,7 +64,7 @@ returns-in-Ok-clause-none g c =
     let node = c.args.node.now in
     let few : List Packet = c.in-Ok.few in
     let since = are_others_marks c.args.pass.now node.site between (owns_one _ _ c.requires.pass.owner_is) found.1 in
-    let worked = worked_behind g.D.Disk.content g.D.Disk.image g.D.Disk.meters c.others_leave_nodes.ensures.nodes (seen_by c.args.pass.now) since.0 between
+    let worked = worked_behind g.D.Disk.meaning c.others_leave_nodes.ensures.nodes (seen_by c.args.pass.now) since.0 between
     node c.requires.knows since.2 found.5 since.1 in
     let F : ℕ → Type 0 = λ site. few ≡ first_few between site c.args.most in
     let P : ℕ → Type 0 = λ site. marks ≡ between ++ places_for site (length few) in
@@ -80,13 +80,13 @@ returns-in-Err-clause-kept g c =
     let between : List Mark = found.0 in
     let node = c.args.node.now in
     let since = are_others_marks c.args.pass.now node.site between (owns_one _ _ c.requires.pass.owner_is) found.1 in
-    let worked = worked_behind g.D.Disk.content g.D.Disk.image g.D.Disk.meters c.others_leave_nodes.ensures.nodes (seen_by c.args.pass.now) since.0 between
+    let worked = worked_behind g.D.Disk.meaning c.others_leave_nodes.ensures.nodes (seen_by c.args.pass.now) since.0 between
     node c.requires.knows since.2 found.5 since.1 in
-    subst (λ (l : List Mark). HasWorked g.D.Disk.content g.D.Disk.image g.D.Disk.meters (seen_by c.args.pass.now) node l node) (sym found.3) worked
+    subst (λ (l : List Mark). HasWorked g.D.Disk.meaning (seen_by c.args.pass.now) node l node) (sym found.3) worked
 
 pub returns-then-not-is_up-clause-promised : goal.returns-then-not-is_up-clause-promised
 returns-then-not-is_up-clause-promised g c =
     let pass = seen_by c.args.pass.now in
     let node = c.args.node.now in
-    subst (λ (few : List Packet). HasWorkedWith g.D.Disk.content g.D.Disk.image g.D.Disk.meters (places_alone (length few)) pass node pass node) (sym c.new.ensures)
-    (worked_none g.D.Disk.content g.D.Disk.image g.D.Disk.meters pass node c.requires.knows)
+    subst (λ (few : List Packet). HasWorkedWith g.D.Disk.meaning (places_alone (length few)) pass node pass node) (sym c.new.ensures)
+    (worked_none g.D.Disk.meaning pass node c.requires.knows)

@@ -7,6 +7,6 @@ pub returns : goal.returns
 returns g c =
     let taken = c.take_pass-pass.ensures in
     let e = c.give_items-worker.ensures in
-    took_items g.D.Disk.content g.D.Disk.image g.D.Disk.meters c.args.wire.now c.args.worker.now (seen_by c.take_pass-pass.result) c.take_pass-pass.new.worker.node
+    took_items g.D.Disk.meaning c.args.works.now.wire.now c.args.worker.now (seen_by c.take_pass-pass.result) c.take_pass-pass.new.worker.node
     c.as_slice.result.now c.give_items-worker.new.pass c.give_items-worker.new.node c.take_pass-pass.new.worker.items c.give_items-worker.result
     taken.seen taken.same.node (c.as_slice.ensures ∙ taken.same.items) e.pass e.worked e.done e.full e.none_back

@@ -12,9 +12,9 @@ returns-in_err-write_at g c =
 pub loop-piece-preserved : goal.loop-piece-preserved
 loop-piece-preserved g c =
     let long = c.loop-piece.invariant.long in
-    let within : c.piece-item.result.place ≤ length (g.D.Disk.content c.args.disk.now) =
-    subst (λ (p : Piece). p.place ≤ length (g.D.Disk.content c.args.disk.now)) (sym c.piece-item.is) (c.requires c.loop-piece.piece-index c.piece-item.result c.loop-piece-test.true) in
-    let here : c.piece-item.result.place ≤ length (g.D.Disk.content c.loop-piece.disk) = omega (arith, within, long) in
+    let within : c.piece-item.result.place ≤ length (g.D.Disk.meaning.content c.args.disk.now) =
+    subst (λ (p : Piece). p.place ≤ length (g.D.Disk.meaning.content c.args.disk.now)) (sym c.piece-item.is) (c.requires c.loop-piece.piece-index c.piece-item.result c.loop-piece-test.true) in
+    let here : c.piece-item.result.place ≤ length (g.D.Disk.meaning.content c.loop-piece.disk) = omega (arith, within, long) in
     record {
       torn = torn_next c.args.pieces.now c.loop-piece.piece-index c.piece-item.result c.as_slice.result.now _ _ _
           c.loop-piece-test.true c.piece-item.is c.as_slice.ensures c.loop-piece.invariant.torn c.write_at.ensures.images;

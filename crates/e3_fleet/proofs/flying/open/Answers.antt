@@ -22,8 +22,8 @@ returns-clause-stands g c =
     record {
       shared_stands = opened _ c.args.most c.in_ok-opened.opened.shared c.in_ok-opened.ensures.shared c.in_ok-opened.ensures.played;
       count = nodes_length c.seat_all.new.workers.items ∙ c.in_ok-seat_all.ensures.all ∙ ap (λ (sc : Scenario). length sc.weights) (sym keys);
-      seated = subst (λ (sc : Scenario). AreSeated g.D.Disk.content g.D.Disk.image g.D.Disk.meters sc (entries_of c.in_ok-opened.opened.shared) (nodes_of c.seat_all.new.workers.items))
+      seated = subst (λ (sc : Scenario). AreSeated g.D.Disk.meaning sc (entries_of c.in_ok-opened.opened.shared) (nodes_of c.seat_all.new.workers.items))
           (sym keys)
-          (subst (λ (h : List Entry). AreSeated g.D.Disk.content g.D.Disk.image g.D.Disk.meters c.args.scenario.now h (nodes_of c.seat_all.new.workers.items))
+          (subst (λ (h : List Entry). AreSeated g.D.Disk.meaning c.args.scenario.now h (nodes_of c.seat_all.new.workers.items))
           (sym none) c.seat_all.ensures.seated);
     }

@@ -11,24 +11,24 @@ use Rattle.e3_types.specs.declared.scenarios.Scenario.{Scenario}
 
 pub fly-ended-requires-clause-unarmed : goal.fly-ended-requires-clause-unarmed
 fly-ended-requires-clause-unarmed g c κs lives =
-    unarmed g.D.Disk.content g.D.Disk.image g.D.Disk.meters (nodes_of c.open.new.workers.items) c.open.new.disks.items c.args.disks.items c.open.ensures.disks c.requires.blank
+    unarmed g.D.Disk.meaning (nodes_of c.open.new.workers.items) c.open.new.disks.items c.args.disks.items c.open.ensures.disks c.requires.blank
 
 pub returns-in-Ok-clause-disks : goal.returns-in-Ok-clause-disks
 returns-in-Ok-clause-disks g c =
-    came_back g.D.Disk.content g.D.Disk.image g.D.Disk.meters c.a_node_tells_of_its_disk.ensures.disks c.args.scenario.now c.fly-ended.result.history.entries
+    came_back g.D.Disk.meaning c.a_node_tells_of_its_disk.ensures.disks c.args.scenario.now c.fly-ended.result.history.entries
     (nodes_of c.open.new.workers.items) (nodes_of c.fly-ended.result.workers.items) c.open.new.disks.items c.args.disks.items c.unseat_all.new.disks.items
     (c.in-Ok.ensures.stands.count ∙ ap (λ (sc : Scenario). length sc.weights) c.in-Ok.ensures.new.0)
     c.fly-ended.ensures.seated c.fly-ended.ensures.kept c.open.ensures.disks c.unseat_all.ensures
 
 pub returns-in-Err-clause-disks : goal.returns-in-Err-clause-disks
 returns-in-Err-clause-disks g c =
-    subst (λ (h : List Entry). AreOver g.D.Disk.image g.D.Disk.meters c.args.scenario.now h c.args.disks.items c.unseat_all-in-Err.new.disks.items) (sym c.new.ensures)
-    (subst (λ (ds : List g.row.D.Denot). AreOver g.D.Disk.image g.D.Disk.meters c.args.scenario.now [] c.args.disks.items ds)
+    subst (λ (h : List Entry). AreOver g.D.Disk.meaning c.args.scenario.now h c.args.disks.items c.unseat_all-in-Err.new.disks.items) (sym c.new.ensures)
+    (subst (λ (ds : List g.row.D.Denot). AreOver g.D.Disk.meaning c.args.scenario.now [] c.args.disks.items ds)
     (sym (c.unseat_all-in-Err.ensures ∙ c.open.ensures.disks))
-    (never_began g.D.Disk.content g.D.Disk.image g.D.Disk.meters c.disks_are_counted.ensures c.args.scenario.now c.args.disks.items halves c.requires.blank))
+    (never_began g.D.Disk.meaning c.disks_are_counted.ensures c.args.scenario.now c.args.disks.items halves c.requires.blank))
   where
-    halves : (at : ℕ) (d : g.row.D.Denot) → slice_get c.args.disks.items at ≡ Some d → 2 ≤ (g.D.Disk.meters d).capacity
-    halves = subst (λ (ds : List g.row.D.Denot). (at : ℕ) (d : g.row.D.Denot) → slice_get ds at ≡ Some d → 2 ≤ (g.D.Disk.meters d).capacity)
+    halves : (at : ℕ) (d : g.row.D.Denot) → slice_get c.args.disks.items at ≡ Some d → 2 ≤ (g.D.Disk.meaning.meters d).capacity
+    halves = subst (λ (ds : List g.row.D.Denot). (at : ℕ) (d : g.row.D.Denot) → slice_get ds at ≡ Some d → 2 ≤ (g.D.Disk.meaning.meters d).capacity)
         c.as_slice.ensures.value c.have_halves.ensures
 
 pub returns-in-Ok-clause-full : goal.returns-in-Ok-clause-full

@@ -1,5 +1,5 @@
 use Rattle.std.proofs.Common.{◌≡◌, ◌≢◌, ◌==◌, ◌+◌, ◌⊎◌, inl, inr, ◌≤◌, ◌∷◌, [], ℕ, suc, Bool, true, false, List, Option, Some, ap, arith, length, length-append, refl, sym, subst, eqb-true, eq-eqb, ◌∙◌}
-use Rattle.e3_disk.specs.Memory.{images_of, state_of}
+use Rattle.e3_disk.specs.Memory.{memory_meaning}
 use Rattle.e3_disk.specs.declared.memory.MemDisk.{MemDisk}
 use Rattle.e3_fleet.specs.MemoryDisks.{AreMade, fails_at}
 use Rattle.e3_fleet.specs.Over.{AreBlank}
@@ -21,9 +21,9 @@ loop-at-preserved c = record {
   number = let grown = ap length c.in_ok-push.ensures.ok in
       let more = length-append c.loop-at.disks (c.in_ok-blank_disk.field-0 ∷ []) in
       let was = c.loop-at.invariant.number in omega (arith, grown, more, was);
-  blank = subst (λ (ds : List MemDisk). AreBlank (λ d. (state_of d).bytes.content) (λ d. images_of (state_of d)) (λ d. (state_of d).meters) ds)
+  blank = subst (λ (ds : List MemDisk). AreBlank memory_meaning ds)
       (sym c.in_ok-push.ensures.ok)
-      (blank_more (λ d. (state_of d).bytes.content) (λ d. images_of (state_of d)) (λ d. (state_of d).meters) c.loop-at.disks c.in_ok-blank_disk.field-0
+      (blank_more memory_meaning c.loop-at.disks c.in_ok-blank_disk.field-0
       c.loop-at.invariant.blank c.in_ok-blank_disk.ensures.fresh);
   made = subst (λ (ds : List MemDisk). AreMade c.args.capacity c.args.site c.args.fails ds) (sym c.in_ok-push.ensures.ok)
       (made_more c.args.capacity c.args.site c.loop-at.at c.args.fails c.fails_at-listed.result c.loop-at.disks c.in_ok-blank_disk.field-0

@@ -1,5 +1,5 @@
 use Rattle.std.proofs.Common.{◌≡◌, ◌≤◌, ℕ, suc, Some, length}
-use Rattle.e3_disk.specs.Memory.{images_of, state_of}
+use Rattle.e3_disk.specs.Memory.{memory_meaning}
 use Rattle.e3_fleet.specs.MemoryDisks.{AreMade}
 use Rattle.e3_fleet.specs.Over.{AreBlank}
 use Rattle.e3_fleet.proofs.in_memory.memory_disks.Given as goal
@@ -7,7 +7,7 @@ use Rattle.e3_fleet.proofs.in_memory.memory_disks.Given as goal
 abbrev pub invariant-loop-at : goal.invariant-loop-at
 invariant-loop-at l = record {
   number : length l.disks ≡ l.at;
-  blank : AreBlank (λ d. (state_of d).bytes.content) (λ d. images_of (state_of d)) (λ d. (state_of d).meters) l.disks;
+  blank : AreBlank memory_meaning l.disks;
   made : AreMade l.capacity l.site l.fn.fails l.disks;
   listed : (k : ℕ) → l.at ≤ k → suc k ≡ l.site → l.fails ≡ Some l.fn.fails;
 }

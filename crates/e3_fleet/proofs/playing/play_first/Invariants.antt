@@ -8,7 +8,7 @@ use Rattle.e3_play.specs.Played.{IsSettled}
 abbrev pub invariant-loop-done : goal.invariant-loop-done
 invariant-loop-done g l = record {
   played : scenario_in l.fleet ≡ l.scenario;
-  on : SitesGoOn (Stands g.D.Disk.content g.D.Disk.image g.D.Disk.meters) (Since g.D.Disk.meters) scenario_in most_in l.fn.fleet l.fleet;
+  on : SitesGoOn (Stands g.D.Disk.meaning) (Since g.D.Disk.meaning.meters) scenario_in most_in l.fn.fleet l.fleet;
   known : KnowsNames l.scenario (history_in l.fleet) l.names;
   settled : IsSettled l.scenario (history_in l.fleet) l.done;
 }

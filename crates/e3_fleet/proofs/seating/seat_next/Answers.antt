@@ -12,8 +12,8 @@ pub down-node-requires-clause-blank : goal.down-node-requires-clause-blank
 down-node-requires-clause-blank g c = (c.requires.blank 0 c.remove-disk.result (slice_get_read c.args.disks.now.items (length c.args.disks.now.items) 0 c.remove-disk.result refl c.requires.enough c.remove-disk.ensures.value)).blank
 
 pub returns-clause-blank : goal.returns-clause-blank
-returns-clause-blank g c = subst (λ (ds : List g.row.D.Denot). AreBlank g.D.Disk.content g.D.Disk.image g.D.Disk.meters ds) (sym c.remove-disk.ensures.items)
-    (rest_blank g.D.Disk.content g.D.Disk.image g.D.Disk.meters c.args.disks.now.items c.requires.blank)
+returns-clause-blank g c = subst (λ (ds : List g.row.D.Denot). AreBlank g.D.Disk.meaning ds) (sym c.remove-disk.ensures.items)
+    (rest_blank g.D.Disk.meaning c.args.disks.now.items c.requires.blank)
 
 pub returns-clause-seated : goal.returns-clause-seated
 returns-clause-seated g c =
@@ -21,6 +21,6 @@ returns-clause-seated g c =
     ap (λ (ws : List (Worker g.row.D.Denot)). nodes_of ws) c.push_within.ensures.items ∙ nodes_more c.args.workers.now.items c.new.result
     ∙ ap (λ (n : NodeView g.row.D.Denot). nodes_of c.args.workers.now.items ++ n ∷ []) c.new.ensures.node in
     let site : c.down-node.result.site ≡ length c.args.workers.now.items + 1 = search rules in
-    subst (λ (ns : List (NodeView g.row.D.Denot)). AreSeated g.D.Disk.content g.D.Disk.image g.D.Disk.meters c.args.scenario.now [] ns) (sym more)
-    (seat_more g.D.Disk.content g.D.Disk.image g.D.Disk.meters c.args.scenario.now (nodes_of c.args.workers.now.items) c.down-node.result c.requires.seated
+    subst (λ (ns : List (NodeView g.row.D.Denot)). AreSeated g.D.Disk.meaning c.args.scenario.now [] ns) (sym more)
+    (seat_more g.D.Disk.meaning c.args.scenario.now (nodes_of c.args.workers.now.items) c.down-node.result c.requires.seated
     (site ∙ ap (λ (n : ℕ). n + 1) (sym (nodes_length c.args.workers.now.items))) (c.down-node.ensures.stands c.args.scenario.now (search rules) (search rules)))

@@ -21,9 +21,9 @@ put-requires-clause-grew g c = may_put c.args.wire.now c.args.pass.now c.args.he
 
 pub settle-answer-requires-clause-crew : goal.settle-answer-requires-clause-crew
 settle-answer-requires-clause-crew g c κs lives =
-    let P : List (Worker g.row.D.Denot) → Type 0 = λ ws. IsCrew g.D.Disk.content g.D.Disk.image g.D.Disk.meters c.args.wire.now c.put.new.pass ws in
+    let P : List (Worker g.row.D.Denot) → Type 0 = λ ws. IsCrew g.D.Disk.meaning c.args.wire.now c.put.new.pass ws in
     subst P (sym c.as_mut_slice.ensures.value)
-    (crew_of g.D.Disk.content g.D.Disk.image g.D.Disk.meters c.args.wire.now c.args.pass.now c.put.new.pass c.args.held.shared c.args.held.workers.items c.requires.taken c.requires.standing
+    (crew_of g.D.Disk.meaning c.args.wire.now c.args.pass.now c.put.new.pass c.args.held.shared c.args.held.workers.items c.requires.taken c.requires.standing
     c.requires.form c.put.ensures.idle c.put.ensures.same c.put.ensures.seen c.put.ensures.played)
 
 pub settle-answer-requires-clause-begun : goal.settle-answer-requires-clause-begun
@@ -51,13 +51,13 @@ pub returns-clause-on : goal.returns-clause-on
 returns-clause-on g c =
     let crew = c.settle-answer.ensures.crew in
     let again : c.take-shared.result ≡ seen_by c.settle-answer.new.pass = nothing_added c.settle-answer.new.pass c.take-shared.result crew.all c.take-shared.ensures.grew in
-    let P : List Mark → List Mark → Type 0 = λ a b. IsFleetOn g.D.Disk.content g.D.Disk.image g.D.Disk.meters a b (nodes_of c.args.held.workers.items) (nodes_of c.settle-answer.new.workers) in
-    let Q : List Mark → Type 0 = λ l. FleetStands g.D.Disk.content g.D.Disk.image g.D.Disk.meters l (nodes_of c.args.held.workers.items) in
-    let S : List (Worker g.row.D.Denot) → Type 0 = λ ws. HasGoneOn g.D.Disk.meters (seen_by c.put.new.pass) ws (seen_by c.settle-answer.new.pass) c.settle-answer.new.workers in
-    let T : List (Worker g.row.D.Denot) → Type 0 = λ ws. IsFleetOn g.D.Disk.content g.D.Disk.image g.D.Disk.meters c.args.held.shared c.take-shared.result (nodes_of c.args.held.workers.items) (nodes_of ws) in
+    let P : List Mark → List Mark → Type 0 = λ a b. IsFleetOn g.D.Disk.meaning a b (nodes_of c.args.held.workers.items) (nodes_of c.settle-answer.new.workers) in
+    let Q : List Mark → Type 0 = λ l. FleetStands g.D.Disk.meaning l (nodes_of c.args.held.workers.items) in
+    let S : List (Worker g.row.D.Denot) → Type 0 = λ ws. HasGoneOn g.D.Disk.meaning.meters (seen_by c.put.new.pass) ws (seen_by c.settle-answer.new.pass) c.settle-answer.new.workers in
+    let T : List (Worker g.row.D.Denot) → Type 0 = λ ws. IsFleetOn g.D.Disk.meaning c.args.held.shared c.take-shared.result (nodes_of c.args.held.workers.items) (nodes_of ws) in
     subst T (sym (filled c.args.held.workers.items c.settle-answer.new.workers c.args.held.workers.len (c.settle-answer.auto.workers ∙ c.as_mut_slice.ensures.len)))
     (told_of P (seen_by c.put.new.pass) c.args.held.shared (seen_by c.settle-answer.new.pass) c.take-shared.result c.put.ensures.seen (sym again)
-    (crew_on g.D.Disk.content g.D.Disk.image g.D.Disk.meters c.disks_are_counted.ensures c.args.wire.now c.put.new.pass c.settle-answer.new.pass c.args.held.workers.items c.settle-answer.new.workers
+    (crew_on g.D.Disk.meaning c.disks_are_counted.ensures c.args.wire.now c.put.new.pass c.settle-answer.new.pass c.args.held.workers.items c.settle-answer.new.workers
     (subst Q (sym c.put.ensures.seen) c.requires.standing) crew (subst S c.as_mut_slice.ensures.value c.settle-answer.ensures.on)))
 
 pub returns-clause-grown : goal.returns-clause-grown

@@ -12,7 +12,7 @@ use Rattle.e3_log.proofs.open.read_frames.Goals as goal
 
 pub reading-preserved : goal.reading-preserved
 reading-preserved g c =
-    let content = g.D.Disk.content c.args.disk.now in
+    let content = g.D.Disk.meaning.content c.args.disk.now in
     let w = window c.args.span.from c.args.span.count content in
     let full : length w ≡ c.args.span.count = window_full c.args.span.from c.args.span.count content c.requires.inside in
     let inv = c.reading.invariant in

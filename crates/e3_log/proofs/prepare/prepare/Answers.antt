@@ -10,8 +10,8 @@ same_cause x y e = cc
 
 pub returns-in-Err-clause-damaged : goal.returns-in-Err-clause-damaged
 returns-in-Err-clause-damaged g c = λ at is.
-    let same : g.D.Disk.content c.len.new.self ≡ g.D.Disk.content c.args.disk.now = c.in_ok-len.ensures.same ∙ c.in_ok-sync.ensures.same in
-    let room : c.capacity-capacity.result ≡ (g.D.Disk.meters c.args.disk.now).capacity =
+    let same : g.D.Disk.meaning.content c.len.new.self ≡ g.D.Disk.meaning.content c.args.disk.now = c.in_ok-len.ensures.same ∙ c.in_ok-sync.ensures.same in
+    let room : c.capacity-capacity.result ≡ (g.D.Disk.meaning.meters c.args.disk.now).capacity =
     c.capacity-capacity.ensures.value ∙ c.in_ok-len.ensures.meters.keeps.capacity ∙ c.in_ok-sync.ensures.meters.keeps.capacity in
-    subst (λ (k : ℕ). DamagedAt k (g.D.Disk.content c.args.disk.now) at) room
+    subst (λ (k : ℕ). DamagedAt k (g.D.Disk.meaning.content c.args.disk.now) at) room
     (subst (λ (l : List ℕ). DamagedAt c.capacity-capacity.result l at) same (c.in-Err.ensures.damaged at (ap (λ (e : OpenCause). Err e) (same_cause _ _ is))))

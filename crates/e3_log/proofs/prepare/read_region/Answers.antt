@@ -11,7 +11,7 @@ use Rattle.e3_log.proofs.prepare.read_region.Goals as goal
 
 pub hand_out-requires-clause-raw : goal.hand_out-requires-clause-raw
 hand_out-requires-clause-raw g c =
-    let content = g.D.Disk.content c.args.disk.now in
+    let content = g.D.Disk.meaning.content c.args.disk.now in
     let at = start c.args.capacity c.args.region in
     let found = c.in_ok-found.found in
     let end = c.in_ok-found.end in
@@ -24,7 +24,7 @@ hand_out-requires-clause-raw g c =
 
 pub overflow_add-result : goal.overflow_add-result
 overflow_add-result g c =
-    let content = g.D.Disk.content c.args.disk.now in
+    let content = g.D.Disk.meaning.content c.args.disk.now in
     let at = start c.args.capacity c.args.region in
     let found = c.in_ok-found.found in
     let end = c.in_ok-found.end in
@@ -37,7 +37,7 @@ overflow_add-result g c =
 
 pub returns-clause-held : goal.returns-clause-held
 returns-clause-held g c =
-    let content = g.D.Disk.content c.args.disk.now in
+    let content = g.D.Disk.meaning.content c.args.disk.now in
     let at = start c.args.capacity c.args.region in
     let found = c.in_ok-found.found in
     let end = c.in_ok-found.end in
@@ -54,7 +54,7 @@ returns-clause-held g c =
 
 pub returns-clause-end : goal.returns-clause-end
 returns-clause-end g c =
-    let content = g.D.Disk.content c.args.disk.now in
+    let content = g.D.Disk.meaning.content c.args.disk.now in
     let at = start c.args.capacity c.args.region in
     let found = c.in_ok-found.found in
     let end = c.in_ok-found.end in

@@ -30,11 +30,11 @@ add_one-requires g c = λ lives live.
     let used : used_of c.loop-input.shared ≤ used_of c.args.shared.now + at = inv.used in
     let left : used_of c.args.shared.now + length c.args.inputs.now ≤ most_of c.args.shared.now = c.requires.1.1.1.1.1.1.1 in
     let far : inputs_in c.loop-input.batch.steps.items ≡ take at c.args.inputs.now =
-    inputs_so_far g.D.Disk.meters c.args.log.now g.at.scenario g.at.history g.at.site g.at.rose g.at.marks g.at.first (take at c.args.inputs.now) c.loop-input.batch c.loop-input.site
+    inputs_so_far g.D.Disk.meaning.meters c.args.log.now g.at.scenario g.at.history g.at.site g.at.rose g.at.marks g.at.first (take at c.args.inputs.now) c.loop-input.batch c.loop-input.site
     c.loop-input.shared inv.added in
     let O : List Input → Type 0 = λ l. IsLogInOrder g.at.site (log_of g.at.scenario (stepped g.at.scenario g.at.history g.at.site l) g.at.site) in
     let B : List Input → Type 0 = λ l. BriefsAreTold g.at.scenario (stepped g.at.scenario g.at.history g.at.site l) g.at.site g.at.rose in
-    let P : List Input → Type 0 = λ l. IsBatchAt g.D.Disk.meters c.args.log.now (record g.at { done = l }) c.loop-input.batch c.loop-input.site c.loop-input.shared in (
+    let P : List Input → Type 0 = λ l. IsBatchAt g.D.Disk.meaning.meters c.args.log.now (record g.at { done = l }) c.loop-input.batch c.loop-input.site c.loop-input.shared in (
       live,
       (
         subst (λ (n : ℕ). c.args.number ≤ n) (sym inv.owners) c.requires.1.0,
@@ -59,19 +59,19 @@ returns-in_err-add_one-clause-added g c =
     let inv = c.loop-input.invariant in
     let at : ℕ = c.loop-input.input-index in
     let low : at < length c.args.inputs.now = c.loop-input-test.true in
-    let P : List Input → Type 0 = λ l. IsBatchAt g.D.Disk.meters c.args.log.now (record g.at { done = l }) c.add_one.new.batch c.add_one.new.site c.add_one.new.shared in (
+    let P : List Input → Type 0 = λ l. IsBatchAt g.D.Disk.meaning.meters c.args.log.now (record g.at { done = l }) c.add_one.new.batch c.add_one.new.site c.add_one.new.shared in (
       at,
       omega (arith, low),
       not_ok c.from_residual.result _ _ c.from_residual.ensures.1,
       if_err c.from_residual.result _ low,
-      subst P (inputs_so_far g.D.Disk.meters c.args.log.now g.at.scenario g.at.history g.at.site g.at.rose g.at.marks g.at.first (take at c.args.inputs.now) c.loop-input.batch c.loop-input.site c.loop-input.shared inv.added) c.in_err-add_one.ensures.kept,
+      subst P (inputs_so_far g.D.Disk.meaning.meters c.args.log.now g.at.scenario g.at.history g.at.site g.at.rose g.at.marks g.at.first (take at c.args.inputs.now) c.loop-input.batch c.loop-input.site c.loop-input.shared inv.added) c.in_err-add_one.ensures.kept,
     )
 
 pub loop-input-preserved : goal.loop-input-preserved
 loop-input-preserved g c =
     let inv = c.loop-input.invariant in
     let at : ℕ = c.loop-input.input-index in
-    let P : List Input → Type 0 = λ l. IsBatchAt g.D.Disk.meters c.args.log.now (record g.at { done = l }) c.add_one.new.batch c.add_one.new.site c.add_one.new.shared in
+    let P : List Input → Type 0 = λ l. IsBatchAt g.D.Disk.meaning.meters c.args.log.now (record g.at { done = l }) c.add_one.new.batch c.add_one.new.site c.add_one.new.shared in
     record {
       owners = c.add_one.ensures.owners ∙ inv.owners;
       most = c.add_one.ensures.most ∙ inv.most;
@@ -80,7 +80,7 @@ loop-input-preserved g c =
           let before : used_of c.loop-input.shared ≤ used_of c.args.shared.now + at = inv.used in
           omega (arith, more, before));
       added =
-          subst P (ap (λ (l : List Input). l ++ c.input-item.result ∷ []) (inputs_so_far g.D.Disk.meters c.args.log.now g.at.scenario g.at.history g.at.site g.at.rose g.at.marks g.at.first (take at c.args.inputs.now) c.loop-input.batch c.loop-input.site c.loop-input.shared inv.added)
+          subst P (ap (λ (l : List Input). l ++ c.input-item.result ∷ []) (inputs_so_far g.D.Disk.meaning.meters c.args.log.now g.at.scenario g.at.history g.at.site g.at.rose g.at.marks g.at.first (take at c.args.inputs.now) c.loop-input.batch c.loop-input.site c.loop-input.shared inv.added)
           ∙ sym (take_more c.args.inputs.now at c.input-item.result c.loop-input-test.true ∙ ap (λ (x : Input). take at c.args.inputs.now ++ x ∷ []) (sym c.input-item.is)))
           c.in_ok-add_one.ensures.added;
     }

@@ -13,5 +13,5 @@ invariant-loop-input g l = record {
   owners : last_owner l.shared ≡ last_owner l.initial.shared;
   most : most_of l.shared ≡ most_of l.initial.shared;
   used : used_of l.shared ≤ used_of l.initial.shared + l.input-index;
-  added : IsBatchAt g.D.Disk.meters l.log (record g.at { done = take l.input-index l.inputs }) l.batch l.site l.shared;
+  added : IsBatchAt g.D.Disk.meaning.meters l.log (record g.at { done = take l.input-index l.inputs }) l.batch l.site l.shared;
 }

@@ -16,7 +16,7 @@ use Rattle.e3_node.proofs.batching.add_one.Goals as goal
 pub returns-clause-added : goal.returns-clause-added
 returns-clause-added g c =
     let d = c.in_ok-draft.draft in
-    batch_added g.D.Disk.meters c.args.log.now g.at.scenario g.at.history g.at.site g.at.rose g.at.marks g.at.first g.at.done c.args.batch.now c.set_short.new.batch c.args.site.now c.prepare.new.site
+    batch_added g.D.Disk.meaning.meters c.args.log.now g.at.scenario g.at.history g.at.site g.at.rose g.at.marks g.at.first g.at.done c.args.batch.now c.set_short.new.batch c.args.site.now c.prepare.new.site
     c.apply.new.self c.args.shared.now c.claim.new.self c.room_for-room.result c.args.input.now d c.apply.result c.step_of-step.result c.in_ok-short.short c.requires.1.1.1.0 c.requires.1.1.1.1.1.0
     c.requires.1.1.1.1.1.1.0 c.in_ok-draft.ensures.ready c.prepare.ensures.still c.apply.ensures.step c.apply.ensures.stand
     (ap (λ (v : SiteView). v.weights) c.apply.ensures.done) (ap (λ (v : SiteView). v.site) c.apply.ensures.done)
@@ -28,7 +28,7 @@ returns-clause-added g c =
     (ap (λ (b : Batch). b.body) c.set_short.ensures ∙ c.in_ok-body.ensures ∙ ap (λ (l : List ℕ). l ++ c.as_slice-3.result.now) c.as_slice-2.ensures ∙ ap (λ (l : List ℕ). c.args.batch.now.body ++ l) c.as_slice-3.ensures)
     (ap (λ (b : Batch). b.short) c.set_short.ensures) c.in_ok-short.ensures.short c.in_ok-short.ensures.may
     (λ l brief some none.
-    let D : ℕ → Type 0 = λ n. IsDue g.D.Disk.meters c.args.log.now l c.in_ok-short.short n in
+    let D : ℕ → Type 0 = λ n. IsDue g.D.Disk.meaning.meters c.args.log.now l c.in_ok-short.short n in
     let size : c.len.result ≡ length c.set_short.new.batch.body = c.len.ensures ∙ sym (ap (λ (b : Batch). length b.body) c.set_short.ensures) in
     subst D size (c.in_ok-short.ensures.due l brief c.requires.1.1.1.1.0 (λ empty. some (ap (λ (b : Batch). b.records) c.set_short.ensures ∙ sym c.as_slice-4.ensures ∙ empty)) none))
     (c.in_ok-claim.ensures.ok ∙ ap (λ (n : ℕ). c.args.shared.now ++ mark.Place n c.room_for-room.result ∷ []) c.requires.1.1.0)
@@ -44,37 +44,37 @@ returns-clause-used g c =
 pub returns-in_err-draft-clause-kept : goal.returns-in_err-draft-clause-kept
 returns-in_err-draft-clause-kept g c =
     err_so c.from_residual.result _
-    (batch_same g.D.Disk.meters c.args.log.now g.at.scenario g.at.history g.at.site g.at.rose g.at.marks g.at.first g.at.done c.args.batch.now c.args.batch.now c.args.site.now c.prepare.new.site
+    (batch_same g.D.Disk.meaning.meters c.args.log.now g.at.scenario g.at.history g.at.site g.at.rose g.at.marks g.at.first g.at.done c.args.batch.now c.args.batch.now c.args.site.now c.prepare.new.site
     c.args.shared.now c.args.shared.now c.requires.1.1.1.0 refl refl refl refl c.prepare.ensures.still refl)
 
 pub returns-in_err-records-clause-kept : goal.returns-in_err-records-clause-kept
 returns-in_err-records-clause-kept g c =
     err_so c.from_residual-in_err-records.result _
-    (batch_same g.D.Disk.meters c.args.log.now g.at.scenario g.at.history g.at.site g.at.rose g.at.marks g.at.first g.at.done c.args.batch.now c.args.batch.now c.args.site.now c.prepare.new.site
+    (batch_same g.D.Disk.meaning.meters c.args.log.now g.at.scenario g.at.history g.at.site g.at.rose g.at.marks g.at.first g.at.done c.args.batch.now c.args.batch.now c.args.site.now c.prepare.new.site
     c.args.shared.now c.args.shared.now c.requires.1.1.1.0 refl refl refl refl c.prepare.ensures.still refl)
 
 pub returns-in_err-body-clause-kept : goal.returns-in_err-body-clause-kept
 returns-in_err-body-clause-kept g c =
     err_so c.from_residual-in_err-body.result _
-    (batch_same g.D.Disk.meters c.args.log.now g.at.scenario g.at.history g.at.site g.at.rose g.at.marks g.at.first g.at.done c.args.batch.now c.args.batch.now c.args.site.now c.prepare.new.site
+    (batch_same g.D.Disk.meaning.meters c.args.log.now g.at.scenario g.at.history g.at.site g.at.rose g.at.marks g.at.first g.at.done c.args.batch.now c.args.batch.now c.args.site.now c.prepare.new.site
     c.args.shared.now c.args.shared.now c.requires.1.1.1.0 refl refl refl refl c.prepare.ensures.still refl)
 
 pub returns-in_err-short-clause-kept : goal.returns-in_err-short-clause-kept
 returns-in_err-short-clause-kept g c =
     err_so c.from_residual-in_err-short.result _
-    (batch_same g.D.Disk.meters c.args.log.now g.at.scenario g.at.history g.at.site g.at.rose g.at.marks g.at.first g.at.done c.args.batch.now c.args.batch.now c.args.site.now c.prepare.new.site
+    (batch_same g.D.Disk.meaning.meters c.args.log.now g.at.scenario g.at.history g.at.site g.at.rose g.at.marks g.at.first g.at.done c.args.batch.now c.args.batch.now c.args.site.now c.prepare.new.site
     c.args.shared.now c.args.shared.now c.requires.1.1.1.0 refl refl refl refl c.prepare.ensures.still refl)
 
 pub returns-in_err-reserve-clause-kept : goal.returns-in_err-reserve-clause-kept
 returns-in_err-reserve-clause-kept g c =
     err_so c.from_residual-in_err-reserve.result _
-    (batch_same g.D.Disk.meters c.args.log.now g.at.scenario g.at.history g.at.site g.at.rose g.at.marks g.at.first g.at.done c.args.batch.now (record c.args.batch.now { steps = c.reserve.new.steps }) c.args.site.now c.prepare.new.site
+    (batch_same g.D.Disk.meaning.meters c.args.log.now g.at.scenario g.at.history g.at.site g.at.rose g.at.marks g.at.first g.at.done c.args.batch.now (record c.args.batch.now { steps = c.reserve.new.steps }) c.args.site.now c.prepare.new.site
     c.args.shared.now c.args.shared.now c.requires.1.1.1.0 c.reserve.ensures.items refl refl refl c.prepare.ensures.still refl)
 
 pub returns-in_err-claim-clause-kept : goal.returns-in_err-claim-clause-kept
 returns-in_err-claim-clause-kept g c =
     err_so c.from_residual-in_err-claim.result _
-    (batch_same g.D.Disk.meters c.args.log.now g.at.scenario g.at.history g.at.site g.at.rose g.at.marks g.at.first g.at.done c.args.batch.now (record c.args.batch.now { steps = c.reserve.new.steps }) c.args.site.now c.prepare.new.site
+    (batch_same g.D.Disk.meaning.meters c.args.log.now g.at.scenario g.at.history g.at.site g.at.rose g.at.marks g.at.first g.at.done c.args.batch.now (record c.args.batch.now { steps = c.reserve.new.steps }) c.args.site.now c.prepare.new.site
     c.args.shared.now c.claim.new.self c.requires.1.1.1.0 c.reserve.ensures.items refl refl refl c.prepare.ensures.still c.in_err-claim.ensures.kept)
 
 pub returns-in_err-claim-clause-refused : goal.returns-in_err-claim-clause-refused

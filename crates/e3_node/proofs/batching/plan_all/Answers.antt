@@ -44,7 +44,7 @@ add_all-added-requires g c = λ lives live.
         (
           refl,
           (
-            no_batch g.D.Disk.meters c.args.log.now (scenario_of freed) (entries_of freed) c.args.number c.args.rose.now freed c.args.batch.now c.args.site.now
+            no_batch g.D.Disk.meaning.meters c.args.log.now (scenario_of freed) (entries_of freed) c.args.number c.args.rose.now freed c.args.batch.now c.args.site.now
                 (freed_same marks freed c.args.number c.take-shared.ensures.played c.free.ensures R stands) c.requires.empty.0 c.requires.empty.1 c.requires.empty.2 c.requires.empty.3,
             (
               c.requires.sound,
@@ -64,13 +64,13 @@ add_all-added-requires g c = λ lives live.
 pub put-requires-clause-grew : goal.put-requires-clause-grew
 put-requires-clause-grew g c =
     let marks = c.take-shared.result in
-    claims_grew g.D.Disk.meters c.args.log.now c.args.pass.now c.take-shared.new.pass c.args.number c.args.rose.now c.args.site.now.inputs c.args.inputs.now c.add_all-added.result c.add_all-added.new.batch c.add_all-added.new.site
+    claims_grew g.D.Disk.meaning.meters c.args.log.now c.args.pass.now c.take-shared.new.pass c.args.number c.args.rose.now c.args.site.now.inputs c.args.inputs.now c.add_all-added.result c.add_all-added.new.batch c.add_all-added.new.site
     marks c.free.new.self c.add_all-added.new.shared c.requires.owns c.take-shared.ensures.same c.take-shared.ensures.seen c.free.ensures
     c.add_all-added.ensures.added
 
 pub returns-clause-planned : goal.returns-clause-planned
 returns-clause-planned g c =
     let marks = c.take-shared.result in
-    planned g.D.Disk.meters c.args.log.now c.args.pass.now c.args.number c.args.rose.now c.args.site.now.inputs c.args.inputs.now c.add_all-added.result c.add_all-added.new.batch c.add_all-added.new.site marks c.free.new.self
+    planned g.D.Disk.meaning.meters c.args.log.now c.args.pass.now c.args.number c.args.rose.now c.args.site.now.inputs c.args.inputs.now c.add_all-added.result c.add_all-added.new.batch c.add_all-added.new.site marks c.free.new.self
     c.add_all-added.new.shared (seen_by c.put.new.pass) c.take-shared.ensures.grew c.take-shared.ensures.played c.free.ensures c.put.ensures.seen
     c.add_all-added.ensures.added

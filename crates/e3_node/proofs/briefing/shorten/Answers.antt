@@ -11,5 +11,5 @@ returns-clause-short g c = λ l is.
 pub returns-clause-due : goal.returns-clause-due
 returns-clause-due g c = λ l is sound some.
     let told : c.as_slice.result.now ≡ brief l = c.as_slice.ensures ∙ c.in_ok-records.ensures.now is.now is.stands is.order ∙ is.same in
-    due_short g.D.Disk.meters c.args.log.now l c.as_slice.result.now c.args.len c.short_of.result c.short_of.ensures.none
+    due_short g.D.Disk.meaning.meters c.args.log.now l c.as_slice.result.now c.args.len c.short_of.result c.short_of.ensures.none
     (λ none. are_some c.args.site.now.site l is.orderly (sym told ∙ none))

@@ -16,7 +16,7 @@ returns-then-rise-eq0-clause-due g c = λ l is sound.
     elim c.then-rise-eq0.branch [
       | then-rise-eq0-via-then-rise-eq0 w ↦ inr (read_none c.args.wish.now.site (take rise.read rise.rose) l is (ap (λ (n : ℕ). take n rise.rose) w.if-rise-eq0.true))
       | then-rise-eq0-via-else-rise-eq0+then-fits w ↦
-          inl (subst (λ (n : ℕ). HasRoom g.D.Disk.meters c.args.log.now n) w.len.ensures (w.if-fits.ensures.0 refl))
+          inl (subst (λ (n : ℕ). HasRoom g.D.Disk.meaning.meters c.args.log.now n) w.len.ensures (w.if-fits.ensures.0 refl))
     ]
 
 pub returns-clause-short : goal.returns-clause-short
@@ -35,5 +35,5 @@ returns-clause-due g c = λ l is sound.
     let site = c.args.wish.now.site in
     let told : c.in_ok-records.records ≡ brief l =
     c.in_ok-records.ensures.brief l (subst (λ (x : List Record). IsReadBrief site (take rise.read x) l) (sym c.as_slice.ensures) is) in
-    due_short g.D.Disk.meters c.args.log.now l c.as_slice-2.result.now (length rise.body) (Ok c.in_ok-short_of.field-0) c.in_ok-short_of.ensures.none
+    due_short g.D.Disk.meaning.meters c.args.log.now l c.as_slice-2.result.now (length rise.body) (Ok c.in_ok-short_of.field-0) c.in_ok-short_of.ensures.none
     (λ none. are_some site l is.log_orderly (sym (c.as_slice-2.ensures ∙ told) ∙ none))

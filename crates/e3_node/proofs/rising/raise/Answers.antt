@@ -9,8 +9,8 @@ returns-clause-makes g c = λ sc h may holds.
     let site = c.args.wish.now.site in
     let old = c.args.disk in
     let mid = c.power_on.new.self in
-    let was : Meters = g.D.Disk.meters old in
-    let keeps : Keeps was (g.D.Disk.meters mid) =
+    let was : Meters = g.D.Disk.meaning.meters old in
+    let keeps : Keeps was (g.D.Disk.meaning.meters mid) =
     subst (λ (m : Meters). Keeps was m) (sym c.power_on.ensures.meters) (keeps_lit was (lit was) (keeps_same (lit was))) in
-    makes_since g.D.Disk.content g.D.Disk.image g.D.Disk.meters sc h site old mid c.open.result.0 c.open.result.1 c.power_on.ensures.images keeps
-    (c.open.ensures.makes sc h may (disk_within g.D.Disk.image g.D.Disk.meters sc h site c.args.logged old mid c.power_on.ensures.images keeps.capacity holds))
+    makes_since g.D.Disk.meaning sc h site old mid c.open.result.0 c.open.result.1 c.power_on.ensures.images keeps
+    (c.open.ensures.makes sc h may (disk_within g.D.Disk.meaning sc h site c.args.logged old mid c.power_on.ensures.images keeps.capacity holds))

@@ -14,13 +14,13 @@ pub returns-in-Err-clause-makes : goal.returns-in-Err-clause-makes
 returns-in-Err-clause-makes g c = λ sc h may tells.
     let wish = c.args.wish.now in
     let log = c.args.log in
-    let bytes = g.D.Disk.content log.disk in
+    let bytes = g.D.Disk.meaning.content log.disk in
     let bodies = bodies_of c.args.frames.now in
     let new = c.into_disk.result in
-    let here : DiskTells sc h wish.site (g.D.Disk.meters new).capacity c.args.logged (g.D.Disk.image new) =
-    subst (λ (d : _). DiskTells sc h wish.site (g.D.Disk.meters d).capacity c.args.logged (g.D.Disk.image d)) (sym c.into_disk.ensures) tells in
-    subst (λ (r : Raised). RiseMakes g.D.Disk.content g.D.Disk.image g.D.Disk.meters sc h wish.site log.disk (Down new c.args.logged) r) (sym c.raised_by.ensures)
-    (unshortened g.D.Disk.content g.D.Disk.image g.D.Disk.meters sc h wish.site c.args.logged log.disk new c.in-Err.fault
-    (λ foreign. never_foreign sc h wish (g.D.Disk.meters log.disk).capacity log.generation c.args.logged bodies bytes may
-    (tells bytes (g.met.D.Disk.reads_an_image log.disk)) (opened_reads g.D.Disk.content g.D.Disk.image g.D.Disk.meters bodies log c.requires.stands) c.logs_are_orderly.ensures.logs c.logged_sites_are_sets.ensures c.trails_are_sound.ensures.sound
+    let here : DiskTells sc h wish.site (g.D.Disk.meaning.meters new).capacity c.args.logged (g.D.Disk.meaning.image new) =
+    subst (λ (d : _). DiskTells sc h wish.site (g.D.Disk.meaning.meters d).capacity c.args.logged (g.D.Disk.meaning.image d)) (sym c.into_disk.ensures) tells in
+    subst (λ (r : Raised). RiseMakes g.D.Disk.meaning sc h wish.site log.disk (Down new c.args.logged) r) (sym c.raised_by.ensures)
+    (unshortened g.D.Disk.meaning sc h wish.site c.args.logged log.disk new c.in-Err.fault
+    (λ foreign. never_foreign sc h wish (g.D.Disk.meaning.meters log.disk).capacity log.generation c.args.logged bodies bytes may
+    (tells bytes (g.met.D.Disk.reads_an_image log.disk)) (opened_reads g.D.Disk.meaning bodies log c.requires.stands) c.logs_are_sound.ensures.orderly c.logs_are_sound.ensures.sets c.logs_are_sound.ensures.sound
     (subst (λ (l : List _). IsForeign wish (bodies_of l)) c.as_slice.ensures (c.in-Err.ensures.foreign (ap (λ (f : Unready). Err f) foreign)))) here)

@@ -23,8 +23,8 @@ returns-in-Ok-clause-makes g c = λ sc h may tells.
     let is = c.requires.ready.1 in
     let stands = c.requires.ready.2 in
     let at = g.met.D.Disk.reads_an_image c.args.log.disk in
-    let brief = read_brief g.D.Disk.content g.D.Disk.image g.D.Disk.meters c.logs_are_orderly.ensures.logs c.logged_sites_are_sets.ensures c.trails_are_sound.ensures.sound sc h wish c.args.logged bodies c.args.rise c.args.log may is stands tells at
-    c.legal_histories_mention_what_stands.ensures.records c.begun_are_transactions.ensures c.records_suit_their_site.ensures.votes in
+    let brief = read_brief g.D.Disk.meaning c.logs_are_sound.ensures.orderly c.logs_are_sound.ensures.sets c.logs_are_sound.ensures.sound sc h wish c.args.logged bodies c.args.rise c.args.log may is stands tells at
+    c.logs_are_sound.ensures.mention c.logs_are_sound.ensures.begun c.logs_are_sound.ensures.votes in
     let l = log_with sc h wish.site c.args.rise.kept in
     let mine = subst (λ (x : List Record). IsReadBrief wish.site x l) (sym (read_front wish c.args.logged bodies c.args.rise is)) brief in
     c.log_rise.ensures.makes sc h wish c.args.logged bodies may is stands tells (c.in-Ok.ensures.short l mine) (c.in-Ok.ensures.due l mine stands.sound)
@@ -36,11 +36,11 @@ returns-in-Err-clause-makes g c = λ sc h may tells.
     let is = c.requires.ready.1 in
     let stands = c.requires.ready.2 in
     let at = g.met.D.Disk.reads_an_image c.args.log.disk in
-    let brief = read_brief g.D.Disk.content g.D.Disk.image g.D.Disk.meters c.logs_are_orderly.ensures.logs c.logged_sites_are_sets.ensures c.trails_are_sound.ensures.sound sc h wish c.args.logged bodies c.args.rise c.args.log may is stands tells at
-    c.legal_histories_mention_what_stands.ensures.records c.begun_are_transactions.ensures c.records_suit_their_site.ensures.votes in
+    let brief = read_brief g.D.Disk.meaning c.logs_are_sound.ensures.orderly c.logs_are_sound.ensures.sets c.logs_are_sound.ensures.sound sc h wish c.args.logged bodies c.args.rise c.args.log may is stands tells at
+    c.logs_are_sound.ensures.mention c.logs_are_sound.ensures.begun c.logs_are_sound.ensures.votes in
     let orderly = subst (λ (x : List Record). IsOrderly wish.site x) (sym (read_front wish c.args.logged bodies c.args.rise is)) brief.orderly in
     let new = c.into_disk.result in
-    let here : DiskTells sc h wish.site (g.D.Disk.meters new).capacity c.args.logged (g.D.Disk.image new) =
-    subst (λ (d : _). DiskTells sc h wish.site (g.D.Disk.meters d).capacity c.args.logged (g.D.Disk.image d)) (sym c.into_disk.ensures) tells in
-    subst (λ (r : Raised). RiseMakes g.D.Disk.content g.D.Disk.image g.D.Disk.meters sc h wish.site c.args.log.disk (Down new c.args.logged) r) (sym c.raised_by.ensures)
-    (unshortened g.D.Disk.content g.D.Disk.image g.D.Disk.meters sc h wish.site c.args.logged c.args.log.disk new c.in-Err.fault (λ foreign. c.in-Err.ensures.never orderly (ap (λ (f : Unready). Err f) foreign)) here)
+    let here : DiskTells sc h wish.site (g.D.Disk.meaning.meters new).capacity c.args.logged (g.D.Disk.meaning.image new) =
+    subst (λ (d : _). DiskTells sc h wish.site (g.D.Disk.meaning.meters d).capacity c.args.logged (g.D.Disk.meaning.image d)) (sym c.into_disk.ensures) tells in
+    subst (λ (r : Raised). RiseMakes g.D.Disk.meaning sc h wish.site c.args.log.disk (Down new c.args.logged) r) (sym c.raised_by.ensures)
+    (unshortened g.D.Disk.meaning sc h wish.site c.args.logged c.args.log.disk new c.in-Err.fault (λ foreign. c.in-Err.ensures.never orderly (ap (λ (f : Unready). Err f) foreign)) here)

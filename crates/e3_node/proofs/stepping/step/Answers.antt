@@ -153,15 +153,15 @@ returns-in-Ok-clause-up g c =
     record { alike = c.in_ok-draft.ensures.still.stands sc h c.args.number c.args.rose.now c.requires.up.stands.alike; risen = c.requires.up.stands.risen; order = c.requires.up.stands.order } in
     let slice : c.records-records.result.now ≡ (made_by sc h c.args.number c.args.input).records = c.records-records.ensures ∙ records_made sc h c.args.number c.args.input d.plan.step made.step_is in
     let follows : Follows c.args.number (log_of sc h c.args.number) c.records-records.result.now c.in_ok-short.short =
-    step_follows c.logs_are_orderly.ensures.logs c.logged_sites_are_sets.ensures c.trails_are_sound.ensures.sound c.legal_histories_mention_what_stands.ensures.records c.begun_are_transactions.ensures c.records_suit_their_site.ensures.votes sc h c.args.number
+    step_follows c.logs_are_sound.ensures.orderly c.logs_are_sound.ensures.sets c.logs_are_sound.ensures.sound c.logs_are_sound.ensures.mention c.logs_are_sound.ensures.begun c.logs_are_sound.ensures.votes sc h c.args.number
     c.requires.shared.played.given c.requires.shared.played.legal c.requires.up.up c.args.rose.now c.prepare.new.site c.args.input c.in_ok-short.short c.records-records.result.now ready c.requires.some c.requires.due
     slice made.back c.in_ok-short.ensures.short in
-    let order = step_order c.logs_are_orderly.ensures.logs c.logged_sites_are_sets.ensures sc h c.args.number c.args.input
+    let order = step_order c.logs_are_sound.ensures.orderly c.logs_are_sound.ensures.sets sc h c.args.number c.args.input
     c.requires.shared.played.given c.requires.shared.played.legal c.requires.some c.requires.up.up c.requires.due in
     let wrote = c.in-Ok.ensures.logged c.args.number (entries_at h c.args.number) (log_of sc h c.args.number) c.requires.up.logged follows.short follows.orderly follows.back in
-    let logged = step_logged g.D.Disk.content g.D.Disk.image g.D.Disk.meters sc h c.args.number c.args.input c.records-records.result.now c.write.new.logged c.write.new.log slice wrote in
-    subst (λ (l : List Entry). IsUp g.D.Disk.content g.D.Disk.image g.D.Disk.meters sc l c.args.number c.apply.new.self c.write.new.log c.args.rose.now c.write.new.logged) (sym entered)
-    (stepped_up g.D.Disk.content g.D.Disk.image g.D.Disk.meters sc h c.args.number c.args.input c.apply.new.self c.write.new.log c.write.new.logged c.requires.up.up
+    let logged = step_logged g.D.Disk.meaning sc h c.args.number c.args.input c.records-records.result.now c.write.new.logged c.write.new.log slice wrote in
+    subst (λ (l : List Entry). IsUp g.D.Disk.meaning sc l c.args.number c.apply.new.self c.write.new.log c.args.rose.now c.write.new.logged) (sym entered)
+    (stepped_up g.D.Disk.meaning sc h c.args.number c.args.input c.apply.new.self c.write.new.log c.write.new.logged c.requires.up.up
     (site_on sc h c.args.number c.args.input c.prepare.new.site c.apply.new.self d.plan.step ready made.step_is
     (ap (λ (s : SiteView). s.weights) c.apply.ensures.done) (ap (λ (s : SiteView). s.site) c.apply.ensures.done) c.apply.ensures.stand order)
     logged c.in-Ok.ensures.lit
@@ -230,16 +230,16 @@ returns-in-Err-clause-fell g c = λ why is.
     record { alike = c.in_ok-draft.ensures.still.stands sc h c.args.number c.args.rose.now c.requires.up.stands.alike; risen = c.requires.up.stands.risen; order = c.requires.up.stands.order } in
     let slice : c.records-records.result.now ≡ (made_by sc h c.args.number c.args.input).records = c.records-records.ensures ∙ records_made sc h c.args.number c.args.input d.plan.step made.step_is in
     let follows : Follows c.args.number (log_of sc h c.args.number) c.records-records.result.now c.in_ok-short.short =
-    step_follows c.logs_are_orderly.ensures.logs c.logged_sites_are_sets.ensures c.trails_are_sound.ensures.sound c.legal_histories_mention_what_stands.ensures.records c.begun_are_transactions.ensures c.records_suit_their_site.ensures.votes sc h c.args.number
+    step_follows c.logs_are_sound.ensures.orderly c.logs_are_sound.ensures.sets c.logs_are_sound.ensures.sound c.logs_are_sound.ensures.mention c.logs_are_sound.ensures.begun c.logs_are_sound.ensures.votes sc h c.args.number
     c.requires.shared.played.given c.requires.shared.played.legal c.requires.up.up c.args.rose.now c.prepare.new.site c.args.input c.in_ok-short.short c.records-records.result.now ready c.requires.some c.requires.due
     slice made.back c.in_ok-short.ensures.short in
     let disk = c.write.new.log.disk in
-    let stands : DiskTells sc more c.args.number (g.D.Disk.meters disk).capacity c.write.new.logged (g.D.Disk.image disk) =
-    subst (λ (l : List Entry). DiskTells sc l c.args.number (g.D.Disk.meters disk).capacity c.write.new.logged (g.D.Disk.image disk)) (sym entered)
-    (fallen_tells sc h c.args.number (g.D.Disk.meters disk).capacity c.args.input c.records-records.result.now c.in-Err.why c.write.new.logged (g.D.Disk.image disk) slice
+    let stands : DiskTells sc more c.args.number (g.D.Disk.meaning.meters disk).capacity c.write.new.logged (g.D.Disk.meaning.image disk) =
+    subst (λ (l : List Entry). DiskTells sc l c.args.number (g.D.Disk.meaning.meters disk).capacity c.write.new.logged (g.D.Disk.meaning.image disk)) (sym entered)
+    (fallen_tells sc h c.args.number (g.D.Disk.meaning.meters disk).capacity c.args.input c.records-records.result.now c.in-Err.why c.write.new.logged (g.D.Disk.meaning.image disk) slice
     (c.in-Err.ensures.left c.args.number (entries_at h c.args.number) (log_of sc h c.args.number) c.requires.up.logged follows.short follows.orderly follows.back)) in
     let same : c.in-Err.why ≡ why = cc in
-    subst (λ (w : Why). FellOver sc h c.args.number c.args.input w more × DiskTells sc more c.args.number (g.D.Disk.meters disk).capacity c.write.new.logged (g.D.Disk.image disk)) same (over, stands)
+    subst (λ (w : Why). FellOver sc h c.args.number c.args.input w more × DiskTells sc more c.args.number (g.D.Disk.meaning.meters disk).capacity c.write.new.logged (g.D.Disk.meaning.image disk)) same (over, stands)
 
 pub returns-in-Err-clause-why : goal.returns-in-Err-clause-why
 returns-in-Err-clause-why g c = λ why is.
@@ -252,18 +252,18 @@ returns-in-Err-clause-why g c = λ why is.
     record { alike = c.in_ok-draft.ensures.still.stands sc h c.args.number c.args.rose.now c.requires.up.stands.alike; risen = c.requires.up.stands.risen; order = c.requires.up.stands.order } in
     let slice : c.records-records.result.now ≡ (made_by sc h c.args.number c.args.input).records = c.records-records.ensures ∙ records_made sc h c.args.number c.args.input d.plan.step made.step_is in
     let follows : Follows c.args.number (log_of sc h c.args.number) c.records-records.result.now c.in_ok-short.short =
-    step_follows c.logs_are_orderly.ensures.logs c.logged_sites_are_sets.ensures c.trails_are_sound.ensures.sound c.legal_histories_mention_what_stands.ensures.records c.begun_are_transactions.ensures c.records_suit_their_site.ensures.votes sc h c.args.number
+    step_follows c.logs_are_sound.ensures.orderly c.logs_are_sound.ensures.sets c.logs_are_sound.ensures.sound c.logs_are_sound.ensures.mention c.logs_are_sound.ensures.begun c.logs_are_sound.ensures.votes sc h c.args.number
     c.requires.shared.played.given c.requires.shared.played.legal c.requires.up.up c.args.rose.now c.prepare.new.site c.args.input c.in_ok-short.short c.records-records.result.now ready c.requires.some c.requires.due
     slice made.back c.in_ok-short.ensures.short in
-    let old = g.D.Disk.meters c.args.log.now.disk in
-    let new = g.D.Disk.meters c.write.new.log.disk in
+    let old = g.D.Disk.meaning.meters c.args.log.now.disk in
+    let new = g.D.Disk.meaning.meters c.write.new.log.disk in
     let l = log_of sc h c.args.number in
-    let brief = up_brief c.logs_are_orderly.ensures.logs c.logged_sites_are_sets.ensures c.trails_are_sound.ensures.sound c.legal_histories_mention_what_stands.ensures.records c.begun_are_transactions.ensures c.records_suit_their_site.ensures.votes sc h c.args.number
+    let brief = up_brief c.logs_are_sound.ensures.orderly c.logs_are_sound.ensures.sets c.logs_are_sound.ensures.sound c.logs_are_sound.ensures.mention c.logs_are_sound.ensures.begun c.logs_are_sound.ensures.votes sc h c.args.number
     c.requires.shared.played.given c.requires.shared.played.legal c.requires.up.up c.args.rose.now c.prepare.new.site ready in
     let size : c.len.result ≡ size_of c.records-records.result.now =
     c.len.ensures ∙ ap length c.in_ok-draft.ensures.ready.drafted.body_is ∙ sym (ap size_of c.records-records.ensures) in
-    let due : IsDue g.D.Disk.meters c.args.log.now l c.in_ok-short.short (size_of c.records-records.result.now) =
-    subst (λ (n : ℕ). IsDue g.D.Disk.meters c.args.log.now l c.in_ok-short.short n) size (c.in_ok-short.ensures.due l brief c.requires.up.logged.stands.sound c.in-Err.ensures.some) in
+    let due : IsDue g.D.Disk.meaning.meters c.args.log.now l c.in_ok-short.short (size_of c.records-records.result.now) =
+    subst (λ (n : ℕ). IsDue g.D.Disk.meaning.meters c.args.log.now l c.in_ok-short.short n) size (c.in_ok-short.ensures.due l brief c.requires.up.logged.stands.sound c.in-Err.ensures.some) in
     let same : c.in-Err.why ≡ why = cc in
     subst (λ (w : Why). IsReason w l (made_by sc h c.args.number c.args.input).records old new) same
     (subst (λ (rs : List Record). IsReason c.in-Err.why l rs old new) slice
@@ -275,7 +275,7 @@ returns-in-Ok-clause-takes g c =
     let h = entries_of c.args.shared.now in
     let d = c.in_ok-draft.draft in
     let made = draft_made sc h c.args.number c.args.site.now _ c.args.input d c.requires.up.stands c.in_ok-draft.ensures.ready in
-    let T : List Record → Type 0 = λ rs. Takes (calls_for rs) (g.D.Disk.meters c.args.log.now.disk) (g.D.Disk.meters c.write.new.log.disk) in
+    let T : List Record → Type 0 = λ rs. Takes (calls_for rs) (g.D.Disk.meaning.meters c.args.log.now.disk) (g.D.Disk.meaning.meters c.write.new.log.disk) in
     subst T (c.records-records.ensures ∙ records_made sc h c.args.number c.args.input d.plan.step made.step_is) c.in-Ok.ensures.takes
 
 pub returns-in_err-claim-clause-fell : goal.returns-in_err-claim-clause-fell

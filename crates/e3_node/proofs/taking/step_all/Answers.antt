@@ -38,9 +38,9 @@ plan_all-refused-requires-clause-orders g c =
     let Q : List Input → Type 0 = λ l. (marks : List Mark) → GrewByOthers belongs p marks → IsPlayed marks → (k : ℕ) → k ≤ length l →
     IsLogInOrder n (log_of (scenario_of marks) (stepped (scenario_of marks) (entries_of marks) n (take k l)) n) in
     subst Q (sym c.as_slice.ensures) (λ marks grew played k few.
-    batch_order p n c.args.inputs c.requires.owns c.requires.played c.requires.some c.requires.up.up
-    c.requires.restless c.requires.due c.requires.takes marks grew played k
-    c.logs_are_orderly.ensures.logs c.logged_sites_are_sets.ensures)
+    batch_order p n c.args.inputs c.requires.turns.owns c.requires.turns.played c.requires.turns.some c.requires.up.up
+    c.requires.turns.restless c.requires.due c.requires.takes marks grew played k
+    c.logs_are_sound.ensures.orderly c.logs_are_sound.ensures.sets)
 
 pub plan_all-refused-requires-clause-briefs : goal.plan_all-refused-requires-clause-briefs
 plan_all-refused-requires-clause-briefs g c =
@@ -49,11 +49,11 @@ plan_all-refused-requires-clause-briefs g c =
     let Q : List Input → Type 0 = λ l. (marks : List Mark) → GrewByOthers belongs p marks → IsPlayed marks → (k : ℕ) → k ≤ length l →
     BriefsAreTold (scenario_of marks) (stepped (scenario_of marks) (entries_of marks) n (take k l)) n c.args.rose.now in
     subst Q (sym c.as_slice.ensures) (λ marks grew played k few.
-    batch_brief p n c.args.inputs c.requires.owns c.requires.played c.requires.some c.requires.up.up
-    c.requires.restless c.requires.due c.requires.takes marks grew played k
-    c.logs_are_orderly.ensures.logs c.logged_sites_are_sets.ensures c.trails_are_sound.ensures.sound
-    c.legal_histories_mention_what_stands.ensures.records c.begun_are_transactions.ensures
-    c.records_suit_their_site.ensures.votes c.args.rose.now c.requires.up.stands.risen)
+    batch_brief p n c.args.inputs c.requires.turns.owns c.requires.turns.played c.requires.turns.some c.requires.up.up
+    c.requires.turns.restless c.requires.due c.requires.takes marks grew played k
+    c.logs_are_sound.ensures.orderly c.logs_are_sound.ensures.sets c.logs_are_sound.ensures.sound
+    c.logs_are_sound.ensures.mention c.logs_are_sound.ensures.begun
+    c.logs_are_sound.ensures.votes c.args.rose.now c.requires.up.stands.risen)
 
 pub plan_all-refused-requires-clause-sound : goal.plan_all-refused-requires-clause-sound
 plan_all-refused-requires-clause-sound g c = c.requires.up.logged.stands.sound
@@ -73,10 +73,10 @@ write-requires-clause-spelled g c =
     let b = c.plan_all-refused.new.batch in
     let s1 = c.plan_all-refused.new.site in
     let answer = c.plan_all-refused.result in
-    let plan : HasPlanned g.D.Disk.meters c.args.log.now p n c.args.rose.now s0.inputs c.args.inputs answer b s1 (seen_by q) =
-    subst (λ (l : List Input). HasPlanned g.D.Disk.meters c.args.log.now p n c.args.rose.now s0.inputs l answer b s1 (seen_by q)) c.as_slice.ensures c.plan_all-refused.ensures.planned in
-    let mine = still_owns p q n c.plan_all-refused.ensures.same c.requires.owns in
-    let is = made g.D.Disk.meters c.args.log.now p q n s0.inputs c.args.inputs answer b s1 plan c.requires.owns mine c.requires.played
+    let plan : HasPlanned g.D.Disk.meaning.meters c.args.log.now p n c.args.rose.now s0.inputs c.args.inputs answer b s1 (seen_by q) =
+    subst (λ (l : List Input). HasPlanned g.D.Disk.meaning.meters c.args.log.now p n c.args.rose.now s0.inputs l answer b s1 (seen_by q)) c.as_slice.ensures c.plan_all-refused.ensures.planned in
+    let mine = still_owns p q n c.plan_all-refused.ensures.same c.requires.turns.owns in
+    let is = made g.D.Disk.meaning.meters c.args.log.now p q n s0.inputs c.args.inputs answer b s1 plan c.requires.turns.owns mine c.requires.turns.played
     c.plan_all-refused.ensures.played in
     c.as_slice-3.ensures ∙ is.body_is ∙ ap spelling (sym is.records_are) ∙ ap spelling (sym c.as_slice-2.ensures)
 
@@ -91,14 +91,14 @@ enter_steps-requires-clause-owned g c =
     let b = c.plan_all-refused.new.batch in
     let s1 = c.plan_all-refused.new.site in
     let answer = c.plan_all-refused.result in
-    let plan : HasPlanned g.D.Disk.meters c.args.log.now p n c.args.rose.now s0.inputs c.args.inputs answer b s1 (seen_by q) =
-    subst (λ (l : List Input). HasPlanned g.D.Disk.meters c.args.log.now p n c.args.rose.now s0.inputs l answer b s1 (seen_by q)) c.as_slice.ensures c.plan_all-refused.ensures.planned in
-    let mine = still_owns p q n c.plan_all-refused.ensures.same c.requires.owns in
-    let is = made g.D.Disk.meters c.args.log.now p q n s0.inputs c.args.inputs answer b s1 plan c.requires.owns mine c.requires.played
+    let plan : HasPlanned g.D.Disk.meaning.meters c.args.log.now p n c.args.rose.now s0.inputs c.args.inputs answer b s1 (seen_by q) =
+    subst (λ (l : List Input). HasPlanned g.D.Disk.meaning.meters c.args.log.now p n c.args.rose.now s0.inputs l answer b s1 (seen_by q)) c.as_slice.ensures c.plan_all-refused.ensures.planned in
+    let mine = still_owns p q n c.plan_all-refused.ensures.same c.requires.turns.owns in
+    let is = made g.D.Disk.meaning.meters c.args.log.now p q n s0.inputs c.args.inputs answer b s1 plan c.requires.turns.owns mine c.requires.turns.played
     c.plan_all-refused.ensures.played in
     record {
       site = n;
-      some = c.requires.some;
+      some = c.requires.turns.some;
       owns = mine;
       are = subst (λ (l : List Entry). AreOf n l) (sym is.steps_are) (plain_own (scenario_of (seen_by p)) (entries_of plan.between) n (take plan.count c.args.inputs));
     }
@@ -114,15 +114,15 @@ enter_steps-requires-clause-may g c =
     let b = c.plan_all-refused.new.batch in
     let s1 = c.plan_all-refused.new.site in
     let answer = c.plan_all-refused.result in
-    let plan : HasPlanned g.D.Disk.meters c.args.log.now p n c.args.rose.now s0.inputs c.args.inputs answer b s1 (seen_by q) =
-    subst (λ (l : List Input). HasPlanned g.D.Disk.meters c.args.log.now p n c.args.rose.now s0.inputs l answer b s1 (seen_by q)) c.as_slice.ensures c.plan_all-refused.ensures.planned in
-    let mine = still_owns p q n c.plan_all-refused.ensures.same c.requires.owns in
+    let plan : HasPlanned g.D.Disk.meaning.meters c.args.log.now p n c.args.rose.now s0.inputs c.args.inputs answer b s1 (seen_by q) =
+    subst (λ (l : List Input). HasPlanned g.D.Disk.meaning.meters c.args.log.now p n c.args.rose.now s0.inputs l answer b s1 (seen_by q)) c.as_slice.ensures c.plan_all-refused.ensures.planned in
+    let mine = still_owns p q n c.plan_all-refused.ensures.same c.requires.turns.owns in
     λ marks grew played.
-    may_all_enter g.D.Disk.meters c.args.log.now p q n s0.inputs c.args.inputs answer b s1 plan c.requires.owns mine c.requires.played
-    c.plan_all-refused.ensures.played c.requires.some c.requires.up.up c.requires.restless c.requires.due c.requires.takes
-    marks grew played c.requires.exists (up_second g.D.Disk.meters c.args.log.now p q n s0.inputs c.args.inputs answer b s1
-    plan c.requires.owns mine c.requires.played c.plan_all-refused.ensures.played c.requires.some c.requires.up.up
-    c.requires.restless c.requires.due c.requires.takes marks grew played g.D.Disk.content g.D.Disk.image g.D.Disk.meters s0 l0 c.args.logged.now c.requires.up)
+    may_all_enter g.D.Disk.meaning.meters c.args.log.now p q n s0.inputs c.args.inputs answer b s1 plan c.requires.turns.owns mine c.requires.turns.played
+    c.plan_all-refused.ensures.played c.requires.turns.some c.requires.up.up c.requires.turns.restless c.requires.due c.requires.takes
+    marks grew played c.requires.turns.exists (up_second g.D.Disk.meaning.meters c.args.log.now p q n s0.inputs c.args.inputs answer b s1
+    plan c.requires.turns.owns mine c.requires.turns.played c.plan_all-refused.ensures.played c.requires.turns.some c.requires.up.up
+    c.requires.turns.restless c.requires.due c.requires.takes marks grew played g.D.Disk.meaning s0 l0 c.args.logged.now c.requires.up)
 
 pub commit_entry-requires-clause-owns : goal.commit_entry-requires-clause-owns
 commit_entry-requires-clause-owns g c =
@@ -135,9 +135,9 @@ commit_entry-requires-clause-owns g c =
     let b = c.plan_all-refused.new.batch in
     let s1 = c.plan_all-refused.new.site in
     let answer = c.plan_all-refused.result in
-    let plan : HasPlanned g.D.Disk.meters c.args.log.now p n c.args.rose.now s0.inputs c.args.inputs answer b s1 (seen_by q) =
-    subst (λ (l : List Input). HasPlanned g.D.Disk.meters c.args.log.now p n c.args.rose.now s0.inputs l answer b s1 (seen_by q)) c.as_slice.ensures c.plan_all-refused.ensures.planned in
-    let mine = still_owns p q n c.plan_all-refused.ensures.same c.requires.owns in
+    let plan : HasPlanned g.D.Disk.meaning.meters c.args.log.now p n c.args.rose.now s0.inputs c.args.inputs answer b s1 (seen_by q) =
+    subst (λ (l : List Input). HasPlanned g.D.Disk.meaning.meters c.args.log.now p n c.args.rose.now s0.inputs l answer b s1 (seen_by q)) c.as_slice.ensures c.plan_all-refused.ensures.planned in
+    let mine = still_owns p q n c.plan_all-refused.ensures.same c.requires.turns.owns in
     subst (λ (y : Entry). Owns q y.owner) (sym c.fall_of-fall.ensures) mine
 
 pub commit_entry-requires-clause-may : goal.commit_entry-requires-clause-may
@@ -151,18 +151,18 @@ commit_entry-requires-clause-may g c =
     let b = c.plan_all-refused.new.batch in
     let s1 = c.plan_all-refused.new.site in
     let answer = c.plan_all-refused.result in
-    let plan : HasPlanned g.D.Disk.meters c.args.log.now p n c.args.rose.now s0.inputs c.args.inputs answer b s1 (seen_by q) =
-    subst (λ (l : List Input). HasPlanned g.D.Disk.meters c.args.log.now p n c.args.rose.now s0.inputs l answer b s1 (seen_by q)) c.as_slice.ensures c.plan_all-refused.ensures.planned in
-    let mine = still_owns p q n c.plan_all-refused.ensures.same c.requires.owns in
+    let plan : HasPlanned g.D.Disk.meaning.meters c.args.log.now p n c.args.rose.now s0.inputs c.args.inputs answer b s1 (seen_by q) =
+    subst (λ (l : List Input). HasPlanned g.D.Disk.meaning.meters c.args.log.now p n c.args.rose.now s0.inputs l answer b s1 (seen_by q)) c.as_slice.ensures c.plan_all-refused.ensures.planned in
+    let mine = still_owns p q n c.plan_all-refused.ensures.same c.requires.turns.owns in
     subst (λ (y : Entry). MayEnterBehind (seen_by q) y) (sym c.fall_of-fall.ensures)
-    (fall_may g.D.Disk.meters c.args.log.now p q n s0.inputs c.args.inputs answer b s1 plan c.requires.owns mine c.requires.played
-    c.plan_all-refused.ensures.played c.requires.some c.requires.up.up c.requires.restless c.requires.due c.requires.takes
+    (fall_may g.D.Disk.meaning.meters c.args.log.now p q n s0.inputs c.args.inputs answer b s1 plan c.requires.turns.owns mine c.requires.turns.played
+    c.plan_all-refused.ensures.played c.requires.turns.some c.requires.up.up c.requires.turns.restless c.requires.due c.requires.takes
     c.first_of-over.result c.in-Err.why (c.first_of-over.ensures ∙ ap (λ (k : ℕ). take k c.args.inputs)
-    (ap length c.as_slice-in-Err.ensures.value ∙ steps_are g.D.Disk.meters c.args.log.now p q n s0.inputs c.args.inputs answer b s1
-    plan c.requires.owns mine c.requires.played c.plan_all-refused.ensures.played))
-    (λ none. c.in-Err.ensures.some (c.as_slice-2.ensures ∙ none)) (up_first g.D.Disk.meters c.args.log.now p q n s0.inputs c.args.inputs answer b s1
-    plan c.requires.owns mine c.requires.played c.plan_all-refused.ensures.played
-    g.D.Disk.content g.D.Disk.image g.D.Disk.meters s0 l0 c.args.logged.now c.requires.up) c.requires.exists)
+    (ap length c.as_slice-in-Err.ensures.value ∙ steps_are g.D.Disk.meaning.meters c.args.log.now p q n s0.inputs c.args.inputs answer b s1
+    plan c.requires.turns.owns mine c.requires.turns.played c.plan_all-refused.ensures.played))
+    (λ none. c.in-Err.ensures.some (c.as_slice-2.ensures ∙ none)) (up_first g.D.Disk.meaning.meters c.args.log.now p q n s0.inputs c.args.inputs answer b s1
+    plan c.requires.turns.owns mine c.requires.turns.played c.plan_all-refused.ensures.played
+    g.D.Disk.meaning s0 l0 c.args.logged.now c.requires.up) c.requires.turns.exists)
 
 pub commit_entry-requires-clause-alone : goal.commit_entry-requires-clause-alone
 commit_entry-requires-clause-alone g c =
@@ -175,12 +175,12 @@ commit_entry-requires-clause-alone g c =
     let b = c.plan_all-refused.new.batch in
     let s1 = c.plan_all-refused.new.site in
     let answer = c.plan_all-refused.result in
-    let plan : HasPlanned g.D.Disk.meters c.args.log.now p n c.args.rose.now s0.inputs c.args.inputs answer b s1 (seen_by q) =
-    subst (λ (l : List Input). HasPlanned g.D.Disk.meters c.args.log.now p n c.args.rose.now s0.inputs l answer b s1 (seen_by q)) c.as_slice.ensures c.plan_all-refused.ensures.planned in
-    let mine = still_owns p q n c.plan_all-refused.ensures.same c.requires.owns in
+    let plan : HasPlanned g.D.Disk.meaning.meters c.args.log.now p n c.args.rose.now s0.inputs c.args.inputs answer b s1 (seen_by q) =
+    subst (λ (l : List Input). HasPlanned g.D.Disk.meaning.meters c.args.log.now p n c.args.rose.now s0.inputs l answer b s1 (seen_by q)) c.as_slice.ensures c.plan_all-refused.ensures.planned in
+    let mine = still_owns p q n c.plan_all-refused.ensures.same c.requires.turns.owns in
     λ calm.
-    alone g.D.Disk.meters c.args.log.now p q n s0.inputs c.args.inputs answer b s1 plan c.requires.owns mine c.requires.played c.plan_all-refused.ensures.played
-    c.requires.some c.requires.up.up c.requires.restless c.requires.due c.requires.takes calm
+    alone g.D.Disk.meaning.meters c.args.log.now p q n s0.inputs c.args.inputs answer b s1 plan c.requires.turns.owns mine c.requires.turns.played c.plan_all-refused.ensures.played
+    c.requires.turns.some c.requires.up.up c.requires.turns.restless c.requires.due c.requires.takes calm
 
 pub returns-in-Ok-clause-turned : goal.returns-in-Ok-clause-turned
 returns-in-Ok-clause-turned g c =
@@ -193,14 +193,14 @@ returns-in-Ok-clause-turned g c =
     let b = c.plan_all-refused.new.batch in
     let s1 = c.plan_all-refused.new.site in
     let answer = c.plan_all-refused.result in
-    let plan : HasPlanned g.D.Disk.meters c.args.log.now p n c.args.rose.now s0.inputs c.args.inputs answer b s1 (seen_by q) =
-    subst (λ (l : List Input). HasPlanned g.D.Disk.meters c.args.log.now p n c.args.rose.now s0.inputs l answer b s1 (seen_by q)) c.as_slice.ensures c.plan_all-refused.ensures.planned in
-    let mine = still_owns p q n c.plan_all-refused.ensures.same c.requires.owns in
+    let plan : HasPlanned g.D.Disk.meaning.meters c.args.log.now p n c.args.rose.now s0.inputs c.args.inputs answer b s1 (seen_by q) =
+    subst (λ (l : List Input). HasPlanned g.D.Disk.meaning.meters c.args.log.now p n c.args.rose.now s0.inputs l answer b s1 (seen_by q)) c.as_slice.ensures c.plan_all-refused.ensures.planned in
+    let mine = still_owns p q n c.plan_all-refused.ensures.same c.requires.turns.owns in
     let r = c.enter_steps.new.pass in
     let ent = c.enter_steps.ensures.entered in
     let tail = marks_in (entries_of ent.0) b.steps.items in
-    turned g.D.Disk.meters c.args.log.now p q n s0.inputs c.args.inputs answer b s1 plan c.requires.owns mine c.requires.played
-    c.plan_all-refused.ensures.played c.requires.some c.requires.up.up c.requires.restless c.requires.due c.requires.takes ent.0 ent.1 ent.2
+    turned g.D.Disk.meaning.meters c.args.log.now p q n s0.inputs c.args.inputs answer b s1 plan c.requires.turns.owns mine c.requires.turns.played
+    c.plan_all-refused.ensures.played c.requires.turns.some c.requires.up.up c.requires.turns.restless c.requires.due c.requires.takes ent.0 ent.1 ent.2
     c.args.wire.now r tail ent.3 c.enter_steps.ensures.idle c.plan_all-refused.ensures.same c.enter_steps.ensures.same c.enter_steps.ensures.played
 
 pub returns-in-Ok-clause-none : goal.returns-in-Ok-clause-none
@@ -214,14 +214,14 @@ returns-in-Ok-clause-none g c =
     let b = c.plan_all-refused.new.batch in
     let s1 = c.plan_all-refused.new.site in
     let answer = c.plan_all-refused.result in
-    let plan : HasPlanned g.D.Disk.meters c.args.log.now p n c.args.rose.now s0.inputs c.args.inputs answer b s1 (seen_by q) =
-    subst (λ (l : List Input). HasPlanned g.D.Disk.meters c.args.log.now p n c.args.rose.now s0.inputs l answer b s1 (seen_by q)) c.as_slice.ensures c.plan_all-refused.ensures.planned in
-    let mine = still_owns p q n c.plan_all-refused.ensures.same c.requires.owns in
+    let plan : HasPlanned g.D.Disk.meaning.meters c.args.log.now p n c.args.rose.now s0.inputs c.args.inputs answer b s1 (seen_by q) =
+    subst (λ (l : List Input). HasPlanned g.D.Disk.meaning.meters c.args.log.now p n c.args.rose.now s0.inputs l answer b s1 (seen_by q)) c.as_slice.ensures c.plan_all-refused.ensures.planned in
+    let mine = still_owns p q n c.plan_all-refused.ensures.same c.requires.turns.owns in
     let r = c.enter_steps.new.pass in
     let ent = c.enter_steps.ensures.entered in
     let tail = marks_in (entries_of ent.0) b.steps.items in
-    note_stepped g.D.Disk.meters c.args.log.now p q n s0.inputs c.args.inputs answer b s1 plan c.requires.owns mine c.requires.played
-    c.plan_all-refused.ensures.played c.requires.some c.requires.up.up c.requires.restless c.requires.due c.requires.takes ent.0 ent.1 ent.2 (seen_by r) ent.3
+    note_stepped g.D.Disk.meaning.meters c.args.log.now p q n s0.inputs c.args.inputs answer b s1 plan c.requires.turns.owns mine c.requires.turns.played
+    c.plan_all-refused.ensures.played c.requires.turns.some c.requires.up.up c.requires.turns.restless c.requires.due c.requires.takes ent.0 ent.1 ent.2 (seen_by r) ent.3
 
 pub returns-in-Ok-clause-ended : goal.returns-in-Ok-clause-ended
 returns-in-Ok-clause-ended g c =
@@ -234,41 +234,41 @@ returns-in-Ok-clause-ended g c =
     let b = c.plan_all-refused.new.batch in
     let s1 = c.plan_all-refused.new.site in
     let answer = c.plan_all-refused.result in
-    let plan : HasPlanned g.D.Disk.meters l0 p n c.args.rose.now s0.inputs c.args.inputs answer b s1 (seen_by q) =
-    subst (λ (l : List Input). HasPlanned g.D.Disk.meters l0 p n c.args.rose.now s0.inputs l answer b s1 (seen_by q)) c.as_slice.ensures c.plan_all-refused.ensures.planned in
-    let mine = still_owns p q n c.plan_all-refused.ensures.same c.requires.owns in
+    let plan : HasPlanned g.D.Disk.meaning.meters l0 p n c.args.rose.now s0.inputs c.args.inputs answer b s1 (seen_by q) =
+    subst (λ (l : List Input). HasPlanned g.D.Disk.meaning.meters l0 p n c.args.rose.now s0.inputs l answer b s1 (seen_by q)) c.as_slice.ensures c.plan_all-refused.ensures.planned in
+    let mine = still_owns p q n c.plan_all-refused.ensures.same c.requires.turns.owns in
     let r = c.enter_steps.new.pass in
     let ent = c.enter_steps.ensures.entered in
     let sc = scenario_of (seen_by p) in
     let k = entries_of ent.0 in
     let m = c.write.new.logged in
     let up_k : is_up_at k n ≡ true =
-    up_second g.D.Disk.meters l0 p q n s0.inputs c.args.inputs answer b s1 plan c.requires.owns mine c.requires.played c.plan_all-refused.ensures.played
-    c.requires.some c.requires.up.up c.requires.restless c.requires.due c.requires.takes ent.0 ent.1 ent.2
-    g.D.Disk.content g.D.Disk.image g.D.Disk.meters s0 l0 c.args.logged.now c.requires.up in
-    let up_1 : is_up_at (entries_of plan.between) n ≡ true = up_first g.D.Disk.meters l0 p q n s0.inputs c.args.inputs answer b s1
-    plan c.requires.owns mine c.requires.played c.plan_all-refused.ensures.played
-    g.D.Disk.content g.D.Disk.image g.D.Disk.meters s0 l0 c.args.logged.now c.requires.up in
-    let here = up_2 g.D.Disk.meters l0 p q n s0.inputs c.args.inputs answer b s1 plan c.requires.owns mine c.requires.played c.plan_all-refused.ensures.played
-    c.requires.some c.requires.up.up c.requires.restless c.requires.due c.requires.takes ent.0 ent.1 ent.2
-    g.D.Disk.content g.D.Disk.image g.D.Disk.meters s0 l0 l1 c.args.logged.now m c.requires.up refl in
+    up_second g.D.Disk.meaning.meters l0 p q n s0.inputs c.args.inputs answer b s1 plan c.requires.turns.owns mine c.requires.turns.played c.plan_all-refused.ensures.played
+    c.requires.turns.some c.requires.up.up c.requires.turns.restless c.requires.due c.requires.takes ent.0 ent.1 ent.2
+    g.D.Disk.meaning s0 l0 c.args.logged.now c.requires.up in
+    let up_1 : is_up_at (entries_of plan.between) n ≡ true = up_first g.D.Disk.meaning.meters l0 p q n s0.inputs c.args.inputs answer b s1
+    plan c.requires.turns.owns mine c.requires.turns.played c.plan_all-refused.ensures.played
+    g.D.Disk.meaning s0 l0 c.args.logged.now c.requires.up in
+    let here = up_2 g.D.Disk.meaning.meters l0 p q n s0.inputs c.args.inputs answer b s1 plan c.requires.turns.owns mine c.requires.turns.played c.plan_all-refused.ensures.played
+    c.requires.turns.some c.requires.up.up c.requires.turns.restless c.requires.due c.requires.takes ent.0 ent.1 ent.2
+    g.D.Disk.meaning s0 l0 l1 c.args.logged.now m c.requires.up refl in
     let follow : Follows n (log_of sc k n) c.as_slice-2.result.now b.short =
     subst (λ (rs : List Record). Follows n (log_of sc k n) rs b.short) (sym c.as_slice-2.ensures)
-    (all_follow g.D.Disk.meters l0 p q n s0.inputs c.args.inputs answer b s1 plan c.requires.owns mine c.requires.played c.plan_all-refused.ensures.played
-    c.requires.some c.requires.up.up c.requires.restless c.requires.due c.requires.takes ent.0 ent.1 ent.2
-    c.logs_are_orderly.ensures.logs c.logged_sites_are_sets.ensures c.legal_histories_mention_what_stands.ensures.records c.begun_are_transactions.ensures
-    c.records_suit_their_site.ensures.votes up_1 up_k) in
-    steps_end g.D.Disk.meters l0 p q n s0.inputs c.args.inputs answer b s1 plan c.requires.owns mine c.requires.played c.plan_all-refused.ensures.played
-    c.requires.some c.requires.up.up c.requires.restless c.requires.due c.requires.takes ent.0 ent.1 ent.2
-    g.D.Disk.content g.D.Disk.image g.D.Disk.meters s0 l0 l1 c.args.logged.now m c.requires.up refl
-    c.logs_are_orderly.ensures.logs c.logged_sites_are_sets.ensures b.short follow.short
+    (all_follow g.D.Disk.meaning.meters l0 p q n s0.inputs c.args.inputs answer b s1 plan c.requires.turns.owns mine c.requires.turns.played c.plan_all-refused.ensures.played
+    c.requires.turns.some c.requires.up.up c.requires.turns.restless c.requires.due c.requires.takes ent.0 ent.1 ent.2
+    c.logs_are_sound.ensures.orderly c.logs_are_sound.ensures.sets c.logs_are_sound.ensures.mention c.logs_are_sound.ensures.begun
+    c.logs_are_sound.ensures.votes up_1 up_k) in
+    steps_end g.D.Disk.meaning.meters l0 p q n s0.inputs c.args.inputs answer b s1 plan c.requires.turns.owns mine c.requires.turns.played c.plan_all-refused.ensures.played
+    c.requires.turns.some c.requires.up.up c.requires.turns.restless c.requires.due c.requires.takes ent.0 ent.1 ent.2
+    g.D.Disk.meaning s0 l0 l1 c.args.logged.now m c.requires.up refl
+    c.logs_are_sound.ensures.orderly c.logs_are_sound.ensures.sets b.short follow.short
     (λ none. c.write.ensures.same (c.as_slice-2.ensures ∙ none))
-    (subst (λ (rs : List Record). IsLogged g.D.Disk.content g.D.Disk.image g.D.Disk.meters n (entries_at k n + 1) (log_of sc k n ++ rs) m l1) c.as_slice-2.ensures
+    (subst (λ (rs : List Record). IsLogged g.D.Disk.meaning n (entries_at k n + 1) (log_of sc k n ++ rs) m l1) c.as_slice-2.ensures
     (c.in-Ok.ensures.logged n (entries_at k n) (log_of sc k n) here.logged follow.short follow.orderly follow.back))
     c.in-Ok.ensures.lit
-    (subst (λ (rs : List Record). Takes (calls_for rs) (g.D.Disk.meters l0.disk) (g.D.Disk.meters l1.disk)) c.as_slice-2.ensures c.in-Ok.ensures.takes)
+    (subst (λ (rs : List Record). Takes (calls_for rs) (g.D.Disk.meaning.meters l0.disk) (g.D.Disk.meaning.meters l1.disk)) c.as_slice-2.ensures c.in-Ok.ensures.takes)
     c.write.ensures.keeps
-    (subst (λ (rs : List Record). rs ≢ [] → EndsAt g.D.Disk.meters l0 b.short rs l1.end) c.as_slice-2.ensures c.in-Ok.ensures.end)
+    (subst (λ (rs : List Record). rs ≢ [] → EndsAt g.D.Disk.meaning.meters l0 b.short rs l1.end) c.as_slice-2.ensures c.in-Ok.ensures.end)
     (seen_by r) ent.3
 
 pub returns-in-Ok-clause-never : goal.returns-in-Ok-clause-never
@@ -286,9 +286,9 @@ returns-in-Err-clause-turned g c =
     let b = c.plan_all-refused.new.batch in
     let s1 = c.plan_all-refused.new.site in
     let answer = c.plan_all-refused.result in
-    let plan : HasPlanned g.D.Disk.meters c.args.log.now p n c.args.rose.now s0.inputs c.args.inputs answer b s1 (seen_by q) =
-    subst (λ (l : List Input). HasPlanned g.D.Disk.meters c.args.log.now p n c.args.rose.now s0.inputs l answer b s1 (seen_by q)) c.as_slice.ensures c.plan_all-refused.ensures.planned in
-    let mine = still_owns p q n c.plan_all-refused.ensures.same c.requires.owns in
+    let plan : HasPlanned g.D.Disk.meaning.meters c.args.log.now p n c.args.rose.now s0.inputs c.args.inputs answer b s1 (seen_by q) =
+    subst (λ (l : List Input). HasPlanned g.D.Disk.meaning.meters c.args.log.now p n c.args.rose.now s0.inputs l answer b s1 (seen_by q)) c.as_slice.ensures c.plan_all-refused.ensures.planned in
+    let mine = still_owns p q n c.plan_all-refused.ensures.same c.requires.turns.owns in
     let r = c.commit_entry.new.pass in
     let over = c.first_of-over.result in
     let why = c.in-Err.why in
@@ -297,8 +297,8 @@ returns-in-Err-clause-turned g c =
     × (seen_by r ≡ later ++ mark.Entered (numbered_on (entries_of later) y) ∷ []) × IsPlayed later in
     let ent : P e = subst P c.fall_of-fall.ensures c.commit_entry.ensures.entered in
     let tail : List Mark = mark.Entered (numbered_on (entries_of ent.0) e) ∷ [] in
-    turned g.D.Disk.meters c.args.log.now p q n s0.inputs c.args.inputs answer b s1 plan c.requires.owns mine c.requires.played
-    c.plan_all-refused.ensures.played c.requires.some c.requires.up.up c.requires.restless c.requires.due c.requires.takes ent.0 ent.1 ent.3
+    turned g.D.Disk.meaning.meters c.args.log.now p q n s0.inputs c.args.inputs answer b s1 plan c.requires.turns.owns mine c.requires.turns.played
+    c.plan_all-refused.ensures.played c.requires.turns.some c.requires.up.up c.requires.turns.restless c.requires.due c.requires.takes ent.0 ent.1 ent.3
     c.args.wire.now r tail ent.2 c.commit_entry.ensures.idle c.plan_all-refused.ensures.same c.commit_entry.ensures.same c.commit_entry.ensures.played
 
 pub returns-in-Err-clause-none : goal.returns-in-Err-clause-none
@@ -312,9 +312,9 @@ returns-in-Err-clause-none g c =
     let b = c.plan_all-refused.new.batch in
     let s1 = c.plan_all-refused.new.site in
     let answer = c.plan_all-refused.result in
-    let plan : HasPlanned g.D.Disk.meters c.args.log.now p n c.args.rose.now s0.inputs c.args.inputs answer b s1 (seen_by q) =
-    subst (λ (l : List Input). HasPlanned g.D.Disk.meters c.args.log.now p n c.args.rose.now s0.inputs l answer b s1 (seen_by q)) c.as_slice.ensures c.plan_all-refused.ensures.planned in
-    let mine = still_owns p q n c.plan_all-refused.ensures.same c.requires.owns in
+    let plan : HasPlanned g.D.Disk.meaning.meters c.args.log.now p n c.args.rose.now s0.inputs c.args.inputs answer b s1 (seen_by q) =
+    subst (λ (l : List Input). HasPlanned g.D.Disk.meaning.meters c.args.log.now p n c.args.rose.now s0.inputs l answer b s1 (seen_by q)) c.as_slice.ensures c.plan_all-refused.ensures.planned in
+    let mine = still_owns p q n c.plan_all-refused.ensures.same c.requires.turns.owns in
     let r = c.commit_entry.new.pass in
     let over = c.first_of-over.result in
     let why = c.in-Err.why in
@@ -323,11 +323,11 @@ returns-in-Err-clause-none g c =
     × (seen_by r ≡ later ++ mark.Entered (numbered_on (entries_of later) y) ∷ []) × IsPlayed later in
     let ent : P e = subst P c.fall_of-fall.ensures c.commit_entry.ensures.entered in
     let tail : List Mark = mark.Entered (numbered_on (entries_of ent.0) e) ∷ [] in
-    note_fallen g.D.Disk.meters c.args.log.now p q n s0.inputs c.args.inputs answer b s1 plan c.requires.owns mine c.requires.played
-    c.plan_all-refused.ensures.played c.requires.some c.requires.up.up c.requires.restless c.requires.due c.requires.takes ent.0 ent.1 ent.3 over why (seen_by r)
+    note_fallen g.D.Disk.meaning.meters c.args.log.now p q n s0.inputs c.args.inputs answer b s1 plan c.requires.turns.owns mine c.requires.turns.played
+    c.plan_all-refused.ensures.played c.requires.turns.some c.requires.up.up c.requires.turns.restless c.requires.due c.requires.takes ent.0 ent.1 ent.3 over why (seen_by r)
     (c.first_of-over.ensures ∙ ap (λ (k : ℕ). take k c.args.inputs)
-    (ap length c.as_slice-in-Err.ensures.value ∙ steps_are g.D.Disk.meters c.args.log.now p q n s0.inputs c.args.inputs answer b s1
-    plan c.requires.owns mine c.requires.played c.plan_all-refused.ensures.played)) ent.2
+    (ap length c.as_slice-in-Err.ensures.value ∙ steps_are g.D.Disk.meaning.meters c.args.log.now p q n s0.inputs c.args.inputs answer b s1
+    plan c.requires.turns.owns mine c.requires.turns.played c.plan_all-refused.ensures.played)) ent.2
 
 pub returns-in-Err-clause-ended : goal.returns-in-Err-clause-ended
 returns-in-Err-clause-ended g c =
@@ -340,9 +340,9 @@ returns-in-Err-clause-ended g c =
     let b = c.plan_all-refused.new.batch in
     let s1 = c.plan_all-refused.new.site in
     let answer = c.plan_all-refused.result in
-    let plan : HasPlanned g.D.Disk.meters l0 p n c.args.rose.now s0.inputs c.args.inputs answer b s1 (seen_by q) =
-    subst (λ (l : List Input). HasPlanned g.D.Disk.meters l0 p n c.args.rose.now s0.inputs l answer b s1 (seen_by q)) c.as_slice.ensures c.plan_all-refused.ensures.planned in
-    let mine = still_owns p q n c.plan_all-refused.ensures.same c.requires.owns in
+    let plan : HasPlanned g.D.Disk.meaning.meters l0 p n c.args.rose.now s0.inputs c.args.inputs answer b s1 (seen_by q) =
+    subst (λ (l : List Input). HasPlanned g.D.Disk.meaning.meters l0 p n c.args.rose.now s0.inputs l answer b s1 (seen_by q)) c.as_slice.ensures c.plan_all-refused.ensures.planned in
+    let mine = still_owns p q n c.plan_all-refused.ensures.same c.requires.turns.owns in
     let r = c.commit_entry.new.pass in
     let over = c.first_of-over.result in
     let why = c.in-Err.why in
@@ -354,36 +354,36 @@ returns-in-Err-clause-ended g c =
     let k = entries_of ent.0 in
     let m = c.write.new.logged in
     let up_k : is_up_at k n ≡ true =
-    up_second g.D.Disk.meters l0 p q n s0.inputs c.args.inputs answer b s1 plan c.requires.owns mine c.requires.played c.plan_all-refused.ensures.played
-    c.requires.some c.requires.up.up c.requires.restless c.requires.due c.requires.takes ent.0 ent.1 ent.3
-    g.D.Disk.content g.D.Disk.image g.D.Disk.meters s0 l0 c.args.logged.now c.requires.up in
-    let up_1 : is_up_at (entries_of plan.between) n ≡ true = up_first g.D.Disk.meters l0 p q n s0.inputs c.args.inputs answer b s1
-    plan c.requires.owns mine c.requires.played c.plan_all-refused.ensures.played
-    g.D.Disk.content g.D.Disk.image g.D.Disk.meters s0 l0 c.args.logged.now c.requires.up in
-    let here = up_2 g.D.Disk.meters l0 p q n s0.inputs c.args.inputs answer b s1 plan c.requires.owns mine c.requires.played c.plan_all-refused.ensures.played
-    c.requires.some c.requires.up.up c.requires.restless c.requires.due c.requires.takes ent.0 ent.1 ent.3
-    g.D.Disk.content g.D.Disk.image g.D.Disk.meters s0 l0 l1 c.args.logged.now m c.requires.up refl in
+    up_second g.D.Disk.meaning.meters l0 p q n s0.inputs c.args.inputs answer b s1 plan c.requires.turns.owns mine c.requires.turns.played c.plan_all-refused.ensures.played
+    c.requires.turns.some c.requires.up.up c.requires.turns.restless c.requires.due c.requires.takes ent.0 ent.1 ent.3
+    g.D.Disk.meaning s0 l0 c.args.logged.now c.requires.up in
+    let up_1 : is_up_at (entries_of plan.between) n ≡ true = up_first g.D.Disk.meaning.meters l0 p q n s0.inputs c.args.inputs answer b s1
+    plan c.requires.turns.owns mine c.requires.turns.played c.plan_all-refused.ensures.played
+    g.D.Disk.meaning s0 l0 c.args.logged.now c.requires.up in
+    let here = up_2 g.D.Disk.meaning.meters l0 p q n s0.inputs c.args.inputs answer b s1 plan c.requires.turns.owns mine c.requires.turns.played c.plan_all-refused.ensures.played
+    c.requires.turns.some c.requires.up.up c.requires.turns.restless c.requires.due c.requires.takes ent.0 ent.1 ent.3
+    g.D.Disk.meaning s0 l0 l1 c.args.logged.now m c.requires.up refl in
     let follow : Follows n (log_of sc k n) c.as_slice-2.result.now b.short =
     subst (λ (rs : List Record). Follows n (log_of sc k n) rs b.short) (sym c.as_slice-2.ensures)
-    (all_follow g.D.Disk.meters l0 p q n s0.inputs c.args.inputs answer b s1 plan c.requires.owns mine c.requires.played c.plan_all-refused.ensures.played
-    c.requires.some c.requires.up.up c.requires.restless c.requires.due c.requires.takes ent.0 ent.1 ent.3
-    c.logs_are_orderly.ensures.logs c.logged_sites_are_sets.ensures c.legal_histories_mention_what_stands.ensures.records c.begun_are_transactions.ensures
-    c.records_suit_their_site.ensures.votes up_1 up_k) in
+    (all_follow g.D.Disk.meaning.meters l0 p q n s0.inputs c.args.inputs answer b s1 plan c.requires.turns.owns mine c.requires.turns.played c.plan_all-refused.ensures.played
+    c.requires.turns.some c.requires.up.up c.requires.turns.restless c.requires.due c.requires.takes ent.0 ent.1 ent.3
+    c.logs_are_sound.ensures.orderly c.logs_are_sound.ensures.sets c.logs_are_sound.ensures.mention c.logs_are_sound.ensures.begun
+    c.logs_are_sound.ensures.votes up_1 up_k) in
     let some : b.records ≢ [] = λ none. c.in-Err.ensures.some (c.as_slice-2.ensures ∙ none) in
-    fall_end g.D.Disk.meters l0 p q n s0.inputs c.args.inputs answer b s1 plan c.requires.owns mine c.requires.played c.plan_all-refused.ensures.played
-    c.requires.some c.requires.up.up c.requires.restless c.requires.due c.requires.takes ent.0 ent.1 ent.3
-    g.D.Disk.content g.D.Disk.image g.D.Disk.meters s0 l0 l1 c.args.logged.now m c.requires.up refl why some
-    (subst (λ (rs : List Record). (bytes : List ℕ) → g.D.Disk.image l1.disk bytes →
-    ReadsLeft n (g.D.Disk.meters l1.disk).capacity (entries_at k n + 1) (log_of sc k n) rs m why bytes) c.as_slice-2.ensures
+    fall_end g.D.Disk.meaning.meters l0 p q n s0.inputs c.args.inputs answer b s1 plan c.requires.turns.owns mine c.requires.turns.played c.plan_all-refused.ensures.played
+    c.requires.turns.some c.requires.up.up c.requires.turns.restless c.requires.due c.requires.takes ent.0 ent.1 ent.3
+    g.D.Disk.meaning s0 l0 l1 c.args.logged.now m c.requires.up refl why some
+    (subst (λ (rs : List Record). (bytes : List ℕ) → g.D.Disk.meaning.image l1.disk bytes →
+    ReadsLeft n (g.D.Disk.meaning.meters l1.disk).capacity (entries_at k n + 1) (log_of sc k n) rs m why bytes) c.as_slice-2.ensures
     (c.in-Err.ensures.left n (entries_at k n) (log_of sc k n) here.logged follow.short follow.orderly follow.back))
-    (subst (λ (rs : List Record). IsReason why (log_of sc k n) rs (g.D.Disk.meters l0.disk) (g.D.Disk.meters l1.disk)) c.as_slice-2.ensures
+    (subst (λ (rs : List Record). IsReason why (log_of sc k n) rs (g.D.Disk.meaning.meters l0.disk) (g.D.Disk.meaning.meters l1.disk)) c.as_slice-2.ensures
     (c.in-Err.ensures.reason n (entries_at k n) (log_of sc k n) here.logged follow.short
-    (subst (λ (rs : List Record). IsDue g.D.Disk.meters l0 (log_of sc k n) b.short (size_of rs)) (sym c.as_slice-2.ensures)
-    (all_due g.D.Disk.meters l0 p q n s0.inputs c.args.inputs answer b s1 plan c.requires.owns mine c.requires.played c.plan_all-refused.ensures.played
-    c.requires.some c.requires.up.up c.requires.restless c.requires.due c.requires.takes ent.0 ent.1 ent.3 some))))
+    (subst (λ (rs : List Record). IsDue g.D.Disk.meaning.meters l0 (log_of sc k n) b.short (size_of rs)) (sym c.as_slice-2.ensures)
+    (all_due g.D.Disk.meaning.meters l0 p q n s0.inputs c.args.inputs answer b s1 plan c.requires.turns.owns mine c.requires.turns.played c.plan_all-refused.ensures.played
+    c.requires.turns.some c.requires.up.up c.requires.turns.restless c.requires.due c.requires.takes ent.0 ent.1 ent.3 some))))
     c.write.ensures.keeps over
-    (c.first_of-over.ensures ∙ ap (λ (j : ℕ). take j c.args.inputs) (ap length c.as_slice-in-Err.ensures.value ∙ steps_are g.D.Disk.meters l0 p q n s0.inputs
-    c.args.inputs answer b s1 plan c.requires.owns mine c.requires.played c.plan_all-refused.ensures.played))
+    (c.first_of-over.ensures ∙ ap (λ (j : ℕ). take j c.args.inputs) (ap length c.as_slice-in-Err.ensures.value ∙ steps_are g.D.Disk.meaning.meters l0 p q n s0.inputs
+    c.args.inputs answer b s1 plan c.requires.turns.owns mine c.requires.turns.played c.plan_all-refused.ensures.played))
     (seen_by r) ent.2
 
 pub returns-in-Err-clause-never : goal.returns-in-Err-clause-never

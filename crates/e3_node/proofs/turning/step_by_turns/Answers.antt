@@ -37,7 +37,7 @@ pub commit_entry-requires-clause-owns : goal.commit_entry-requires-clause-owns
 commit_entry-requires-clause-owns g c =
     let p = c.args.pass.now in
     let q = c.claim.new.pass in
-    subst (λ (y : Entry). Owns q y.owner) (sym c.step_of-step.ensures) (still_owns p q c.args.number c.claim.ensures.same c.requires.owns)
+    subst (λ (y : Entry). Owns q y.owner) (sym c.step_of-step.ensures) (still_owns p q c.args.number c.claim.ensures.same c.requires.turns.owns)
 
 pub commit_entry-requires-clause-may : goal.commit_entry-requires-clause-may
 commit_entry-requires-clause-may g c =
@@ -47,16 +47,16 @@ commit_entry-requires-clause-may g c =
     let h = history_seen p in
     let d = c.in_ok-draft.draft in
     let made = draft_made sc h c.args.number c.args.site.now _ c.args.input d c.requires.up.stands c.in_ok-draft.ensures.ready in
-    let due = taken_is_due sc h c.args.number c.args.input c.requires.restless c.requires.due c.requires.takes in
+    let due = taken_is_due sc h c.args.number c.args.input c.requires.turns.restless c.requires.due c.requires.takes in
     let cl = c.in_ok-claim.ensures.claimed in
     let step : SiteStep = c.apply.result in
     let is : step ≡ step_kept c.args.input (made_by sc h c.args.number c.args.input) = c.apply.ensures.step ∙ made.step_is in
     let e : Entry = entry_of_plan c.args.number c.args.input step in
-    let allows = step_allowed sc h c.args.number c.args.input step is c.requires.some c.requires.up.up due in
+    let allows = step_allowed sc h c.args.number c.args.input step is c.requires.turns.some c.requires.up.up due in
     let fits : length step.outs ≡ c.room_for-room.result =
     ap (λ (p : SiteStep). length p.outs) c.apply.ensures.step ∙ sym (c.room_for-room.ensures ∙ ap length c.outs.ensures) in
     let may : MayEnterBehind (seen_by q) e =
-    may_commit p (seen_by q) _ e cl.0 c.requires.owns cl.1 cl.5 cl.2 c.requires.played c.claim.ensures.played c.requires.some c.requires.exists c.requires.restless allows
+    may_commit p (seen_by q) _ e cl.0 c.requires.turns.owns cl.1 cl.5 cl.2 c.requires.turns.played c.claim.ensures.played c.requires.turns.some c.requires.turns.exists c.requires.turns.restless allows
     c.requires.takes (omega (arith, fits)) in
     subst (λ (y : Entry). MayEnterBehind (seen_by q) y) (sym c.step_of-step.ensures) may
 
@@ -65,14 +65,14 @@ commit_entry-requires-clause-alone g c = λ calm.
     let p = c.args.pass.now in
     let q = c.claim.new.pass in
     let cl = c.in_ok-claim.ensures.claimed in
-    let restless = still_restless p (seen_by q) cl.0 c.args.number _ c.requires.owns cl.1 cl.5 cl.2 c.requires.played c.claim.ensures.played c.requires.restless in
+    let restless = still_restless p (seen_by q) cl.0 c.args.number _ c.requires.turns.owns cl.1 cl.5 cl.2 c.requires.turns.played c.claim.ensures.played c.requires.turns.restless in
     absurd (let both = sym calm ∙ restless in cc)
 
 pub commit_entry-requires-in-Err-clause-owns : goal.commit_entry-requires-in-Err-clause-owns
 commit_entry-requires-in-Err-clause-owns g c =
     let p = c.args.pass.now in
     let q = c.claim.new.pass in
-    subst (λ (y : Entry). Owns q y.owner) (sym c.fall_of-fall.ensures) (still_owns p q c.args.number c.claim.ensures.same c.requires.owns)
+    subst (λ (y : Entry). Owns q y.owner) (sym c.fall_of-fall.ensures) (still_owns p q c.args.number c.claim.ensures.same c.requires.turns.owns)
 
 pub commit_entry-requires-in-Err-clause-may : goal.commit_entry-requires-in-Err-clause-may
 commit_entry-requires-in-Err-clause-may g c =
@@ -82,16 +82,16 @@ commit_entry-requires-in-Err-clause-may g c =
     let h = history_seen p in
     let d = c.in_ok-draft.draft in
     let made = draft_made sc h c.args.number c.args.site.now _ c.args.input d c.requires.up.stands c.in_ok-draft.ensures.ready in
-    let due = taken_is_due sc h c.args.number c.args.input c.requires.restless c.requires.due c.requires.takes in
+    let due = taken_is_due sc h c.args.number c.args.input c.requires.turns.restless c.requires.due c.requires.takes in
     let cl = c.in_ok-claim.ensures.claimed in
     let records : List Record = c.into_step-made.result.records in
     let rs : records ≡ (made_by sc h c.args.number c.args.input).records =
     records_made sc h c.args.number c.args.input c.into_step-made.result (c.into_step-made.ensures ∙ made.step_is) in
     let e : Entry = record { owner = c.args.number; act = Fall d.inputs records c.in-Err.why } in
-    let allows = fall_allowed sc h c.args.number c.args.input d.inputs records c.in-Err.why made.inputs_are rs c.requires.some c.requires.up.up due
+    let allows = fall_allowed sc h c.args.number c.args.input d.inputs records c.in-Err.why made.inputs_are rs c.requires.turns.some c.requires.up.up due
     (λ none. c.in-Err.ensures.some (c.records-records.ensures ∙ records_made sc h c.args.number c.args.input d.plan.step made.step_is ∙ sym rs ∙ none)) in
     let may : MayEnterBehind (seen_by q) e =
-    may_commit p (seen_by q) _ e cl.0 c.requires.owns cl.1 cl.5 cl.2 c.requires.played c.claim.ensures.played c.requires.some c.requires.exists c.requires.restless allows
+    may_commit p (seen_by q) _ e cl.0 c.requires.turns.owns cl.1 cl.5 cl.2 c.requires.turns.played c.claim.ensures.played c.requires.turns.some c.requires.turns.exists c.requires.turns.restless allows
     (fall_takes sc h c.args.number c.args.input d.inputs made.inputs_are c.requires.takes) (omega arith) in
     subst (λ (y : Entry). MayEnterBehind (seen_by q) y) (sym c.fall_of-fall.ensures) may
 
@@ -100,7 +100,7 @@ commit_entry-requires-in-Err-clause-alone g c = λ calm.
     let p = c.args.pass.now in
     let q = c.claim.new.pass in
     let cl = c.in_ok-claim.ensures.claimed in
-    let restless = still_restless p (seen_by q) cl.0 c.args.number _ c.requires.owns cl.1 cl.5 cl.2 c.requires.played c.claim.ensures.played c.requires.restless in
+    let restless = still_restless p (seen_by q) cl.0 c.args.number _ c.requires.turns.owns cl.1 cl.5 cl.2 c.requires.turns.played c.claim.ensures.played c.requires.turns.restless in
     absurd (let both = sym calm ∙ restless in cc)
 
 pub returns-in-Ok-clause-turned : goal.returns-in-Ok-clause-turned
@@ -111,20 +111,20 @@ returns-in-Ok-clause-turned g c =
     let h = history_seen p in
     let d = c.in_ok-draft.draft in
     let made = draft_made sc h c.args.number c.args.site.now _ c.args.input d c.requires.up.stands c.in_ok-draft.ensures.ready in
-    let due = taken_is_due sc h c.args.number c.args.input c.requires.restless c.requires.due c.requires.takes in
+    let due = taken_is_due sc h c.args.number c.args.input c.requires.turns.restless c.requires.due c.requires.takes in
     let cl = c.in_ok-claim.ensures.claimed in
     let step : SiteStep = c.apply.result in
     let is : step ≡ step_kept c.args.input (made_by sc h c.args.number c.args.input) = c.apply.ensures.step ∙ made.step_is in
     let e : Entry = entry_of_plan c.args.number c.args.input step in
     let fits : length step.outs ≡ c.room_for-room.result =
     ap (λ (p : SiteStep). length p.outs) c.apply.ensures.step ∙ sym (c.room_for-room.ensures ∙ ap length c.outs.ensures) in
-    let allows = step_allowed sc h c.args.number c.args.input step is c.requires.some c.requires.up.up due in
+    let allows = step_allowed sc h c.args.number c.args.input step is c.requires.turns.some c.requires.up.up due in
     let r = c.commit_entry.new.pass in
     let P : Entry → Type 0 = λ y. (later : List Mark) × GrewByOthers belongs q later × (seen_by r ≡ later ++ mark.Entered (numbered_on (entries_of later) y) ∷ []) × IsPlayed later in
     let ent : P e = subst P c.step_of-step.ensures c.commit_entry.ensures.entered in
-    let owns = still_owns p q c.args.number c.claim.ensures.same c.requires.owns in
-    let b = behind_of p q r c.args.number _ e c.requires.owns owns cl.0 cl.1 cl.2 ent.0 ent.1 ent.2 cl.5 ent.3 in
-    entered_turn c.args.wire.now p q r c.args.number _ e ent.0 b refl c.requires.played c.claim.ensures.played c.commit_entry.ensures.played c.requires.some sc h allows tt
+    let owns = still_owns p q c.args.number c.claim.ensures.same c.requires.turns.owns in
+    let b = behind_of p q r c.args.number _ e c.requires.turns.owns owns cl.0 cl.1 cl.2 ent.0 ent.1 ent.2 cl.5 ent.3 in
+    entered_turn c.args.wire.now p q r c.args.number _ e ent.0 b refl c.requires.turns.played c.claim.ensures.played c.commit_entry.ensures.played c.requires.turns.some sc h allows tt
     (step_used _ c.args.input step.records step.outs step.told (sym fits))
     c.commit_entry.ensures.idle c.claim.ensures.same c.commit_entry.ensures.same
 
@@ -137,8 +137,8 @@ returns-in-Ok-clause-none_back g c =
     let e : Entry = entry_of_plan c.args.number c.args.input c.apply.result in
     let P : Entry → Type 0 = λ y. (later : List Mark) × GrewByOthers belongs q later × (seen_by r ≡ later ++ mark.Entered (numbered_on (entries_of later) y) ∷ []) × IsPlayed later in
     let ent : P e = subst P c.step_of-step.ensures c.commit_entry.ensures.entered in
-    let owns = still_owns p q c.args.number c.claim.ensures.same c.requires.owns in
-    let b = behind_of p q r c.args.number _ e c.requires.owns owns cl.0 cl.1 cl.2 ent.0 ent.1 ent.2 cl.5 ent.3 in
+    let owns = still_owns p q c.args.number c.claim.ensures.same c.requires.turns.owns in
+    let b = behind_of p q r c.args.number _ e c.requires.turns.owns owns cl.0 cl.1 cl.2 ent.0 ent.1 ent.2 cl.5 ent.3 in
     entered_back c.args.number _ (seen_by p) (seen_by q) ent.0 (seen_by r) e b (omega arith)
 
 pub returns-in-Ok-clause-ended : goal.returns-in-Ok-clause-ended
@@ -149,56 +149,56 @@ returns-in-Ok-clause-ended g c =
     let h = history_seen p in
     let d = c.in_ok-draft.draft in
     let made = draft_made sc h c.args.number c.args.site.now _ c.args.input d c.requires.up.stands c.in_ok-draft.ensures.ready in
-    let due = taken_is_due sc h c.args.number c.args.input c.requires.restless c.requires.due c.requires.takes in
+    let due = taken_is_due sc h c.args.number c.args.input c.requires.turns.restless c.requires.due c.requires.takes in
     let cl = c.in_ok-claim.ensures.claimed in
     let step : SiteStep = c.apply.result in
     let is : step ≡ step_kept c.args.input (made_by sc h c.args.number c.args.input) = c.apply.ensures.step ∙ made.step_is in
     let e : Entry = entry_of_plan c.args.number c.args.input step in
-    let allows = step_allowed sc h c.args.number c.args.input step is c.requires.some c.requires.up.up due in
+    let allows = step_allowed sc h c.args.number c.args.input step is c.requires.turns.some c.requires.up.up due in
     let r = c.commit_entry.new.pass in
     let P : Entry → Type 0 = λ y. (later : List Mark) × GrewByOthers belongs q later × (seen_by r ≡ later ++ mark.Entered (numbered_on (entries_of later) y) ∷ []) × IsPlayed later in
     let ent : P e = subst P c.step_of-step.ensures c.commit_entry.ensures.entered in
-    let owns = still_owns p q c.args.number c.claim.ensures.same c.requires.owns in
-    let b = behind_of p q r c.args.number _ e c.requires.owns owns cl.0 cl.1 cl.2 ent.0 ent.1 ent.2 cl.5 ent.3 in
+    let owns = still_owns p q c.args.number c.claim.ensures.same c.requires.turns.owns in
+    let b = behind_of p q r c.args.number _ e c.requires.turns.owns owns cl.0 cl.1 cl.2 ent.0 ent.1 ent.2 cl.5 ent.3 in
     let now = entries_of ent.0 in
-    let m = meanwhile c.args.number _ (seen_by p) (seen_by q) ent.0 (seen_by r) e b refl c.requires.played c.claim.ensures.played c.commit_entry.ensures.played in
-    let up : IsUp g.D.Disk.content g.D.Disk.image g.D.Disk.meters sc now c.args.number c.args.site.now c.args.log.now c.args.rose.now c.args.logged.now =
-    up_meanwhile g.D.Disk.content g.D.Disk.image g.D.Disk.meters sc h now c.args.number (Up c.args.site.now c.args.log.now c.args.rose.now c.args.logged.now) m c.requires.up in
+    let m = meanwhile c.args.number _ (seen_by p) (seen_by q) ent.0 (seen_by r) e b refl c.requires.turns.played c.claim.ensures.played c.commit_entry.ensures.played in
+    let up : IsUp g.D.Disk.meaning sc now c.args.number c.args.site.now c.args.log.now c.args.rose.now c.args.logged.now =
+    up_meanwhile g.D.Disk.meaning sc h now c.args.number (Up c.args.site.now c.args.log.now c.args.rose.now c.args.logged.now) m c.requires.up in
     let here = made_meanwhile sc h now c.args.number c.args.input d m made in
-    let all = entries c.args.number _ (seen_by p) (seen_by q) ent.0 (seen_by r) e b refl c.requires.played c.claim.ensures.played c.commit_entry.ensures.played in
+    let all = entries c.args.number _ (seen_by p) (seen_by q) ent.0 (seen_by r) e b refl c.requires.turns.played c.claim.ensures.played c.commit_entry.ensures.played in
     let more = history_seen r in
     let entered = step_entered sc now more c.args.number c.args.input step (c.apply.ensures.step ∙ here.step_is) all in
     let ready : StandsBy sc now c.args.number c.args.rose.now c.prepare_by_turns.new.site =
     record { alike = c.in_ok-draft.ensures.still.stands sc now c.args.number c.args.rose.now up.stands.alike; risen = up.stands.risen; order = up.stands.order } in
     let fits : length step.outs ≡ c.room_for-room.result =
     ap (λ (p : SiteStep). length p.outs) c.apply.ensures.step ∙ sym (c.room_for-room.ensures ∙ ap length c.outs.ensures) in
-    let turned = entered_turn c.args.wire.now p q r c.args.number _ e ent.0 b refl c.requires.played c.claim.ensures.played c.commit_entry.ensures.played c.requires.some sc h allows tt
+    let turned = entered_turn c.args.wire.now p q r c.args.number _ e ent.0 b refl c.requires.turns.played c.claim.ensures.played c.commit_entry.ensures.played c.requires.turns.some sc h allows tt
     (step_used _ c.args.input step.records step.outs step.told (sym fits))
     c.commit_entry.ensures.idle c.claim.ensures.same c.commit_entry.ensures.same in
-    let keys = (keys_stay p r c.requires.played turned.turned.seen).0 in
+    let keys = (keys_stay p r c.requires.turns.played turned.turned.seen).0 in
     let order : IsLogInOrder c.args.number (log_of sc (now ++ entry_of sc now c.args.number c.args.input ∷ []) c.args.number) =
     subst (λ (l : List Entry). IsLogInOrder c.args.number (log_of sc l c.args.number)) entered
     (subst (λ (x : Scenario). IsLogInOrder c.args.number (log_of x more c.args.number)) keys
-    (log_in_order c.logs_are_orderly.ensures.logs c.logged_sites_are_sets.ensures (scenario_seen r) more c.args.number c.commit_entry.ensures.played.given c.commit_entry.ensures.played.legal)) in
+    (log_in_order c.logs_are_sound.ensures.orderly c.logs_are_sound.ensures.sets (scenario_seen r) more c.args.number c.commit_entry.ensures.played.given c.commit_entry.ensures.played.legal)) in
     let stood : StandsBy sc h c.args.number c.args.rose.now c.prepare_by_turns.new.site =
     record { alike = c.in_ok-draft.ensures.still.stands sc h c.args.number c.args.rose.now c.requires.up.stands.alike; risen = c.requires.up.stands.risen; order = c.requires.up.stands.order } in
     let slice : c.records-records.result.now ≡ (made_by sc h c.args.number c.args.input).records = c.records-records.ensures ∙ records_made sc h c.args.number c.args.input d.plan.step made.step_is in
     let then : Follows c.args.number (log_of sc h c.args.number) c.records-records.result.now c.in_ok-short.short =
-    step_follows c.logs_are_orderly.ensures.logs c.logged_sites_are_sets.ensures c.trails_are_sound.ensures.sound c.legal_histories_mention_what_stands.ensures.records c.begun_are_transactions.ensures c.records_suit_their_site.ensures.votes sc h c.args.number
-    c.requires.played.given c.requires.played.legal c.requires.up.up c.args.rose.now c.prepare_by_turns.new.site c.args.input c.in_ok-short.short c.records-records.result.now stood c.requires.some due
+    step_follows c.logs_are_sound.ensures.orderly c.logs_are_sound.ensures.sets c.logs_are_sound.ensures.sound c.logs_are_sound.ensures.mention c.logs_are_sound.ensures.begun c.logs_are_sound.ensures.votes sc h c.args.number
+    c.requires.turns.played.given c.requires.turns.played.legal c.requires.up.up c.args.rose.now c.prepare_by_turns.new.site c.args.input c.in_ok-short.short c.records-records.result.now stood c.requires.turns.some due
     slice made.back c.in_ok-short.ensures.short in
     let follows : Follows c.args.number (log_of sc now c.args.number) c.records-records.result.now c.in_ok-short.short =
     follows_while sc h now c.args.number c.records-records.result.now c.in_ok-short.short m then in
     let slice_now : c.records-records.result.now ≡ (made_by sc now c.args.number c.args.input).records = c.records-records.ensures ∙ records_made sc now c.args.number c.args.input d.plan.step here.step_is in
     let wrote = c.in-Ok.ensures.logged c.args.number (entries_at now c.args.number) (log_of sc now c.args.number) up.logged follows.short follows.orderly follows.back in
-    let logged = step_logged g.D.Disk.content g.D.Disk.image g.D.Disk.meters sc now c.args.number c.args.input c.records-records.result.now c.write.new.logged c.write.new.log slice_now wrote in
+    let logged = step_logged g.D.Disk.meaning sc now c.args.number c.args.input c.records-records.result.now c.write.new.logged c.write.new.log slice_now wrote in
     record {
       now = now;
       meanwhile = m;
       entered = entered;
       stands =
-          subst (λ (l : List Entry). IsUp g.D.Disk.content g.D.Disk.image g.D.Disk.meters sc l c.args.number c.apply.new.self c.write.new.log c.args.rose.now c.write.new.logged) (sym entered)
-          (stepped_up g.D.Disk.content g.D.Disk.image g.D.Disk.meters sc now c.args.number c.args.input c.apply.new.self c.write.new.log c.write.new.logged up.up
+          subst (λ (l : List Entry). IsUp g.D.Disk.meaning sc l c.args.number c.apply.new.self c.write.new.log c.args.rose.now c.write.new.logged) (sym entered)
+          (stepped_up g.D.Disk.meaning sc now c.args.number c.args.input c.apply.new.self c.write.new.log c.write.new.logged up.up
           (site_on sc now c.args.number c.args.input c.prepare_by_turns.new.site c.apply.new.self d.plan.step ready here.step_is
           (ap (λ (s : SiteView). s.weights) c.apply.ensures.done) (ap (λ (s : SiteView). s.site) c.apply.ensures.done) c.apply.ensures.stand order)
           logged c.in-Ok.ensures.lit
@@ -214,20 +214,20 @@ returns-in-Err-clause-turned g c =
     let h = history_seen p in
     let d = c.in_ok-draft.draft in
     let made = draft_made sc h c.args.number c.args.site.now _ c.args.input d c.requires.up.stands c.in_ok-draft.ensures.ready in
-    let due = taken_is_due sc h c.args.number c.args.input c.requires.restless c.requires.due c.requires.takes in
+    let due = taken_is_due sc h c.args.number c.args.input c.requires.turns.restless c.requires.due c.requires.takes in
     let cl = c.in_ok-claim.ensures.claimed in
     let records : List Record = c.into_step-made.result.records in
     let rs : records ≡ (made_by sc h c.args.number c.args.input).records =
     records_made sc h c.args.number c.args.input c.into_step-made.result (c.into_step-made.ensures ∙ made.step_is) in
     let e : Entry = record { owner = c.args.number; act = Fall d.inputs records c.in-Err.why } in
-    let allows = fall_allowed sc h c.args.number c.args.input d.inputs records c.in-Err.why made.inputs_are rs c.requires.some c.requires.up.up due
+    let allows = fall_allowed sc h c.args.number c.args.input d.inputs records c.in-Err.why made.inputs_are rs c.requires.turns.some c.requires.up.up due
     (λ none. c.in-Err.ensures.some (c.records-records.ensures ∙ records_made sc h c.args.number c.args.input d.plan.step made.step_is ∙ sym rs ∙ none)) in
     let r = c.commit_entry-in-Err.new.pass in
     let P : Entry → Type 0 = λ y. (later : List Mark) × GrewByOthers belongs q later × (seen_by r ≡ later ++ mark.Entered (numbered_on (entries_of later) y) ∷ []) × IsPlayed later in
     let ent : P e = subst P c.fall_of-fall.ensures c.commit_entry-in-Err.ensures.entered in
-    let owns = still_owns p q c.args.number c.claim.ensures.same c.requires.owns in
-    let b = behind_of p q r c.args.number _ e c.requires.owns owns cl.0 cl.1 cl.2 ent.0 ent.1 ent.2 cl.5 ent.3 in
-    entered_turn c.args.wire.now p q r c.args.number _ e ent.0 b refl c.requires.played c.claim.ensures.played c.commit_entry-in-Err.ensures.played c.requires.some sc h allows (ap length made.inputs_are)
+    let owns = still_owns p q c.args.number c.claim.ensures.same c.requires.turns.owns in
+    let b = behind_of p q r c.args.number _ e c.requires.turns.owns owns cl.0 cl.1 cl.2 ent.0 ent.1 ent.2 cl.5 ent.3 in
+    entered_turn c.args.wire.now p q r c.args.number _ e ent.0 b refl c.requires.turns.played c.claim.ensures.played c.commit_entry-in-Err.ensures.played c.requires.turns.some sc h allows (ap length made.inputs_are)
     (fall_used c.room_for-room.result d.inputs records c.in-Err.why (ap length made.inputs_are))
     c.commit_entry-in-Err.ensures.idle c.claim.ensures.same c.commit_entry-in-Err.ensures.same
 
@@ -244,8 +244,8 @@ returns-in-Err-clause-none_back g c =
     let e : Entry = record { owner = c.args.number; act = Fall d.inputs c.into_step-made.result.records c.in-Err.why } in
     let P : Entry → Type 0 = λ y. (later : List Mark) × GrewByOthers belongs q later × (seen_by r ≡ later ++ mark.Entered (numbered_on (entries_of later) y) ∷ []) × IsPlayed later in
     let ent : P e = subst P c.fall_of-fall.ensures c.commit_entry-in-Err.ensures.entered in
-    let owns = still_owns p q c.args.number c.claim.ensures.same c.requires.owns in
-    let b = behind_of p q r c.args.number _ e c.requires.owns owns cl.0 cl.1 cl.2 ent.0 ent.1 ent.2 cl.5 ent.3 in
+    let owns = still_owns p q c.args.number c.claim.ensures.same c.requires.turns.owns in
+    let b = behind_of p q r c.args.number _ e c.requires.turns.owns owns cl.0 cl.1 cl.2 ent.0 ent.1 ent.2 cl.5 ent.3 in
     let one : length d.inputs ≡ 1 = ap length made.inputs_are in
     entered_back c.args.number _ (seen_by p) (seen_by q) ent.0 (seen_by r) e b (omega (arith, one))
 
@@ -257,25 +257,25 @@ returns-in-Err-clause-ended g c =
     let h = history_seen p in
     let d = c.in_ok-draft.draft in
     let made = draft_made sc h c.args.number c.args.site.now _ c.args.input d c.requires.up.stands c.in_ok-draft.ensures.ready in
-    let due = taken_is_due sc h c.args.number c.args.input c.requires.restless c.requires.due c.requires.takes in
+    let due = taken_is_due sc h c.args.number c.args.input c.requires.turns.restless c.requires.due c.requires.takes in
     let cl = c.in_ok-claim.ensures.claimed in
     let records : List Record = c.into_step-made.result.records in
     let rs : records ≡ (made_by sc h c.args.number c.args.input).records =
     records_made sc h c.args.number c.args.input c.into_step-made.result (c.into_step-made.ensures ∙ made.step_is) in
     let e : Entry = record { owner = c.args.number; act = Fall d.inputs records c.in-Err.why } in
-    let allows = fall_allowed sc h c.args.number c.args.input d.inputs records c.in-Err.why made.inputs_are rs c.requires.some c.requires.up.up due
+    let allows = fall_allowed sc h c.args.number c.args.input d.inputs records c.in-Err.why made.inputs_are rs c.requires.turns.some c.requires.up.up due
     (λ none. c.in-Err.ensures.some (c.records-records.ensures ∙ records_made sc h c.args.number c.args.input d.plan.step made.step_is ∙ sym rs ∙ none)) in
     let r = c.commit_entry-in-Err.new.pass in
     let P : Entry → Type 0 = λ y. (later : List Mark) × GrewByOthers belongs q later × (seen_by r ≡ later ++ mark.Entered (numbered_on (entries_of later) y) ∷ []) × IsPlayed later in
     let ent : P e = subst P c.fall_of-fall.ensures c.commit_entry-in-Err.ensures.entered in
-    let owns = still_owns p q c.args.number c.claim.ensures.same c.requires.owns in
-    let b = behind_of p q r c.args.number _ e c.requires.owns owns cl.0 cl.1 cl.2 ent.0 ent.1 ent.2 cl.5 ent.3 in
+    let owns = still_owns p q c.args.number c.claim.ensures.same c.requires.turns.owns in
+    let b = behind_of p q r c.args.number _ e c.requires.turns.owns owns cl.0 cl.1 cl.2 ent.0 ent.1 ent.2 cl.5 ent.3 in
     let now = entries_of ent.0 in
-    let m = meanwhile c.args.number _ (seen_by p) (seen_by q) ent.0 (seen_by r) e b refl c.requires.played c.claim.ensures.played c.commit_entry-in-Err.ensures.played in
-    let up : IsUp g.D.Disk.content g.D.Disk.image g.D.Disk.meters sc now c.args.number c.args.site.now c.args.log.now c.args.rose.now c.args.logged.now =
-    up_meanwhile g.D.Disk.content g.D.Disk.image g.D.Disk.meters sc h now c.args.number (Up c.args.site.now c.args.log.now c.args.rose.now c.args.logged.now) m c.requires.up in
+    let m = meanwhile c.args.number _ (seen_by p) (seen_by q) ent.0 (seen_by r) e b refl c.requires.turns.played c.claim.ensures.played c.commit_entry-in-Err.ensures.played in
+    let up : IsUp g.D.Disk.meaning sc now c.args.number c.args.site.now c.args.log.now c.args.rose.now c.args.logged.now =
+    up_meanwhile g.D.Disk.meaning sc h now c.args.number (Up c.args.site.now c.args.log.now c.args.rose.now c.args.logged.now) m c.requires.up in
     let here = made_meanwhile sc h now c.args.number c.args.input d m made in
-    let all = entries c.args.number _ (seen_by p) (seen_by q) ent.0 (seen_by r) e b refl c.requires.played c.claim.ensures.played c.commit_entry-in-Err.ensures.played in
+    let all = entries c.args.number _ (seen_by p) (seen_by q) ent.0 (seen_by r) e b refl c.requires.turns.played c.claim.ensures.played c.commit_entry-in-Err.ensures.played in
     let more = history_seen r in
     let there = records_made sc now c.args.number c.args.input c.into_step-made.result (c.into_step-made.ensures ∙ here.step_is) in
     let entered = fall_entered sc now more c.args.number c.args.input d.inputs records c.in-Err.why here.inputs_are there all in
@@ -284,8 +284,8 @@ returns-in-Err-clause-ended g c =
     record { alike = c.in_ok-draft.ensures.still.stands sc h c.args.number c.args.rose.now c.requires.up.stands.alike; risen = c.requires.up.stands.risen; order = c.requires.up.stands.order } in
     let slice : c.records-records.result.now ≡ (made_by sc h c.args.number c.args.input).records = c.records-records.ensures ∙ records_made sc h c.args.number c.args.input d.plan.step made.step_is in
     let then : Follows c.args.number (log_of sc h c.args.number) c.records-records.result.now c.in_ok-short.short =
-    step_follows c.logs_are_orderly.ensures.logs c.logged_sites_are_sets.ensures c.trails_are_sound.ensures.sound c.legal_histories_mention_what_stands.ensures.records c.begun_are_transactions.ensures c.records_suit_their_site.ensures.votes sc h c.args.number
-    c.requires.played.given c.requires.played.legal c.requires.up.up c.args.rose.now c.prepare_by_turns.new.site c.args.input c.in_ok-short.short c.records-records.result.now stood c.requires.some due
+    step_follows c.logs_are_sound.ensures.orderly c.logs_are_sound.ensures.sets c.logs_are_sound.ensures.sound c.logs_are_sound.ensures.mention c.logs_are_sound.ensures.begun c.logs_are_sound.ensures.votes sc h c.args.number
+    c.requires.turns.played.given c.requires.turns.played.legal c.requires.up.up c.args.rose.now c.prepare_by_turns.new.site c.args.input c.in_ok-short.short c.records-records.result.now stood c.requires.turns.some due
     slice made.back c.in_ok-short.ensures.short in
     let follows : Follows c.args.number (log_of sc now c.args.number) c.records-records.result.now c.in_ok-short.short =
     follows_while sc h now c.args.number c.records-records.result.now c.in_ok-short.short m then in
@@ -295,8 +295,8 @@ returns-in-Err-clause-ended g c =
       meanwhile = m;
       fell = record { some = (λ none. c.in-Err.ensures.some (c.records-records.ensures ∙ records_made sc now c.args.number c.args.input d.plan.step here.step_is ∙ none)); entered = entered };
       stands =
-          subst (λ (l : List Entry). DiskTells sc l c.args.number (g.D.Disk.meters disk).capacity c.write.new.logged (g.D.Disk.image disk)) (sym entered)
-          (fallen_tells sc now c.args.number (g.D.Disk.meters disk).capacity c.args.input c.records-records.result.now c.in-Err.why c.write.new.logged (g.D.Disk.image disk) slice_now
+          subst (λ (l : List Entry). DiskTells sc l c.args.number (g.D.Disk.meaning.meters disk).capacity c.write.new.logged (g.D.Disk.meaning.image disk)) (sym entered)
+          (fallen_tells sc now c.args.number (g.D.Disk.meaning.meters disk).capacity c.args.input c.records-records.result.now c.in-Err.why c.write.new.logged (g.D.Disk.meaning.image disk) slice_now
           (c.in-Err.ensures.left c.args.number (entries_at now c.args.number) (log_of sc now c.args.number) up.logged follows.short follows.orderly follows.back));
     }
 
@@ -305,12 +305,12 @@ returns-in_err-claim-clause-turned g c =
     let p = c.args.pass.now in
     let q = c.claim.new.pass in
     let cl = c.in_err-claim.ensures.claimed in
-    (looked c.args.wire.now p q c.args.number cl.0 c.requires.owns c.requires.played c.claim.ensures.played c.claim.ensures.idle c.claim.ensures.same cl.1 cl.3).0
+    (looked c.args.wire.now p q c.args.number cl.0 c.requires.turns.owns c.requires.turns.played c.claim.ensures.played c.claim.ensures.idle c.claim.ensures.same cl.1 cl.3).0
 
 pub returns-in_err-claim-clause-none_back : goal.returns-in_err-claim-clause-none_back
 returns-in_err-claim-clause-none_back g c =
     let cl = c.in_err-claim.ensures.claimed in
-    looked_back c.args.pass.now c.claim.new.pass c.args.number cl.0 c.requires.owns cl.1 cl.3
+    looked_back c.args.pass.now c.claim.new.pass c.args.number cl.0 c.requires.turns.owns cl.1 cl.3
 
 pub returns-in_err-draft-clause-none_back : goal.returns-in_err-draft-clause-none_back
 returns-in_err-draft-clause-none_back g c = still_back c.args.number (seen_by c.args.pass.now)
@@ -323,11 +323,11 @@ returns-in_err-claim-clause-ended g c =
     let h = history_seen p in
     let more = history_seen q in
     let cl = c.in_err-claim.ensures.claimed in
-    let m = (looked c.args.wire.now p q c.args.number cl.0 c.requires.owns c.requires.played c.claim.ensures.played c.claim.ensures.idle c.claim.ensures.same cl.1 cl.3).1 in
-    let up = still_up g.D.Disk.content g.D.Disk.image g.D.Disk.meters sc h more c.args.number c.args.site.now c.prepare_by_turns.new.site c.args.log.now c.args.logged.now m c.requires.up c.in_ok-draft.ensures.still in
-    let still : IsStill g.D.Disk.content g.D.Disk.image g.D.Disk.meters sc h more c.args.number (Up c.args.site.now c.args.log.now c.args.rose.now c.args.logged.now) (Up c.prepare_by_turns.new.site c.args.log.now c.args.rose.now c.args.logged.now) =
+    let m = (looked c.args.wire.now p q c.args.number cl.0 c.requires.turns.owns c.requires.turns.played c.claim.ensures.played c.claim.ensures.idle c.claim.ensures.same cl.1 cl.3).1 in
+    let up = still_up g.D.Disk.meaning sc h more c.args.number c.args.site.now c.prepare_by_turns.new.site c.args.log.now c.args.logged.now m c.requires.up c.in_ok-draft.ensures.still in
+    let still : IsStill g.D.Disk.meaning sc h more c.args.number (Up c.args.site.now c.args.log.now c.args.rose.now c.args.logged.now) (Up c.prepare_by_turns.new.site c.args.log.now c.args.rose.now c.args.logged.now) =
     record { meanwhile = m; disk = refl; stands = up } in
-    refused g.D.Disk.content g.D.Disk.image g.D.Disk.meters sc h more c.args.number c.args.input (Up c.args.site.now c.args.log.now c.args.rose.now c.args.logged.now) (Up c.prepare_by_turns.new.site c.args.log.now c.args.rose.now c.args.logged.now)
+    refused g.D.Disk.meaning sc h more c.args.number c.args.input (Up c.args.site.now c.args.log.now c.args.rose.now c.args.logged.now) (Up c.prepare_by_turns.new.site c.args.log.now c.args.rose.now c.args.logged.now)
     c.in_err-claim.field-0.0 c.from_residual-in_err-claim.result c.from_residual-in_err-claim.ensures.1 still
 
 pub returns-in-Err-clause-why : goal.returns-in-Err-clause-why
@@ -336,23 +336,23 @@ returns-in-Err-clause-why g c = λ why is.
     let h = history_seen c.args.pass.now in
     let d = c.in_ok-draft.draft in
     let made = draft_made sc h c.args.number c.args.site.now _ c.args.input d c.requires.up.stands c.in_ok-draft.ensures.ready in
-    let due = taken_is_due sc h c.args.number c.args.input c.requires.restless c.requires.due c.requires.takes in
+    let due = taken_is_due sc h c.args.number c.args.input c.requires.turns.restless c.requires.due c.requires.takes in
     let stood : StandsBy sc h c.args.number c.args.rose.now c.prepare_by_turns.new.site =
     record { alike = c.in_ok-draft.ensures.still.stands sc h c.args.number c.args.rose.now c.requires.up.stands.alike; risen = c.requires.up.stands.risen; order = c.requires.up.stands.order } in
     let slice : c.records-records.result.now ≡ (made_by sc h c.args.number c.args.input).records = c.records-records.ensures ∙ records_made sc h c.args.number c.args.input d.plan.step made.step_is in
     let then : Follows c.args.number (log_of sc h c.args.number) c.records-records.result.now c.in_ok-short.short =
-    step_follows c.logs_are_orderly.ensures.logs c.logged_sites_are_sets.ensures c.trails_are_sound.ensures.sound c.legal_histories_mention_what_stands.ensures.records c.begun_are_transactions.ensures c.records_suit_their_site.ensures.votes sc h c.args.number
-    c.requires.played.given c.requires.played.legal c.requires.up.up c.args.rose.now c.prepare_by_turns.new.site c.args.input c.in_ok-short.short c.records-records.result.now stood c.requires.some due
+    step_follows c.logs_are_sound.ensures.orderly c.logs_are_sound.ensures.sets c.logs_are_sound.ensures.sound c.logs_are_sound.ensures.mention c.logs_are_sound.ensures.begun c.logs_are_sound.ensures.votes sc h c.args.number
+    c.requires.turns.played.given c.requires.turns.played.legal c.requires.up.up c.args.rose.now c.prepare_by_turns.new.site c.args.input c.in_ok-short.short c.records-records.result.now stood c.requires.turns.some due
     slice made.back c.in_ok-short.ensures.short in
-    let old = g.D.Disk.meters c.args.log.now.disk in
-    let new = g.D.Disk.meters c.write.new.log.disk in
+    let old = g.D.Disk.meaning.meters c.args.log.now.disk in
+    let new = g.D.Disk.meaning.meters c.write.new.log.disk in
     let l = log_of sc h c.args.number in
-    let brief = up_brief c.logs_are_orderly.ensures.logs c.logged_sites_are_sets.ensures c.trails_are_sound.ensures.sound c.legal_histories_mention_what_stands.ensures.records c.begun_are_transactions.ensures c.records_suit_their_site.ensures.votes sc h c.args.number
-    c.requires.played.given c.requires.played.legal c.requires.up.up c.args.rose.now c.prepare_by_turns.new.site stood in
+    let brief = up_brief c.logs_are_sound.ensures.orderly c.logs_are_sound.ensures.sets c.logs_are_sound.ensures.sound c.logs_are_sound.ensures.mention c.logs_are_sound.ensures.begun c.logs_are_sound.ensures.votes sc h c.args.number
+    c.requires.turns.played.given c.requires.turns.played.legal c.requires.up.up c.args.rose.now c.prepare_by_turns.new.site stood in
     let size : c.len.result ≡ size_of c.records-records.result.now =
     c.len.ensures ∙ ap length c.in_ok-draft.ensures.ready.drafted.body_is ∙ sym (ap size_of c.records-records.ensures) in
-    let fits : IsDue g.D.Disk.meters c.args.log.now l c.in_ok-short.short (size_of c.records-records.result.now) =
-    subst (λ (n : ℕ). IsDue g.D.Disk.meters c.args.log.now l c.in_ok-short.short n) size (c.in_ok-short.ensures.due l brief c.requires.up.logged.stands.sound c.in-Err.ensures.some) in
+    let fits : IsDue g.D.Disk.meaning.meters c.args.log.now l c.in_ok-short.short (size_of c.records-records.result.now) =
+    subst (λ (n : ℕ). IsDue g.D.Disk.meaning.meters c.args.log.now l c.in_ok-short.short n) size (c.in_ok-short.ensures.due l brief c.requires.up.logged.stands.sound c.in-Err.ensures.some) in
     let same : c.in-Err.why ≡ why = cc in
     subst (λ (w : Why). IsReason w l (made_by sc h c.args.number c.args.input).records old new) same
     (subst (λ (rs : List Record). IsReason c.in-Err.why l rs old new) slice
@@ -364,5 +364,5 @@ returns-in-Ok-clause-takes g c =
     let h = history_seen c.args.pass.now in
     let d = c.in_ok-draft.draft in
     let made = draft_made sc h c.args.number c.args.site.now _ c.args.input d c.requires.up.stands c.in_ok-draft.ensures.ready in
-    let T : List Record → Type 0 = λ rs. Takes (calls_for rs) (g.D.Disk.meters c.args.log.now.disk) (g.D.Disk.meters c.write.new.log.disk) in
+    let T : List Record → Type 0 = λ rs. Takes (calls_for rs) (g.D.Disk.meaning.meters c.args.log.now.disk) (g.D.Disk.meaning.meters c.write.new.log.disk) in
     subst T (c.records-records.ensures ∙ records_made sc h c.args.number c.args.input d.plan.step made.step_is) c.in-Ok.ensures.takes

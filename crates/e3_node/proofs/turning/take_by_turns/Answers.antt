@@ -11,7 +11,7 @@ use Rattle.e3_node.proofs.Waiting.{no_while, same_pass}
 use Rattle.e3_node.proofs.turning.take_by_turns.Goals as goal
 
 pub returns-in-Down-clause-turned : goal.returns-in-Down-clause-turned
-returns-in-Down-clause-turned g c = same_pass c.args.wire.now c.args.pass.now c.args.number c.requires.idle c.requires.played
+returns-in-Down-clause-turned g c = same_pass c.args.wire.now c.args.pass.now c.args.number c.requires.turns.idle c.requires.turns.played
 
 pub returns-in-Down-clause-none_back : goal.returns-in-Down-clause-none_back
 returns-in-Down-clause-none_back g c = still_back c.args.number (seen_by c.args.pass.now)
@@ -25,4 +25,4 @@ returns-in-Up-clause-why g c = λ why is.
     let sc = scenario_seen c.args.pass.now in
     let h = history_seen c.args.pass.now in
     subst (λ (s : State _). IsReason why (log_of sc h c.args.number) (made_by sc h c.args.number c.args.input).records
-    (g.D.Disk.meters (disk_of s)) (g.D.Disk.meters c.step_by_turns.new.log.disk)) (sym c.in-Up.is) (c.step_by_turns.ensures.why why is)
+    (g.D.Disk.meaning.meters (disk_of s)) (g.D.Disk.meaning.meters c.step_by_turns.new.log.disk)) (sym c.in-Up.is) (c.step_by_turns.ensures.why why is)

@@ -1,10 +1,13 @@
 use Rattle.std.proofs.Common.{◌≡◌, ◌∙◌, ◌++◌, ◌∷◌, [], ◌+◌, ◌≤◌, ℕ, zero, suc, get_or, List, length, drop, take, refl, sym, subst, ap, drop-cons, arith, rules}
+use Rattle.std.proofs.lemmas.Grind.{common_steps}
 use Rattle.std.proofs.lemmas.List.{take_more}
 use Rattle.e3_play.specs.Delivered.{IsFullBefore, IsPacketOrRound}
 use Rattle.e3_types.specs.declared.scenarios.Scenario.{Scenario}
 use Rattle.e3_world.specs.Given.{IsGiven}
 use Rattle.e3_world.specs.Items.{RecoveryRound, due_round, listed}
 use Rattle.e3_world.specs.Legal.{IsLegal}
+use Rattle.e3_world.specs.Packets.{pending}
+use Rattle.e3_world.specs.Progress.{Delivering}
 use Rattle.e3_play.specs.Reports.{HadTurns, IsTurn}
 use Rattle.e3_play.specs.Rounds.{AfterRound}
 use Rattle.e3_play.specs.declared.reporting.RoundReport.{RoundReport}
@@ -37,8 +40,8 @@ loop-round-init g c =
 first_left : (rounds : List RecoveryRound) (k : ℕ) (r : RecoveryRound) → k + 1 ≤ length rounds → r ≡ get_or rounds k r → drop k rounds ≡ r ∷ drop (suc k) rounds
 first_left rounds k r low is = drop-cons rounds k r (omega (arith, low)) ∙ ap (λ q. q ∷ drop (suc k) rounds) (sym is)
 
-pub take_turn-requires-clause-turn : goal.take_turn-requires-clause-turn
-take_turn-requires-clause-turn g c = λ up.
+pub take_turn-requires : goal.take_turn-requires
+take_turn-requires g c =
     let S = g.S.Sites in
     let start = c.args.sites.now in
     let was = c.loop-round.invariant in
@@ -48,8 +51,15 @@ take_turn-requires-clause-turn g c = λ up.
     let here : drop k rounds ≡ r ∷ drop (suc k) rounds = first_left rounds k r (omega (arith, c.loop-round-test.true, c.loop-round.auto.round-index-end)) c.round-item.is in
     let now : InRounds (S.scenario start) (S.entries start) c.args.group (r ∷ drop (suc k) rounds) (S.entries c.loop-round.sites) =
     subst (λ (rest : List RecoveryRound). InRounds (S.scenario start) (S.entries start) c.args.group rest (S.entries c.loop-round.sites)) here was.rounds in
-    ap (λ (sc : Scenario). due_round sc (S.entries c.loop-round.sites)) was.on.scenario
-    ∙ first_due (S.scenario start) (S.entries c.loop-round.sites) c.args.group (drop (suc k) rounds) r now.step now.at up
+    record {
+      standing = was.on.stands;
+      delivering = subst (λ (sc : Scenario). Delivering sc (S.entries c.loop-round.sites)) (sym was.on.scenario) was.rounds.delivering;
+      begun = first_of (search rules, grind (arith, common_steps));
+      settled = subst (λ (sc : Scenario). pending sc (S.entries c.loop-round.sites) ≡ []) (sym was.on.scenario) was.rounds.settled;
+      turn = λ up.
+          ap (λ (sc : Scenario). due_round sc (S.entries c.loop-round.sites)) was.on.scenario
+          ∙ first_due (S.scenario start) (S.entries c.loop-round.sites) c.args.group (drop (suc k) rounds) r now.step now.at up;
+    }
 
 pub loop-round-preserved : goal.loop-round-preserved
 loop-round-preserved g c =

@@ -17,13 +17,13 @@ append-requires-clause-untagged g c = untagged c.args.records.now c.args.body.no
 pub returns-in-Ok-clause-logged : goal.returns-in-Ok-clause-logged
 returns-in-Ok-clause-logged g c = λ site most l was orderly back.
     let sum : c.saturating_add.result ≡ counted (c.args.logged.now + length c.args.records.now) = search rules in
-    added g.D.Disk.content g.D.Disk.image g.D.Disk.meters site most l c.args.logged.now c.saturating_add.result c.args.log.now c.append.new.self c.args.records.now c.args.body.now
+    added g.D.Disk.meaning site most l c.args.logged.now c.saturating_add.result c.args.log.now c.append.new.self c.args.records.now c.args.body.now
     c.requires.spelled c.requires.some was orderly back c.in-Ok.ensures.stands c.in-Ok.ensures.log.1 sum
 
 pub returns-in-Err-clause-left : goal.returns-in-Err-clause-left
 returns-in-Err-clause-left g c = λ site most l was orderly back bytes at.
-    subst (λ (w : Why). ReadsLeft site (g.D.Disk.meters c.append.new.self.disk).capacity most l c.args.records.now c.args.logged.now w bytes) (sym c.why_of.ensures)
-    (left_add g.D.Disk.content g.D.Disk.image g.D.Disk.meters site most l c.args.logged.now c.args.log.now c.append.new.self c.args.records.now c.args.body.now c.in-Err.fault
+    subst (λ (w : Why). ReadsLeft site (g.D.Disk.meaning.meters c.append.new.self.disk).capacity most l c.args.records.now c.args.logged.now w bytes) (sym c.why_of.ensures)
+    (left_add g.D.Disk.meaning site most l c.args.logged.now c.args.log.now c.append.new.self c.args.records.now c.args.body.now c.in-Err.fault
     c.requires.spelled c.requires.some was orderly back (c.in-Err.ensures.images (bodies_in was.lists) was.stands)
     (λ need room is. (c.in-Err.ensures.only_full need room (ap (λ (f : AppendFault). Err f) is)).3) c.in-Err.ensures.keeps.capacity bytes at)
 

@@ -7,12 +7,12 @@ use Rattle.e3_site_log.proofs.writing.clear.Goals as goal
 
 pub returns-in-Ok-clause-logged : goal.returns-in-Ok-clause-logged
 returns-in-Ok-clause-logged g c = λ site most logged l was.
-    cleared g.D.Disk.content g.D.Disk.image g.D.Disk.meters site most l logged c.args.log.now c.clear.new.self was (c.in-Ok.ensures.stands (bodies_in was.lists) was.stands)
+    cleared g.D.Disk.meaning site most l logged c.args.log.now c.clear.new.self was (c.in-Ok.ensures.stands (bodies_in was.lists) was.stands)
     c.in-Ok.ensures.log.1
 
 pub returns-in-Err-clause-left : goal.returns-in-Err-clause-left
 returns-in-Err-clause-left g c = λ site most logged l more was bytes at.
-    left_cleared g.D.Disk.content g.D.Disk.image g.D.Disk.meters site most l logged c.args.log.now c.clear.new.self more Fault was
+    left_cleared g.D.Disk.meaning site most l logged c.args.log.now c.clear.new.self more Fault was
     (c.in-Err.ensures.images (bodies_in was.lists) was.stands) c.in-Err.ensures.keeps.capacity bytes at
 
 pub returns-in-Ok-clause-sound : goal.returns-in-Ok-clause-sound
@@ -20,9 +20,9 @@ returns-in-Ok-clause-sound g c = none_kept c.clear.new.self.failed (λ yes. absu
 
 pub returns-in-Ok-clause-takes : goal.returns-in-Ok-clause-takes
 returns-in-Ok-clause-takes g c =
-    let old = g.D.Disk.meters c.args.log.now.disk in
-    let new = g.D.Disk.meters c.clear.new.self.disk in
-    cleared_takes g.D.Disk.meters c.args.log.now c.clear.new.self (λ failed. absurd (let is = (c.in-Ok.ensures.kept failed).0 in cc))
+    let old = g.D.Disk.meaning.meters c.args.log.now.disk in
+    let new = g.D.Disk.meaning.meters c.clear.new.self.disk in
+    cleared_takes g.D.Disk.meaning.meters c.args.log.now c.clear.new.self (λ failed. absurd (let is = (c.in-Ok.ensures.kept failed).0 in cc))
     (λ sound shut. (c.in-Ok.ensures.idle sound shut).1)
     (λ opened some.
     let calls = c.in-Ok.ensures.calls opened in

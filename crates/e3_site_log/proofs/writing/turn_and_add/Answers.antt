@@ -20,7 +20,7 @@ returns-in-Err-clause-left g c = λ site most l was is orderly back. c.in-Err.en
 pub returns-in-Ok-clause-reason : goal.returns-in-Ok-clause-reason
 returns-in-Ok-clause-reason g c = λ site most l was is due.
     let now = c.in-Ok.ensures.logged site most l was is in
-    reason_behind g.D.Disk.meters l c.args.records.now is.some c.args.log.now c.turn_to.new.log c.add.new.log c.args.short.now is.body_is c.add.result c.args.body.now c.requires.spelled
+    reason_behind g.D.Disk.meaning.meters l c.args.records.now is.some c.args.log.now c.turn_to.new.log c.add.new.log c.args.short.now is.body_is c.add.result c.args.body.now c.requires.spelled
     c.in-Ok.ensures.log.0 c.in-Ok.ensures.log.1 c.in-Ok.ensures.fits c.in-Ok.ensures.keeps (c.add.ensures.fault now.stands.sound) c.add.ensures.full
 
 pub returns-in-Err-clause-reason : goal.returns-in-Err-clause-reason
@@ -29,17 +29,17 @@ returns-in-Err-clause-reason g c = λ site most l was is due. c.in-Err.ensures.r
 pub returns-in-Ok-clause-end : goal.returns-in-Ok-clause-end
 returns-in-Ok-clause-end g c =
     let size : length (frames (body_of c.args.records.now)) ≡ 5 + length c.args.body.now = frame_length c.args.records.now c.args.body.now c.requires.spelled c.requires.some in
-    let mid : c.turn_to.new.log.end ≡ start (g.D.Disk.meters c.args.log.now.disk).capacity (other c.args.log.now.region) + 10 + length c.args.short.now.body = c.in-Ok.ensures.log.1 in
-    on_ok {A = c.add.new.log.end ≡ c.turn_to.new.log.end + 5 + length c.args.body.now} {B = c.add.new.log.end ≡ turned_to g.D.Disk.meters c.args.log.now c.args.short.now c.args.records.now}
+    let mid : c.turn_to.new.log.end ≡ start (g.D.Disk.meaning.meters c.args.log.now.disk).capacity (other c.args.log.now.region) + 10 + length c.args.short.now.body = c.in-Ok.ensures.log.1 in
+    on_ok {A = c.add.new.log.end ≡ c.turn_to.new.log.end + 5 + length c.args.body.now} {B = c.add.new.log.end ≡ turned_to g.D.Disk.meaning.meters c.args.log.now c.args.short.now c.args.records.now}
     c.add.result (λ end. omega (arith, end, mid, size)) c.add.ensures.end
 
 pub returns-in-Ok-clause-keeps : goal.returns-in-Ok-clause-keeps
 returns-in-Ok-clause-keeps g c =
-    keeps_then (g.D.Disk.meters c.args.log.now.disk) (g.D.Disk.meters c.turn_to.new.log.disk) (g.D.Disk.meters c.add.new.log.disk) c.in-Ok.ensures.keeps c.in-Ok.ensures.stops c.add.ensures.keeps
+    keeps_then (g.D.Disk.meaning.meters c.args.log.now.disk) (g.D.Disk.meaning.meters c.turn_to.new.log.disk) (g.D.Disk.meaning.meters c.add.new.log.disk) c.in-Ok.ensures.keeps c.in-Ok.ensures.stops c.add.ensures.keeps
 
 pub returns-in-Ok-clause-takes : goal.returns-in-Ok-clause-takes
 returns-in-Ok-clause-takes g c =
-    let old = g.D.Disk.meters c.args.log.now.disk in
-    let mid = g.D.Disk.meters c.turn_to.new.log.disk in
-    let new = g.D.Disk.meters c.add.new.log.disk in
+    let old = g.D.Disk.meaning.meters c.args.log.now.disk in
+    let mid = g.D.Disk.meaning.meters c.turn_to.new.log.disk in
+    let new = g.D.Disk.meaning.meters c.add.new.log.disk in
     on_ok {A = Takes 4 mid new} {B = Takes 4 old new} c.add.result (takes_on 4 4 old mid new c.in-Ok.ensures.takes) c.add.ensures.takes

@@ -11,18 +11,18 @@ use Rattle.e3_site_log.proofs.writing.write.Goals as goal
 pub returns-in-None-clause-left : goal.returns-in-None-clause-left
 returns-in-None-clause-left g c = λ site most l was is orderly back.
     let new = c.add.new.log.disk in
-    if_err {P = λ why. (bytes : List ℕ) → g.D.Disk.image new bytes → ReadsLeft site (g.D.Disk.meters new).capacity most l c.args.records.now c.add.new.logged why bytes}
-    {Q = λ why. (bytes : List ℕ) → g.D.Disk.image new bytes → ReadsLeft site (g.D.Disk.meters new).capacity (most + 1) l c.args.records.now c.add.new.logged why bytes}
-    c.add.result (λ why left bytes at. left_later site (g.D.Disk.meters new).capacity most (most + 1) c.add.new.logged l c.args.records.now why bytes (omega arith) (left bytes at))
+    if_err {P = λ why. (bytes : List ℕ) → g.D.Disk.meaning.image new bytes → ReadsLeft site (g.D.Disk.meaning.meters new).capacity most l c.args.records.now c.add.new.logged why bytes}
+    {Q = λ why. (bytes : List ℕ) → g.D.Disk.meaning.image new bytes → ReadsLeft site (g.D.Disk.meaning.meters new).capacity (most + 1) l c.args.records.now c.add.new.logged why bytes}
+    c.add.result (λ why left bytes at. left_later site (g.D.Disk.meaning.meters new).capacity most (most + 1) c.add.new.logged l c.args.records.now why bytes (omega arith) (left bytes at))
     (c.add.ensures.left site most l was orderly back)
 
 pub returns-then-fits-clause-left : goal.returns-then-fits-clause-left
 returns-then-fits-clause-left g c = λ site most l was is orderly back.
     let new = c.add-then-fits.new.log.disk in
-    if_err {P = λ why. (bytes : List ℕ) → g.D.Disk.image new bytes → ReadsLeft site (g.D.Disk.meters new).capacity most l c.args.records.now c.add-then-fits.new.logged why bytes}
-    {Q = λ why. (bytes : List ℕ) → g.D.Disk.image new bytes → ReadsLeft site (g.D.Disk.meters new).capacity (most + 1) l c.args.records.now c.add-then-fits.new.logged why bytes}
+    if_err {P = λ why. (bytes : List ℕ) → g.D.Disk.meaning.image new bytes → ReadsLeft site (g.D.Disk.meaning.meters new).capacity most l c.args.records.now c.add-then-fits.new.logged why bytes}
+    {Q = λ why. (bytes : List ℕ) → g.D.Disk.meaning.image new bytes → ReadsLeft site (g.D.Disk.meaning.meters new).capacity (most + 1) l c.args.records.now c.add-then-fits.new.logged why bytes}
     c.add-then-fits.result
-    (λ why left bytes at. left_later site (g.D.Disk.meters new).capacity most (most + 1) c.add-then-fits.new.logged l c.args.records.now why bytes (omega arith) (left bytes at))
+    (λ why left bytes at. left_later site (g.D.Disk.meaning.meters new).capacity most (most + 1) c.add-then-fits.new.logged l c.args.records.now why bytes (omega arith) (left bytes at))
     (c.add-then-fits.ensures.left site most l was orderly back)
 
 -- an empty log ends where its region begins
@@ -35,9 +35,9 @@ pub returns-in-None-clause-reason : goal.returns-in-None-clause-reason
 returns-in-None-clause-reason g c = λ site most l was is due.
     let log = c.args.log.now in
     let size = size_of c.args.records.now in
-    let due_none : HasRoom g.D.Disk.meters log size ⊎ (l ≡ []) = subst (λ (s : Option Short). IsDue g.D.Disk.meters log l s size) c.in-None.is due in
-    reason_add g.D.Disk.meters l c.args.records.now log c.add.new.log c.args.body.now c.add.result c.requires.spelled
-    (with_end l due_none (empty_end g.D.Disk.content g.D.Disk.image g.D.Disk.meters site most l c.args.logged.now log was))
+    let due_none : HasRoom g.D.Disk.meaning.meters log size ⊎ (l ≡ []) = subst (λ (s : Option Short). IsDue g.D.Disk.meaning.meters log l s size) c.in-None.is due in
+    reason_add g.D.Disk.meaning.meters l c.args.records.now log c.add.new.log c.args.body.now c.add.result c.requires.spelled
+    (with_end l due_none (empty_end g.D.Disk.meaning site most l c.args.logged.now log was))
     (c.add.ensures.fault was.stands.sound) c.add.ensures.full
 
 pub returns-else-fits-clause-reason : goal.returns-else-fits-clause-reason

@@ -5,9 +5,9 @@ use Rattle.e3_fleet.proofs.fleet.FleetSites.cut.Goals as goal
 pub returns-clause-on : goal.returns-clause-on
 returns-clause-on g c = record {
   stands =
-      held_on g.D.Disk.content g.D.Disk.image g.D.Disk.meters c.args.self.now.wire c.args.self.now.pass c.args.self.now.held.shared c.cut_at.new.self.shared
-      (nodes_of c.args.self.now.held.workers.items) (nodes_of c.cut_at.new.self.workers.items) c.requires.standing c.cut_at.ensures.on c.cut_at.ensures.grew;
-  since = λ start was. c.cut_at.ensures.on.kept (nodes_of start.held.workers.items) was;
-  scenario = c.cut_at.ensures.on.scenario;
-  most = c.cut_at.ensures.on.most;
+      held_on g.D.Disk.meaning c.args.self.now.wire c.args.self.now.pass c.args.self.now.held.shared c.cut_at.new.self.shared
+      (nodes_of c.args.self.now.held.workers.items) (nodes_of c.cut_at.new.self.workers.items) c.requires.standing c.cut_at.ensures.went.on c.cut_at.ensures.went.grew;
+  since = λ start was. c.cut_at.ensures.went.on.kept (nodes_of start.held.workers.items) was;
+  scenario = c.cut_at.ensures.went.on.scenario;
+  most = c.cut_at.ensures.went.on.most;
 }

@@ -5,9 +5,9 @@ use Rattle.e3_fleet.proofs.fleet.FleetSites.input.Goals as goal
 pub returns-clause-on : goal.returns-clause-on
 returns-clause-on g c = record {
   stands =
-      held_on g.D.Disk.content g.D.Disk.image g.D.Disk.meters c.args.self.now.wire c.args.self.now.pass c.args.self.now.held.shared c.input_at.new.self.shared
-      (nodes_of c.args.self.now.held.workers.items) (nodes_of c.input_at.new.self.workers.items) c.requires.standing c.input_at.ensures.on c.input_at.ensures.grew;
-  since = λ start was. c.input_at.ensures.on.kept (nodes_of start.held.workers.items) was;
-  scenario = c.input_at.ensures.on.scenario;
-  most = c.input_at.ensures.on.most;
+      held_on g.D.Disk.meaning c.args.self.now.wire c.args.self.now.pass c.args.self.now.held.shared c.input_at.new.self.shared
+      (nodes_of c.args.self.now.held.workers.items) (nodes_of c.input_at.new.self.workers.items) c.requires.standing c.input_at.ensures.went.on c.input_at.ensures.went.grew;
+  since = λ start was. c.input_at.ensures.went.on.kept (nodes_of start.held.workers.items) was;
+  scenario = c.input_at.ensures.went.on.scenario;
+  most = c.input_at.ensures.went.on.most;
 }

@@ -7,11 +7,11 @@ use Rattle.e3_types.specs.declared.entries.Act.TheVariants.{Parts}
 
 pub returns-clause-on : goal.returns-clause-on
 returns-clause-on g c =
-    let gone = driver_call g.D.Disk.content g.D.Disk.image g.D.Disk.meters c.other_entries_keep_nodes.ensures.nodes (λ d. g.met.D.Disk.counted d) c.args.self.now.held.shared c.enter_parts.new.shared
+    let gone = driver_call g.D.Disk.meaning c.other_entries_keep_nodes.ensures.nodes (λ d. g.met.D.Disk.counted d) c.args.self.now.held.shared c.enter_parts.new.shared
     (record { owner = 0; act = Parts c.args.parts }) (nodes_of c.args.self.now.held.workers.items) c.enter_parts.result c.requires.standing.fleet c.enter_parts.ensures.stands c.enter_parts.ensures.same refl (λ site. refl)
     c.enter_parts.ensures.entered c.enter_parts.ensures.kept in
     record {
-      stands = held_on g.D.Disk.content g.D.Disk.image g.D.Disk.meters c.args.self.now.wire c.args.self.now.pass c.args.self.now.held.shared c.enter_parts.new.shared
+      stands = held_on g.D.Disk.meaning c.args.self.now.wire c.args.self.now.pass c.args.self.now.held.shared c.enter_parts.new.shared
           (nodes_of c.args.self.now.held.workers.items) (nodes_of c.args.self.now.held.workers.items) c.requires.standing gone c.enter_parts.ensures.grew;
       since = λ start was. gone.kept (nodes_of start.held.workers.items) was;
       scenario = gone.scenario;

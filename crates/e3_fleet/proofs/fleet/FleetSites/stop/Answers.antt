@@ -5,9 +5,9 @@ use Rattle.e3_fleet.proofs.fleet.FleetSites.stop.Goals as goal
 pub returns-clause-on : goal.returns-clause-on
 returns-clause-on g c = record {
   stands =
-      held_on g.D.Disk.content g.D.Disk.image g.D.Disk.meters c.args.self.now.wire c.args.self.now.pass c.args.self.now.held.shared c.stop_at.new.self.shared
-      (nodes_of c.args.self.now.held.workers.items) (nodes_of c.stop_at.new.self.workers.items) c.requires.standing c.stop_at.ensures.on c.stop_at.ensures.grew;
-  since = λ start was. c.stop_at.ensures.on.kept (nodes_of start.held.workers.items) was;
-  scenario = c.stop_at.ensures.on.scenario;
-  most = c.stop_at.ensures.on.most;
+      held_on g.D.Disk.meaning c.args.self.now.wire c.args.self.now.pass c.args.self.now.held.shared c.stop_at.new.self.shared
+      (nodes_of c.args.self.now.held.workers.items) (nodes_of c.stop_at.new.self.workers.items) c.requires.standing c.stop_at.ensures.went.on c.stop_at.ensures.went.grew;
+  since = λ start was. c.stop_at.ensures.went.on.kept (nodes_of start.held.workers.items) was;
+  scenario = c.stop_at.ensures.went.on.scenario;
+  most = c.stop_at.ensures.went.on.most;
 }

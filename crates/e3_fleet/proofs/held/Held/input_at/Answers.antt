@@ -1,4 +1,4 @@
-use Rattle.std.proofs.Common.{◌≡◌, ℕ, suc, length, Some, refl, sym, ap, subst}
+use Rattle.std.proofs.Common.{rules, ◌≡◌, ℕ, suc, length, Some, refl, sym, ap, subst}
 use Rattle.std.specs.Prelude.{slice_get, OnOk}
 use Rattle.std.proofs.lemmas.Option.{slice_get_read}
 use Rattle.e3_node.specs.NodeView.{disk_of}
@@ -22,21 +22,25 @@ input-answer-requires-clause-due g c = λ up.
     (node_there c.args.self.now.workers.items c.args.at c.index_mut.result.now (slice_get_read c.args.self.now.workers.items (length c.args.self.now.workers.items) c.args.at c.index_mut.result.now refl c.requires.within c.index_mut.ensures.value))).site)
     c.requires.due
 
-pub returns-clause-on : goal.returns-clause-on
-returns-clause-on g c =
+pub returns-clause-went : goal.returns-clause-went
+returns-clause-went g c =
     let there : slice_get (nodes_of c.args.self.now.workers.items) c.args.at ≡ Some c.index_mut.result.now.node =
     node_there c.args.self.now.workers.items c.args.at c.index_mut.result.now (slice_get_read c.args.self.now.workers.items (length c.args.self.now.workers.items) c.args.at c.index_mut.result.now refl c.requires.within c.index_mut.ensures.value) in
     let site : c.index_mut.result.now.node.site ≡ suc c.args.at = (c.requires.standing.seated c.args.at c.index_mut.result.now.node there).site in
-    worker_on g.D.Disk.content g.D.Disk.image g.D.Disk.meters c.args.self.now.shared c.input-answer.new.shared c.args.self.now.workers.items c.args.at _
-    (node_on g.D.Disk.content g.D.Disk.image g.D.Disk.meters c.other_entries_keep_nodes.ensures.nodes (λ d. g.met.D.Disk.counted d)
-    c.args.self.now.shared c.input-answer.new.shared (nodes_of c.args.self.now.workers.items) c.args.at c.index_mut.result.now.node c.input-answer.new.self there
-    c.requires.standing c.input-answer.ensures.shared c.input-answer.ensures.same.0 c.input-answer.ensures.same.1 c.input-answer.ensures.site
-    c.input-answer.ensures.stands
-    (subst (λ (s : ℕ). Went (scenario_of c.args.self.now.shared) (entries_of c.args.self.now.shared) (entries_of c.input-answer.new.shared) s (g.D.Disk.meters (disk_of c.index_mut.result.now.node.state)) (g.D.Disk.meters (disk_of c.input-answer.new.self.state))) site
-    (input_went (scenario_of c.args.self.now.shared) (entries_of c.args.self.now.shared) (entries_of c.input-answer.new.shared) c.index_mut.result.now.node.site c.args.input (g.D.Disk.meters (disk_of c.index_mut.result.now.node.state)) (g.D.Disk.meters (disk_of c.input-answer.new.self.state)) c.input-answer.result
-    (g.met.D.Disk.counted (disk_of c.index_mut.result.now.node.state)) c.input-answer.ensures.meters c.input-answer.ensures.stepped
-    (takes_so (scenario_of c.args.self.now.shared) (entries_of c.args.self.now.shared) c.index_mut.result.now.node.site c.args.input (g.D.Disk.meters (disk_of c.index_mut.result.now.node.state)) (g.D.Disk.meters (disk_of c.input-answer.new.self.state)) c.input-answer.result c.input-answer.ensures.takes) c.input-answer.ensures.fell
-    (λ fault e no. ((c.input-answer.ensures.kept fault e no).0, ap g.D.Disk.meters (c.input-answer.ensures.kept fault e no).1)) c.input-answer.ensures.why)))
+    record {
+      on =
+          worker_on g.D.Disk.meaning c.args.self.now.shared c.input-answer.new.shared c.args.self.now.workers.items c.args.at _
+          (node_on g.D.Disk.meaning c.other_entries_keep_nodes.ensures.nodes (λ d. g.met.D.Disk.counted d)
+          c.args.self.now.shared c.input-answer.new.shared (nodes_of c.args.self.now.workers.items) c.args.at c.index_mut.result.now.node c.input-answer.new.self there
+          c.requires.standing c.input-answer.ensures.shared c.input-answer.ensures.same.0 c.input-answer.ensures.same.1 c.input-answer.ensures.site
+          c.input-answer.ensures.stands
+          (subst (λ (s : ℕ). Went (scenario_of c.args.self.now.shared) (entries_of c.args.self.now.shared) (entries_of c.input-answer.new.shared) s (g.D.Disk.meaning.meters (disk_of c.index_mut.result.now.node.state)) (g.D.Disk.meaning.meters (disk_of c.input-answer.new.self.state))) site
+          (input_went (scenario_of c.args.self.now.shared) (entries_of c.args.self.now.shared) (entries_of c.input-answer.new.shared) c.index_mut.result.now.node.site c.args.input (g.D.Disk.meaning.meters (disk_of c.index_mut.result.now.node.state)) (g.D.Disk.meaning.meters (disk_of c.input-answer.new.self.state)) c.input-answer.result
+          (g.met.D.Disk.counted (disk_of c.index_mut.result.now.node.state)) c.input-answer.ensures.meters c.input-answer.ensures.stepped
+          (takes_so (scenario_of c.args.self.now.shared) (entries_of c.args.self.now.shared) c.index_mut.result.now.node.site c.args.input (g.D.Disk.meaning.meters (disk_of c.index_mut.result.now.node.state)) (g.D.Disk.meaning.meters (disk_of c.input-answer.new.self.state)) c.input-answer.result c.input-answer.ensures.takes) c.input-answer.ensures.fell
+          (λ fault e no. ((c.input-answer.ensures.kept fault e no).0, ap g.D.Disk.meaning.meters (c.input-answer.ensures.kept fault e no).1)) c.input-answer.ensures.why)));
+      grew = search rules;
+    }
 
 pub returns-clause-entered : goal.returns-clause-entered
 returns-clause-entered g c =

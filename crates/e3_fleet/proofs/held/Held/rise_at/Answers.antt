@@ -1,4 +1,4 @@
-use Rattle.std.proofs.Common.{◌≡◌, inl, inr, ℕ, suc, false, length, Some, refl, sym, ap, subst, ◌∙◌}
+use Rattle.std.proofs.Common.{rules, ◌≡◌, inl, inr, ℕ, suc, false, length, Some, refl, sym, ap, subst, ◌∙◌}
 use Rattle.std.specs.Prelude.{slice_get, OnOk}
 use Rattle.std.proofs.lemmas.Option.{slice_get_read}
 use Rattle.e3_node.specs.NodeView.{NodeView, disk_of}
@@ -24,22 +24,26 @@ rise-answer-requires-clause-turn g c = λ down.
     (node_there c.args.self.now.workers.items c.args.at c.index_mut.result.now (slice_get_read c.args.self.now.workers.items (length c.args.self.now.workers.items) c.args.at c.index_mut.result.now refl c.requires.within c.index_mut.ensures.value))).site)
     c.requires.turn
 
-pub returns-clause-on : goal.returns-clause-on
-returns-clause-on g c =
+pub returns-clause-went : goal.returns-clause-went
+returns-clause-went g c =
     let there : slice_get (nodes_of c.args.self.now.workers.items) c.args.at ≡ Some c.index_mut.result.now.node =
     node_there c.args.self.now.workers.items c.args.at c.index_mut.result.now (slice_get_read c.args.self.now.workers.items (length c.args.self.now.workers.items) c.args.at c.index_mut.result.now refl c.requires.within c.index_mut.ensures.value) in
     let site : c.index_mut.result.now.node.site ≡ suc c.args.at = (c.requires.standing.seated c.args.at c.index_mut.result.now.node there).site in
-    worker_on g.D.Disk.content g.D.Disk.image g.D.Disk.meters c.args.self.now.shared c.rise-answer.new.shared c.args.self.now.workers.items c.args.at _
-    (node_on g.D.Disk.content g.D.Disk.image g.D.Disk.meters c.other_entries_keep_nodes.ensures.nodes (λ d. g.met.D.Disk.counted d)
-    c.args.self.now.shared c.rise-answer.new.shared (nodes_of c.args.self.now.workers.items) c.args.at c.index_mut.result.now.node c.rise-answer.new.self there
-    c.requires.standing c.rise-answer.ensures.shared c.rise-answer.ensures.same.0 c.rise-answer.ensures.same.1 c.rise-answer.ensures.site
-    c.rise-answer.ensures.stands
-    (subst (λ (s : ℕ). Went (scenario_of c.args.self.now.shared) (entries_of c.args.self.now.shared) (entries_of c.rise-answer.new.shared) s (g.D.Disk.meters (disk_of c.index_mut.result.now.node.state)) (g.D.Disk.meters (disk_of c.rise-answer.new.self.state))) site
-    (rise_went (scenario_of c.args.self.now.shared) (entries_of c.args.self.now.shared) (entries_of c.rise-answer.new.shared) c.index_mut.result.now.node.site (g.D.Disk.meters (disk_of c.index_mut.result.now.node.state)) (g.D.Disk.meters (disk_of c.rise-answer.new.self.state)) (g.D.Disk.image (disk_of c.index_mut.result.now.node.state)) c.rise-answer.result
-    (g.met.D.Disk.counted (disk_of c.index_mut.result.now.node.state)) c.rise-answer.ensures.meters c.rise-answer.ensures.rose c.rise-answer.ensures.takes
-    c.rise-answer.ensures.failed c.rise-answer.ensures.missed c.rise-answer.ensures.cause (λ e. (c.rise-answer.ensures.no_memory e, c.rise-answer.ensures.spares e))
-    (λ e. ((c.rise-answer.ensures.kept (inr e)).0, ap (λ (n : NodeView _). g.D.Disk.meters (disk_of n.state)) (c.rise-answer.ensures.kept (inr e)).1))
-    (λ e. ((c.rise-answer.ensures.kept (inl e)).0, ap (λ (n : NodeView _). g.D.Disk.meters (disk_of n.state)) (c.rise-answer.ensures.kept (inl e)).1)))))
+    record {
+      on =
+          worker_on g.D.Disk.meaning c.args.self.now.shared c.rise-answer.new.shared c.args.self.now.workers.items c.args.at _
+          (node_on g.D.Disk.meaning c.other_entries_keep_nodes.ensures.nodes (λ d. g.met.D.Disk.counted d)
+          c.args.self.now.shared c.rise-answer.new.shared (nodes_of c.args.self.now.workers.items) c.args.at c.index_mut.result.now.node c.rise-answer.new.self there
+          c.requires.standing c.rise-answer.ensures.shared c.rise-answer.ensures.same.0 c.rise-answer.ensures.same.1 c.rise-answer.ensures.site
+          c.rise-answer.ensures.stands
+          (subst (λ (s : ℕ). Went (scenario_of c.args.self.now.shared) (entries_of c.args.self.now.shared) (entries_of c.rise-answer.new.shared) s (g.D.Disk.meaning.meters (disk_of c.index_mut.result.now.node.state)) (g.D.Disk.meaning.meters (disk_of c.rise-answer.new.self.state))) site
+          (rise_went (scenario_of c.args.self.now.shared) (entries_of c.args.self.now.shared) (entries_of c.rise-answer.new.shared) c.index_mut.result.now.node.site (g.D.Disk.meaning.meters (disk_of c.index_mut.result.now.node.state)) (g.D.Disk.meaning.meters (disk_of c.rise-answer.new.self.state)) (g.D.Disk.meaning.image (disk_of c.index_mut.result.now.node.state)) c.rise-answer.result
+          (g.met.D.Disk.counted (disk_of c.index_mut.result.now.node.state)) c.rise-answer.ensures.meters c.rise-answer.ensures.rose c.rise-answer.ensures.takes
+          c.rise-answer.ensures.failed c.rise-answer.ensures.missed c.rise-answer.ensures.cause (λ e. (c.rise-answer.ensures.no_memory e, c.rise-answer.ensures.spares e))
+          (λ e. ((c.rise-answer.ensures.kept (inr e)).0, ap (λ (n : NodeView _). g.D.Disk.meaning.meters (disk_of n.state)) (c.rise-answer.ensures.kept (inr e)).1))
+          (λ e. ((c.rise-answer.ensures.kept (inl e)).0, ap (λ (n : NodeView _). g.D.Disk.meaning.meters (disk_of n.state)) (c.rise-answer.ensures.kept (inl e)).1)))));
+      grew = search rules;
+    }
 
 pub returns-clause-rose : goal.returns-clause-rose
 returns-clause-rose g c =
@@ -48,7 +52,7 @@ returns-clause-rose g c =
     let site : c.index_mut.result.now.node.site ≡ suc c.args.at = (c.requires.standing.seated c.args.at c.index_mut.result.now.node there).site in
     let down : is_up_at (entries_of c.args.self.now.shared) c.index_mut.result.now.node.site ≡ false = subst (λ (s : ℕ). is_up_at (entries_of c.args.self.now.shared) s ≡ false) (sym site) c.requires.turn.down in
     rw c.rise_answer.ensures (subst (λ (s : ℕ). OnOk (rise_answer c.rise-answer.result) (AfterRise (scenario_of c.args.self.now.shared) (entries_of c.args.self.now.shared) s (entries_of c.rise-answer.new.shared))) site
-    (rise_rose (scenario_of c.args.self.now.shared) (entries_of c.args.self.now.shared) (entries_of c.rise-answer.new.shared) c.index_mut.result.now.node.site (g.D.Disk.meters (disk_of c.index_mut.result.now.node.state)) (g.D.Disk.meters (disk_of c.rise-answer.new.self.state)) (g.D.Disk.image (disk_of c.index_mut.result.now.node.state)) c.rise-answer.result
+    (rise_rose (scenario_of c.args.self.now.shared) (entries_of c.args.self.now.shared) (entries_of c.rise-answer.new.shared) c.index_mut.result.now.node.site (g.D.Disk.meaning.meters (disk_of c.index_mut.result.now.node.state)) (g.D.Disk.meaning.meters (disk_of c.rise-answer.new.self.state)) (g.D.Disk.meaning.image (disk_of c.index_mut.result.now.node.state)) c.rise-answer.result
     (λ e. true_not_false (sym (c.rise-answer.ensures.up.0 e) ∙ down))
     c.rise-answer.ensures.rose c.rise-answer.ensures.missed c.rise-answer.ensures.failed))
 

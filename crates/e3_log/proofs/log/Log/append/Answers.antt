@@ -10,35 +10,35 @@ use Rattle.e3_log.proofs.log.Log.append.Goals as goal
 pub returns-in-Ok-clause-stands : goal.returns-in-Ok-clause-stands
 returns-in-Ok-clause-stands g c = λ bodies st.
     let disk = c.self.inside.disk in
-    let capacity = (g.D.Disk.meters disk).capacity in
+    let capacity = (g.D.Disk.meaning.meters disk).capacity in
     let room : c.limit-room.result ≡ limit capacity c.self.inside.region = c.limit-room.ensures ∙ ap (λ k. limit k c.self.inside.region) c.capacity.ensures.value in
     let low = limit_low capacity c.self.inside.region in
     let bytes : c.deref.result.now ≡ staged c.args.body.now = c.deref.ensures.value ∙ c.put_staged.ensures.bytes in
-    let here = subst (λ (l : LogState g.row.D.Denot). Stands g.D.Disk.content g.D.Disk.image g.D.Disk.meters bodies l) (sym c.self.view_is) st in
-    append_stands g.D.Disk.content g.D.Disk.image g.D.Disk.meters bodies _ here c.args.body.now (omega (arith, room, low, c.capacity.ensures.most, c.capacity.ensures.value)) c.requires.untagged (omega (arith, room)) _
-    (c.in-Ok.ensures.written ∙ ap (λ (b : List ℕ). overwritten (overwritten (g.D.Disk.content disk) (c.self.inside.end + 1) b) c.self.inside.end (OPEN ∷ [])) bytes)
+    let here = subst (λ (l : LogState g.row.D.Denot). Stands g.D.Disk.meaning bodies l) (sym c.self.view_is) st in
+    append_stands g.D.Disk.meaning bodies _ here c.args.body.now (omega (arith, room, low, c.capacity.ensures.most, c.capacity.ensures.value)) c.requires.untagged (omega (arith, room)) _
+    (c.in-Ok.ensures.written ∙ ap (λ (b : List ℕ). overwritten (overwritten (g.D.Disk.meaning.content disk) (c.self.inside.end + 1) b) c.self.inside.end (OPEN ∷ [])) bytes)
     c.in-Ok.ensures.durable c.in-Ok.ensures.meters.keeps.capacity refl refl refl refl c.if-self.false
 
 pub returns-in-Ok-clause-images : goal.returns-in-Ok-clause-images
 returns-in-Ok-clause-images g c = λ bodies st.
     let disk = c.self.inside.disk in
-    let capacity = (g.D.Disk.meters disk).capacity in
+    let capacity = (g.D.Disk.meaning.meters disk).capacity in
     let room : c.limit-room.result ≡ limit capacity c.self.inside.region = c.limit-room.ensures ∙ ap (λ k. limit k c.self.inside.region) c.capacity.ensures.value in
     let low = limit_low capacity c.self.inside.region in
     let bytes : c.deref.result.now ≡ staged c.args.body.now = c.deref.ensures.value ∙ c.put_staged.ensures.bytes in
-    let here = subst (λ (l : LogState g.row.D.Denot). Stands g.D.Disk.content g.D.Disk.image g.D.Disk.meters bodies l) (sym c.self.view_is) st in
-    subst (λ (l : LogState g.row.D.Denot). EachReadsAs (g.D.Disk.meters l.disk).capacity l.generation bodies l.generation (bodies ++ c.args.body.now ∷ []) (g.D.Disk.image c.commit.new.disk)) c.self.view_is
-    (append_images g.D.Disk.content g.D.Disk.image g.D.Disk.meters bodies _ here c.args.body.now (omega (arith, room, low, c.capacity.ensures.most, c.capacity.ensures.value)) c.requires.untagged (omega (arith, room)) (g.D.Disk.image c.commit.new.disk)
-    (λ image at. subst (λ (b : List ℕ). Leaves (g.D.Disk.content disk) c.self.inside.end b image) bytes (c.in-Ok.ensures.images here.only image at)))
+    let here = subst (λ (l : LogState g.row.D.Denot). Stands g.D.Disk.meaning bodies l) (sym c.self.view_is) st in
+    subst (λ (l : LogState g.row.D.Denot). EachReadsAs (g.D.Disk.meaning.meters l.disk).capacity l.generation bodies l.generation (bodies ++ c.args.body.now ∷ []) (g.D.Disk.meaning.image c.commit.new.disk)) c.self.view_is
+    (append_images g.D.Disk.meaning bodies _ here c.args.body.now (omega (arith, room, low, c.capacity.ensures.most, c.capacity.ensures.value)) c.requires.untagged (omega (arith, room)) (g.D.Disk.meaning.image c.commit.new.disk)
+    (λ image at. subst (λ (b : List ℕ). Leaves (g.D.Disk.meaning.content disk) c.self.inside.end b image) bytes (c.in-Ok.ensures.images here.only image at)))
 
 pub returns-in-Err-clause-images : goal.returns-in-Err-clause-images
 returns-in-Err-clause-images g c = λ bodies st.
     let disk = c.self.inside.disk in
-    let capacity = (g.D.Disk.meters disk).capacity in
+    let capacity = (g.D.Disk.meaning.meters disk).capacity in
     let room : c.limit-room.result ≡ limit capacity c.self.inside.region = c.limit-room.ensures ∙ ap (λ k. limit k c.self.inside.region) c.capacity.ensures.value in
     let low = limit_low capacity c.self.inside.region in
     let bytes : c.deref.result.now ≡ staged c.args.body.now = c.deref.ensures.value ∙ c.put_staged.ensures.bytes in
-    let here = subst (λ (l : LogState g.row.D.Denot). Stands g.D.Disk.content g.D.Disk.image g.D.Disk.meters bodies l) (sym c.self.view_is) st in
-    subst (λ (l : LogState g.row.D.Denot). EachReadsAs (g.D.Disk.meters l.disk).capacity l.generation bodies l.generation (bodies ++ c.args.body.now ∷ []) (g.D.Disk.image c.commit.new.disk)) c.self.view_is
-    (append_images g.D.Disk.content g.D.Disk.image g.D.Disk.meters bodies _ here c.args.body.now (omega (arith, room, low, c.capacity.ensures.most, c.capacity.ensures.value)) c.requires.untagged (omega (arith, room)) (g.D.Disk.image c.commit.new.disk)
-    (λ image at. subst (λ (b : List ℕ). Leaves (g.D.Disk.content disk) c.self.inside.end b image) bytes (c.in-Err.ensures.images here.only image at)))
+    let here = subst (λ (l : LogState g.row.D.Denot). Stands g.D.Disk.meaning bodies l) (sym c.self.view_is) st in
+    subst (λ (l : LogState g.row.D.Denot). EachReadsAs (g.D.Disk.meaning.meters l.disk).capacity l.generation bodies l.generation (bodies ++ c.args.body.now ∷ []) (g.D.Disk.meaning.image c.commit.new.disk)) c.self.view_is
+    (append_images g.D.Disk.meaning bodies _ here c.args.body.now (omega (arith, room, low, c.capacity.ensures.most, c.capacity.ensures.value)) c.requires.untagged (omega (arith, room)) (g.D.Disk.meaning.image c.commit.new.disk)
+    (λ image at. subst (λ (b : List ℕ). Leaves (g.D.Disk.meaning.content disk) c.self.inside.end b image) bytes (c.in-Err.ensures.images here.only image at)))

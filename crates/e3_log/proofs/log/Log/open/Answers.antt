@@ -17,7 +17,7 @@ cause_of NoMemory capacity bytes at tells damaged = search rules
 
 pub returns-in-Ok-clause-opened : goal.returns-in-Ok-clause-opened
 returns-in-Ok-clause-opened g c =
-    opened_from g.D.Disk.content g.D.Disk.image g.D.Disk.meters c.args.disk _ c.in-Ok.held c.in-Ok.ensures.held (c.in-Ok.ensures.same (λ e. absurd cc)) (c.in-Ok.ensures.durable (λ e. absurd cc)) c.in-Ok.ensures.keeps.capacity
+    opened_from g.D.Disk.meaning c.args.disk _ c.in-Ok.held c.in-Ok.ensures.held (c.in-Ok.ensures.same (λ e. absurd cc)) (c.in-Ok.ensures.durable (λ e. absurd cc)) c.in-Ok.ensures.keeps.capacity
 
 pub returns-in-Ok-clause-again : goal.returns-in-Ok-clause-again
 returns-in-Ok-clause-again g c = λ generation bodies reads. one_text _ _ generation _ bodies _ (held_reads _ _ c.in-Ok.held c.in-Ok.ensures.held) reads

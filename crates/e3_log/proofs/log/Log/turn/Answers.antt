@@ -12,7 +12,7 @@ use Rattle.e3_log.proofs.log.Log.turn.Goals as goal
 pub returns-in-Ok-clause-stands : goal.returns-in-Ok-clause-stands
 returns-in-Ok-clause-stands g c = λ bodies st.
     let disk = c.self.inside.disk in
-    let capacity = (g.D.Disk.meters disk).capacity in
+    let capacity = (g.D.Disk.meaning.meters disk).capacity in
     let region : c.other-region.result ≡ other c.self.inside.region = c.other-region.ensures in
     let place : c.start-place.result ≡ start capacity (other c.self.inside.region) = c.start-place.ensures ∙ (λ i. start (c.capacity-capacity.ensures.value i) (region i)) in
     let room : c.limit-room.result ≡ limit capacity (other c.self.inside.region) = c.limit-room.ensures ∙ (λ i. limit (c.capacity-capacity.ensures.value i) (region i)) in
@@ -22,16 +22,16 @@ returns-in-Ok-clause-stands g c = λ bodies st.
     let bytes : c.deref.result.now ≡ staged (turned (c.self.inside.generation + 1) c.args.body.now) = c.deref.ensures.value ∙ c.put_turned.ensures.bytes in
     let spare : nat_lt c.start.result c.self.inside.end ≡ nat_lt (start capacity c.self.inside.region) c.self.inside.end =
     ap (λ k. nat_lt k c.self.inside.end) (c.start.ensures ∙ ap (λ k. start k c.self.inside.region) c.capacity-capacity.ensures.value) in
-    let here = subst (λ (l : LogState g.row.D.Denot). Stands g.D.Disk.content g.D.Disk.image g.D.Disk.meters bodies l) (sym c.self.view_is) st in
-    turn_stands g.D.Disk.content g.D.Disk.image g.D.Disk.meters bodies _ here shut c.args.body.now (omega (arith, number, c.requires.next)) (omega (arith, room, low, c.capacity-capacity.ensures.most, c.capacity-capacity.ensures.value))
+    let here = subst (λ (l : LogState g.row.D.Denot). Stands g.D.Disk.meaning bodies l) (sym c.self.view_is) st in
+    turn_stands g.D.Disk.meaning bodies _ here shut c.args.body.now (omega (arith, number, c.requires.next)) (omega (arith, room, low, c.capacity-capacity.ensures.most, c.capacity-capacity.ensures.value))
     c.start-place.result place (omega (arith, room)) _
-    (c.in-Ok.ensures.written ∙ ap (λ (b : List ℕ). overwritten (overwritten (g.D.Disk.content disk) (c.start-place.result + 1) b) c.start-place.result (OPEN ∷ [])) bytes)
+    (c.in-Ok.ensures.written ∙ ap (λ (b : List ℕ). overwritten (overwritten (g.D.Disk.meaning.content disk) (c.start-place.result + 1) b) c.start-place.result (OPEN ∷ [])) bytes)
     c.in-Ok.ensures.durable c.in-Ok.ensures.meters.keeps.capacity region refl refl spare c.if-self.false
 
 pub returns-in-Ok-clause-images : goal.returns-in-Ok-clause-images
 returns-in-Ok-clause-images g c = λ bodies st.
     let disk = c.self.inside.disk in
-    let capacity = (g.D.Disk.meters disk).capacity in
+    let capacity = (g.D.Disk.meaning.meters disk).capacity in
     let region : c.other-region.result ≡ other c.self.inside.region = c.other-region.ensures in
     let place : c.start-place.result ≡ start capacity (other c.self.inside.region) = c.start-place.ensures ∙ (λ i. start (c.capacity-capacity.ensures.value i) (region i)) in
     let room : c.limit-room.result ≡ limit capacity (other c.self.inside.region) = c.limit-room.ensures ∙ (λ i. limit (c.capacity-capacity.ensures.value i) (region i)) in
@@ -39,16 +39,16 @@ returns-in-Ok-clause-images g c = λ bodies st.
     let shut : c.self.inside.spare_open ≡ false = ap (λ (l : LogState g.row.D.Denot). l.spare_open) c.self.view_is ∙ c.requires.shut in
     let number : c.self.inside.generation ≡ c.args.self.now.generation = ap (λ (l : LogState g.row.D.Denot). l.generation) c.self.view_is in
     let bytes : c.deref.result.now ≡ staged (turned (c.self.inside.generation + 1) c.args.body.now) = c.deref.ensures.value ∙ c.put_turned.ensures.bytes in
-    let here = subst (λ (l : LogState g.row.D.Denot). Stands g.D.Disk.content g.D.Disk.image g.D.Disk.meters bodies l) (sym c.self.view_is) st in
-    subst (λ (l : LogState g.row.D.Denot). EachReadsAs (g.D.Disk.meters l.disk).capacity l.generation bodies (l.generation + 1) (c.args.body.now ∷ []) (g.D.Disk.image c.commit.new.disk)) c.self.view_is
-    (turn_images g.D.Disk.content g.D.Disk.image g.D.Disk.meters bodies _ here shut c.args.body.now (omega (arith, number, c.requires.next)) (omega (arith, room, low, c.capacity-capacity.ensures.most, c.capacity-capacity.ensures.value))
-    c.start-place.result place (omega (arith, room)) (g.D.Disk.image c.commit.new.disk)
-    (λ image at. subst (λ (b : List ℕ). Leaves (g.D.Disk.content disk) c.start-place.result b image) bytes (c.in-Ok.ensures.images here.only image at)))
+    let here = subst (λ (l : LogState g.row.D.Denot). Stands g.D.Disk.meaning bodies l) (sym c.self.view_is) st in
+    subst (λ (l : LogState g.row.D.Denot). EachReadsAs (g.D.Disk.meaning.meters l.disk).capacity l.generation bodies (l.generation + 1) (c.args.body.now ∷ []) (g.D.Disk.meaning.image c.commit.new.disk)) c.self.view_is
+    (turn_images g.D.Disk.meaning bodies _ here shut c.args.body.now (omega (arith, number, c.requires.next)) (omega (arith, room, low, c.capacity-capacity.ensures.most, c.capacity-capacity.ensures.value))
+    c.start-place.result place (omega (arith, room)) (g.D.Disk.meaning.image c.commit.new.disk)
+    (λ image at. subst (λ (b : List ℕ). Leaves (g.D.Disk.meaning.content disk) c.start-place.result b image) bytes (c.in-Ok.ensures.images here.only image at)))
 
 pub returns-in-Err-clause-images : goal.returns-in-Err-clause-images
 returns-in-Err-clause-images g c = λ bodies st.
     let disk = c.self.inside.disk in
-    let capacity = (g.D.Disk.meters disk).capacity in
+    let capacity = (g.D.Disk.meaning.meters disk).capacity in
     let region : c.other-region.result ≡ other c.self.inside.region = c.other-region.ensures in
     let place : c.start-place.result ≡ start capacity (other c.self.inside.region) = c.start-place.ensures ∙ (λ i. start (c.capacity-capacity.ensures.value i) (region i)) in
     let room : c.limit-room.result ≡ limit capacity (other c.self.inside.region) = c.limit-room.ensures ∙ (λ i. limit (c.capacity-capacity.ensures.value i) (region i)) in
@@ -56,8 +56,8 @@ returns-in-Err-clause-images g c = λ bodies st.
     let shut : c.self.inside.spare_open ≡ false = ap (λ (l : LogState g.row.D.Denot). l.spare_open) c.self.view_is ∙ c.requires.shut in
     let number : c.self.inside.generation ≡ c.args.self.now.generation = ap (λ (l : LogState g.row.D.Denot). l.generation) c.self.view_is in
     let bytes : c.deref.result.now ≡ staged (turned (c.self.inside.generation + 1) c.args.body.now) = c.deref.ensures.value ∙ c.put_turned.ensures.bytes in
-    let here = subst (λ (l : LogState g.row.D.Denot). Stands g.D.Disk.content g.D.Disk.image g.D.Disk.meters bodies l) (sym c.self.view_is) st in
-    subst (λ (l : LogState g.row.D.Denot). EachReadsAs (g.D.Disk.meters l.disk).capacity l.generation bodies (l.generation + 1) (c.args.body.now ∷ []) (g.D.Disk.image c.commit.new.disk)) c.self.view_is
-    (turn_images g.D.Disk.content g.D.Disk.image g.D.Disk.meters bodies _ here shut c.args.body.now (omega (arith, number, c.requires.next)) (omega (arith, room, low, c.capacity-capacity.ensures.most, c.capacity-capacity.ensures.value))
-    c.start-place.result place (omega (arith, room)) (g.D.Disk.image c.commit.new.disk)
-    (λ image at. subst (λ (b : List ℕ). Leaves (g.D.Disk.content disk) c.start-place.result b image) bytes (c.in-Err.ensures.images here.only image at)))
+    let here = subst (λ (l : LogState g.row.D.Denot). Stands g.D.Disk.meaning bodies l) (sym c.self.view_is) st in
+    subst (λ (l : LogState g.row.D.Denot). EachReadsAs (g.D.Disk.meaning.meters l.disk).capacity l.generation bodies (l.generation + 1) (c.args.body.now ∷ []) (g.D.Disk.meaning.image c.commit.new.disk)) c.self.view_is
+    (turn_images g.D.Disk.meaning bodies _ here shut c.args.body.now (omega (arith, number, c.requires.next)) (omega (arith, room, low, c.capacity-capacity.ensures.most, c.capacity-capacity.ensures.value))
+    c.start-place.result place (omega (arith, room)) (g.D.Disk.meaning.image c.commit.new.disk)
+    (λ image at. subst (λ (b : List ℕ). Leaves (g.D.Disk.meaning.content disk) c.start-place.result b image) bytes (c.in-Err.ensures.images here.only image at)))

@@ -43,13 +43,13 @@ returns-clause-stands g c =
     let e : Entry = record { owner = site; act = Cut } in
     let has : HasEntered e was c.enter.new.shared = c.enter.ensures was 0 c.in_ok-claim.ensures.claimed in
     let more = entries_of c.enter.new.shared in
-    let before : IsIn g.D.Disk.content g.D.Disk.image g.D.Disk.meters sc h site c.self.inside.state =
-    subst (λ (x : NodeView _). IsIn g.D.Disk.content g.D.Disk.image g.D.Disk.meters sc h x.site x.state) (sym c.self.view_is) c.requires.standing.state in
-    let behind : IsIn g.D.Disk.content g.D.Disk.image g.D.Disk.meters sc more site state =
-    subst (λ (l : List Entry). IsIn g.D.Disk.content g.D.Disk.image g.D.Disk.meters sc l site state) (sym has.entries)
-    (cut_in g.D.Disk.content g.D.Disk.image g.D.Disk.meters sc h site c.self.inside.state state before c.replace_with.ensures.0
+    let before : IsIn g.D.Disk.meaning sc h site c.self.inside.state =
+    subst (λ (x : NodeView _). IsIn g.D.Disk.meaning sc h x.site x.state) (sym c.self.view_is) c.requires.standing.state in
+    let behind : IsIn g.D.Disk.meaning sc more site state =
+    subst (λ (l : List Entry). IsIn g.D.Disk.meaning sc l site state) (sym has.entries)
+    (cut_in g.D.Disk.meaning sc h site c.self.inside.state state before c.replace_with.ensures.0
     c.replace_with.ensures.1.1.0 c.replace_with.ensures.1.0 (ap (λ (m : Meters). m.capacity) c.replace_with.ensures.1.1.1)) in
-    node_with g.D.Disk.content g.D.Disk.image g.D.Disk.meters sc (scenario_of c.enter.new.shared) h more c.args.self.now _ state c.requires.standing
+    node_with g.D.Disk.meaning sc (scenario_of c.enter.new.shared) h more c.args.self.now _ state c.requires.standing
     has.scenario
-    (subst (λ (x : NodeView _). IsIn g.D.Disk.content g.D.Disk.image g.D.Disk.meters sc more x.site state) c.self.view_is behind)
+    (subst (λ (x : NodeView _). IsIn g.D.Disk.meaning sc more x.site state) c.self.view_is behind)
     (ap (λ (x : NodeView _). let n : NodeView _ = record { site = x.site; weights = x.weights; rows = x.rows; state = state } in n) c.self.view_is)

@@ -10,7 +10,7 @@ returns-clause-stands g c = λ sc weights rows. record {
   rows_are = rows;
   state = record {
     down = refl;
-    stands = blank_tells g.D.Disk.content g.D.Disk.image g.D.Disk.meters sc c.args.site c.args.disk
+    stands = blank_tells g.D.Disk.meaning sc c.args.site c.args.disk
         (omega (arith, c.capacity-capacity.ensures.value, c.capacity-capacity.ensures.least)) c.requires.blank;
   };
 }

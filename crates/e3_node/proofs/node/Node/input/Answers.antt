@@ -21,12 +21,12 @@ returns-in-Err-clause-stands g c =
     let sc = scenario_of c.args.shared.now in
     let h = entries_of c.args.shared.now in
     let more = entries_of c.take_input.new.shared in
-    let now : IsIn g.D.Disk.content g.D.Disk.image g.D.Disk.meters sc more c.self.inside.site c.settle.new.state =
-    input_in g.D.Disk.content g.D.Disk.image g.D.Disk.meters sc h more c.self.inside.site c.args.input c.in-Err.fault c.take_input.new.state c.settle.new.state
+    let now : IsIn g.D.Disk.meaning sc more c.self.inside.site c.settle.new.state =
+    input_in g.D.Disk.meaning sc h more c.self.inside.site c.args.input c.in-Err.fault c.take_input.new.state c.settle.new.state
     (λ none. let k = c.in-Err.ensures.kept c.in-Err.fault refl none in (k.0, k.2))
     (λ why is. c.in-Err.ensures.fell why (ap (λ (f : InputFault). Err f) is))
     c.settle.ensures.fell c.settle.ensures.kept in
-    node_with g.D.Disk.content g.D.Disk.image g.D.Disk.meters sc (scenario_of c.take_input.new.shared) h more c.args.self.now _ c.settle.new.state c.requires.standing
+    node_with g.D.Disk.meaning sc (scenario_of c.take_input.new.shared) h more c.args.self.now _ c.settle.new.state c.requires.standing
     c.take_input.ensures.same.0
-    (subst (λ (x : NodeView _). IsIn g.D.Disk.content g.D.Disk.image g.D.Disk.meters sc more x.site c.settle.new.state) c.self.view_is now)
+    (subst (λ (x : NodeView _). IsIn g.D.Disk.meaning sc more x.site c.settle.new.state) c.self.view_is now)
     (ap (λ (x : NodeView _). let n : NodeView _ = record { site = x.site; weights = x.weights; rows = x.rows; state = c.settle.new.state } in n) c.self.view_is)

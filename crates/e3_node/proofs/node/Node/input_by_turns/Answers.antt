@@ -1,19 +1,33 @@
-use Rattle.std.proofs.Common.{◌≡◌, ◌++◌, ◌∷◌, [], ap, subst}
+use Rattle.std.proofs.Common.{◌≡◌, ◌≤◌, ◌++◌, ◌∷◌, [], ap, subst, sym}
 use Rattle.e3_node.specs.NodeStands.{IsIn}
 use Rattle.e3_node.specs.NodeView.{NodeView, disk_of}
 use Rattle.e3_node.specs.Turns.{Meanwhile, history_seen, scenario_seen}
 use Rattle.e3_site_log.specs.Ends.{Takes, calls_for}
+use Rattle.e3_turn.specs.Passes.{Owns, seen_by}
+use Rattle.e3_wire.specs.Marks.{last_owner}
 use Rattle.e3_world.specs.Legal.{entry_of, made_by}
 use Rattle.e3_node.proofs.Steps.{node_with}
 use Rattle.e3_node.proofs.Turned.{in_told}
 use Rattle.e3_node.proofs.Waiting.{keys_stay}
 use Rattle.e3_node.proofs.node.Node.input_by_turns.Goals as goal
 
+pub take_by_turns-requires-clause-turns : goal.take_by_turns-requires-clause-turns
+take_by_turns-requires-clause-turns g c =
+    let p = c.args.pass.now in
+    record {
+      idle = c.requires.idle;
+      owns = subst (λ (x : NodeView _). Owns p x.site) (sym c.self.view_is) c.requires.owns;
+      played = c.requires.played;
+      some = subst (λ (x : NodeView _). 1 ≤ x.site) (sym c.self.view_is) c.requires.standing.some;
+      exists = subst (λ (x : NodeView _). x.site ≤ last_owner (seen_by p)) (sym c.self.view_is) c.requires.standing.exists;
+      restless = c.requires.restless;
+    }
+
 pub returns-in-Ok-clause-takes : goal.returns-in-Ok-clause-takes
 returns-in-Ok-clause-takes g c =
     let sc = scenario_seen c.args.pass.now in
     let h = history_seen c.args.pass.now in
-    subst (λ (x : NodeView _). Takes (calls_for (made_by sc h x.site c.args.input).records) (g.D.Disk.meters (disk_of x.state)) (g.D.Disk.meters (disk_of c.take_by_turns.new.state)))
+    subst (λ (x : NodeView _). Takes (calls_for (made_by sc h x.site c.args.input).records) (g.D.Disk.meaning.meters (disk_of x.state)) (g.D.Disk.meaning.meters (disk_of c.take_by_turns.new.state)))
     c.self.view_is c.in-Ok.ensures.takes
 
 pub returns-in-Ok-clause-stands : goal.returns-in-Ok-clause-stands
@@ -23,9 +37,9 @@ returns-in-Ok-clause-stands g c =
     let sc = scenario_seen p in
     let more = history_seen q in
     let new = c.take_by_turns.new.state in
-    node_with g.D.Disk.content g.D.Disk.image g.D.Disk.meters sc (scenario_seen q) (history_seen p) more c.args.self.now _ new c.requires.standing
+    node_with g.D.Disk.meaning sc (scenario_seen q) (history_seen p) more c.args.self.now _ new c.requires.standing
     (keys_stay p q c.requires.played c.take_by_turns.ensures.turned.turned.seen).0
-    (subst (λ (x : NodeView _). IsIn g.D.Disk.content g.D.Disk.image g.D.Disk.meters sc more x.site new) c.self.view_is c.in-Ok.ensures.ended.stands)
+    (subst (λ (x : NodeView _). IsIn g.D.Disk.meaning sc more x.site new) c.self.view_is c.in-Ok.ensures.ended.stands)
     (ap (λ (x : NodeView _). let n : NodeView _ = record { site = x.site; weights = x.weights; rows = x.rows; state = new } in n) c.self.view_is)
 
 pub returns-in-Ok-clause-stepped : goal.returns-in-Ok-clause-stepped
@@ -46,9 +60,9 @@ returns-in-Err-clause-stands g c =
     let sc = scenario_seen p in
     let h = history_seen p in
     let more = history_seen q in
-    let told = in_told g.D.Disk.content g.D.Disk.image g.D.Disk.meters sc h more c.self.inside.site c.args.input c.self.inside.state c.take_by_turns.new.state
+    let told = in_told g.D.Disk.meaning sc h more c.self.inside.site c.args.input c.self.inside.state c.take_by_turns.new.state
     c.in-Err.fault c.settle.new.state c.in-Err.ensures.ended c.settle.ensures.fell c.settle.ensures.kept in
-    node_with g.D.Disk.content g.D.Disk.image g.D.Disk.meters sc (scenario_seen q) h more c.args.self.now _ c.settle.new.state c.requires.standing
+    node_with g.D.Disk.meaning sc (scenario_seen q) h more c.args.self.now _ c.settle.new.state c.requires.standing
     (keys_stay p q c.requires.played c.take_by_turns.ensures.turned.turned.seen).0
-    (subst (λ (x : NodeView _). IsIn g.D.Disk.content g.D.Disk.image g.D.Disk.meters sc more x.site c.settle.new.state) c.self.view_is told)
+    (subst (λ (x : NodeView _). IsIn g.D.Disk.meaning sc more x.site c.settle.new.state) c.self.view_is told)
     (ap (λ (x : NodeView _). let n : NodeView _ = record { site = x.site; weights = x.weights; rows = x.rows; state = c.settle.new.state } in n) c.self.view_is)

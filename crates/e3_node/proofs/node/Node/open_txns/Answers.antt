@@ -9,9 +9,9 @@ use Rattle.e3_node.proofs.node.Node.open_txns.Goals as goal
 
 pub returns-in-Up-clause-up : goal.returns-in-Up-clause-up
 returns-in-Up-clause-up g c = λ sc h was up.
-    let inside : IsIn g.D.Disk.content g.D.Disk.image g.D.Disk.meters sc h c.self.inside.site c.self.inside.state =
-    subst (λ (x : NodeView _). IsIn g.D.Disk.content g.D.Disk.image g.D.Disk.meters sc h x.site x.state) (sym c.self.view_is) was.state in
-    let here : IsUp g.D.Disk.content g.D.Disk.image g.D.Disk.meters sc h c.self.inside.site c.in-Up.site c.in-Up.field-1 c.in-Up.field-2 c.in-Up.field-3 =
-    subst (λ (s : State _). IsIn g.D.Disk.content g.D.Disk.image g.D.Disk.meters sc h c.self.inside.site s) c.in-Up.is inside in
+    let inside : IsIn g.D.Disk.meaning sc h c.self.inside.site c.self.inside.state =
+    subst (λ (x : NodeView _). IsIn g.D.Disk.meaning sc h x.site x.state) (sym c.self.view_is) was.state in
+    let here : IsUp g.D.Disk.meaning sc h c.self.inside.site c.in-Up.site c.in-Up.field-1 c.in-Up.field-2 c.in-Up.field-3 =
+    subst (λ (s : State _). IsIn g.D.Disk.meaning sc h c.self.inside.site s) c.in-Up.is inside in
     subst (λ (x : NodeView _). IfOk c.open_txns.result (λ txns. txns ≡ fold add_txn [] (open_at sc h x.site))) c.self.view_is
     (open_by sc h c.self.inside.site c.in-Up.site c.open_txns.result here.stands c.open_txns.ensures.listed)

@@ -23,16 +23,16 @@ enter_rise-requires-clause-allowed g c =
     let state = c.replace_with-raised.new.dest in
     let down : is_up_at h node.site ≡ false = sym (c.if-is_up.ensures.stands sc h c.requires.standing) in
     let is : IsWish node.site node.weights node.rows wish = subst (λ (x : NodeView _). IsWish x.site x.weights x.rows wish) c.self.view_is c.in_ok-wish.ensures in
-    let may : MayRise sc h wish = may_rise g.D.Disk.content g.D.Disk.image g.D.Disk.meters v node wish c.requires.shared c.requires.standing (c.requires.turn down) is in
-    let stands = told_in g.D.Disk.content g.D.Disk.image g.D.Disk.meters sc h node.site node.state c.requires.standing.state in
-    let here : IsFallen g.D.Disk.image g.D.Disk.meters sc h wish.site node.state = subst (λ (n : ℕ). IsFallen g.D.Disk.image g.D.Disk.meters sc h n node.state) (sym is.site_is) stands in
-    let inside : IsFallen g.D.Disk.image g.D.Disk.meters sc h wish.site c.self.inside.state =
-    subst (λ (x : NodeView _). IsFallen g.D.Disk.image g.D.Disk.meters sc h wish.site x.state) (sym c.self.view_is) here in
-    let made : RiseMakes g.D.Disk.content g.D.Disk.image g.D.Disk.meters sc h node.site (disk_of node.state) state r =
-    subst (λ (n : ℕ). RiseMakes g.D.Disk.content g.D.Disk.image g.D.Disk.meters sc h n (disk_of node.state) state r) is.site_is
-    (subst (λ (x : NodeView _). RiseMakes g.D.Disk.content g.D.Disk.image g.D.Disk.meters sc h wish.site (disk_of x.state) state r) c.self.view_is
+    let may : MayRise sc h wish = may_rise g.D.Disk.meaning v node wish c.requires.shared c.requires.standing (c.requires.turn down) is in
+    let stands = told_in g.D.Disk.meaning sc h node.site node.state c.requires.standing.state in
+    let here : IsFallen g.D.Disk.meaning sc h wish.site node.state = subst (λ (n : ℕ). IsFallen g.D.Disk.meaning sc h n node.state) (sym is.site_is) stands in
+    let inside : IsFallen g.D.Disk.meaning sc h wish.site c.self.inside.state =
+    subst (λ (x : NodeView _). IsFallen g.D.Disk.meaning sc h wish.site x.state) (sym c.self.view_is) here in
+    let made : RiseMakes g.D.Disk.meaning sc h node.site (disk_of node.state) state r =
+    subst (λ (n : ℕ). RiseMakes g.D.Disk.meaning sc h n (disk_of node.state) state r) is.site_is
+    (subst (λ (x : NodeView _). RiseMakes g.D.Disk.meaning sc h wish.site (disk_of x.state) state r) c.self.view_is
     (c.replace_with-raised.ensures.0 sc h may inside)) in
-    let allowed : IsAllowed sc h node.site r = allowed_of g.D.Disk.content g.D.Disk.image g.D.Disk.meters sc h node.site (disk_of node.state) state r (c.requires.turn down) made in
+    let allowed : IsAllowed sc h node.site r = allowed_of g.D.Disk.meaning sc h node.site (disk_of node.state) state r (c.requires.turn down) made in
     (v, c.in_ok-claim.ensures.claimed, subst (λ (x : NodeView _). IsAllowed sc h x.site r) (sym c.self.view_is) allowed)
 
 pub returns-clause-stands : goal.returns-clause-stands
@@ -46,18 +46,18 @@ returns-clause-stands g c =
     let state = c.replace_with-raised.new.dest in
     let down : is_up_at h node.site ≡ false = sym (c.if-is_up.ensures.stands sc h c.requires.standing) in
     let is : IsWish node.site node.weights node.rows wish = subst (λ (x : NodeView _). IsWish x.site x.weights x.rows wish) c.self.view_is c.in_ok-wish.ensures in
-    let may : MayRise sc h wish = may_rise g.D.Disk.content g.D.Disk.image g.D.Disk.meters v node wish c.requires.shared c.requires.standing (c.requires.turn down) is in
-    let stands = told_in g.D.Disk.content g.D.Disk.image g.D.Disk.meters sc h node.site node.state c.requires.standing.state in
-    let here : IsFallen g.D.Disk.image g.D.Disk.meters sc h wish.site node.state = subst (λ (n : ℕ). IsFallen g.D.Disk.image g.D.Disk.meters sc h n node.state) (sym is.site_is) stands in
-    let inside : IsFallen g.D.Disk.image g.D.Disk.meters sc h wish.site c.self.inside.state =
-    subst (λ (x : NodeView _). IsFallen g.D.Disk.image g.D.Disk.meters sc h wish.site x.state) (sym c.self.view_is) here in
-    let made : RiseMakes g.D.Disk.content g.D.Disk.image g.D.Disk.meters sc h node.site (disk_of node.state) state r =
-    subst (λ (n : ℕ). RiseMakes g.D.Disk.content g.D.Disk.image g.D.Disk.meters sc h n (disk_of node.state) state r) is.site_is
-    (subst (λ (x : NodeView _). RiseMakes g.D.Disk.content g.D.Disk.image g.D.Disk.meters sc h wish.site (disk_of x.state) state r) c.self.view_is
+    let may : MayRise sc h wish = may_rise g.D.Disk.meaning v node wish c.requires.shared c.requires.standing (c.requires.turn down) is in
+    let stands = told_in g.D.Disk.meaning sc h node.site node.state c.requires.standing.state in
+    let here : IsFallen g.D.Disk.meaning sc h wish.site node.state = subst (λ (n : ℕ). IsFallen g.D.Disk.meaning sc h n node.state) (sym is.site_is) stands in
+    let inside : IsFallen g.D.Disk.meaning sc h wish.site c.self.inside.state =
+    subst (λ (x : NodeView _). IsFallen g.D.Disk.meaning sc h wish.site x.state) (sym c.self.view_is) here in
+    let made : RiseMakes g.D.Disk.meaning sc h node.site (disk_of node.state) state r =
+    subst (λ (n : ℕ). RiseMakes g.D.Disk.meaning sc h n (disk_of node.state) state r) is.site_is
+    (subst (λ (x : NodeView _). RiseMakes g.D.Disk.meaning sc h wish.site (disk_of x.state) state r) c.self.view_is
     (c.replace_with-raised.ensures.0 sc h may inside)) in
     let has : RiseIsEntered c.self.inside.site r v c.enter_rise.new.shared = c.enter_rise.ensures.entered v c.in_ok-claim.ensures.claimed in
     let entered : entries_of c.enter_rise.new.shared ≡ h ++ entered_by node.site r = has.entries ∙ ap (λ (x : NodeView _). h ++ entered_by x.site r) c.self.view_is in
-    node_risen g.D.Disk.content g.D.Disk.image g.D.Disk.meters sc (scenario_of c.enter_rise.new.shared) h (entries_of c.enter_rise.new.shared) node _ state r
+    node_risen g.D.Disk.meaning sc (scenario_of c.enter_rise.new.shared) h (entries_of c.enter_rise.new.shared) node _ state r
     c.requires.standing down made has.scenario entered
     (ap (λ (x : NodeView _). let n : NodeView _ = record { site = x.site; weights = x.weights; rows = x.rows; state = state } in n) c.self.view_is)
 
@@ -72,18 +72,18 @@ returns-clause-rose g c =
     let state = c.replace_with-raised.new.dest in
     let down : is_up_at h node.site ≡ false = sym (c.if-is_up.ensures.stands sc h c.requires.standing) in
     let is : IsWish node.site node.weights node.rows wish = subst (λ (x : NodeView _). IsWish x.site x.weights x.rows wish) c.self.view_is c.in_ok-wish.ensures in
-    let may : MayRise sc h wish = may_rise g.D.Disk.content g.D.Disk.image g.D.Disk.meters v node wish c.requires.shared c.requires.standing (c.requires.turn down) is in
-    let stands = told_in g.D.Disk.content g.D.Disk.image g.D.Disk.meters sc h node.site node.state c.requires.standing.state in
-    let here : IsFallen g.D.Disk.image g.D.Disk.meters sc h wish.site node.state = subst (λ (n : ℕ). IsFallen g.D.Disk.image g.D.Disk.meters sc h n node.state) (sym is.site_is) stands in
-    let inside : IsFallen g.D.Disk.image g.D.Disk.meters sc h wish.site c.self.inside.state =
-    subst (λ (x : NodeView _). IsFallen g.D.Disk.image g.D.Disk.meters sc h wish.site x.state) (sym c.self.view_is) here in
-    let made : RiseMakes g.D.Disk.content g.D.Disk.image g.D.Disk.meters sc h node.site (disk_of node.state) state r =
-    subst (λ (n : ℕ). RiseMakes g.D.Disk.content g.D.Disk.image g.D.Disk.meters sc h n (disk_of node.state) state r) is.site_is
-    (subst (λ (x : NodeView _). RiseMakes g.D.Disk.content g.D.Disk.image g.D.Disk.meters sc h wish.site (disk_of x.state) state r) c.self.view_is
+    let may : MayRise sc h wish = may_rise g.D.Disk.meaning v node wish c.requires.shared c.requires.standing (c.requires.turn down) is in
+    let stands = told_in g.D.Disk.meaning sc h node.site node.state c.requires.standing.state in
+    let here : IsFallen g.D.Disk.meaning sc h wish.site node.state = subst (λ (n : ℕ). IsFallen g.D.Disk.meaning sc h n node.state) (sym is.site_is) stands in
+    let inside : IsFallen g.D.Disk.meaning sc h wish.site c.self.inside.state =
+    subst (λ (x : NodeView _). IsFallen g.D.Disk.meaning sc h wish.site x.state) (sym c.self.view_is) here in
+    let made : RiseMakes g.D.Disk.meaning sc h node.site (disk_of node.state) state r =
+    subst (λ (n : ℕ). RiseMakes g.D.Disk.meaning sc h n (disk_of node.state) state r) is.site_is
+    (subst (λ (x : NodeView _). RiseMakes g.D.Disk.meaning sc h wish.site (disk_of x.state) state r) c.self.view_is
     (c.replace_with-raised.ensures.0 sc h may inside)) in
     let has : RiseIsEntered c.self.inside.site r v c.enter_rise.new.shared = c.enter_rise.ensures.entered v c.in_ok-claim.ensures.claimed in
     let entered : entries_of c.enter_rise.new.shared ≡ h ++ entered_by node.site r = has.entries ∙ ap (λ (x : NodeView _). h ++ entered_by x.site r) c.self.view_is in
-    rose_told g.D.Disk.content g.D.Disk.image g.D.Disk.meters sc h (entries_of c.enter_rise.new.shared) node.site (disk_of node.state) state r c.told.result
+    rose_told g.D.Disk.meaning sc h (entries_of c.enter_rise.new.shared) node.site (disk_of node.state) state r c.told.result
     c.logs_are_orderly.ensures.tails may.given may.legal made entered c.told.ensures
 
 pub returns-clause-failed : goal.returns-clause-failed
@@ -97,18 +97,18 @@ returns-clause-failed g c =
     let state = c.replace_with-raised.new.dest in
     let down : is_up_at h node.site ≡ false = sym (c.if-is_up.ensures.stands sc h c.requires.standing) in
     let is : IsWish node.site node.weights node.rows wish = subst (λ (x : NodeView _). IsWish x.site x.weights x.rows wish) c.self.view_is c.in_ok-wish.ensures in
-    let may : MayRise sc h wish = may_rise g.D.Disk.content g.D.Disk.image g.D.Disk.meters v node wish c.requires.shared c.requires.standing (c.requires.turn down) is in
-    let stands = told_in g.D.Disk.content g.D.Disk.image g.D.Disk.meters sc h node.site node.state c.requires.standing.state in
-    let here : IsFallen g.D.Disk.image g.D.Disk.meters sc h wish.site node.state = subst (λ (n : ℕ). IsFallen g.D.Disk.image g.D.Disk.meters sc h n node.state) (sym is.site_is) stands in
-    let inside : IsFallen g.D.Disk.image g.D.Disk.meters sc h wish.site c.self.inside.state =
-    subst (λ (x : NodeView _). IsFallen g.D.Disk.image g.D.Disk.meters sc h wish.site x.state) (sym c.self.view_is) here in
-    let made : RiseMakes g.D.Disk.content g.D.Disk.image g.D.Disk.meters sc h node.site (disk_of node.state) state r =
-    subst (λ (n : ℕ). RiseMakes g.D.Disk.content g.D.Disk.image g.D.Disk.meters sc h n (disk_of node.state) state r) is.site_is
-    (subst (λ (x : NodeView _). RiseMakes g.D.Disk.content g.D.Disk.image g.D.Disk.meters sc h wish.site (disk_of x.state) state r) c.self.view_is
+    let may : MayRise sc h wish = may_rise g.D.Disk.meaning v node wish c.requires.shared c.requires.standing (c.requires.turn down) is in
+    let stands = told_in g.D.Disk.meaning sc h node.site node.state c.requires.standing.state in
+    let here : IsFallen g.D.Disk.meaning sc h wish.site node.state = subst (λ (n : ℕ). IsFallen g.D.Disk.meaning sc h n node.state) (sym is.site_is) stands in
+    let inside : IsFallen g.D.Disk.meaning sc h wish.site c.self.inside.state =
+    subst (λ (x : NodeView _). IsFallen g.D.Disk.meaning sc h wish.site x.state) (sym c.self.view_is) here in
+    let made : RiseMakes g.D.Disk.meaning sc h node.site (disk_of node.state) state r =
+    subst (λ (n : ℕ). RiseMakes g.D.Disk.meaning sc h n (disk_of node.state) state r) is.site_is
+    (subst (λ (x : NodeView _). RiseMakes g.D.Disk.meaning sc h wish.site (disk_of x.state) state r) c.self.view_is
     (c.replace_with-raised.ensures.0 sc h may inside)) in
     let has : RiseIsEntered c.self.inside.site r v c.enter_rise.new.shared = c.enter_rise.ensures.entered v c.in_ok-claim.ensures.claimed in
     let entered : entries_of c.enter_rise.new.shared ≡ h ++ entered_by node.site r = has.entries ∙ ap (λ (x : NodeView _). h ++ entered_by x.site r) c.self.view_is in
-    λ why told. failed_told g.D.Disk.content g.D.Disk.image g.D.Disk.meters sc h (entries_of c.enter_rise.new.shared) node.site (disk_of node.state) state r
+    λ why told. failed_told g.D.Disk.meaning sc h (entries_of c.enter_rise.new.shared) node.site (disk_of node.state) state r
     c.logs_are_orderly.ensures.tails may.given may.legal made entered why (sym c.told.ensures ∙ told)
 
 pub returns-clause-cause : goal.returns-clause-cause
@@ -122,16 +122,16 @@ returns-clause-cause g c =
     let state = c.replace_with-raised.new.dest in
     let down : is_up_at h node.site ≡ false = sym (c.if-is_up.ensures.stands sc h c.requires.standing) in
     let is : IsWish node.site node.weights node.rows wish = subst (λ (x : NodeView _). IsWish x.site x.weights x.rows wish) c.self.view_is c.in_ok-wish.ensures in
-    let may : MayRise sc h wish = may_rise g.D.Disk.content g.D.Disk.image g.D.Disk.meters v node wish c.requires.shared c.requires.standing (c.requires.turn down) is in
-    let stands = told_in g.D.Disk.content g.D.Disk.image g.D.Disk.meters sc h node.site node.state c.requires.standing.state in
-    let here : IsFallen g.D.Disk.image g.D.Disk.meters sc h wish.site node.state = subst (λ (n : ℕ). IsFallen g.D.Disk.image g.D.Disk.meters sc h n node.state) (sym is.site_is) stands in
-    let inside : IsFallen g.D.Disk.image g.D.Disk.meters sc h wish.site c.self.inside.state =
-    subst (λ (x : NodeView _). IsFallen g.D.Disk.image g.D.Disk.meters sc h wish.site x.state) (sym c.self.view_is) here in
-    let made : RiseMakes g.D.Disk.content g.D.Disk.image g.D.Disk.meters sc h node.site (disk_of node.state) state r =
-    subst (λ (n : ℕ). RiseMakes g.D.Disk.content g.D.Disk.image g.D.Disk.meters sc h n (disk_of node.state) state r) is.site_is
-    (subst (λ (x : NodeView _). RiseMakes g.D.Disk.content g.D.Disk.image g.D.Disk.meters sc h wish.site (disk_of x.state) state r) c.self.view_is
+    let may : MayRise sc h wish = may_rise g.D.Disk.meaning v node wish c.requires.shared c.requires.standing (c.requires.turn down) is in
+    let stands = told_in g.D.Disk.meaning sc h node.site node.state c.requires.standing.state in
+    let here : IsFallen g.D.Disk.meaning sc h wish.site node.state = subst (λ (n : ℕ). IsFallen g.D.Disk.meaning sc h n node.state) (sym is.site_is) stands in
+    let inside : IsFallen g.D.Disk.meaning sc h wish.site c.self.inside.state =
+    subst (λ (x : NodeView _). IsFallen g.D.Disk.meaning sc h wish.site x.state) (sym c.self.view_is) here in
+    let made : RiseMakes g.D.Disk.meaning sc h node.site (disk_of node.state) state r =
+    subst (λ (n : ℕ). RiseMakes g.D.Disk.meaning sc h n (disk_of node.state) state r) is.site_is
+    (subst (λ (x : NodeView _). RiseMakes g.D.Disk.meaning sc h wish.site (disk_of x.state) state r) c.self.view_is
     (c.replace_with-raised.ensures.0 sc h may inside)) in
-    λ told. missed_told g.D.Disk.content g.D.Disk.image g.D.Disk.meters sc h node.site (disk_of node.state) state r made (sym c.told.ensures ∙ told)
+    λ told. missed_told g.D.Disk.meaning sc h node.site (disk_of node.state) state r made (sym c.told.ensures ∙ told)
 
 pub returns-clause-spares : goal.returns-clause-spares
 returns-clause-spares g c =
@@ -144,15 +144,15 @@ returns-clause-spares g c =
     let state = c.replace_with-raised.new.dest in
     let down : is_up_at h node.site ≡ false = sym (c.if-is_up.ensures.stands sc h c.requires.standing) in
     let is : IsWish node.site node.weights node.rows wish = subst (λ (x : NodeView _). IsWish x.site x.weights x.rows wish) c.self.view_is c.in_ok-wish.ensures in
-    let may : MayRise sc h wish = may_rise g.D.Disk.content g.D.Disk.image g.D.Disk.meters v node wish c.requires.shared c.requires.standing (c.requires.turn down) is in
-    let stands = told_in g.D.Disk.content g.D.Disk.image g.D.Disk.meters sc h node.site node.state c.requires.standing.state in
-    let here : IsFallen g.D.Disk.image g.D.Disk.meters sc h wish.site node.state = subst (λ (n : ℕ). IsFallen g.D.Disk.image g.D.Disk.meters sc h n node.state) (sym is.site_is) stands in
-    let inside : IsFallen g.D.Disk.image g.D.Disk.meters sc h wish.site c.self.inside.state =
-    subst (λ (x : NodeView _). IsFallen g.D.Disk.image g.D.Disk.meters sc h wish.site x.state) (sym c.self.view_is) here in
-    let made : RiseMakes g.D.Disk.content g.D.Disk.image g.D.Disk.meters sc h node.site (disk_of node.state) state r =
-    subst (λ (n : ℕ). RiseMakes g.D.Disk.content g.D.Disk.image g.D.Disk.meters sc h n (disk_of node.state) state r) is.site_is
-    (subst (λ (x : NodeView _). RiseMakes g.D.Disk.content g.D.Disk.image g.D.Disk.meters sc h wish.site (disk_of x.state) state r) c.self.view_is
+    let may : MayRise sc h wish = may_rise g.D.Disk.meaning v node wish c.requires.shared c.requires.standing (c.requires.turn down) is in
+    let stands = told_in g.D.Disk.meaning sc h node.site node.state c.requires.standing.state in
+    let here : IsFallen g.D.Disk.meaning sc h wish.site node.state = subst (λ (n : ℕ). IsFallen g.D.Disk.meaning sc h n node.state) (sym is.site_is) stands in
+    let inside : IsFallen g.D.Disk.meaning sc h wish.site c.self.inside.state =
+    subst (λ (x : NodeView _). IsFallen g.D.Disk.meaning sc h wish.site x.state) (sym c.self.view_is) here in
+    let made : RiseMakes g.D.Disk.meaning sc h node.site (disk_of node.state) state r =
+    subst (λ (n : ℕ). RiseMakes g.D.Disk.meaning sc h n (disk_of node.state) state r) is.site_is
+    (subst (λ (x : NodeView _). RiseMakes g.D.Disk.meaning sc h wish.site (disk_of x.state) state r) c.self.view_is
     (c.replace_with-raised.ensures.0 sc h may inside)) in
-    let takes : RiseTakes 5 r (g.D.Disk.meters (disk_of node.state)) (g.D.Disk.meters (disk_of state)) =
-    subst (λ (x : NodeView _). RiseTakes 5 r (g.D.Disk.meters (disk_of x.state)) (g.D.Disk.meters (disk_of state))) c.self.view_is c.replace_with-raised.ensures.1.1 in
-    λ told. spared_told g.D.Disk.content g.D.Disk.image g.D.Disk.meters sc h node.site (disk_of node.state) state r made takes (sym c.told.ensures ∙ told)
+    let takes : RiseTakes 5 r (g.D.Disk.meaning.meters (disk_of node.state)) (g.D.Disk.meaning.meters (disk_of state)) =
+    subst (λ (x : NodeView _). RiseTakes 5 r (g.D.Disk.meaning.meters (disk_of x.state)) (g.D.Disk.meaning.meters (disk_of state))) c.self.view_is c.replace_with-raised.ensures.1.1 in
+    λ told. spared_told g.D.Disk.meaning sc h node.site (disk_of node.state) state r made takes (sym c.told.ensures ∙ told)

@@ -1,4 +1,5 @@
-use Rattle.std.proofs.Common.{rules, ◌∙◌, sym}
+use Rattle.std.proofs.Common.{rules, ◌∙◌, sym, arith}
+use Rattle.std.proofs.lemmas.Grind.{common_steps}
 use Rattle.e3_turn.proofs.Owners.{joins, learns, owned_joined, agree_joined}
 use Rattle.e3_turn.proofs.lock.TurnLock.join.Goals as goal
 
@@ -11,5 +12,11 @@ join_seat-requires g c =
 pub load-requires : goal.load-requires
 load-requires g c = (c.join_seat.ensures.0 ∙ c.requires.idle.own ∙ sym c.self.view_is, search rules, learns _ _ _ _ _ _ (owned_joined g.V.Chronicle.marks g.V.Chronicle.belongs 0 c.args.pass.now.me.0 c.args.other.me.0 _ _ c.join_seat.ensures.2 c.requires.idle.rests.owned))
 
-pub returns-clause-agree : goal.returns-clause-agree
-returns-clause-agree g c = agree_joined g.V.Chronicle.marks g.V.Chronicle.belongs 0 c.args.pass.now.me.0 c.args.other.me.0 _ _ c.join_seat.ensures.2 c.requires.idle.rests.owned c.requires.other.rests.owned c.load.ensures.2.1
+pub returns : goal.returns
+returns g c = record {
+  idle = first_of (search rules, grind (arith, common_steps));
+  owners = first_of (search rules, grind (arith, common_steps));
+  last = first_of (search rules, grind (arith, common_steps));
+  seen = first_of (search rules, grind (arith, common_steps));
+  agree = agree_joined g.V.Chronicle.marks g.V.Chronicle.belongs 0 c.args.pass.now.me.0 c.args.other.me.0 _ _ c.join_seat.ensures.2 c.requires.idle.rests.owned c.requires.other.rests.owned c.load.ensures.2.1;
+}

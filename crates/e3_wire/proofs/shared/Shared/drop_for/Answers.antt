@@ -22,8 +22,8 @@ invariant_of-self-2 c =
     let least = subst (λ (l : List Mark). find (λ q. q.to == c.args.site) (pending (scenario_of l) (entries_of l)) ≡ Some c.in-Some.packet) (sym c.self.view_is) (sym c.next_to.ensures ∙ c.in-Some.is) in
     let down = subst (λ (l : List Mark). is_up_at (entries_of l) c.args.site ≡ false) (sym c.self.view_is) c.requires.down in
     let order = subst (λ (l : List Mark). IsInTurn (scenario_of l) (entries_of l) c.args.site) (sym c.self.view_is) c.requires.order in
-    let guard = drop_guard s.scenario (entries_of (marks_from s.scenario s.most s.history.entries s.stored.items)) c.args.site c.in-Some.packet least down order in
-    let net = net_drop s.scenario (entries_of (marks_from s.scenario s.most s.history.entries s.stored.items)) s.net.traffic c.take-taken.new.self.traffic c.args.site c.in-Some.packet c.self.invariant.stands.net least c.take-taken.ensures.traffic in
+    let guard = drop_guard s.scenario (entries_of (marks_from s.scenario s.most s.store.history.entries s.store.stored.items)) c.args.site c.in-Some.packet least down order in
+    let net = net_drop s.scenario (entries_of (marks_from s.scenario s.most s.store.history.entries s.store.stored.items)) s.net.traffic c.take-taken.new.self.traffic c.args.site c.in-Some.packet c.self.invariant.stands.net least c.take-taken.ensures.traffic in
     let few = not_full _ _ c.self.view_is (sym c.is_full.ensures ∙ c.if-is_full.false) in
     let spare = c.push.ensures.spare in
     let entry = c.in_ok-make_room.ensures.entry in
@@ -32,7 +32,7 @@ invariant_of-self-2 c =
     let packets = c.self.invariant.for_packets in
     let room = c.take-taken.ensures.room in
     rw (c.push.ensures.entries, c.push.ensures.marks, c.in_ok-make_room.ensures.entries, c.in_ok-make_room.ensures.marks)
-    (own_entered s.scenario s.most s.history.entries s.stored.items s.net.traffic s.notes.items s.places s.room s.spare _ _ _ c.take-taken.new.self.traffic (Drop c.in-Some.packet.number) _ _ _ _ c.self.invariant (λ w. refl) guard
+    (own_entered s.scenario s.most s.store.history.entries s.store.stored.items s.net.traffic s.notes.items s.places s.room s.store.spare _ _ _ c.take-taken.new.self.traffic (Drop c.in-Some.packet.number) _ _ _ _ c.self.invariant (λ w. refl) guard
     net (ap (λ (t : Traffic). t.sent) c.take-taken.ensures.traffic) few (omega (arith, spare, entry)) c.push.ensures.known (omega (arith, capacity, marks)) (omega (arith, packets, room)))
 
 pub returns-clause-dropped : goal.returns-clause-dropped
@@ -42,6 +42,6 @@ returns-clause-dropped c =
       sym c.next_to.ensures ∙ c.in-Some.is,
       refl,
       rw (c.push.ensures.entries, c.push.ensures.marks, c.in_ok-make_room.ensures.entries, c.in_ok-make_room.ensures.marks)
-          (own_marks s.scenario s.most s.history.entries s.stored.items (record { owner = 0; act = Drop c.in-Some.packet.number }) c.self.invariant.whole
+          (own_marks s.scenario s.most s.store.history.entries s.store.stored.items (record { owner = 0; act = Drop c.in-Some.packet.number }) c.self.invariant.whole
           ∙ ap (λ (l : List Mark). l ++ mark.Entered (record { owner = 0; act = Drop c.in-Some.packet.number }) ∷ []) c.self.view_is),
     )

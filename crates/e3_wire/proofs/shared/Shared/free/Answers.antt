@@ -41,4 +41,4 @@ pub returns : goal.returns
 returns c =
     let s = c.self.inside in
     rw c.push_reserved.ensures.items
-    (marks_freed s.scenario s.most s.history.entries s.stored.items c.args.owner ∙ ap (λ (l : List Mark). l ++ mark.Freed c.args.owner ∷ []) c.self.view_is)
+    (marks_freed s.scenario s.most s.store.history.entries s.store.stored.items c.args.owner ∙ ap (λ (l : List Mark). l ++ mark.Freed c.args.owner ∷ []) c.self.view_is)

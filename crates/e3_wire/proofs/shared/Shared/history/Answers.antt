@@ -4,4 +4,4 @@ use Rattle.e3_wire.proofs.Entering.{entries_stored}
 use Rattle.e3_wire.proofs.shared.Shared.history.Goals as goal
 
 pub returns : goal.returns
-returns c = c.as_slice.ensures ∙ sym (entries_stored c.self.inside.history.entries c.self.inside.stored.items c.self.invariant.whole) ∙ ap entries_of c.self.view_is
+returns c = c.as_slice.ensures ∙ sym (entries_stored c.self.inside.store.history.entries c.self.inside.store.stored.items c.self.invariant.whole) ∙ ap entries_of c.self.view_is

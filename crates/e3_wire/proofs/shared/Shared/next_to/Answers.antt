@@ -12,11 +12,11 @@ returns-in-Some c =
     let s = c.self.inside in
     subst (λ (l : List Mark). Some c.copy.result ≡ find (λ q. q.to == c.args.site) (pending (scenario_of l) (entries_of l))) c.self.view_is
     (ap Some c.copy.ensures ∙ c.in-Some.ensures
-    ∙ least_shown s.scenario (entries_of (marks_from s.scenario s.most s.history.entries s.stored.items)) s.net.traffic c.args.site c.self.invariant.stands.net)
+    ∙ least_shown s.scenario (entries_of (marks_from s.scenario s.most s.store.history.entries s.store.stored.items)) s.net.traffic c.args.site c.self.invariant.stands.net)
 
 pub returns-in-None : goal.returns-in-None
 returns-in-None c =
     let s = c.self.inside in
     subst (λ (l : List Mark). None ≡ find (λ q. q.to == c.args.site) (pending (scenario_of l) (entries_of l))) c.self.view_is
     (c.in-None.ensures
-    ∙ least_shown s.scenario (entries_of (marks_from s.scenario s.most s.history.entries s.stored.items)) s.net.traffic c.args.site c.self.invariant.stands.net)
+    ∙ least_shown s.scenario (entries_of (marks_from s.scenario s.most s.store.history.entries s.store.stored.items)) s.net.traffic c.args.site c.self.invariant.stands.net)

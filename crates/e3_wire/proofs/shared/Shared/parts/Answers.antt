@@ -1,4 +1,5 @@
-use Rattle.std.proofs.Common.{◌≡◌, ◌++◌, ◌∷◌, [], refl, List, ap, sym, subst, ◌∙◌, arith}
+use Rattle.std.proofs.Common.{rules, ◌≡◌, ◌++◌, ◌∷◌, [], refl, List, ap, sym, subst, ◌∙◌, arith}
+use Rattle.std.proofs.lemmas.Grind.{common_steps}
 use Rattle.e3_world.specs.Legal.{IsParts}
 use Rattle.e3_net.specs.Traffic.{Traffic}
 use Rattle.e3_types.specs.declared.entries.Act.TheVariants.{Parts}
@@ -19,7 +20,7 @@ invariant_of-self-2 c =
     let guard = subst (λ (l : List Mark). IsParts (scenario_of l) (entries_of l) c.args.parted) (sym c.self.view_is) c.requires in
     let now : c.parts.new.self.traffic ≡ record s.net.traffic { parts = c.args.parted } =
     c.parts.ensures.traffic ∙ ap (λ (ps : List (List _)). let n : Traffic = record s.net.traffic { parts = ps } in n) c.in_ok-kept.ensures in
-    let net = net_parts s.scenario (entries_of (marks_from s.scenario s.most s.history.entries s.stored.items)) s.net.traffic c.parts.new.self.traffic c.args.parted c.self.invariant.stands.net now in
+    let net = net_parts s.scenario (entries_of (marks_from s.scenario s.most s.store.history.entries s.store.stored.items)) s.net.traffic c.parts.new.self.traffic c.args.parted c.self.invariant.stands.net now in
     let few = not_full _ _ c.self.view_is (sym c.is_full.ensures ∙ c.if-is_full.false) in
     let spare = c.push.ensures.spare in
     let entry = c.in_ok-make_room.ensures.entry in
@@ -28,12 +29,36 @@ invariant_of-self-2 c =
     let packets = c.self.invariant.for_packets in
     let room = c.parts.ensures.room in
     rw (c.push.ensures.entries, c.push.ensures.marks, c.in_ok-make_room.ensures.entries, c.in_ok-make_room.ensures.marks)
-    (own_entered s.scenario s.most s.history.entries s.stored.items s.net.traffic s.notes.items s.places s.room s.spare _ _ _ c.parts.new.self.traffic (Parts c.args.parted) _ _ _ _ c.self.invariant (λ w. refl) guard
+    (own_entered s.scenario s.most s.store.history.entries s.store.stored.items s.net.traffic s.notes.items s.places s.room s.store.spare _ _ _ c.parts.new.self.traffic (Parts c.args.parted) _ _ _ _ c.self.invariant (λ w. refl) guard
     net (ap (λ (t : Traffic). t.sent) c.parts.ensures.traffic) few (omega (arith, spare, entry)) c.push.ensures.known (omega (arith, capacity, marks)) (omega (arith, packets, room)))
 
-pub returns-clause-entered : goal.returns-clause-entered
-returns-clause-entered c =
-    let s = c.self.inside in
-    rw (c.push.ensures.entries, c.push.ensures.marks, c.in_ok-make_room.ensures.entries, c.in_ok-make_room.ensures.marks)
-    (own_marks s.scenario s.most s.history.entries s.stored.items (record { owner = 0; act = Parts c.args.parted }) c.self.invariant.whole
-    ∙ ap (λ (l : List Mark). l ++ mark.Entered (record { owner = 0; act = Parts c.args.parted }) ∷ []) c.self.view_is)
+pub returns-then-is_full : goal.returns-then-is_full
+returns-then-is_full c = record {
+  entered = search rules;
+  kept = search rules;
+  full = first_of (search rules, grind (arith, common_steps));
+}
+
+pub returns-in_err-make_room : goal.returns-in_err-make_room
+returns-in_err-make_room c = record {
+  entered = search rules;
+  kept = search rules;
+  full = first_of (search rules, grind (arith, common_steps));
+}
+
+pub returns-in_err-kept : goal.returns-in_err-kept
+returns-in_err-kept c = record {
+  entered = search rules;
+  kept = search rules;
+  full = first_of (search rules, grind (arith, common_steps));
+}
+
+pub returns : goal.returns
+returns c = record {
+  entered = (let s = c.self.inside in
+      rw (c.push.ensures.entries, c.push.ensures.marks, c.in_ok-make_room.ensures.entries, c.in_ok-make_room.ensures.marks)
+      (own_marks s.scenario s.most s.store.history.entries s.store.stored.items (record { owner = 0; act = Parts c.args.parted }) c.self.invariant.whole
+      ∙ ap (λ (l : List Mark). l ++ mark.Entered (record { owner = 0; act = Parts c.args.parted }) ∷ []) c.self.view_is));
+  kept = search rules;
+  full = first_of (search rules, grind (arith, common_steps));
+}

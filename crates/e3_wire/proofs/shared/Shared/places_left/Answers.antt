@@ -9,15 +9,15 @@ use Rattle.e3_wire.proofs.shared.Shared.places_left.Goals as goal
 pub overflow_add-used : goal.overflow_add-used
 overflow_add-used c =
     let s = c.self.inside in
-    let used = used_is s.scenario s.most s.history.entries s.stored.items c.self.invariant.whole in
-    let within : used_of (marks_from s.scenario s.most s.history.entries s.stored.items) ≤ s.most = c.self.invariant.stands.played.within in
+    let used = used_is s.scenario s.most s.store.history.entries s.store.stored.items c.self.invariant.whole in
+    let within : used_of (marks_from s.scenario s.most s.store.history.entries s.store.stored.items) ≤ s.most = c.self.invariant.stands.played.within in
     let few = c.self.invariant.few in
     omega (arith, used, within, c.self.invariant.places_are, c.len.ensures, few)
 
 pub returns : goal.returns
 returns c =
     let s = c.self.inside in
-    let used = used_is s.scenario s.most s.history.entries s.stored.items c.self.invariant.whole in
-    let same : c.len.result + s.places ≡ used_of (marks_from s.scenario s.most s.history.entries s.stored.items) = omega (arith, used, c.self.invariant.places_are, c.len.ensures) in
+    let used = used_is s.scenario s.most s.store.history.entries s.store.stored.items c.self.invariant.whole in
+    let same : c.len.result + s.places ≡ used_of (marks_from s.scenario s.most s.store.history.entries s.store.stored.items) = omega (arith, used, c.self.invariant.places_are, c.len.ensures) in
     subst (λ (l : List Mark). c.saturating_sub.result ≡ places_left l) c.self.view_is
     (c.saturating_sub.ensures ∙ ap (λ n. n - (c.len.result + s.places)) c.from.ensures ∙ ap (λ n. s.most - n) same)

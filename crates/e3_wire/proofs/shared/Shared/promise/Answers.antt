@@ -29,11 +29,11 @@ invariant_of-self-2 c =
     let owner = subst (λ (l : List Mark). c.args.owner ≤ last_owner l) (sym c.self.view_is) c.requires.owner in
     let few = subst (λ (l : List Mark). used_of l < most_of l) (sym c.self.view_is) c.requires.few in
     rw (c.in_ok-make_room.ensures.entries, c.push_reserved.ensures.items, c.in_ok-make_room.ensures.marks, c.in_ok-reserve.ensures.traffic, c.note_claim.ensures)
-    (claimed s.scenario s.most s.history.entries s.stored.items s.net.traffic s.notes.items s.places s.room s.spare _ _ _ _ _ _ _ c.args.owner c.args.outs c.in-Some.room c.self.invariant owner few
+    (claimed s.scenario s.most s.store.history.entries s.store.stored.items s.net.traffic s.notes.items s.places s.room s.store.spare _ _ _ _ _ _ _ c.args.owner c.args.outs c.in-Some.room c.self.invariant owner few
     (search rules) (search rules) (search rules) (search rules) (search rules) (omega arith))
 
 pub returns-clause-ok : goal.returns-clause-ok
 returns-clause-ok c =
     let s = c.self.inside in
     rw (c.in_ok-make_room.ensures.entries, c.push_reserved.ensures.items, c.in_ok-make_room.ensures.marks)
-    (marks_claimed s.scenario s.most s.history.entries s.stored.items c.args.owner c.args.outs ∙ ap (λ (l : List Mark). l ++ mark.Place c.args.owner c.args.outs ∷ []) c.self.view_is)
+    (marks_claimed s.scenario s.most s.store.history.entries s.store.stored.items c.args.owner c.args.outs ∙ ap (λ (l : List Mark). l ++ mark.Place c.args.owner c.args.outs ∷ []) c.self.view_is)

@@ -29,12 +29,12 @@ invariant_of-self-2 c =
     let few = subst (λ (l : List Mark). used_of l + c.args.count ≤ most_of l) (sym c.self.view_is) c.requires.few in
     let marks = c.in_ok-make_room.ensures.mark in
     let capacity = c.push_places.ensures.capacity in
-    rw (c.in_ok-make_room.ensures.entries, c.push_places.ensures.marks, c.in_ok-make_room.ensures.marks, c.note_claim.ensures, c.from.ensures)
-    (placed s.scenario s.most s.history.entries s.stored.items s.net.traffic s.notes.items s.places s.room s.spare _ _ _ _ _ _ c.args.owner c.args.count c.self.invariant owner few
+    rw (c.push_places.ensures.history, c.push_places.ensures.spare, c.in_ok-make_room.ensures.entries, c.push_places.ensures.marks, c.in_ok-make_room.ensures.marks, c.note_claim.ensures, c.from.ensures)
+    (placed s.scenario s.most s.store.history.entries s.store.stored.items s.net.traffic s.notes.items s.places s.room s.store.spare _ _ _ _ _ _ c.args.owner c.args.count c.self.invariant owner few
     c.in_ok-make_room.ensures.entry c.in_ok-make_room.ensures.known (omega (arith, marks, capacity)))
 
 pub returns-clause-ok : goal.returns-clause-ok
 returns-clause-ok c =
     let s = c.self.inside in
-    rw (c.in_ok-make_room.ensures.entries, c.push_places.ensures.marks, c.in_ok-make_room.ensures.marks)
-    (marks_placed s.scenario s.most s.history.entries s.stored.items c.args.owner c.args.count ∙ ap (λ (l : List Mark). l ++ places_for c.args.owner c.args.count) c.self.view_is)
+    rw (c.push_places.ensures.history, c.in_ok-make_room.ensures.entries, c.push_places.ensures.marks, c.in_ok-make_room.ensures.marks)
+    (marks_placed s.scenario s.most s.store.history.entries s.store.stored.items c.args.owner c.args.count ∙ ap (λ (l : List Mark). l ++ places_for c.args.owner c.args.count) c.self.view_is)
