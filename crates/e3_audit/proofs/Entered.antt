@@ -12,9 +12,9 @@ use Rattle.e3_types.specs.declared.messages.Packet.{Packet}
 use Rattle.e3_types.specs.declared.records.Record.{Record}
 use Rattle.e3_types.specs.declared.scenarios.Scenario.{Scenario}
 use Rattle.e3_types.specs.declared.transactions.Txn.{Txn}
-use Rattle.e3_items.specs.Bindings.{bound_behind, nothing_bound}
-use Rattle.e3_items.specs.Inputs.{input_with}
-use Rattle.e3_items.proofs.ByName.{inputs_are}
+use Rattle.e3_readings.specs.Bindings.{bound_behind, nothing_bound}
+use Rattle.e3_readings.specs.Inputs.{input_with}
+use Rattle.e3_readings.proofs.ByName.{inputs_are}
 use Rattle.e3_judge.specs.Checks.{same_round}
 use Rattle.e3_judge.specs.Equal.{is_some, same_input, same_list, same_packet, same_record, same_told}
 use Rattle.e3_judge.proofs.Anys.{decides_where}
@@ -29,7 +29,7 @@ use Rattle.e3_site.specs.StandsFor.{PlansStep, StandsFor, StandsOn, StandsStill}
 use Rattle.e3_world.specs.Items.{binding_by, due_round, input_of, is_delivery, is_up_at, items_through, plan_of, turn_of}
 use Rattle.e3_world.specs.Legal.{Guard, IsDelivery, IsDue, IsLine, entry_of, first_pending, made_by, numbered}
 use Rattle.e3_world.specs.Lives.{incarnation_of}
-use Rattle.e3_world.specs.Moves.{moves_of, plain}
+use Rattle.e3_world.specs.Moves.{moves_of, unnumbered}
 use Rattle.e3_world.specs.Packets.{is_calm, is_line, lines, outs_of, present_items, sent, step_items}
 use Rattle.e3_world.specs.declared.lives.Incarnation.{Incarnation}
 use Rattle.e3_world.specs.declared.lives.SiteStep.{SiteStep}
@@ -110,7 +110,7 @@ goes_on sc h e site seat a new was one owner stays allowed seated lines net seat
 -- a step
 
 -- numbers do not matter to what is numbered
-numbered_plain : (n : ℕ) (ps : List Packet) → numbered n (map plain ps) ≡ numbered n ps
+numbered_plain : (n : ℕ) (ps : List Packet) → numbered n (map unnumbered ps) ≡ numbered n ps
 numbered_plain n [] = refl
 numbered_plain n (p ∷ ps) = ap (λ rest. record p { number = n } ∷ rest) (numbered_plain (suc n) ps)
 

@@ -6,7 +6,7 @@ use Rattle.std.proofs.lemmas.List.Sums.{sum_by-append}
 use Rattle.e3_types.specs.declared.entries.Entry.{Entry}
 use Rattle.e3_types.specs.declared.entries.Input.{Input}
 use Rattle.e3_types.specs.declared.scenarios.Scenario.{Scenario}
-use Rattle.e3_world.specs.Items.{Split, inputs_at, inputs_of, inputs_to, is_delivery, since_line, split_by, taken_at, to_line, turn_of}
+use Rattle.e3_world.specs.Items.{AroundLine, inputs_at, inputs_of, inputs_to, is_delivery, since_line, around_by, taken_at, to_line, turn_of}
 use Rattle.e3_world.specs.Legal.{has_rising, is_rising}
 use Rattle.e3_world.specs.Moves.{own, past_by, past_of}
 use Rattle.e3_world.specs.Packets.{is_line, lines}
@@ -63,11 +63,11 @@ pub since_fresh : (h : List Entry) (e : Entry) → is_line e ≡ true → since_
 since_fresh h e line = ap (λ w. w.since) (split_push h e) ∙ rw line refl
 
 -- a history in two is the history
-in_two : (w : Split) (h : List Entry) → (fold split_by w h).to ++ (fold split_by w h).since ≡ w.to ++ w.since ++ h
+in_two : (w : AroundLine) (h : List Entry) → (fold around_by w h).to ++ (fold around_by w h).since ≡ w.to ++ w.since ++ h
 in_two w [] = sym (append-nil (w.to ++ w.since))
-in_two w (e ∷ h) = in_two (split_by w e) h ∙ ap (λ l. l ++ h) (one (is_line e) refl) ∙ append_assoc (w.to ++ w.since) (e ∷ []) h
+in_two w (e ∷ h) = in_two (around_by w e) h ∙ ap (λ l. l ++ h) (one (is_line e) refl) ∙ append_assoc (w.to ++ w.since) (e ∷ []) h
   where
-    one : (b : Bool) → is_line e ≡ b → (split_by w e).to ++ (split_by w e).since ≡ (w.to ++ w.since) ++ e ∷ []
+    one : (b : Bool) → is_line e ≡ b → (around_by w e).to ++ (around_by w e).since ≡ (w.to ++ w.since) ++ e ∷ []
     one true is = rw is (append-nil (w.to ++ w.since ++ e ∷ []))
     one false is = rw is (sym (append_assoc w.to w.since (e ∷ [])))
 
@@ -79,21 +79,21 @@ to_all h e line =
     sym (append-nil (to_line (h ++ e ∷ []))) ∙ ap (λ l. to_line (h ++ e ∷ []) ++ l) (sym (since_fresh h e line)) ∙ both_parts (h ++ e ∷ [])
 
 -- before the first line
-since_from : (w : Split) (h : List Entry) → lines h ≡ 0 → (fold split_by w h).since ≡ w.since ++ h
+since_from : (w : AroundLine) (h : List Entry) → lines h ≡ 0 → (fold around_by w h).since ≡ w.since ++ h
 since_from w [] none = sym (append-nil w.since)
 since_from w (e ∷ h) none = by (λ v. since_from v h) (is_line e) refl
   where
     rest : lines (e ∷ h) ≡ lines (e ∷ []) + lines h
     rest = sum_by-append _ (e ∷ []) h
 
-    by : ((v : Split) → lines h ≡ 0 → (fold split_by v h).since ≡ v.since ++ h) → (b : Bool) → is_line e ≡ b →
-        (fold split_by w (e ∷ h)).since ≡ w.since ++ e ∷ h
+    by : ((v : AroundLine) → lines h ≡ 0 → (fold around_by v h).since ≡ v.since ++ h) → (b : Bool) → is_line e ≡ b →
+        (fold around_by w (e ∷ h)).since ≡ w.since ++ e ∷ h
     by more true is = absurd (let one : lines (e ∷ []) ≡ 1 = rw is refl in omega (arith, none, rest, one))
     by more false is =
         let later : lines h ≡ 0 = omega (arith, none, rest) in
-        let v : Split = record { to = w.to; since = w.since ++ e ∷ [] } in
-        let same : split_by w e ≡ v = rw is refl in
-        ap (λ u. (fold split_by u h).since) same ∙ more v later ∙ append_assoc w.since (e ∷ []) h
+        let v : AroundLine = record { to = w.to; since = w.since ++ e ∷ [] } in
+        let same : around_by w e ≡ v = rw is refl in
+        ap (λ u. (fold around_by u h).since) same ∙ more v later ∙ append_assoc w.since (e ∷ []) h
 
 pub since_all : (h : List Entry) → lines h ≡ 0 → since_line h ≡ h
 since_all h none = since_from (record { to = []; since = [] }) h none

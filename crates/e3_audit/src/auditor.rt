@@ -38,13 +38,7 @@ impl Auditor {
         if sites > 64 || scenario.loss > 100 || scenario.repeat > 100 - scenario.loss {
             return Ok(None);
         }
-        let net = Net::new(
-            alloc,
-            sites as u32,
-            scenario.luck,
-            scenario.loss,
-            scenario.repeat,
-        )?;
+        let net = Net::of(alloc, scenario)?;
         let seats = seats_of(alloc, sites as usize)?;
         Ok(Some(Auditor {
             lines: 0,

@@ -12,9 +12,9 @@ ghost use Rattle.e3_world.specs.Packets.{is_calm, step_items};
 
 use crate::auditor::Auditor;
 use crate::seat::{Seat, are_done};
-use e3_items::step_items;
 use e3_judge::{Prefix, Same, due_round, is_at, is_calm, is_round};
 use e3_net::Net;
+use e3_readings::step_items;
 use e3_types::{Input, NoMemory, Packet, Scenario, SiteSet, Txn};
 
 /// The packet is the least that waits for this site.

@@ -7,8 +7,8 @@ ghost use Rattle.e3_world.specs.Legal.{is_made, is_through};
 
 use crate::auditor::Auditor;
 use crate::seat::{are_done, have_risen};
-use e3_items::step_items;
 use e3_judge::{Prefix, begins_with_parts, due_round, is_up_at, may_rise, since_line};
+use e3_readings::step_items;
 use e3_types::{Item, NoMemory};
 
 // An item of a group.

@@ -1,14 +1,14 @@
 // The line of the next step.
 ghost use Rattle.std.specs.Prelude.{◌≡◌, ◌≤◌, ◌++◌, ◌∷◌, [], true, false, length, IfOk};
 ghost use Rattle.e3_audit.specs.Seats.{SeatsStand, Stands, line_of};
-ghost use Rattle.e3_items.specs.Bindings.{bound_behind};
+ghost use Rattle.e3_readings.specs.Bindings.{bound_behind};
 ghost use Rattle.e3_world.specs.Items.{plan_of};
 ghost use Rattle.e3_world.specs.Legal.{IsLine};
 
 use crate::auditor::Auditor;
 use crate::seat::Seat;
-use e3_items::{BoundNames, inputs_asked, inputs_to, step_items};
 use e3_judge::{Prefix, is_calm};
+use e3_readings::{BoundNames, inputs_asked, inputs_to, step_items};
 use e3_types::{Input, List, NoMemory};
 use e3_world::Addressed;
 

@@ -11,14 +11,12 @@ use e3_judge::Prefix;
 use e3_types::{Act, Copied, Entry, NoMemory, Packet, Scenario};
 
 impl Auditor {
-    /// Goes on over new parts, where they may come here. They are few, and their guard is read anew.
+    /// Goes on over new parts of the driver's, where they may come here. They are few, and their guard is read anew.
     pub(crate) fn part(&mut self, prefix: &Prefix<'_>, entry: &Entry) -> Result<bool, NoMemory>
-        requires { Stands prefix.now.scenario.now prefix.now.entries.now self.old }
+        requires stands { Stands prefix.now.scenario.now prefix.now.entries.now self.old }
+        requires driver { entry.now.owner ≡ 0 }
         ensures { IfOk result (λ on. on ≡ true → Stands prefix.now.scenario.now (prefix.now.entries.now ++ entry.now ∷ []) self.new) }
     {
-        if entry.owner != 0 {
-            return Ok(false);
-        }
         let may = may_come(prefix, entry)?;
         if !may {
             return Ok(false);

@@ -1,5 +1,5 @@
 // Rises of sites, also those that fail or are missed, and cuts. They are few, and their guards are read anew.
-ghost use Rattle.std.specs.Prelude.{◌≡◌, ◌++◌, ◌∷◌, [], true, IfOk, IfSome, is_none};
+ghost use Rattle.std.specs.Prelude.{◌≡◌, ◌≤◌, ◌++◌, ◌∷◌, [], true, length, IfOk, IfSome, is_none};
 ghost use Rattle.e3_audit.specs.Seats.{IsUp, RoseLast, SeatStands, Stands};
 ghost use Rattle.e3_judge.specs.Checks.{checks, first_failing};
 ghost use Rattle.e3_net.specs.Stands.{is_quiet};
@@ -80,7 +80,7 @@ fn turn(
 }
 
 impl Auditor {
-    /// Goes on over a rise, one that failed or was missed, or a cut, where it may come here.
+    /// Goes on over a rise of a site of the scenario, one that failed or was missed, or a cut, where it may come here.
     pub(crate) fn turn(
         &mut self,
         prefix: &Prefix<'_>,
@@ -88,18 +88,16 @@ impl Auditor {
         entry: &Entry,
     ) -> Result<bool, NoMemory>
         requires stands { Stands prefix.now.scenario.now prefix.now.entries.now self.old }
+        requires some { 1 ≤ entry.now.owner }
+        requires exists { entry.now.owner ≤ length prefix.now.scenario.now.weights }
         requires after { after.now ≡ prefix.now.entries.now ++ entry.now ∷ [] }
         ensures { IfOk result (λ on. on ≡ true → Stands prefix.now.scenario.now after.now self.new) }
     {
-        let owner = entry.owner;
-        if owner < 1 || owner as u64 > prefix.scenario.weights.len() {
-            return Ok(false);
-        }
         let may = may_come(prefix, entry)?;
         if !may {
             return Ok(false);
         }
-        let seat = &mut self.seats[owner as usize - 1];
+        let seat = &mut self.seats[entry.owner as usize - 1];
         let on = turn(prefix, after, entry, seat)?;
         if !on {
             return Ok(false);

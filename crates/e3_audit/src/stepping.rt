@@ -1,6 +1,6 @@
 // A step of a site.
 ghost use Rattle.std.specs.Prelude.{◌≡◌, ◌≤◌, ◌&&◌, ◌++◌, ◌∷◌, [], true, suc, length, IfOk};
-ghost use Rattle.e3_audit.specs.Seats.{BeingStands, SeatStands, Stands};
+ghost use Rattle.e3_audit.specs.Seats.{SeatStands, Stands};
 ghost use Rattle.e3_judge.specs.Equal.{same_list, same_packet, same_record, same_told};
 ghost use Rattle.e3_net.specs.Stands.{behind_input};
 ghost use Rattle.e3_net.specs.Traffic.{sends_all};
@@ -23,14 +23,25 @@ use e3_site::{Plan, Site};
 use e3_types::{Input, List, NoMemory, Packet, Record, Told};
 use std::alloc::Global;
 
-// What a step has is what is planned, its packets numbered behind so many that were sent.
-fn is_as_planned(plan: &Plan, sent: u64, records: &[Record], outs: &[Packet], told: &[Told]) -> bool
-    ensures { result ≡ (same_list same_record records.now plan.now.step.records
-        && same_list same_packet outs.now (numbered (suc sent) plan.now.step.outs) && same_list same_told told.now plan.now.step.told) }
+/// A step as its entry has it, and how many packets were sent before it.
+#[derive(Clone, Copy)]
+pub(crate) struct SeenStep<'a> {
+    pub site: u32,
+    pub sent: u64,
+    pub input: &'a Input,
+    pub records: &'a [Record],
+    pub outs: &'a [Packet],
+    pub told: &'a [Told],
+}
+
+// What the step has is what is planned, its packets numbered behind those that were sent.
+fn is_as_planned(plan: &Plan, step: &SeenStep<'_>) -> bool
+    ensures { result ≡ (same_list same_record step.now.records.now plan.now.step.records
+        && same_list same_packet step.now.outs.now (numbered (suc step.now.sent) plan.now.step.outs) && same_list same_told step.now.told.now plan.now.step.told) }
 {
-    same_list(records, plan.records())
-        && are_numbered(outs, sent, plan.outs())
-        && same_list(told, plan.told())
+    same_list(step.records, plan.records())
+        && are_numbered(step.outs, step.sent, plan.outs())
+        && same_list(step.told, plan.told())
 }
 
 /// What the input makes the site do that this value stands for.
@@ -50,23 +61,14 @@ pub(crate) fn plan_at(
 }
 
 // The site does what it plans, where that is what the step has.
-fn take(
-    up: &mut Site,
-    prefix: &Prefix<'_>,
-    site: u32,
-    sent: u64,
-    input: &Input,
-    records: &[Record],
-    outs: &[Packet],
-    told: &[Told],
-) -> Result<bool, NoMemory>
-    requires stands { StandsFor prefix.now.scenario.now prefix.now.entries.now site up.old }
-    requires sent { sent ≡ length (sent_in prefix.now.entries.now) }
-    ensures made { IfOk result (λ on. on ≡ true → record { owner = site; act = act.Step input.now records.now outs.now told.now } ≡ entry_of prefix.now.scenario.now prefix.now.entries.now site input.now) }
-    ensures stands { IfOk result (λ on. on ≡ true → StandsFor prefix.now.scenario.now (prefix.now.entries.now ++ entry_of prefix.now.scenario.now prefix.now.entries.now site input.now ∷ []) site up.new) }
+fn take(up: &mut Site, prefix: &Prefix<'_>, step: &SeenStep<'_>) -> Result<bool, NoMemory>
+    requires stands { StandsFor prefix.now.scenario.now prefix.now.entries.now step.now.site up.old }
+    requires sent { step.now.sent ≡ length (sent_in prefix.now.entries.now) }
+    ensures made { IfOk result (λ on. on ≡ true → record { owner = step.now.site; act = act.Step step.now.input.now step.now.records.now step.now.outs.now step.now.told.now } ≡ entry_of prefix.now.scenario.now prefix.now.entries.now step.now.site step.now.input.now) }
+    ensures stands { IfOk result (λ on. on ≡ true → StandsFor prefix.now.scenario.now (prefix.now.entries.now ++ entry_of prefix.now.scenario.now prefix.now.entries.now step.now.site step.now.input.now ∷ []) step.now.site up.new) }
 {
-    let plan = plan_at(up, prefix, site, input)?;
-    if !is_as_planned(&plan, sent, records, outs, told) {
+    let plan = plan_at(up, prefix, step.site, step.input)?;
+    if !is_as_planned(&plan, step) {
         return Ok(false);
     }
     up.ready(&plan)?;
@@ -74,51 +76,21 @@ fn take(
     Ok(true)
 }
 
-// The site does so, where it is up.
-fn act(
-    being: &mut Being,
-    prefix: &Prefix<'_>,
-    site: u32,
-    sent: u64,
-    input: &Input,
-    records: &[Record],
-    outs: &[Packet],
-    told: &[Told],
-) -> Result<bool, NoMemory>
-    requires stands { BeingStands prefix.now.scenario.now prefix.now.entries.now site being.old }
-    requires sent { sent ≡ length (sent_in prefix.now.entries.now) }
-    ensures up { IfOk result (λ on. on ≡ true → is_up_at prefix.now.entries.now site ≡ true) }
-    ensures made { IfOk result (λ on. on ≡ true → record { owner = site; act = act.Step input.now records.now outs.now told.now } ≡ entry_of prefix.now.scenario.now prefix.now.entries.now site input.now) }
-    ensures stands { IfOk result (λ on. on ≡ true → BeingStands prefix.now.scenario.now (prefix.now.entries.now ++ entry_of prefix.now.scenario.now prefix.now.entries.now site input.now ∷ []) site being.new) }
+// The site takes the step, where it is up, and what is kept of it goes on.
+fn step_at(seat: &mut Seat, prefix: &Prefix<'_>, step: &SeenStep<'_>) -> Result<bool, NoMemory>
+    requires stands { SeatStands prefix.now.scenario.now prefix.now.entries.now step.now.site seat.old }
+    requires sent { step.now.sent ≡ length (sent_in prefix.now.entries.now) }
+    ensures up { IfOk result (λ on. on ≡ true → is_up_at prefix.now.entries.now step.now.site ≡ true) }
+    ensures made { IfOk result (λ on. on ≡ true → record { owner = step.now.site; act = act.Step step.now.input.now step.now.records.now step.now.outs.now step.now.told.now } ≡ entry_of prefix.now.scenario.now prefix.now.entries.now step.now.site step.now.input.now) }
+    ensures stands { IfOk result (λ on. on ≡ true → SeatStands prefix.now.scenario.now (prefix.now.entries.now ++ entry_of prefix.now.scenario.now prefix.now.entries.now step.now.site step.now.input.now ∷ []) step.now.site seat.new) }
 {
-    match being {
-        Being::Up(up) => take(up, prefix, site, sent, input, records, outs, told),
-        Being::Down => Ok(false),
-    }
-}
-
-// The site takes a step, and what is kept of it goes on.
-fn step_at(
-    seat: &mut Seat,
-    prefix: &Prefix<'_>,
-    site: u32,
-    sent: u64,
-    input: &Input,
-    records: &[Record],
-    outs: &[Packet],
-    told: &[Told],
-) -> Result<bool, NoMemory>
-    requires stands { SeatStands prefix.now.scenario.now prefix.now.entries.now site seat.old }
-    requires sent { sent ≡ length (sent_in prefix.now.entries.now) }
-    ensures up { IfOk result (λ on. on ≡ true → is_up_at prefix.now.entries.now site ≡ true) }
-    ensures made { IfOk result (λ on. on ≡ true → record { owner = site; act = act.Step input.now records.now outs.now told.now } ≡ entry_of prefix.now.scenario.now prefix.now.entries.now site input.now) }
-    ensures stands { IfOk result (λ on. on ≡ true → SeatStands prefix.now.scenario.now (prefix.now.entries.now ++ entry_of prefix.now.scenario.now prefix.now.entries.now site input.now ∷ []) site seat.new) }
-{
-    let being = &mut seat.being;
-    if !act(being, prefix, site, sent, input, records, outs, told)? {
+    let Being::Up(up) = &mut seat.being else {
+        return Ok(false);
+    };
+    if !take(up, prefix, step)? {
         return Ok(false);
     }
-    seat.note(input)?;
+    seat.note(step.input)?;
     Ok(true)
 }
 
@@ -161,28 +133,24 @@ impl Auditor {
     pub(crate) fn step(
         &mut self,
         prefix: &Prefix<'_>,
-        site: u32,
-        input: &Input,
-        records: &[Record],
-        outs: &[Packet],
-        told: &[Told],
+        step: &SeenStep<'_>,
     ) -> Result<bool, NoMemory>
         requires stands { Stands prefix.now.scenario.now prefix.now.entries.now self.old }
-        requires some { 1 ≤ site }
-        requires exists { site ≤ length prefix.now.scenario.now.weights }
+        requires some { 1 ≤ step.now.site }
+        requires exists { step.now.site ≤ length prefix.now.scenario.now.weights }
+        requires sent { step.now.sent ≡ length (sent_in prefix.now.entries.now) }
         ensures { IfOk result (λ on. on ≡ true →
-            Stands prefix.now.scenario.now (prefix.now.entries.now ++ record { owner = site; act = act.Step input.now records.now outs.now told.now } ∷ []) self.new) }
+            Stands prefix.now.scenario.now (prefix.now.entries.now ++ record { owner = step.now.site; act = act.Step step.now.input.now step.now.records.now step.now.outs.now step.now.told.now } ∷ []) self.new) }
     {
-        let due = self.input_is_due(prefix, site, input)?;
+        let due = self.input_is_due(prefix, step.site, step.input)?;
         if !due {
             return Ok(false);
         }
-        let sent = self.net.sent();
-        let seat = &mut self.seats[site as usize - 1];
-        if !step_at(seat, prefix, site, sent, input, records, outs, told)? {
+        let seat = &mut self.seats[step.site as usize - 1];
+        if !step_at(seat, prefix, step)? {
             return Ok(false);
         }
-        pass(prefix.alloc, &mut self.net, input, outs)?;
+        pass(prefix.alloc, &mut self.net, step.input, step.outs)?;
         Ok(true)
     }
 }

@@ -1,12 +1,13 @@
 // A walk over a history, entry by entry.
-ghost use Rattle.std.specs.Prelude.{◌≡◌, ◌++◌, ◌∷◌, [], true, IfOk};
+ghost use Rattle.std.specs.Prelude.{◌≡◌, ◌≤◌, ◌++◌, ◌∷◌, [], true, length, IfOk};
 ghost use Rattle.e3_audit.specs.Seats.{Stands};
 ghost use Rattle.e3_audit.specs.Walks.{IsWalked};
-ghost use Rattle.e3_items.specs.Bindings.{bound_behind};
+ghost use Rattle.e3_readings.specs.Bindings.{bound_behind};
 
 use crate::auditor::Auditor;
-use e3_items::{BoundNames, bind, nothing_bound};
+use crate::stepping::SeenStep;
 use e3_judge::Prefix;
+use e3_readings::{BoundNames, bind, nothing_bound};
 use e3_types::{Act, Entry, NoMemory, Scenario};
 use std::alloc::Global;
 
@@ -19,6 +20,75 @@ pub(crate) struct Walked {
 }
 
 impl Auditor {
+    // Goes on over an entry of the driver, where it is seen to be legal.
+    fn enter_by_driver(
+        &mut self,
+        prefix: &Prefix<'_>,
+        binding: &BoundNames,
+        entry: &Entry,
+    ) -> Result<bool, NoMemory>
+        requires stands { Stands prefix.now.scenario.now prefix.now.entries.now self.old }
+        requires driver { entry.now.owner ≡ 0 }
+        requires bound { binding.now ≡ bound_behind prefix.now.scenario.now prefix.now.entries.now }
+        ensures { IfOk result (λ on. on ≡ true → Stands prefix.now.scenario.now (prefix.now.entries.now ++ entry.now ∷ []) self.new) }
+    {
+        match &entry.act {
+            Act::Line { number } => self.line(prefix, binding, *number),
+            Act::Drop { packet } => Ok(self.lose(prefix, *packet)),
+            Act::Parts { .. } => self.part(prefix, entry),
+            _ => Ok(false),
+        }
+    }
+
+    // Goes on over an entry of a site of the scenario, where it is seen to be legal.
+    fn enter_by_site(
+        &mut self,
+        prefix: &Prefix<'_>,
+        entry: &Entry,
+        after: &[Entry],
+    ) -> Result<bool, NoMemory>
+        requires stands { Stands prefix.now.scenario.now prefix.now.entries.now self.old }
+        requires some { 1 ≤ entry.now.owner }
+        requires exists { entry.now.owner ≤ length prefix.now.scenario.now.weights }
+        requires after { after.now ≡ prefix.now.entries.now ++ entry.now ∷ [] }
+        ensures { IfOk result (λ on. on ≡ true → Stands prefix.now.scenario.now (prefix.now.entries.now ++ entry.now ∷ []) self.new) }
+    {
+        let site = entry.owner;
+        let sent = self.net.sent();
+        match &entry.act {
+            Act::Step {
+                input,
+                records,
+                outs,
+                told,
+            } => self.step(
+                prefix,
+                &SeenStep {
+                    site,
+                    sent,
+                    input,
+                    records: records.as_slice(),
+                    outs: outs.as_slice(),
+                    told: told.as_slice(),
+                },
+            ),
+            Act::Fall {
+                inputs,
+                records,
+                why,
+            } => self.fall(
+                prefix,
+                entry,
+                site,
+                inputs.as_slice(),
+                records.as_slice(),
+                *why,
+            ),
+            Act::Line { .. } | Act::Drop { .. } | Act::Parts { .. } => Ok(false),
+            _ => self.turn(prefix, after, entry),
+        }
+    }
+
     // Goes on over an entry, where it is seen to be legal.
     fn enter(
         &mut self,
@@ -32,58 +102,13 @@ impl Auditor {
         requires bound { binding.now ≡ bound_behind prefix.now.scenario.now prefix.now.entries.now }
         ensures { IfOk result (λ on. on ≡ true → Stands prefix.now.scenario.now (prefix.now.entries.now ++ entry.now ∷ []) self.new) }
     {
-        let owner = entry.owner;
-        match &entry.act {
-            Act::Line { number } => {
-                if owner != 0 {
-                    return Ok(false);
-                }
-                self.line(prefix, binding, *number)
-            }
-            Act::Step {
-                input,
-                records,
-                outs,
-                told,
-            } => {
-                if owner < 1 || owner as u64 > prefix.scenario.weights.len() {
-                    return Ok(false);
-                }
-                self.step(
-                    prefix,
-                    owner,
-                    input,
-                    records.as_slice(),
-                    outs.as_slice(),
-                    told.as_slice(),
-                )
-            }
-            Act::Fall {
-                inputs,
-                records,
-                why,
-            } => {
-                if owner < 1 || owner as u64 > prefix.scenario.weights.len() {
-                    return Ok(false);
-                }
-                self.fall(
-                    prefix,
-                    owner,
-                    inputs.as_slice(),
-                    records.as_slice(),
-                    *why,
-                    entry,
-                )
-            }
-            Act::Drop { packet } => {
-                if owner != 0 {
-                    return Ok(false);
-                }
-                Ok(self.lose(prefix, *packet))
-            }
-            Act::Parts { .. } => self.part(prefix, entry),
-            _ => self.turn(prefix, after, entry),
+        if entry.owner == 0 {
+            return self.enter_by_driver(prefix, binding, entry);
         }
+        if entry.owner as u64 > prefix.scenario.weights.len() {
+            return Ok(false);
+        }
+        self.enter_by_site(prefix, entry, after)
     }
 }
 

@@ -23,7 +23,7 @@ use Rattle.e3_world.specs.declared.lives.Made.{Made}
 use Rattle.e3_world.specs.Given.{IsGiven}
 use Rattle.e3_world.specs.Items.{is_up_at, began_in}
 use Rattle.e3_world.specs.Legal.{Guard, IsLegal, IsDue, AreDue, numbered, made_by, entry_of}
-use Rattle.e3_world.specs.Moves.{Move, Tail, Stepped, own, past_of, moves_of, log_by, log_of, open_tail, plain, plain_input}
+use Rattle.e3_world.specs.Moves.{Move, Tail, Stepped, own, past_of, moves_of, log_by, log_of, open_tail, unnumbered, unnumbered_input}
 use Rattle.e3_world.specs.Packets.{sent, outs_of}
 use Rattle.e3_world.proofs.Guards.{guard_step}
 use Rattle.e3_world.proofs.InTrail.{pending_sent}
@@ -149,7 +149,7 @@ step_records_suit sc h site i records outs events given legal = each_by (SuitsLo
     k = h ++ record { owner = site; act = Step i records outs events } ∷ []
 
     m : Move
-    m = record { site = site; did = Stepped (record { input = plain_input i; records = records; outs = map plain outs; told = events }) }
+    m = record { site = site; did = Stepped (record { input = unnumbered_input i; records = records; outs = map unnumbered outs; told = events }) }
 
     tail_part : List Record
     tail_part = tail_records (open_tail sc (h ++ record { owner = site; act = Step i records outs events } ∷ []) site)
@@ -173,7 +173,7 @@ fall_records_suit sc h site inputs records given legal guard = each_by (SuitsLog
     k : List Entry
     k = h ++ record { owner = site; act = Fall inputs records Fault } ∷ []
 
-    tail : open_tail sc (h ++ record { owner = site; act = Fall inputs records Fault } ∷ []) site ≡ Some (record { inputs = map plain_input inputs; records = records })
+    tail : open_tail sc (h ++ record { owner = site; act = Fall inputs records Fault } ∷ []) site ≡ Some (record { inputs = map unnumbered_input inputs; records = records })
     tail = ap (λ l. (past_of sc site l).tail) (own_same site h e (eq-eqb site site refl)) ∙ ap (λ w. w.tail) (past_push sc site (own site h) e)
 
 -- a fall

@@ -4,7 +4,7 @@ ghost use Rattle.e3_check.specs.Findings.{finding_text, illegal_text, legal_text
 
 use crate::checking::Finding;
 use e3_judge::Breach;
-use e3_lines::{push_line_end, push_number, push_text};
+use e3_lines::{push_labelled, push_text};
 use e3_scenario::fault_line;
 use e3_trace::TraceFault;
 use e3_types::{List, NoMemory};
@@ -25,8 +25,7 @@ fn legal_text(alloc: Global, count: u64, whole: bool) -> Result<List<u8>, NoMemo
     ensures { IfOk result (λ text. text ≡ legal_text count whole) }
 {
     let mut text = List::new(alloc);
-    push_text(&mut text, "legal ")?;
-    push_number(&mut text, count)?;
+    push_labelled(&mut text, "legal ", count)?;
     push_whole(&mut text, whole)?;
     push_text(&mut text, "\n")?;
     Ok(text)
@@ -37,8 +36,7 @@ fn illegal_text(alloc: Global, breach: Breach) -> Result<List<u8>, NoMemory>
     ensures { IfOk result (λ text. text ≡ illegal_text breach) }
 {
     let mut text = List::new(alloc);
-    push_text(&mut text, "illegal ")?;
-    push_number(&mut text, breach.at)?;
+    push_labelled(&mut text, "illegal ", breach.at)?;
     push_text(&mut text, " ")?;
     push_text(&mut text, breach.guard.word())?;
     push_text(&mut text, "\n")?;
@@ -52,8 +50,7 @@ fn trace_text(alloc: Global, fault: TraceFault) -> Result<List<u8>, NoMemory>
     let mut text = List::new(alloc);
     match fault {
         TraceFault::Line { at } => {
-            push_text(&mut text, "refused trace ")?;
-            push_number(&mut text, at)?;
+            push_labelled(&mut text, "refused trace ", at)?;
             push_text(&mut text, "\n")?;
         }
         TraceFault::TooLong => push_text(&mut text, "refused trace too-long\n")?,

@@ -1,8 +1,4 @@
 // Why records could not be read.
-ghost use Rattle.std.specs.Prelude.{◌≡◌};
-ghost use Rattle.e3_codec.specs.declared.faults.Fault.TheVariants.{NoMemory as Wanting};
-
-use e3_types::NoMemory;
 
 /// Why a field could not be read.
 #[derive(Clone, Copy, Debug, PartialEq, Eq)]
@@ -13,14 +9,6 @@ pub enum Fault {
     NoMemory,
 }
 
-impl From<NoMemory> for Fault {
-    ghost from_gives = { λ _ e. e ≡ Wanting };
-
-    fn from(_e: NoMemory) -> Fault {
-        Fault::NoMemory
-    }
-}
-
 /// Why a list of records could not be read.
 #[derive(Clone, Copy, Debug, PartialEq, Eq)]
 pub enum RecordFault {
@@ -28,14 +16,4 @@ pub enum RecordFault {
     Bad { at: u64 },
     /// Memory ran out.
     NoMemory,
-}
-
-impl From<NoMemory> for RecordFault {
-    ghost use Rattle.e3_codec.specs.declared.faults.RecordFault.TheVariants as faults;
-
-    ghost from_gives = { λ _ e. e ≡ faults.NoMemory };
-
-    fn from(_e: NoMemory) -> RecordFault {
-        RecordFault::NoMemory
-    }
 }

@@ -4,7 +4,7 @@ ghost use Rattle.std.specs.Prelude.{◌≡◌, ◌++◌, length, if◌then◌els
 ghost use Rattle.std.specs.Int.{w16, w32, w64};
 ghost use Rattle.e3_types.specs.Sites.{bits_of};
 ghost use Rattle.e3_types.specs.Spelling.{high_first, u8, u16, u32, spell_name, spell_val, spell_txn, spell_dir};
-ghost use Rattle.e3_codec.specs.Reader.{Gives, number_at, byte_at};
+ghost use Rattle.e3_codec.specs.Reader.{Gives, number_at, byte_at, text_at};
 ghost use Rattle.e3_codec.specs.Reading.{u32_at, txn_at, dir_at, is_name, name_at, val_at};
 
 use crate::faults::Fault;
@@ -16,12 +16,10 @@ pub fn u32_at(bytes: &[u8]) -> Result<(u32, &[u8]), Fault>
     ensures gives { Gives (λ x. (x.0, x.1.now)) result (u32_at bytes.now) }
     ensures sure { IfErr result (λ e. e ≡ Fault.Bad) }
 {
-    if bytes.len() < 4 {
-        return Err(Fault::Bad);
+    match bytes.split_first_chunk::<4>() {
+        Some((front, rest)) => Ok((u32::from_be_bytes(*front), rest)),
+        None => Err(Fault::Bad),
     }
-    let (front, rest) = bytes.split_at(4);
-    let number = u32::from_be_bytes([front[0], front[1], front[2], front[3]]);
-    Ok((number, rest))
 }
 
 #[tactic(auto, unfolding(crate::specs::Reader::number_at))]
@@ -29,12 +27,10 @@ fn u16_at(bytes: &[u8]) -> Result<(u16, &[u8]), Fault>
     ensures gives { Gives (λ x. (x.0, x.1.now)) result (number_at w16 bytes.now) }
     ensures sure { IfErr result (λ e. e ≡ Fault.Bad) }
 {
-    if bytes.len() < 2 {
-        return Err(Fault::Bad);
+    match bytes.split_first_chunk::<2>() {
+        Some((front, rest)) => Ok((u16::from_be_bytes(*front), rest)),
+        None => Err(Fault::Bad),
     }
-    let (front, rest) = bytes.split_at(2);
-    let number = u16::from_be_bytes([front[0], front[1]]);
-    Ok((number, rest))
 }
 
 #[tactic(auto, unfolding(crate::specs::Reader::number_at))]
@@ -42,14 +38,10 @@ fn u64_at(bytes: &[u8]) -> Result<(u64, &[u8]), Fault>
     ensures gives { Gives (λ x. (x.0, x.1.now)) result (number_at w64 bytes.now) }
     ensures sure { IfErr result (λ e. e ≡ Fault.Bad) }
 {
-    if bytes.len() < 8 {
-        return Err(Fault::Bad);
+    match bytes.split_first_chunk::<8>() {
+        Some((front, rest)) => Ok((u64::from_be_bytes(*front), rest)),
+        None => Err(Fault::Bad),
     }
-    let (front, rest) = bytes.split_at(8);
-    let number = u64::from_be_bytes([
-        front[0], front[1], front[2], front[3], front[4], front[5], front[6], front[7],
-    ]);
-    Ok((number, rest))
 }
 
 /// One byte.
@@ -94,6 +86,18 @@ pub fn dir_at(bytes: &[u8]) -> Result<(Dir, &[u8]), Fault>
     }
 }
 
+// So many bytes.
+#[tactic(auto, unfolding(crate::specs::Reader::text_at))]
+fn text_at(count: usize, bytes: &[u8]) -> Result<(&[u8], &[u8]), Fault>
+    ensures gives { Gives (λ x. (x.0.now, x.1.now)) result (text_at count bytes.now) }
+    ensures sure { IfErr result (λ e. e ≡ Fault.Bad) }
+{
+    if bytes.len() < count {
+        return Err(Fault::Bad);
+    }
+    Ok(bytes.split_at(count))
+}
+
 // The name of these bytes, if they are one.
 fn name_of(text: &[u8]) -> Option<Name>
     ensures { result ≡ (if is_name text.now then Some text.now else None) }
@@ -102,17 +106,13 @@ fn name_of(text: &[u8]) -> Option<Name>
 }
 
 /// A name.
-#[tactic(auto, unfolding(crate::specs::Reading::name_at, crate::specs::Reader::text_at))]
+#[tactic(auto, unfolding(crate::specs::Reading::name_at))]
 pub fn name_at(bytes: &[u8]) -> Result<(Name, &[u8]), Fault>
     ensures gives { Gives (λ x. (x.0, x.1.now)) result (name_at bytes.now) }
     ensures sure { IfErr result (λ e. e ≡ Fault.Bad) }
 {
     let (len, rest) = u8_at(bytes)?;
-    let len = len as usize;
-    if rest.len() < len {
-        return Err(Fault::Bad);
-    }
-    let (text, rest) = rest.split_at(len);
+    let (text, rest) = text_at(len as usize, rest)?;
     match name_of(text) {
         Some(name) => Ok((name, rest)),
         None => Err(Fault::Bad),
@@ -120,17 +120,13 @@ pub fn name_at(bytes: &[u8]) -> Result<(Name, &[u8]), Fault>
 }
 
 /// A value.
-#[tactic(auto, unfolding(crate::specs::Reading::val_at, crate::specs::Reader::text_at))]
+#[tactic(auto, unfolding(crate::specs::Reading::val_at))]
 pub fn val_at(bytes: &[u8]) -> Result<(Val, &[u8]), Fault>
     ensures gives { Gives (λ x. (x.0, x.1.now)) result (val_at bytes.now) }
     ensures sure { IfErr result (λ e. e ≡ Fault.Bad) }
 {
     let (len, rest) = u16_at(bytes)?;
-    let len = len as usize;
-    if rest.len() < len {
-        return Err(Fault::Bad);
-    }
-    let (text, rest) = rest.split_at(len);
+    let (text, rest) = text_at(len as usize, rest)?;
     match Val::new(text) {
         Some(val) => Ok((val, rest)),
         None => Err(Fault::Bad),

@@ -38,7 +38,9 @@ fn times<T: Field + Drop>(
     let mut rest = bytes;
     for _ in 0..count {
         let (field, after) = T::read(site, rest)?;
-        fields.push(field)?;
+        let Ok(()) = fields.push(field) else {
+            return Err(Fault::NoMemory);
+        };
         rest = after;
     }
     Ok((fields, rest))

@@ -116,7 +116,9 @@ fn all_records(alloc: Global, site: u32, bytes: &[u8]) -> Result<List<Record>, R
     while !rest.is_empty() {
         match next_record(alloc, site, rest) {
             Ok((record, after)) => {
-                records.push(record)?;
+                let Ok(()) = records.push(record) else {
+                    return Err(RecordFault::NoMemory);
+                };
                 rest = after;
             }
             Err(Fault::Bad) => {

@@ -11,7 +11,8 @@ use Rattle.e3_world.specs.Moves.{Move, Past, Tail, Placed, own, recorded, log_by
 use Rattle.e3_world.specs.Serial.{order_in}
 use Rattle.e3_world.proofs.Pushes.{past_push}
 use Rattle.e3_world.proofs.Readings.{own_same}
-use Rattle.e3_judge.specs.Added.{placed_at, added_by, last_vote}
+use Rattle.e3_readings.specs.Places.{placed_at}
+use Rattle.e3_judge.specs.Added.{added_by, last_vote}
 
 -- the moves that an entry makes
 abbrev made : Scenario → List Entry → Entry → List Move

@@ -5,7 +5,7 @@ use Rattle.std.proofs.Math.ListN.{drop_of_length-le}
 use Rattle.std.proofs.lemmas.Grind.{common_steps}
 use Rattle.std.proofs.lemmas.List.{take-append-le, take-append-drop, drop-append-le}
 use Rattle.e3_types.specs.declared.entries.Entry.{Entry}
-use Rattle.e3_world.specs.Items.{Split, split_by, split_of}
+use Rattle.e3_world.specs.Items.{AroundLine, around_by, around_line}
 use Rattle.e3_world.specs.Packets.{is_line}
 use Rattle.e3_world.proofs.Readings.{split_push}
 
@@ -22,7 +22,7 @@ joined end i h low few =
     ap (λ l. l ++ drop end (take i h)) (sym (front_of_front end i h low few)) ∙ take-append-drop end (take i h)
 
 -- a history in two: so many entries, and those behind them up to another place
-abbrev pub split_at : ℕ → ℕ → List Entry → Split
+abbrev pub split_at : ℕ → ℕ → List Entry → AroundLine
 split_at end i h = record { to = take end h; since = drop end (take i h) }
 
 abbrev pub next_end : Bool → ℕ → ℕ → ℕ
@@ -32,7 +32,7 @@ nothing_behind : (i : ℕ) (h : List Entry) → i ≤ length h → drop i (take 
 nothing_behind i h few = drop_of_length-le (take i h) (let l : length (take i h) ≡ i = length_front i h few in omega (arith, l))
 
 by_kind : (h : List Entry) (end i : ℕ) (x : Entry) → end ≤ i → i < length h → take (suc i) h ≡ take i h ++ x ∷ [] → (b : Bool) → is_line x ≡ b →
-    split_by (split_at end i h) x ≡ split_at (next_end b end i) (suc i) h
+    around_by (split_at end i h) x ≡ split_at (next_end b end i) (suc i) h
 by_kind h end i x low few one true is =
     let all : take end h ++ drop end (take i h) ≡ take i h = joined end i h low (omega (arith, few)) in
     rw (is, all, sym one, nothing_behind (suc i) h (omega (arith, few))) refl
@@ -42,10 +42,10 @@ by_kind h end i x low few one false is =
     rw (is, one, more) refl
 
 pub split_next : (h : List Entry) (end i : ℕ) (x : Entry) → end ≤ i → i < length h → x ≡ get_or h i x →
-    split_of (take i h) ≡ split_at end i h → split_of (take (suc i) h) ≡ split_at (next_end (is_line x) end i) (suc i) h
+    around_line (take i h) ≡ split_at end i h → around_line (take (suc i) h) ≡ split_at (next_end (is_line x) end i) (suc i) h
 split_next h end i x low few is was =
     let one : take (suc i) h ≡ take i h ++ x ∷ [] = take-suc h i x few ∙ ap (λ y. take i h ++ y ∷ []) (sym is) in
-    ap split_of one ∙ split_push (take i h) x ∙ ap (λ w. split_by w x) was
+    ap around_line one ∙ split_push (take i h) x ∙ ap (λ w. around_by w x) was
     ∙ by_kind h end i x low few one (is_line x) refl
 
 pub end_within : (b : Bool) (end i : ℕ) → end ≤ i → next_end b end i ≤ suc i

@@ -1,5 +1,5 @@
 -- What an entry adds to the records of all logs, and what a vote adds to the order.
-use Rattle.std.specs.Prelude.{◌&&◌, ◌∷◌, [], if◌then◌else◌, not, ℕ, List, map, drop, length}
+use Rattle.std.specs.Prelude.{◌&&◌, ◌∷◌, [], if◌then◌else◌, not, ℕ, List, drop, length}
 use Rattle.e3_types.specs.declared.entries.Entry.{Entry}
 use Rattle.e3_types.specs.declared.records.Record.{Record}
 use Rattle.e3_types.specs.declared.records.Record.TheVariants as log
@@ -7,10 +7,6 @@ use Rattle.e3_types.specs.declared.scenarios.Scenario.{Scenario}
 use Rattle.e3_types.specs.declared.transactions.Txn.{Txn}
 use Rattle.e3_world.specs.Moves.{Placed, log_of}
 use Rattle.e3_world.specs.Serial.{is_committed, votes_among}
-
--- records of a site's log
-abbrev pub placed_at : ℕ → List Record → List Placed
-placed_at site records = map (λ r. record { site = site; entered = r }) records
 
 -- what the log of a site has more with an entry than before it
 abbrev pub added_by : Scenario → List Entry → List Entry → ℕ → List Record

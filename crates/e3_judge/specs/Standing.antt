@@ -9,7 +9,7 @@ use Rattle.e3_types.specs.declared.records.Record.{Record}
 use Rattle.e3_types.specs.declared.scenarios.Scenario.{Scenario}
 use Rattle.e3_world.specs.declared.lives.Incarnation.{Incarnation}
 use Rattle.e3_world.specs.Lives.{present_log}
-use Rattle.e3_world.specs.Moves.{Tail, left_by, plain, plain_input, rise_records}
+use Rattle.e3_world.specs.Moves.{Tail, left_by, unnumbered, unnumbered_input, rise_records}
 use Rattle.e3_judge.specs.declared.sites.Standing.{Standing}
 
 -- before the first entry
@@ -20,7 +20,7 @@ nothing_yet = record { incarnation = record { rose = []; since = [] }; tail = No
 abbrev pub stepped : Incarnation → Input → List Record → List Packet → List Told → Incarnation
 stepped now i records outs events = record {
   rose = now.rose;
-  since = now.since ++ record { input = plain_input i; records = records; outs = map plain outs; told = events } ∷ [];
+  since = now.since ++ record { input = unnumbered_input i; records = records; outs = map unnumbered outs; told = events } ∷ [];
 }
 
 -- the incarnation behind a tail: one that is kept goes into the log with which the site rises
@@ -33,7 +33,7 @@ abbrev pub standing_by : Scenario → ℕ → Standing → Act → Standing
 standing_by sc site was (Step i records outs events) =
     record { incarnation = stepped was.incarnation i records outs events; tail = was.tail }
 standing_by sc site was (Fall inputs records why) =
-    record { incarnation = was.incarnation; tail = left_by why (map plain_input inputs) records }
+    record { incarnation = was.incarnation; tail = left_by why (map unnumbered_input inputs) records }
 standing_by sc site was (Rise kept inc) = risen (kept_in was.incarnation kept was.tail)
   where
     risen : Incarnation → Standing

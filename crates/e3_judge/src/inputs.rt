@@ -13,7 +13,7 @@ use crate::{
     due_round, entry_of, has_delivery, inputs_at, is_calm, items_through, made_by, pending,
     present_items, turn_of,
 };
-use e3_items::RecoveryRound;
+use e3_readings::RecoveryRound;
 use e3_types::{Input, List, NoMemory, Packet, Record, SiteSet, Txn};
 
 // Nothing is here.

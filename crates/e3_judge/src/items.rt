@@ -7,7 +7,7 @@ ghost use Rattle.e3_world.specs.Progress.{up_behind};
 
 use crate::counts::add;
 use crate::packets::{is_line, present_items};
-use e3_items::{bind, inputs_asked, inputs_to, nothing_bound};
+use e3_readings::{bind, inputs_asked, inputs_to, nothing_bound};
 use e3_types::{Act, Entry, Input, List, NoMemory, Scenario};
 use e3_world::Addressed;
 use std::alloc::Global;
@@ -50,7 +50,7 @@ pub fn to_line(history: &[Entry]) -> &[Entry]
 }
 
 // What the present step asks of the sites, in the order of its items.
-#[tactic(auto, using(e3_items::proofs::ByName::inputs_are))]
+#[tactic(auto, using(e3_readings::proofs::ByName::inputs_are))]
 fn plan_of(alloc: Global, sc: &Scenario, history: &[Entry]) -> Result<List<Addressed>, NoMemory>
     ensures { IfOk result (λ plan. plan ≡ plan_of sc.now history.now) }
 {

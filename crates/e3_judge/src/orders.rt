@@ -6,8 +6,8 @@ ghost use Rattle.e3_world.specs.Moves.{all_records, trail_of};
 ghost use Rattle.e3_world.specs.Serial.{commit_order, is_commit, is_committed, votes_among};
 ghost use Rattle.e3_judge.specs.Added.{last_vote};
 
-use crate::places::{SiteRecord, placed};
-use e3_readings::is_vote;
+use crate::places::placed;
+use e3_readings::{SiteRecord, is_vote};
 use e3_types::{Dir, List, NoMemory, Record, Scenario, Txn};
 use e3_world::History;
 use std::alloc::Global;

@@ -6,7 +6,7 @@ ghost use Rattle.e3_world.specs.Packets.{fate_of, is_calm, is_line, lines, outs_
 
 use crate::counts::add;
 use crate::steps::is_site;
-use e3_items::step_items;
+use e3_readings::step_items;
 use e3_types::{Act, Entry, Input, Item, List, NoMemory, Packet, Scenario, SiteSet};
 use e3_world::fate_word;
 use std::alloc::Global;

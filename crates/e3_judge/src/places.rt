@@ -1,35 +1,13 @@
 // The records of all logs, in the order of their places.
-ghost use Rattle.std.specs.Prelude.{◌≡◌, ◌++◌, ◌∷◌, [], drop, length, map, IfOk, OnOk};
-ghost use Rattle.e3_world.specs.Moves.{all_records, log_of, trail_of};
-ghost use Rattle.e3_judge.specs.Added.{placed_at, added_by};
+ghost use Rattle.std.specs.Prelude.{◌≡◌, ◌++◌, drop, IfOk, OnOk};
+ghost use Rattle.e3_readings.specs.Places.{placed_at};
+ghost use Rattle.e3_world.specs.Moves.{all_records, trail_of};
+ghost use Rattle.e3_judge.specs.Added.{added_by};
 
 use crate::log_at;
-use e3_types::{Copied, Entry, List, NoMemory, Record, Scenario};
+use e3_readings::{SiteRecord, add_placed};
+use e3_types::{Entry, List, NoMemory, Record, Scenario};
 use std::alloc::Global;
-use std::marker::Model;
-
-// A record, and the site whose log has it.
-#[derive(Drop)]
-pub(crate) struct SiteRecord {
-    site: u32,
-    entered: Record,
-}
-
-impl Model for SiteRecord {
-    ghost use Rattle.e3_world.specs.Moves.{Placed};
-
-    ghost Value = { Placed };
-
-    ghost view = { λ a. record { site = a.site; entered = a.entered } };
-}
-
-impl SiteRecord {
-    pub(crate) fn entered(&self) -> &Record
-        ensures { result.now ≡ self.now.entered }
-    {
-        &self.entered
-    }
-}
 
 // The records of a log behind the first so many.
 fn behind(log: &[Record], had: usize) -> &[Record]
@@ -39,23 +17,6 @@ fn behind(log: &[Record], had: usize) -> &[Record]
         return &[];
     }
     &log[had..]
-}
-
-fn add_placed(
-    alloc: Global,
-    out: &mut List<SiteRecord>,
-    site: u32,
-    records: &[Record],
-) -> Result<(), NoMemory>
-    ensures { OnOk result (out.new ≡ out.old ++ placed_at site records.now) }
-{
-    for r in records {
-        out.push(SiteRecord {
-            site,
-            entered: r.copied(alloc)?,
-        })?;
-    }
-    Ok(())
 }
 
 // Adds what the last of these entries adds to the log of its owner: what that log has more than before the entry.

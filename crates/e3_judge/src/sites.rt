@@ -1,7 +1,7 @@
 // What a site's own entries come to: its incarnation and its open tail, and so its log.
 ghost use Rattle.std.specs.Prelude.{◌≡◌, ◌++◌, ◌∷◌, [], Option, Some, None, fold, map, suc, length, ◌+◌, IfOk};
 ghost use Rattle.e3_world.specs.Lives.{incarnation_of, present_log};
-ghost use Rattle.e3_world.specs.Moves.{left_by, log_of, moves_of, open_tail, own, plain, plain_input, rise_records};
+ghost use Rattle.e3_world.specs.Moves.{left_by, log_of, moves_of, open_tail, own, unnumbered, unnumbered_input, rise_records};
 ghost use Rattle.e3_world.specs.Legal.{entry_of, made_by, numbered};
 ghost use Rattle.e3_world.specs.Packets.{sent};
 ghost use Rattle.e3_judge.specs.Standing.{kept_in, nothing_yet, standing_by, stepped};
@@ -9,7 +9,7 @@ ghost use Rattle.e3_judge.specs.Standing.{kept_in, nothing_yet, standing_by, ste
 use crate::copies::add_copies;
 use crate::counts::add;
 use crate::packets::sent_count;
-use e3_plain::{plain, plain_input, step_of};
+use e3_plain::{step_of, unnumbered, unnumbered_input};
 use e3_readings::{present_log, rows_at};
 use e3_types::{Act, Copied, Entry, Input, List, NoMemory, Packet, Record, Scenario, Told, Why};
 use e3_world::{Incarnation, Made, SiteStep};
@@ -38,48 +38,24 @@ struct Standing {
     tail: Option<Tail>,
 }
 
-fn plain_outs(alloc: Global, outs: &[Packet]) -> Result<List<Packet>, NoMemory>
-    ensures { IfOk result (λ out. out ≡ map plain outs.now) }
+fn unnumbered_outs(alloc: Global, outs: &[Packet]) -> Result<List<Packet>, NoMemory>
+    ensures { IfOk result (λ out. out ≡ map unnumbered outs.now) }
 {
     let mut out = List::new(alloc);
     for p in outs {
-        out.push(plain(p))?;
+        out.push(unnumbered(p))?;
     }
     Ok(out)
 }
 
-fn plain_inputs(alloc: Global, inputs: &[Input]) -> Result<List<Input>, NoMemory>
-    ensures { IfOk result (λ out. out ≡ map plain_input inputs.now) }
+fn unnumbered_inputs(alloc: Global, inputs: &[Input]) -> Result<List<Input>, NoMemory>
+    ensures { IfOk result (λ out. out ≡ map unnumbered_input inputs.now) }
 {
     let mut out = List::new(alloc);
     for i in inputs {
-        out.push(plain_input(i))?;
+        out.push(unnumbered_input(i))?;
     }
     Ok(out)
-}
-
-// A step is one more since the rise.
-fn stepped(
-    alloc: Global,
-    now: Incarnation,
-    input: &Input,
-    records: &List<Record>,
-    outs: &List<Packet>,
-    told: &List<Told>,
-) -> Result<Incarnation, NoMemory>
-    ensures { IfOk result (λ i. i ≡ stepped now input.now records.now outs.now told.now) }
-{
-    let mut since = now.since;
-    since.push(SiteStep {
-        input: plain_input(input),
-        records: records.copied(alloc)?,
-        outs: plain_outs(alloc, outs.as_slice())?,
-        told: told.copied(alloc)?,
-    })?;
-    Ok(Incarnation {
-        rose: now.rose,
-        since,
-    })
 }
 
 // The log at present.
@@ -145,7 +121,7 @@ fn left_by(why: Why, inputs: List<Input>, records: List<Record>) -> Option<Tail>
     }
 }
 
-// A step.
+// A step is one more since the rise.
 fn with_step(
     alloc: Global,
     was: Standing,
@@ -156,8 +132,19 @@ fn with_step(
 ) -> Result<Standing, NoMemory>
     ensures { IfOk result (λ s. s ≡ record { incarnation = stepped was.incarnation input.now records.now outs.now told.now; tail = was.tail }) }
 {
+    let now = was.incarnation;
+    let mut since = now.since;
+    since.push(SiteStep {
+        input: unnumbered_input(input),
+        records: records.copied(alloc)?,
+        outs: unnumbered_outs(alloc, outs.as_slice())?,
+        told: told.copied(alloc)?,
+    })?;
     Ok(Standing {
-        incarnation: stepped(alloc, was.incarnation, input, records, outs, told)?,
+        incarnation: Incarnation {
+            rose: now.rose,
+            since,
+        },
         tail: was.tail,
     })
 }
@@ -170,9 +157,9 @@ fn with_fall(
     records: &List<Record>,
     why: Why,
 ) -> Result<Standing, NoMemory>
-    ensures { IfOk result (λ s. s ≡ record { incarnation = was.incarnation; tail = left_by why (map plain_input inputs.now) records.now }) }
+    ensures { IfOk result (λ s. s ≡ record { incarnation = was.incarnation; tail = left_by why (map unnumbered_input inputs.now) records.now }) }
 {
-    let inputs = plain_inputs(alloc, inputs.as_slice())?;
+    let inputs = unnumbered_inputs(alloc, inputs.as_slice())?;
     let records = records.copied(alloc)?;
     Ok(Standing {
         incarnation: was.incarnation,
@@ -194,41 +181,6 @@ fn risen_with(
     rise_records(alloc, sc, site, inc, log.as_slice())
 }
 
-// A rise, with the log at present.
-fn with_rise(
-    alloc: Global,
-    sc: &Scenario,
-    site: u32,
-    inc: u32,
-    now: Incarnation,
-) -> Result<Standing, NoMemory>
-    ensures { IfOk result (λ s. s ≡ record { incarnation = record { rose = present_log now ++ rise_records sc.now site inc (present_log now); since = [] }; tail = None }) }
-{
-    let records = risen_with(alloc, sc, site, inc, &now)?;
-    Ok(Standing {
-        incarnation: risen(alloc, &now, records.as_slice())?,
-        tail: None,
-    })
-}
-
-// A rise that fails, with the log at present.
-fn with_rise_fall(
-    alloc: Global,
-    sc: &Scenario,
-    site: u32,
-    inc: u32,
-    why: Why,
-    now: Incarnation,
-) -> Result<Standing, NoMemory>
-    ensures { IfOk result (λ s. s ≡ record { incarnation = now; tail = left_by why [] (rise_records sc.now site inc (present_log now)) }) }
-{
-    let records = risen_with(alloc, sc, site, inc, &now)?;
-    Ok(Standing {
-        incarnation: now,
-        tail: left_by(why, List::new(alloc), records),
-    })
-}
-
 fn standing_by(
     alloc: Global,
     sc: &Scenario,
@@ -239,6 +191,22 @@ fn standing_by(
     ensures { IfOk result (λ s. s ≡ standing_by sc.now site was act.now) }
 {
     match act {
+        Act::Rise { kept, inc } => {
+            let now = kept_in(alloc, was, *kept)?;
+            let records = risen_with(alloc, sc, site, *inc, &now)?;
+            Ok(Standing {
+                incarnation: risen(alloc, &now, records.as_slice())?,
+                tail: None,
+            })
+        }
+        Act::RiseFall { kept, inc, why } => {
+            let now = kept_in(alloc, was, *kept)?;
+            let records = risen_with(alloc, sc, site, *inc, &now)?;
+            Ok(Standing {
+                incarnation: now,
+                tail: left_by(*why, List::new(alloc), records),
+            })
+        }
         Act::Step {
             input,
             records,
@@ -250,14 +218,6 @@ fn standing_by(
             records,
             why,
         } => with_fall(alloc, was, inputs, records, *why),
-        Act::Rise { kept, inc } => {
-            let now = kept_in(alloc, was, *kept)?;
-            with_rise(alloc, sc, site, *inc, now)
-        }
-        Act::RiseFall { kept, inc, why } => {
-            let now = kept_in(alloc, was, *kept)?;
-            with_rise_fall(alloc, sc, site, *inc, *why, now)
-        }
         _ => Ok(was),
     }
 }

@@ -9,6 +9,7 @@ use crate::items::{is_up_at, items_through, since_line};
 use crate::packets::{lines, pending, present_items};
 use crate::rounds::due_round;
 use e3_types::{Act, Copied, Entry, Item, List, NoMemory, Scenario, SiteSet};
+use e3_world::all_sites;
 use std::alloc::Global;
 
 /// The owner is a site of the scenario.
@@ -17,21 +18,6 @@ pub fn is_site(sc: &Scenario, owner: u32) -> bool
     ensures { result ≡ has_site (all_sites sc.now) owner }
 {
     1 <= owner && owner as u64 <= sc.weights.len()
-}
-
-// All sites of the scenario. More than 64 are no set of sites, and no memory is enough for them.
-fn all_sites(alloc: Global, sc: &Scenario) -> Result<SiteSet, NoMemory>
-    ensures { IfOk result (λ sites. sites ≡ all_sites sc.now) }
-{
-    let count = sc.weights.len();
-    if count > 64 {
-        return Err(NoMemory);
-    }
-    let mut sites = List::new(alloc);
-    for s in 0..count {
-        sites.push(s as u32 + 1)?;
-    }
-    SiteSet::of(sites.as_slice()).ok_or(NoMemory)
 }
 
 /// The parts that a split or a merge asks for. A merge of more than 64 sites, which no set of sites can name, is said to
@@ -47,7 +33,7 @@ pub fn parts_due(
         [Item::Split { parts }, ..] => Ok(Some(parts.copied(alloc)?)),
         [Item::Merge, ..] => {
             let mut parts = List::new(alloc);
-            parts.push(all_sites(alloc, sc)?)?;
+            parts.push(all_sites(sc)?)?;
             Ok(Some(parts))
         }
         _ => Ok(None),

@@ -1,15 +1,13 @@
 // The lines of what happens at a site.
 ghost use Rattle.std.specs.Prelude.{◌≡◌, ◌++◌, OnOk};
 ghost use Rattle.std.specs.List.{flat_map};
-ghost use Rattle.e3_lines.specs.Events.{answer_text, ended_text, doom_text, refusal_text, block_text, verdict_text, began_text, op_text, election_text, died_text, refused_text, kept_state_text, told_of, of_txn, told_text, told_line, why_text, at_site, rise_line, failure_text, failed_rise_line, fall_line, word_line, act_lines, entry_lines};
+ghost use Rattle.e3_lines.specs.Events.{answer_text, ended_text, doom_text, refusal_text, block_text, verdict_text, op_text, election_text, told_of, of_txn, told_text, told_line, why_text, at_site, rise_line, failure_text, failed_rise_line, fall_line, word_line, act_lines, entry_lines};
 
 use crate::texts::{
-    push_dir, push_kept, push_labelled, push_line_end, push_number, push_sites, push_state,
-    push_text, push_txn,
+    push_dir, push_kept, push_labelled, push_line, push_line_end, push_number, push_sites,
+    push_state, push_text, push_txn,
 };
-use e3_types::{
-    Act, Answer, Dir, Entry, List, NoMemory, Refusal, SiteSet, State, Told, Txn, Verdict, Why,
-};
+use e3_types::{Act, Answer, Dir, Entry, List, NoMemory, Refusal, Told, Txn, Verdict, Why};
 
 /// Adds the answer to an operation.
 #[tactic(auto, unfolding(crate::specs::Events::answer_text))]
@@ -40,12 +38,9 @@ fn push_ended(out: &mut List<u8>, dir: Dir) -> Result<(), NoMemory>
 fn push_doom(out: &mut List<u8>, site: u32, had: u32, now: u32) -> Result<(), NoMemory>
     ensures { OnOk result (out.new ≡ out.old ++ doom_text site had now) }
 {
-    push_text(out, "doomed ")?;
-    push_number(out, site as u64)?;
-    push_text(out, " ")?;
-    push_number(out, had as u64)?;
-    push_text(out, " ")?;
-    push_number(out, now as u64)
+    push_labelled(out, "doomed ", site as u64)?;
+    push_labelled(out, " ", had as u64)?;
+    push_labelled(out, " ", now as u64)
 }
 
 #[tactic(auto, unfolding(crate::specs::Events::refusal_text))]
@@ -54,10 +49,7 @@ fn push_refusal(out: &mut List<u8>, refusal: Refusal) -> Result<(), NoMemory>
 {
     match refusal {
         Refusal::NoTxn => push_text(out, "no-transaction"),
-        Refusal::Busy { op } => {
-            push_text(out, "busy ")?;
-            push_number(out, op as u64)
-        }
+        Refusal::Busy { op } => { push_labelled(out, "busy ", op as u64) }
         Refusal::Over { dir } => {
             push_text(out, "over ")?;
             push_dir(out, dir)
@@ -67,10 +59,7 @@ fn push_refusal(out: &mut List<u8>, refusal: Refusal) -> Result<(), NoMemory>
             push_txn(out, &older)
         }
         Refusal::Doomed { site, had, now } => push_doom(out, site, had, now),
-        Refusal::TooLate { attempt } => {
-            push_text(out, "too-late ")?;
-            push_number(out, attempt as u64)
-        }
+        Refusal::TooLate { attempt } => { push_labelled(out, "too-late ", attempt as u64) }
     }
 }
 
@@ -78,10 +67,8 @@ fn push_refusal(out: &mut List<u8>, refusal: Refusal) -> Result<(), NoMemory>
 fn push_block(out: &mut List<u8>, have: u64, total: u64) -> Result<(), NoMemory>
     ensures { OnOk result (out.new ≡ out.old ++ block_text have total) }
 {
-    push_text(out, "block ")?;
-    push_number(out, have)?;
-    push_text(out, " of ")?;
-    push_number(out, total)
+    push_labelled(out, "block ", have)?;
+    push_labelled(out, " of ", total)
 }
 
 #[tactic(auto, unfolding(crate::specs::Events::verdict_text))]
@@ -97,70 +84,48 @@ fn push_verdict(out: &mut List<u8>, verdict: Verdict) -> Result<(), NoMemory>
     }
 }
 
-#[tactic(auto, unfolding(crate::specs::Events::began_text))]
-fn push_began(out: &mut List<u8>, sites: SiteSet) -> Result<(), NoMemory>
-    ensures { OnOk result (out.new ≡ out.old ++ began_text sites) }
-{
-    push_text(out, "began ")?;
-    push_sites(out, sites)
-}
-
 #[tactic(auto, unfolding(crate::specs::Events::op_text))]
 fn push_op(out: &mut List<u8>, n: u32, answer: &Answer) -> Result<(), NoMemory>
     ensures { OnOk result (out.new ≡ out.old ++ op_text n answer.now) }
 {
-    push_text(out, "op ")?;
-    push_number(out, n as u64)?;
+    push_labelled(out, "op ", n as u64)?;
     push_text(out, " ")?;
     push_answer(out, answer)
-}
-
-#[tactic(auto, unfolding(crate::specs::Events::died_text))]
-fn push_died(out: &mut List<u8>, older: &Txn) -> Result<(), NoMemory>
-    ensures { OnOk result (out.new ≡ out.old ++ died_text older.now) }
-{
-    push_text(out, "died for ")?;
-    push_txn(out, older)
-}
-
-#[tactic(auto, unfolding(crate::specs::Events::refused_text))]
-fn push_refused(out: &mut List<u8>, refusal: Refusal) -> Result<(), NoMemory>
-    ensures { OnOk result (out.new ≡ out.old ++ refused_text refusal) }
-{
-    push_text(out, "refused ")?;
-    push_refusal(out, refusal)
-}
-
-#[tactic(auto, unfolding(crate::specs::Events::kept_state_text))]
-fn push_kept_state(out: &mut List<u8>, state: State) -> Result<(), NoMemory>
-    ensures { OnOk result (out.new ≡ out.old ++ kept_state_text state) }
-{
-    push_text(out, "kept ")?;
-    push_state(out, state)
 }
 
 #[tactic(auto, unfolding(crate::specs::Events::election_text))]
 fn push_election(out: &mut List<u8>, n: u32, verdict: Verdict) -> Result<(), NoMemory>
     ensures { OnOk result (out.new ≡ out.old ++ election_text n verdict) }
 {
-    push_text(out, "election ")?;
-    push_number(out, n as u64)?;
+    push_labelled(out, "election ", n as u64)?;
     push_text(out, " ")?;
     push_verdict(out, verdict)
 }
 
-#[tactic(auto, unfolding(crate::specs::Events::told_of))]
+#[tactic(auto, unfolding(crate::specs::Events::told_of, crate::specs::Events::began_text, crate::specs::Events::died_text, crate::specs::Events::refused_text, crate::specs::Events::kept_state_text))]
 fn push_told_of(out: &mut List<u8>, told: &Told) -> Result<(), NoMemory>
     ensures { OnOk result (out.new ≡ out.old ++ told_of told.now) }
 {
     match told {
-        Told::Began { txn } => push_began(out, txn.sites),
+        Told::Began { txn } => {
+            push_text(out, "began ")?;
+            push_sites(out, txn.sites)
+        }
         Told::Op { n, answer, .. } => push_op(out, *n, answer),
         Told::Ended { dir, .. } => push_ended(out, *dir),
-        Told::Died { older, .. } => push_died(out, older),
+        Told::Died { older, .. } => {
+            push_text(out, "died for ")?;
+            push_txn(out, older)
+        }
         Told::Doomed { site, had, now, .. } => push_doom(out, *site, *had, *now),
-        Told::Refused { refusal, .. } => push_refused(out, *refusal),
-        Told::Kept { state, .. } => push_kept_state(out, *state),
+        Told::Refused { refusal, .. } => {
+            push_text(out, "refused ")?;
+            push_refusal(out, *refusal)
+        }
+        Told::Kept { state, .. } => {
+            push_text(out, "kept ")?;
+            push_state(out, *state)
+        }
         Told::Verdict { n, verdict, .. } => push_election(out, *n, *verdict),
     }
 }
@@ -225,10 +190,8 @@ pub fn push_why(out: &mut List<u8>, why: Why) -> Result<(), NoMemory>
     match why {
         Why::Fault => push_text(out, "fault"),
         Why::Full { need, room } => {
-            push_text(out, "full ")?;
-            push_number(out, need)?;
-            push_text(out, " of ")?;
-            push_number(out, room)
+            push_labelled(out, "full ", need)?;
+            push_labelled(out, " of ", room)
         }
     }
 }
@@ -238,8 +201,7 @@ fn push_rise(out: &mut List<u8>, site: u32, inc: u32, kept: bool) -> Result<(), 
     ensures { OnOk result (out.new ≡ out.old ++ rise_line site inc kept) }
 {
     push_at_site(out, site)?;
-    push_text(out, "rose ")?;
-    push_number(out, inc as u64)?;
+    push_labelled(out, "rose ", inc as u64)?;
     push_kept(out, kept)?;
     push_line_end(out)
 }
@@ -286,8 +248,7 @@ pub fn push_word_line(out: &mut List<u8>, site: u32, word: &str) -> Result<(), N
     ensures { OnOk result (out.new ≡ out.old ++ word_line site word.now) }
 {
     push_at_site(out, site)?;
-    push_text(out, word)?;
-    push_line_end(out)
+    push_line(out, word)
 }
 
 /// Adds the lines of an entry.

@@ -1,7 +1,7 @@
 // The inputs of sites, as a trace has them.
 ghost use Rattle.std.specs.Prelude.{◌≡◌, ◌++◌, OnOk};
 ghost use Rattle.e3_lines.specs.Texts.{txn_text};
-ghost use Rattle.e3_lines.specs.Inputs.{operation_text, begin_input, do_input, elect_input, input_text};
+ghost use Rattle.e3_lines.specs.Inputs.{operation_text, do_input, elect_input, input_text};
 
 use crate::{push_key, push_labelled, push_sites, push_text, push_txn};
 use e3_types::{Input, List, NoMemory, Op, SiteSet, Txn};
@@ -23,14 +23,6 @@ pub(crate) fn push_operation(out: &mut List<u8>, op: &Op) -> Result<(), NoMemory
             out.extend(val.bytes())
         }
     }
-}
-
-#[tactic(auto, unfolding(crate::specs::Inputs::begin_input))]
-fn push_begin(out: &mut List<u8>, sites: SiteSet) -> Result<(), NoMemory>
-    ensures { OnOk result (out.new ≡ out.old ++ begin_input sites) }
-{
-    push_text(out, "begin ")?;
-    push_sites(out, sites)
 }
 
 #[tactic(auto, unfolding(crate::specs::Inputs::do_input))]
@@ -61,12 +53,15 @@ fn push_word_and_txn(out: &mut List<u8>, word: &str, txn: &Txn) -> Result<(), No
 }
 
 /// Adds an input.
-#[tactic(auto, unfolding(crate::specs::Inputs::input_text))]
+#[tactic(auto, unfolding(crate::specs::Inputs::input_text, crate::specs::Inputs::begin_input))]
 pub(crate) fn push_input(out: &mut List<u8>, input: &Input) -> Result<(), NoMemory>
     ensures { OnOk result (out.new ≡ out.old ++ input_text input.now) }
 {
     match input {
-        Input::Begin { sites } => push_begin(out, *sites),
+        Input::Begin { sites } => {
+            push_text(out, "begin ")?;
+            push_sites(out, *sites)
+        }
         Input::Do { txn, op } => push_do(out, txn, op),
         Input::Commit { txn } => push_word_and_txn(out, "commit ", txn),
         Input::Cancel { txn } => push_word_and_txn(out, "cancel ", txn),

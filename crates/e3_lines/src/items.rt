@@ -1,11 +1,11 @@
 // The lines of a step's items, spelled as in the scenario.
 ghost use Rattle.std.specs.Prelude.{◌≡◌, ◌++◌, OnOk};
 ghost use Rattle.std.specs.List.{flat_map};
-ghost use Rattle.e3_lines.specs.Items.{begin_text, read_text, write_text, expire_text, elect_text, stop_text, recover_text, split_text, item_text, item_line};
+ghost use Rattle.e3_lines.specs.Items.{begin_text, read_text, write_text, expire_text, elect_text, stop_text, item_text, item_line};
 
+use crate::listed::{Lines, push_each};
 use crate::texts::{
-    push_key, push_labelled, push_leave, push_line_end, push_number, push_parts, push_sites,
-    push_text,
+    push_key, push_labelled, push_leave, push_line_end, push_parts, push_sites, push_text,
 };
 use e3_types::{Item, Key, Leave, List, NoMemory, SiteSet};
 
@@ -15,8 +15,7 @@ fn push_begin(out: &mut List<u8>, name: &[u8], site: u32, sites: SiteSet) -> Res
 {
     push_text(out, "begin ")?;
     out.extend(name)?;
-    push_text(out, " ")?;
-    push_number(out, site as u64)?;
+    push_labelled(out, " ", site as u64)?;
     push_text(out, " ")?;
     push_sites(out, sites)
 }
@@ -47,8 +46,7 @@ fn push_write(out: &mut List<u8>, name: &[u8], key: &Key, val: &[u8]) -> Result<
 fn push_expire(out: &mut List<u8>, site: u32, name: &[u8]) -> Result<(), NoMemory>
     ensures { OnOk result (out.new ≡ out.old ++ expire_text site name.now) }
 {
-    push_text(out, "expire ")?;
-    push_number(out, site as u64)?;
+    push_labelled(out, "expire ", site as u64)?;
     push_text(out, " ")?;
     out.extend(name)
 }
@@ -57,8 +55,7 @@ fn push_expire(out: &mut List<u8>, site: u32, name: &[u8]) -> Result<(), NoMemor
 fn push_elect(out: &mut List<u8>, site: u32, name: &[u8], sites: SiteSet) -> Result<(), NoMemory>
     ensures { OnOk result (out.new ≡ out.old ++ elect_text site name.now sites) }
 {
-    push_text(out, "elect ")?;
-    push_number(out, site as u64)?;
+    push_labelled(out, "elect ", site as u64)?;
     push_text(out, " ")?;
     out.extend(name)?;
     push_text(out, " ")?;
@@ -69,10 +66,8 @@ fn push_elect(out: &mut List<u8>, site: u32, name: &[u8], sites: SiteSet) -> Res
 fn push_stop(out: &mut List<u8>, site: u32, count: u32, leave: Leave) -> Result<(), NoMemory>
     ensures { OnOk result (out.new ≡ out.old ++ stop_text site count leave) }
 {
-    push_text(out, "stop ")?;
-    push_number(out, site as u64)?;
-    push_text(out, " ")?;
-    push_number(out, count as u64)?;
+    push_labelled(out, "stop ", site as u64)?;
+    push_labelled(out, " ", count as u64)?;
     push_text(out, " ")?;
     push_leave(out, leave)
 }
@@ -84,24 +79,8 @@ fn push_word_and_name(out: &mut List<u8>, word: &str, name: &[u8]) -> Result<(),
     out.extend(name)
 }
 
-#[tactic(auto, unfolding(crate::specs::Items::recover_text))]
-fn push_recover(out: &mut List<u8>, sites: SiteSet) -> Result<(), NoMemory>
-    ensures { OnOk result (out.new ≡ out.old ++ recover_text sites) }
-{
-    push_text(out, "recover ")?;
-    push_sites(out, sites)
-}
-
-#[tactic(auto, unfolding(crate::specs::Items::split_text))]
-fn push_split(out: &mut List<u8>, parts: &[SiteSet]) -> Result<(), NoMemory>
-    ensures { OnOk result (out.new ≡ out.old ++ split_text parts.now) }
-{
-    push_text(out, "split ")?;
-    push_parts(out, parts)
-}
-
 /// Adds an item, in the scenario's own words.
-#[tactic(auto, unfolding(crate::specs::Items::item_text))]
+#[tactic(auto, unfolding(crate::specs::Items::item_text, crate::specs::Items::recover_text, crate::specs::Items::split_text))]
 pub fn push_item(out: &mut List<u8>, item: &Item) -> Result<(), NoMemory>
     ensures { OnOk result (out.new ≡ out.old ++ item_text item.now) }
 {
@@ -113,8 +92,14 @@ pub fn push_item(out: &mut List<u8>, item: &Item) -> Result<(), NoMemory>
         Item::Cancel { name } => push_word_and_name(out, "cancel ", name.bytes()),
         Item::Expire { site, name } => push_expire(out, *site, name.bytes()),
         Item::Elect { site, name, sites } => push_elect(out, *site, name.bytes(), *sites),
-        Item::Recover { sites } => push_recover(out, *sites),
-        Item::Split { parts } => push_split(out, parts.as_slice()),
+        Item::Recover { sites } => {
+            push_text(out, "recover ")?;
+            push_sites(out, *sites)
+        }
+        Item::Split { parts } => {
+            push_text(out, "split ")?;
+            push_parts(out, parts.as_slice())
+        }
         Item::Merge => push_text(out, "merge"),
         Item::Crash { site } => push_labelled(out, "crash ", *site as u64),
         Item::Restart { site } => push_labelled(out, "restart ", *site as u64),
@@ -122,21 +107,20 @@ pub fn push_item(out: &mut List<u8>, item: &Item) -> Result<(), NoMemory>
     }
 }
 
-#[tactic(auto, unfolding(crate::specs::Items::item_line))]
-fn push_item_line(out: &mut List<u8>, item: &Item) -> Result<(), NoMemory>
-    ensures { OnOk result (out.new ≡ out.old ++ item_line item.now) }
-{
-    push_text(out, "> ")?;
-    push_item(out, item)?;
-    push_line_end(out)
+impl Lines for Item {
+    ghost lines = { item_line };
+
+    #[tactic(auto, unfolding(crate::specs::Items::item_line))]
+    fn push(&self, out: &mut List<u8>) -> Result<(), NoMemory> {
+        push_text(out, "> ")?;
+        push_item(out, self)?;
+        push_line_end(out)
+    }
 }
 
 /// Adds a line for each item.
 pub fn push_items(out: &mut List<u8>, items: &[Item]) -> Result<(), NoMemory>
     ensures { OnOk result (out.new ≡ out.old ++ flat_map item_line items.now) }
 {
-    for item in items {
-        push_item_line(out, item)?;
-    }
-    Ok(())
+    push_each(out, items)
 }

@@ -1,9 +1,9 @@
 // The messages of sites, as a trace has them.
-ghost use Rattle.std.specs.Prelude.{◌≡◌, ◌++◌, OnOk, codes};
+ghost use Rattle.std.specs.Prelude.{◌≡◌, ◌++◌, OnOk};
 ghost use Rattle.e3_lines.specs.Messages.{txn_and_number, txn_and_call, txn_and_attempt, do_message, done_message, died_message, last_message, report_message, votereq_message, yes_text, vote_message, decide_message, message_text};
 
 use crate::inputs::push_operation;
-use crate::{push_answer, push_dir, push_number, push_state, push_text, push_txn};
+use crate::{push_answer, push_dir, push_labelled, push_state, push_text, push_txn};
 use e3_types::{Answer, Call, Dir, List, Message, NoMemory, Op, State, Txn};
 
 #[tactic(auto, unfolding(crate::specs::Messages::txn_and_number))]
@@ -11,8 +11,7 @@ fn push_txn_and_number(out: &mut List<u8>, txn: &Txn, n: u32) -> Result<(), NoMe
     ensures { OnOk result (out.new ≡ out.old ++ txn_and_number txn.now n) }
 {
     push_txn(out, txn)?;
-    push_text(out, " ")?;
-    push_number(out, n as u64)
+    push_labelled(out, " ", n as u64)
 }
 
 #[tactic(auto, unfolding(crate::specs::Messages::txn_and_call))]
@@ -20,10 +19,8 @@ fn push_txn_and_call(out: &mut List<u8>, txn: &Txn, call: Call) -> Result<(), No
     ensures { OnOk result (out.new ≡ out.old ++ txn_and_call txn.now call) }
 {
     push_txn(out, txn)?;
-    push_text(out, " ")?;
-    push_number(out, call.inc as u64)?;
-    push_text(out, " ")?;
-    push_number(out, call.seq as u64)
+    push_labelled(out, " ", call.inc as u64)?;
+    push_labelled(out, " ", call.seq as u64)
 }
 
 #[tactic(auto, unfolding(crate::specs::Messages::txn_and_attempt))]
@@ -57,8 +54,7 @@ fn push_done(
 {
     push_text(out, "done ")?;
     push_txn_and_number(out, txn, n)?;
-    push_text(out, " ")?;
-    push_number(out, inc as u64)?;
+    push_labelled(out, " ", inc as u64)?;
     push_text(out, " ")?;
     push_answer(out, answer)
 }
@@ -73,21 +69,13 @@ fn push_died(out: &mut List<u8>, txn: &Txn, n: u32, older: &Txn) -> Result<(), N
     push_txn(out, older)
 }
 
-fn push_ask(out: &mut List<u8>, txn: &Txn, call: Call) -> Result<(), NoMemory>
-    ensures { OnOk result (out.new ≡ out.old ++ (codes "ask " ++ txn_and_call txn.now call)) }
-{
-    push_text(out, "ask ")?;
-    push_txn_and_call(out, txn, call)
-}
-
 #[tactic(auto, unfolding(crate::specs::Messages::last_message))]
 fn push_last(out: &mut List<u8>, txn: &Txn, call: Call, elected: u32) -> Result<(), NoMemory>
     ensures { OnOk result (out.new ≡ out.old ++ last_message txn.now call elected) }
 {
     push_text(out, "last ")?;
     push_txn_and_call(out, txn, call)?;
-    push_text(out, " ")?;
-    push_number(out, elected as u64)
+    push_labelled(out, " ", elected as u64)
 }
 
 #[tactic(auto, unfolding(crate::specs::Messages::report_message))]
@@ -104,8 +92,7 @@ fn push_report(
     push_txn_and_number(out, txn, n)?;
     push_text(out, " ")?;
     push_state(out, state)?;
-    push_text(out, " ")?;
-    push_number(out, attempt as u64)
+    push_labelled(out, " ", attempt as u64)
 }
 
 #[tactic(auto, unfolding(crate::specs::Messages::votereq_message))]
@@ -114,8 +101,7 @@ fn push_votereq(out: &mut List<u8>, txn: &Txn, inc: u32, count: u32) -> Result<(
 {
     push_text(out, "votereq ")?;
     push_txn_and_number(out, txn, inc)?;
-    push_text(out, " ")?;
-    push_number(out, count as u64)
+    push_labelled(out, " ", count as u64)
 }
 
 #[tactic(auto, unfolding(crate::specs::Messages::yes_text))]
@@ -182,7 +168,10 @@ pub(crate) fn push_message(out: &mut List<u8>, msg: &Message) -> Result<(), NoMe
             answer,
         } => push_done(out, txn, *n, *inc, answer),
         Message::Died { txn, n, older } => push_died(out, txn, *n, older),
-        Message::Ask { txn, call } => push_ask(out, txn, *call),
+        Message::Ask { txn, call } => {
+            push_text(out, "ask ")?;
+            push_txn_and_call(out, txn, *call)
+        }
         Message::LastElected { txn, call, elected } => push_last(out, txn, *call, *elected),
         Message::Elected { txn, n } => push_word_and_number(out, "elected ", txn, *n),
         Message::Report {

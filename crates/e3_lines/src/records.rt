@@ -4,27 +4,27 @@ ghost use Rattle.std.specs.Fmt.{decimal};
 ghost use Rattle.std.specs.List.{flat_map};
 ghost use Rattle.e3_lines.specs.Records.{row_line, birth_row_line, birth_lines, read_line, write_line, op_line, vote_lines, inc_line, join_line, attempt_line, decision_line, record_lines};
 
-use crate::texts::{push_commas, push_dir, push_line_end, push_number, push_text, push_txn};
+use crate::listed::{Lines, push_each};
+use crate::texts::{push_commas, push_dir, push_labelled, push_line_end, push_text, push_txn};
 use e3_types::{Dir, List, NoMemory, NumOp, Op, Record, Row, Txn};
 
-#[tactic(auto, unfolding(crate::specs::Records::row_line))]
-fn push_row(out: &mut List<u8>, row: &Row) -> Result<(), NoMemory>
-    ensures { OnOk result (out.new ≡ out.old ++ row_line row.now) }
-{
-    out.extend(row.name.bytes())?;
-    push_text(out, " ")?;
-    out.extend(row.val.bytes())?;
-    push_line_end(out)
+impl Lines for Row {
+    ghost lines = { row_line };
+
+    #[tactic(auto, unfolding(crate::specs::Records::row_line))]
+    fn push(&self, out: &mut List<u8>) -> Result<(), NoMemory> {
+        out.extend(self.name.bytes())?;
+        push_text(out, " ")?;
+        out.extend(self.val.bytes())?;
+        push_line_end(out)
+    }
 }
 
 /// Adds a line for each row of a table.
 pub fn push_rows(out: &mut List<u8>, rows: &[Row]) -> Result<(), NoMemory>
     ensures { OnOk result (out.new ≡ out.old ++ flat_map row_line rows.now) }
 {
-    for row in rows {
-        push_row(out, row)?;
-    }
-    Ok(())
+    push_each(out, rows)
 }
 
 #[tactic(auto, unfolding(crate::specs::Records::birth_row_line))]
@@ -33,7 +33,7 @@ fn push_birth_row(out: &mut List<u8>, mark: &str, row: &Row) -> Result<(), NoMem
 {
     push_text(out, mark)?;
     push_text(out, "row ")?;
-    push_row(out, row)
+    row.push(out)
 }
 
 #[tactic(auto, unfolding(crate::specs::Records::birth_lines))]
@@ -47,8 +47,7 @@ fn push_birth(
     ensures { OnOk result (out.new ≡ out.old ++ birth_lines mark.now format weights.now rows.now) }
 {
     push_text(out, mark)?;
-    push_text(out, "birth ")?;
-    push_number(out, format as u64)?;
+    push_labelled(out, "birth ", format as u64)?;
     push_text(out, " ")?;
     push_commas(out, weights)?;
     push_line_end(out)?;
@@ -63,8 +62,7 @@ fn push_read(out: &mut List<u8>, mark: &str, n: u32, name: &[u8]) -> Result<(), 
     ensures { OnOk result (out.new ≡ out.old ++ read_line mark.now n name.now) }
 {
     push_text(out, mark)?;
-    push_text(out, "read ")?;
-    push_number(out, n as u64)?;
+    push_labelled(out, "read ", n as u64)?;
     push_text(out, " ")?;
     out.extend(name)?;
     push_line_end(out)
@@ -81,8 +79,7 @@ fn push_write(
     ensures { OnOk result (out.new ≡ out.old ++ write_line mark.now n name.now val.now) }
 {
     push_text(out, mark)?;
-    push_text(out, "write ")?;
-    push_number(out, n as u64)?;
+    push_labelled(out, "write ", n as u64)?;
     push_text(out, " ")?;
     out.extend(name)?;
     push_text(out, " ")?;
@@ -107,8 +104,7 @@ fn push_vote(out: &mut List<u8>, mark: &str, txn: &Txn, ops: &[NumOp]) -> Result
     push_text(out, mark)?;
     push_text(out, "vote ")?;
     push_txn(out, txn)?;
-    push_text(out, " ")?;
-    push_number(out, ops.len() as u64)?;
+    push_labelled(out, " ", ops.len() as u64)?;
     push_line_end(out)?;
     for op in ops {
         push_op(out, mark, op)?;
@@ -121,8 +117,7 @@ fn push_inc(out: &mut List<u8>, mark: &str, inc: u32) -> Result<(), NoMemory>
     ensures { OnOk result (out.new ≡ out.old ++ inc_line mark.now inc) }
 {
     push_text(out, mark)?;
-    push_text(out, "inc ")?;
-    push_number(out, inc as u64)?;
+    push_labelled(out, "inc ", inc as u64)?;
     push_line_end(out)
 }
 
@@ -133,8 +128,7 @@ fn push_join(out: &mut List<u8>, mark: &str, txn: &Txn, n: u32) -> Result<(), No
     push_text(out, mark)?;
     push_text(out, "join ")?;
     push_txn(out, txn)?;
-    push_text(out, " ")?;
-    push_number(out, n as u64)?;
+    push_labelled(out, " ", n as u64)?;
     push_line_end(out)
 }
 
@@ -145,8 +139,7 @@ fn push_attempt(out: &mut List<u8>, mark: &str, txn: &Txn, n: u32, dir: Dir) -> 
     push_text(out, mark)?;
     push_text(out, "attempt ")?;
     push_txn(out, txn)?;
-    push_text(out, " ")?;
-    push_number(out, n as u64)?;
+    push_labelled(out, " ", n as u64)?;
     push_text(out, " ")?;
     push_dir(out, dir)?;
     push_line_end(out)

@@ -42,12 +42,19 @@ pub fn push_line_end(out: &mut List<u8>) -> Result<(), NoMemory>
     push_text(out, "\n")
 }
 
+/// Adds a line that is this text.
+pub fn push_line(out: &mut List<u8>, text: &str) -> Result<(), NoMemory>
+    ensures { OnOk result (out.new ≡ out.old ++ (text.now ++ line_end)) }
+{
+    push_text(out, text)?;
+    push_line_end(out)
+}
+
 #[tactic(auto, unfolding(crate::specs::Texts::after_comma))]
 fn push_after_comma(out: &mut List<u8>, number: u32) -> Result<(), NoMemory>
     ensures { OnOk result (out.new ≡ out.old ++ after_comma number) }
 {
-    push_text(out, ",")?;
-    push_number(out, number as u64)
+    push_labelled(out, ",", number as u64)
 }
 
 /// Adds numbers with commas between them.
@@ -113,10 +120,8 @@ pub fn push_txn(out: &mut List<u8>, txn: &Txn) -> Result<(), NoMemory>
     ensures { OnOk result (out.new ≡ out.old ++ txn_text txn.now) }
 {
     push_number(out, txn.site as u64)?;
-    push_text(out, ".")?;
-    push_number(out, txn.inc as u64)?;
-    push_text(out, ".")?;
-    push_number(out, txn.seq as u64)
+    push_labelled(out, ".", txn.inc as u64)?;
+    push_labelled(out, ".", txn.seq as u64)
 }
 
 /// Adds a key.
@@ -164,10 +169,7 @@ pub fn push_leave(out: &mut List<u8>, leave: Leave) -> Result<(), NoMemory>
         Leave::None => push_text(out, "none"),
         Leave::Half => push_text(out, "half"),
         Leave::All => push_text(out, "all"),
-        Leave::Junk(byte) => {
-            push_text(out, "junk ")?;
-            push_number(out, byte as u64)
-        }
+        Leave::Junk(byte) => { push_labelled(out, "junk ", byte as u64) }
     }
 }
 

@@ -12,6 +12,7 @@ use Rattle.e3_types.specs.declared.entries.Why.TheVariants.{Fault}
 use Rattle.e3_types.specs.declared.records.Record.{Record}
 use Rattle.e3_types.specs.declared.records.Record.TheVariants as log
 use Rattle.e3_types.specs.declared.scenarios.Scenario.{Scenario}
+use Rattle.e3_readings.specs.Places.{placed_at}
 use Rattle.e3_world.specs.Moves.{Placed, own, birth}
 use Rattle.e3_world.specs.Packets.{all_sites}
 use Rattle.e3_lines.specs.Texts.{line_end}
@@ -33,10 +34,6 @@ no_walk = record { placed = []; tails = []; born = [] }
 -- the records in doubt at a site
 abbrev pub tail_in : ℕ → List (ℕ × List Record) → List Record
 tail_in site tails = unwrap_or (at_number site tails) []
-
--- records of a site's log
-abbrev pub placed_at : ℕ → List Record → List Placed
-placed_at site records = map (λ r. record { site = site; entered = r }) records
 
 -- the log of a site among the records of all logs
 abbrev pub log_in : ℕ → List Placed → List Record

@@ -2,7 +2,6 @@
 #![tactic(auto)]
 
 mod counts;
-mod ends;
 mod keys;
 mod logs;
 mod names;

@@ -1,42 +1,14 @@
 // The records of all logs, gathered in one walk over a history.
 ghost use Rattle.std.specs.Prelude.{◌≡◌, ◌++◌, ◌∷◌, [], OnOk, IfOk, Option};
 ghost use Rattle.e3_world.specs.Moves.{birth};
-ghost use Rattle.e3_report.specs.Walk.{no_walk, tail_in, placed_at, log_in, rise_in, kept_part, doubtful, with_born, and_records, and_tail, and_kept, and_rise, and_failed, walk_act, walk_of};
+ghost use Rattle.e3_report.specs.Walk.{no_walk, tail_in, log_in, rise_in, kept_part, doubtful, with_born, and_records, and_tail, and_kept, and_rise, and_failed, walk_act, walk_of};
 
 use crate::tables::rows_at;
+use e3_readings::{SiteRecord, add_placed};
 use e3_types::{Act, Copied, Entry, List, NoMemory, Record, Scenario, Why};
 use std::alloc::Global;
 use std::collections::{BTreeMap, BTreeSet};
 use std::marker::Model;
-
-/// A record, and the site whose log has it.
-#[derive(Drop)]
-pub(crate) struct SiteRecord {
-    site: u32,
-    entered: Record,
-}
-
-impl Model for SiteRecord {
-    ghost use Rattle.e3_world.specs.Moves.{Placed};
-
-    ghost Value = { Placed };
-
-    ghost view = { λ a. record { site = a.site; entered = a.entered } };
-}
-
-impl SiteRecord {
-    pub(crate) fn site(&self) -> u32
-        ensures { result ≡ self.now.site }
-    {
-        self.site
-    }
-
-    pub(crate) fn entered(&self) -> &Record
-        ensures { result.now ≡ self.now.entered }
-    {
-        &self.entered
-    }
-}
 
 /// The records of all logs in the order of their places, the records that are in doubt at the sites, and the sites whose
 /// logs have records.
@@ -83,23 +55,6 @@ fn rise_in(
     }
     out.push(Record::Inc { inc })?;
     Ok(out)
-}
-
-fn add_placed(
-    alloc: Global,
-    placed: &mut List<SiteRecord>,
-    site: u32,
-    records: &[Record],
-) -> Result<(), NoMemory>
-    ensures { OnOk result (placed.new ≡ placed.old ++ placed_at site records.now) }
-{
-    for r in records {
-        placed.push(SiteRecord {
-            site,
-            entered: r.copied(alloc)?,
-        })?;
-    }
-    Ok(())
 }
 
 fn add_born(born: &mut BTreeSet<u32>, site: u32, records: &[Record]) -> Result<(), NoMemory>

@@ -7,8 +7,8 @@ ghost use Rattle.e3_report.specs.Orders.{with_commit, commits_of, with_vote, las
 ghost use Rattle.e3_report.specs.Report.{txn_line, order_lines};
 
 use crate::keys::TxnSet;
-use crate::logs::SiteRecord;
-use e3_lines::{push_line_end, push_text, push_txn};
+use e3_lines::{push_line, push_line_end, push_txn};
+use e3_readings::SiteRecord;
 use e3_types::{Dir, List, NoMemory, Record, Txn};
 use std::alloc::Global;
 
@@ -102,8 +102,7 @@ fn push_txns(out: &mut List<u8>, txns: &[Txn]) -> Result<(), NoMemory>
 fn push_ordered(out: &mut List<u8>, txns: &[Txn]) -> Result<(), NoMemory>
     ensures { OnOk result (out.new ≡ out.old ++ (codes "order" ++ line_end ++ flat_map txn_line txns.now)) }
 {
-    push_text(out, "order")?;
-    push_line_end(out)?;
+    push_line(out, "order")?;
     push_txns(out, txns)
 }
 

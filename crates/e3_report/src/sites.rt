@@ -7,7 +7,7 @@ ghost use Rattle.e3_world.specs.Moves.{own};
 ghost use Rattle.e3_report.specs.Report.{inc_by, present_inc, site_heading, log_lines};
 
 use crate::tables::table_of;
-use e3_lines::{push_labelled, push_line_end, push_number, push_records, push_rows, push_text};
+use e3_lines::{push_labelled, push_line, push_line_end, push_records, push_rows};
 use e3_types::{Act, Entry, List, NoMemory, Record, Row};
 use std::alloc::Global;
 
@@ -54,8 +54,7 @@ pub(crate) fn push_site_heading(
         }
         None => {
             push_labelled(out, "site ", site)?;
-            push_text(out, " down")?;
-            push_line_end(out)
+            push_line(out, " down")
         }
     }
 }
@@ -64,8 +63,7 @@ pub(crate) fn push_site_heading(
 fn push_logged(out: &mut List<u8>, log: &[Record]) -> Result<(), NoMemory>
     ensures { OnOk result (out.new ≡ out.old ++ (codes "log" ++ line_end ++ flat_map (record_lines []) log.now)) }
 {
-    push_text(out, "log")?;
-    push_line_end(out)?;
+    push_line(out, "log")?;
     push_records(out, "", log)
 }
 
@@ -73,8 +71,7 @@ fn push_logged(out: &mut List<u8>, log: &[Record]) -> Result<(), NoMemory>
 fn push_table(out: &mut List<u8>, table: &[Row]) -> Result<(), NoMemory>
     ensures { OnOk result (out.new ≡ out.old ++ (codes "rows" ++ line_end ++ flat_map row_line table.now)) }
 {
-    push_text(out, "rows")?;
-    push_line_end(out)?;
+    push_line(out, "rows")?;
     push_rows(out, table)
 }
 

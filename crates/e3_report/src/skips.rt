@@ -8,7 +8,7 @@ ghost use Rattle.e3_report.specs.Ups.{up_in};
 use crate::counts::one_more;
 use crate::names::Names;
 use crate::takers::{Taker, taker_of};
-use e3_lines::{push_line_end, push_text, push_word_line};
+use e3_lines::{push_line, push_text, push_word_line};
 use e3_types::{Act, Entry, Input, Item, List, NoMemory};
 use std::alloc::Global;
 use std::collections::BTreeSet;
@@ -84,8 +84,7 @@ fn push_not_begun(out: &mut List<u8>, name: &[u8]) -> Result<(), NoMemory>
 {
     push_text(out, "0: ")?;
     out.extend(name)?;
-    push_text(out, " not begun")?;
-    push_line_end(out)
+    push_line(out, " not begun")
 }
 
 /// Adds a line where an input is skipped.

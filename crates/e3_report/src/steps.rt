@@ -9,7 +9,7 @@ ghost use Rattle.e3_report.specs.Steps.{until_line, site_events, event_lines, st
 use crate::names::{Names, step_items};
 use crate::skips::push_skips;
 use crate::ups::enter_up;
-use e3_lines::{push_entry, push_items, push_labelled, push_line_end, push_text};
+use e3_lines::{push_entry, push_items, push_labelled, push_line, push_line_end};
 use e3_types::{Act, Entry, List, NoMemory, Scenario};
 use std::alloc::Global;
 use std::collections::BTreeSet;
@@ -68,8 +68,7 @@ pub(crate) fn push_start(
 ) -> Result<(), NoMemory>
     ensures { OnOk result (out.new ≡ out.old ++ start_lines scenario.now history.now) }
 {
-    push_text(out, "start")?;
-    push_line_end(out)?;
+    push_line(out, "start")?;
     push_events(out, scenario, until_line(history))
 }
 

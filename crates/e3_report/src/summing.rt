@@ -4,11 +4,11 @@ ghost use Rattle.e3_world.specs.Moves.{all_records, trail_of};
 ghost use Rattle.e3_report.specs.Summary.{is_cut, is_fall, is_rise, is_kind, count_of, committed, aborted, begun, count_line, summary_with, summary_over, summary_of};
 
 use crate::counts::one_more;
-use crate::ends::push_end;
-use crate::logs::{SiteRecord, walk_of};
+use crate::logs::walk_of;
 use crate::orders::commit_order;
 use crate::tallies::{aborted, begun};
-use e3_lines::{push_line_end, push_number, push_text};
+use e3_lines::{push_labelled, push_line, push_line_end, push_text};
+use e3_readings::SiteRecord;
 use e3_types::{Act, Entry, List, NoMemory, Scenario};
 use e3_world::History;
 use std::alloc::Global;
@@ -66,8 +66,7 @@ fn push_count(out: &mut List<u8>, word: &str, number: u64) -> Result<(), NoMemor
     ensures { OnOk result (out.new ≡ out.old ++ count_line word.now number) }
 {
     push_text(out, word)?;
-    push_text(out, " ")?;
-    push_number(out, number)?;
+    push_labelled(out, " ", number)?;
     push_line_end(out)
 }
 
@@ -118,7 +117,7 @@ fn push_summary(
     push_kind(out, "steps", Kind::Step, history)?;
     push_transactions(out, committed, aborted, begun)?;
     push_faults(out, history)?;
-    push_end(out)
+    push_line(out, "end")
 }
 
 fn summary_over(

@@ -6,7 +6,7 @@ ghost use Rattle.e3_report.specs.Tallies.{no_tally, tallied, all_tallied};
 
 use crate::counts::one_more;
 use crate::keys::TxnSet;
-use crate::logs::SiteRecord;
+use e3_readings::SiteRecord;
 use e3_types::{Act, Dir, Entry, NoMemory, Record, Told, Txn};
 use std::alloc::Global;
 use std::marker::Model;

@@ -5,12 +5,12 @@ ghost use Rattle.e3_world.specs.Packets.{all_sites};
 ghost use Rattle.e3_report.specs.Report.{report_without_trace, trace_lines, report_of};
 ghost use Rattle.e3_report.specs.Walk.{site_by, report_by};
 
-use crate::ends::push_end;
-use crate::logs::{SiteRecord, log_in, walk_of};
+use crate::logs::{log_in, walk_of};
 use crate::orders::push_order;
 use crate::sites::{present_inc, push_log, push_site_heading};
 use crate::steps::{push_start, push_steps};
-use e3_lines::push_trace;
+use e3_lines::{push_line, push_trace};
+use e3_readings::SiteRecord;
 use e3_types::{Entry, List, NoMemory, Scenario};
 use e3_world::History;
 use std::alloc::Global;
@@ -64,7 +64,7 @@ fn push_report(
     push_steps(alloc, out, scenario, history)?;
     push_order(alloc, out, placed)?;
     push_all_sites(alloc, out, scenario, history, placed)?;
-    push_end(out)
+    push_line(out, "end")
 }
 
 fn report_alone(alloc: Global, scenario: &Scenario, history: &[Entry]) -> Result<List<u8>, NoMemory>
@@ -83,7 +83,7 @@ fn push_trace_lines(out: &mut List<u8>, history: &[Entry], trace: bool) -> Resul
 {
     if trace {
         push_trace(out, history)?;
-        push_end(out)
+        push_line(out, "end")
     } else {
         Ok(())
     }

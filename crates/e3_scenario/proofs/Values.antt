@@ -1,14 +1,10 @@
 -- The values of an array, as the document has them and as the code goes over them.
-use Rattle.std.proofs.Common.{add-one, ◌≡◌, ℕ, zero, suc, ◌+◌, ◌<◌, true, false, ◌&&◌, List, [], ◌∷◌, length, map, filter, drop, get_or, String, Global, string_bytes, nat_lt, refl, ap, arith}
+use Rattle.std.proofs.Common.{◌≡◌, ℕ, suc, ◌+◌, ◌<◌, ◌&&◌, List, [], ◌∷◌, length, map, drop, get_or, String, Global, string_bytes, refl, ap}
 use Rattle.std.proofs.lemmas.List.{drop_more}
-use Rattle.std.proofs.lemmas.List.Elements.{filter-append}
-use Rattle.std.proofs.lemmas.Bool.Decides.{nat_tests}
 use Rattle.std.specs.List.{list_all}
 use Rattle.toml.specs.declared.value.Value.{Value}
 use Rattle.toml.specs.View.{view, items_of, members_view}
 use Rattle.toml.specs.Data.{Data}
-use Rattle.e3_types.specs.Sets.{with_site}
-use Rattle.e3_world.specs.Packets.{sites_to}
 use Rattle.e3_scenario.specs.Documents.{is_known, keys_known, values_in}
 
 -- the next value
@@ -30,19 +26,3 @@ length_view (value ∷ values) = ap suc (length_view values)
 pub keys_known_keys : (entries : List (String Global × Value)) → keys_known (members_view entries) ≡ list_all (λ (k : String Global). is_known (string_bytes k)) (map (λ e. e.0) entries)
 keys_known_keys [] = refl
 keys_known_keys (e ∷ entries) = ap (λ b. is_known (string_bytes e.0) && b) (keys_known_keys entries)
-
--- all sites up to one, and the next
-below_all : (k s : ℕ) → k < s → filter (λ x. nat_lt x s) (sites_to k) ≡ sites_to k
-below_all zero s h = refl
-below_all (suc k) s h =
-    let here : nat_lt (suc k) s ≡ true = grind (arith, nat_tests) in
-    rw (filter-append (λ x. nat_lt x s) (sites_to k) (suc k ∷ []), below_all k s (omega arith), here) refl
-
-above_none : (k s : ℕ) → k < s → filter (λ x. nat_lt s x) (sites_to k) ≡ []
-above_none zero s h = refl
-above_none (suc k) s h =
-    let here : nat_lt s (suc k) ≡ false = grind (arith, nat_tests) in
-    rw (filter-append (λ x. nat_lt s x) (sites_to k) (suc k ∷ []), above_none k s (omega arith), here) refl
-
-pub next_site : (k : ℕ) → with_site (k + 1) (sites_to k) ≡ sites_to (k + 1)
-next_site k = rw (add-one, below_all k (suc k) (omega arith), above_none k (suc k) (omega arith)) refl

@@ -1,30 +1,12 @@
 -- The parts of an item: NAME, SITE, SITES, KEY, VALUE, COUNT and LEAVE, and the parts of a split.
-use Rattle.std.specs.Prelude.{ℕ, ◌+◌, ◌-◌, ◌*◌, ◌==◌, Bool, false, ◌&&◌, nat_le, nat_lt, List, [], ◌∷◌, ◌++◌, length, codes, bytes_eq, Option, Some, None, option_map, option_and_then, if◌then◌else◌}
-use Rattle.std.specs.List.{list_all}
+use Rattle.std.specs.Prelude.{ℕ, ◌==◌, Bool, false, nat_le, nat_lt, List, [], ◌∷◌, ◌++◌, codes, bytes_eq, Option, Some, None, option_map, option_and_then, if◌then◌else◌}
 use Rattle.e3_types.specs.Sets.{with_site}
-use Rattle.e3_types.specs.Text.{is_letter}
 use Rattle.e3_types.specs.declared.scenarios.Leave.{Leave}
 use Rattle.e3_types.specs.declared.scenarios.Leave.TheVariants as leave
 use Rattle.e3_types.specs.declared.transactions.Key.{Key}
+-- NAME, VALUE, and digits
+pub use Rattle.e3_lines.specs.Spelled.{name_of, value_of, is_digit, digits_from}
 use Rattle.e3_scenario.specs.Words.{space, point, comma, bar, before, after, rest, pieces}
-
--- NAME: 1 to 32 bytes of a to z, 0 to 9 and _
-abbrev pub name_of : List ℕ → Option (List ℕ)
-name_of text = if nat_le 1 (length text) && nat_le (length text) 32 && list_all is_letter text then Some text else None
-
--- VALUE: 0 to 256 bytes
-abbrev pub value_of : List ℕ → Option (List ℕ)
-value_of text = if nat_le (length text) 256 then Some text else None
-
--- 0 to 9
-abbrev pub is_digit : ℕ → Bool
-is_digit b = nat_le 48 b && nat_le b 57
-
--- the number that more digits make of a number, as long as it is not above `most`
-abbrev pub digits_from : ℕ → ℕ → List ℕ → Option ℕ
-digits_from most n [] = Some n
-digits_from most n (b ∷ text) =
-    if is_digit b && nat_le (n * 10 + (b - 48)) most then digits_from most (n * 10 + (b - 48)) text else None
 
 -- the text begins with the digit 0
 abbrev pub has_leading_zero : List ℕ → Bool

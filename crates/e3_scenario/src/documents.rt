@@ -7,8 +7,9 @@ ghost use Rattle.toml.specs.View.{view, table_view};
 ghost use Rattle.e3_scenario.specs.Documents.{is_known, keys_known, values_of, is_integer, is_text, is_texts, is_step, is_kind, has_kind, kind_fault, number_within, weight_of, more_weights, weights_of, row_of, row_in, more_rows, share_at, luck_at, values_or_none, values_at, step_size, sizes_fit, steps_fit};
 
 use crate::faults::Field;
-use crate::parts::{key, value};
+use crate::parts::key;
 use crate::words::{SPACE, after, before, is_all_printable};
+use e3_lines::value_of;
 use e3_types::{KeyRow, List, NoMemory, SiteSet};
 use std::alloc::Global;
 use toml::{Table, Value};
@@ -221,7 +222,7 @@ fn row(all: SiteSet, text: &[u8]) -> Option<KeyRow>
         return None;
     }
     let key = key(before(text, SPACE))?;
-    let val = value(after(text, SPACE)?)?;
+    let val = value_of(after(text, SPACE)?)?;
     if all.has(key.site) {
         Some(KeyRow { key, val })
     } else {

@@ -1,7 +1,4 @@
 // Why bytes spell no scenario.
-ghost use Rattle.std.specs.Prelude.{◌≡◌};
-
-use e3_types::NoMemory;
 
 /// A key of a scenario.
 #[derive(Clone, Copy, Debug, PartialEq, Eq)]
@@ -42,14 +39,4 @@ pub enum ScenarioFault {
     Parts { step: u32 },
     /// An allocation was refused.
     NoMemory,
-}
-
-impl From<NoMemory> for ScenarioFault {
-    ghost use Rattle.e3_scenario.specs.declared.faults.ScenarioFault.TheVariants as fault;
-
-    ghost from_gives = { λ _ e. e ≡ fault.NoMemory };
-
-    fn from(_cause: NoMemory) -> ScenarioFault {
-        ScenarioFault::NoMemory
-    }
 }

@@ -1,10 +1,11 @@
 // The items of a scenario.
-ghost use Rattle.std.specs.Prelude.{◌≡◌, bytes_eq, IfOk};
+ghost use Rattle.std.specs.Prelude.{◌≡◌, IfOk};
 ghost use Rattle.e3_scenario.specs.Words.{space, before};
 ghost use Rattle.e3_scenario.specs.Items.{begin_of, read_of, write_of, commit_of, cancel_of, expire_of, elect_of, recover_of, split_of, merge_of, crash_of, restart_of, stop_of, transaction_item, site_item, item_by, item_of};
 
-use crate::parts::{count, key, leave, name, parts, site, sites, value};
+use crate::parts::{count, key, leave, parts, site, sites};
 use crate::words::{SPACE, before, is_all_printable, rest, word};
+use e3_lines::{is_text, name_of, value_of};
 use e3_types::{Item, NoMemory};
 use std::alloc::Global;
 
@@ -12,7 +13,7 @@ use std::alloc::Global;
 fn begin(text: &[u8]) -> Option<Item>
     ensures { result ≡ begin_of text.now }
 {
-    let name = name(word(text, 1)?)?;
+    let name = name_of(word(text, 1)?)?;
     let site = site(word(text, 2)?)?;
     let sites = sites(rest(text, 3)?)?;
     Some(Item::Begin { name, site, sites })
@@ -22,7 +23,7 @@ fn begin(text: &[u8]) -> Option<Item>
 fn read(text: &[u8]) -> Option<Item>
     ensures { result ≡ read_of text.now }
 {
-    let name = name(word(text, 1)?)?;
+    let name = name_of(word(text, 1)?)?;
     let key = key(rest(text, 2)?)?;
     Some(Item::Read { name, key })
 }
@@ -31,9 +32,9 @@ fn read(text: &[u8]) -> Option<Item>
 fn write(text: &[u8]) -> Option<Item>
     ensures { result ≡ write_of text.now }
 {
-    let name = name(word(text, 1)?)?;
+    let name = name_of(word(text, 1)?)?;
     let key = key(word(text, 2)?)?;
-    let val = value(rest(text, 3)?)?;
+    let val = value_of(rest(text, 3)?)?;
     Some(Item::Write { name, key, val })
 }
 
@@ -41,7 +42,7 @@ fn write(text: &[u8]) -> Option<Item>
 fn commit(text: &[u8]) -> Option<Item>
     ensures { result ≡ commit_of text.now }
 {
-    let name = name(rest(text, 1)?)?;
+    let name = name_of(rest(text, 1)?)?;
     Some(Item::Commit { name })
 }
 
@@ -49,7 +50,7 @@ fn commit(text: &[u8]) -> Option<Item>
 fn cancel(text: &[u8]) -> Option<Item>
     ensures { result ≡ cancel_of text.now }
 {
-    let name = name(rest(text, 1)?)?;
+    let name = name_of(rest(text, 1)?)?;
     Some(Item::Cancel { name })
 }
 
@@ -58,7 +59,7 @@ fn expire(text: &[u8]) -> Option<Item>
     ensures { result ≡ expire_of text.now }
 {
     let site = site(word(text, 1)?)?;
-    let name = name(rest(text, 2)?)?;
+    let name = name_of(rest(text, 2)?)?;
     Some(Item::Expire { site, name })
 }
 
@@ -67,7 +68,7 @@ fn elect(text: &[u8]) -> Option<Item>
     ensures { result ≡ elect_of text.now }
 {
     let site = site(word(text, 1)?)?;
-    let name = name(word(text, 2)?)?;
+    let name = name_of(word(text, 2)?)?;
     let sites = sites(rest(text, 3)?)?;
     Some(Item::Elect { site, name, sites })
 }
@@ -84,7 +85,7 @@ fn recover(text: &[u8]) -> Option<Item>
 fn merge(text: &[u8]) -> Option<Item>
     ensures { result ≡ merge_of text.now }
 {
-    if is_verb(text, "merge") {
+    if is_text(text, "merge") {
         Some(Item::Merge)
     } else {
         None
@@ -130,29 +131,23 @@ fn split(alloc: Global, text: &[u8]) -> Result<Option<Item>, NoMemory>
     }
 }
 
-fn is_verb(verb: &[u8], wanted: &str) -> bool
-    ensures { result ≡ bytes_eq verb.now wanted.now }
-{
-    verb == wanted.as_bytes()
-}
-
 #[tactic(auto, unfolding(crate::specs::Items::transaction_item))]
 fn transaction_item(verb: &[u8], text: &[u8]) -> Option<Item>
     ensures { result ≡ transaction_item verb.now text.now }
 {
-    if is_verb(verb, "begin") {
+    if is_text(verb, "begin") {
         begin(text)
-    } else if is_verb(verb, "read") {
+    } else if is_text(verb, "read") {
         read(text)
-    } else if is_verb(verb, "write") {
+    } else if is_text(verb, "write") {
         write(text)
-    } else if is_verb(verb, "commit") {
+    } else if is_text(verb, "commit") {
         commit(text)
-    } else if is_verb(verb, "cancel") {
+    } else if is_text(verb, "cancel") {
         cancel(text)
-    } else if is_verb(verb, "expire") {
+    } else if is_text(verb, "expire") {
         expire(text)
-    } else if is_verb(verb, "elect") {
+    } else if is_text(verb, "elect") {
         elect(text)
     } else {
         None
@@ -163,15 +158,15 @@ fn transaction_item(verb: &[u8], text: &[u8]) -> Option<Item>
 fn site_item(verb: &[u8], text: &[u8]) -> Option<Item>
     ensures { result ≡ site_item verb.now text.now }
 {
-    if is_verb(verb, "recover") {
+    if is_text(verb, "recover") {
         recover(text)
-    } else if is_verb(verb, "merge") {
+    } else if is_text(verb, "merge") {
         merge(text)
-    } else if is_verb(verb, "crash") {
+    } else if is_text(verb, "crash") {
         crash(text)
-    } else if is_verb(verb, "restart") {
+    } else if is_text(verb, "restart") {
         restart(text)
-    } else if is_verb(verb, "stop") {
+    } else if is_text(verb, "stop") {
         stop(text)
     } else {
         None
@@ -182,7 +177,7 @@ fn site_item(verb: &[u8], text: &[u8]) -> Option<Item>
 fn item_by(alloc: Global, verb: &[u8], text: &[u8]) -> Result<Option<Item>, NoMemory>
     ensures { IfOk result (λ item. item ≡ item_by verb.now text.now) }
 {
-    if is_verb(verb, "split") {
+    if is_text(verb, "split") {
         return split(alloc, text);
     }
     match transaction_item(verb, text) {

@@ -1,43 +1,12 @@
 // The parts of an item: names, values, sites, keys, counts and leaves, and the parts of a split.
-ghost use Rattle.std.specs.Prelude.{◌≡◌, ◌≤◌, IfOk, IfSome, bytes_eq};
-ghost use Rattle.e3_scenario.specs.Parts.{name_of, value_of, digits_from, has_leading_zero, number_of, site_of, sites_above, sites_of, key_of, count_of, byte_of, junk_of, leave_of, parts_of};
+ghost use Rattle.std.specs.Prelude.{◌≡◌, ◌≤◌, IfOk, IfSome};
+ghost use Rattle.e3_scenario.specs.Parts.{has_leading_zero, number_of, site_of, sites_above, sites_of, key_of, count_of, byte_of, junk_of, leave_of, parts_of};
 ghost use Rattle.e3_scenario.specs.Words.{comma, pieces};
 
 use crate::words::{BAR, COMMA, POINT, SPACE, after, before, rest};
-use e3_types::{Key, Leave, List, Name, NoMemory, SiteSet, Val};
+use e3_lines::{is_text, name_of, number_of_digits};
+use e3_types::{Key, Leave, List, NoMemory, SiteSet};
 use std::alloc::Global;
-
-/// A NAME.
-pub fn name(text: &[u8]) -> Option<Name>
-    ensures { result ≡ name_of text.now }
-{
-    Name::new(text)
-}
-
-/// A VALUE.
-pub fn value(text: &[u8]) -> Option<Val>
-    ensures { result ≡ value_of text.now }
-{
-    Val::new(text)
-}
-
-fn digits(text: &[u8], most: u32) -> Option<u32>
-    requires { most ≤ 1000000 }
-    ensures value { result ≡ digits_from most 0 text.now }
-    ensures within { IfSome result (λ n. n ≤ most) }
-{
-    let mut number = 0u32;
-    for byte in text {
-        if !byte.is_ascii_digit() {
-            return None;
-        }
-        number = number * 10 + u32::from(*byte - b'0');
-        if number > most {
-            return None;
-        }
-    }
-    Some(number)
-}
 
 fn has_leading_zero(text: &[u8]) -> bool
     ensures { result ≡ has_leading_zero text.now }
@@ -47,7 +16,6 @@ fn has_leading_zero(text: &[u8]) -> bool
 
 /// A number from 1 to `most` without leading zeros.
 fn number(text: &[u8], most: u32) -> Option<u32>
-    requires { most ≤ 1000000 }
     ensures value { result ≡ number_of most text.now }
     ensures some { IfSome result (λ n. 1 ≤ n) }
     ensures within { IfSome result (λ n. n ≤ most) }
@@ -55,7 +23,7 @@ fn number(text: &[u8], most: u32) -> Option<u32>
     if has_leading_zero(text) {
         return None;
     }
-    let number = digits(text, most)?;
+    let number = number_of_digits(text, u64::from(most))? as u32;
     if 1 <= number { Some(number) } else { None }
 }
 
@@ -96,7 +64,7 @@ pub fn key(text: &[u8]) -> Option<Key>
     ensures { result ≡ key_of text.now }
 {
     let site = site(before(text, POINT))?;
-    let name = name(after(text, POINT)?)?;
+    let name = name_of(after(text, POINT)?)?;
     Some(Key { site, name })
 }
 
@@ -105,12 +73,6 @@ pub fn count(text: &[u8]) -> Option<u32>
     ensures { result ≡ count_of text.now }
 {
     number(text, 1000000)
-}
-
-fn is_text(text: &[u8], wanted: &str) -> bool
-    ensures { result ≡ bytes_eq text.now wanted.now }
-{
-    text == wanted.as_bytes()
 }
 
 fn byte(text: &[u8]) -> Option<u8>

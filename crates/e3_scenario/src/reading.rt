@@ -2,7 +2,6 @@
 ghost use Rattle.std.specs.Prelude.{◌≡◌, ◌≤◌, ◌⊎◌, IfOk, IfErr, Ok, Err, length, map};
 ghost use Rattle.toml.specs.View.{view, table_view};
 ghost use Rattle.e3_world.specs.Given.{IsGiven};
-ghost use Rattle.e3_world.specs.Packets.{sites_to, all_sites};
 ghost use Rattle.e3_scenario.specs.Scenarios.{or_range, repeat_with, numbers_in, base_in, steps_in, fields_in, scenario_in, scenario_of};
 
 use crate::distinct::rows_differ;
@@ -12,21 +11,10 @@ use crate::documents::{
 use crate::faults::{Field, ScenarioFault};
 use crate::sayings::Said;
 use crate::steps::{Read, steps};
-use e3_types::{KeyRow, List, NoMemory, Scenario, SiteSet};
+use e3_types::{KeyRow, List, NoMemory, Scenario};
+use e3_world::sites_to;
 use std::alloc::Global;
 use toml::{Table, Value};
-
-#[tactic(auto, using(crate::proofs::Values::next_site))]
-fn sites_to(count: u32) -> SiteSet
-    requires { count ≤ 16 }
-    ensures { result ≡ sites_to count }
-{
-    let mut sites = SiteSet::empty();
-    for site in 0..count {
-        sites = sites.with(site + 1);
-    }
-    sites
-}
 
 fn or_range<T: Drop>(field: Field, value: Option<T>) -> Read<T>
     ensures { result ≡ or_range field value }
@@ -143,7 +131,10 @@ pub fn read_scenario(alloc: Global, bytes: &[u8]) -> Result<Scenario, ScenarioFa
         return Err(ScenarioFault::TooLong);
     }
     match toml::table_from_slice(alloc, bytes) {
-        Ok(table) => table_scenario(alloc, &table)?,
+        Ok(table) => match table_scenario(alloc, &table) {
+            Ok(read) => read,
+            Err(NoMemory) => Err(ScenarioFault::NoMemory),
+        },
         Err(e) => {
             if e.is_memory() {
                 Err(ScenarioFault::NoMemory)

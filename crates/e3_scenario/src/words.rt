@@ -1,7 +1,9 @@
 // The text of an item, cut into words.
-ghost use Rattle.std.specs.Prelude.{◌≡◌, ◌==◌, ◌<◌, length, position, IfSome, option_copied};
+ghost use Rattle.std.specs.Prelude.{◌≡◌, ◌<◌, length, IfSome, option_copied};
 ghost use Rattle.std.specs.List.{list_all};
 ghost use Rattle.e3_scenario.specs.Words.{is_printable, before, after, rest, word};
+
+use e3_lines::place_of;
 
 /// The byte between two words.
 pub const SPACE: u8 = b' ';
@@ -27,13 +29,6 @@ pub fn is_all_printable(text: &[u8]) -> bool
     ensures { result ≡ list_all is_printable text.now }
 {
     text.iter().all(|b| is_printable(*b))
-}
-
-fn place_of(text: &[u8], mark: u8) -> Option<usize>
-    ensures value { result ≡ position (λ b. b == mark) text.now }
-    ensures within { IfSome result (λ place. place < length text.now) }
-{
-    text.iter().position(|b| *b == mark)
 }
 
 /// What stands before the first byte of this kind, or all where there is none.

@@ -38,7 +38,7 @@ use Rattle.e3_trace.specs.Trace.{next_line, line_by, marked_line}
 use Rattle.e3_trace.proofs.Chains.{two, three, two_again, three_again}
 use Rattle.e3_trace.proofs.Going.{Goes, goes_none, goes_then, goes_line, cond_false, cond_true, reading_at, not_over, next_by}
 use Rattle.e3_trace.proofs.Lists.{numbers_again, commas_lack}
-use Rattle.e3_trace.proofs.Names.{name_of-name}
+use Rattle.e3_lines.proofs.Names.{name_of-name}
 use Rattle.e3_trace.proofs.Numbers.{short_again, long_again}
 use Rattle.e3_trace.proofs.OneLine.{InLine, and_short, and_text, short_in, long_in, txn_in, input_in, message_in, told_in}
 use Rattle.e3_trace.proofs.Said.{made, input_again, message_again, told_again, short_word, long_word, txn_word}

@@ -1,5 +1,4 @@
 pub mod Places
-pub mod Names
 pub mod Lines
 pub mod Standing
 pub mod Knowing

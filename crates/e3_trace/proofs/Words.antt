@@ -21,7 +21,7 @@ use Rattle.e3_trace.specs.Cuts.{space, point, feed, made_of, pair_of}
 use Rattle.e3_trace.specs.Fields.{Known, is_digit, u32_of, name_of, value_of, key_from, key_of, dir_of, state_of, write_from, op_by, op_of, answer_of, txn_name_of, txn_of}
 use Rattle.e3_trace.specs.Tellable.{IsShort, IsLong, lacks, IsKey, HasNumbers, IsBegun, IsOp, IsAnswer}
 use Rattle.e3_trace.proofs.Cutting.{pair_again, made_again, lacks_join, lacks_by}
-use Rattle.e3_trace.proofs.Names.{name_of-name}
+use Rattle.e3_lines.proofs.Names.{name_of-name}
 use Rattle.e3_trace.proofs.Numbers.{short_again, number_lacks}
 
 -- a short number is a long one

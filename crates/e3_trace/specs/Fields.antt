@@ -1,6 +1,5 @@
 -- The fields of a trace's lines: how each is read.
-use Rattle.std.specs.Prelude.{ℕ, ◌+◌, ◌-◌, ◌*◌, ◌==◌, Bool, ◌&&◌, nat_le, List, [], ◌∷◌, ◌++◌, length, codes, bytes_eq, Option, Some, None, option_map, option_and_then, if◌then◌else◌}
-use Rattle.std.specs.List.{list_all}
+use Rattle.std.specs.Prelude.{ℕ, ◌==◌, List, [], ◌∷◌, ◌++◌, codes, bytes_eq, Option, Some, None, option_map, option_and_then, if◌then◌else◌}
 use Rattle.std.specs.declared.cmp.Ordering.{Ordering}
 use Rattle.std.specs.Ordering.{ordering_then, nat_cmp}
 use Rattle.std.specs.Map.{lookup}
@@ -19,18 +18,8 @@ use Rattle.e3_types.specs.declared.transactions.State.{State}
 use Rattle.e3_types.specs.declared.transactions.State.TheVariants.{Q, W, Pc, Pa, C, A}
 use Rattle.e3_types.specs.declared.transactions.Txn.{Txn}
 use Rattle.e3_types.specs.Sets.{is_set}
-use Rattle.e3_types.specs.Text.{is_letter}
+pub use Rattle.e3_lines.specs.Spelled.{is_digit, digits_from, name_of, value_of}
 use Rattle.e3_trace.specs.Cuts.{space, point, comma, bar, cut, pieces, Form, made_of, pair_of, behind}
-
--- 0 to 9
-abbrev pub is_digit : ℕ → Bool
-is_digit b = nat_le 48 b && nat_le b 57
-
--- the number that more digits make of a number, as long as it is not above `most`
-abbrev pub digits_from : ℕ → ℕ → List ℕ → Option ℕ
-digits_from most n [] = Some n
-digits_from most n (b ∷ text) =
-    if is_digit b && nat_le (n * 10 + (b - 48)) most then digits_from most (n * 10 + (b - 48)) text else None
 
 -- a number from 0 to `most`, in digits without leading zeros
 unfoldable pub number_of : ℕ → Form ℕ
@@ -45,14 +34,6 @@ u32_of text = number_of 4294967295 text
 -- a number of 64 bits
 abbrev pub u64_of : Form ℕ
 u64_of text = number_of 18446744073709551615 text
-
--- a name: 1 to 32 bytes of a to z, 0 to 9 and _
-abbrev pub name_of : Form (List ℕ)
-name_of text = if nat_le 1 (length text) && nat_le (length text) 32 && list_all is_letter text then Some text else None
-
--- a value: 0 to 256 bytes
-abbrev pub value_of : Form (List ℕ)
-value_of text = if nat_le (length text) 256 then Some text else None
 
 -- more numbers of a list
 abbrev pub numbers_from : List ℕ → List (List ℕ) → Option (List ℕ)

@@ -1,8 +1,9 @@
 // A text, cut at the bytes of one kind.
-ghost use Rattle.std.specs.Prelude.{◌≡◌, ◌==◌, ◌<◌, length, position, bytes_eq, IfOk, IfErr, IfSome};
+ghost use Rattle.std.specs.Prelude.{◌≡◌, ◌<◌, length, IfOk, IfErr};
 ghost use Rattle.e3_trace.specs.Cuts.{cut, rest_behind, Shows};
 
 use crate::faults::Fault;
+use e3_lines::{is_text, place_of};
 
 /// The byte between two words.
 pub(crate) const SPACE: u8 = b' ';
@@ -18,20 +19,6 @@ pub(crate) const BAR: u8 = b'|';
 
 /// The byte that ends a line.
 pub(crate) const FEED: u8 = b'\n';
-
-/// The two texts have the same bytes.
-pub(crate) fn is_text(text: &[u8], wanted: &str) -> bool
-    ensures { result ≡ bytes_eq text.now wanted.now }
-{
-    text == wanted.as_bytes()
-}
-
-fn place_of(text: &[u8], mark: u8) -> Option<usize>
-    ensures value { result ≡ position (λ b. b == mark) text.now }
-    ensures within { IfSome result (λ place. place < length text.now) }
-{
-    text.iter().position(|b| *b == mark)
-}
 
 /// What stands before the first byte of this kind, and what stands behind it.
 #[tactic(auto, using(crate::proofs::Places::cut_none, crate::proofs::Places::cut_some))]

@@ -1,95 +1,63 @@
 // The first lines of entries, read behind what earlier lines tell.
 ghost use Rattle.std.specs.Prelude.{◌≡◌, [], IfErr, IfOk, codes};
 ghost use Rattle.e3_trace.specs.Cuts.{space, pair_of, behind, Gives};
-ghost use Rattle.e3_trace.specs.Entries.{full_and, why_and, why_of, kept_of, rise_of, kept_why_of, failed_rise_of, fall_of, act_by, draft_by, form_of};
+ghost use Rattle.e3_trace.specs.Entries.{full_and, why_and, why_of, kept_of, rise_of, kept_why_of, failed_rise_of, act_by, draft_by, form_of};
 ghost use Rattle.e3_trace.specs.Fields.{u64_of};
 ghost use Rattle.e3_trace.specs.Past.{knowing, sends};
 ghost use Rattle.e3_world.specs.Packets.{outs_of, sent};
 
-use crate::cuts::{SPACE, behind, cut, is_text};
+use crate::cuts::{SPACE, behind, cut};
 use crate::drafts::{Draft, Head};
 use crate::events::of;
 use crate::faults::Fault;
-use crate::fields::{long, parts, short};
+use crate::fields::{Field, parts};
 use crate::inputs::input;
 use crate::known::Known;
 use crate::past::Past;
+use e3_lines::is_text;
 use e3_types::{Act, Why};
 use std::alloc::Global;
 
-fn kept(text: &[u8]) -> Result<bool, Fault>
-    ensures { Gives result (kept_of text.now) }
-{
-    if is_text(text, "kept") {
-        Ok(true)
-    } else {
-        Err(Fault::Bad)
+/// The word `kept`.
+impl Field for bool {
+    ghost form = { kept_of };
+
+    fn read(text: &[u8]) -> Result<bool, Fault> {
+        if is_text(text, "kept") {
+            Ok(true)
+        } else {
+            Err(Fault::Bad)
+        }
     }
 }
 
-fn of_count(text: &[u8]) -> Result<(u64, u64), Fault>
-    ensures { Gives result (behind (codes "of") (pair_of space u64_of u64_of) text.now) }
+fn of_and<T: Field + Drop>(text: &[u8]) -> Result<(u64, T), Fault>
+    ensures { Gives result (behind (codes "of") (pair_of space u64_of T.form) text.now) }
 {
     let rest = behind(text, "of")?;
-    let (word, rest) = cut(rest, SPACE)?;
-    let room = long(word)?;
-    let count = long(rest)?;
-    Ok((room, count))
+    <(u64, T)>::read(rest)
 }
 
-fn full_count(text: &[u8]) -> Result<(Why, u64), Fault>
-    ensures { Gives result (full_and u64_of text.now) }
+fn full_and<T: Field + Drop>(text: &[u8]) -> Result<(Why, T), Fault>
+    ensures { Gives result (full_and T.form text.now) }
 {
     let rest = behind(text, "full")?;
     let (word, rest) = cut(rest, SPACE)?;
-    let need = long(word)?;
-    let (room, count) = of_count(rest)?;
-    Ok((Why::Full { need, room }, count))
+    let need = u64::read(word)?;
+    let (room, field) = of_and::<T>(rest)?;
+    Ok((Why::Full { need, room }, field))
 }
 
-fn of_kept(text: &[u8]) -> Result<(u64, bool), Fault>
-    ensures { Gives result (behind (codes "of") (pair_of space u64_of kept_of) text.now) }
-{
-    let rest = behind(text, "of")?;
-    let (word, rest) = cut(rest, SPACE)?;
-    let room = long(word)?;
-    let kept = kept(rest)?;
-    Ok((room, kept))
-}
-
-fn full_kept(text: &[u8]) -> Result<(Why, bool), Fault>
-    ensures { Gives result (full_and kept_of text.now) }
-{
-    let rest = behind(text, "full")?;
-    let (word, rest) = cut(rest, SPACE)?;
-    let need = long(word)?;
-    let (room, kept) = of_kept(rest)?;
-    Ok((Why::Full { need, room }, kept))
-}
-
-fn why_kept(text: &[u8]) -> Result<(Why, bool), Fault>
-    ensures { Gives result (why_and kept_of text.now) }
+// Why a site fell, and a field behind.
+fn why_and<T: Field + Drop>(text: &[u8]) -> Result<(Why, T), Fault>
+    ensures { Gives result (why_and T.form text.now) }
 {
     match behind(text, "fault") {
         Ok(rest) => {
-            let kept = kept(rest)?;
-            Ok((Why::Fault, kept))
+            let field = T::read(rest)?;
+            Ok((Why::Fault, field))
         }
-        Err(_) => full_kept(text),
-    }
-}
-
-// A fall: why, and how many inputs it has.
-#[tactic(auto, unfolding(crate::specs::Entries::fall_of))]
-fn fall(text: &[u8]) -> Result<(Why, u64), Fault>
-    ensures { Gives result (fall_of text.now) }
-{
-    match behind(text, "fault") {
-        Ok(rest) => {
-            let count = long(rest)?;
-            Ok((Why::Fault, count))
-        }
-        Err(_) => full_count(text),
+        Err(_) => full_and::<T>(text),
     }
 }
 
@@ -114,12 +82,12 @@ fn rise(text: &[u8]) -> Result<Act, Fault>
 {
     match cut(text, SPACE) {
         Err(_) => {
-            let inc = short(text)?;
+            let inc = u32::read(text)?;
             Ok(Act::Rise { kept: false, inc })
         }
         Ok((word, rest)) => {
-            let kept = kept(rest)?;
-            let inc = short(word)?;
+            let kept = bool::read(rest)?;
+            let inc = u32::read(word)?;
             Ok(Act::Rise { kept, inc })
         }
     }
@@ -132,7 +100,7 @@ fn kept_why(text: &[u8]) -> Result<(bool, Why), Fault>
     match why(text) {
         Ok(why) => Ok((false, why)),
         Err(_) => {
-            let (why, kept) = why_kept(text)?;
+            let (why, kept) = why_and::<bool>(text)?;
             Ok((kept, why))
         }
     }
@@ -144,7 +112,7 @@ fn failed_rise(text: &[u8]) -> Result<Act, Fault>
     ensures outs { IfOk result (λ a. outs_of a ≡ []) }
 {
     let (word, rest) = cut(text, SPACE)?;
-    let inc = short(word)?;
+    let inc = u32::read(word)?;
     let (kept, why) = kept_why(rest)?;
     Ok(Act::RiseFall { kept, inc, why })
 }
@@ -156,13 +124,13 @@ fn act_by(alloc: Global, verb: &[u8], text: &[u8]) -> Result<Act, Fault>
     ensures outs { IfOk result (λ a. outs_of a ≡ []) }
 {
     if is_text(verb, "line") {
-        let number = short(text)?;
+        let number = u32::read(text)?;
         Ok(Act::Line { number })
     } else if is_text(verb, "parts") {
         let parts = parts(alloc, text)?;
         Ok(Act::Parts { parts })
     } else if is_text(verb, "drop") {
-        let packet = long(text)?;
+        let packet = u64::read(text)?;
         Ok(Act::Drop { packet })
     } else if is_text(verb, "rise") {
         rise(text)
@@ -173,7 +141,7 @@ fn act_by(alloc: Global, verb: &[u8], text: &[u8]) -> Result<Act, Fault>
     }
 }
 
-#[tactic(auto, unfolding(crate::specs::Entries::draft_by))]
+#[tactic(auto, unfolding(crate::specs::Entries::draft_by, crate::specs::Entries::fall_of))]
 fn draft_by(
     alloc: Global,
     known: &Known,
@@ -189,7 +157,7 @@ fn draft_by(
         let input = input(alloc, known, past, text)?;
         Ok(Draft::new(alloc, owner, Head::Step(input), 0))
     } else if is_text(verb, "fall") {
-        let (why, due) = fall(text)?;
+        let (why, due) = why_and::<u64>(text)?;
         Ok(Draft::new(alloc, owner, Head::Fall(why), due))
     } else {
         let act = act_by(alloc, verb, text)?;

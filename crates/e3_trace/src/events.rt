@@ -1,15 +1,14 @@
 // What steps tell, read behind what earlier lines tell.
 ghost use Rattle.std.specs.Prelude.{◌≡◌, IfErr};
-ghost use Rattle.e3_trace.specs.Cuts.{space, made_of, pair_of, behind, Gives};
-ghost use Rattle.e3_trace.specs.Events.{of_of, verdict_of, refusal_by, refusal_of, event_by, event_of, began_of, told_by, told_of};
-ghost use Rattle.e3_trace.specs.Fields.{u32_of, answer_of};
-ghost use Rattle.e3_types.specs.declared.entries.Told.TheVariants as told;
+ghost use Rattle.e3_trace.specs.Cuts.{Gives};
+ghost use Rattle.e3_trace.specs.Events.{of_of, verdict_of, refusal_by, refusal_of, event_by, event_of, told_by, told_of};
 
-use crate::cuts::{SPACE, behind, cut, is_text};
+use crate::cuts::{SPACE, behind, cut};
 use crate::faults::Fault;
-use crate::fields::{TxnName, answer, dir, long, short, sites, state, three_shorts, txn_name};
+use crate::fields::{Field, TxnName, sites, txn_name};
 use crate::known::Known;
-use e3_types::{Dir, Refusal, Told, Txn, Verdict};
+use e3_lines::is_text;
+use e3_types::{Answer, Dir, Refusal, State, Told, Txn, Verdict};
 use std::alloc::Global;
 
 /// Two numbers with `of` between them.
@@ -19,28 +18,31 @@ pub(crate) fn of(text: &[u8]) -> Result<(u64, u64), Fault>
     ensures sure { IfErr result (λ e. e ≡ Fault.Bad) }
 {
     let (word, rest) = cut(text, SPACE)?;
-    let some = long(word)?;
+    let some = u64::read(word)?;
     let rest = behind(rest, "of")?;
-    let all = long(rest)?;
+    let all = u64::read(rest)?;
     Ok((some, all))
 }
 
-#[tactic(auto, unfolding(crate::specs::Events::verdict_of))]
-fn verdict(text: &[u8]) -> Result<Verdict, Fault>
-    ensures { Gives result (verdict_of text.now) }
-{
-    if is_text(text, "abort") {
-        Ok(Verdict::Abort)
-    } else if is_text(text, "commit") {
-        Ok(Verdict::Commit)
-    } else if is_text(text, "pre-commit") {
-        Ok(Verdict::PreCommit)
-    } else if is_text(text, "pre-abort") {
-        Ok(Verdict::PreAbort)
-    } else {
-        let rest = behind(text, "block")?;
-        let (have, total) = of(rest)?;
-        Ok(Verdict::Block { have, total })
+/// What an elector concludes.
+impl Field for Verdict {
+    ghost form = { verdict_of };
+
+    #[tactic(auto, unfolding(crate::specs::Events::verdict_of))]
+    fn read(text: &[u8]) -> Result<Verdict, Fault> {
+        if is_text(text, "abort") {
+            Ok(Verdict::Abort)
+        } else if is_text(text, "commit") {
+            Ok(Verdict::Commit)
+        } else if is_text(text, "pre-commit") {
+            Ok(Verdict::PreCommit)
+        } else if is_text(text, "pre-abort") {
+            Ok(Verdict::PreAbort)
+        } else {
+            let rest = behind(text, "block")?;
+            let (have, total) = of(rest)?;
+            Ok(Verdict::Block { have, total })
+        }
     }
 }
 
@@ -49,19 +51,19 @@ fn refusal_by(known: &Known, verb: &[u8], text: &[u8]) -> Result<Refusal, Fault>
     ensures { Gives result (refusal_by known.now verb.now text.now) }
 {
     if is_text(verb, "busy") {
-        let op = short(text)?;
+        let op = u32::read(text)?;
         Ok(Refusal::Busy { op })
     } else if is_text(verb, "over") {
-        let dir = dir(text)?;
+        let dir = Dir::read(text)?;
         Ok(Refusal::Over { dir })
     } else if is_text(verb, "died") {
         let older = known.txn(text)?;
         Ok(Refusal::Died { older })
     } else if is_text(verb, "doomed") {
-        let (site, (had, now)) = three_shorts(text)?;
+        let (site, (had, now)) = <(u32, (u32, u32))>::read(text)?;
         Ok(Refusal::Doomed { site, had, now })
     } else if is_text(verb, "too-late") {
-        let attempt = short(text)?;
+        let attempt = u32::read(text)?;
         Ok(Refusal::TooLate { attempt })
     } else {
         Err(Fault::Bad)
@@ -80,36 +82,19 @@ fn refusal(known: &Known, text: &[u8]) -> Result<Refusal, Fault>
     }
 }
 
-fn answered(txn: Txn, text: &[u8]) -> Result<Told, Fault>
-    ensures { Gives result (made_of (λ p. told.Op txn p.0 p.1) (pair_of space u32_of answer_of) text.now) }
-{
-    let (word, rest) = cut(text, SPACE)?;
-    let n = short(word)?;
-    let answer = answer(rest)?;
-    Ok(Told::Op { txn, n, answer })
-}
-
-fn elected(txn: Txn, text: &[u8]) -> Result<Told, Fault>
-    ensures { Gives result (made_of (λ p. told.Verdict txn p.0 p.1) (pair_of space u32_of verdict_of) text.now) }
-{
-    let (word, rest) = cut(text, SPACE)?;
-    let n = short(word)?;
-    let verdict = verdict(rest)?;
-    Ok(Told::Verdict { txn, n, verdict })
-}
-
 #[tactic(auto, unfolding(crate::specs::Events::event_by))]
 fn event_by(known: &Known, txn: Txn, verb: &[u8], text: &[u8]) -> Result<Told, Fault>
     ensures { Gives result (event_by known.now txn verb.now text.now) }
 {
     if is_text(verb, "op") {
-        answered(txn, text)
+        let (n, answer) = <(u32, Answer)>::read(text)?;
+        Ok(Told::Op { txn, n, answer })
     } else if is_text(verb, "died") {
         let rest = behind(text, "for")?;
         let older = known.txn(rest)?;
         Ok(Told::Died { txn, older })
     } else if is_text(verb, "doomed") {
-        let (site, (had, now)) = three_shorts(text)?;
+        let (site, (had, now)) = <(u32, (u32, u32))>::read(text)?;
         Ok(Told::Doomed {
             txn,
             site,
@@ -120,10 +105,11 @@ fn event_by(known: &Known, txn: Txn, verb: &[u8], text: &[u8]) -> Result<Told, F
         let refusal = refusal(known, text)?;
         Ok(Told::Refused { txn, refusal })
     } else if is_text(verb, "kept") {
-        let state = state(text)?;
+        let state = State::read(text)?;
         Ok(Told::Kept { txn, state })
     } else if is_text(verb, "election") {
-        elected(txn, text)
+        let (n, verdict) = <(u32, Verdict)>::read(text)?;
+        Ok(Told::Verdict { txn, n, verdict })
     } else {
         Err(Fault::Bad)
     }

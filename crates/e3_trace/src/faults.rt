@@ -33,13 +33,3 @@ pub enum TraceFault {
     /// Memory ran out.
     NoMemory,
 }
-
-impl From<NoMemory> for TraceFault {
-    ghost use Rattle.e3_trace.specs.declared.faults.TraceFault.TheVariants as faults;
-
-    ghost from_gives = { λ _ e. e ≡ faults.NoMemory };
-
-    fn from(_e: NoMemory) -> TraceFault {
-        TraceFault::NoMemory
-    }
-}

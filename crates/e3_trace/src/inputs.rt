@@ -1,26 +1,18 @@
 // The inputs of sites, read behind what earlier lines tell.
 ghost use Rattle.e3_trace.specs.Cuts.{space, made_of, pair_of, Gives};
-ghost use Rattle.e3_trace.specs.Fields.{sites_of, op_of, txn_of};
-ghost use Rattle.e3_trace.specs.Inputs.{do_from, elect_from, input_by, input_of};
+ghost use Rattle.e3_trace.specs.Fields.{sites_of, txn_of};
+ghost use Rattle.e3_trace.specs.Inputs.{elect_from, input_by, input_of};
 ghost use Rattle.e3_trace.specs.Past.{knowing};
 ghost use Rattle.e3_world.specs.Packets.{sent};
 
-use crate::cuts::{SPACE, cut, is_text};
+use crate::cuts::{SPACE, cut};
 use crate::faults::Fault;
-use crate::fields::{op, sites};
+use crate::fields::sites;
 use crate::known::Known;
 use crate::past::Past;
-use e3_types::Input;
+use e3_lines::is_text;
+use e3_types::{Input, Op};
 use std::alloc::Global;
-
-fn call(known: &Known, text: &[u8]) -> Result<Input, Fault>
-    ensures { Gives result (made_of do_from (pair_of space (txn_of known.now) op_of) text.now) }
-{
-    let (word, rest) = cut(text, SPACE)?;
-    let txn = known.txn(word)?;
-    let op = op(rest)?;
-    Ok(Input::Do { txn, op })
-}
 
 fn elect(alloc: Global, known: &Known, text: &[u8]) -> Result<Input, Fault>
     ensures { Gives result (made_of elect_from (pair_of space (txn_of known.now) sites_of) text.now) }
@@ -45,7 +37,8 @@ fn input_by(
         let sites = sites(alloc, text)?;
         Ok(Input::Begin { sites })
     } else if is_text(verb, "do") {
-        call(known, text)
+        let (txn, op) = known.txn_and::<Op>(text)?;
+        Ok(Input::Do { txn, op })
     } else if is_text(verb, "commit") {
         let txn = known.txn(text)?;
         Ok(Input::Commit { txn })

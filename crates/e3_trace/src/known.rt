@@ -1,12 +1,12 @@
 // What earlier lines tell of transactions: those that began.
 ghost use Rattle.std.specs.Prelude.{◌≡◌, [], OnOk, option_copied};
 ghost use Rattle.e3_trace.specs.Cuts.{space, pair_of, Gives};
-ghost use Rattle.e3_trace.specs.Fields.{u32_of, dir_of, named, txn_of, known_told};
+ghost use Rattle.e3_trace.specs.Fields.{named, txn_of, known_told};
 
 use crate::cuts::{SPACE, cut};
 use crate::faults::Fault;
-use crate::fields::{TxnName, short, short_and_dir, txn_name};
-use e3_types::{Dir, NoMemory, SiteSet, Told, Txn};
+use crate::fields::{Field, TxnName, txn_name};
+use e3_types::{NoMemory, SiteSet, Told, Txn};
 use std::alloc::Global;
 use std::collections::BTreeMap;
 use std::marker::Model;
@@ -60,24 +60,14 @@ impl Known {
         self.named(name).ok_or(Fault::Bad)
     }
 
-    /// A transaction that began, and a number.
-    pub(crate) fn numbered(&self, text: &[u8]) -> Result<(Txn, u32), Fault>
-        ensures { Gives result (pair_of space (txn_of self.now) u32_of text.now) }
+    /// A transaction that began, and a field behind it.
+    pub(crate) fn txn_and<T: Field + Drop>(&self, text: &[u8]) -> Result<(Txn, T), Fault>
+        ensures { Gives result (pair_of space (txn_of self.now) T.form text.now) }
     {
         let (word, rest) = cut(text, SPACE)?;
         let txn = self.txn(word)?;
-        let n = short(rest)?;
-        Ok((txn, n))
-    }
-
-    /// A transaction that began, a number and a direction.
-    pub(crate) fn attempted(&self, text: &[u8]) -> Result<(Txn, (u32, Dir)), Fault>
-        ensures { Gives result (pair_of space (txn_of self.now) (pair_of space u32_of dir_of) text.now) }
-    {
-        let (word, rest) = cut(text, SPACE)?;
-        let txn = self.txn(word)?;
-        let attempt = short_and_dir(rest)?;
-        Ok((txn, attempt))
+        let field = T::read(rest)?;
+        Ok((txn, field))
     }
 
     /// An event is told, which may be a begin. Want of memory is the only error.

@@ -8,7 +8,7 @@ ghost use Rattle.e3_trace.specs.Fields.{u64_of};
 ghost use Rattle.e3_trace.specs.Past.{ArePlaces, by_number, sent_at, standing};
 
 use crate::faults::Fault;
-use crate::fields::long;
+use crate::fields::Field;
 use e3_types::{Act, Entry, NoMemory, Packet};
 use e3_world::History;
 use std::alloc::Global;
@@ -144,7 +144,7 @@ impl Past {
     pub(crate) fn packet(&self, text: &[u8]) -> Result<Packet, Fault>
         ensures { Gives result (option_and_then (sent_at self.now) (u64_of text.now)) }
     {
-        let number = long(text)?;
+        let number = u64::read(text)?;
         self.packet_at(number).ok_or(Fault::Bad)
     }
 

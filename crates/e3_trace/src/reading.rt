@@ -6,16 +6,17 @@ ghost use Rattle.e3_trace.specs.Past.{IsFitting, knowing, sends};
 ghost use Rattle.e3_trace.specs.Trace.{nothing_read, closed, entry_line, marked_line, is_mark, line_by, next_line, is_over};
 ghost use Rattle.e3_world.specs.Packets.{sent};
 
-use crate::cuts::{SPACE, cut, is_text};
+use crate::cuts::{SPACE, cut};
 use crate::drafts::Draft;
 use crate::entries::form;
 use crate::events::told;
 use crate::faults::Fault;
-use crate::fields::{long, short};
+use crate::fields::Field;
 use crate::known::Known;
 use crate::messages::message;
 use crate::past::Past;
 use crate::records::add_record_line;
+use e3_lines::is_text;
 use e3_types::{NoMemory, Packet};
 use e3_world::History;
 use std::alloc::Global;
@@ -47,9 +48,9 @@ fn packet(known: &Known, site: u32, text: &[u8]) -> Result<Packet, Fault>
     ensures { Gives result (packet_of known.now site text.now) }
 {
     let (word, rest) = cut(text, SPACE)?;
-    let number = long(word)?;
+    let number = u64::read(word)?;
     let (word, rest) = cut(rest, SPACE)?;
-    let to = short(word)?;
+    let to = u32::read(word)?;
     let msg = message(known, rest)?;
     Ok(Packet {
         number,
@@ -150,7 +151,7 @@ impl Reading {
         ensures { Leaves result self.new (entry_line self.old word.now text.now) }
     {
         self.close(alloc)?;
-        let owner = short(word)?;
+        let owner = u32::read(word)?;
         let draft = form(alloc, &self.known, &self.past, owner, text)?;
         self.draft = Some(draft);
         Ok(())

@@ -1,27 +1,24 @@
 // The lines of records, read behind what earlier lines tell.
-ghost use Rattle.std.specs.Prelude.{◌≡◌, ℕ, OnOk};
-ghost use Rattle.e3_trace.specs.Cuts.{space, made_of, pair_of, Gives, Leaves};
-ghost use Rattle.e3_trace.specs.Drafts.{row_of, with_row, vote_op_by, vote_op_of, with_op, read_from, write_from, birth_of, votes_of, record_by, first_by, first_of, with_record_line};
-ghost use Rattle.e3_trace.specs.Fields.{u32_of, name_of, value_of, dir_of, txn_of};
+ghost use Rattle.std.specs.Prelude.{◌≡◌, OnOk};
+ghost use Rattle.e3_trace.specs.Cuts.{Gives, Leaves};
+ghost use Rattle.e3_trace.specs.Drafts.{row_of, with_row, vote_op_of, with_op, birth_of, votes_of, record_by, first_by, with_record_line};
 ghost use Rattle.e3_trace.specs.Past.{SameOuts};
-ghost use Rattle.e3_types.specs.declared.records.Record.TheVariants as log;
 
-use crate::cuts::{SPACE, cut, is_text};
+use crate::cuts::{SPACE, cut};
 use crate::drafts::{Draft, Growing};
 use crate::faults::Fault;
-use crate::fields::{dir, long, name, numbers, short, value};
+use crate::fields::{Field, numbers};
 use crate::known::Known;
 use crate::spare::add;
-use e3_types::{Key, List, NumOp, Op, Record, Row};
+use e3_lines::is_text;
+use e3_types::{Dir, Key, List, Name, NumOp, Op, Record, Row, Val};
 use std::alloc::Global;
 
 #[tactic(auto, unfolding(crate::specs::Drafts::row_of))]
 fn row(text: &[u8]) -> Result<Row, Fault>
     ensures { Gives result (row_of text.now) }
 {
-    let (word, rest) = cut(text, SPACE)?;
-    let name = name(word)?;
-    let val = value(rest)?;
+    let (name, val) = <(Name, Val)>::read(text)?;
     Ok(Row { name, val })
 }
 
@@ -40,28 +37,6 @@ fn add_row(alloc: Global, draft: &mut Draft, text: &[u8]) -> Result<(), Fault>
     }
 }
 
-fn vote_read(site: u32, text: &[u8]) -> Result<NumOp, Fault>
-    ensures { Gives result (made_of (read_from site) (pair_of space u32_of name_of) text.now) }
-{
-    let (word, rest) = cut(text, SPACE)?;
-    let n = short(word)?;
-    let name = name(rest)?;
-    let op = Op::Read(Key { site, name });
-    Ok(NumOp { n, op })
-}
-
-fn vote_write(site: u32, text: &[u8]) -> Result<NumOp, Fault>
-    ensures { Gives result (made_of (write_from site) (pair_of space u32_of (pair_of space name_of value_of)) text.now) }
-{
-    let (word, rest) = cut(text, SPACE)?;
-    let n = short(word)?;
-    let (word, rest) = cut(rest, SPACE)?;
-    let name = name(word)?;
-    let val = value(rest)?;
-    let op = Op::Write(Key { site, name }, val);
-    Ok(NumOp { n, op })
-}
-
 // An operation of a vote. The site is the log's own.
 #[tactic(auto, unfolding(crate::specs::Drafts::vote_op_of, crate::specs::Drafts::vote_op_by))]
 fn vote_op(site: u32, text: &[u8]) -> Result<NumOp, Fault>
@@ -69,9 +44,13 @@ fn vote_op(site: u32, text: &[u8]) -> Result<NumOp, Fault>
 {
     let (verb, rest) = cut(text, SPACE)?;
     if is_text(verb, "read") {
-        vote_read(site, rest)
+        let (n, name) = <(u32, Name)>::read(rest)?;
+        let op = Op::Read(Key { site, name });
+        Ok(NumOp { n, op })
     } else if is_text(verb, "write") {
-        vote_write(site, rest)
+        let (n, (name, val)) = <(u32, (Name, Val))>::read(rest)?;
+        let op = Op::Write(Key { site, name }, val);
+        Ok(NumOp { n, op })
     } else {
         Err(Fault::Bad)
     }
@@ -99,7 +78,7 @@ fn birth(alloc: Global, text: &[u8]) -> Result<Growing, Fault>
     ensures { Gives result (birth_of text.now) }
 {
     let (word, rest) = cut(text, SPACE)?;
-    let format = short(word)?;
+    let format = u32::read(word)?;
     let weights = numbers(alloc, rest)?;
     Ok(Growing::Birth {
         format,
@@ -112,37 +91,12 @@ fn birth(alloc: Global, text: &[u8]) -> Result<Growing, Fault>
 fn vote(alloc: Global, known: &Known, text: &[u8]) -> Result<Growing, Fault>
     ensures { Gives result (votes_of known.now text.now) }
 {
-    let (word, rest) = cut(text, SPACE)?;
-    let txn = known.txn(word)?;
-    let due = long(rest)?;
+    let (txn, due) = known.txn_and::<u64>(text)?;
     Ok(Growing::Vote {
         txn,
         ops: List::new(alloc),
         due,
     })
-}
-
-fn join(known: &Known, text: &[u8]) -> Result<Record, Fault>
-    ensures { Gives result (made_of (λ p. log.Join p.0 p.1) (pair_of space (txn_of known.now) u32_of) text.now) }
-{
-    let (txn, n) = known.numbered(text)?;
-    Ok(Record::Join { txn, n })
-}
-
-fn attempt(known: &Known, text: &[u8]) -> Result<Record, Fault>
-    ensures { Gives result (made_of (λ p. log.Attempt p.0 p.1.0 p.1.1) (pair_of space (txn_of known.now) (pair_of space u32_of dir_of)) text.now) }
-{
-    let (txn, (n, dir)) = known.attempted(text)?;
-    Ok(Record::Attempt { txn, n, dir })
-}
-
-fn decision(known: &Known, text: &[u8]) -> Result<Record, Fault>
-    ensures { Gives result (made_of (λ p. log.Decision p.0 p.1) (pair_of space (txn_of known.now) dir_of) text.now) }
-{
-    let (word, rest) = cut(text, SPACE)?;
-    let txn = known.txn(word)?;
-    let dir = dir(rest)?;
-    Ok(Record::Decision { txn, dir })
 }
 
 // A record of one line.
@@ -151,14 +105,17 @@ fn record_by(known: &Known, verb: &[u8], text: &[u8]) -> Result<Record, Fault>
     ensures { Gives result (record_by known.now verb.now text.now) }
 {
     if is_text(verb, "inc") {
-        let inc = short(text)?;
+        let inc = u32::read(text)?;
         Ok(Record::Inc { inc })
     } else if is_text(verb, "join") {
-        join(known, text)
+        let (txn, n) = known.txn_and::<u32>(text)?;
+        Ok(Record::Join { txn, n })
     } else if is_text(verb, "attempt") {
-        attempt(known, text)
+        let (txn, (n, dir)) = known.txn_and::<(u32, Dir)>(text)?;
+        Ok(Record::Attempt { txn, n, dir })
     } else if is_text(verb, "decision") {
-        decision(known, text)
+        let (txn, dir) = known.txn_and::<Dir>(text)?;
+        Ok(Record::Decision { txn, dir })
     } else {
         Err(Fault::Bad)
     }

@@ -3,9 +3,10 @@ ghost use Rattle.std.specs.Prelude.{◌≡◌, ◌⊎◌, ◌≤◌, length, Ok,
 ghost use Rattle.e3_trace.specs.Cuts.{feed, pieces};
 ghost use Rattle.e3_trace.specs.Trace.{nothing_read, ended, lines_read, behind_mark, front_of, next_line, history_of, Spells, GoesOn};
 
-use crate::cuts::{FEED, cut, is_text};
+use crate::cuts::{FEED, cut};
 use crate::faults::{Fault, TraceFault};
 use crate::reading::Reading;
+use e3_lines::is_text;
 use e3_types::Scenario;
 use e3_world::History;
 use std::alloc::Global;
@@ -97,7 +98,9 @@ fn lines(alloc: Global, text: &[u8]) -> Result<History, TraceFault>
     requires { length text.now ≤ 268435456 }
     ensures { Spells (λ h. h.entries) result (lines_read 1 nothing_read (pieces feed text.now)) }
 {
-    let mut reading = Reading::roomy(alloc, entries_in(text))?;
+    let Ok(mut reading) = Reading::roomy(alloc, entries_in(text)) else {
+        return Err(TraceFault::NoMemory);
+    };
     let mut left = text;
     let mut at = 1u64;
     'lines: loop {

@@ -1,5 +1,5 @@
 use Rattle.std.proofs.Common.{◌≡◌, take}
-use Rattle.e3_items.specs.Bindings.{bound_behind}
+use Rattle.e3_readings.specs.Bindings.{bound_behind}
 use Rattle.e3_audit.specs.Seats.{Stands}
 use Rattle.e3_audit.proofs.walking.walk.Given as goal
 

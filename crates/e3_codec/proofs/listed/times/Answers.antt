@@ -11,7 +11,7 @@ returns-in_err-field g c =
 
 pub loop-preserved : goal.loop-preserved
 loop-preserved g c =
-    rw c.in_ok-push.ensures.ok (goes_on (g.T.Field.reading c.args.site) c.loop.fields c.args.count c.loop.counter c.loop.rest.now c.in_ok-field.field
+    rw c.in-Ok.ensures.ok (goes_on (g.T.Field.reading c.args.site) c.loop.fields c.args.count c.loop.counter c.loop.rest.now c.in_ok-field.field
     c.in_ok-field.after.now (times_at (g.T.Field.reading c.args.site) c.args.count c.args.bytes.now) c.loop-test.true c.in_ok-field.ensures.gives c.loop.invariant)
 
 pub returns : goal.returns

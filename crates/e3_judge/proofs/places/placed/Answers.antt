@@ -1,5 +1,6 @@
 use Rattle.std.proofs.Common.{◌++◌, ap, ◌∙◌, get_or, take, ◌+◌}
-use Rattle.e3_judge.specs.Added.{placed_at, added_by}
+use Rattle.e3_readings.specs.Places.{placed_at}
+use Rattle.e3_judge.specs.Added.{added_by}
 use Rattle.e3_judge.proofs.Adding.{placed_step}
 use Rattle.e3_judge.proofs.places.placed.Goals as goal
 

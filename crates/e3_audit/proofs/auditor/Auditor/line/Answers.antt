@@ -1,6 +1,6 @@
 use Rattle.std.proofs.Common.{◌∙◌, ap}
 use Rattle.std.specs.Prelude.{filter_map}
-use Rattle.e3_items.specs.Inputs.{input_with}
+use Rattle.e3_readings.specs.Inputs.{input_with}
 use Rattle.e3_world.specs.Packets.{step_items}
 use Rattle.e3_audit.proofs.Entered.{asks}
 use Rattle.e3_audit.proofs.auditor.Auditor.line.Goals as goal

@@ -14,13 +14,12 @@ pub turn-requires-clause-stands : goal.turn-requires-clause-stands
 turn-requires-clause-stands c =
     let items = c.args.self.now.seats.items in
     let count = c.requires.stands.count in
-    let long = c.len.ensures in
     let seat = c.index_mut-seat.result.now in
-    seat_at c.args.prefix.now.scenario.now c.args.prefix.now.entries.now items c.args.entry.now.owner seat c.requires.stands.seats (omega arith)
-    (slice_get_read items (length items) (c.args.entry.now.owner - 1) seat refl (omega (arith, count, long)) c.index_mut-seat.ensures.value)
+    seat_at c.args.prefix.now.scenario.now c.args.prefix.now.entries.now items c.args.entry.now.owner seat c.requires.stands.seats c.requires.some
+    (slice_get_read items (length items) (c.args.entry.now.owner - 1) seat refl (omega (arith, count)) c.index_mut-seat.ensures.value)
 
 pub returns : goal.returns
 returns c = λ yes.
     turned c.args.prefix.now.scenario.now c.args.prefix.now.entries.now c.args.after.now c.args.entry.now c.turn.new.seat c.args.self.now _ c.requires.stands c.requires.after
-    (omega arith) (c.in_ok-on.ensures.quiet c.if-not-on.false) ((decides_none _).0 (sym c.in_ok-may.ensures ∙ c.if-not-may.false))
+    c.requires.some (c.in_ok-on.ensures.quiet c.if-not-on.false) ((decides_none _).0 (sym c.in_ok-may.ensures ∙ c.if-not-may.false))
     (c.in_ok-on.ensures.stands c.if-not-on.false) refl refl refl

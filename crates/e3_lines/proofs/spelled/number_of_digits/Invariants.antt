@@ -1,6 +1,6 @@
 use Rattle.std.proofs.Common.{◌≡◌, ◌≤◌, drop}
-use Rattle.e3_scenario.specs.Parts.{digits_from}
-use Rattle.e3_scenario.proofs.parts.digits.Given as goal
+use Rattle.e3_lines.specs.Spelled.{digits_from}
+use Rattle.e3_lines.proofs.spelled.number_of_digits.Given as goal
 
 abbrev pub invariant-loop-byte : goal.invariant-loop-byte
 invariant-loop-byte l = record {

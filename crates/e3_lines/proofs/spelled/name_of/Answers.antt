@@ -1,8 +1,8 @@
 use Rattle.std.proofs.Common.{◌≡◌, ℕ, List, Option, Some, None, IfSome, IfNone, ap, ◌∙◌, sym}
 use Rattle.e3_types.specs.Text.{IsName}
-use Rattle.e3_scenario.specs.Parts.{name_of}
-use Rattle.e3_scenario.proofs.Forms.{name_of-name, name_of-none}
-use Rattle.e3_scenario.proofs.parts.name.Goals as goal
+use Rattle.e3_lines.specs.Spelled.{name_of}
+use Rattle.e3_lines.proofs.Names.{name_of-name, name_of-none}
+use Rattle.e3_lines.proofs.spelled.name_of.Goals as goal
 
 named : (text : List ℕ) (o : Option (List ℕ)) → IfSome o (λ name. (name ≡ text) × IsName text) → IfNone o (IsName text → ⊥) → o ≡ name_of text
 named text None some none = sym (name_of-none text none)

@@ -4,7 +4,7 @@ use Rattle.std.specs.List.{list_all}
 use Rattle.std.proofs.lemmas.Bool.{and_parts, leb-true}
 use Rattle.std.proofs.lemmas.List.Sums.{AllPass-from_list_all, list_all-from_AllPass}
 use Rattle.e3_types.specs.Text.{IsName, is_letter}
-use Rattle.e3_trace.specs.Fields.{name_of}
+use Rattle.e3_lines.specs.Spelled.{name_of}
 
 pub name_of-name : (text : List ℕ) → IsName text → name_of text ≡ Some text
 name_of-name text is = rw (le-leb 1 (length text) is.some, le-leb (length text) 32 is.few, list_all-from_AllPass is_letter text is.letters) refl

@@ -1,6 +1,0 @@
-use Rattle.std.proofs.Common.{◌≡◌, ◌++◌, take}
-use Rattle.e3_judge.specs.Added.{placed_at}
-use Rattle.e3_judge.proofs.places.add_placed.Given as goal
-
-abbrev pub invariant-loop-r : goal.invariant-loop-r
-invariant-loop-r l = l.out ≡ l.initial.out ++ placed_at l.site (take l.r-index l.records)

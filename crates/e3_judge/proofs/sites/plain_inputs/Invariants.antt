@@ -1,6 +1,0 @@
-use Rattle.std.proofs.Common.{◌≡◌, take, map}
-use Rattle.e3_world.specs.Moves.{plain_input}
-use Rattle.e3_judge.proofs.sites.plain_inputs.Given as goal
-
-abbrev pub invariant-loop-i : goal.invariant-loop-i
-invariant-loop-i l = l.out ≡ map plain_input (take l.i-index l.inputs)

@@ -1,6 +1,0 @@
-use Rattle.std.proofs.Common.{◌≡◌, take, map}
-use Rattle.e3_world.specs.Moves.{plain}
-use Rattle.e3_judge.proofs.sites.plain_outs.Given as goal
-
-abbrev pub invariant-loop-p : goal.invariant-loop-p
-invariant-loop-p l = l.out ≡ map plain (take l.p-index l.outs)
