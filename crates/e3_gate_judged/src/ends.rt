@@ -1,5 +1,5 @@
 // How a run ended, in words.
-use crate::given::{Given, Ran, played};
+use crate::given::{Asked, Given, Ran, played};
 use e3_disk::{Disk, MemDisk};
 use e3_lines::Page;
 use std::alloc::Global;
@@ -49,32 +49,25 @@ fn push_ran(page: &mut Page, ran: &Ran, report: &[u8]) {
     push_written(page, ran.sink.written(), report);
 }
 
-// Adds how a run of what is given ended, and what it wrote of the report of the plain one.
+// Adds how a run of what is given ended, and what it wrote of the report of the run without settings.
 fn push_beside<R: Wait + Threads + Sync>(
     rt: &R,
     alloc: Global,
     page: &mut Page,
     given: &Given,
-    plain: &Ran,
+    usual: &Ran,
 ) {
     match played(rt, alloc, given) {
-        Some(ran) => push_ran(page, &ran, plain.sink.written()),
+        Some(ran) => push_ran(page, &ran, usual.sink.written()),
         None => page.lack(),
     }
 }
 
 /// Adds the line of a run: how it ended, and what it wrote of the report of a run with nothing in its way.
-pub fn push_run<R: Wait + Threads + Sync>(
-    rt: &R,
-    alloc: Global,
-    page: &mut Page,
-    name: &[u8],
-    text: &[u8],
-    settings: &[u8],
-) {
-    page.bytes(name);
-    match played(rt, alloc, &Given::plain(text)) {
-        Some(plain) => push_beside(rt, alloc, page, &Given::with(text, settings), &plain),
+pub fn push_run<R: Wait + Threads + Sync>(rt: &R, alloc: Global, page: &mut Page, asked: &Asked) {
+    page.bytes(asked.name);
+    match played(rt, alloc, &Given::of(asked.text)) {
+        Some(usual) => push_beside(rt, alloc, page, &asked.given(), &usual),
         None => page.lack(),
     }
 }
@@ -118,21 +111,13 @@ pub fn push_counted<R: Wait + Threads + Sync>(
     rt: &R,
     alloc: Global,
     page: &mut Page,
-    name: &[u8],
-    text: &[u8],
-    settings: &[u8],
+    asked: &Asked,
 ) {
-    page.bytes(name);
-    match played(rt, alloc, &Given::with(text, settings)) {
+    page.bytes(asked.name);
+    match played(rt, alloc, &asked.given()) {
         Some(ran) => push_counts(page, &ran),
         None => page.lack(),
     }
-}
-
-const DIGITS: &[u8; 16] = b"0123456789ABCDEF";
-
-fn digit(value: u8) -> u8 {
-    DIGITS.get(usize::from(value)).copied().unwrap_or(b'?')
 }
 
 // How many bytes there are up to the last that is not 00.
@@ -152,7 +137,7 @@ fn count_written(bytes: &[u8]) -> usize {
 fn push_hex(page: &mut Page, bytes: &[u8]) {
     let mut count = 0u8;
     for byte in bytes {
-        page.bytes(&[digit(*byte / 16), digit(*byte % 16)]);
+        page.hex(&[*byte]);
         count = count.wrapping_add(1);
         if count % 16 == 0 {
             page.text("\n");
@@ -197,7 +182,7 @@ fn push_first(alloc: Global, page: &mut Page, disks: &mut [MemDisk]) {
 
 /// Adds the bytes of the disk of site 1 behind a run.
 pub fn push_disk<R: Wait + Threads + Sync>(rt: &R, alloc: Global, page: &mut Page, text: &[u8]) {
-    match played(rt, alloc, &Given::plain(text)) {
+    match played(rt, alloc, &Given::of(text)) {
         Some(mut ran) => push_first(alloc, page, &mut ran.ended.disks),
         None => page.lack(),
     }

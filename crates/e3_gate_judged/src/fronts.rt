@@ -20,7 +20,7 @@ fn push_ending(page: &mut Page, ran: &Ran) {
 // How a run of this front ends.
 fn ending<R: Wait + Threads + Sync>(rt: &R, alloc: Global, front: &[u8]) -> Page {
     let mut end = Page::new(alloc);
-    match played(rt, alloc, &Given::plain(front)) {
+    match played(rt, alloc, &Given::of(front)) {
         Some(ran) => push_ending(&mut end, &ran),
         None => end.lack(),
     }

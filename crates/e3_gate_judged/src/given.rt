@@ -23,7 +23,7 @@ pub struct Given<'a> {
 
 impl<'a> Given<'a> {
     /// The scenario of this text, with nothing in its way.
-    pub fn plain(text: &'a [u8]) -> Given<'a> {
+    pub fn of(text: &'a [u8]) -> Given<'a> {
         Given {
             text,
             settings: b"",
@@ -57,6 +57,21 @@ impl<'a> Given<'a> {
             Some(value) => number(value),
             None => other,
         }
+    }
+}
+
+/// What is asked of a text: the name that is printed of it, the text, and settings.
+#[derive(Clone, Copy)]
+pub struct Asked<'a> {
+    pub name: &'a [u8],
+    pub text: &'a [u8],
+    pub settings: &'a [u8],
+}
+
+impl<'a> Asked<'a> {
+    /// What a run of it is given.
+    pub fn given(&self) -> Given<'a> {
+        Given::with(self.text, self.settings)
     }
 }
 

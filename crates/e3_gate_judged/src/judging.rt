@@ -1,5 +1,5 @@
 // What the judge says of runs.
-use crate::given::{Given, Ran, played};
+use crate::given::{Asked, Given, Ran, played};
 use crate::standing::count_standing;
 use crate::texts::{cut, without_space};
 use e3_disk::MemDisk;
@@ -118,13 +118,11 @@ pub fn push_judged<R: Wait + Threads + Sync>(
     rt: &R,
     alloc: Global,
     page: &mut Page,
-    name: &[u8],
-    text: &[u8],
-    settings: &[u8],
+    asked: &Asked,
 ) {
-    page.bytes(name);
+    page.bytes(asked.name);
     page.text(": ");
-    push_said(rt, alloc, page, &Given::with(text, settings));
+    push_said(rt, alloc, page, &asked.given());
 }
 
 // The text with these words for its `@`.
@@ -156,20 +154,14 @@ fn push_stopped<R: Wait + Threads + Sync>(
 
 /// Adds the line of a run whose text has words for its `@`: what is said of it, and the events behind its stop. Behind the words
 /// and a comma stand its settings.
-pub fn push_stop<R: Wait + Threads + Sync>(
-    rt: &R,
-    alloc: Global,
-    page: &mut Page,
-    name: &[u8],
-    text: &[u8],
-    command: &[u8],
-) {
-    let (words, settings) = cut(without_space(command), b',');
-    page.bytes(name);
+pub fn push_stop<R: Wait + Threads + Sync>(rt: &R, alloc: Global, page: &mut Page, asked: &Asked) {
+    let (words, settings) = cut(without_space(asked.settings), b',');
+    let text = text_with(alloc, asked.text, words);
+    page.bytes(asked.name);
     page.text(" ");
     page.bytes(words);
     page.text(": ");
-    push_stopped(rt, alloc, page, &text_with(alloc, text, words), settings);
+    push_stopped(rt, alloc, page, &text, settings);
     page.text("\n");
 }
 
@@ -180,7 +172,7 @@ fn is_sound<R: Wait + Threads + Sync>(
     scenario: &Scenario,
     text: &[u8],
 ) -> Option<bool> {
-    let ran = played(rt, alloc, &Given::plain(text))?;
+    let ran = played(rt, alloc, &Given::of(text))?;
     let said = verdict_of(alloc, scenario, &ran.ended.history)?;
     Some(said == SOUND)
 }
@@ -205,19 +197,13 @@ fn count_sound<R: Wait + Threads + Sync>(
 }
 
 /// Adds how many of four runs of this scenario are legal and whole.
-pub fn push_group<R: Wait + Threads + Sync>(
-    rt: &R,
-    alloc: Global,
-    page: &mut Page,
-    name: &[u8],
-    text: &[u8],
-) {
-    page.bytes(name);
+pub fn push_group<R: Wait + Threads + Sync>(rt: &R, alloc: Global, page: &mut Page, asked: &Asked) {
+    page.bytes(asked.name);
     page.text(": ");
     page.text(SOUND);
-    match scenario_of(alloc, text) {
+    match scenario_of(alloc, asked.text) {
         Some(scenario) => {
-            let sound = count_sound(rt, alloc, page, &scenario, text);
+            let sound = count_sound(rt, alloc, page, &scenario, asked.text);
             page.labelled(" ", sound);
         }
         None => page.lack(),

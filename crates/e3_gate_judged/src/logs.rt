@@ -1,5 +1,5 @@
 // What a run tells of logs without room: how often it committed, fell and rose, and of how many sites the disk stands.
-use crate::given::{Given, Ran, played};
+use crate::given::{Asked, Ran, played};
 use crate::standing::count_standing;
 use e3_lines::Page;
 use e3_scenario::read_scenario;
@@ -70,17 +70,10 @@ fn push_ran(alloc: Global, page: &mut Page, text: &[u8], ran: Ran) {
 }
 
 /// Adds the line of a run: its status, of how many sites the disk stands, and how often site 1 committed, fell and rose.
-pub fn push_log<R: Wait + Threads + Sync>(
-    rt: &R,
-    alloc: Global,
-    page: &mut Page,
-    name: &[u8],
-    text: &[u8],
-    settings: &[u8],
-) {
-    page.bytes(name);
-    match played(rt, alloc, &Given::with(text, settings)) {
-        Some(ran) => push_ran(alloc, page, text, ran),
+pub fn push_log<R: Wait + Threads + Sync>(rt: &R, alloc: Global, page: &mut Page, asked: &Asked) {
+    page.bytes(asked.name);
+    match played(rt, alloc, &asked.given()) {
+        Some(ran) => push_ran(alloc, page, asked.text, ran),
         None => page.lack(),
     }
 }

@@ -21,21 +21,15 @@ mod standing;
 mod texts;
 
 use e3_lines::Page;
-use e3_outside::{StdSource, read_up_to};
+use given::{Asked, Given};
 use std::alloc::Global;
-use std::io::{self, Write};
 use std::process::ExitCode;
 use std::sync::Wait;
 use std::thread::Threads;
 use texts::cut;
 
-const NO_OUTPUT: u8 = 4;
-
-/// Want of memory beside a run, no input, or no scenario where one is judged.
-const NO_MEMORY: u8 = 6;
-
-/// More bytes than all texts have.
-const MOST: u64 = 1_048_576;
+/// Where the input can't be read, or memory is lacking for it.
+const NO_MEMORY: u8 = 5;
 
 // Adds the lines of what is run of a text, by the first letter of what is asked.
 fn push_command<R: Wait + Threads + Sync>(
@@ -47,14 +41,19 @@ fn push_command<R: Wait + Threads + Sync>(
 ) {
     let (word, rest) = cut(command, b' ');
     let (name, settings) = cut(rest, b':');
+    let asked = Asked {
+        name,
+        text,
+        settings,
+    };
     match word.first() {
-        Some(b'j') => judging::push_judged(rt, alloc, page, name, text, settings),
-        Some(b'g') => judging::push_group(rt, alloc, page, name, text),
-        Some(b's') => judging::push_stop(rt, alloc, page, name, text, settings),
-        Some(b'r') => ends::push_run(rt, alloc, page, name, text, settings),
-        Some(b'e') => ends::push_counted(rt, alloc, page, name, text, settings),
+        Some(b'j') => judging::push_judged(rt, alloc, page, &asked),
+        Some(b'g') => judging::push_group(rt, alloc, page, &asked),
+        Some(b's') => judging::push_stop(rt, alloc, page, &asked),
+        Some(b'r') => ends::push_run(rt, alloc, page, &asked),
+        Some(b'e') => ends::push_counted(rt, alloc, page, &asked),
         Some(b'd') => ends::push_disk(rt, alloc, page, text),
-        Some(b'l') => logs::push_log(rt, alloc, page, name, text, settings),
+        Some(b'l') => logs::push_log(rt, alloc, page, &asked),
         Some(b'f') => fronts::push_fronts(rt, alloc, page, text),
         Some(b'c') => damage::push_changes(alloc, page, name, settings),
         Some(b'o') => damage::push_open(alloc, page, name, settings),
@@ -94,21 +93,14 @@ fn lines<R: Wait + Threads + Sync>(rt: &R, alloc: Global, input: &[u8]) -> Page 
         push_line(rt, alloc, &mut page, &mut text, line);
     }
     if page.as_slice().is_empty() {
-        judging::push_said(rt, alloc, &mut page, &given::Given::plain(text.as_slice()));
+        judging::push_said(rt, alloc, &mut page, &Given::of(text.as_slice()));
     }
     page
 }
 
 fn main(rt: HostRuntime) -> ExitCode {
-    let mut source = StdSource::new(rt.reader());
-    let Ok(input) = read_up_to(rt.alloc(), &mut source, MOST) else {
-        return ExitCode::from(NO_MEMORY);
-    };
-    let Some(text) = lines(&rt, rt.alloc(), input.as_slice()).done() else {
-        return ExitCode::from(NO_MEMORY);
-    };
-    match io::writer(&rt).write_all(text.as_slice()) {
-        Ok(()) => ExitCode::SUCCESS,
-        Err(_) => ExitCode::from(NO_OUTPUT),
+    match Page::read(rt.alloc(), rt.reader()).done() {
+        Some(input) => lines(&rt, rt.alloc(), input.as_slice()).print(&rt),
+        None => ExitCode::from(NO_MEMORY),
     }
 }

@@ -4,7 +4,7 @@ use e3_disk::{Drill, MemDisk};
 use e3_judge::{Tail, log_at, tail_at};
 use e3_lines::Page;
 use e3_log::{Frame, Log, OpenCause, OpenRefused};
-use e3_snapshot::brief;
+use e3_site::brief;
 use e3_types::{Entry, List, NoMemory, Record, Scenario};
 use std::alloc::Global;
 

@@ -2,8 +2,7 @@
 use e3_codec::{put_records, read_records};
 use e3_disk::{Disk, MemDisk};
 use e3_log::{Frame, Log};
-use e3_site::{Site, rebuild};
-use e3_snapshot::of_site;
+use e3_site::{Site, of_site, rebuild};
 use e3_types::{Dir, Key, List, Name, NoMemory, NumOp, Op, Record, SiteSet, Txn, Val};
 use std::alloc::Global;
 use std::rt::Clock;

@@ -11,10 +11,8 @@ use e3_lines::Page;
 use std::alloc::Global;
 
 /// Adds all lines.
-pub fn push_lines(alloc: Global, page: &mut Page, input: &Page) {
-    if !input.is_whole() {
-        page.lack();
-    }
+pub fn push_lines(alloc: Global, page: &mut Page, given: &Page) {
+    let input = page.part(alloc, given, "parts");
     quorums::push_lines(alloc, page);
     clients::push_lines(alloc, page);
     locks::push_lines(alloc, page, input.as_slice());

@@ -2,7 +2,7 @@
 use Rattle.std.proofs.Common.{◌≡◌, ◌≢◌, ◌≤◌, ◌++◌, ◌∷◌, [], ℕ, List, refl, sym, ap, subst, ◌∙◌, arith, eq-eqb}
 use Rattle.std.proofs.lemmas.List.Elements.{All-cons, All-nil}
 use Rattle.std.specs.Prelude.{Result, Ok, Err, OnOk}
-use Rattle.e3_disk.specs.Meters.{Meters}
+use Rattle.e3_disk.specs.Meaning.{Meaning}
 use Rattle.e3_fleet.proofs.Driven.{opened}
 use Rattle.e3_gate_runs.specs.TwoNodes.{AreTwo, HaveGoneOn}
 use Rattle.e3_node.specs.Claims.{NodesKept}
@@ -26,12 +26,12 @@ pub ok_of : {E : Type 0} (answer : Result (Unit {0}) E) (u : Unit {0}) (X : Type
 ok_of (Ok v) u X is given = given
 ok_of (Err e) u X is given = absurd cc
 
-module _ {D : Type 0} (content : D → List ℕ) (image : D → List ℕ → Type 0) (meters : D → Meters) where
+module _ {D : Type 0} (meaning : Meaning D) where
   abbrev Two : List Mark → NodeView D → NodeView D → Type 0
-  Two shared node other = AreTwo content image meters shared node other
+  Two shared node other = AreTwo meaning shared node other
 
   abbrev On : List Mark → List Mark → NodeView D → NodeView D → Type 0
-  On before now node other = HaveGoneOn content image meters before now node other
+  On before now node other = HaveGoneOn meaning before now node other
 
   pub on_more : (a b c : List Mark) (u v x y : NodeView D) → IsPlayed a → On a b u v → On b c x y → On a c x y
   on_more a b c u v x y played first second = record { two = second.two; grown = growth_adds_up a b c played first.grown second.grown }
@@ -44,16 +44,16 @@ module _ {D : Type 0} (content : D → List ℕ) (image : D → List ℕ → Typ
   turned_on a b x y on = record { two = turned b x y on.two; grown = on.grown }
 
   -- the other node stands behind an entry of another owner
-  kept : NodesKept content image meters → (a b : List Mark) (e : Entry) (y : NodeView D) → NodeStands content image meters (scenario_of a) (entries_of a) y → e.owner ≢ y.site →
-      scenario_of b ≡ scenario_of a → entries_of b ≡ entries_of a ++ e ∷ [] → NodeStands content image meters (scenario_of b) (entries_of b) y
+  kept : NodesKept meaning → (a b : List Mark) (e : Entry) (y : NodeView D) → NodeStands meaning (scenario_of a) (entries_of a) y → e.owner ≢ y.site →
+      scenario_of b ≡ scenario_of a → entries_of b ≡ entries_of a ++ e ∷ [] → NodeStands meaning (scenario_of b) (entries_of b) y
   kept law a b e y stands far same entered =
-      let P : Scenario → Type 0 = λ k. NodeStands content image meters k (entries_of b) y in
-      let Q : List Entry → Type 0 = λ l. NodeStands content image meters (scenario_of a) l y in
+      let P : Scenario → Type 0 = λ k. NodeStands meaning k (entries_of b) y in
+      let Q : List Entry → Type 0 = λ l. NodeStands meaning (scenario_of a) l y in
       subst P (sym same) (subst Q (sym entered) (law (scenario_of a) (entries_of a) e y stands far))
 
   -- a node entered something of its own
-  pub entered_own : NodesKept content image meters → (a b : List Mark) (e : Entry) (x y new : NodeView D) → Two a x y → e.owner ≡ x.site → SharedStands b → HaveGrown a b →
-      scenario_of b ≡ scenario_of a → entries_of b ≡ entries_of a ++ e ∷ [] → NodeStands content image meters (scenario_of b) (entries_of b) new → new.site ≡ x.site → On a b new y
+  pub entered_own : NodesKept meaning → (a b : List Mark) (e : Entry) (x y new : NodeView D) → Two a x y → e.owner ≡ x.site → SharedStands b → HaveGrown a b →
+      scenario_of b ≡ scenario_of a → entries_of b ≡ entries_of a ++ e ∷ [] → NodeStands meaning (scenario_of b) (entries_of b) new → new.site ≡ x.site → On a b new y
   entered_own law a b e x y new two own stands grown same entered node site = record {
     two = record {
       stands = stands;
@@ -65,7 +65,7 @@ module _ {D : Type 0} (content : D → List ℕ) (image : D → List ℕ → Typ
   }
 
   -- the driver entered something
-  pub entered_line : NodesKept content image meters → (a b : List Mark) (e : Entry) (x y : NodeView D) → Two a x y → e.owner ≡ 0 → IsPlayed b →
+  pub entered_line : NodesKept meaning → (a b : List Mark) (e : Entry) (x y : NodeView D) → Two a x y → e.owner ≡ 0 → IsPlayed b →
       b ≡ a ++ mark.Entered e ∷ [] → On a b x y
   entered_line law a b e x y two driver played is = record {
     two = record {
@@ -96,10 +96,10 @@ module _ {D : Type 0} (content : D → List ℕ) (image : D → List ℕ → Typ
 
   -- before anything happened
   pub two_at_first : (sc : Scenario) (most : ℕ) (marks : List Mark) (x y : NodeView D) → marks ≡ mark.Start sc most ∷ [] → IsPlayed marks →
-      NodeStands content image meters sc [] x → NodeStands content image meters sc [] y → x.site ≢ y.site → Two marks x y
+      NodeStands meaning sc [] x → NodeStands meaning sc [] y → x.site ≢ y.site → Two marks x y
   two_at_first sc most marks x y is played first second apart =
-      let P : List Mark → Type 0 = λ l. NodeStands content image meters (scenario_of l) (entries_of l) x in
-      let Q : List Mark → Type 0 = λ l. NodeStands content image meters (scenario_of l) (entries_of l) y in
+      let P : List Mark → Type 0 = λ l. NodeStands meaning (scenario_of l) (entries_of l) x in
+      let Q : List Mark → Type 0 = λ l. NodeStands meaning (scenario_of l) (entries_of l) y in
       record {
         stands = opened sc most marks is played;
         node = subst P (sym is) first;

@@ -1,2 +1,4 @@
 pub mod Going
 pub mod Showing
+pub mod Local
+pub mod Dealing

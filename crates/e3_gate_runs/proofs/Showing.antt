@@ -8,7 +8,7 @@ use Rattle.atomic_table.specs.Seated.{TableId}
 use Rattle.e3_crew.proofs.Taking.{packets_may}
 use Rattle.e3_fleet.specs.Fleets.{IsTaken}
 use Rattle.e3_fleet.proofs.Holding.{held_last, may_put, owns_same, taken_on}
-use Rattle.e3_disk.specs.Meters.{Meters}
+use Rattle.e3_disk.specs.Meaning.{Meaning}
 use Rattle.e3_gate_runs.specs.AtOnce.{MayTakeAtOnce}
 use Rattle.e3_law_local.specs.Drafts.{MayTakeAll}
 use Rattle.e3_law_local.specs.Least.{AreFirstTo, queue_to}
@@ -104,16 +104,16 @@ some_of zero b is full = absurd cc
 some_of (suc n) b is full = omega arith
 
 -- so they may be taken in one call
-pub may_at_once : {D : Type 0} (content : D → List ℕ) (image : D → List ℕ → Type 0) (meters : D → Meters) (law : PlacesPromise) (wire : TableId) (p q : APass) (marks now : List Mark)
-    (node : NodeView D) (site most : ℕ) (few : List Packet) (inputs : List Input) → most ≤ 8 → IsTaken wire p marks → IsPlayed marks → NodeStands content image meters (scenario_of marks) (entries_of marks) node →
+pub may_at_once : {D : Type 0} (meaning : Meaning D) (law : PlacesPromise) (wire : TableId) (p q : APass) (marks now : List Mark)
+    (node : NodeView D) (site most : ℕ) (few : List Packet) (inputs : List Input) → most ≤ 8 → IsTaken wire p marks → IsPlayed marks → NodeStands meaning (scenario_of marks) (entries_of marks) node →
     site ≡ node.site → items_through (scenario_of marks) (entries_of marks) ≡ true → is_calm (present_items (scenario_of marks) (entries_of marks)) ≡ false →
     few ≡ first_few marks site most → now ≡ marks ++ places_for site (length few) → inputs ≡ map input.Deliver few → 1 ≤ length inputs →
-    SameOwners p q → seen_by q ≡ now → IsPlayed (seen_by q) → MayTakeAtOnce content image meters q node inputs
-may_at_once content image meters law wire p q marks now node site most few inputs at_most taken played stands is_site all calm shown is deliver some same seen played_on = record {
+    SameOwners p q → seen_by q ≡ now → IsPlayed (seen_by q) → MayTakeAtOnce meaning q node inputs
+may_at_once meaning law wire p q marks now node site most few inputs at_most taken played stands is_site all calm shown is deliver some same seen played_on = record {
   owns = subst (λ (s : ℕ). Owns q s) is_site by.owns;
   played = played_on;
-  stands = (let P : Scenario → Type 0 = λ k. NodeStands content image meters k (history_seen q) node in
-      let Q : List Entry → Type 0 = λ l. NodeStands content image meters (scenario_of marks) l node in subst P (sym by.scenario) (subst Q (sym by.entries) stands));
+  stands = (let P : Scenario → Type 0 = λ k. NodeStands meaning k (history_seen q) node in
+      let Q : List Entry → Type 0 = λ l. NodeStands meaning (scenario_of marks) l node in subst P (sym by.scenario) (subst Q (sym by.entries) stands));
   restless = (let P : Scenario → Type 0 = λ k. is_calm (present_items k (history_seen q)) ≡ false in
       let Q : List Entry → Type 0 = λ l. is_calm (present_items (scenario_of marks) l) ≡ false in subst P (sym by.scenario) (subst Q (sym by.entries) calm));
   few = (some, omega (arith, long, low_enough));

@@ -1,6 +1,6 @@
 -- What a node is asked to take in one call.
-use Rattle.std.specs.Prelude.{◌≡◌, ◌≤◌, ℕ, true, false, List, length}
-use Rattle.e3_disk.specs.Meters.{Meters}
+use Rattle.std.specs.Prelude.{◌≡◌, ◌≤◌, true, false, List, length}
+use Rattle.e3_disk.specs.Meaning.{Meaning}
 use Rattle.e3_law_local.specs.Drafts.{MayTakeAll}
 use Rattle.e3_law_local.specs.Least.{AreFirstTo}
 use Rattle.e3_node.specs.NodeStands.{NodeStands}
@@ -15,11 +15,10 @@ use Rattle.e3_world.specs.Items.{is_up_at}
 use Rattle.e3_world.specs.Packets.{is_calm, present_items}
 
 -- The node stands for what its pass has seen, and these are the first packets to its site, eight at most, with a place for each.
-pub record MayTakeAtOnce {D : Type 0} (content : D → List ℕ) (image : D → List ℕ → Type 0) (meters : D → Meters)
-    (p : APass) (node : NodeView D) (inputs : List Input) : Type 0 where
+pub record MayTakeAtOnce {D : Type 0} (meaning : Meaning D) (p : APass) (node : NodeView D) (inputs : List Input) : Type 0 where
   pub owns : Owns p node.site
   pub played : IsPlayed (seen_by p)
-  pub stands : NodeStands content image meters (scenario_seen p) (history_seen p) node
+  pub stands : NodeStands meaning (scenario_seen p) (history_seen p) node
   pub restless : is_calm (present_items (scenario_seen p) (history_seen p)) ≡ false
   pub few : (1 ≤ length inputs) × (length inputs ≤ 8)
   pub due : is_up_at (history_seen p) node.site ≡ true → MayTakeAll (scenario_seen p) (history_seen p) node.site inputs

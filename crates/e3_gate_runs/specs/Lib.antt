@@ -1,2 +1,4 @@
 pub mod TwoNodes
 pub mod AtOnce
+pub mod Marks
+pub mod Workers

@@ -133,6 +133,7 @@ fn push_runs<R: Wait + Threads + Sync>(rt: &R, alloc: Global, page: &mut Page, f
 /// Adds what the runs come to: in how many of them the sites met, and how many reports are the first one, which follows. Then
 /// how many calls of disks a group of commits makes, and how many a node.
 pub fn push_lines<R: Wait + Threads + Sync>(rt: &R, alloc: Global, page: &mut Page) {
+    page.text("== at once\n");
     match reported(rt, alloc, &Meeting::new()) {
         Some(first) => push_runs(rt, alloc, page, first.written()),
         None => page.lack(),

@@ -46,10 +46,8 @@ fn push_row<R: Wait + Threads + Sync>(
 }
 
 /// Adds all lines.
-pub fn push_lines<R: Wait + Threads + Sync>(rt: &R, alloc: Global, page: &mut Page, input: &Page) {
-    if !input.is_whole() {
-        page.lack();
-    }
+pub fn push_lines<R: Wait + Threads + Sync>(rt: &R, alloc: Global, page: &mut Page, given: &Page) {
+    let input = page.part(alloc, given, "audits");
     let mut text = Page::new(alloc);
     for line in input.as_slice().split_inclusive(|byte| *byte == b'\n') {
         match line.strip_prefix(b"##compare ") {

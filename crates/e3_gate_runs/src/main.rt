@@ -1,51 +1,44 @@
-//! What runs come to: the rounds of their recoveries, what both judges say of their histories, and two sites at work at once.
-//! Each part stands behind a line `== NAME`, in the standard input where it reads any, and in the file of this program's output.
+//! What runs come to: the rounds of their recoveries, what both judges say of their histories, two sites at work at once, and how
+//! the turn lock goes from thread to thread. Each part stands behind a line `== NAME`, in the standard input where it reads any,
+//! and in the file of this program's output. `e3_gate_runs --time` prints how fast the turn lock is, and nothing else.
 #![tactic(auto)]
 
 mod at_once;
 mod audits;
 mod playing;
 mod rounds;
+mod turns;
 
-use e3_lines::{Page, part_of};
-use e3_outside::{StdSource, read_up_to};
-use std::alloc::Global;
-use std::io::{self, Write};
+use e3_lines::Page;
+use std::env;
 use std::process::ExitCode;
-use std::sync::Wait;
-use std::thread::Threads;
 
-const NO_INPUT: u8 = 3;
+/// For other words than `--time`.
+const REFUSED: u8 = 1;
 
-const NO_OUTPUT: u8 = 4;
-
-const NO_MEMORY: u8 = 5;
-
-/// More bytes than the input has.
-const MOST: u64 = 1_048_576;
-
-// All lines, each part behind its name.
-fn lines<R: Wait + Threads + Sync>(rt: &R, alloc: Global, input: &[u8]) -> Page {
-    let mut page = Page::new(alloc);
-    page.text("== rounds\n");
-    rounds::push_lines(rt, alloc, &mut page);
-    page.text("== audits\n");
-    audits::push_lines(rt, alloc, &mut page, &part_of(alloc, input, b"audits"));
-    page.text("== at once\n");
-    at_once::push_lines(rt, alloc, &mut page);
-    page
+// Whether the turn lock is timed; none for other words than `--time`.
+fn read_words(rt: &HostRuntime) -> Option<bool> {
+    let mut words = env::args(rt).ok()?.skip(1);
+    match words.next() {
+        None => Some(false),
+        Some(word) if word.as_str() == "--time" && words.next().is_none() => Some(true),
+        Some(_) => None,
+    }
 }
 
 fn main(rt: HostRuntime) -> ExitCode {
-    let mut source = StdSource::new(rt.reader());
-    let Ok(input) = read_up_to(rt.alloc(), &mut source, MOST) else {
-        return ExitCode::from(NO_INPUT);
+    let Some(is_timed) = read_words(&rt) else {
+        return ExitCode::from(REFUSED);
     };
-    let Some(text) = lines(&rt, rt.alloc(), input.as_slice()).done() else {
-        return ExitCode::from(NO_MEMORY);
-    };
-    match io::writer(&rt).write_all(text.as_slice()) {
-        Ok(()) => ExitCode::SUCCESS,
-        Err(_) => ExitCode::from(NO_OUTPUT),
+    let mut page = Page::new(rt.alloc());
+    if is_timed {
+        turns::push_paces(&rt, rt.alloc(), &mut page);
+        return page.print(&rt);
     }
+    let given = Page::read(rt.alloc(), rt.reader());
+    rounds::push_lines(&rt, rt.alloc(), &mut page);
+    audits::push_lines(&rt, rt.alloc(), &mut page, &given);
+    at_once::push_lines(&rt, rt.alloc(), &mut page);
+    turns::push_lines(&rt, rt.alloc(), &mut page);
+    page.print(&rt)
 }

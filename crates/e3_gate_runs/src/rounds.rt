@@ -51,6 +51,7 @@ fn push_row<R: Wait + Threads + Sync>(
 
 /// Adds all lines.
 pub fn push_lines<R: Wait + Threads + Sync>(rt: &R, alloc: Global, page: &mut Page) {
+    page.text("== rounds\n");
     for (name, text) in rows::ROWS {
         push_row(rt, alloc, page, name, text);
     }

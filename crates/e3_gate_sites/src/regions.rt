@@ -44,10 +44,8 @@ fn push_line(alloc: Global, page: &mut Page, line: &[u8]) {
 }
 
 /// Adds all lines.
-pub fn push_lines(alloc: Global, page: &mut Page, input: &Page) {
-    if !input.is_whole() {
-        page.lack();
-    }
+pub fn push_lines(alloc: Global, page: &mut Page, given: &Page) {
+    let input = page.part(alloc, given, "regions");
     for line in input.as_slice().split(|byte| *byte == b'\n') {
         if !line.is_empty() {
             push_line(alloc, page, line);

@@ -72,10 +72,8 @@ fn push_case(alloc: Global, page: &mut Page, head: &[u8], text: &Page) {
 }
 
 /// Adds all lines.
-pub fn push_lines(alloc: Global, page: &mut Page, input: &Page) {
-    if !input.is_whole() {
-        page.lack();
-    }
+pub fn push_lines(alloc: Global, page: &mut Page, given: &Page) {
+    let input = page.part(alloc, given, "sites");
     let mut head = b"".as_slice();
     let mut text = Page::new(alloc);
     for line in input.as_slice().split_inclusive(|byte| *byte == b'\n') {

@@ -40,10 +40,8 @@ fn push_verdict(alloc: Global, page: &mut Page, case: &Case) {
 }
 
 /// Adds the verdicts on all cases of the input.
-pub fn push_lines(alloc: Global, page: &mut Page, input: &Page) {
-    if !input.is_whole() {
-        page.lack();
-    }
+pub fn push_lines(alloc: Global, page: &mut Page, given: &Page) {
+    let input = page.part(alloc, given, "checks");
     let Ok(cases) = cases_in(alloc, input.as_slice()) else {
         return page.lack();
     };

@@ -54,6 +54,7 @@ fn is_read_as_played(alloc: Global, n: u32) -> Result<bool, NoMemory> {
 
 /// Adds how many numbers up to the last have such a text, and a line for each that has not.
 pub fn push_lines(alloc: Global, page: &mut Page) {
+    page.text("== generated\n");
     let mut count: u64 = 0;
     for n in 1..=LAST {
         match is_read_as_played(alloc, n) {

@@ -43,10 +43,8 @@ fn push_case(alloc: Global, page: &mut Page, input: &[u8], line: &[u8]) {
 }
 
 /// Adds all lines.
-pub fn push_lines(alloc: Global, page: &mut Page, input: &Page) {
-    if !input.is_whole() {
-        page.lack();
-    }
+pub fn push_lines(alloc: Global, page: &mut Page, given: &Page) {
+    let input = page.part(alloc, given, "texts");
     let cases = before_mark(input.as_slice());
     let cases = cases.strip_suffix(b"\n").unwrap_or(cases);
     for line in cases.split(|byte| *byte == b'\n') {

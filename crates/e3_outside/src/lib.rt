@@ -3,6 +3,7 @@
 //! pass, in which a test may hold them.
 #![tactic(auto)]
 
+mod calls;
 mod gate;
 mod memory_sink;
 mod memory_source;

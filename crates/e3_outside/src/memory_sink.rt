@@ -3,6 +3,7 @@ ghost use Rattle.std.specs.Prelude.{◌≡◌, ◌<◌, ◌≤◌, ◌-◌, ◌�
 ghost use Rattle.e3_outside.specs.Faults.{count_up};
 ghost use Rattle.e3_outside.specs.Memory.{failed_write, write_of};
 
+use crate::calls::Calls;
 use crate::{Failed, Sink};
 use e3_types::{List, NoMemory};
 use std::alloc::Global;
@@ -12,12 +13,9 @@ use std::marker::Model;
 /// they are told to and where no room is left.
 #[derive(Drop)]
 pub struct MemSink {
+    calls: Calls,
     bytes: Vec<u8>,
     room: usize,
-    most: usize,
-    fails: List<u64>,
-    calls: u64,
-    faults: u64,
 }
 
 impl Model for MemSink {
@@ -26,9 +24,9 @@ impl Model for MemSink {
 
     ghost Value = { SinkState };
 
-    ghost view = { λ k. record { written = k.bytes.items; room = k.room; most = k.most; fails = k.fails; calls = k.calls; faults = k.faults } };
+    ghost view = { λ k. record { written = k.bytes.items; room = k.room; most = k.calls.most; fails = k.calls.fails; calls = k.calls.made; faults = k.calls.faults } };
 
-    ghost invariant = { λ k. (vec_len k.bytes ≤ k.room) × (k.room ≤ vec_capacity k.bytes) × (1 ≤ k.most) };
+    ghost invariant = { λ k. (vec_len k.bytes ≤ k.room) × (k.room ≤ vec_capacity k.bytes) × (1 ≤ k.calls.most) };
 }
 
 impl MemSink {
@@ -40,12 +38,9 @@ impl MemSink {
     {
         match Vec::with_capacity(alloc, room as usize) {
             Ok(bytes) => Ok(MemSink {
+                calls: Calls::new(most, fails),
                 bytes,
                 room: room as usize,
-                most: most as usize,
-                fails,
-                calls: 0,
-                faults: 0,
             }),
             Err(_) => Err(NoMemory),
         }
@@ -79,13 +74,12 @@ impl Sink for MemSink {
         ensures after_ok { IfOk result (λ n. self.new ≡ write_of n piece.now self.old) }
         ensures after_err { OnErr result (self.new ≡ failed_write self.old) }
     {
-        self.calls = self.calls.saturating_add(1);
         let free = self.room - self.bytes.len();
-        if self.fails.as_slice().contains(&self.calls) || free == 0 {
-            self.faults = self.faults.saturating_add(1);
+        if self.calls.begin() || free == 0 {
+            self.calls.fail();
             return Err(Failed);
         }
-        let count = self.most.min(piece.len().min(free));
+        let count = self.calls.most.min(piece.len().min(free));
         match self.bytes.extend_from_slice(&piece[..count]) {
             Ok(()) => Ok(count),
             Err(_) => unreachable!(),

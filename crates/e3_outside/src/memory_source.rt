@@ -4,6 +4,7 @@ ghost use Rattle.std.specs.Io.{ReadsAtMost};
 ghost use Rattle.e3_outside.specs.Faults.{count_up};
 ghost use Rattle.e3_outside.specs.Memory.{failed_read, read_of};
 
+use crate::calls::Calls;
 use crate::{Failed, Source};
 use e3_types::List;
 use std::marker::Model;
@@ -13,10 +14,7 @@ use std::marker::Model;
 pub struct MemSource {
     bytes: List<u8>,
     place: usize,
-    most: usize,
-    fails: List<u64>,
-    calls: u64,
-    faults: u64,
+    calls: Calls,
 }
 
 impl Model for MemSource {
@@ -25,9 +23,9 @@ impl Model for MemSource {
 
     ghost Value = { SourceState };
 
-    ghost view = { λ s. record { left = drop s.place s.bytes; most = s.most; fails = s.fails; calls = s.calls; faults = s.faults } };
+    ghost view = { λ s. record { left = drop s.place s.bytes; most = s.calls.most; fails = s.calls.fails; calls = s.calls.made; faults = s.calls.faults } };
 
-    ghost invariant = { λ s. (s.place ≤ length s.bytes) × (1 ≤ s.most) };
+    ghost invariant = { λ s. (s.place ≤ length s.bytes) × (1 ≤ s.calls.most) };
 }
 
 impl MemSource {
@@ -40,10 +38,7 @@ impl MemSource {
         MemSource {
             bytes,
             place: 0,
-            most: most as usize,
-            fails,
-            calls: 0,
-            faults: 0,
+            calls: Calls::new(most, fails),
         }
     }
 
@@ -74,12 +69,11 @@ impl Source for MemSource {
         ensures after_ok { IfOk result (λ n. self.new ≡ read_of n self.old) }
         ensures after_err { OnErr result (self.new ≡ failed_read self.old) }
     {
-        self.calls = self.calls.saturating_add(1);
-        if self.fails.as_slice().contains(&self.calls) {
-            self.faults = self.faults.saturating_add(1);
+        if self.calls.begin() {
+            self.calls.fail();
             return Err(Failed);
         }
-        let count = copy_front(&self.bytes.as_slice()[self.place..], self.most, into);
+        let count = copy_front(&self.bytes.as_slice()[self.place..], self.calls.most, into);
         self.place += count;
         Ok(count)
     }

@@ -1,7 +1,7 @@
 -- What came of a run, by what was prepared and what was written of it.
 use Rattle.std.proofs.Common.{◌≡◌, ◌≢◌, ◌≤◌, ◌<◌, ◌⊎◌, inl, inr, ℕ, List, [], length, take, Option, refl, sym, subst, ◌∙◌, arith, String, Global}
 use Rattle.std.specs.Io.KnownBytes.{Appends, IsAtEnd}
-use Rattle.e3_disk.specs.Meters.{Meters}
+use Rattle.e3_disk.specs.Meaning.{Meaning}
 use Rattle.e3_outside.specs.Faults.{HasFailed}
 use Rattle.e3_top.proofs.Runs.{drained_run}
 use Rattle.e3_top.proofs.Spelled.{idle_no_check, idle_no_run}
@@ -21,21 +21,21 @@ text_not status n more not_6 not_8 not_9 (inr (inr (inl eight))) e = not_8 (sym 
 text_not status n more not_6 not_8 not_9 (inr (inr (inr nine))) e = not_9 (sym e ∙ nine)
 
 -- the text that is due was written, all or a front of it
-pub ran_to_the_sink : {D S K : Type 0} (image : D → List ℕ → Type 0) (meters : D → Meters) (left : S → Option (List ℕ)) (source_faults : S → ℕ)
+pub ran_to_the_sink : {D S K : Type 0} (meaning : Meaning D) (left : S → Option (List ℕ)) (source_faults : S → ℕ)
     (written : K → Option (List ℕ)) (sink_faults : K → ℕ) (words : List (String Global)) (most : ℕ) (was now : Around D S K) (due status : ℕ) (h : List Entry) (text : List ℕ) →
-    IsPrepared image meters was.disks now.disks words (left was.source) (left now.source) most due h text → MayEnd words due →
+    IsPrepared meaning was.disks now.disks words (left was.source) (left now.source) most due h text → MayEnd words due →
     (status ≢ 4 → (status ≡ due) × Appends (written was.sink) (written now.sink) text) →
     (status ≡ 4 → HasFailed (sink_faults was.sink) (sink_faults now.sink) × ((count : ℕ) × (count < length text) × Appends (written was.sink) (written now.sink) (take count text))) →
     HasText status ⊎ (status ≡ 4) → (status ≡ due) ⊎ (status ≡ 4) →
     (IsGen words → (h ≡ []) × (now.disks ≡ was.disks)) → (IsCheck words → now.disks ≡ was.disks) → (¬ IsRun words → ¬ IsCheck words → now.source ≡ was.source) →
     source_faults was.source ≤ source_faults now.source → sink_faults was.sink ≤ sink_faults now.sink →
-    HasRun image meters left source_faults written sink_faults words most was now status h
-ran_to_the_sink image meters left source_faults written sink_faults words most was now due status h text prepared may wrote failed known same told untouched unread rises sinks = record {
+    HasRun meaning left source_faults written sink_faults words most was now status h
+ran_to_the_sink meaning left source_faults written sink_faults words most was now due status h text prepared may wrote failed known same told untouched unread rises sinks = record {
   finished = λ has. record {
     bytes = prepared.bytes;
     read = prepared.read;
     text = text;
-    due = subst (λ (s : ℕ). IsOutcome image meters was.disks now.disks words prepared.bytes most s h text) (sym (wrote (no_fault has)).0) prepared.due;
+    due = subst (λ (s : ℕ). IsOutcome meaning was.disks now.disks words prepared.bytes most s h text) (sym (wrote (no_fault has)).0) prepared.due;
     written = (wrote (no_fault has)).1;
   };
   source_failed = λ e. absurd (never_3 known e);
@@ -81,15 +81,15 @@ ran_to_the_sink image meters left source_faults written sink_faults words most w
     never_5 (inr four) e = omega (arith, four, e)
 
 -- a status that has no text: the source failed, or memory ran out, and the sink is as it was
-pub ran_without_text : {D S K : Type 0} (image : D → List ℕ → Type 0) (meters : D → Meters) (left : S → Option (List ℕ)) (source_faults : S → ℕ)
+pub ran_without_text : {D S K : Type 0} (meaning : Meaning D) (left : S → Option (List ℕ)) (source_faults : S → ℕ)
     (written : K → Option (List ℕ)) (sink_faults : K → ℕ) (words : List (String Global)) (most : ℕ) (was now : Around D S K) (status : ℕ) (h : List Entry) →
     (status ≡ 3) ⊎ (status ≡ 5) → MayEnd words status →
     (status ≡ 3 → SourceFails was.disks now.disks words (left was.source) (left now.source) (source_faults was.source) (source_faults now.source) h) →
-    (status ≡ 5 → IsCutShort image meters was.disks now.disks words (left was.source) (left now.source) most h) → now.sink ≡ was.sink →
+    (status ≡ 5 → IsCutShort meaning was.disks now.disks words (left was.source) (left now.source) most h) → now.sink ≡ was.sink →
     (IsGen words → (h ≡ []) × (now.disks ≡ was.disks)) → (IsCheck words → now.disks ≡ was.disks) → (¬ IsRun words → ¬ IsCheck words → now.source ≡ was.source) →
     source_faults was.source ≤ source_faults now.source →
-    HasRun image meters left source_faults written sink_faults words most was now status h
-ran_without_text image meters left source_faults written sink_faults words most was now status h which may lost short same told untouched unread rises = record {
+    HasRun meaning left source_faults written sink_faults words most was now status h
+ran_without_text meaning left source_faults written sink_faults words most was now status h which may lost short same told untouched unread rises = record {
   finished = λ has. absurd (has_none which has);
   source_failed = λ e. (lost e, same);
   sink_failed = λ four. absurd (other 4 (λ f. omega (arith, f)) (λ f. omega (arith, f)) which four);
@@ -139,10 +139,10 @@ ran_without_text image meters left source_faults written sink_faults words most 
     drains_check w (inr (inr e)) = other 8 (λ f. omega (arith, f)) (λ f. omega (arith, f)) w e
 
 -- the same of an equal history and equal disks
-pub ran_alike : {D S K : Type 0} (image : D → List ℕ → Type 0) (meters : D → Meters) (left : S → Option (List ℕ)) (source_faults : S → ℕ)
+pub ran_alike : {D S K : Type 0} (meaning : Meaning D) (left : S → Option (List ℕ)) (source_faults : S → ℕ)
     (written : K → Option (List ℕ)) (sink_faults : K → ℕ) (words : List (String Global)) (most : ℕ) (was : Around D S K) (source : S) (sink : K) (made disks : List D) (status : ℕ) (h k : List Entry) →
-    disks ≡ made → k ≡ h → HasRun image meters left source_faults written sink_faults words most was (record { disks = made; source = source; sink = sink }) status h →
-    HasRun image meters left source_faults written sink_faults words most was (record { disks = disks; source = source; sink = sink }) status k
-ran_alike {D} image meters left source_faults written sink_faults words most was source sink made disks status h k disks_are history_is ran =
-    subst (λ (x : List Entry). HasRun image meters left source_faults written sink_faults words most was (record { disks = disks; source = source; sink = sink }) status x) (sym history_is)
-    (subst (λ (x : List D). HasRun image meters left source_faults written sink_faults words most was (record { disks = x; source = source; sink = sink }) status h) (sym disks_are) ran)
+    disks ≡ made → k ≡ h → HasRun meaning left source_faults written sink_faults words most was (record { disks = made; source = source; sink = sink }) status h →
+    HasRun meaning left source_faults written sink_faults words most was (record { disks = disks; source = source; sink = sink }) status k
+ran_alike {D} meaning left source_faults written sink_faults words most was source sink made disks status h k disks_are history_is ran =
+    subst (λ (x : List Entry). HasRun meaning left source_faults written sink_faults words most was (record { disks = disks; source = source; sink = sink }) status x) (sym history_is)
+    (subst (λ (x : List D). HasRun meaning left source_faults written sink_faults words most was (record { disks = x; source = source; sink = sink }) status h) (sym disks_are) ran)

@@ -5,13 +5,16 @@ use Rattle.std.specs.Prelude.{IfOk, Result}
 use Rattle.e3_types.specs.declared.list.NoMemory.{NoMemory}
 use Rattle.e3_top.specs.declared.preparing.Due.{Due}
 use Rattle.e3_top.specs.declared.preparing.Stop.{Stop}
+use Rattle.e3_top.specs.declared.preparing.Telling.{Telling}
+use Rattle.e3_top.specs.declared.preparing.Telling.TheVariants.{Report, Summary}
 use Rattle.std.proofs.lemmas.Bool.{leb-true}
-use Rattle.e3_disk.specs.Meters.{Meters}
+use Rattle.e3_disk.specs.Meaning.{Meaning}
 use Rattle.e3_law_agreement.proofs.Histories.{given_agrees, given_voted}
 use Rattle.e3_law_agreement.proofs.Standing.{given_stands}
 use Rattle.e3_fleet.specs.Over.{AreOver}
 use Rattle.e3_law_rounds.specs.Commits.{CommitsEnd}
 use Rattle.e3_law_rounds.specs.Rounds.{RoundsEnd}
+use Rattle.e3_play.specs.Delivered.{IsFull}
 use Rattle.e3_law_serial.specs.Claims.{LegalSerial}
 use Rattle.e3_gen.specs.Generated.{generated, generated_scenario}
 use Rattle.e3_report.specs.Report.{report_of}
@@ -20,22 +23,22 @@ use Rattle.e3_scenario.specs.Faults.{fault_text}
 use Rattle.e3_scenario.specs.Scenarios.{scenario_of}
 use Rattle.e3_scenario.specs.declared.faults.ScenarioFault.{ScenarioFault}
 use Rattle.e3_scenario.specs.declared.faults.ScenarioFault.TheVariants as fault
-use Rattle.e3_top.specs.Due.{IsOutcome, IsRunOf, IsTextOf, Plays, Succeeds}
+use Rattle.e3_top.specs.Due.{IsAsked, IsOutcome, IsRunOf, IsTextOf, Plays, Succeeds, told_of}
 use Rattle.e3_top.specs.Ends.{IsPrepared}
 use Rattle.e3_top.proofs.Spelled.{run_no_check, run_no_drill, run_no_gen, gen_no_check, plays_no_check}
 use Rattle.e3_top.proofs.Statuses.{neither}
-use Rattle.e3_top.specs.Words.{IsRun, refused_words}
-use Rattle.e3_words.specs.Words.{IsCommand, Spell}
-use Rattle.e3_words.specs.declared.words.Command.TheVariants.{Run, Gen, Drill, Check}
+use Rattle.e3_top.specs.Words.{IsRun, refused_history_full, refused_words}
+use Rattle.e3_top.specs.Commands.{IsCommand, Spell}
+use Rattle.e3_top.specs.declared.commands.Command.TheVariants.{Run, Gen, Drill, Check}
 use Rattle.e3_types.specs.declared.entries.Entry.{Entry}
 use Rattle.e3_types.specs.declared.scenarios.Scenario.{Scenario}
 use Rattle.e3_world.specs.Given.{IsGiven}
 use Rattle.e3_world.specs.Legal.{IsLegal, IsWhole}
 
 -- a legal history of a given scenario is safe, its recovery rounds are bounded, and its commit rounds commit
-pub run_of : {D : Type 0} (image : D → List ℕ → Type 0) (meters : D → Meters) (before now : List D) → LegalSerial → RoundsEnd → CommitsEnd → (sc : Scenario) (most : ℕ) (h : List Entry) → most ≤ 2000000 → IsGiven sc → IsLegal sc h → length h ≤ most →
-    AreOver image meters sc h before now → IsRunOf image meters before now sc most h
-run_of image meters before now one ends commits sc most h bound given legal few over = record {
+pub run_of : {D : Type 0} (meaning : Meaning D) (before now : List D) → LegalSerial → RoundsEnd → CommitsEnd → (sc : Scenario) (most : ℕ) (h : List Entry) → most ≤ 2000000 → IsGiven sc → IsLegal sc h → length h ≤ most →
+    AreOver meaning sc h before now → IsRunOf meaning before now sc most h
+run_of meaning before now one ends commits sc most h bound given legal few over = record {
   given = given;
   legal = legal;
   few = few;
@@ -51,9 +54,9 @@ run_of image meters before now one ends commits sc most h bound given legal few 
 }
 
 -- a run that went through its scenario is done
-pub done_run : {D : Type 0} (image : D → List ℕ → Type 0) (meters : D → Meters) (before now : List D) (words : List (String Global)) (trace : Bool) (bytes : List ℕ) (sc : Scenario) (most : ℕ) (h : List Entry) (text : List ℕ) →
-    Spell words (Run trace) → scenario_of bytes ≡ Ok sc → IsRunOf image meters before now sc most h → IsWhole sc h → text ≡ report_of sc h trace → Succeeds image meters before now words bytes most h text
-done_run image meters before now words trace bytes sc most h text run spelled safe whole says = inl (record {
+pub done_run : {D : Type 0} (meaning : Meaning D) (before now : List D) (words : List (String Global)) (trace : Bool) (bytes : List ℕ) (sc : Scenario) (most : ℕ) (h : List Entry) (text : List ℕ) →
+    Spell words (Run trace) → scenario_of bytes ≡ Ok sc → IsRunOf meaning before now sc most h → IsWhole sc h → text ≡ report_of sc h trace → Succeeds meaning before now words bytes most h text
+done_run meaning before now words trace bytes sc most h text run spelled safe whole says = inl (record {
   run = record { trace = trace; spelled = run };
   scenario = sc;
   spelled = spelled;
@@ -63,21 +66,21 @@ done_run image meters before now words trace bytes sc most h text run spelled sa
 })
 
 -- a drill that went through its scenario is done
-pub done_drill : {D : Type 0} (image : D → List ℕ → Type 0) (meters : D → Meters) (before now : List D) (words : List (String Global)) (n : ℕ) (sc : Scenario) (most : ℕ) (h : List Entry) (text : List ℕ) →
-    Spell words (Drill n) → sc ≡ generated_scenario n → IsRunOf image meters before now sc most h → IsWhole sc h → text ≡ summary_of n sc h → Succeeds image meters before now words [] most h text
-done_drill image meters before now words n sc most h text drill same safe whole says = inr (inl (record {
+pub done_drill : {D : Type 0} (meaning : Meaning D) (before now : List D) (words : List (String Global)) (n : ℕ) (bytes : List ℕ) (sc : Scenario) (most : ℕ) (h : List Entry) (text : List ℕ) →
+    Spell words (Drill n) → bytes ≡ [] → sc ≡ generated_scenario n → IsRunOf meaning before now sc most h → IsWhole sc h → text ≡ summary_of n sc h → Succeeds meaning before now words bytes most h text
+done_drill meaning before now words n bytes sc most h text drill unread same safe whole says = inr (inl (record {
   drill = record { n = n; spelled = drill };
-  unread = refl;
+  unread = unread;
   whole = subst (λ (x : Scenario). IsWhole x h) same whole;
-  safe = subst (λ (x : Scenario). IsRunOf image meters before now x most h) same safe;
+  safe = subst (λ (x : Scenario). IsRunOf meaning before now x most h) same safe;
   reported = subst (λ (x : Scenario). text ≡ summary_of n x h) same says;
 }))
 
 -- the text of a scenario that was played is due: what is told of a history that went through it, or the line of a full history
-pub played_text : {D : Type 0} (image : D → List ℕ → Type 0) (meters : D → Meters) (before now : List D) (words : List (String Global)) (bytes : List ℕ) (sc : Scenario) (most status : ℕ) (h : List Entry) (told text : List ℕ) →
-    Plays words bytes sc → IsRunOf image meters before now sc most h → (IsWhole sc h → text ≡ told → Succeeds image meters before now words bytes most h text) → IsTextOf sc most h told status text →
-    IsOutcome image meters before now words bytes most status h text
-played_text image meters before now words bytes sc most status h told text plays safe succeeds (inl done) = record {
+pub played_text : {D : Type 0} (meaning : Meaning D) (before now : List D) (words : List (String Global)) (bytes : List ℕ) (sc : Scenario) (most status : ℕ) (h : List Entry) (told text : List ℕ) →
+    Plays words bytes sc → IsRunOf meaning before now sc most h → (IsWhole sc h → text ≡ told → Succeeds meaning before now words bytes most h text) → IsTextOf sc most h told status text →
+    IsOutcome meaning before now words bytes most status h text
+played_text meaning before now words bytes sc most status h told text plays safe succeeds (inl done) = record {
   known = let zero = done.0 in inl (omega (arith, zero));
   done = λ e. succeeds done.1 done.2;
   words_refused = λ e. absurd (let zero = done.0 in omega (arith, e, zero));
@@ -86,7 +89,7 @@ played_text image meters before now words bytes sc most status h told text plays
   judged = let zero = done.0 in neither status 8 9 (λ e. omega (arith, e, zero)) (λ e. omega (arith, e, zero));
   checked = λ check. absurd (plays_no_check plays check);
 }
-played_text image meters before now words bytes sc most status h told text plays safe succeeds (inr full) = record {
+played_text meaning before now words bytes sc most status h told text plays safe succeeds (inr full) = record {
   known = inr (inl full.0);
   done = λ e. absurd (let six = full.0 in omega (arith, e, six));
   words_refused = λ e. absurd (let six = full.0 in omega (arith, e, six));
@@ -104,27 +107,22 @@ played_text image meters before now words bytes sc most status h told text plays
   checked = λ check. absurd (plays_no_check plays check);
 }
 
--- so it is where it was made
-pub run_due : {D : Type 0} (image : D → List ℕ → Type 0) (meters : D → Meters) (before now : List D) (words : List (String Global)) (trace : Bool) (bytes : List ℕ) (sc : Scenario) (most : ℕ) (h : List Entry) (r : Result Due Stop) →
-    Spell words (Run trace) → scenario_of bytes ≡ Ok sc → IsRunOf image meters before now sc most h → IfOk r (λ due. IsTextOf sc most h (report_of sc h trace) due.status due.text) →
-    IfOk r (λ due. IsOutcome image meters before now words bytes most due.status h due.text)
-run_due image meters before now words trace bytes sc most h (Err fault) run spelled safe made = tt
-run_due image meters before now words trace bytes sc most h (Ok due) run spelled safe made =
-    played_text image meters before now words bytes sc most due.status h (report_of sc h trace) due.text (inl (record { trace = trace; spelled = run }, spelled)) safe
-    (done_run image meters before now words trace bytes sc most h due.text run spelled safe) made
-
-pub drill_due : {D : Type 0} (image : D → List ℕ → Type 0) (meters : D → Meters) (before now : List D) (words : List (String Global)) (n : ℕ) (sc : Scenario) (most : ℕ) (h : List Entry) (r : Result Due Stop) →
-    Spell words (Drill n) → sc ≡ generated_scenario n → IsRunOf image meters before now sc most h → IfOk r (λ due. IsTextOf sc most h (summary_of n sc h) due.status due.text) →
-    IfOk r (λ due. IsOutcome image meters before now words [] most due.status h due.text)
-drill_due image meters before now words n sc most h (Err fault) drill same safe made = tt
-drill_due image meters before now words n sc most h (Ok due) drill same safe made =
-    played_text image meters before now words [] sc most due.status h (summary_of n sc h) due.text (inr (record { drill = record { n = n; spelled = drill }; unread = refl; same = same })) safe
-    (done_drill image meters before now words n sc most h due.text drill same safe) made
+-- so it is where it was made, for what the words ask to be told
+pub played_due : {D : Type 0} (meaning : Meaning D) (before now : List D) (words : List (String Global)) (bytes : List ℕ) (telling : Telling) (sc : Scenario) (most : ℕ) (h : List Entry) (r : Result Due Stop) →
+    IsAsked words bytes telling sc → IsRunOf meaning before now sc most h → IfOk r (λ due. IsTextOf sc most h (told_of telling sc h) due.status due.text) →
+    IfOk r (λ due. IsOutcome meaning before now words bytes most due.status h due.text)
+played_due meaning before now words bytes telling sc most h (Err fault) asked safe made = tt
+played_due meaning before now words bytes (Report trace) sc most h (Ok due) asked safe made =
+    played_text meaning before now words bytes sc most due.status h (report_of sc h trace) due.text (inl (record { trace = trace; spelled = asked.0 }, asked.1)) safe
+    (done_run meaning before now words trace bytes sc most h due.text asked.0 asked.1 safe) made
+played_due meaning before now words bytes (Summary n) sc most h (Ok due) asked safe made =
+    played_text meaning before now words bytes sc most due.status h (summary_of n sc h) due.text (inr (record { drill = record { n = n; spelled = asked.0 }; unread = asked.1; same = asked.2 })) safe
+    (done_drill meaning before now words n bytes sc most h due.text asked.0 asked.1 asked.2 safe) made
 
 -- the line for other words is due
-pub refused_run : {D : Type 0} (image : D → List ℕ → Type 0) (meters : D → Meters) (before now : List D) (words : List (String Global)) (most : ℕ) (h : List Entry) (text : List ℕ) → ¬ IsCommand words → h ≡ [] → now ≡ before →
-    text ≡ refused_words → IsOutcome image meters before now words [] most 1 h text
-refused_run image meters before now words most h text other empty same says = record {
+pub refused_run : {D : Type 0} (meaning : Meaning D) (before now : List D) (words : List (String Global)) (most : ℕ) (h : List Entry) (text : List ℕ) → ¬ IsCommand words → h ≡ [] → now ≡ before →
+    text ≡ refused_words → IsOutcome meaning before now words [] most 1 h text
+refused_run meaning before now words most h text other empty same says = record {
   known = inl (omega arith);
   done = λ e. absurd (omega (arith, e));
   words_refused = λ e. record { no_command = other; unread = refl; empty = empty; untouched = same; says = says };
@@ -135,9 +133,9 @@ refused_run image meters before now words most h text other empty same says = re
 }
 
 -- the text of a generated scenario is due
-pub told_run : {D : Type 0} (image : D → List ℕ → Type 0) (meters : D → Meters) (before now : List D) (words : List (String Global)) (n most : ℕ) (h : List Entry) (text : List ℕ) → Spell words (Gen n) → h ≡ [] → now ≡ before →
-    text ≡ generated n → IsOutcome image meters before now words [] most 0 h text
-told_run image meters before now words n most h text gen empty same says = record {
+pub told_run : {D : Type 0} (meaning : Meaning D) (before now : List D) (words : List (String Global)) (n most : ℕ) (h : List Entry) (text : List ℕ) → Spell words (Gen n) → h ≡ [] → now ≡ before →
+    text ≡ generated n → IsOutcome meaning before now words [] most 0 h text
+told_run meaning before now words n most h text gen empty same says = record {
   known = inl (omega arith);
   done = λ e. inr (inr (inl (record { gen = record { n = n; spelled = gen }; unread = refl; empty = empty; untouched = same; says = says })));
   words_refused = λ e. absurd (omega (arith, e));
@@ -148,9 +146,9 @@ told_run image meters before now words n most h text gen empty same says = recor
 }
 
 -- the line of a fault is due
-pub no_scenario : {D : Type 0} (image : D → List ℕ → Type 0) (meters : D → Meters) (before now : List D) (words : List (String Global)) (bytes : List ℕ) (most : ℕ) (fault : ScenarioFault) (h : List Entry) (text : List ℕ) → IsRun words →
-    scenario_of bytes ≡ Err fault → h ≡ [] → now ≡ before → text ≡ fault_text fault → IsOutcome image meters before now words bytes most 2 h text
-no_scenario image meters before now words bytes most fault h text run spelled empty same says = record {
+pub no_scenario : {D : Type 0} (meaning : Meaning D) (before now : List D) (words : List (String Global)) (bytes : List ℕ) (most : ℕ) (fault : ScenarioFault) (h : List Entry) (text : List ℕ) → IsRun words →
+    scenario_of bytes ≡ Err fault → h ≡ [] → now ≡ before → text ≡ fault_text fault → IsOutcome meaning before now words bytes most 2 h text
+no_scenario meaning before now words bytes most fault h text run spelled empty same says = record {
   known = inl (omega arith);
   done = λ e. absurd (omega (arith, e));
   words_refused = λ e. absurd (omega (arith, e));
@@ -173,8 +171,8 @@ same_status : {P : Type 0} {status due : ℕ} → (status ≢ 4 → (status ≡ 
 same_status written other = sym (written other).0
 
 -- a run that is done has read all of its source
-done_drained : {D : Type 0} {image : D → List ℕ → Type 0} {meters : D → Meters} {before now : List D} {words : List (String Global)} {bytes text : List ℕ} {most : ℕ} {history : List Entry} → IsRun words →
-    Succeeds image meters before now words bytes most history text → length bytes < 4194305
+done_drained : {D : Type 0} {meaning : Meaning D} {before now : List D} {words : List (String Global)} {bytes text : List ℕ} {most : ℕ} {history : List Entry} → IsRun words →
+    Succeeds meaning before now words bytes most history text → length bytes < 4194305
 done_drained {bytes = bytes} run (inl done) = few_bytes bytes done.scenario done.spelled
 done_drained run (inr (inl drilled)) = absurd (run_no_drill run drilled.drill)
 done_drained run (inr (inr (inl told))) = absurd (run_no_gen run told.gen)
@@ -185,8 +183,8 @@ plays_drained bytes sc run (inl spelled) = few_bytes bytes sc spelled.1
 plays_drained bytes sc run (inr drill) = absurd (run_no_drill run drill.drill)
 
 -- with 0 and 6 nothing of a run's source is left
-pub drained_run : {D : Type 0} {image : D → List ℕ → Type 0} {meters : D → Meters} {before now : List D} {P : Type 0} {words : List (String Global)} {had left : Option (List ℕ)} {most due : ℕ} {history : List Entry} {text : List ℕ} (status : ℕ) →
-    IsPrepared image meters before now words had left most due history text → (status ≢ 4 → (status ≡ due) × P) → IsRun words → (status ≡ 0) ⊎ (status ≡ 6) → IsAtEnd left
+pub drained_run : {D : Type 0} {meaning : Meaning D} {before now : List D} {P : Type 0} {words : List (String Global)} {had left : Option (List ℕ)} {most due : ℕ} {history : List Entry} {text : List ℕ} (status : ℕ) →
+    IsPrepared meaning before now words had left most due history text → (status ≢ 4 → (status ≡ due) × P) → IsRun words → (status ≡ 0) ⊎ (status ≡ 6) → IsAtEnd left
 drained_run status prepared written run (inl e) =
     let done = prepared.due.done (same_status written (λ four. omega (arith, e, four)) ∙ e) in
     prepared.read.to_end (Run run.trace) run.spelled (done_drained run done)
@@ -198,37 +196,43 @@ drained_run status prepared written run (inr e) =
 pub of_ok : {T E : Type 0} {x : T} (P : T → Type 0) (r : Result T E) → r ≡ Ok x → IfOk r P → P x
 of_ok {T} {E} P r is holds = subst (λ (q : Result T E). IfOk q P) is holds
 
+-- the text of a history that went through its scenario, where it was made
+pub told_text : (sc : Scenario) (most : ℕ) (h : List Entry) (told : List ℕ) (r : Result Due Stop) (text : Result (List ℕ) NoMemory) → IsWhole sc h → IfOk text (λ t. t ≡ told) →
+    IfOk r (λ due. (due.status ≡ 0) × (text ≡ Ok due.text)) → IfOk r (λ due. IsTextOf sc most h told due.status due.text)
+told_text sc most h told (Err stop) text whole says made = tt
+told_text sc most h told (Ok due) text whole says made = inl (made.0, whole, of_ok (λ t. t ≡ told) text made.1 says)
+
 -- the line for other words, where it was made
-pub refused_due : {D : Type 0} (image : D → List ℕ → Type 0) (meters : D → Meters) (before now : List D) (words : List (String Global)) (most : ℕ) (h : List Entry) (r : Result Due Stop) (text : Result (List ℕ) NoMemory) → ¬ IsCommand words → h ≡ [] → now ≡ before →
+pub refused_due : {D : Type 0} (meaning : Meaning D) (before now : List D) (words : List (String Global)) (most : ℕ) (h : List Entry) (r : Result Due Stop) (text : Result (List ℕ) NoMemory) → ¬ IsCommand words → h ≡ [] → now ≡ before →
     IfOk text (λ line. line ≡ refused_words) → IfOk r (λ due. (due.status ≡ 1) × (text ≡ Ok due.text)) →
-    IfOk r (λ due. IsOutcome image meters before now words [] most due.status h due.text)
-refused_due image meters before now words most h (Err fault) text other empty same says made = tt
-refused_due image meters before now words most h (Ok due) text other empty same says made =
-    subst (λ (n : ℕ). IsOutcome image meters before now words [] most n h due.text) (sym made.0) (refused_run image meters before now words most h due.text other empty same (of_ok (λ line. line ≡ refused_words) text made.1 says))
+    IfOk r (λ due. IsOutcome meaning before now words [] most due.status h due.text)
+refused_due meaning before now words most h (Err fault) text other empty same says made = tt
+refused_due meaning before now words most h (Ok due) text other empty same says made =
+    subst (λ (n : ℕ). IsOutcome meaning before now words [] most n h due.text) (sym made.0) (refused_run meaning before now words most h due.text other empty same (of_ok (λ line. line ≡ refused_words) text made.1 says))
 
 -- the text of a generated scenario, where it was made
-pub told_due : {D : Type 0} (image : D → List ℕ → Type 0) (meters : D → Meters) (before now : List D) (words : List (String Global)) (n most : ℕ) (h : List Entry) (r : Result Due Stop) (text : Result (List ℕ) NoMemory) → Spell words (Gen n) → h ≡ [] → now ≡ before →
+pub told_due : {D : Type 0} (meaning : Meaning D) (before now : List D) (words : List (String Global)) (n most : ℕ) (h : List Entry) (r : Result Due Stop) (text : Result (List ℕ) NoMemory) → Spell words (Gen n) → h ≡ [] → now ≡ before →
     IfOk text (λ t. t ≡ generated n) → IfOk r (λ due. (due.status ≡ 0) × (text ≡ Ok due.text)) →
-    IfOk r (λ due. IsOutcome image meters before now words [] most due.status h due.text)
-told_due image meters before now words n most h (Err fault) text gen empty same says made = tt
-told_due image meters before now words n most h (Ok due) text gen empty same says made =
-    subst (λ (s : ℕ). IsOutcome image meters before now words [] most s h due.text) (sym made.0) (told_run image meters before now words n most h due.text gen empty same (of_ok (λ t. t ≡ generated n) text made.1 says))
+    IfOk r (λ due. IsOutcome meaning before now words [] most due.status h due.text)
+told_due meaning before now words n most h (Err fault) text gen empty same says made = tt
+told_due meaning before now words n most h (Ok due) text gen empty same says made =
+    subst (λ (s : ℕ). IsOutcome meaning before now words [] most s h due.text) (sym made.0) (told_run meaning before now words n most h due.text gen empty same (of_ok (λ t. t ≡ generated n) text made.1 says))
 
 -- a drill of a number plays its generated scenario
 pub drill_plays : {words : List (String Global)} (n : ℕ) (sc : Scenario) → Spell words (Drill n) → sc ≡ generated_scenario n → Plays words [] sc
 drill_plays n sc drill same = inr (record { drill = record { n = n; spelled = drill }; unread = refl; same = same })
 
 -- the line of a fault, where it was made
-pub fault_due : {D : Type 0} (image : D → List ℕ → Type 0) (meters : D → Meters) (before now : List D) (words : List (String Global)) (trace : Bool) (bytes : List ℕ) (f : ScenarioFault) (most : ℕ) (h : List Entry) (r : Result Due Stop) (text : Result (List ℕ) NoMemory) →
+pub fault_due : {D : Type 0} (meaning : Meaning D) (before now : List D) (words : List (String Global)) (trace : Bool) (bytes : List ℕ) (f : ScenarioFault) (most : ℕ) (h : List Entry) (r : Result Due Stop) (text : Result (List ℕ) NoMemory) →
     Spell words (Run trace) → (f ≡ fault.NoMemory) ⊎ (scenario_of bytes ≡ Err f) → h ≡ [] → now ≡ before → IfOk text (λ line. (f ≢ fault.NoMemory) × (line ≡ fault_text f)) →
-    IfOk r (λ due. (due.status ≡ 2) × (text ≡ Ok due.text)) → IfOk r (λ due. IsOutcome image meters before now words bytes most due.status h due.text)
-fault_due image meters before now words trace bytes f most h (Err stop) text run cause empty same says made = tt
-fault_due image meters before now words trace bytes f most h (Ok due) text run cause empty same says made = by cause
+    IfOk r (λ due. (due.status ≡ 2) × (text ≡ Ok due.text)) → IfOk r (λ due. IsOutcome meaning before now words bytes most due.status h due.text)
+fault_due meaning before now words trace bytes f most h (Err stop) text run cause empty same says made = tt
+fault_due meaning before now words trace bytes f most h (Ok due) text run cause empty same says made = by cause
   where
     line : (f ≢ fault.NoMemory) × (due.text ≡ fault_text f)
     line = of_ok (λ line. (f ≢ fault.NoMemory) × (line ≡ fault_text f)) text made.1 says
 
-    by : (f ≡ fault.NoMemory) ⊎ (scenario_of bytes ≡ Err f) → IsOutcome image meters before now words bytes most due.status h due.text
+    by : (f ≡ fault.NoMemory) ⊎ (scenario_of bytes ≡ Err f) → IsOutcome meaning before now words bytes most due.status h due.text
     by (inl e) = absurd (line.0 e)
-    by (inr spelled) = subst (λ (n : ℕ). IsOutcome image meters before now words bytes most n h due.text) (sym made.0)
-        (no_scenario image meters before now words bytes most f h due.text (record { trace = trace; spelled = run }) spelled empty same line.1)
+    by (inr spelled) = subst (λ (n : ℕ). IsOutcome meaning before now words bytes most n h due.text) (sym made.0)
+        (no_scenario meaning before now words bytes most f h due.text (record { trace = trace; spelled = run }) spelled empty same line.1)

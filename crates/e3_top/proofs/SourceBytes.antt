@@ -1,18 +1,19 @@
 -- What of the source was taken, and what is prepared or cut short behind it.
-use Rattle.std.proofs.Common.{◌≡◌, ◌≤◌, ◌<◌, ◌⊎◌, inl, inr, ℕ, List, [], length, Option, Some, None, Ok, Err, refl, subst, arith, String, Global}
+use Rattle.std.proofs.Common.{◌≡◌, ◌≤◌, ◌<◌, ◌⊎◌, inl, inr, ℕ, List, [], length, Option, Some, None, Ok, Err, refl, sym, subst, arith, String, Global}
 use Rattle.std.specs.Io.KnownBytes.{Consumes, IsAtEnd}
-use Rattle.std.specs.Prelude.{IfOk, Result}
-use Rattle.e3_disk.specs.Meters.{Meters}
+use Rattle.std.specs.Prelude.{IfErr, IfOk, Result}
+use Rattle.e3_disk.specs.Meaning.{Meaning}
 use Rattle.e3_outside.specs.Faults.{HasFailed}
 use Rattle.e3_top.proofs.Spelled.{same_most}
 use Rattle.e3_top.specs.Due.{IsOutcome}
-use Rattle.e3_top.specs.Ends.{IsCutShort, IsHistoryOf, IsPrepared, IsRead, IsTaken, SourceFails}
+use Rattle.e3_top.specs.Ends.{IsCutShort, IsDue, IsHistoryOf, IsPrepared, IsRead, IsReady, IsTaken, SourceFails}
 use Rattle.e3_top.specs.Words.{IsRun, IsCheck, most_bytes}
 use Rattle.e3_top.specs.declared.preparing.Due.{Due}
 use Rattle.e3_top.specs.declared.preparing.Stop.{Stop}
+use Rattle.e3_top.specs.declared.preparing.Stop.TheVariants as stop
 use Rattle.e3_types.specs.declared.entries.Entry.{Entry}
-use Rattle.e3_words.specs.Words.{IsCommand, Spell}
-use Rattle.e3_words.specs.declared.words.Command.{Command}
+use Rattle.e3_top.specs.Commands.{IsCommand, Spell}
+use Rattle.e3_top.specs.declared.commands.Command.{Command}
 
 -- what was taken for a command is what the words may take
 pub taken_for : (words : List (String Global)) (had left : Option (List ℕ)) (bytes : List ℕ) (c : Command) → Spell words c → Consumes had left bytes → length bytes ≤ most_bytes c →
@@ -54,31 +55,26 @@ other_read words had other = record {
 }
 
 -- what is due for bytes that were read is prepared
-pub prepared_of : {D : Type 0} (image : D → List ℕ → Type 0) (meters : D → Meters) (before now : List D) (words : List (String Global)) (had left : Option (List ℕ)) (bytes : List ℕ) (most : ℕ) (h : List Entry) (r : Result Due Stop) →
-    IsRead words had left bytes → IfOk r (λ due. IsOutcome image meters before now words bytes most due.status h due.text) →
-    IfOk r (λ due. IsPrepared image meters before now words had left most due.status h due.text)
-prepared_of image meters before now words had left bytes most h (Err stop) read due = tt
-prepared_of image meters before now words had left bytes most h (Ok made) read due = record { bytes = bytes; read = read; due = due }
+prepared_of : {D : Type 0} (meaning : Meaning D) (before now : List D) (words : List (String Global)) (had left : Option (List ℕ)) (bytes : List ℕ) (most : ℕ) (h : List Entry) (r : Result Due Stop) →
+    IsRead words had left bytes → IfOk r (λ due. IsOutcome meaning before now words bytes most due.status h due.text) →
+    IfOk r (λ due. IsPrepared meaning before now words had left most due.status h due.text)
+prepared_of meaning before now words had left bytes most h (Err stop) read due = tt
+prepared_of meaning before now words had left bytes most h (Ok made) read due = record { bytes = bytes; read = read; due = due }
 
 -- where memory ran out behind the bytes that were read
-pub cut_behind : {D : Type 0} (image : D → List ℕ → Type 0) (meters : D → Meters) (before now : List D) (words : List (String Global)) (had left : Option (List ℕ)) (bytes : List ℕ) (most : ℕ) (h : List Entry) →
-    IsRead words had left bytes → ((h ≡ []) × (now ≡ before)) ⊎ IsHistoryOf image meters before now words bytes most h → IsCutShort image meters before now words had left most h
-cut_behind image meters before now words had left bytes most h read (inl nothing) = record { bytes = bytes; taken = read.taken; happened = inl nothing }
-cut_behind image meters before now words had left bytes most h read (inr history) = record { bytes = bytes; taken = read.taken; happened = inr (read, history) }
+cut_behind : {D : Type 0} (meaning : Meaning D) (before now : List D) (words : List (String Global)) (had left : Option (List ℕ)) (bytes : List ℕ) (most : ℕ) (h : List Entry) →
+    IsRead words had left bytes → ((h ≡ []) × (now ≡ before)) ⊎ IsHistoryOf meaning before now words bytes most h → IsCutShort meaning before now words had left most h
+cut_behind meaning before now words had left bytes most h read (inl nothing) = record { bytes = bytes; taken = read.taken; happened = inl nothing }
+cut_behind meaning before now words had left bytes most h read (inr history) = record { bytes = bytes; taken = read.taken; happened = inr (read, history) }
 
 -- where it ran out before anything happened
-pub cut_before : {D : Type 0} (image : D → List ℕ → Type 0) (meters : D → Meters) (before now : List D) (words : List (String Global)) (had left : Option (List ℕ)) (most : ℕ) (h : List Entry) (c : Command) → Spell words c →
-    ((bytes : List ℕ) × (length bytes ≤ most_bytes c) × Consumes had left bytes) → h ≡ [] → now ≡ before → IsCutShort image meters before now words had left most h
-cut_before image meters before now words had left most h c spelled some none same = record {
+pub cut_before : {D : Type 0} (meaning : Meaning D) (before now : List D) (words : List (String Global)) (had left : Option (List ℕ)) (most : ℕ) (h : List Entry) (c : Command) → Spell words c →
+    ((bytes : List ℕ) × (length bytes ≤ most_bytes c) × Consumes had left bytes) → h ≡ [] → now ≡ before → IsCutShort meaning before now words had left most h
+cut_before meaning before now words had left most h c spelled some none same = record {
   bytes = some.0;
   taken = taken_for words had left some.0 c spelled some.2 some.1;
   happened = inl (none, same);
 }
-
--- where nothing was read and nothing happened
-pub nothing_cut : {D : Type 0} (image : D → List ℕ → Type 0) (meters : D → Meters) (before now : List D) (words : List (String Global)) (had : Option (List ℕ)) (most : ℕ) (h : List Entry) →
-    h ≡ [] → now ≡ before → IsCutShort image meters before now words had had most h
-nothing_cut image meters before now words had most h none same = record { bytes = []; taken = none_within words had; happened = inl (none, same) }
 
 -- where the source failed
 pub fails_reading : {D : Type 0} (before now : List D) (words : List (String Global)) (had left : Option (List ℕ)) (faults_before faults_now : ℕ) (h : List Entry) (c : Command) → Spell words c → IsRun words ⊎ IsCheck words →
@@ -93,3 +89,51 @@ fails_reading before now words had left faults_before faults_now h c spelled rea
   empty = none;
   untouched = same;
 }
+
+-- nothing is due but that memory ran out
+pub wants_memory : {D : Type 0} (meaning : Meaning D) (before now : List D) (words : List (String Global)) (bytes : List ℕ) (most : ℕ) (h : List Entry) (r : Result Due Stop) →
+    r ≡ Err stop.NoMemory → IsDue meaning before now words bytes most r h
+wants_memory meaning before now words bytes most h r e =
+    subst (λ (q : Result Due Stop). IsDue meaning before now words bytes most q h) (sym e) (record { outcome = tt; status = tt; only_memory = refl })
+
+-- where nothing but memory was lacking the source did not fail
+not_lost : (r : Result Due Stop) → IfErr r (λ s. s ≡ stop.NoMemory) → r ≡ Err stop.SourceFailed → ⊥
+not_lost r only e = let same : stop.SourceFailed ≡ stop.NoMemory = subst (λ (q : Result Due Stop). IfErr q (λ s. s ≡ stop.NoMemory)) e only in cc
+
+-- what is due for bytes that were read is ready
+pub ready_of : {D S : Type 0} (meaning : Meaning D) (left : S → Option (List ℕ)) (faults : S → ℕ) (before after : List D) (words : List (String Global)) (was now : S) (bytes : List ℕ) (most : ℕ) (h : List Entry) (r : Result Due Stop) →
+    IsRead words (left was) (left now) bytes → IsDue meaning before after words bytes most r h →
+    (r ≡ Err stop.NoMemory → ((h ≡ []) × (after ≡ before)) ⊎ IsHistoryOf meaning before after words bytes most h) → faults was ≤ faults now →
+    IsReady meaning left faults before after words was now most r h
+ready_of meaning left faults before after words was now bytes most h r read due cut counts = record {
+  prepared = prepared_of meaning before after words (left was) (left now) bytes most h r read due.outcome;
+  status = due.status;
+  source_failed = λ e. absurd (not_lost r due.only_memory e);
+  no_memory = λ e. cut_behind meaning before after words (left was) (left now) bytes most h read (cut e);
+  never_falls = counts;
+}
+
+-- where the source failed, and where memory ran out before anything happened
+pub lost_ready : {D S : Type 0} (meaning : Meaning D) (left : S → Option (List ℕ)) (faults : S → ℕ) (before after : List D) (words : List (String Global)) (was now : S) (most : ℕ) (h : List Entry) (r : Result Due Stop) →
+    r ≡ Err stop.SourceFailed → SourceFails before after words (left was) (left now) (faults was) (faults now) h → faults was ≤ faults now →
+    IsReady meaning left faults before after words was now most r h
+lost_ready meaning left faults before after words was now most h r e fails counts =
+    subst (λ (q : Result Due Stop). IsReady meaning left faults before after words was now most q h) (sym e) (record {
+      prepared = tt;
+      status = tt;
+      source_failed = λ f. fails;
+      no_memory = λ f. absurd (let other = f in cc);
+      never_falls = counts;
+    })
+
+pub wanting_ready : {D S : Type 0} (meaning : Meaning D) (left : S → Option (List ℕ)) (faults : S → ℕ) (before after : List D) (words : List (String Global)) (was now : S) (most : ℕ) (h : List Entry) (r : Result Due Stop) →
+    r ≡ Err stop.NoMemory → IsCutShort meaning before after words (left was) (left now) most h → faults was ≤ faults now →
+    IsReady meaning left faults before after words was now most r h
+wanting_ready meaning left faults before after words was now most h r e cut counts =
+    subst (λ (q : Result Due Stop). IsReady meaning left faults before after words was now most q h) (sym e) (record {
+      prepared = tt;
+      status = tt;
+      source_failed = λ f. absurd (let other = f in cc);
+      no_memory = λ f. cut;
+      never_falls = counts;
+    })

@@ -3,9 +3,9 @@ use Rattle.std.proofs.Common.{◌≡◌, ◌⊎◌, inl, inr, ℕ, true, false, 
 use Rattle.e3_top.specs.Due.{Plays}
 use Rattle.e3_top.specs.Words.{IsRun, IsGen, IsDrill, IsCheck, most_bytes}
 use Rattle.e3_types.specs.declared.scenarios.Scenario.{Scenario}
-use Rattle.e3_words.specs.Words.{Spell, words_of}
-use Rattle.e3_words.specs.declared.words.Command.{Command}
-use Rattle.e3_words.specs.declared.words.Command.TheVariants.{Run, Gen, Drill, Check}
+use Rattle.e3_top.specs.Commands.{Spell, words_of}
+use Rattle.e3_top.specs.declared.commands.Command.{Command}
+use Rattle.e3_top.specs.declared.commands.Command.TheVariants.{Run, Gen, Drill, Check}
 
 -- the first byte of the words of a command
 abbrev byte_of : Command → ℕ

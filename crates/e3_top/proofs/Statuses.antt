@@ -3,15 +3,17 @@ use Rattle.std.proofs.Common.{◌≡◌, ◌≢◌, ◌≤◌, ◌⊎◌, inl, i
 use Rattle.std.specs.Prelude.{IfOk, Result}
 use Rattle.e3_check.specs.Claims.{IsVerdict}
 use Rattle.e3_top.proofs.Spelled.{run_no_gen, run_no_drill, run_no_check, gen_no_drill, gen_no_check, drill_no_check}
-use Rattle.e3_top.specs.Due.{HasText, IsTextOf}
+use Rattle.e3_top.specs.Due.{HasText, IsAsked, IsTextOf}
 use Rattle.e3_top.specs.Words.{IsRun, IsGen, IsDrill, IsCheck, MayEnd}
 use Rattle.e3_top.specs.declared.preparing.Due.{Due}
 use Rattle.e3_top.specs.declared.preparing.Stop.{Stop}
+use Rattle.e3_top.specs.declared.preparing.Telling.{Telling}
+use Rattle.e3_top.specs.declared.preparing.Telling.TheVariants.{Report, Summary}
 use Rattle.e3_types.specs.declared.entries.Entry.{Entry}
 use Rattle.e3_types.specs.declared.list.NoMemory.{NoMemory}
 use Rattle.e3_types.specs.declared.scenarios.Scenario.{Scenario}
-use Rattle.e3_words.specs.Words.{IsCommand, Spell}
-use Rattle.e3_words.specs.declared.words.Command.TheVariants.{Run, Gen, Drill, Check}
+use Rattle.e3_top.specs.Commands.{IsCommand, Spell}
+use Rattle.e3_top.specs.declared.commands.Command.TheVariants.{Run, Gen, Drill, Check}
 
 -- the status is neither of these
 pub neither : {P : Type 0} (s a b : ℕ) → s ≢ a → s ≢ b → (s ≡ a) ⊎ (s ≡ b) → P
@@ -221,17 +223,15 @@ fault_may words trace (Err stop) text run made = tt
 fault_may words trace (Ok due) text run made =
     let two = made.0 in may_run words due.status (record { trace = trace; spelled = run }) (omega (arith, two)) (λ e. omega (arith, e, two))
 
-pub run_may : (words : List (String Global)) (trace : Bool) (sc : Scenario) (most : ℕ) (h : List Entry) (told : List ℕ) (r : Result Due Stop) → Spell words (Run trace) → IfOk r (λ due. IsTextOf sc most h told due.status due.text) → IfOk r (λ due. MayEnd words due.status)
-run_may words trace sc most h told (Err stop) run made = tt
-run_may words trace sc most h told (Ok due) run (inl done) =
-    let zero = done.0 in may_run words due.status (record { trace = trace; spelled = run }) (omega (arith, zero)) (λ e. omega (arith, e, zero))
-run_may words trace sc most h told (Ok due) run (inr full) =
-    let six = full.0 in may_run words due.status (record { trace = trace; spelled = run }) (omega (arith, six)) (λ e. omega (arith, e, six))
-
-pub drill_may : (words : List (String Global)) (n : ℕ) (sc : Scenario) (most : ℕ) (h : List Entry) (told : List ℕ) (r : Result Due Stop) → Spell words (Drill n) → IfOk r (λ due. IsTextOf sc most h told due.status due.text) → IfOk r (λ due. MayEnd words due.status)
-drill_may words n sc most h told (Err stop) drill made = tt
-drill_may words n sc most h told (Ok due) drill (inl done) = may_drill words n due.status drill (inl done.0)
-drill_may words n sc most h told (Ok due) drill (inr full) = may_drill words n due.status drill (inr full.0)
+pub played_may : (words : List (String Global)) (bytes : List ℕ) (telling : Telling) (sc : Scenario) (most : ℕ) (h : List Entry) (told : List ℕ) (r : Result Due Stop) → IsAsked words bytes telling sc →
+    IfOk r (λ due. IsTextOf sc most h told due.status due.text) → IfOk r (λ due. MayEnd words due.status)
+played_may words bytes telling sc most h told (Err stop) asked made = tt
+played_may words bytes (Report trace) sc most h told (Ok due) asked (inl done) =
+    let zero = done.0 in may_run words due.status (record { trace = trace; spelled = asked.0 }) (omega (arith, zero)) (λ e. omega (arith, e, zero))
+played_may words bytes (Report trace) sc most h told (Ok due) asked (inr full) =
+    let six = full.0 in may_run words due.status (record { trace = trace; spelled = asked.0 }) (omega (arith, six)) (λ e. omega (arith, e, six))
+played_may words bytes (Summary n) sc most h told (Ok due) asked (inl done) = may_drill words n due.status asked.0 (inl done.0)
+played_may words bytes (Summary n) sc most h told (Ok due) asked (inr full) = may_drill words n due.status asked.0 (inr full.0)
 
 pub judged_may : (words : List (String Global)) (bytes : List ℕ) (status : ℕ) (h : List Entry) (text : List ℕ) → Spell words Check → IsVerdict bytes status h text → MayEnd words status
 judged_may words bytes status h text check verdict = may_check words status (record { spelled = check }) verdict.cause.known

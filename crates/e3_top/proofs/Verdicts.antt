@@ -2,13 +2,13 @@
 use Rattle.std.proofs.Common.{◌≡◌, ◌≢◌, ◌<◌, ◌⊎◌, inl, inr, ℕ, List, length, Option, refl, sym, subst, ◌∙◌, arith, String, Global}
 use Rattle.std.specs.Io.KnownBytes.{IsAtEnd}
 use Rattle.e3_check.specs.Claims.{IsFor, IsVerdict, HasLegal, HasIllegal, HasNoScenario}
-use Rattle.e3_disk.specs.Meters.{Meters}
+use Rattle.e3_disk.specs.Meaning.{Meaning}
 use Rattle.e3_top.specs.Due.{HasText, IsOutcome, IsChecked}
 use Rattle.e3_top.specs.Ends.{IsPrepared}
 use Rattle.e3_top.specs.Words.{IsCheck}
 use Rattle.e3_types.specs.declared.entries.Entry.{Entry}
-use Rattle.e3_words.specs.Words.{Spell}
-use Rattle.e3_words.specs.declared.words.Command.TheVariants.{Check}
+use Rattle.e3_top.specs.Commands.{Spell}
+use Rattle.e3_top.specs.declared.commands.Command.TheVariants.{Check}
 
 -- the statuses of a verdict
 other_than : (status n : ℕ) → n ≢ 0 → n ≢ 2 → n ≢ 8 → n ≢ 9 → (status ≡ 0) ⊎ (status ≡ 2) ⊎ (status ≡ 8) ⊎ (status ≡ 9) → status ≢ n
@@ -23,9 +23,9 @@ has_text status (inr (inl e)) = inl (omega (arith, e))
 has_text status (inr (inr e)) = inr (inr e)
 
 -- the text of a verdict is due
-pub checked_due : {D : Type 0} (image : D → List ℕ → Type 0) (meters : D → Meters) (disks : List D) (words : List (String Global)) (bytes : List ℕ) (most status : ℕ) (h : List Entry) (text : List ℕ) → Spell words Check →
-    IsVerdict bytes status h text → IsOutcome image meters disks disks words bytes most status h text
-checked_due {D} image meters disks words bytes most status h text check verdict = record {
+pub checked_due : {D : Type 0} (meaning : Meaning D) (disks : List D) (words : List (String Global)) (bytes : List ℕ) (most status : ℕ) (h : List Entry) (text : List ℕ) → Spell words Check →
+    IsVerdict bytes status h text → IsOutcome meaning disks disks words bytes most status h text
+checked_due {D} meaning disks words bytes most status h text check verdict = record {
   known = has_text status verdict.cause.known;
   done = λ e. inr (inr (inr (checked_as e)));
   words_refused = λ e. absurd (other_than status 1 (λ f. omega (arith, f)) (λ f. omega (arith, f)) (λ f. omega (arith, f)) (λ f. omega (arith, f)) verdict.cause.known e);
@@ -45,8 +45,8 @@ checked_due {D} image meters disks words bytes most status h text check verdict 
     checked_as e = subst (λ (n : ℕ). IsChecked disks disks words bytes n h text) e checked
 
 -- with 0, 2 and 8 the bytes are not too many, so nothing of the source is left
-pub drained_verdict : {D : Type 0} {image : D → List ℕ → Type 0} {meters : D → Meters} {before now : List D} {P : Type 0} {words : List (String Global)} {had left : Option (List ℕ)} {most due : ℕ} {history : List Entry} {text : List ℕ} (status : ℕ) →
-    IsPrepared image meters before now words had left most due history text → (status ≢ 4 → (status ≡ due) × P) → IsCheck words → (status ≡ 0) ⊎ (status ≡ 2) ⊎ (status ≡ 8) → IsAtEnd left
+pub drained_verdict : {D : Type 0} {meaning : Meaning D} {before now : List D} {P : Type 0} {words : List (String Global)} {had left : Option (List ℕ)} {most due : ℕ} {history : List Entry} {text : List ℕ} (status : ℕ) →
+    IsPrepared meaning before now words had left most due history text → (status ≢ 4 → (status ≡ due) × P) → IsCheck words → (status ≡ 0) ⊎ (status ≡ 2) ⊎ (status ≡ 8) → IsAtEnd left
 drained_verdict {due = due} status prepared written check is = prepared.read.to_end Check check.spelled (short is)
   where
     cause : IsFor prepared.bytes due

@@ -2,7 +2,7 @@
 use Rattle.std.specs.Prelude.{◌≡◌, ◌≤◌, ◌⊎◌, ℕ, List, [], String, Ok, Err, length}
 use Rattle.std.specs.declared.alloc.Global.{Global}
 use Rattle.e3_check.specs.Claims.{IsVerdict}
-use Rattle.e3_disk.specs.Meters.{Meters}
+use Rattle.e3_disk.specs.Meaning.{Meaning}
 use Rattle.e3_fleet.specs.Over.{AreOver}
 use Rattle.e3_gen.specs.Generated.{generated, generated_scenario}
 use Rattle.e3_law_rounds.specs.Commits.{CommitRoundsEnd}
@@ -14,7 +14,10 @@ use Rattle.e3_scenario.specs.Faults.{fault_text}
 use Rattle.e3_scenario.specs.Scenarios.{scenario_of}
 use Rattle.e3_scenario.specs.declared.faults.ScenarioFault.{ScenarioFault}
 use Rattle.e3_top.specs.Words.{IsRun, IsGen, IsDrill, IsCheck, refused_words, refused_history_full}
-use Rattle.e3_words.specs.Words.{IsCommand}
+use Rattle.e3_top.specs.declared.preparing.Telling.{Telling}
+use Rattle.e3_top.specs.declared.preparing.Telling.TheVariants.{Report, Summary}
+use Rattle.e3_top.specs.Commands.{IsCommand, Spell}
+use Rattle.e3_top.specs.declared.commands.Command.TheVariants.{Run, Drill}
 use Rattle.e3_types.specs.declared.entries.Entry.{Entry}
 use Rattle.e3_types.specs.declared.scenarios.Scenario.{Scenario}
 use Rattle.e3_world.specs.Legal.{IsLegal, IsWhole}
@@ -28,7 +31,7 @@ use Rattle.e3_world.specs.Safe.{IsSafe}
 -- table, over those that its own log commits, and each committed read that was told. Each recovery round in which no member
 -- fell ends in few entries. A commit that nothing disturbs, at sites that are fit to vote yes, commits at all of them in few
 -- entries. And what the disks came to over it.
-pub record IsRunOf {D : Type 0} (image : D → List ℕ → Type 0) (meters : D → Meters) (disks_before disks_now : List D)
+pub record IsRunOf {D : Type 0} (meaning : Meaning D) (disks_before disks_now : List D)
     (sc : Scenario) (most : ℕ) (history : List Entry) : Type 0 where
   pub given : IsGiven sc
   pub legal : IsLegal sc history
@@ -36,27 +39,27 @@ pub record IsRunOf {D : Type 0} (image : D → List ℕ → Type 0) (meters : D 
   pub safe : IsSafe sc history
   pub rounds : RoundsAreBounded sc history
   pub commits : CommitRoundsEnd sc history
-  pub over : AreOver image meters sc history disks_before disks_now
+  pub over : AreOver meaning sc history disks_before disks_now
 
 -- A run is done: the bytes spell a scenario, the history is one of it and went through all of it, and the text is its report, with the
 -- trace where the words ask for it.
-pub record IsDone {D : Type 0} (image : D → List ℕ → Type 0) (meters : D → Meters) (disks_before disks_now : List D)
+pub record IsDone {D : Type 0} (meaning : Meaning D) (disks_before disks_now : List D)
     (words : List (String Global)) (bytes : List ℕ) (most : ℕ) (history : List Entry) (text : List ℕ) : Type 0 where
   pub run : IsRun words
   pub scenario : Scenario
   pub spelled : scenario_of bytes ≡ Ok scenario
   pub whole : IsWhole scenario history
-  pub safe : IsRunOf image meters disks_before disks_now scenario most history
+  pub safe : IsRunOf meaning disks_before disks_now scenario most history
   pub reported : text ≡ report_of scenario history run.trace
 
 -- A drill is done: the history is one of the generated scenario of its number and went through all of it, and the text is
 -- its summary. Nothing is read.
-pub record IsDrilled {D : Type 0} (image : D → List ℕ → Type 0) (meters : D → Meters) (disks_before disks_now : List D)
+pub record IsDrilled {D : Type 0} (meaning : Meaning D) (disks_before disks_now : List D)
     (words : List (String Global)) (bytes : List ℕ) (most : ℕ) (history : List Entry) (text : List ℕ) : Type 0 where
   pub drill : IsDrill words
   pub unread : bytes ≡ []
   pub whole : IsWhole (generated_scenario drill.n) history
-  pub safe : IsRunOf image meters disks_before disks_now (generated_scenario drill.n) most history
+  pub safe : IsRunOf meaning disks_before disks_now (generated_scenario drill.n) most history
   pub reported : text ≡ summary_of drill.n (generated_scenario drill.n) history
 
 -- A generated scenario is told: the text is that of its number. Nothing is read, and nothing happens.
@@ -76,10 +79,10 @@ pub record IsChecked {D : Type 0} (disks_before disks_now : List D)
   pub verdict : IsVerdict bytes status history text
 
 -- what the words ask for is done
-abbrev pub Succeeds : {D : Type 0} → (D → List ℕ → Type 0) → (D → Meters) → List D → List D → List (String Global) → List ℕ → ℕ → List Entry → List ℕ → Type 0
-Succeeds image meters disks_before disks_now words bytes most history text =
-    IsDone image meters disks_before disks_now words bytes most history text
-    ⊎ IsDrilled image meters disks_before disks_now words bytes most history text
+abbrev pub Succeeds : {D : Type 0} → Meaning D → List D → List D → List (String Global) → List ℕ → ℕ → List Entry → List ℕ → Type 0
+Succeeds meaning disks_before disks_now words bytes most history text =
+    IsDone meaning disks_before disks_now words bytes most history text
+    ⊎ IsDrilled meaning disks_before disks_now words bytes most history text
     ⊎ IsTold disks_before disks_now words bytes history text
     ⊎ IsChecked disks_before disks_now words bytes 0 history text
 
@@ -112,15 +115,26 @@ pub record IsDrillOf (words : List (String Global)) (bytes : List ℕ) (scenario
 abbrev pub Plays : List (String Global) → List ℕ → Scenario → Type 0
 Plays words bytes scenario = (IsRun words × (scenario_of bytes ≡ Ok scenario)) ⊎ IsDrillOf words bytes scenario
 
+-- what is told of a scenario that was played to its end
+abbrev pub told_of : Telling → Scenario → List Entry → List ℕ
+told_of (Report trace) scenario history = report_of scenario history trace
+told_of (Summary n) scenario history = summary_of n scenario history
+
+-- The words ask for this of the scenario: for a report where the bytes spell it, and for a summary where it is the generated one
+-- of the number, and nothing is read.
+abbrev pub IsAsked : List (String Global) → List ℕ → Telling → Scenario → Type 0
+IsAsked words bytes (Report trace) scenario = Spell words (Run trace) × (scenario_of bytes ≡ Ok scenario)
+IsAsked words bytes (Summary n) scenario = Spell words (Drill n) × (bytes ≡ []) × (scenario ≡ generated_scenario n)
+
 -- A full history: it has as many entries as it may have, and a further one is due, so it went not through all of the scenario.
-pub record IsFullHistory {D : Type 0} (image : D → List ℕ → Type 0) (meters : D → Meters) (disks_before disks_now : List D)
+pub record IsFullHistory {D : Type 0} (meaning : Meaning D) (disks_before disks_now : List D)
     (words : List (String Global)) (bytes : List ℕ) (most : ℕ) (history : List Entry) (text : List ℕ) : Type 0 where
   pub scenario : Scenario
   pub plays : Plays words bytes scenario
   pub full : length history ≡ most
   pub owed : IsOwed scenario history
   pub unfinished : ¬ IsWhole scenario history
-  pub safe : IsRunOf image meters disks_before disks_now scenario most history
+  pub safe : IsRunOf meaning disks_before disks_now scenario most history
   pub says : text ≡ refused_history_full
 
 -- The text of a scenario that was played, and its status: what is told where the history went through all of it, and the
@@ -136,12 +150,12 @@ HasText status = (status ≤ 2) ⊎ (status ≡ 6) ⊎ (status ≡ 8) ⊎ (statu
 
 -- The text is due, with status 0, 1, 2, 6, 8 or 9. For the words `check` it is that of the verdict on the bytes, and so is the
 -- status; 8 and 9 come for these words alone.
-pub record IsOutcome {D : Type 0} (image : D → List ℕ → Type 0) (meters : D → Meters) (disks_before disks_now : List D)
+pub record IsOutcome {D : Type 0} (meaning : Meaning D) (disks_before disks_now : List D)
     (words : List (String Global)) (bytes : List ℕ) (most status : ℕ) (history : List Entry) (text : List ℕ) : Type 0 where
   pub known : HasText status
-  pub done : status ≡ 0 → Succeeds image meters disks_before disks_now words bytes most history text
+  pub done : status ≡ 0 → Succeeds meaning disks_before disks_now words bytes most history text
   pub words_refused : status ≡ 1 → IsRefusedWords disks_before disks_now words bytes history text
   pub scenario_refused : status ≡ 2 → IsNoScenario disks_before disks_now words bytes history text ⊎ IsChecked disks_before disks_now words bytes status history text
-  pub history_full : status ≡ 6 → IsFullHistory image meters disks_before disks_now words bytes most history text
+  pub history_full : status ≡ 6 → IsFullHistory meaning disks_before disks_now words bytes most history text
   pub judged : (status ≡ 8) ⊎ (status ≡ 9) → IsCheck words
   pub checked : IsCheck words → IsChecked disks_before disks_now words bytes status history text

@@ -2,7 +2,7 @@
 use Rattle.std.specs.Prelude.{◌≡◌, ◌≤◌, ◌⊎◌, ℕ, List, [], Option, String}
 use Rattle.std.specs.Io.KnownBytes.{IsAtEnd}
 use Rattle.std.specs.declared.alloc.Global.{Global}
-use Rattle.e3_disk.specs.Meters.{Meters}
+use Rattle.e3_disk.specs.Meaning.{Meaning}
 use Rattle.e3_outside.specs.Faults.{HasFailed}
 use Rattle.e3_top.specs.Due.{HasText}
 use Rattle.e3_top.specs.Ends.{Finishes, IsCutShort, SinkFails, SourceFails}
@@ -17,21 +17,21 @@ pub record Around (D S K : Type 0) : Type 0 where
 
 -- The run of these words ended so. Of a source `left` is what it has yet to give, of a sink `written` what it was given; both
 -- count their faults. The history has `most` entries at most.
-pub record HasRun {D S K : Type 0} (image : D → List ℕ → Type 0) (meters : D → Meters) (left : S → Option (List ℕ)) (source_faults : S → ℕ)
+pub record HasRun {D S K : Type 0} (meaning : Meaning D) (left : S → Option (List ℕ)) (source_faults : S → ℕ)
     (written : K → Option (List ℕ)) (sink_faults : K → ℕ) (words : List (String Global)) (most : ℕ) (was now : Around D S K) (status : ℕ) (history : List Entry) : Type 0 where
   -- 0, 1, 2, 6, 8 and 9: the text that words, bytes and history give was written, all of it and nothing else. Where anything
   -- happened, each disk of a site stands for the site's log, and its numbers tell how often it failed, was armed and was cut.
   pub finished : HasText status →
-      Finishes image meters was.disks now.disks words (left was.source) (left now.source) (written was.sink) (written now.sink) most status history
+      Finishes meaning was.disks now.disks words (left was.source) (left now.source) (written was.sink) (written now.sink) most status history
   -- 3 only where the source's count of faults rose; nothing is written, and no disk is touched
   pub source_failed : status ≡ 3 →
       SourceFails was.disks now.disks words (left was.source) (left now.source) (source_faults was.source) (source_faults now.source) history × (now.sink ≡ was.sink)
   -- 4 only where the sink's count of faults rose; a front of the text of 0, 1, 2, 6, 8 or 9 was written
   pub sink_failed : status ≡ 4 →
-      SinkFails image meters was.disks now.disks words (left was.source) (left now.source) (written was.sink) (written now.sink) (sink_faults was.sink) (sink_faults now.sink) most history
+      SinkFails meaning was.disks now.disks words (left was.source) (left now.source) (written was.sink) (written now.sink) (sink_faults was.sink) (sink_faults now.sink) most history
   -- 5 is free; the history is legal and safe as far as it goes, and nothing is written
   pub no_memory : status ≡ 5 →
-      IsCutShort image meters was.disks now.disks words (left was.source) (left now.source) most history × (now.sink ≡ was.sink)
+      IsCutShort meaning was.disks now.disks words (left was.source) (left now.source) most history × (now.sink ≡ was.sink)
   -- A run, and no fault of source or sink: it is done, or memory ran out, unless the bytes spell no scenario, or the history
   -- is full.
   pub complete_run : IsRun words → ¬ HasFailed (source_faults was.source) (source_faults now.source) → ¬ HasFailed (sink_faults was.sink) (sink_faults now.sink) →

@@ -1,9 +1,9 @@
 -- The words of the command line.
 use Rattle.std.specs.Prelude.{◌≡◌, ◌≤◌, ◌⊎◌, ℕ, Bool, codes, List, String}
 use Rattle.std.specs.declared.alloc.Global.{Global}
-use Rattle.e3_words.specs.Words.{Spell, IsCommand}
-use Rattle.e3_words.specs.declared.words.Command.{Command}
-use Rattle.e3_words.specs.declared.words.Command.TheVariants.{Run, Gen, Drill, Check}
+use Rattle.e3_top.specs.Commands.{Spell, IsCommand}
+use Rattle.e3_top.specs.declared.commands.Command.{Command}
+use Rattle.e3_top.specs.declared.commands.Command.TheVariants.{Run, Gen, Drill, Check}
 
 -- the words ask for a run: `run`, or `run --trace` where its trace is to stand behind the report
 pub record IsRun (words : List (String Global)) : Type 0 where

@@ -3,8 +3,10 @@
 #![tactic(auto)]
 
 mod checking;
+mod commands;
 mod preparing;
 mod running;
 mod words;
 
+pub use commands::{Command, read_words};
 pub use running::{Ended, run, run_within};

@@ -2,20 +2,18 @@
 ghost use Rattle.std.specs.Prelude.{Ok, Err, ◌≡◌, ◌≢◌, ◌≤◌, ◌⊎◌, [], IfErr, IfOk, OnOk, length};
 ghost use Rattle.e3_fleet.specs.Over.{AreBlank};
 ghost use Rattle.e3_play.specs.Delivered.{IsFull};
-ghost use Rattle.e3_gen.specs.Generated.{generated_scenario};
-ghost use Rattle.e3_report.specs.Report.{report_of};
-ghost use Rattle.e3_report.specs.Summary.{summary_of};
 ghost use Rattle.e3_scenario.specs.Faults.{fault_text};
 ghost use Rattle.e3_scenario.specs.Scenarios.{scenario_of};
-ghost use Rattle.e3_top.specs.Due.{IsOutcome, IsRunOf, IsTextOf};
-ghost use Rattle.e3_top.specs.Ends.{IsCutShort, IsHistoryOf, IsPrepared, SourceFails};
-ghost use Rattle.e3_top.specs.Words.{IsCheck, IsGen, IsRun, MayEnd, refused_history_full};
-ghost use Rattle.e3_words.specs.Words.{IsCommand, Spell};
-ghost use Rattle.e3_words.specs.declared.words.Command.TheVariants.{Run, Gen, Drill};
+ghost use Rattle.e3_top.specs.Due.{IsAsked, IsRunOf, IsTextOf, told_of};
+ghost use Rattle.e3_top.specs.Ends.{IsDue, IsHistoryOf, IsReady};
+ghost use Rattle.e3_top.specs.Words.{IsCheck, IsGen, IsRun, refused_history_full};
+ghost use Rattle.e3_top.specs.Commands.{IsCommand, Spell};
+ghost use Rattle.e3_top.specs.declared.commands.Command.TheVariants.{Run, Gen, Drill};
 ghost use Rattle.e3_world.specs.Given.{IsGiven};
 ghost use Rattle.e3_world.specs.Legal.{IsWhole};
 
 use crate::checking::read_and_judge;
+use crate::commands::{Command, read_words};
 use crate::words::{refused_history_full, refused_words};
 use e3_disk::{Disk, Drill};
 use e3_fleet::{Played, play_over};
@@ -27,7 +25,6 @@ use e3_play::RunFault;
 use e3_report::{report, summary};
 use e3_scenario::{ScenarioFault, fault_line, read_scenario};
 use e3_types::{List, NoMemory, Scenario};
-use e3_words::{Command, read_words};
 use e3_world::History;
 use std::alloc::Global;
 use std::sync::Wait;
@@ -56,14 +53,11 @@ pub enum Stop {
     NoMemory,
 }
 
-impl From<NoMemory> for Stop {
-    ghost use Rattle.e3_top.specs.declared.preparing.Stop.TheVariants as stop;
-
-    ghost from_gives = { λ _ s. s ≡ stop.NoMemory };
-
-    fn from(_cause: NoMemory) -> Stop {
-        Stop::NoMemory
-    }
+/// What is told of a scenario that was played to its end: the report of a run, or the summary of the drill of a number.
+#[derive(Clone, Copy)]
+pub enum Telling {
+    Report { trace: bool },
+    Summary { n: u32 },
 }
 
 /// What words, source and disks came to: the text that is due, or why there is none; the history; and the disks.
@@ -74,24 +68,50 @@ pub struct Prepared<D: Drop> {
     pub disks: Vec<D>,
 }
 
+// A text with its status, or want of memory.
+fn made(status: u8, text: Result<List<u8>, NoMemory>) -> Result<Due, Stop>
+    ensures due { IfOk result (λ due. (due.status ≡ status) × (text ≡ Ok due.text)) }
+    ensures only_memory { IfErr result (λ e. e ≡ Stop.NoMemory) }
+{
+    match text {
+        Ok(text) => Ok(Due { status, text }),
+        Err(NoMemory) => Err(Stop::NoMemory),
+    }
+}
+
+// What is told of a history that went through its scenario.
+fn tell(
+    alloc: Global,
+    telling: Telling,
+    scenario: &Scenario,
+    history: &History,
+) -> Result<List<u8>, NoMemory>
+    ensures { IfOk result (λ text. text ≡ told_of telling scenario.now history.now.entries) }
+{
+    match telling {
+        Telling::Report { trace } => report(alloc, scenario, history, trace),
+        Telling::Summary { n } => summary(alloc, n, scenario, history),
+    }
+}
+
 // The text of a scenario that was not played to its end.
 fn unfinished(alloc: Global, fault: RunFault) -> Result<Due, Stop>
     ensures due { IfOk result (λ due. (fault ≡ RunFault.HistoryFull) × (due.status ≡ 6) × (due.text ≡ refused_history_full)) }
     ensures only_memory { IfErr result (λ e. e ≡ Stop.NoMemory) }
 {
     match fault {
-        RunFault::HistoryFull => Ok(Due {
-            status: 6,
-            text: refused_history_full(alloc)?,
-        }),
+        RunFault::HistoryFull => match refused_history_full(alloc) {
+            Ok(text) => Ok(Due { status: 6, text }),
+            Err(NoMemory) => Err(Stop::NoMemory),
+        },
         RunFault::NoMemory => Err(Stop::NoMemory),
     }
 }
 
-// The text of a run that was played.
-fn run_text(
+// The text of a scenario that was played.
+fn text_of(
     alloc: Global,
-    trace: bool,
+    telling: Telling,
     scenario: &Scenario,
     ended: Result<(), RunFault>,
     history: &History,
@@ -99,37 +119,11 @@ fn run_text(
 ) -> Result<Due, Stop>
     requires whole { OnOk ended (IsWhole scenario.now history.now.entries) }
     requires full { ended ≡ Err RunFault.HistoryFull → IsFull scenario.now history.now.entries most }
-    ensures due { IfOk result (λ due. IsTextOf scenario.now most history.now.entries (report_of scenario.now history.now.entries trace) due.status due.text) }
+    ensures due { IfOk result (λ due. IsTextOf scenario.now most history.now.entries (told_of telling scenario.now history.now.entries) due.status due.text) }
     ensures only_memory { IfErr result (λ e. e ≡ Stop.NoMemory) }
 {
     match ended {
-        Ok(()) => Ok(Due {
-            status: 0,
-            text: report(alloc, scenario, history, trace)?,
-        }),
-        Err(fault) => unfinished(alloc, fault),
-    }
-}
-
-// The text of a drill that was played.
-fn drill_text(
-    alloc: Global,
-    n: u32,
-    scenario: &Scenario,
-    ended: Result<(), RunFault>,
-    history: &History,
-    most: u32,
-) -> Result<Due, Stop>
-    requires whole { OnOk ended (IsWhole scenario.now history.now.entries) }
-    requires full { ended ≡ Err RunFault.HistoryFull → IsFull scenario.now history.now.entries most }
-    ensures due { IfOk result (λ due. IsTextOf scenario.now most history.now.entries (summary_of n scenario.now history.now.entries) due.status due.text) }
-    ensures only_memory { IfErr result (λ e. e ≡ Stop.NoMemory) }
-{
-    match ended {
-        Ok(()) => Ok(Due {
-            status: 0,
-            text: summary(alloc, n, scenario, history)?,
-        }),
+        Ok(()) => made(0, tell(alloc, telling, scenario, history)),
         Err(fault) => unfinished(alloc, fault),
     }
 }
@@ -145,11 +139,11 @@ fn play<D: Disk + Drill + Drop + Send, G: Gate + Sync, R: Wait + Threads + Sync>
 ) -> Played<D>
     requires given { IsGiven scenario.now }
     requires enough { length scenario.now.weights ≤ length disks.items }
-    requires blank { AreBlank D.content D.image D.meters disks.items }
+    requires blank { AreBlank D.meaning disks.items }
     requires most { most ≤ 2000000 }
     ensures whole { OnOk result.ended (IsWhole scenario.now result.history.entries) }
     ensures full { result.ended ≡ Err RunFault.HistoryFull → IsFull scenario.now result.history.entries most }
-    ensures history { IsRunOf D.image D.meters disks.items result.disks.items scenario.now most result.history.entries }
+    ensures history { IsRunOf D.meaning disks.items result.disks.items scenario.now most result.history.entries }
 {
     one_order();
     rounds_end();
@@ -166,28 +160,25 @@ fn play<D: Disk + Drill + Drop + Send, G: Gate + Sync, R: Wait + Threads + Sync>
     )
 }
 
-// The run of a scenario.
-fn prepare_run<D: Disk + Drill + Drop + Send, G: Gate + Sync, R: Wait + Threads + Sync>(
+// Plays a scenario, and tells of it what the words ask for.
+fn prepare_play<D: Disk + Drill + Drop + Send, G: Gate + Sync, R: Wait + Threads + Sync>(
     rt: &R,
     alloc: Global,
     words: &[String],
-    trace: bool,
     bytes: &[u8],
+    telling: Telling,
     scenario: &Scenario,
     disks: Vec<D>,
     gate: &G,
     most: u32,
 ) -> Prepared<D>
-    requires run { Spell words.now (Run trace) }
-    requires spelled { scenario_of bytes.now ≡ Ok scenario.now }
+    requires asked { IsAsked words.now bytes.now telling scenario.now }
     requires given { IsGiven scenario.now }
     requires enough { length scenario.now.weights ≤ length disks.items }
-    requires blank { AreBlank D.content D.image D.meters disks.items }
+    requires blank { AreBlank D.meaning disks.items }
     requires most { most ≤ 2000000 }
-    ensures due { IfOk result.due (λ due. IsOutcome D.image D.meters disks.items result.disks.items words.now bytes.now most due.status result.history.entries due.text) }
-    ensures status { IfOk result.due (λ due. MayEnd words.now due.status) }
-    ensures only_memory { IfErr result.due (λ e. e ≡ Stop.NoMemory) }
-    ensures history { IsRunOf D.image D.meters disks.items result.disks.items scenario.now most result.history.entries }
+    ensures due { IsDue D.meaning disks.items result.disks.items words.now bytes.now most result.due result.history.entries }
+    ensures history { IsRunOf D.meaning disks.items result.disks.items scenario.now most result.history.entries }
 {
     let Played {
         ended,
@@ -195,41 +186,7 @@ fn prepare_run<D: Disk + Drill + Drop + Send, G: Gate + Sync, R: Wait + Threads 
         disks,
     } = play(rt, alloc, scenario, disks, gate, most);
     Prepared {
-        due: run_text(alloc, trace, scenario, ended, &history, most),
-        history,
-        disks,
-    }
-}
-
-// The drill of a generated scenario.
-fn prepare_drill<D: Disk + Drill + Drop + Send, G: Gate + Sync, R: Wait + Threads + Sync>(
-    rt: &R,
-    alloc: Global,
-    words: &[String],
-    n: u32,
-    scenario: &Scenario,
-    disks: Vec<D>,
-    gate: &G,
-    most: u32,
-) -> Prepared<D>
-    requires drill { Spell words.now (Drill n) }
-    requires generated { scenario.now ≡ generated_scenario n }
-    requires given { IsGiven scenario.now }
-    requires enough { length scenario.now.weights ≤ length disks.items }
-    requires blank { AreBlank D.content D.image D.meters disks.items }
-    requires most { most ≤ 2000000 }
-    ensures due { IfOk result.due (λ due. IsOutcome D.image D.meters disks.items result.disks.items words.now [] most due.status result.history.entries due.text) }
-    ensures status { IfOk result.due (λ due. MayEnd words.now due.status) }
-    ensures only_memory { IfErr result.due (λ e. e ≡ Stop.NoMemory) }
-    ensures history { IsRunOf D.image D.meters disks.items result.disks.items scenario.now most result.history.entries }
-{
-    let Played {
-        ended,
-        history,
-        disks,
-    } = play(rt, alloc, scenario, disks, gate, most);
-    Prepared {
-        due: drill_text(alloc, n, scenario, ended, &history, most),
+        due: text_of(alloc, telling, scenario, ended, &history, most),
         history,
         disks,
     }
@@ -248,23 +205,20 @@ fn unplayed<D: Drop>(
     ensures disks { result.disks.items ≡ disks.items }
 {
     Prepared {
-        due: match text {
-            Ok(text) => Ok(Due { status, text }),
-            Err(NoMemory) => Err(Stop::NoMemory),
-        },
+        due: made(status, text),
         history: History::new(alloc),
         disks,
     }
 }
 
-/// Want of memory, before anything happens.
-pub fn without_memory<D: Drop>(alloc: Global, disks: Vec<D>) -> Prepared<D>
-    ensures due { result.due ≡ Err Stop.NoMemory }
+/// Why there is no text, before anything happens.
+pub fn unprepared<D: Drop>(alloc: Global, stop: Stop, disks: Vec<D>) -> Prepared<D>
+    ensures due { result.due ≡ Err stop }
     ensures history { result.history.entries ≡ [] }
     ensures disks { result.disks.items ≡ disks.items }
 {
     Prepared {
-        due: Err(Stop::NoMemory),
+        due: Err(stop),
         history: History::new(alloc),
         disks,
     }
@@ -278,9 +232,7 @@ fn refuse_words<D: Disk + Drill + Drop>(
     most: u32,
 ) -> Prepared<D>
     requires { ¬ IsCommand words.now }
-    ensures due { IfOk result.due (λ due. IsOutcome D.image D.meters disks.items result.disks.items words.now [] most due.status result.history.entries due.text) }
-    ensures status { IfOk result.due (λ due. MayEnd words.now due.status) }
-    ensures only_memory { IfErr result.due (λ e. e ≡ Stop.NoMemory) }
+    ensures due { IsDue D.meaning disks.items result.disks.items words.now [] most result.due result.history.entries }
     ensures history { result.history.entries ≡ [] }
     ensures disks { result.disks.items ≡ disks.items }
 {
@@ -299,9 +251,7 @@ fn tell_generated<D: Disk + Drill + Drop>(
     requires spelled { Spell words.now (Gen n) }
     requires least { 1 ≤ n }
     requires most { n ≤ 1000 }
-    ensures due { IfOk result.due (λ due. IsOutcome D.image D.meters disks.items result.disks.items words.now [] most due.status result.history.entries due.text) }
-    ensures status { IfOk result.due (λ due. MayEnd words.now due.status) }
-    ensures only_memory { IfErr result.due (λ e. e ≡ Stop.NoMemory) }
+    ensures due { IsDue D.meaning disks.items result.disks.items words.now [] most result.due result.history.entries }
     ensures history { result.history.entries ≡ [] }
     ensures disks { result.disks.items ≡ disks.items }
 {
@@ -331,9 +281,7 @@ fn refuse_scenario<D: Disk + Drill + Drop>(
 ) -> Prepared<D>
     requires run { Spell words.now (Run trace) }
     requires refused { (fault.now ≡ ScenarioFault.NoMemory) ⊎ (scenario_of bytes.now ≡ Err fault.now) }
-    ensures due { IfOk result.due (λ due. IsOutcome D.image D.meters disks.items result.disks.items words.now bytes.now most due.status result.history.entries due.text) }
-    ensures status { IfOk result.due (λ due. MayEnd words.now due.status) }
-    ensures only_memory { IfErr result.due (λ e. e ≡ Stop.NoMemory) }
+    ensures due { IsDue D.meaning disks.items result.disks.items words.now bytes.now most result.due result.history.entries }
     ensures history { result.history.entries ≡ [] }
     ensures disks { result.disks.items ≡ disks.items }
 {
@@ -354,17 +302,20 @@ fn prepare_bytes<D: Disk + Drill + Drop + Send, G: Gate + Sync, R: Wait + Thread
 ) -> Prepared<D>
     requires run { Spell words.now (Run trace) }
     requires sixteen { length disks.items ≡ 16 }
-    requires blank { AreBlank D.content D.image D.meters disks.items }
+    requires blank { AreBlank D.meaning disks.items }
     requires most { most ≤ 2000000 }
-    ensures due { IfOk result.due (λ due. IsOutcome D.image D.meters disks.items result.disks.items words.now bytes.now most due.status result.history.entries due.text) }
-    ensures status { IfOk result.due (λ due. MayEnd words.now due.status) }
-    ensures only_memory { IfErr result.due (λ e. e ≡ Stop.NoMemory) }
+    ensures due { IsDue D.meaning disks.items result.disks.items words.now bytes.now most result.due result.history.entries }
     ensures cut_short { ((result.history.entries ≡ []) × (result.disks.items ≡ disks.items))
-        ⊎ IsHistoryOf D.image D.meters disks.items result.disks.items words.now bytes.now most result.history.entries }
+        ⊎ IsHistoryOf D.meaning disks.items result.disks.items words.now bytes.now most result.history.entries }
 {
     match read_scenario(alloc, bytes) {
         Err(fault) => refuse_scenario(alloc, words, trace, bytes, &fault, disks, most),
-        Ok(scenario) => prepare_run(rt, alloc, words, trace, bytes, &scenario, disks, gate, most),
+        Ok(scenario) => {
+            let telling = Telling::Report { trace };
+            prepare_play(
+                rt, alloc, words, bytes, telling, &scenario, disks, gate, most,
+            )
+        }
     }
 }
 
@@ -386,23 +337,13 @@ fn read_and_play<
 ) -> Prepared<D>
     requires run { Spell words.now (Run trace) }
     requires sixteen { length disks.items ≡ 16 }
-    requires blank { AreBlank D.content D.image D.meters disks.items }
+    requires blank { AreBlank D.meaning disks.items }
     requires most { most ≤ 2000000 }
-    ensures prepared { IfOk result.due (λ due. IsPrepared D.image D.meters disks.items result.disks.items words.now (S.left source.old) (S.left source.new) most due.status result.history.entries due.text) }
-    ensures status { IfOk result.due (λ due. MayEnd words.now due.status) }
-    ensures source_failed { result.due ≡ Err Stop.SourceFailed →
-        SourceFails disks.items result.disks.items words.now (S.left source.old) (S.left source.new) (S.faults source.old) (S.faults source.new) result.history.entries }
-    ensures no_memory { result.due ≡ Err Stop.NoMemory →
-        IsCutShort D.image D.meters disks.items result.disks.items words.now (S.left source.old) (S.left source.new) most result.history.entries }
-    ensures never_falls { S.faults source.old ≤ S.faults source.new }
+    ensures ready { IsReady D.meaning S.left S.faults disks.items result.disks.items words.now source.old source.new most result.due result.history.entries }
 {
     match read_up_to(alloc, source, MOST) {
-        Err(ReadFault::Failed) => Prepared {
-            due: Err(Stop::SourceFailed),
-            history: History::new(alloc),
-            disks,
-        },
-        Err(ReadFault::NoMemory) => without_memory(alloc, disks),
+        Err(ReadFault::Failed) => unprepared(alloc, Stop::SourceFailed, disks),
+        Err(ReadFault::NoMemory) => unprepared(alloc, Stop::NoMemory, disks),
         Ok(bytes) => prepare_bytes(rt, alloc, words, trace, bytes.as_slice(), disks, gate, most),
     }
 }
@@ -421,17 +362,18 @@ fn generate_and_play<D: Disk + Drill + Drop + Send, G: Gate + Sync, R: Wait + Th
     requires least { 1 ≤ n }
     requires most { n ≤ 1000 }
     requires sixteen { length disks.items ≡ 16 }
-    requires blank { AreBlank D.content D.image D.meters disks.items }
+    requires blank { AreBlank D.meaning disks.items }
     requires bound { most ≤ 2000000 }
-    ensures due { IfOk result.due (λ due. IsOutcome D.image D.meters disks.items result.disks.items words.now [] most due.status result.history.entries due.text) }
-    ensures status { IfOk result.due (λ due. MayEnd words.now due.status) }
-    ensures only_memory { IfErr result.due (λ e. e ≡ Stop.NoMemory) }
+    ensures due { IsDue D.meaning disks.items result.disks.items words.now [] most result.due result.history.entries }
     ensures cut_short { ((result.history.entries ≡ []) × (result.disks.items ≡ disks.items))
-        ⊎ IsHistoryOf D.image D.meters disks.items result.disks.items words.now [] most result.history.entries }
+        ⊎ IsHistoryOf D.meaning disks.items result.disks.items words.now [] most result.history.entries }
 {
     match generated_scenario(alloc, n) {
-        Err(NoMemory) => without_memory(alloc, disks),
-        Ok(scenario) => prepare_drill(rt, alloc, words, n, &scenario, disks, gate, most),
+        Err(NoMemory) => unprepared(alloc, Stop::NoMemory, disks),
+        Ok(scenario) => {
+            let telling = Telling::Summary { n };
+            prepare_play(rt, alloc, words, &[], telling, &scenario, disks, gate, most)
+        }
     }
 }
 
@@ -446,18 +388,12 @@ pub fn prepare<S: Source, D: Disk + Drill + Drop + Send, G: Gate + Sync, R: Wait
     most: u32,
 ) -> Prepared<D>
     requires sixteen { length disks.items ≡ 16 }
-    requires blank { AreBlank D.content D.image D.meters disks.items }
+    requires blank { AreBlank D.meaning disks.items }
     requires most { most ≤ 2000000 }
-    ensures prepared { IfOk result.due (λ due. IsPrepared D.image D.meters disks.items result.disks.items words.now (S.left source.old) (S.left source.new) most due.status result.history.entries due.text) }
-    ensures status { IfOk result.due (λ due. MayEnd words.now due.status) }
-    ensures source_failed { result.due ≡ Err Stop.SourceFailed →
-        SourceFails disks.items result.disks.items words.now (S.left source.old) (S.left source.new) (S.faults source.old) (S.faults source.new) result.history.entries }
-    ensures no_memory { result.due ≡ Err Stop.NoMemory →
-        IsCutShort D.image D.meters disks.items result.disks.items words.now (S.left source.old) (S.left source.new) most result.history.entries }
+    ensures ready { IsReady D.meaning S.left S.faults disks.items result.disks.items words.now source.old source.new most result.due result.history.entries }
     ensures told { IsGen words.now → (result.history.entries ≡ []) × (result.disks.items ≡ disks.items) }
     ensures untouched { IsCheck words.now → result.disks.items ≡ disks.items }
     ensures unread { ¬ IsRun words.now → ¬ IsCheck words.now → source.new ≡ source.old }
-    ensures never_falls { S.faults source.old ≤ S.faults source.new }
 {
     match read_words(words) {
         None => refuse_words(alloc, words, disks, most),

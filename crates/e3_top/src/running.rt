@@ -79,10 +79,10 @@ pub fn run_within<
     most: u32,
 ) -> Ended<D>
     requires sixteen { length disks.items ≡ 16 }
-    requires blank { AreBlank D.content D.image D.meters disks.items }
+    requires blank { AreBlank D.meaning disks.items }
     requires least { 1 ≤ most }
     requires most { most ≤ 2000000 }
-    ensures ran { HasRun D.image D.meters S.left S.faults K.written K.faults words.now most
+    ensures ran { HasRun D.meaning S.left S.faults K.written K.faults words.now most
         (record { disks = disks.items; source = source.old; sink = sink.old }) (record { disks = result.disks.items; source = source.new; sink = sink.new })
         result.status result.history.entries }
 {
@@ -123,8 +123,8 @@ pub fn run<
     gate: &G,
 ) -> Ended<D>
     requires sixteen { length disks.items ≡ 16 }
-    requires blank { AreBlank D.content D.image D.meters disks.items }
-    ensures ran { HasRun D.image D.meters S.left S.faults K.written K.faults words.now 2000000
+    requires blank { AreBlank D.meaning disks.items }
+    ensures ran { HasRun D.meaning S.left S.faults K.written K.faults words.now 2000000
         (record { disks = disks.items; source = source.old; sink = sink.old }) (record { disks = result.disks.items; source = source.new; sink = sink.new })
         result.status result.history.entries }
 {

@@ -241,14 +241,22 @@ fn push_sizes(alloc: Global, page: &mut Page) {
     }
 }
 
+// Adds what fails in a case, and gives its disk.
+fn failing(alloc: Global, page: &mut Page, label: &str, call: u64) -> Option<MemDisk> {
+    page.labelled(label, call);
+    page.text(" fails");
+    let disk = faulty(alloc, call);
+    if disk.is_none() {
+        page.lack();
+    }
+    disk
+}
+
 // Adds the lines of appends that fail. Opening makes five calls, and an append four.
 fn push_faults(alloc: Global, page: &mut Page) {
     for call in [6, 7, 8, 9, 99] {
-        page.labelled("an append where call ", call);
-        page.text(" fails");
-        match faulty(alloc, call) {
-            Some(disk) => push_fault(alloc, page, disk),
-            None => page.lack(),
+        if let Some(disk) = failing(alloc, page, "an append where call ", call) {
+            push_fault(alloc, page, disk);
         }
     }
 }
@@ -256,11 +264,8 @@ fn push_faults(alloc: Global, page: &mut Page) {
 // Adds the lines of openings that fail.
 fn push_refused(alloc: Global, page: &mut Page) {
     for call in 1..7 {
-        page.labelled("open where call ", call);
-        page.text(" fails");
-        match faulty(alloc, call) {
-            Some(disk) => push_opened(alloc, page, disk),
-            None => page.lack(),
+        if let Some(disk) = failing(alloc, page, "open where call ", call) {
+            push_opened(alloc, page, disk);
         }
     }
 }

@@ -1,17 +1,9 @@
 // What several cases print.
 use e3_lines::Page;
 
-const DIGITS: &[u8; 16] = b"0123456789ABCDEF";
-
-fn digit(value: u8) -> u8 {
-    DIGITS.get(usize::from(value)).copied().unwrap_or(b'?')
-}
-
 /// Adds bytes as two digits each, and ends the line.
 pub fn push_hex(page: &mut Page, bytes: &[u8]) {
-    for byte in bytes {
-        page.bytes(&[digit(*byte / 16), digit(*byte % 16)]);
-    }
+    page.hex(bytes);
     page.text("\n");
 }
 

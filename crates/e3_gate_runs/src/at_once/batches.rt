@@ -116,7 +116,7 @@ fn calls_by_run<R: Wait + Threads + Sync>(
     calls_on(&ended.disks)
 }
 
-// The same of the scenario of these steps.
+// The same of a run of the scenario of these steps.
 fn calls_run<R: Wait + Threads + Sync>(rt: &R, alloc: Global, steps: &[&str]) -> Option<Calls> {
     let text = text_of(alloc, steps).done()?;
     let mut source = MemSource::new(text, 4096, List::new(alloc));
@@ -124,20 +124,8 @@ fn calls_run<R: Wait + Threads + Sync>(rt: &R, alloc: Global, steps: &[&str]) ->
     calls_by_run(rt, alloc, &mut source, &words)
 }
 
-// The calls by the end of the scenario of these steps, with so many packets in one turn of work; none without memory.
-fn calls_played<R: Wait + Threads + Sync>(
-    rt: &R,
-    alloc: Global,
-    steps: &[&str],
-    packets: u32,
-) -> Option<Calls> {
-    match scenario_of(alloc, steps) {
-        Some(scenario) => calls_at_end(rt, alloc, &scenario, packets),
-        None => None,
-    }
-}
-
-// The same with so many packets, or by a run where no number is given.
+// The calls by the end of the scenario of these steps, with so many packets in one turn of work, or by a run where no number is
+// given; none without memory.
 fn calls_of<R: Wait + Threads + Sync>(
     rt: &R,
     alloc: Global,
@@ -145,7 +133,10 @@ fn calls_of<R: Wait + Threads + Sync>(
     packets: Option<u32>,
 ) -> Option<Calls> {
     match packets {
-        Some(packets) => calls_played(rt, alloc, steps, packets),
+        Some(packets) => {
+            let scenario = scenario_of(alloc, steps)?;
+            calls_at_end(rt, alloc, &scenario, packets)
+        }
         None => calls_run(rt, alloc, steps),
     }
 }

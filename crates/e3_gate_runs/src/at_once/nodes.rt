@@ -46,7 +46,7 @@ fn plays_up_to<D: Disk + Drill + Drop, R: Wait>(
     requires idle { IsIdle wire.now pass }
     requires all { OwnsAll pass }
     requires last { last_of pass ≡ last_owner (seen_by pass) }
-    requires two { AreTwo D.content D.image D.meters (seen_by pass) node.old other.old }
+    requires two { AreTwo D.meaning (seen_by pass) node.old other.old }
 {
     let mut pass = pass;
     let mut shared = wire.take(rt, &mut pass);
@@ -66,8 +66,8 @@ fn plays_scenario<D: Disk + Drill + Drop, R: Wait>(
     most: u32,
 ) -> Option<u64>
     requires given { IsGiven scenario }
-    requires node { NodeStands D.content D.image D.meters scenario [] node.old }
-    requires other { NodeStands D.content D.image D.meters scenario [] other.old }
+    requires node { NodeStands D.meaning scenario [] node.old }
+    requires other { NodeStands D.meaning scenario [] other.old }
     requires apart { node.old.site ≢ other.old.site }
 {
     let Ok(opened) = Wire::open(alloc, scenario, MOST) else {
@@ -87,8 +87,8 @@ fn plays_copy<D: Disk + Drill + Drop, R: Wait>(
     most: u32,
 ) -> Option<u64>
     requires given { IsGiven scenario.now }
-    requires node { NodeStands D.content D.image D.meters scenario.now [] node.old }
-    requires other { NodeStands D.content D.image D.meters scenario.now [] other.old }
+    requires node { NodeStands D.meaning scenario.now [] node.old }
+    requires other { NodeStands D.meaning scenario.now [] other.old }
     requires apart { node.old.site ≢ other.old.site }
 {
     match scenario.copied(alloc) {
@@ -109,7 +109,7 @@ fn node_over(
     requires exists { site ≤ length scenario.now.weights }
     requires weights { weights ≡ scenario.now.weights }
     requires rows { rows ≡ rows_at site scenario.now.rows }
-    ensures stands { IfSome result (λ n. NodeStands ⟦<MemDisk as Disk>⟧.content ⟦<MemDisk as Disk>⟧.image ⟦<MemDisk as Disk>⟧.meters scenario.now [] n) }
+    ensures stands { IfSome result (λ n. NodeStands ⟦<MemDisk as Disk>⟧.meaning scenario.now [] n) }
     ensures site { IfSome result (λ n. n.site ≡ site) }
 {
     match MemDisk::blank(alloc, CAPACITY) {
@@ -129,7 +129,7 @@ fn rows_of(alloc: Global, scenario: &Scenario, site: u32) -> Result<List<Row>, N
 fn node_of(alloc: Global, scenario: &Scenario, site: u32) -> Option<Node<MemDisk>>
     requires some { 1 ≤ site }
     requires exists { site ≤ length scenario.now.weights }
-    ensures stands { IfSome result (λ n. NodeStands ⟦<MemDisk as Disk>⟧.content ⟦<MemDisk as Disk>⟧.image ⟦<MemDisk as Disk>⟧.meters scenario.now [] n) }
+    ensures stands { IfSome result (λ n. NodeStands ⟦<MemDisk as Disk>⟧.meaning scenario.now [] n) }
     ensures site { IfSome result (λ n. n.site ≡ site) }
 {
     let Ok(weights) = scenario.weights.copied(alloc) else {
@@ -156,8 +156,8 @@ fn taken_by<R: Wait>(
     most: u32,
 ) -> Option<Counts>
     requires given { IsGiven scenario.now }
-    requires node { NodeStands ⟦<MemDisk as Disk>⟧.content ⟦<MemDisk as Disk>⟧.image ⟦<MemDisk as Disk>⟧.meters scenario.now [] node.old }
-    requires other { NodeStands ⟦<MemDisk as Disk>⟧.content ⟦<MemDisk as Disk>⟧.image ⟦<MemDisk as Disk>⟧.meters scenario.now [] other }
+    requires node { NodeStands ⟦<MemDisk as Disk>⟧.meaning scenario.now [] node.old }
+    requires other { NodeStands ⟦<MemDisk as Disk>⟧.meaning scenario.now [] other }
     requires apart { node.old.site ≢ other.site }
 {
     let mut other = other;
@@ -179,7 +179,7 @@ fn taken_beside<R: Wait>(
 ) -> Option<Counts>
     requires given { IsGiven scenario.now }
     requires two { length scenario.now.weights ≡ 2 }
-    requires node { NodeStands ⟦<MemDisk as Disk>⟧.content ⟦<MemDisk as Disk>⟧.image ⟦<MemDisk as Disk>⟧.meters scenario.now [] node.old }
+    requires node { NodeStands ⟦<MemDisk as Disk>⟧.meaning scenario.now [] node.old }
     requires site { node.old.site ≡ 1 }
 {
     match node_of(alloc, scenario, 2) {

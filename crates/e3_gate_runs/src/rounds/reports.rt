@@ -35,7 +35,7 @@ fn reports_of<R: Wait + Threads + Sync>(
     done: u32,
 ) -> Option<List<RoundReport>>
     requires played { scenario_in fleet.old ≡ scenario.now }
-    requires standing { Stands ⟦<MemDisk as Disk>⟧.content ⟦<MemDisk as Disk>⟧.image ⟦<MemDisk as Disk>⟧.meters fleet.old }
+    requires standing { Stands ⟦<MemDisk as Disk>⟧.meaning fleet.old }
     requires given { IsGiven scenario.now }
     requires most { most_in fleet.old ≤ 2000000 }
     requires few { length scenario.now.steps < 2 ^ 32 }

@@ -3,19 +3,6 @@ use e3_disk::DiskFault;
 use e3_lines::Page;
 use e3_log::{AppendFault, Frame, OpenCause, TurnFault};
 
-const DIGITS: &[u8; 16] = b"0123456789ABCDEF";
-
-fn digit(value: u8) -> u8 {
-    DIGITS.get(usize::from(value)).copied().unwrap_or(b'?')
-}
-
-/// Adds bytes as two digits each.
-pub fn push_bytes(page: &mut Page, bytes: &[u8]) {
-    for byte in bytes {
-        page.bytes(&[digit(*byte / 16), digit(*byte % 16)]);
-    }
-}
-
 fn push_full(page: &mut Page, need: u64, room: u64) {
     page.labelled("full ", need);
     page.labelled(" of ", room);
@@ -64,6 +51,6 @@ pub fn push_frames(page: &mut Page, frames: &[Frame]) {
     for frame in frames {
         page.labelled(", at ", frame.place);
         page.text(" ");
-        push_bytes(page, frame.body.as_slice());
+        page.hex(frame.body.as_slice());
     }
 }

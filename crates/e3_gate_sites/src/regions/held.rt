@@ -1,14 +1,11 @@
 // A disk, or the log over it, and what is done with it.
-use crate::regions::answers::{
-    push_append, push_bytes, push_cause, push_frames, push_turn, push_write,
-};
+use crate::regions::answers::{push_append, push_cause, push_frames, push_turn, push_write};
 use crate::regions::commands::Command;
 use e3_codec::{put_records, read_records};
 use e3_disk::{Disk, DiskFault, Drill, MemDisk};
 use e3_lines::Page;
 use e3_log::{AppendFault, Frame, Log, TurnFault};
-use e3_site::{RebuildFault, Site, rebuild};
-use e3_snapshot::{brief, of_site};
+use e3_site::{RebuildFault, Site, brief, of_site, rebuild};
 use e3_types::{Leave, List, NoMemory, Record};
 use std::alloc::Global;
 
@@ -117,7 +114,7 @@ fn brief_of(alloc: Global, bodies: &[List<u8>]) -> Result<Option<List<u8>>, NoMe
 fn push_turned(page: &mut Page, log: &mut Log<MemDisk>, body: &[u8]) {
     push_turn(page, turn(log, body));
     page.text(" ");
-    push_bytes(page, body);
+    page.hex(body);
 }
 
 // Adds how the log was turned to the brief of what it holds, and the bytes of the brief.
@@ -144,7 +141,7 @@ fn push_told(page: &mut Page, told: &[u8], short: &[u8]) {
     if told == short {
         page.text("as its brief");
     } else {
-        push_bytes(page, told);
+        page.hex(told);
     }
 }
 

@@ -1,10 +1,9 @@
 // What is due in a history, what its last step makes, what is found in it, and the rows of a site.
 use crate::sites::texts::{push_count, push_found as push_one};
-use e3_items::RecoveryRound;
 use e3_judge::{clash, due_round, entry_of, incarnation_at, order, pending, turn_of};
 use e3_lines::Page;
-use e3_plain::plain_input;
-use e3_readings::rows_at;
+use e3_plain::unnumbered_input;
+use e3_readings::{RecoveryRound, rows_at};
 use e3_types::{Act, Copied, Entry, Input, Key, KeyRow, List, NoMemory, Row, Scenario};
 use e3_world::History;
 use std::alloc::Global;
@@ -12,7 +11,7 @@ use std::slice;
 
 // Adds the packet that an input delivers, in plain form.
 fn push_plain(page: &mut Page, input: &Input) {
-    if let Input::Deliver { packet } = plain_input(input) {
+    if let Input::Deliver { packet } = unnumbered_input(input) {
         page.labelled(" plain packet: number ", packet.number);
         page.labelled(" from ", u64::from(packet.from));
     }

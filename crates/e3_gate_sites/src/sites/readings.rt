@@ -182,24 +182,7 @@ fn push_life(alloc: Global, page: &mut Page, site: u32, life: &Life) {
     push_next(page, life);
 }
 
-// Adds what is read of each transaction that the history tells as begun.
-fn push_each(
-    alloc: Global,
-    page: &mut Page,
-    site: u32,
-    life: &Life,
-    log: &[Record],
-    history: &[Entry],
-) {
-    for entry in history {
-        if let [Told::Began { txn }] = told_of(entry) {
-            push_logged(page, txn, log);
-            push_of(alloc, page, site, txn, life);
-        }
-    }
-}
-
-// Adds what is read off a life, and off the log at present.
+// Adds what is read off a life, of each transaction that the history tells as begun, and off the log at present.
 fn push_read(
     alloc: Global,
     page: &mut Page,
@@ -209,7 +192,12 @@ fn push_read(
     history: &[Entry],
 ) {
     push_life(alloc, page, site, life);
-    push_each(alloc, page, site, life, log, history);
+    for entry in history {
+        if let [Told::Began { txn }] = told_of(entry) {
+            push_logged(page, txn, log);
+            push_of(alloc, page, site, txn, life);
+        }
+    }
     match table_of(alloc, log) {
         Ok(table) => push_names(alloc, page, site, life, table.as_slice()),
         Err(NoMemory) => page.lack(),

@@ -56,7 +56,7 @@ fn takes_all<D: Disk + Drill + Drop, R: Wait>(
     before: u64,
 ) -> Option<u64>
     requires idle { IsIdle wire.now pass.old }
-    requires may { MayTakeAtOnce D.content D.image D.meters pass.old node.old inputs }
+    requires may { MayTakeAtOnce D.meaning pass.old node.old inputs }
 {
     match node.batch(rt, alloc, wire, pass, inputs) {
         Ok(()) => Some(wire.len(rt, pass).saturating_sub(before)),
@@ -75,7 +75,7 @@ pub fn takes_at_once<D: Disk + Drill + Drop, R: Wait>(
     most: u32,
 ) -> Option<u64>
     requires taken { IsTaken wire.now pass.old shared }
-    requires node { NodeStands D.content D.image D.meters (scenario_of shared) (entries_of shared) node.old }
+    requires node { NodeStands D.meaning (scenario_of shared) (entries_of shared) node.old }
 {
     places_are_noted();
     shared.tell();

@@ -34,8 +34,8 @@ fn rises<D: Disk + Drill + Drop>(
     node: &mut Node<D>,
     other: &Node<D>,
 ) -> bool
-    requires { AreTwo D.content D.image D.meters shared.old node.old other.now }
-    ensures { result ≡ true → HaveGoneOn D.content D.image D.meters shared.old shared.new node.new other.now }
+    requires { AreTwo D.meaning shared.old node.old other.now }
+    ensures { result ≡ true → HaveGoneOn D.meaning shared.old shared.new node.new other.now }
 {
     other_entries_keep_nodes::<D>();
     let (owner, act) = (node.site(), Act::Miss);
@@ -56,8 +56,8 @@ fn enters_line<D: Disk + Drill + Drop>(
     other: &Node<D>,
     number: u32,
 ) -> bool
-    requires { AreTwo D.content D.image D.meters shared.old node.now other.now }
-    ensures { result ≡ true → HaveGoneOn D.content D.image D.meters shared.old shared.new node.now other.now }
+    requires { AreTwo D.meaning shared.old node.now other.now }
+    ensures { result ≡ true → HaveGoneOn D.meaning shared.old shared.new node.now other.now }
 {
     other_entries_keep_nodes::<D>();
     let (owner, act) = (0, Act::Line { number });
@@ -101,9 +101,9 @@ fn takes<D: Disk + Drill + Drop>(
     other: &Node<D>,
     input: Input,
 ) -> bool
-    requires two { AreTwo D.content D.image D.meters shared.old node.old other.now }
+    requires two { AreTwo D.meaning shared.old node.old other.now }
     requires first { IsFirst (scenario_of shared.old) (entries_of shared.old) input }
-    ensures { result ≡ true → HaveGoneOn D.content D.image D.meters shared.old shared.new node.new other.now }
+    ensures { result ≡ true → HaveGoneOn D.meaning shared.old shared.new node.new other.now }
 {
     other_entries_keep_nodes::<D>();
     if !may_take(alloc, shared, node, &input) {
@@ -130,8 +130,8 @@ fn takes_all<D: Disk + Drill + Drop>(
     other: &Node<D>,
     items: &[Input],
 ) -> bool
-    requires { AreTwo D.content D.image D.meters shared.old node.old other.now }
-    ensures { result ≡ true → HaveGoneOn D.content D.image D.meters shared.old shared.new node.new other.now }
+    requires { AreTwo D.meaning shared.old node.old other.now }
+    ensures { result ≡ true → HaveGoneOn D.meaning shared.old shared.new node.new other.now }
 {
     for item in items {
         let input = item.copy();
@@ -150,8 +150,8 @@ fn begins<D: Disk + Drill + Drop>(
     other: &Node<D>,
     number: u32,
 ) -> bool
-    requires { AreTwo D.content D.image D.meters shared.old node.old other.now }
-    ensures { result ≡ true → HaveGoneOn D.content D.image D.meters shared.old shared.new node.new other.now }
+    requires { AreTwo D.meaning shared.old node.old other.now }
+    ensures { result ≡ true → HaveGoneOn D.meaning shared.old shared.new node.new other.now }
 {
     if !enters_line(alloc, shared, node, other, number) {
         return false;
@@ -171,8 +171,8 @@ pub fn plays<D: Disk + Drill + Drop>(
     other: &mut Node<D>,
     steps: u32,
 ) -> bool
-    requires { AreTwo D.content D.image D.meters shared.old node.old other.old }
-    ensures { result ≡ true → HaveGoneOn D.content D.image D.meters shared.old shared.new node.new other.new }
+    requires { AreTwo D.meaning shared.old node.old other.old }
+    ensures { result ≡ true → HaveGoneOn D.meaning shared.old shared.new node.new other.new }
 {
     if !rises(alloc, shared, node, other) || !rises(alloc, shared, other, node) {
         return false;

@@ -3,9 +3,10 @@ use Rattle.e3_top.proofs.Statuses.{refused_may}
 use Rattle.e3_top.proofs.preparing.refuse_words.Goals as goal
 
 pub returns-clause-due : goal.returns-clause-due
-returns-clause-due g c =
-    refused_due g.D.Disk.image g.D.Disk.meters c.args.disks.items c.unplayed.result.disks.items c.args.words.now c.args.most c.unplayed.result.history.entries
-    c.unplayed.result.due c.refused_words.result c.requires c.unplayed.ensures.history c.unplayed.ensures.disks c.refused_words.ensures c.unplayed.ensures.due
-
-pub returns-clause-status : goal.returns-clause-status
-returns-clause-status g c = refused_may c.args.words.now c.unplayed.result.due c.refused_words.result c.requires c.unplayed.ensures.due
+returns-clause-due g c = record {
+  outcome =
+      refused_due g.D.Disk.meaning c.args.disks.items c.unplayed.result.disks.items c.args.words.now c.args.most c.unplayed.result.history.entries
+      c.unplayed.result.due c.refused_words.result c.requires c.unplayed.ensures.history c.unplayed.ensures.disks c.refused_words.ensures c.unplayed.ensures.due;
+  status = refused_may c.args.words.now c.unplayed.result.due c.refused_words.result c.requires c.unplayed.ensures.due;
+  only_memory = c.unplayed.ensures.only_memory;
+}

@@ -8,7 +8,7 @@ pub plays_scenario-requires-clause-given : goal.plays_scenario-requires-clause-g
 plays_scenario-requires-clause-given g c = subst (λ (sc : Scenario). IsGiven sc) (sym c.in-Ok.ensures) c.requires.given
 
 pub plays_scenario-requires-clause-node : goal.plays_scenario-requires-clause-node
-plays_scenario-requires-clause-node g c = subst (λ (sc : Scenario). NodeStands g.D.Disk.content g.D.Disk.image g.D.Disk.meters sc [] c.args.node.now) (sym c.in-Ok.ensures) c.requires.node
+plays_scenario-requires-clause-node g c = subst (λ (sc : Scenario). NodeStands g.D.Disk.meaning sc [] c.args.node.now) (sym c.in-Ok.ensures) c.requires.node
 
 pub plays_scenario-requires-clause-other : goal.plays_scenario-requires-clause-other
-plays_scenario-requires-clause-other g c = subst (λ (sc : Scenario). NodeStands g.D.Disk.content g.D.Disk.image g.D.Disk.meters sc [] c.args.other.now) (sym c.in-Ok.ensures) c.requires.other
+plays_scenario-requires-clause-other g c = subst (λ (sc : Scenario). NodeStands g.D.Disk.meaning sc [] c.args.other.now) (sym c.in-Ok.ensures) c.requires.other

@@ -14,5 +14,5 @@ plays_up_to-requires-clause-last g c = c.in-Ok.ensures.owners.1 ∙ ap (λ (l : 
 
 pub plays_up_to-requires-clause-two : goal.plays_up_to-requires-clause-two
 plays_up_to-requires-clause-two g c =
-    two_at_first g.D.Disk.content g.D.Disk.image g.D.Disk.meters c.args.scenario 2000000 (seen_by c.in-Ok.opened.1) c.args.node.now c.args.other.now c.in-Ok.ensures.seen c.in-Ok.ensures.played
+    two_at_first g.D.Disk.meaning c.args.scenario 2000000 (seen_by c.in-Ok.opened.1) c.args.node.now c.args.other.now c.in-Ok.ensures.seen c.in-Ok.ensures.played
     c.requires.node c.requires.other c.requires.apart

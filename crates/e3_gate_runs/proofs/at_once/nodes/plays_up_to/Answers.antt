@@ -6,7 +6,7 @@ use Rattle.e3_gate_runs.proofs.at_once.nodes.plays_up_to.Goals as goal
 
 pub plays-requires : goal.plays-requires
 plays-requires g c =
-    let P : List Mark → Type 0 = λ l. AreTwo g.D.Disk.content g.D.Disk.image g.D.Disk.meters l c.args.node.now c.args.other.now in
+    let P : List Mark → Type 0 = λ l. AreTwo g.D.Disk.meaning l c.args.node.now c.args.other.now in
     subst P (sym (nothing_added c.args.pass c.take-shared.result c.requires.all c.take-shared.ensures.grew)) c.requires.two
 
 pub takes_at_once-requires-clause-taken : goal.takes_at_once-requires-clause-taken

@@ -12,7 +12,7 @@ takes_all-requires-clause-may g c =
     let on : c.is_delivering.result ≡ true = search rules in
     let none : c.is_empty.result ≡ false = search rules in
     let some : 1 ≤ length c.in-Some.inputs = some_of (length c.in-Some.inputs) c.is_empty.result c.is_empty.ensures none in
-    may_at_once g.D.Disk.content g.D.Disk.image g.D.Disk.meters c.places_are_noted.ensures.promised c.args.wire.now c.args.pass.now c.put.new.pass c.args.shared c.next_few.new.self
+    may_at_once g.D.Disk.meaning c.places_are_noted.ensures.promised c.args.wire.now c.args.pass.now c.put.new.pass c.args.shared c.next_few.new.self
     c.args.node.now c.site.result c.args.most c.in-Ok.few c.in-Some.inputs (let most = c.if-most-gt-MOST.false in omega (arith, most)) c.requires.taken c.tell.ensures c.requires.node c.site.ensures
     (c.is_delivering.ensures.through on) (c.is_delivering.ensures.restless on) c.in-Ok.ensures.ok.0 c.in-Ok.ensures.ok.1 c.in-Some.ensures some
     c.put.ensures.same c.put.ensures.seen c.put.ensures.played

@@ -4,5 +4,5 @@ use Rattle.e3_gate_runs.proofs.at_once.nodes.two.rises.Goals as goal
 
 pub returns-in-Ok : goal.returns-in-Ok
 returns-in-Ok g c = λ is.
-    entered_own g.D.Disk.content g.D.Disk.image g.D.Disk.meters c.other_entries_keep_nodes.ensures.nodes c.args.shared.now c.rise.new.shared _ c.args.node.now c.args.other.now c.rise.new.self
+    entered_own g.D.Disk.meaning c.other_entries_keep_nodes.ensures.nodes c.args.shared.now c.rise.new.shared _ c.args.node.now c.args.other.now c.rise.new.self
     c.requires refl c.rise.ensures.shared c.rise.ensures.grew c.rise.ensures.same.0 c.in-Ok.ensures.rose.entered c.rise.ensures.stands c.rise.ensures.site
