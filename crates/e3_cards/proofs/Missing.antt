@@ -1,5 +1,5 @@
 -- The sites that are missing, where the definitions keep those whose yes came.
-use Rattle.std.specs.Prelude.{◌≡◌, ◌++◌, ◌∷◌, ◌&&◌, [], if◌then◌else◌, ℕ, Bool, true, false, not, List, Option, Some, None, option_map}
+use Rattle.std.specs.Prelude.{◌≡◌, ◌++◌, ◌∷◌, ◌&&◌, [], ℕ, Bool, true, false, not, List, Option, Some, None, option_map}
 use Rattle.std.specs.List.{list_any}
 use Rattle.std.proofs.Common.{refl, ap, sym}
 use Rattle.e3_types.specs.declared.entries.Input.{Input}

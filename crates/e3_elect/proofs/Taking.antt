@@ -1,5 +1,5 @@
 -- What the definitions make of an answer and of a report that count.
-use Rattle.std.proofs.Common.{◌≡◌, ℕ, Bool, true, false, List, [], ◌∷◌, ◌++◌, refl, ap, sym, ◌∙◌}
+use Rattle.std.proofs.Common.{◌≡◌, ℕ, Bool, true, false, List, [], ◌∷◌, ◌++◌, refl}
 use Rattle.std.specs.Prelude.{◌==◌, ◌&&◌, not, Option, Some, None}
 use Rattle.std.specs.List.{list_any}
 use Rattle.e3_types.specs.declared.transactions.Call.{Call}

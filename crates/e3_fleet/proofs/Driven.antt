@@ -14,7 +14,7 @@ use Rattle.e3_types.specs.declared.entries.Act.TheVariants.{Drop}
 use Rattle.e3_types.specs.declared.entries.Entry.{Entry}
 use Rattle.e3_types.specs.declared.messages.Packet.{Packet}
 use Rattle.e3_types.specs.declared.scenarios.Scenario.{Scenario}
-use Rattle.e3_wire.specs.Claims.{HasOwner, HaveGrown}
+use Rattle.e3_wire.specs.Claims.{HasOwner}
 use Rattle.e3_wire.specs.Marks.{NothingIsPromised, entries_of, last_owner, most_of, scenario_of, used_of}
 use Rattle.e3_wire.specs.Wires.{IsDriven, IsDroppedFor, IsPlayed}
 use Rattle.e3_wire.specs.declared.fault.WireFault.{WireFault}

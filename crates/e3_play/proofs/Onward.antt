@@ -1,5 +1,5 @@
 -- Calls of the driver one behind the other, and a call that does nothing.
-use Rattle.std.proofs.Common.{◌≡◌, ◌∙◌, ℕ, refl}
+use Rattle.std.proofs.Common.{◌∙◌, ℕ, refl}
 use Rattle.e3_types.specs.declared.scenarios.Scenario.{Scenario}
 use Rattle.e3_play.specs.GoingOn.{SitesGoOn}
 

@@ -6,7 +6,7 @@ use Rattle.e3_types.specs.declared.scenarios.Scenario.{Scenario}
 use Rattle.e3_past.specs.Standing.{TablesStand}
 use Rattle.e3_past.specs.declared.tables.Tables.{Tables}
 use Rattle.e3_site.specs.SiteView.{SiteView, Stands, risen_with}
-use Rattle.e3_site.specs.StandsFor.{IsRisenWith, StandsRisen}
+use Rattle.e3_site.specs.StandsFor.{StandsRisen}
 use Rattle.e3_world.specs.Lives.{life_of}
 use Rattle.e3_world.specs.Orderly.{weights_by, weights_in, IsOrderly, OrderlyAfter, MayFollow}
 use Rattle.e3_site.specs.Rebuilt.{IsRebuilt, StandsForBrief, StandsForEach}

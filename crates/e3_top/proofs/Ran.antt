@@ -1,14 +1,14 @@
 -- What came of a run, by what was prepared and what was written of it.
-use Rattle.std.proofs.Common.{◌≡◌, ◌≢◌, ◌≤◌, ◌<◌, ◌⊎◌, inl, inr, ℕ, List, [], length, take, Option, refl, sym, subst, ◌∙◌, arith, String, Global}
-use Rattle.std.specs.Io.KnownBytes.{Appends, IsAtEnd}
+use Rattle.std.proofs.Common.{◌≡◌, ◌≢◌, ◌≤◌, ◌<◌, ◌⊎◌, inl, inr, ℕ, List, [], length, take, Option, sym, subst, ◌∙◌, arith, String, Global}
+use Rattle.std.specs.Io.KnownBytes.{Appends}
 use Rattle.e3_disk.specs.Meaning.{Meaning}
 use Rattle.e3_outside.specs.Faults.{HasFailed}
 use Rattle.e3_top.proofs.Runs.{drained_run}
 use Rattle.e3_top.proofs.Spelled.{idle_no_check, idle_no_run}
-use Rattle.e3_top.proofs.Statuses.{check_completes, drill_completes, gen_completes, may_finish, may_lose, may_want, run_completes}
+use Rattle.e3_top.proofs.Statuses.{check_completes, drill_completes, gen_completes, may_finish, run_completes}
 use Rattle.e3_top.proofs.Verdicts.{drained_verdict}
 use Rattle.e3_top.specs.Due.{HasText, IsOutcome}
-use Rattle.e3_top.specs.Ends.{Finishes, IsCutShort, IsPrepared, SinkFails, SourceFails}
+use Rattle.e3_top.specs.Ends.{IsCutShort, IsPrepared, SourceFails}
 use Rattle.e3_top.specs.Ran.{Around, HasRun}
 use Rattle.e3_top.specs.Words.{IsCheck, IsDrill, IsGen, IsRun, MayEnd}
 use Rattle.e3_types.specs.declared.entries.Entry.{Entry}

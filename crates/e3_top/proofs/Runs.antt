@@ -14,7 +14,6 @@ use Rattle.e3_law_agreement.proofs.Standing.{given_stands}
 use Rattle.e3_fleet.specs.Over.{AreOver}
 use Rattle.e3_law_rounds.specs.Commits.{CommitsEnd}
 use Rattle.e3_law_rounds.specs.Rounds.{RoundsEnd}
-use Rattle.e3_play.specs.Delivered.{IsFull}
 use Rattle.e3_law_serial.specs.Claims.{LegalSerial}
 use Rattle.e3_gen.specs.Generated.{generated, generated_scenario}
 use Rattle.e3_report.specs.Report.{report_of}
@@ -27,7 +26,7 @@ use Rattle.e3_top.specs.Due.{IsAsked, IsOutcome, IsRunOf, IsTextOf, Plays, Succe
 use Rattle.e3_top.specs.Ends.{IsPrepared}
 use Rattle.e3_top.proofs.Spelled.{run_no_check, run_no_drill, run_no_gen, gen_no_check, plays_no_check}
 use Rattle.e3_top.proofs.Statuses.{neither}
-use Rattle.e3_top.specs.Words.{IsRun, refused_history_full, refused_words}
+use Rattle.e3_top.specs.Words.{IsRun, refused_words}
 use Rattle.e3_top.specs.Commands.{IsCommand, Spell}
 use Rattle.e3_top.specs.declared.commands.Command.TheVariants.{Run, Gen, Drill, Check}
 use Rattle.e3_types.specs.declared.entries.Entry.{Entry}

@@ -1,5 +1,5 @@
 -- one that came is missing no more
-use Rattle.std.proofs.Common.{◌∙◌, ap, arith}
+use Rattle.std.proofs.Common.{◌∙◌, ap}
 use Rattle.std.specs.Prelude.{◌==◌}
 use Rattle.e3_commit.proofs.Gathering.{next_less, none_missing}
 use Rattle.e3_commit.proofs.votes.all_came.Goals as goal

@@ -1,4 +1,3 @@
-use Rattle.std.proofs.Common.{◌≡◌}
 use Rattle.e3_law_local.proofs.Measure.Left.{left}
 use Rattle.e3_play.specs.GoingOn.{SitesGoOn}
 use Rattle.e3_play.specs.Delivered.{Delivers}

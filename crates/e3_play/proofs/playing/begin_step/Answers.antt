@@ -1,6 +1,5 @@
 use Rattle.std.proofs.Common.{◌≡◌, ◌≤◌, ◌∙◌, ◌+◌, ◌∷◌, [], suc, sym, subst, ap, length, arith, List, rules}
 use Rattle.e3_play.specs.Delivered.{IsFull}
-use Rattle.e3_play.specs.declared.sites.RunFault.TheVariants.{HistoryFull}
 use Rattle.e3_types.specs.declared.entries.Entry.{Entry}
 use Rattle.e3_types.specs.declared.scenarios.Item.{Item}
 use Rattle.e3_types.specs.declared.scenarios.Item.TheVariants as item
@@ -8,7 +7,6 @@ use Rattle.e3_types.specs.declared.scenarios.Scenario.{Scenario}
 use Rattle.e3_world.specs.Packets.{step_items}
 use Rattle.e3_types.specs.declared.entries.Act.TheVariants as act
 use Rattle.e3_play.specs.Played.{IsFresh, IsSettled, IsStep}
-use Rattle.e3_play.proofs.Answered.{always, of_err, on_ok}
 use Rattle.e3_play.proofs.Full.{line_full}
 use Rattle.e3_play.proofs.Forms.{alone_is, crash_is, exchange_asks, no_stop, recovery_is, restart_exists, restart_is, step_is_given, stop_is}
 use Rattle.e3_play.proofs.Knowing.{knows_line, knows_more}

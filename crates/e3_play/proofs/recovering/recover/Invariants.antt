@@ -1,4 +1,4 @@
-use Rattle.std.proofs.Common.{◌≡◌, drop, take}
+use Rattle.std.proofs.Common.{drop, take}
 use Rattle.e3_play.specs.GoingOn.{SitesGoOn}
 use Rattle.e3_play.specs.Reports.{HadTurns}
 use Rattle.e3_play.proofs.Falling.{UpOrFell, WereUp}

@@ -6,7 +6,7 @@ use Rattle.e3_world.proofs.Rises.{Rising}
 use Rattle.e3_types.specs.declared.entries.Entry.{Entry}
 use Rattle.e3_types.specs.declared.scenarios.Scenario.{Scenario}
 use Rattle.e3_play.specs.Played.{IsSettled}
-use Rattle.e3_play.proofs.Onward.{goes_on, rests}
+use Rattle.e3_play.proofs.Onward.{goes_on}
 use Rattle.e3_play.proofs.Entries.{one_risen, rise_quiet, turn_to_rise}
 use Rattle.e3_play.proofs.Full.{rise_full, risen}
 use Rattle.e3_play.proofs.rising.rise_all.Goals as goal

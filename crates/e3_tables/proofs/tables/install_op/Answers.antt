@@ -1,5 +1,5 @@
 -- rows stay in byte order
-use Rattle.std.proofs.Common.{◌≡◌, ◌++◌, ap, sym, ◌∙◌, rules, arith, List, length, take, drop, vec_len}
+use Rattle.std.proofs.Common.{◌≡◌, ap, sym, ◌∙◌, rules, arith, List, length, take, vec_len}
 use Rattle.std.proofs.lemmas.Grind.{common_steps}
 use Rattle.e3_types.specs.declared.transactions.Row.{Row}
 use Rattle.e3_world.specs.Logs.{install_op, set_row}

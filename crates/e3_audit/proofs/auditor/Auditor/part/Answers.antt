@@ -1,4 +1,4 @@
-use Rattle.std.proofs.Common.{◌∙◌, ap, refl, sym, List, ℕ, arith}
+use Rattle.std.proofs.Common.{◌∙◌, ap, refl, sym, List, ℕ}
 use Rattle.e3_judge.proofs.Anys.{decides_none}
 use Rattle.e3_audit.proofs.Turned.{parted}
 use Rattle.e3_audit.proofs.auditor.Auditor.part.Goals as goal

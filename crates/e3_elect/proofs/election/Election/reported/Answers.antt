@@ -1,13 +1,11 @@
 -- a new member's report has room, and counts
-use Rattle.std.proofs.Common.{◌≡◌, ◌∙◌, ap, sym, arith, refl, true, false, List, [], ◌∷◌, ◌++◌, length, map, vec_len}
+use Rattle.std.proofs.Common.{◌≡◌, ◌∙◌, ap, sym, arith, refl, true, List, [], ◌∷◌, ◌++◌, length, map, vec_len}
 use Rattle.std.specs.Prelude.{◌==◌, Some}
 use Rattle.std.specs.List.{list_any}
 use Rattle.e3_types.specs.declared.verdicts.SiteReport.{SiteReport}
-use Rattle.e3_types.specs.Same.{same_call}
 use Rattle.e3_types.specs.Sets.{has_site}
 use Rattle.e3_world.specs.declared.gatherings.Election.{Election}
-use Rattle.e3_world.specs.declared.gatherings.Named.{Named}
-use Rattle.e3_world.specs.Elections.{hear, take_report}
+use Rattle.e3_world.specs.Elections.{take_report}
 use Rattle.e3_elect.specs.Calling.{are_members}
 use Rattle.e3_elect.proofs.Members.{has_room, comes_from_member}
 use Rattle.e3_elect.proofs.Taking.{is_number, owed_parts, take_new}
