@@ -6,7 +6,7 @@ use Rattle.std.proofs.lemmas.Grind.{common_steps}
 use Rattle.std.proofs.lemmas.Bool.{or_cases, or_parts, eqb-true, eq-eqb, and_parts}
 use Rattle.std.proofs.lemmas.List.Folds.{list_any-append}
 use Rattle.e3_types.specs.Sets.{has_site, others}
-use Rattle.e3_elect.specs.Calling.{are_members}
+use Rattle.e3_elect.specs.Calling.{are_members, are_behind_own}
 
 -- another site stays where one is taken away
 has_others : (x y : ℕ) (all : List ℕ) → has_site all y ≡ true → (y ≡ x → ⊥) → has_site (others x all) y ≡ true
@@ -101,14 +101,14 @@ mapped_length f [] = refl
 mapped_length f (x ∷ xs) = ap (λ n. suc n) (mapped_length f xs)
 
 -- one that comes from a new member: all are members still
-pub comes_from_member : {X : Type 0} (f : X → ℕ) (group : List ℕ) (xs : List X) (x : X)
+comes_from_member : {X : Type 0} (f : X → ℕ) (group : List ℕ) (xs : List X) (x : X)
     → are_members group (map f xs) ≡ true → has_site group (f x) ≡ true → list_any (λ y. f y == f x) xs ≡ false
     → are_members group (map f (xs ++ x ∷ [])) ≡ true
 comes_from_member f group xs x m g h =
     ap (λ (l : List ℕ). are_members group l) (mapped_more f xs x) ∙ more_members group (map f xs) (f x) m g (any_mapped f xs (f x) ∙ h)
 
 -- and there was room for it
-pub has_room : {X : Type 0} (f : X → ℕ) (group : List ℕ) (xs : List X) (s : ℕ)
+has_room : {X : Type 0} (f : X → ℕ) (group : List ℕ) (xs : List X) (s : ℕ)
     → are_members group (map f xs) ≡ true → has_site group s ≡ true → list_any (λ y. f y == s) xs ≡ false
     → length xs + 1 ≤ length group
 has_room f group xs s m g h =
@@ -116,11 +116,18 @@ has_room f group xs s m g h =
     let l = mapped_length f xs in
     omega (arith, n, l)
 
--- a group that has a site has room for one
-pub some_room : (group : List ℕ) (s : ℕ) → has_site group s ≡ true → 1 ≤ length group
-some_room [] s h = cc
-some_room (x ∷ xs) s h = omega arith
+-- behind the elector, one that comes from a new member: all of them are members still
+pub comes_behind_own : {X : Type 0} (f : X → ℕ) (group : List ℕ) (xs : List X) (x : X)
+    → are_behind_own group (map f xs) ≡ true → has_site group (f x) ≡ true → list_any (λ y. f y == f x) xs ≡ false
+    → are_behind_own group (map f (xs ++ x ∷ [])) ≡ true
+comes_behind_own f group [] x m g h = refl
+comes_behind_own f group (y ∷ ys) x m g h = comes_from_member f group ys x m g (or_parts (f y == f x) (list_any (λ z. f z == f x) ys) h).1
 
--- one site alone is a member once
-pub one_member : (group : List ℕ) (s : ℕ) → has_site group s ≡ true → are_members group (s ∷ []) ≡ true
-one_member group s h = grind (arith, common_steps, h)
+-- and there was room for it, with the elector
+pub has_room_behind_own : {X : Type 0} (f : X → ℕ) (group : List ℕ) (xs : List X) (s : ℕ)
+    → are_behind_own group (map f xs) ≡ true → has_site group s ≡ true → list_any (λ y. f y == s) xs ≡ false
+    → length xs ≤ length group
+has_room_behind_own f group [] s m g h = omega arith
+has_room_behind_own f group (y ∷ ys) s m g h =
+    let n = has_room f group ys s m g (or_parts (f y == s) (list_any (λ z. f z == s) ys) h).1 in
+    omega (arith, n)

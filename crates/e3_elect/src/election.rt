@@ -1,17 +1,17 @@
 // An election: who was heard, the number, and who reported.
-ghost use Rattle.std.specs.Prelude.{◌≡◌, ◌∷◌, [], IsTrue, IfOk, MatchOption, Some, None, true, false, IsSome};
-ghost use Rattle.e3_types.specs.Sets.{has_site};
-ghost use Rattle.e3_world.specs.Elections.{all_reported, begun, hear, take_report};
-ghost use Rattle.e3_elect.specs.Calling.{number_of, is_own};
+ghost use Rattle.std.specs.Prelude.{◌≡◌, ◌<◌, ◌∷◌, [], IfOk, MatchOption, Some, true, false, IsSome, length, vec_len, vec_capacity};
+ghost use Rattle.e3_world.specs.Elections.{all_heard, all_reported, begun, hear, take_report};
+ghost use Rattle.e3_elect.specs.Calling.{number_of};
 
 use crate::counting::{are_all, is_awaited, is_owed, number_of};
-use e3_types::{Call, NoMemory, SiteReport, SiteSet};
-use e3_world::Named;
+use e3_types::{Call, Copied, List, NoMemory, SiteReport, SiteSet};
+use e3_world::{Election as Gathered, Named};
 use std::alloc::Global;
 use std::marker::Model;
 
 /// An election of a group at its elector: each member tells the number of the last election that it joined, the elector
-/// joins the greatest of these plus one, and then each member reports under that number.
+/// joins the greatest of these plus one, and then each member reports under that number. The elector is heard first and
+/// reports first; each member behind it counts once, so there is room for all from the start.
 #[derive(Drop)]
 pub struct Election {
     call: Call,
@@ -22,22 +22,45 @@ pub struct Election {
 }
 
 impl Model for Election {
-    ghost use Rattle.std.specs.List.{list_any};
-    ghost use Rattle.std.specs.Prelude.{◌≡◌, ◌==◌, ◌≤◌, true, length, map, vec_capacity};
+    ghost use Rattle.std.specs.Prelude.{◌≡◌, ◌<◌, true, length, map, vec_capacity};
     ghost use Rattle.e3_world.specs.declared.gatherings.Election.{Election as Gathering};
-    ghost use Rattle.e3_elect.specs.Calling.{are_members};
+    ghost use Rattle.e3_elect.specs.Calling.{are_behind_own};
 
     ghost Value = { Gathering };
 
     ghost view = { λ a. record { call = a.call; group = a.group; heard = a.heard.items; number = a.number; reports = a.reports.items } };
 
-    ghost invariant = { λ a. (length a.group ≤ vec_capacity a.heard) × (length a.group ≤ vec_capacity a.reports)
-        × (are_members a.group (map (λ h. h.site) a.heard.items) ≡ true) × (are_members a.group (map (λ r. r.site) a.reports.items) ≡ true) };
+    ghost invariant = { λ a. (length a.group < vec_capacity a.heard) × (length a.group < vec_capacity a.reports)
+        × (are_behind_own a.group (map (λ h. h.site) a.heard.items) ≡ true) × (are_behind_own a.group (map (λ r. r.site) a.reports.items) ≡ true) };
+}
+
+// No items, with room for one more than the group has.
+fn room_for<T>(alloc: Global, group: SiteSet) -> Result<Vec<T>, NoMemory>
+    ensures none { IfOk result (λ v. v.items ≡ []) }
+    ensures len { IfOk result (λ v. vec_len v ≡ 0) }
+    ensures room { IfOk result (λ v. length group < vec_capacity v) }
+{
+    match Vec::with_capacity(alloc, group.count() as usize + 1) {
+        Ok(room) => Ok(room),
+        Err(_) => Err(NoMemory),
+    }
+}
+
+// These items, with room for one more than the group has.
+fn copy_of<T: Copy + Drop>(alloc: Global, items: &[T], group: SiteSet) -> Result<Vec<T>, NoMemory>
+    ensures same { IfOk result (λ v. v.items ≡ items.now) }
+    ensures room { IfOk result (λ v. length group < vec_capacity v) }
+{
+    let mut copy = room_for(alloc, group)?;
+    match copy.extend_from_slice(items) {
+        Ok(()) => Ok(copy),
+        Err(_) => Err(NoMemory),
+    }
 }
 
 impl Election {
-    /// The election of this call for this group, at a site of it whose own number is this. Want of memory is the only
-    /// error; no other call takes any.
+    /// The election of this call for this group, at a site whose own number is this; the site need not be of the group. Want
+    /// of memory is the only error; no other call but a copy takes any.
     pub fn start(
         alloc: Global,
         call: Call,
@@ -45,18 +68,10 @@ impl Election {
         site: u32,
         own: u32,
     ) -> Result<Election, NoMemory>
-        requires { IsTrue (has_site group site) }
         ensures { IfOk result (λ e. e ≡ begun site call group own) }
     {
-        let members = group.count() as usize;
-        let mut heard = match Vec::with_capacity(alloc, members) {
-            Ok(room) => room,
-            Err(_) => return Err(NoMemory),
-        };
-        let reports = match Vec::with_capacity(alloc, members) {
-            Ok(room) => room,
-            Err(_) => return Err(NoMemory),
-        };
+        let mut heard = room_for(alloc, group)?;
+        let reports = room_for(alloc, group)?;
         heard.push_reserved(Named { site, elected: own });
         Ok(Election {
             call,
@@ -90,16 +105,36 @@ impl Election {
         true
     }
 
+    /// The whole group was heard.
+    pub fn all_heard(&self) -> bool
+        ensures { result ≡ all_heard self.now }
+    {
+        are_all(&self.heard, self.group)
+    }
+
+    // The elector's own report is the first, and no other came yet.
+    fn begin_reports(&mut self, own: SiteReport)
+        ensures { self.new ≡ record self.old { reports = own ∷ [] } }
+    {
+        self.reports.clear();
+        self.reports.push_reserved(own);
+    }
+
     /// The elector joined the election's number, with its own report.
     pub fn joined(&mut self, own: SiteReport)
-        requires number { IsSome (number_of self.old) }
-        requires first { self.old.number ≡ None }
-        requires own { IsTrue (is_own self.old own.site) }
+        requires { IsSome (number_of self.old) }
         ensures { self.new ≡ record self.old { number = number_of self.old; reports = own ∷ [] } }
     {
         self.number = self.number();
-        self.reports.clear();
-        self.reports.push_reserved(own);
+        self.begin_reports(own);
+    }
+
+    /// The elector joined this number, with its own report, as its log says: it need not be the number that was found.
+    pub fn joined_under(&mut self, n: u32, own: SiteReport)
+        ensures { self.new ≡ record self.old { number = Some n; reports = own ∷ [] } }
+    {
+        self.number = Some(n);
+        self.begin_reports(own);
     }
 
     /// A member's report under this number. True exactly where the elector joined that number and the member had not
@@ -137,5 +172,34 @@ impl Election {
         ensures { result ≡ self.now.group }
     {
         self.group
+    }
+
+    /// The election as a history's readings have it. Want of memory is the only error.
+    pub fn gathered(&self, alloc: Global) -> Result<Gathered, NoMemory>
+        ensures { IfOk result (λ e. e ≡ self.now) }
+    {
+        let mut heard = List::new(alloc);
+        heard.extend(&self.heard)?;
+        let mut reports = List::new(alloc);
+        reports.extend(&self.reports)?;
+        Ok(Gathered {
+            call: self.call,
+            group: self.group,
+            heard,
+            number: self.number,
+            reports,
+        })
+    }
+}
+
+impl Copied for Election {
+    fn copied(&self, alloc: Global) -> Result<Election, NoMemory> {
+        Ok(Election {
+            call: self.call,
+            group: self.group,
+            heard: copy_of(alloc, &self.heard, self.group)?,
+            number: self.number,
+            reports: copy_of(alloc, &self.reports, self.group)?,
+        })
     }
 }

@@ -6,8 +6,8 @@ use Rattle.e3_types.specs.declared.verdicts.SiteReport.{SiteReport}
 use Rattle.e3_types.specs.Sets.{has_site}
 use Rattle.e3_world.specs.declared.gatherings.Election.{Election}
 use Rattle.e3_world.specs.Elections.{take_report}
-use Rattle.e3_elect.specs.Calling.{are_members}
-use Rattle.e3_elect.proofs.Members.{has_room, comes_from_member}
+use Rattle.e3_elect.specs.Calling.{are_behind_own}
+use Rattle.e3_elect.proofs.Members.{has_room_behind_own, comes_behind_own}
 use Rattle.e3_elect.proofs.Taking.{is_number, owed_parts, take_new}
 use Rattle.e3_elect.proofs.election.Election.reported.Goals as goal
 use Rattle.e3_elect.proofs.election.Election.reported.Goals.{in-Some, in-None}
@@ -16,15 +16,15 @@ pub push_reserved-requires : goal.push_reserved-requires
 push_reserved-requires c =
     let counts = owed_parts (has_site c.self.inside.group c.args.report.site) (list_any (λ r. r.site == c.args.report.site) c.self.inside.reports.items) cc in
     let n : length c.self.inside.reports.items ≡ vec_len c.self.inside.reports = ap (λ (l : List SiteReport). length l) (sym c.deref.ensures.value) ∙ c.deref.ensures.len in
-    let room = has_room (λ (r : SiteReport). r.site) c.self.inside.group c.self.inside.reports.items c.args.report.site c.self.invariant.3 counts.0 counts.1 in
+    let room = has_room_behind_own (λ (r : SiteReport). r.site) c.self.inside.group c.self.inside.reports.items c.args.report.site c.self.invariant.3 counts.0 counts.1 in
     omega (arith, room, n, c.self.invariant.1)
 
 pub invariant_of-self : goal.invariant_of-self
 invariant_of-self c =
     let counts = owed_parts (has_site c.self.inside.group c.args.report.site) (list_any (λ r. r.site == c.args.report.site) c.self.inside.reports.items) cc in
-    let members : are_members c.self.inside.group (map (λ (r : SiteReport). r.site) c.push_reserved.new.self.items) ≡ true =
-    ap (λ (l : List SiteReport). are_members c.self.inside.group (map (λ (r : SiteReport). r.site) l)) c.push_reserved.ensures.items
-    ∙ comes_from_member (λ (r : SiteReport). r.site) c.self.inside.group c.self.inside.reports.items c.args.report c.self.invariant.3 counts.0 counts.1 in
+    let members : are_behind_own c.self.inside.group (map (λ (r : SiteReport). r.site) c.push_reserved.new.self.items) ≡ true =
+    ap (λ (l : List SiteReport). are_behind_own c.self.inside.group (map (λ (r : SiteReport). r.site) l)) c.push_reserved.ensures.items
+    ∙ comes_behind_own (λ (r : SiteReport). r.site) c.self.inside.group c.self.inside.reports.items c.args.report c.self.invariant.3 counts.0 counts.1 in
     (c.self.invariant.0, omega (arith, c.self.invariant.1, c.push_reserved.ensures.capacity), c.self.invariant.2, members)
 
 pub returns : goal.returns
