@@ -1,4 +1,4 @@
-// What counts in an election, and what the answers come to: over the lists of whoever keeps them.
+// What counts in an election, and what the answers come to.
 ghost use Rattle.std.specs.Prelude.{◌≡◌, ◌==◌, ◌&&◌, if◌then◌else◌, suc, not, nat_lt, max, fold, length, Some, None};
 ghost use Rattle.std.specs.List.{list_any};
 ghost use Rattle.e3_types.specs.Same.{same_call};
@@ -23,14 +23,14 @@ fn has_reported(reports: &[SiteReport], site: u32) -> bool
 }
 
 /// What came of a group is as much as the group has sites: all of it, where each site counts once.
-pub fn are_all<T>(came: &[T], group: SiteSet) -> bool
+pub(crate) fn are_all<T>(came: &[T], group: SiteSet) -> bool
     ensures { result ≡ (length came.now == length group) }
 {
     came.len() == group.count() as usize
 }
 
 /// The greatest number that was heard, 0 where none was.
-pub fn greatest_of(heard: &[Named]) -> u32
+pub(crate) fn greatest_of(heard: &[Named]) -> u32
     ensures { result ≡ fold (λ n h. max n h.elected) 0 heard.now }
 {
     heard.iter().fold(0, |n, h| max(n, h.elected))
@@ -38,7 +38,7 @@ pub fn greatest_of(heard: &[Named]) -> u32
 
 /// The greatest number that was heard plus one: some exactly where the whole group was heard and the greatest is below
 /// 4,294,967,295.
-pub fn number_of(heard: &[Named], group: SiteSet) -> Option<u32>
+pub(crate) fn number_of(heard: &[Named], group: SiteSet) -> Option<u32>
     ensures { result ≡ (if length heard.now == length group && nat_lt (fold (λ n h. max n h.elected) 0 heard.now) 4294967295
         then Some (suc (fold (λ n h. max n h.elected) 0 heard.now)) else None) }
 {
@@ -52,14 +52,14 @@ pub fn number_of(heard: &[Named], group: SiteSet) -> Option<u32>
 
 /// An answer to a call counts in the election of this own call: it is to that one, by a member of the group that was not
 /// heard yet.
-pub fn is_awaited(own: Call, group: SiteSet, heard: &[Named], site: u32, call: Call) -> bool
+pub(crate) fn is_awaited(own: Call, group: SiteSet, heard: &[Named], site: u32, call: Call) -> bool
     ensures { result ≡ (same_call own call && has_site group site && not (list_any (λ h. h.site == site) heard.now)) }
 {
     own.is_same(call) && group.has(site) && !was_heard(heard, site)
 }
 
 /// A report under the election's number counts: it is by a member of the group that has not reported yet.
-pub fn is_owed(group: SiteSet, reports: &[SiteReport], site: u32) -> bool
+pub(crate) fn is_owed(group: SiteSet, reports: &[SiteReport], site: u32) -> bool
     ensures { result ≡ (has_site group site && not (list_any (λ r. r.site == site) reports.now)) }
 {
     group.has(site) && !has_reported(reports, site)

@@ -1,11 +1,11 @@
 // An election: who was heard, the number, and who reported.
 ghost use Rattle.std.specs.Prelude.{◌≡◌, ◌<◌, ◌∷◌, [], IfOk, MatchOption, Some, true, false, IsSome, length, vec_len, vec_capacity};
-ghost use Rattle.e3_world.specs.Elections.{all_heard, all_reported, begun, hear, take_report};
+ghost use Rattle.e3_world.specs.Elections.{all_heard, all_reported, begun, greatest_heard, hear, take_report};
 ghost use Rattle.e3_elect.specs.Calling.{number_of};
 
-use crate::counting::{are_all, is_awaited, is_owed, number_of};
-use e3_types::{Call, Copied, List, NoMemory, SiteReport, SiteSet};
-use e3_world::{Election as Gathered, Named};
+use crate::counting::{are_all, greatest_of, is_awaited, is_owed, number_of};
+use e3_types::{Call, Copied, NoMemory, SiteReport, SiteSet};
+use e3_world::Named;
 use std::alloc::Global;
 use std::marker::Model;
 
@@ -105,6 +105,13 @@ impl Election {
         true
     }
 
+    /// The greatest number that was heard.
+    pub fn greatest_heard(&self) -> u32
+        ensures { result ≡ greatest_heard self.now }
+    {
+        greatest_of(&self.heard)
+    }
+
     /// The whole group was heard.
     pub fn all_heard(&self) -> bool
         ensures { result ≡ all_heard self.now }
@@ -135,6 +142,13 @@ impl Election {
     {
         self.number = Some(n);
         self.begin_reports(own);
+    }
+
+    /// The number that the elector joined; none before it did.
+    pub fn joined_number(&self) -> Option<u32>
+        ensures { result ≡ self.now.number }
+    {
+        self.number
     }
 
     /// A member's report under this number. True exactly where the elector joined that number and the member had not
@@ -172,23 +186,6 @@ impl Election {
         ensures { result ≡ self.now.group }
     {
         self.group
-    }
-
-    /// The election as a history's readings have it. Want of memory is the only error.
-    pub fn gathered(&self, alloc: Global) -> Result<Gathered, NoMemory>
-        ensures { IfOk result (λ e. e ≡ self.now) }
-    {
-        let mut heard = List::new(alloc);
-        heard.extend(&self.heard)?;
-        let mut reports = List::new(alloc);
-        reports.extend(&self.reports)?;
-        Ok(Gathered {
-            call: self.call,
-            group: self.group,
-            heard,
-            number: self.number,
-            reports,
-        })
     }
 }
 

@@ -4,5 +4,4 @@
 mod counting;
 mod election;
 
-pub use counting::{are_all, greatest_of, is_awaited, is_owed, number_of};
 pub use election::Election;

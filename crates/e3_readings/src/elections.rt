@@ -1,19 +1,31 @@
 // The election of a transaction that is in progress at a site, read off its steps of the present incarnation.
-ghost use Rattle.std.specs.Prelude.{◌≡◌, ◌≤◌, ◌==◌, ◌&&◌, ◌++◌, ◌∷◌, [], if◌then◌else◌, not, Option, IfOk, MatchOption, count_by, fold, length, OnErr};
+ghost use Rattle.std.specs.Prelude.{◌≡◌, ◌≤◌, if◌then◌else◌, None, IfOk, MatchOption, count_by, OnErr};
 ghost use Rattle.std.specs.List.{list_any};
-ghost use Rattle.e3_types.specs.Same.{same_call};
 ghost use Rattle.e3_world.specs.Logs.{state_of, last_attempt, last_elected};
-ghost use Rattle.e3_types.specs.Sets.{has_site};
-ghost use Rattle.e3_world.specs.Elections.{is_decision, is_join, all_heard, all_reported, greatest_heard, begun, hear, take_report, joined_in, tells_verdict, ends_election, after_heard, or_same, election_with, election_by, election_in_progress, is_elect, next_call};
+ghost use Rattle.e3_world.specs.Elections.{is_decision, is_join, begun, joined_in, tells_verdict, ends_election, after_heard, election_with, election_by, election_in_progress, is_elect, next_call};
 
 use crate::counts::{next, small};
 use crate::logs::{last_attempt, last_elected, state_of};
-use e3_elect as elect;
-use e3_types::{
-    Call, Input, List, Message, NoMemory, Packet, Record, SiteReport, SiteSet, Told, Txn,
-};
-use e3_world::{Election, Elections, Moment, Named};
+use e3_elect::Election;
+use e3_types::{Call, Input, Message, NoMemory, Packet, Record, SiteReport, SiteSet, Told, Txn};
+use e3_world::Moment;
 use std::alloc::Global;
+use std::marker::Model;
+
+// How many elections of any transaction a site began in its incarnation, and the one of a transaction in progress.
+#[derive(Drop)]
+struct Elections {
+    calls: u32,
+    now: Option<Election>,
+}
+
+impl Model for Elections {
+    ghost use Rattle.e3_world.specs.declared.gatherings.Elections.{Elections as Counted};
+
+    ghost Value = { Counted };
+
+    ghost view = { λ a. record { calls = a.calls; now = a.now } };
+}
 
 /// The record is a decision of the transaction.
 pub fn is_decision(t: &Txn, r: &Record) -> bool
@@ -32,98 +44,6 @@ pub fn is_join(t: &Txn, r: &Record) -> bool
     match r {
         Record::Join { txn, .. } => t.is_same(txn),
         _ => false,
-    }
-}
-
-/// The whole group was heard.
-pub fn all_heard(e: &Election) -> bool
-    ensures { result ≡ all_heard e.now }
-{
-    elect::are_all(e.heard.as_slice(), e.group)
-}
-
-/// The whole group has reported.
-pub fn all_reported(e: &Election) -> bool
-    ensures { result ≡ all_reported e.now }
-{
-    elect::are_all(e.reports.as_slice(), e.group)
-}
-
-/// The greatest number that was heard.
-pub fn greatest_heard(e: &Election) -> u32
-    ensures { result ≡ greatest_heard e.now }
-{
-    elect::greatest_of(e.heard.as_slice())
-}
-
-/// An election that begins: it has heard its own site alone, and has no number and no report yet.
-pub fn begun(
-    alloc: Global,
-    site: u32,
-    call: Call,
-    group: SiteSet,
-    elected: u32,
-) -> Result<Election, NoMemory>
-    ensures { IfOk result (λ e. e ≡ begun site call group elected) }
-{
-    let mut heard = List::new(alloc);
-    heard.push(Named { site, elected })?;
-    Ok(Election {
-        call,
-        group,
-        heard,
-        number: None,
-        reports: List::new(alloc),
-    })
-}
-
-/// The site is a member that the election's call has not heard yet, and this is that call.
-pub fn is_awaited(e: &Election, f: u32, call: Call) -> bool
-    ensures { result ≡ (same_call e.now.call call && has_site e.now.group f && not (list_any (λ h. h.site == f) e.now.heard)) }
-{
-    elect::is_awaited(e.call, e.group, e.heard.as_slice(), f, call)
-}
-
-/// The election with an answer of a member.
-pub fn and_heard(e: Election, f: u32, elected: u32) -> Result<Election, NoMemory>
-    ensures { IfOk result (λ more. more ≡ record e { heard = e.heard ++ record { site = f; elected = elected } ∷ [] }) }
-{
-    let mut more = e;
-    more.heard.push(Named { site: f, elected })?;
-    Ok(more)
-}
-
-/// The election with an answer to its call by a member that was not heard yet. None where it is no such answer.
-pub fn hear(e: Election, f: u32, call: Call, elected: u32) -> Result<Option<Election>, NoMemory>
-    ensures { IfOk result (λ o. o ≡ hear e f call elected) }
-{
-    if !is_awaited(&e, f, call) {
-        return Ok(None);
-    }
-    Ok(Some(and_heard(e, f, elected)?))
-}
-
-fn is_owed(e: &Election, site: u32) -> bool
-    ensures { result ≡ (has_site e.now.group site && not (list_any (λ r. r.site == site) e.now.reports)) }
-{
-    elect::is_owed(e.group, e.reports.as_slice(), site)
-}
-
-fn and_reported(e: Election, report: SiteReport) -> Result<Election, NoMemory>
-    ensures { IfOk result (λ more. more ≡ record e { reports = e.reports ++ report ∷ [] }) }
-{
-    let mut more = e;
-    more.reports.push(report)?;
-    Ok(more)
-}
-
-/// The election with a report of its number by a member that has not reported yet. None where it is no such report.
-pub fn take_report(e: Election, n: u32, report: SiteReport) -> Result<Option<Election>, NoMemory>
-    ensures { IfOk result (λ o. o ≡ take_report e n report) }
-{
-    match e.number {
-        Some(k) if n == k && is_owed(&e, report.site) => Ok(Some(and_reported(e, report)?)),
-        _ => Ok(None),
     }
 }
 
@@ -181,48 +101,18 @@ fn own_report(site: u32, t: &Txn, before: &[Record]) -> SiteReport
     }
 }
 
-/// The election whose site joins under a number, with its own report.
-pub fn joined(alloc: Global, e: Election, n: u32, own: SiteReport) -> Result<Election, NoMemory>
-    ensures { IfOk result (λ more. more ≡ record e { number = Some n; reports = own ∷ [] }) }
-{
-    let mut more = e;
-    more.number = Some(n);
-    more.reports = List::new(alloc);
-    more.reports.push(own)?;
-    Ok(more)
-}
-
 /// The election behind a step in which an answer was heard. Once the whole group was heard the site joins in that step,
 /// with its own report, or the election ends.
-pub fn after_heard(
-    alloc: Global,
-    site: u32,
-    t: &Txn,
-    m: &Moment,
-    e: Election,
-) -> Result<Option<Election>, NoMemory>
-    ensures { IfOk result (λ o. o ≡ after_heard site t.now m.now e) }
+pub fn after_heard(site: u32, t: &Txn, m: &Moment, e: Election) -> Option<Election>
+    ensures { result ≡ after_heard site t.now m.now e }
 {
-    if !all_heard(&e) {
-        return Ok(Some(e));
+    if !e.all_heard() {
+        return Some(e);
     }
-    match joined_in(t, m.records.as_slice()) {
-        Some(n) => {
-            let own = own_report(site, t, m.before.as_slice());
-            Ok(Some(joined(alloc, e, n, own)?))
-        }
-        None => Ok(None),
-    }
-}
-
-/// The election with a report of its number by a member that has not reported yet, or as it was where it is no such report.
-pub fn with_report(e: Election, n: u32, report: SiteReport) -> Result<Option<Election>, NoMemory>
-    ensures { IfOk result (λ o. o ≡ or_same e (take_report e n report)) }
-{
-    match e.number {
-        Some(k) if n == k && is_owed(&e, report.site) => Ok(Some(and_reported(e, report)?)),
-        _ => Ok(Some(e)),
-    }
+    let n = joined_in(t, m.records.as_slice())?;
+    let mut joined = e;
+    joined.joined_under(n, own_report(site, t, m.before.as_slice()));
+    Some(joined)
 }
 
 /// Some record among these is a join of the transaction.
@@ -233,38 +123,46 @@ pub fn has_join(t: &Txn, records: &[Record]) -> bool
 }
 
 fn election_with(
-    alloc: Global,
     site: u32,
     t: &Txn,
     m: &Moment,
     e: Election,
     f: u32,
     msg: &Message,
-) -> Result<Option<Election>, NoMemory>
-    ensures { IfOk result (λ o. o ≡ election_with site t.now m.now e f msg.now) }
+) -> Option<Election>
+    ensures { result ≡ election_with site t.now m.now e f msg.now }
 {
+    let mut now = e;
     match msg {
-        Message::LastElected { txn, call, elected } if t.is_same(txn) && is_awaited(&e, f, *call) =>
-            { after_heard(alloc, site, t, m, and_heard(e, f, *elected)?) }
+        Message::LastElected { txn, call, elected } if t.is_same(txn) => {
+            if now.heard(f, *call, *elected) {
+                after_heard(site, t, m, now)
+            } else {
+                Some(now)
+            }
+        }
         Message::Report {
             txn,
             n,
             state,
             attempt,
-        } if t.is_same(txn) => with_report(
-            e,
-            *n,
-            SiteReport {
-                site: f,
-                state: *state,
-                attempt: *attempt,
-            },
-        ),
-        Message::Elected { .. } if has_join(t, m.records.as_slice()) => Ok(None),
-        _ => Ok(Some(e)),
+        } if t.is_same(txn) => {
+            now.reported(
+                *n,
+                SiteReport {
+                    site: f,
+                    state: *state,
+                    attempt: *attempt,
+                },
+            );
+            Some(now)
+        }
+        Message::Elected { .. } if has_join(t, m.records.as_slice()) => None,
+        _ => Some(now),
     }
 }
 
+// The elections behind a step, which ends the one in progress by a decision or a verdict.
 fn ended(t: &Txn, m: &Moment, calls: u32, now: Option<Election>) -> Elections
     ensures { result ≡ record { calls = calls; now = if ends_election t.now m.now then None else now } }
 {
@@ -286,28 +184,27 @@ fn elected_anew(
     ensures { IfOk result (λ o. o ≡ after_heard site t.now m.now (begun site call group (last_elected t.now m.now.before))) }
 {
     let elected = last_elected(t, m.before.as_slice());
-    let e = begun(alloc, site, call, group, elected)?;
-    after_heard(alloc, site, t, m, e)
+    let e = Election::start(alloc, call, group, site, elected)?;
+    Ok(after_heard(site, t, m, e))
 }
 
 fn after_packet(
-    alloc: Global,
     site: u32,
     t: &Txn,
     m: &Moment,
     now: Option<Election>,
     packet: &Packet,
-) -> Result<Option<Election>, NoMemory>
-    ensures { IfOk result (λ o. MatchOption now (o ≡ None) (λ e. o ≡ election_with site t.now m.now e packet.now.«from» packet.now.msg)) }
+) -> Option<Election>
+    ensures { MatchOption now (result ≡ None) (λ e. result ≡ election_with site t.now m.now e packet.now.«from» packet.now.msg) }
 {
     match now {
-        Some(e) => election_with(alloc, site, t, m, e, packet.from, &packet.msg),
-        None => Ok(None),
+        Some(e) => election_with(site, t, m, e, packet.from, &packet.msg),
+        None => None,
     }
 }
 
-/// The elections behind one more step. An election ends also with a join by an Elected packet, a decision or a verdict.
-pub fn election_by(
+// The elections behind one more step. An election ends also with a join by an Elected packet, a decision or a verdict.
+fn election_by(
     alloc: Global,
     site: u32,
     inc: u32,
@@ -331,7 +228,7 @@ pub fn election_by(
             Ok(ended(t, m, calls, now))
         }
         Input::Deliver { packet } => {
-            let now = after_packet(alloc, site, t, m, now, packet)?;
+            let now = after_packet(site, t, m, now, packet);
             Ok(ended(t, m, calls, now))
         }
         _ => Ok(ended(t, m, calls, now)),
