@@ -4,8 +4,9 @@ ghost use Rattle.e3_cards.specs.Cards.{blank};
 
 use crate::seen::{Seen, unseen};
 use e3_commit::Votes;
+use e3_elect::Election;
 use e3_types::{Answer, List, Op, Refusal, SiteSet, Txn};
-use e3_world::{Asked, Election, Rounds};
+use e3_world::{Asked, Rounds};
 use std::alloc::Global;
 
 /// An answer to the operation of this number.

@@ -5,9 +5,10 @@ ghost use Rattle.e3_cards.specs.Tables.{card_at};
 use crate::card::{Card, Heard, blank};
 use crate::cards::card_or;
 use crate::keys::TxnKey;
+use e3_elect::Election;
 use e3_readings::add_asked;
-use e3_types::{List, NoMemory, Op, Txn};
-use e3_world::{Asked, Election, Round, Rounds};
+use e3_types::{Copied, List, NoMemory, Op, Txn};
+use e3_world::{Asked, Round, Rounds};
 use std::alloc::Global;
 use std::collections::BTreeMap;
 
@@ -54,18 +55,6 @@ pub(crate) fn copy_heard(alloc: Global, heard: &[Heard]) -> Result<List<Heard>, 
     Ok(out)
 }
 
-fn copy_started(alloc: Global, e: &Election) -> Result<Election, NoMemory>
-    ensures { IfOk result (λ out. out ≡ e.now) }
-{
-    Ok(Election {
-        call: e.call,
-        group: e.group,
-        heard: copy_all(alloc, e.heard.as_slice())?,
-        number: e.number,
-        reports: copy_all(alloc, e.reports.as_slice())?,
-    })
-}
-
 /// A copy of the election in progress.
 pub(crate) fn copy_election(
     alloc: Global,
@@ -74,7 +63,7 @@ pub(crate) fn copy_election(
     ensures { IfOk result (λ out. out ≡ was.now) }
 {
     match was {
-        Some(e) => Ok(Some(copy_started(alloc, e)?)),
+        Some(e) => Ok(Some(e.copied(alloc)?)),
         None => Ok(None),
     }
 }

@@ -5,12 +5,10 @@ ghost use Rattle.e3_cards.specs.Electing.{heard_all, election_taking, election_b
 ghost use Rattle.e3_cards.specs.Seeing.{seen_state};
 
 use crate::seen::{Seen, seen_state};
-use e3_readings::{
-    all_heard, and_heard, begun, has_decision, has_join, has_verdict, is_awaited, joined,
-    joined_in, next, with_report,
-};
+use e3_elect::Election;
+use e3_readings::{has_decision, has_join, has_verdict, joined_in, next};
 use e3_types::{Call, Input, Message, NoMemory, Packet, Record, SiteReport, SiteSet, Txn};
-use e3_world::{Election, SiteStep};
+use e3_world::SiteStep;
 use std::alloc::Global;
 
 // A transaction at a site, with what was seen of it before a step, and the records of the step.
@@ -33,59 +31,58 @@ fn own_report(site: u32, seen: &Seen) -> SiteReport
     }
 }
 
-fn heard_all(at: &Electing<'_>, e: Election) -> Result<Option<Election>, NoMemory>
-    ensures { IfOk result (λ o. o ≡ heard_all at.now.site at.now.t.now at.now.seen.now at.now.records.now e) }
+fn heard_all(at: &Electing<'_>, e: Election) -> Option<Election>
+    ensures { result ≡ heard_all at.now.site at.now.t.now at.now.seen.now at.now.records.now e }
 {
-    if !all_heard(&e) {
-        return Ok(Some(e));
+    if !e.all_heard() {
+        return Some(e);
     }
-    match joined_in(at.t, at.records) {
-        Some(n) => Ok(Some(joined(at.alloc, e, n, own_report(at.site, at.seen))?)),
-        None => Ok(None),
-    }
+    let n = joined_in(at.t, at.records)?;
+    let mut joined = e;
+    joined.joined_under(n, own_report(at.site, at.seen));
+    Some(joined)
 }
 
-fn election_taking(
-    at: &Electing<'_>,
-    f: u32,
-    msg: &Message,
-    e: Election,
-) -> Result<Option<Election>, NoMemory>
-    ensures { IfOk result (λ o. o ≡ election_taking at.now.site at.now.t.now at.now.seen.now at.now.records.now f msg.now e) }
+fn election_taking(at: &Electing<'_>, f: u32, msg: &Message, e: Election) -> Option<Election>
+    ensures { result ≡ election_taking at.now.site at.now.t.now at.now.seen.now at.now.records.now f msg.now e }
 {
     let t = at.t;
+    let mut now = e;
     match msg {
-        Message::LastElected { txn, call, elected } if t.is_same(txn) && is_awaited(&e, f, *call) =>
-            { heard_all(at, and_heard(e, f, *elected)?) }
+        Message::LastElected { txn, call, elected } if t.is_same(txn) => {
+            if now.heard(f, *call, *elected) {
+                heard_all(at, now)
+            } else {
+                Some(now)
+            }
+        }
         Message::Report {
             txn,
             n,
             state,
             attempt,
-        } if t.is_same(txn) => with_report(
-            e,
-            *n,
-            SiteReport {
-                site: f,
-                state: *state,
-                attempt: *attempt,
-            },
-        ),
-        Message::Elected { .. } if has_join(t, at.records) => Ok(None),
-        _ => Ok(Some(e)),
+        } if t.is_same(txn) => {
+            now.reported(
+                *n,
+                SiteReport {
+                    site: f,
+                    state: *state,
+                    attempt: *attempt,
+                },
+            );
+            Some(now)
+        }
+        Message::Elected { .. } if has_join(t, at.records) => None,
+        _ => Some(now),
     }
 }
 
-fn election_behind(
-    at: &Electing<'_>,
-    packet: &Packet,
-    was: Option<Election>,
-) -> Result<Option<Election>, NoMemory>
-    ensures { IfOk result (λ o. o ≡ election_behind at.now.site at.now.t.now at.now.seen.now at.now.records.now packet.now was) }
+fn election_behind(at: &Electing<'_>, packet: &Packet, was: Option<Election>) -> Option<Election>
+    ensures { result ≡ election_behind at.now.site at.now.t.now at.now.seen.now at.now.records.now packet.now was }
 {
     match was {
         Some(e) => election_taking(at, packet.from, &packet.msg, e),
-        None => Ok(None),
+        None => None,
     }
 }
 
@@ -97,8 +94,8 @@ fn election_anew(
     ensures { IfOk result (λ o. o ≡ heard_all at.now.site at.now.t.now at.now.seen.now at.now.records.now (begun at.now.site call group at.now.seen.now.elected)) }
 {
     let seen = at.seen;
-    let e = begun(at.alloc, at.site, call, group, seen.elected)?;
-    heard_all(at, e)
+    let e = Election::start(at.alloc, call, group, at.site, seen.elected)?;
+    Ok(heard_all(at, e))
 }
 
 fn election_upon(
@@ -119,7 +116,7 @@ fn election_upon(
             };
             election_anew(at, call, *group)
         }
-        Input::Deliver { packet } => election_behind(at, packet, was),
+        Input::Deliver { packet } => Ok(election_behind(at, packet, was)),
         _ => Ok(was),
     }
 }

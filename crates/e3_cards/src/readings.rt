@@ -24,9 +24,10 @@ use crate::operations::{
     unanswered_now, waits_now,
 };
 use crate::seen::{Seen, unseen};
+use e3_elect::Election;
 use e3_readings::next;
 use e3_types::{Answer, Call, Input, List, Name, NoMemory, Refusal, Txn};
-use e3_world::{Asked, Election, Expected, Made, Performed, Round};
+use e3_world::{Asked, Expected, Made, Performed, Round};
 use std::alloc::Global;
 
 fn seen_at(cards: &Cards, t: &Txn) -> Seen

@@ -10,10 +10,11 @@ use crate::names;
 use crate::names::Names;
 use crate::tables::Tables;
 use e3_cards::Cards;
+use e3_elect::Election;
 use e3_plain::unnumbered_input;
 use e3_step::{Past, step_at};
 use e3_types::{Answer, Call, Dir, Grant, Input, List, Name, NoMemory, Refusal, Txn};
-use e3_world::{Asked, Election, Expected, Made, Performed, Round};
+use e3_world::{Asked, Expected, Made, Performed, Round};
 use std::alloc::Global;
 use std::marker::{Brand, Model, PhantomData};
 

@@ -7,6 +7,7 @@ use crate::reading::{
     begins, first_answer, first_reason, lock_now, log_now, steps_now, waits_for, waits_now,
 };
 use e3_commit::all_came;
+use e3_elect::Election;
 use e3_readings::{
     answers, attempted, decision, done, election_in_progress, expected, has_voted, is_among,
     issued, kept_reason, key_of, last_attempt, last_elected, last_own, life_of, next_call, nth_op,
@@ -14,7 +15,7 @@ use e3_readings::{
 };
 use e3_step::Past;
 use e3_types::{Answer, Call, Dir, Grant, Input, List, Name, NoMemory, Record, Refusal, Txn};
-use e3_world::{Asked, At, Election, Expected, Made, Performed, Round, SiteStep};
+use e3_world::{Asked, At, Expected, Made, Performed, Round, SiteStep};
 use std::alloc::Global;
 
 /// A place where a step is made, with its past read anew each time.

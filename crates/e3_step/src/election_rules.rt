@@ -10,11 +10,10 @@ use crate::making::{
     elected_now, may_decide, state_now,
 };
 use crate::past::Past;
-use e3_elect::number_of;
-use e3_readings::{all_reported, hear, take_report};
+use e3_elect::Election;
 use e3_rule::verdict_of;
 use e3_types::{Call, Dir, Message, NoMemory, Record, SiteReport, SiteSet, Told, Txn, Verdict};
-use e3_world::{Election, Made};
+use e3_world::Made;
 use std::alloc::Global;
 
 fn decide_for<P: Past>(
@@ -68,7 +67,7 @@ fn number_above(e: &Election, elected: u32) -> Option<u32>
     ensures { MatchOption result ((all_heard e.now && nat_lt (greatest_heard e.now) 4294967295 && nat_le elected (greatest_heard e.now)) ≡ false)
         (λ n. ((all_heard e.now && nat_lt (greatest_heard e.now) 4294967295 && nat_le elected (greatest_heard e.now)) ≡ true) × (n ≡ suc (greatest_heard e.now))) }
 {
-    let n = number_of(e.heard.as_slice(), e.group)?;
+    let n = e.number()?;
     if elected < n { Some(n) } else { None }
 }
 
@@ -84,10 +83,11 @@ pub fn and_join<P: Past>(p: &P, t: &Txn, e: &Election, made: &mut Made) -> Resul
         state: state_now(p, t, made),
         attempt: attempt_now(p, t, made),
     };
+    let group = e.group();
     and_record(Record::Join { txn: *t, n }, made)?;
-    and_cast(p, e.group, &Message::Elected { txn: *t, n }, made)?;
-    match e.group.without(p.site()).split_first() {
-        None => and_verdict(p, t, n, e.group, &[report], made),
+    and_cast(p, group, &Message::Elected { txn: *t, n }, made)?;
+    match group.without(p.site()).split_first() {
+        None => and_verdict(p, t, n, group, &[report], made),
         Some(_) => Ok(()),
     }
 }
@@ -104,13 +104,13 @@ pub fn on_last<P: Past>(
 ) -> Result<(), NoMemory>
     ensures { IfOk result (λ u. made.new ≡ on_last (P.at p.now) f t.now call elected made.old) }
 {
-    match p.election(alloc, t)? {
-        None => Ok(()),
-        Some(e) => match hear(e, f, call, elected)? {
-            None => Ok(()),
-            Some(more) => and_join(p, t, &more, made),
-        },
+    let Some(mut e) = p.election(alloc, t)? else {
+        return Ok(());
+    };
+    if !e.heard(f, call, elected) {
+        return Ok(());
     }
+    and_join(p, t, &e, made)
 }
 
 /// A greater number, from site f: the site joins it and reports.
@@ -141,17 +141,11 @@ pub fn on_report<P: Past>(
 ) -> Result<(), NoMemory>
     ensures { IfOk result (λ u. made.new ≡ on_report (P.at p.now) t.now n report made.old) }
 {
-    match p.election(alloc, t)? {
-        None => Ok(()),
-        Some(e) => match take_report(e, n, report)? {
-            None => Ok(()),
-            Some(more) => {
-                if all_reported(&more) {
-                    and_verdict(p, t, n, more.group, more.reports.as_slice(), made)
-                } else {
-                    Ok(())
-                }
-            }
-        },
+    let Some(mut e) = p.election(alloc, t)? else {
+        return Ok(());
+    };
+    if !e.reported(n, report) || !e.complete() {
+        return Ok(());
     }
+    and_verdict(p, t, n, e.group(), e.reports(), made)
 }

@@ -13,8 +13,9 @@ ghost use Rattle.e3_step.specs.Asking.{is_waiting, lock_now, waits_now};
 ghost use Rattle.e3_step.specs.Reading.{first_of, has_every_yes, is_awaited, own_value, row_now};
 ghost use Rattle.e3_step.specs.SoFar.{IsSoFar};
 
+use e3_elect::Election;
 use e3_types::{Answer, Call, Dir, Grant, Input, List, Name, NoMemory, Refusal, Txn};
-use e3_world::{Asked, Election, Expected, Made, Performed, Round};
+use e3_world::{Asked, Expected, Made, Performed, Round};
 use std::alloc::Global;
 
 /// What the rules of a step read of a site's past, each reading as the definitions have it at one place, which `at`

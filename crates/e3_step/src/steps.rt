@@ -19,7 +19,8 @@ use crate::making::{
 use crate::messages::on_message;
 use crate::past::Past;
 use e3_client::{refuse_attempted, refuse_open};
-use e3_readings::{begun, key_of, next, number_behind};
+use e3_elect::Election;
+use e3_readings::{key_of, next, number_behind};
 use e3_types::{Dir, Input, List, Message, NoMemory, Op, Refusal, SiteSet, State, Told, Txn};
 use e3_world::Made;
 use std::alloc::Global;
@@ -161,7 +162,7 @@ pub fn on_elect<P: Past>(
     ensures { IfOk result (λ u. made.new ≡ on_elect (P.at p.now) t.now group made.old) }
 {
     let call = p.next_call()?;
-    let e = begun(alloc, p.site(), call, group, elected_now(p, t, made))?;
+    let e = Election::start(alloc, call, group, p.site(), elected_now(p, t, made))?;
     and_cast(p, group, &Message::Ask { txn: *t, call }, made)?;
     and_join(p, t, &e, made)
 }

@@ -1,6 +1,5 @@
 // Quorums, the rule of a decision, votes and acknowledgements, and elections.
-ghost use Rattle.std.specs.Prelude.{◌≡◌, IfSome, IsTrue, None};
-ghost use Rattle.e3_elect.specs.Calling.{is_own};
+ghost use Rattle.std.specs.Prelude.{◌≡◌, IfSome};
 
 use crate::parts::texts::{flag, push_known, push_word};
 use e3_commit::{Round, Votes};
@@ -162,9 +161,6 @@ fn push_calls(page: &mut Page, election: &mut Election, answers: &[(u32, Call, u
 
 // Adds what an election of site 2 hears, whose own number is 4.
 fn push_heard(alloc: Global, page: &mut Page, group: SiteSet, answers: &[(u32, Call, u32)]) {
-    if !group.has(2) {
-        return;
-    }
     match Election::start(alloc, Call { inc: 1, seq: 1 }, group, 2, 4) {
         Ok(mut election) => push_calls(page, &mut election, answers),
         Err(NoMemory) => page.lack(),
@@ -189,14 +185,6 @@ fn push_answers(alloc: Global, page: &mut Page) {
     }
 }
 
-// An answer to the call of an election: what it joined stays, and so does that it is one of site 2.
-fn hear(election: &mut Election, from: u32, call: Call, elected: u32) -> bool
-    ensures number { election.new.number ≡ election.old.number }
-    ensures own { IsTrue (is_own election.old 2) → IsTrue (is_own election.new 2) }
-{
-    election.heard(from, call, elected)
-}
-
 // Adds whether the whole group has reported, then of each report whether it is taken and whether all have reported with it, and how
 // many have at the end.
 fn push_taken(page: &mut Page, election: &mut Election, reports: &[(u32, u32)]) {
@@ -215,11 +203,8 @@ fn push_taken(page: &mut Page, election: &mut Election, reports: &[(u32, u32)]) 
 }
 
 // Adds what an election of site 2 takes of these reports, each by its site and under its number, once it heard site 3 and joined.
-fn push_joined(page: &mut Page, election: &mut Election, call: Call, reports: &[(u32, u32)])
-    requires none { election.old.number ≡ None }
-    requires own { IsTrue (is_own election.old 2) }
-{
-    hear(election, 3, call, 6);
+fn push_joined(page: &mut Page, election: &mut Election, call: Call, reports: &[(u32, u32)]) {
+    election.heard(3, call, 6);
     if election.number().is_none() {
         return;
     }
@@ -234,9 +219,6 @@ fn push_joined(page: &mut Page, election: &mut Election, call: Call, reports: &[
 }
 
 fn push_reported(alloc: Global, page: &mut Page, group: SiteSet, reports: &[(u32, u32)]) {
-    if !group.has(2) {
-        return;
-    }
     let call = Call { inc: 1, seq: 1 };
     match Election::start(alloc, call, group, 2, 4) {
         Ok(mut election) => push_joined(page, &mut election, call, reports),

@@ -1,10 +1,11 @@
 // What is read off the log and the steps of a site, of each transaction that was begun.
 use crate::sites::texts::{push_count, push_flag};
+use e3_elect::Election;
 use e3_judge::incarnation_at;
 use e3_lines::Page;
 use e3_readings::*;
 use e3_types::{Act, Entry, List, Mode, Name, NoMemory, Record, Row, Scenario, SiteSet, Told, Txn};
-use e3_world::{Election, Incarnation, Life, Moment, Round};
+use e3_world::{Incarnation, Life, Moment, Round};
 use std::alloc::Global;
 
 fn told_of(entry: &Entry) -> &[Told] {
@@ -53,11 +54,11 @@ fn push_expected(alloc: Global, page: &mut Page, site: u32, t: &Txn, life: &Life
 
 // Adds what an elector has heard.
 fn push_heard(page: &mut Page, e: &Election) {
-    page.labelled("; election ", u64::from(e.number.unwrap_or(0)));
-    push_flag(page, ", all heard ", all_heard(e));
-    push_flag(page, ", all reported ", all_reported(e));
-    page.labelled(", greatest ", u64::from(greatest_heard(e)));
-    page.labelled(", reports ", e.reports.len());
+    page.labelled("; election ", u64::from(e.joined_number().unwrap_or(0)));
+    push_flag(page, ", all heard ", e.all_heard());
+    push_flag(page, ", all reported ", e.complete());
+    page.labelled(", greatest ", u64::from(e.greatest_heard()));
+    page.labelled(", reports ", e.reports().len() as u64);
 }
 
 // Adds what an elector has heard, where an election is in progress.
