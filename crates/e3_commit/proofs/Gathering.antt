@@ -5,13 +5,11 @@ use Rattle.std.proofs.lemmas.Grind.{common_steps}
 use Rattle.std.proofs.lemmas.List.{take_more}
 use Rattle.std.proofs.lemmas.List.Folds.{list_any-append}
 use Rattle.std.proofs.lemmas.List.Sums.{fold-append}
+use Rattle.std.proofs.lemmas.Bool.{eqb-true, or_parts}
+use Rattle.e3_types.specs.Sets.{ascends, has_site, with_site, others, is_within}
 use Rattle.e3_types.specs.declared.transactions.Dir.{Dir}
 use Rattle.e3_types.specs.Same.{same_dir}
-use Rattle.std.proofs.lemmas.Bool.{eqb-true}
-use Rattle.e3_types.specs.Sets.{ascends, has_site, with_site, others, is_within}
-use Rattle.e3_world.specs.declared.gatherings.Round.{Round}
-use Rattle.e3_world.specs.Rounds.{count_ack}
-use Rattle.e3_commit.specs.Acks.{Acks, counts, with_ack, set_of, IsKept}
+use Rattle.e3_commit.specs.Acks.{Acks, set_of}
 use Rattle.e3_commit.specs.Missing.{missing}
 
 -- where none came, all are missing
@@ -89,7 +87,7 @@ has_with f xs s =
     list_any-append (λ x. x == s) (filter (λ x. nat_lt x f) xs) (f ∷ filter (λ x. nat_lt f x) xs)
     ∙ (let a = has_filter (λ x. nat_lt x f) xs s in let b = has_filter (λ x. nat_lt f x) xs s in grind (arith, common_steps, a, b))
 
-snoc_set : (xs : List ℕ) (f : ℕ) → set_of (xs ++ f ∷ []) ≡ with_site f (set_of xs)
+pub snoc_set : (xs : List ℕ) (f : ℕ) → set_of (xs ++ f ∷ []) ≡ with_site f (set_of xs)
 snoc_set xs f = fold-append (λ set site. with_site site set) [] xs (f ∷ [])
 
 has_fold : (xs set : List ℕ) (s : ℕ) → has_site (fold (λ set site. with_site site set) set xs) s ≡ (has_site set s || has_site xs s)
@@ -97,19 +95,26 @@ has_fold [] set s = grind (arith, common_steps)
 has_fold (x ∷ xs) set s = has_fold xs (with_site x set) s ∙ (let h = has_with x set s in grind (arith, common_steps, h))
 
 -- a set has just what came
-has_set : (xs : List ℕ) (s : ℕ) → has_site (set_of xs) s ≡ has_site xs s
+pub has_set : (xs : List ℕ) (s : ℕ) → has_site (set_of xs) s ≡ has_site xs s
 has_set xs s = has_fold xs [] s
 
--- an acknowledgement counts in both forms of a round, or in none
-pub keeps_ack : (a : Acks) (r : Round) (f n : ℕ) (dir : Dir) → IsKept a r → IsKept (with_ack a f n dir) (count_ack r f n dir)
-keeps_ack a r f n dir k =
-    let test : counts a f n dir ≡ (r.n == n && same_dir r.dir dir && has_site r.to f && not (has_site r.acked f)) =
-    (let x = k.n in let y = k.dir in let z = k.to in let w : has_site a.acked f ≡ has_site r.acked f = ap (λ (l : List ℕ). has_site l f) k.acked ∙ has_set r.acked f in cc) in
-    by (r.n == n && same_dir r.dir dir && has_site r.to f && not (has_site r.acked f)) test refl
+split_length : (f : ℕ) (xs : List ℕ) → has_site xs f ≡ false → length (filter (λ x. nat_lt x f) xs) + length (filter (λ x. nat_lt f x) xs) ≡ length xs
+split_length f [] h = refl
+split_length f (x ∷ xs) h =
+    let apart = or_parts (eqb x f) (has_site xs f) h in
+    by (nat_lt x f) (nat_lt f x) refl refl apart.0 (split_length f xs apart.1)
   where
-    by : (b : Bool) → counts a f n dir ≡ b → (r.n == n && same_dir r.dir dir && has_site r.to f && not (has_site r.acked f)) ≡ b → IsKept (with_ack a f n dir) (count_ack r f n dir)
-    by true e q = rw (e, q) (record { n = k.n; dir = k.dir; to = k.to; acked = ap (with_site f) k.acked ∙ sym (snoc_set r.acked f) })
-    by false e q = rw (e, q) k
+    by : (a b : Bool) → nat_lt x f ≡ a → nat_lt f x ≡ b → eqb x f ≡ false
+        → length (filter (λ x. nat_lt x f) xs) + length (filter (λ x. nat_lt f x) xs) ≡ length xs
+        → length (filter (λ x. nat_lt x f) (x ∷ xs)) + length (filter (λ x. nat_lt f x) (x ∷ xs)) ≡ length (x ∷ xs)
+    by true true p q e ih = grind (arith, common_steps, p, q)
+    by true false p q e ih = rw (p, q) (omega (arith, ih))
+    by false true p q e ih = rw (p, q) (omega (arith, ih))
+    by false false p q e ih = grind (arith, common_steps, p, q, e)
+
+-- a site that a set does not have makes it longer by one
+with_longer : (f : ℕ) (xs : List ℕ) → has_site xs f ≡ false → length (with_site f xs) ≡ length xs + 1
+with_longer f xs h = let l = split_length f xs h in grind (arith, common_steps, l)
 
 -- a site of a set is above its lowest bound, and 64 at most
 pub asked_within : (low : ℕ) (xs : List ℕ) (f : ℕ) → ascends low xs ≡ true → has_site xs f ≡ true → (low + 1 ≤ f) × (f ≤ 64)
@@ -125,3 +130,22 @@ asked_within low (x ∷ xs) f up h =
     by false e above small later =
         let k : has_site xs f ≡ true = grind (arith, common_steps, e, h) in
         let r = later k in (omega (arith, r.0, above), r.1)
+
+-- what holds of an acknowledgement that counts
+ack_parts : (own way asked was : Bool) → (own && way && asked && not was) ≡ true → (asked ≡ true) × (was ≡ false)
+ack_parts true true true false e = (refl, refl)
+ack_parts true true true true e = cc
+ack_parts true true false was e = cc
+ack_parts true false asked was e = cc
+ack_parts false way asked was e = cc
+
+-- an acknowledgement that counts is by one that was asked, and the first of it
+pub ack_counts : (a : Acks) (f n : ℕ) (dir : Dir)
+    → (a.round.n == n && same_dir a.round.dir dir && has_site a.round.to f && not (has_site a.round.acked f)) ≡ true
+    → (has_site a.round.to f ≡ true) × (has_site a.round.acked f ≡ false)
+ack_counts a f n dir e = ack_parts (a.round.n == n) (same_dir a.round.dir dir) (has_site a.round.to f) (has_site a.round.acked f) e
+
+-- with it the set is longer by one
+pub acked_longer : (a : Acks) (set : List ℕ) (f : ℕ) → set ≡ set_of a.round.acked → has_site a.round.acked f ≡ false
+    → length (with_site f set) ≡ length set + 1
+acked_longer a set f same h = with_longer f set (ap (λ (l : List ℕ). has_site l f) same ∙ has_set a.round.acked f ∙ h)

@@ -4,5 +4,5 @@
 mod rounds;
 mod votes;
 
-pub use rounds::{Round, acknowledges};
+pub use rounds::Round;
 pub use votes::{Votes, all_came};
