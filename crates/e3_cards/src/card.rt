@@ -5,8 +5,9 @@ ghost use Rattle.e3_cards.specs.Cards.{blank};
 use crate::seen::{Seen, unseen};
 use e3_commit::Votes;
 use e3_elect::Election;
+use e3_readings::Rounds;
 use e3_types::{Answer, List, Op, Refusal, SiteSet, Txn};
-use e3_world::{Asked, Rounds};
+use e3_world::Asked;
 use std::alloc::Global;
 
 /// An answer to the operation of this number.
@@ -62,9 +63,6 @@ pub fn blank(alloc: Global) -> Card
         heard: List::new(alloc),
         votes: None,
         election: None,
-        rounds: Rounds {
-            group: SiteSet::empty(),
-            now: None,
-        },
+        rounds: Rounds::none(),
     }
 }

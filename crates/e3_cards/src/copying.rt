@@ -8,7 +8,7 @@ use crate::keys::TxnKey;
 use e3_elect::Election;
 use e3_readings::add_asked;
 use e3_types::{Copied, List, NoMemory, Op, Txn};
-use e3_world::{Asked, Round, Rounds};
+use e3_world::Asked;
 use std::alloc::Global;
 use std::collections::BTreeMap;
 
@@ -68,27 +68,6 @@ pub(crate) fn copy_election(
     }
 }
 
-fn copy_begun(alloc: Global, r: &Round) -> Result<Round, NoMemory>
-    ensures { IfOk result (λ out. out ≡ r.now) }
-{
-    Ok(Round {
-        n: r.n,
-        dir: r.dir,
-        to: r.to,
-        acked: copy_all(alloc, r.acked.as_slice())?,
-    })
-}
-
-/// A copy of the round in progress.
-pub(crate) fn copy_round(alloc: Global, was: &Option<Round>) -> Result<Option<Round>, NoMemory>
-    ensures { IfOk result (λ out. out ≡ was.now) }
-{
-    match was {
-        Some(r) => Ok(Some(copy_begun(alloc, r)?)),
-        None => Ok(None),
-    }
-}
-
 // The operations that were issued, and those that were answered, are those of the card.
 fn copy_issued(alloc: Global, card: &Card, out: &mut Card) -> Result<(), NoMemory>
     ensures { IfOk result (λ u. out.new ≡ record out.old { issued = card.now.issued; answered = card.now.answered }) }
@@ -126,10 +105,7 @@ fn copy_gathered(alloc: Global, card: &Card, out: &mut Card) -> Result<(), NoMem
 {
     out.votes = card.votes;
     out.election = copy_election(alloc, &card.election)?;
-    out.rounds = Rounds {
-        group: card.rounds.group,
-        now: copy_round(alloc, &card.rounds.now)?,
-    };
+    out.rounds = card.rounds.copy();
     Ok(())
 }
 

@@ -8,6 +8,7 @@ ghost use Rattle.e3_world.specs.Making.{log_now, steps_now, own_write};
 ghost use Rattle.e3_world.specs.Operations.{answers, done, expected, issued, kept_reason, same_asked, unanswered, waiting};
 ghost use Rattle.e3_world.specs.Rounds.{round_in_progress};
 ghost use Rattle.e3_world.specs.Steps.{is_begin};
+ghost use Rattle.e3_commit.specs.Acks.{round_of};
 ghost use Rattle.e3_cards.specs.Cards.{moment_with};
 ghost use Rattle.e3_cards.specs.Gathering.{are_complete, votes_by};
 ghost use Rattle.e3_cards.specs.Readings.{first_of, is_awaited, has_every_yes, own_expected, expected_of, done_of};
@@ -16,7 +17,7 @@ ghost use Rattle.e3_cards.specs.Tables.{CardsStand, card_at, call_now};
 
 use crate::card::{Card, blank};
 use crate::cards::{Cards, card_or};
-use crate::copying::{copy_election, copy_round};
+use crate::copying::copy_election;
 use crate::gathering::{are_complete, votes_now};
 use crate::keys::{known, txn_key};
 use crate::operations::{
@@ -24,10 +25,11 @@ use crate::operations::{
     unanswered_now, waits_now,
 };
 use crate::seen::{Seen, unseen};
+use e3_commit::Round;
 use e3_elect::Election;
 use e3_readings::next;
 use e3_types::{Answer, Call, Input, List, Name, NoMemory, Refusal, Txn};
-use e3_world::{Asked, Expected, Made, Performed, Round};
+use e3_world::{Asked, Expected, Made, Performed};
 use std::alloc::Global;
 
 fn seen_at(cards: &Cards, t: &Txn) -> Seen
@@ -228,12 +230,12 @@ impl Cards {
     }
 
     /// The round of the transaction that is in progress before the step, if there is one.
-    pub fn round(&self, alloc: Global, t: &Txn) -> Result<Option<Round>, NoMemory>
-        ensures { (a : Place) → CardsStand a.site self.now a.life → IfOk result (λ r. r ≡ round_in_progress a.site t.now a.life.steps) }
+    pub fn round(&self, alloc: Global, t: &Txn) -> Option<Round>
+        ensures { (a : Place) → CardsStand a.site self.now a.life → round_of result ≡ round_in_progress a.site t.now a.life.steps }
     {
         known(t);
         let none = blank(alloc);
-        copy_round(alloc, &card_or(&self.map, t, &none).rounds.now)
+        card_or(&self.map, t, &none).rounds.in_progress()
     }
 
     /// The call of an election that the step begins. NoMemory comes where the count would pass 32 bits.

@@ -16,10 +16,11 @@ use crate::electing::election_now;
 use crate::gathering::votes_now;
 use crate::issued::{add_counted, add_numbers};
 use crate::seen::seen_behind;
-use e3_readings::{issued_in, reasons_in, rounds_upon};
+use e3_readings::{Rounds, issued_in, reasons_in};
 use e3_types::{NoMemory, Txn};
-use e3_world::{Rounds, SiteStep};
+use e3_world::SiteStep;
 use std::alloc::Global;
+use std::mem;
 
 // The operation that a step takes up.
 fn and_came(site: u32, t: &Txn, step: &SiteStep, card: &mut Card) -> Result<(), NoMemory>
@@ -88,10 +89,7 @@ fn and_gathered(
     }) }
 {
     let seen = card.seen;
-    let rounds = Rounds {
-        group: card.rounds.group,
-        now: card.rounds.now.take(),
-    };
+    let rounds = mem::replace(&mut card.rounds, Rounds::none());
     card.votes = votes_now(site, t, card.votes, &step.input, step.told.as_slice());
     card.election = election_now(
         alloc,
@@ -103,7 +101,7 @@ fn and_gathered(
         card.election.take(),
         step,
     )?;
-    card.rounds = rounds_upon(alloc, site, t, rounds, &step.input, step.records.as_slice())?;
+    card.rounds = rounds.after(site, t, &step.input, step.records.as_slice());
     card.seen = seen_behind(t, seen, step.records.as_slice());
     Ok(())
 }

@@ -10,11 +10,12 @@ use crate::names;
 use crate::names::Names;
 use crate::tables::Tables;
 use e3_cards::Cards;
+use e3_commit::Round;
 use e3_elect::Election;
 use e3_plain::unnumbered_input;
 use e3_step::{Past, step_at};
 use e3_types::{Answer, Call, Dir, Grant, Input, List, Name, NoMemory, Refusal, Txn};
-use e3_world::{Asked, Expected, Made, Performed, Round};
+use e3_world::{Asked, Expected, Made, Performed};
 use std::alloc::Global;
 use std::marker::{Brand, Model, PhantomData};
 
@@ -184,7 +185,7 @@ impl<'a, K: Whose> Past for Reader<'a, K> {
         cards.election(alloc, t)
     }
 
-    fn round(&self, alloc: Global, t: &Txn) -> Result<Option<Round>, NoMemory> {
+    fn round(&self, alloc: Global, t: &Txn) -> Option<Round> {
         let cards = self.cards;
         cards.round(alloc, t)
     }

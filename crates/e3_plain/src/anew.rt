@@ -6,7 +6,7 @@ use crate::grants::grants_after;
 use crate::reading::{
     begins, first_answer, first_reason, lock_now, log_now, steps_now, waits_for, waits_now,
 };
-use e3_commit::all_came;
+use e3_commit::{Round, all_came};
 use e3_elect::Election;
 use e3_readings::{
     answers, attempted, decision, done, election_in_progress, expected, has_voted, is_among,
@@ -15,7 +15,7 @@ use e3_readings::{
 };
 use e3_step::Past;
 use e3_types::{Answer, Call, Dir, Grant, Input, List, Name, NoMemory, Record, Refusal, Txn};
-use e3_world::{Asked, At, Expected, Made, Performed, Round, SiteStep};
+use e3_world::{Asked, At, Expected, Made, Performed, SiteStep};
 use std::alloc::Global;
 
 /// A place where a step is made, with its past read anew each time.
@@ -196,8 +196,8 @@ impl Past for Anew {
         election_in_progress(alloc, a.site, a.life.inc, t, a.life.steps.as_slice())
     }
 
-    fn round(&self, alloc: Global, t: &Txn) -> Result<Option<Round>, NoMemory> {
-        round_in_progress(alloc, self.place.site, t, self.place.life.steps.as_slice())
+    fn round(&self, _alloc: Global, t: &Txn) -> Option<Round> {
+        round_in_progress(self.place.site, t, self.place.life.steps.as_slice())
     }
 
     fn begins(&self) -> Result<u32, NoMemory> {

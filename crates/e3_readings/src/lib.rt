@@ -46,7 +46,7 @@ pub use operations::{
 pub use own::{last_own, own_write};
 pub use places::{SiteRecord, add_placed};
 pub use recovery_rounds::{RecoveryRound, rounds_of};
-pub use rounds::{count_ack, receivers, round_by, round_by_record, round_in_progress, rounds_upon};
+pub use rounds::{Rounds, receivers, round_in_progress};
 pub use steps::step_items;
 pub use tables::{install_op, row_value, rows_at, set_row, table_by, table_of};
 pub use votes::yes_votes;

@@ -11,9 +11,9 @@ use crate::making::{
 };
 use crate::past::Past;
 use crate::weights::is_quorum;
-use e3_readings::count_ack;
+use e3_commit::Round;
 use e3_types::{Dir, List, Message, NoMemory, Record, Txn};
-use e3_world::{Made, Round};
+use e3_world::Made;
 use std::alloc::Global;
 
 /// An undecided site that joined this number last attempts it, once, and acknowledges to site f.
@@ -46,9 +46,9 @@ fn with_own(alloc: Global, site: u32, acked: &[u32]) -> Result<List<u32>, NoMemo
 }
 
 fn has_quorum<P: Past>(alloc: Global, p: &P, t: &Txn, r: &Round) -> Result<bool, NoMemory>
-    ensures { IfOk result (λ b. b ≡ is_quorum (P.at p.now).weights ((P.at p.now).site ∷ r.now.acked) t.now.sites) }
+    ensures { IfOk result (λ b. b ≡ is_quorum (P.at p.now).weights ((P.at p.now).site ∷ r.now.round.acked) t.now.sites) }
 {
-    let members = with_own(alloc, p.site(), r.acked.as_slice())?;
+    let members = with_own(alloc, p.site(), r.acked())?;
     Ok(is_quorum(p.weights(), members.as_slice(), t.sites))
 }
 
@@ -64,17 +64,15 @@ pub fn on_ack<P: Past>(
 ) -> Result<(), NoMemory>
     ensures { IfOk result (λ u. made.new ≡ on_ack (P.at p.now) f t.now n dir made.old) }
 {
-    match p.round(alloc, t)? {
-        None => Ok(()),
-        Some(round) => {
-            let r = count_ack(round, f, n, dir)?;
-            let quorum = has_quorum(alloc, p, t, &r)?;
-            if r.n == n && r.dir == dir && may_decide(p, t, dir, made) && quorum {
-                and_decide(p, t, dir, made)?;
-                cast_decision(p, r.to, t, dir, made)
-            } else {
-                Ok(())
-            }
-        }
+    let Some(mut r) = p.round(alloc, t) else {
+        return Ok(());
+    };
+    r.ack(f, n, dir);
+    let quorum = has_quorum(alloc, p, t, &r)?;
+    if r.number() == n && r.direction() == dir && may_decide(p, t, dir, made) && quorum {
+        and_decide(p, t, dir, made)?;
+        cast_decision(p, r.receivers(), t, dir, made)
+    } else {
+        Ok(())
     }
 }

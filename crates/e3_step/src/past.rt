@@ -9,13 +9,15 @@ ghost use Rattle.e3_world.specs.Making.{grants_after, log_now};
 ghost use Rattle.e3_world.specs.Operations.{answers, done, expected, issued, kept_reason, unanswered};
 ghost use Rattle.e3_world.specs.Rounds.{round_in_progress};
 ghost use Rattle.e3_world.specs.Steps.{is_begin};
+ghost use Rattle.e3_commit.specs.Acks.{round_of};
 ghost use Rattle.e3_step.specs.Asking.{is_waiting, lock_now, waits_now};
 ghost use Rattle.e3_step.specs.Reading.{first_of, has_every_yes, is_awaited, own_value, row_now};
 ghost use Rattle.e3_step.specs.SoFar.{IsSoFar};
 
+use e3_commit::Round;
 use e3_elect::Election;
 use e3_types::{Answer, Call, Dir, Grant, Input, List, Name, NoMemory, Refusal, Txn};
-use e3_world::{Asked, Expected, Made, Performed, Round};
+use e3_world::{Asked, Expected, Made, Performed};
 use std::alloc::Global;
 
 /// What the rules of a step read of a site's past, each reading as the definitions have it at one place, which `at`
@@ -139,8 +141,8 @@ pub trait Past {
         ensures { IfOk result (λ e. e ≡ election_in_progress (at self.now).site (at self.now).life.inc t.now (at self.now).life.steps) };
 
     /// The round of the transaction that is in progress before the step, if there is one.
-    fn round(&self, alloc: Global, t: &Txn) -> Result<Option<Round>, NoMemory>
-        ensures { IfOk result (λ r. r ≡ round_in_progress (at self.now).site t.now (at self.now).life.steps) };
+    fn round(&self, alloc: Global, t: &Txn) -> Option<Round>
+        ensures { round_of result ≡ round_in_progress (at self.now).site t.now (at self.now).life.steps };
 
     /// How many transactions the incarnation began before the step.
     fn begins(&self) -> Result<u32, NoMemory>

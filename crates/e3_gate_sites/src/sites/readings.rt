@@ -1,11 +1,12 @@
 // What is read off the log and the steps of a site, of each transaction that was begun.
 use crate::sites::texts::{push_count, push_flag};
+use e3_commit::Round;
 use e3_elect::Election;
 use e3_judge::incarnation_at;
 use e3_lines::Page;
 use e3_readings::*;
 use e3_types::{Act, Entry, List, Mode, Name, NoMemory, Record, Row, Scenario, SiteSet, Told, Txn};
-use e3_world::{Incarnation, Life, Moment, Round};
+use e3_world::{Incarnation, Life, Moment};
 use std::alloc::Global;
 
 fn told_of(entry: &Entry) -> &[Told] {
@@ -72,19 +73,17 @@ fn push_election(alloc: Global, page: &mut Page, site: u32, t: &Txn, life: &Life
 
 // Adds a round that an attempt began.
 fn push_begun(page: &mut Page, r: &Round) {
-    page.labelled("; round ", u64::from(r.n));
-    page.labelled(", acknowledged ", r.acked.len());
-    page.labelled(" of ", u64::from(r.to.count()));
+    page.labelled("; round ", u64::from(r.number()));
+    page.labelled(", acknowledged ", r.acked().len() as u64);
+    page.labelled(" of ", u64::from(r.receivers().count()));
     page.text(", to ");
-    page.dir(r.dir);
+    page.dir(r.direction());
 }
 
 // Adds the round that an attempt began, where there is one.
-fn push_round(alloc: Global, page: &mut Page, site: u32, t: &Txn, steps: &[Moment]) {
-    match round_in_progress(alloc, site, t, steps) {
-        Ok(Some(r)) => push_begun(page, &r),
-        Ok(None) => {}
-        Err(NoMemory) => page.lack(),
+fn push_round(page: &mut Page, site: u32, t: &Txn, steps: &[Moment]) {
+    if let Some(r) = round_in_progress(site, t, steps) {
+        push_begun(page, &r);
     }
 }
 
@@ -113,7 +112,7 @@ fn push_of(alloc: Global, page: &mut Page, site: u32, t: &Txn, life: &Life) {
     push_expected(alloc, page, site, t, life, 1);
     push_expected(alloc, page, site, t, life, 2);
     push_election(alloc, page, site, t, life);
-    push_round(alloc, page, site, t, steps);
+    push_round(page, site, t, steps);
     push_votes(alloc, page, t, steps);
     page.text("\n");
 }

@@ -1,9 +1,9 @@
-use Rattle.std.proofs.Common.{ap}
+use Rattle.std.proofs.Common.{◌∙◌, ap}
 use Rattle.e3_cards.specs.declared.card.Card.{Card}
-use Rattle.e3_cards.proofs.Reading.{is_card, ok_is}
+use Rattle.e3_cards.proofs.Reading.{is_card}
 use Rattle.e3_cards.proofs.cards.Cards.round.Goals as goal
 
 pub returns : goal.returns
 returns c = λ a stands.
     let card = is_card c.args.self.now c.args.t.now c.card_or.result.now a c.card_or.ensures c.known.ensures stands in
-    ok_is c.copy_round.result _ _ (ap (λ (k : Card). k.rounds.now) card) c.copy_round.ensures
+    c.in_progress.ensures ∙ ap (λ (k : Card). k.rounds.now) card

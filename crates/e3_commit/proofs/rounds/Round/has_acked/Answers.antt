@@ -1,5 +1,5 @@
 -- the set has just what came
-use Rattle.std.proofs.Common.{◌≡◌, ◌∙◌, ap, sym, List, ℕ}
+use Rattle.std.proofs.Common.{◌∙◌, ap, List, ℕ}
 use Rattle.e3_types.specs.Sets.{has_site}
 use Rattle.e3_commit.specs.Acks.{Acks}
 use Rattle.e3_commit.proofs.Gathering.{has_set}
