@@ -7,7 +7,7 @@ use e3_elect::Election;
 use e3_lines::Page;
 use e3_quorum::{WeightFault, Weights};
 use e3_rule::decide;
-use e3_types::{Call, Dir, NoMemory, SiteReport, SiteSet, State, Verdict};
+use e3_types::{Call, Copied, Dir, NoMemory, SiteReport, SiteSet, State, Verdict};
 use std::alloc::Global;
 
 fn set(sites: &[u32]) -> Option<SiteSet>
@@ -131,21 +131,39 @@ fn push_votes(page: &mut Page, sites: SiteSet) {
     page.text("\n");
 }
 
-// Adds the acknowledgements of an attempt of site 1, each behind the one before.
-fn push_acknowledged(page: &mut Page, sites: SiteSet) {
-    let mut round = Round::attempt(1, Dir::Commit, sites.without(1), 1);
+// Adds how many sites attempted behind each of these acknowledgements of an attempt by this site, and in which order they came.
+fn push_acks(page: &mut Page, to: SiteSet, site: u32, acks: &[(u32, u32, Dir)]) {
+    let mut round = Round::attempt(1, Dir::Commit, to, site);
     page.text("acknowledged by:");
-    for (from, n, dir) in [
-        (2, 2, Dir::Commit),
-        (2, 1, Dir::Abort),
-        (4, 1, Dir::Commit),
-        (2, 1, Dir::Commit),
-        (2, 1, Dir::Commit),
-        (3, 1, Dir::Commit),
-    ] {
-        push_known(page, Some(round.ack(from, n, dir).count()));
+    for (from, n, dir) in acks {
+        push_known(page, Some(round.ack(*from, *n, *dir).count()));
+    }
+    page.text("; in order:");
+    for from in round.copy().acked() {
+        push_known(page, Some(*from));
     }
     page.text("\n");
+}
+
+// Adds the acknowledgements of an attempt of site 1, each behind the one before, and of one whose sender is no site of a set.
+fn push_acknowledged(page: &mut Page, sites: SiteSet) {
+    for (site, acks) in [
+        (
+            1,
+            [
+                (2, 2, Dir::Commit),
+                (2, 1, Dir::Abort),
+                (4, 1, Dir::Commit),
+                (2, 1, Dir::Commit),
+                (2, 1, Dir::Commit),
+                (3, 1, Dir::Commit),
+            ]
+            .as_slice(),
+        ),
+        (70, &[(3, 1, Dir::Commit), (2, 1, Dir::Commit)]),
+    ] {
+        push_acks(page, sites.without(1), site, acks);
+    }
 }
 
 // Adds what an election hears, and which number it comes to.
@@ -167,8 +185,8 @@ fn push_heard(alloc: Global, page: &mut Page, group: SiteSet, answers: &[(u32, C
     }
 }
 
-// Adds what an election hears in two groups: a stranger, another call, an answer, and one more; of three sites an answer twice; and
-// a number that is the greatest of all.
+// Adds what an election hears in two groups: a stranger, another call, an answer, and one more; of three sites an answer twice; a
+// number that is the greatest of all; and the answers of a group that does not have the elector.
 fn push_answers(alloc: Global, page: &mut Page) {
     let call = Call { inc: 1, seq: 1 };
     let other = Call { inc: 1, seq: 2 };
@@ -180,6 +198,7 @@ fn push_answers(alloc: Global, page: &mut Page) {
         ),
         (two.with(4), &[(3, call, 6), (3, call, 6), (4, call, 5)]),
         (two, &[(3, call, 4_294_967_295)]),
+        (SiteSet::one(3).with(4), &[(3, call, 6), (4, call, 5)]),
     ] {
         push_heard(alloc, page, group, answers);
     }
@@ -226,8 +245,29 @@ fn push_reported(alloc: Global, page: &mut Page, group: SiteSet, reports: &[(u32
     }
 }
 
+// Adds what a copy of an election of site 2 takes, which joined number 9, and what was reported to the election meanwhile.
+fn push_copy(page: &mut Page, election: &Election, copy: &mut Election) {
+    page.text("joined:");
+    push_known(page, copy.joined_number());
+    push_word(page, flag(copy.reported(9, report(3, State::Pc, 1))));
+    page.labelled("; reports ", copy.reports().len() as u64);
+    page.labelled(" and ", election.reports().len() as u64);
+    page.text("\n");
+}
+
+fn push_copied(alloc: Global, page: &mut Page, group: SiteSet) {
+    let Ok(mut election) = Election::start(alloc, Call { inc: 1, seq: 1 }, group, 2, 4) else {
+        return page.lack();
+    };
+    election.joined_under(9, report(2, State::W, 0));
+    match election.copied(alloc) {
+        Ok(mut copy) => push_copy(page, &election, &mut copy),
+        Err(NoMemory) => page.lack(),
+    }
+}
+
 // Adds the lines of a commit, and of elections; the reports are one under another number, a stranger's, one that counts, the same
-// once more, and the elector's own.
+// once more, and the elector's own; the last election was copied.
 fn push_gathered(alloc: Global, page: &mut Page) {
     let sites = SiteSet::one(1).with(2).with(3);
     push_votes(page, sites);
@@ -238,7 +278,8 @@ fn push_gathered(alloc: Global, page: &mut Page) {
         page,
         SiteSet::one(2).with(3),
         &[(3, 6), (4, 7), (3, 7), (3, 7), (2, 7)],
-    )
+    );
+    push_copied(alloc, page, SiteSet::one(2).with(3));
 }
 
 /// Adds the lines of these parts.
