@@ -6,7 +6,7 @@ use crate::seen::{Seen, unseen};
 use e3_commit::Votes;
 use e3_elect::Election;
 use e3_readings::Rounds;
-use e3_types::{Answer, List, Op, Refusal, SiteSet, Txn};
+use e3_types::{Answer, List, Op, Refusal, Txn};
 use e3_world::Asked;
 use std::alloc::Global;
 

@@ -8,7 +8,7 @@ ghost use Rattle.e3_world.specs.Making.{log_now, steps_now, own_write};
 ghost use Rattle.e3_world.specs.Operations.{answers, done, expected, issued, kept_reason, same_asked, unanswered, waiting};
 ghost use Rattle.e3_world.specs.Rounds.{round_in_progress};
 ghost use Rattle.e3_world.specs.Steps.{is_begin};
-ghost use Rattle.e3_commit.specs.Acks.{round_of};
+ghost use Rattle.e3_commit.specs.Acks.{gathered_round};
 ghost use Rattle.e3_cards.specs.Cards.{moment_with};
 ghost use Rattle.e3_cards.specs.Gathering.{are_complete, votes_by};
 ghost use Rattle.e3_cards.specs.Readings.{first_of, is_awaited, has_every_yes, own_expected, expected_of, done_of};
@@ -38,6 +38,15 @@ fn seen_at(cards: &Cards, t: &Txn) -> Seen
     match cards.map.get(&txn_key(t)) {
         Some(card) => card.seen,
         None => unseen(),
+    }
+}
+
+fn round_at(cards: &Cards, t: &Txn) -> Option<Round>
+    ensures { gathered_round result ≡ (card_at cards.now.map.entries t.now).rounds.now }
+{
+    match cards.map.get(&txn_key(t)) {
+        Some(card) => card.rounds.in_progress(),
+        None => None,
     }
 }
 
@@ -230,12 +239,11 @@ impl Cards {
     }
 
     /// The round of the transaction that is in progress before the step, if there is one.
-    pub fn round(&self, alloc: Global, t: &Txn) -> Option<Round>
-        ensures { (a : Place) → CardsStand a.site self.now a.life → round_of result ≡ round_in_progress a.site t.now a.life.steps }
+    pub fn round(&self, t: &Txn) -> Option<Round>
+        ensures { (a : Place) → CardsStand a.site self.now a.life → gathered_round result ≡ round_in_progress a.site t.now a.life.steps }
     {
         known(t);
-        let none = blank(alloc);
-        card_or(&self.map, t, &none).rounds.in_progress()
+        round_at(self, t)
     }
 
     /// The call of an election that the step begins. NoMemory comes where the count would pass 32 bits.

@@ -71,6 +71,14 @@ fn and_issued(t: &Txn, step: &SiteStep, card: &mut Card) -> Result<(), NoMemory>
     reasons_in(t, events, &mut card.reasons)
 }
 
+// The round in progress behind a step.
+fn and_rounds(site: u32, t: &Txn, step: &SiteStep, card: &mut Card)
+    ensures { card.new ≡ record card.old { rounds = round_by site t.now card.old.rounds (moment_of step.now) } }
+{
+    let was = mem::replace(&mut card.rounds, Rounds::none());
+    card.rounds = was.after(site, t, &step.input, step.records.as_slice());
+}
+
 // What the log says behind a step, and the votes, the election and the round in progress.
 fn and_gathered(
     alloc: Global,
@@ -89,7 +97,6 @@ fn and_gathered(
     }) }
 {
     let seen = card.seen;
-    let rounds = mem::replace(&mut card.rounds, Rounds::none());
     card.votes = votes_now(site, t, card.votes, &step.input, step.told.as_slice());
     card.election = election_now(
         alloc,
@@ -101,7 +108,7 @@ fn and_gathered(
         card.election.take(),
         step,
     )?;
-    card.rounds = rounds.after(site, t, &step.input, step.records.as_slice());
+    and_rounds(site, t, step, card);
     card.seen = seen_behind(t, seen, step.records.as_slice());
     Ok(())
 }

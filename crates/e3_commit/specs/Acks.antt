@@ -13,5 +13,5 @@ abbrev pub set_of : List ℕ → List ℕ
 set_of sites = fold (λ set site. with_site site set) [] sites
 
 -- the round of an attempt, if one is in progress
-abbrev pub round_of : Option Acks → Option Round
-round_of attempt = option_map (λ a. a.round) attempt
+abbrev pub gathered_round : Option Acks → Option Round
+gathered_round attempt = option_map (λ a. a.round) attempt

@@ -1,5 +1,5 @@
 // The acknowledgements of an attempt.
-ghost use Rattle.std.specs.Prelude.{◌≡◌, ◌==◌, ◌&&◌, ◌≤◌, [], not};
+ghost use Rattle.std.specs.Prelude.{◌≡◌, ◌==◌, ◌&&◌, [], if◌then◌else◌, nat_le, not};
 ghost use Rattle.e3_types.specs.Same.{same_dir};
 ghost use Rattle.e3_types.specs.Sets.{has_site, with_site};
 ghost use Rattle.e3_world.specs.Rounds.{count_ack};
@@ -65,6 +65,7 @@ impl Round {
     fn add(&mut self, from: u32, n: u32, dir: Dir)
         ensures { self.new ≡ record self.old { round = count_ack self.old.round from n dir } }
     {
+        // for the proof alone: sites that are asked are from 1 to 64, and no set has more than 64
         let _ = self.to.count();
         if self.counts(from, n, dir) {
             let acked = self.acked.with(from);
@@ -76,7 +77,8 @@ impl Round {
 
     // Those that acknowledged, with the sender, where it is a site that a set can have.
     fn attempted(&self) -> SiteSet
-        ensures { 1 ≤ self.now.site → self.now.site ≤ 64 → result ≡ with_site self.now.site (set_of self.now.round.acked) }
+        ensures { result ≡ (if nat_le 1 self.now.site && nat_le self.now.site 64
+            then with_site self.now.site (set_of self.now.round.acked) else set_of self.now.round.acked) }
     {
         if 1 <= self.site && self.site <= 64 {
             self.acked.with(self.site)
@@ -86,11 +88,12 @@ impl Round {
     }
 
     /// An acknowledgement of the attempt of this number and direction: the sites that attempted what this round asks,
-    /// with its sender, which is a site from 1 to 64. One of another attempt, one of a site that was not asked, and a second
-    /// one of a site add none.
+    /// with its sender; without it where no set has it, whose sites are 1 to 64. An acknowledgement of another attempt, one
+    /// of a site that was not asked, and a second one of a site add none.
     pub fn ack(&mut self, from: u32, n: u32, dir: Dir) -> SiteSet
         ensures round { self.new ≡ record self.old { round = count_ack self.old.round from n dir } }
-        ensures sites { 1 ≤ self.old.site → self.old.site ≤ 64 → result ≡ with_site self.old.site (set_of self.new.round.acked) }
+        ensures sites { result ≡ (if nat_le 1 self.old.site && nat_le self.old.site 64
+            then with_site self.old.site (set_of self.new.round.acked) else set_of self.new.round.acked) }
     {
         self.add(from, n, dir);
         self.attempted()

@@ -36,8 +36,8 @@ pub(crate) fn greatest_of(heard: &[Named]) -> u32
     heard.iter().fold(0, |n, h| max(n, h.elected))
 }
 
-/// The greatest number that was heard plus one: some exactly where the whole group was heard and the greatest is below
-/// 4,294,967,295.
+/// The greatest number that was heard plus one: some exactly where as many were heard as the group has sites, and the
+/// greatest is below 4,294,967,295.
 pub(crate) fn number_of(heard: &[Named], group: SiteSet) -> Option<u32>
     ensures { result ≡ (if length heard.now == length group && nat_lt (fold (λ n h. max n h.elected) 0 heard.now) 4294967295
         then Some (suc (fold (λ n h. max n h.elected) 0 heard.now)) else None) }

@@ -82,8 +82,8 @@ impl Election {
         })
     }
 
-    /// The greatest number that was heard plus one: some exactly where the whole group was heard and the greatest is below
-    /// 4,294,967,295.
+    /// The greatest number that was heard plus one: some exactly where as many were heard as the group has sites, and the
+    /// greatest is below 4,294,967,295. Where the elector is of the group, so many are the whole group.
     pub fn number(&self) -> Option<u32>
         ensures { result ≡ number_of self.now }
     {
@@ -112,7 +112,7 @@ impl Election {
         greatest_of(&self.heard)
     }
 
-    /// The whole group was heard.
+    /// As many were heard as the group has sites: the whole group, where the elector is of it.
     pub fn all_heard(&self) -> bool
         ensures { result ≡ all_heard self.now }
     {
@@ -167,7 +167,7 @@ impl Election {
         true
     }
 
-    /// The whole group has reported.
+    /// As many have reported as the group has sites: the whole group, where the elector's report is that of a member.
     pub fn complete(&self) -> bool
         ensures { result ≡ all_reported self.now }
     {

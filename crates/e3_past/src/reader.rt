@@ -185,9 +185,9 @@ impl<'a, K: Whose> Past for Reader<'a, K> {
         cards.election(alloc, t)
     }
 
-    fn round(&self, alloc: Global, t: &Txn) -> Option<Round> {
+    fn round(&self, t: &Txn) -> Option<Round> {
         let cards = self.cards;
-        cards.round(alloc, t)
+        cards.round(t)
     }
 
     fn begins(&self) -> Result<u32, NoMemory> {

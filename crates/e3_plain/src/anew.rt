@@ -196,7 +196,7 @@ impl Past for Anew {
         election_in_progress(alloc, a.site, a.life.inc, t, a.life.steps.as_slice())
     }
 
-    fn round(&self, _alloc: Global, t: &Txn) -> Option<Round> {
+    fn round(&self, t: &Txn) -> Option<Round> {
         round_in_progress(self.place.site, t, self.place.life.steps.as_slice())
     }
 

@@ -37,8 +37,8 @@ pub fn is_decision(t: &Txn, r: &Record) -> bool
     }
 }
 
-/// The record is a join of the transaction.
-pub fn is_join(t: &Txn, r: &Record) -> bool
+// The record is a join of the transaction.
+fn is_join(t: &Txn, r: &Record) -> bool
     ensures { result ≡ is_join t.now r.now }
 {
     match r {
@@ -84,8 +84,8 @@ pub fn has_verdict(t: &Txn, events: &[Told]) -> bool
     events.iter().any(|e| tells_verdict(t, e))
 }
 
-/// The step ends an election of the transaction by a decision or a verdict.
-pub fn ends_election(t: &Txn, m: &Moment) -> bool
+// The step ends an election of the transaction by a decision or a verdict.
+fn ends_election(t: &Txn, m: &Moment) -> bool
     ensures { result ≡ ends_election t.now m.now }
 {
     has_decision(t, m.records.as_slice()) || has_verdict(t, m.told.as_slice())
@@ -101,9 +101,9 @@ fn own_report(site: u32, t: &Txn, before: &[Record]) -> SiteReport
     }
 }
 
-/// The election behind a step in which an answer was heard. Once the whole group was heard the site joins in that step,
-/// with its own report, or the election ends.
-pub fn after_heard(site: u32, t: &Txn, m: &Moment, e: Election) -> Option<Election>
+// The election behind a step in which an answer was heard. Once the whole group was heard the site joins in that step,
+// with its own report, or the election ends.
+fn after_heard(site: u32, t: &Txn, m: &Moment, e: Election) -> Option<Election>
     ensures { result ≡ after_heard site t.now m.now e }
 {
     if !e.all_heard() {
@@ -255,8 +255,8 @@ pub fn election_in_progress(
     Ok(elections.now)
 }
 
-/// The step took an Elect.
-pub fn is_elect(m: &Moment) -> bool
+// The step took an Elect.
+fn is_elect(m: &Moment) -> bool
     ensures { result ≡ is_elect m.now }
 {
     matches!(m.input, Input::Elect { .. })

@@ -27,8 +27,7 @@ pub use bound_names::BoundNames;
 pub use counts::{next, number_behind};
 pub use e3_locks::{add_name, add_names};
 pub use elections::{
-    after_heard, election_in_progress, ends_election, has_decision, has_join, has_verdict,
-    is_decision, is_elect, is_join, joined_in, next_call,
+    election_in_progress, has_decision, has_join, has_verdict, is_decision, joined_in, next_call,
 };
 pub use inputs::{inputs_asked, inputs_to};
 pub use lives::{life_by, life_of, present_log};
@@ -46,7 +45,7 @@ pub use operations::{
 pub use own::{last_own, own_write};
 pub use places::{SiteRecord, add_placed};
 pub use recovery_rounds::{RecoveryRound, rounds_of};
-pub use rounds::{Rounds, receivers, round_in_progress};
+pub use rounds::{Rounds, round_in_progress};
 pub use steps::step_items;
 pub use tables::{install_op, row_value, rows_at, set_row, table_by, table_of};
 pub use votes::yes_votes;

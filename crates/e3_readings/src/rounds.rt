@@ -1,14 +1,15 @@
 // The round in which an attempt gathers its acknowledgements, read off the steps of the present incarnation.
 ghost use Rattle.std.specs.Prelude.{◌≡◌, [], None, fold, option_map};
 ghost use Rattle.e3_world.specs.Rounds.{count_ack, receivers, round_by_record, round_by, round_in_progress};
-ghost use Rattle.e3_commit.specs.Acks.{round_of};
+ghost use Rattle.e3_commit.specs.Acks.{gathered_round};
 
 use e3_commit::Round;
 use e3_types::{Dir, Input, Message, Record, SiteSet, Txn};
 use e3_world::Moment;
 use std::marker::Model;
 
-/// The group of the last election of a transaction that began at a site, and the round in progress.
+/// The group of the last election of a transaction that began at a site, and the round in progress. The round's sender is the
+/// site; no clause says so, since the rule of an acknowledgement weighs with the site's own number.
 #[derive(Drop)]
 pub struct Rounds {
     group: SiteSet,
@@ -17,15 +18,15 @@ pub struct Rounds {
 
 impl Model for Rounds {
     ghost use Rattle.e3_world.specs.declared.gatherings.Rounds.{Rounds as Gathered};
-    ghost use Rattle.e3_commit.specs.Acks.{round_of};
+    ghost use Rattle.e3_commit.specs.Acks.{gathered_round};
 
     ghost Value = { Gathered };
 
-    ghost view = { λ a. record { group = a.group; now = round_of a.now } };
+    ghost view = { λ a. record { group = a.group; now = gathered_round a.now } };
 }
 
-/// The receivers of a round of this number: the first coordinator's other sites, or the rest of the elector's group.
-pub fn receivers(site: u32, t: &Txn, group: SiteSet, n: u32) -> SiteSet
+// The receivers of a round of this number: the first coordinator's other sites, or the rest of the elector's group.
+fn receivers(site: u32, t: &Txn, group: SiteSet, n: u32) -> SiteSet
     ensures { result ≡ receivers site t.now group n }
 {
     if n == 1 {
@@ -43,7 +44,7 @@ fn round_by_record(
     was: Option<Round>,
     r: &Record,
 ) -> Option<Round>
-    ensures { round_of result ≡ round_by_record site t.now group (round_of was) r.now }
+    ensures { gathered_round result ≡ round_by_record site t.now group (gathered_round was) r.now }
 {
     match r {
         Record::Attempt { txn, n, dir } if t.is_same(txn) => {
@@ -64,7 +65,7 @@ fn rounds_with(
     first: Option<Round>,
     records: &[Record],
 ) -> Rounds
-    ensures { result ≡ record { group = group; now = fold (round_by_record site t.now group) (round_of first) records.now } }
+    ensures { result ≡ record { group = group; now = fold (round_by_record site t.now group) (gathered_round first) records.now } }
 {
     let mut round = first;
     for r in records {
@@ -74,11 +75,10 @@ fn rounds_with(
 }
 
 fn and_ack(was: Option<Round>, f: u32, n: u32, dir: Dir) -> Option<Round>
-    ensures { round_of result ≡ option_map (λ r. count_ack r f n dir) (round_of was) }
+    ensures { gathered_round result ≡ option_map (λ r. count_ack r f n dir) (gathered_round was) }
 {
     match was {
-        Some(r) => {
-            let mut more = r;
+        Some(mut more) => {
             more.ack(f, n, dir);
             Some(more)
         }
@@ -121,7 +121,7 @@ impl Rounds {
 
     /// The round in progress.
     pub fn in_progress(&self) -> Option<Round>
-        ensures { round_of result ≡ self.entry.now.now }
+        ensures { gathered_round result ≡ self.entry.now.now }
     {
         match &self.now {
             Some(round) => Some(round.copy()),
@@ -149,7 +149,7 @@ fn round_by(site: u32, t: &Txn, was: Rounds, m: &Moment) -> Rounds
 
 /// The round of a transaction in progress at a site.
 pub fn round_in_progress(site: u32, t: &Txn, steps: &[Moment]) -> Option<Round>
-    ensures { round_of result ≡ round_in_progress site t.now steps.now }
+    ensures { gathered_round result ≡ round_in_progress site t.now steps.now }
 {
     let mut rounds = Rounds::none();
     for m in steps {

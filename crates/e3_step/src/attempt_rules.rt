@@ -64,12 +64,15 @@ pub fn on_ack<P: Past>(
 ) -> Result<(), NoMemory>
     ensures { IfOk result (λ u. made.new ≡ on_ack (P.at p.now) f t.now n dir made.old) }
 {
-    let Some(mut r) = p.round(alloc, t) else {
+    let Some(mut r) = p.round(t) else {
         return Ok(());
     };
     r.ack(f, n, dir);
-    let quorum = has_quorum(alloc, p, t, &r)?;
-    if r.number() == n && r.direction() == dir && may_decide(p, t, dir, made) && quorum {
+    if r.number() == n
+        && r.direction() == dir
+        && may_decide(p, t, dir, made)
+        && has_quorum(alloc, p, t, &r)?
+    {
         and_decide(p, t, dir, made)?;
         cast_decision(p, r.receivers(), t, dir, made)
     } else {

@@ -9,7 +9,7 @@ ghost use Rattle.e3_world.specs.Making.{grants_after, log_now};
 ghost use Rattle.e3_world.specs.Operations.{answers, done, expected, issued, kept_reason, unanswered};
 ghost use Rattle.e3_world.specs.Rounds.{round_in_progress};
 ghost use Rattle.e3_world.specs.Steps.{is_begin};
-ghost use Rattle.e3_commit.specs.Acks.{round_of};
+ghost use Rattle.e3_commit.specs.Acks.{gathered_round};
 ghost use Rattle.e3_step.specs.Asking.{is_waiting, lock_now, waits_now};
 ghost use Rattle.e3_step.specs.Reading.{first_of, has_every_yes, is_awaited, own_value, row_now};
 ghost use Rattle.e3_step.specs.SoFar.{IsSoFar};
@@ -141,8 +141,8 @@ pub trait Past {
         ensures { IfOk result (λ e. e ≡ election_in_progress (at self.now).site (at self.now).life.inc t.now (at self.now).life.steps) };
 
     /// The round of the transaction that is in progress before the step, if there is one.
-    fn round(&self, alloc: Global, t: &Txn) -> Option<Round>
-        ensures { round_of result ≡ round_in_progress (at self.now).site t.now (at self.now).life.steps };
+    fn round(&self, t: &Txn) -> Option<Round>
+        ensures { gathered_round result ≡ round_in_progress (at self.now).site t.now (at self.now).life.steps };
 
     /// How many transactions the incarnation began before the step.
     fn begins(&self) -> Result<u32, NoMemory>
