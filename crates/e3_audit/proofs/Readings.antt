@@ -8,7 +8,7 @@ use Rattle.e3_types.specs.declared.entries.Input.{Input}
 use Rattle.e3_types.specs.declared.scenarios.Scenario.{Scenario}
 use Rattle.e3_world.specs.Items.{AroundLine, inputs_at, inputs_of, inputs_to, is_delivery, since_line, around_by, taken_at, to_line, turn_of}
 use Rattle.e3_world.specs.Legal.{has_rising, is_rising}
-use Rattle.e3_world.specs.Moves.{own, past_by, past_of}
+use Rattle.e3_world.specs.Moves.{own_entries, past_by, past_of}
 use Rattle.e3_world.specs.Packets.{is_line, lines}
 use Rattle.e3_world.proofs.Guards.{lines_push}
 use Rattle.e3_world.proofs.Pushes.{past_push}
@@ -43,8 +43,8 @@ rising_other h e k stays other = rw (since_push h e stays, own_other k (since_li
 
 -- an entry of its own
 pub past_own : (sc : Scenario) (h : List Entry) (e : Entry) (k : ℕ) → (e.owner == k) ≡ true →
-    past_of sc k (own k (h ++ e ∷ [])) ≡ past_by sc k (past_of sc k (own k h)) e
-past_own sc h e k is = ap (past_of sc k) (own_same k h e is) ∙ past_push sc k (own k h) e
+    past_of sc k (own_entries k (h ++ e ∷ [])) ≡ past_by sc k (past_of sc k (own_entries k h)) e
+past_own sc h e k is = ap (past_of sc k) (own_same k h e is) ∙ past_push sc k (own_entries k h) e
 
 pub turn_own : (h : List Entry) (e : Entry) (k : ℕ) → is_line e ≡ false → (e.owner == k) ≡ true →
     turn_of (h ++ e ∷ []) k ≡ turn_of h k + count_by counts (inputs_of e.act)
@@ -56,7 +56,7 @@ delivered_own h e k stays is = ap (list_any is_delivery) (taken_same h e k stays
 
 pub rising_own : (h : List Entry) (e : Entry) (k : ℕ) → is_line e ≡ false → (e.owner == k) ≡ true →
     has_rising (since_line (h ++ e ∷ [])) k ≡ (has_rising (since_line h) k || (is_rising e || false))
-rising_own h e k stays is = rw (since_push h e stays, own_same k (since_line h) e is) (list_any-append is_rising (own k (since_line h)) (e ∷ []))
+rising_own h e k stays is = rw (since_push h e stays, own_same k (since_line h) e is) (list_any-append is_rising (own_entries k (since_line h)) (e ∷ []))
 
 -- a line
 pub since_fresh : (h : List Entry) (e : Entry) → is_line e ≡ true → since_line (h ++ e ∷ []) ≡ []

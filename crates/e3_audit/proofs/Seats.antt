@@ -14,7 +14,7 @@ use Rattle.e3_site.specs.StandsFor.{StandsFor}
 use Rattle.e3_world.specs.Items.{inputs_at, inputs_of, is_delivery, since_line, taken_at, turn_of}
 use Rattle.e3_world.specs.Legal.{entry_of, has_rising, is_rising}
 use Rattle.e3_world.specs.Lives.{incarnation_of}
-use Rattle.e3_world.specs.Moves.{own, past_of}
+use Rattle.e3_world.specs.Moves.{own_entries, past_of}
 use Rattle.e3_world.specs.Packets.{is_line}
 use Rattle.e3_world.proofs.Readings.{own_other, taken_other, up_other, up_same}
 use Rattle.e3_world.proofs.Turns.{self}
@@ -63,8 +63,8 @@ pub seat_line : (sc : Scenario) (h : List Entry) (e : Entry) (k : ℕ) (seat : S
 seat_line sc h e k seat inputs line other asked was = record {
   being = being_other sc h e k seat.being other was.being;
   asked = asked;
-  turn = ap (λ since. count_by counts (flat_map (λ x. inputs_of x.act) (own k since))) (since_fresh h e line);
-  delivered = ap (λ since. list_any is_delivery (flat_map (λ x. inputs_of x.act) (own k since))) (since_fresh h e line);
+  turn = ap (λ since. count_by counts (flat_map (λ x. inputs_of x.act) (own_entries k since))) (since_fresh h e line);
+  delivered = ap (λ since. list_any is_delivery (flat_map (λ x. inputs_of x.act) (own_entries k since))) (since_fresh h e line);
   rising = ap (λ since. has_rising since k) (since_fresh h e line);
 }
 

@@ -22,7 +22,7 @@ use Rattle.e3_site.specs.Rebuilt.{StandsForEach}
 use Rattle.e3_site.specs.StandsFor.{StandsFor}
 use Rattle.e3_world.specs.Items.{is_up_at}
 use Rattle.e3_world.specs.Legal.{Guard, IsDrop, IsDue, IsLegal, made_by}
-use Rattle.e3_world.specs.Moves.{Move, Past, Rose, kept_moves, log_by, log_of, moves_of, own, past_of, rise_records}
+use Rattle.e3_world.specs.Moves.{Move, Past, Rose, kept_moves, log_by, log_of, moves_of, own_entries, past_of, rise_records}
 use Rattle.e3_world.specs.Packets.{is_calm, is_line, step_items}
 use Rattle.e3_world.proofs.Pushes.{legal_push}
 use Rattle.e3_world.proofs.Readings.{up_same}
@@ -56,7 +56,7 @@ rose_by sc h site inc kept s number legal stands = record {
     e = record { owner = site; act = Rise kept inc }
 
     silent : List Move
-    silent = kept_moves site kept (past_of sc site (own site h)).tail
+    silent = kept_moves site kept (past_of sc site (own_entries site h)).tail
 
     records : List Record
     records = rise_records sc site inc (log_by (moves_of sc h site ++ silent))

@@ -3,6 +3,7 @@ ghost use Rattle.std.specs.Prelude.{◌≡◌, ◌≢◌, ◌≤◌, ◌++◌, �
 ghost use Rattle.e3_audit.specs.Seats.{BeingStands, Stands};
 ghost use Rattle.e3_net.specs.Stands.{behind_input};
 ghost use Rattle.e3_types.specs.declared.entries.Act.TheVariants as act;
+ghost use Rattle.e3_types.specs.declared.entries.Why.{Why as Whys};
 ghost use Rattle.e3_world.specs.Items.{is_up_at};
 ghost use Rattle.e3_world.specs.Legal.{made_by};
 
@@ -46,20 +47,20 @@ pub(crate) fn leave(net: &mut Net, input: &Input)
 }
 
 impl Auditor {
+    // Goes on over a fall over one input, for whatever reason.
     fn fall_over(
         &mut self,
         prefix: &Prefix<'_>,
         site: u32,
         input: &Input,
         records: &[Record],
-        _why: Why,
     ) -> Result<bool, NoMemory>
         requires stands { Stands prefix.now.scenario.now prefix.now.entries.now self.old }
         requires some { 1 ≤ site }
         requires exists { site ≤ length prefix.now.scenario.now.weights }
         requires records { records.now ≢ [] }
-        ensures { IfOk result (λ on. on ≡ true →
-            Stands prefix.now.scenario.now (prefix.now.entries.now ++ record { owner = site; act = act.Fall (input.now ∷ []) records.now _why } ∷ []) self.new) }
+        ensures { IfOk result (λ on. on ≡ true → (why : Whys) →
+            Stands prefix.now.scenario.now (prefix.now.entries.now ++ record { owner = site; act = act.Fall (input.now ∷ []) records.now why } ∷ []) self.new) }
     {
         let due = self.input_is_due(prefix, site, input)?;
         if !due {
@@ -98,7 +99,7 @@ impl Auditor {
             return Ok(false);
         }
         if let [input] = inputs {
-            return self.fall_over(prefix, site, input, records, why);
+            return self.fall_over(prefix, site, input, records);
         }
         let may = may_come(prefix, entry)?;
         if !may {

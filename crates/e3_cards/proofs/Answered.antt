@@ -21,7 +21,7 @@ use Rattle.e3_world.specs.Operations.{answers, answer_told, answer_sent, is_answ
 use Rattle.e3_readings.proofs.Equal.{same_txn_eq}
 use Rattle.e3_cards.specs.declared.card.Heard.{Heard}
 use Rattle.e3_cards.specs.Arriving.{came_of, heard_of, heard_in, heard_told, heard_sent, performed_in, has_heard, answer_in}
-use Rattle.e3_cards.specs.Readings.{first_of}
+use Rattle.e3_readings.specs.Awaiting.{first_of}
 
 abbrev theirs : Asked → List Heard → List Answer
 theirs a hs = map (λ h. h.answer) (filter (λ h. a.n == h.n) hs)

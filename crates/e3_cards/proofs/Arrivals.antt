@@ -8,8 +8,6 @@ use Rattle.e3_types.specs.declared.entries.Input.{Input}
 use Rattle.e3_types.specs.declared.messages.Message.{Message}
 use Rattle.e3_types.specs.declared.messages.Packet.{Packet}
 use Rattle.e3_types.specs.declared.records.Record.{Record}
-use Rattle.e3_types.specs.declared.transactions.Dir.{Dir}
-use Rattle.e3_types.specs.declared.transactions.Dir.TheVariants.{Abort, Commit}
 use Rattle.e3_types.specs.declared.transactions.Op.{Op}
 use Rattle.e3_types.specs.declared.transactions.State.{State}
 use Rattle.e3_types.specs.declared.transactions.State.TheVariants.{Q}
@@ -19,24 +17,17 @@ use Rattle.e3_types.specs.declared.messages.Message.TheVariants as msg
 use Rattle.e3_types.specs.Same.{same_txn, same_state}
 use Rattle.e3_world.specs.declared.lives.Asked.{Asked}
 use Rattle.e3_world.specs.declared.lives.Moment.{Moment}
-use Rattle.e3_world.specs.Logs.{key_of, state_of, decision, attempted, has_voted}
+use Rattle.e3_world.specs.Logs.{key_of, state_of}
 use Rattle.e3_world.specs.Operations.{is_refusal, issued, taken_up, arrivals, and_arrived, same_asked, is_fresh}
 pub use Rattle.e3_readings.proofs.Arriving.{arrivals_push}
 pub use Rattle.e3_readings.proofs.Equal.{same_txn_refl, same_txn_eq}
+use Rattle.e3_readings.proofs.States.{state_is}
 use Rattle.e3_cards.specs.Seeing.{seen_of, seen_state}
 use Rattle.e3_cards.specs.Arriving.{came_of, came_by, taken_now}
 
 -- the state that was seen is the log's
 pub state_seen : (t : Txn) (log : List Record) → seen_state (seen_of t log) ≡ state_of t log
-state_seen t log = by (decision t log) (attempted t log) (has_voted t log) refl refl refl
-  where
-    by : (d e : Option Dir) (v : Bool) → decision t log ≡ d → attempted t log ≡ e → has_voted t log ≡ v → seen_state (seen_of t log) ≡ state_of t log
-    by (Some Commit) e v p q r = rw p refl
-    by (Some Abort) e v p q r = rw p refl
-    by None (Some Commit) v p q r = rw (p, q) refl
-    by None (Some Abort) v p q r = rw (p, q) refl
-    by None None true p q r = rw (p, q, r) refl
-    by None None false p q r = rw (p, q, r) refl
+state_seen t log = sym (state_is t log)
 
 -- the operation, where it is this transaction's
 abbrev pub mine : Txn → Option Asked → Option Asked

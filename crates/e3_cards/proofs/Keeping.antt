@@ -11,14 +11,14 @@ use Rattle.e3_world.specs.declared.lives.SiteStep.{SiteStep}
 use Rattle.e3_world.specs.Elections.{is_elect}
 use Rattle.e3_world.specs.Lives.{life_by}
 use Rattle.e3_world.specs.Operations.{issued, issued_in, kept_reason, reason_in}
-use Rattle.e3_cards.specs.Arriving.{heard_of, heard_in}
 use Rattle.e3_world.specs.Votes.{yes_votes}
-use Rattle.e3_cards.specs.Cards.{card_of, card_by, moment_with}
-use Rattle.e3_cards.specs.Gathering.{missing_yes}
+use Rattle.e3_readings.specs.Gathering.{missing_yes}
+use Rattle.e3_readings.proofs.Missing.{votes_step}
+use Rattle.e3_cards.specs.Arriving.{heard_of, heard_in}
+use Rattle.e3_cards.specs.Cards.{card_of, card_by}
 use Rattle.e3_cards.specs.Issued.{numbers_told, number_told, counted_of, counted_in}
 use Rattle.e3_cards.specs.Seeing.{seen_of, seen_by}
 use Rattle.e3_cards.proofs.Arrivals.{came_push}
-use Rattle.e3_cards.proofs.Missing.{votes_step}
 use Rattle.e3_cards.proofs.Progress.{lived, yes_step, rounds_step, election_step}
 use Rattle.e3_cards.proofs.Seeing.{seen_more}
 
@@ -38,7 +38,7 @@ card_step site t life s =
     let why : kept_reason t (life.steps ++ m ∷ []) ≡ kept_reason t life.steps ++ flat_map (reason_in t) s.told = flat_push (λ k. flat_map (reason_in t) k.told) life.steps m in
     let came = came_push site t life.steps m in
     let heard : heard_of t (life.steps ++ m ∷ []) ≡ heard_of t life.steps ++ heard_in t s.told s.outs = flat_push (λ k. heard_in t k.told k.outs) life.steps m in
-    let votes = ap (missing_yes site t) (yes_step t life s) ∙ votes_step site t (yes_votes t life.steps) (moment_with s.input s.told) in
+    let votes = ap (missing_yes site t) (yes_step t life s) ∙ votes_step site t (yes_votes t life.steps) m in
     let election = election_step site t life s in
     let rounds = rounds_step site t life s in
     λ i. record {

@@ -1,7 +1,6 @@
 pub mod Seeing
 pub mod Arrivals
 pub mod Progress
-pub mod Missing
 pub mod Keeping
 pub mod Untouched
 pub mod Putting

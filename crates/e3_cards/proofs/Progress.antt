@@ -6,23 +6,25 @@ use Rattle.std.proofs.lemmas.List.Sums.{fold-append, sum_by-append}
 use Rattle.e3_types.specs.declared.entries.Input.{Input}
 use Rattle.e3_types.specs.declared.messages.Message.{Message}
 use Rattle.e3_types.specs.declared.messages.Packet.{Packet}
+use Rattle.e3_types.specs.declared.records.Record.{Record}
 use Rattle.e3_types.specs.declared.transactions.State.{State}
 use Rattle.e3_types.specs.declared.transactions.Txn.{Txn}
+use Rattle.e3_types.specs.declared.verdicts.SiteReport.{SiteReport}
 use Rattle.e3_types.specs.declared.entries.Input.TheVariants as input
 use Rattle.e3_types.specs.declared.messages.Message.TheVariants as msg
 use Rattle.e3_types.specs.Same.{same_txn}
-use Rattle.e3_world.specs.declared.gatherings.Election.{Election}
-use Rattle.e3_world.specs.declared.gatherings.Elections.{Elections}
-use Rattle.e3_world.specs.declared.gatherings.Rounds.{Rounds}
+use Rattle.e3_world.specs.Gatherings.{Election, Elections, Rounds}
 use Rattle.e3_world.specs.declared.lives.Life.{Life}
 use Rattle.e3_world.specs.declared.lives.Moment.{Moment}
 use Rattle.e3_world.specs.declared.lives.SiteStep.{SiteStep}
-use Rattle.e3_world.specs.Elections.{all_heard, begun, hear, joined_in, after_heard, heard_more, election_with, election_by, election_in_progress, ends_election, is_elect}
-use Rattle.e3_world.specs.Logs.{last_elected, last_attempt, state_of}
+use Rattle.e3_world.specs.Elections.{begun, election_by, election_in_progress, ends_election, is_elect}
+use Rattle.e3_world.specs.Logs.{last_elected, last_attempt}
 use Rattle.e3_world.specs.Rounds.{round_by}
 use Rattle.e3_world.specs.Votes.{yes_by, yes_votes}
-use Rattle.e3_cards.specs.Cards.{moment_of, moment_with, rounds_of}
-use Rattle.e3_cards.specs.Electing.{heard_all, heard_one, election_taking, election_now}
+use Rattle.e3_readings.specs.Electing.{election_taking, heard_all, report_by}
+use Rattle.e3_readings.proofs.Reporting.{heard_all_is, taking_is}
+use Rattle.e3_cards.specs.Cards.{moment_of, rounds_of}
+use Rattle.e3_cards.specs.Electing.{election_now, seen_report}
 use Rattle.e3_cards.specs.Seeing.{seen_of, seen_state}
 use Rattle.e3_cards.proofs.Arrivals.{state_seen}
 
@@ -30,27 +32,13 @@ use Rattle.e3_cards.proofs.Arrivals.{state_seen}
 abbrev pub lived : Life → SiteStep → Moment
 lived life s = record { before = life.log; input = s.input; records = s.records; outs = s.outs; told = s.told }
 
--- the log before a step is nothing to the votes
-yes_plain : (t : Txn) (was : Option (List ℕ)) (life : Life) (s : SiteStep) → yes_by t was (lived life s) ≡ yes_by t was (moment_with s.input s.told)
-yes_plain t was life s = by s.input
-  where
-    by_msg : (packet : Packet) (k : Message)
-        → yes_by t was (lived life (record s { input = input.Deliver (record packet { msg = k }) })) ≡ yes_by t was (moment_with (input.Deliver (record packet { msg = k })) s.told)
-    by_msg packet (msg.Vote u true) = refl
-    by_msg packet (msg.Vote u false) = refl
-    by_msg packet _ = refl
-
-    by : (i : Input) → yes_by t was (lived life (record s { input = i })) ≡ yes_by t was (moment_with i s.told)
-    by (input.Deliver packet) = by_msg packet packet.msg
-    by _ = refl
-
 -- the votes behind one more step
-pub yes_step : (t : Txn) (life : Life) (s : SiteStep) → yes_votes t (life.steps ++ lived life s ∷ []) ≡ yes_by t (yes_votes t life.steps) (moment_with s.input s.told)
+pub yes_step : (t : Txn) (life : Life) (s : SiteStep) → yes_votes t (life.steps ++ lived life s ∷ []) ≡ yes_by t (yes_votes t life.steps) (lived life s)
 yes_step t life s =
     let none : Option (List ℕ) = None in
-    fold-append (yes_by t) none life.steps (lived life s ∷ []) ∙ yes_plain t (yes_votes t life.steps) life s
+    fold-append (yes_by t) none life.steps (lived life s ∷ [])
 
--- nor to the round
+-- the log before a step is nothing to the round
 round_plain : (site : ℕ) (t : Txn) (was : Rounds) (life : Life) (s : SiteStep) → round_by site t was (lived life s) ≡ round_by site t was (moment_of s)
 round_plain site t was life s = by s.input
   where
@@ -70,25 +58,10 @@ rounds_step site t life s =
     fold-append (round_by site t) start life.steps (lived life s ∷ []) ∙ round_plain site t (rounds_of site t life.steps) life s
 
 -- what was seen serves in place of the log
-heard_all_is : (site : ℕ) (t : Txn) (m : Moment) (e : Election) → after_heard site t m e ≡ heard_all site t (seen_of t m.before) m.records e
-heard_all_is site t m e = by (all_heard e) (joined_in t m.records) refl refl
-  where
-    by : (b : Bool) (j : Option ℕ) → all_heard e ≡ b → joined_in t m.records ≡ j → after_heard site t m e ≡ heard_all site t (seen_of t m.before) m.records e
-    by false j p q = rw p refl
-    by true None p q = rw (p, q) refl
-    by true (Some n) p q =
-        let joins : State → Option Election = λ st. Some (record e { number = Some n; reports = record { site = site; state = st; attempt = last_attempt t m.before } ∷ [] }) in
-        let here : joins (state_of t m.before) ≡ joins (seen_state (seen_of t m.before)) = ap joins (sym (state_seen t m.before)) in
-        rw (p, q) here
-
-heard_one_is : (site : ℕ) (t : Txn) (m : Moment) (e : Election) (more : Option Election) → heard_more site t m e more ≡ heard_one site t (seen_of t m.before) m.records e more
-heard_one_is site t m e None = refl
-heard_one_is site t m e (Some more) = heard_all_is site t m more
-
-taking_is : (site : ℕ) (t : Txn) (m : Moment) (e : Election) (f : ℕ) (k : Message) → election_with site t m e f k ≡ election_taking site t (seen_of t m.before) m.records f k e
-taking_is site t m e f (msg.LastElected u call n) =
-    ap (λ (o : Option Election). if same_txn t u then o else Some e) (heard_one_is site t m e (hear e f call n))
-taking_is site t m e f _ = refl
+report_seen : (site : ℕ) (t : Txn) (log : List Record) → report_by site t log ≡ seen_report site (seen_of t log)
+report_seen site t log =
+    let with_state : State → SiteReport = λ st. record { site = site; state = st; attempt = last_attempt t log } in
+    ap with_state (sym (state_seen t log))
 
 -- the elections behind one more moment
 election_one : (site inc : ℕ) (t : Txn) (was : Elections) (life : Life) (s : SiteStep)
@@ -102,13 +75,19 @@ election_one site inc t was life s = by s.input
         → (election_by site inc t (record was { now = now }) (lived life (record s { input = input.Deliver packet }))).now
         ≡ election_now site (record { inc = inc; seq = suc was.calls }) t (seen_of t life.log) now (record s { input = input.Deliver packet })
     by_packet packet None = refl
-    by_packet packet (Some n) = ap still (taking_is site t (lived life (record s { input = input.Deliver packet })) n packet.«from» packet.msg)
+    by_packet packet (Some n) =
+        let taking : SiteReport → Option Election = λ report. still (election_taking t report s.records packet.«from» packet.msg n) in
+        ap still (taking_is site t (lived life (record s { input = input.Deliver packet })) n packet.«from» packet.msg)
+        ∙ ap taking (report_seen site t life.log)
 
     by : (i : Input) → (election_by site inc t was (lived life (record s { input = i }))).now
         ≡ election_now site (record { inc = inc; seq = suc was.calls }) t (seen_of t life.log) was.now (record s { input = i })
     by (input.Elect u group) =
         let anew : Option Election → Option Election = λ o. still (if same_txn t u then o else was.now) in
-        ap anew (heard_all_is site t (lived life (record s { input = input.Elect u group })) (begun site (record { inc = inc; seq = suc was.calls }) group (last_elected t life.log)))
+        let e : Election = begun site (record { inc = inc; seq = suc was.calls }) group (last_elected t life.log) in
+        let joining : SiteReport → Option Election = λ report. anew (heard_all t report s.records e) in
+        ap anew (heard_all_is site t (lived life (record s { input = input.Elect u group })) e)
+        ∙ ap joining (report_seen site t life.log)
     by (input.Deliver packet) = by_packet packet was.now
     by _ = refl
 

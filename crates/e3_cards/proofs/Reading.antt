@@ -11,6 +11,7 @@ use Rattle.e3_types.specs.Sets.{others}
 use Rattle.e3_world.specs.declared.lives.Asked.{Asked}
 use Rattle.e3_world.specs.declared.lives.At.{At}
 use Rattle.e3_world.specs.declared.lives.Made.{Made}
+use Rattle.e3_world.specs.declared.lives.Moment.{Moment}
 use Rattle.e3_world.specs.declared.lives.Performed.{Performed}
 use Rattle.e3_world.specs.declared.lives.SiteStep.{SiteStep}
 use Rattle.e3_world.specs.Elections.{next_call}
@@ -18,22 +19,23 @@ use Rattle.e3_world.specs.Logs.{is_undecided}
 use Rattle.e3_world.specs.Making.{log_now, steps_now}
 use Rattle.e3_world.specs.Operations.{answers, arrivals, done, expected, issued, issued_in, nth_op, same_asked, unanswered, waiting}
 use Rattle.e3_world.specs.Votes.{yes_by, yes_votes}
+use Rattle.e3_readings.specs.Gathering.{are_complete, has_every_yes, have_come, missing_yes, votes_by}
+use Rattle.e3_readings.proofs.Missing.{all_came, votes_step}
 use Rattle.e3_cards.specs.declared.card.Card.{Card}
 use Rattle.e3_cards.specs.declared.card.Heard.{Heard}
 use Rattle.e3_cards.specs.declared.cards.Cards.{Cards}
 use Rattle.e3_cards.specs.declared.seen.Seen.{Seen}
 use Rattle.e3_cards.specs.Arriving.{answer_in, came_by, has_heard, heard_in, heard_of, performed_in, taken_now}
-use Rattle.e3_cards.specs.Cards.{card_of, moment_with}
+use Rattle.e3_cards.specs.Cards.{card_of}
 use Rattle.e3_cards.specs.Issued.{number_told, numbers_told}
-use Rattle.e3_cards.specs.Gathering.{are_complete, missing_yes, votes_by}
-use Rattle.e3_cards.specs.Readings.{first_of, is_number, is_at_site, is_awaited, have_come, has_every_yes, unanswered_of, expected_of, own_expected, done_of, done_with}
+use Rattle.e3_readings.specs.Awaiting.{first_of, is_number, is_at_site, is_awaited}
+use Rattle.e3_cards.specs.Readings.{unanswered_of, expected_of, own_expected, done_of, done_with}
 use Rattle.e3_cards.specs.Seeing.{seen_of, seen_by}
 use Rattle.e3_cards.specs.Tables.{IsKnown, CardsStand, card_at, call_now}
 use Rattle.e3_cards.proofs.Answered.{done_is, waits_is, answer_is, waiting_is}
 use Rattle.e3_cards.proofs.Arrivals.{came_push}
 use Rattle.e3_cards.proofs.Counting.{unanswered_is, expected_is}
 use Rattle.e3_cards.proofs.Keeping.{flat_push}
-use Rattle.e3_cards.proofs.Missing.{all_came, votes_step}
 use Rattle.e3_cards.proofs.Progress.{lived, yes_step}
 use Rattle.e3_cards.proofs.Seeing.{seen_more}
 
@@ -129,13 +131,14 @@ expected_at site inc of t a c own same e =
     ∙ expected_is a.site a.life.inc t a.life.steps of
 
 pub yes_at : (site : ℕ) (t : Txn) (a : At) (i : Input) (made : Made) (c : Card) → site ≡ a.site → a.input ≡ i → c ≡ card_of a.site t a.life
-    → are_complete (votes_by site t c.votes (moment_with i made.told)) ≡ has_every_yes a t made
+    → are_complete (votes_by site t c.votes i made.told) ≡ has_every_yes a t made
 yes_at site t a i made c own input e =
-    ap (λ (n : ℕ). are_complete (votes_by n t c.votes (moment_with i made.told))) own
-    ∙ ap (λ (k : Card). are_complete (votes_by a.site t k.votes (moment_with i made.told))) e
-    ∙ ap (λ (x : Input). are_complete (votes_by a.site t (missing_yes a.site t (yes_votes t a.life.steps)) (moment_with x made.told))) (sym input)
-    ∙ ap are_complete (sym (votes_step a.site t (yes_votes t a.life.steps) (moment_with a.input made.told)))
-    ∙ all_came (others a.site t.sites) (yes_by t (yes_votes t a.life.steps) (moment_with a.input made.told))
+    let m : Moment = lived a.life (so_far a made) in
+    ap (λ (n : ℕ). are_complete (votes_by n t c.votes i made.told)) own
+    ∙ ap (λ (k : Card). are_complete (votes_by a.site t k.votes i made.told)) e
+    ∙ ap (λ (x : Input). are_complete (votes_by a.site t (missing_yes a.site t (yes_votes t a.life.steps)) x made.told)) (sym input)
+    ∙ ap are_complete (sym (votes_step a.site t (yes_votes t a.life.steps) m))
+    ∙ all_came (others a.site t.sites) (yes_by t (yes_votes t a.life.steps) m)
     ∙ ap (λ (o : Option (List ℕ)). have_come (others a.site t.sites) o) (sym (yes_step t a.life (so_far a made)))
 
 -- the call of an Elect that comes now

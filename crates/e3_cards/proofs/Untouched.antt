@@ -22,22 +22,21 @@ use Rattle.e3_types.specs.declared.records.Record.TheVariants as log
 use Rattle.e3_types.specs.Same.{same_numbers, same_txn}
 use Rattle.e3_types.specs.Sites.{sites_of, bits_of}
 use Rattle.e3_types.proofs.SameSites.{same_numbers_refl, same_numbers_eq}
-use Rattle.e3_world.specs.declared.gatherings.Election.{Election}
-use Rattle.e3_world.specs.declared.gatherings.Round.{Round}
-use Rattle.e3_world.specs.declared.gatherings.Rounds.{Rounds}
+use Rattle.e3_world.specs.Gatherings.{Election, Round, Rounds}
 use Rattle.e3_world.specs.declared.lives.SiteStep.{SiteStep}
 use Rattle.e3_world.specs.Elections.{is_decision, is_join, tells_verdict}
 use Rattle.e3_world.specs.Operations.{issued_in, reason_in}
 use Rattle.e3_world.specs.Rounds.{round_by, round_by_record}
 use Rattle.e3_world.specs.Sound.{txn_in}
+use Rattle.e3_readings.specs.Electing.{election_behind, election_taking}
+use Rattle.e3_readings.specs.Gathering.{votes_by}
 use Rattle.e3_readings.proofs.Tests.{none_left, none_right}
 use Rattle.e3_cards.specs.declared.card.Card.{Card}
 use Rattle.e3_cards.specs.declared.card.Counted.{Counted}
 use Rattle.e3_cards.specs.declared.seen.Seen.{Seen}
 use Rattle.e3_cards.specs.Arriving.{came_by, taken_now, heard_in, heard_told, heard_sent}
-use Rattle.e3_cards.specs.Cards.{card_by, moment_of, moment_with}
-use Rattle.e3_cards.specs.Electing.{election_now, election_upon, election_behind, election_taking}
-use Rattle.e3_cards.specs.Gathering.{votes_by}
+use Rattle.e3_cards.specs.Cards.{card_by, moment_of}
+use Rattle.e3_cards.specs.Electing.{election_now, election_upon, seen_report}
 use Rattle.e3_cards.specs.Issued.{number_told, counted_in}
 use Rattle.e3_cards.specs.Seeing.{seen_by}
 use Rattle.e3_cards.specs.Tables.{txn_key, key_cmp, IsKnown, named, input_txns, record_txns, told_txns, sent_txns}
@@ -123,16 +122,16 @@ reason_one t (told.Died u older) e = rw (none_left (same_txn t u) false e) refl
 reason_one t (told.Doomed u site had now) e = rw (none_left (same_txn t u) false e) refl
 reason_one t _ e = refl
 
-votes_one : (site : ℕ) (t : Txn) (was : Option (List ℕ)) (s : SiteStep) → list_any (same_txn t) (input_txns s.input) ≡ false → votes_by site t was (moment_with s.input s.told) ≡ was
+votes_one : (site : ℕ) (t : Txn) (was : Option (List ℕ)) (s : SiteStep) → list_any (same_txn t) (input_txns s.input) ≡ false → votes_by site t was s.input s.told ≡ was
 votes_one site t was s e = by s.input e
   where
     by_msg : (packet : Packet) (k : Message) → list_any (same_txn t) (input_txns (input.Deliver (record packet { msg = k }))) ≡ false
-        → votes_by site t was (moment_with (input.Deliver (record packet { msg = k })) s.told) ≡ was
+        → votes_by site t was (input.Deliver (record packet { msg = k })) s.told ≡ was
     by_msg packet (msg.Vote u true) e = rw (none_left (same_txn t u) false e) refl
     by_msg packet (msg.Vote u false) e = refl
     by_msg packet _ e = refl
 
-    by : (i : Input) → list_any (same_txn t) (input_txns i) ≡ false → votes_by site t was (moment_with i s.told) ≡ was
+    by : (i : Input) → list_any (same_txn t) (input_txns i) ≡ false → votes_by site t was i s.told ≡ was
     by (input.Commit u) e = rw (none_left (same_txn t u) false e) refl
     by (input.Deliver packet) e = by_msg packet packet.msg e
     by _ e = refl
@@ -210,13 +209,13 @@ election_one site call t seen was s e records events = upon ∙ by s.input e
     upon : election_now site call t seen was s ≡ election_upon site call t seen s.records was s.input
     upon = rw (undecided, no_verdict) refl
 
-    taking : (f : ℕ) (k : Message) (x : Election) → list_any (same_txn t) (txn_in k ∷ []) ≡ false → election_taking site t seen s.records f k x ≡ Some x
+    taking : (f : ℕ) (k : Message) (x : Election) → list_any (same_txn t) (txn_in k ∷ []) ≡ false → election_taking t (seen_report site seen) s.records f k x ≡ Some x
     taking f (msg.LastElected u call n) x e = rw (none_left (same_txn t u) false e) refl
     taking f (msg.Report u n st n2) x e = rw (none_left (same_txn t u) false e) refl
     taking f (msg.Elected u n) x e = rw no_join refl
     taking f _ x e = refl
 
-    behind : (packet : Packet) (o : Option Election) → list_any (same_txn t) (input_txns (input.Deliver packet)) ≡ false → election_behind site t seen s.records packet o ≡ o
+    behind : (packet : Packet) (o : Option Election) → list_any (same_txn t) (input_txns (input.Deliver packet)) ≡ false → election_behind t (seen_report site seen) s.records packet o ≡ o
     behind packet None e = refl
     behind packet (Some x) e = taking packet.«from» packet.msg x e
 

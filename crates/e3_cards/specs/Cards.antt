@@ -2,11 +2,9 @@
 -- of a card. The step is told by the card alone, so a site need not keep its log and its steps.
 use Rattle.std.specs.Prelude.{◌++◌, [], ℕ, List, fold, None}
 use Rattle.std.specs.List.{flat_map}
-use Rattle.e3_types.specs.declared.entries.Input.{Input}
-use Rattle.e3_types.specs.declared.entries.Told.{Told}
 use Rattle.e3_types.specs.declared.transactions.Call.{Call}
 use Rattle.e3_types.specs.declared.transactions.Txn.{Txn}
-use Rattle.e3_world.specs.declared.gatherings.Rounds.{Rounds}
+use Rattle.e3_world.specs.Gatherings.{Rounds}
 use Rattle.e3_world.specs.declared.lives.Life.{Life}
 use Rattle.e3_world.specs.declared.lives.Moment.{Moment}
 use Rattle.e3_world.specs.declared.lives.SiteStep.{SiteStep}
@@ -14,12 +12,12 @@ use Rattle.e3_world.specs.Elections.{election_in_progress}
 use Rattle.e3_world.specs.Operations.{issued, issued_in, kept_reason, reason_in}
 use Rattle.e3_world.specs.Rounds.{round_by}
 use Rattle.e3_world.specs.Votes.{yes_votes}
+use Rattle.e3_readings.specs.Gathering.{missing_yes, votes_by}
 use Rattle.e3_cards.specs.declared.card.Card.{Card}
 use Rattle.e3_cards.specs.Seeing.{seen_of, seen_by, unseen}
 use Rattle.e3_cards.specs.Issued.{numbers_told, number_told, counted_of, counted_in}
 use Rattle.e3_cards.specs.Arriving.{came_of, came_by, heard_of, heard_in, taken_now}
 use Rattle.e3_cards.specs.Electing.{election_now}
-use Rattle.e3_cards.specs.Gathering.{missing_yes, votes_by}
 
 -- the group and the round of a transaction at a site
 abbrev pub rounds_of : ℕ → Txn → List Moment → Rounds
@@ -59,10 +57,6 @@ blank = record {
 abbrev pub moment_of : SiteStep → Moment
 moment_of s = record { before = []; input = s.input; records = s.records; outs = s.outs; told = s.told }
 
--- an input and what is told with it, as a moment of which nothing else is read
-abbrev pub moment_with : Input → List Told → Moment
-moment_with input told = record { before = []; input = input; records = []; outs = []; told = told }
-
 -- what a step makes of the card of a transaction; an Elect of it would have this call
 abbrev pub card_by : ℕ → Call → Txn → Card → SiteStep → Card
 card_by site call t was s = record {
@@ -73,7 +67,7 @@ card_by site call t was s = record {
   reasons = was.reasons ++ flat_map (reason_in t) s.told;
   came = came_by was.seen was.came (taken_now site t was.issued s.input s.told);
   heard = was.heard ++ heard_in t s.told s.outs;
-  votes = votes_by site t was.votes (moment_with s.input s.told);
+  votes = votes_by site t was.votes s.input s.told;
   election = election_now site call t was.seen was.election s;
   rounds = round_by site t was.rounds (moment_of s);
 }

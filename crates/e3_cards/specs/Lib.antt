@@ -2,7 +2,6 @@ pub mod Seeing
 pub mod Issued
 pub mod Arriving
 pub mod Electing
-pub mod Gathering
 pub mod Cards
 pub mod Tables
 pub mod Readings

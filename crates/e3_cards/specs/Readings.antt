@@ -2,49 +2,13 @@
 use Rattle.std.specs.Prelude.{◌==◌, ◌&&◌, ◌++◌, ◌∷◌, [], if◌then◌else◌, ℕ, zero, suc, Bool, false, not, List, length, fold, Option, Some, None}
 use Rattle.std.specs.List.{list_any, flat_map}
 use Rattle.e3_types.specs.declared.entries.Input.{Input}
-use Rattle.e3_types.specs.declared.transactions.Op.{Op}
 use Rattle.e3_types.specs.declared.transactions.Txn.{Txn}
-use Rattle.e3_types.specs.Sets.{others, is_within}
-use Rattle.e3_world.specs.declared.lives.At.{At}
 use Rattle.e3_world.specs.declared.lives.Expected.{Expected}
 use Rattle.e3_world.specs.declared.lives.Made.{Made}
 use Rattle.e3_world.specs.declared.lives.Performed.{Performed}
-use Rattle.e3_world.specs.Logs.{key_of}
-use Rattle.e3_world.specs.Making.{log_now, steps_now}
-use Rattle.e3_world.specs.Operations.{issued, nth_op, unanswered}
-use Rattle.e3_world.specs.Votes.{yes_votes}
 use Rattle.e3_cards.specs.declared.card.Card.{Card}
 use Rattle.e3_cards.specs.Arriving.{came_by, heard_in, taken_now, performed_in}
 use Rattle.e3_cards.specs.Issued.{expect_by}
-
--- the first of a list, if it has one
-abbrev pub first_of : {X : Type 0} → List X → Option X
-first_of [] = None
-first_of (x ∷ xs) = Some x
-
--- the number is this one, if there is one
-abbrev pub is_number : ℕ → Option ℕ → Bool
-is_number n (Some m) = n == m
-is_number n None = false
-
--- the operation, if there is one, has its key at this site
-abbrev pub is_at_site : ℕ → Option Op → Bool
-is_at_site f (Some op) = (key_of op).site == f
-is_at_site f None = false
-
--- operation n of the transaction is its unanswered one, and its key is at site f
-abbrev pub is_awaited : At → ℕ → Txn → ℕ → Made → Bool
-is_awaited a f t n made =
-    is_number n (unanswered t (log_now a made) (steps_now a made)) && is_at_site f (nth_op n (issued t (steps_now a made)))
-
--- the votes are being gathered, and those of all of these sites came
-abbrev pub have_come : List ℕ → Option (List ℕ) → Bool
-have_come sites None = false
-have_come sites (Some came) = is_within sites came
-
--- the votes of the transaction are being gathered, and the yes of every other site of it came
-abbrev pub has_every_yes : At → Txn → Made → Bool
-has_every_yes a t made = have_come (others a.site t.sites) (yes_votes t (steps_now a made))
 
 -- the number of the unanswered operation: the last of so many that were issued, where the transaction is undecided and
 -- the answer is not among those told

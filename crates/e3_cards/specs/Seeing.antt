@@ -1,12 +1,10 @@
 -- What a log says of a transaction, as one value, and how a record changes it.
-use Rattle.std.specs.Prelude.{◌||◌, List, Option, Some, None, Bool, true, false}
+use Rattle.std.specs.Prelude.{◌||◌, List, None, false}
 use Rattle.e3_types.specs.declared.records.Record.{Record}
-use Rattle.e3_types.specs.declared.transactions.Dir.{Dir}
-use Rattle.e3_types.specs.declared.transactions.Dir.TheVariants.{Abort, Commit}
 use Rattle.e3_types.specs.declared.transactions.State.{State}
-use Rattle.e3_types.specs.declared.transactions.State.TheVariants.{Q, W, Pc, Pa, C, A}
 use Rattle.e3_types.specs.declared.transactions.Txn.{Txn}
 use Rattle.e3_world.specs.Logs.{last_elected_by, last_elected, last_attempt_by, last_attempt, decision_by, decision, attempted_by, attempted, is_vote, has_voted}
+use Rattle.e3_readings.specs.States.{state_by}
 use Rattle.e3_cards.specs.declared.seen.Seen.{Seen}
 
 -- what a log says of a transaction
@@ -35,18 +33,4 @@ seen_by t was r = record {
 
 -- the state that this comes to: by the decision, else by the last attempt, else by the vote
 abbrev pub seen_state : Seen → State
-seen_state s = by_decision s.decision
-  where
-    by_vote : Bool → State
-    by_vote true = W
-    by_vote false = Q
-
-    by_attempt : Option Dir → State
-    by_attempt (Some Commit) = Pc
-    by_attempt (Some Abort) = Pa
-    by_attempt None = by_vote s.voted
-
-    by_decision : Option Dir → State
-    by_decision (Some Commit) = C
-    by_decision (Some Abort) = A
-    by_decision None = by_attempt s.attempted
+seen_state s = state_by s.decision s.attempted s.voted

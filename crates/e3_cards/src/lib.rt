@@ -9,7 +9,6 @@ mod cards;
 mod changing;
 mod copying;
 mod electing;
-mod gathering;
 mod issued;
 mod keys;
 mod noting;

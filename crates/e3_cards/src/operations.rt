@@ -5,7 +5,8 @@ ghost use Rattle.e3_world.specs.Making.{own_write};
 ghost use Rattle.e3_world.specs.Operations.{issued_in, nth_op, same_asked};
 ghost use Rattle.e3_cards.specs.Arriving.{performed_in, has_heard, answer_in};
 ghost use Rattle.e3_cards.specs.Issued.{expect_by, number_told};
-ghost use Rattle.e3_cards.specs.Readings.{is_number, is_at_site, unanswered_of, expected_of, own_expected, done_of, done_with};
+ghost use Rattle.e3_readings.specs.Awaiting.{is_number, is_at_site};
+ghost use Rattle.e3_cards.specs.Readings.{unanswered_of, expected_of, own_expected, done_of, done_with};
 ghost use Rattle.e3_cards.specs.Seeing.{seen_by};
 
 use crate::arriving::{add_came, add_heard, taken_now};

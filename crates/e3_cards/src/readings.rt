@@ -8,26 +8,24 @@ ghost use Rattle.e3_world.specs.Making.{log_now, steps_now, own_write};
 ghost use Rattle.e3_world.specs.Operations.{answers, done, expected, issued, kept_reason, same_asked, unanswered, waiting};
 ghost use Rattle.e3_world.specs.Rounds.{round_in_progress};
 ghost use Rattle.e3_world.specs.Steps.{is_begin};
-ghost use Rattle.e3_commit.specs.Acks.{gathered_round};
-ghost use Rattle.e3_cards.specs.Cards.{moment_with};
-ghost use Rattle.e3_cards.specs.Gathering.{are_complete, votes_by};
-ghost use Rattle.e3_cards.specs.Readings.{first_of, is_awaited, has_every_yes, own_expected, expected_of, done_of};
+ghost use Rattle.e3_readings.specs.Gathering.{are_complete, has_every_yes, votes_by};
+ghost use Rattle.e3_readings.specs.Awaiting.{first_of, is_awaited};
+ghost use Rattle.e3_cards.specs.Readings.{own_expected, expected_of, done_of};
 ghost use Rattle.e3_cards.specs.Seeing.{seen_of};
 ghost use Rattle.e3_cards.specs.Tables.{CardsStand, card_at, call_now};
 
 use crate::card::{Card, blank};
 use crate::cards::{Cards, card_or};
 use crate::copying::copy_election;
-use crate::gathering::{are_complete, votes_now};
 use crate::keys::{known, txn_key};
 use crate::operations::{
     answer_of, awaits, done_of, done_with, expected_of, is_waiting_now, own_expected, own_with,
     unanswered_now, waits_now,
 };
 use crate::seen::{Seen, unseen};
-use e3_commit::Round;
+use e3_commit::Acks;
 use e3_elect::Election;
-use e3_readings::next;
+use e3_readings::{first_reason, have_every_yes, next, votes_after};
 use e3_types::{Answer, Call, Input, List, Name, NoMemory, Refusal, Txn};
 use e3_world::{Asked, Expected, Made, Performed};
 use std::alloc::Global;
@@ -41,8 +39,8 @@ fn seen_at(cards: &Cards, t: &Txn) -> Seen
     }
 }
 
-fn round_at(cards: &Cards, t: &Txn) -> Option<Round>
-    ensures { gathered_round result ≡ (card_at cards.now.map.entries t.now).rounds.now }
+fn round_at(cards: &Cards, t: &Txn) -> Option<Acks>
+    ensures { result ≡ (card_at cards.now.map.entries t.now).rounds.now }
 {
     match cards.map.get(&txn_key(t)) {
         Some(card) => card.rounds.in_progress(),
@@ -62,18 +60,9 @@ fn expected_from(alloc: Global, cards: &Cards, card: &Card, of: u32) -> Result<E
 }
 
 fn every_yes(site: u32, t: &Txn, card: &Card, input: &Input, made: &Made) -> bool
-    ensures { result ≡ are_complete (votes_by site t.now card.now.votes (moment_with input.now made.now.told)) }
+    ensures { result ≡ are_complete (votes_by site t.now card.now.votes input.now made.now.told) }
 {
-    are_complete(votes_now(site, t, card.votes, input, made.told.as_slice()))
-}
-
-fn first_reason(reasons: &[Refusal]) -> Option<Refusal>
-    ensures { result ≡ first_of reasons.now }
-{
-    match reasons {
-        [] => None,
-        [why, ..] => Some(*why),
-    }
+    have_every_yes(votes_after(site, t, card.votes, input, made.told.as_slice()))
 }
 
 fn reason_of(card: &Card) -> Option<Refusal>
@@ -239,8 +228,8 @@ impl Cards {
     }
 
     /// The round of the transaction that is in progress before the step, if there is one.
-    pub fn round(&self, t: &Txn) -> Option<Round>
-        ensures { (a : Place) → CardsStand a.site self.now a.life → gathered_round result ≡ round_in_progress a.site t.now a.life.steps }
+    pub fn round(&self, t: &Txn) -> Option<Acks>
+        ensures { (a : Place) → CardsStand a.site self.now a.life → result ≡ round_in_progress a.site t.now a.life.steps }
     {
         known(t);
         round_at(self, t)

@@ -2,7 +2,7 @@
 ghost use Rattle.std.specs.Prelude.{◌≡◌, fold};
 ghost use Rattle.e3_cards.specs.Seeing.{seen_by, seen_state, unseen};
 
-use e3_readings::{attempted_by, decision_by, is_vote, last_attempt_by, last_elected_by};
+use e3_readings::{attempted_by, decision_by, is_vote, last_attempt_by, last_elected_by, state_by};
 use e3_types::{Dir, Record, State, Txn};
 
 /// What a log says of a transaction: Last_Elected, Last_Attempt, the decision, the direction of the last attempt, and
@@ -53,11 +53,5 @@ pub fn seen_behind(t: &Txn, was: Seen, records: &[Record]) -> Seen
 pub fn seen_state(s: &Seen) -> State
     ensures { result ≡ seen_state s.now }
 {
-    match (s.decision, s.attempted) {
-        (Some(Dir::Commit), _) => State::C,
-        (Some(Dir::Abort), _) => State::A,
-        (None, Some(Dir::Commit)) => State::Pc,
-        (None, Some(Dir::Abort)) => State::Pa,
-        (None, None) => { if s.voted { State::W } else { State::Q } }
-    }
+    state_by(s.decision, s.attempted, s.voted)
 }

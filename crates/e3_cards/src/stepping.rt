@@ -3,20 +3,19 @@ ghost use Rattle.std.specs.Prelude.{◌≡◌, ◌++◌, IfOk, fold, suc};
 ghost use Rattle.std.specs.List.{flat_map};
 ghost use Rattle.e3_world.specs.Operations.{issued_in, reason_in};
 ghost use Rattle.e3_world.specs.Rounds.{round_by};
+ghost use Rattle.e3_readings.specs.Gathering.{votes_by};
 ghost use Rattle.e3_cards.specs.Arriving.{came_by, heard_in, taken_now};
-ghost use Rattle.e3_cards.specs.Cards.{card_by, moment_of, moment_with};
+ghost use Rattle.e3_cards.specs.Cards.{card_by, moment_of};
 ghost use Rattle.e3_cards.specs.Electing.{election_now};
-ghost use Rattle.e3_cards.specs.Gathering.{votes_by};
 ghost use Rattle.e3_cards.specs.Issued.{counted_in, number_told};
 ghost use Rattle.e3_cards.specs.Seeing.{seen_by};
 
 use crate::arriving::{add_came, add_heard, taken_now};
 use crate::card::Card;
 use crate::electing::election_now;
-use crate::gathering::votes_now;
 use crate::issued::{add_counted, add_numbers};
 use crate::seen::seen_behind;
-use e3_readings::{Rounds, issued_in, reasons_in};
+use e3_readings::{Rounds, issued_in, reasons_in, votes_after};
 use e3_types::{NoMemory, Txn};
 use e3_world::SiteStep;
 use std::alloc::Global;
@@ -91,13 +90,13 @@ fn and_gathered(
 ) -> Result<(), NoMemory>
     ensures { IfOk result (λ u. card.new ≡ record card.old {
       seen = fold (seen_by t.now) card.old.seen step.now.records;
-      votes = votes_by site t.now card.old.votes (moment_with step.now.input step.now.told);
+      votes = votes_by site t.now card.old.votes step.now.input step.now.told;
       election = election_now site (record { inc = inc; seq = suc calls }) t.now card.old.seen card.old.election step.now;
       rounds = round_by site t.now card.old.rounds (moment_of step.now);
     }) }
 {
     let seen = card.seen;
-    card.votes = votes_now(site, t, card.votes, &step.input, step.told.as_slice());
+    card.votes = votes_after(site, t, card.votes, &step.input, step.told.as_slice());
     card.election = election_now(
         alloc,
         site,

@@ -23,7 +23,7 @@ use Rattle.e3_world.specs.declared.lives.Made.{Made}
 use Rattle.e3_world.specs.Given.{IsGiven}
 use Rattle.e3_world.specs.Items.{is_up_at, began_in}
 use Rattle.e3_world.specs.Legal.{Guard, IsLegal, IsDue, AreDue, numbered, made_by, entry_of}
-use Rattle.e3_world.specs.Moves.{Move, Tail, Stepped, own, past_of, moves_of, log_by, log_of, open_tail, unnumbered, unnumbered_input}
+use Rattle.e3_world.specs.Moves.{Move, Tail, Stepped, own_entries, past_of, moves_of, log_by, log_of, open_tail, unnumbered, unnumbered_input}
 use Rattle.e3_world.specs.Packets.{sent, outs_of}
 use Rattle.e3_world.proofs.Guards.{guard_step}
 use Rattle.e3_world.proofs.InTrail.{pending_sent}
@@ -155,7 +155,7 @@ step_records_suit sc h site i records outs events given legal = each_by (SuitsLo
     tail_part = tail_records (open_tail sc (h ++ record { owner = site; act = Step i records outs events } ∷ []) site)
 
     moves : moves_of sc (h ++ record { owner = site; act = Step i records outs events } ∷ []) site ≡ moves_of sc h site ++ m ∷ []
-    moves = ap (λ l. (past_of sc site l).moves) (own_same site h e (eq-eqb site site refl)) ∙ ap (λ w. w.moves) (past_push sc site (own site h) e)
+    moves = ap (λ l. (past_of sc site l).moves) (own_same site h e (eq-eqb site site refl)) ∙ ap (λ w. w.moves) (past_push sc site (own_entries site h) e)
 
     whole : log_of sc (h ++ record { owner = site; act = Step i records outs events } ∷ []) site ≡ log_of sc h site ++ records
     whole = ap log_by moves ∙ log_push (moves_of sc h site) m
@@ -174,7 +174,7 @@ fall_records_suit sc h site inputs records given legal guard = each_by (SuitsLog
     k = h ++ record { owner = site; act = Fall inputs records Fault } ∷ []
 
     tail : open_tail sc (h ++ record { owner = site; act = Fall inputs records Fault } ∷ []) site ≡ Some (record { inputs = map unnumbered_input inputs; records = records })
-    tail = ap (λ l. (past_of sc site l).tail) (own_same site h e (eq-eqb site site refl)) ∙ ap (λ w. w.tail) (past_push sc site (own site h) e)
+    tail = ap (λ l. (past_of sc site l).tail) (own_same site h e (eq-eqb site site refl)) ∙ ap (λ w. w.tail) (past_push sc site (own_entries site h) e)
 
 -- a fall
 fall_goes : (sc : Scenario) (h : List Entry) (known : Known) (s : ℕ) (inputs : List Input) (records : List Record) (why : Why) → IsGiven sc → ValuesAreLines sc → IsLegal sc h →

@@ -15,7 +15,7 @@ use Rattle.e3_types.specs.declared.scenarios.Scenario.{Scenario}
 use Rattle.e3_types.specs.declared.transactions.Txn.{Txn}
 use Rattle.e3_world.specs.Items.{began_in}
 use Rattle.e3_world.specs.Legal.{numbered}
-use Rattle.e3_world.specs.Moves.{Past, Tail, own, past_of, moves_of_act, kept_moves, trail_after, trail_of}
+use Rattle.e3_world.specs.Moves.{Past, Tail, own_entries, past_of, moves_of_act, kept_moves, trail_after, trail_of}
 use Rattle.e3_world.specs.Sound.{tells}
 use Rattle.e3_law_steps.specs.Trails.{begun_by, DifferInName, AllDiffer}
 use Rattle.e3_law_steps.proofs.Each.{each-push, each-filter, each-at, each-weaker, each-right}
@@ -185,8 +185,8 @@ events_heard known begun packets (e ∷ events) was differ typed mentions sites 
 
 -- a transaction that was begun is one of those that the entries began
 pub begun_has : (h : List Entry) (t : Txn) → WasBegun h t → Contains (begun_of h) t
-begun_has h t was = each-at (Contains (begun_of h)) (flat_map (λ e. begun_in e.act) (own t.site h)) t
-    (each-join (Contains (begun_of h)) (λ e. begun_in e.act) (own t.site h)
+begun_has h t was = each-at (Contains (begun_of h)) (flat_map (λ e. begun_in e.act) (own_entries t.site h)) t
+    (each-join (Contains (begun_of h)) (λ e. begun_in e.act) (own_entries t.site h)
     (each-filter (λ e. Each (Contains (begun_of h)) (begun_in e.act)) (λ e. e.owner == t.site) h
     (each-unflat (Contains (begun_of h)) (λ e. begun_in e.act) h (each-within (begun_of h))))) was
 
@@ -211,7 +211,7 @@ act_begins sc site w (Line number) = refl
 after_begins : (sc : Scenario) (before rest : List Entry) → begun_by (trail_after sc before rest) ≡ begun_of rest
 after_begins sc before [] = refl
 after_begins sc before (e ∷ rest) =
-    let w : Past = past_of sc e.owner (own e.owner before) in
+    let w : Past = past_of sc e.owner (own_entries e.owner before) in
     flat_map-append (λ m. flat_map began_in (tells m)) (moves_of_act sc e.owner w e.act) (trail_after sc (before ++ e ∷ []) rest)
     ∙ ap (λ l. l ++ begun_by (trail_after sc (before ++ e ∷ []) rest)) (act_begins sc e.owner w e.act)
     ∙ ap (λ l. begun_in e.act ++ l) (after_begins sc (before ++ e ∷ []) rest)

@@ -1,5 +1,5 @@
 -- A transaction as its coordinator keeps it for the client: its operations, and what a call or an answer comes to.
-use Rattle.std.specs.Prelude.{◌==◌, ◌&&◌, ◌||◌, ◌∷◌, [], if◌then◌else◌, ℕ, zero, suc, Bool, false, not, List, fold, Option, Some, None, is_none, slice_get, slice_set, ◌-◌}
+use Rattle.std.specs.Prelude.{◌==◌, ◌&&◌, ◌||◌, ◌≡◌, ◌∷◌, [], if◌then◌else◌, ℕ, zero, suc, Bool, false, not, List, fold, Option, Some, None, is_none, slice_get, slice_set, ◌-◌, Result, MatchResult}
 use Rattle.e3_types.specs.declared.entries.Refusal.{Refusal}
 use Rattle.e3_types.specs.declared.entries.Refusal.TheVariants.{Busy, Died, Doomed as DoomedFor, Over, TooLate}
 use Rattle.e3_types.specs.declared.transactions.Dir.{Dir}
@@ -111,6 +111,10 @@ refuse_cancel state attempt k = by state
     by C = refuse_decided Commit k.why
     by A = refuse_decided Abort k.why
     by _ = if attempt == 0 then None else Some (TooLate attempt)
+
+-- a call goes where there is no refusal, and where there is one that is its error
+abbrev pub GoesUnless : Option Refusal → Result (Unit {0}) Refusal → Type 0
+GoesUnless refusal answer = MatchResult answer (λ u. refusal ≡ None) (λ why. refusal ≡ Some why)
 
 -- the reason that is kept, with a new one
 abbrev pub or_kept : Option Refusal → Refusal → Option Refusal

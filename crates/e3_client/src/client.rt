@@ -13,7 +13,7 @@ ghost use Rattle.e3_world.specs.Operations.{expected as expected_at, issued as i
 ghost use Rattle.e3_world.specs.Steps.{refuse as refuse_at};
 ghost use Rattle.e3_client.specs.declared.client.Heard.TheVariants.{Taken};
 ghost use Rattle.e3_client.specs.Rule.{IsKept, IsQuiet, StandsAt, and_told, brings};
-ghost use Rattle.e3_client.specs.Clients.{unanswered, unanswered_from, expected, expected_with, is_issued_to, is_due, heard_of, with_answer, refuse, refuse_cancel, refuse_decided, or_kept};
+ghost use Rattle.e3_client.specs.Clients.{unanswered, unanswered_from, expected, expected_with, is_issued_to, is_due, heard_of, with_answer, refuse, refuse_cancel, refuse_decided, or_kept, GoesUnless};
 
 use crate::refusals::{kept_locks, refuse_attempted, refuse_open};
 use e3_types::{Dir, NoMemory, Refusal, State, Txn};
@@ -88,6 +88,16 @@ fn expected_with(site: u32, was: Expected, op: &Issued) -> Expected
             inc,
             count: was.count + 1,
         },
+    }
+}
+
+// A call goes unless there is a refusal.
+fn unless_refused(refusal: Option<Refusal>) -> Result<(), Refusal>
+    ensures { GoesUnless refusal result }
+{
+    match refusal {
+        Some(why) => Err(why),
+        None => Ok(()),
     }
 }
 
@@ -252,14 +262,10 @@ impl Client {
 
     /// The transaction may commit. It is refused as an operation is.
     pub fn ready(&self, state: State, attempt: u32) -> Result<(), Refusal>
-        ensures refused { MatchResult result (λ u. refuse state attempt self.now ≡ None) (λ why. refuse state attempt self.now ≡ Some why) }
-        ensures rule { (a : At) (made : Made) → StandsAt a made self.now state attempt →
-            MatchResult result (λ u. refuse_at a self.now.txn false made ≡ None) (λ why. refuse_at a self.now.txn false made ≡ Some why) }
+        ensures refused { GoesUnless (refuse state attempt self.now) result }
+        ensures rule { (a : At) (made : Made) → StandsAt a made self.now state attempt → GoesUnless (refuse_at a self.now.txn false made) result }
     {
-        match self.refuse(state, attempt) {
-            Some(why) => Err(why),
-            None => Ok(()),
-        }
+        unless_refused(self.refuse(state, attempt))
     }
 
     // The refusal of a cancel.
@@ -275,14 +281,10 @@ impl Client {
 
     /// The transaction may be cancelled. It is refused where it is decided, or was attempted.
     pub fn may_cancel(&self, state: State, attempt: u32) -> Result<(), Refusal>
-        ensures refused { MatchResult result (λ u. refuse_cancel state attempt self.now ≡ None) (λ why. refuse_cancel state attempt self.now ≡ Some why) }
-        ensures rule { (a : At) (made : Made) → StandsAt a made self.now state attempt →
-            MatchResult result (λ u. refuse_at a self.now.txn true made ≡ None) (λ why. refuse_at a self.now.txn true made ≡ Some why) }
+        ensures refused { GoesUnless (refuse_cancel state attempt self.now) result }
+        ensures rule { (a : At) (made : Made) → StandsAt a made self.now state attempt → GoesUnless (refuse_at a self.now.txn true made) result }
     {
-        match self.refuse_cancel(state, attempt) {
-            Some(why) => Err(why),
-            None => Ok(()),
-        }
+        unless_refused(self.refuse_cancel(state, attempt))
     }
 
     // The refusal of a call on this transaction, which was decided so.

@@ -9,7 +9,8 @@ use Rattle.std.proofs.lemmas.Bool.{eqb-true, or_parts}
 use Rattle.e3_types.specs.Sets.{ascends, has_site, with_site, others, is_within}
 use Rattle.e3_types.specs.declared.transactions.Dir.{Dir}
 use Rattle.e3_types.specs.Same.{same_dir}
-use Rattle.e3_commit.specs.Acks.{Acks, set_of}
+use Rattle.e3_world.specs.Gatherings.{Round}
+use Rattle.e3_commit.specs.Senders.{set_of}
 use Rattle.e3_commit.specs.Missing.{missing}
 
 -- where none came, all are missing
@@ -44,12 +45,6 @@ one_less (s ∷ ss) came f = by (has_site came s) (f == s) refl refl (one_less s
         let back : (s == f) ≡ false = grind (arith, common_steps, q) in
         rw (e, here, back) (ap (λ (l : List ℕ). s ∷ l) ih)
 
--- the next of those that came is missing no more
-pub next_less : (all came left : List ℕ) (i d : ℕ) → i < length came → left ≡ missing all (take i came)
-    → others (get_or came i d) left ≡ missing all (take (i + 1) came)
-next_less all came left i d lt e =
-    ap (others (get_or came i d)) e ∙ one_less all (take i came) (get_or came i d) ∙ ap (missing all) (sym (take_more came i d lt))
-
 -- all came where none is missing
 pub within_missing : (all came : List ℕ) → is_within all came ≡ (length (missing all came) == 0)
 within_missing [] came = refl
@@ -58,12 +53,6 @@ within_missing (s ∷ ss) came = by (has_site came s) refl (within_missing ss ca
     by : (b : Bool) → has_site came s ≡ b → is_within ss came ≡ (length (missing ss came) == 0) → is_within (s ∷ ss) came ≡ (length (missing (s ∷ ss) came) == 0)
     by true e ih = rw (e, ih) refl
     by false e ih = rw e (grind (arith, common_steps))
-
--- all came where none is left
-pub none_missing : (all came left : List ℕ) (i : ℕ) → length came ≤ i → left ≡ missing all (take i came) → (length left == 0) ≡ is_within all came
-none_missing all came left i past e =
-    let whole : take i came ≡ came = grind (arith, common_steps, past) in
-    ap (λ (l : List ℕ). length l == 0) (e ∙ ap (missing all) whole) ∙ sym (within_missing all came)
 
 has_filter : (p : ℕ → Bool) (xs : List ℕ) (s : ℕ) → has_site (filter p xs) s ≡ (p s && has_site xs s)
 has_filter p [] s = grind (arith, common_steps)
@@ -140,12 +129,12 @@ ack_parts true false asked was e = cc
 ack_parts false way asked was e = cc
 
 -- an acknowledgement that counts is by one that was asked, and the first of it
-pub ack_counts : (a : Acks) (f n : ℕ) (dir : Dir)
-    → (a.round.n == n && same_dir a.round.dir dir && has_site a.round.to f && not (has_site a.round.acked f)) ≡ true
-    → (has_site a.round.to f ≡ true) × (has_site a.round.acked f ≡ false)
-ack_counts a f n dir e = ack_parts (a.round.n == n) (same_dir a.round.dir dir) (has_site a.round.to f) (has_site a.round.acked f) e
+pub ack_counts : (a : Round) (f n : ℕ) (dir : Dir)
+    → (a.n == n && same_dir a.dir dir && has_site a.to f && not (has_site a.acked f)) ≡ true
+    → (has_site a.to f ≡ true) × (has_site a.acked f ≡ false)
+ack_counts a f n dir e = ack_parts (a.n == n) (same_dir a.dir dir) (has_site a.to f) (has_site a.acked f) e
 
 -- with it the set is longer by one
-pub acked_longer : (a : Acks) (set : List ℕ) (f : ℕ) → set ≡ set_of a.round.acked → has_site a.round.acked f ≡ false
+pub acked_longer : (a : Round) (set : List ℕ) (f : ℕ) → set ≡ set_of a.acked → has_site a.acked f ≡ false
     → length (with_site f set) ≡ length set + 1
-acked_longer a set f same h = with_longer f set (ap (λ (l : List ℕ). has_site l f) same ∙ has_set a.round.acked f ∙ h)
+acked_longer a set f same h = with_longer f set (ap (λ (l : List ℕ). has_site l f) same ∙ has_set a.acked f ∙ h)

@@ -1,2 +1,2 @@
-pub mod Acks
 pub mod Missing
+pub mod Senders

@@ -22,18 +22,6 @@ impl Model for Votes {
     ghost inverse = { λ sites. record { missing = sites } };
 }
 
-/// Each of these sites is among those that came.
-#[tactic(auto, using(crate::proofs::Gathering::missing_none))]
-pub fn all_came(sites: SiteSet, came: &[u32]) -> bool
-    ensures { result ≡ is_within sites came.now }
-{
-    let mut left = sites;
-    for site in came {
-        left = left.without(*site);
-    }
-    left.count() == 0
-}
-
 impl Votes {
     /// The votes of a transaction with these sites at this one, which has voted yes: those of all others are missing.
     #[tactic(auto, using(crate::proofs::Gathering::missing_none))]
@@ -57,6 +45,13 @@ impl Votes {
     {
         self.missing = self.missing.without(from);
         self.are_complete()
+    }
+
+    /// The sites whose yes has not come.
+    pub fn missing(&self) -> SiteSet
+        ensures { result ≡ self.now }
+    {
+        self.missing
     }
 
     /// Every site has voted yes.

@@ -3,8 +3,11 @@ use Rattle.std.proofs.Common.{◌≡◌, ◌||◌, ◌<◌, ◌≤◌, ◌++◌,
 use Rattle.std.specs.Prelude.{Result, Ok, Err, OnOk, get_or, slice_get}
 use Rattle.std.specs.List.{list_any}
 use Rattle.atomic_table.specs.Seated.{TableId}
+use Rattle.e3_crew.specs.Forks.{CanTake}
 use Rattle.e3_crew.specs.Turns.{AreDone, HasTaken}
-use Rattle.e3_crew.specs.Workers.{HasGiven, HasTakenItems, HasWorked, HasWorkedWith, IsPassFor, ItemHadNoRoom, Knows, seen_of}
+use Rattle.e3_crew.specs.Workers.{HasGiven, HasPass, HasTakenItems, HasTakenPackets, HasWorked, HasWorkedWith, IsPassFor, ItemHadNoRoom, Knows, NonePending, seen_of}
+use Rattle.e3_crew.specs.declared.crew.Turn.{Turn}
+use Rattle.e3_crew.specs.declared.crew.Turn.TheVariants as turn
 use Rattle.e3_crew.specs.declared.worker.Worker.{Worker}
 use Rattle.e3_crew.proofs.Growing.{alike_meanwhile, meanwhile_own, through_meanwhile}
 use Rattle.e3_disk.specs.Meaning.{Meaning}
@@ -177,6 +180,11 @@ packets_may sc h site (p ∷ few) rest given legal some up calm all queue =
           (through_meanwhile sc 0 h (h ++ e ∷ []) given now (meanwhile_own h (h ++ e ∷ []) e some refl refl) all) (on.1 ∙ append_assoc few rest on.0),
     )
 
+-- a worker that may have its turn has a pass
+pub pass_to_take : {D : Type 0} (meaning : Meaning D) (wire : TableId) (w : Worker D) (t : Turn) → CanTake t meaning wire w → HasPass wire w
+pass_to_take meaning wire w turn.Items can = can.pass
+pass_to_take meaning wire w turn.Packets can = can.pass
+
 -- a turn with items, once the worker has its pass again
 pub took_items : {D : Type 0} (meaning : Meaning D) (wire : TableId) (before : Worker D) (marks : List Mark) (old : NodeView D)
     (items : List Input) (p : APass) (new : NodeView D) (kept : List Input) (answer : Result (Unit {0}) RunFault) → marks ≡ seen_of before → old ≡ before.node → items ≡ before.items →
@@ -194,4 +202,16 @@ took_items {D} meaning wire before marks old items p new kept answer seen node a
   full = λ is. (let Q : NodeView D → Type 0 = λ n. ItemHadNoRoom (seen_by p) n.site in subst Q node (full is));
   none_back = (let P : List Mark → Type 0 = λ l. HasGivenNoneBack before.node.site l (seen_by p) in
       let Q : NodeView D → Type 0 = λ n. HasGivenNoneBack n.site marks (seen_by p) in subst P seen (subst Q node back));
+}
+
+-- a turn with packets, once the worker has its pass again
+pub took_packets : {D : Type 0} (meaning : Meaning D) (wire : TableId) (before : Worker D) (marks : List Mark) (old : NodeView D)
+    (p : APass) (new : NodeView D) (kept : List Input) (answer : Result (Unit {0}) RunFault) → marks ≡ seen_of before → old ≡ before.node →
+    IsPassFor wire new.site p → HasWorked meaning marks old (seen_by p) new → OnOk answer (NonePending (seen_by p) old.site) →
+    HasTakenPackets meaning wire before (record { node = new; pass = Some p; items = kept; ended = answer })
+took_packets {D} meaning wire before marks old p new kept answer seen node pass worked done = record {
+  pass = (p, refl, pass);
+  worked = (let P : List Mark → Type 0 = λ l. HasWorked meaning l before.node (seen_by p) new in
+      let Q : NodeView D → Type 0 = λ n. HasWorked meaning marks n (seen_by p) new in subst P seen (subst Q node worked));
+  done = (let Q : NodeView D → Type 0 = λ n. OnOk answer (NonePending (seen_by p) n.site) in subst Q node done);
 }

@@ -9,7 +9,7 @@ ghost use Rattle.e3_wire.specs.Wires.{IsPlayed};
 
 use crate::Worker;
 use crate::worker::take_pass;
-use crate::working::{take_items, take_packets};
+use crate::working::{give_items, give_packets};
 use crate::works::Works;
 use e3_disk::{Disk, Drill};
 use e3_outside::Gate;
@@ -33,7 +33,7 @@ pub struct Round {
     pub busy: SiteSet,
 }
 
-// A worker's turn.
+// A worker's turn. The worker has its pass again, whatever it met.
 fn take_turn<D: Disk + Drill + Drop, G: Gate, R: Wait>(
     rt: &R,
     works: &Works<G>,
@@ -43,10 +43,18 @@ fn take_turn<D: Disk + Drill + Drop, G: Gate, R: Wait>(
     requires { CanTake turn D.meaning works.now.wire.now worker.old }
     ensures { HasTaken turn D.meaning works.now.wire.now worker.old worker.new }
 {
-    match turn {
-        Turn::Items => take_items(rt, works, worker),
-        Turn::Packets => take_packets(rt, works, worker),
-    }
+    let mut pass = take_pass(worker, works.wire);
+    worker.ended = match turn {
+        Turn::Items => give_items(
+            rt,
+            works,
+            &mut pass,
+            &mut worker.node,
+            worker.items.as_slice(),
+        ),
+        Turn::Packets => give_packets(rt, works, &mut pass, &mut worker.node),
+    };
+    worker.pass = Some(pass);
 }
 
 // The turns of these workers one after the other, on the caller's thread.

@@ -2,7 +2,7 @@
 ghost use Rattle.std.specs.Prelude.{◌≡◌, ◌≢◌, ◌≤◌, [], true, false, length, map, vec_capacity, IfOk, OnErr, OnOk, Err};
 ghost use Rattle.std.specs.List.{list_any};
 ghost use Rattle.e3_crew.specs.Turns.{AreDone};
-ghost use Rattle.e3_crew.specs.Workers.{AreTheFirst, CanTakeItems, CanTakePackets, HasGiven, HasPass, HasTakenItems, HasTakenPackets, HasWorked, HasWorkedWith, IsPassFor, ItemHadNoRoom, Knows, KnowsWith, NonePending, places_alone, seen_of};
+ghost use Rattle.e3_crew.specs.Workers.{AreTheFirst, HasGiven, HasWorked, HasWorkedWith, IsPassFor, ItemHadNoRoom, Knows, KnowsWith, NonePending, places_alone};
 ghost use Rattle.e3_law_local.specs.Drafts.{MayTake};
 ghost use Rattle.e3_node.specs.Places.{HasGivenNoneBack};
 ghost use Rattle.e3_node.specs.Turns.{history_seen, scenario_seen};
@@ -13,9 +13,7 @@ ghost use Rattle.e3_wire.specs.Wires.{TakesLeast};
 ghost use Rattle.e3_world.specs.Items.{is_delivery, is_up_at};
 ghost use Rattle.e3_world.specs.Progress.{Through};
 
-use crate::Worker;
 use crate::fault::{given, run_fault};
-use crate::worker::take_pass;
 use crate::works::Works;
 use e3_disk::{Disk, Drill};
 use e3_node::{Node, others_leave_nodes};
@@ -46,8 +44,8 @@ fn give<D: Disk + Drill + Drop, G, R: Wait>(
     given(answer)
 }
 
-// Gives the items of a site to its node, in their order.
-fn give_items<D: Disk + Drill + Drop, G, R: Wait>(
+/// Gives the items of a site to its node, in their order.
+pub(crate) fn give_items<D: Disk + Drill + Drop, G, R: Wait>(
     rt: &R,
     works: &Works<G>,
     pass: &mut WirePass,
@@ -193,8 +191,8 @@ fn take_few<D: Disk + Drill + Drop, G: Gate, R: Wait>(
     Ok(true)
 }
 
-// Gives packets to a node, the first to its site, so many in one turn of work, until none is pending to it.
-fn give_packets<D: Disk + Drill + Drop, G: Gate, R: Wait>(
+/// Gives packets to a node, the first to its site, so many in one turn of work, until none is pending to it.
+pub(crate) fn give_packets<D: Disk + Drill + Drop, G: Gate, R: Wait>(
     rt: &R,
     works: &Works<G>,
     pass: &mut WirePass,
@@ -213,38 +211,4 @@ fn give_packets<D: Disk + Drill + Drop, G: Gate, R: Wait>(
         }
     }
     unreachable!()
-}
-
-/// A worker's turn with its items. The worker has its pass again, whatever it met.
-pub(crate) fn take_items<D: Disk + Drill + Drop, G, R: Wait>(
-    rt: &R,
-    works: &Works<G>,
-    worker: &mut Worker<D>,
-)
-    requires { CanTakeItems D.meaning works.now.wire.now worker.old }
-    ensures { HasTakenItems D.meaning works.now.wire.now worker.old worker.new }
-{
-    let mut pass = take_pass(worker, works.wire);
-    worker.ended = give_items(
-        rt,
-        works,
-        &mut pass,
-        &mut worker.node,
-        worker.items.as_slice(),
-    );
-    worker.pass = Some(pass);
-}
-
-/// A worker's turn with packets. The worker has its pass again, whatever it met.
-pub(crate) fn take_packets<D: Disk + Drill + Drop, G: Gate, R: Wait>(
-    rt: &R,
-    works: &Works<G>,
-    worker: &mut Worker<D>,
-)
-    requires { CanTakePackets D.meaning works.now.wire.now worker.old }
-    ensures { HasTakenPackets D.meaning works.now.wire.now worker.old worker.new }
-{
-    let mut pass = take_pass(worker, works.wire);
-    worker.ended = give_packets(rt, works, &mut pass, &mut worker.node);
-    worker.pass = Some(pass);
 }

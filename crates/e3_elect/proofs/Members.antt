@@ -1,12 +1,12 @@
 -- Members of a group, each once, are no more than the group has.
 use Rattle.std.proofs.Common.{◌≡◌, ◌⊎◌, inl, inr, ℕ, suc, ◌+◌, ◌≤◌, Bool, true, false, List, [], ◌∷◌, ◌++◌, length, map, refl, ap, sym, ◌∙◌, arith, eqb, cond}
-use Rattle.std.specs.Prelude.{◌==◌, ◌&&◌, ◌||◌, not}
+use Rattle.std.specs.Prelude.{◌==◌, ◌<◌, ◌&&◌, ◌||◌, ◌↔◌, not}
 use Rattle.std.specs.List.{list_any}
 use Rattle.std.proofs.lemmas.Grind.{common_steps}
 use Rattle.std.proofs.lemmas.Bool.{or_cases, or_parts, eqb-true, eq-eqb, and_parts}
 use Rattle.std.proofs.lemmas.List.Folds.{list_any-append}
-use Rattle.e3_types.specs.Sets.{has_site, others}
-use Rattle.e3_elect.specs.Calling.{are_members, are_behind_own}
+use Rattle.e3_types.specs.Sets.{ascends, has_site, is_within, others}
+use Rattle.e3_elect.specs.Calling.{IsWhole, are_members, are_behind_own}
 
 -- another site stays where one is taken away
 has_others : (x y : ℕ) (all : List ℕ) → has_site all y ≡ true → (y ≡ x → ⊥) → has_site (others x all) y ≡ true
@@ -96,7 +96,7 @@ mapped_more : {X : Type 0} (f : X → ℕ) (xs : List X) (x : X) → map f (xs +
 mapped_more f [] x = refl
 mapped_more f (y ∷ ys) x = ap (λ (l : List ℕ). f y ∷ l) (mapped_more f ys x)
 
-mapped_length : {X : Type 0} (f : X → ℕ) (xs : List X) → length (map f xs) ≡ length xs
+pub mapped_length : {X : Type 0} (f : X → ℕ) (xs : List X) → length (map f xs) ≡ length xs
 mapped_length f [] = refl
 mapped_length f (x ∷ xs) = ap (λ n. suc n) (mapped_length f xs)
 
@@ -121,7 +121,15 @@ pub comes_behind_own : {X : Type 0} (f : X → ℕ) (group : List ℕ) (xs : Lis
     → are_behind_own group (map f xs) ≡ true → has_site group (f x) ≡ true → list_any (λ y. f y == f x) xs ≡ false
     → are_behind_own group (map f (xs ++ x ∷ [])) ≡ true
 comes_behind_own f group [] x m g h = refl
-comes_behind_own f group (y ∷ ys) x m g h = comes_from_member f group ys x m g (or_parts (f y == f x) (list_any (λ z. f z == f x) ys) h).1
+comes_behind_own f group (y ∷ ys) x m g h =
+    let apart = or_parts (f y == f x) (list_any (λ z. f z == f x) ys) h in
+    let was = and_parts (not (has_site (map f ys) (f y))) (are_members group (map f ys)) m in
+    let more : are_members group (map f (ys ++ x ∷ [])) ≡ true = comes_from_member f group ys x was.1 g apart.1 in
+    let turned : (f x == f y) ≡ false = (let e = apart.0 in grind (arith, common_steps, e)) in
+    let split : has_site (map f (ys ++ x ∷ [])) (f y) ≡ (has_site (map f ys) (f y) || has_site (f x ∷ []) (f y)) =
+    ap (λ (l : List ℕ). has_site l (f y)) (mapped_more f ys x) ∙ list_any-append (λ z. z == f y) (map f ys) (f x ∷ []) in
+    let alone : not (has_site (map f ys) (f y)) ≡ true = was.0 in
+    grind (arith, common_steps, more, turned, split, alone)
 
 -- and there was room for it, with the elector
 pub has_room_behind_own : {X : Type 0} (f : X → ℕ) (group : List ℕ) (xs : List X) (s : ℕ)
@@ -129,5 +137,73 @@ pub has_room_behind_own : {X : Type 0} (f : X → ℕ) (group : List ℕ) (xs : 
     → length xs ≤ length group
 has_room_behind_own f group [] s m g h = omega arith
 has_room_behind_own f group (y ∷ ys) s m g h =
-    let n = has_room f group ys s m g (or_parts (f y == s) (list_any (λ z. f z == s) ys) h).1 in
+    let was = and_parts (not (has_site (map f ys) (f y))) (are_members group (map f ys)) m in
+    let n = has_room f group ys s was.1 g (or_parts (f y == s) (list_any (λ z. f z == s) ys) h).1 in
     omega (arith, n)
+
+-- where all that came are of the group, they are members of it, each once
+all_members : (group came : List ℕ) → are_behind_own group came ≡ true → is_within came group ≡ true → are_members group came ≡ true
+all_members group [] m w = refl
+all_members group (own ∷ sites) m w =
+    let p = and_parts (not (has_site sites own)) (are_members group sites) m in
+    let q = and_parts (has_site group own) (is_within sites group) w in
+    let here : has_site group own ≡ true = q.0 in
+    let alone : not (has_site sites own) ≡ true = p.0 in
+    let rest : are_members group sites ≡ true = p.1 in
+    grind (arith, common_steps, here, alone, rest)
+
+-- as many members as the group has are the whole group
+each_came : (group came some : List ℕ) → are_members group came ≡ true → length came ≡ length group → is_within some group ≡ true → is_within some came ≡ true
+each_came group came [] m n w = refl
+each_came group came (s ∷ ss) m n w =
+    let q = and_parts (has_site group s) (is_within ss group) w in
+    by (has_site came s) refl q.0 (each_came group came ss m n q.1)
+  where
+    by : (b : Bool) → has_site came s ≡ b → has_site group s ≡ true → is_within ss came ≡ true → is_within (s ∷ ss) came ≡ true
+    by true e g rest = grind (arith, common_steps, e, rest)
+    by false e g rest = absurd (let more = room_for group came s m g e in omega (arith, n, more))
+
+-- the sites of a set stand in it once, above its lowest bound
+above : (low : ℕ) (sites : List ℕ) (s : ℕ) → ascends low sites ≡ true → s ≤ low → has_site sites s ≡ false
+above low [] s up small = refl
+above low (x ∷ xs) s up small =
+    let less : low < x = grind (arith, common_steps, up) in
+    let rest : ascends x xs ≡ true = grind (arith, common_steps, up) in
+    let later : has_site xs s ≡ false = above x xs s rest (omega (arith, less, small)) in
+    let other : (x == s) ≡ false = grind (arith, common_steps, less, small) in
+    grind (arith, common_steps, later, other)
+
+-- a set whose sites all came is among those that came, each once
+set_members : (low : ℕ) (came group : List ℕ) → ascends low group ≡ true → is_within group came ≡ true → are_members came group ≡ true
+set_members low came [] up w = refl
+set_members low came (s ∷ ss) up w =
+    let q = and_parts (has_site came s) (is_within ss came) w in
+    let next : ascends s ss ≡ true = grind (arith, common_steps, up) in
+    let rest : are_members came ss ≡ true = set_members s came ss next q.1 in
+    let alone : has_site ss s ≡ false = above s ss s next (omega arith) in
+    let here : has_site came s ≡ true = q.0 in
+    grind (arith, common_steps, here, alone, rest)
+
+-- so, where all that came are of the group, as many as the group has sites are just the whole group
+pub whole : (group came : List ℕ) → ascends 0 group ≡ true → are_behind_own group came ≡ true → is_within came group ≡ true
+    → (length came ≡ length group) ↔ (is_within group came ≡ true)
+whole group came up m w =
+    let all = all_members group came m w in (
+      λ n. each_came group came group all n (within_itself group group (λ s h. h)),
+      λ each. (let few = few_members group came all in let many = few_members came group (set_members 0 came group up each) in omega (arith, few, many)),
+    )
+  where
+    within_itself : (some all : List ℕ) → ((s : ℕ) → has_site some s ≡ true → has_site all s ≡ true) → is_within some all ≡ true
+    within_itself [] all sub = refl
+    within_itself (x ∷ xs) all sub =
+        let here : has_site all x ≡ true = sub x (let itself : (x == x) ≡ true = eq-eqb x x refl in grind (arith, common_steps, itself)) in
+        let rest : is_within xs all ≡ true = within_itself xs all (λ s h. sub s (grind (arith, common_steps, h))) in
+        grind (arith, common_steps, here, rest)
+
+-- the test of two counts says so
+pub whole_test : (group came : List ℕ) (n k : ℕ) → n ≡ length came → k ≡ length group → ascends 0 group ≡ true → are_behind_own group came ≡ true → IsWhole group came (n == k)
+whole_test group came n k a b up m w =
+    let both = whole group came up m w in (
+      λ e. both.0 (sym a ∙ eqb-true n k e ∙ b),
+      λ each. (let same : n ≡ k = a ∙ both.1 each ∙ sym b in eq-eqb n k same),
+    )

@@ -6,8 +6,8 @@ use Rattle.e3_types.specs.declared.transactions.Call.{Call}
 use Rattle.e3_types.specs.declared.verdicts.SiteReport.{SiteReport}
 use Rattle.e3_types.specs.Same.{same_call}
 use Rattle.e3_types.specs.Sets.{has_site}
-use Rattle.e3_world.specs.declared.gatherings.Election.{Election}
-use Rattle.e3_world.specs.declared.gatherings.Named.{Named}
+use Rattle.e3_world.specs.Gatherings.{Election}
+use Rattle.e3_world.specs.declared.elections.Named.{Named}
 use Rattle.e3_world.specs.Elections.{hear, take_report}
 
 -- what holds of an answer that counts

@@ -1,7 +1,7 @@
 -- The number that an election comes to, and whom it hears.
-use Rattle.std.specs.Prelude.{◌&&◌, ◌∷◌, [], if◌then◌else◌, ℕ, suc, nat_lt, Bool, true, not, List, Option, Some, None}
-use Rattle.e3_types.specs.Sets.{has_site}
-use Rattle.e3_world.specs.declared.gatherings.Election.{Election}
+use Rattle.std.specs.Prelude.{◌↔◌, IsTrue, ◌&&◌, ◌∷◌, [], if◌then◌else◌, ℕ, suc, nat_lt, Bool, true, not, List, Option, Some, None}
+use Rattle.e3_types.specs.Sets.{has_site, is_within}
+use Rattle.e3_world.specs.Gatherings.{Election}
 use Rattle.e3_world.specs.Elections.{all_heard, greatest_heard}
 
 -- the greatest number that was heard plus one, once the whole group was heard; none where that is no number any more
@@ -13,7 +13,11 @@ abbrev pub are_members : List ℕ → List ℕ → Bool
 are_members group [] = true
 are_members group (site ∷ sites) = has_site group site && (not (has_site sites site) && are_members group sites)
 
--- all but the first of these, which is the elector, are members of the group, each once
+-- all but the first of these, which is the elector, are members of the group, each once and none the elector
 abbrev pub are_behind_own : List ℕ → List ℕ → Bool
 are_behind_own group [] = true
-are_behind_own group (own ∷ sites) = are_members group sites
+are_behind_own group (own ∷ sites) = not (has_site sites own) && are_members group sites
+
+-- as many came as the group has sites, exactly where each site of the group came, if all that came are of the group
+abbrev pub IsWhole : List ℕ → List ℕ → Bool → Type 0
+IsWhole group came all = IsTrue (is_within came group) → IsTrue all ↔ IsTrue (is_within group came)

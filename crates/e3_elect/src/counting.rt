@@ -22,13 +22,6 @@ fn has_reported(reports: &[SiteReport], site: u32) -> bool
     reports.iter().any(|r| r.site == site)
 }
 
-/// What came of a group is as much as the group has sites: all of it, where each site counts once.
-pub(crate) fn are_all<T>(came: &[T], group: SiteSet) -> bool
-    ensures { result ≡ (length came.now == length group) }
-{
-    came.len() == group.count() as usize
-}
-
 /// The greatest number that was heard, 0 where none was.
 pub(crate) fn greatest_of(heard: &[Named]) -> u32
     ensures { result ≡ fold (λ n h. max n h.elected) 0 heard.now }
@@ -43,7 +36,7 @@ pub(crate) fn number_of(heard: &[Named], group: SiteSet) -> Option<u32>
         then Some (suc (fold (λ n h. max n h.elected) 0 heard.now)) else None) }
 {
     let greatest = greatest_of(heard);
-    if are_all(heard, group) && greatest < u32::MAX {
+    if heard.len() == group.count() as usize && greatest < u32::MAX {
         Some(greatest + 1)
     } else {
         None

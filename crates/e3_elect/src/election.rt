@@ -1,9 +1,9 @@
 // An election: who was heard, the number, and who reported.
-ghost use Rattle.std.specs.Prelude.{◌≡◌, ◌<◌, ◌∷◌, [], IfOk, MatchOption, Some, true, false, IsSome, length, vec_len, vec_capacity};
+ghost use Rattle.std.specs.Prelude.{◌≡◌, ◌<◌, ◌∷◌, [], IfOk, MatchOption, Some, true, false, IsSome, length, map, vec_len, vec_capacity};
 ghost use Rattle.e3_world.specs.Elections.{all_heard, all_reported, begun, greatest_heard, hear, take_report};
-ghost use Rattle.e3_elect.specs.Calling.{number_of};
+ghost use Rattle.e3_elect.specs.Calling.{IsWhole, number_of};
 
-use crate::counting::{are_all, greatest_of, is_awaited, is_owed, number_of};
+use crate::counting::{greatest_of, is_awaited, is_owed, number_of};
 use e3_types::{Call, Copied, NoMemory, SiteReport, SiteSet};
 use e3_world::Named;
 use std::alloc::Global;
@@ -17,18 +17,18 @@ pub struct Election {
     call: Call,
     group: SiteSet,
     heard: Vec<Named>,
-    number: Option<u32>,
+    joined: Option<u32>,
     reports: Vec<SiteReport>,
 }
 
 impl Model for Election {
     ghost use Rattle.std.specs.Prelude.{◌≡◌, ◌<◌, true, length, map, vec_capacity};
-    ghost use Rattle.e3_world.specs.declared.gatherings.Election.{Election as Gathering};
+    ghost use Rattle.e3_world.specs.Gatherings.{Election as Gathering};
     ghost use Rattle.e3_elect.specs.Calling.{are_behind_own};
 
     ghost Value = { Gathering };
 
-    ghost view = { λ a. record { call = a.call; group = a.group; heard = a.heard.items; number = a.number; reports = a.reports.items } };
+    ghost view = { λ a. record { call = a.call; group = a.group; heard = a.heard.items; number = a.joined; reports = a.reports.items } };
 
     ghost invariant = { λ a. (length a.group < vec_capacity a.heard) × (length a.group < vec_capacity a.reports)
         × (are_behind_own a.group (map (λ h. h.site) a.heard.items) ≡ true) × (are_behind_own a.group (map (λ r. r.site) a.reports.items) ≡ true) };
@@ -77,7 +77,7 @@ impl Election {
             call,
             group,
             heard,
-            number: None,
+            joined: None,
             reports,
         })
     }
@@ -114,9 +114,10 @@ impl Election {
 
     /// As many were heard as the group has sites: the whole group, where the elector is of it.
     pub fn all_heard(&self) -> bool
-        ensures { result ≡ all_heard self.now }
+        ensures count { result ≡ all_heard self.now }
+        ensures whole { IsWhole self.now.group (map (λ h. h.site) self.now.heard) result }
     {
-        are_all(&self.heard, self.group)
+        self.heard.as_slice().len() == self.group.count() as usize
     }
 
     // The elector's own report is the first, and no other came yet.
@@ -132,7 +133,7 @@ impl Election {
         requires { IsSome (number_of self.old) }
         ensures { self.new ≡ record self.old { number = number_of self.old; reports = own ∷ [] } }
     {
-        self.number = self.number();
+        self.joined = self.number();
         self.begin_reports(own);
     }
 
@@ -140,7 +141,7 @@ impl Election {
     pub fn joined_under(&mut self, n: u32, own: SiteReport)
         ensures { self.new ≡ record self.old { number = Some n; reports = own ∷ [] } }
     {
-        self.number = Some(n);
+        self.joined = Some(n);
         self.begin_reports(own);
     }
 
@@ -148,7 +149,7 @@ impl Election {
     pub fn joined_number(&self) -> Option<u32>
         ensures { result ≡ self.now.number }
     {
-        self.number
+        self.joined
     }
 
     /// A member's report under this number. True exactly where the elector joined that number and the member had not
@@ -156,8 +157,8 @@ impl Election {
     pub fn reported(&mut self, n: u32, report: SiteReport) -> bool
         ensures { MatchOption (take_report self.old n report) ((result ≡ false) × (self.new ≡ self.old)) (λ e. (result ≡ true) × (self.new ≡ e)) }
     {
-        let is_this = match self.number {
-            Some(number) => n == number,
+        let is_this = match self.joined {
+            Some(joined) => n == joined,
             None => false,
         };
         if !is_this || !is_owed(self.group, &self.reports, report.site) {
@@ -169,9 +170,10 @@ impl Election {
 
     /// As many have reported as the group has sites: the whole group, where the elector's report is that of a member.
     pub fn complete(&self) -> bool
-        ensures { result ≡ all_reported self.now }
+        ensures count { result ≡ all_reported self.now }
+        ensures whole { IsWhole self.now.group (map (λ r. r.site) self.now.reports) result }
     {
-        are_all(&self.reports, self.group)
+        self.reports.as_slice().len() == self.group.count() as usize
     }
 
     /// The reports, the elector's own first.
@@ -195,7 +197,7 @@ impl Copied for Election {
             call: self.call,
             group: self.group,
             heard: copy_of(alloc, &self.heard, self.group)?,
-            number: self.number,
+            joined: self.joined,
             reports: copy_of(alloc, &self.reports, self.group)?,
         })
     }

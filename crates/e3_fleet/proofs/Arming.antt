@@ -9,7 +9,7 @@ use Rattle.e3_types.specs.declared.entries.Act.{Act}
 use Rattle.e3_types.specs.declared.entries.Act.TheVariants.{Step, Fall, Rise, RiseFall, Miss, Cut, Drop, Parts, Line}
 use Rattle.e3_types.specs.declared.entries.Entry.{Entry}
 use Rattle.e3_types.specs.declared.scenarios.Scenario.{Scenario}
-use Rattle.e3_world.specs.Moves.{own}
+use Rattle.e3_world.specs.Moves.{own_entries}
 use Rattle.e3_world.proofs.Readings.{own_same, own_other}
 use Rattle.e3_world.proofs.Turns.{true_not_false}
 
@@ -43,12 +43,12 @@ abbrev pub counted_if : (Entry → Bool) → ℕ → Entry → ℕ
 counted_if p site e = if e.owner == site then one_if (p e) else 0
 
 pub own_push : (p : Entry → Bool) (h : List Entry) (e : Entry) (site : ℕ) →
-    count_by p (own site (h ++ e ∷ [])) ≡ count_by p (own site h) + counted_if p site e
+    count_by p (own_entries site (h ++ e ∷ [])) ≡ count_by p (own_entries site h) + counted_if p site e
 own_push p h e site = by (e.owner == site) refl
   where
-    by : (b : Bool) → (e.owner == site) ≡ b → count_by p (own site (h ++ e ∷ [])) ≡ count_by p (own site h) + counted_if p site e
+    by : (b : Bool) → (e.owner == site) ≡ b → count_by p (own_entries site (h ++ e ∷ [])) ≡ count_by p (own_entries site h) + counted_if p site e
     by true is = let none : counted_if p site e ≡ one_if (p e) = rw is refl in
-        ap (count_by p) (own_same site h e is) ∙ count_push p (own site h) e ∙ ap (λ n. count_by p (own site h) + n) (sym none)
+        ap (count_by p) (own_same site h e is) ∙ count_push p (own_entries site h) e ∙ ap (λ n. count_by p (own_entries site h) + n) (sym none)
     by false is = let none : counted_if p site e ≡ 0 = rw is refl in let same = ap (count_by p) (own_other site h e is) in omega (arith, none, same)
 
 -- the arms with one more entry, and their sums

@@ -6,7 +6,7 @@ use Rattle.e3_types.specs.declared.entries.Entry.{Entry}
 use Rattle.e3_types.specs.declared.scenarios.Scenario.{Scenario}
 use Rattle.e3_world.specs.Items.{is_up_at}
 use Rattle.e3_world.specs.Legal.{Guard, IsLegal, LegalAfter}
-use Rattle.e3_world.specs.Moves.{own}
+use Rattle.e3_world.specs.Moves.{own_entries}
 use Rattle.e3_world.specs.Progress.{up_behind}
 use Rattle.e3_world.proofs.Guards.{up_some}
 
@@ -25,18 +25,18 @@ act_within sc before owner (Parts parts) was guard known up = known up
 act_within sc before owner (Line number) was guard known up = known up
 
 risen_within : (sc : Scenario) (s : ℕ) (before h : List Entry) (was : Bool) → LegalAfter sc before h → (was ≡ true → s ≤ length sc.weights) →
-    fold (λ was e. up_behind was e.act) was (own s h) ≡ true → s ≤ length sc.weights
+    fold (λ was e. up_behind was e.act) was (own_entries s h) ≡ true → s ≤ length sc.weights
 risen_within sc s before [] was legal known up = known up
 risen_within sc s before (e ∷ h) was legal known up = by (λ next more rest. risen_within sc s (before ++ e ∷ []) h next legal.1 more rest) (e.owner == s) refl
   where
-    by : ((next : Bool) → (next ≡ true → s ≤ length sc.weights) → fold (λ was e. up_behind was e.act) next (own s h) ≡ true → s ≤ length sc.weights) →
+    by : ((next : Bool) → (next ≡ true → s ≤ length sc.weights) → fold (λ was e. up_behind was e.act) next (own_entries s h) ≡ true → s ≤ length sc.weights) →
         (b : Bool) → (e.owner == s) ≡ b → s ≤ length sc.weights
-    by rest false is = rest was known (sym (let same : fold (λ was e. up_behind was e.act) was (own s (e ∷ h)) ≡ fold (λ was e. up_behind was e.act) was (own s h) = rw is refl in same) ∙ up)
+    by rest false is = rest was known (sym (let same : fold (λ was e. up_behind was e.act) was (own_entries s (e ∷ h)) ≡ fold (λ was e. up_behind was e.act) was (own_entries s h) = rw is refl in same) ∙ up)
     by rest true is = rest (up_behind was e.act)
         (λ rose. let P : ℕ → Type 0 = λ n. n ≤ length sc.weights in
         let own_is : e.owner ≡ s = eqb-true e.owner s is in
         subst P own_is (act_within sc before e.owner e.act was legal.0 (λ up. subst P (sym own_is) (known up)) rose))
-        (sym (let same : fold (λ was e. up_behind was e.act) was (own s (e ∷ h)) ≡ fold (λ was e. up_behind was e.act) (up_behind was e.act) (own s h) = rw is refl in same) ∙ up)
+        (sym (let same : fold (λ was e. up_behind was e.act) was (own_entries s (e ∷ h)) ≡ fold (λ was e. up_behind was e.act) (up_behind was e.act) (own_entries s h) = rw is refl in same) ∙ up)
 
 up_within : (sc : Scenario) (h : List Entry) (s : ℕ) → IsLegal sc h → is_up_at h s ≡ true → s ≤ length sc.weights
 up_within sc h s legal up = risen_within sc s [] h false legal (λ is. absurd cc) up

@@ -11,7 +11,7 @@ use Rattle.e3_types.specs.declared.entries.Act.TheVariants.{Fall, RiseFall, Miss
 use Rattle.e3_types.specs.declared.entries.Entry.{Entry}
 use Rattle.e3_types.specs.declared.entries.Why.TheVariants.{Fault, Full}
 use Rattle.e3_types.specs.declared.scenarios.Scenario.{Scenario}
-use Rattle.e3_world.specs.Moves.{log_of, own, rise_records}
+use Rattle.e3_world.specs.Moves.{log_of, own_entries, rise_records}
 
 -- a disk is blank, has power and is not armed
 pub record IsFresh {D : Type 0} (meaning : Meaning D) (disk : D) : Type 0 where
@@ -35,7 +35,7 @@ is_fault e = by e.act
 
 -- how often its disk failed a site
 abbrev pub faults_at : List Entry → ℕ → ℕ
-faults_at history site = count_by is_fault (own site history)
+faults_at history site = count_by is_fault (own_entries site history)
 
 -- the count rose so often at least, or stands at its last value
 abbrev pub RoseBy : ℕ → ℕ → ℕ → Type 0

@@ -9,7 +9,7 @@ use Rattle.e3_types.specs.declared.scenarios.Item.{Item}
 use Rattle.e3_types.specs.declared.scenarios.Item.TheVariants as item
 use Rattle.e3_types.specs.declared.scenarios.Leave.{Leave}
 use Rattle.e3_types.specs.declared.scenarios.Scenario.{Scenario}
-use Rattle.e3_world.specs.Moves.{own}
+use Rattle.e3_world.specs.Moves.{own_entries}
 use Rattle.e3_world.specs.Packets.{step_items}
 
 -- an arm of a disk: at which of its calls it stops, and what that leaves
@@ -52,7 +52,7 @@ is_cut e = by e.act
 
 -- how often the power of a site was cut
 abbrev pub cuts_at : List Entry → ℕ → ℕ
-cuts_at history site = count_by is_cut (own site history)
+cuts_at history site = count_by is_cut (own_entries site history)
 
 -- the site goes down by the act, or does not come up
 abbrev pub is_end : Act → Bool

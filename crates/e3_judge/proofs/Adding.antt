@@ -7,7 +7,7 @@ use Rattle.e3_types.specs.declared.entries.Entry.{Entry}
 use Rattle.e3_types.specs.declared.records.Record.{Record}
 use Rattle.e3_types.specs.declared.records.Record.TheVariants as log
 use Rattle.e3_types.specs.declared.scenarios.Scenario.{Scenario}
-use Rattle.e3_world.specs.Moves.{Move, Past, Tail, Placed, own, recorded, log_by, kept_moves, moves_of_act, past_of, moves_of, log_of, trail_after, trail_of, all_records}
+use Rattle.e3_world.specs.Moves.{Move, Past, Tail, Placed, own_entries, recorded, log_by, kept_moves, moves_of_act, past_of, moves_of, log_of, trail_after, trail_of, all_records}
 use Rattle.e3_world.specs.Serial.{order_in}
 use Rattle.e3_world.proofs.Pushes.{past_push}
 use Rattle.e3_world.proofs.Readings.{own_same}
@@ -16,7 +16,7 @@ use Rattle.e3_judge.specs.Added.{added_by, last_vote}
 
 -- the moves that an entry makes
 abbrev made : Scenario → List Entry → Entry → List Move
-made sc before e = moves_of_act sc e.owner (past_of sc e.owner (own e.owner before)) e.act
+made sc before e = moves_of_act sc e.owner (past_of sc e.owner (own_entries e.owner before)) e.act
 
 after_push : (sc : Scenario) (before h : List Entry) (e : Entry) → trail_after sc before (h ++ e ∷ []) ≡ trail_after sc before h ++ made sc (before ++ h) e
 after_push sc before [] e = append-nil (made sc before e) ∙ ap (λ z. made sc z e) (sym (append-nil before))
@@ -33,7 +33,7 @@ drop_front (x ∷ xs) ys = drop_front xs ys
 added_is : (sc : Scenario) (h : List Entry) (e : Entry) → added_by sc h (h ++ e ∷ []) e.owner ≡ log_by (made sc h e)
 added_is sc h e =
     ap (λ l. drop (length (log_of sc h e.owner)) l)
-    (ap (λ mine. log_by (past_of sc e.owner mine).moves) (own_same e.owner h e (eq-eqb e.owner e.owner refl)) ∙ ap (λ (w : Past). log_by w.moves) (past_push sc e.owner (own e.owner h) e)
+    (ap (λ mine. log_by (past_of sc e.owner mine).moves) (own_same e.owner h e (eq-eqb e.owner e.owner refl)) ∙ ap (λ (w : Past). log_by w.moves) (past_push sc e.owner (own_entries e.owner h) e)
     ∙ flat_map-append recorded (moves_of sc h e.owner) (made sc h e))
     ∙ drop_front (log_of sc h e.owner) (log_by (made sc h e))
 
@@ -79,7 +79,7 @@ pub records_push : (sc : Scenario) (h : List Entry) (e : Entry) → all_records 
 records_push sc h e =
     ap all_records (after_push sc [] h e)
     ∙ flat_map-append (λ m. map (λ r. record { site = m.site; entered = r }) (recorded m)) (trail_of sc h) (made sc h e)
-    ∙ ap (λ z. all_records (trail_of sc h) ++ z) (records_of e.owner (made sc h e) (made_of sc e.owner (past_of sc e.owner (own e.owner h)) e.act)
+    ∙ ap (λ z. all_records (trail_of sc h) ++ z) (records_of e.owner (made sc h e) (made_of sc e.owner (past_of sc e.owner (own_entries e.owner h)) e.act)
     ∙ ap (placed_at e.owner) (sym (added_is sc h e)))
 
 -- one more record of the order

@@ -10,7 +10,7 @@ use Rattle.e3_types.specs.declared.scenarios.Scenario.{Scenario}
 use Rattle.e3_types.specs.Sets.{has_site}
 use Rattle.e3_world.specs.Items.{is_up_at}
 use Rattle.e3_world.specs.Legal.{IsLegal, LegalAfter, Guard}
-use Rattle.e3_world.specs.Moves.{own}
+use Rattle.e3_world.specs.Moves.{own_entries}
 use Rattle.e3_world.specs.Packets.{sites_to}
 use Rattle.e3_world.specs.Progress.{up_behind}
 use Rattle.e3_world.proofs.Guards.{up_some}
@@ -47,13 +47,13 @@ beyond_act sc before (suc s) (Parts parts) g high = refl
 beyond_act sc before (suc s) (Line number) g high = refl
 
 beyond_down : (sc : Scenario) (before h : List Entry) (s : ℕ) → LegalAfter sc before h → length sc.weights < s →
-    fold (λ was e. up_behind was e.act) false (own s h) ≡ false
+    fold (λ was e. up_behind was e.act) false (own_entries s h) ≡ false
 beyond_down sc before [] s legal high = refl
 beyond_down sc before (e ∷ h) s legal high = by (beyond_down sc (before ++ e ∷ []) h s legal.1 high) (e.owner == s) refl
   where
-    by : fold (λ was e. up_behind was e.act) false (own s h) ≡ false → (b : Bool) → (e.owner == s) ≡ b →
-        fold (λ was e. up_behind was e.act) false (own s (e ∷ h)) ≡ false
-    by rest true is = rw is (ap (λ b. fold (λ was e. up_behind was e.act) b (own s h))
+    by : fold (λ was e. up_behind was e.act) false (own_entries s h) ≡ false → (b : Bool) → (e.owner == s) ≡ b →
+        fold (λ was e. up_behind was e.act) false (own_entries s (e ∷ h)) ≡ false
+    by rest true is = rw is (ap (λ b. fold (λ was e. up_behind was e.act) b (own_entries s h))
         (beyond_act sc before e.owner e.act legal.0 (let same : e.owner ≡ s = eqb-true e.owner s is in omega (arith, same, high))) ∙ rest)
     by rest false is = rw is rest
 

@@ -9,7 +9,7 @@ use Rattle.e3_types.specs.declared.scenarios.Scenario.{Scenario}
 use Rattle.e3_types.specs.declared.transactions.Dir.{Dir}
 use Rattle.e3_types.specs.declared.transactions.Txn.{Txn}
 use Rattle.e3_types.specs.Sets.{has_site}
-use Rattle.e3_world.specs.Moves.{Rose, Move, Tail, Past, own, recorded, rise_records, kept_moves, left_by, moves_of_act, past_by, past_of, log_by, log_of, all_records, trail_of}
+use Rattle.e3_world.specs.Moves.{Rose, Move, Tail, Past, own_entries, recorded, rise_records, kept_moves, left_by, moves_of_act, past_by, past_of, log_by, log_of, all_records, trail_of}
 use Rattle.e3_world.proofs.Trails.{trail_moves}
 use Rattle.e3_law_agreement.specs.Logs.{IsIn}
 use Rattle.e3_law_agreement.proofs.Protocol.Shares.{in_from_has}
@@ -45,11 +45,11 @@ owner_in sites e = by (has_site sites e.owner) refl
     by false is = in_right e.owner sites (e.owner ∷ []) (inl refl)
 
 -- a site that owns no entry has none of its own
-none_own : (s : ℕ) (sites : List ℕ) (h : List Entry) → (IsIn s (fold with_owner sites h) → ⊥) → own s h ≡ []
+none_own : (s : ℕ) (sites : List ℕ) (h : List Entry) → (IsIn s (fold with_owner sites h) → ⊥) → own_entries s h ≡ []
 none_own s sites [] no_more = refl
 none_own s sites (e ∷ h) no_more = by (e.owner == s) refl (none_own s (with_owner sites e) h no_more)
   where
-    by : (b : Bool) → (e.owner == s) ≡ b → own s h ≡ [] → (if b then e ∷ own s h else own s h) ≡ []
+    by : (b : Bool) → (e.owner == s) ≡ b → own_entries s h ≡ [] → (if b then e ∷ own_entries s h else own_entries s h) ≡ []
     by true is rest = absurd (no_more (owners_stay s (with_owner sites e) h (subst (λ z. IsIn z (with_owner sites e)) (eqb-true e.owner s is) (owner_in sites e))))
     by false is rest = rest
 
@@ -60,7 +60,7 @@ owns sc h s r k = by (has_site (owners h) s) refl
     by : (b : Bool) → has_site (owners h) s ≡ b → IsIn s (owners h)
     by true is = in_from_has s (owners h) is
     by false is = absurd (
-        let none : own s h ≡ [] = none_own s [] h (λ there. (let has : has_site (owners h) s ≡ true = has_from_in s (owners h) there in cc)) in
+        let none : own_entries s h ≡ [] = none_own s [] h (λ there. (let has : has_site (owners h) s ≡ true = has_from_in s (owners h) there in cc)) in
         let empty : IsIn r (log_by (past_of sc s []).moves) = subst (λ z. IsIn r (log_by (past_of sc s z).moves)) none k in
         empty)
 
@@ -157,7 +157,7 @@ past_counts sc site (e ∷ mine) w f k = past_counts sc site mine (past_by sc si
 
 -- the decisions of a site's log
 decided_is : (sc : Scenario) (h : List Entry) (s : ℕ) → flat_map decisions_in (log_of sc h s) ≡ decided_at h s
-decided_is sc h s = (past_counts sc s (own s h) (record { moves = []; tail = None }) nothing_yet (record { sure = refl; doubted = refl })).sure
+decided_is sc h s = (past_counts sc s (own_entries s h) (record { moves = []; tail = None }) nothing_yet (record { sure = refl; doubted = refl })).sure
 
 -- a decision that is placed in the trail is looked at
 pub looked_at : (sc : Scenario) (h : List Entry) (s : ℕ) (t : Txn) (d : Dir) → Contains (all_records (trail_of sc h)) (record { site = s; entered = log.Decision t d })

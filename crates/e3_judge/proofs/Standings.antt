@@ -7,7 +7,7 @@ use Rattle.e3_types.specs.declared.records.Record.{Record}
 use Rattle.e3_types.specs.declared.scenarios.Scenario.{Scenario}
 use Rattle.e3_world.specs.declared.lives.Incarnation.{Incarnation}
 use Rattle.e3_world.specs.Lives.{present_log, incarnation_of, incarnation_by}
-use Rattle.e3_world.specs.Moves.{Move, Past, Tail, Rose, kept_moves, left_by, log_by, log_of, moves_of, open_tail, own, past_by, past_of, rise_records}
+use Rattle.e3_world.specs.Moves.{Move, Past, Tail, Rose, kept_moves, left_by, log_by, log_of, moves_of, open_tail, own_entries, past_by, past_of, rise_records}
 use Rattle.e3_world.proofs.Pushes.{incarnation_push, present_is_log}
 use Rattle.e3_judge.specs.declared.sites.Standing.{Standing}
 use Rattle.e3_judge.specs.Standing.{kept_in, nothing_yet, standing_by}
@@ -72,12 +72,12 @@ stands : (sc : Scenario) (site : ℕ) (mine : List Entry) →
 stands sc site mine = stands_from sc site (record { moves = []; tail = None }) mine
 
 pub incarnation_stands : (sc : Scenario) (h : List Entry) (site : ℕ) →
-    (fold (λ was e. standing_by sc site was e.act) nothing_yet (own site h)).incarnation ≡ incarnation_of (moves_of sc h site)
-incarnation_stands sc h site = ap (λ s. s.incarnation) (stands sc site (own site h))
+    (fold (λ was e. standing_by sc site was e.act) nothing_yet (own_entries site h)).incarnation ≡ incarnation_of (moves_of sc h site)
+incarnation_stands sc h site = ap (λ s. s.incarnation) (stands sc site (own_entries site h))
 
 pub tail_stands : (sc : Scenario) (h : List Entry) (site : ℕ) →
-    (fold (λ was e. standing_by sc site was e.act) nothing_yet (own site h)).tail ≡ open_tail sc h site
-tail_stands sc h site = ap (λ s. s.tail) (stands sc site (own site h))
+    (fold (λ was e. standing_by sc site was e.act) nothing_yet (own_entries site h)).tail ≡ open_tail sc h site
+tail_stands sc h site = ap (λ s. s.tail) (stands sc site (own_entries site h))
 
 pub log_stands : (sc : Scenario) (h : List Entry) (site : ℕ) → present_log (incarnation_of (moves_of sc h site)) ≡ log_of sc h site
 log_stands sc h site = present_is_log (moves_of sc h site)

@@ -13,7 +13,7 @@ use Rattle.e3_types.specs.declared.transactions.Dir.TheVariants.{Abort, Commit}
 use Rattle.e3_types.specs.declared.transactions.Txn.{Txn}
 use Rattle.e3_types.specs.Same.{same_txn}
 use Rattle.e3_types.specs.Sets.{has_site}
-use Rattle.e3_world.specs.Moves.{own, trail_of, all_records}
+use Rattle.e3_world.specs.Moves.{own_entries, trail_of, all_records}
 use Rattle.e3_judge.specs.declared.logs.Decided.{Decided}
 
 -- the owners with that of one more entry, each once
@@ -57,7 +57,7 @@ decided_by was _ = was
 
 -- the decisions of a site's log
 abbrev pub decided_at : List Entry → ℕ → List Record
-decided_at history site = (fold (λ was e. decided_by was e.act) nothing_yet (own site history)).sure
+decided_at history site = (fold (λ was e. decided_by was e.act) nothing_yet (own_entries site history)).sure
 
 -- the decisions in the logs of all owners
 abbrev pub decisions : List Entry → List Record

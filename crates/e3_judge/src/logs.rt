@@ -2,7 +2,7 @@
 ghost use Rattle.std.specs.Prelude.{◌≡◌, ◌++◌, ◌∷◌, [], fold, IfOk};
 ghost use Rattle.std.specs.List.{flat_map};
 ghost use Rattle.e3_types.specs.Sets.{has_site};
-ghost use Rattle.e3_world.specs.Moves.{own};
+ghost use Rattle.e3_world.specs.Moves.{own_entries};
 ghost use Rattle.e3_judge.specs.Clashes.{with_owner, owners, decisions_in, nothing_yet, with_step, with_fall, risen, decided_by, decided_at, decisions};
 
 use crate::copies::add_copies;

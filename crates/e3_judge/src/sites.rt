@@ -1,7 +1,7 @@
 // What a site's own entries come to: its incarnation and its open tail, and so its log.
 ghost use Rattle.std.specs.Prelude.{◌≡◌, ◌++◌, ◌∷◌, [], Option, Some, None, fold, map, suc, length, ◌+◌, IfOk};
 ghost use Rattle.e3_world.specs.Lives.{incarnation_of, present_log};
-ghost use Rattle.e3_world.specs.Moves.{left_by, log_of, moves_of, open_tail, own, unnumbered, unnumbered_input, rise_records};
+ghost use Rattle.e3_world.specs.Moves.{left_by, log_of, moves_of, open_tail, own_entries, unnumbered, unnumbered_input, rise_records};
 ghost use Rattle.e3_world.specs.Legal.{entry_of, made_by, numbered};
 ghost use Rattle.e3_world.specs.Packets.{sent};
 ghost use Rattle.e3_judge.specs.Standing.{kept_in, nothing_yet, standing_by, stepped};
@@ -228,7 +228,7 @@ fn standing_at(
     history: &[Entry],
     site: u32,
 ) -> Result<Standing, NoMemory>
-    ensures { IfOk result (λ s. s ≡ fold (λ was e. standing_by sc.now site was e.act) nothing_yet (own site history.now)) }
+    ensures { IfOk result (λ s. s ≡ fold (λ was e. standing_by sc.now site was e.act) nothing_yet (own_entries site history.now)) }
 {
     let mut standing = Standing {
         incarnation: Incarnation {

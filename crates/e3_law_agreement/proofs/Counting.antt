@@ -21,7 +21,7 @@ use Rattle.e3_world.specs.declared.names.Bound.{Bound}
 use Rattle.e3_world.specs.Given.{is_step_form, is_groupable}
 use Rattle.e3_world.specs.Items.{begin_names, binds, binding_by, due_round, recover_group, inputs_at, inputs_to, inputs_of, input_of, is_delivery, is_up_at, taken_at, to_line, turn_of}
 use Rattle.e3_world.specs.Legal.{Guard, IsStep, IsNextItem, IsRound, may_rise, made_by, entry_of}
-use Rattle.e3_world.specs.Moves.{own}
+use Rattle.e3_world.specs.Moves.{own_entries}
 use Rattle.e3_world.specs.Packets.{is_line, lines, present_items, step_items}
 use Rattle.e3_world.specs.Progress.{up_behind}
 use Rattle.e3_world.proofs.Guards.{lines_push}
@@ -268,7 +268,7 @@ line_on sc h n next c = record {
     now = binding_push sc h e
 
     taken : (s : ℕ) → taken_at (h ++ e ∷ []) s ≡ []
-    taken s = ap (λ w. flat_map (λ (x : Entry). inputs_of x.act) (own s w)) (ap (λ w. w.since) (split_push h e))
+    taken s = ap (λ w. flat_map (λ (x : Entry). inputs_of x.act) (own_entries s w)) (ap (λ w. w.since) (split_push h e))
 
 -- a step that is no begin
 other_on : (sc : Scenario) (h : List Entry) (s : ℕ) (i : Input) (records : List Record) (outs : List Packet) (events : List Told) → is_begin i ≡ false

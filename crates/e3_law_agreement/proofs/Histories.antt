@@ -18,7 +18,7 @@ use Rattle.e3_types.specs.declared.records.Record.{Record}
 use Rattle.e3_types.specs.declared.scenarios.Scenario.{Scenario}
 use Rattle.e3_world.specs.Items.{is_delivery, is_up_at}
 use Rattle.e3_world.specs.Legal.{made_by, entry_of, IsDue, AreDue, records_by, IsStep, IsFall, Guard, LegalAfter, IsLegal}
-use Rattle.e3_world.specs.Moves.{log_of, unnumbered, Silent, Move, Tail, Past, own, moves_at, moves_of, log_by, rise_records, kept_moves, left_by, moves_of_act, tail_of_act, past_by, past_of, unnumbered_input, trail_after, trail_of, recorded}
+use Rattle.e3_world.specs.Moves.{log_of, unnumbered, Silent, Move, Tail, Past, own_entries, moves_at, moves_of, log_by, rise_records, kept_moves, left_by, moves_of_act, tail_of_act, past_by, past_of, unnumbered_input, trail_after, trail_of, recorded}
 use Rattle.e3_world.specs.Progress.{up_behind}
 use Rattle.e3_world.specs.Sound.{sends, WasSent, step_move, records_in_turn}
 use Rattle.e3_world.proofs.InTrail.{due_was_sent}
@@ -42,17 +42,17 @@ use Rattle.e3_law_agreement.proofs.Refinement.Telling.{made_stands}
 use Rattle.e3_law_agreement.proofs.Refinement.Voting.{contains_from_in}
 
 -- the trail of a history with one more entry
-after_push : (sc : Scenario) (before h : List Entry) (e : Entry) → trail_after sc before (h ++ e ∷ []) ≡ trail_after sc before h ++ moves_of_act sc e.owner (past_of sc e.owner (own e.owner (before ++ h))) e.act
+after_push : (sc : Scenario) (before h : List Entry) (e : Entry) → trail_after sc before (h ++ e ∷ []) ≡ trail_after sc before h ++ moves_of_act sc e.owner (past_of sc e.owner (own_entries e.owner (before ++ h))) e.act
 after_push sc before [] e =
-    append-nil (moves_of_act sc e.owner (past_of sc e.owner (own e.owner before)) e.act)
-    ∙ ap (λ z. moves_of_act sc e.owner (past_of sc e.owner (own e.owner z)) e.act) (sym (append-nil before))
+    append-nil (moves_of_act sc e.owner (past_of sc e.owner (own_entries e.owner before)) e.act)
+    ∙ ap (λ z. moves_of_act sc e.owner (past_of sc e.owner (own_entries e.owner z)) e.act) (sym (append-nil before))
 after_push sc before (x ∷ h) e =
-    let first : List Move = moves_of_act sc x.owner (past_of sc x.owner (own x.owner before)) x.act in
+    let first : List Move = moves_of_act sc x.owner (past_of sc x.owner (own_entries x.owner before)) x.act in
     ap (λ z. first ++ z) (after_push sc (before ++ x ∷ []) h e)
-    ∙ sym (append_assoc first (trail_after sc (before ++ x ∷ []) h) (moves_of_act sc e.owner (past_of sc e.owner (own e.owner ((before ++ x ∷ []) ++ h))) e.act))
-    ∙ ap (λ z. (first ++ trail_after sc (before ++ x ∷ []) h) ++ moves_of_act sc e.owner (past_of sc e.owner (own e.owner z)) e.act) (append_assoc before (x ∷ []) h)
+    ∙ sym (append_assoc first (trail_after sc (before ++ x ∷ []) h) (moves_of_act sc e.owner (past_of sc e.owner (own_entries e.owner ((before ++ x ∷ []) ++ h))) e.act))
+    ∙ ap (λ z. (first ++ trail_after sc (before ++ x ∷ []) h) ++ moves_of_act sc e.owner (past_of sc e.owner (own_entries e.owner z)) e.act) (append_assoc before (x ∷ []) h)
 
-pub trail_push : (sc : Scenario) (h : List Entry) (e : Entry) → trail_of sc (h ++ e ∷ []) ≡ trail_of sc h ++ moves_of_act sc e.owner (past_of sc e.owner (own e.owner h)) e.act
+pub trail_push : (sc : Scenario) (h : List Entry) (e : Entry) → trail_of sc (h ++ e ∷ []) ≡ trail_of sc h ++ moves_of_act sc e.owner (past_of sc e.owner (own_entries e.owner h)) e.act
 trail_push sc h e = after_push sc [] h e
 
 pub made_append : (sc : Scenario) (before xs ys : List Move) → MadeAfter sc before xs → MadeAfter sc (before ++ xs) ys → MadeAfter sc before (xs ++ ys)
@@ -77,15 +77,15 @@ move_is sc h site i =
     ap (λ z. step_move sc site z i) (sym (trail_moves sc site h)) ∙ sym (step_move_plain sc site (moves_at site (trail_of sc h)) i)
 
 step_made : (sc : Scenario) (h : List Entry) (site : ℕ) (i : Input) (records : List Record) (outs : List Packet) (events : List Told) → IsStep sc h site i (Step i records outs events)
-    → (is_delivery i ≡ false → MayTake site i) → MadeAfter sc (trail_of sc h) (moves_of_act sc site (past_of sc site (own site h)) (Step i records outs events))
+    → (is_delivery i ≡ false → MayTake site i) → MadeAfter sc (trail_of sc h) (moves_of_act sc site (past_of sc site (own_entries site h)) (Step i records outs events))
 step_made sc h site i records outs events step fits =
     subst (λ ms. MadeAfter sc (trail_of sc h) ms) (sym moves) (
       (let k = due_taken sc h site i step.due fits in record { takes = k.0; was_sent = k.1; made = move_is sc h site i }),
       tt,
     )
   where
-    moves : moves_of_act sc site (past_of sc site (own site h)) (Step i records outs events) ≡ step_move sc site (moves_of sc h site) i ∷ []
-    moves = ap (λ (e : Entry). moves_of_act sc site (past_of sc site (own site h)) e.act) step.made ∙ entered_move sc h site i
+    moves : moves_of_act sc site (past_of sc site (own_entries site h)) (Step i records outs events) ≡ step_move sc site (moves_of sc h site) i ∷ []
+    moves = ap (λ (e : Entry). moves_of_act sc site (past_of sc site (own_entries site h)) e.act) step.made ∙ entered_move sc h site i
 
 -- what the inputs of a fall are, behind those before them
 abbrev FallsOk : Scenario → ℕ → List Entry → List Input → Type 0
@@ -186,8 +186,8 @@ tail_on sc a b site (Some tail) grows same ok = by tail.inputs ok
 
 -- what is carried for each site: its open tail may be kept, and there is none while it is up
 pub record Carried (sc : Scenario) (h : List Entry) (site : ℕ) : Type 0 where
-  pub tail : TailOk sc (trail_of sc h) site (past_of sc site (own site h)).tail
-  pub clean : is_up_at h site ≡ true → (past_of sc site (own site h)).tail ≡ None
+  pub tail : TailOk sc (trail_of sc h) site (past_of sc site (own_entries site h)).tail
+  pub clean : is_up_at h site ≡ true → (past_of sc site (own_entries site h)).tail ≡ None
 
 kept_made : (sc : Scenario) (h : List Entry) (site : ℕ) (kept : Bool) (tail : Option Tail) → TailOk sc (trail_of sc h) site tail → MadeAfter sc (trail_of sc h) (kept_moves site kept tail)
 kept_made sc h site true (Some tail) ok = (ok, tt)
@@ -203,16 +203,16 @@ kept_mine site true None = refl
 kept_mine site false tail = refl
 
 -- the moves of a site behind a tail that it keeps
-kept_log : (sc : Scenario) (h : List Entry) (site : ℕ) (kept : Bool) → moves_at site (trail_of sc h ++ kept_moves site kept (past_of sc site (own site h)).tail)
-    ≡ (past_of sc site (own site h)).moves ++ kept_moves site kept (past_of sc site (own site h)).tail
+kept_log : (sc : Scenario) (h : List Entry) (site : ℕ) (kept : Bool) → moves_at site (trail_of sc h ++ kept_moves site kept (past_of sc site (own_entries site h)).tail)
+    ≡ (past_of sc site (own_entries site h)).moves ++ kept_moves site kept (past_of sc site (own_entries site h)).tail
 kept_log sc h site kept =
-    moves_append site (trail_of sc h) (kept_moves site kept (past_of sc site (own site h)).tail)
-    ∙ ap (λ z. z ++ moves_at site (kept_moves site kept (past_of sc site (own site h)).tail)) (trail_moves sc site h)
-    ∙ ap (λ z. (past_of sc site (own site h)).moves ++ z) (kept_mine site kept (past_of sc site (own site h)).tail)
+    moves_append site (trail_of sc h) (kept_moves site kept (past_of sc site (own_entries site h)).tail)
+    ∙ ap (λ z. z ++ moves_at site (kept_moves site kept (past_of sc site (own_entries site h)).tail)) (trail_moves sc site h)
+    ∙ ap (λ z. (past_of sc site (own_entries site h)).moves ++ z) (kept_mine site kept (past_of sc site (own_entries site h)).tail)
 
 -- the moves of an entry
 entry_made : (sc : Scenario) (h : List Entry) (site : ℕ) (act : Act) → Guard sc h (record { owner = site; act = act }) → ItemsFit (record { owner = site; act = act }) → Carried sc h site
-    → MadeAfter sc (trail_of sc h) (moves_of_act sc site (past_of sc site (own site h)) act)
+    → MadeAfter sc (trail_of sc h) (moves_of_act sc site (past_of sc site (own_entries site h)) act)
 entry_made sc h zero (Line number) guard fits c = tt
 entry_made sc h zero (Parts parts) guard fits c = tt
 entry_made sc h zero (Drop number) guard fits c = tt
@@ -225,11 +225,11 @@ entry_made sc h zero Cut guard fits c = tt
 entry_made sc h (suc s) (Step i records outs events) guard fits c = step_made sc h (suc s) i records outs events guard (λ no_packet. fits i (0, omega arith, refl) no_packet)
 entry_made sc h (suc s) (Fall inputs records why) guard fits c = tt
 entry_made sc h (suc s) (Rise kept inc) guard fits c =
-    made_append sc (trail_of sc h) (kept_moves (suc s) kept (past_of sc (suc s) (own (suc s) h)).tail) _ (kept_made sc h (suc s) kept (past_of sc (suc s) (own (suc s) h)).tail c.tail) (
+    made_append sc (trail_of sc h) (kept_moves (suc s) kept (past_of sc (suc s) (own_entries (suc s) h)).tail) _ (kept_made sc h (suc s) kept (past_of sc (suc s) (own_entries (suc s) h)).tail c.tail) (
       ap (λ z. rise_records sc (suc s) inc (log_by z)) (sym (kept_log sc h (suc s) kept)),
       tt,
     )
-entry_made sc h (suc s) (RiseFall kept inc why) guard fits c = kept_made sc h (suc s) kept (past_of sc (suc s) (own (suc s) h)).tail c.tail
+entry_made sc h (suc s) (RiseFall kept inc why) guard fits c = kept_made sc h (suc s) kept (past_of sc (suc s) (own_entries (suc s) h)).tail c.tail
 entry_made sc h (suc s) Miss guard fits c = tt
 entry_made sc h (suc s) Cut guard fits c = tt
 entry_made sc h (suc s) (Drop number) guard fits c = tt
@@ -237,13 +237,13 @@ entry_made sc h (suc s) (Parts parts) guard fits c = tt
 entry_made sc h (suc s) (Line number) guard fits c = tt
 
 -- the own past behind an entry
-pub past_here : (sc : Scenario) (h : List Entry) (e : Entry) → past_of sc e.owner (own e.owner (h ++ e ∷ [])) ≡ past_by sc e.owner (past_of sc e.owner (own e.owner h)) e
-past_here sc h e = ap (past_of sc e.owner) (own_same e.owner h e (eq-eqb e.owner e.owner refl)) ∙ past_push sc e.owner (own e.owner h) e
+pub past_here : (sc : Scenario) (h : List Entry) (e : Entry) → past_of sc e.owner (own_entries e.owner (h ++ e ∷ [])) ≡ past_by sc e.owner (past_of sc e.owner (own_entries e.owner h)) e
+past_here sc h e = ap (past_of sc e.owner) (own_same e.owner h e (eq-eqb e.owner e.owner refl)) ∙ past_push sc e.owner (own_entries e.owner h) e
 
 -- what is sent goes on to be sent behind an entry
 trail_grows : (sc : Scenario) (h : List Entry) (e : Entry) (p : Packet) → Contains (flat_map sends (trail_of sc h)) p → Contains (flat_map sends (trail_of sc (h ++ e ∷ []))) p
 trail_grows sc h e p k =
-    let more : List Move = moves_of_act sc e.owner (past_of sc e.owner (own e.owner h)) e.act in
+    let more : List Move = moves_of_act sc e.owner (past_of sc e.owner (own_entries e.owner h)) e.act in
     subst (λ z. Contains (flat_map sends z) p) (sym (trail_push sc h e))
     (subst (λ z. Contains z p) (sym (flat_map-append sends (trail_of sc h) more)) (Contains-append_left (flat_map sends (trail_of sc h)) (flat_map sends more) p k))
 
@@ -251,29 +251,29 @@ trail_grows sc h e p k =
 carried_there : (sc : Scenario) (h : List Entry) (e : Entry) (site : ℕ) → (e.owner == site) ≡ false → Carried sc h site → Carried sc (h ++ e ∷ []) site
 carried_there sc h e site other c = record {
   tail = subst (λ z. TailOk sc (trail_of sc (h ++ e ∷ [])) site (past_of sc site z).tail) (sym mine)
-      (tail_on sc (trail_of sc h) (trail_of sc (h ++ e ∷ [])) site (past_of sc site (own site h)).tail (trail_grows sc h e) same c.tail);
+      (tail_on sc (trail_of sc h) (trail_of sc (h ++ e ∷ [])) site (past_of sc site (own_entries site h)).tail (trail_grows sc h e) same c.tail);
   clean = λ up. ap (λ z. (past_of sc site z).tail) mine ∙ c.clean (sym (up_other h e site other) ∙ up);
 }
   where
-    mine : own site (h ++ e ∷ []) ≡ own site h
+    mine : own_entries site (h ++ e ∷ []) ≡ own_entries site h
     mine = own_other site h e other
 
     same : moves_at site (trail_of sc (h ++ e ∷ [])) ≡ moves_at site (trail_of sc h)
     same = trail_moves sc site (h ++ e ∷ []) ∙ ap (λ z. (past_of sc site z).moves) mine ∙ sym (trail_moves sc site h)
 
 -- an act that leaves the moves and the tail
-tail_stays : (sc : Scenario) (h : List Entry) (site : ℕ) (act : Act) → moves_of_act sc site (past_of sc site (own site h)) act ≡ [] → Carried sc h site
-    → TailOk sc (trail_of sc (h ++ record { owner = site; act = act } ∷ [])) site (past_of sc site (own site h)).tail
+tail_stays : (sc : Scenario) (h : List Entry) (site : ℕ) (act : Act) → moves_of_act sc site (past_of sc site (own_entries site h)) act ≡ [] → Carried sc h site
+    → TailOk sc (trail_of sc (h ++ record { owner = site; act = act } ∷ [])) site (past_of sc site (own_entries site h)).tail
 tail_stays sc h site act none c =
-    tail_on sc (trail_of sc h) (trail_of sc (h ++ record { owner = site; act = act } ∷ [])) site (past_of sc site (own site h)).tail
+    tail_on sc (trail_of sc h) (trail_of sc (h ++ record { owner = site; act = act } ∷ [])) site (past_of sc site (own_entries site h)).tail
     (trail_grows sc h (record { owner = site; act = act }))
     (ap (moves_at site) (trail_push sc h (record { owner = site; act = act }) ∙ ap (λ z. trail_of sc h ++ z) none ∙ append-nil (trail_of sc h))) c.tail
 
 -- the tail behind an act, and that there is none while the site is up
 abbrev ActOk : Scenario → List Entry → ℕ → Act → Type 0
 ActOk sc h site act =
-    TailOk sc (trail_of sc (h ++ record { owner = site; act = act } ∷ [])) site (tail_of_act sc site (past_of sc site (own site h)) act)
-    × (up_behind (is_up_at h site) act ≡ true → tail_of_act sc site (past_of sc site (own site h)) act ≡ None)
+    TailOk sc (trail_of sc (h ++ record { owner = site; act = act } ∷ [])) site (tail_of_act sc site (past_of sc site (own_entries site h)) act)
+    × (up_behind (is_up_at h site) act ≡ true → tail_of_act sc site (past_of sc site (own_entries site h)) act ≡ None)
 
 fall_tail : (sc : Scenario) (h : List Entry) (site : ℕ) (inputs : List Input) (records : List Record) (why : Why) → IsFall sc h site inputs records
     → ((i : Input) → Contains inputs i → is_delivery i ≡ false → MayTake site i)
@@ -285,7 +285,7 @@ fall_tail sc h site inputs records (Full need room) fall fits = tt
 
 failed_tail : (sc : Scenario) (h : List Entry) (site : ℕ) (kept : Bool) (inc : ℕ) (why : Why)
     → TailOk sc (trail_of sc (h ++ record { owner = site; act = RiseFall kept inc why } ∷ [])) site
-    (left_by why [] (rise_records sc site inc (log_by ((past_of sc site (own site h)).moves ++ kept_moves site kept (past_of sc site (own site h)).tail))))
+    (left_by why [] (rise_records sc site inc (log_by ((past_of sc site (own_entries site h)).moves ++ kept_moves site kept (past_of sc site (own_entries site h)).tail))))
 failed_tail sc h site kept inc Fault =
     (inc, ap (λ z. rise_records sc site inc (log_by z)) (sym (ap (moves_at site) (trail_push sc h (record { owner = site; act = RiseFall kept inc Fault })) ∙ kept_log sc h site kept)))
 failed_tail sc h site kept inc (Full need room) = tt
@@ -316,7 +316,7 @@ carried_here : (sc : Scenario) (h : List Entry) (site : ℕ) (act : Act) → Gua
 carried_here sc h site act guard fits c =
     let e : Entry = record { owner = site; act = act } in
     let k = act_ok sc h site act guard fits c in
-    let tails : (past_of sc site (own site (h ++ e ∷ []))).tail ≡ tail_of_act sc site (past_of sc site (own site h)) act = ap (λ (w : Past). w.tail) (past_here sc h e) in
+    let tails : (past_of sc site (own_entries site (h ++ e ∷ []))).tail ≡ tail_of_act sc site (past_of sc site (own_entries site h)) act = ap (λ (w : Past). w.tail) (past_here sc h e) in
     record {
       tail = subst (λ z. TailOk sc (trail_of sc (h ++ e ∷ [])) site z) (sym tails) k.0;
       clean = λ up. tails ∙ k.1 (sym (up_same h e site (eq-eqb site site refl)) ∙ up);
@@ -335,7 +335,7 @@ made_on sc before [] legal fits made c = subst (λ z. IsMade sc (trail_of sc z))
 made_on sc before (e ∷ rest) legal fits made c =
     let fit : ItemsFit e = fits e (0, omega arith, refl) in
     let now : IsMade sc (trail_of sc (before ++ e ∷ [])) = subst (λ z. IsMade sc z) (sym (trail_push sc before e))
-    (made_append sc [] (trail_of sc before) (moves_of_act sc e.owner (past_of sc e.owner (own e.owner before)) e.act) made (entry_made sc before e.owner e.act legal.0 fit (c e.owner))) in
+    (made_append sc [] (trail_of sc before) (moves_of_act sc e.owner (past_of sc e.owner (own_entries e.owner before)) e.act) made (entry_made sc before e.owner e.act legal.0 fit (c e.owner))) in
     subst (λ z. IsMade sc (trail_of sc z)) (append_assoc before (e ∷ []) rest)
     (made_on sc (before ++ e ∷ []) rest legal.1 (λ x k. fits x (Contains-append_right (e ∷ []) rest x k)) now (carried_on sc before e legal.0 fit c))
 

@@ -16,7 +16,7 @@ use Rattle.e3_world.specs.Given.{IsGiven}
 use Rattle.e3_world.specs.Items.{is_delivery}
 use Rattle.e3_world.specs.Legal.{numbered, made_by, IsStep, Guard, LegalAfter, IsLegal}
 use Rattle.e3_world.specs.Lives.{incarnation_of, life_at}
-use Rattle.e3_world.specs.Moves.{Move, Past, own, moves_at, moves_of, log_by, log_of, recorded, past_of, moves_of_act, trail_of, unnumbered_input}
+use Rattle.e3_world.specs.Moves.{Move, Past, own_entries, moves_at, moves_of, log_by, log_of, recorded, past_of, moves_of_act, trail_of, unnumbered_input}
 use Rattle.e3_world.specs.Packets.{outs_of, sent}
 use Rattle.e3_world.specs.Safe.{Said, said_told, said_msg, said_act, ToldStands}
 use Rattle.e3_world.specs.Sound.{WasSent}
@@ -44,8 +44,8 @@ log_more sc h e s r k = by (e.owner == s) refl
   where
     by : (b : Bool) → (e.owner == s) ≡ b → IsIn r (log_of sc (h ++ e ∷ []) s)
     by true is =
-        let more : List Move = moves_of_act sc s (past_of sc s (own s h)) e.act in
-        let mine : moves_of sc (h ++ e ∷ []) s ≡ moves_of sc h s ++ more = ap (λ z. (past_of sc s z).moves) (own_same s h e is) ∙ ap (λ (w : Past). w.moves) (past_push sc s (own s h) e) in
+        let more : List Move = moves_of_act sc s (past_of sc s (own_entries s h)) e.act in
+        let mine : moves_of sc (h ++ e ∷ []) s ≡ moves_of sc h s ++ more = ap (λ z. (past_of sc s z).moves) (own_same s h e is) ∙ ap (λ (w : Past). w.moves) (past_push sc s (own_entries s h) e) in
         subst (λ z. IsIn r (log_by z)) (sym mine)
         (subst (λ z. IsIn r z) (sym (flat_map-append recorded (moves_of sc h s) more)) (in_left r (log_of sc h s) (log_by more) k))
     by false is = subst (λ z. IsIn r (log_by (past_of sc s z).moves)) (sym (own_other s h e is)) k
@@ -61,7 +61,7 @@ step_log : (sc : Scenario) (h : List Entry) (site : ℕ) (i : Input) (records : 
 step_log sc h site i records outs events =
     let e : Entry = record { owner = site; act = Step i records outs events } in
     ap (λ (w : Past). log_by w.moves) (past_here sc h e)
-    ∙ flat_map-append recorded (moves_of sc h site) (moves_of_act sc site (past_of sc site (own site h)) e.act)
+    ∙ flat_map-append recorded (moves_of sc h site) (moves_of_act sc site (past_of sc site (own_entries site h)) e.act)
     ∙ ap (λ z. log_of sc h site ++ z) (append-nil records)
 
 pub numbered_from : (n : ℕ) (ps : List Packet) (p : Packet) → IsIn p (numbered n ps) → (q : Packet) × IsIn q ps × (p.«from» ≡ q.«from»)

@@ -24,7 +24,7 @@ use Rattle.e3_world.specs.declared.names.Addressed.{Addressed}
 use Rattle.e3_world.specs.Given.{IsGiven, SaidSoFar, close_step, exist, is_begun, is_group, is_step_form, items_keep, keeps_rules, say_item, steps_keep}
 use Rattle.e3_world.specs.Items.{began_in, input_of, inputs_at, plan_of, to_line, turn_of, txn_of as txn_named, txn_of_record}
 use Rattle.e3_world.specs.Legal.{Guard, IsDue, IsLegal, LegalAfter, made_by}
-use Rattle.e3_world.specs.Moves.{log_of, own}
+use Rattle.e3_world.specs.Moves.{log_of, own_entries}
 use Rattle.e3_world.specs.Packets.{items_or, present_items, step_items}
 use Rattle.e3_world.proofs.Pushes.{legal_push}
 use Rattle.e3_law_steps.specs.Trails.{records_at}
@@ -175,10 +175,10 @@ after_set sc before [] given first legal = tt
 after_set sc before (e ∷ rest) given first legal =
     (entry_set sc before e.owner e.act given first legal.0, after_set sc (before ++ e ∷ []) rest given (legal_push sc before e first legal.0) legal.1)
 
-begun_set : (sc : Scenario) (h : List Entry) (t : Txn) → IsGiven sc → IsLegal sc h → Contains (flat_map (λ e. begun_in e.act) (own t.site h)) t → HasSet t
+begun_set : (sc : Scenario) (h : List Entry) (t : Txn) → IsGiven sc → IsLegal sc h → Contains (flat_map (λ e. begun_in e.act) (own_entries t.site h)) t → HasSet t
 begun_set sc h t given legal begun =
-    each-at HasSet (flat_map (λ e. begun_in e.act) (own t.site h)) t
-    (each-join HasSet (λ e. begun_in e.act) (own t.site h)
+    each-at HasSet (flat_map (λ e. begun_in e.act) (own_entries t.site h)) t
+    (each-join HasSet (λ e. begun_in e.act) (own_entries t.site h)
     (each-filter (λ e. Each HasSet (begun_in e.act)) (λ e. e.owner == t.site) h (after_set sc [] h given tt legal))) begun
 
 -- and so each that a log has

@@ -14,7 +14,7 @@ use Rattle.e3_world.specs.Given.{IsGiven, SaidSoFar, say_item, items_keep, is_st
 use Rattle.e3_world.specs.Items.{to_line, input_of, inputs_of, inputs_to, inputs_at, is_delivery, taken_at, turn_of, is_up_at}
 use Rattle.e3_world.specs.Legal.{Guard, LegalAfter, may_rise, entry_of, made_by}
 use Rattle.e3_world.specs.Lives.{incarnation_of}
-use Rattle.e3_world.specs.Moves.{own, past_of}
+use Rattle.e3_world.specs.Moves.{own_entries, past_of}
 use Rattle.e3_world.specs.Packets.{is_line, lines, present_items, step_items}
 use Rattle.e3_world.specs.Progress.{NeverRises}
 use Rattle.e3_world.specs.Sound.{step_move}
@@ -33,7 +33,7 @@ DoneAt sc h u = is_up_at h u ≡ true → length (inputs_at sc h u) ≤ turn_of 
 -- In two histories the site made the same moves and has the same tail, is up in both or in none, has the same line, and
 -- took the same inputs since; and a site that is through with its items in the first is so in the second.
 pub record Alike (sc : Scenario) (site : ℕ) (p h : List Entry) : Type 0 where
-  pub past : past_of sc site (own site h) ≡ past_of sc site (own site p)
+  pub past : past_of sc site (own_entries site h) ≡ past_of sc site (own_entries site p)
   pub up : is_up_at h site ≡ is_up_at p site
   pub line : lines h ≡ lines p
   pub to : to_line h ≡ to_line p
@@ -184,13 +184,13 @@ step_on sc site p h i a = record {
     itself = eq-eqb site site refl
 
     -- the past behind the step
-    behind : (k : List Entry) → past_of sc site (own site (k ++ entry_of sc k site i ∷ []))
-        ≡ record { moves = (past_of sc site (own site k)).moves ++ step_move sc site (past_of sc site (own site k)).moves i ∷ []; tail = (past_of sc site (own site k)).tail }
+    behind : (k : List Entry) → past_of sc site (own_entries site (k ++ entry_of sc k site i ∷ []))
+        ≡ record { moves = (past_of sc site (own_entries site k)).moves ++ step_move sc site (past_of sc site (own_entries site k)).moves i ∷ []; tail = (past_of sc site (own_entries site k)).tail }
     behind k =
-        ap (past_of sc site) (own_same site k (entry_of sc k site i) itself) ∙ past_push sc site (own site k) (entry_of sc k site i)
-        ∙ ap (λ l. record { moves = (past_of sc site (own site k)).moves ++ l; tail = (past_of sc site (own site k)).tail }) (entered_move sc k site i)
+        ap (past_of sc site) (own_same site k (entry_of sc k site i) itself) ∙ past_push sc site (own_entries site k) (entry_of sc k site i)
+        ∙ ap (λ l. record { moves = (past_of sc site (own_entries site k)).moves ++ l; tail = (past_of sc site (own_entries site k)).tail }) (entered_move sc k site i)
 
-    past_is : past_of sc site (own site (h ++ entry_of sc h site i ∷ [])) ≡ past_of sc site (own site (p ++ entry_of sc p site i ∷ []))
+    past_is : past_of sc site (own_entries site (h ++ entry_of sc h site i ∷ [])) ≡ past_of sc site (own_entries site (p ++ entry_of sc p site i ∷ []))
     past_is =
         behind h ∙ ap (λ w. record { moves = w.moves ++ step_move sc site w.moves i ∷ []; tail = w.tail }) a.past ∙ sym (behind p)
 

@@ -10,7 +10,7 @@ use Rattle.e3_types.specs.declared.scenarios.Scenario.{Scenario}
 use Rattle.e3_world.specs.Items.{since_line}
 use Rattle.e3_world.specs.Legal.{IsRising, IsRise, IsCut, has_rising, is_rising, may_rise}
 use Rattle.e3_world.specs.Logs.{logged_inc}
-use Rattle.e3_world.specs.Moves.{own, log_by, kept_moves}
+use Rattle.e3_world.specs.Moves.{own_entries, log_by, kept_moves}
 use Rattle.e3_world.specs.Packets.{is_line, lines, step_items, all_sites}
 use Rattle.e3_world.proofs.Readings.{since_push, own_same, own_other}
 use Rattle.e3_law_local.specs.Others.{AreOthers}
@@ -30,7 +30,7 @@ rises_push : (h : List Entry) (e : Entry) (u : ℕ) → has_rising h u ≡ true 
 rises_push h e u rose = by (e.owner == u) refl
   where
     by : (b : Bool) → (e.owner == u) ≡ b → has_rising (h ++ e ∷ []) u ≡ true
-    by true is = ap (list_any is_rising) (own_same u h e is) ∙ list_any-append is_rising (own u h) (e ∷ []) ∙ or_left (has_rising h u) (list_any is_rising (e ∷ [])) rose
+    by true is = ap (list_any is_rising) (own_same u h e is) ∙ list_any-append is_rising (own_entries u h) (e ∷ []) ∙ or_left (has_rising h u) (list_any is_rising (e ∷ [])) rose
     by false is = ap (list_any is_rising) (own_other u h e is) ∙ rose
 
 one_on : (site : ℕ) (h : List Entry) (e : Entry) → (e.owner == site) ≡ false → is_line e ≡ false → SameRises site h (h ++ e ∷ [])

@@ -35,7 +35,7 @@ use Rattle.e3_world.specs.Legal.{AreDue, Guard, IsDue, IsNextItem, LegalAfter, e
 use Rattle.e3_world.specs.Logs.{decision, decision_by, is_undecided}
 use Rattle.e3_world.specs.Making.{nothing, and_abort_for, and_decide, and_record, and_tell, is_coordinator, is_present, may_abort, may_decide, open_now}
 use Rattle.e3_world.specs.Messages.{on_message}
-use Rattle.e3_world.specs.Moves.{Past, log_by, log_of, moves_of, moves_of_act, own, past_of, recorded}
+use Rattle.e3_world.specs.Moves.{Past, log_by, log_of, moves_of, moves_of_act, own_entries, past_of, recorded}
 use Rattle.e3_world.specs.Operations.{expected}
 use Rattle.e3_world.specs.Packets.{is_calm, is_line, outs_of, pending, present_items, taken, taken_by}
 use Rattle.e3_world.specs.Steps.{step_at}
@@ -134,9 +134,9 @@ log_grows sc h e s = by (e.owner == s) refl
   where
     by : (b : Bool) → (e.owner == s) ≡ b → (more : List Record) × (log_of sc (h ++ e ∷ []) s ≡ log_of sc h s ++ more)
     by true is =
-        let added = moves_of_act sc s (past_of sc s (own s h)) e.act in (
+        let added = moves_of_act sc s (past_of sc s (own_entries s h)) e.act in (
           log_by added,
-          ap (λ l. log_by (past_of sc s l).moves) (own_same s h e is) ∙ ap (λ (p : Past). log_by p.moves) (past_push sc s (own s h) e)
+          ap (λ l. log_by (past_of sc s l).moves) (own_same s h e is) ∙ ap (λ (p : Past). log_by p.moves) (past_push sc s (own_entries s h) e)
               ∙ flat_map-append recorded (moves_of sc h s) added,
         )
     by false is = ([], ap (λ l. log_by (past_of sc s l).moves) (own_other s h e is) ∙ sym (append-nil (log_of sc h s)))

@@ -8,7 +8,7 @@ use Rattle.e3_types.specs.declared.scenarios.Scenario.{Scenario}
 use Rattle.e3_world.specs.declared.lives.At.{At}
 use Rattle.e3_world.specs.Legal.{entry_of, made_by, numbered}
 use Rattle.e3_world.specs.Lives.{life_at}
-use Rattle.e3_world.specs.Moves.{Move, log_by, recorded, log_of, moves_of, own, past_of, unnumbered, unnumbered_input}
+use Rattle.e3_world.specs.Moves.{Move, log_by, recorded, log_of, moves_of, own_entries, past_of, unnumbered, unnumbered_input}
 use Rattle.e3_world.specs.Packets.{outs_of, sent}
 use Rattle.e3_world.specs.Sound.{step_move}
 use Rattle.e3_world.proofs.Numbers.{entered_move}
@@ -29,7 +29,7 @@ pub moves_on : (sc : Scenario) (h : List Entry) (site : ℕ) (i : Input) →
     moves_of sc (h ++ entry_of sc h site i ∷ []) site ≡ moves_of sc h site ++ step_move sc site (moves_of sc h site) i ∷ []
 moves_on sc h site i =
     ap (λ l. (past_of sc site l).moves) (own_same site h (entry_of sc h site i) (self site))
-    ∙ ap (λ p. p.moves) (past_push sc site (own site h) (entry_of sc h site i))
+    ∙ ap (λ p. p.moves) (past_push sc site (own_entries site h) (entry_of sc h site i))
     ∙ ap (λ l. moves_of sc h site ++ l) (entered_move sc h site i)
 
 pub log_on : (sc : Scenario) (h : List Entry) (site : ℕ) (i : Input) →

@@ -26,8 +26,7 @@ use Rattle.e3_types.specs.Quorums.{is_quorum}
 use Rattle.e3_types.specs.Same.{same_dir, same_state}
 use Rattle.e3_types.specs.Sets.{others}
 use Rattle.e3_types.specs.Verdicts.{verdict_of}
-use Rattle.e3_world.specs.declared.gatherings.Election.{Election}
-use Rattle.e3_world.specs.declared.gatherings.Round.{Round}
+use Rattle.e3_world.specs.Gatherings.{Election, Round}
 use Rattle.e3_world.specs.declared.lives.At.{At}
 use Rattle.e3_world.specs.declared.lives.Expected.{Expected}
 use Rattle.e3_world.specs.declared.lives.Made.{Made}

@@ -11,7 +11,7 @@ use Rattle.e3_world.specs.declared.lives.At.{At}
 use Rattle.e3_world.specs.declared.lives.Incarnation.{Incarnation}
 use Rattle.e3_world.specs.declared.lives.Made.{Made}
 use Rattle.e3_world.specs.Legal.{IsLegal, made_by, entry_of}
-use Rattle.e3_world.specs.Moves.{own, unnumbered, unnumbered_input}
+use Rattle.e3_world.specs.Moves.{own_entries, unnumbered, unnumbered_input}
 use Rattle.e3_world.specs.Packets.{outs_of}
 use Rattle.e3_world.specs.Steps.{handled, step_of}
 use Rattle.e3_law_steps.specs.Waiting.{is_answer, may_wait, ranks_below}
@@ -37,7 +37,7 @@ PrefixIsLegal = (sc : Scenario) (front more : List Entry) → IsLegal sc (front 
 
 -- A step depends on the site's own entries alone.
 abbrev pub StepIsOwn : Type 0
-StepIsOwn = (sc : Scenario) (h k : List Entry) (site : ℕ) (i : Input) → own site h ≡ own site k → made_by sc h site i ≡ made_by sc k site i
+StepIsOwn = (sc : Scenario) (h k : List Entry) (site : ℕ) (i : Input) → own_entries site h ≡ own_entries site k → made_by sc h site i ≡ made_by sc k site i
 
 -- All that the rest of the history adds to a step's entry are the numbers of its packets.
 abbrev pub NumbersAreAll : Type 0

@@ -23,7 +23,7 @@ use Rattle.e3_types.specs.declared.transactions.Op.{Op}
 use Rattle.e3_types.specs.declared.transactions.Op.TheVariants.{Read, Write}
 use Rattle.e3_types.specs.declared.transactions.Txn.{Txn}
 use Rattle.e3_world.specs.Items.{began_in}
-use Rattle.e3_world.specs.Moves.{own}
+use Rattle.e3_world.specs.Moves.{own_entries}
 
 -- a transaction, or a value of a record
 pub data Mention : Type 0 where
@@ -104,7 +104,7 @@ begun_in _ = []
 
 -- an entry of the transaction's coordinator told it as begun
 abbrev pub WasBegun : List Entry → Txn → Type 0
-WasBegun h t = Contains (flat_map (λ e. begun_in e.act) (own t.site h)) t
+WasBegun h t = Contains (flat_map (λ e. begun_in e.act) (own_entries t.site h)) t
 
 -- the values that an item writes
 abbrev pub values_in : Item → List (List ℕ)

@@ -23,3 +23,4 @@ pub use place::mode_among;
 pub use replays::{LockCall, replay_locks};
 pub use rule::{front, front_length, lock_grant};
 pub use table::LockTable;
+pub use waits::add_txn;

@@ -3,7 +3,6 @@ ghost use Rattle.std.specs.Prelude.{◌≡◌, ◌≤◌, ◌-◌, ◌∷◌, []
 ghost use Rattle.std.specs.List.{flat_map};
 ghost use Rattle.e3_types.specs.Locks.{front};
 ghost use Rattle.e3_world.specs.Items.{add_txn};
-ghost use Rattle.e3_types.specs.Sorted.{IsAt, IsGap};
 ghost use Rattle.e3_locks.specs.LockLists.{place, named};
 ghost use Rattle.e3_locks.specs.Places.{would, requested, without};
 ghost use Rattle.e3_locks.specs.Replays.{with_request};
@@ -71,62 +70,7 @@ fn request_here(
     }
 }
 
-// A request on the name whose place this is.
-fn request_at(
-    places: &mut Vec<NameLocks>,
-    at: usize,
-    name: &Name,
-    wanted: &Lock,
-    spare: &mut Vec<Lock>,
-    most: &mut usize,
-) -> Result<Grant, NoMemory>
-    requires at { IsAt (λ s. s.name) name.now places.old.items at }
-    requires table { IsTable places.old.items most.old }
-    requires spare { spare.old.items ≡ [] }
-    ensures grant { IfOk result (λ g. g ≡ would wanted.now (place_in name.now places.old.items)) }
-    ensures ok { IfOk result (λ g. (n : Items ℕ) → place_in n places.new.items
-        ≡ with_request name.now wanted.now g (λ k. place_in k places.old.items) n) }
-    ensures err { OnErr result (places.new.items ≡ places.old.items) }
-    ensures table { IsTable places.new.items most.new }
-    ensures spare { spare.new.items ≡ [] }
-    ensures full { OnErr result (vec_capacity spare.old ≤ most.old) }
-{
-    let grant = request_here(&mut places[at], wanted, spare)?;
-    *most = (*most).max(places[at].count());
-    Ok(grant)
-}
-
-// A request on a name that has no place yet, and gets it here.
-fn request_first(
-    alloc: Global,
-    places: &mut Vec<NameLocks>,
-    at: usize,
-    name: &Name,
-    wanted: &Lock,
-    spare: &mut Vec<Lock>,
-    most: &mut usize,
-) -> Result<Grant, NoMemory>
-    requires gap { IsGap (λ s. s.name) name.now places.old.items at }
-    requires table { IsTable places.old.items most.old }
-    requires spare { spare.old.items ≡ [] }
-    ensures grant { IfOk result (λ g. g ≡ would wanted.now (place_in name.now places.old.items)) }
-    ensures ok { IfOk result (λ g. (n : Items ℕ) → place_in n places.new.items
-        ≡ with_request name.now wanted.now g (λ k. place_in k places.old.items) n) }
-    ensures err { OnErr result (places.new.items ≡ places.old.items) }
-    ensures table { IsTable places.new.items most.new }
-    ensures spare { spare.new.items ≡ [] }
-    ensures full { OnErr result (min (vec_capacity places.old - vec_len places.old) (vec_capacity spare.old) ≡ 0) }
-{
-    let first = NameLocks::first(alloc, name, wanted, spare)?;
-    match places.insert(at, first) {
-        Ok(()) => {}
-        Err(_) => return Err(NoMemory),
-    }
-    *most = (*most).max(1);
-    Ok(Grant::Held)
-}
-
-// A request on a name.
+// A request on a name. A name that has no place yet gets it.
 fn request_on(
     alloc: Global,
     places: &mut Vec<NameLocks>,
@@ -146,8 +90,20 @@ fn request_on(
     ensures full { OnErr result (min (vec_capacity places.old - vec_len places.old) (vec_capacity spare.old - most.old) ≡ 0) }
 {
     match place_of(places, name) {
-        Ok(at) => request_at(places, at, name, wanted, spare, most),
-        Err(at) => request_first(alloc, places, at, name, wanted, spare, most),
+        Ok(at) => {
+            let grant = request_here(&mut places[at], wanted, spare)?;
+            *most = (*most).max(places[at].count());
+            Ok(grant)
+        }
+        Err(at) => {
+            let first = NameLocks::first(alloc, name, wanted, spare)?;
+            match places.insert(at, first) {
+                Ok(()) => {}
+                Err(_) => return Err(NoMemory),
+            }
+            *most = (*most).max(1);
+            Ok(Grant::Held)
+        }
     }
 }
 

@@ -28,8 +28,8 @@ fn place_among(txns: &[Txn], new: &Txn) -> Option<usize>
     Some(txns.len())
 }
 
-// Adds a transaction in its place, unless it is there.
-fn add_txn(new: &Txn, txns: &mut Vec<Txn>) -> Result<(), NoMemory>
+/// Adds a transaction in its place among these, which ascend, unless it is there. Want of memory is the only error.
+pub fn add_txn(new: &Txn, txns: &mut Vec<Txn>) -> Result<(), NoMemory>
     ensures { IfOk result (λ u. txns.new.items ≡ add_txn txns.old.items new.now) }
 {
     match place_among(txns, new) {

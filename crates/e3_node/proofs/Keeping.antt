@@ -23,12 +23,12 @@ use Rattle.e3_types.specs.declared.records.Record.{Record}
 use Rattle.e3_types.specs.declared.entries.Entry.{Entry}
 use Rattle.e3_types.specs.declared.scenarios.Scenario.{Scenario}
 use Rattle.e3_world.specs.Items.{is_up_at}
-use Rattle.e3_world.specs.Moves.{Move, Tail, is_up, log_by, moves_of, open_tail, own, past_of}
+use Rattle.e3_world.specs.Moves.{Move, Tail, is_up, log_by, moves_of, open_tail, own_entries, past_of}
 use Rattle.e3_world.proofs.Readings.{own_other}
 use Rattle.e3_node.proofs.Apart.{apart}
 use Rattle.e3_node.proofs.Left.{opened_reads, reads_alike, tells_holds}
 
-pub own_kept : (site : ℕ) (h : List Entry) (e : Entry) → e.owner ≢ site → own site (h ++ e ∷ []) ≡ own site h
+pub own_kept : (site : ℕ) (h : List Entry) (e : Entry) → e.owner ≢ site → own_entries site (h ++ e ∷ []) ≡ own_entries site h
 own_kept site h e other = own_other site h e (apart e.owner site other)
 
 pub moves_kept : (sc : Scenario) (h : List Entry) (e : Entry) (site : ℕ) → e.owner ≢ site → moves_of sc (h ++ e ∷ []) site ≡ moves_of sc h site

@@ -15,7 +15,7 @@ use Rattle.e3_types.specs.declared.scenarios.Scenario.{Scenario}
 use Rattle.e3_world.specs.Given.{IsGiven}
 use Rattle.e3_world.specs.Items.{is_up_at}
 use Rattle.e3_world.specs.Legal.{AreDue, IsDue, IsLegal, entry_of}
-use Rattle.e3_world.specs.Moves.{Move, Past, Rose, kept_moves, log_by, log_of, moves_of_act, own, past_by, recorded, rise_records}
+use Rattle.e3_world.specs.Moves.{Move, Past, Rose, kept_moves, log_by, log_of, moves_of_act, own_entries, past_by, recorded, rise_records}
 use Rattle.e3_world.proofs.Guards.{guard_step}
 use Rattle.e3_world.proofs.Pushes.{legal_push, log_push}
 use Rattle.e3_world.specs.Progress.{up_behind}
@@ -80,4 +80,4 @@ some_from sc site w was (e ∷ mine) before up =
     (λ now none. act_some sc site w was e.act before now (sym (flat_map-append recorded w.moves (moves_of_act sc site w e.act)) ∙ none)) up
 
 pub up_log : (sc : Scenario) (h : List Entry) (site : ℕ) → is_up_at h site ≡ true → log_of sc h site ≢ []
-up_log sc h site up = some_from sc site (record { moves = []; tail = None }) false (own site h) (λ yes. absurd (let both : false ≡ true = yes in cc)) up
+up_log sc h site up = some_from sc site (record { moves = []; tail = None }) false (own_entries site h) (λ yes. absurd (let both : false ≡ true = yes in cc)) up

@@ -6,22 +6,22 @@ use Rattle.e3_types.specs.declared.entries.Act.TheVariants.{Rise, RiseFall}
 use Rattle.e3_types.specs.declared.entries.Entry.{Entry}
 use Rattle.e3_types.specs.declared.entries.Why.{Why}
 use Rattle.e3_types.specs.declared.scenarios.Scenario.{Scenario}
-use Rattle.e3_world.specs.Moves.{Move, Past, Rose as DidRise, kept_moves, left_by, log_by, log_of, moves_of, open_tail, own, past_by, past_of, recorded, rise_records}
+use Rattle.e3_world.specs.Moves.{Move, Past, Rose as DidRise, kept_moves, left_by, log_by, log_of, moves_of, open_tail, own_entries, past_by, past_of, recorded, rise_records}
 use Rattle.e3_world.proofs.Pushes.{log_push, past_push}
 use Rattle.e3_world.proofs.Readings.{own_same}
 use Rattle.e3_world.proofs.Turns.{self}
 
 -- the past of a site behind one more entry of its own
 pub past_on : (sc : Scenario) (h : List Entry) (site : ℕ) (e : Entry) → e.owner ≡ site →
-    past_of sc site (own site (h ++ e ∷ [])) ≡ past_by sc site (past_of sc site (own site h)) e
+    past_of sc site (own_entries site (h ++ e ∷ [])) ≡ past_by sc site (past_of sc site (own_entries site h)) e
 past_on sc h site e is =
-    let mine : own site (h ++ e ∷ []) ≡ own site h ++ e ∷ [] = own_same site h e (ap (λ (n : ℕ). n == site) is ∙ self site) in
-    ap (past_of sc site) mine ∙ past_push sc site (own site h) e
+    let mine : own_entries site (h ++ e ∷ []) ≡ own_entries site h ++ e ∷ [] = own_same site h e (ap (λ (n : ℕ). n == site) is ∙ self site) in
+    ap (past_of sc site) mine ∙ past_push sc site (own_entries site h) e
 
 -- it has one entry more
 pub entries_on : (h : List Entry) (site : ℕ) (e : Entry) → e.owner ≡ site → entries_at (h ++ e ∷ []) site ≡ entries_at h site + 1
 entries_on h site e is =
-    ap (λ (l : List Entry). length l) (own_same site h e (ap (λ (n : ℕ). n == site) is ∙ self site)) ∙ length-append (own site h) (e ∷ [])
+    ap (λ (l : List Entry). length l) (own_same site h e (ap (λ (n : ℕ). n == site) is ∙ self site)) ∙ length-append (own_entries site h) (e ∷ [])
 
 -- the moves of a site that rose: those that it kept, and the rise
 pub rise_moves : (sc : Scenario) (h : List Entry) (site : ℕ) (kept : Bool) (inc : ℕ) →

@@ -40,7 +40,7 @@ use Rattle.e3_world.specs.Legal.{Guard, IsDue, entry_of, made_by}
 use Rattle.e3_world.specs.Lives.{life_of}
 use Rattle.e3_world.specs.declared.lives.Incarnation.{Incarnation}
 use Rattle.e3_world.specs.declared.lives.SiteStep.{SiteStep}
-use Rattle.e3_world.specs.Moves.{Move, Past, left_by, log_by, log_of, moves_of, open_tail, own, unnumbered_input}
+use Rattle.e3_world.specs.Moves.{Move, Past, left_by, log_by, log_of, moves_of, open_tail, own_entries, unnumbered_input}
 use Rattle.e3_world.specs.Sound.{step_move}
 use Rattle.e3_world.proofs.Guards.{guard_step}
 use Rattle.e3_world.proofs.Numbers.{entered_move}
@@ -101,9 +101,9 @@ stepped_up meaning sc h site i s l n up stands logged lit few = record {
 pub one_step_more : (sc : Scenario) (h : List Entry) (site : ℕ) (i : Input) → steps_at (h ++ entry_of sc h site i ∷ []) site ≡ suc (steps_at h site)
 one_step_more sc h site i =
     let e : Entry = entry_of sc h site i in
-    let front : List Entry = filter is_step (own site h) in
-    let all : length (filter is_step (own site (h ++ e ∷ []))) ≡ length (front ++ e ∷ []) =
-    ap (λ (mine : List Entry). length (filter is_step mine)) (own_same site h e (self site)) ∙ ap length (filter-append is_step (own site h) (e ∷ [])) in
+    let front : List Entry = filter is_step (own_entries site h) in
+    let all : length (filter is_step (own_entries site (h ++ e ∷ []))) ≡ length (front ++ e ∷ []) =
+    ap (λ (mine : List Entry). length (filter is_step mine)) (own_same site h e (self site)) ∙ ap length (filter-append is_step (own_entries site h) (e ∷ [])) in
     let more : length (front ++ e ∷ []) ≡ length front + 1 = length-append front (e ∷ []) in
     omega (arith, all, more)
 

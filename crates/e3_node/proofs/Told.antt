@@ -17,7 +17,7 @@ use Rattle.e3_types.specs.declared.records.Record.{Record}
 use Rattle.e3_types.specs.declared.scenarios.Scenario.{Scenario}
 use Rattle.e3_world.specs.Given.{IsGiven}
 use Rattle.e3_world.specs.Legal.{Guard, IsLegal, IsRise, LegalAfter}
-use Rattle.e3_world.specs.Moves.{Move, Past, Silent, Tail, kept_moves, left_by, log_by, log_of, moves_of, open_tail, own, past_of, unnumbered_input, rise_records, tail_of_act}
+use Rattle.e3_world.specs.Moves.{Move, Past, Silent, Tail, kept_moves, left_by, log_by, log_of, moves_of, open_tail, own_entries, past_of, unnumbered_input, rise_records, tail_of_act}
 use Rattle.e3_world.proofs.Pushes.{log_push, past_push}
 use Rattle.e3_world.proofs.Readings.{own_other, own_same}
 use Rattle.e3_node.proofs.Tails.{more_is_told}
@@ -54,8 +54,8 @@ entry_some : (sc : Scenario) (h : List Entry) (site : ℕ) (e : Entry) → Guard
 entry_some sc h site e guard before = by (e.owner == site) refl
   where
     by : (b : Bool) → (e.owner == site) ≡ b → HasSome (open_tail sc (h ++ e ∷ []) site)
-    by true is = subst (λ (p : Past). HasSome p.tail) (sym (ap (past_of sc site) (own_same site h e is) ∙ past_push sc site (own site h) e))
-        (act_some sc h site e.owner (past_of sc site (own site h)) e.act guard before)
+    by true is = subst (λ (p : Past). HasSome p.tail) (sym (ap (past_of sc site) (own_same site h e is) ∙ past_push sc site (own_entries site h) e))
+        (act_some sc h site e.owner (past_of sc site (own_entries site h)) e.act guard before)
     by false is = subst (λ (mine : List Entry). HasSome (past_of sc site mine).tail) (sym (own_other site h e is)) before
 
 some_behind : (sc : Scenario) (before rest : List Entry) (site : ℕ) → LegalAfter sc before rest → HasSome (open_tail sc before site) → HasSome (open_tail sc (before ++ rest) site)

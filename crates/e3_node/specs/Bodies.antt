@@ -5,11 +5,11 @@ use Rattle.e3_types.specs.declared.entries.Entry.{Entry}
 use Rattle.e3_types.specs.declared.records.Record.{Record}
 use Rattle.e3_types.specs.declared.scenarios.Scenario.{Scenario}
 use Rattle.e3_world.specs.Brief.{brief}
-use Rattle.e3_world.specs.Moves.{Move, Tail, kept_moves, log_by, moves_of, open_tail, own}
+use Rattle.e3_world.specs.Moves.{Move, Tail, kept_moves, log_by, moves_of, open_tail, own_entries}
 
 -- how many entries a site has in a history: its log was turned no more often
 abbrev pub entries_at : List Entry → ℕ → ℕ
-entries_at history site = length (own site history)
+entries_at history site = length (own_entries site history)
 
 -- the moves of a site with its open tail where a rise keeps it
 abbrev pub moves_with : Scenario → List Entry → ℕ → Bool → List Move

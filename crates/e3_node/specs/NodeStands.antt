@@ -16,7 +16,7 @@ use Rattle.e3_types.specs.declared.entries.Entry.{Entry}
 use Rattle.e3_types.specs.declared.records.Record.{Record}
 use Rattle.e3_types.specs.declared.scenarios.Scenario.{Scenario}
 use Rattle.e3_world.specs.Items.{is_up_at}
-use Rattle.e3_world.specs.Moves.{log_of, own, rows_at}
+use Rattle.e3_world.specs.Moves.{log_of, own_entries, rows_at}
 
 -- the entry is a step
 abbrev pub is_step : Entry → Bool
@@ -28,7 +28,7 @@ is_step e = by e.act
 
 -- how many steps a site has in a history
 abbrev pub steps_at : List Entry → ℕ → ℕ
-steps_at history site = length (filter is_step (own site history))
+steps_at history site = length (filter is_step (own_entries site history))
 
 -- The history has the site down, and the disk holds the site's log in it, with power or without; the number tells what of a
 -- tail it has.

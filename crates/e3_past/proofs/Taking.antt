@@ -24,7 +24,7 @@ use Rattle.e3_world.specs.Operations.{taken_up, is_refusal, arrivals, answers, i
 use Rattle.e3_readings.proofs.Equal.{same_txn_refl}
 use Rattle.e3_cards.specs.declared.card.Card.{Card}
 use Rattle.e3_cards.specs.declared.cards.Cards.{Cards}
-use Rattle.e3_cards.specs.Readings.{first_of}
+use Rattle.e3_readings.specs.Awaiting.{first_of}
 use Rattle.e3_cards.specs.Seeing.{seen_state}
 use Rattle.e3_cards.specs.Tables.{CardsStand, card_at, IsKnown}
 use Rattle.e3_cards.proofs.Arrivals.{state_seen, among_own}

@@ -21,6 +21,7 @@ use Rattle.e3_world.specs.Elections.{is_decision}
 use Rattle.e3_world.specs.Items.{add_txn, began_in, txn_of_record}
 use Rattle.e3_world.specs.Lives.{life_by}
 use Rattle.e3_world.specs.Logs.{decision, decision_by, is_undecided}
+use Rattle.e3_world.specs.Making.{decides}
 use Rattle.e3_world.specs.Operations.{and_arrived, arrivals, is_fresh, taken_up}
 use Rattle.e3_cards.proofs.Arrivals.{arrivals_push}
 use Rattle.e3_cards.specs.Noting.{unstepped}
@@ -28,7 +29,7 @@ use Rattle.e3_readings.specs.Opens.{open_in, undecided_in}
 use Rattle.e3_places.specs.Standing.{fresh_of, moment_of}
 use Rattle.e3_past.specs.declared.tables.Opens.{Opens}
 use Rattle.e3_past.specs.declared.tables.Tables.{Tables}
-use Rattle.e3_past.specs.Opening.{AreAdded, HaveRoom, OpensStand, decides, fresh_txns, undecided_among}
+use Rattle.e3_past.specs.Opening.{AreAdded, HaveRoom, OpensStand, fresh_txns, undecided_among}
 use Rattle.e3_past.specs.Standing.{TablesStand}
 
 -- a decision stays, whatever records come

@@ -17,11 +17,6 @@ use Rattle.e3_past.specs.declared.tables.Opens.{Opens}
 abbrev pub undecided_among : List Record → List Txn → List Txn
 undecided_among log txns = filter (λ t. is_undecided t log) txns
 
--- the record decides a transaction
-abbrev pub decides : Record → Bool
-decides (log.Decision t dir) = true
-decides _ = false
-
 -- the transaction of an operation that came, if one did
 abbrev pub fresh_txns : Option Standing → List Txn
 fresh_txns None = []

@@ -9,7 +9,8 @@ ghost use Rattle.e3_world.specs.Logs.{key_of, table_of, row_value};
 ghost use Rattle.e3_world.specs.Making.{grants_after, log_now};
 ghost use Rattle.e3_world.specs.Operations.{holders, queue, waiting};
 ghost use Rattle.e3_cards.specs.Tables.{CardsStand};
-ghost use Rattle.e3_places.specs.Standing.{follow, lock_for};
+ghost use Rattle.e3_readings.specs.Requests.{lock_for};
+ghost use Rattle.e3_places.specs.Standing.{follow};
 ghost use Rattle.e3_places.specs.Keeping.{HasRoom};
 ghost use Rattle.e3_past.specs.Knowing.{NamesStand, AreBehind};
 

@@ -11,7 +11,8 @@ ghost use Rattle.e3_cards.specs.Noting.{unstepped};
 ghost use Rattle.e3_cards.specs.Tables.{CardsStand};
 ghost use Rattle.e3_readings.specs.Opens.{open_in};
 ghost use Rattle.e3_places.specs.Standing.{fresh_of};
-ghost use Rattle.e3_past.specs.Opening.{AreAdded, HaveRoom, OpensStand, decides, fresh_txns, undecided_among};
+ghost use Rattle.e3_world.specs.Making.{decides};
+ghost use Rattle.e3_past.specs.Opening.{AreAdded, HaveRoom, OpensStand, fresh_txns, undecided_among};
 ghost use Rattle.e3_past.specs.Standing.{TablesStand};
 
 use crate::arriving::fresh;
@@ -19,6 +20,7 @@ use crate::tables::{Opens, Tables};
 use e3_cards::Cards;
 use e3_places::Standing;
 use e3_readings::{in_order, is_decision, is_undecided};
+use e3_step::decides;
 use e3_types::{List, NoMemory, Record, Told, Txn};
 use e3_world::SiteStep;
 use std::alloc::Global;
@@ -121,15 +123,6 @@ fn add_arrived(
 {
     let new = fresh(alloc, cards, &step.input, step.told.as_slice())?;
     add_fresh(cards, &new, out)
-}
-
-fn decides(r: &Record) -> bool
-    ensures { result ≡ decides r.now }
-{
-    match r {
-        Record::Decision { .. } => true,
-        _ => false,
-    }
 }
 
 // A record among these decides a transaction.

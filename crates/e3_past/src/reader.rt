@@ -10,7 +10,7 @@ use crate::names;
 use crate::names::Names;
 use crate::tables::Tables;
 use e3_cards::Cards;
-use e3_commit::Round;
+use e3_commit::Acks;
 use e3_elect::Election;
 use e3_plain::unnumbered_input;
 use e3_step::{Past, step_at};
@@ -185,7 +185,7 @@ impl<'a, K: Whose> Past for Reader<'a, K> {
         cards.election(alloc, t)
     }
 
-    fn round(&self, t: &Txn) -> Option<Round> {
+    fn round(&self, t: &Txn) -> Option<Acks> {
         let cards = self.cards;
         cards.round(t)
     }

@@ -31,7 +31,8 @@ use Rattle.e3_places.specs.declared.places.Claims.{Claims}
 use Rattle.e3_places.specs.declared.places.Place.{Place}
 use Rattle.e3_places.specs.declared.places.Places.{Places}
 use Rattle.e3_places.specs.declared.places.Standing.{Standing}
-use Rattle.e3_places.specs.Standing.{is_on, fresh_of, follow, lock_for, held_with, waits_with, wanted_with, claims_of, place_by}
+use Rattle.e3_readings.specs.Requests.{lock_for}
+use Rattle.e3_places.specs.Standing.{is_on, fresh_of, follow, held_with, waits_with, wanted_with, claims_of, place_by}
 use Rattle.e3_places.specs.Touching.{name_of, names_touched}
 use Rattle.e3_places.specs.Keeping.{PlacesStand}
 use Rattle.e3_places.specs.Granting.{given, given_behind, is_restless, RestlessStand, stirred, restless_by, in_order, granted_by, step_so_far}

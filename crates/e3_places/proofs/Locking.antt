@@ -13,7 +13,8 @@ use Rattle.e3_world.specs.Logs.{is_undecided, key_of, lock_on, voted_locks}
 use Rattle.e3_world.specs.Making.{asked_on}
 use Rattle.e3_world.specs.Operations.{arrivals, is_answered, done_locks, waiting, holders, queue}
 use Rattle.e3_places.specs.declared.places.Standing.{Standing}
-use Rattle.e3_places.specs.Standing.{is_on, stand, standing_one, standing_of, claims_of, decided_in, follow, lock_for, held_by, waits_by, held_with, waits_with, wanted_by, wanted_with}
+use Rattle.e3_readings.specs.Requests.{lock_for}
+use Rattle.e3_places.specs.Standing.{is_on, stand, standing_one, standing_of, claims_of, decided_in, follow, held_by, waits_by, held_with, waits_with, wanted_by, wanted_with}
 use Rattle.e3_places.proofs.Arriving.{undecided_more, flat_if}
 use Rattle.e3_places.proofs.Voting.{votes_more, voted_is}
 

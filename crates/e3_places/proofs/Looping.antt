@@ -16,7 +16,8 @@ use Rattle.e3_world.specs.declared.lives.Asked.{Asked}
 use Rattle.e3_places.specs.declared.picks.Pick.TheVariants as pick
 use Rattle.e3_places.specs.declared.places.Claims.{Claims}
 use Rattle.e3_places.specs.declared.places.Standing.{Standing}
-use Rattle.e3_places.specs.Standing.{is_on, passes, cast_of, is_left, lock_for, left_lock, held_by, held_with, written}
+use Rattle.e3_readings.specs.Requests.{lock_for}
+use Rattle.e3_places.specs.Standing.{is_on, passes, cast_of, is_left, left_lock, held_by, held_with, written}
 
 assoc : {X : Type 0} (xs ys zs : List X) → (xs ++ ys) ++ zs ≡ xs ++ (ys ++ zs)
 assoc [] ys zs = refl

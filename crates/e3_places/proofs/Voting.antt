@@ -13,7 +13,8 @@ use Rattle.e3_types.specs.declared.transactions.Txn.{Txn}
 use Rattle.e3_types.specs.Same.{same_numbers}
 use Rattle.e3_world.specs.declared.lives.Asked.{Asked}
 use Rattle.e3_world.specs.Logs.{is_undecided, key_of, lock_on, vote_locks, voted_locks}
-use Rattle.e3_places.specs.Standing.{is_on, voted, cast_in, cast_of, is_open, votes_of, is_left, votes_by, may_follow, follow, lock_for}
+use Rattle.e3_readings.specs.Requests.{lock_for}
+use Rattle.e3_places.specs.Standing.{is_on, voted, cast_in, cast_of, is_open, votes_of, is_left, votes_by, may_follow, follow}
 use Rattle.e3_places.proofs.Arriving.{undecided_more}
 
 -- a test that is two tests in turn

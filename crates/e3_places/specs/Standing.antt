@@ -23,8 +23,9 @@ use Rattle.e3_world.specs.declared.lives.Life.{Life}
 use Rattle.e3_world.specs.declared.lives.Moment.{Moment}
 use Rattle.e3_world.specs.declared.lives.SiteStep.{SiteStep}
 use Rattle.e3_world.specs.Elections.{is_decision}
-use Rattle.e3_world.specs.Logs.{is_undecided, key_of, mode_of, table_of, row_value}
+use Rattle.e3_world.specs.Logs.{is_undecided, key_of, table_of, row_value}
 use Rattle.e3_world.specs.Operations.{arrivals, is_answered, is_fresh, taken_up}
+use Rattle.e3_readings.specs.Requests.{lock_for}
 use Rattle.e3_places.specs.declared.places.Standing.{Standing}
 use Rattle.e3_places.specs.declared.places.Claims.{Claims}
 use Rattle.e3_places.specs.declared.places.Place.{Place}
@@ -195,10 +196,6 @@ may_follow records _ = true
 -- so are these records
 abbrev pub follow : List Record → List Record → Bool
 follow records rs = list_all (may_follow records) rs
-
--- the lock of an operation
-abbrev pub lock_for : Asked → Lock
-lock_for a = record { txn = a.txn; mode = mode_of a.op }
 
 -- the lock that is held for an operation that was answered, unless these records decide its transaction
 abbrev pub held_by : List Record → Standing → List Lock

@@ -1,25 +1,16 @@
 // The locks on a name that are held, and those for which operations wait.
 ghost use Rattle.std.specs.Prelude.{◌≡◌, ◌++◌, IfOk, map, filter};
 ghost use Rattle.std.specs.List.{flat_map};
-ghost use Rattle.e3_places.specs.Standing.{decided_in, is_on, cast_of, lock_for, held_by, wanted_by, left_lock, held_with, wanted_with};
+ghost use Rattle.e3_readings.specs.Requests.{lock_for};
+ghost use Rattle.e3_places.specs.Standing.{decided_in, is_on, cast_of, held_by, wanted_by, left_lock, held_with, wanted_with};
 
 use crate::behind::{cast_on, decided_in};
 use crate::picks::Pick;
 use crate::places::{Claims, Standing};
-use e3_readings::mode_of;
+use e3_readings::lock_for;
 use e3_types::{List, Lock, Name, NoMemory, Record};
 use e3_world::Asked;
 use std::alloc::Global;
-
-/// The lock that an operation has or wants.
-pub fn lock_for(a: &Asked) -> Lock
-    ensures { result ≡ lock_for a.now }
-{
-    Lock {
-        txn: a.txn,
-        mode: mode_of(&a.op),
-    }
-}
 
 fn add_held(records: &[Record], s: &Standing, out: &mut List<Lock>) -> Result<(), NoMemory>
     ensures { IfOk result (λ u. out.new ≡ out.old ++ held_by records.now s.now) }

@@ -17,10 +17,9 @@ mod touching;
 
 pub use changing::{Changes, NameChange, TxnChange, apply, changes_of, ready};
 pub use granting::{grants_after, restless_behind};
-pub use holding::lock_for;
 pub use keys::{TxnId, txn_id};
 pub use noting::note;
 pub use picks::Pick;
 pub use places::{Claims, Place, Places, Standing};
-pub use reading::{holders, lock, queue, row};
+pub use reading::{lock, row};
 pub use rising::{born, unborn};

@@ -3,15 +3,13 @@ ghost use Rattle.std.specs.Prelude.{◌≡◌, IfOk};
 ghost use Rattle.e3_world.specs.Lives.{life_of};
 
 use crate::grants::grants_after;
-use crate::reading::{
-    begins, first_answer, first_reason, lock_now, log_now, steps_now, waits_for, waits_now,
-};
-use e3_commit::{Round, all_came};
+use crate::reading::{begins, first_answer, lock_now, log_now, steps_now, waits_for, waits_now};
+use e3_commit::Acks;
 use e3_elect::Election;
 use e3_readings::{
-    answers, attempted, decision, done, election_in_progress, expected, has_voted, is_among,
-    issued, kept_reason, key_of, last_attempt, last_elected, last_own, life_of, next_call, nth_op,
-    round_in_progress, row_value, table_of, unanswered, yes_votes,
+    answers, attempted, decision, done, election_in_progress, expected, first_reason, has_voted,
+    have_every_yes, is_among, issued, kept_reason, key_of, last_attempt, last_elected, last_own,
+    life_of, next_call, nth_op, round_in_progress, row_value, table_of, unanswered, votes_in,
 };
 use e3_step::Past;
 use e3_types::{Answer, Call, Dir, Grant, Input, List, Name, NoMemory, Record, Refusal, Txn};
@@ -185,10 +183,8 @@ impl Past for Anew {
 
     fn has_every_yes(&self, alloc: Global, t: &Txn, made: &Made) -> Result<bool, NoMemory> {
         let steps = steps_now(alloc, &self.place, made)?;
-        match yes_votes(alloc, t, steps.as_slice())? {
-            None => Ok(false),
-            Some(came) => Ok(all_came(t.sites.without(self.place.site), came.as_slice())),
-        }
+        let votes = votes_in(self.place.site, t, steps.as_slice());
+        Ok(have_every_yes(votes))
     }
 
     fn election(&self, alloc: Global, t: &Txn) -> Result<Option<Election>, NoMemory> {
@@ -196,7 +192,7 @@ impl Past for Anew {
         election_in_progress(alloc, a.site, a.life.inc, t, a.life.steps.as_slice())
     }
 
-    fn round(&self, t: &Txn) -> Option<Round> {
+    fn round(&self, t: &Txn) -> Option<Acks> {
         round_in_progress(self.place.site, t, self.place.life.steps.as_slice())
     }
 

@@ -2,16 +2,16 @@
 ghost use Rattle.std.specs.Prelude.{◌≡◌, ◌++◌, ◌∷◌, [], IfOk, count_by};
 ghost use Rattle.std.specs.List.{list_any};
 ghost use Rattle.e3_types.specs.Same.{same_txn};
-ghost use Rattle.e3_step.specs.Asking.{lock_now, lock_of, waits_now};
-ghost use Rattle.e3_step.specs.Reading.{first_of};
+ghost use Rattle.e3_step.specs.Asking.{lock_now, waits_now};
+ghost use Rattle.e3_readings.specs.Awaiting.{first_of};
 ghost use Rattle.e3_world.specs.Making.{log_now, steps_now};
 ghost use Rattle.e3_world.specs.Logs.{key_of};
 ghost use Rattle.e3_world.specs.Operations.{holders, queue};
 ghost use Rattle.e3_world.specs.Steps.{is_begin};
 
 use e3_locks::lock_grant;
-use e3_readings::{holders, key_of, mode_of, next, queue, waiting};
-use e3_types::{Answer, Copied, Grant, Input, List, Lock, NoMemory, Record, Refusal, Txn};
+use e3_readings::{holders, key_of, lock_for, next, queue, waiting};
+use e3_types::{Answer, Copied, Grant, Input, List, Lock, NoMemory, Record, Txn};
 use e3_world::{Asked, At, Made, Moment};
 use std::alloc::Global;
 
@@ -73,16 +73,6 @@ pub fn first_answer(answers: &[Answer]) -> Option<Answer>
     }
 }
 
-/// The first of these reasons.
-pub fn first_reason(reasons: &[Refusal]) -> Option<Refusal>
-    ensures { result ≡ first_of reasons.now }
-{
-    match reasons {
-        [] => None,
-        [why, ..] => Some(*why),
-    }
-}
-
 /// The operations that wait before the step, but those of transactions that it decided.
 pub fn waits_now(alloc: Global, a: &At, made: &Made) -> Result<List<Asked>, NoMemory>
     ensures { IfOk result (λ out. out ≡ waits_now a.now made.now) }
@@ -96,15 +86,6 @@ pub fn waits_for(t: &Txn, asked: &[Asked]) -> bool
     ensures { result ≡ list_any (λ q. same_txn t.now q.txn) asked.now }
 {
     asked.iter().any(|q| t.is_same(&q.txn))
-}
-
-fn lock_of(q: &Asked) -> Lock
-    ensures { result ≡ lock_of q.now }
-{
-    Lock {
-        txn: q.txn,
-        mode: mode_of(&q.op),
-    }
 }
 
 fn holders_of(alloc: Global, a: &At, q: &Asked, made: &Made) -> Result<List<Lock>, NoMemory>
@@ -126,7 +107,7 @@ fn queue_of(alloc: Global, a: &At, q: &Asked, made: &Made) -> Result<List<Lock>,
 pub fn lock_now(alloc: Global, a: &At, q: &Asked, made: &Made) -> Result<Grant, NoMemory>
     ensures { IfOk result (λ g. g ≡ lock_now a.now q.now made.now) }
 {
-    let wanted = lock_of(q);
+    let wanted = lock_for(q);
     let held = holders_of(alloc, a, q, made)?;
     let queued = queue_of(alloc, a, q, made)?;
     Ok(lock_grant(&wanted, held.as_slice(), queued.as_slice()))

@@ -9,7 +9,7 @@ use Rattle.e3_types.specs.declared.scenarios.Scenario.{Scenario}
 use Rattle.e3_world.specs.Given.{is_groupable}
 use Rattle.e3_world.specs.Items.{inputs_of, since_line, taken_at}
 use Rattle.e3_world.specs.Legal.{IsLine, IsParts, IsWhole, begins_with_parts, is_made, is_through, parts_due}
-use Rattle.e3_world.specs.Moves.{own}
+use Rattle.e3_world.specs.Moves.{own_entries}
 use Rattle.e3_world.specs.Packets.{lines, pending, present_items, step_items}
 use Rattle.e3_world.specs.Progress.{Delivering}
 use Rattle.e3_world.proofs.Guards.{step_through}
@@ -27,7 +27,7 @@ next_is_line sc h k was more = record { next = ap suc (sym was.at); exists = mor
 
 -- nothing is taken in a step before anything is entered in it
 none_taken : (h : List Entry) (s : ℕ) → since_line h ≡ [] → taken_at h s ≡ []
-none_taken h s fresh = ap (λ l. flat_map (λ e. inputs_of e.act) (own s l)) fresh
+none_taken h s fresh = ap (λ l. flat_map (λ e. inputs_of e.act) (own_entries s l)) fresh
 
 -- a group is no split and no merge
 group_unparted : (items : List Item) → list_all is_groupable items ≡ true → is_parted items ≡ true → ⊥

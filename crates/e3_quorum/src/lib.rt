@@ -4,5 +4,5 @@
 mod quorums;
 mod weights;
 
-pub use quorums::{is_quorum, weight_at, weight_of};
+pub use quorums::{is_quorum, is_quorum_with, weight_at, weight_of};
 pub use weights::{WeightFault, Weights};

@@ -1,6 +1,11 @@
 pub mod Opens
 pub mod Bindings
+pub mod Electing
+pub mod Gathering
 pub mod Inputs
 pub mod RoundOf
 pub mod Lasts
 pub mod Places
+pub mod Requests
+pub mod States
+pub mod Awaiting

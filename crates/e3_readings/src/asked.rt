@@ -1,7 +1,9 @@
 // Operations that came to a site, in lists.
 ghost use Rattle.std.specs.Prelude.{◌≡◌, ◌++◌, IfOk, take};
+ghost use Rattle.e3_readings.specs.Requests.{lock_for};
 
-use e3_types::{List, NoMemory, Op, Txn};
+use crate::logs::mode_of;
+use e3_types::{List, Lock, NoMemory, Op, Txn};
 use e3_world::Asked;
 
 /// The operation of this number of a transaction.
@@ -12,6 +14,16 @@ pub fn asked_of(t: &Txn, n: u32, op: &Op) -> Asked
         txn: *t,
         n,
         op: op.copy(),
+    }
+}
+
+/// The lock that the operation is for: its transaction's, in the mode that it needs.
+pub fn lock_for(a: &Asked) -> Lock
+    ensures { result ≡ lock_for a.now }
+{
+    Lock {
+        txn: a.txn,
+        mode: mode_of(&a.op),
     }
 }
 

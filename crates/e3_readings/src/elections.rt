@@ -1,7 +1,8 @@
 // The election of a transaction that is in progress at a site, read off its steps of the present incarnation.
 ghost use Rattle.std.specs.Prelude.{◌≡◌, ◌≤◌, if◌then◌else◌, None, IfOk, MatchOption, count_by, OnErr};
 ghost use Rattle.std.specs.List.{list_any};
-ghost use Rattle.e3_world.specs.Logs.{state_of, last_attempt, last_elected};
+ghost use Rattle.e3_world.specs.Logs.{last_elected};
+ghost use Rattle.e3_readings.specs.Electing.{election_anew, election_behind, election_taking, heard_all, report_by};
 ghost use Rattle.e3_world.specs.Elections.{is_decision, is_join, begun, joined_in, tells_verdict, ends_election, after_heard, election_with, election_by, election_in_progress, is_elect, next_call};
 
 use crate::counts::{next, small};
@@ -20,7 +21,7 @@ struct Elections {
 }
 
 impl Model for Elections {
-    ghost use Rattle.e3_world.specs.declared.gatherings.Elections.{Elections as Counted};
+    ghost use Rattle.e3_world.specs.Gatherings.{Elections as Counted};
 
     ghost Value = { Counted };
 
@@ -47,8 +48,8 @@ fn is_join(t: &Txn, r: &Record) -> bool
     }
 }
 
-/// The number of the first join of the transaction among these records.
-pub fn joined_in(t: &Txn, records: &[Record]) -> Option<u32>
+// The number of the first join of the transaction among these records.
+fn joined_in(t: &Txn, records: &[Record]) -> Option<u32>
     ensures { result ≡ joined_in t.now records.now }
 {
     for r in records {
@@ -91,8 +92,9 @@ fn ends_election(t: &Txn, m: &Moment) -> bool
     has_decision(t, m.records.as_slice()) || has_verdict(t, m.told.as_slice())
 }
 
+// The site's own report by its log before a step.
 fn own_report(site: u32, t: &Txn, before: &[Record]) -> SiteReport
-    ensures { result ≡ record { site = site; state = state_of t.now before.now; attempt = last_attempt t.now before.now } }
+    ensures { result ≡ report_by site t.now before.now }
 {
     SiteReport {
         site,
@@ -101,42 +103,45 @@ fn own_report(site: u32, t: &Txn, before: &[Record]) -> SiteReport
     }
 }
 
-// The election behind a step in which an answer was heard. Once the whole group was heard the site joins in that step,
-// with its own report, or the election ends.
-fn after_heard(site: u32, t: &Txn, m: &Moment, e: Election) -> Option<Election>
-    ensures { result ≡ after_heard site t.now m.now e }
-{
-    if !e.all_heard() {
-        return Some(e);
-    }
-    let n = joined_in(t, m.records.as_slice())?;
-    let mut joined = e;
-    joined.joined_under(n, own_report(site, t, m.before.as_slice()));
-    Some(joined)
-}
-
-/// Some record among these is a join of the transaction.
-pub fn has_join(t: &Txn, records: &[Record]) -> bool
+// Some record among these is a join of the transaction.
+fn has_join(t: &Txn, records: &[Record]) -> bool
     ensures { result ≡ list_any (is_join t.now) records.now }
 {
     records.iter().any(|r| is_join(t, r))
 }
 
-fn election_with(
-    site: u32,
-    t: &Txn,
-    m: &Moment,
-    e: Election,
-    f: u32,
-    msg: &Message,
-) -> Option<Election>
-    ensures { result ≡ election_with site t.now m.now e f msg.now }
+/// A transaction in a step of a site, as an election of it reads them: what the site reports of it by its log before the step,
+/// and the records of the step.
+#[derive(Drop)]
+pub struct Electing<'a> {
+    pub t: &'a Txn,
+    pub report: SiteReport,
+    pub records: &'a [Record],
+}
+
+// The election behind a step in which an answer was heard. Once the whole group was heard the site joins in that step,
+// with its own report, or the election ends.
+fn heard_all(at: &Electing<'_>, e: Election) -> Option<Election>
+    ensures { result ≡ heard_all at.now.t.now at.now.report at.now.records.now e }
 {
+    if !e.all_heard() {
+        return Some(e);
+    }
+    let n = joined_in(at.t, at.records)?;
+    let mut joined = e;
+    joined.joined_under(n, at.report);
+    Some(joined)
+}
+
+fn election_taking(at: &Electing<'_>, f: u32, msg: &Message, e: Election) -> Option<Election>
+    ensures { result ≡ election_taking at.now.t.now at.now.report at.now.records.now f msg.now e }
+{
+    let t = at.t;
     let mut now = e;
     match msg {
         Message::LastElected { txn, call, elected } if t.is_same(txn) => {
             if now.heard(f, *call, *elected) {
-                after_heard(site, t, m, now)
+                heard_all(at, now)
             } else {
                 Some(now)
             }
@@ -157,9 +162,38 @@ fn election_with(
             );
             Some(now)
         }
-        Message::Elected { .. } if has_join(t, m.records.as_slice()) => None,
+        Message::Elected { .. } if has_join(t, at.records) => None,
         _ => Some(now),
     }
+}
+
+/// The election in progress behind a step that takes this packet. A join by an Elected packet ends it.
+pub fn election_behind(
+    at: &Electing<'_>,
+    packet: &Packet,
+    was: Option<Election>,
+) -> Option<Election>
+    ensures { result ≡ election_behind at.now.t.now at.now.report at.now.records.now packet.now was }
+{
+    match was {
+        Some(e) => election_taking(at, packet.from, &packet.msg, e),
+        None => None,
+    }
+}
+
+/// The election that begins in a step, of this call for this group, at a site that joined the election of this number last. Want
+/// of memory is the only error.
+pub fn election_anew(
+    alloc: Global,
+    at: &Electing<'_>,
+    elected: u32,
+    call: Call,
+    group: SiteSet,
+) -> Result<Option<Election>, NoMemory>
+    ensures { IfOk result (λ o. o ≡ election_anew at.now.t.now at.now.report elected at.now.records.now call group) }
+{
+    let e = Election::start(alloc, call, group, at.report.site, elected)?;
+    Ok(heard_all(at, e))
 }
 
 // The elections behind a step, which ends the one in progress by a decision or a verdict.
@@ -173,6 +207,19 @@ fn ended(t: &Txn, m: &Moment, calls: u32, now: Option<Election>) -> Elections
     }
 }
 
+fn read_off<'a>(site: u32, t: &'a Txn, m: &'a Moment) -> Electing<'a>
+    ensures txn { result.t.now ≡ t.now }
+    ensures report { result.report ≡ report_by site t.now m.now.before }
+    ensures records { result.records.now ≡ m.now.records }
+{
+    Electing {
+        t,
+        report: own_report(site, t, m.before.as_slice()),
+        records: m.records.as_slice(),
+    }
+}
+
+#[tactic(auto, using(crate::proofs::Reporting::heard_all_is))]
 fn elected_anew(
     alloc: Global,
     site: u32,
@@ -184,10 +231,11 @@ fn elected_anew(
     ensures { IfOk result (λ o. o ≡ after_heard site t.now m.now (begun site call group (last_elected t.now m.now.before))) }
 {
     let elected = last_elected(t, m.before.as_slice());
-    let e = Election::start(alloc, call, group, site, elected)?;
-    Ok(after_heard(site, t, m, e))
+    let at = read_off(site, t, m);
+    election_anew(alloc, &at, elected, call, group)
 }
 
+#[tactic(auto, using(crate::proofs::Reporting::behind_is))]
 fn after_packet(
     site: u32,
     t: &Txn,
@@ -197,10 +245,8 @@ fn after_packet(
 ) -> Option<Election>
     ensures { MatchOption now (result ≡ None) (λ e. result ≡ election_with site t.now m.now e packet.now.«from» packet.now.msg) }
 {
-    match now {
-        Some(e) => election_with(site, t, m, e, packet.from, &packet.msg),
-        None => None,
-    }
+    let at = read_off(site, t, m);
+    election_behind(&at, packet, now)
 }
 
 // The elections behind one more step. An election ends also with a join by an Elected packet, a decision or a verdict.

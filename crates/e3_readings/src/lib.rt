@@ -21,26 +21,27 @@ mod steps;
 mod tables;
 mod votes;
 
-pub use asked::{add_asked, asked_of, copy_asked, first_asked};
+pub use asked::{add_asked, asked_of, copy_asked, first_asked, lock_for};
 pub use binding::{bind, nothing_bound};
 pub use bound_names::BoundNames;
 pub use counts::{next, number_behind};
 pub use e3_locks::{add_name, add_names};
 pub use elections::{
-    election_in_progress, has_decision, has_join, has_verdict, is_decision, joined_in, next_call,
+    Electing, election_anew, election_behind, election_in_progress, has_decision, has_verdict,
+    is_decision, next_call,
 };
 pub use inputs::{inputs_asked, inputs_to};
 pub use lives::{life_by, life_of, present_log};
 pub use logs::{
     attempted, attempted_by, decision, decision_by, has_voted, is_undecided, is_vote, key_of,
     last_attempt, last_attempt_by, last_elected, last_elected_by, lock_on, logged_inc, mode_of,
-    state_of, voted_locks, voted_ops,
+    state_by, state_of, voted_locks, voted_ops,
 };
 pub use opens::{add_logged, add_undecided_in, in_order, open_in};
 pub use operations::{
-    answers, arrivals, done, done_locks, expected, expected_by, has_refusal, holders, holds,
-    is_among, is_answered, issued, issued_in, kept_reason, nth_op, op_told, performed_by, queue,
-    reasons_in, same_asked, taken_up, tells_op, tells_own, unanswered, waiting,
+    answers, arrivals, done, done_locks, expected, expected_by, first_reason, has_refusal, holders,
+    holds, is_among, is_answered, issued, issued_in, kept_reason, nth_op, op_told, performed_by,
+    queue, reasons_in, same_asked, taken_up, tells_op, tells_own, unanswered, waiting,
 };
 pub use own::{last_own, own_write};
 pub use places::{SiteRecord, add_placed};
@@ -48,4 +49,4 @@ pub use recovery_rounds::{RecoveryRound, rounds_of};
 pub use rounds::{Rounds, round_in_progress};
 pub use steps::step_items;
 pub use tables::{install_op, row_value, rows_at, set_row, table_by, table_of};
-pub use votes::yes_votes;
+pub use votes::{have_every_yes, votes_after, votes_in};

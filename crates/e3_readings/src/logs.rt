@@ -1,6 +1,7 @@
 // What a log says of a transaction. A log is a list of records, the oldest first.
 ghost use Rattle.std.specs.Prelude.{◌≡◌, ◌++◌, Option, IfOk, OnErr};
 ghost use Rattle.std.specs.List.{flat_map};
+ghost use Rattle.e3_readings.specs.States.{state_by};
 ghost use Rattle.e3_world.specs.Logs.{last_elected_by, last_elected, last_attempt_by, last_attempt, decision_by, decision, attempted_by, attempted, is_vote, has_voted, state_of, is_undecided, logged_inc_by, logged_inc, ops_of_vote, voted_ops, key_of, mode_of, lock_on, vote_locks, voted_locks};
 
 use e3_types::{Dir, Key, List, Lock, Mode, Name, NoMemory, NumOp, Op, Record, State, Txn};
@@ -92,23 +93,25 @@ pub fn has_voted(t: &Txn, log: &[Record]) -> bool
     log.iter().any(|r| is_vote(t, r))
 }
 
-/// The state of the transaction: by its decision, else by its last attempt, else by its vote.
-pub fn state_of(t: &Txn, log: &[Record]) -> State
-    ensures { result ≡ state_of t.now log.now }
+/// The state of a transaction by its decision, else by the direction of its last attempt, else by whether it was voted on.
+pub fn state_by(decision: Option<Dir>, attempted: Option<Dir>, voted: bool) -> State
+    ensures { result ≡ state_by decision attempted voted }
 {
-    match (decision(t, log), attempted(t, log)) {
+    match (decision, attempted) {
         (Some(Dir::Commit), _) => State::C,
         (Some(Dir::Abort), _) => State::A,
         (None, Some(Dir::Commit)) => State::Pc,
         (None, Some(Dir::Abort)) => State::Pa,
-        (None, None) => {
-            if has_voted(t, log) {
-                State::W
-            } else {
-                State::Q
-            }
-        }
+        (None, None) => { if voted { State::W } else { State::Q } }
     }
+}
+
+/// The state of the transaction: by its decision, else by its last attempt, else by its vote.
+#[tactic(auto, using(crate::proofs::States::state_is))]
+pub fn state_of(t: &Txn, log: &[Record]) -> State
+    ensures { result ≡ state_of t.now log.now }
+{
+    state_by(decision(t, log), attempted(t, log), has_voted(t, log))
 }
 
 /// The log has no decision of the transaction.

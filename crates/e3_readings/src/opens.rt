@@ -7,6 +7,7 @@ ghost use Rattle.e3_world.specs.Logs.{is_undecided};
 ghost use Rattle.e3_world.specs.Operations.{arrivals};
 
 use crate::{arrivals, is_undecided};
+use e3_locks::add_txn;
 use e3_types::{List, NoMemory, Record, Told, Txn};
 use e3_world::{Life, Moment};
 use std::alloc::Global;
@@ -110,36 +111,15 @@ pub fn add_undecided_in(
     add_undecided(known.as_slice(), life.log.as_slice(), out)
 }
 
-// The transaction among these, which ascend.
-fn add_txn(alloc: Global, txns: &[Txn], new: &Txn) -> Result<List<Txn>, NoMemory>
-    ensures { IfOk result (λ out. out ≡ add_txn txns.now new.now) }
-{
-    let mut out = List::new(alloc);
-    for i in 0..txns.len() {
-        if txns[i].is_same(new) {
-            out.extend(&txns[i..])?;
-            return Ok(out);
-        }
-        if new.is_older(&txns[i]) {
-            out.push(*new)?;
-            out.extend(&txns[i..])?;
-            return Ok(out);
-        }
-        out.push(txns[i])?;
-    }
-    out.push(*new)?;
-    Ok(out)
-}
-
 /// These transactions in ascending order, each once. Want of memory is the only error.
 pub fn in_order(alloc: Global, txns: &[Txn]) -> Result<List<Txn>, NoMemory>
     ensures { IfOk result (λ out. out ≡ fold add_txn [] txns.now) }
 {
-    let mut out: List<Txn> = List::new(alloc);
+    let mut out = Vec::new(alloc);
     for t in txns {
-        out = add_txn(alloc, out.as_slice(), t)?;
+        add_txn(t, &mut out)?;
     }
-    Ok(out)
+    Ok(List::from_vec(out))
 }
 
 /// The undecided transactions that a site with this life knows, each once and ascending. Want of memory is the only error.

@@ -2,6 +2,7 @@
 ghost use Rattle.std.specs.Prelude.{◌≡◌, ◌≤◌, ◌++◌, ◌∷◌, [], ◌&&◌, ◌==◌, not, Option, IfOk, OnErr, fold, length, suc, filter, option_copied};
 ghost use Rattle.std.specs.List.{list_any, flat_map};
 ghost use Rattle.e3_types.specs.Same.{same_txn};
+ghost use Rattle.e3_readings.specs.Awaiting.{first_of};
 ghost use Rattle.e3_world.specs.Logs.{is_undecided, key_of, lock_on};
 ghost use Rattle.e3_world.specs.Operations.{is_refusal, issued_in, issued, nth_op, taken_up, same_asked, is_fresh, and_arrived, arrived_by, arrivals, answer_told, answer_sent, answers, is_answered, performed_by, done, waiting, done_locks, holders, holds, queue, tells_op, op_told, unanswered, expected_with, expected_by, expected, reason_in, kept_reason};
 
@@ -513,4 +514,14 @@ pub fn kept_reason(alloc: Global, t: &Txn, steps: &[Moment]) -> Result<List<Refu
         reasons_in(t, m.told.as_slice(), &mut out)?;
     }
     Ok(out)
+}
+
+/// The first of these reasons, which is the one that is kept.
+pub fn first_reason(reasons: &[Refusal]) -> Option<Refusal>
+    ensures { result ≡ first_of reasons.now }
+{
+    match reasons {
+        [] => None,
+        [why, ..] => Some(*why),
+    }
 }

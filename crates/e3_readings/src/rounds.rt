@@ -1,28 +1,25 @@
 // The round in which an attempt gathers its acknowledgements, read off the steps of the present incarnation.
 ghost use Rattle.std.specs.Prelude.{◌≡◌, [], None, fold, option_map};
 ghost use Rattle.e3_world.specs.Rounds.{count_ack, receivers, round_by_record, round_by, round_in_progress};
-ghost use Rattle.e3_commit.specs.Acks.{gathered_round};
 
-use e3_commit::Round;
+use e3_commit::Acks;
 use e3_types::{Dir, Input, Message, Record, SiteSet, Txn};
 use e3_world::Moment;
 use std::marker::Model;
 
-/// The group of the last election of a transaction that began at a site, and the round in progress. The round's sender is the
-/// site; no clause says so, since the rule of an acknowledgement weighs with the site's own number.
+/// The group of the last election of a transaction that began at a site, and who acknowledged the attempt in progress there.
 #[derive(Drop)]
 pub struct Rounds {
     group: SiteSet,
-    now: Option<Round>,
+    now: Option<Acks>,
 }
 
 impl Model for Rounds {
-    ghost use Rattle.e3_world.specs.declared.gatherings.Rounds.{Rounds as Gathered};
-    ghost use Rattle.e3_commit.specs.Acks.{gathered_round};
+    ghost use Rattle.e3_world.specs.Gatherings.{Rounds as Gathered};
 
     ghost Value = { Gathered };
 
-    ghost view = { λ a. record { group = a.group; now = gathered_round a.now } };
+    ghost view = { λ a. record { group = a.group; now = a.now } };
 }
 
 // The receivers of a round of this number: the first coordinator's other sites, or the rest of the elector's group.
@@ -41,15 +38,15 @@ fn round_by_record(
     site: u32,
     t: &Txn,
     group: SiteSet,
-    was: Option<Round>,
+    was: Option<Acks>,
     r: &Record,
-) -> Option<Round>
-    ensures { gathered_round result ≡ round_by_record site t.now group (gathered_round was) r.now }
+) -> Option<Acks>
+    ensures { result ≡ round_by_record site t.now group was r.now }
 {
     match r {
         Record::Attempt { txn, n, dir } if t.is_same(txn) => {
             let to = receivers(site, t, group, *n);
-            Some(Round::attempt(*n, *dir, to, site))
+            Some(Acks::awaited(*n, *dir, to))
         }
         Record::Join { txn, .. } if t.is_same(txn) => None,
         Record::Decision { txn, .. } if t.is_same(txn) => None,
@@ -62,10 +59,10 @@ fn rounds_with(
     site: u32,
     t: &Txn,
     group: SiteSet,
-    first: Option<Round>,
+    first: Option<Acks>,
     records: &[Record],
 ) -> Rounds
-    ensures { result ≡ record { group = group; now = fold (round_by_record site t.now group) (gathered_round first) records.now } }
+    ensures { result ≡ record { group = group; now = fold (round_by_record site t.now group) first records.now } }
 {
     let mut round = first;
     for r in records {
@@ -74,12 +71,12 @@ fn rounds_with(
     Rounds { group, now: round }
 }
 
-fn and_ack(was: Option<Round>, f: u32, n: u32, dir: Dir) -> Option<Round>
-    ensures { gathered_round result ≡ option_map (λ r. count_ack r f n dir) (gathered_round was) }
+fn and_ack(was: Option<Acks>, f: u32, n: u32, dir: Dir) -> Option<Acks>
+    ensures { result ≡ option_map (λ r. count_ack r f n dir) was }
 {
     match was {
         Some(mut more) => {
-            more.ack(f, n, dir);
+            more.add(f, n, dir);
             Some(more)
         }
         None => None,
@@ -120,8 +117,8 @@ impl Rounds {
     }
 
     /// The round in progress.
-    pub fn in_progress(&self) -> Option<Round>
-        ensures { gathered_round result ≡ self.entry.now.now }
+    pub fn in_progress(&self) -> Option<Acks>
+        ensures { result ≡ self.entry.now.now }
     {
         match &self.now {
             Some(round) => Some(round.copy()),
@@ -148,8 +145,8 @@ fn round_by(site: u32, t: &Txn, was: Rounds, m: &Moment) -> Rounds
 }
 
 /// The round of a transaction in progress at a site.
-pub fn round_in_progress(site: u32, t: &Txn, steps: &[Moment]) -> Option<Round>
-    ensures { gathered_round result ≡ round_in_progress site t.now steps.now }
+pub fn round_in_progress(site: u32, t: &Txn, steps: &[Moment]) -> Option<Acks>
+    ensures { result ≡ round_in_progress site t.now steps.now }
 {
     let mut rounds = Rounds::none();
     for m in steps {

@@ -4,7 +4,7 @@ use Rattle.std.specs.List.{flat_map}
 use Rattle.std.proofs.Common.{refl, ap, ◌∙◌}
 use Rattle.e3_types.specs.declared.entries.Entry.{Entry}
 use Rattle.e3_types.specs.declared.scenarios.Scenario.{Scenario}
-use Rattle.e3_world.specs.Moves.{Placed, own, trail_of, all_records}
+use Rattle.e3_world.specs.Moves.{Placed, own_entries, trail_of, all_records}
 use Rattle.e3_world.specs.Packets.{all_sites}
 use Rattle.e3_report.specs.Report.{present_inc, site_heading, log_lines, site_lines, order_lines, report_without_trace}
 use Rattle.e3_report.specs.Steps.{start_lines, steps_after}
@@ -14,7 +14,7 @@ use Rattle.e3_report.proofs.Walking.{trail_log, walk_placed}
 
 site_same : (sc : Scenario) (h : List Entry) (s : ℕ) → site_by h (all_records (trail_of sc h)) s ≡ site_lines sc h s
 unfolding site_by site_lines
-site_same sc h s = ap (λ l. site_heading s (present_inc (own s h)) ++ log_lines l) (trail_log sc h s)
+site_same sc h s = ap (λ l. site_heading s (present_inc (own_entries s h)) ++ log_lines l) (trail_log sc h s)
 
 sites_same : (sc : Scenario) (h : List Entry) (sites : List ℕ) →
     flat_map (site_by h (all_records (trail_of sc h))) sites ≡ flat_map (site_lines sc h) sites

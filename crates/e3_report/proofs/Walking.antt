@@ -15,7 +15,7 @@ use Rattle.e3_types.specs.declared.entries.Why.{Why}
 use Rattle.e3_types.specs.declared.entries.Why.TheVariants.{Fault, Full}
 use Rattle.e3_types.specs.declared.records.Record.{Record}
 use Rattle.e3_types.specs.declared.scenarios.Scenario.{Scenario}
-use Rattle.e3_world.specs.Moves.{Rose, Move, Past, Tail, Placed, own, moves_at, recorded, log_by, rise_records, kept_moves, left_by, moves_of_act, tail_of_act, past_of, log_of, open_tail, trail_after, trail_of, all_records}
+use Rattle.e3_world.specs.Moves.{Rose, Move, Past, Tail, Placed, own_entries, moves_at, recorded, log_by, rise_records, kept_moves, left_by, moves_of_act, tail_of_act, past_of, log_of, open_tail, trail_after, trail_of, all_records}
 use Rattle.e3_world.proofs.Pushes.{past_push}
 use Rattle.e3_world.proofs.Readings.{own_same, own_other}
 use Rattle.e3_world.proofs.Trails.{trail_moves}
@@ -29,7 +29,7 @@ self_same o = eq-eqb o o refl
 
 -- the moves that an entry of this owner makes
 abbrev made : Scenario → List Entry → Entry → List Move
-made sc before e = moves_of_act sc e.owner (past_of sc e.owner (own e.owner before)) e.act
+made sc before e = moves_of_act sc e.owner (past_of sc e.owner (own_entries e.owner before)) e.act
 
 -- one more entry of a trail
 trail_push : (sc : Scenario) (b xs : List Entry) (e : Entry) →
@@ -233,7 +233,7 @@ record Stands (sc : Scenario) (before : List Entry) (walk : Walked) : Type 0 whe
   has_tails : (s : ℕ) → tail_in s walk.tails ≡ tail_records (open_tail sc before s)
   has_borns : (s : ℕ) → Knows s walk
 
-meets : (sc : Scenario) (before : List Entry) (walk : Walked) (o : ℕ) → Stands sc before walk → Meets o (past_of sc o (own o before)) walk
+meets : (sc : Scenario) (before : List Entry) (walk : Walked) (o : ℕ) → Stands sc before walk → Meets o (past_of sc o (own_entries o before)) walk
 meets sc before walk o st = record {
   has_log = ap (log_in o) st.has_placed ∙ trail_log sc before o;
   has_tail = st.has_tails o;
@@ -245,8 +245,8 @@ tail_push : (sc : Scenario) (before : List Entry) (walk : Walked) (e : Entry) (s
 tail_push sc before walk e s true is st =
     let same : e.owner ≡ s = eqb-true e.owner s is in
     ap (λ o. tail_in s (walk_act sc o walk e.act).tails) same
-    ∙ act_tail sc s (past_of sc s (own s before)) walk e.act (meets sc before walk s st)
-    ∙ ap (λ p. tail_records p.tail) (sym (past_push sc s (own s before) e))
+    ∙ act_tail sc s (past_of sc s (own_entries s before)) walk e.act (meets sc before walk s st)
+    ∙ ap (λ p. tail_records p.tail) (sym (past_push sc s (own_entries s before) e))
     ∙ ap (λ l. tail_records (past_of sc s l).tail) (sym (own_same s before e is))
 tail_push sc before walk e s false is st =
     act_other sc s e.owner walk e.act is ∙ st.has_tails s
@@ -256,7 +256,7 @@ stands_push : (sc : Scenario) (before : List Entry) (walk : Walked) (e : Entry) 
     Stands sc (before ++ e ∷ []) (walk_act sc e.owner walk e.act)
 stands_push sc before walk e st = record {
   has_placed =
-      act_placed sc e.owner (past_of sc e.owner (own e.owner before)) walk e.act (meets sc before walk e.owner st)
+      act_placed sc e.owner (past_of sc e.owner (own_entries e.owner before)) walk e.act (meets sc before walk e.owner st)
       ∙ ap (λ l. l ++ all_records (made sc before e)) st.has_placed
       ∙ sym (flat_map-append _ (trail_of sc before) (made sc before e))
       ∙ ap all_records (sym (trail_push sc [] before e));

@@ -9,7 +9,7 @@ use Rattle.e3_types.specs.declared.records.Record.{Record}
 use Rattle.e3_types.specs.declared.scenarios.Scenario.{Scenario}
 use Rattle.e3_types.specs.declared.transactions.Txn.{Txn}
 use Rattle.e3_world.specs.Logs.{table_of}
-use Rattle.e3_world.specs.Moves.{Placed, own, log_of, trail_of, all_records}
+use Rattle.e3_world.specs.Moves.{Placed, own_entries, log_of, trail_of, all_records}
 use Rattle.e3_world.specs.Packets.{all_sites}
 use Rattle.e3_world.specs.Serial.{commit_order}
 use Rattle.e3_lines.specs.Records.{record_lines, row_line}
@@ -51,7 +51,7 @@ log_lines records =
 
 -- a site: its heading, its log and its rows
 unfoldable pub site_lines : Scenario → List Entry → ℕ → List ℕ
-site_lines sc history site = site_heading site (present_inc (own site history)) ++ log_lines (log_of sc history site)
+site_lines sc history site = site_heading site (present_inc (own_entries site history)) ++ log_lines (log_of sc history site)
 
 -- The report without a trace: the start, the steps, the order, each site in ascending order, and `end`.
 abbrev pub report_without_trace : Scenario → List Entry → List ℕ

@@ -7,7 +7,7 @@ use Rattle.e3_types.specs.declared.scenarios.Item.{Item}
 use Rattle.e3_types.specs.declared.scenarios.Item.TheVariants as item
 use Rattle.e3_types.specs.declared.transactions.Txn.{Txn}
 use Rattle.e3_world.specs.Items.{inputs_of, is_delivery}
-use Rattle.e3_world.specs.Moves.{own}
+use Rattle.e3_world.specs.Moves.{own_entries}
 use Rattle.e3_report.specs.declared.takers.Taker.{Taker}
 use Rattle.e3_report.specs.declared.takers.Taker.TheVariants.{Site, NotBegun, Nobody}
 use Rattle.e3_lines.specs.Events.{word_line}
@@ -41,7 +41,7 @@ items_in act = count_by (λ i. not (is_delivery i)) (inputs_of act)
 
 -- how many items a site took among these entries
 abbrev pub items_taken : ℕ → List Entry → ℕ
-items_taken site during = count_by (λ i. not (is_delivery i)) (flat_map (λ e. inputs_of e.act) (own site during))
+items_taken site during = count_by (λ i. not (is_delivery i)) (flat_map (λ e. inputs_of e.act) (own_entries site during))
 
 -- a name that is not bound: `0: NAME not begun`
 unfoldable pub not_begun_line : List ℕ → List ℕ

@@ -8,7 +8,7 @@ use Rattle.e3_types.specs.declared.entries.Entry.{Entry}
 use Rattle.e3_types.specs.declared.scenarios.Scenario.{Scenario}
 use Rattle.e3_types.specs.declared.transactions.Txn.{Txn}
 use Rattle.e3_world.specs.Items.{txn_of}
-use Rattle.e3_world.specs.Moves.{own, is_up}
+use Rattle.e3_world.specs.Moves.{own_entries, is_up}
 use Rattle.e3_world.specs.Packets.{is_line, step_items, all_sites}
 use Rattle.e3_lines.specs.Events.{entry_lines}
 use Rattle.e3_lines.specs.Items.{item_line}
@@ -21,7 +21,7 @@ until_line entries = take_while (λ e. not (is_line e)) entries
 
 -- the events of a site among these entries, in its own order
 abbrev pub site_events : List Entry → ℕ → List ℕ
-site_events entries site = flat_map entry_lines (own site entries)
+site_events entries site = flat_map entry_lines (own_entries site entries)
 
 -- the events of entries: site by site in ascending order
 unfoldable pub event_lines : Scenario → List Entry → List ℕ
@@ -37,7 +37,7 @@ step_heading number = codes "step " ++ decimal number ++ line_end
 
 -- which sites are up behind these entries
 abbrev pub up_after : List Entry → ℕ → Bool
-up_after entries site = is_up (own site entries)
+up_after entries site = is_up (own_entries site entries)
 
 -- A step: its heading, its items, the lines of the items that are skipped, and its events. `find` is what names stand
 -- for at the step's line, `up` tells which sites are up there, `during` are the entries behind it.

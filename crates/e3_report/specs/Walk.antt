@@ -13,7 +13,7 @@ use Rattle.e3_types.specs.declared.records.Record.{Record}
 use Rattle.e3_types.specs.declared.records.Record.TheVariants as log
 use Rattle.e3_types.specs.declared.scenarios.Scenario.{Scenario}
 use Rattle.e3_readings.specs.Places.{placed_at}
-use Rattle.e3_world.specs.Moves.{Placed, own, birth}
+use Rattle.e3_world.specs.Moves.{Placed, own_entries, birth}
 use Rattle.e3_world.specs.Packets.{all_sites}
 use Rattle.e3_lines.specs.Texts.{line_end}
 use Rattle.e3_report.specs.Keys.{at_number, has_number}
@@ -97,7 +97,7 @@ walk_of sc history = fold (λ w e. walk_act sc e.owner w e.act) no_walk history
 
 -- how a site stands, read off the records of all logs
 unfoldable pub site_by : List Entry → List Placed → ℕ → List ℕ
-site_by history placed site = site_heading site (present_inc (own site history)) ++ log_lines (log_in site placed)
+site_by history placed site = site_heading site (present_inc (own_entries site history)) ++ log_lines (log_in site placed)
 
 -- the report, read off the records of all logs
 unfoldable pub report_by : Scenario → List Entry → List Placed → List ℕ

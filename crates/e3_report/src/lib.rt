@@ -3,6 +3,7 @@
 
 mod counts;
 mod keys;
+mod known;
 mod logs;
 mod names;
 mod orders;

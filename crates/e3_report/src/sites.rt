@@ -3,7 +3,7 @@ ghost use Rattle.std.specs.Prelude.{◌≡◌, ◌++◌, [], Option, OnOk, codes
 ghost use Rattle.std.specs.List.{flat_map};
 ghost use Rattle.e3_lines.specs.Records.{record_lines, row_line};
 ghost use Rattle.e3_lines.specs.Texts.{line_end};
-ghost use Rattle.e3_world.specs.Moves.{own};
+ghost use Rattle.e3_world.specs.Moves.{own_entries};
 ghost use Rattle.e3_report.specs.Report.{inc_by, present_inc, site_heading, log_lines};
 
 use crate::tables::table_of;
@@ -26,7 +26,7 @@ fn inc_by(was: Option<u32>, act: &Act) -> Option<u32>
 
 /// The incarnation in which a site is up behind these entries, none where it is down.
 pub(crate) fn present_inc(site: u64, entries: &[Entry]) -> Option<u32>
-    ensures { result ≡ present_inc (own site entries.now) }
+    ensures { result ≡ present_inc (own_entries site entries.now) }
 {
     let mut inc = None;
     for e in entries {

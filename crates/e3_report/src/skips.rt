@@ -6,7 +6,7 @@ ghost use Rattle.e3_report.specs.Skips.{taker_of, items_in, items_taken, not_beg
 ghost use Rattle.e3_report.specs.Ups.{up_in};
 
 use crate::counts::one_more;
-use crate::names::Names;
+use crate::known::Known;
 use crate::takers::{Taker, taker_of};
 use e3_lines::{push_line, push_text, push_word_line};
 use e3_types::{Act, Entry, Input, Item, List, NoMemory};
@@ -163,34 +163,32 @@ fn push_taken(
 /// Adds a line where this item is skipped, and its site to those of the items before.
 fn push_skip(
     out: &mut List<u8>,
-    names: &Names,
-    ups: &BTreeSet<u32>,
+    known: &Known,
     during: &[Entry],
     earlier: &mut List<u32>,
     item: &Item,
 ) -> Result<(), NoMemory>
-    ensures text { OnOk result (out.new ≡ out.old ++ (power_skip (up_in ups.now.keys) item.now ++ input_skip during.now earlier.old (taker_of (meant names.now) item.now))) }
-    ensures sites { OnOk result (earlier.new ≡ earlier.old ++ sites_of (taker_of (meant names.now) item.now)) }
+    ensures text { OnOk result (out.new ≡ out.old ++ (power_skip (up_in known.now.ups.keys) item.now ++ input_skip during.now earlier.old (taker_of (meant known.now.names) item.now))) }
+    ensures sites { OnOk result (earlier.new ≡ earlier.old ++ sites_of (taker_of (meant known.now.names) item.now)) }
 {
-    push_power_skip(out, ups, item)?;
-    let taker = taker_of(names, item);
+    push_power_skip(out, &known.ups, item)?;
+    let taker = taker_of(&known.names, item);
     push_taken(out, during, earlier, &taker)
 }
 
-/// Adds a line for each item that is skipped, where these names are bound and these sites are up.
+/// Adds a line for each item that is skipped, where this is known at the step's line.
 pub(crate) fn push_skips(
     alloc: Global,
     out: &mut List<u8>,
-    names: &Names,
-    ups: &BTreeSet<u32>,
+    known: &Known,
     during: &[Entry],
     items: &[Item],
 ) -> Result<(), NoMemory>
-    ensures { OnOk result (out.new ≡ out.old ++ skip_lines (meant names.now) (up_in ups.now.keys) during.now [] items.now) }
+    ensures { OnOk result (out.new ≡ out.old ++ skip_lines (meant known.now.names) (up_in known.now.ups.keys) during.now [] items.now) }
 {
     let mut earlier = List::new(alloc);
     for item in items {
-        push_skip(out, names, ups, during, &mut earlier, item)?;
+        push_skip(out, known, during, &mut earlier, item)?;
     }
     Ok(())
 }

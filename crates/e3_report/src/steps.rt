@@ -1,18 +1,18 @@
 // The part of a report that tells of the start and of the steps.
-ghost use Rattle.std.specs.Prelude.{◌≡◌, ◌++◌, [], ◌∷◌, ℕ, OnOk};
+ghost use Rattle.std.specs.Prelude.{◌≡◌, ◌++◌, [], ◌∷◌, OnOk};
 ghost use Rattle.std.specs.List.{flat_map};
 ghost use Rattle.e3_world.specs.Packets.{is_line};
-ghost use Rattle.e3_report.specs.Names.{meant, naming_by};
-ghost use Rattle.e3_report.specs.Ups.{up_in, up_with};
+ghost use Rattle.e3_report.specs.Names.{meant};
+ghost use Rattle.e3_report.specs.Ups.{up_in};
 ghost use Rattle.e3_report.specs.Steps.{until_line, site_events, event_lines, start_lines, step_heading, step_lines, lines_by, steps_after};
 
-use crate::names::{Names, step_items};
+use crate::known::Known;
+use crate::names::step_items;
 use crate::skips::push_skips;
 use crate::ups::enter_up;
 use e3_lines::{push_entry, push_items, push_labelled, push_line, push_line_end};
 use e3_types::{Act, Entry, List, NoMemory, Scenario};
 use std::alloc::Global;
-use std::collections::BTreeSet;
 
 fn is_line(entry: &Entry) -> bool
     ensures { result ≡ is_line entry.now }
@@ -80,23 +80,22 @@ fn push_step_heading(out: &mut List<u8>, number: u32) -> Result<(), NoMemory>
     push_line_end(out)
 }
 
-/// Adds a step, where these names are bound and these sites are up.
+/// Adds a step, where this is known at its line.
 #[tactic(auto, unfolding(crate::specs::Steps::step_lines))]
 fn push_step(
     alloc: Global,
     out: &mut List<u8>,
     scenario: &Scenario,
-    names: &Names,
-    ups: &BTreeSet<u32>,
+    known: &Known,
     number: u32,
     during: &[Entry],
 ) -> Result<(), NoMemory>
-    ensures { OnOk result (out.new ≡ out.old ++ step_lines (meant names.now) (up_in ups.now.keys) scenario.now number during.now) }
+    ensures { OnOk result (out.new ≡ out.old ++ step_lines (meant known.now.names) (up_in known.now.ups.keys) scenario.now number during.now) }
 {
     let items = step_items(scenario, number);
     push_step_heading(out, number)?;
     push_items(out, items)?;
-    push_skips(alloc, out, names, ups, during, items)?;
+    push_skips(alloc, out, known, during, items)?;
     push_events(out, scenario, during)
 }
 
@@ -105,44 +104,16 @@ fn push_by_line(
     alloc: Global,
     out: &mut List<u8>,
     scenario: &Scenario,
-    names: &Names,
-    ups: &BTreeSet<u32>,
+    known: &Known,
     act: &Act,
     rest: &[Entry],
 ) -> Result<(), NoMemory>
-    ensures { OnOk result (out.new ≡ out.old ++ lines_by (meant names.now) (up_in ups.now.keys) scenario.now act.now rest.now) }
+    ensures { OnOk result (out.new ≡ out.old ++ lines_by (meant known.now.names) (up_in known.now.ups.keys) scenario.now act.now rest.now) }
 {
     match act {
-        Act::Line { number } => push_step(
-            alloc,
-            out,
-            scenario,
-            names,
-            ups,
-            *number,
-            until_line(rest),
-        ),
+        Act::Line { number } => push_step(alloc, out, scenario, known, *number, until_line(rest)),
         _ => Ok(()),
     }
-}
-
-/// One more entry, which may bind a name and take a site up or down: adds the step that it begins.
-fn push_entered(
-    alloc: Global,
-    out: &mut List<u8>,
-    scenario: &Scenario,
-    names: &mut Names,
-    ups: &mut BTreeSet<u32>,
-    entry: &Entry,
-    rest: &[Entry],
-) -> Result<(), NoMemory>
-    ensures names { OnOk result (names.new ≡ naming_by scenario.now names.old entry.now) }
-    ensures ups { OnOk result ((site : ℕ) → up_in ups.new.keys site ≡ up_with site entry.now (up_in ups.old.keys site)) }
-    ensures text { OnOk result (out.new ≡ out.old ++ lines_by (meant names.new) (up_in ups.new.keys) scenario.now entry.now.act rest.now) }
-{
-    names.enter(alloc, scenario, entry)?;
-    enter_up(ups, entry)?;
-    push_by_line(alloc, out, scenario, names, ups, &entry.act, rest)
 }
 
 /// Adds all steps.
@@ -154,19 +125,12 @@ pub(crate) fn push_steps(
 ) -> Result<(), NoMemory>
     ensures { OnOk result (out.new ≡ out.old ++ steps_after scenario.now [] history.now) }
 {
-    let mut names = Names::new(alloc);
-    let mut ups = BTreeSet::new(alloc);
+    let mut known = Known::new(alloc);
     for at in 0..history.len() {
         let entry = &history[at];
-        push_entered(
-            alloc,
-            out,
-            scenario,
-            &mut names,
-            &mut ups,
-            entry,
-            &history[at + 1..],
-        )?;
+        known.names.enter(alloc, scenario, entry)?;
+        enter_up(&mut known.ups, entry)?;
+        push_by_line(alloc, out, scenario, &known, &entry.act, &history[at + 1..])?;
     }
     Ok(())
 }

@@ -15,64 +15,63 @@ use e3_types::{Entry, List, NoMemory, Scenario};
 use e3_world::History;
 use std::alloc::Global;
 
-/// Adds how a site stands.
-#[tactic(auto, unfolding(crate::specs::Walk::site_by))]
-fn push_site(
+/// What a report is read off: the scenario, the history, and the records of all logs in it.
+#[derive(Clone, Copy)]
+struct Reported<'a> {
     alloc: Global,
-    out: &mut List<u8>,
-    history: &[Entry],
-    placed: &[SiteRecord],
-    site: u64,
-) -> Result<(), NoMemory>
-    ensures { OnOk result (out.new ≡ out.old ++ site_by history.now placed.now site) }
-{
-    push_site_heading(out, site, present_inc(site, history))?;
-    let log = log_in(alloc, site, placed)?;
-    push_log(alloc, out, log.as_slice())
+    scenario: &'a Scenario,
+    history: &'a [Entry],
+    placed: &'a [SiteRecord],
 }
 
-/// Adds how each site stands, in ascending order.
-#[tactic(auto, using(crate::proofs::Ranges::one_site_more))]
-fn push_all_sites(
-    alloc: Global,
-    out: &mut List<u8>,
-    scenario: &Scenario,
-    history: &[Entry],
-    placed: &[SiteRecord],
-) -> Result<(), NoMemory>
-    ensures { OnOk result (out.new ≡ out.old ++ flat_map (site_by history.now placed.now) (all_sites scenario.now)) }
-{
-    let sites = scenario.weights.len();
-    for before in 0..sites {
-        push_site(alloc, out, history, placed, before + 1)?;
+impl Reported<'_> {
+    /// Adds how a site stands.
+    #[tactic(auto, unfolding(crate::specs::Walk::site_by))]
+    fn push_site(&self, out: &mut List<u8>, site: u64) -> Result<(), NoMemory>
+        ensures { OnOk result (out.new ≡ out.old ++ site_by self.now.history.now self.now.placed.now site) }
+    {
+        push_site_heading(out, site, present_inc(site, self.history))?;
+        let log = log_in(self.alloc, site, self.placed)?;
+        push_log(self.alloc, out, log.as_slice())
     }
-    Ok(())
-}
 
-/// Adds the report, where these are the records of all logs.
-#[tactic(auto, unfolding(crate::specs::Walk::report_by))]
-fn push_report(
-    alloc: Global,
-    out: &mut List<u8>,
-    scenario: &Scenario,
-    history: &[Entry],
-    placed: &[SiteRecord],
-) -> Result<(), NoMemory>
-    ensures { OnOk result (out.new ≡ out.old ++ report_by scenario.now history.now placed.now) }
-{
-    push_start(out, scenario, history)?;
-    push_steps(alloc, out, scenario, history)?;
-    push_order(alloc, out, placed)?;
-    push_all_sites(alloc, out, scenario, history, placed)?;
-    push_line(out, "end")
+    /// Adds how each site stands, in ascending order.
+    #[tactic(auto, using(crate::proofs::Ranges::one_site_more))]
+    fn push_all_sites(&self, out: &mut List<u8>) -> Result<(), NoMemory>
+        ensures { OnOk result (out.new ≡ out.old ++ flat_map (site_by self.now.history.now self.now.placed.now) (all_sites self.now.scenario.now)) }
+    {
+        let sites = self.scenario.weights.len();
+        for before in 0..sites {
+            self.push_site(out, before + 1)?;
+        }
+        Ok(())
+    }
+
+    /// Adds the report.
+    #[tactic(auto, unfolding(crate::specs::Walk::report_by))]
+    fn push_report(&self, out: &mut List<u8>) -> Result<(), NoMemory>
+        ensures { OnOk result (out.new ≡ out.old ++ report_by self.now.scenario.now self.now.history.now self.now.placed.now) }
+    {
+        push_start(out, self.scenario, self.history)?;
+        push_steps(self.alloc, out, self.scenario, self.history)?;
+        push_order(self.alloc, out, self.placed)?;
+        self.push_all_sites(out)?;
+        push_line(out, "end")
+    }
 }
 
 fn report_alone(alloc: Global, scenario: &Scenario, history: &[Entry]) -> Result<List<u8>, NoMemory>
     ensures { IfOk result (λ text. text ≡ report_without_trace scenario.now history.now) }
 {
     let walk = walk_of(alloc, scenario, history)?;
+    let reported = Reported {
+        alloc,
+        scenario,
+        history,
+        placed: walk.placed(),
+    };
     let mut out = List::new(alloc);
-    push_report(alloc, &mut out, scenario, history, walk.placed())?;
+    reported.push_report(&mut out)?;
     Ok(out)
 }
 

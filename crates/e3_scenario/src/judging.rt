@@ -17,9 +17,14 @@ fn named_fault(step: u32, said: &Said, name: &Name) -> Option<ScenarioFault>
     }
 }
 
-fn fault_at(step: u32, said: &Said, name: &Name, site: u32) -> Option<ScenarioFault>
-    ensures { result ≡ named_fault step said.now name.now (site ∷ []) }
+// An item at one site: that exists, and is the transaction's.
+#[tactic(auto, unfolding(crate::specs::Faults::expire_fault))]
+fn fault_at(all: SiteSet, step: u32, said: &Said, name: &Name, site: u32) -> Option<ScenarioFault>
+    ensures { result ≡ expire_fault all step said.now site name.now }
 {
+    if !all.has(site) {
+        return Some(ScenarioFault::NoSite { step });
+    }
     match said.sites_of(name) {
         None => Some(ScenarioFault::NoTxn { step }),
         Some(own) if own.has(site) => None,
@@ -60,7 +65,7 @@ fn begin_fault(
     None
 }
 
-#[tactic(auto, unfolding(crate::specs::Faults::operation_fault))]
+#[tactic(auto, unfolding(crate::specs::Faults::operation_fault, crate::specs::Faults::expire_fault))]
 fn operation_fault(
     all: SiteSet,
     step: u32,
@@ -73,26 +78,7 @@ fn operation_fault(
     if 64 <= said.operations(name) {
         return Some(ScenarioFault::BadLine { step });
     }
-    if !all.has(site) {
-        return Some(ScenarioFault::NoSite { step });
-    }
-    fault_at(step, said, name, site)
-}
-
-#[tactic(auto, unfolding(crate::specs::Faults::expire_fault))]
-fn expire_fault(
-    all: SiteSet,
-    step: u32,
-    said: &Said,
-    site: u32,
-    name: &Name,
-) -> Option<ScenarioFault>
-    ensures { result ≡ expire_fault all step said.now site name.now }
-{
-    if !all.has(site) {
-        return Some(ScenarioFault::NoSite { step });
-    }
-    fault_at(step, said, name, site)
+    fault_at(all, step, said, name, site)
 }
 
 #[tactic(auto, unfolding(crate::specs::Faults::elect_fault))]
@@ -194,7 +180,7 @@ pub fn item_fault(all: SiteSet, step: u32, said: &Said, item: &Item) -> Option<S
         Item::Write { name, key, .. } => operation_fault(all, step, said, name, key.site),
         Item::Commit { name } => named_fault(step, said, name),
         Item::Cancel { name } => named_fault(step, said, name),
-        Item::Expire { site, name } => expire_fault(all, step, said, *site, name),
+        Item::Expire { site, name } => fault_at(all, step, said, name, *site),
         Item::Elect { site, name, sites } => elect_fault(all, step, said, *site, name, *sites),
         Item::Recover { sites } => recover_fault(all, step, said, *sites),
         Item::Split { parts } => split_fault(all, step, parts),

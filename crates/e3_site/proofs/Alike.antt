@@ -9,7 +9,7 @@ use Rattle.e3_world.specs.declared.lives.Incarnation.{Incarnation}
 use Rattle.e3_world.specs.declared.lives.Made.{Made}
 use Rattle.e3_world.specs.Legal.{entry_of, made_by}
 use Rattle.e3_world.specs.Lives.{incarnation_of, life_of, present_log}
-use Rattle.e3_world.specs.Moves.{Move, Past, Rose, log_by, log_of, moves_of, own, past_of}
+use Rattle.e3_world.specs.Moves.{Move, Past, Rose, log_by, log_of, moves_of, own_entries, past_of}
 use Rattle.e3_world.specs.Steps.{step_of}
 use Rattle.e3_world.proofs.Numbers.{entered_move}
 use Rattle.e3_world.proofs.Pushes.{incarnation_push, log_push, past_push, present_is_log}
@@ -94,7 +94,7 @@ step_moves : (sc : Scenario) (h : List Entry) (site : ℕ) (i : Input) →
     theirs sc (h ++ entry_of sc h site i ∷ []) site ≡ with_step (theirs sc h site) (step_kept i (made_by sc h site i))
 step_moves sc h site i =
     ap (λ l. incarnation_of (past_of sc site l).moves) (own_same site h (entry_of sc h site i) (self site))
-    ∙ ap (λ (p : Past). incarnation_of p.moves) (past_push sc site (own site h) (entry_of sc h site i))
+    ∙ ap (λ (p : Past). incarnation_of p.moves) (past_push sc site (own_entries site h) (entry_of sc h site i))
     ∙ ap (λ ms. incarnation_of (moves_of sc h site ++ ms)) (entered_move sc h site i)
     ∙ incarnation_push (moves_of sc h site) _
 

@@ -11,7 +11,7 @@ use Rattle.e3_types.specs.declared.records.Record.{Record}
 use Rattle.e3_types.specs.declared.scenarios.Scenario.{Scenario}
 use Rattle.e3_world.specs.Items.{is_up_at}
 use Rattle.e3_world.specs.Legal.{Guard, IsLegal, LegalAfter}
-use Rattle.e3_world.specs.Moves.{Move, Rose, Past, Tail, own, past_of, past_by, kept_moves, log_by, recorded, rise_records, birth, log_of}
+use Rattle.e3_world.specs.Moves.{Move, Rose, Past, Tail, own_entries, past_of, past_by, kept_moves, log_by, recorded, rise_records, birth, log_of}
 use Rattle.e3_world.specs.Progress.{up_behind}
 use Rattle.e3_world.proofs.Pushes.{past_push}
 use Rattle.e3_world.proofs.Readings.{own_same, own_other, up_same, up_other}
@@ -143,21 +143,21 @@ guard_up sc h (suc o) (Fall inputs records why) guard = guard.up
 guard_up sc h owner act guard = tt
 
 abbrev BornAt : Scenario → List Entry → ℕ → Type 0
-BornAt sc h s = Born sc s (past_of sc s (own s h)) (is_up_at h s)
+BornAt sc h s = Born sc s (past_of sc s (own_entries s h)) (is_up_at h s)
 
 born_push : (sc : Scenario) (h : List Entry) (e : Entry) (s : ℕ) → Guard sc h e → BornAt sc h s → BornAt sc (h ++ e ∷ []) s
 born_push sc h e s guard was = by (e.owner == s) refl
   where
     by : (b : Bool) → (e.owner == s) ≡ b → BornAt sc (h ++ e ∷ []) s
     by true is =
-        let w : Past = past_of sc s (own s h) in
+        let w : Past = past_of sc s (own_entries s h) in
         let needs : NeedsUp e.act (is_up_at h s) = let N : ℕ → Type 0 = λ x. NeedsUp e.act (is_up_at h x) in subst N (eqb-true e.owner s is) (guard_up sc h e.owner e.act guard) in
         let P : Past → Type 0 = λ v. Born sc s v (is_up_at (h ++ e ∷ []) s) in
         let Q : Bool → Type 0 = λ b. Born sc s (past_by sc s w e) b in
-        subst P (sym (ap (past_of sc s) (own_same s h e is) ∙ past_push sc s (own s h) e)) (subst Q (sym (up_same h e s is)) (acted sc s e.owner w (is_up_at h s) e.act needs was))
+        subst P (sym (ap (past_of sc s) (own_same s h e is) ∙ past_push sc s (own_entries s h) e)) (subst Q (sym (up_same h e s is)) (acted sc s e.owner w (is_up_at h s) e.act needs was))
     by false is =
         let P : Past → Type 0 = λ v. Born sc s v (is_up_at (h ++ e ∷ []) s) in
-        let Q : Bool → Type 0 = λ b. Born sc s (past_of sc s (own s h)) b in
+        let Q : Bool → Type 0 = λ b. Born sc s (past_of sc s (own_entries s h)) b in
         subst P (sym (ap (past_of sc s) (own_other s h e is))) (subst Q (sym (up_other h e s is)) was)
 
 born_after : (sc : Scenario) (before rest : List Entry) (s : ℕ) → BornAt sc before s → LegalAfter sc before rest → BornAt sc (before ++ rest) s

@@ -12,7 +12,8 @@ use Rattle.e3_types.specs.Locks.{opposes, against}
 use Rattle.e3_world.specs.Logs.{is_undecided, key_of, lock_on, mode_of, vote_locks, voted_locks}
 use Rattle.e3_types.specs.Same.{same_numbers}
 use Rattle.e3_world.specs.Orderly.{is_free}
-use Rattle.e3_places.specs.Standing.{cast_in, cast_of, is_on, is_open, lock_for, voted, votes_of}
+use Rattle.e3_readings.specs.Requests.{lock_for}
+use Rattle.e3_places.specs.Standing.{cast_in, cast_of, is_on, is_open, voted, votes_of}
 
 -- a test of all that is made is a test of what each makes
 pub any_flat : {X Y : Type 0} (p : Y → Bool) (f : X → List Y) (xs : List X) → list_any p (flat_map f xs) ≡ list_any (λ x. list_any p (f x)) xs

@@ -21,7 +21,7 @@ use Rattle.e3_world.specs.declared.lives.SiteStep.{SiteStep}
 use Rattle.e3_world.specs.Legal.{entry_of, made_by}
 use Rattle.e3_world.specs.Lives.{incarnation_of, life_by, life_of}
 use Rattle.e3_world.specs.Logs.{logged_inc}
-use Rattle.e3_world.specs.Moves.{Move, Past, Rose, past_of, moves_of, own, log_by}
+use Rattle.e3_world.specs.Moves.{Move, Past, Rose, past_of, moves_of, own_entries, log_by}
 use Rattle.e3_world.specs.Steps.{step_of}
 use Rattle.e3_world.proofs.Numbers.{entered_move}
 use Rattle.e3_world.proofs.Pushes.{past_push, incarnation_push, log_push, present_is_log}
@@ -100,7 +100,7 @@ step_moves : (sc : Scenario) (h : List Entry) (site : ℕ) (i : Input) →
     ≡ with_step (incarnation_of (moves_of sc h site)) (step_kept i (made_by sc h site i))
 step_moves sc h site i =
     ap (λ l. incarnation_of (past_of sc site l).moves) (own_same site h (entry_of sc h site i) (self site))
-    ∙ ap (λ (p : Past). incarnation_of p.moves) (past_push sc site (own site h) (entry_of sc h site i))
+    ∙ ap (λ (p : Past). incarnation_of p.moves) (past_push sc site (own_entries site h) (entry_of sc h site i))
     ∙ ap (λ ms. incarnation_of (moves_of sc h site ++ ms)) (entered_move sc h site i)
     ∙ incarnation_push (moves_of sc h site) _
 

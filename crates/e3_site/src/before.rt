@@ -8,15 +8,16 @@ ghost use Rattle.e3_world.specs.Logs.{logged_inc};
 ghost use Rattle.e3_world.specs.Orderly.{is_free, weights_in};
 ghost use Rattle.e3_cards.specs.Seeing.{seen_of};
 ghost use Rattle.e3_places.specs.Keeping.{PlacesStand, place_at};
-ghost use Rattle.e3_places.specs.Standing.{lock_for};
+ghost use Rattle.e3_readings.specs.Requests.{lock_for};
 
 use crate::headings::weights_in;
 use crate::locks::is_free_among;
 use e3_cards::Seen;
 use e3_past::Logged;
-use e3_places::{Place, Places, lock_for};
+use e3_places::{Place, Places};
 use e3_readings::{
-    attempted, decision, has_voted, key_of, last_attempt, last_elected, logged_inc, mode_of,
+    attempted, decision, has_voted, key_of, last_attempt, last_elected, lock_for, logged_inc,
+    mode_of,
 };
 use e3_types::{Lock, Name, NumOp, Record, Txn};
 use e3_world::Asked;

@@ -11,7 +11,7 @@ use Rattle.e3_types.specs.declared.transactions.State.{State}
 use Rattle.e3_types.specs.declared.transactions.State.TheVariants.{Q, A}
 use Rattle.e3_types.specs.declared.transactions.Txn.{Txn}
 use Rattle.e3_step.specs.Asking.{asked_by, by_grant, is_waiting, lock_now, on_asked}
-use Rattle.e3_step.specs.Reading.{first_of}
+use Rattle.e3_readings.specs.Awaiting.{first_of}
 use Rattle.e3_world.specs.declared.lives.Asked.{Asked}
 use Rattle.e3_world.specs.declared.lives.At.{At}
 use Rattle.e3_world.specs.declared.lives.Made.{Made}

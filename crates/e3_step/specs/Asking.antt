@@ -5,21 +5,17 @@ use Rattle.e3_types.specs.declared.transactions.Answer.{Answer}
 use Rattle.e3_types.specs.declared.transactions.Dir.TheVariants.{Abort}
 use Rattle.e3_types.specs.declared.locks.Grant.{Grant}
 use Rattle.e3_types.specs.declared.locks.Grant.TheVariants.{Held, Waits, Dies}
-use Rattle.e3_types.specs.declared.locks.Lock.{Lock}
 use Rattle.e3_types.specs.declared.messages.Message.TheVariants as msg
 use Rattle.e3_types.specs.declared.entries.Told.TheVariants as told
 use Rattle.e3_types.specs.Locks.{lock_grant}
 use Rattle.e3_world.specs.declared.lives.Asked.{Asked}
 use Rattle.e3_world.specs.declared.lives.At.{At}
 use Rattle.e3_world.specs.declared.lives.Made.{Made}
-use Rattle.e3_world.specs.Logs.{key_of, mode_of}
+use Rattle.e3_world.specs.Logs.{key_of}
 use Rattle.e3_world.specs.Making.{log_now, is_coordinator, and_send, and_decide, and_abort_for, and_do}
 use Rattle.e3_world.specs.Operations.{same_asked, answers, waiting, holders, queue}
-use Rattle.e3_step.specs.Reading.{first_of}
-
--- the lock that a request wants
-abbrev pub lock_of : Asked → Lock
-lock_of q = record { txn = q.txn; mode = mode_of q.op }
+use Rattle.e3_readings.specs.Awaiting.{first_of}
+use Rattle.e3_readings.specs.Requests.{lock_for}
 
 -- the operations that wait before the step, but those of transactions that it decided
 abbrev pub waits_now : At → Made → List Asked
@@ -32,7 +28,7 @@ is_waiting a q made = list_any (same_asked q) (waits_now a made)
 -- the answer of the lock rule to a request, over the locks that are held on its name and those that wait there
 abbrev pub lock_now : At → Asked → Made → Grant
 lock_now a q made =
-    lock_grant (lock_of q) (holders a.site (key_of q.op).name (log_now a made) a.life.steps) (queue (key_of q.op).name (waits_now a made))
+    lock_grant (lock_for q) (holders a.site (key_of q.op).name (log_now a made) a.life.steps) (queue (key_of q.op).name (waits_now a made))
 
 -- the request with this answer of the lock rule
 abbrev pub by_grant : At → Asked → Made → Grant → Made

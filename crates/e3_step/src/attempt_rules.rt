@@ -10,11 +10,10 @@ use crate::making::{
     and_decide, and_record, and_send, attempt_now, cast_decision, elected_now, may_decide, open_now,
 };
 use crate::past::Past;
-use crate::weights::is_quorum;
-use e3_commit::Round;
-use e3_types::{Dir, List, Message, NoMemory, Record, Txn};
+use e3_commit::Acks;
+use e3_quorum::is_quorum_with;
+use e3_types::{Dir, Message, NoMemory, Record, Txn};
 use e3_world::Made;
-use std::alloc::Global;
 
 /// An undecided site that joined this number last attempts it, once, and acknowledges to site f.
 pub fn on_pre<P: Past>(
@@ -36,25 +35,15 @@ pub fn on_pre<P: Past>(
     and_send(p, f, Message::Ack { txn: *t, n, dir }, made)
 }
 
-fn with_own(alloc: Global, site: u32, acked: &[u32]) -> Result<List<u32>, NoMemory>
-    ensures { IfOk result (λ out. out ≡ site ∷ acked.now) }
+// The site has attempted what these acknowledge, with those that acknowledged it: together they are a quorum.
+fn has_quorum<P: Past>(p: &P, t: &Txn, r: &Acks) -> bool
+    ensures { result ≡ is_quorum (P.at p.now).weights ((P.at p.now).site ∷ r.now.acked) t.now.sites }
 {
-    let mut out = List::new(alloc);
-    out.push(site)?;
-    out.extend(acked)?;
-    Ok(out)
-}
-
-fn has_quorum<P: Past>(alloc: Global, p: &P, t: &Txn, r: &Round) -> Result<bool, NoMemory>
-    ensures { IfOk result (λ b. b ≡ is_quorum (P.at p.now).weights ((P.at p.now).site ∷ r.now.round.acked) t.now.sites) }
-{
-    let members = with_own(alloc, p.site(), r.acked())?;
-    Ok(is_quorum(p.weights(), members.as_slice(), t.sites))
+    is_quorum_with(p.weights(), p.site(), r.arrivals(), t.sites)
 }
 
 /// An acknowledgement of site f in the round in progress: with a quorum the site decides.
 pub fn on_ack<P: Past>(
-    alloc: Global,
     p: &P,
     f: u32,
     t: &Txn,
@@ -67,11 +56,11 @@ pub fn on_ack<P: Past>(
     let Some(mut r) = p.round(t) else {
         return Ok(());
     };
-    r.ack(f, n, dir);
+    r.add(f, n, dir);
     if r.number() == n
         && r.direction() == dir
         && may_decide(p, t, dir, made)
-        && has_quorum(alloc, p, t, &r)?
+        && has_quorum(p, t, &r)
     {
         and_decide(p, t, dir, made)?;
         cast_decision(p, r.receivers(), t, dir, made)

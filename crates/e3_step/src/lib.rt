@@ -11,7 +11,7 @@ mod operation_rules;
 mod past;
 mod steps;
 mod vote_rules;
-mod weights;
 
+pub use grants::decides;
 pub use past::Past;
 pub use steps::step_at;

@@ -4,12 +4,14 @@ ghost use Rattle.e3_types.specs.declared.messages.Message.TheVariants as msg;
 ghost use Rattle.e3_types.specs.Quorums.{is_quorum};
 ghost use Rattle.e3_types.specs.Sets.{others};
 ghost use Rattle.e3_world.specs.Logs.{decision, attempted, has_voted};
-ghost use Rattle.e3_world.specs.Making.{nothing, log_now, steps_now, state_now, open_now, elected_now, attempt_now, is_coordinator, is_present, may_abort, may_decide, may_attempt, and_record, and_tell, and_send, and_cast, and_decide, and_abort, and_abort_for, go_on, and_attempt, and_vote, own_write, answer_now, and_do};
+ghost use Rattle.e3_world.specs.Making.{nothing, log_now, steps_now, state_now, open_now, elected_now, attempt_now, is_coordinator, is_present, may_abort, may_decide, may_attempt, and_record, and_tell, and_send, and_cast, and_decide, and_abort, and_abort_for, and_attempt, and_vote, own_write, answer_now, and_do};
 ghost use Rattle.e3_step.specs.SoFar.{IsSoFar};
 
 use crate::past::Past;
-use crate::weights::is_quorum;
-use e3_readings::{attempted_by, decision_by, has_voted, last_attempt_by, last_elected_by};
+use e3_quorum::is_quorum_with;
+use e3_readings::{
+    attempted_by, decision_by, has_voted, last_attempt_by, last_elected_by, state_by,
+};
 use e3_types::{
     Answer, Copied, Dir, List, Message, Name, NoMemory, NumOp, Op, Packet, Record, SiteSet, State,
     Told, Txn,
@@ -61,22 +63,15 @@ fn voted_now<P: Past>(p: &P, t: &Txn, made: &Made) -> bool
 }
 
 /// The state of the transaction with the step's records.
+#[tactic(auto, using(e3_readings::proofs::States::state_is))]
 pub fn state_now<P: Past>(p: &P, t: &Txn, made: &Made) -> State
     ensures { result ≡ state_now (P.at p.now) t.now made.now }
 {
-    match (decision_now(p, t, made), attempted_now(p, t, made)) {
-        (Some(Dir::Commit), _) => State::C,
-        (Some(Dir::Abort), _) => State::A,
-        (None, Some(Dir::Commit)) => State::Pc,
-        (None, Some(Dir::Abort)) => State::Pa,
-        (None, None) => {
-            if voted_now(p, t, made) {
-                State::W
-            } else {
-                State::Q
-            }
-        }
-    }
+    state_by(
+        decision_now(p, t, made),
+        attempted_now(p, t, made),
+        voted_now(p, t, made),
+    )
 }
 
 /// The transaction is undecided with the step's records.
@@ -236,26 +231,8 @@ pub fn and_abort_for<P: Past>(p: &P, t: &Txn, why: Told, made: &mut Made) -> Res
     cast_decision(p, t.sites, t, Dir::Abort, made)
 }
 
-/// Behind an attempt: the decision at once where the site is a quorum by itself, else the pre-decision, to these sites.
-pub fn go_on<P: Past>(
-    p: &P,
-    t: &Txn,
-    n: u32,
-    dir: Dir,
-    to: SiteSet,
-    made: &mut Made,
-) -> Result<(), NoMemory>
-    ensures { IfOk result (λ u. made.new ≡ go_on (P.at p.now) t.now n dir to made.old) }
-{
-    if is_quorum(p.weights(), &[p.site()], t.sites) {
-        and_decide(p, t, dir, made)?;
-        cast_decision(p, to, t, dir, made)
-    } else {
-        and_cast(p, to, &Message::Pre { txn: *t, n, dir }, made)
-    }
-}
-
-/// An attempt of the site's own round.
+/// An attempt of the site's own round, and behind it, to these sites, the decision at once where the site is a quorum by
+/// itself, else the pre-decision.
 pub fn and_attempt<P: Past>(
     p: &P,
     t: &Txn,
@@ -266,11 +243,16 @@ pub fn and_attempt<P: Past>(
 ) -> Result<(), NoMemory>
     ensures { IfOk result (λ u. made.new ≡ and_attempt (P.at p.now) t.now n dir to made.old) }
 {
-    if may_attempt(p, t, n, made) {
-        and_record(Record::Attempt { txn: *t, n, dir }, made)?;
-        go_on(p, t, n, dir, to, made)?;
+    if !may_attempt(p, t, n, made) {
+        return Ok(());
     }
-    Ok(())
+    and_record(Record::Attempt { txn: *t, n, dir }, made)?;
+    if is_quorum_with(p.weights(), p.site(), &[], t.sites) {
+        and_decide(p, t, dir, made)?;
+        cast_decision(p, to, t, dir, made)
+    } else {
+        and_cast(p, to, &Message::Pre { txn: *t, n, dir }, made)
+    }
 }
 
 fn voted(alloc: Global, performed: &[Performed]) -> Result<List<NumOp>, NoMemory>

@@ -1,6 +1,7 @@
 // What a site does with each message.
-ghost use Rattle.std.specs.Prelude.{◌≡◌, IfOk};
+ghost use Rattle.std.specs.Prelude.{◌≡◌, IfOk, if◌then◌else◌};
 ghost use Rattle.e3_types.specs.declared.messages.Message.TheVariants as msg;
+ghost use Rattle.e3_world.specs.Making.{and_abort, may_abort};
 ghost use Rattle.e3_world.specs.Messages.{on_message};
 ghost use Rattle.e3_step.specs.SoFar.{IsSoFar};
 
@@ -18,31 +19,18 @@ fn on_ask<P: Past>(p: &P, f: u32, t: &Txn, call: Call, made: &mut Made) -> Resul
     ensures { IfOk result (λ u. made.new ≡ on_message (P.at p.now) f (msg.Ask t.now call) made.old) }
 {
     let elected = elected_now(p, t, made);
-    and_send(
-        p,
-        f,
-        Message::LastElected {
-            txn: *t,
-            call,
-            elected,
-        },
-        made,
-    )
+    let answer = Message::LastElected {
+        txn: *t,
+        call,
+        elected,
+    };
+    and_send(p, f, answer, made)
 }
 
-fn on_vote<P: Past>(
-    alloc: Global,
-    p: &P,
-    f: u32,
-    t: &Txn,
-    yes: bool,
-    made: &mut Made,
-) -> Result<(), NoMemory>
-    ensures { IfOk result (λ u. made.new ≡ on_message (P.at p.now) f (msg.Vote t.now yes) made.old) }
+// A no: the coordinator aborts, if it may.
+fn on_no<P: Past>(p: &P, t: &Txn, made: &mut Made) -> Result<(), NoMemory>
+    ensures { IfOk result (λ u. made.new ≡ (if may_abort (P.at p.now) t.now made.old then and_abort (P.at p.now) t.now made.old else made.old)) }
 {
-    if yes {
-        return on_yes(alloc, p, t, made);
-    }
     if may_abort(p, t, made) {
         and_abort(p, t, made)?;
     }
@@ -103,9 +91,10 @@ pub fn on_message<P: Past>(
             )
         }
         Message::VoteReq { txn, inc, count } => on_vote_req(alloc, p, f, txn, *inc, *count, made),
-        Message::Vote { txn, yes } => on_vote(alloc, p, f, txn, *yes, made),
+        Message::Vote { txn, yes: true } => on_yes(alloc, p, txn, made),
+        Message::Vote { txn, yes: false } => on_no(p, txn, made),
         Message::Pre { txn, n, dir } => on_pre(p, f, txn, *n, *dir, made),
-        Message::Ack { txn, n, dir } => on_ack(alloc, p, f, txn, *n, *dir, made),
+        Message::Ack { txn, n, dir } => on_ack(p, f, txn, *n, *dir, made),
         Message::Decide { txn, dir } => on_decide(p, f, txn, *dir, made),
     }
 }

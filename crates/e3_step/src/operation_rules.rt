@@ -16,7 +16,7 @@ use crate::past::Past;
 use e3_client::kept_locks;
 use e3_readings::asked_of;
 use e3_types::{Answer, Dir, Grant, Message, NoMemory, Op, State, Told, Txn};
-use e3_world::{Asked, Expected, Made};
+use e3_world::{Asked, Made};
 use std::alloc::Global;
 
 fn die<P: Past>(p: &P, t: &Txn, n: u32, older: Txn, made: &mut Made) -> Result<(), NoMemory>
@@ -118,43 +118,28 @@ pub fn on_do<P: Past>(
     }
 }
 
-fn tell_done<P: Past>(
+// A site that answered under an incarnation answers under another one: the coordinator aborts, if it may.
+fn doom<P: Past>(
     p: &P,
-    f: u32,
     t: &Txn,
-    n: u32,
-    inc: u32,
-    answer: &Answer,
-    e: Expected,
+    site: u32,
+    had: u32,
+    now: u32,
     made: &mut Made,
 ) -> Result<(), NoMemory>
-    ensures { IfOk result (λ u. made.new ≡ (if e.count == 0 || e.inc == inc then and_tell (told.Op t.now n answer.now) made.old
-        else if may_abort (P.at p.now) t.now made.old then and_abort_for (P.at p.now) t.now (told.Doomed t.now f e.inc inc) made.old else made.old)) }
+    ensures { IfOk result (λ u. made.new ≡ (if may_abort (P.at p.now) t.now made.old
+        then and_abort_for (P.at p.now) t.now (told.Doomed t.now site had now) made.old else made.old)) }
 {
-    if kept_locks(e.count, e.inc, inc) {
-        and_tell(
-            Told::Op {
-                txn: *t,
-                n,
-                answer: answer.copy(),
-            },
-            made,
-        )
-    } else if may_abort(p, t, made) {
-        and_abort_for(
-            p,
-            t,
-            Told::Doomed {
-                txn: *t,
-                site: f,
-                had: e.inc,
-                now: inc,
-            },
-            made,
-        )
-    } else {
-        Ok(())
+    if !may_abort(p, t, made) {
+        return Ok(());
     }
+    let why = Told::Doomed {
+        txn: *t,
+        site,
+        had,
+        now,
+    };
+    and_abort_for(p, t, why, made)
 }
 
 /// The answer to the unanswered operation, from site f, is told; under another incarnation of f than its earlier
@@ -178,7 +163,11 @@ pub fn on_done<P: Past>(
         return Ok(());
     }
     let e = p.expected(alloc, t, f)?;
-    tell_done(p, f, t, n, inc, answer, e, made)
+    if !kept_locks(e.count, e.inc, inc) {
+        return doom(p, t, f, e.inc, inc, made);
+    }
+    let answer = answer.copy();
+    and_tell(Told::Op { txn: *t, n, answer }, made)
 }
 
 /// A request of the transaction died elsewhere: the coordinator aborts, if it may.

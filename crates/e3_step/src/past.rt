@@ -9,12 +9,13 @@ ghost use Rattle.e3_world.specs.Making.{grants_after, log_now};
 ghost use Rattle.e3_world.specs.Operations.{answers, done, expected, issued, kept_reason, unanswered};
 ghost use Rattle.e3_world.specs.Rounds.{round_in_progress};
 ghost use Rattle.e3_world.specs.Steps.{is_begin};
-ghost use Rattle.e3_commit.specs.Acks.{gathered_round};
 ghost use Rattle.e3_step.specs.Asking.{is_waiting, lock_now, waits_now};
-ghost use Rattle.e3_step.specs.Reading.{first_of, has_every_yes, is_awaited, own_value, row_now};
+ghost use Rattle.e3_readings.specs.Gathering.{has_every_yes};
+ghost use Rattle.e3_readings.specs.Awaiting.{first_of, is_awaited};
+ghost use Rattle.e3_step.specs.Reading.{own_value, row_now};
 ghost use Rattle.e3_step.specs.SoFar.{IsSoFar};
 
-use e3_commit::Round;
+use e3_commit::Acks;
 use e3_elect::Election;
 use e3_types::{Answer, Call, Dir, Grant, Input, List, Name, NoMemory, Refusal, Txn};
 use e3_world::{Asked, Expected, Made, Performed};
@@ -140,9 +141,9 @@ pub trait Past {
     fn election(&self, alloc: Global, t: &Txn) -> Result<Option<Election>, NoMemory>
         ensures { IfOk result (λ e. e ≡ election_in_progress (at self.now).site (at self.now).life.inc t.now (at self.now).life.steps) };
 
-    /// The round of the transaction that is in progress before the step, if there is one.
-    fn round(&self, t: &Txn) -> Option<Round>
-        ensures { gathered_round result ≡ round_in_progress (at self.now).site t.now (at self.now).life.steps };
+    /// Who acknowledged the attempt of the transaction that is in progress before the step, if there is one.
+    fn round(&self, t: &Txn) -> Option<Acks>
+        ensures { result ≡ round_in_progress (at self.now).site t.now (at self.now).life.steps };
 
     /// How many transactions the incarnation began before the step.
     fn begins(&self) -> Result<u32, NoMemory>

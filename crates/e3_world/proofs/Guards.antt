@@ -18,7 +18,7 @@ use Rattle.e3_world.specs.Given.{is_groupable}
 use Rattle.e3_world.specs.Items.{input_of, txn_of, since_line, to_line, inputs_of, is_delivery, is_up_at, items_through}
 use Rattle.e3_world.specs.declared.names.Addressed.{Addressed}
 use Rattle.e3_world.specs.Legal.{IsLegal, LegalAfter, Guard, IsNextItem, IsDue, entry_of, is_made, is_through}
-use Rattle.e3_world.specs.Moves.{own}
+use Rattle.e3_world.specs.Moves.{own_entries}
 use Rattle.e3_world.specs.Packets.{is_line, lines, present_items, pending}
 use Rattle.e3_world.proofs.Pushes.{legal_push}
 use Rattle.e3_world.specs.Progress.{AtPlan, up_behind, Delivering, ItemDone, ItemsDone, after_item, after_first}
@@ -76,8 +76,8 @@ take_item sc h front rest a was some up is = record {
 pub at_line : (sc : Scenario) (h : List Entry) (e : Entry) → is_line e ≡ true → AtPlan sc (h ++ e ∷ []) (plan_of sc (h ++ e ∷ [])) []
 at_line sc h e line = record {
   is_plan = refl;
-  turns = λ s up. ap (λ since. count_by (λ i. not (is_delivery i)) (flat_map (λ e. inputs_of e.act) (own s since))) none;
-  fresh = λ s. ap (λ since. list_any is_delivery (flat_map (λ e. inputs_of e.act) (own s since))) none;
+  turns = λ s up. ap (λ since. count_by (λ i. not (is_delivery i)) (flat_map (λ e. inputs_of e.act) (own_entries s since))) none;
+  fresh = λ s. ap (λ since. list_any is_delivery (flat_map (λ e. inputs_of e.act) (own_entries s since))) none;
 }
   where
     none : since_line (h ++ e ∷ []) ≡ []
@@ -190,13 +190,13 @@ zero_act sc before zero Miss g is = refl
 zero_act sc before zero Cut g is = refl
 zero_act sc before (suc s) act g is = absurd (omega (arith, is))
 
-zero_down : (sc : Scenario) (before h : List Entry) → LegalAfter sc before h → fold (λ was e. up_behind was e.act) false (own 0 h) ≡ false
+zero_down : (sc : Scenario) (before h : List Entry) → LegalAfter sc before h → fold (λ was e. up_behind was e.act) false (own_entries 0 h) ≡ false
 zero_down sc before [] legal = refl
 zero_down sc before (e ∷ h) legal = by (zero_down sc (before ++ e ∷ []) h legal.1) (e.owner == 0) refl
   where
-    by : fold (λ was e. up_behind was e.act) false (own 0 h) ≡ false → (b : Bool) → (e.owner == 0) ≡ b →
-        fold (λ was e. up_behind was e.act) false (own 0 (e ∷ h)) ≡ false
-    by rest true is = rw is (ap (λ b. fold (λ was e. up_behind was e.act) b (own 0 h)) (zero_act sc before e.owner e.act legal.0 (eqb-true e.owner 0 is)) ∙ rest)
+    by : fold (λ was e. up_behind was e.act) false (own_entries 0 h) ≡ false → (b : Bool) → (e.owner == 0) ≡ b →
+        fold (λ was e. up_behind was e.act) false (own_entries 0 (e ∷ h)) ≡ false
+    by rest true is = rw is (ap (λ b. fold (λ was e. up_behind was e.act) b (own_entries 0 h)) (zero_act sc before e.owner e.act legal.0 (eqb-true e.owner 0 is)) ∙ rest)
     by rest false is = rw is rest
 
 pub up_some : (sc : Scenario) (h : List Entry) (s : ℕ) → IsLegal sc h → is_up_at h s ≡ true → 1 ≤ s

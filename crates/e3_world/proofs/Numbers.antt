@@ -5,7 +5,7 @@ use Rattle.e3_types.specs.declared.entries.Input.{Input}
 use Rattle.e3_types.specs.declared.entries.Input.TheVariants as input
 use Rattle.e3_types.specs.declared.messages.Packet.{Packet}
 use Rattle.e3_types.specs.declared.scenarios.Scenario.{Scenario}
-use Rattle.e3_world.specs.Moves.{Move, Stepped, own, past_of, moves_of, moves_of_act, unnumbered, unnumbered_input}
+use Rattle.e3_world.specs.Moves.{Move, Stepped, own_entries, past_of, moves_of, moves_of_act, unnumbered, unnumbered_input}
 use Rattle.e3_world.specs.Sound.{step_move}
 use Rattle.e3_world.specs.Legal.{numbered, entry_of, made_by}
 
@@ -14,7 +14,7 @@ plain-numbered n [] = refl
 plain-numbered n (p ∷ ps) = ap (λ rest. unnumbered p ∷ rest) (plain-numbered (suc n) ps)
 
 pub entered_move : (sc : Scenario) (h : List Entry) (site : ℕ) (i : Input) →
-    moves_of_act sc site (past_of sc site (own site h)) (entry_of sc h site i).act ≡ step_move sc site (moves_of sc h site) i ∷ []
+    moves_of_act sc site (past_of sc site (own_entries site h)) (entry_of sc h site i).act ≡ step_move sc site (moves_of sc h site) i ∷ []
 entered_move sc h site i =
     ap (λ outs. record { site = site; did = Stepped (record { input = unnumbered_input i; records = (made_by sc h site i).records; outs = outs; told = (made_by sc h site i).told }) } ∷ [])
     (plain-numbered _ (made_by sc h site i).outs)

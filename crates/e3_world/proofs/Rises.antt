@@ -8,7 +8,7 @@ use Rattle.e3_types.specs.declared.entries.Act.TheVariants.{Rise, Miss}
 use Rattle.e3_types.specs.declared.entries.Entry.{Entry}
 use Rattle.e3_types.specs.declared.scenarios.Scenario.{Scenario}
 use Rattle.e3_world.specs.Legal.{IsLegal, Guard, IsRising, has_rising, is_rising, is_through, may_rise}
-use Rattle.e3_world.specs.Moves.{own, past_of, log_by, kept_moves}
+use Rattle.e3_world.specs.Moves.{own_entries, past_of, log_by, kept_moves}
 use Rattle.e3_world.specs.Logs.{logged_inc}
 use Rattle.e3_world.specs.Packets.{lines, is_line, all_sites, sites_to}
 use Rattle.e3_world.proofs.Pushes.{legal_push}
@@ -20,7 +20,7 @@ pub record Rising (sc : Scenario) (h : List Entry) (k : ℕ) : Type 0 where
   pub legal : IsLegal sc h
   pub before_lines : lines h ≡ 0
   pub rose : (s : ℕ) → 1 ≤ s → s ≤ k → has_rising h s ≡ true
-  pub silent : (s : ℕ) → k < s → own s h ≡ []
+  pub silent : (s : ℕ) → k < s → own_entries s h ≡ []
 
 true_not_false : true ≡ false → ⊥
 true_not_false is = cc
@@ -63,14 +63,14 @@ next_rise sc h k act was guard rises line = record {
     e = record { owner = suc k; act = act }
 
     rose : (s : ℕ) → 1 ≤ s → s ≤ suc k → (b : Bool) → (suc k == s) ≡ b → has_rising (h ++ e ∷ []) s ≡ true
-    rose s some few true is = rw (own_same s h e is, list_any-append, rises) (or_true (list_any is_rising (own s h)))
+    rose s some few true is = rw (own_same s h e is, list_any-append, rises) (or_true (list_any is_rising (own_entries s h)))
       where
         or_true : (b : Bool) → (b || true) ≡ true
         or_true true = refl
         or_true false = refl
     rose s some few false is = rw (own_other s h e is) (was.rose s some (let apart : suc k ≢ s = (λ e. true_not_false (sym (eq-eqb (suc k) s e) ∙ is)) in omega (arith, apart, few)))
 
-    silent : (s : ℕ) → suc k < s → (b : Bool) → (suc k == s) ≡ b → own s (h ++ e ∷ []) ≡ []
+    silent : (s : ℕ) → suc k < s → (b : Bool) → (suc k == s) ≡ b → own_entries s (h ++ e ∷ []) ≡ []
     silent s later true is = absurd (let same : suc k ≡ s = eqb-true (suc k) s is in omega (arith, same, later))
     silent s later false is = own_other s h e is ∙ was.silent s (omega (arith, later))
 

@@ -7,7 +7,7 @@ use Rattle.e3_types.specs.declared.entries.Act.TheVariants.{Step, Fall, Rise, Ri
 use Rattle.e3_types.specs.declared.entries.Entry.{Entry}
 use Rattle.e3_types.specs.declared.messages.Packet.{Packet}
 use Rattle.e3_types.specs.declared.scenarios.Scenario.{Scenario}
-use Rattle.e3_world.specs.Moves.{Past, Tail, own, past_of, moves_of_act, kept_moves, trail_after, trail_of, unnumbered}
+use Rattle.e3_world.specs.Moves.{Past, Tail, own_entries, past_of, moves_of_act, kept_moves, trail_after, trail_of, unnumbered}
 use Rattle.e3_world.specs.Packets.{outs_of, sent}
 use Rattle.e3_world.specs.Sound.{sends}
 
@@ -36,7 +36,7 @@ map-append (x ∷ xs) ys = ap (λ l. unnumbered x ∷ l) (map-append xs ys)
 after_sends : (sc : Scenario) (before rest : List Entry) → flat_map sends (trail_after sc before rest) ≡ map unnumbered (sent rest)
 after_sends sc before [] = refl
 after_sends sc before (e ∷ rest) =
-    let w : Past = past_of sc e.owner (own e.owner before) in
+    let w : Past = past_of sc e.owner (own_entries e.owner before) in
     flat_map-append sends (moves_of_act sc e.owner w e.act) (trail_after sc (before ++ e ∷ []) rest)
     ∙ ap (λ l. l ++ flat_map sends (trail_after sc (before ++ e ∷ []) rest)) (act_sends sc e.owner w e.act)
     ∙ ap (λ l. map unnumbered (outs_of e.act) ++ l) (after_sends sc (before ++ e ∷ []) rest)

@@ -5,7 +5,7 @@ use Rattle.e3_types.specs.declared.entries.Entry.{Entry}
 use Rattle.e3_types.specs.declared.entries.Act.{Act}
 use Rattle.e3_types.specs.declared.entries.Act.TheVariants.{Step, Fall, Rise, RiseFall, Miss, Cut, Drop, Parts, Line}
 use Rattle.e3_types.specs.declared.scenarios.Scenario.{Scenario}
-use Rattle.e3_world.specs.Moves.{Move, Did, Silent, Past, Tail, own, moves_at, past_of, moves_of, moves_of_act, kept_moves, trail_after, trail_of}
+use Rattle.e3_world.specs.Moves.{Move, Did, Silent, Past, Tail, own_entries, moves_at, past_of, moves_of, moves_of_act, kept_moves, trail_after, trail_of}
 use Rattle.e3_world.proofs.Pushes.{past_push}
 
 -- all of these moves, or none of them
@@ -49,22 +49,22 @@ act_if sc site owner w (Line number) b is = none site b
 
 -- the moves that an entry of this owner makes
 abbrev made_by : Scenario → List Entry → Act → ℕ → List Move
-made_by sc before act owner = moves_of_act sc owner (past_of sc owner (own owner before)) act
+made_by sc before act owner = moves_of_act sc owner (past_of sc owner (own_entries owner before)) act
 
 -- the own moves of one more entry
 step_moves : (sc : Scenario) (site : ℕ) (before : List Entry) (e : Entry) (b : Bool) → (e.owner == site) ≡ b →
     moves_of sc (before ++ e ∷ []) site ≡ moves_of sc before site ++ moves_at site (made_by sc before e.act e.owner)
 step_moves sc site before e true is =
     let same : e.owner ≡ site = eqb-true e.owner site is in
-    let mine : own site (before ++ e ∷ []) ≡ own site before ++ e ∷ [] = rw (filter-append, is) refl in
+    let mine : own_entries site (before ++ e ∷ []) ≡ own_entries site before ++ e ∷ [] = rw (filter-append, is) refl in
     let P : ℕ → Type 0 = λ o. (o == site) ≡ true in
-    let acts : moves_at site (made_by sc before e.act site) ≡ made_by sc before e.act site = act_if sc site site (past_of sc site (own site before)) e.act true (subst P same is) in
-    ap (λ l. (past_of sc site l).moves) mine ∙ ap (λ p. p.moves) (past_push sc site (own site before) e)
+    let acts : moves_at site (made_by sc before e.act site) ≡ made_by sc before e.act site = act_if sc site site (past_of sc site (own_entries site before)) e.act true (subst P same is) in
+    ap (λ l. (past_of sc site l).moves) mine ∙ ap (λ p. p.moves) (past_push sc site (own_entries site before) e)
     ∙ ap (λ l. moves_of sc before site ++ l) (sym acts)
     ∙ ap (λ o. moves_of sc before site ++ moves_at site (made_by sc before e.act o)) (sym same)
 step_moves sc site before e false is =
-    let mine : own site (before ++ e ∷ []) ≡ own site before = rw (filter-append, is) (append-nil (own site before)) in
-    let acts : moves_at site (made_by sc before e.act e.owner) ≡ [] = act_if sc site e.owner (past_of sc e.owner (own e.owner before)) e.act false is in
+    let mine : own_entries site (before ++ e ∷ []) ≡ own_entries site before = rw (filter-append, is) (append-nil (own_entries site before)) in
+    let acts : moves_at site (made_by sc before e.act e.owner) ≡ [] = act_if sc site e.owner (past_of sc e.owner (own_entries e.owner before)) e.act false is in
     ap (λ l. (past_of sc site l).moves) mine ∙ sym (append-nil (moves_of sc before site))
     ∙ ap (λ l. moves_of sc before site ++ l) (sym acts)
 

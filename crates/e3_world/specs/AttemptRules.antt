@@ -8,7 +8,7 @@ use Rattle.e3_types.specs.declared.records.Record.TheVariants as log
 use Rattle.e3_types.specs.declared.messages.Message.TheVariants as msg
 use Rattle.e3_types.specs.Quorums.{is_quorum}
 use Rattle.e3_types.specs.Same.{same_dir}
-use Rattle.e3_world.specs.declared.gatherings.Round.{Round}
+use Rattle.e3_world.specs.Gatherings.{Round}
 use Rattle.e3_world.specs.Rounds.{count_ack, round_in_progress}
 use Rattle.e3_world.specs.Making.{open_now, elected_now, attempt_now, may_decide, and_record, and_send, and_cast, and_decide}
 

@@ -14,7 +14,7 @@ use Rattle.e3_types.specs.declared.entries.Told.TheVariants as told
 use Rattle.e3_types.specs.declared.verdicts.Verdict.TheVariants as verdict
 use Rattle.e3_types.specs.Sets.{others}
 use Rattle.e3_types.specs.Verdicts.{verdict_of}
-use Rattle.e3_world.specs.declared.gatherings.Election.{Election}
+use Rattle.e3_world.specs.Gatherings.{Election}
 use Rattle.e3_world.specs.Elections.{all_heard, all_reported, greatest_heard, hear, take_report, election_in_progress}
 use Rattle.e3_world.specs.Making.{state_now, elected_now, attempt_now, may_decide, and_record, and_tell, and_send, and_cast, and_decide, and_attempt}
 

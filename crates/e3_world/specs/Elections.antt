@@ -15,8 +15,7 @@ use Rattle.e3_types.specs.declared.entries.Told.TheVariants as told
 use Rattle.e3_types.specs.Same.{same_txn, same_call}
 use Rattle.e3_types.specs.Sets.{has_site}
 use Rattle.e3_world.specs.declared.lives.Moment.{Moment}
-use Rattle.e3_world.specs.declared.gatherings.Election.{Election}
-use Rattle.e3_world.specs.declared.gatherings.Elections.{Elections}
+use Rattle.e3_world.specs.Gatherings.{Election, Elections}
 use Rattle.e3_world.specs.Logs.{last_elected, last_attempt, state_of}
 
 -- the record is a decision of the transaction

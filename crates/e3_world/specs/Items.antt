@@ -23,7 +23,7 @@ use Rattle.e3_world.specs.declared.names.Binding.{Binding}
 use Rattle.e3_world.specs.declared.names.Bound.{Bound}
 use Rattle.e3_world.specs.Lives.{life_at}
 use Rattle.e3_world.specs.Logs.{is_undecided}
-use Rattle.e3_world.specs.Moves.{own, moves_of, is_up}
+use Rattle.e3_world.specs.Moves.{own_entries, moves_of, is_up}
 use Rattle.e3_world.specs.Operations.{arrivals}
 use Rattle.e3_world.specs.Packets.{is_line, step_items, present_items, all_sites}
 
@@ -126,7 +126,7 @@ is_delivery _ = false
 
 -- the inputs that a site took in the present step
 abbrev pub taken_at : List Entry → ℕ → List Input
-taken_at history site = flat_map (λ e. inputs_of e.act) (own site (since_line history))
+taken_at history site = flat_map (λ e. inputs_of e.act) (own_entries site (since_line history))
 
 -- how many of its items a site took in the present step
 abbrev pub turn_of : List Entry → ℕ → ℕ
@@ -134,7 +134,7 @@ turn_of history site = count_by (λ i. not (is_delivery i)) (taken_at history si
 
 -- the site is up
 abbrev pub is_up_at : List Entry → ℕ → Bool
-is_up_at history site = is_up (own site history)
+is_up_at history site = is_up (own_entries site history)
 
 -- every site has taken all its items, or is down
 abbrev pub items_through : Scenario → List Entry → Bool

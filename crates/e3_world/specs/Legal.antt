@@ -15,7 +15,7 @@ use Rattle.e3_types.specs.declared.entries.Input.TheVariants as input
 use Rattle.e3_types.specs.declared.scenarios.Item.TheVariants as item
 use Rattle.e3_world.specs.Items.{since_line, inputs_at, is_delivery, taken_at, turn_of, is_up_at, items_through, due_round}
 use Rattle.e3_world.specs.Logs.{logged_inc}
-use Rattle.e3_world.specs.Moves.{own, log_by, kept_moves, moves_of, log_of, open_tail}
+use Rattle.e3_world.specs.Moves.{own_entries, log_by, kept_moves, moves_of, log_of, open_tail}
 use Rattle.e3_world.specs.Packets.{sent, lines, present_items, all_sites, is_calm, pending}
 use Rattle.e3_world.specs.Lives.{incarnation_of}
 use Rattle.e3_world.specs.Steps.{step_of}
@@ -48,7 +48,7 @@ is_rising e = by e.act
 
 -- the site has such an entry among these
 abbrev pub has_rising : List Entry → ℕ → Bool
-has_rising entries site = list_any is_rising (own site entries)
+has_rising entries site = list_any is_rising (own_entries site entries)
 
 -- the parts that a split or a merge asks for
 abbrev pub parts_due : Scenario → List Item → Option (List (List ℕ))

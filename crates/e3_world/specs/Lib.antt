@@ -24,3 +24,4 @@ pub mod Sound
 pub mod Serial
 pub mod Safe
 pub mod Progress
+pub mod Gatherings

@@ -30,8 +30,8 @@ pub record Move : Type 0 where
   pub did : Did
 
 -- the entries of a site; owner 0 of an entry is the driver
-abbrev pub own : ℕ → List Entry → List Entry
-own site history = filter (λ e. e.owner == site) history
+abbrev pub own_entries : ℕ → List Entry → List Entry
+own_entries site history = filter (λ e. e.owner == site) history
 
 -- the moves of a site
 abbrev pub moves_at : ℕ → List Move → List Move
@@ -128,7 +128,7 @@ past_of sc site mine = fold (past_by sc site) (record { moves = []; tail = None 
 
 -- the moves, the log and the open tail of a site in a history
 abbrev pub moves_of : Scenario → List Entry → ℕ → List Move
-moves_of sc history site = (past_of sc site (own site history)).moves
+moves_of sc history site = (past_of sc site (own_entries site history)).moves
 
 -- the log of a site in a history
 abbrev pub log_of : Scenario → List Entry → ℕ → List Record
@@ -136,13 +136,13 @@ log_of sc history site = log_by (moves_of sc history site)
 
 -- the open tail of a site in a history
 abbrev pub open_tail : Scenario → List Entry → ℕ → Option Tail
-open_tail sc history site = (past_of sc site (own site history)).tail
+open_tail sc history site = (past_of sc site (own_entries site history)).tail
 
 -- the trail of a history: the moves of all sites, in the order of the entries that make them
 abbrev pub trail_after : Scenario → List Entry → List Entry → List Move
 trail_after sc before [] = []
 trail_after sc before (e ∷ rest) =
-    moves_of_act sc e.owner (past_of sc e.owner (own e.owner before)) e.act ++ trail_after sc (before ++ e ∷ []) rest
+    moves_of_act sc e.owner (past_of sc e.owner (own_entries e.owner before)) e.act ++ trail_after sc (before ++ e ∷ []) rest
 
 -- the trail of a history
 abbrev pub trail_of : Scenario → List Entry → List Move

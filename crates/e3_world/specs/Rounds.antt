@@ -11,8 +11,7 @@ use Rattle.e3_types.specs.declared.messages.Message.TheVariants as msg
 use Rattle.e3_types.specs.Same.{same_txn, same_dir}
 use Rattle.e3_types.specs.Sets.{has_site, others}
 use Rattle.e3_world.specs.declared.lives.Moment.{Moment}
-use Rattle.e3_world.specs.declared.gatherings.Round.{Round}
-use Rattle.e3_world.specs.declared.gatherings.Rounds.{Rounds}
+use Rattle.e3_world.specs.Gatherings.{Round, Rounds}
 
 -- the round with an acknowledgement of its attempt by one who got it
 abbrev pub count_ack : Round → ℕ → ℕ → Dir → Round

@@ -16,7 +16,7 @@ use Rattle.e3_types.specs.declared.messages.Message.TheVariants as msg
 use Rattle.e3_types.specs.declared.entries.Refusal.TheVariants as refusal
 use Rattle.e3_types.specs.declared.entries.Told.TheVariants as told
 use Rattle.e3_types.specs.Sets.{others}
-use Rattle.e3_world.specs.declared.gatherings.Election.{Election}
+use Rattle.e3_world.specs.Gatherings.{Election}
 use Rattle.e3_world.specs.Elections.{begun, next_call}
 use Rattle.e3_world.specs.Lives.{life_of}
 use Rattle.e3_world.specs.Logs.{decision, key_of}

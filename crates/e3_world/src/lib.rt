@@ -2,15 +2,15 @@
 //! a scenario allows, and what is promised of them.
 #![tactic(auto)]
 
+mod elections;
 mod fate;
-mod gatherings;
 mod history;
 mod lives;
 mod names;
 mod sites;
 
+pub use elections::Named;
 pub use fate::fate_word;
-pub use gatherings::{Election, Elections, Named, Round, Rounds};
 pub use history::History;
 pub use lives::{Asked, At, Expected, Incarnation, Life, Made, Moment, Performed, SiteStep};
 pub use names::{Addressed, Binding, Bound};

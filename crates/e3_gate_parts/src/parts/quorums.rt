@@ -139,7 +139,7 @@ fn push_acks(page: &mut Page, to: SiteSet, site: u32, acks: &[(u32, u32, Dir)]) 
         push_known(page, Some(round.ack(*from, *n, *dir).count()));
     }
     page.text("; in order:");
-    for from in round.copy().acked() {
+    for from in round.acks().copy().arrivals() {
         push_known(page, Some(*from));
     }
     page.text("\n");

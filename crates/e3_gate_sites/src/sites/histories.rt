@@ -9,16 +9,16 @@ use e3_world::History;
 use std::alloc::Global;
 use std::slice;
 
-// Adds the packet that an input delivers, in plain form.
-fn push_plain(page: &mut Page, input: &Input) {
+// Adds the packet that an input delivers, without its number.
+fn push_unnumbered(page: &mut Page, input: &Input) {
     if let Input::Deliver { packet } = unnumbered_input(input) {
-        page.labelled(" plain packet: number ", packet.number);
+        page.labelled(" unnumbered packet: number ", packet.number);
         page.labelled(" from ", u64::from(packet.from));
     }
     page.text("\n");
 }
 
-/// Adds the last step of a history as the definitions make it of its input, and the packet that it takes, in plain form.
+/// Adds the last step of a history as the definitions make it of its input, and the packet that it takes, without its number.
 pub fn push_step(alloc: Global, page: &mut Page, scenario: &Scenario, history: &[Entry]) {
     let Some((last, before)) = history.split_last() else {
         return page.text(" no entry");
@@ -26,7 +26,7 @@ pub fn push_step(alloc: Global, page: &mut Page, scenario: &Scenario, history: &
     let Act::Step { input, .. } = &last.act else {
         return page.text(" no step");
     };
-    push_plain(page, input);
+    push_unnumbered(page, input);
     match entry_of(alloc, scenario, before, last.owner, input) {
         Ok(entry) => page.trace(slice::from_ref(&entry)),
         Err(NoMemory) => page.lack(),

@@ -1,6 +1,6 @@
 // What is read off the log and the steps of a site, of each transaction that was begun.
 use crate::sites::texts::{push_count, push_flag};
-use e3_commit::Round;
+use e3_commit::Acks;
 use e3_elect::Election;
 use e3_judge::incarnation_at;
 use e3_lines::Page;
@@ -72,9 +72,9 @@ fn push_election(alloc: Global, page: &mut Page, site: u32, t: &Txn, life: &Life
 }
 
 // Adds a round that an attempt began.
-fn push_begun(page: &mut Page, r: &Round) {
+fn push_begun(page: &mut Page, r: &Acks) {
     page.labelled("; round ", u64::from(r.number()));
-    page.labelled(", acknowledged ", r.acked().len() as u64);
+    page.labelled(", acknowledged ", r.arrivals().len() as u64);
     page.labelled(" of ", u64::from(r.receivers().count()));
     page.text(", to ");
     page.dir(r.direction());
@@ -87,20 +87,10 @@ fn push_round(page: &mut Page, site: u32, t: &Txn, steps: &[Moment]) {
     }
 }
 
-// Adds which sites voted yes.
-fn push_yes(page: &mut Page, yes: &[u32]) {
-    page.text("; yes");
-    for site in yes {
-        page.labelled(" of ", u64::from(*site));
-    }
-}
-
-// Adds which sites voted yes, where votes are gathered.
-fn push_votes(alloc: Global, page: &mut Page, t: &Txn, steps: &[Moment]) {
-    match yes_votes(alloc, t, steps) {
-        Ok(Some(yes)) => push_yes(page, yes.as_slice()),
-        Ok(None) => {}
-        Err(NoMemory) => page.lack(),
+// Adds how many votes are missing, where votes are gathered.
+fn push_votes(page: &mut Page, site: u32, t: &Txn, steps: &[Moment]) {
+    if let Some(votes) = votes_in(site, t, steps) {
+        page.labelled("; votes missing ", u64::from(votes.missing().count()));
     }
 }
 
@@ -113,7 +103,7 @@ fn push_of(alloc: Global, page: &mut Page, site: u32, t: &Txn, life: &Life) {
     push_expected(alloc, page, site, t, life, 2);
     push_election(alloc, page, site, t, life);
     push_round(page, site, t, steps);
-    push_votes(alloc, page, t, steps);
+    push_votes(page, site, t, steps);
     page.text("\n");
 }
 

@@ -14,8 +14,7 @@ use Rattle.e3_types.specs.declared.transactions.Txn.{Txn}
 use Rattle.e3_types.specs.declared.verdicts.SiteReport.{SiteReport}
 use Rattle.e3_types.specs.Same.{same_txn, same_call}
 use Rattle.e3_types.specs.Sets.{has_site, is_within}
-use Rattle.e3_world.specs.declared.gatherings.Election.{Election}
-use Rattle.e3_world.specs.declared.gatherings.Elections.{Elections}
+use Rattle.e3_world.specs.Gatherings.{Election, Elections}
 use Rattle.e3_world.specs.declared.lives.Moment.{Moment}
 use Rattle.e3_world.specs.Elections.{all_heard, begun, hear, take_report, joined_in, is_join, ends_election, after_heard, or_same, heard_more, election_with, election_by, election_in_progress}
 use Rattle.e3_world.specs.Logs.{last_elected, last_attempt, state_of}

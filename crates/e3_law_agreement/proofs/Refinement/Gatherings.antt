@@ -16,8 +16,7 @@ use Rattle.e3_types.specs.Same.{same_txn, same_dir}
 use Rattle.e3_types.specs.Sets.{has_site, is_within, others}
 use Rattle.e3_world.specs.declared.lives.Made.{Made}
 use Rattle.e3_world.specs.declared.lives.Moment.{Moment}
-use Rattle.e3_world.specs.declared.gatherings.Round.{Round}
-use Rattle.e3_world.specs.declared.gatherings.Rounds.{Rounds}
+use Rattle.e3_world.specs.Gatherings.{Round, Rounds}
 use Rattle.e3_world.specs.Making.{steps_now}
 use Rattle.e3_world.specs.Operations.{is_refusal}
 use Rattle.e3_world.specs.Rounds.{count_ack, receivers, round_by_record, round_by, round_in_progress}

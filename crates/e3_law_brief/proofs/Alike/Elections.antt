@@ -10,9 +10,7 @@ use Rattle.e3_types.specs.declared.records.Record.{Record}
 use Rattle.e3_types.specs.declared.transactions.Call.{Call}
 use Rattle.e3_types.specs.declared.transactions.Txn.{Txn}
 use Rattle.e3_types.specs.Same.{same_txn}
-use Rattle.e3_world.specs.declared.gatherings.Election.{Election}
-use Rattle.e3_world.specs.declared.gatherings.Elections.{Elections}
-use Rattle.e3_world.specs.declared.gatherings.Rounds.{Rounds}
+use Rattle.e3_world.specs.Gatherings.{Election, Elections, Rounds}
 use Rattle.e3_world.specs.declared.lives.SiteStep.{SiteStep}
 use Rattle.e3_world.specs.Elections.{after_heard, all_heard, begun, election_by, election_in_progress, election_with, ends_election, hear, heard_more, joined_in, next_call}
 use Rattle.e3_world.specs.Logs.{last_elected}

@@ -22,8 +22,7 @@ use Rattle.e3_types.specs.Quorums.{is_quorum}
 use Rattle.e3_types.specs.Same.{same_dir, same_state, same_txn}
 use Rattle.e3_types.specs.Sets.{is_within, others}
 use Rattle.e3_types.specs.Verdicts.{verdict_of}
-use Rattle.e3_world.specs.declared.gatherings.Election.{Election}
-use Rattle.e3_world.specs.declared.gatherings.Round.{Round}
+use Rattle.e3_world.specs.Gatherings.{Election, Round}
 use Rattle.e3_world.specs.declared.lives.Asked.{Asked}
 use Rattle.e3_world.specs.declared.lives.At.{At}
 use Rattle.e3_world.specs.declared.lives.Made.{Made}

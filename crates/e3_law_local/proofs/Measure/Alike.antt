@@ -17,7 +17,7 @@ use Rattle.e3_world.specs.Legal.{entry_of, made_by, numbered}
 use Rattle.e3_world.specs.Lives.{incarnation_of}
 use Rattle.e3_world.specs.Logs.{is_undecided}
 use Rattle.e3_world.specs.Steps.{step_of}
-use Rattle.e3_world.specs.Moves.{Past, log_by, moves_of, own, past_by, past_of}
+use Rattle.e3_world.specs.Moves.{Past, log_by, moves_of, own_entries, past_by, past_of}
 use Rattle.e3_world.specs.Packets.{all_sites, is_calm, is_line, lines, outs_of, parts_of, pending, present_items, sent, step_items, taken, taken_by}
 use Rattle.e3_net.specs.Stands.{given, given_after, waiting_of, without}
 use Rattle.e3_net.proofs.Copies.{without_same}
@@ -65,11 +65,11 @@ folds_by_act : {X : Type 0} (f : X → Entry → X) → ((x : X) (owner : ℕ) (
     (h : List Entry) (x : X) → fold f x (map alike h) ≡ fold f x h
 folds_by_act f falls h x = folds f (λ y e. by_acts (λ act. f y (record { owner = e.owner; act = act })) (falls y e.owner) e.act) h x
 
-own_alike : (s : ℕ) (h : List Entry) → own s (map alike h) ≡ map alike (own s h)
+own_alike : (s : ℕ) (h : List Entry) → own_entries s (map alike h) ≡ map alike (own_entries s h)
 own_alike s [] = refl
 own_alike s (e ∷ h) = by (e.owner == s) refl (own_alike s h)
   where
-    by : (b : Bool) → (e.owner == s) ≡ b → own s (map alike h) ≡ map alike (own s h) → own s (map alike (e ∷ h)) ≡ map alike (own s (e ∷ h))
+    by : (b : Bool) → (e.owner == s) ≡ b → own_entries s (map alike h) ≡ map alike (own_entries s h) → own_entries s (map alike (e ∷ h)) ≡ map alike (own_entries s (e ∷ h))
     by true is rest = rw is (ap (λ l. alike e ∷ l) rest)
     by false is rest = rw is rest
 
@@ -83,7 +83,7 @@ past_alike sc s w e = by_acts (λ act. past_by sc s w (record { owner = e.owner;
 
 pub moves_alike : (sc : Scenario) (h : List Entry) (s : ℕ) → moves_of sc (map alike h) s ≡ moves_of sc h s
 moves_alike sc h s = ap (λ w. w.moves)
-    (ap (past_of sc s) (own_alike s h) ∙ folds (past_by sc s) (past_alike sc s) (own s h) _)
+    (ap (past_of sc s) (own_alike s h) ∙ folds (past_by sc s) (past_alike sc s) (own_entries s h) _)
 
 pub sent_alike : (h : List Entry) → sent (map alike h) ≡ sent h
 sent_alike h = flats (λ e. outs_of e.act) (λ e. by_acts outs_of (λ inputs records why. refl) e.act) h

@@ -24,7 +24,7 @@ use Rattle.e3_world.specs.declared.names.Bound.{Bound}
 use Rattle.e3_world.specs.Items.{input_of, inputs_at, last_bound, plan_of, since_line, to_line, turn_of, txn_of}
 use Rattle.e3_world.specs.Legal.{Guard, IsDue, IsLegal, IsNextItem, LegalAfter}
 use Rattle.e3_world.specs.Lives.{incarnation_by, incarnation_of, life_at, life_by}
-use Rattle.e3_world.specs.Moves.{Did, Move, Past, Rose, Silent, Stepped, Tail, kept_moves, moves_of, moves_of_act, own, past_of, unnumbered_input}
+use Rattle.e3_world.specs.Moves.{Did, Move, Past, Rose, Silent, Stepped, Tail, kept_moves, moves_of, moves_of_act, own_entries, past_of, unnumbered_input}
 use Rattle.e3_world.specs.Operations.{issued, issued_in}
 use Rattle.e3_world.specs.Packets.{present_items}
 use Rattle.e3_world.proofs.Pushes.{past_push}
@@ -180,8 +180,8 @@ entry_known sc h e was guard s = by (e.owner == s) refl
     older = each-weaker (λ m. KnownDid (begun h) m.did) (λ m. KnownDid (begun (h ++ e ∷ [])) m.did) (λ m known. did_later h e m.did known) (moves_of sc h s) (was s)
 
     by : (b : Bool) → (e.owner == s) ≡ b → P (moves_of sc (h ++ e ∷ []) s)
-    by true is = subst P (sym (ap (λ l. (past_of sc s l).moves) (own_same s h e is) ∙ ap (λ p. p.moves) (past_push sc s (own s h) e)))
-        (each-append (λ m. KnownDid (begun (h ++ e ∷ [])) m.did) (moves_of sc h s) _ older (act_known sc h e.owner e.act s (past_of sc s (own s h)) guard))
+    by true is = subst P (sym (ap (λ l. (past_of sc s l).moves) (own_same s h e is) ∙ ap (λ p. p.moves) (past_push sc s (own_entries s h) e)))
+        (each-append (λ m. KnownDid (begun (h ++ e ∷ [])) m.did) (moves_of sc h s) _ older (act_known sc h e.owner e.act s (past_of sc s (own_entries s h)) guard))
     by false is = subst P (sym (ap (λ l. (past_of sc s l).moves) (own_other s h e is))) older
 
 after_known : (sc : Scenario) (before rest : List Entry) → ((s : ℕ) → Known (begun before) (moves_of sc before s)) → LegalAfter sc before rest →

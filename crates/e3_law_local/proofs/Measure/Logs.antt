@@ -10,7 +10,7 @@ use Rattle.e3_types.specs.declared.transactions.Dir.{Dir}
 use Rattle.e3_types.specs.declared.transactions.Txn.{Txn}
 use Rattle.e3_types.specs.Sets.{has_site}
 use Rattle.e3_world.specs.Logs.{decision, decision_by, is_undecided}
-use Rattle.e3_world.specs.Moves.{log_by, log_of, moves_of_act, own, past_of}
+use Rattle.e3_world.specs.Moves.{log_by, log_of, moves_of_act, own_entries, past_of}
 use Rattle.e3_world.proofs.Pushes.{past_push}
 use Rattle.e3_world.proofs.Readings.{own_other, own_same}
 use Rattle.e3_law_steps.proofs.Each.{each-at}
@@ -25,9 +25,9 @@ log_grows sc h e s = by (e.owner == s) refl
   where
     by : (b : Bool) → (e.owner == s) ≡ b → (more : List Record) × (log_of sc (h ++ e ∷ []) s ≡ log_of sc h s ++ more)
     by true is = (
-      log_by (moves_of_act sc s (past_of sc s (own s h)) e.act),
-      ap (λ l. log_by (past_of sc s l).moves) (own_same s h e is) ∙ ap (λ w. log_by w.moves) (past_push sc s (own s h) e)
-          ∙ log_append (past_of sc s (own s h)).moves (moves_of_act sc s (past_of sc s (own s h)) e.act),
+      log_by (moves_of_act sc s (past_of sc s (own_entries s h)) e.act),
+      ap (λ l. log_by (past_of sc s l).moves) (own_same s h e is) ∙ ap (λ w. log_by w.moves) (past_push sc s (own_entries s h) e)
+          ∙ log_append (past_of sc s (own_entries s h)).moves (moves_of_act sc s (past_of sc s (own_entries s h)) e.act),
     )
     by false is = ([], ap (λ l. log_by (past_of sc s l).moves) (own_other s h e is) ∙ sym (append-nil (log_of sc h s)))
 

@@ -18,8 +18,7 @@ use Rattle.e3_types.specs.declared.transactions.Txn.{Txn}
 use Rattle.e3_types.specs.Quorums.{is_quorum}
 use Rattle.e3_types.specs.Same.{same_dir}
 use Rattle.e3_types.specs.Sets.{has_site, is_within, others}
-use Rattle.e3_world.specs.declared.gatherings.Round.{Round}
-use Rattle.e3_world.specs.declared.gatherings.Rounds.{Rounds}
+use Rattle.e3_world.specs.Gatherings.{Round, Rounds}
 use Rattle.e3_world.specs.declared.lives.At.{At}
 use Rattle.e3_world.specs.declared.lives.Expected.{Expected}
 use Rattle.e3_world.specs.declared.lives.Made.{Made}

@@ -14,8 +14,7 @@ use Rattle.e3_types.specs.declared.transactions.Dir.TheVariants.{Commit}
 use Rattle.e3_types.specs.declared.transactions.Txn.{Txn}
 use Rattle.e3_types.specs.Same.{same_txn}
 use Rattle.e3_types.specs.Sets.{has_site}
-use Rattle.e3_world.specs.declared.gatherings.Round.{Round}
-use Rattle.e3_world.specs.declared.gatherings.Rounds.{Rounds}
+use Rattle.e3_world.specs.Gatherings.{Round, Rounds}
 use Rattle.e3_world.specs.declared.lives.Expected.{Expected}
 use Rattle.e3_world.specs.declared.lives.Made.{Made}
 use Rattle.e3_world.specs.Legal.{entry_of, made_by, numbered}

@@ -12,7 +12,7 @@ use Rattle.e3_types.specs.declared.transactions.Dir.{Dir}
 use Rattle.e3_types.specs.declared.transactions.Dir.TheVariants.{Commit}
 use Rattle.e3_types.specs.declared.transactions.Txn.{Txn}
 use Rattle.e3_types.specs.Sets.{has_site, others}
-use Rattle.e3_world.specs.declared.gatherings.Round.{Round}
+use Rattle.e3_world.specs.Gatherings.{Round}
 use Rattle.e3_world.specs.declared.lives.Expected.{Expected}
 use Rattle.e3_world.specs.declared.lives.Made.{Made}
 use Rattle.e3_world.specs.Legal.{IsLegal, entry_of}

@@ -17,15 +17,14 @@ use Rattle.e3_types.specs.declared.records.Record.TheVariants as log
 use Rattle.e3_types.specs.declared.scenarios.Scenario.{Scenario}
 use Rattle.e3_types.specs.declared.transactions.Txn.{Txn}
 use Rattle.e3_types.specs.Same.{same_txn}
-use Rattle.e3_world.specs.declared.gatherings.Election.{Election}
-use Rattle.e3_world.specs.declared.gatherings.Elections.{Elections}
+use Rattle.e3_world.specs.Gatherings.{Election, Elections}
 use Rattle.e3_world.specs.declared.lives.Life.{Life}
 use Rattle.e3_world.specs.declared.lives.Made.{Made}
 use Rattle.e3_world.specs.Elections.{election_by, greatest_heard}
 use Rattle.e3_world.specs.Legal.{IsDue, entry_of, made_by, numbered}
 use Rattle.e3_world.specs.Lives.{life_at}
 use Rattle.e3_world.specs.Logs.{last_elected, last_elected_by}
-use Rattle.e3_world.specs.Moves.{Past, Tail, log_of, moves_of, open_tail, own, past_of, unnumbered, unnumbered_input}
+use Rattle.e3_world.specs.Moves.{Past, Tail, log_of, moves_of, open_tail, own_entries, past_of, unnumbered, unnumbered_input}
 use Rattle.e3_world.specs.Packets.{outs_of, sent}
 use Rattle.e3_world.specs.Steps.{step_at}
 use Rattle.e3_world.proofs.InTrail.{pending_sent}
@@ -242,7 +241,7 @@ stepped sc h t b s limit i was few due = record {
 
     tail_is : (x : ℕ) (c : Bool) → (s == x) ≡ c → open_tail sc (h ++ e ∷ []) x ≡ open_tail sc h x
     tail_is x false other = ap (λ l. (past_of sc x l).tail) (own_other x h e other)
-    tail_is x true is = ap (λ l. (past_of sc x l).tail) (own_same x h e is) ∙ ap (λ (p : Past). p.tail) (past_push sc x (own x h) e)
+    tail_is x true is = ap (λ l. (past_of sc x l).tail) (own_same x h e is) ∙ ap (λ (p : Past). p.tail) (past_push sc x (own_entries x h) e)
 
     tail_now : (x : ℕ) (c : Bool) → (s == x) ≡ c → list_all (low_record t one.top) (doubted (open_tail sc (h ++ e ∷ []) x)) ≡ true
     tail_now x c is = ap (λ o. list_all (low_record t one.top) (doubted o)) (tail_is x c is) ∙ more_records t b one.top (doubted (open_tail sc h x)) one.above (was.tails x)

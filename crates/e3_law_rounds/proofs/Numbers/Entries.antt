@@ -12,11 +12,11 @@ use Rattle.e3_types.specs.declared.records.Record.{Record}
 use Rattle.e3_types.specs.declared.scenarios.Scenario.{Scenario}
 use Rattle.e3_types.specs.declared.transactions.Txn.{Txn}
 use Rattle.e3_types.specs.Same.{same_txn}
-use Rattle.e3_world.specs.declared.gatherings.Election.{Election}
+use Rattle.e3_world.specs.Gatherings.{Election}
 use Rattle.e3_world.specs.Given.{IsGiven}
 use Rattle.e3_world.specs.Legal.{AreDue, Guard, LegalAfter, entry_of, made_by, records_by}
 use Rattle.e3_world.specs.Lives.{life_at, life_of}
-use Rattle.e3_world.specs.Moves.{Move, Past, Rose, Silent, Tail, kept_moves, left_by, log_by, log_of, moves_of, moves_of_act, open_tail, own, past_by, past_of, unnumbered_input, rise_records, tail_of_act}
+use Rattle.e3_world.specs.Moves.{Move, Past, Rose, Silent, Tail, kept_moves, left_by, log_by, log_of, moves_of, moves_of_act, open_tail, own_entries, past_by, past_of, unnumbered_input, rise_records, tail_of_act}
 use Rattle.e3_world.specs.Packets.{outs_of, sent}
 use Rattle.e3_world.proofs.Pushes.{incarnation_push, past_push}
 use Rattle.e3_world.proofs.Readings.{own_other, own_same}
@@ -38,7 +38,7 @@ record Left (sc : Scenario) (t : Txn) (c o : ℕ) (w : Past) (act : Act) : Type 
   election : heard_low c (now_at o t (life_at (w.moves ++ moves_of_act sc o w act))) ≡ true
 
 abbrev was_at : Scenario → List Entry → ℕ → Past
-was_at sc h o = past_of sc o (own o h)
+was_at sc h o = past_of sc o (own_entries o h)
 
 left_bounded : (sc : Scenario) (h : List Entry) (t : Txn) (b c o : ℕ) (act : Act) → b ≤ c → Bounded sc h t b → Left sc t c o (was_at sc h o) act →
     Bounded sc (h ++ record { owner = o; act = act } ∷ []) t c
@@ -53,8 +53,8 @@ left_bounded sc h t b c o act less was left = record {
     e : Entry
     e = record { owner = o; act = act }
 
-    past_is : past_of sc o (own o (h ++ e ∷ [])) ≡ past_by sc o (was_at sc h o) e
-    past_is = ap (past_of sc o) (own_same o h e (self o)) ∙ past_push sc o (own o h) e
+    past_is : past_of sc o (own_entries o (h ++ e ∷ [])) ≡ past_by sc o (was_at sc h o) e
+    past_is = ap (past_of sc o) (own_same o h e (self o)) ∙ past_push sc o (own_entries o h) e
 
     log_now : (s : ℕ) (d : Bool) → (o == s) ≡ d → list_all (low_record t c) (log_of sc (h ++ e ∷ []) s) ≡ true
     log_now s false other =

@@ -8,7 +8,7 @@ use Rattle.e3_types.specs.declared.transactions.Call.{Call}
 use Rattle.e3_types.specs.declared.transactions.Txn.{Txn}
 use Rattle.e3_types.specs.Same.{same_txn, same_call}
 use Rattle.e3_types.specs.Sets.{has_site}
-use Rattle.e3_world.specs.declared.gatherings.Election.{Election}
+use Rattle.e3_world.specs.Gatherings.{Election}
 use Rattle.e3_world.specs.declared.lives.Moment.{Moment}
 use Rattle.e3_world.specs.Elections.{after_heard, all_heard, election_with, greatest_heard, hear, is_join, joined_in, or_same, take_report}
 

@@ -12,10 +12,8 @@ use Rattle.e3_types.specs.declared.transactions.Call.{Call}
 use Rattle.e3_types.specs.declared.transactions.Txn.{Txn}
 use Rattle.e3_types.specs.Same.{same_call}
 use Rattle.e3_types.specs.Sets.{has_site, others}
-use Rattle.e3_world.specs.declared.gatherings.Election.{Election}
-use Rattle.e3_world.specs.declared.gatherings.Elections.{Elections}
-use Rattle.e3_world.specs.declared.gatherings.Rounds.{Rounds}
-use Rattle.e3_world.specs.declared.gatherings.Named.{Named}
+use Rattle.e3_world.specs.Gatherings.{Election, Elections, Rounds}
+use Rattle.e3_world.specs.declared.elections.Named.{Named}
 use Rattle.e3_world.specs.declared.lives.Life.{Life}
 use Rattle.e3_world.specs.declared.lives.Made.{Made}
 use Rattle.e3_world.specs.Elections.{all_heard, election_by, hear, is_elect}

@@ -12,8 +12,7 @@ use Rattle.e3_types.specs.declared.scenarios.Scenario.{Scenario}
 use Rattle.e3_types.specs.declared.transactions.Txn.{Txn}
 use Rattle.e3_types.specs.declared.verdicts.SiteReport.{SiteReport}
 use Rattle.e3_types.specs.Sets.{has_site, others}
-use Rattle.e3_world.specs.declared.gatherings.Election.{Election}
-use Rattle.e3_world.specs.declared.gatherings.Elections.{Elections}
+use Rattle.e3_world.specs.Gatherings.{Election, Elections}
 use Rattle.e3_world.specs.declared.lives.Life.{Life}
 use Rattle.e3_world.specs.declared.lives.Made.{Made}
 use Rattle.e3_world.specs.Elections.{all_heard, election_by, greatest_heard, hear}

@@ -17,8 +17,7 @@ use Rattle.e3_types.specs.Verdicts.{verdict_of}
 use Rattle.e3_types.specs.Quorums.{is_quorum}
 use Rattle.e3_types.specs.Same.{same_dir}
 use Rattle.e3_types.specs.Sets.{others}
-use Rattle.e3_world.specs.declared.gatherings.Election.{Election}
-use Rattle.e3_world.specs.declared.gatherings.Round.{Round}
+use Rattle.e3_world.specs.Gatherings.{Election, Round}
 use Rattle.e3_world.specs.declared.lives.At.{At}
 use Rattle.e3_world.specs.declared.lives.Made.{Made}
 use Rattle.e3_world.specs.Elections.{all_heard, all_reported, election_in_progress, greatest_heard, hear, next_call, take_report}

@@ -20,7 +20,7 @@ use Rattle.e3_types.specs.declared.verdicts.Verdict.{Verdict}
 use Rattle.e3_types.specs.Quorums.{is_quorum}
 use Rattle.e3_types.specs.Sets.{has_site, others}
 use Rattle.e3_types.specs.Verdicts.{verdict_of}
-use Rattle.e3_world.specs.declared.gatherings.Rounds.{Rounds}
+use Rattle.e3_world.specs.Gatherings.{Rounds}
 use Rattle.e3_world.specs.declared.lives.At.{At}
 use Rattle.e3_world.specs.declared.lives.Life.{Life}
 use Rattle.e3_world.specs.declared.lives.Made.{Made}

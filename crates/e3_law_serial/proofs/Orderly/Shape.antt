@@ -15,7 +15,7 @@ use Rattle.e3_world.specs.Given.{IsGiven}
 use Rattle.e3_world.specs.Items.{is_up_at}
 use Rattle.e3_world.specs.Legal.{Guard, IsLegal, LegalAfter, made_by}
 use Rattle.e3_world.specs.Logs.{logged_inc}
-use Rattle.e3_world.specs.Moves.{Move, Rose, Past, Tail, own, past_of, past_by, kept_moves, left_by, log_by, rise_records, birth, open_tail, moves_of}
+use Rattle.e3_world.specs.Moves.{Move, Rose, Past, Tail, own_entries, past_of, past_by, kept_moves, left_by, log_by, rise_records, birth, open_tail, moves_of}
 use Rattle.e3_world.specs.Progress.{up_behind}
 use Rattle.e3_world.proofs.Pushes.{past_push, legal_push}
 use Rattle.e3_world.proofs.Readings.{own_same, own_other, up_same, up_other}
@@ -184,7 +184,7 @@ acted sc site owner w up (Line number) needs was = quiet sc site w up up (λ is.
 
 -- each guard gives what its act needs
 guard_needs : (sc : Scenario) (h : List Entry) (owner : ℕ) (act : Act) → IsGiven sc → Holds sc h → Guard sc h (record { owner = owner; act = act }) →
-    Needs sc owner (past_of sc owner (own owner h)) (is_up_at h owner) act
+    Needs sc owner (past_of sc owner (own_entries owner h)) (is_up_at h owner) act
 guard_needs sc h zero (Step i records outs events) given was guard = absurd guard
 guard_needs sc h zero (Fall inputs records why) given was guard = absurd guard
 guard_needs sc h zero (Rise kept inc) given was guard = absurd guard
@@ -206,22 +206,22 @@ guard_needs sc h (suc o) (RiseFall kept inc why) given was guard =
 guard_needs sc h owner act given was guard = tt
 
 abbrev ShapedAt : Scenario → List Entry → ℕ → Type 0
-ShapedAt sc h s = Shaped sc s (past_of sc s (own s h)) (is_up_at h s)
+ShapedAt sc h s = Shaped sc s (past_of sc s (own_entries s h)) (is_up_at h s)
 
 shaped_push : (sc : Scenario) (h : List Entry) (e : Entry) (s : ℕ) → IsGiven sc → IsLegal sc h → Guard sc h e → ShapedAt sc h s → ShapedAt sc (h ++ e ∷ []) s
 shaped_push sc h e s given legal guard was = by (e.owner == s) refl
   where
     by : (b : Bool) → (e.owner == s) ≡ b → ShapedAt sc (h ++ e ∷ []) s
     by true is =
-        let w : Past = past_of sc s (own s h) in
-        let N : ℕ → Type 0 = λ x. Needs sc x (past_of sc x (own x h)) (is_up_at h x) e.act in
+        let w : Past = past_of sc s (own_entries s h) in
+        let N : ℕ → Type 0 = λ x. Needs sc x (past_of sc x (own_entries x h)) (is_up_at h x) e.act in
         let needs : Needs sc s w (is_up_at h s) e.act = subst N (eqb-true e.owner s is) (guard_needs sc h e.owner e.act given (legal_holds sc h given legal) guard) in
         let P : Past → Type 0 = λ v. Shaped sc s v (is_up_at (h ++ e ∷ []) s) in
         let Q : Bool → Type 0 = λ b. Shaped sc s (past_by sc s w e) b in
-        subst P (sym (ap (past_of sc s) (own_same s h e is) ∙ past_push sc s (own s h) e)) (subst Q (sym (up_same h e s is)) (acted sc s e.owner w (is_up_at h s) e.act needs was))
+        subst P (sym (ap (past_of sc s) (own_same s h e is) ∙ past_push sc s (own_entries s h) e)) (subst Q (sym (up_same h e s is)) (acted sc s e.owner w (is_up_at h s) e.act needs was))
     by false is =
         let P : Past → Type 0 = λ v. Shaped sc s v (is_up_at (h ++ e ∷ []) s) in
-        let Q : Bool → Type 0 = λ b. Shaped sc s (past_of sc s (own s h)) b in
+        let Q : Bool → Type 0 = λ b. Shaped sc s (past_of sc s (own_entries s h)) b in
         subst P (sym (ap (past_of sc s) (own_other s h e is))) (subst Q (sym (up_other h e s is)) was)
 
 shaped_after : (sc : Scenario) (before rest : List Entry) (s : ℕ) → IsGiven sc → IsLegal sc before → ShapedAt sc before s → LegalAfter sc before rest → ShapedAt sc (before ++ rest) s

@@ -12,7 +12,7 @@ use Rattle.e3_types.specs.declared.records.Record.{Record}
 use Rattle.e3_types.specs.declared.scenarios.Scenario.{Scenario}
 use Rattle.e3_world.specs.Items.{is_up_at}
 use Rattle.e3_world.specs.Legal.{Guard, IsLegal, LegalAfter, AreDue, IsRise, entry_of, made_by, records_by as fall_records}
-use Rattle.e3_world.specs.Moves.{Move, Past, Tail, own, past_of, past_by, moves_of_act, kept_moves, left_by, log_by, rise_records, log_of, open_tail, moves_of}
+use Rattle.e3_world.specs.Moves.{Move, Past, Tail, own_entries, past_of, past_by, moves_of_act, kept_moves, left_by, log_by, rise_records, log_of, open_tail, moves_of}
 use Rattle.e3_world.specs.Progress.{up_behind}
 use Rattle.e3_world.proofs.Guards.{guard_step}
 use Rattle.e3_world.proofs.Pushes.{past_push, legal_push}
@@ -28,11 +28,11 @@ IsLog sc site records = (other : List Entry) × IsLegal sc other × (log_of sc o
 
 -- the log behind one more entry of the site
 log_behind : (sc : Scenario) (h : List Entry) (site : ℕ) (act : Act) →
-    log_of sc (h ++ record { owner = site; act = act } ∷ []) site ≡ log_of sc h site ++ log_by (moves_of_act sc site (past_of sc site (own site h)) act)
+    log_of sc (h ++ record { owner = site; act = act } ∷ []) site ≡ log_of sc h site ++ log_by (moves_of_act sc site (past_of sc site (own_entries site h)) act)
 log_behind sc h site act =
     ap (λ l. log_by (past_of sc site l).moves) (own_same site h (record { owner = site; act = act }) (eq-eqb site site refl))
-    ∙ ap (λ (p : Past). log_by p.moves) (past_push sc site (own site h) (record { owner = site; act = act }))
-    ∙ log_append (moves_of sc h site) (moves_of_act sc site (past_of sc site (own site h)) act)
+    ∙ ap (λ (p : Past). log_by p.moves) (past_push sc site (own_entries site h) (record { owner = site; act = act }))
+    ∙ log_append (moves_of sc h site) (moves_of_act sc site (past_of sc site (own_entries site h)) act)
 
 -- the steps that a fall cut off
 steps_log : (sc : Scenario) (h : List Entry) (site : ℕ) (inputs : List Input) → 1 ≤ site → IsLegal sc h → is_up_at h site ≡ true → AreDue sc h site inputs →
@@ -118,7 +118,7 @@ acted sc site owner w up (Parts parts) gives was = quiet sc site w up up (λ is.
 acted sc site owner w up (Line number) gives was = quiet sc site w up up (λ is. is) was
 
 guard_gives : (sc : Scenario) (h : List Entry) (owner : ℕ) (act : Act) → IsLegal sc h → Guard sc h (record { owner = owner; act = act }) →
-    Gives sc owner (past_of sc owner (own owner h)) (is_up_at h owner) act
+    Gives sc owner (past_of sc owner (own_entries owner h)) (is_up_at h owner) act
 guard_gives sc h zero (Step i records outs events) legal guard = absurd guard
 guard_gives sc h zero (Fall inputs records why) legal guard = absurd guard
 guard_gives sc h zero (RiseFall kept inc why) legal guard = absurd guard
@@ -130,22 +130,22 @@ guard_gives sc h (suc o) (RiseFall kept inc why) legal guard = rise_log sc h (su
 guard_gives sc h owner act legal guard = tt
 
 abbrev OpensAt : Scenario → List Entry → ℕ → Type 0
-OpensAt sc h s = Opens sc s (past_of sc s (own s h)) (is_up_at h s)
+OpensAt sc h s = Opens sc s (past_of sc s (own_entries s h)) (is_up_at h s)
 
 opens_push : (sc : Scenario) (h : List Entry) (e : Entry) (s : ℕ) → IsLegal sc h → Guard sc h e → OpensAt sc h s → OpensAt sc (h ++ e ∷ []) s
 opens_push sc h e s legal guard was = by (e.owner == s) refl
   where
     by : (b : Bool) → (e.owner == s) ≡ b → OpensAt sc (h ++ e ∷ []) s
     by true is =
-        let w : Past = past_of sc s (own s h) in
-        let N : ℕ → Type 0 = λ x. Gives sc x (past_of sc x (own x h)) (is_up_at h x) e.act in
+        let w : Past = past_of sc s (own_entries s h) in
+        let N : ℕ → Type 0 = λ x. Gives sc x (past_of sc x (own_entries x h)) (is_up_at h x) e.act in
         let gives : Gives sc s w (is_up_at h s) e.act = subst N (eqb-true e.owner s is) (guard_gives sc h e.owner e.act legal guard) in
         let P : Past → Type 0 = λ v. Opens sc s v (is_up_at (h ++ e ∷ []) s) in
         let Q : Bool → Type 0 = λ b. Opens sc s (past_by sc s w e) b in
-        subst P (sym (ap (past_of sc s) (own_same s h e is) ∙ past_push sc s (own s h) e)) (subst Q (sym (up_same h e s is)) (acted sc s e.owner w (is_up_at h s) e.act gives was))
+        subst P (sym (ap (past_of sc s) (own_same s h e is) ∙ past_push sc s (own_entries s h) e)) (subst Q (sym (up_same h e s is)) (acted sc s e.owner w (is_up_at h s) e.act gives was))
     by false is =
         let P : Past → Type 0 = λ v. Opens sc s v (is_up_at (h ++ e ∷ []) s) in
-        let Q : Bool → Type 0 = λ b. Opens sc s (past_of sc s (own s h)) b in
+        let Q : Bool → Type 0 = λ b. Opens sc s (past_of sc s (own_entries s h)) b in
         subst P (sym (ap (past_of sc s) (own_other s h e is))) (subst Q (sym (up_other h e s is)) was)
 
 opens_after : (sc : Scenario) (before rest : List Entry) (s : ℕ) → IsLegal sc before → OpensAt sc before s → LegalAfter sc before rest → OpensAt sc (before ++ rest) s

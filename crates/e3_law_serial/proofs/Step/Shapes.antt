@@ -25,7 +25,7 @@ use Rattle.e3_world.specs.Steps.{refuse, or_refused, on_begin, on_input, handled
 use Rattle.e3_law_serial.proofs.Step.Rules.{Ruled, Start, Notes, Decides, Votes, Tells, Says, Asks, Issues, Rule, Plain, Hears, Locks, Repeats, TellsOwn, Shaped}
 use Rattle.e3_law_serial.proofs.Step.Walk.{keep_on_do, keep_delivery, keep_commit, keep_expire, keep_join, keep_cast, keep_abort, allowed_parts}
 use Rattle.e3_world.specs.OperationRules.{on_do, on_done}
-use Rattle.e3_world.specs.declared.gatherings.Election.{Election}
+use Rattle.e3_world.specs.Gatherings.{Election}
 use Rattle.e3_world.specs.Elections.{begun, next_call}
 use Rattle.e3_world.specs.Making.{elected_now}
 use Rattle.e3_law_steps.proofs.Lists.{dropped}

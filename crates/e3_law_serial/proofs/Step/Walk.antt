@@ -32,8 +32,7 @@ use Rattle.e3_types.specs.declared.verdicts.Verdict.TheVariants as verdict
 use Rattle.e3_types.specs.Locks.{lock_grant}
 use Rattle.e3_types.specs.Same.{same_state, same_txn, same_dir}
 use Rattle.e3_types.specs.Verdicts.{verdict_of}
-use Rattle.e3_world.specs.declared.gatherings.Election.{Election}
-use Rattle.e3_world.specs.declared.gatherings.Round.{Round}
+use Rattle.e3_world.specs.Gatherings.{Election, Round}
 use Rattle.e3_world.specs.AttemptRules.{on_pre, on_ack}
 use Rattle.e3_world.specs.ElectionRules.{and_verdict, and_join, on_last, on_elected, on_report}
 use Rattle.e3_world.specs.Elections.{election_in_progress, hear as hear_in, take_report, all_heard, all_reported, greatest_heard}

@@ -21,7 +21,7 @@ use Rattle.e3_world.specs.Items.{is_up_at, began_in}
 use Rattle.e3_world.specs.Legal.{Guard, IsLegal, LegalAfter, IsDue, numbered, made_by, entry_of}
 use Rattle.e3_world.specs.Lives.{present_log, incarnation_of, life_of, life_at}
 use Rattle.e3_world.specs.Logs.{logged_inc, logged_inc_by}
-use Rattle.e3_world.specs.Moves.{Move, Stepped, Rose, Past, own, past_of, past_by, moves_of, moves_of_act, kept_moves, log_by, rise_records, unnumbered, unnumbered_input}
+use Rattle.e3_world.specs.Moves.{Move, Stepped, Rose, Past, own_entries, past_of, past_by, moves_of, moves_of_act, kept_moves, log_by, rise_records, unnumbered, unnumbered_input}
 use Rattle.e3_world.specs.Orderly.{is_among}
 use Rattle.e3_world.specs.Packets.{sent}
 use Rattle.e3_world.specs.Progress.{up_behind}
@@ -53,7 +53,7 @@ IncBegun past up = up ≡ true → 1 ≤ (life_at past.moves).inc
 record Begins (sc : Scenario) (h : List Entry) : Type 0 where
   legal : IsLegal sc h
   begun : Each (λ e. Each (IsOf sc) (begun_in e.act)) h
-  incs : (s : ℕ) → IncBegun (past_of sc s (own s h)) (is_up_at h s)
+  incs : (s : ℕ) → IncBegun (past_of sc s (own_entries s h)) (is_up_at h s)
 
 -- the incarnation behind a rise
 inc_rise : (sc : Scenario) (site inc : ℕ) (was log : List Record) → logged_inc (was ++ rise_records sc site inc log) ≡ inc
@@ -73,28 +73,28 @@ step_inc : (mine : List Move) (site : ℕ) (st : SiteStep) → (life_at (mine ++
 step_inc mine site st = ap (λ i. (life_of i).inc) (incarnation_push mine (record { site = site; did = Stepped st })) ∙ ap (λ l. l.inc) (life_push (incarnation_of mine) st)
 
 -- the incarnations behind one more entry
-incs_push : (sc : Scenario) (h : List Entry) (owner : ℕ) (act : Act) → ((s : ℕ) → IncBegun (past_of sc s (own s h)) (is_up_at h s)) →
-    IncBegun (past_by sc owner (past_of sc owner (own owner h)) (record { owner = owner; act = act })) (up_behind (is_up_at h owner) act) →
-    (s : ℕ) → IncBegun (past_of sc s (own s (h ++ record { owner = owner; act = act } ∷ []))) (is_up_at (h ++ record { owner = owner; act = act } ∷ []) s)
+incs_push : (sc : Scenario) (h : List Entry) (owner : ℕ) (act : Act) → ((s : ℕ) → IncBegun (past_of sc s (own_entries s h)) (is_up_at h s)) →
+    IncBegun (past_by sc owner (past_of sc owner (own_entries owner h)) (record { owner = owner; act = act })) (up_behind (is_up_at h owner) act) →
+    (s : ℕ) → IncBegun (past_of sc s (own_entries s (h ++ record { owner = owner; act = act } ∷ []))) (is_up_at (h ++ record { owner = owner; act = act } ∷ []) s)
 incs_push sc h owner act was this s = by (owner == s) refl
   where
     e : Entry
     e = record { owner = owner; act = act }
 
-    by : (b : Bool) → (owner == s) ≡ b → IncBegun (past_of sc s (own s (h ++ e ∷ []))) (is_up_at (h ++ e ∷ []) s)
+    by : (b : Bool) → (owner == s) ≡ b → IncBegun (past_of sc s (own_entries s (h ++ e ∷ []))) (is_up_at (h ++ e ∷ []) s)
     by true is =
-        let R : ℕ → Type 0 = λ x. IncBegun (past_by sc x (past_of sc x (own x h)) e) (up_behind (is_up_at h x) act) in
-        let Q : Bool → Type 0 = IncBegun (past_of sc s (own s (h ++ e ∷ []))) in
+        let R : ℕ → Type 0 = λ x. IncBegun (past_by sc x (past_of sc x (own_entries x h)) e) (up_behind (is_up_at h x) act) in
+        let Q : Bool → Type 0 = IncBegun (past_of sc s (own_entries s (h ++ e ∷ []))) in
         let T : Past → Type 0 = λ w. IncBegun w (up_behind (is_up_at h s) act) in
-        subst Q (sym (up_same h e s is)) (subst T (sym (ap (past_of sc s) (own_same s h e is) ∙ past_push sc s (own s h) e)) (subst R (eqb-true owner s is) this))
+        subst Q (sym (up_same h e s is)) (subst T (sym (ap (past_of sc s) (own_same s h e is) ∙ past_push sc s (own_entries s h) e)) (subst R (eqb-true owner s is) this))
     by false is =
-        let Q : Bool → Type 0 = IncBegun (past_of sc s (own s (h ++ e ∷ []))) in
+        let Q : Bool → Type 0 = IncBegun (past_of sc s (own_entries s (h ++ e ∷ []))) in
         let T : List Entry → Type 0 = λ l. IncBegun (past_of sc s l) (is_up_at h s) in
         subst Q (sym (up_other h e s is)) (subst T (sym (own_other s h e is)) (was s))
 
 -- an entry that is no step
 quiet_begins : (sc : Scenario) (h : List Entry) (owner : ℕ) (act : Act) → Begins sc h → Guard sc h (record { owner = owner; act = act }) → begun_in act ≡ [] →
-    IncBegun (past_by sc owner (past_of sc owner (own owner h)) (record { owner = owner; act = act })) (up_behind (is_up_at h owner) act) →
+    IncBegun (past_by sc owner (past_of sc owner (own_entries owner h)) (record { owner = owner; act = act })) (up_behind (is_up_at h owner) act) →
     Begins sc (h ++ record { owner = owner; act = act } ∷ [])
 quiet_begins sc h owner act was guard none this = record {
   legal = legal_push sc h (record { owner = owner; act = act }) was.legal guard;
@@ -104,9 +104,9 @@ quiet_begins sc h owner act was guard none this = record {
 }
 
 -- an act that makes no move
-still_inc : (sc : Scenario) (h : List Entry) (owner : ℕ) (act : Act) → moves_of_act sc owner (past_of sc owner (own owner h)) act ≡ [] →
-    (up_behind (is_up_at h owner) act ≡ true → is_up_at h owner ≡ true) → IncBegun (past_of sc owner (own owner h)) (is_up_at h owner) →
-    IncBegun (past_by sc owner (past_of sc owner (own owner h)) (record { owner = owner; act = act })) (up_behind (is_up_at h owner) act)
+still_inc : (sc : Scenario) (h : List Entry) (owner : ℕ) (act : Act) → moves_of_act sc owner (past_of sc owner (own_entries owner h)) act ≡ [] →
+    (up_behind (is_up_at h owner) act ≡ true → is_up_at h owner ≡ true) → IncBegun (past_of sc owner (own_entries owner h)) (is_up_at h owner) →
+    IncBegun (past_by sc owner (past_of sc owner (own_entries owner h)) (record { owner = owner; act = act })) (up_behind (is_up_at h owner) act)
 still_inc sc h owner act none ups was up =
     let R : List Move → Type 0 = λ l. 1 ≤ (life_at l).inc in
     subst R (sym (ap (λ l. moves_of sc h owner ++ l) none ∙ append-nil (moves_of sc h owner))) (was (ups up))
@@ -158,7 +158,7 @@ guard_begins sc h (suc s) (Step i records outs events) given was guard =
 guard_begins sc h (suc s) (Fall inputs records why) given was guard = quiet_begins sc h (suc s) (Fall inputs records why) was guard refl (λ up. absurd cc)
 guard_begins sc h (suc s) Cut given was guard = quiet_begins sc h (suc s) Cut was guard refl (λ up. absurd cc)
 guard_begins sc h (suc s) (Rise kept inc) given was guard = quiet_begins sc h (suc s) (Rise kept inc) was guard refl
-    (λ up. let same : _ = rise_inc sc (suc s) (past_of sc (suc s) (own (suc s) h)) kept inc in let next : _ = guard.next in omega (arith, same, next))
+    (λ up. let same : _ = rise_inc sc (suc s) (past_of sc (suc s) (own_entries (suc s) h)) kept inc in let next : _ = guard.next in omega (arith, same, next))
 guard_begins sc h (suc s) (RiseFall kept inc why) given was guard = quiet_begins sc h (suc s) (RiseFall kept inc why) was guard refl (λ up. absurd cc)
 guard_begins sc h (suc s) Miss given was guard = quiet_begins sc h (suc s) Miss was guard refl (λ up. absurd cc)
 guard_begins sc h (suc s) act given was guard = absurd guard
@@ -177,6 +177,6 @@ begun_all sc h given legal = (legal_begins sc h given legal).begun
 
 pub begun_txns : BegunAreTransactions
 begun_txns sc h t given legal begun =
-    each-at (IsOf sc) (flat_map (λ e. begun_in e.act) (own t.site h)) t
-    (each-join (IsOf sc) (λ e. begun_in e.act) (own t.site h)
+    each-at (IsOf sc) (flat_map (λ e. begun_in e.act) (own_entries t.site h)) t
+    (each-join (IsOf sc) (λ e. begun_in e.act) (own_entries t.site h)
     (each-filter (λ e. Each (IsOf sc) (begun_in e.act)) (λ e. e.owner == t.site) h (begun_all sc h given legal))) begun

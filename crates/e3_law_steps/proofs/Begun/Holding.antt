@@ -28,7 +28,7 @@ use Rattle.e3_world.specs.declared.names.Bound.{Bound}
 use Rattle.e3_world.specs.Items.{begin_names, binds, binding_by, to_line, began_in}
 use Rattle.e3_world.specs.Legal.{Guard, IsLegal, LegalAfter, IsDue, AreDue, numbered, made_by, entry_of, records_by}
 use Rattle.e3_world.specs.Lives.{present_log, incarnation_of, life_of, life_at, life_by}
-use Rattle.e3_world.specs.Moves.{Move, Did, Stepped, Silent, Rose, Past, Tail, own, past_of, past_by, moves_of, moves_of_act, tail_of_act, kept_moves, left_by, log_by, rise_records, rows_at, unnumbered, unnumbered_input}
+use Rattle.e3_world.specs.Moves.{Move, Did, Stepped, Silent, Rose, Past, Tail, own_entries, past_of, past_by, moves_of, moves_of_act, tail_of_act, kept_moves, left_by, log_by, rise_records, rows_at, unnumbered, unnumbered_input}
 use Rattle.e3_world.specs.Packets.{sent, outs_of, is_line, step_items}
 use Rattle.e3_world.proofs.Pushes.{past_push, incarnation_push, life_push, life_log}
 use Rattle.e3_world.proofs.Readings.{to_push, own_same, own_other}
@@ -52,7 +52,7 @@ pub record SiteIs (P : Mention → Type 0) (D : Told → Type 0) (past : Past) :
 -- what holds of all that was sent, recorded and told
 pub record SaidIs (P : Mention → Type 0) (D : Told → Type 0) (sc : Scenario) (h : List Entry) : Type 0 where
   pub sent : Each (PacketIs P) (sent h)
-  pub sites : (s : ℕ) → SiteIs P D (past_of sc s (own s h))
+  pub sites : (s : ℕ) → SiteIs P D (past_of sc s (own_entries s h))
 
 -- any event
 abbrev pub AnyEvent : Told → Type 0
@@ -87,7 +87,7 @@ module _ (P Q : Mention → Type 0) (D E : Told → Type 0) (to : (x : Mention) 
   pub said_more : (sc : Scenario) (h : List Entry) → SaidIs P D sc h → SaidIs Q E sc h
   said_more sc h is = record {
     sent = each-weaker (PacketIs P) (PacketIs Q) (λ p this. each-weaker P Q to (of_message p.msg) this) (sent h) is.sent;
-    sites = λ s. site_more (past_of sc s (own s h)) (is.sites s);
+    sites = λ s. site_more (past_of sc s (own_entries s h)) (is.sites s);
   }
 
 pub bound_more : (P Q : Mention → Type 0) → ((x : Mention) → P x → Q x) → (bs : List Bound) → Each (BoundIs P) bs → Each (BoundIs Q) bs
@@ -181,17 +181,17 @@ module _ (P : Mention → Type 0) (D : Told → Type 0) (sc : Scenario) where
   }
 
 -- the sites behind one more entry
-pub sites_push : (S : Past → Type 0) (sc : Scenario) (h : List Entry) (owner : ℕ) (act : Act) → ((s : ℕ) → S (past_of sc s (own s h))) →
-    S (past_by sc owner (past_of sc owner (own owner h)) (record { owner = owner; act = act })) → (s : ℕ) → S (past_of sc s (own s (h ++ record { owner = owner; act = act } ∷ [])))
+pub sites_push : (S : Past → Type 0) (sc : Scenario) (h : List Entry) (owner : ℕ) (act : Act) → ((s : ℕ) → S (past_of sc s (own_entries s h))) →
+    S (past_by sc owner (past_of sc owner (own_entries owner h)) (record { owner = owner; act = act })) → (s : ℕ) → S (past_of sc s (own_entries s (h ++ record { owner = owner; act = act } ∷ [])))
 sites_push S sc h owner act was this s = by (owner == s) refl
   where
     e : Entry
     e = record { owner = owner; act = act }
 
-    by : (b : Bool) → (owner == s) ≡ b → S (past_of sc s (own s (h ++ e ∷ [])))
+    by : (b : Bool) → (owner == s) ≡ b → S (past_of sc s (own_entries s (h ++ e ∷ [])))
     by true is =
-        let R : ℕ → Type 0 = λ x. S (past_by sc x (past_of sc x (own x h)) e) in
-        subst S (sym (ap (past_of sc s) (own_same s h e is) ∙ past_push sc s (own s h) e)) (subst R (eqb-true owner s is) this)
+        let R : ℕ → Type 0 = λ x. S (past_by sc x (past_of sc x (own_entries x h)) e) in
+        subst S (sym (ap (past_of sc s) (own_same s h e is) ∙ past_push sc s (own_entries s h) e)) (subst R (eqb-true owner s is) this)
     by false is = let R : List Entry → Type 0 = λ l. S (past_of sc s l) in subst R (sym (own_other s h e is)) (was s)
 
 pub numbered_are : (P : Mention → Type 0) (site n : ℕ) (ps : List Packet) → Each (Goes P site) ps → Each (PacketIs P) (numbered n ps)
@@ -268,8 +268,8 @@ began_more h e t was = by (e.owner == t.site) refl
     Q l = Contains l t
 
     by : (b : Bool) → (e.owner == t.site) ≡ b → WasBegun (h ++ e ∷ []) t
-    by true is = subst R (sym (own_same t.site h e is)) (subst Q (sym (flat_map-append (λ x. begun_in x.act) (own t.site h) (e ∷ [])))
-        (Contains-append_left (flat_map (λ x. begun_in x.act) (own t.site h)) (flat_map (λ x. begun_in x.act) (e ∷ [])) t was))
+    by true is = subst R (sym (own_same t.site h e is)) (subst Q (sym (flat_map-append (λ x. begun_in x.act) (own_entries t.site h) (e ∷ [])))
+        (Contains-append_left (flat_map (λ x. begun_in x.act) (own_entries t.site h)) (flat_map (λ x. begun_in x.act) (e ∷ [])) t was))
     by false is = subst R (sym (own_other t.site h e is)) was
 
 pub stands_more : (sc : Scenario) (h : List Entry) (e : Entry) (x : Mention) → Stands sc h x → Stands sc (h ++ e ∷ []) x
@@ -282,8 +282,8 @@ began_now h e t home has =
     let R : List Entry → Type 0 = λ l. Contains (flat_map (λ x. begun_in x.act) l) t in
     let Q : List Txn → Type 0 = λ l. Contains l t in
     subst R (sym (own_same t.site h e (eq-eqb e.owner t.site (sym home))))
-    (subst Q (sym (flat_map-append (λ x. begun_in x.act) (own t.site h) (e ∷ [])))
-    (Contains-append_right (flat_map (λ x. begun_in x.act) (own t.site h)) (flat_map (λ x. begun_in x.act) (e ∷ [])) t
+    (subst Q (sym (flat_map-append (λ x. begun_in x.act) (own_entries t.site h) (e ∷ [])))
+    (Contains-append_right (flat_map (λ x. begun_in x.act) (own_entries t.site h)) (flat_map (λ x. begun_in x.act) (e ∷ [])) t
     (Contains-append_left (begun_in e.act) [] t has)))
 
 begun_are : (sc : Scenario) (h : List Entry) (e : Entry) (events : List Told) → begun_in e.act ≡ flat_map began_in events → Each (λ x. Each (λ t. t.site ≡ e.owner) (began_in x)) events →
@@ -325,9 +325,9 @@ module _ (sc : Scenario) (h : List Entry) (e : Entry) where
 -- an entry that is no step and no line
 quiet_holds : (sc : Scenario) (h : List Entry) (owner : ℕ) (act : Act) → Holds sc h → is_line (record { owner = owner; act = act }) ≡ false → outs_of act ≡ [] →
     binding_by sc (binding sc h) (record { owner = owner; act = act }) ≡ binding sc h →
-    (SiteIs (Stands sc (h ++ record { owner = owner; act = act } ∷ [])) (BeginsKnown (Stands sc (h ++ record { owner = owner; act = act } ∷ []))) (past_of sc owner (own owner h)) →
+    (SiteIs (Stands sc (h ++ record { owner = owner; act = act } ∷ [])) (BeginsKnown (Stands sc (h ++ record { owner = owner; act = act } ∷ []))) (past_of sc owner (own_entries owner h)) →
     SiteIs (Stands sc (h ++ record { owner = owner; act = act } ∷ [])) (BeginsKnown (Stands sc (h ++ record { owner = owner; act = act } ∷ [])))
-    (past_by sc owner (past_of sc owner (own owner h)) (record { owner = owner; act = act }))) →
+    (past_by sc owner (past_of sc owner (own_entries owner h)) (record { owner = owner; act = act }))) →
     Holds sc (h ++ record { owner = owner; act = act } ∷ [])
 quiet_holds sc h owner act was stays out same past = record {
   now = record {
@@ -372,7 +372,7 @@ line_holds sc h number was = record {
     now = record {
       sent = let R : List Packet → Type 0 = Each (PacketIs (Stands sc k)) in subst R (sym (sent_push h e ∙ append-nil (sent h))) was_more.sent;
       sites = sites_push (SiteIs (Stands sc k) (BeginsKnown (Stands sc k))) sc h 0 (Line number) was_more.sites
-          (quiet_past (Stands sc k) (BeginsKnown (Stands sc k)) sc 0 (past_of sc 0 (own 0 h)) (Line number) refl refl (was_more.sites 0));
+          (quiet_past (Stands sc k) (BeginsKnown (Stands sc k)) sc 0 (past_of sc 0 (own_entries 0 h)) (Line number) refl refl (was_more.sites 0));
     }
 
     bound : Each (BoundIs (Stands sc k)) (binding sc k).bound
@@ -442,8 +442,8 @@ step_holds sc h site i due was = record {
 pub guard_holds : (sc : Scenario) (h : List Entry) (owner : ℕ) (act : Act) → Holds sc h → Guard sc h (record { owner = owner; act = act }) →
     Holds sc (h ++ record { owner = owner; act = act } ∷ [])
 guard_holds sc h zero (Line number) was guard = line_holds sc h number was
-guard_holds sc h zero (Parts parts) was guard = quiet_holds sc h 0 (Parts parts) was refl refl refl (quiet_past _ _ sc 0 (past_of sc 0 (own 0 h)) (Parts parts) refl refl)
-guard_holds sc h zero (Drop number) was guard = quiet_holds sc h 0 (Drop number) was refl refl refl (quiet_past _ _ sc 0 (past_of sc 0 (own 0 h)) (Drop number) refl refl)
+guard_holds sc h zero (Parts parts) was guard = quiet_holds sc h 0 (Parts parts) was refl refl refl (quiet_past _ _ sc 0 (past_of sc 0 (own_entries 0 h)) (Parts parts) refl refl)
+guard_holds sc h zero (Drop number) was guard = quiet_holds sc h 0 (Drop number) was refl refl refl (quiet_past _ _ sc 0 (past_of sc 0 (own_entries 0 h)) (Drop number) refl refl)
 guard_holds sc h zero act was guard = absurd guard
 guard_holds sc h (suc s) (Step i records outs events) was guard =
     let R : Entry → Type 0 = λ e. Holds sc (h ++ e ∷ []) in
@@ -456,14 +456,14 @@ guard_holds sc h (suc s) (Fall inputs records why) was guard =
     (said_more P P (BeginsKnown P) AnyEvent (λ x this. this) (λ x this. tt) sc h was.now) guard.due in
     let R : List Record → Type 0 = Each (RecordIs P) in
     quiet_holds sc h (suc s) (Fall inputs records why) was refl refl refl
-    (λ site. fall_past Q (BeginsKnown Q) sc (suc s) (past_of sc (suc s) (own (suc s) h)) inputs records why site
+    (λ site. fall_past Q (BeginsKnown Q) sc (suc s) (past_of sc (suc s) (own_entries (suc s) h)) inputs records why site
     (records_more P Q (BeginsKnown P) (BeginsKnown Q) (stands_more sc h e) (begins_more P Q (stands_more sc h e)) records (subst R (sym guard.made) fall.makes)))
-guard_holds sc h (suc s) Cut was guard = quiet_holds sc h (suc s) Cut was refl refl refl (quiet_past _ _ sc (suc s) (past_of sc (suc s) (own (suc s) h)) Cut refl refl)
+guard_holds sc h (suc s) Cut was guard = quiet_holds sc h (suc s) Cut was refl refl refl (quiet_past _ _ sc (suc s) (past_of sc (suc s) (own_entries (suc s) h)) Cut refl refl)
 guard_holds sc h (suc s) (Rise kept inc) was guard = quiet_holds sc h (suc s) (Rise kept inc) was refl refl refl
-    (rise_past _ _ sc (values_stand sc (h ++ record { owner = suc s; act = Rise kept inc } ∷ [])) (suc s) (past_of sc (suc s) (own (suc s) h)) kept inc)
+    (rise_past _ _ sc (values_stand sc (h ++ record { owner = suc s; act = Rise kept inc } ∷ [])) (suc s) (past_of sc (suc s) (own_entries (suc s) h)) kept inc)
 guard_holds sc h (suc s) (RiseFall kept inc why) was guard = quiet_holds sc h (suc s) (RiseFall kept inc why) was refl refl refl
-    (rise_fall_past _ _ sc (values_stand sc (h ++ record { owner = suc s; act = RiseFall kept inc why } ∷ [])) (suc s) (past_of sc (suc s) (own (suc s) h)) kept inc why)
-guard_holds sc h (suc s) Miss was guard = quiet_holds sc h (suc s) Miss was refl refl refl (quiet_past _ _ sc (suc s) (past_of sc (suc s) (own (suc s) h)) Miss refl refl)
+    (rise_fall_past _ _ sc (values_stand sc (h ++ record { owner = suc s; act = RiseFall kept inc why } ∷ [])) (suc s) (past_of sc (suc s) (own_entries (suc s) h)) kept inc why)
+guard_holds sc h (suc s) Miss was guard = quiet_holds sc h (suc s) Miss was refl refl refl (quiet_past _ _ sc (suc s) (past_of sc (suc s) (own_entries (suc s) h)) Miss refl refl)
 guard_holds sc h (suc s) act was guard = absurd guard
 
 pub first_holds : (sc : Scenario) → Holds sc []

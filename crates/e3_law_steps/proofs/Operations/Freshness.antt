@@ -28,7 +28,7 @@ use Rattle.e3_world.specs.Items.{begin_names, binds, binding_by, last_bound, txn
 use Rattle.e3_world.specs.Legal.{IsDue, IsNextItem, entry_of, made_by, numbered}
 use Rattle.e3_world.specs.Lives.{life_at}
 use Rattle.e3_world.specs.Logs.{logged_inc}
-use Rattle.e3_world.specs.Moves.{Past, own, past_of, moves_of, log_of, unnumbered, unnumbered_input}
+use Rattle.e3_world.specs.Moves.{Past, own_entries, past_of, moves_of, log_of, unnumbered, unnumbered_input}
 use Rattle.e3_world.specs.Packets.{sent, lines, present_items, step_items, is_line}
 use Rattle.e3_world.specs.Steps.{is_begin}
 use Rattle.e3_world.specs.Operations.{issued}
@@ -277,7 +277,7 @@ quiet_fresh sc h e was adv stays none still same = fresh_same sc h e was adv (ap
     (λ s up b has. counts s up b has)
   where
     nothing : (s : ℕ) → more_at sc h e s ≡ []
-    nothing s = still_more (e.owner == s) (moments_of (past_of sc s (own s h)) e.act) (still (past_of sc s (own s h)))
+    nothing s = still_more (e.owner == s) (moments_of (past_of sc s (own_entries s h)) e.act) (still (past_of sc s (own_entries s h)))
 
     items : (s : ℕ) → items_taken (h ++ e ∷ []) s ≡ items_taken h s
     items s = by (e.owner == s) refl
@@ -385,7 +385,7 @@ module _ (sc : Scenario) (h : List Entry) (site : ℕ) (i : Input) (was : Fresh 
   step_known : (s : ℕ) → Each (λ m. KnownInput (bound_in sc h) m.input) (more_at sc h (entry_of sc h site i) s)
   step_known s = by (site == s)
     where
-      by : (b : Bool) → Each (λ m. KnownInput (bound_in sc h) m.input) (if b then moments_of (past_of sc s (own s h)) (entry_of sc h site i).act else [])
+      by : (b : Bool) → Each (λ m. KnownInput (bound_in sc h) m.input) (if b then moments_of (past_of sc s (own_entries s h)) (entry_of sc h site i).act else [])
       by true = (plain_known (bound_in sc h) i known, tt)
       by false = tt
 
@@ -408,7 +408,7 @@ module _ (sc : Scenario) (h : List Entry) (site : ℕ) (i : Input) (was : Fresh 
       by : (c : Bool) → (site == s) ≡ c → count_by (λ m. does b.txn m.input) (more_at sc h (entry_of sc h site i) s) + count_by (does b.txn) (items_taken h s)
           ≤ count_by (does b.txn) (items_taken (h ++ entry_of sc h site i ∷ []) s)
       by true is =
-          let w : Past = past_of sc s (own s h) in
+          let w : Past = past_of sc s (own_entries s h) in
           let m : Moment = record { before = (life_at w.moves).log; input = unnumbered_input i; records = (made_by sc h site i).records; outs = map unnumbered (numbered (suc (length (sent h))) (made_by sc h site i).outs); told = (made_by sc h site i).told } in
           let now : more_at sc h (entry_of sc h site i) s ≡ m ∷ [] = rw is refl in
           let count : _ = ap (count_by (λ x. does b.txn x.input)) now in
@@ -440,7 +440,7 @@ begin_fresh sc h site sites was up adv = by (slice_get (begin_names site (step_i
 
     begun : suc (count_by is_begin (life_in sc h site).steps) ≤ count_by is_begin (life_in sc (h ++ entry_of sc h site (input.Begin sites) ∷ []) site).steps
     begun = elim ((adv site).advances.lives (up_same h (entry_of sc h site (input.Begin sites)) site (eq-eqb site site refl) ∙ up)) [
-      | inl on ↦ (let w : Past = past_of sc site (own site h) in
+      | inl on ↦ (let w : Past = past_of sc site (own_entries site h) in
           let m : Moment = record { before = (life_at w.moves).log; input = input.Begin sites; records = []; outs = []; told = told.Began t ∷ [] } in
           let now : more_at sc h (entry_of sc h site (input.Begin sites)) site ≡ m ∷ [] = rw (eq-eqb site site refl) refl in
           let same : _ = ap (count_by is_begin) (on.2 ∙ ap (λ l. (life_in sc h site).steps ++ l) now) ∙ count_one is_begin (life_in sc h site).steps m refl in

@@ -25,7 +25,7 @@ use Rattle.e3_world.specs.Given.{IsGiven}
 use Rattle.e3_world.specs.Items.{is_up_at}
 use Rattle.e3_world.specs.Legal.{Guard, IsLegal, LegalAfter, IsDue, entry_of}
 use Rattle.e3_world.specs.Logs.{key_of, state_of}
-use Rattle.e3_world.specs.Moves.{Past, own, past_of}
+use Rattle.e3_world.specs.Moves.{Past, own_entries, past_of}
 use Rattle.e3_world.specs.Operations.{issued, issued_in, taken_up, arrived_by, and_arrived, is_fresh, same_asked, arrivals}
 use Rattle.e3_world.proofs.InTrail.{pending_sent}
 use Rattle.e3_law_steps.proofs.Each.{each-push, each-weaker, IfAny, each-both}
@@ -214,7 +214,7 @@ none_ordered site = record { numbered = tt; issued = tt; ascends = tt }
 quiet_ordered : (sc : Scenario) (h : List Entry) (e : Entry) → AllOrdered sc h → ((s : ℕ) → AdvanceAt sc h e s) → ((w : Past) → moments_of w e.act ≡ []) → AllOrdered sc (h ++ e ∷ [])
 quiet_ordered sc h e was adv still s up = elim ((adv s).advances.lives up) [
   | inl on ↦ (let P : List Moment → Type 0 = Ordered s in
-      subst P (sym (on.2 ∙ ap (λ l. (life_in sc h s).steps ++ l) (still_more (e.owner == s) (moments_of (past_of sc s (own s h)) e.act) (still (past_of sc s (own s h)))) ∙ append-nil (life_in sc h s).steps)) (was s on.0))
+      subst P (sym (on.2 ∙ ap (λ l. (life_in sc h s).steps ++ l) (still_more (e.owner == s) (moments_of (past_of sc s (own_entries s h)) e.act) (still (past_of sc s (own_entries s h)))) ∙ append-nil (life_in sc h s).steps)) (was s on.0))
   | inr new ↦ (let P : List Moment → Type 0 = Ordered s in subst P (sym new.1) (none_ordered s))
 ]
 

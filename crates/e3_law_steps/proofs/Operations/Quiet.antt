@@ -13,7 +13,7 @@ use Rattle.e3_types.specs.declared.scenarios.Scenario.{Scenario}
 use Rattle.e3_world.specs.Given.{IsGiven}
 use Rattle.e3_world.specs.Items.{is_delivery, taken_at, inputs_of, is_up_at, recover_group}
 use Rattle.e3_world.specs.Legal.{may_rise, is_through, is_made}
-use Rattle.e3_world.specs.Moves.{Past, own, past_of}
+use Rattle.e3_world.specs.Moves.{Past, own_entries, past_of}
 use Rattle.e3_world.specs.Packets.{sent, outs_of, pending, lines, is_line, present_items, step_items}
 use Rattle.e3_world.specs.Progress.{up_behind}
 use Rattle.e3_world.proofs.Readings.{taken_same, taken_other, up_same, up_other}
@@ -50,7 +50,7 @@ pub quiet_on : (sc : Scenario) (h : List Entry) (e : Entry) → Fresh sc h → T
     ((was : Bool) → was ≡ false → up_behind was e.act ≡ true → pending sc h ≡ []) → Talks sc (h ++ e ∷ [])
 quiet_on sc h e fresh was adv stays out bound still calm = quiet_talks sc h e fresh was adv
     (sent_push h e ∙ ap (λ l. sent h ++ l) out ∙ append-nil (sent h)) bound
-    (λ s. still_more (e.owner == s) (moments_of (past_of sc s (own s h)) e.act) (still (past_of sc s (own s h)))) out
+    (λ s. still_more (e.owner == s) (moments_of (past_of sc s (own_entries s h)) e.act) (still (past_of sc s (own_entries s h)))) out
     (λ s down up. calm_at s (e.owner == s) refl down up)
     (λ t n p none up. no_delivery h e t.site stays none)
     (λ asks recovers. none_pending sc h e out (was.rest

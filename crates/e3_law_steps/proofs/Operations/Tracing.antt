@@ -20,7 +20,7 @@ use Rattle.e3_world.specs.Logs.{key_of}
 use Rattle.e3_types.specs.declared.transactions.Answer.{Answer}
 use Rattle.e3_types.specs.declared.verdicts.Verdict.TheVariants as verdict
 use Rattle.e3_types.specs.Same.{same_txn}
-use Rattle.e3_world.specs.declared.gatherings.Election.{Election}
+use Rattle.e3_world.specs.Gatherings.{Election}
 use Rattle.e3_world.specs.Elections.{greatest_heard}
 use Rattle.e3_world.specs.Operations.{waiting, arrivals, issued, issued_in, nth_op, is_refusal, taken_up, Arrived, arrived_by, and_arrived, is_fresh}
 use Rattle.e3_world.specs.Rounds.{count_ack}

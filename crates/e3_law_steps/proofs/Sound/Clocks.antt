@@ -20,7 +20,7 @@ use Rattle.e3_world.specs.Items.{is_up_at}
 use Rattle.e3_world.specs.Legal.{Guard, IsDue, AreDue, numbered, made_by, entry_of, records_by}
 use Rattle.e3_world.specs.Lives.{present_log, incarnation_of, life_of, life_at, life_by}
 use Rattle.e3_world.specs.Logs.{logged_inc, logged_inc_by}
-use Rattle.e3_world.specs.Moves.{Move, Stepped, Silent, Rose, Past, Tail, own, past_of, past_by, moves_of, moves_of_act, tail_of_act, kept_moves, left_by, log_by, rise_records, open_tail, unnumbered, unnumbered_input}
+use Rattle.e3_world.specs.Moves.{Move, Stepped, Silent, Rose, Past, Tail, own_entries, past_of, past_by, moves_of, moves_of_act, tail_of_act, kept_moves, left_by, log_by, rise_records, open_tail, unnumbered, unnumbered_input}
 use Rattle.e3_world.specs.Packets.{sent}
 use Rattle.e3_world.specs.Progress.{up_behind}
 use Rattle.e3_world.proofs.Pushes.{past_push, incarnation_push, life_push, log_push}
@@ -218,28 +218,28 @@ due_says sc h site i given due was =
 
 -- the clock of a site in a history, and its advance behind one more entry
 abbrev pub ClockAt : Scenario → List Entry → ℕ → Type 0
-ClockAt sc h s = Clocked (past_of sc s (own s h)) (is_up_at h s)
+ClockAt sc h s = Clocked (past_of sc s (own_entries s h)) (is_up_at h s)
 
 abbrev pub more_at : Scenario → List Entry → Entry → ℕ → List Moment
-more_at sc h e s = if e.owner == s then moments_of (past_of sc s (own s h)) e.act else []
+more_at sc h e s = if e.owner == s then moments_of (past_of sc s (own_entries s h)) e.act else []
 
 abbrev pub AdvanceAt : Scenario → List Entry → Entry → ℕ → Type 0
-AdvanceAt sc h e s = Turns (past_of sc s (own s h)) (is_up_at h s) (past_of sc s (own s (h ++ e ∷ []))) (is_up_at (h ++ e ∷ []) s) (more_at sc h e s)
+AdvanceAt sc h e s = Turns (past_of sc s (own_entries s h)) (is_up_at h s) (past_of sc s (own_entries s (h ++ e ∷ []))) (is_up_at (h ++ e ∷ []) s) (more_at sc h e s)
 
 -- by the owner's own advance
 by_owner : (sc : Scenario) (h : List Entry) (e : Entry) (s : ℕ) → ClockAt sc h s →
-    ((e.owner == s) ≡ true → Turns (past_of sc s (own s h)) (is_up_at h s) (past_by sc s (past_of sc s (own s h)) e) (up_behind (is_up_at h s) e.act) (moments_of (past_of sc s (own s h)) e.act)) → AdvanceAt sc h e s
+    ((e.owner == s) ≡ true → Turns (past_of sc s (own_entries s h)) (is_up_at h s) (past_by sc s (past_of sc s (own_entries s h)) e) (up_behind (is_up_at h s) e.act) (moments_of (past_of sc s (own_entries s h)) e.act)) → AdvanceAt sc h e s
 by_owner sc h e s was mine = by (e.owner == s) refl
   where
     by : (b : Bool) → (e.owner == s) ≡ b → AdvanceAt sc h e s
     by true is =
-        let w : Past = past_of sc s (own s h) in
+        let w : Past = past_of sc s (own_entries s h) in
         let P : Past → Type 0 = λ v. Turns w (is_up_at h s) v (is_up_at (h ++ e ∷ []) s) (more_at sc h e s) in
         let Q : Bool → Type 0 = λ b. Turns w (is_up_at h s) (past_by sc s w e) b (more_at sc h e s) in
         let R : Bool → Type 0 = λ b. Turns w (is_up_at h s) (past_by sc s w e) (up_behind (is_up_at h s) e.act) (if b then moments_of w e.act else []) in
-        subst P (sym (ap (past_of sc s) (own_same s h e is) ∙ past_push sc s (own s h) e)) (subst Q (sym (up_same h e s is)) (subst R (sym is) (mine is)))
+        subst P (sym (ap (past_of sc s) (own_same s h e is) ∙ past_push sc s (own_entries s h) e)) (subst Q (sym (up_same h e s is)) (subst R (sym is) (mine is)))
     by false is =
-        let w : Past = past_of sc s (own s h) in
+        let w : Past = past_of sc s (own_entries s h) in
         let P : Past → Type 0 = λ v. Turns w (is_up_at h s) v (is_up_at (h ++ e ∷ []) s) (more_at sc h e s) in
         let Q : Bool → Type 0 = λ b. Turns w (is_up_at h s) w b (more_at sc h e s) in
         let R : Bool → Type 0 = λ b. Turns w (is_up_at h s) w (is_up_at h s) (if b then moments_of w e.act else []) in
@@ -248,18 +248,18 @@ by_owner sc h e s was mine = by (e.owner == s) refl
 -- the incarnation of a site that steps
 pub stepped_inc : (sc : Scenario) (h : List Entry) (site : ℕ) (i : Input) → (life_at (moves_of sc (h ++ entry_of sc h site i ∷ []) site)).inc ≡ (life_at (moves_of sc h site)).inc
 stepped_inc sc h site i =
-    let w : Past = past_of sc site (own site h) in
+    let w : Past = past_of sc site (own_entries site h) in
     let st : SiteStep = record { input = unnumbered_input i; records = (made_by sc h site i).records; outs = map unnumbered (numbered (suc (length (sent h))) (made_by sc h site i).outs); told = (made_by sc h site i).told } in
-    ap (λ p. (life_at p.moves).inc) (ap (past_of sc site) (own_same site h (entry_of sc h site i) (eq-eqb site site refl)) ∙ past_push sc site (own site h) (entry_of sc h site i))
+    ap (λ p. (life_at p.moves).inc) (ap (past_of sc site) (own_same site h (entry_of sc h site i) (eq-eqb site site refl)) ∙ past_push sc site (own_entries site h) (entry_of sc h site i))
     ∙ ap (λ x. (life_of x).inc) (incarnation_push w.moves (record { site = site; did = Stepped st })) ∙ ap (λ l. l.inc) (life_push (incarnation_of w.moves) st)
 
 pub step_advance : (sc : Scenario) (h : List Entry) (site : ℕ) (i : Input) → IsGiven sc → is_up_at h site ≡ true → IsDue sc h site i → Holds sc h →
     ((s : ℕ) → ClockAt sc h s) → (s : ℕ) → AdvanceAt sc h (entry_of sc h site i) s
 step_advance sc h site i given up due was clocks s = by_owner sc h (entry_of sc h site i) s (clocks s) (λ is.
-    let P : ℕ → Type 0 = λ x. Turns (past_of sc x (own x h)) (is_up_at h x) (past_by sc x (past_of sc x (own x h)) (entry_of sc h site i)) (is_up_at h x) (moments_of (past_of sc x (own x h)) (entry_of sc h site i).act) in
-    let Q : Bool → Type 0 = λ b. Clocked (past_of sc site (own site h)) b in
-    let R : Bool → Type 0 = λ b. Turns (past_of sc site (own site h)) b (past_by sc site (past_of sc site (own site h)) (entry_of sc h site i)) b (moments_of (past_of sc site (own site h)) (entry_of sc h site i).act) in
-    subst P (eqb-true site s is) (subst R (sym up) (stepped sc site (past_of sc site (own site h)) _ (subst Q up (clocks site))
+    let P : ℕ → Type 0 = λ x. Turns (past_of sc x (own_entries x h)) (is_up_at h x) (past_by sc x (past_of sc x (own_entries x h)) (entry_of sc h site i)) (is_up_at h x) (moments_of (past_of sc x (own_entries x h)) (entry_of sc h site i).act) in
+    let Q : Bool → Type 0 = λ b. Clocked (past_of sc site (own_entries site h)) b in
+    let R : Bool → Type 0 = λ b. Turns (past_of sc site (own_entries site h)) b (past_by sc site (past_of sc site (own_entries site h)) (entry_of sc h site i)) b (moments_of (past_of sc site (own_entries site h)) (entry_of sc h site i).act) in
+    subst P (eqb-true site s is) (subst R (sym up) (stepped sc site (past_of sc site (own_entries site h)) _ (subst Q up (clocks site))
     (says_records (made_by sc h site i) (due_says sc h site i given due was)))))
 
 -- an act that makes no move
@@ -267,7 +267,7 @@ quiet_advance : (sc : Scenario) (h : List Entry) (owner : ℕ) (act : Act) → (
     ((sc : Scenario) (s : ℕ) (w : Past) → (moves_of_act sc s w act ≡ []) × (tail_of_act sc s w act ≡ w.tail)) → ((was : Bool) → up_behind was act ≡ true → was ≡ true) → ((w : Past) → moments_of w act ≡ []) →
     (s : ℕ) → AdvanceAt sc h (record { owner = owner; act = act }) s
 quiet_advance sc h owner act clocks none ups still s = by_owner sc h (record { owner = owner; act = act }) s (clocks s) (λ is.
-    let w : Past = past_of sc s (own s h) in
+    let w : Past = past_of sc s (own_entries s h) in
     let P : List Moment → Type 0 = λ l. Turns w (is_up_at h s) (past_by sc s w (record { owner = owner; act = act })) (up_behind (is_up_at h s) act) l in
     subst P (sym (still w)) (quiet_clock sc s w (past_by sc s w (record { owner = owner; act = act })) (is_up_at h s) (up_behind (is_up_at h s) act)
     (quiet_past sc s w (record { owner = owner; act = act }) (none sc s w).0 (none sc s w).1) (ups (is_up_at h s)) (clocks s)))
@@ -282,16 +282,16 @@ guard_advance sc h (suc o) (Step i records outs events) given was clocks guard s
     let P : Entry → Type 0 = λ e. AdvanceAt sc h e s in
     subst P (sym guard.made) (step_advance sc h (suc o) i given guard.up guard.due was clocks s)
 guard_advance sc h (suc o) (Fall inputs records why) given was clocks guard s = by_owner sc h _ s (clocks s) (λ is.
-    fallen sc s (past_of sc s (own s h)) inputs records why (is_up_at h s) (clocks s)
+    fallen sc s (past_of sc s (own_entries s h)) inputs records why (is_up_at h s) (clocks s)
     (let P : List Record → Type 0 = Each OfTxn in subst P (sym guard.made) (fall_of_txn sc inputs h (suc o) given guard.up guard.due was)))
 guard_advance sc h (suc o) Cut given was clocks guard s = quiet_advance sc h (suc o) Cut clocks (λ k x w. (refl, refl)) (λ was up. absurd cc) (λ w. refl) s
 guard_advance sc h (suc o) (Rise kept inc) given was clocks guard s = by_owner sc h _ s (clocks s) (λ is.
-    let P : ℕ → Type 0 = λ x. Turns (past_of sc x (own x h)) (is_up_at h x) (past_by sc x (past_of sc x (own x h)) (record { owner = x; act = Rise kept inc })) true [] in
-    subst P (eqb-true (suc o) s is) (risen sc (suc o) (past_of sc (suc o) (own (suc o) h)) kept inc (is_up_at h (suc o)) (clocks (suc o))
+    let P : ℕ → Type 0 = λ x. Turns (past_of sc x (own_entries x h)) (is_up_at h x) (past_by sc x (past_of sc x (own_entries x h)) (record { owner = x; act = Rise kept inc })) true [] in
+    subst P (eqb-true (suc o) s is) (risen sc (suc o) (past_of sc (suc o) (own_entries (suc o) h)) kept inc (is_up_at h (suc o)) (clocks (suc o))
     (guard.next ∙ ap (λ l. suc (logged_inc l)) (sym (log_append (moves_of sc h (suc o)) (kept_moves (suc o) kept (open_tail sc h (suc o)))))) guard.rising.down))
 guard_advance sc h (suc o) (RiseFall kept inc why) given was clocks guard s = by_owner sc h _ s (clocks s) (λ is.
-    let P : ℕ → Type 0 = λ x. Turns (past_of sc x (own x h)) (is_up_at h x) (past_by sc x (past_of sc x (own x h)) (record { owner = x; act = RiseFall kept inc why })) false [] in
-    subst P (eqb-true (suc o) s is) (rise_failed sc (suc o) (past_of sc (suc o) (own (suc o) h)) kept inc why (is_up_at h (suc o)) (clocks (suc o))
+    let P : ℕ → Type 0 = λ x. Turns (past_of sc x (own_entries x h)) (is_up_at h x) (past_by sc x (past_of sc x (own_entries x h)) (record { owner = x; act = RiseFall kept inc why })) false [] in
+    subst P (eqb-true (suc o) s is) (rise_failed sc (suc o) (past_of sc (suc o) (own_entries (suc o) h)) kept inc why (is_up_at h (suc o)) (clocks (suc o))
     (guard.next ∙ ap (λ l. suc (logged_inc l)) (sym (log_append (moves_of sc h (suc o)) (kept_moves (suc o) kept (open_tail sc h (suc o))))))))
 guard_advance sc h (suc o) Miss given was clocks guard s = quiet_advance sc h (suc o) Miss clocks (λ k x w. (refl, refl)) (λ was up. absurd cc) (λ w. refl) s
 guard_advance sc h (suc o) act given was clocks guard s = absurd guard

@@ -16,7 +16,7 @@ use Rattle.e3_world.specs.Given.{IsGiven}
 use Rattle.e3_world.specs.Items.{is_up_at, began_in}
 use Rattle.e3_world.specs.Legal.{Guard, IsLegal, LegalAfter, IsDue, made_by, entry_of}
 use Rattle.e3_world.specs.Logs.{logged_inc}
-use Rattle.e3_world.specs.Moves.{Tail, own, past_of, moves_of_act, kept_moves, log_of, open_tail, unnumbered_input, trail_of}
+use Rattle.e3_world.specs.Moves.{Tail, own_entries, past_of, moves_of_act, kept_moves, log_of, open_tail, unnumbered_input, trail_of}
 use Rattle.e3_world.specs.Sound.{tells}
 use Rattle.e3_world.specs.Steps.{is_begin}
 use Rattle.e3_law_steps.specs.Trails.{begun_by, DifferInName, AllDiffer}
@@ -59,13 +59,13 @@ begun_on sc h e t adv was = record {
 }
 
 begun_push : (sc : Scenario) (h : List Entry) (e : Entry) →
-    begun_by (trail_of sc (h ++ e ∷ [])) ≡ begun_by (trail_of sc h) ++ begun_by (moves_of_act sc e.owner (past_of sc e.owner (own e.owner h)) e.act)
+    begun_by (trail_of sc (h ++ e ∷ [])) ≡ begun_by (trail_of sc h) ++ begun_by (moves_of_act sc e.owner (past_of sc e.owner (own_entries e.owner h)) e.act)
 begun_push sc h e = ap begun_by (trail_push sc h e)
-    ∙ flat_map-append (λ m. flat_map began_in (tells m)) (trail_of sc h) (moves_of_act sc e.owner (past_of sc e.owner (own e.owner h)) e.act)
+    ∙ flat_map-append (λ m. flat_map began_in (tells m)) (trail_of sc h) (moves_of_act sc e.owner (past_of sc e.owner (own_entries e.owner h)) e.act)
 
 -- an entry that begins nothing
 named_same : (sc : Scenario) (h : List Entry) (e : Entry) → ((s : ℕ) → AdvanceAt sc h e s) →
-    begun_by (moves_of_act sc e.owner (past_of sc e.owner (own e.owner h)) e.act) ≡ [] → Named sc h (begun_by (trail_of sc h)) → Named sc (h ++ e ∷ []) (begun_by (trail_of sc (h ++ e ∷ [])))
+    begun_by (moves_of_act sc e.owner (past_of sc e.owner (own_entries e.owner h)) e.act) ≡ [] → Named sc h (begun_by (trail_of sc h)) → Named sc (h ++ e ∷ []) (begun_by (trail_of sc (h ++ e ∷ [])))
 named_same sc h e adv none was =
     let P : List Txn → Type 0 = Named sc (h ++ e ∷ []) in
     subst P (sym (begun_push sc h e ∙ ap (λ l. begun_by (trail_of sc h) ++ l) none ∙ append-nil (begun_by (trail_of sc h)))) (record {

@@ -21,7 +21,7 @@ use Rattle.e3_world.specs.Items.{is_up_at}
 use Rattle.e3_world.specs.Legal.{Guard, IsLegal, LegalAfter, IsDue, AreDue, IsRise, made_by, entry_of, records_by}
 use Rattle.e3_world.specs.Lives.{life_at}
 use Rattle.e3_world.specs.Logs.{logged_inc}
-use Rattle.e3_world.specs.Moves.{Move, Silent, Tail, own, moves_at, past_of, moves_of, moves_of_act, tail_of_act, kept_moves, left_by, log_by, open_tail, recorded, rise_records, unnumbered, unnumbered_input, trail_after, trail_of}
+use Rattle.e3_world.specs.Moves.{Move, Silent, Tail, own_entries, moves_at, past_of, moves_of, moves_of_act, tail_of_act, kept_moves, left_by, log_by, open_tail, recorded, rise_records, unnumbered, unnumbered_input, trail_after, trail_of}
 use Rattle.e3_world.specs.Packets.{sent}
 use Rattle.e3_world.specs.Sound.{Fits, WasSent, sends, step_move, has_risen, FitInTurn, records_in_turn, IsSoundRise, IsSoundMove, SoundAfter, IsSound}
 use Rattle.e3_world.proofs.InTrail.{pending_sent, due_was_sent}
@@ -53,13 +53,13 @@ pub record Trailing (sc : Scenario) (h : List Entry) : Type 0 where
 after_trail : (sc : Scenario) (before xs ys : List Entry) → trail_after sc before (xs ++ ys) ≡ trail_after sc before xs ++ trail_after sc (before ++ xs) ys
 after_trail sc before [] ys = ap (λ l. trail_after sc l ys) (sym (append-nil before))
 after_trail sc before (e ∷ xs) ys =
-    let m : List Move = moves_of_act sc e.owner (past_of sc e.owner (own e.owner before)) e.act in
+    let m : List Move = moves_of_act sc e.owner (past_of sc e.owner (own_entries e.owner before)) e.act in
     ap (λ l. m ++ l) (after_trail sc (before ++ e ∷ []) xs ys)
     ∙ sym (append_assoc m (trail_after sc (before ++ e ∷ []) xs) (trail_after sc ((before ++ e ∷ []) ++ xs) ys))
     ∙ ap (λ l. (m ++ trail_after sc (before ++ e ∷ []) xs) ++ trail_after sc l ys) (append_assoc before (e ∷ []) xs)
 
-pub trail_push : (sc : Scenario) (h : List Entry) (e : Entry) → trail_of sc (h ++ e ∷ []) ≡ trail_of sc h ++ moves_of_act sc e.owner (past_of sc e.owner (own e.owner h)) e.act
-trail_push sc h e = after_trail sc [] h (e ∷ []) ∙ ap (λ l. trail_of sc h ++ l) (append-nil (moves_of_act sc e.owner (past_of sc e.owner (own e.owner h)) e.act))
+pub trail_push : (sc : Scenario) (h : List Entry) (e : Entry) → trail_of sc (h ++ e ∷ []) ≡ trail_of sc h ++ moves_of_act sc e.owner (past_of sc e.owner (own_entries e.owner h)) e.act
+trail_push sc h e = after_trail sc [] h (e ∷ []) ∙ ap (λ l. trail_of sc h ++ l) (append-nil (moves_of_act sc e.owner (past_of sc e.owner (own_entries e.owner h)) e.act))
 
 sound_append : (sc : Scenario) (before xs ys : List Move) → SoundAfter sc before xs → SoundAfter sc (before ++ xs) ys → SoundAfter sc before (xs ++ ys)
 sound_append sc before [] ys first more = let P : List Move → Type 0 = λ l. SoundAfter sc l ys in subst P (append-nil before) more
@@ -120,7 +120,7 @@ step_sound sc h site i given was up due =
     let P : List Move → Type 0 = λ l. has_risen l ≡ true in
     let Q : List Move → Type 0 = λ l. Fits sc.weights site (life_at l) (unnumbered_input i) in
     record {
-      risen = subst P (sym (trail_moves sc site h)) (up_risen sc site (own site h) up);
+      risen = subst P (sym (trail_moves sc site h)) (up_risen sc site (own_entries site h) up);
       fits = subst Q (sym (trail_moves sc site h)) (fits_plain sc.weights site (life_at (moves_of sc h site)) i (due_fits sc h site i given was up due));
       was_sent = was_sent sc h site i due;
       made = ap (λ l. step_move sc site l i) (sym (trail_moves sc site h)) ∙ sym (step_move_plain sc site (moves_at site (trail_of sc h)) i);
@@ -187,7 +187,7 @@ fall_tail sc h site inputs records why given was up due some made =
     let Q : List Move → Type 0 = λ l. FallsWell sc h site l inputs records in
     let R : List Record → Type 0 = FallsWell sc h site (moves_of sc h site) inputs in
     fall_left sc (trail_of sc h) site (map unnumbered_input inputs) records why
-    (fall_move sc h site inputs records (subst P (sym (trail_moves sc site h)) (up_risen sc site (own site h) up)) some
+    (fall_move sc h site inputs records (subst P (sym (trail_moves sc site h)) (up_risen sc site (own_entries site h) up)) some
     (subst Q (sym (trail_moves sc site h)) (subst R (sym made) (fall_well sc inputs h h site given was (λ p has. inl has) up due))))
 
 -- a kept tail's move
@@ -220,8 +220,8 @@ rise_sound sc h site kept inc guard = record {
 
 -- the moves of an act are sound, and so is the tail that it leaves
 record ActSound (sc : Scenario) (h : List Entry) (owner : ℕ) (act : Act) : Type 0 where
-  pub moves : SoundAfter sc (trail_of sc h) (moves_of_act sc owner (past_of sc owner (own owner h)) act)
-  pub tail : TailSound sc (trail_of sc h ++ moves_of_act sc owner (past_of sc owner (own owner h)) act) owner (tail_of_act sc owner (past_of sc owner (own owner h)) act)
+  pub moves : SoundAfter sc (trail_of sc h) (moves_of_act sc owner (past_of sc owner (own_entries owner h)) act)
+  pub tail : TailSound sc (trail_of sc h ++ moves_of_act sc owner (past_of sc owner (own_entries owner h)) act) owner (tail_of_act sc owner (past_of sc owner (own_entries owner h)) act)
 
 quiet_sound : (sc : Scenario) (h : List Entry) (owner : ℕ) (o : Option Tail) → TailSound sc (trail_of sc h) owner o → TailSound sc (trail_of sc h ++ []) owner o
 quiet_sound sc h owner o is = let P : List Move → Type 0 = λ l. TailSound sc l owner o in subst P (sym (append-nil (trail_of sc h))) is
@@ -269,14 +269,14 @@ trail_on sc h e was act = record {
 }
   where
     more : List Move
-    more = moves_of_act sc e.owner (past_of sc e.owner (own e.owner h)) e.act
+    more = moves_of_act sc e.owner (past_of sc e.owner (own_entries e.owner h)) e.act
 
     by : (s : ℕ) (b : Bool) → (e.owner == s) ≡ b → TailSound sc (trail_of sc (h ++ e ∷ [])) s (open_tail sc (h ++ e ∷ []) s)
     by s true is =
-        let P : ℕ → Type 0 = λ x. TailSound sc (trail_of sc h ++ moves_of_act sc e.owner (past_of sc e.owner (own e.owner h)) e.act) x (tail_of_act sc x (past_of sc x (own x h)) e.act) in
+        let P : ℕ → Type 0 = λ x. TailSound sc (trail_of sc h ++ moves_of_act sc e.owner (past_of sc e.owner (own_entries e.owner h)) e.act) x (tail_of_act sc x (past_of sc x (own_entries x h)) e.act) in
         let Q : Option Tail → Type 0 = TailSound sc (trail_of sc (h ++ e ∷ [])) s in
-        let R : List Move → Type 0 = λ l. TailSound sc l s (tail_of_act sc s (past_of sc s (own s h)) e.act) in
-        subst Q (sym (ap (λ l. (past_of sc s l).tail) (own_same s h e is) ∙ ap (λ p. p.tail) (past_push sc s (own s h) e)))
+        let R : List Move → Type 0 = λ l. TailSound sc l s (tail_of_act sc s (past_of sc s (own_entries s h)) e.act) in
+        subst Q (sym (ap (λ l. (past_of sc s l).tail) (own_same s h e is) ∙ ap (λ p. p.tail) (past_push sc s (own_entries s h) e)))
         (subst R (sym (trail_push sc h e)) (subst P (eqb-true e.owner s is) act.tail))
     by s false is =
         let Q : Option Tail → Type 0 = TailSound sc (trail_of sc (h ++ e ∷ [])) s in

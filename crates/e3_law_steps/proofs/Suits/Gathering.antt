@@ -15,10 +15,7 @@ use Rattle.e3_types.specs.declared.transactions.Txn.{Txn}
 use Rattle.e3_types.specs.declared.verdicts.SiteReport.{SiteReport}
 use Rattle.e3_types.specs.Same.{same_txn, same_dir, same_call}
 use Rattle.e3_types.specs.Sets.{has_site, is_within, others}
-use Rattle.e3_world.specs.declared.gatherings.Election.{Election}
-use Rattle.e3_world.specs.declared.gatherings.Elections.{Elections}
-use Rattle.e3_world.specs.declared.gatherings.Round.{Round}
-use Rattle.e3_world.specs.declared.gatherings.Rounds.{Rounds}
+use Rattle.e3_world.specs.Gatherings.{Election, Elections, Round, Rounds}
 use Rattle.e3_world.specs.declared.lives.Moment.{Moment}
 use Rattle.e3_world.specs.Elections.{Heard, begun, hear, take_report, or_same, heard_more, after_heard, all_heard, joined_in, ends_election, election_with, election_by, election_in_progress, is_join, heard_in}
 use Rattle.e3_world.specs.Logs.{last_elected}

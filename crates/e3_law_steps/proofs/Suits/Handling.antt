@@ -7,7 +7,7 @@ use Rattle.e3_types.specs.declared.transactions.Dir.TheVariants.{Abort}
 use Rattle.e3_types.specs.declared.transactions.Txn.{Txn}
 use Rattle.e3_types.specs.declared.verdicts.SiteReport.{SiteReport}
 use Rattle.e3_types.specs.Sets.{has_site, is_within}
-use Rattle.e3_world.specs.declared.gatherings.Election.{Election}
+use Rattle.e3_world.specs.Gatherings.{Election}
 use Rattle.e3_world.specs.declared.lives.Asked.{Asked}
 use Rattle.e3_world.specs.declared.lives.At.{At}
 use Rattle.e3_world.specs.declared.lives.Made.{Made}

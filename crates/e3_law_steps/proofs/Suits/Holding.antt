@@ -20,7 +20,7 @@ use Rattle.e3_world.specs.Given.{IsGiven}
 use Rattle.e3_world.specs.Items.{AroundLine, around_by, to_line, inputs_of, inputs_at, is_up_at, binding_by}
 use Rattle.e3_world.specs.Legal.{Guard, IsLegal, LegalAfter, IsDue, AreDue, numbered, made_by, entry_of, records_by}
 use Rattle.e3_world.specs.Lives.{present_log, incarnation_of, life_of, life_at, life_by}
-use Rattle.e3_world.specs.Moves.{Move, Did, Stepped, Silent, Rose, Past, Tail, own, past_of, past_by, moves_of, moves_of_act, tail_of_act, kept_moves, left_by, log_by, rise_records, unnumbered, unnumbered_input}
+use Rattle.e3_world.specs.Moves.{Move, Did, Stepped, Silent, Rose, Past, Tail, own_entries, past_of, past_by, moves_of, moves_of_act, tail_of_act, kept_moves, left_by, log_by, rise_records, unnumbered, unnumbered_input}
 use Rattle.e3_world.specs.Packets.{sent, outs_of, is_line, lines, present_items}
 use Rattle.e3_world.specs.Progress.{up_behind}
 use Rattle.e3_world.proofs.Guards.{lines_push}
@@ -44,7 +44,7 @@ pub record SiteSuits (weights : List ℕ) (site : ℕ) (past : Past) : Type 0 wh
 -- what holds of a history
 pub record Bounded (sc : Scenario) (h : List Entry) : Type 0 where
   pub sent : Each (GoesBetween sc.weights) (sent h)
-  pub sites : (s : ℕ) → SiteSuits sc.weights s (past_of sc s (own s h))
+  pub sites : (s : ℕ) → SiteSuits sc.weights s (past_of sc s (own_entries s h))
   pub took : TookInTurn sc h
   pub binds : Binds sc h
 
@@ -133,19 +133,19 @@ quiet_past sc site w act moves tail was = record {
 }
 
 -- the sites behind one more entry
-pub sites_push : (sc : Scenario) (h : List Entry) (owner : ℕ) (act : Act) → ((s : ℕ) → SiteSuits sc.weights s (past_of sc s (own s h))) →
-    SiteSuits sc.weights owner (past_by sc owner (past_of sc owner (own owner h)) (record { owner = owner; act = act })) →
-    (s : ℕ) → SiteSuits sc.weights s (past_of sc s (own s (h ++ record { owner = owner; act = act } ∷ [])))
+pub sites_push : (sc : Scenario) (h : List Entry) (owner : ℕ) (act : Act) → ((s : ℕ) → SiteSuits sc.weights s (past_of sc s (own_entries s h))) →
+    SiteSuits sc.weights owner (past_by sc owner (past_of sc owner (own_entries owner h)) (record { owner = owner; act = act })) →
+    (s : ℕ) → SiteSuits sc.weights s (past_of sc s (own_entries s (h ++ record { owner = owner; act = act } ∷ [])))
 sites_push sc h owner act was this s = by (owner == s) refl
   where
     e : Entry
     e = record { owner = owner; act = act }
 
-    by : (b : Bool) → (owner == s) ≡ b → SiteSuits sc.weights s (past_of sc s (own s (h ++ e ∷ [])))
+    by : (b : Bool) → (owner == s) ≡ b → SiteSuits sc.weights s (past_of sc s (own_entries s (h ++ e ∷ [])))
     by true is =
-        let P : ℕ → Type 0 = λ x. SiteSuits sc.weights x (past_by sc x (past_of sc x (own x h)) e) in
+        let P : ℕ → Type 0 = λ x. SiteSuits sc.weights x (past_by sc x (past_of sc x (own_entries x h)) e) in
         let Q : Past → Type 0 = SiteSuits sc.weights s in
-        subst Q (sym (ap (past_of sc s) (own_same s h e is) ∙ past_push sc s (own s h) e)) (subst P (eqb-true owner s is) this)
+        subst Q (sym (ap (past_of sc s) (own_same s h e is) ∙ past_push sc s (own_entries s h) e)) (subst P (eqb-true owner s is) this)
     by false is = let Q : List Entry → Type 0 = λ l. SiteSuits sc.weights s (past_of sc s l) in subst Q (sym (own_other s h e is)) (was s)
 
 numbered_go : (weights : List ℕ) (site n : ℕ) (ps : List Packet) → Each (Goes weights site) ps → Each (GoesBetween weights) (numbered n ps)
@@ -209,7 +209,7 @@ line_binds : (sc : Scenario) (h : List Entry) (number : ℕ) → number ≡ suc 
 line_binds sc h number next was = record {
   number = ap (λ b. b.number) (binding_push sc h e) ∙ next ∙ (let one : lines (h ++ e ∷ []) ≡ lines h + count_by is_line (e ∷ []) = lines_push h e in omega (arith, one));
   counts = λ s. ap (λ b. count_by (λ x. x == s) b.begun_at) (binding_push sc h e)
-      ∙ sym (ap (λ l. count_by takes_begin (flat_map (λ x. step_input x.act) (own s l))) (since_at_line h e refl));
+      ∙ sym (ap (λ l. count_by takes_begin (flat_map (λ x. step_input x.act) (own_entries s l))) (since_at_line h e refl));
   bound = let P : Binding → Type 0 = λ b. Each (IsBound sc) b.bound in subst P (sym (binding_push sc h e)) was.bound;
 }
   where
@@ -220,7 +220,7 @@ line_binds sc h number next was = record {
 quiet_holds : (sc : Scenario) (h : List Entry) (owner : ℕ) (act : Act) → Holds sc h → is_line (record { owner = owner; act = act }) ≡ false →
     step_input act ≡ [] → outs_of act ≡ [] → binding_by sc (binding sc h) (record { owner = owner; act = act }) ≡ binding sc h →
     (up_behind (is_up_at h owner) act ≡ true → ((is_up_at h owner ≡ true) × (inputs_of act ≡ [])) ⊎ AsksNone (present_items sc h)) →
-    SiteSuits sc.weights owner (past_by sc owner (past_of sc owner (own owner h)) (record { owner = owner; act = act })) →
+    SiteSuits sc.weights owner (past_by sc owner (past_of sc owner (own_entries owner h)) (record { owner = owner; act = act })) →
     Holds sc (h ++ record { owner = owner; act = act } ∷ [])
 quiet_holds sc h owner act was stays none out same rises_by past = record {
   now = record {
@@ -246,7 +246,7 @@ line_holds sc h number next was = record { now = now; line = let P : List Entry 
     now : Bounded sc (h ++ e ∷ [])
     now = record {
       sent = let P : List Packet → Type 0 = Each (GoesBetween sc.weights) in subst P (sym (sent_push h e ∙ append-nil (sent h))) was.now.sent;
-      sites = sites_push sc h 0 (Line number) was.now.sites (quiet_past sc 0 (past_of sc 0 (own 0 h)) (Line number) refl refl (was.now.sites 0));
+      sites = sites_push sc h 0 (Line number) was.now.sites (quiet_past sc 0 (past_of sc 0 (own_entries 0 h)) (Line number) refl refl (was.now.sites 0));
       took = at_line sc h e refl;
       binds = line_binds sc h number next was.now.binds;
     }
@@ -256,25 +256,25 @@ pub guard_holds : (sc : Scenario) (h : List Entry) (owner : ℕ) (act : Act) →
     Holds sc (h ++ record { owner = owner; act = act } ∷ [])
 guard_holds sc h zero (Line number) given was guard = line_holds sc h number guard.next was
 guard_holds sc h zero (Parts parts) given was guard = quiet_holds sc h 0 (Parts parts) was refl refl refl refl (λ up. inl (up, refl))
-    (quiet_past sc 0 (past_of sc 0 (own 0 h)) (Parts parts) refl refl (was.now.sites 0))
+    (quiet_past sc 0 (past_of sc 0 (own_entries 0 h)) (Parts parts) refl refl (was.now.sites 0))
 guard_holds sc h zero (Drop number) given was guard = quiet_holds sc h 0 (Drop number) was refl refl refl refl (λ up. inl (up, refl))
-    (quiet_past sc 0 (past_of sc 0 (own 0 h)) (Drop number) refl refl (was.now.sites 0))
+    (quiet_past sc 0 (past_of sc 0 (own_entries 0 h)) (Drop number) refl refl (was.now.sites 0))
 guard_holds sc h zero act given was guard = absurd guard
 guard_holds sc h (suc s) (Step i records outs events) given was guard =
     let P : Entry → Type 0 = λ e. Holds sc (h ++ e ∷ []) in
     subst P (sym guard.made) (step_holds sc h (suc s) i given guard.up guard.due was)
 guard_holds sc h (suc s) (Fall inputs records why) given was guard = quiet_holds sc h (suc s) (Fall inputs records why) was refl refl refl refl (λ up. absurd cc)
-    (fall_past sc (suc s) (past_of sc (suc s) (own (suc s) h)) inputs records why (was.now.sites (suc s))
+    (fall_past sc (suc s) (past_of sc (suc s) (own_entries (suc s) h)) inputs records why (was.now.sites (suc s))
     (let P : List Record → Type 0 = Each (SuitsLog sc.weights (suc s)) in subst P (sym guard.made) (fall_records sc inputs h (suc s) given guard.up guard.due was)))
 guard_holds sc h (suc s) Cut given was guard = quiet_holds sc h (suc s) Cut was refl refl refl refl (λ up. absurd cc)
-    (quiet_past sc (suc s) (past_of sc (suc s) (own (suc s) h)) Cut refl refl (was.now.sites (suc s)))
+    (quiet_past sc (suc s) (past_of sc (suc s) (own_entries (suc s) h)) Cut refl refl (was.now.sites (suc s)))
 guard_holds sc h (suc s) (Rise kept inc) given was guard = quiet_holds sc h (suc s) (Rise kept inc) was refl refl refl refl
     (λ up. inr (rising_none sc h (suc s) given guard.rising.turn))
-    (rise_past sc (suc s) (past_of sc (suc s) (own (suc s) h)) kept inc (was.now.sites (suc s)))
+    (rise_past sc (suc s) (past_of sc (suc s) (own_entries (suc s) h)) kept inc (was.now.sites (suc s)))
 guard_holds sc h (suc s) (RiseFall kept inc why) given was guard = quiet_holds sc h (suc s) (RiseFall kept inc why) was refl refl refl refl (λ up. absurd cc)
-    (rise_fall_past sc (suc s) (past_of sc (suc s) (own (suc s) h)) kept inc why (was.now.sites (suc s)))
+    (rise_fall_past sc (suc s) (past_of sc (suc s) (own_entries (suc s) h)) kept inc why (was.now.sites (suc s)))
 guard_holds sc h (suc s) Miss given was guard = quiet_holds sc h (suc s) Miss was refl refl refl refl (λ up. absurd cc)
-    (quiet_past sc (suc s) (past_of sc (suc s) (own (suc s) h)) Miss refl refl (was.now.sites (suc s)))
+    (quiet_past sc (suc s) (past_of sc (suc s) (own_entries (suc s) h)) Miss refl refl (was.now.sites (suc s)))
 guard_holds sc h (suc s) act given was guard = absurd guard
 
 pub first_holds : (sc : Scenario) → Holds sc []

@@ -17,7 +17,7 @@ use Rattle.e3_types.specs.declared.scenarios.Scenario.{Scenario}
 use Rattle.e3_world.specs.Given.{IsGiven}
 use Rattle.e3_world.specs.Items.{since_line, to_line, input_of, inputs_to, inputs_at, inputs_of, is_delivery, taken_at, turn_of, is_up_at, recover_group, due_round, RecoveryRound}
 use Rattle.e3_world.specs.Legal.{IsDue, IsNextItem, may_rise, has_rising, entry_of}
-use Rattle.e3_world.specs.Moves.{own}
+use Rattle.e3_world.specs.Moves.{own_entries}
 use Rattle.e3_world.specs.Packets.{is_line, lines, present_items, step_items, all_sites}
 use Rattle.e3_world.specs.Progress.{up_behind}
 use Rattle.e3_world.proofs.Readings.{split_push, since_push, own_same, own_other, taken_same, taken_other, up_same, up_other}
@@ -34,7 +34,7 @@ step_input _ = []
 
 -- the inputs of a site's steps behind the last line
 abbrev pub steps_taken : List Entry → ℕ → List Input
-steps_taken h s = flat_map (λ e. step_input e.act) (own s (since_line h))
+steps_taken h s = flat_map (λ e. step_input e.act) (own_entries s (since_line h))
 
 -- those among them that are items
 abbrev pub items_taken : List Entry → ℕ → List Input
@@ -154,13 +154,13 @@ turn_quiet h e s stays is none =
 -- the first line: nothing was taken
 pub at_line : (sc : Scenario) (h : List Entry) (e : Entry) → is_line e ≡ true → TookInTurn sc (h ++ e ∷ [])
 at_line sc h e is = record {
-  items = λ s up none. nothing s ∙ sym (ap (λ l. take (count_by (λ i. not (is_delivery i)) (flat_map (λ x. inputs_of x.act) (own s l))) (inputs_at sc (h ++ e ∷ []) s)) (since_at_line h e is));
+  items = λ s up none. nothing s ∙ sym (ap (λ l. take (count_by (λ i. not (is_delivery i)) (flat_map (λ x. inputs_of x.act) (own_entries s l))) (inputs_at sc (h ++ e ∷ []) s)) (since_at_line h e is));
   idle = λ s none asks. nothing s;
   rounds = λ s group some. let P : List Input → Type 0 = Each IsElect in subst P (sym (nothing s)) tt;
 }
   where
     nothing : (s : ℕ) → items_taken (h ++ e ∷ []) s ≡ []
-    nothing s = ap (λ l. filter (λ i. not (is_delivery i)) (flat_map (λ x. step_input x.act) (own s l))) (since_at_line h e is)
+    nothing s = ap (λ l. filter (λ i. not (is_delivery i)) (flat_map (λ x. step_input x.act) (own_entries s l))) (since_at_line h e is)
 
 -- an entry that is no step: the sites that are up by it were up, or no item goes to them
 pub quiet_turn : (sc : Scenario) (h : List Entry) (e : Entry) → TookInTurn sc h → is_line e ≡ false → step_input e.act ≡ [] →

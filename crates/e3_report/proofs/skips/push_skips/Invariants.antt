@@ -6,5 +6,5 @@ use Rattle.e3_report.proofs.skips.push_skips.Given as goal
 
 abbrev pub invariant-loop-item : goal.invariant-loop-item
 invariant-loop-item l =
-    l.out ++ skip_lines (meant l.names) (up_in l.ups.keys) l.during l.earlier (drop l.item-index l.items)
-    ≡ l.initial.out ++ skip_lines (meant l.names) (up_in l.ups.keys) l.during [] l.items
+    l.out ++ skip_lines (meant l.known.names) (up_in l.known.ups.keys) l.during l.earlier (drop l.item-index l.items)
+    ≡ l.initial.out ++ skip_lines (meant l.known.names) (up_in l.known.ups.keys) l.during [] l.items

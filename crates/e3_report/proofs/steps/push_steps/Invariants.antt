@@ -6,7 +6,7 @@ use Rattle.e3_report.proofs.steps.push_steps.Given as goal
 
 abbrev pub invariant-loop-at : goal.invariant-loop-at
 invariant-loop-at l = record {
-  names : l.names ≡ fold (naming_by l.scenario) no_naming (take l.at l.history);
-  ups : (s : ℕ) → up_in l.ups.keys s ≡ up_after (take l.at l.history) s;
+  names : l.known.names ≡ fold (naming_by l.scenario) no_naming (take l.at l.history);
+  ups : (s : ℕ) → up_in l.known.ups.keys s ≡ up_after (take l.at l.history) s;
   text : l.out ++ steps_after l.scenario (take l.at l.history) (drop l.at l.history) ≡ l.initial.out ++ steps_after l.scenario [] l.history;
 }

@@ -5,7 +5,7 @@ use Rattle.e3_types.specs.declared.transactions.Key.{Key}
 use Rattle.e3_types.specs.Locks.{opposes}
 use Rattle.e3_places.specs.declared.places.Place.{Place}
 use Rattle.e3_places.specs.Keeping.{place_at}
-use Rattle.e3_places.specs.Standing.{lock_for}
+use Rattle.e3_readings.specs.Requests.{lock_for}
 use Rattle.e3_site.proofs.Freedom.{lock_of, free_votes}
 use Rattle.e3_site.proofs.before.is_free_on.Goals as goal
 

@@ -1,6 +1,6 @@
 use Rattle.std.proofs.Common.{ap, ◌∙◌}
 use Rattle.e3_cards.specs.declared.card.Card.{Card}
-use Rattle.e3_cards.specs.Readings.{first_of}
+use Rattle.e3_readings.specs.Awaiting.{first_of}
 use Rattle.e3_cards.proofs.Reading.{is_card}
 use Rattle.e3_cards.proofs.cards.Cards.kept_reason.Goals as goal
 

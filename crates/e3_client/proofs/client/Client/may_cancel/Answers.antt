@@ -1,17 +1,15 @@
 -- what the step refuses, by what the client refuses
+use Rattle.std.specs.Prelude.{Option}
+use Rattle.std.proofs.Common.{subst, ◌∙◌}
+use Rattle.e3_types.specs.declared.entries.Refusal.{Refusal}
+use Rattle.e3_client.specs.Clients.{GoesUnless}
 use Rattle.e3_client.proofs.Refusing.{cancel_same}
 use Rattle.e3_client.proofs.client.Client.may_cancel.Goals as goal
 
-pub returns-in-Some-clause-rule : goal.returns-in-Some-clause-rule
-returns-in-Some-clause-rule c = λ a made at.
-    let same = cancel_same a made c.args.self.now c.args.state c.args.attempt at in
-    let told = c.refuse_cancel.ensures in
-    let is = c.in-Some.is in
-    cc
+pub returns-clause-refused : goal.returns-clause-refused
+returns-clause-refused c = subst (λ (o : Option Refusal). GoesUnless o c.unless_refused.result) c.refuse_cancel.ensures c.unless_refused.ensures
 
-pub returns-in-None-clause-rule : goal.returns-in-None-clause-rule
-returns-in-None-clause-rule c = λ a made at.
-    let same = cancel_same a made c.args.self.now c.args.state c.args.attempt at in
-    let told = c.refuse_cancel.ensures in
-    let is = c.in-None.is in
-    cc
+pub returns-clause-rule : goal.returns-clause-rule
+returns-clause-rule c = λ a made at.
+    let same = c.refuse_cancel.ensures ∙ cancel_same a made c.args.self.now c.args.state c.args.attempt at in
+    subst (λ (o : Option Refusal). GoesUnless o c.unless_refused.result) same c.unless_refused.ensures

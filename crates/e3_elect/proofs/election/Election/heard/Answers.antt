@@ -4,8 +4,8 @@ use Rattle.std.specs.Prelude.{◌==◌, Some}
 use Rattle.std.specs.List.{list_any}
 use Rattle.e3_types.specs.Same.{same_call}
 use Rattle.e3_types.specs.Sets.{has_site}
-use Rattle.e3_world.specs.declared.gatherings.Election.{Election}
-use Rattle.e3_world.specs.declared.gatherings.Named.{Named}
+use Rattle.e3_world.specs.Gatherings.{Election}
+use Rattle.e3_world.specs.declared.elections.Named.{Named}
 use Rattle.e3_world.specs.Elections.{hear}
 use Rattle.e3_elect.specs.Calling.{are_behind_own}
 use Rattle.e3_elect.proofs.Members.{has_room_behind_own, comes_behind_own}
@@ -31,7 +31,7 @@ invariant_of-self c =
 pub returns : goal.returns
 returns c =
     let counts = awaited_parts (same_call c.self.inside.call c.args.call) (has_site c.self.inside.group c.args.from) (list_any (λ h. h.site == c.args.from) c.self.inside.heard.items) cc in
-    let e : Election = record { call = c.self.inside.call; group = c.self.inside.group; heard = c.self.inside.heard.items; number = c.self.inside.number; reports = c.self.inside.reports.items } in
+    let e : Election = record { call = c.self.inside.call; group = c.self.inside.group; heard = c.self.inside.heard.items; number = c.self.inside.joined; reports = c.self.inside.reports.items } in
     let h : hear c.args.self.now c.args.from c.args.call c.args.elected ≡ Some (record e { heard = e.heard ++ record { site = c.args.from; elected = c.args.elected } ∷ [] }) =
     ap (λ (a : Election). hear a c.args.from c.args.call c.args.elected) (sym c.self.view_is) ∙ hear_new e c.args.from c.args.call c.args.elected counts.0 counts.1 counts.2 in
     let items = c.push_reserved.ensures.items in

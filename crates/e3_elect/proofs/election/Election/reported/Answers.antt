@@ -4,7 +4,7 @@ use Rattle.std.specs.Prelude.{◌==◌, Some}
 use Rattle.std.specs.List.{list_any}
 use Rattle.e3_types.specs.declared.verdicts.SiteReport.{SiteReport}
 use Rattle.e3_types.specs.Sets.{has_site}
-use Rattle.e3_world.specs.declared.gatherings.Election.{Election}
+use Rattle.e3_world.specs.Gatherings.{Election}
 use Rattle.e3_world.specs.Elections.{take_report}
 use Rattle.e3_elect.specs.Calling.{are_behind_own}
 use Rattle.e3_elect.proofs.Members.{has_room_behind_own, comes_behind_own}
@@ -30,14 +30,14 @@ invariant_of-self c =
 pub returns : goal.returns
 returns c =
     let counts = owed_parts (has_site c.self.inside.group c.args.report.site) (list_any (λ r. r.site == c.args.report.site) c.self.inside.reports.items) cc in
-    let this : is_number c.self.inside.number c.args.n ≡ true =
+    let this : is_number c.self.inside.joined c.args.n ≡ true =
     elim c.match-self.branch [
-      | in-Some w ↦ (let q : (c.args.n == w.in-Some.number) ≡ true = cc in rw w.in-Some.is q)
+      | in-Some w ↦ (let q : (c.args.n == w.in-Some.joined) ≡ true = cc in rw w.in-Some.is q)
       | in-None w ↦ cc
     ] in
-    let e : Election = record { call = c.self.inside.call; group = c.self.inside.group; heard = c.self.inside.heard.items; number = c.self.inside.number; reports = c.self.inside.reports.items } in
+    let e : Election = record { call = c.self.inside.call; group = c.self.inside.group; heard = c.self.inside.heard.items; number = c.self.inside.joined; reports = c.self.inside.reports.items } in
     let h : take_report c.args.self.now c.args.n c.args.report ≡ Some (record e { reports = e.reports ++ c.args.report ∷ [] }) =
     ap (λ (a : Election). take_report a c.args.n c.args.report) (sym c.self.view_is)
-    ∙ take_new c.self.inside.call c.self.inside.group c.self.inside.heard.items c.self.inside.number c.self.inside.reports.items c.args.n c.args.report this counts.0 counts.1 in
+    ∙ take_new c.self.inside.call c.self.inside.group c.self.inside.heard.items c.self.inside.joined c.self.inside.reports.items c.args.n c.args.report this counts.0 counts.1 in
     let items = c.push_reserved.ensures.items in
     rw h (refl, λ i. record e { reports = items i })

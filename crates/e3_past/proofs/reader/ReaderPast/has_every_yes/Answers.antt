@@ -1,7 +1,5 @@
-use Rattle.std.proofs.Common.{◌∙◌}
-use Rattle.e3_past.proofs.Recalled.{yes_is}
 use Rattle.e3_past.proofs.reader.ReaderPast.has_every_yes.Goals as goal
 
 pub returns : goal.returns
 returns g c =
-    c.has_every_yes.ensures g.K.Whose.place c.self.invariant.cards_stand c.self.invariant.input_is ∙ yes_is g.K.Whose.place c.args.t.now c.args.made.now
+    c.has_every_yes.ensures g.K.Whose.place c.self.invariant.cards_stand c.self.invariant.input_is

@@ -1,6 +1,0 @@
--- the arrivals so far
-use Rattle.std.proofs.Common.{◌≡◌, take}
-use Rattle.e3_commit.proofs.rounds.Round.copy.Given as goal
-
-abbrev pub invariant-loop-site : goal.invariant-loop-site
-invariant-loop-site l = l.arrivals.items ≡ take l.site-index l.site-items
