@@ -12,7 +12,7 @@ ghost use Rattle.e3_world.specs.Packets.{is_calm, step_items};
 
 use crate::auditor::Auditor;
 use crate::seat::{Seat, are_done};
-use e3_judge::{Prefix, Same, due_round, is_at, is_calm, is_round};
+use e3_judge::{Prefix, Same, is_at, is_calm, is_round};
 use e3_net::Net;
 use e3_readings::step_items;
 use e3_types::{Input, NoMemory, Packet, Scenario, SiteSet, Txn};
@@ -85,7 +85,7 @@ impl Auditor {
         if self.net.pending() > 0 {
             return Ok(false);
         }
-        match due_round(prefix.alloc, prefix.scenario, prefix.entries)? {
+        match prefix.due_round()? {
             Some(round) => Ok(is_round(&round, txn, group, site)),
             None => Ok(false),
         }

@@ -7,7 +7,7 @@ ghost use Rattle.e3_world.specs.Legal.{is_made, is_through};
 
 use crate::auditor::Auditor;
 use crate::seat::{are_done, have_risen};
-use e3_judge::{Prefix, begins_with_parts, due_round, is_up_at, may_rise, since_line};
+use e3_judge::{Prefix, begins_with_parts, is_up_at, may_rise, since_line};
 use e3_readings::step_items;
 use e3_types::{Item, NoMemory};
 
@@ -39,11 +39,7 @@ fn is_alone_made(prefix: &Prefix<'_>, item: &Item) -> Result<bool, NoMemory>
     ensures { IfOk result (λ b. b ≡ is_alone_made prefix.now.scenario.now prefix.now.entries.now item.now) }
 {
     match item {
-        Item::Recover { .. } => Ok(due_round(
-            prefix.alloc,
-            prefix.scenario,
-            prefix.entries,
-        )?.is_none()),
+        Item::Recover { .. } => Ok(prefix.due_round()?.is_none()),
         Item::Split { .. } => Ok(begins_with_parts(since_line(prefix.entries))),
         Item::Merge => Ok(begins_with_parts(since_line(prefix.entries))),
         Item::Crash { site } => Ok(!is_up_at(prefix.entries, *site)),

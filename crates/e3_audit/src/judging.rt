@@ -1,11 +1,11 @@
 // The judge over tables.
-ghost use Rattle.std.specs.Prelude.{◌≡◌, ◌↔◌, true, IfOk, IfSome, None, IsTrue};
-ghost use Rattle.e3_judge.specs.Checks.{first_breach, is_whole};
-ghost use Rattle.e3_judge.specs.Claims.{IsBreach};
-ghost use Rattle.e3_world.specs.Legal.{IsLegal, IsWhole, is_through};
+ghost use Rattle.std.specs.Prelude.{◌≡◌, ◌↔◌, true, IfOk, IsTrue};
+ghost use Rattle.e3_judge.specs.Checks.{is_whole};
+ghost use Rattle.e3_judge.specs.Claims.{IsJudged};
+ghost use Rattle.e3_world.specs.Legal.{IsWhole, is_through};
 
 use crate::walking::{Walked, walk};
-use e3_judge::{Breach, is_through, judge_behind, lines};
+use e3_judge::{Breach, Prefix, judge_behind, lines};
 use e3_types::{Entry, NoMemory, Scenario};
 use e3_world::History;
 use std::alloc::Global;
@@ -26,9 +26,7 @@ pub fn judge(
     scenario: &Scenario,
     history: &History,
 ) -> Result<Option<Breach>, NoMemory>
-    ensures found { IfOk result (λ b. b ≡ first_breach scenario.now history.now.entries) }
-    ensures legal { IfOk result (λ b. (b ≡ None) ↔ IsLegal scenario.now history.now.entries) }
-    ensures broken { IfOk result (λ b. IfSome b (λ x. IsBreach scenario.now history.now.entries x)) }
+    ensures { IfOk result (IsJudged scenario.now history.now.entries) }
 {
     let walked = walk(alloc, scenario, history.as_slice())?;
     judge_behind(alloc, scenario, history, walked.passed)
@@ -47,15 +45,14 @@ fn is_seen_through(
     if walked.through {
         return Ok(true);
     }
-    is_through(alloc, scenario, history)
+    let all = Prefix::of(alloc, scenario, history);
+    all.is_through()
 }
 
 /// The first breach of a history, and whether it is whole, which is legal and went through the whole scenario. It costs
 /// little more than `judge`. Want of memory is the only error.
 pub fn audit(alloc: Global, scenario: &Scenario, history: &History) -> Result<Audited, NoMemory>
-    ensures found { IfOk result (λ a. a.breach ≡ first_breach scenario.now history.now.entries) }
-    ensures legal { IfOk result (λ a. (a.breach ≡ None) ↔ IsLegal scenario.now history.now.entries) }
-    ensures broken { IfOk result (λ a. IfSome a.breach (λ x. IsBreach scenario.now history.now.entries x)) }
+    ensures judged { IfOk result (λ a. IsJudged scenario.now history.now.entries a.breach) }
     ensures is_whole { IfOk result (λ a. a.whole ≡ is_whole scenario.now history.now.entries) }
     ensures whole { IfOk result (λ a. IsTrue a.whole ↔ IsWhole scenario.now history.now.entries) }
 {

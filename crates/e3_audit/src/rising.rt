@@ -7,7 +7,7 @@ ghost use Rattle.e3_world.specs.Legal.{IsLegal};
 
 use crate::auditor::Auditor;
 use crate::seat::Seat;
-use e3_judge::{Prefix, entry_breach, log_at};
+use e3_judge::Prefix;
 use e3_site::{RebuildFault, Site, rebuild};
 use e3_types::{Act, Entry, NoMemory, Scenario};
 use std::alloc::Global;
@@ -16,7 +16,7 @@ use std::alloc::Global;
 pub(crate) fn may_come(prefix: &Prefix<'_>, entry: &Entry) -> Result<bool, NoMemory>
     ensures { IfOk result (λ b. b ≡ is_none (first_failing (checks prefix.now.scenario.now prefix.now.entries.now entry.now))) }
 {
-    Ok(entry_breach(prefix.alloc, prefix.scenario, prefix.entries, entry)?.is_none())
+    Ok(prefix.entry_breach(entry)?.is_none())
 }
 
 // The site that rose by the last of these entries. Its log is in order, so there is one; that is not proved here, but seen.
@@ -30,7 +30,8 @@ fn risen(
     requires rose { RoseLast after.now site }
     ensures { IfOk result (λ risen. IfSome risen (IsUp scenario.now after.now site)) }
 {
-    let log = log_at(alloc, scenario, after, site)?;
+    let prefix = Prefix::of(alloc, scenario, after);
+    let log = prefix.log_at(site)?;
     if log.is_empty() {
         return Ok(None);
     }

@@ -129,11 +129,7 @@ pub(crate) fn walk(
     let mut binding = nothing_bound(alloc);
     for at in 0..history.len() {
         let after = &history[..at + 1];
-        let prefix = Prefix {
-            alloc,
-            scenario,
-            entries: &history[..at],
-        };
+        let prefix = Prefix::of(alloc, scenario, &history[..at]);
         if !auditor.enter(&prefix, after, &binding, &history[at])? {
             return Ok(Walked {
                 passed: at,
@@ -142,11 +138,7 @@ pub(crate) fn walk(
         }
         bind(alloc, scenario, &history[at..at + 1], &mut binding)?;
     }
-    let through = auditor.is_through(&Prefix {
-        alloc,
-        scenario,
-        entries: history,
-    })?;
+    let through = auditor.is_through(&Prefix::of(alloc, scenario, history))?;
     Ok(Walked {
         passed: history.len(),
         through,

@@ -5,15 +5,12 @@ use Rattle.std.proofs.Common.{refl, ap, sym, subst, ◌∙◌, arith}
 use Rattle.std.proofs.lemmas.Grind.{common_steps}
 use Rattle.std.proofs.lemmas.List.Elements.{filter-append}
 use Rattle.e3_types.specs.declared.entries.Input.{Input}
-use Rattle.e3_types.specs.declared.messages.Message.{Message}
-use Rattle.e3_types.specs.declared.messages.Packet.{Packet}
 use Rattle.e3_types.specs.declared.records.Record.{Record}
 use Rattle.e3_types.specs.declared.transactions.Op.{Op}
 use Rattle.e3_types.specs.declared.transactions.State.{State}
 use Rattle.e3_types.specs.declared.transactions.State.TheVariants.{Q}
 use Rattle.e3_types.specs.declared.transactions.Txn.{Txn}
 use Rattle.e3_types.specs.declared.entries.Input.TheVariants as input
-use Rattle.e3_types.specs.declared.messages.Message.TheVariants as msg
 use Rattle.e3_types.specs.Same.{same_txn, same_state}
 use Rattle.e3_world.specs.declared.lives.Asked.{Asked}
 use Rattle.e3_world.specs.declared.lives.Moment.{Moment}
@@ -23,16 +20,13 @@ pub use Rattle.e3_readings.proofs.Arriving.{arrivals_push}
 pub use Rattle.e3_readings.proofs.Equal.{same_txn_refl, same_txn_eq}
 use Rattle.e3_readings.proofs.States.{state_is}
 use Rattle.e3_cards.specs.Seeing.{seen_of, seen_state}
-use Rattle.e3_cards.specs.Arriving.{came_of, came_by, taken_now}
+use Rattle.e3_cards.specs.Arriving.{came_of, came_by, mine, taken_of}
+use Rattle.e3_readings.specs.Bringing.{brought, issued_before}
+use Rattle.e3_readings.proofs.Bringing.{taken_is}
 
 -- the state that was seen is the log's
 pub state_seen : (t : Txn) (log : List Record) → seen_state (seen_of t log) ≡ state_of t log
 state_seen t log = sym (state_is t log)
-
--- the operation, where it is this transaction's
-abbrev pub mine : Txn → Option Asked → Option Asked
-mine t None = None
-mine t (Some a) = if same_txn t a.txn then Some a else None
 
 -- an operation is among all where it is among its transaction's
 pub among_own : (t : Txn) (a : Asked) (asked : List Asked) → same_txn t a.txn ≡ true → list_any (same_asked a) asked ≡ list_any (same_asked a) (filter (λ b. same_txn t b.txn) asked)
@@ -73,34 +67,27 @@ came_mine t asked m (Some a) = by (same_txn t a.txn) refl
         pick true = grind (arith, common_steps, filter-append, is)
         pick false = refl
 
--- what a step takes up of the transaction
-pub taken_mine : (site : ℕ) (t : Txn) (steps : List Moment) (m : Moment) → mine t (taken_up site steps m) ≡ taken_now site t (issued t steps) m.input m.told
-taken_mine site t steps m = by m.input
+-- what a step takes up of the transaction: of another one the number is nothing to it
+pub taken_mine : (site : ℕ) (t : Txn) (steps : List Moment) (m : Moment) → mine t (taken_up site steps m) ≡ taken_of site t (length (issued t steps)) m.input m.told
+taken_mine site t steps m = ap (mine t) (taken_is site steps m) ∙ by m.input
   where
-    told_by : (u : Txn) (op : Op) (r c k : Bool) → list_any is_refusal m.told ≡ r → same_txn t u ≡ c → ((key_of op).site == site) ≡ k
-        → mine t (taken_up site steps (record m { input = input.Do u op })) ≡ taken_now site t (issued t steps) (input.Do u op) m.told
-    told_by u op true true k e f g = rw (same_txn_refl u, e, f) refl
-    told_by u op true false k e f g = rw (same_txn_refl u, e, f) refl
-    told_by u op false true true e f g =
-        let other : Option Asked = Some (record { txn = u; n = suc (length (issued u steps)); op = op }) in
-        rw (same_txn_refl u, e, f, g) (rw f (ap (λ (v : Txn). Some (record { txn = u; n = suc (length (issued v steps)); op = op })) (sym (same_txn_eq t u f))))
-    told_by u op false true false e f g = rw (same_txn_refl u, e, f, g) refl
-    told_by u op false false true e f g = rw (same_txn_refl u, e, f, g) (rw f refl)
-    told_by u op false false false e f g = rw (same_txn_refl u, e, f, g) refl
+    other : (u : Txn) (op : Op) (n k : ℕ) (x : Bool) → same_txn t u ≡ false
+        → mine t (if x then Some (record { txn = u; n = suc n; op = op }) else None) ≡ mine t (if x then Some (record { txn = u; n = suc k; op = op }) else None)
+    other u op n k true e = rw e refl
+    other u op n k false e = refl
 
-    sent_by : (packet : Packet) (k : Message)
-        → mine t (taken_up site steps (record m { input = input.Deliver (record packet { msg = k }) })) ≡ taken_now site t (issued t steps) (input.Deliver (record packet { msg = k })) m.told
-    sent_by packet (msg.Do u n op) = refl
-    sent_by packet _ = refl
+    told_by : (u : Txn) (op : Op) (c : Bool) → same_txn t u ≡ c
+        → mine t (brought site (length (issued u steps)) (input.Do u op) m.told) ≡ mine t (brought site (length (issued t steps)) (input.Do u op) m.told)
+    told_by u op true e = ap (λ (v : Txn). mine t (brought site (length (issued v steps)) (input.Do u op) m.told)) (sym (same_txn_eq t u e))
+    told_by u op false e = other u op (length (issued u steps)) (length (issued t steps)) (not (list_any is_refusal m.told) && (key_of op).site == site) e
 
-    by : (i : Input) → mine t (taken_up site steps (record m { input = i })) ≡ taken_now site t (issued t steps) i m.told
-    by (input.Do u op) = told_by u op (list_any is_refusal m.told) (same_txn t u) ((key_of op).site == site) refl refl refl
-    by (input.Deliver packet) = sent_by packet packet.msg
+    by : (i : Input) → mine t (brought site (issued_before i steps) i m.told) ≡ mine t (brought site (length (issued t steps)) i m.told)
+    by (input.Do u op) = told_by u op (same_txn t u) refl
     by _ = refl
 
 -- the operations of the transaction that came, behind one more moment
 pub came_push : (site : ℕ) (t : Txn) (steps : List Moment) (m : Moment)
-    → came_of site t (steps ++ m ∷ []) ≡ came_by (seen_of t m.before) (came_of site t steps) (taken_now site t (issued t steps) m.input m.told)
+    → came_of site t (steps ++ m ∷ []) ≡ came_by (seen_of t m.before) (came_of site t steps) (taken_of site t (length (issued t steps)) m.input m.told)
 came_push site t steps m =
     ap (filter (λ a. same_txn t a.txn)) (arrivals_push site steps m)
     ∙ came_mine t (arrivals site steps) m (taken_up site steps m)

@@ -21,7 +21,8 @@ use Rattle.e3_world.specs.declared.lives.Performed.{Performed}
 use Rattle.e3_world.specs.Logs.{is_undecided}
 use Rattle.e3_world.specs.Operations.{issued, tells_op, op_told, unanswered, expected_by, expected, done}
 use Rattle.e3_cards.specs.Issued.{number_told, numbers_told, counted_in, counted_of, expect_by}
-use Rattle.e3_cards.specs.Readings.{unanswered_of, own_expected}
+use Rattle.e3_readings.specs.Expecting.{own_expected}
+use Rattle.e3_cards.specs.Readings.{unanswered_of}
 
 -- part by part
 any_flat : {X Y : Type 0} (p : Y → Bool) (q : X → Bool) (f : X → List Y) → ((x : X) → list_any p (f x) ≡ q x) → (xs : List X) → list_any p (flat_map f xs) ≡ list_any q xs

@@ -5,6 +5,7 @@ use Rattle.std.proofs.Common.{refl, ap, sym, ◌∙◌}
 use Rattle.e3_types.specs.declared.records.Record.{Record}
 use Rattle.e3_types.specs.declared.transactions.Txn.{Txn}
 use Rattle.e3_types.specs.Same.{same_txn}
+use Rattle.e3_world.specs.Items.{txn_of_record}
 use Rattle.e3_readings.proofs.Equal.{same_txn_eq}
 use Rattle.e3_cards.specs.declared.card.Card.{Card}
 use Rattle.e3_cards.specs.declared.cards.Cards.{Cards}
@@ -13,7 +14,7 @@ use Rattle.e3_cards.specs.declared.seen.Seen.{Seen}
 use Rattle.e3_cards.specs.Cards.{card_of}
 use Rattle.e3_cards.specs.Noting.{noted, unstepped}
 use Rattle.e3_cards.specs.Seeing.{seen_of}
-use Rattle.e3_cards.specs.Tables.{CardsStand, IsKnown, card_at, record_txns, txn_key}
+use Rattle.e3_cards.specs.Tables.{CardsStand, IsKnown, card_at, txn_key}
 use Rattle.e3_cards.proofs.Putting.{Inserts, put_step, same_turned}
 use Rattle.e3_cards.proofs.Seeing.{seen_push}
 use Rattle.e3_cards.proofs.Untouched.{seen_one}
@@ -41,13 +42,13 @@ turned_at ms mid ns t card rest done u known = done u known ∙ by (same_txn t u
 seen_card : (site inc : ℕ) (log : List Record) (u : Txn) (r : Record) → noted u r (card_of site u (unstepped inc log)) ≡ card_of site u (unstepped inc (log ++ r ∷ []))
 seen_card site inc log u r = ap (λ (s : Seen). record (card_of site u (unstepped inc log)) { seen = s }) (sym (seen_push u log r))
 
-other_card : (site inc : ℕ) (log : List Record) (u : Txn) (r : Record) → list_any (same_txn u) (record_txns r) ≡ false
+other_card : (site inc : ℕ) (log : List Record) (u : Txn) (r : Record) → list_any (same_txn u) (txn_of_record r) ≡ false
     → card_of site u (unstepped inc log) ≡ card_of site u (unstepped inc (log ++ r ∷ []))
 other_card site inc log u r none =
     ap (λ (s : Seen). record (card_of site u (unstepped inc log)) { seen = s }) (sym (seen_push u log r ∙ seen_one u (seen_of u log) r none))
 
 -- the cards of a log with a record of this transaction
-pub note_stands : (was now : Cards) (t : Txn) (r : Record) → record_txns r ≡ t ∷ [] → now.site ≡ was.site → now.inc ≡ was.inc → now.begins ≡ was.begins → now.calls ≡ was.calls
+pub note_stands : (was now : Cards) (t : Txn) (r : Record) → txn_of_record r ≡ t ∷ [] → now.site ≡ was.site → now.inc ≡ was.inc → now.begins ≡ was.begins → now.calls ≡ was.calls
     → ((u : Txn) → IsKnown u → card_at now.map.entries u ≡ (if same_txn t u then noted t r (card_at was.map.entries t) else card_at was.map.entries u))
     → (site inc : ℕ) (log : List Record) → CardsStand site was (unstepped inc log) → CardsStand site now (unstepped inc (log ++ r ∷ []))
 note_stands was now t r is s i b c change site inc log stands = record {
@@ -66,7 +67,7 @@ note_stands was now t r is s i b c change site inc log stands = record {
         stands.cards_are u known ∙ other_card site inc log u r (ap (list_any (same_txn u)) is ∙ none)
 
 -- and with a record of none
-pub note_none : (was : Cards) (r : Record) → record_txns r ≡ [] → (site inc : ℕ) (log : List Record) → CardsStand site was (unstepped inc log)
+pub note_none : (was : Cards) (r : Record) → txn_of_record r ≡ [] → (site inc : ℕ) (log : List Record) → CardsStand site was (unstepped inc log)
     → CardsStand site was (unstepped inc (log ++ r ∷ []))
 note_none was r is site inc log stands = record {
   site_is = stands.site_is;

@@ -25,7 +25,7 @@ use Rattle.e3_readings.specs.Electing.{election_taking, heard_all, report_by}
 use Rattle.e3_readings.proofs.Reporting.{heard_all_is, taking_is}
 use Rattle.e3_cards.specs.Cards.{moment_of, rounds_of}
 use Rattle.e3_cards.specs.Electing.{election_now, seen_report}
-use Rattle.e3_cards.specs.Seeing.{seen_of, seen_state}
+use Rattle.e3_cards.specs.Seeing.{seen_of}
 use Rattle.e3_cards.proofs.Arrivals.{state_seen}
 
 -- the moment of a step of a life

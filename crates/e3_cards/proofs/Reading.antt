@@ -1,9 +1,8 @@
 -- What is read off cards that stand for a place.
-use Rattle.std.specs.Prelude.{◌≡◌, ◌==◌, ◌&&◌, ◌++◌, if◌then◌else◌, ℕ, suc, Bool, not, List, length, fold, is_none, Option, Result, Ok, Err, IfOk}
+use Rattle.std.specs.Prelude.{◌≡◌, ◌==◌, ◌&&◌, ◌++◌, if◌then◌else◌, ℕ, suc, Bool, not, List, length, fold, is_none, Option}
 use Rattle.std.specs.List.{list_any, flat_map}
 use Rattle.std.proofs.Common.{ap, sym, ◌∙◌}
 use Rattle.e3_types.specs.declared.entries.Input.{Input}
-use Rattle.e3_types.specs.declared.list.NoMemory.{NoMemory}
 use Rattle.e3_types.specs.declared.transactions.Op.{Op}
 use Rattle.e3_types.specs.declared.transactions.Txn.{Txn}
 use Rattle.e3_types.specs.Same.{same_txn}
@@ -21,15 +20,17 @@ use Rattle.e3_world.specs.Operations.{answers, arrivals, done, expected, issued,
 use Rattle.e3_world.specs.Votes.{yes_by, yes_votes}
 use Rattle.e3_readings.specs.Gathering.{are_complete, has_every_yes, have_come, missing_yes, votes_by}
 use Rattle.e3_readings.proofs.Missing.{all_came, votes_step}
+pub use Rattle.e3_readings.proofs.Results.{ok_is}
 use Rattle.e3_cards.specs.declared.card.Card.{Card}
 use Rattle.e3_cards.specs.declared.card.Heard.{Heard}
 use Rattle.e3_cards.specs.declared.cards.Cards.{Cards}
 use Rattle.e3_cards.specs.declared.seen.Seen.{Seen}
-use Rattle.e3_cards.specs.Arriving.{answer_in, came_by, has_heard, heard_in, heard_of, performed_in, taken_now}
+use Rattle.e3_cards.specs.Arriving.{answer_in, came_by, has_heard, heard_in, heard_of, performed_in, taken_of}
 use Rattle.e3_cards.specs.Cards.{card_of}
 use Rattle.e3_cards.specs.Issued.{number_told, numbers_told}
+use Rattle.e3_readings.specs.Expecting.{own_expected}
 use Rattle.e3_readings.specs.Awaiting.{first_of, is_number, is_at_site, is_awaited}
-use Rattle.e3_cards.specs.Readings.{unanswered_of, expected_of, own_expected, done_of, done_with}
+use Rattle.e3_cards.specs.Readings.{unanswered_of, expected_of, done_of, done_with}
 use Rattle.e3_cards.specs.Seeing.{seen_of, seen_by}
 use Rattle.e3_cards.specs.Tables.{IsKnown, CardsStand, card_at, call_now}
 use Rattle.e3_cards.proofs.Answered.{done_is, waits_is, answer_is, waiting_is}
@@ -38,11 +39,6 @@ use Rattle.e3_cards.proofs.Counting.{unanswered_is, expected_is}
 use Rattle.e3_cards.proofs.Keeping.{flat_push}
 use Rattle.e3_cards.proofs.Progress.{lived, yes_step}
 use Rattle.e3_cards.proofs.Seeing.{seen_more}
-
--- the same answer by another name
-pub ok_is : {X : Type 0} (r : Result X NoMemory) (x y : X) → x ≡ y → IfOk r (λ o. o ≡ x) → IfOk r (λ o. o ≡ y)
-ok_is (Ok o) x y e h = h ∙ e
-ok_is (Err f) x y e h = tt
 
 -- the card that is found is the place's
 pub is_card : (cards : Cards) (t : Txn) (c : Card) (a : At) → c ≡ card_at cards.map.entries t → IsKnown t → CardsStand a.site cards a.life → c ≡ card_of a.site t a.life
@@ -72,7 +68,7 @@ done_now site t a i made c own input e =
     ap (λ (k : Card). done_with site t k i made) e
     ∙ ap (λ (n : ℕ). done_with n t (card_of a.site t a.life) i made) own
     ∙ ap (λ (x : Input). done_with a.site t (card_of a.site t a.life) x made) (sym input)
-    ∙ ap (λ (l : List Heard). flat_map (performed_in l) (came_by (seen_of t a.life.log) (card_of a.site t a.life).came (taken_now a.site t (issued t a.life.steps) a.input made.told))) heard
+    ∙ ap (λ (l : List Heard). flat_map (performed_in l) (came_by (seen_of t a.life.log) (card_of a.site t a.life).came (taken_of a.site t (length (issued t a.life.steps)) a.input made.told))) heard
     ∙ ap (λ (l : List Asked). flat_map (performed_in (heard_of t (steps_now a made))) l) came
     ∙ done_is a.site t (steps_now a made)
 

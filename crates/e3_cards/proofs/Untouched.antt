@@ -1,5 +1,5 @@
 -- A step changes the cards of the transactions that it names, and no others.
-use Rattle.std.specs.Prelude.{◌≡◌, ◌==◌, ◌||◌, ◌++◌, ◌∷◌, [], ℕ, Bool, true, false, List, fold, Option, Some, None}
+use Rattle.std.specs.Prelude.{◌≡◌, ◌==◌, ◌&&◌, ◌||◌, ◌++◌, ◌∷◌, [], if◌then◌else◌, ℕ, suc, Bool, true, false, not, List, length, fold, Option, Some, None}
 use Rattle.std.specs.List.{list_any, flat_map}
 use Rattle.std.specs.BTreeMap.{is_at}
 use Rattle.std.proofs.Common.{refl, ap, sym, ◌∙◌, arith}
@@ -25,21 +25,24 @@ use Rattle.e3_types.proofs.SameSites.{same_numbers_refl, same_numbers_eq}
 use Rattle.e3_world.specs.Gatherings.{Election, Round, Rounds}
 use Rattle.e3_world.specs.declared.lives.SiteStep.{SiteStep}
 use Rattle.e3_world.specs.Elections.{is_decision, is_join, tells_verdict}
-use Rattle.e3_world.specs.Operations.{issued_in, reason_in}
+use Rattle.e3_world.specs.Items.{txn_of_record}
+use Rattle.e3_world.specs.Logs.{key_of}
+use Rattle.e3_world.specs.Operations.{is_refusal, issued_in, reason_in}
 use Rattle.e3_world.specs.Rounds.{round_by, round_by_record}
 use Rattle.e3_world.specs.Sound.{txn_in}
+use Rattle.e3_readings.specs.Bringing.{asked_in}
 use Rattle.e3_readings.specs.Electing.{election_behind, election_taking}
 use Rattle.e3_readings.specs.Gathering.{votes_by}
 use Rattle.e3_readings.proofs.Tests.{none_left, none_right}
 use Rattle.e3_cards.specs.declared.card.Card.{Card}
 use Rattle.e3_cards.specs.declared.card.Counted.{Counted}
 use Rattle.e3_cards.specs.declared.seen.Seen.{Seen}
-use Rattle.e3_cards.specs.Arriving.{came_by, taken_now, heard_in, heard_told, heard_sent}
+use Rattle.e3_cards.specs.Arriving.{came_by, mine, taken_of, heard_in, heard_told, heard_sent}
 use Rattle.e3_cards.specs.Cards.{card_by, moment_of}
 use Rattle.e3_cards.specs.Electing.{election_now, election_upon, seen_report}
 use Rattle.e3_cards.specs.Issued.{number_told, counted_in}
 use Rattle.e3_cards.specs.Seeing.{seen_by}
-use Rattle.e3_cards.specs.Tables.{txn_key, key_cmp, IsKnown, named, input_txns, record_txns, told_txns, sent_txns}
+use Rattle.e3_cards.specs.Tables.{txn_key, key_cmp, IsKnown, named, input_txns, told_txns, sent_txns}
 
 -- sets with equal bits are equal
 same_known : (t u : Txn) → IsKnown t → IsKnown u → (bits_of t.sites == bits_of u.sites) ≡ same_numbers t.sites u.sites
@@ -57,17 +60,17 @@ unvoted : (s : Seen) → record s { voted = s.voted || false } ≡ s
 unvoted s = let v : (s.voted || false) ≡ s.voted = grind (arith, common_steps) in λ i. record s { voted = v i }
 
 -- a record of other transactions says nothing of this one
-pub seen_one : (t : Txn) (s : Seen) (r : Record) → list_any (same_txn t) (record_txns r) ≡ false → seen_by t s r ≡ s
+pub seen_one : (t : Txn) (s : Seen) (r : Record) → list_any (same_txn t) (txn_of_record r) ≡ false → seen_by t s r ≡ s
 seen_one t s (log.Vote u ops) e = rw (none_left (same_txn t u) false e) (unvoted s)
 seen_one t s (log.Join u n) e = rw (none_left (same_txn t u) false e) (unvoted s)
 seen_one t s (log.Attempt u n dir) e = rw (none_left (same_txn t u) false e) (unvoted s)
 seen_one t s (log.Decision u dir) e = rw (none_left (same_txn t u) false e) (unvoted s)
 seen_one t s _ e = unvoted s
 
-seen_all : (t : Txn) (s : Seen) (rs : List Record) → list_any (same_txn t) (flat_map record_txns rs) ≡ false → fold (seen_by t) s rs ≡ s
+seen_all : (t : Txn) (s : Seen) (rs : List Record) → list_any (same_txn t) (flat_map txn_of_record rs) ≡ false → fold (seen_by t) s rs ≡ s
 seen_all t s [] e = refl
 seen_all t s (r ∷ rs) e =
-    let parts = sym (list_any-append (same_txn t) (record_txns r) (flat_map record_txns rs)) ∙ e in
+    let parts = sym (list_any-append (same_txn t) (txn_of_record r) (flat_map txn_of_record rs)) ∙ e in
     let first = none_left _ _ parts in
     let rest = none_right _ _ parts in
     ap (λ (x : Seen). fold (seen_by t) x rs) (seen_one t s r first) ∙ seen_all t s rs rest
@@ -96,14 +99,18 @@ issued_one : (t : Txn) (i : Input) (events : List Told) → list_any (same_txn t
 issued_one t (input.Do u op) events e = rw (none_left (same_txn t u) false e) refl
 issued_one t _ events e = refl
 
-taken_one : (site : ℕ) (t : Txn) (ops : List Op) (i : Input) (events : List Told) → list_any (same_txn t) (input_txns i) ≡ false → taken_now site t ops i events ≡ None
-taken_one site t ops (input.Do u op) events e = rw (none_left (same_txn t u) false e) refl
-taken_one site t ops (input.Deliver packet) events e = by packet.msg e
+taken_one : (site : ℕ) (t : Txn) (count : ℕ) (i : Input) (events : List Told) → list_any (same_txn t) (input_txns i) ≡ false → taken_of site t count i events ≡ None
+taken_one site t count (input.Do u op) events e = by (not (list_any is_refusal events) && (key_of op).site == site)
   where
-    by : (k : Message) → list_any (same_txn t) (input_txns (input.Deliver (record packet { msg = k }))) ≡ false → taken_now site t ops (input.Deliver (record packet { msg = k })) events ≡ None
+    by : (x : Bool) → mine t (if x then Some (record { txn = u; n = suc count; op = op }) else None) ≡ None
+    by true = rw (none_left (same_txn t u) false e) refl
+    by false = refl
+taken_one site t count (input.Deliver packet) events e = by packet.msg e
+  where
+    by : (k : Message) → list_any (same_txn t) (input_txns (input.Deliver (record packet { msg = k }))) ≡ false → mine t (asked_in k) ≡ None
     by (msg.Do u n op) e = rw (none_left (same_txn t u) false e) refl
     by _ e = refl
-taken_one site t ops _ events e = refl
+taken_one site t count _ events e = refl
 
 counted_one : (t : Txn) (i : Input) (events : List Told) → list_any (same_txn t) (input_txns i) ≡ false → counted_in t i events ≡ []
 counted_one t (input.Deliver packet) events e = by packet.msg e
@@ -136,21 +143,21 @@ votes_one site t was s e = by s.input e
     by (input.Deliver packet) e = by_msg packet packet.msg e
     by _ e = refl
 
-round_one : (site : ℕ) (t : Txn) (group : List ℕ) (was : Option Round) (r : Record) → list_any (same_txn t) (record_txns r) ≡ false → round_by_record site t group was r ≡ was
+round_one : (site : ℕ) (t : Txn) (group : List ℕ) (was : Option Round) (r : Record) → list_any (same_txn t) (txn_of_record r) ≡ false → round_by_record site t group was r ≡ was
 round_one site t group was (log.Attempt u n dir) e = rw (none_left (same_txn t u) false e) refl
 round_one site t group was (log.Join u n) e = rw (none_left (same_txn t u) false e) refl
 round_one site t group was (log.Decision u dir) e = rw (none_left (same_txn t u) false e) refl
 round_one site t group was _ e = refl
 
-round_all : (site : ℕ) (t : Txn) (group : List ℕ) (was : Option Round) (rs : List Record) → list_any (same_txn t) (flat_map record_txns rs) ≡ false
+round_all : (site : ℕ) (t : Txn) (group : List ℕ) (was : Option Round) (rs : List Record) → list_any (same_txn t) (flat_map txn_of_record rs) ≡ false
     → fold (round_by_record site t group) was rs ≡ was
 round_all site t group was [] e = refl
 round_all site t group was (r ∷ rs) e =
-    let parts = sym (list_any-append (same_txn t) (record_txns r) (flat_map record_txns rs)) ∙ e in
+    let parts = sym (list_any-append (same_txn t) (txn_of_record r) (flat_map txn_of_record rs)) ∙ e in
     ap (λ (x : Option Round). fold (round_by_record site t group) x rs) (round_one site t group was r (none_left _ _ parts))
     ∙ round_all site t group was rs (none_right _ _ parts)
 
-rounds_one : (site : ℕ) (t : Txn) (was : Rounds) (s : SiteStep) → list_any (same_txn t) (input_txns s.input) ≡ false → list_any (same_txn t) (flat_map record_txns s.records) ≡ false
+rounds_one : (site : ℕ) (t : Txn) (was : Rounds) (s : SiteStep) → list_any (same_txn t) (input_txns s.input) ≡ false → list_any (same_txn t) (flat_map txn_of_record s.records) ≡ false
     → round_by site t was (moment_of s) ≡ was
 rounds_one site t was s e none = by s.input e
   where
@@ -180,11 +187,11 @@ none_any p f g h (x ∷ xs) e =
     let rest = none_any p f g h xs (none_right _ _ parts) in
     rw (first, rest) refl
 
-decision_one : (t : Txn) (r : Record) → list_any (same_txn t) (record_txns r) ≡ false → is_decision t r ≡ false
+decision_one : (t : Txn) (r : Record) → list_any (same_txn t) (txn_of_record r) ≡ false → is_decision t r ≡ false
 decision_one t (log.Decision u dir) e = none_left (same_txn t u) false e
 decision_one t _ e = refl
 
-join_one : (t : Txn) (r : Record) → list_any (same_txn t) (record_txns r) ≡ false → is_join t r ≡ false
+join_one : (t : Txn) (r : Record) → list_any (same_txn t) (txn_of_record r) ≡ false → is_join t r ≡ false
 join_one t (log.Join u n) e = none_left (same_txn t u) false e
 join_one t _ e = refl
 
@@ -193,15 +200,15 @@ verdict_one t (told.Verdict u n v) e = none_left (same_txn t u) false e
 verdict_one t _ e = refl
 
 election_one : (site : ℕ) (call : Call) (t : Txn) (seen : Seen) (was : Option Election) (s : SiteStep) → list_any (same_txn t) (input_txns s.input) ≡ false
-    → list_any (same_txn t) (flat_map record_txns s.records) ≡ false → list_any (same_txn t) (flat_map told_txns s.told) ≡ false
+    → list_any (same_txn t) (flat_map txn_of_record s.records) ≡ false → list_any (same_txn t) (flat_map told_txns s.told) ≡ false
     → election_now site call t seen was s ≡ was
 election_one site call t seen was s e records events = upon ∙ by s.input e
   where
     undecided : list_any (is_decision t) s.records ≡ false
-    undecided = none_any (same_txn t) (is_decision t) record_txns (decision_one t) s.records records
+    undecided = none_any (same_txn t) (is_decision t) txn_of_record (decision_one t) s.records records
 
     no_join : list_any (is_join t) s.records ≡ false
-    no_join = none_any (same_txn t) (is_join t) record_txns (join_one t) s.records records
+    no_join = none_any (same_txn t) (is_join t) txn_of_record (join_one t) s.records records
 
     no_verdict : list_any (tells_verdict t) s.told ≡ false
     no_verdict = none_any (same_txn t) (tells_verdict t) told_txns (verdict_one t) s.told events
@@ -227,9 +234,9 @@ election_one site call t seen was s e records events = upon ∙ by s.input e
 -- a transaction that a step does not name keeps its card
 pub untouched : (site : ℕ) (call : Call) (t : Txn) (c : Card) (s : SiteStep) → list_any (same_txn t) (named s) ≡ false → card_by site call t c s ≡ c
 untouched site call t c s e =
-    let most = sym (list_any-append (same_txn t) (input_txns s.input ++ flat_map record_txns s.records ++ flat_map told_txns s.told) (flat_map sent_txns s.outs)) ∙ e in
-    let some = sym (list_any-append (same_txn t) (input_txns s.input ++ flat_map record_txns s.records) (flat_map told_txns s.told)) ∙ none_left _ _ most in
-    let first = sym (list_any-append (same_txn t) (input_txns s.input) (flat_map record_txns s.records)) ∙ none_left _ _ some in
+    let most = sym (list_any-append (same_txn t) (input_txns s.input ++ flat_map txn_of_record s.records ++ flat_map told_txns s.told) (flat_map sent_txns s.outs)) ∙ e in
+    let some = sym (list_any-append (same_txn t) (input_txns s.input ++ flat_map txn_of_record s.records) (flat_map told_txns s.told)) ∙ none_left _ _ most in
+    let first = sym (list_any-append (same_txn t) (input_txns s.input) (flat_map txn_of_record s.records)) ∙ none_left _ _ some in
     let of_input = none_left _ _ first in
     let of_records = none_right _ _ first in
     let of_told = none_right _ _ some in
@@ -241,7 +248,7 @@ untouched site call t c s e =
     let counts : c.counted ++ counted_in t s.input s.told ≡ c.counted = ap (λ (l : List Counted). c.counted ++ l) (counted_one t s.input s.told of_input) ∙ append-nil c.counted in
     let why : c.reasons ++ flat_map (reason_in t) s.told ≡ c.reasons =
     ap (λ (l : List Refusal). c.reasons ++ l) (none_flat (same_txn t) (reason_in t) told_txns (reason_one t) s.told of_told) ∙ append-nil c.reasons in
-    let came : came_by c.seen c.came (taken_now site t c.issued s.input s.told) ≡ c.came = ap (came_by c.seen c.came) (taken_one site t c.issued s.input s.told of_input) in
+    let came : came_by c.seen c.came (taken_of site t (length c.issued) s.input s.told) ≡ c.came = ap (came_by c.seen c.came) (taken_one site t (length c.issued) s.input s.told of_input) in
     let events : flat_map (heard_told t) s.told ≡ [] = none_flat (same_txn t) (heard_told t) told_txns (told_one t) s.told of_told in
     let packets : flat_map (heard_sent t) s.outs ≡ [] = none_flat (same_txn t) (heard_sent t) sent_txns (sent_one t) s.outs of_outs in
     let heard : c.heard ++ heard_in t s.told s.outs ≡ c.heard = rw (events, packets) (append-nil c.heard) in

@@ -1,23 +1,20 @@
 -- The operations of a transaction that came to a site, and their answers, as a card keeps them.
-use Rattle.std.specs.Prelude.{◌==◌, ◌&&◌, ◌++◌, ◌∷◌, [], if◌then◌else◌, ℕ, suc, Bool, not, List, length, filter, Option, Some, None}
+use Rattle.std.specs.Prelude.{◌==◌, ◌++◌, ◌∷◌, [], if◌then◌else◌, ℕ, Bool, List, filter, Option, Some, None}
 use Rattle.std.specs.List.{list_any, flat_map}
 use Rattle.e3_types.specs.declared.entries.Input.{Input}
 use Rattle.e3_types.specs.declared.entries.Told.{Told}
 use Rattle.e3_types.specs.declared.messages.Message.{Message}
 use Rattle.e3_types.specs.declared.messages.Packet.{Packet}
 use Rattle.e3_types.specs.declared.transactions.Answer.{Answer}
-use Rattle.e3_types.specs.declared.transactions.Op.{Op}
-use Rattle.e3_types.specs.declared.transactions.State.TheVariants.{Q}
 use Rattle.e3_types.specs.declared.transactions.Txn.{Txn}
-use Rattle.e3_types.specs.declared.entries.Input.TheVariants as input
 use Rattle.e3_types.specs.declared.entries.Told.TheVariants as told
 use Rattle.e3_types.specs.declared.messages.Message.TheVariants as msg
-use Rattle.e3_types.specs.Same.{same_txn, same_state}
+use Rattle.e3_types.specs.Same.{same_txn}
 use Rattle.e3_world.specs.declared.lives.Asked.{Asked}
 use Rattle.e3_world.specs.declared.lives.Moment.{Moment}
 use Rattle.e3_world.specs.declared.lives.Performed.{Performed}
-use Rattle.e3_world.specs.Logs.{key_of}
-use Rattle.e3_world.specs.Operations.{is_refusal, arrivals, same_asked}
+use Rattle.e3_world.specs.Operations.{arrivals}
+use Rattle.e3_readings.specs.Bringing.{brought, is_new_to}
 use Rattle.e3_cards.specs.declared.card.Heard.{Heard}
 use Rattle.e3_cards.specs.declared.seen.Seen.{Seen}
 use Rattle.e3_cards.specs.Seeing.{seen_state}
@@ -47,22 +44,19 @@ heard_of t steps = flat_map (λ m. heard_in t m.told m.outs) steps
 abbrev pub came_of : ℕ → Txn → List Moment → List Asked
 came_of site t steps = filter (λ a. same_txn t a.txn) (arrivals site steps)
 
--- the operation of the transaction that a step takes up at its site, where these were issued before
-abbrev pub taken_now : ℕ → Txn → List Op → Input → List Told → Option Asked
-taken_now site t ops (input.Deliver packet) events = by packet.msg
-  where
-    by : Message → Option Asked
-    by (msg.Do u n op) = if same_txn t u then Some (record { txn = u; n = n; op = op }) else None
-    by _ = None
-taken_now site t ops (input.Do u op) events =
-    if same_txn t u && not (list_any is_refusal events) && (key_of op).site == site
-    then Some (record { txn = u; n = suc (length ops); op = op }) else None
-taken_now site t ops _ events = None
+-- the operation, where it is this transaction's
+abbrev pub mine : Txn → Option Asked → Option Asked
+mine t None = None
+mine t (Some a) = if same_txn t a.txn then Some a else None
+
+-- the operation of the transaction that a step takes up at its site, where so many of it were issued before
+abbrev pub taken_of : ℕ → Txn → ℕ → Input → List Told → Option Asked
+taken_of site t count i events = mine t (brought site count i events)
 
 -- the operations that came, with the one that is taken up now: it counts in q, and once
 abbrev pub came_by : Seen → List Asked → Option Asked → List Asked
 came_by s came None = came
-came_by s came (Some a) = if same_state (seen_state s) Q && not (list_any (same_asked a) came) then came ++ a ∷ [] else came
+came_by s came (Some a) = if is_new_to (seen_state s) came a then came ++ a ∷ [] else came
 
 -- the first answer to the operation of this number, if there is one, with the operation
 abbrev pub performed_in : List Heard → Asked → List Performed

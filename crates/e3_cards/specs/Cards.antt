@@ -1,6 +1,6 @@
 -- The card of a transaction: all that the rules of a step read of it, kept beside each other; and what one more step makes
 -- of a card. The step is told by the card alone, so a site need not keep its log and its steps.
-use Rattle.std.specs.Prelude.{◌++◌, [], ℕ, List, fold, None}
+use Rattle.std.specs.Prelude.{◌++◌, [], ℕ, List, length, fold, None}
 use Rattle.std.specs.List.{flat_map}
 use Rattle.e3_types.specs.declared.transactions.Call.{Call}
 use Rattle.e3_types.specs.declared.transactions.Txn.{Txn}
@@ -16,7 +16,7 @@ use Rattle.e3_readings.specs.Gathering.{missing_yes, votes_by}
 use Rattle.e3_cards.specs.declared.card.Card.{Card}
 use Rattle.e3_cards.specs.Seeing.{seen_of, seen_by, unseen}
 use Rattle.e3_cards.specs.Issued.{numbers_told, number_told, counted_of, counted_in}
-use Rattle.e3_cards.specs.Arriving.{came_of, came_by, heard_of, heard_in, taken_now}
+use Rattle.e3_cards.specs.Arriving.{came_of, came_by, heard_of, heard_in, taken_of}
 use Rattle.e3_cards.specs.Electing.{election_now}
 
 -- the group and the round of a transaction at a site
@@ -65,7 +65,7 @@ card_by site call t was s = record {
   answered = was.answered ++ flat_map (number_told t) s.told;
   counted = was.counted ++ counted_in t s.input s.told;
   reasons = was.reasons ++ flat_map (reason_in t) s.told;
-  came = came_by was.seen was.came (taken_now site t was.issued s.input s.told);
+  came = came_by was.seen was.came (taken_of site t (length was.issued) s.input s.told);
   heard = was.heard ++ heard_in t s.told s.outs;
   votes = votes_by site t was.votes s.input s.told;
   election = election_now site call t was.seen was.election s;

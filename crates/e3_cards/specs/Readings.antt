@@ -1,5 +1,5 @@
 -- What the rules of a step read of a transaction, by its card and by the step so far.
-use Rattle.std.specs.Prelude.{◌==◌, ◌&&◌, ◌++◌, ◌∷◌, [], if◌then◌else◌, ℕ, zero, suc, Bool, false, not, List, length, fold, Option, Some, None}
+use Rattle.std.specs.Prelude.{◌==◌, ◌&&◌, ◌++◌, if◌then◌else◌, ℕ, zero, suc, Bool, not, List, length, fold, Option, Some, None}
 use Rattle.std.specs.List.{list_any, flat_map}
 use Rattle.e3_types.specs.declared.entries.Input.{Input}
 use Rattle.e3_types.specs.declared.transactions.Txn.{Txn}
@@ -7,7 +7,7 @@ use Rattle.e3_world.specs.declared.lives.Expected.{Expected}
 use Rattle.e3_world.specs.declared.lives.Made.{Made}
 use Rattle.e3_world.specs.declared.lives.Performed.{Performed}
 use Rattle.e3_cards.specs.declared.card.Card.{Card}
-use Rattle.e3_cards.specs.Arriving.{came_by, heard_in, taken_now, performed_in}
+use Rattle.e3_cards.specs.Arriving.{came_by, heard_in, taken_of, performed_in}
 use Rattle.e3_cards.specs.Issued.{expect_by}
 
 -- the number of the unanswered operation: the last of so many that were issued, where the transaction is undecided and
@@ -20,11 +20,6 @@ unanswered_of (suc n) told undecided = if undecided && not (list_any (λ m. suc 
 abbrev pub expected_of : ℕ → Card → Expected
 expected_of site c = fold (expect_by site) (record { inc = 0; count = 0 }) c.counted
 
--- what is expected of the coordinator itself, which has done these in this incarnation
-abbrev pub own_expected : ℕ → List Performed → Expected
-own_expected inc [] = record { inc = 0; count = 0 }
-own_expected inc (p ∷ ps) = record { inc = inc; count = length (p ∷ ps) }
-
 -- the operations that are done, by a card
 abbrev pub done_of : Card → List Performed
 done_of c = flat_map (performed_in c.heard) c.came
@@ -32,4 +27,4 @@ done_of c = flat_map (performed_in c.heard) c.came
 -- the operations that are done, by a card and the step so far
 abbrev pub done_with : ℕ → Txn → Card → Input → Made → List Performed
 done_with site t c i made =
-    flat_map (performed_in (c.heard ++ heard_in t made.told made.outs)) (came_by c.seen c.came (taken_now site t c.issued i made.told))
+    flat_map (performed_in (c.heard ++ heard_in t made.told made.outs)) (came_by c.seen c.came (taken_of site t (length c.issued) i made.told))

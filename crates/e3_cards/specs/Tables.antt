@@ -9,18 +9,17 @@ use Rattle.e3_types.specs.declared.entries.Input.{Input}
 use Rattle.e3_types.specs.declared.entries.Told.{Told}
 use Rattle.e3_types.specs.declared.messages.Message.{Message}
 use Rattle.e3_types.specs.declared.messages.Packet.{Packet}
-use Rattle.e3_types.specs.declared.records.Record.{Record}
 use Rattle.e3_types.specs.declared.transactions.Call.{Call}
 use Rattle.e3_types.specs.declared.transactions.Txn.{Txn}
 use Rattle.e3_types.specs.declared.entries.Input.TheVariants as input
 use Rattle.e3_types.specs.declared.entries.Told.TheVariants as told
 use Rattle.e3_types.specs.declared.messages.Message.TheVariants as msg
-use Rattle.e3_types.specs.declared.records.Record.TheVariants as log
 use Rattle.e3_types.specs.Same.{same_txn}
 use Rattle.e3_types.specs.Sites.{sites_of, bits_of}
 use Rattle.e3_world.specs.declared.lives.Life.{Life}
 use Rattle.e3_world.specs.declared.lives.SiteStep.{SiteStep}
 use Rattle.e3_world.specs.Elections.{is_elect}
+use Rattle.e3_world.specs.Items.{txn_of_record}
 use Rattle.e3_world.specs.Sound.{txn_in}
 use Rattle.e3_world.specs.Steps.{is_begin}
 use Rattle.e3_cards.specs.declared.card.Card.{Card}
@@ -68,14 +67,6 @@ input_txns (input.Expire t) = t ∷ []
 input_txns (input.Elect t group) = t ∷ []
 input_txns (input.Deliver packet) = txn_in packet.msg ∷ []
 
--- the transaction of a record
-abbrev pub record_txns : Record → List Txn
-record_txns (log.Vote t ops) = t ∷ []
-record_txns (log.Join t n) = t ∷ []
-record_txns (log.Attempt t n dir) = t ∷ []
-record_txns (log.Decision t dir) = t ∷ []
-record_txns _ = []
-
 -- the transaction of an event that a card keeps
 abbrev pub told_txns : Told → List Txn
 told_txns (told.Op t n answer) = t ∷ []
@@ -94,7 +85,7 @@ sent_txns packet = by packet.msg
 
 -- the transactions that a step names where a card may change
 abbrev pub named : SiteStep → List Txn
-named s = input_txns s.input ++ flat_map record_txns s.records ++ flat_map told_txns s.told ++ flat_map sent_txns s.outs
+named s = input_txns s.input ++ flat_map txn_of_record s.records ++ flat_map told_txns s.told ++ flat_map sent_txns s.outs
 
 -- the transactions with one more, each once
 abbrev pub add_txn : List Txn → Txn → List Txn

@@ -1,46 +1,35 @@
 // The operations of a transaction that came to the site, and their answers, behind one more step.
-ghost use Rattle.std.specs.Prelude.{◌≡◌, ◌++◌, ◌∷◌, [], IfOk};
-ghost use Rattle.std.specs.List.{flat_map};
-ghost use Rattle.e3_cards.specs.Arriving.{came_by, taken_now, heard_told, heard_sent, heard_in};
+ghost use Rattle.std.specs.Prelude.{◌≡◌, ◌++◌, IfOk};
+ghost use Rattle.e3_cards.specs.Arriving.{came_by, mine, taken_of, heard_told, heard_sent, heard_in};
 
 use crate::card::Heard;
 use crate::seen::{Seen, seen_state};
-use e3_readings::{has_refusal, is_among, key_of, number_behind};
-use e3_types::{Input, List, Message, NoMemory, Op, Packet, State, Told, Txn};
+use e3_readings::{brought, is_new_to};
+use e3_types::{Input, List, Message, NoMemory, Packet, Told, Txn};
 use e3_world::Asked;
 
-/// The operation of the transaction that a step takes up at its site.
-pub(crate) fn taken_now(
+// The operation, where it is this transaction's.
+fn mine(t: &Txn, taken: Option<Asked>) -> Option<Asked>
+    ensures { result ≡ mine t.now taken }
+{
+    match taken {
+        Some(a) => { if t.is_same(&a.txn) { Some(a) } else { None } }
+        None => None,
+    }
+}
+
+/// The operation of the transaction that a step takes up at its site, where so many of it were issued before.
+pub(crate) fn taken_of(
     site: u32,
     t: &Txn,
-    issued: &[Op],
+    count: u64,
     input: &Input,
     events: &[Told],
 ) -> Result<Option<Asked>, NoMemory>
-    ensures { IfOk result (λ o. o ≡ taken_now site t.now issued.now input.now events.now) }
+    ensures { IfOk result (λ o. o ≡ taken_of site t.now count input.now events.now) }
 {
-    match input {
-        Input::Deliver { packet } => match &packet.msg {
-            Message::Do { txn, n, op } if t.is_same(txn) => Ok(Some(Asked {
-                txn: *txn,
-                n: *n,
-                op: op.copy(),
-            })),
-            _ => Ok(None),
-        },
-        Input::Do { txn, op } => {
-            if t.is_same(txn) && !has_refusal(events) && key_of(op).site == site {
-                Ok(Some(Asked {
-                    txn: *txn,
-                    n: number_behind(issued.len() as u64)?,
-                    op: op.copy(),
-                }))
-            } else {
-                Ok(None)
-            }
-        }
-        _ => Ok(None),
-    }
+    let taken = brought(site, count, input, events)?;
+    Ok(mine(t, taken))
 }
 
 /// Adds the operation that is taken up, where the transaction is in q and it did not come before.
@@ -53,7 +42,7 @@ pub(crate) fn add_came(
 {
     match taken {
         Some(a) => {
-            if seen_state(s) == State::Q && !is_among(&a, came.as_slice()) {
+            if is_new_to(seen_state(s), came.as_slice(), &a) {
                 came.push(a)
             } else {
                 Ok(())

@@ -1,5 +1,5 @@
 // What a step makes of the cards.
-ghost use Rattle.std.specs.Prelude.{◌≡◌, ◌++◌, ◌∷◌, [], if◌then◌else◌, ℕ, IfOk, OnOk, map, fold, suc};
+ghost use Rattle.std.specs.Prelude.{◌≡◌, if◌then◌else◌, ℕ, IfOk, OnOk, map, fold, suc};
 ghost use Rattle.e3_types.specs.declared.transactions.Txn.{Txn as SomeTxn};
 ghost use Rattle.e3_world.specs.declared.lives.Life.{Life};
 ghost use Rattle.e3_world.specs.Elections.{is_elect};

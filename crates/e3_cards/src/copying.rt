@@ -68,57 +68,21 @@ pub(crate) fn copy_election(
     }
 }
 
-// The operations that were issued, and those that were answered, are those of the card.
-fn copy_issued(alloc: Global, card: &Card, out: &mut Card) -> Result<(), NoMemory>
-    ensures { IfOk result (λ u. out.new ≡ record out.old { issued = card.now.issued; answered = card.now.answered }) }
-{
-    out.issued = copy_ops(alloc, card.issued.as_slice())?;
-    out.answered = copy_all(alloc, card.answered.as_slice())?;
-    Ok(())
-}
-
-// The answers that count, and the reasons, are those of the card.
-fn copy_counted(alloc: Global, card: &Card, out: &mut Card) -> Result<(), NoMemory>
-    ensures { IfOk result (λ u. out.new ≡ record out.old { counted = card.now.counted; reasons = card.now.reasons }) }
-{
-    out.counted = copy_all(alloc, card.counted.as_slice())?;
-    out.reasons = copy_all(alloc, card.reasons.as_slice())?;
-    Ok(())
-}
-
-// The operations that came, and their answers, are those of the card.
-fn copy_arrived(alloc: Global, card: &Card, out: &mut Card) -> Result<(), NoMemory>
-    ensures { IfOk result (λ u. out.new ≡ record out.old { came = card.now.came; heard = card.now.heard }) }
-{
-    out.came = copy_came(alloc, card.came.as_slice())?;
-    out.heard = copy_heard(alloc, card.heard.as_slice())?;
-    Ok(())
-}
-
-// The votes, the election and the round in progress are those of the card.
-fn copy_gathered(alloc: Global, card: &Card, out: &mut Card) -> Result<(), NoMemory>
-    ensures { IfOk result (λ u. out.new ≡ record out.old {
-      votes = card.now.votes;
-      election = card.now.election;
-      rounds = card.now.rounds;
-    }) }
-{
-    out.votes = card.votes;
-    out.election = copy_election(alloc, &card.election)?;
-    out.rounds = card.rounds.copy();
-    Ok(())
-}
-
 fn copy_card(alloc: Global, card: &Card) -> Result<Card, NoMemory>
     ensures { IfOk result (λ out. out ≡ card.now) }
 {
-    let mut out = blank(alloc);
-    out.seen = card.seen;
-    copy_issued(alloc, card, &mut out)?;
-    copy_counted(alloc, card, &mut out)?;
-    copy_arrived(alloc, card, &mut out)?;
-    copy_gathered(alloc, card, &mut out)?;
-    Ok(out)
+    Ok(Card {
+        seen: card.seen,
+        issued: copy_ops(alloc, card.issued.as_slice())?,
+        answered: copy_all(alloc, card.answered.as_slice())?,
+        counted: copy_all(alloc, card.counted.as_slice())?,
+        reasons: copy_all(alloc, card.reasons.as_slice())?,
+        came: copy_came(alloc, card.came.as_slice())?,
+        heard: copy_heard(alloc, card.heard.as_slice())?,
+        votes: card.votes,
+        election: copy_election(alloc, &card.election)?,
+        rounds: card.rounds.copy(),
+    })
 }
 
 /// A copy of the card of a transaction, or a blank one.

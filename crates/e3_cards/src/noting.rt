@@ -3,14 +3,16 @@ ghost use Rattle.std.specs.Prelude.{◌≡◌, ◌++◌, ◌∷◌, [], if◌the
 ghost use Rattle.e3_types.specs.declared.records.Record.{Record as SomeRecord};
 ghost use Rattle.e3_types.specs.declared.transactions.Txn.{Txn as SomeTxn};
 ghost use Rattle.e3_types.specs.Same.{same_txn};
+ghost use Rattle.e3_world.specs.Items.{txn_of_record};
 ghost use Rattle.e3_cards.specs.Cards.{blank};
 ghost use Rattle.e3_cards.specs.Noting.{noted, unstepped};
-ghost use Rattle.e3_cards.specs.Tables.{card_at, record_txns, IsKnown, CardsStand};
+ghost use Rattle.e3_cards.specs.Tables.{card_at, IsKnown, CardsStand};
 
 use crate::card::{Card, blank};
 use crate::cards::Cards;
 use crate::keys::{TxnKey, known, txn_key};
 use crate::seen::seen_by;
+use e3_readings::txn_of_record;
 use e3_types::{NoMemory, Record, Txn};
 use std::alloc::Global;
 use std::collections::BTreeMap;
@@ -69,7 +71,7 @@ fn note_in(
 }
 
 fn note_of(alloc: Global, cards: &mut Cards, t: &Txn, r: &Record) -> Result<(), NoMemory>
-    requires { record_txns r.now ≡ t.now ∷ [] }
+    requires { txn_of_record r.now ≡ t.now ∷ [] }
     ensures { OnOk result ((site inc : ℕ) → (log : Items SomeRecord) → CardsStand site cards.old (unstepped inc log) → CardsStand site cards.new (unstepped inc (log ++ r.now ∷ []))) }
 {
     note_in(alloc, &mut cards.map, t, r)
@@ -77,7 +79,7 @@ fn note_of(alloc: Global, cards: &mut Cards, t: &Txn, r: &Record) -> Result<(), 
 
 // A record of no transaction changes no card.
 fn pass(_cards: &Cards, _r: &Record)
-    requires { record_txns _r.now ≡ [] }
+    requires { txn_of_record _r.now ≡ [] }
     ensures { (site inc : ℕ) → (log : Items SomeRecord) → CardsStand site _cards.now (unstepped inc log) → CardsStand site _cards.now (unstepped inc (log ++ _r.now ∷ [])) }
 {}
 
@@ -86,12 +88,9 @@ fn pass(_cards: &Cards, _r: &Record)
 pub fn note(alloc: Global, cards: &mut Cards, r: &Record) -> Result<(), NoMemory>
     ensures { OnOk result ((site inc : ℕ) → (log : Items SomeRecord) → CardsStand site cards.old (unstepped inc log) → CardsStand site cards.new (unstepped inc (log ++ r.now ∷ []))) }
 {
-    match r {
-        Record::Vote { txn, .. }
-        | Record::Join { txn, .. }
-        | Record::Attempt { txn, .. }
-        | Record::Decision { txn, .. } => note_of(alloc, cards, txn, r),
-        Record::Birth { .. } | Record::Inc { .. } => {
+    match txn_of_record(r) {
+        Some(t) => note_of(alloc, cards, t, r),
+        None => {
             pass(cards, r);
             Ok(())
         }

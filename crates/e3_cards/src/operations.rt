@@ -1,15 +1,15 @@
 // What is read of the operations of a transaction, by its card and the step so far.
-ghost use Rattle.std.specs.Prelude.{◌≡◌, ◌++◌, ◌==◌, ◌&&◌, not, [], IfOk, length, fold, is_none};
+ghost use Rattle.std.specs.Prelude.{◌≡◌, ◌++◌, ◌==◌, ◌&&◌, not, IfOk, length, fold, is_none};
 ghost use Rattle.std.specs.List.{list_any, flat_map};
 ghost use Rattle.e3_world.specs.Making.{own_write};
 ghost use Rattle.e3_world.specs.Operations.{issued_in, nth_op, same_asked};
 ghost use Rattle.e3_cards.specs.Arriving.{performed_in, has_heard, answer_in};
 ghost use Rattle.e3_cards.specs.Issued.{expect_by, number_told};
 ghost use Rattle.e3_readings.specs.Awaiting.{is_number, is_at_site};
-ghost use Rattle.e3_cards.specs.Readings.{unanswered_of, expected_of, own_expected, done_of, done_with};
+ghost use Rattle.e3_cards.specs.Readings.{unanswered_of, expected_of, done_of, done_with};
 ghost use Rattle.e3_cards.specs.Seeing.{seen_by};
 
-use crate::arriving::{add_came, add_heard, taken_now};
+use crate::arriving::{add_came, add_heard, taken_of};
 use crate::card::{Card, Counted, Heard};
 use crate::copying::{copy_all, copy_came, copy_heard, copy_ops};
 use crate::issued::add_numbers;
@@ -68,7 +68,7 @@ pub(crate) fn done_with(
 {
     let events = made.told.as_slice();
     let mut came = copy_came(alloc, card.came.as_slice())?;
-    let taken = taken_now(site, t, card.issued.as_slice(), input, events)?;
+    let taken = taken_of(site, t, card.issued.len(), input, events)?;
     add_came(&card.seen, taken, &mut came)?;
     let mut heard = copy_heard(alloc, card.heard.as_slice())?;
     add_heard(t, events, made.outs.as_slice(), &mut heard)?;
@@ -224,19 +224,6 @@ pub(crate) fn expected_of(site: u32, card: &Card) -> Result<Expected, NoMemory>
         e = expect_by(site, e, c)?;
     }
     Ok(e)
-}
-
-/// What is expected of the coordinator's own site, which has done these.
-pub(crate) fn own_expected(inc: u32, done: &[Performed]) -> Result<Expected, NoMemory>
-    ensures { IfOk result (λ e. e ≡ own_expected inc done.now) }
-{
-    match done {
-        [] => Ok(Expected { inc: 0, count: 0 }),
-        [_, ..] => Ok(Expected {
-            inc,
-            count: number_behind(done.len() as u64 - 1)?,
-        }),
-    }
 }
 
 /// The value of the transaction's last write of this name, with the step so far, or else the row.

@@ -1,5 +1,5 @@
 // What the rules of a step read of a transaction, where the cards stand for the place of the step.
-ghost use Rattle.std.specs.Prelude.{◌≡◌, ◌==◌, ◌&&◌, if◌then◌else◌, IfOk, OnErr, ◌≤◌, length, fold, count_by};
+ghost use Rattle.std.specs.Prelude.{◌≡◌, ◌==◌, if◌then◌else◌, IfOk, length, fold};
 ghost use Rattle.std.specs.List.{list_any};
 ghost use Rattle.e3_types.specs.Same.{same_txn};
 ghost use Rattle.e3_world.specs.declared.lives.At.{At as Place};
@@ -7,10 +7,11 @@ ghost use Rattle.e3_world.specs.Elections.{election_in_progress, next_call};
 ghost use Rattle.e3_world.specs.Making.{log_now, steps_now, own_write};
 ghost use Rattle.e3_world.specs.Operations.{answers, done, expected, issued, kept_reason, same_asked, unanswered, waiting};
 ghost use Rattle.e3_world.specs.Rounds.{round_in_progress};
-ghost use Rattle.e3_world.specs.Steps.{is_begin};
 ghost use Rattle.e3_readings.specs.Gathering.{are_complete, has_every_yes, votes_by};
 ghost use Rattle.e3_readings.specs.Awaiting.{first_of, is_awaited};
-ghost use Rattle.e3_cards.specs.Readings.{own_expected, expected_of, done_of};
+ghost use Rattle.e3_readings.specs.Expecting.{own_expected};
+ghost use Rattle.e3_cards.specs.Cards.{blank, card_of};
+ghost use Rattle.e3_cards.specs.Readings.{expected_of, done_of};
 ghost use Rattle.e3_cards.specs.Seeing.{seen_of};
 ghost use Rattle.e3_cards.specs.Tables.{CardsStand, card_at, call_now};
 
@@ -19,13 +20,13 @@ use crate::cards::{Cards, card_or};
 use crate::copying::copy_election;
 use crate::keys::{known, txn_key};
 use crate::operations::{
-    answer_of, awaits, done_of, done_with, expected_of, is_waiting_now, own_expected, own_with,
-    unanswered_now, waits_now,
+    answer_of, awaits, done_of, done_with, expected_of, is_waiting_now, own_with, unanswered_now,
+    waits_now,
 };
 use crate::seen::{Seen, unseen};
 use e3_commit::Acks;
 use e3_elect::Election;
-use e3_readings::{first_reason, have_every_yes, next, votes_after};
+use e3_readings::{first_reason, have_every_yes, next, own_expected, votes_after};
 use e3_types::{Answer, Call, Input, List, Name, NoMemory, Refusal, Txn};
 use e3_world::{Asked, Expected, Made, Performed};
 use std::alloc::Global;
@@ -72,6 +73,15 @@ fn reason_of(card: &Card) -> Option<Refusal>
 }
 
 impl Cards {
+    // The card of a transaction, or this blank one.
+    fn card_of<'a>(&'a self, t: &Txn, none: &'a Card) -> &'a Card
+        requires { none.now ≡ blank }
+        ensures { (a : Place) → CardsStand a.site self.now a.life → result.now ≡ card_of a.site t.now a.life }
+    {
+        known(t);
+        card_or(&self.map, t, none)
+    }
+
     /// What the log before the step says of the transaction.
     pub fn seen(&self, t: &Txn) -> Seen
         ensures { (a : Place) → CardsStand a.site self.now a.life → result ≡ seen_of t.now a.life.log }
@@ -84,18 +94,16 @@ impl Cards {
     pub fn issued_count(&self, alloc: Global, t: &Txn) -> u64
         ensures { (a : Place) → CardsStand a.site self.now a.life → result ≡ length (issued t.now a.life.steps) }
     {
-        known(t);
         let none = blank(alloc);
-        card_or(&self.map, t, &none).issued.len()
+        self.card_of(t, &none).issued.len()
     }
 
     /// The operation of the transaction that is unanswered behind the steps before this one, if it is undecided now.
     pub fn unanswered(&self, alloc: Global, t: &Txn, made: &Made) -> Result<Option<u32>, NoMemory>
         ensures { (a : Place) → CardsStand a.site self.now a.life → IfOk result (λ n. n ≡ unanswered t.now (log_now a made.now) a.life.steps) }
     {
-        known(t);
         let none = blank(alloc);
-        unanswered_now(t, card_or(&self.map, t, &none), made)
+        unanswered_now(t, self.card_of(t, &none), made)
     }
 
     /// Operation n of the transaction is its unanswered one, with the step so far, and its key is at site f.
@@ -110,36 +118,32 @@ impl Cards {
     ) -> Result<bool, NoMemory>
         ensures { (a : Place) → CardsStand a.site self.now a.life → a.input ≡ input.now → IfOk result (λ b. b ≡ is_awaited a f t.now n made.now) }
     {
-        known(t);
         let none = blank(alloc);
-        awaits(alloc, f, t, n, card_or(&self.map, t, &none), input, made)
+        awaits(alloc, f, t, n, self.card_of(t, &none), input, made)
     }
 
     /// What is expected of a site for the transaction.
     pub fn expected(&self, alloc: Global, t: &Txn, of: u32) -> Result<Expected, NoMemory>
         ensures { (a : Place) → CardsStand a.site self.now a.life → IfOk result (λ e. e ≡ expected a.site a.life.inc t.now a.life.steps of) }
     {
-        known(t);
         let none = blank(alloc);
-        expected_from(alloc, self, card_or(&self.map, t, &none), of)
+        expected_from(alloc, self, self.card_of(t, &none), of)
     }
 
     /// The reason that is kept for the end of the transaction, if there is one.
     pub fn kept_reason(&self, alloc: Global, t: &Txn) -> Option<Refusal>
         ensures { (a : Place) → CardsStand a.site self.now a.life → result ≡ first_of (kept_reason t.now a.life.steps) }
     {
-        known(t);
         let none = blank(alloc);
-        reason_of(card_or(&self.map, t, &none))
+        reason_of(self.card_of(t, &none))
     }
 
     /// The operations of the transaction that the site answered before the step, in the order of arrival.
     pub fn done(&self, alloc: Global, t: &Txn) -> Result<List<Performed>, NoMemory>
         ensures { (a : Place) → CardsStand a.site self.now a.life → IfOk result (λ out. out ≡ done a.site t.now a.life.steps) }
     {
-        known(t);
         let none = blank(alloc);
-        done_of(alloc, card_or(&self.map, t, &none))
+        done_of(alloc, self.card_of(t, &none))
     }
 
     /// The operations of the transaction that the site answered, with the step so far, in the order of arrival.
@@ -152,16 +156,9 @@ impl Cards {
     ) -> Result<List<Performed>, NoMemory>
         ensures { (a : Place) → CardsStand a.site self.now a.life → a.input ≡ input.now → IfOk result (λ out. out ≡ done a.site t.now (steps_now a made.now)) }
     {
-        known(t);
         let none = blank(alloc);
-        done_with(
-            alloc,
-            self.site,
-            t,
-            card_or(&self.map, t, &none),
-            input,
-            made,
-        )
+        let card = self.card_of(t, &none);
+        done_with(alloc, self.site, t, card, input, made)
     }
 
     /// The value that the transaction's last write of the name here gave it, with the step so far, or else this row.
@@ -176,9 +173,8 @@ impl Cards {
     ) -> Result<Answer, NoMemory>
         ensures { (a : Place) → CardsStand a.site self.now a.life → a.input ≡ input.now → IfOk result (λ x. x ≡ fold (own_write name.now) row (done a.site t.now (steps_now a made.now))) }
     {
-        known(t);
         let none = blank(alloc);
-        let card = card_or(&self.map, t, &none);
+        let card = self.card_of(t, &none);
         own_with(alloc, self.site, t, name, row, card, input, made)
     }
 
@@ -186,45 +182,40 @@ impl Cards {
     pub fn answer(&self, alloc: Global, q: &Asked) -> Option<Answer>
         ensures { (a : Place) → CardsStand a.site self.now a.life → result ≡ first_of (answers q.now a.life.steps) }
     {
-        known(&q.txn);
         let none = blank(alloc);
-        answer_of(card_or(&self.map, &q.txn, &none), q.n)
+        answer_of(self.card_of(&q.txn, &none), q.n)
     }
 
     /// The operation waited before the step, and its transaction is undecided now.
     pub fn is_waiting(&self, alloc: Global, q: &Asked, made: &Made) -> bool
         ensures { (a : Place) → CardsStand a.site self.now a.life → result ≡ list_any (same_asked q.now) (waiting a.site (log_now a made.now) a.life.steps) }
     {
-        known(&q.txn);
         let none = blank(alloc);
-        is_waiting_now(q, card_or(&self.map, &q.txn, &none), made)
+        is_waiting_now(q, self.card_of(&q.txn, &none), made)
     }
 
     /// An operation of the transaction waited before the step, and the transaction is undecided now.
     pub fn waits(&self, alloc: Global, t: &Txn, made: &Made) -> bool
         ensures { (a : Place) → CardsStand a.site self.now a.life → result ≡ list_any (λ q. same_txn t.now q.txn) (waiting a.site (log_now a made.now) a.life.steps) }
     {
-        known(t);
         let none = blank(alloc);
-        waits_now(t, card_or(&self.map, t, &none), made)
+        waits_now(t, self.card_of(t, &none), made)
     }
 
     /// The votes of the transaction are being gathered, and with the step so far the yes of every other site came.
     pub fn has_every_yes(&self, alloc: Global, t: &Txn, input: &Input, made: &Made) -> bool
         ensures { (a : Place) → CardsStand a.site self.now a.life → a.input ≡ input.now → result ≡ has_every_yes a t.now made.now }
     {
-        known(t);
         let none = blank(alloc);
-        every_yes(self.site, t, card_or(&self.map, t, &none), input, made)
+        every_yes(self.site, t, self.card_of(t, &none), input, made)
     }
 
     /// The election of the transaction that is in progress before the step, if there is one.
     pub fn election(&self, alloc: Global, t: &Txn) -> Result<Option<Election>, NoMemory>
         ensures { (a : Place) → CardsStand a.site self.now a.life → IfOk result (λ e. e ≡ election_in_progress a.site a.life.inc t.now a.life.steps) }
     {
-        known(t);
         let none = blank(alloc);
-        copy_election(alloc, &card_or(&self.map, t, &none).election)
+        copy_election(alloc, &self.card_of(t, &none).election)
     }
 
     /// The round of the transaction that is in progress before the step, if there is one.

@@ -1,16 +1,16 @@
 // What one more step makes of a card.
-ghost use Rattle.std.specs.Prelude.{◌≡◌, ◌++◌, IfOk, fold, suc};
+ghost use Rattle.std.specs.Prelude.{◌≡◌, ◌++◌, IfOk, fold, length, suc};
 ghost use Rattle.std.specs.List.{flat_map};
 ghost use Rattle.e3_world.specs.Operations.{issued_in, reason_in};
 ghost use Rattle.e3_world.specs.Rounds.{round_by};
 ghost use Rattle.e3_readings.specs.Gathering.{votes_by};
-ghost use Rattle.e3_cards.specs.Arriving.{came_by, heard_in, taken_now};
+ghost use Rattle.e3_cards.specs.Arriving.{came_by, heard_in, taken_of};
 ghost use Rattle.e3_cards.specs.Cards.{card_by, moment_of};
 ghost use Rattle.e3_cards.specs.Electing.{election_now};
 ghost use Rattle.e3_cards.specs.Issued.{counted_in, number_told};
 ghost use Rattle.e3_cards.specs.Seeing.{seen_by};
 
-use crate::arriving::{add_came, add_heard, taken_now};
+use crate::arriving::{add_came, add_heard, taken_of};
 use crate::card::Card;
 use crate::electing::election_now;
 use crate::issued::{add_counted, add_numbers};
@@ -24,24 +24,19 @@ use std::mem;
 // The operation that a step takes up.
 fn and_came(site: u32, t: &Txn, step: &SiteStep, card: &mut Card) -> Result<(), NoMemory>
     ensures { IfOk result (λ u. card.new ≡ record card.old {
-      came = came_by card.old.seen card.old.came (taken_now site t.now card.old.issued step.now.input step.now.told);
+      came = came_by card.old.seen card.old.came (taken_of site t.now (length card.old.issued) step.now.input step.now.told);
     }) }
 {
     let seen = card.seen;
-    let taken = taken_now(
-        site,
-        t,
-        card.issued.as_slice(),
-        &step.input,
-        step.told.as_slice(),
-    )?;
+    let issued = card.issued.len();
+    let taken = taken_of(site, t, issued, &step.input, step.told.as_slice())?;
     add_came(&seen, taken, &mut card.came)
 }
 
 // The operation that a step takes up, and the answers that it shows.
 fn and_arrived(site: u32, t: &Txn, step: &SiteStep, card: &mut Card) -> Result<(), NoMemory>
     ensures { IfOk result (λ u. card.new ≡ record card.old {
-      came = came_by card.old.seen card.old.came (taken_now site t.now card.old.issued step.now.input step.now.told);
+      came = came_by card.old.seen card.old.came (taken_of site t.now (length card.old.issued) step.now.input step.now.told);
       heard = card.old.heard ++ heard_in t.now step.now.told step.now.outs;
     }) }
 {

@@ -1,10 +1,12 @@
 // Which cards a step may change.
-ghost use Rattle.std.specs.Prelude.{◌≡◌, ◌++◌, ◌∷◌, [], IfOk, fold};
+ghost use Rattle.std.specs.Prelude.{◌≡◌, IfOk, fold};
 ghost use Rattle.std.specs.List.{flat_map, list_any};
 ghost use Rattle.e3_types.specs.Same.{same_txn};
+ghost use Rattle.e3_world.specs.Items.{txn_of_record};
 ghost use Rattle.e3_world.specs.Sound.{txn_in};
-ghost use Rattle.e3_cards.specs.Tables.{named, touched, add_txn, input_txns, record_txns, told_txns, sent_txns};
+ghost use Rattle.e3_cards.specs.Tables.{touched, add_txn, input_txns, told_txns, sent_txns};
 
+use e3_readings::txn_of_record;
 use e3_types::{Input, List, Message, NoMemory, Packet, Record, Told, Txn};
 use e3_world::SiteStep;
 use std::alloc::Global;
@@ -59,14 +61,11 @@ fn add_input(input: &Input, out: &mut List<Txn>) -> Result<(), NoMemory>
 }
 
 fn add_record(r: &Record, out: &mut List<Txn>) -> Result<(), NoMemory>
-    ensures { IfOk result (λ u. out.new ≡ fold add_txn out.old (record_txns r.now)) }
+    ensures { IfOk result (λ u. out.new ≡ fold add_txn out.old (txn_of_record r.now)) }
 {
-    match r {
-        Record::Vote { txn, .. }
-        | Record::Join { txn, .. }
-        | Record::Attempt { txn, .. }
-        | Record::Decision { txn, .. } => add_txn(txn, out),
-        _ => Ok(()),
+    match txn_of_record(r) {
+        Some(t) => add_txn(t, out),
+        None => Ok(()),
     }
 }
 
@@ -92,7 +91,7 @@ fn add_sent(packet: &Packet, out: &mut List<Txn>) -> Result<(), NoMemory>
 }
 
 fn add_records(records: &[Record], out: &mut List<Txn>) -> Result<(), NoMemory>
-    ensures { IfOk result (λ u. out.new ≡ fold add_txn out.old (flat_map record_txns records.now)) }
+    ensures { IfOk result (λ u. out.new ≡ fold add_txn out.old (flat_map txn_of_record records.now)) }
 {
     for r in records {
         add_record(r, out)?;

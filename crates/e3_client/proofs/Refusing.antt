@@ -146,19 +146,12 @@ late_same a t made C is = rw is refl
 late_same a t made A is = rw is refl
 
 open_refuse : (st : State) (attempt : ℕ) (k : Kept) → is_last st ≡ false → refuse st attempt k ≡ busy_or st attempt (unanswered k.ops)
-open_refuse st attempt k off = by st off (unanswered k.ops) refl
-  where
-    by : (s : State) → is_last s ≡ false → (o : Option ℕ) → unanswered k.ops ≡ o → refuse s attempt k ≡ busy_or s attempt o
-    by Q off (Some n) is = rw is refl
-    by W off (Some n) is = rw is refl
-    by Pc off (Some n) is = rw is refl
-    by Pa off (Some n) is = rw is refl
-    by Q off None is = rw is refl
-    by W off None is = rw is refl
-    by Pc off None is = rw is refl
-    by Pa off None is = rw is refl
-    by C off o is = absurd (true_not_false off)
-    by A off o is = absurd (true_not_false off)
+open_refuse Q attempt k off = refl
+open_refuse W attempt k off = refl
+open_refuse Pc attempt k off = refl
+open_refuse Pa attempt k off = refl
+open_refuse C attempt k off = absurd (true_not_false off)
+open_refuse A attempt k off = absurd (true_not_false off)
 
 -- where it is decided, the first reason is told, if there is one
 decided_at : (a : At) (t : Txn) (cancels : Bool) (made : Made) (dir : Dir) (reasons : List Refusal) → kept_reason t a.life.steps ≡ reasons

@@ -94,14 +94,12 @@ late_if attempt = if attempt == 0 then None else Some (TooLate attempt)
 -- the refusal of an operation or a commit, in this state after this attempt, if it is refused: that it is decided, else
 -- that an operation is unanswered, else that it is too late
 abbrev pub refuse : State → ℕ → Kept → Option Refusal
-refuse state attempt k = by state (unanswered k.ops)
+refuse state attempt k = by state
   where
-    by : State → Option ℕ → Option Refusal
-    by C busy = refuse_decided Commit k.why
-    by A busy = refuse_decided Abort k.why
-    by _ (Some n) = Some (Busy n)
-    by Q None = None
-    by _ None = Some (TooLate attempt)
+    by : State → Option Refusal
+    by C = refuse_decided Commit k.why
+    by A = refuse_decided Abort k.why
+    by st = busy_or st attempt (unanswered k.ops)
 
 -- the refusal of a cancel, if it is refused
 abbrev pub refuse_cancel : State → ℕ → Kept → Option Refusal
@@ -110,7 +108,7 @@ refuse_cancel state attempt k = by state
     by : State → Option Refusal
     by C = refuse_decided Commit k.why
     by A = refuse_decided Abort k.why
-    by _ = if attempt == 0 then None else Some (TooLate attempt)
+    by _ = late_if attempt
 
 -- a call goes where there is no refusal, and where there is one that is its error
 abbrev pub GoesUnless : Option Refusal → Result (Unit {0}) Refusal → Type 0

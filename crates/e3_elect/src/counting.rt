@@ -1,8 +1,9 @@
 // What counts in an election, and what the answers come to.
-ghost use Rattle.std.specs.Prelude.{◌≡◌, ◌==◌, ◌&&◌, if◌then◌else◌, suc, not, nat_lt, max, fold, length, Some, None};
+ghost use Rattle.std.specs.Prelude.{◌≡◌, ◌==◌, ◌&&◌, if◌then◌else◌, ℕ, suc, true, not, nat_lt, max, fold, List as Items, length, Some, None};
 ghost use Rattle.std.specs.List.{list_any};
 ghost use Rattle.e3_types.specs.Same.{same_call};
 ghost use Rattle.e3_types.specs.Sets.{has_site};
+ghost use Rattle.e3_elect.specs.Calling.{IsWhole, are_behind_own};
 
 use e3_types::{Call, SiteReport, SiteSet};
 use e3_world::Named;
@@ -29,6 +30,14 @@ pub(crate) fn greatest_of(heard: &[Named]) -> u32
     heard.iter().fold(0, |n, h| max(n, h.elected))
 }
 
+/// As many came as the group has sites: the whole group, where all that came are of it.
+pub(crate) fn is_as_many(came: usize, group: SiteSet) -> bool
+    ensures count { result ≡ (came == length group) }
+    ensures whole { (sites : Items ℕ) → length sites ≡ came → are_behind_own group sites ≡ true → IsWhole group sites result }
+{
+    came == group.count() as usize
+}
+
 /// The greatest number that was heard plus one: some exactly where as many were heard as the group has sites, and the
 /// greatest is below 4,294,967,295.
 pub(crate) fn number_of(heard: &[Named], group: SiteSet) -> Option<u32>
@@ -36,7 +45,7 @@ pub(crate) fn number_of(heard: &[Named], group: SiteSet) -> Option<u32>
         then Some (suc (fold (λ n h. max n h.elected) 0 heard.now)) else None) }
 {
     let greatest = greatest_of(heard);
-    if heard.len() == group.count() as usize && greatest < u32::MAX {
+    if is_as_many(heard.len(), group) && greatest < u32::MAX {
         Some(greatest + 1)
     } else {
         None

@@ -3,7 +3,7 @@ ghost use Rattle.std.specs.Prelude.{◌≡◌, ◌<◌, ◌∷◌, [], IfOk, Mat
 ghost use Rattle.e3_world.specs.Elections.{all_heard, all_reported, begun, greatest_heard, hear, take_report};
 ghost use Rattle.e3_elect.specs.Calling.{IsWhole, number_of};
 
-use crate::counting::{greatest_of, is_awaited, is_owed, number_of};
+use crate::counting::{greatest_of, is_as_many, is_awaited, is_owed, number_of};
 use e3_types::{Call, Copied, NoMemory, SiteReport, SiteSet};
 use e3_world::Named;
 use std::alloc::Global;
@@ -117,7 +117,7 @@ impl Election {
         ensures count { result ≡ all_heard self.now }
         ensures whole { IsWhole self.now.group (map (λ h. h.site) self.now.heard) result }
     {
-        self.heard.as_slice().len() == self.group.count() as usize
+        is_as_many(self.heard.as_slice().len(), self.group)
     }
 
     // The elector's own report is the first, and no other came yet.
@@ -173,7 +173,7 @@ impl Election {
         ensures count { result ≡ all_reported self.now }
         ensures whole { IsWhole self.now.group (map (λ r. r.site) self.now.reports) result }
     {
-        self.reports.as_slice().len() == self.group.count() as usize
+        is_as_many(self.reports.as_slice().len(), self.group)
     }
 
     /// The reports, the elector's own first.

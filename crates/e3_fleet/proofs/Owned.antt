@@ -19,7 +19,6 @@ use Rattle.e3_node.specs.declared.fault.InputFault.TheVariants as input_fault
 use Rattle.e3_node.specs.declared.fault.RiseFault.{RiseFault}
 use Rattle.e3_node.specs.declared.fault.RiseFault.TheVariants as rise_fault
 use Rattle.e3_play.specs.Entering.{AfterInput, AfterRise, fall_of}
-use Rattle.e3_play.specs.declared.sites.RunFault.TheVariants as run_fault
 use Rattle.e3_types.specs.declared.entries.Act.{Act}
 use Rattle.e3_types.specs.declared.entries.Act.TheVariants.{Rise, RiseFall, Miss, Cut, Line}
 use Rattle.e3_types.specs.declared.entries.Entry.{Entry}
@@ -143,72 +142,35 @@ rise_rose sc h more site old new image (Err (rise_fault.Failed why)) down rose m
     let f = failed why refl in inr (inl (record { kept = f.kept; inc = f.inc; why = why; allowed = f.allowed; entered = f.entered }))
 rise_rose sc h more site old new image (Err rise_fault.NoMemory) down rose missed failed = tt
 rise_rose sc h more site old new image (Err rise_fault.HistoryFull) down rose missed failed = tt
-rise_rose sc h more site old new image (Err rise_fault.Up) down rose missed failed = tt
+rise_rose sc h more site old new image (Err rise_fault.Up) down rose missed failed = absurd (down refl)
 
-pub rise_kept : (h more : List Entry) (answer : Result ℕ RiseFault) → (answer ≡ Err rise_fault.Up → more ≡ h) →
-    (answer ≡ Err rise_fault.NoMemory → more ≡ h) → (answer ≡ Err rise_fault.HistoryFull → more ≡ h) → OnErr (rise_answer answer) (more ≡ h)
-rise_kept h more (Ok done) up memory full = tt
-rise_kept h more (Err rise_fault.Missed) up memory full = tt
-rise_kept h more (Err (rise_fault.Failed why)) up memory full = tt
-rise_kept h more (Err rise_fault.NoMemory) up memory full = memory refl
-rise_kept h more (Err rise_fault.HistoryFull) up memory full = full refl
-rise_kept h more (Err rise_fault.Up) up memory full = up refl
-
-pub rise_full : (P : Type 0) (answer : Result ℕ RiseFault) → (answer ≡ Err rise_fault.HistoryFull → P) →
-    rise_answer answer ≡ Err run_fault.HistoryFull → P
-rise_full P (Ok done) full is = absurd cc
-rise_full P (Err rise_fault.Missed) full is = absurd cc
-rise_full P (Err (rise_fault.Failed why)) full is = absurd cc
-rise_full P (Err rise_fault.NoMemory) full is = absurd cc
-rise_full P (Err rise_fault.Up) full is = absurd cc
-rise_full P (Err rise_fault.HistoryFull) full is = full refl
+pub rise_kept : (h more : List Entry) (answer : Result ℕ RiseFault) → (answer ≡ Err rise_fault.NoMemory → more ≡ h) →
+    (answer ≡ Err rise_fault.HistoryFull → more ≡ h) → OnErr (rise_answer answer) (more ≡ h)
+rise_kept h more (Ok done) memory full = tt
+rise_kept h more (Err rise_fault.Missed) memory full = tt
+rise_kept h more (Err (rise_fault.Failed why)) memory full = tt
+rise_kept h more (Err rise_fault.NoMemory) memory full = memory refl
+rise_kept h more (Err rise_fault.HistoryFull) memory full = full refl
+rise_kept h more (Err rise_fault.Up) memory full = tt
 
 -- what the run hears of an input
-pub input_entered : (sc : Scenario) (h more : List Entry) (site : ℕ) (i : Input) (answer : Result (Unit {0}) InputFault) →
+pub input_entered : (sc : Scenario) (h more : List Entry) (site : ℕ) (i : Input) (answer : Result (Unit {0}) InputFault) → (answer ≡ Err input_fault.Down → ⊥) →
     OnOk answer (more ≡ h ++ entry_of sc h site i ∷ []) →
     ((why : Why) → answer ≡ Err (input_fault.Fell why) → FellOver sc h site i why more) → OnOk (input_answer answer) (AfterInput sc h site i more)
-input_entered sc h more site i (Ok done) stepped fell = inl stepped
-input_entered sc h more site i (Err (input_fault.Fell why)) stepped fell =
+input_entered sc h more site i (Ok done) up stepped fell = inl stepped
+input_entered sc h more site i (Err (input_fault.Fell why)) up stepped fell =
     let over = fell why refl in inr (record { why = why; some = over.some; entered = over.entered })
-input_entered sc h more site i (Err input_fault.Down) stepped fell = tt
-input_entered sc h more site i (Err input_fault.HistoryFull) stepped fell = tt
-input_entered sc h more site i (Err input_fault.NoMemory) stepped fell = tt
+input_entered sc h more site i (Err input_fault.Down) up stepped fell = absurd (up refl)
+input_entered sc h more site i (Err input_fault.HistoryFull) up stepped fell = tt
+input_entered sc h more site i (Err input_fault.NoMemory) up stepped fell = tt
 
 pub input_kept : (h more : List Entry) (answer : Result (Unit {0}) InputFault) →
     ((fault : InputFault) → answer ≡ Err fault → is_fall fault ≡ false → more ≡ h) → OnErr (input_answer answer) (more ≡ h)
 input_kept h more (Ok done) kept = tt
 input_kept h more (Err (input_fault.Fell why)) kept = tt
-input_kept h more (Err input_fault.Down) kept = kept input_fault.Down refl refl
+input_kept h more (Err input_fault.Down) kept = tt
 input_kept h more (Err input_fault.HistoryFull) kept = kept input_fault.HistoryFull refl refl
 input_kept h more (Err input_fault.NoMemory) kept = kept input_fault.NoMemory refl refl
-
-pub input_full : (P : Type 0) (answer : Result (Unit {0}) InputFault) → (answer ≡ Err input_fault.HistoryFull → P) →
-    input_answer answer ≡ Err run_fault.HistoryFull → P
-input_full P (Ok done) full is = absurd cc
-input_full P (Err (input_fault.Fell why)) full is = absurd cc
-input_full P (Err input_fault.Down) full is = absurd cc
-input_full P (Err input_fault.NoMemory) full is = absurd cc
-input_full P (Err input_fault.HistoryFull) full is = full refl
-
--- what the run hears of a cut
-pub cut_entered : (P : Type 0) (answer : Result (Unit {0}) CutFault) → OnOk answer P → OnOk (cut_answer answer) P
-cut_entered P (Ok done) entered = entered
-cut_entered P (Err cut_fault.HistoryFull) entered = tt
-cut_entered P (Err cut_fault.Down) entered = tt
-cut_entered P (Err cut_fault.NoMemory) entered = tt
-
-pub cut_kept : (P : Type 0) (answer : Result (Unit {0}) CutFault) → OnErr answer P → OnErr (cut_answer answer) P
-cut_kept P (Ok done) kept = tt
-cut_kept P (Err cut_fault.HistoryFull) kept = kept
-cut_kept P (Err cut_fault.Down) kept = kept
-cut_kept P (Err cut_fault.NoMemory) kept = kept
-
-pub cut_full : (P : Type 0) (answer : Result (Unit {0}) CutFault) → (answer ≡ Err cut_fault.HistoryFull → P) →
-    cut_answer answer ≡ Err run_fault.HistoryFull → P
-cut_full P (Ok done) full is = absurd cc
-cut_full P (Err cut_fault.Down) full is = absurd cc
-cut_full P (Err cut_fault.NoMemory) full is = absurd cc
-cut_full P (Err cut_fault.HistoryFull) full is = full refl
 
 -- a cut that is not made leaves the disk
 pub cut_still : {D : Type 0} (h more : List Entry) (meters : D → Meters) (old new : NodeView D) (answer : Result (Unit {0}) CutFault) →
@@ -230,9 +192,9 @@ takes_so sc h site i old new (Ok done) took = by (made_by sc h site i).records r
     by (r ∷ rs) is = subst P (let one : calls_for (made_by sc h site i).records ≡ 4 = rw is refl in let two : calls_of (entry_of sc h site i).act ≡ 4 = rw is refl in one ∙ sym two) took
 
 -- what the run hears of a cut
-pub cut_told : (h more : List Entry) (s t : ℕ) (answer : Result (Unit {0}) CutFault) → s ≡ t → OnOk answer (more ≡ h ++ record { owner = s; act = Cut } ∷ []) →
-    OnOk (cut_answer answer) (more ≡ h ++ record { owner = t; act = Cut } ∷ [])
-cut_told h more s t (Ok done) same entered = entered ∙ ap (λ (o : ℕ). h ++ record { owner = o; act = Cut } ∷ []) same
-cut_told h more s t (Err cut_fault.HistoryFull) same entered = tt
-cut_told h more s t (Err cut_fault.NoMemory) same entered = tt
-cut_told h more s t (Err cut_fault.Down) same entered = tt
+pub cut_told : (h more : List Entry) (s t : ℕ) (answer : Result (Unit {0}) CutFault) → (answer ≡ Err cut_fault.Down → ⊥) → s ≡ t →
+    OnOk answer (more ≡ h ++ record { owner = s; act = Cut } ∷ []) → OnOk (cut_answer answer) (more ≡ h ++ record { owner = t; act = Cut } ∷ [])
+cut_told h more s t (Ok done) up same entered = entered ∙ ap (λ (o : ℕ). h ++ record { owner = o; act = Cut } ∷ []) same
+cut_told h more s t (Err cut_fault.HistoryFull) up same entered = tt
+cut_told h more s t (Err cut_fault.NoMemory) up same entered = tt
+cut_told h more s t (Err cut_fault.Down) up same entered = absurd (up refl)

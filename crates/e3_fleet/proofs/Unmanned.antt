@@ -1,4 +1,4 @@
--- A site that no node stands for is never up.
+-- A site that is up is one of the scenario's: one that no node stands for never is.
 use Rattle.std.proofs.Common.{◌≡◌, ◌==◌, ◌<◌, ◌≤◌, ◌++◌, ◌∷◌, [], ℕ, zero, suc, Bool, true, false, List, length, fold, refl, sym, subst, arith, eqb-true, ◌∙◌}
 use Rattle.e3_types.specs.declared.entries.Act.{Act}
 use Rattle.e3_types.specs.declared.entries.Act.TheVariants.{Step, Fall, Rise, RiseFall, Miss, Cut, Drop, Parts, Line}
@@ -38,7 +38,7 @@ risen_within sc s before (e ∷ h) was legal known up = by (λ next more rest. r
         subst P own_is (act_within sc before e.owner e.act was legal.0 (λ up. subst P (sym own_is) (known up)) rose))
         (sym (let same : fold (λ was e. up_behind was e.act) was (own_entries s (e ∷ h)) ≡ fold (λ was e. up_behind was e.act) (up_behind was e.act) (own_entries s h) = rw is refl in same) ∙ up)
 
-up_within : (sc : Scenario) (h : List Entry) (s : ℕ) → IsLegal sc h → is_up_at h s ≡ true → s ≤ length sc.weights
+pub up_within : (sc : Scenario) (h : List Entry) (s : ℕ) → IsLegal sc h → is_up_at h s ≡ true → s ≤ length sc.weights
 up_within sc h s legal up = risen_within sc s [] h false legal (λ is. absurd cc) up
 
 pub site_zero : (sc : Scenario) (h : List Entry) (site : ℕ) → IsLegal sc h → site ≡ 0 → false ≡ is_up_at h site

@@ -120,26 +120,27 @@ pub record HasDriven (act : Act) (was now : List Mark) (answer : Result (Unit {0
   pub kept : OnErr answer (entries_of now ≡ entries_of was)
   pub full : (answer ≡ Err run_fault.HistoryFull) ↔ (most_of was ≤ length (entries_of was))
 
--- what a rise is to the run: one that failed or was missed is entered, and the run goes on
+-- What a rise is to the run: one that failed or was missed is entered, and the run goes on. A site that is up does not rise, so
+-- of that fault nothing is told here.
 abbrev pub rise_answer : Result ℕ RiseFault → Result (Unit {0}) RunFault
 rise_answer (Ok inc) = Ok tt
 rise_answer (Err rise_fault.HistoryFull) = Err run_fault.HistoryFull
 rise_answer (Err rise_fault.NoMemory) = Err run_fault.NoMemory
-rise_answer (Err rise_fault.Up) = Err run_fault.NoMemory
 rise_answer (Err fault) = Ok tt
 
--- what an input is to the run: a site that fell over it has an entry, and the run goes on
+-- What an input is to the run: a site that fell over it has an entry, and the run goes on. A site that is down takes none.
 abbrev pub input_answer : Result (Unit {0}) InputFault → Result (Unit {0}) RunFault
-input_answer (Ok done) = Ok done
+input_answer (Ok done) = Ok tt
 input_answer (Err input_fault.HistoryFull) = Err run_fault.HistoryFull
-input_answer (Err (input_fault.Fell why)) = Ok tt
-input_answer (Err fault) = Err run_fault.NoMemory
+input_answer (Err input_fault.NoMemory) = Err run_fault.NoMemory
+input_answer (Err fault) = Ok tt
 
--- what a cut is to the run
+-- what a cut is to the run: a site that is down has none
 abbrev pub cut_answer : Result (Unit {0}) CutFault → Result (Unit {0}) RunFault
-cut_answer (Ok done) = Ok done
+cut_answer (Ok done) = Ok tt
 cut_answer (Err cut_fault.HistoryFull) = Err run_fault.HistoryFull
-cut_answer (Err fault) = Err run_fault.NoMemory
+cut_answer (Err cut_fault.NoMemory) = Err run_fault.NoMemory
+cut_answer (Err fault) = Ok tt
 
 -- what an answer of the wire is to the run
 abbrev pub wire_answer : Result (Unit {0}) WireFault → Result (Unit {0}) RunFault

@@ -61,31 +61,23 @@ impl<D: Disk + Drill + Drop> Sites for Fleet<D> {
     }
 
     fn open_txns(&self, site: u32) -> Result<List<Txn>, NoMemory> {
-        if site == 0 || site as usize > self.held.workers.len() {
-            return Err(NoMemory);
-        }
-        self.held.open_txns_at(self.alloc, site as usize - 1)
+        let at = self.held.place(site);
+        self.held.open_txns_at(self.alloc, at)
     }
 
     fn rise(&mut self, site: u32) -> Result<(), RunFault> {
-        if site == 0 || site as usize > self.held.workers.len() {
-            return Err(RunFault::NoMemory);
-        }
-        self.held.rise_at(site as usize - 1)
+        let at = self.held.place(site);
+        self.held.rise_at(at)
     }
 
     fn input(&mut self, site: u32, input: Input) -> Result<(), RunFault> {
-        if site == 0 || site as usize > self.held.workers.len() {
-            return Err(RunFault::NoMemory);
-        }
-        self.held.input_at(site as usize - 1, input)
+        let at = self.held.place(site);
+        self.held.input_at(at, input)
     }
 
     fn cut(&mut self, site: u32) -> Result<(), RunFault> {
-        if site == 0 || site as usize > self.held.workers.len() {
-            return Err(RunFault::NoMemory);
-        }
-        self.held.cut_at(site as usize - 1)
+        let at = self.held.place(site);
+        self.held.cut_at(at)
     }
 
     fn drop_first(&mut self, packet: &Packet) -> Result<(), RunFault> {
@@ -99,10 +91,8 @@ impl<D: Disk + Drill + Drop> Sites for Fleet<D> {
     }
 
     fn stop(&mut self, number: u32, site: u32, calls: u32, leave: Leave) -> Result<(), RunFault> {
-        if site == 0 || site as usize > self.held.workers.len() {
-            return Err(RunFault::NoMemory);
-        }
-        self.held.stop_at(site as usize - 1, number, calls, leave)
+        let at = self.held.place(site);
+        self.held.stop_at(at, number, calls, leave)
     }
 
     fn parts(&mut self, parts: List<SiteSet>) -> Result<(), RunFault> {

@@ -1,7 +1,10 @@
 // What the driver holds between the rounds of workers, and what the sites do of a run, each by the node of the worker at its
 // place.
-ghost use Rattle.std.specs.Prelude.{◌≡◌, ◌≤◌, ◌<◌, ◌++◌, ◌∷◌, [], suc, true, fold, length, IfOk, OnOk, OnErr, Err};
+ghost use Rattle.std.specs.Prelude.{◌≡◌, ◌≢◌, ◌≤◌, ◌<◌, ◌++◌, ◌∷◌, [], suc, true, fold, length, IfOk, OnOk, OnErr, Err};
 ghost use Rattle.e3_fleet.specs.Fleets.{FleetStands, HeldWentOn, cut_answer, input_answer, nodes_of, rise_answer};
+ghost use Rattle.e3_node.specs.declared.fault.CutFault.TheVariants as cut_fault;
+ghost use Rattle.e3_node.specs.declared.fault.InputFault.TheVariants as input_fault;
+ghost use Rattle.e3_node.specs.declared.fault.RiseFault.TheVariants as rise_fault;
 ghost use Rattle.e3_play.specs.Entering.{AfterInput, AfterRise, IsFirst};
 ghost use Rattle.e3_play.specs.declared.sites.RunFault.TheVariants.{HistoryFull};
 ghost use Rattle.e3_types.specs.declared.entries.Act.TheVariants as act;
@@ -28,40 +31,58 @@ pub struct Held<D: Disk + Drill + Drop> {
     pub workers: Vec<Worker<D>>,
 }
 
-// What a rise is to the run.
+// What a rise is to the run. Only a site that is down rises, and only one that is up takes an input or is cut: so here, as below,
+// the arm for the other fault is proved never to be taken.
 fn rise_answer(answer: Result<u32, RiseFault>) -> Result<(), RunFault>
+    requires { answer ≢ Err rise_fault.Up }
     ensures { result ≡ rise_answer answer }
 {
     match answer {
         Err(RiseFault::HistoryFull) => Err(RunFault::HistoryFull),
-        Err(RiseFault::Up | RiseFault::NoMemory) => Err(RunFault::NoMemory),
+        Err(RiseFault::NoMemory) => Err(RunFault::NoMemory),
+        Err(RiseFault::Up) => unreachable!(),
         Ok(_) | Err(RiseFault::Missed | RiseFault::Failed { .. }) => Ok(()),
     }
 }
 
 // What an input is to the run.
 fn input_answer(answer: Result<(), InputFault>) -> Result<(), RunFault>
+    requires { answer ≢ Err input_fault.Down }
     ensures { result ≡ input_answer answer }
 {
     match answer {
         Err(InputFault::HistoryFull) => Err(RunFault::HistoryFull),
-        Err(InputFault::Down | InputFault::NoMemory) => Err(RunFault::NoMemory),
+        Err(InputFault::NoMemory) => Err(RunFault::NoMemory),
+        Err(InputFault::Down) => unreachable!(),
         Ok(()) | Err(InputFault::Fell { .. }) => Ok(()),
     }
 }
 
 // What a cut is to the run.
 fn cut_answer(answer: Result<(), CutFault>) -> Result<(), RunFault>
+    requires { answer ≢ Err cut_fault.Down }
     ensures { result ≡ cut_answer answer }
 {
     match answer {
         Err(CutFault::HistoryFull) => Err(RunFault::HistoryFull),
-        Err(CutFault::Down | CutFault::NoMemory) => Err(RunFault::NoMemory),
+        Err(CutFault::NoMemory) => Err(RunFault::NoMemory),
+        Err(CutFault::Down) => unreachable!(),
         Ok(()) => Ok(()),
     }
 }
 
 impl<D: Disk + Drill + Drop> Held<D> {
+    // The place of the worker of a site of the scenario.
+    pub(crate) fn place(&self, site: u32) -> usize
+        requires standing { FleetStands D.meaning self.now.shared (nodes_of self.now.workers.items) }
+        requires least { 1 ≤ site }
+        requires exists { site ≤ length (scenario_of self.now.shared).weights }
+        ensures is { suc result ≡ site }
+        ensures within { result < length self.now.workers.items }
+    {
+        site as usize - 1
+    }
+
     // Whether the node at this place is up.
     pub(crate) fn is_up_at(&self, at: usize) -> bool
         requires standing { FleetStands D.meaning self.now.shared (nodes_of self.now.workers.items) }

@@ -1,5 +1,5 @@
 // A scenario, step by step.
-ghost use Rattle.std.specs.Prelude.{◌≡◌, ◌≤◌, ◌<◌, ◌^◌, [], suc, length, OnOk, Err};
+ghost use Rattle.std.specs.Prelude.{◌≡◌, ◌≤◌, [], suc, length, OnOk, Err};
 ghost use Rattle.e3_fleet.specs.Settling.{Since, Stands, history_in, most_in, scenario_in};
 ghost use Rattle.e3_fleet.specs.declared.fleet.Fleet.{Fleet as Fleets};
 ghost use Rattle.e3_play.specs.GoingOn.{SitesGoOn};
@@ -34,7 +34,6 @@ fn play_step<D: Disk + Drill + Drop + Send, G: Gate + Sync, R: Wait + Threads + 
     requires given { IsGiven scenario.now }
     requires most { most_in fleet.old ≤ 2000000 }
     requires more { suc done ≤ length scenario.now.steps }
-    requires few { length scenario.now.steps < 2 ^ 32 }
     requires settled { IsSettled scenario.now (history_in fleet.old) done }
     requires known { KnowsNames scenario.now (history_in fleet.old) names.old }
     ensures on { SitesGoOn (Stands D.meaning) (Since D.meaning.meters) scenario_in most_in fleet.old fleet.new }
@@ -65,7 +64,6 @@ pub fn play_first<D: Disk + Drill + Drop + Send, G: Gate + Sync, R: Wait + Threa
     requires standing { Stands D.meaning fleet.old }
     requires given { IsGiven scenario.now }
     requires most { most_in fleet.old ≤ 2000000 }
-    requires few { length scenario.now.steps < 2 ^ 32 }
     requires within { count ≤ length scenario.now.steps }
     requires empty { history_in fleet.old ≡ [] }
     ensures on { SitesGoOn (Stands D.meaning) (Since D.meaning.meters) scenario_in most_in fleet.old fleet.new }
@@ -85,7 +83,8 @@ pub fn play_first<D: Disk + Drill + Drop + Send, G: Gate + Sync, R: Wait + Threa
     Ok(())
 }
 
-/// Plays a scenario from its first rises to its end. A scenario of more steps than 32 bits count wants memory.
+/// Plays a scenario from its first rises to its end. A history has a line for each step, so it is full long before the last of
+/// so many steps that 32 bits do not count them.
 pub(crate) fn play<D: Disk + Drill + Drop + Send, G: Gate + Sync, R: Wait + Threads + Sync>(
     rt: &R,
     scenario: &Scenario,
@@ -101,9 +100,7 @@ pub(crate) fn play<D: Disk + Drill + Drop + Send, G: Gate + Sync, R: Wait + Thre
     ensures whole { OnOk result (IsWhole scenario.now (history_in fleet.new)) }
     ensures full { result ≡ Err HistoryFull → IsFull scenario.now (history_in fleet.new) (most_in fleet.old) }
 {
-    let Ok(steps) = u32::try_from(scenario.steps.len()) else {
-        return Err(RunFault::NoMemory);
-    };
+    let steps = scenario.steps.len().min(u32::MAX as u64) as u32;
     play_first(
         rt,
         scenario,

@@ -1,7 +1,7 @@
 // What the disks of a run read as, beside the logs of its history.
 use e3_codec::{RecordFault, put_records, read_records};
 use e3_disk::{Drill, MemDisk};
-use e3_judge::{Tail, log_at, tail_at};
+use e3_judge::{Prefix, Tail};
 use e3_lines::Page;
 use e3_log::{Frame, Log, OpenCause, OpenRefused};
 use e3_site::brief;
@@ -92,9 +92,10 @@ fn briefs_at(
     history: &[Entry],
     site: u32,
 ) -> Result<(List<u8>, List<u8>), NoMemory> {
-    let mut log = log_at(alloc, scenario, history, site)?;
+    let all = Prefix::of(alloc, scenario, history);
+    let mut log = all.log_at(site)?;
     let before = brief_of(alloc, log.as_slice())?;
-    add_tail(&mut log, tail_at(alloc, scenario, history, site)?)?;
+    add_tail(&mut log, all.tail_at(site)?)?;
     Ok((before, brief_of(alloc, log.as_slice())?))
 }
 

@@ -1,9 +1,12 @@
-//! Worked cases of the layers below a run, and of its parts.
+//! Worked cases of the layers below a run, of its parts, and of sites: what is read off their logs and histories, and their
+//! logs in two regions.
 //! Each part stands behind a line `== NAME`, in the standard input where it reads any, and in the file of this program's output.
 #![tactic(auto)]
 
 mod layers;
 mod parts;
+mod regions;
+mod sites;
 
 use e3_lines::Page;
 use std::process::ExitCode;
@@ -13,5 +16,7 @@ fn main(rt: HostRuntime) -> ExitCode {
     let mut page = Page::new(rt.alloc());
     layers::push_lines(rt.alloc(), &mut page, &given);
     parts::push_lines(rt.alloc(), &mut page, &given);
+    sites::push_lines(rt.alloc(), &mut page, &given);
+    regions::push_lines(rt.alloc(), &mut page, &given);
     page.print(&rt)
 }

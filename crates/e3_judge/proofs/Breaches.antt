@@ -1,7 +1,8 @@
 -- No breach is found exactly where the history is legal, and what is found is one.
 use Rattle.std.proofs.Common.{◌≡◌, ◌++◌, ◌∷◌, [], ℕ, List, length, Option, Some, None, refl, ap, sym, ◌∙◌, subst, append_assoc, append-nil, take, drop}
 use Rattle.std.proofs.lemmas.List.{take-append-drop}
-use Rattle.std.specs.Prelude.{slice_get}
+use Rattle.std.proofs.lemmas.Result.{IfOk-weaker}
+use Rattle.std.specs.Prelude.{slice_get, Result, IfOk, IfSome}
 use Rattle.std.proofs.lemmas.Bool.Decides.{Decides-eqb, Decides-and, Decides-like}
 use Rattle.e3_types.specs.declared.entries.Entry.{Entry}
 use Rattle.e3_types.specs.declared.scenarios.Scenario.{Scenario}
@@ -11,7 +12,7 @@ use Rattle.e3_world.proofs.Pushes.{legal_push}
 use Rattle.e3_judge.specs.declared.breach.Breach.{Breach}
 use Rattle.e3_judge.specs.declared.breach.Guard as rule
 use Rattle.e3_judge.specs.Checks.{checks, first_failing, breach_after, first_breach}
-use Rattle.e3_judge.specs.Claims.{ChecksAreGuard, IsBreach, NoBreachIsLegal, BreachIsBroken, WholeIsWhole}
+use Rattle.e3_judge.specs.Claims.{ChecksAreGuard, IsBreach, IsJudged, NoBreachIsLegal, BreachIsBroken, WholeIsWhole}
 use Rattle.e3_judge.proofs.Anys.{decides_true, decides_none}
 use Rattle.e3_judge.proofs.Passing.{guard_from_checks, checks_from_guard}
 
@@ -95,6 +96,22 @@ breach_in sc before (x ∷ h) b was e = by (first_failing (checks sc before x)) 
 
 pub breach_is_broken : BreachIsBroken
 breach_is_broken sc h b found = breach_in sc [] h b tt found
+
+first_is_judged : (sc : Scenario) (h : List Entry) (b : Option Breach) → b ≡ first_breach sc h → IsJudged sc h b
+first_is_judged sc h b e = record {
+  found = e;
+  legal = (λ none. (no_breach_is_legal sc h).0 (sym e ∙ none), λ legal. e ∙ (no_breach_is_legal sc h).1 legal);
+  broken = broken_by b e;
+}
+  where
+    broken_by : (o : Option Breach) → o ≡ first_breach sc h → IfSome o (IsBreach sc h)
+    broken_by None is = tt
+    broken_by (Some x) is = breach_is_broken sc h x (sym is)
+
+-- what is first is all that a judge says
+pub judged : {E : Type 0} (sc : Scenario) (h : List Entry) (r : Result (Option Breach) E) →
+    IfOk r (λ b. b ≡ first_breach sc h) → IfOk r (IsJudged sc h)
+judged sc h r first = IfOk-weaker r _ _ (first_is_judged sc h) first
 
 pub whole_is_whole : WholeIsWhole
 whole_is_whole sc h = Decides-like _

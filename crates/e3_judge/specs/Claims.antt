@@ -1,5 +1,5 @@
 -- What the tests and the judge's answer mean.
-use Rattle.std.specs.Prelude.{◌≡◌, ◌↔◌, ℕ, Bool, true, List, Some, None, take, slice_get}
+use Rattle.std.specs.Prelude.{◌≡◌, ◌↔◌, ℕ, Bool, true, List, Option, Some, None, IfSome, take, slice_get}
 use Rattle.std.specs.Bool.{Decides}
 use Rattle.e3_types.specs.declared.entries.Entry.{Entry}
 use Rattle.e3_types.specs.declared.scenarios.Scenario.{Scenario}
@@ -28,6 +28,13 @@ pub record IsBreach (sc : Scenario) (h : List Entry) (b : Breach) : Type 0 where
   pub legal_before : IsLegal sc (take b.at h)
   pub broken : Guard sc (take b.at h) entry → ⊥
   pub named : first_failing (checks sc (take b.at h) entry) ≡ Some b.guard
+
+-- What a judge says of a history: the first entry that fails a guard, with the first that it fails; none exactly where the
+-- history is legal; and what is named breaks the rules.
+pub record IsJudged (sc : Scenario) (h : List Entry) (breach : Option Breach) : Type 0 where
+  pub found : breach ≡ first_breach sc h
+  pub legal : (breach ≡ None) ↔ IsLegal sc h
+  pub broken : IfSome breach (IsBreach sc h)
 
 -- no breach is found exactly where the history is legal
 abbrev pub NoBreachIsLegal : Type 0

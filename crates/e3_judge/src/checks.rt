@@ -15,11 +15,11 @@ use crate::equal::{Same, same_list};
 use crate::inputs::is_empty;
 use crate::prefix::Prefix;
 use crate::{
-    Guard, Tail, is_site, is_through, is_up_at, lines, log_at, made_by, may_rise, parts_due,
-    pending, present_items, sent_count, since_line, tail_at,
+    Guard, Tail, is_site, is_up_at, lines, may_rise, parts_due, present_items, sent_count,
+    since_line,
 };
 use e3_readings::logged_inc;
-use e3_types::{Act, Entry, Input, Item, List, NoMemory, Packet, Record, Scenario, SiteSet, Told};
+use e3_types::{Act, Entry, Input, Item, List, NoMemory, Packet, Record, SiteSet, Told};
 use e3_world::Made;
 use std::alloc::Global;
 
@@ -107,7 +107,7 @@ impl Prefix<'_> {
         if !is_next(number, lines(self.entries)) || number as u64 > self.scenario.steps.len() {
             return Ok(false);
         }
-        is_through(self.alloc, self.scenario, self.entries)
+        self.is_through()
     }
 
     // Directly behind the line of a split or a merge, with its parts.
@@ -139,7 +139,7 @@ impl Prefix<'_> {
     fn drop_is_due(&self, number: u64) -> Result<bool, NoMemory>
         ensures { IfOk result (λ b. b ≡ drop_is_due self.now.scenario.now self.now.entries.now number) }
     {
-        let waiting = pending(self.alloc, self.scenario, self.entries)?;
+        let waiting = self.pending()?;
         for packet in waiting.as_slice() {
             if self.may_drop(waiting.as_slice(), number, packet) {
                 return Ok(true);
@@ -203,7 +203,7 @@ impl Prefix<'_> {
         if !self.input_is_due(site, input)? {
             return Ok(Some(Guard::Input));
         }
-        let made = made_by(self.alloc, self.scenario, self.entries, site, input)?;
+        let made = self.made_by(site, input)?;
         self.made_breach(&made, records, outs, told)
     }
 
@@ -266,7 +266,7 @@ impl Prefix<'_> {
         requires { tail.now ≡ open_tail self.now.scenario.now self.now.entries.now site }
         ensures { IfOk result (λ b. b ≡ is_next_inc self.now.scenario.now self.now.entries.now site kept inc) }
     {
-        let mut log = log_at(self.alloc, self.scenario, self.entries, site)?;
+        let mut log = self.log_at(site)?;
         add_kept(self.alloc, site, kept, tail, &mut log)?;
         Ok(is_next(inc, logged_inc(log.as_slice()) as u64))
     }
@@ -279,7 +279,7 @@ impl Prefix<'_> {
         if rising.is_some() {
             return Ok(rising);
         }
-        let tail = tail_at(self.alloc, self.scenario, self.entries, site)?;
+        let tail = self.tail_at(site)?;
         if kept && tail.is_none() {
             return Ok(Some(Guard::Tail));
         }
@@ -316,47 +316,37 @@ impl Prefix<'_> {
         }
         Ok(unless(self.drop_is_due(number)?, Guard::Drop))
     }
-}
 
-/// The first guard that an entry fails behind these entries, none where it may come there. They are read anew.
-pub fn entry_breach(
-    alloc: Global,
-    scenario: &Scenario,
-    before: &[Entry],
-    entry: &Entry,
-) -> Result<Option<Guard>, NoMemory>
-    ensures { IfOk result (λ g. g ≡ first_failing (checks scenario.now before.now entry.now)) }
-{
-    let prefix = Prefix {
-        alloc,
-        scenario,
-        entries: before,
-    };
-    let owner = entry.owner;
-    match &entry.act {
-        Act::Line { number } => prefix.line_breach(owner, *number),
-        Act::Parts { parts } => prefix.parts_breach(owner, parts.as_slice()),
-        Act::Drop { packet } => prefix.drop_breach(owner, *packet),
-        Act::Step {
-            input,
-            records,
-            outs,
-            told,
-        } => prefix.step_breach(
-            owner,
-            input,
-            records.as_slice(),
-            outs.as_slice(),
-            told.as_slice(),
-        ),
-        Act::Fall {
-            inputs,
-            records,
-            ..
-        } => prefix.fall_breach(owner, inputs.as_slice(), records.as_slice()),
-        Act::Cut => Ok(prefix.cut_breach(owner)),
-        Act::Rise { kept, inc } => prefix.rise_breach(owner, *kept, *inc),
-        Act::RiseFall { kept, inc, .. } => { prefix.rise_breach(owner, *kept, *inc) }
-        Act::Miss => Ok(prefix.rising_breach(owner)),
+    /// The first guard that an entry fails behind these entries, none where it may come there. They are read anew.
+    pub fn entry_breach(&self, entry: &Entry) -> Result<Option<Guard>, NoMemory>
+        ensures { IfOk result (λ g. g ≡ first_failing (checks self.now.scenario.now self.now.entries.now entry.now)) }
+    {
+        let owner = entry.owner;
+        match &entry.act {
+            Act::Line { number } => self.line_breach(owner, *number),
+            Act::Parts { parts } => self.parts_breach(owner, parts.as_slice()),
+            Act::Drop { packet } => self.drop_breach(owner, *packet),
+            Act::Step {
+                input,
+                records,
+                outs,
+                told,
+            } => self.step_breach(
+                owner,
+                input,
+                records.as_slice(),
+                outs.as_slice(),
+                told.as_slice(),
+            ),
+            Act::Fall {
+                inputs,
+                records,
+                ..
+            } => self.fall_breach(owner, inputs.as_slice(), records.as_slice()),
+            Act::Cut => Ok(self.cut_breach(owner)),
+            Act::Rise { kept, inc } => self.rise_breach(owner, *kept, *inc),
+            Act::RiseFall { kept, inc, .. } => { self.rise_breach(owner, *kept, *inc) }
+            Act::Miss => Ok(self.rising_breach(owner)),
+        }
     }
 }

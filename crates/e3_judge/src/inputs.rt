@@ -9,10 +9,7 @@ ghost use Rattle.e3_judge.specs.Equal.{is_some, same_input, same_packet};
 use crate::copies::add_copies;
 use crate::equal::Same;
 use crate::prefix::Prefix;
-use crate::{
-    due_round, entry_of, has_delivery, inputs_at, is_calm, items_through, made_by, pending,
-    present_items, turn_of,
-};
+use crate::{has_delivery, is_calm, present_items, turn_of};
 use e3_readings::RecoveryRound;
 use e3_types::{Input, List, NoMemory, Packet, Record, SiteSet, Txn};
 
@@ -70,7 +67,7 @@ impl Prefix<'_> {
     fn is_next_item(&self, site: u32, input: &Input) -> Result<bool, NoMemory>
         ensures { IfOk result (λ b. b ≡ is_next_item self.now.scenario.now self.now.entries.now site input.now) }
     {
-        let inputs = inputs_at(self.alloc, self.scenario, self.entries, site)?;
+        let inputs = self.inputs_at(site)?;
         let turn = turn_of(self.entries, site)?;
         Ok(is_at(inputs.as_slice(), turn, input) && !has_delivery(self.entries, site))
     }
@@ -82,11 +79,11 @@ impl Prefix<'_> {
         if packet.to != site {
             return Ok(false);
         }
-        let waiting = pending(self.alloc, self.scenario, self.entries)?;
+        let waiting = self.pending()?;
         if !has_packet(waiting.as_slice(), packet) {
             return Ok(false);
         }
-        if !items_through(self.alloc, self.scenario, self.entries)? {
+        if !self.items_through()? {
             return Ok(false);
         }
         Ok(self.is_in_order(waiting.as_slice(), packet))
@@ -96,12 +93,12 @@ impl Prefix<'_> {
     fn round_is_due(&self, site: u32, txn: &Txn, group: SiteSet) -> Result<bool, NoMemory>
         ensures { IfOk result (λ b. b ≡ round_is_due self.now.scenario.now self.now.entries.now site txn.now group) }
     {
-        match due_round(self.alloc, self.scenario, self.entries)? {
+        match self.due_round()? {
             Some(round) => {
                 if !is_round(&round, txn, group, site) {
                     return Ok(false);
                 }
-                Ok(is_empty(pending(self.alloc, self.scenario, self.entries)?.as_slice()))
+                Ok(is_empty(self.pending()?.as_slice()))
             }
             None => Ok(false),
         }
@@ -130,15 +127,11 @@ impl Prefix<'_> {
         let mut history = List::new(self.alloc);
         add_copies(self.alloc, self.entries, &mut history)?;
         for input in inputs {
-            let prefix = Prefix {
-                alloc: self.alloc,
-                scenario: self.scenario,
-                entries: history.as_slice(),
-            };
+            let prefix = Prefix::of(self.alloc, self.scenario, history.as_slice());
             if !prefix.input_is_due(site, input)? {
                 return Ok(false);
             }
-            let entry = entry_of(self.alloc, self.scenario, history.as_slice(), site, input)?;
+            let entry = prefix.entry_of(site, input)?;
             history.push(entry)?;
         }
         Ok(true)
@@ -152,9 +145,10 @@ impl Prefix<'_> {
         let mut history = List::new(self.alloc);
         add_copies(self.alloc, self.entries, &mut history)?;
         for input in inputs {
-            let made = made_by(self.alloc, self.scenario, history.as_slice(), site, input)?;
+            let prefix = Prefix::of(self.alloc, self.scenario, history.as_slice());
+            let made = prefix.made_by(site, input)?;
             add_copies(self.alloc, made.records.as_slice(), &mut out)?;
-            let entry = entry_of(self.alloc, self.scenario, history.as_slice(), site, input)?;
+            let entry = prefix.entry_of(site, input)?;
             history.push(entry)?;
         }
         Ok(out)

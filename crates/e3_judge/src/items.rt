@@ -7,10 +7,10 @@ ghost use Rattle.e3_world.specs.Progress.{up_behind};
 
 use crate::counts::add;
 use crate::packets::{is_line, present_items};
+use crate::prefix::Prefix;
 use e3_readings::{bind, inputs_asked, inputs_to, nothing_bound};
-use e3_types::{Act, Entry, Input, List, NoMemory, Scenario};
+use e3_types::{Act, Entry, Input, List, NoMemory};
 use e3_world::Addressed;
-use std::alloc::Global;
 
 // Where the part up to the last line ends, with one more entry.
 fn end_behind(end: usize, at: usize, entry: &Entry) -> usize
@@ -47,30 +47,6 @@ pub fn to_line(history: &[Entry]) -> &[Entry]
 {
     let end = line_end(history);
     &history[..end]
-}
-
-// What the present step asks of the sites, in the order of its items.
-#[tactic(auto, using(e3_readings::proofs::ByName::inputs_are))]
-fn plan_of(alloc: Global, sc: &Scenario, history: &[Entry]) -> Result<List<Addressed>, NoMemory>
-    ensures { IfOk result (λ plan. plan ≡ plan_of sc.now history.now) }
-{
-    let start = to_line(history);
-    let mut binding = nothing_bound(alloc);
-    bind(alloc, sc, start, &mut binding)?;
-    inputs_asked(alloc, &binding, present_items(sc, start))
-}
-
-/// The inputs of the present step that go to a site.
-pub fn inputs_at(
-    alloc: Global,
-    sc: &Scenario,
-    history: &[Entry],
-    site: u32,
-) -> Result<List<Input>, NoMemory>
-    ensures { IfOk result (λ inputs. inputs ≡ inputs_at sc.now history.now site) }
-{
-    let plan = plan_of(alloc, sc, history)?;
-    inputs_to(alloc, plan.as_slice(), site as u64)
 }
 
 // The input is a delivery.
@@ -179,28 +155,50 @@ pub fn is_up_at(history: &[Entry], site: u32) -> bool
     stands_up(history, site as u64)
 }
 
-// The site has taken all its items, or is down.
-fn is_done(alloc: Global, sc: &Scenario, history: &[Entry], site: u64) -> Result<bool, NoMemory>
-    ensures { IfOk result (λ b. b ≡ (not (is_up_at history.now site) || nat_le (length (inputs_at sc.now history.now site)) (turn_of history.now site))) }
-{
-    if !stands_up(history, site) {
-        return Ok(true);
+impl Prefix<'_> {
+    // What the present step asks of the sites, in the order of its items.
+    #[tactic(auto, using(e3_readings::proofs::ByName::inputs_are))]
+    fn plan_of(&self) -> Result<List<Addressed>, NoMemory>
+        ensures { IfOk result (λ plan. plan ≡ plan_of self.now.scenario.now self.now.entries.now) }
+    {
+        let start = to_line(self.entries);
+        let mut binding = nothing_bound(self.alloc);
+        bind(self.alloc, self.scenario, start, &mut binding)?;
+        inputs_asked(self.alloc, &binding, present_items(self.scenario, start))
     }
-    let plan = plan_of(alloc, sc, history)?;
-    let inputs = inputs_to(alloc, plan.as_slice(), site)?;
-    let turn = turn_at(history, site)?;
-    Ok(inputs.len() <= turn)
-}
 
-/// Every site has taken all its items, or is down.
-#[tactic(auto, using(crate::proofs::AllSites::all_next))]
-pub fn items_through(alloc: Global, sc: &Scenario, history: &[Entry]) -> Result<bool, NoMemory>
-    ensures { IfOk result (λ b. b ≡ items_through sc.now history.now) }
-{
-    let mut through = true;
-    for s in 0..sc.weights.len() {
-        let done = is_done(alloc, sc, history, s + 1)?;
-        through = through && done;
+    /// The inputs of the present step that go to a site.
+    pub fn inputs_at(&self, site: u32) -> Result<List<Input>, NoMemory>
+        ensures { IfOk result (λ inputs. inputs ≡ inputs_at self.now.scenario.now self.now.entries.now site) }
+    {
+        let plan = self.plan_of()?;
+        inputs_to(self.alloc, plan.as_slice(), site as u64)
     }
-    Ok(through)
+
+    // The site has taken all its items, or is down.
+    fn is_done(&self, site: u64) -> Result<bool, NoMemory>
+        ensures { IfOk result (λ b. b ≡ (not (is_up_at self.now.entries.now site)
+            || nat_le (length (inputs_at self.now.scenario.now self.now.entries.now site)) (turn_of self.now.entries.now site))) }
+    {
+        if !stands_up(self.entries, site) {
+            return Ok(true);
+        }
+        let plan = self.plan_of()?;
+        let inputs = inputs_to(self.alloc, plan.as_slice(), site)?;
+        let turn = turn_at(self.entries, site)?;
+        Ok(inputs.len() <= turn)
+    }
+
+    /// Every site has taken all its items, or is down.
+    #[tactic(auto, using(crate::proofs::AllSites::all_next))]
+    pub fn items_through(&self) -> Result<bool, NoMemory>
+        ensures { IfOk result (λ b. b ≡ items_through self.now.scenario.now self.now.entries.now) }
+    {
+        let mut through = true;
+        for s in 0..self.scenario.weights.len() {
+            let done = self.is_done(s + 1)?;
+            through = through && done;
+        }
+        Ok(through)
+    }
 }

@@ -1,11 +1,11 @@
 // The judge: the first entry of a history that breaks the rules, and whether a history went through its scenario.
-ghost use Rattle.std.specs.Prelude.{◌≡◌, ◌≤◌, ◌↔◌, IfOk, IfSome, None, IsTrue, length, take, drop};
+ghost use Rattle.std.specs.Prelude.{◌≡◌, ◌≤◌, ◌↔◌, IfOk, IsTrue, length, take, drop};
 ghost use Rattle.e3_world.specs.Legal.{IsLegal, IsWhole};
 ghost use Rattle.e3_judge.specs.Checks.{breach_after, first_breach, is_whole};
-ghost use Rattle.e3_judge.specs.Claims.{IsBreach};
+ghost use Rattle.e3_judge.specs.Claims.{IsJudged};
 
-use crate::checks::entry_breach;
-use crate::{Breach, is_through, lines};
+use crate::prefix::Prefix;
+use crate::{Breach, lines};
 use e3_types::{Entry, NoMemory, Scenario};
 use e3_world::History;
 use std::alloc::Global;
@@ -21,7 +21,8 @@ fn breach_of(
     ensures { IfOk result (λ b. b ≡ breach_after scenario.now (take from history.now) (drop from history.now)) }
 {
     for i in from..history.len() {
-        if let Some(guard) = entry_breach(alloc, scenario, &history[..i], &history[i])? {
+        let before = Prefix::of(alloc, scenario, &history[..i]);
+        if let Some(guard) = before.entry_breach(&history[i])? {
             return Ok(Some(Breach {
                 at: i as u64,
                 guard,
@@ -48,21 +49,19 @@ fn breach_behind(
 /// The first entry of a history that breaks the rules, and the first of its guards that fails; none where the history is
 /// legal. Every reading is made anew for every entry, so this takes about the cube of the history's length. A faster body
 /// may come under the same contract. Want of memory is the only error.
-#[tactic(auto, using(crate::proofs::Breaches::no_breach_is_legal, crate::proofs::Breaches::breach_is_broken))]
+#[tactic(auto, using(crate::proofs::Breaches::judged))]
 pub fn judge(
     alloc: Global,
     scenario: &Scenario,
     history: &History,
 ) -> Result<Option<Breach>, NoMemory>
-    ensures found { IfOk result (λ b. b ≡ first_breach scenario.now history.now.entries) }
-    ensures legal { IfOk result (λ b. (b ≡ None) ↔ IsLegal scenario.now history.now.entries) }
-    ensures broken { IfOk result (λ b. IfSome b (λ x. IsBreach scenario.now history.now.entries x)) }
+    ensures { IfOk result (IsJudged scenario.now history.now.entries) }
 {
     breach_of(alloc, scenario, history.as_slice(), 0)
 }
 
 /// The same where the entries before this place are known to be legal: they are read, and not judged anew.
-#[tactic(auto, using(crate::proofs::Breaches::no_breach_is_legal, crate::proofs::Breaches::breach_is_broken))]
+#[tactic(auto, using(crate::proofs::Breaches::judged))]
 pub fn judge_behind(
     alloc: Global,
     scenario: &Scenario,
@@ -71,9 +70,7 @@ pub fn judge_behind(
 ) -> Result<Option<Breach>, NoMemory>
     requires within { from ≤ length history.now.entries }
     requires legal { IsLegal scenario.now (take from history.now.entries) }
-    ensures found { IfOk result (λ b. b ≡ first_breach scenario.now history.now.entries) }
-    ensures legal { IfOk result (λ b. (b ≡ None) ↔ IsLegal scenario.now history.now.entries) }
-    ensures broken { IfOk result (λ b. IfSome b (λ x. IsBreach scenario.now history.now.entries x)) }
+    ensures { IfOk result (IsJudged scenario.now history.now.entries) }
 {
     breach_behind(alloc, scenario, history.as_slice(), from)
 }
@@ -86,7 +83,8 @@ fn are_whole(alloc: Global, scenario: &Scenario, history: &[Entry]) -> Result<bo
     if breach.is_some() || lines(history) != scenario.steps.len() {
         return Ok(false);
     }
-    is_through(alloc, scenario, history)
+    let all = Prefix::of(alloc, scenario, history);
+    all.is_through()
 }
 
 /// The history is legal and went through the whole scenario. It costs as much as `judge`. Want of memory is the only

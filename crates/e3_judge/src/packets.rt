@@ -5,11 +5,11 @@ ghost use Rattle.e3_world.specs.Fate.{copies_of, fate_by_luck, same_part};
 ghost use Rattle.e3_world.specs.Packets.{fate_of, is_calm, is_line, lines, outs_of, parts_of, pending, present_items, sent, taken, taken_by, takes_input};
 
 use crate::counts::add;
+use crate::prefix::Prefix;
 use crate::steps::is_site;
 use e3_readings::step_items;
 use e3_types::{Act, Entry, Input, Item, List, NoMemory, Packet, Scenario, SiteSet};
 use e3_world::fate_word;
-use std::alloc::Global;
 
 /// The entry is a line.
 pub(crate) fn is_line(entry: &Entry) -> bool
@@ -170,14 +170,22 @@ fn add_left(
     Ok(())
 }
 
-/// The pending packets, in the order of their numbers: those of which fewer copies were taken than their fate gives.
-pub fn pending(alloc: Global, sc: &Scenario, history: &[Entry]) -> Result<List<Packet>, NoMemory>
-    ensures { IfOk result (λ packets. packets ≡ pending sc.now history.now) }
-{
-    let mut left = List::new(alloc);
-    for i in 0..history.len() {
-        let before = &history[..i];
-        add_left(sc, history, before, &history[i], &mut left)?;
+impl Prefix<'_> {
+    /// The pending packets, in the order of their numbers: those of which fewer copies were taken than their fate gives.
+    pub fn pending(&self) -> Result<List<Packet>, NoMemory>
+        ensures { IfOk result (λ packets. packets ≡ pending self.now.scenario.now self.now.entries.now) }
+    {
+        let mut left = List::new(self.alloc);
+        for i in 0..self.entries.len() {
+            let before = &self.entries[..i];
+            add_left(
+                self.scenario,
+                self.entries,
+                before,
+                &self.entries[i],
+                &mut left,
+            )?;
+        }
+        Ok(left)
     }
-    Ok(left)
 }

@@ -4,7 +4,7 @@ ghost use Rattle.e3_readings.specs.Places.{placed_at};
 ghost use Rattle.e3_world.specs.Moves.{all_records, trail_of};
 ghost use Rattle.e3_judge.specs.Added.{added_by};
 
-use crate::log_at;
+use crate::prefix::Prefix;
 use e3_readings::{SiteRecord, add_placed};
 use e3_types::{Entry, List, NoMemory, Record, Scenario};
 use std::alloc::Global;
@@ -30,9 +30,11 @@ fn add_of(
 ) -> Result<(), NoMemory>
     ensures { OnOk result (out.new ≡ out.old ++ placed_at site (added_by scenario.now before.now with.now site)) }
 {
-    let old = log_at(alloc, scenario, before, site)?;
+    let before = Prefix::of(alloc, scenario, before);
+    let with = Prefix::of(alloc, scenario, with);
+    let old = before.log_at(site)?;
     let had = old.as_slice().len();
-    let log = log_at(alloc, scenario, with, site)?;
+    let log = with.log_at(site)?;
     add_placed(alloc, out, site, behind(log.as_slice(), had))
 }
 

@@ -1,53 +1,14 @@
 // The rounds of a recover step: for each transaction that is open at a member of the group that is up, in ascending order.
-ghost use Rattle.std.specs.Prelude.{◌≡◌, ◌++◌, [], ◌∷◌, fold, filter, map, find, length, option_copied, IfOk};
+ghost use Rattle.std.specs.Prelude.{◌≡◌, ◌++◌, filter, find, IfOk};
 ghost use Rattle.std.specs.List.{flat_map};
-ghost use Rattle.e3_types.specs.Sets.{has_site};
-ghost use Rattle.e3_world.specs.Items.{add_txn, began_in, due_round, elected_txn, inputs_of, is_up_at, known_txns, listed, open_at, recover_group, rounds_left, since_line, txn_of_record};
-ghost use Rattle.e3_world.specs.Logs.{is_undecided};
-ghost use Rattle.e3_world.specs.Operations.{arrivals};
+ghost use Rattle.e3_world.specs.Items.{due_round, elected_txn, inputs_of, is_up_at, listed, open_at, recover_group, rounds_left, since_line};
 
 use crate::items::{is_up_at, since_line, to_line};
 use crate::packets::present_items;
-use crate::sites::incarnation_at;
+use crate::prefix::Prefix;
 use e3_readings::{RecoveryRound, add_undecided_in, in_order, life_of, rounds_of};
-use e3_types::{Act, Entry, Input, Item, List, NoMemory, Record, Scenario, SiteSet, Told, Txn};
-use e3_world::{Life, Moment};
+use e3_types::{Act, Entry, Input, Item, List, NoMemory, SiteSet, Txn};
 use std::alloc::Global;
-
-// Adds the undecided transactions that a site knows.
-fn add_open(
-    alloc: Global,
-    sc: &Scenario,
-    history: &[Entry],
-    site: u32,
-    out: &mut List<Txn>,
-) -> Result<(), NoMemory>
-    ensures { IfOk result (λ u. out.new ≡ out.old ++ open_at sc.now history.now site) }
-{
-    let incarnation = incarnation_at(alloc, sc, history, site)?;
-    let life = life_of(
-        alloc,
-        incarnation.rose.as_slice(),
-        incarnation.since.as_slice(),
-    )?;
-    add_undecided_in(alloc, site, &life, out)
-}
-
-/// The undecided transactions that these sites know, some more than once.
-pub(crate) fn open_of(
-    alloc: Global,
-    sc: &Scenario,
-    history: &[Entry],
-    sites: &[u32],
-) -> Result<List<Txn>, NoMemory>
-    ensures { IfOk result (λ txns. txns ≡ flat_map (open_at sc.now history.now) sites.now) }
-{
-    let mut txns = List::new(alloc);
-    for site in sites {
-        add_open(alloc, sc, history, *site, &mut txns)?;
-    }
-    Ok(txns)
-}
 
 // Those of the group that are up.
 fn up_in(alloc: Global, history: &[Entry], group: SiteSet) -> Result<List<u32>, NoMemory>
@@ -60,21 +21,6 @@ fn up_in(alloc: Global, history: &[Entry], group: SiteSet) -> Result<List<u32>, 
         }
     }
     Ok(up)
-}
-
-// The rounds that a recover step with this group lists at its start.
-fn listed(
-    alloc: Global,
-    sc: &Scenario,
-    start: &[Entry],
-    group: SiteSet,
-) -> Result<List<RecoveryRound>, NoMemory>
-    ensures { IfOk result (λ rounds. rounds ≡ listed sc.now start.now group) }
-{
-    let up = up_in(alloc, start, group)?;
-    let open = open_of(alloc, sc, start, up.as_slice())?;
-    let txns = in_order(alloc, open.as_slice())?;
-    rounds_of(alloc, txns.as_slice(), up.as_slice())
 }
 
 // The group of a recover step.
@@ -155,20 +101,56 @@ fn first_up(history: &[Entry], rounds: &[RecoveryRound]) -> Option<RecoveryRound
     None
 }
 
-/// The next round to be made: the first that is left whose elector is up.
-pub fn due_round(
-    alloc: Global,
-    sc: &Scenario,
-    history: &[Entry],
-) -> Result<Option<RecoveryRound>, NoMemory>
-    ensures { IfOk result (λ due. due ≡ due_round sc.now history.now) }
-{
-    match recover_group(present_items(sc, history)) {
-        None => Ok(None),
-        Some(group) => {
-            let made = made_txns(alloc, history)?;
-            let rounds = listed(alloc, sc, to_line(history), group)?;
-            Ok(first_up(history, rounds_left(made.as_slice(), rounds.as_slice())))
+impl Prefix<'_> {
+    // Adds the undecided transactions that a site knows.
+    fn add_open(&self, site: u32, out: &mut List<Txn>) -> Result<(), NoMemory>
+        ensures { IfOk result (λ u. out.new ≡ out.old ++ open_at self.now.scenario.now self.now.entries.now site) }
+    {
+        let incarnation = self.incarnation_at(site)?;
+        let life = life_of(
+            self.alloc,
+            incarnation.rose.as_slice(),
+            incarnation.since.as_slice(),
+        )?;
+        add_undecided_in(self.alloc, site, &life, out)
+    }
+
+    // The undecided transactions that these sites know, some more than once.
+    fn open_of(&self, sites: &[u32]) -> Result<List<Txn>, NoMemory>
+        ensures { IfOk result (λ txns. txns ≡ flat_map (open_at self.now.scenario.now self.now.entries.now) sites.now) }
+    {
+        let mut txns = List::new(self.alloc);
+        for site in sites {
+            self.add_open(*site, &mut txns)?;
+        }
+        Ok(txns)
+    }
+
+    // The rounds that a recover step with this group lists, where it starts behind these entries.
+    fn listed(&self, group: SiteSet) -> Result<List<RecoveryRound>, NoMemory>
+        ensures { IfOk result (λ rounds. rounds ≡ listed self.now.scenario.now self.now.entries.now group) }
+    {
+        let up = up_in(self.alloc, self.entries, group)?;
+        let open = self.open_of(up.as_slice())?;
+        let txns = in_order(self.alloc, open.as_slice())?;
+        rounds_of(self.alloc, txns.as_slice(), up.as_slice())
+    }
+
+    /// The next round to be made: the first that is left whose elector is up.
+    pub fn due_round(&self) -> Result<Option<RecoveryRound>, NoMemory>
+        ensures { IfOk result (λ due. due ≡ due_round self.now.scenario.now self.now.entries.now) }
+    {
+        match recover_group(present_items(self.scenario, self.entries)) {
+            None => Ok(None),
+            Some(group) => {
+                let made = made_txns(self.alloc, self.entries)?;
+                let start = Prefix::of(self.alloc, self.scenario, to_line(self.entries));
+                let rounds = start.listed(group)?;
+                Ok(first_up(
+                    self.entries,
+                    rounds_left(made.as_slice(), rounds.as_slice()),
+                ))
+            }
         }
     }
 }

@@ -9,6 +9,7 @@ ghost use Rattle.e3_judge.specs.Standing.{kept_in, nothing_yet, standing_by, ste
 use crate::copies::add_copies;
 use crate::counts::add;
 use crate::packets::sent_count;
+use crate::prefix::Prefix;
 use e3_plain::{step_of, unnumbered, unnumbered_input};
 use e3_readings::{present_log, rows_at};
 use e3_types::{Act, Copied, Entry, Input, List, NoMemory, Packet, Record, Scenario, Told, Why};
@@ -222,90 +223,6 @@ fn standing_by(
     }
 }
 
-fn standing_at(
-    alloc: Global,
-    sc: &Scenario,
-    history: &[Entry],
-    site: u32,
-) -> Result<Standing, NoMemory>
-    ensures { IfOk result (λ s. s ≡ fold (λ was e. standing_by sc.now site was e.act) nothing_yet (own_entries site history.now)) }
-{
-    let mut standing = Standing {
-        incarnation: Incarnation {
-            rose: List::new(alloc),
-            since: List::new(alloc),
-        },
-        tail: None,
-    };
-    for e in history {
-        if e.owner == site {
-            standing = standing_by(alloc, sc, site, standing, &e.act)?;
-        }
-    }
-    Ok(standing)
-}
-
-/// The present incarnation of a site.
-pub fn incarnation_at(
-    alloc: Global,
-    sc: &Scenario,
-    history: &[Entry],
-    site: u32,
-) -> Result<Incarnation, NoMemory>
-    ensures { IfOk result (λ i. i ≡ incarnation_of (moves_of sc.now history.now site)) }
-{
-    let standing = standing_at(alloc, sc, history, site)?;
-    Ok(standing.incarnation)
-}
-
-/// The open tail of a site.
-pub fn tail_at(
-    alloc: Global,
-    sc: &Scenario,
-    history: &[Entry],
-    site: u32,
-) -> Result<Option<Tail>, NoMemory>
-    ensures { IfOk result (λ tail. tail ≡ open_tail sc.now history.now site) }
-{
-    let standing = standing_at(alloc, sc, history, site)?;
-    Ok(standing.tail)
-}
-
-/// The log of a site.
-#[tactic(auto, using(crate::proofs::Standings::log_stands))]
-pub fn log_at(
-    alloc: Global,
-    sc: &Scenario,
-    history: &[Entry],
-    site: u32,
-) -> Result<List<Record>, NoMemory>
-    ensures { IfOk result (λ log. log ≡ log_of sc.now history.now site) }
-{
-    let incarnation = incarnation_at(alloc, sc, history, site)?;
-    log_now(alloc, &incarnation)
-}
-
-/// The step that an input would make a site do now. Its packets have the number 0.
-pub fn made_by(
-    alloc: Global,
-    sc: &Scenario,
-    history: &[Entry],
-    site: u32,
-    input: &Input,
-) -> Result<Made, NoMemory>
-    ensures { IfOk result (λ made. made ≡ made_by sc.now history.now site input.now) }
-{
-    let now = incarnation_at(alloc, sc, history, site)?;
-    step_of(
-        alloc,
-        sc.weights.as_slice(),
-        site,
-        now.rose.as_slice(),
-        now.since.as_slice(),
-        input,
-    )
-}
-
 // The number of the next packet.
 fn first_free(history: &[Entry]) -> Result<u64, NoMemory>
     ensures { IfOk result (λ number. number ≡ suc (length (sent history.now))) }
@@ -328,28 +245,83 @@ fn numbered(alloc: Global, first: u64, outs: &[Packet]) -> Result<List<Packet>, 
     Ok(packets)
 }
 
-/// The step entry of an input that comes to the site now: its packets have the next numbers.
-pub fn entry_of(
-    alloc: Global,
-    sc: &Scenario,
-    history: &[Entry],
-    site: u32,
-    input: &Input,
-) -> Result<Entry, NoMemory>
-    ensures { IfOk result (λ entry. entry ≡ entry_of sc.now history.now site input.now) }
-{
-    let made = made_by(alloc, sc, history, site, input)?;
-    let first = first_free(history)?;
-    let outs = numbered(alloc, first, made.outs.as_slice())?;
-    Ok(Entry {
-        owner: site,
-        act: Act::Step {
-            input: input.copy(),
-            records: made.records,
-            outs,
-            told: made.told,
-        },
-    })
+impl Prefix<'_> {
+    // What the site's entries come to.
+    fn standing_at(&self, site: u32) -> Result<Standing, NoMemory>
+        ensures { IfOk result (λ s. s ≡ fold (λ was e. standing_by self.now.scenario.now site was e.act) nothing_yet (own_entries site self.now.entries.now)) }
+    {
+        let mut standing = Standing {
+            incarnation: Incarnation {
+                rose: List::new(self.alloc),
+                since: List::new(self.alloc),
+            },
+            tail: None,
+        };
+        for e in self.entries {
+            if e.owner == site {
+                standing = standing_by(self.alloc, self.scenario, site, standing, &e.act)?;
+            }
+        }
+        Ok(standing)
+    }
+
+    /// The present incarnation of a site.
+    pub fn incarnation_at(&self, site: u32) -> Result<Incarnation, NoMemory>
+        ensures { IfOk result (λ i. i ≡ incarnation_of (moves_of self.now.scenario.now self.now.entries.now site)) }
+    {
+        let standing = self.standing_at(site)?;
+        Ok(standing.incarnation)
+    }
+
+    /// The open tail of a site.
+    pub fn tail_at(&self, site: u32) -> Result<Option<Tail>, NoMemory>
+        ensures { IfOk result (λ tail. tail ≡ open_tail self.now.scenario.now self.now.entries.now site) }
+    {
+        let standing = self.standing_at(site)?;
+        Ok(standing.tail)
+    }
+
+    /// The log of a site.
+    #[tactic(auto, using(crate::proofs::Standings::log_stands))]
+    pub fn log_at(&self, site: u32) -> Result<List<Record>, NoMemory>
+        ensures { IfOk result (λ log. log ≡ log_of self.now.scenario.now self.now.entries.now site) }
+    {
+        let incarnation = self.incarnation_at(site)?;
+        log_now(self.alloc, &incarnation)
+    }
+
+    /// The step that an input would make a site do now. Its packets have the number 0.
+    pub fn made_by(&self, site: u32, input: &Input) -> Result<Made, NoMemory>
+        ensures { IfOk result (λ made. made ≡ made_by self.now.scenario.now self.now.entries.now site input.now) }
+    {
+        let now = self.incarnation_at(site)?;
+        step_of(
+            self.alloc,
+            self.scenario.weights.as_slice(),
+            site,
+            now.rose.as_slice(),
+            now.since.as_slice(),
+            input,
+        )
+    }
+
+    /// The step entry of an input that comes to the site now: its packets have the next numbers.
+    pub fn entry_of(&self, site: u32, input: &Input) -> Result<Entry, NoMemory>
+        ensures { IfOk result (λ entry. entry ≡ entry_of self.now.scenario.now self.now.entries.now site input.now) }
+    {
+        let made = self.made_by(site, input)?;
+        let first = first_free(self.entries)?;
+        let outs = numbered(self.alloc, first, made.outs.as_slice())?;
+        Ok(Entry {
+            owner: site,
+            act: Act::Step {
+                input: input.copy(),
+                records: made.records,
+                outs,
+                told: made.told,
+            },
+        })
+    }
 }
 
 /// A copy of the history with one more entry.

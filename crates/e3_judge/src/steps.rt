@@ -5,9 +5,9 @@ ghost use Rattle.e3_types.specs.Sets.{has_site};
 ghost use Rattle.e3_world.specs.Legal.{begins_with_parts, has_rising, is_made, is_rising, is_through, may_rise, parts_due};
 ghost use Rattle.e3_world.specs.Packets.{all_sites};
 
-use crate::items::{is_up_at, items_through, since_line};
-use crate::packets::{lines, pending, present_items};
-use crate::rounds::due_round;
+use crate::items::{is_up_at, since_line};
+use crate::packets::{lines, present_items};
+use crate::prefix::Prefix;
 use e3_types::{Act, Copied, Entry, Item, List, NoMemory, Scenario, SiteSet};
 use e3_world::all_sites;
 use std::alloc::Global;
@@ -114,32 +114,34 @@ pub fn begins_with_parts(entries: &[Entry]) -> bool
     }
 }
 
-// The one item of the present step had its entry, or is skipped; in a group or a recover step: all of it.
-fn is_made(alloc: Global, sc: &Scenario, history: &[Entry]) -> Result<bool, NoMemory>
-    ensures { IfOk result (λ b. b ≡ is_made sc.now history.now) }
-{
-    match present_items(sc, history) {
-        [Item::Recover { .. }, ..] => Ok(due_round(alloc, sc, history)?.is_none()),
-        [Item::Split { .. }, ..] => Ok(begins_with_parts(since_line(history))),
-        [Item::Merge, ..] => Ok(begins_with_parts(since_line(history))),
-        [Item::Crash { site }, ..] => Ok(!is_up_at(history, *site)),
-        [Item::Restart { site }, ..] => {
-            let rose = has_rising(since_line(history), *site as u64);
-            Ok(is_up_at(history, *site) || rose)
+impl Prefix<'_> {
+    // The one item of the present step had its entry, or is skipped; in a group or a recover step: all of it.
+    fn is_made(&self) -> Result<bool, NoMemory>
+        ensures { IfOk result (λ b. b ≡ is_made self.now.scenario.now self.now.entries.now) }
+    {
+        match present_items(self.scenario, self.entries) {
+            [Item::Recover { .. }, ..] => Ok(self.due_round()?.is_none()),
+            [Item::Split { .. }, ..] => Ok(begins_with_parts(since_line(self.entries))),
+            [Item::Merge, ..] => Ok(begins_with_parts(since_line(self.entries))),
+            [Item::Crash { site }, ..] => Ok(!is_up_at(self.entries, *site)),
+            [Item::Restart { site }, ..] => {
+                let rose = has_rising(since_line(self.entries), *site as u64);
+                Ok(is_up_at(self.entries, *site) || rose)
+            }
+            [Item::Stop { .. }, ..] => Ok(true),
+            _ => self.items_through(),
         }
-        [Item::Stop { .. }, ..] => Ok(true),
-        _ => items_through(alloc, sc, history),
     }
-}
 
-/// All before the next line is through.
-pub fn is_through(alloc: Global, sc: &Scenario, history: &[Entry]) -> Result<bool, NoMemory>
-    ensures { IfOk result (λ b. b ≡ is_through sc.now history.now) }
-{
-    if lines(history) == 0 {
-        return Ok(all_rose(sc, history));
+    /// All before the next line is through.
+    pub fn is_through(&self) -> Result<bool, NoMemory>
+        ensures { IfOk result (λ b. b ≡ is_through self.now.scenario.now self.now.entries.now) }
+    {
+        if lines(self.entries) == 0 {
+            return Ok(all_rose(self.scenario, self.entries));
+        }
+        let left = self.pending()?;
+        let made = self.is_made()?;
+        Ok(left.is_empty() && made)
     }
-    let left = pending(alloc, sc, history)?;
-    let made = is_made(alloc, sc, history)?;
-    Ok(left.is_empty() && made)
 }

@@ -1,7 +1,8 @@
 // The lines of what happens at a site.
-ghost use Rattle.std.specs.Prelude.{◌≡◌, ◌++◌, OnOk};
+ghost use Rattle.std.specs.Prelude.{◌≡◌, ◌++◌, OnOk, codes};
+ghost use Rattle.std.specs.Fmt.{decimal};
 ghost use Rattle.std.specs.List.{flat_map};
-ghost use Rattle.e3_lines.specs.Events.{answer_text, ended_text, doom_text, refusal_text, block_text, verdict_text, op_text, election_text, told_of, of_txn, told_text, told_line, why_text, at_site, rise_line, failure_text, failed_rise_line, fall_line, word_line, act_lines, entry_lines};
+ghost use Rattle.e3_lines.specs.Events.{answer_text, ended_text, doom_text, refusal_text, verdict_text, op_text, election_text, told_of, of_txn, told_text, told_line, why_text, at_site, rise_line, failure_text, failed_rise_line, fall_line, word_line, act_lines, entry_lines};
 
 use crate::texts::{
     push_dir, push_kept, push_labelled, push_line, push_line_end, push_number, push_sites,
@@ -63,15 +64,15 @@ fn push_refusal(out: &mut List<u8>, refusal: Refusal) -> Result<(), NoMemory>
     }
 }
 
-#[tactic(auto, unfolding(crate::specs::Events::block_text))]
-fn push_block(out: &mut List<u8>, have: u64, total: u64) -> Result<(), NoMemory>
-    ensures { OnOk result (out.new ≡ out.old ++ block_text have total) }
+// Adds a word, and how much there is of how much behind it.
+fn push_of(out: &mut List<u8>, word: &str, part: u64, whole: u64) -> Result<(), NoMemory>
+    ensures { OnOk result (out.new ≡ out.old ++ (word.now ++ decimal part ++ codes " of " ++ decimal whole)) }
 {
-    push_labelled(out, "block ", have)?;
-    push_labelled(out, " of ", total)
+    push_labelled(out, word, part)?;
+    push_labelled(out, " of ", whole)
 }
 
-#[tactic(auto, unfolding(crate::specs::Events::verdict_text))]
+#[tactic(auto, unfolding(crate::specs::Events::verdict_text, crate::specs::Events::block_text))]
 fn push_verdict(out: &mut List<u8>, verdict: Verdict) -> Result<(), NoMemory>
     ensures { OnOk result (out.new ≡ out.old ++ verdict_text verdict) }
 {
@@ -80,7 +81,7 @@ fn push_verdict(out: &mut List<u8>, verdict: Verdict) -> Result<(), NoMemory>
         Verdict::Commit => push_text(out, "commit"),
         Verdict::PreCommit => push_text(out, "pre-commit"),
         Verdict::PreAbort => push_text(out, "pre-abort"),
-        Verdict::Block { have, total } => push_block(out, have, total),
+        Verdict::Block { have, total } => push_of(out, "block ", have, total),
     }
 }
 
@@ -135,14 +136,14 @@ fn of_txn(told: &Told) -> &Txn
     ensures { result.now ≡ of_txn told.now }
 {
     match told {
-        Told::Began { txn } => txn,
-        Told::Op { txn, .. } => txn,
-        Told::Ended { txn, .. } => txn,
-        Told::Died { txn, .. } => txn,
-        Told::Doomed { txn, .. } => txn,
-        Told::Refused { txn, .. } => txn,
-        Told::Kept { txn, .. } => txn,
-        Told::Verdict { txn, .. } => txn,
+        Told::Began { txn }
+        | Told::Op { txn, .. }
+        | Told::Ended { txn, .. }
+        | Told::Died { txn, .. }
+        | Told::Doomed { txn, .. }
+        | Told::Refused { txn, .. }
+        | Told::Kept { txn, .. }
+        | Told::Verdict { txn, .. } => txn,
     }
 }
 
@@ -189,10 +190,7 @@ pub fn push_why(out: &mut List<u8>, why: Why) -> Result<(), NoMemory>
 {
     match why {
         Why::Fault => push_text(out, "fault"),
-        Why::Full { need, room } => {
-            push_labelled(out, "full ", need)?;
-            push_labelled(out, " of ", room)
-        }
+        Why::Full { need, room } => push_of(out, "full ", need, room),
     }
 }
 

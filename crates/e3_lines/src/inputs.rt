@@ -1,9 +1,9 @@
 // The inputs of sites, as a trace has them.
 ghost use Rattle.std.specs.Prelude.{◌≡◌, ◌++◌, OnOk};
-ghost use Rattle.e3_lines.specs.Texts.{txn_text};
 ghost use Rattle.e3_lines.specs.Inputs.{operation_text, do_input, elect_input, input_text};
 
-use crate::{push_key, push_labelled, push_sites, push_text, push_txn};
+use crate::texts::push_word_and_txn;
+use crate::{push_key, push_labelled, push_sites, push_text};
 use e3_types::{Input, List, NoMemory, Op, SiteSet, Txn};
 
 /// Adds an operation.
@@ -29,8 +29,7 @@ pub(crate) fn push_operation(out: &mut List<u8>, op: &Op) -> Result<(), NoMemory
 fn push_do(out: &mut List<u8>, txn: &Txn, op: &Op) -> Result<(), NoMemory>
     ensures { OnOk result (out.new ≡ out.old ++ do_input txn.now op.now) }
 {
-    push_text(out, "do ")?;
-    push_txn(out, txn)?;
+    push_word_and_txn(out, "do ", txn)?;
     push_text(out, " ")?;
     push_operation(out, op)
 }
@@ -39,17 +38,9 @@ fn push_do(out: &mut List<u8>, txn: &Txn, op: &Op) -> Result<(), NoMemory>
 fn push_elect(out: &mut List<u8>, txn: &Txn, sites: SiteSet) -> Result<(), NoMemory>
     ensures { OnOk result (out.new ≡ out.old ++ elect_input txn.now sites) }
 {
-    push_text(out, "elect ")?;
-    push_txn(out, txn)?;
+    push_word_and_txn(out, "elect ", txn)?;
     push_text(out, " ")?;
     push_sites(out, sites)
-}
-
-fn push_word_and_txn(out: &mut List<u8>, word: &str, txn: &Txn) -> Result<(), NoMemory>
-    ensures { OnOk result (out.new ≡ out.old ++ (word.now ++ txn_text txn.now)) }
-{
-    push_text(out, word)?;
-    push_txn(out, txn)
 }
 
 /// Adds an input.

@@ -3,31 +3,41 @@ ghost use Rattle.std.specs.Prelude.{◌≡◌, ◌++◌, OnOk};
 ghost use Rattle.e3_lines.specs.Messages.{txn_and_number, txn_and_call, txn_and_attempt, do_message, done_message, died_message, last_message, report_message, votereq_message, yes_text, vote_message, decide_message, message_text};
 
 use crate::inputs::push_operation;
+use crate::texts::push_word_and_txn;
 use crate::{push_answer, push_dir, push_labelled, push_state, push_text, push_txn};
 use e3_types::{Answer, Call, Dir, List, Message, NoMemory, Op, State, Txn};
 
+// Adds a word, and a transaction and a number behind it.
 #[tactic(auto, unfolding(crate::specs::Messages::txn_and_number))]
-fn push_txn_and_number(out: &mut List<u8>, txn: &Txn, n: u32) -> Result<(), NoMemory>
-    ensures { OnOk result (out.new ≡ out.old ++ txn_and_number txn.now n) }
+fn push_word_and_number(out: &mut List<u8>, word: &str, txn: &Txn, n: u32) -> Result<(), NoMemory>
+    ensures { OnOk result (out.new ≡ out.old ++ (word.now ++ txn_and_number txn.now n)) }
 {
-    push_txn(out, txn)?;
+    push_word_and_txn(out, word, txn)?;
     push_labelled(out, " ", n as u64)
 }
 
+// Adds a word, and a transaction and the call of an election behind it.
 #[tactic(auto, unfolding(crate::specs::Messages::txn_and_call))]
-fn push_txn_and_call(out: &mut List<u8>, txn: &Txn, call: Call) -> Result<(), NoMemory>
-    ensures { OnOk result (out.new ≡ out.old ++ txn_and_call txn.now call) }
+fn push_word_and_call(out: &mut List<u8>, word: &str, txn: &Txn, call: Call) -> Result<(), NoMemory>
+    ensures { OnOk result (out.new ≡ out.old ++ (word.now ++ txn_and_call txn.now call)) }
 {
-    push_txn(out, txn)?;
+    push_word_and_txn(out, word, txn)?;
     push_labelled(out, " ", call.inc as u64)?;
     push_labelled(out, " ", call.seq as u64)
 }
 
+// Adds a word, and a transaction, a number and a direction behind it.
 #[tactic(auto, unfolding(crate::specs::Messages::txn_and_attempt))]
-fn push_txn_and_attempt(out: &mut List<u8>, txn: &Txn, n: u32, dir: Dir) -> Result<(), NoMemory>
-    ensures { OnOk result (out.new ≡ out.old ++ txn_and_attempt txn.now n dir) }
+fn push_word_and_attempt(
+    out: &mut List<u8>,
+    word: &str,
+    txn: &Txn,
+    n: u32,
+    dir: Dir,
+) -> Result<(), NoMemory>
+    ensures { OnOk result (out.new ≡ out.old ++ (word.now ++ txn_and_attempt txn.now n dir)) }
 {
-    push_txn_and_number(out, txn, n)?;
+    push_word_and_number(out, word, txn, n)?;
     push_text(out, " ")?;
     push_dir(out, dir)
 }
@@ -36,8 +46,7 @@ fn push_txn_and_attempt(out: &mut List<u8>, txn: &Txn, n: u32, dir: Dir) -> Resu
 fn push_do(out: &mut List<u8>, txn: &Txn, n: u32, op: &Op) -> Result<(), NoMemory>
     ensures { OnOk result (out.new ≡ out.old ++ do_message txn.now n op.now) }
 {
-    push_text(out, "do ")?;
-    push_txn_and_number(out, txn, n)?;
+    push_word_and_number(out, "do ", txn, n)?;
     push_text(out, " ")?;
     push_operation(out, op)
 }
@@ -52,8 +61,7 @@ fn push_done(
 ) -> Result<(), NoMemory>
     ensures { OnOk result (out.new ≡ out.old ++ done_message txn.now n inc answer.now) }
 {
-    push_text(out, "done ")?;
-    push_txn_and_number(out, txn, n)?;
+    push_word_and_number(out, "done ", txn, n)?;
     push_labelled(out, " ", inc as u64)?;
     push_text(out, " ")?;
     push_answer(out, answer)
@@ -63,8 +71,7 @@ fn push_done(
 fn push_died(out: &mut List<u8>, txn: &Txn, n: u32, older: &Txn) -> Result<(), NoMemory>
     ensures { OnOk result (out.new ≡ out.old ++ died_message txn.now n older.now) }
 {
-    push_text(out, "died ")?;
-    push_txn_and_number(out, txn, n)?;
+    push_word_and_number(out, "died ", txn, n)?;
     push_text(out, " ")?;
     push_txn(out, older)
 }
@@ -73,8 +80,7 @@ fn push_died(out: &mut List<u8>, txn: &Txn, n: u32, older: &Txn) -> Result<(), N
 fn push_last(out: &mut List<u8>, txn: &Txn, call: Call, elected: u32) -> Result<(), NoMemory>
     ensures { OnOk result (out.new ≡ out.old ++ last_message txn.now call elected) }
 {
-    push_text(out, "last ")?;
-    push_txn_and_call(out, txn, call)?;
+    push_word_and_call(out, "last ", txn, call)?;
     push_labelled(out, " ", elected as u64)
 }
 
@@ -88,8 +94,7 @@ fn push_report(
 ) -> Result<(), NoMemory>
     ensures { OnOk result (out.new ≡ out.old ++ report_message txn.now n state attempt) }
 {
-    push_text(out, "report ")?;
-    push_txn_and_number(out, txn, n)?;
+    push_word_and_number(out, "report ", txn, n)?;
     push_text(out, " ")?;
     push_state(out, state)?;
     push_labelled(out, " ", attempt as u64)
@@ -99,8 +104,7 @@ fn push_report(
 fn push_votereq(out: &mut List<u8>, txn: &Txn, inc: u32, count: u32) -> Result<(), NoMemory>
     ensures { OnOk result (out.new ≡ out.old ++ votereq_message txn.now inc count) }
 {
-    push_text(out, "votereq ")?;
-    push_txn_and_number(out, txn, inc)?;
+    push_word_and_number(out, "votereq ", txn, inc)?;
     push_labelled(out, " ", count as u64)
 }
 
@@ -119,37 +123,15 @@ fn push_yes(out: &mut List<u8>, agreed: bool) -> Result<(), NoMemory>
 fn push_vote(out: &mut List<u8>, txn: &Txn, agreed: bool) -> Result<(), NoMemory>
     ensures { OnOk result (out.new ≡ out.old ++ vote_message txn.now agreed) }
 {
-    push_text(out, "vote ")?;
-    push_txn(out, txn)?;
+    push_word_and_txn(out, "vote ", txn)?;
     push_yes(out, agreed)
-}
-
-fn push_word_and_number(out: &mut List<u8>, word: &str, txn: &Txn, n: u32) -> Result<(), NoMemory>
-    ensures { OnOk result (out.new ≡ out.old ++ (word.now ++ txn_and_number txn.now n)) }
-{
-    push_text(out, word)?;
-    push_txn_and_number(out, txn, n)
-}
-
-fn push_word_and_attempt(
-    out: &mut List<u8>,
-    word: &str,
-    txn: &Txn,
-    n: u32,
-    dir: Dir,
-) -> Result<(), NoMemory>
-    ensures { OnOk result (out.new ≡ out.old ++ (word.now ++ txn_and_attempt txn.now n dir)) }
-{
-    push_text(out, word)?;
-    push_txn_and_attempt(out, txn, n, dir)
 }
 
 #[tactic(auto, unfolding(crate::specs::Messages::decide_message))]
 fn push_decide(out: &mut List<u8>, txn: &Txn, dir: Dir) -> Result<(), NoMemory>
     ensures { OnOk result (out.new ≡ out.old ++ decide_message txn.now dir) }
 {
-    push_text(out, "decide ")?;
-    push_txn(out, txn)?;
+    push_word_and_txn(out, "decide ", txn)?;
     push_text(out, " ")?;
     push_dir(out, dir)
 }
@@ -168,10 +150,7 @@ pub(crate) fn push_message(out: &mut List<u8>, msg: &Message) -> Result<(), NoMe
             answer,
         } => push_done(out, txn, *n, *inc, answer),
         Message::Died { txn, n, older } => push_died(out, txn, *n, older),
-        Message::Ask { txn, call } => {
-            push_text(out, "ask ")?;
-            push_txn_and_call(out, txn, *call)
-        }
+        Message::Ask { txn, call } => push_word_and_call(out, "ask ", txn, *call),
         Message::LastElected { txn, call, elected } => push_last(out, txn, *call, *elected),
         Message::Elected { txn, n } => push_word_and_number(out, "elected ", txn, *n),
         Message::Report {

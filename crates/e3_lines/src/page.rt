@@ -25,6 +25,15 @@ pub struct Page {
     is_whole: bool,
 }
 
+// Remembers whether memory was lacking for what was added.
+fn note(is_whole: &mut bool, added: Result<(), NoMemory>)
+    ensures { is_whole.new ≡ true → (is_whole.old ≡ true) × IsOk added }
+{
+    if added.is_err() {
+        *is_whole = false;
+    }
+}
+
 impl Page {
     /// Nothing yet.
     pub fn new(alloc: Global) -> Page
@@ -66,22 +75,11 @@ impl Page {
         self.is_whole = false;
     }
 
-    // Remembers whether memory was lacking for what was added.
-    fn note(&mut self, added: Result<(), NoMemory>)
-        ensures whole { self.new.is_whole ≡ true → (self.old.is_whole ≡ true) × IsOk added }
-        ensures same { self.new.text ≡ self.old.text }
-    {
-        if added.is_err() {
-            self.is_whole = false;
-        }
-    }
-
     /// Adds bytes.
     pub fn bytes(&mut self, bytes: &[u8])
         ensures { Adds self.old self.new bytes.now }
     {
-        let added = self.text.extend(bytes);
-        self.note(added);
+        note(&mut self.is_whole, self.text.extend(bytes));
     }
 
     /// Adds a text.
@@ -106,95 +104,89 @@ impl Page {
     pub fn labelled(&mut self, label: &str, number: u64)
         ensures { Adds self.old self.new (label.now ++ decimal number) }
     {
-        let added = push_labelled(&mut self.text, label, number);
-        self.note(added);
+        note(
+            &mut self.is_whole,
+            push_labelled(&mut self.text, label, number),
+        );
     }
 
     /// Adds the name of a transaction.
     pub fn txn(&mut self, txn: &Txn)
         ensures { Adds self.old self.new (txn_text txn.now) }
     {
-        let added = push_txn(&mut self.text, txn);
-        self.note(added);
+        note(&mut self.is_whole, push_txn(&mut self.text, txn));
     }
 
     /// Adds the answer to an operation.
     pub fn answer(&mut self, answer: &Answer)
         ensures { Adds self.old self.new (answer_text answer.now) }
     {
-        let added = push_answer(&mut self.text, answer);
-        self.note(added);
+        note(&mut self.is_whole, push_answer(&mut self.text, answer));
     }
 
     /// Adds a transaction, and what is told of it.
     pub fn told(&mut self, told: &Told)
         ensures { Adds self.old self.new (told_text told.now) }
     {
-        let added = push_told_text(&mut self.text, told);
-        self.note(added);
+        note(&mut self.is_whole, push_told_text(&mut self.text, told));
     }
 
     /// Adds the lines of records.
     pub fn records(&mut self, records: &[Record])
         ensures { Adds self.old self.new (flat_map (record_lines []) records.now) }
     {
-        let added = push_records(&mut self.text, "", records);
-        self.note(added);
+        note(
+            &mut self.is_whole,
+            push_records(&mut self.text, "", records),
+        );
     }
 
     /// Adds the sites of a set, with commas between them.
     pub fn sites(&mut self, sites: SiteSet)
         ensures { Adds self.old self.new (sites_text sites) }
     {
-        let added = push_sites(&mut self.text, sites);
-        self.note(added);
+        note(&mut self.is_whole, push_sites(&mut self.text, sites));
     }
 
     /// Adds a direction.
     pub fn dir(&mut self, dir: Dir)
         ensures { Adds self.old self.new (dir_text dir) }
     {
-        let added = push_dir(&mut self.text, dir);
-        self.note(added);
+        note(&mut self.is_whole, push_dir(&mut self.text, dir));
     }
 
     /// Adds a state.
     pub fn state(&mut self, state: State)
         ensures { Adds self.old self.new (state_text state) }
     {
-        let added = push_state(&mut self.text, state);
-        self.note(added);
+        note(&mut self.is_whole, push_state(&mut self.text, state));
     }
 
     /// Adds a key.
     pub fn key(&mut self, key: &Key)
         ensures { Adds self.old self.new (key_text key.now) }
     {
-        let added = push_key(&mut self.text, key);
-        self.note(added);
+        note(&mut self.is_whole, push_key(&mut self.text, key));
     }
 
     /// Adds a line for each item.
     pub fn items(&mut self, items: &[Item])
         ensures { Adds self.old self.new (flat_map item_line items.now) }
     {
-        let added = push_items(&mut self.text, items);
-        self.note(added);
+        note(&mut self.is_whole, push_items(&mut self.text, items));
     }
 
     /// Adds a line for each row of a table.
     pub fn rows(&mut self, rows: &[Row])
         ensures { Adds self.old self.new (flat_map row_line rows.now) }
     {
-        let added = push_rows(&mut self.text, rows);
-        self.note(added);
+        note(&mut self.is_whole, push_rows(&mut self.text, rows));
     }
 
     /// Adds the lines of entries, as a trace has them.
     pub fn trace(&mut self, history: &[Entry])
         ensures { Adds self.old self.new (trace_of history.now) }
     {
-        let added = push_trace(&mut self.text, history);
-        self.note(added);
+        note(&mut self.is_whole, push_trace(&mut self.text, history));
     }
 }

@@ -2,10 +2,13 @@
 ghost use Rattle.std.specs.Prelude.{◌≡◌, ◌++◌, ℕ, List as Items, OnOk, codes, length};
 ghost use Rattle.std.specs.Fmt.{decimal};
 ghost use Rattle.std.specs.List.{flat_map};
+ghost use Rattle.e3_lines.specs.Texts.{txn_text};
 ghost use Rattle.e3_lines.specs.Records.{row_line, birth_row_line, birth_lines, read_line, write_line, op_line, vote_lines, inc_line, join_line, attempt_line, decision_line, record_lines};
 
 use crate::listed::{Lines, push_each};
-use crate::texts::{push_commas, push_dir, push_labelled, push_line_end, push_text, push_txn};
+use crate::texts::{
+    push_commas, push_dir, push_labelled, push_line_end, push_text, push_word_and_txn,
+};
 use e3_types::{Dir, List, NoMemory, NumOp, Op, Record, Row, Txn};
 
 impl Lines for Row {
@@ -27,6 +30,42 @@ pub fn push_rows(out: &mut List<u8>, rows: &[Row]) -> Result<(), NoMemory>
     push_each(out, rows)
 }
 
+// Adds the mark, and a word with a number behind it.
+fn push_mark_and_number(
+    out: &mut List<u8>,
+    mark: &str,
+    word: &str,
+    number: u32,
+) -> Result<(), NoMemory>
+    ensures { OnOk result (out.new ≡ out.old ++ (mark.now ++ word.now ++ decimal number)) }
+{
+    push_text(out, mark)?;
+    push_labelled(out, word, number as u64)
+}
+
+// Adds the mark, and a word with a number and a name behind it.
+fn push_mark_and_name(
+    out: &mut List<u8>,
+    mark: &str,
+    word: &str,
+    n: u32,
+    name: &[u8],
+) -> Result<(), NoMemory>
+    ensures { OnOk result (out.new ≡ out.old ++ (mark.now ++ word.now ++ decimal n ++ codes " " ++ name.now)) }
+{
+    push_mark_and_number(out, mark, word, n)?;
+    push_text(out, " ")?;
+    out.extend(name)
+}
+
+// Adds the mark, and a word with a transaction behind it.
+fn push_mark_and_txn(out: &mut List<u8>, mark: &str, word: &str, txn: &Txn) -> Result<(), NoMemory>
+    ensures { OnOk result (out.new ≡ out.old ++ (mark.now ++ word.now ++ txn_text txn.now)) }
+{
+    push_text(out, mark)?;
+    push_word_and_txn(out, word, txn)
+}
+
 #[tactic(auto, unfolding(crate::specs::Records::birth_row_line))]
 fn push_birth_row(out: &mut List<u8>, mark: &str, row: &Row) -> Result<(), NoMemory>
     ensures { OnOk result (out.new ≡ out.old ++ birth_row_line mark.now row.now) }
@@ -46,8 +85,7 @@ fn push_birth(
 ) -> Result<(), NoMemory>
     ensures { OnOk result (out.new ≡ out.old ++ birth_lines mark.now format weights.now rows.now) }
 {
-    push_text(out, mark)?;
-    push_labelled(out, "birth ", format as u64)?;
+    push_mark_and_number(out, mark, "birth ", format)?;
     push_text(out, " ")?;
     push_commas(out, weights)?;
     push_line_end(out)?;
@@ -61,10 +99,7 @@ fn push_birth(
 fn push_read(out: &mut List<u8>, mark: &str, n: u32, name: &[u8]) -> Result<(), NoMemory>
     ensures { OnOk result (out.new ≡ out.old ++ read_line mark.now n name.now) }
 {
-    push_text(out, mark)?;
-    push_labelled(out, "read ", n as u64)?;
-    push_text(out, " ")?;
-    out.extend(name)?;
+    push_mark_and_name(out, mark, "read ", n, name)?;
     push_line_end(out)
 }
 
@@ -78,10 +113,7 @@ fn push_write(
 ) -> Result<(), NoMemory>
     ensures { OnOk result (out.new ≡ out.old ++ write_line mark.now n name.now val.now) }
 {
-    push_text(out, mark)?;
-    push_labelled(out, "write ", n as u64)?;
-    push_text(out, " ")?;
-    out.extend(name)?;
+    push_mark_and_name(out, mark, "write ", n, name)?;
     push_text(out, " ")?;
     out.extend(val)?;
     push_line_end(out)
@@ -101,9 +133,7 @@ fn push_op(out: &mut List<u8>, mark: &str, op: &NumOp) -> Result<(), NoMemory>
 fn push_vote(out: &mut List<u8>, mark: &str, txn: &Txn, ops: &[NumOp]) -> Result<(), NoMemory>
     ensures { OnOk result (out.new ≡ out.old ++ vote_lines mark.now txn.now ops.now) }
 {
-    push_text(out, mark)?;
-    push_text(out, "vote ")?;
-    push_txn(out, txn)?;
+    push_mark_and_txn(out, mark, "vote ", txn)?;
     push_labelled(out, " ", ops.len() as u64)?;
     push_line_end(out)?;
     for op in ops {
@@ -116,8 +146,7 @@ fn push_vote(out: &mut List<u8>, mark: &str, txn: &Txn, ops: &[NumOp]) -> Result
 fn push_inc(out: &mut List<u8>, mark: &str, inc: u32) -> Result<(), NoMemory>
     ensures { OnOk result (out.new ≡ out.old ++ inc_line mark.now inc) }
 {
-    push_text(out, mark)?;
-    push_labelled(out, "inc ", inc as u64)?;
+    push_mark_and_number(out, mark, "inc ", inc)?;
     push_line_end(out)
 }
 
@@ -125,9 +154,7 @@ fn push_inc(out: &mut List<u8>, mark: &str, inc: u32) -> Result<(), NoMemory>
 fn push_join(out: &mut List<u8>, mark: &str, txn: &Txn, n: u32) -> Result<(), NoMemory>
     ensures { OnOk result (out.new ≡ out.old ++ join_line mark.now txn.now n) }
 {
-    push_text(out, mark)?;
-    push_text(out, "join ")?;
-    push_txn(out, txn)?;
+    push_mark_and_txn(out, mark, "join ", txn)?;
     push_labelled(out, " ", n as u64)?;
     push_line_end(out)
 }
@@ -136,9 +163,7 @@ fn push_join(out: &mut List<u8>, mark: &str, txn: &Txn, n: u32) -> Result<(), No
 fn push_attempt(out: &mut List<u8>, mark: &str, txn: &Txn, n: u32, dir: Dir) -> Result<(), NoMemory>
     ensures { OnOk result (out.new ≡ out.old ++ attempt_line mark.now txn.now n dir) }
 {
-    push_text(out, mark)?;
-    push_text(out, "attempt ")?;
-    push_txn(out, txn)?;
+    push_mark_and_txn(out, mark, "attempt ", txn)?;
     push_labelled(out, " ", n as u64)?;
     push_text(out, " ")?;
     push_dir(out, dir)?;
@@ -149,9 +174,7 @@ fn push_attempt(out: &mut List<u8>, mark: &str, txn: &Txn, n: u32, dir: Dir) -> 
 fn push_decision(out: &mut List<u8>, mark: &str, txn: &Txn, dir: Dir) -> Result<(), NoMemory>
     ensures { OnOk result (out.new ≡ out.old ++ decision_line mark.now txn.now dir) }
 {
-    push_text(out, mark)?;
-    push_text(out, "decision ")?;
-    push_txn(out, txn)?;
+    push_mark_and_txn(out, mark, "decision ", txn)?;
     push_text(out, " ")?;
     push_dir(out, dir)?;
     push_line_end(out)

@@ -124,6 +124,14 @@ pub fn push_txn(out: &mut List<u8>, txn: &Txn) -> Result<(), NoMemory>
     push_labelled(out, ".", txn.seq as u64)
 }
 
+/// Adds a word and a transaction's name behind it.
+pub(crate) fn push_word_and_txn(out: &mut List<u8>, word: &str, txn: &Txn) -> Result<(), NoMemory>
+    ensures { OnOk result (out.new ≡ out.old ++ (word.now ++ txn_text txn.now)) }
+{
+    push_text(out, word)?;
+    push_txn(out, txn)
+}
+
 /// Adds a key.
 #[tactic(auto, unfolding(crate::specs::Texts::key_text))]
 pub fn push_key(out: &mut List<u8>, key: &Key) -> Result<(), NoMemory>

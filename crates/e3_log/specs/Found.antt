@@ -1,5 +1,5 @@
 -- The frames that were found.
-use Rattle.std.specs.Prelude.{◌≡◌, ℕ, ◌+◌, List, [], ◌∷◌, Option, Some, None, length, drop, map}
+use Rattle.std.specs.Prelude.{◌≡◌, ℕ, ◌+◌, ◌<◌, ◌≤◌, List, [], ◌∷◌, Option, Some, None, length, drop, map}
 use Rattle.e3_disk.specs.Meaning.{Meaning}
 use Rattle.e3_log.specs.declared.open.Frame.{Frame}
 use Rattle.e3_log.specs.declared.prepare.Held.{Held}
@@ -7,7 +7,7 @@ use Rattle.e3_log.specs.declared.region.Front.{Front}
 use Rattle.e3_log.specs.Frames.{frames, Reads}
 use Rattle.e3_log.specs.Fronts.{told_by, bodies_in, front_of, is_open}
 use Rattle.e3_log.specs.Reading.{HoldsAs}
-use Rattle.e3_log.specs.Regions.{start}
+use Rattle.e3_log.specs.Regions.{limit, start}
 use Rattle.e3_log.specs.Stands.{LogState, Stands}
 
 -- The bodies of frames.
@@ -52,6 +52,10 @@ pub record IsHeld (capacity : ℕ) (bytes : List ℕ) (h : Held) : Type 0 where
   pub places : h.frames ≡ handed_frames (frames_from (start capacity h.region) raw)
   pub end_is : h.end ≡ start capacity h.region + length (frames raw)
   pub spare_is : h.spare_open ≡ is_open spare
+
+-- The closed gate of what was read stands in the region that counts, and among the bytes.
+abbrev pub EndsInside : ℕ → List ℕ → Held → Type 0
+EndsInside capacity bytes h = (h.end < limit capacity h.region) × (h.end < length bytes) × (start capacity h.region ≤ h.end)
 
 -- A log and what it was opened with: it stands for the bodies, and each frame tells where its body begins on the disk.
 pub record Opened {D : Type 0} (meaning : Meaning D) (found : List Frame) (log : LogState D) : Type 0 where

@@ -1,8 +1,11 @@
 -- What reading a log finds, step by step.
-use Rattle.std.specs.Prelude.{◌≡◌, ℕ, ◌+◌, ◌-◌, ◌<◌, ◌≤◌, true, false, Option, Some, None, Result, IsErrOf, List, ◌++◌, length, drop}
+use Rattle.std.specs.Prelude.{◌≡◌, ℕ, ◌+◌, ◌-◌, ◌^◌, ◌<◌, ◌≤◌, true, false, Option, Some, None, Result, IsErrOf, List, ◌++◌, length, drop}
+use Rattle.e3_disk.specs.Images.{Within}
+use Rattle.e3_disk.specs.Meaning.{Meaning}
 use Rattle.e3_disk.specs.Meters.{Meters, HasFailed, Keeps}
 use Rattle.e3_log.specs.declared.fault.OpenCause.{OpenCause}
 use Rattle.e3_log.specs.declared.fault.OpenCause.TheVariants.{Failed}
+use Rattle.e3_log.specs.declared.open.Span.{Span}
 use Rattle.e3_log.specs.Frames.{frame, IsClosed, Fits}
 
 -- The bytes at this place are the frame of this body.
@@ -16,9 +19,13 @@ abbrev pub NextIs : List ℕ → ℕ → Option (List ℕ) → Type 0
 NextIs content at None = IsClosed (drop at content)
 NextIs content at (Some body) = FrameAt content at body
 
+-- So many calls are taken from an armed disk, which has more than those left.
+abbrev pub TakesCalls : ℕ → Meters → Meters → Type 0
+TakesCalls count old new = (new.calls_left ≡ old.calls_left - count) × (0 < old.calls_left → count < old.calls_left)
+
 -- An open that did not fail takes one call from an armed disk, which has two left at least.
 abbrev pub TakesOne : Meters → Meters → Type 0
-TakesOne old new = (new.calls_left ≡ old.calls_left - 1) × (0 < old.calls_left → 1 < old.calls_left)
+TakesOne old new = TakesCalls 1 old new
 
 -- The power was off and stays off, and nothing is counted.
 abbrev pub StaysOff : Meters → Meters → Type 0
@@ -29,9 +36,26 @@ StaysOff old new =
 abbrev pub StaysOn : Meters → Meters → Type 0
 StaysOn old new = (new.powered ≡ true) × (new.stops ≡ old.stops)
 
--- What calls that only read do to the numbers of a disk.
-pub record Looks {T : Type 0} (old new : Meters) (result : Result T OpenCause) : Type 0 where
-  pub keeps : Keeps old new
-  pub failed : IsErrOf result Failed → HasFailed old.faults new.faults
+-- A range of a disk may be read: the disk has the range and power.
+pub record MayRead {D : Type 0} (meaning : Meaning D) (disk : D) (span : Span) : Type 0 where
+  pub inside : span.from + span.count ≤ length (meaning.content disk)
+  pub bound : span.from + span.count ≤ 2 ^ 31
+  pub power : (meaning.meters disk).powered ≡ true
+
+-- A disk that holds so many bytes may be read: it has power, and a capacity as a log takes it.
+pub record HoldsSoMany {D : Type 0} (meaning : Meaning D) (disk : D) (capacity len : ℕ) : Type 0 where
+  pub len_is : len ≡ length (meaning.content disk)
+  pub within : len ≤ capacity
+  pub least : 2 ≤ capacity
+  pub most : capacity ≤ 2 ^ 30
+  pub power : (meaning.meters disk).powered ≡ true
+
+-- What calls that only read do to a disk.
+pub record Looks {D T : Type 0} (meaning : Meaning D) (old new : D) (result : Result T OpenCause) : Type 0 where
+  pub same : (IsErrOf result Failed → ⊥) → meaning.content new ≡ meaning.content old
+  pub images : Within (meaning.image old) (meaning.image new)
+  pub keeps : Keeps (meaning.meters old) (meaning.meters new)
+  pub failed : IsErrOf result Failed → HasFailed (meaning.meters old).faults (meaning.meters new).faults
   pub still : (IsErrOf result Failed → ⊥) →
-      (new.powered ≡ true) × (new.stops ≡ old.stops) × (new.calls_left ≡ old.calls_left)
+      ((meaning.meters new).powered ≡ true) × ((meaning.meters new).stops ≡ (meaning.meters old).stops)
+      × ((meaning.meters new).calls_left ≡ (meaning.meters old).calls_left)

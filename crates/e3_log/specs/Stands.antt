@@ -1,5 +1,5 @@
 -- What a log stands for.
-use Rattle.std.specs.Prelude.{◌≡◌, ◌⊎◌, ℕ, ◌+◌, ◌-◌, ◌<◌, Bool, true, false, Result, OnOk, OnErr, List, [], ◌∷◌, ◌++◌, length}
+use Rattle.std.specs.Prelude.{◌≡◌, ◌⊎◌, ℕ, ◌+◌, Bool, true, false, Result, OnOk, OnErr, List, [], ◌∷◌, ◌++◌, length}
 use Rattle.std.specs.Int.{w32, to_be_bytes}
 use Rattle.e3_disk.specs.Images.{Only, Torn, overwritten}
 use Rattle.e3_disk.specs.Meaning.{Meaning}
@@ -8,6 +8,7 @@ use Rattle.e3_log.specs.declared.region.Front.{Front}
 use Rattle.e3_log.specs.declared.region.Region.{Region}
 use Rattle.e3_log.specs.Frames.{frames}
 use Rattle.e3_log.specs.Fronts.{bodies_in, is_open}
+use Rattle.e3_log.specs.Opening.{StaysOn, TakesCalls}
 use Rattle.e3_log.specs.Reading.{HoldsAs, ReadsAs}
 use Rattle.e3_log.specs.Regions.{start}
 
@@ -51,5 +52,4 @@ Leaves old end bytes image = Torn (end + 1) (length bytes) old image ⊎ Torn en
 pub record Spends {T E : Type 0} (count : ℕ) (old new : Meters) (result : Result T E) : Type 0 where
   pub keeps : Keeps old new
   pub failed : old.powered ≡ true → OnErr result (HasFailed old.faults new.faults)
-  pub ok : OnOk result ((new.powered ≡ true) × (new.stops ≡ old.stops)
-      × (new.calls_left ≡ old.calls_left - count) × (0 < old.calls_left → count < old.calls_left))
+  pub ok : OnOk result (StaysOn old new × TakesCalls count old new)

@@ -1,12 +1,12 @@
 // A log of frames in two regions of a disk.
-ghost use Rattle.std.specs.Prelude.{◌≡◌, ◌≢◌, ◌+◌, ◌-◌, ◌≤◌, ◌<◌, ◌^◌, ◌++◌, ◌∷◌, [], ◌⊎◌, ◌↔◌, true, false, Ok, Err, List as Items, ℕ, length, slice_index, IsTrue, OnOk, IfOk, IfErr, IsErrOf, MatchResult};
+ghost use Rattle.std.specs.Prelude.{◌≡◌, ◌≢◌, ◌+◌, ◌≤◌, ◌<◌, ◌^◌, ◌++◌, ◌∷◌, [], ◌⊎◌, ◌↔◌, true, false, Ok, Err, List as Items, ℕ, length, slice_index, IsTrue, OnOk, IfOk, IfErr, IsErrOf, MatchResult};
 ghost use Rattle.e3_disk.specs.Images.{Within, SameImages, Only, overwritten};
 ghost use Rattle.e3_disk.specs.Leaves.{code_of};
 ghost use Rattle.e3_disk.specs.Meters.{HasFailed, Keeps, armed};
 ghost use Rattle.e3_log.specs.Frames.{OPEN};
 ghost use Rattle.e3_log.specs.Fronts.{TURN as TURN_TAG, turned};
 ghost use Rattle.e3_log.specs.Found.{Opened, bodies_of};
-ghost use Rattle.e3_log.specs.Opening.{TakesOne, StaysOff, StaysOn};
+ghost use Rattle.e3_log.specs.Opening.{TakesCalls, TakesOne, StaysOff, StaysOn};
 ghost use Rattle.e3_log.specs.Reading.{ReadsAs, DamagedAt};
 ghost use Rattle.e3_log.specs.Regions.{limit, other, start};
 ghost use Rattle.e3_log.specs.Stands.{EachReadsAs, Stands, staged};
@@ -164,9 +164,8 @@ impl<D: Disk> Log<D> {
 
         // with Ok it takes four calls from an armed disk, and it neither arms nor cuts it
         ensures keeps { Keeps (D.meaning.meters self.old.disk) (D.meaning.meters self.new.disk) }
-        ensures calls { OnOk result (((D.meaning.meters self.new.disk).calls_left ≡ (D.meaning.meters self.old.disk).calls_left - 4)
-            × (0 < (D.meaning.meters self.old.disk).calls_left → 4 < (D.meaning.meters self.old.disk).calls_left)) }
-        ensures power { OnOk result (((D.meaning.meters self.new.disk).powered ≡ true) × ((D.meaning.meters self.new.disk).stops ≡ (D.meaning.meters self.old.disk).stops)) }
+        ensures calls { OnOk result (TakesCalls 4 (D.meaning.meters self.old.disk) (D.meaning.meters self.new.disk)) }
+        ensures power { OnOk result (StaysOn (D.meaning.meters self.old.disk) (D.meaning.meters self.new.disk)) }
     {
         if self.failed {
             return Err(AppendFault::Failed);
@@ -211,9 +210,8 @@ impl<D: Disk> Log<D> {
 
         // with Ok it takes two calls from an armed disk where it closes a gate, and it neither arms nor cuts it
         ensures keeps { Keeps (D.meaning.meters self.old.disk) (D.meaning.meters self.new.disk) }
-        ensures calls { self.old.spare_open ≡ true → OnOk result (((D.meaning.meters self.new.disk).calls_left ≡ (D.meaning.meters self.old.disk).calls_left - 2)
-            × (0 < (D.meaning.meters self.old.disk).calls_left → 2 < (D.meaning.meters self.old.disk).calls_left)) }
-        ensures power { OnOk result (((D.meaning.meters self.new.disk).powered ≡ true) × ((D.meaning.meters self.new.disk).stops ≡ (D.meaning.meters self.old.disk).stops)) }
+        ensures calls { self.old.spare_open ≡ true → OnOk result (TakesCalls 2 (D.meaning.meters self.old.disk) (D.meaning.meters self.new.disk)) }
+        ensures power { OnOk result (StaysOn (D.meaning.meters self.old.disk) (D.meaning.meters self.new.disk)) }
     {
         if self.failed {
             return Err(AppendFault::Failed);
@@ -271,9 +269,8 @@ impl<D: Disk> Log<D> {
 
         // with Ok it takes four calls from an armed disk, and it neither arms nor cuts it
         ensures keeps { Keeps (D.meaning.meters self.old.disk) (D.meaning.meters self.new.disk) }
-        ensures calls { OnOk result (((D.meaning.meters self.new.disk).calls_left ≡ (D.meaning.meters self.old.disk).calls_left - 4)
-            × (0 < (D.meaning.meters self.old.disk).calls_left → 4 < (D.meaning.meters self.old.disk).calls_left)) }
-        ensures power { OnOk result (((D.meaning.meters self.new.disk).powered ≡ true) × ((D.meaning.meters self.new.disk).stops ≡ (D.meaning.meters self.old.disk).stops)) }
+        ensures calls { OnOk result (TakesCalls 4 (D.meaning.meters self.old.disk) (D.meaning.meters self.new.disk)) }
+        ensures power { OnOk result (StaysOn (D.meaning.meters self.old.disk) (D.meaning.meters self.new.disk)) }
     {
         if self.failed {
             return Err(TurnFault::Failed);

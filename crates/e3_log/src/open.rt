@@ -1,11 +1,10 @@
 // Reading the regions of a disk.
-ghost use Rattle.std.specs.Prelude.{◌≡◌, ◌+◌, ◌-◌, ◌≤◌, ◌<◌, ◌^◌, ◌↔◌, ◌⊎◌, true, Err, ℕ, List as Items, length, take, drop, slice_index, IsTrue, IfOk, OnOk, IfErr, IsErrOf};
+ghost use Rattle.std.specs.Prelude.{◌≡◌, ◌+◌, ◌≤◌, ◌<◌, ◌↔◌, ◌⊎◌, Err, ℕ, length, take, drop, slice_index, IsTrue, IfOk, OnOk, IfErr};
 ghost use Rattle.std.specs.Int.{w32, to_be_bytes};
-ghost use Rattle.e3_disk.specs.Images.{Within};
 ghost use Rattle.e3_log.specs.Found.{ReadsTo};
 ghost use Rattle.e3_log.specs.Frames.{OPEN as OPEN_GATE, NoFrame, BrokenAt};
 ghost use Rattle.e3_log.specs.Fronts.{FrontIs, told_by};
-ghost use Rattle.e3_log.specs.Opening.{NextIs, Looks};
+ghost use Rattle.e3_log.specs.Opening.{Looks, MayRead, NextIs};
 ghost use Rattle.e3_log.specs.Regions.{window};
 
 use crate::OpenCause;
@@ -32,14 +31,10 @@ pub struct Span {
 // Reads bytes of a range.
 fn read_in<D: Disk>(disk: &mut D, span: Span, at: u64, into: &mut [u8]) -> Result<(), OpenCause>
     requires within { at + length into.old ≤ span.count }
-    requires inside { span.from + span.count ≤ length (D.meaning.content disk.old) }
-    requires bound { span.from + span.count ≤ 2 ^ 31 }
-    requires power { (D.meaning.meters disk.old).powered ≡ true }
+    requires may { MayRead D.meaning disk.old span }
     ensures bytes { OnOk result (into.new ≡ take (length into.old) (drop at (window span.from span.count (D.meaning.content disk.old)))) }
     ensures cause { IfErr result (λ e. e ≡ OpenCause.Failed) }
-    ensures same { (IsErrOf result OpenCause.Failed → ⊥) → D.meaning.content disk.new ≡ D.meaning.content disk.old }
-    ensures images { Within (D.meaning.image disk.old) (D.meaning.image disk.new) }
-    ensures meters { Looks (D.meaning.meters disk.old) (D.meaning.meters disk.new) result }
+    ensures looks { Looks D.meaning disk.old disk.new result }
 {
     disk.read_at(span.from + at, into)?;
     Ok(())
@@ -48,14 +43,10 @@ fn read_in<D: Disk>(disk: &mut D, span: Span, at: u64, into: &mut [u8]) -> Resul
 // Whether the gate at a place is open.
 fn is_open<D: Disk>(disk: &mut D, span: Span, at: u64) -> Result<bool, OpenCause>
     requires within { at < span.count }
-    requires inside { span.from + span.count ≤ length (D.meaning.content disk.old) }
-    requires bound { span.from + span.count ≤ 2 ^ 31 }
-    requires power { (D.meaning.meters disk.old).powered ≡ true }
+    requires may { MayRead D.meaning disk.old span }
     ensures gate { IfOk result (λ gate. IsTrue gate ↔ (slice_index (take 1 (drop at (window span.from span.count (D.meaning.content disk.old)))) 0 ≡ OPEN_GATE)) }
     ensures cause { IfErr result (λ e. e ≡ OpenCause.Failed) }
-    ensures same { (IsErrOf result OpenCause.Failed → ⊥) → D.meaning.content disk.new ≡ D.meaning.content disk.old }
-    ensures images { Within (D.meaning.image disk.old) (D.meaning.image disk.new) }
-    ensures meters { Looks (D.meaning.meters disk.old) (D.meaning.meters disk.new) result }
+    ensures looks { Looks D.meaning disk.old disk.new result }
 {
     let mut gate = [0; 1];
     read_in(disk, span, at, &mut gate)?;
@@ -72,14 +63,10 @@ fn number_of(size: &[u8]) -> u32
 // The length of a body, which stands behind its gate.
 fn read_size<D: Disk>(disk: &mut D, span: Span, at: u64) -> Result<u32, OpenCause>
     requires within { at + 4 ≤ span.count }
-    requires inside { span.from + span.count ≤ length (D.meaning.content disk.old) }
-    requires bound { span.from + span.count ≤ 2 ^ 31 }
-    requires power { (D.meaning.meters disk.old).powered ≡ true }
+    requires may { MayRead D.meaning disk.old span }
     ensures size { IfOk result (λ n. to_be_bytes w32 n ≡ take 4 (drop at (window span.from span.count (D.meaning.content disk.old)))) }
     ensures cause { IfErr result (λ e. e ≡ OpenCause.Failed) }
-    ensures same { (IsErrOf result OpenCause.Failed → ⊥) → D.meaning.content disk.new ≡ D.meaning.content disk.old }
-    ensures images { Within (D.meaning.image disk.old) (D.meaning.image disk.new) }
-    ensures meters { Looks (D.meaning.meters disk.old) (D.meaning.meters disk.new) result }
+    ensures looks { Looks D.meaning disk.old disk.new result }
 {
     let mut size = [0; 4];
     read_in(disk, span, at, &mut size)?;
@@ -94,14 +81,10 @@ fn read_body<D: Disk>(
     len: u64,
 ) -> Result<List<u8>, OpenCause>
     requires within { at + len ≤ span.count }
-    requires inside { span.from + span.count ≤ length (D.meaning.content disk.old) }
-    requires bound { span.from + span.count ≤ 2 ^ 31 }
-    requires power { (D.meaning.meters disk.old).powered ≡ true }
+    requires may { MayRead D.meaning disk.old span }
     ensures body { IfOk result (λ body. body ≡ take len (drop at (window span.from span.count (D.meaning.content disk.old)))) }
     ensures cause { IfErr result (λ e. (e ≡ OpenCause.Failed) ⊎ (e ≡ OpenCause.NoMemory)) }
-    ensures same { (IsErrOf result OpenCause.Failed → ⊥) → D.meaning.content disk.new ≡ D.meaning.content disk.old }
-    ensures images { Within (D.meaning.image disk.old) (D.meaning.image disk.new) }
-    ensures meters { Looks (D.meaning.meters disk.old) (D.meaning.meters disk.new) result }
+    ensures looks { Looks D.meaning disk.old disk.new result }
 {
     let mut body = vec![in alloc; 0; len as usize]?;
     read_in(disk, span, at, body.as_mut_slice())?;
@@ -128,14 +111,10 @@ fn read_told<D: Disk>(
     size: u64,
 ) -> Result<Option<u32>, OpenCause>
     requires within { at + size ≤ span.count }
-    requires inside { span.from + span.count ≤ length (D.meaning.content disk.old) }
-    requires bound { span.from + span.count ≤ 2 ^ 31 }
-    requires power { (D.meaning.meters disk.old).powered ≡ true }
+    requires may { MayRead D.meaning disk.old span }
     ensures told { IfOk result (λ told. told ≡ told_by (take size (drop at (window span.from span.count (D.meaning.content disk.old))))) }
     ensures cause { IfErr result (λ e. e ≡ OpenCause.Failed) }
-    ensures same { (IsErrOf result OpenCause.Failed → ⊥) → D.meaning.content disk.new ≡ D.meaning.content disk.old }
-    ensures images { Within (D.meaning.image disk.old) (D.meaning.image disk.new) }
-    ensures meters { Looks (D.meaning.meters disk.old) (D.meaning.meters disk.new) result }
+    ensures looks { Looks D.meaning disk.old disk.new result }
 {
     if size < 5 {
         return Ok(None);
@@ -148,14 +127,10 @@ fn read_told<D: Disk>(
 /// How a range begins.
 pub fn read_front<D: Disk>(disk: &mut D, span: Span) -> Result<Front, OpenCause>
     requires some { 0 < span.count }
-    requires inside { span.from + span.count ≤ length (D.meaning.content disk.old) }
-    requires bound { span.from + span.count ≤ 2 ^ 31 }
-    requires power { (D.meaning.meters disk.old).powered ≡ true }
+    requires may { MayRead D.meaning disk.old span }
     ensures front { IfOk result (FrontIs (window span.from span.count (D.meaning.content disk.old))) }
     ensures cause { IfErr result (λ e. e ≡ OpenCause.Failed) }
-    ensures same { (IsErrOf result OpenCause.Failed → ⊥) → D.meaning.content disk.new ≡ D.meaning.content disk.old }
-    ensures images { Within (D.meaning.image disk.old) (D.meaning.image disk.new) }
-    ensures meters { Looks (D.meaning.meters disk.old) (D.meaning.meters disk.new) result }
+    ensures looks { Looks D.meaning disk.old disk.new result }
 {
     if !is_open(disk, span, 0)? {
         return Ok(Front::Shut);
@@ -179,15 +154,11 @@ fn read_frame<D: Disk>(
     at: u64,
 ) -> Result<Option<List<u8>>, OpenCause>
     requires within { at ≤ span.count }
-    requires inside { span.from + span.count ≤ length (D.meaning.content disk.old) }
-    requires bound { span.from + span.count ≤ 2 ^ 31 }
-    requires power { (D.meaning.meters disk.old).powered ≡ true }
+    requires may { MayRead D.meaning disk.old span }
     ensures next { IfOk result (λ next. NextIs (window span.from span.count (D.meaning.content disk.old)) at next) }
     ensures damaged { (place : ℕ) → result ≡ Err (OpenCause.Damaged place) →
         (place ≡ span.from + at) × NoFrame (drop at (window span.from span.count (D.meaning.content disk.old))) }
-    ensures same { (IsErrOf result OpenCause.Failed → ⊥) → D.meaning.content disk.new ≡ D.meaning.content disk.old }
-    ensures images { Within (D.meaning.image disk.old) (D.meaning.image disk.new) }
-    ensures meters { Looks (D.meaning.meters disk.old) (D.meaning.meters disk.new) result }
+    ensures looks { Looks D.meaning disk.old disk.new result }
 {
     let place = span.from + at;
     if at == span.count {
@@ -213,15 +184,11 @@ pub fn read_frames<D: Disk>(
     disk: &mut D,
     span: Span,
 ) -> Result<(List<Frame>, u64), OpenCause>
-    requires inside { span.from + span.count ≤ length (D.meaning.content disk.old) }
-    requires bound { span.from + span.count ≤ 2 ^ 31 }
-    requires power { (D.meaning.meters disk.old).powered ≡ true }
+    requires { MayRead D.meaning disk.old span }
     ensures frames { IfOk result (λ r. ReadsTo span.from (window span.from span.count (D.meaning.content disk.old)) r.0 r.1) }
     ensures damaged { (place : ℕ) → result ≡ Err (OpenCause.Damaged place) →
         (at : ℕ) × (place ≡ span.from + at) × BrokenAt (window span.from span.count (D.meaning.content disk.old)) at }
-    ensures same { (IsErrOf result OpenCause.Failed → ⊥) → D.meaning.content disk.new ≡ D.meaning.content disk.old }
-    ensures images { Within (D.meaning.image disk.old) (D.meaning.image disk.new) }
-    ensures meters { Looks (D.meaning.meters disk.old) (D.meaning.meters disk.new) result }
+    ensures looks { Looks D.meaning disk.old disk.new result }
 {
     let mut frames = List::new(alloc);
     let mut at = 0;

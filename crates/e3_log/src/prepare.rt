@@ -1,12 +1,12 @@
 // Finding the region that counts, and its frames.
-ghost use Rattle.std.specs.Prelude.{◌≡◌, ◌+◌, ◌-◌, ◌≤◌, ◌<◌, ◌^◌, true, Err, List as Items, ℕ, length, vec_capacity, IfOk, IfErr, IsErrOf};
+ghost use Rattle.std.specs.Prelude.{◌≡◌, ◌+◌, ◌-◌, ◌≤◌, ◌<◌, ◌^◌, Err, List as Items, ℕ, length, vec_capacity, IfOk, IfErr, IsErrOf};
 ghost use Rattle.e3_disk.specs.Images.{Within, Only};
 ghost use Rattle.e3_disk.specs.Meters.{Keeps, Failing, Passing};
-ghost use Rattle.e3_log.specs.Found.{IsHeld, IsRaw, handed_frames};
+ghost use Rattle.e3_log.specs.Found.{EndsInside, IsHeld, IsRaw, handed_frames};
 ghost use Rattle.e3_log.specs.Fronts.{active_of, own_of};
-ghost use Rattle.e3_log.specs.Opening.{Looks, TakesOne};
+ghost use Rattle.e3_log.specs.Opening.{HoldsSoMany, Looks, TakesOne};
 ghost use Rattle.e3_log.specs.Reading.{DamagedAt, HasBadFrame, HasFronts};
-ghost use Rattle.e3_log.specs.Regions.{half, limit, piece, start, window};
+ghost use Rattle.e3_log.specs.Regions.{half, piece, start, window};
 
 use crate::OpenCause;
 use crate::handing::without_head;
@@ -47,17 +47,11 @@ fn span_of(region: Region, capacity: u64, len: u64) -> Span
 
 // How both regions begin.
 fn read_fronts<D: Disk>(disk: &mut D, capacity: u64, len: u64) -> Result<(Front, Front), OpenCause>
-    requires length { len ≡ length (D.meaning.content disk.old) }
+    requires holds { HoldsSoMany D.meaning disk.old capacity len }
     requires whole { half capacity < len }
-    requires within { len ≤ capacity }
-    requires least { 2 ≤ capacity }
-    requires most { capacity ≤ 2 ^ 30 }
-    requires power { (D.meaning.meters disk.old).powered ≡ true }
     ensures fronts { IfOk result (λ r. HasFronts capacity (D.meaning.content disk.old) r.0 r.1) }
     ensures cause { IfErr result (λ e. e ≡ OpenCause.Failed) }
-    ensures same { (IsErrOf result OpenCause.Failed → ⊥) → D.meaning.content disk.new ≡ D.meaning.content disk.old }
-    ensures images { Within (D.meaning.image disk.old) (D.meaning.image disk.new) }
-    ensures meters { Looks (D.meaning.meters disk.old) (D.meaning.meters disk.new) result }
+    ensures looks { Looks D.meaning disk.old disk.new result }
 {
     let first = read_front(disk, span_of(Region::First, capacity, len))?;
     let second = read_front(disk, span_of(Region::Second, capacity, len))?;
@@ -102,19 +96,13 @@ fn read_region<D: Disk>(
     generation: u32,
     fronts: (Front, Front),
 ) -> Result<Held, OpenCause>
-    requires length { len ≡ length (D.meaning.content disk.old) }
-    requires within { len ≤ capacity }
-    requires least { 2 ≤ capacity }
-    requires most { capacity ≤ 2 ^ 30 }
-    requires power { (D.meaning.meters disk.old).powered ≡ true }
+    requires holds { HoldsSoMany D.meaning disk.old capacity len }
     requires fronts { HasFronts capacity (D.meaning.content disk.old) fronts.0 fronts.1 }
     requires found { active_of fronts.0 fronts.1 ≡ Found.Active region generation }
     ensures held { IfOk result (IsHeld capacity (D.meaning.content disk.old)) }
-    ensures end { IfOk result (λ h. (h.end < limit capacity h.region) × (h.end < length (D.meaning.content disk.old)) × (start capacity h.region ≤ h.end)) }
+    ensures end { IfOk result (EndsInside capacity (D.meaning.content disk.old)) }
     ensures damaged { (place : ℕ) → result ≡ Err (OpenCause.Damaged place) → HasBadFrame capacity (D.meaning.content disk.old) place }
-    ensures same { (IsErrOf result OpenCause.Failed → ⊥) → D.meaning.content disk.new ≡ D.meaning.content disk.old }
-    ensures images { Within (D.meaning.image disk.old) (D.meaning.image disk.new) }
-    ensures meters { Looks (D.meaning.meters disk.old) (D.meaning.meters disk.new) result }
+    ensures looks { Looks D.meaning disk.old disk.new result }
 {
     let start = region.start(capacity);
     let (found, end) = read_frames(alloc, disk, span_of(region, capacity, len))?;
@@ -135,18 +123,12 @@ fn read_regions<D: Disk>(
     capacity: u64,
     len: u64,
 ) -> Result<Held, OpenCause>
-    requires length { len ≡ length (D.meaning.content disk.old) }
-    requires within { len ≤ capacity }
-    requires least { 2 ≤ capacity }
-    requires most { capacity ≤ 2 ^ 30 }
-    requires power { (D.meaning.meters disk.old).powered ≡ true }
+    requires { HoldsSoMany D.meaning disk.old capacity len }
     ensures held { IfOk result (IsHeld capacity (D.meaning.content disk.old)) }
-    ensures end { IfOk result (λ h. (h.end < limit capacity h.region) × (h.end < length (D.meaning.content disk.old)) × (start capacity h.region ≤ h.end)) }
+    ensures end { IfOk result (EndsInside capacity (D.meaning.content disk.old)) }
     ensures whole { IfOk result (λ h. half capacity < length (D.meaning.content disk.old)) }
     ensures damaged { (place : ℕ) → result ≡ Err (OpenCause.Damaged place) → DamagedAt capacity (D.meaning.content disk.old) place }
-    ensures same { (IsErrOf result OpenCause.Failed → ⊥) → D.meaning.content disk.new ≡ D.meaning.content disk.old }
-    ensures images { Within (D.meaning.image disk.old) (D.meaning.image disk.new) }
-    ensures meters { Looks (D.meaning.meters disk.old) (D.meaning.meters disk.new) result }
+    ensures looks { Looks D.meaning disk.old disk.new result }
 {
     if len <= half(capacity) {
         return Err(OpenCause::Damaged { at: len });
@@ -165,8 +147,7 @@ fn read_regions<D: Disk>(
 /// Makes the disk durable, reads its regions, and takes room for the largest frame.
 pub fn prepare<D: Disk>(alloc: Global, disk: &mut D) -> Result<(Held, Vec<u8>), OpenCause>
     ensures held { IfOk result (λ r. IsHeld (D.meaning.meters disk.old).capacity (D.meaning.content disk.old) r.0) }
-    ensures end { IfOk result (λ r. (r.0.end < limit (D.meaning.meters disk.old).capacity r.0.region) × (r.0.end < length (D.meaning.content disk.old))
-        × (start (D.meaning.meters disk.old).capacity r.0.region ≤ r.0.end)) }
+    ensures end { IfOk result (λ r. EndsInside (D.meaning.meters disk.old).capacity (D.meaning.content disk.old) r.0) }
     ensures whole { IfOk result (λ r. half (D.meaning.meters disk.old).capacity < length (D.meaning.content disk.old)) }
     ensures bound { IfOk result (λ r. r.0.end ≤ 2 ^ 30) }
     ensures room { IfOk result (λ r. (D.meaning.meters disk.old).capacity - half (D.meaning.meters disk.old).capacity ≤ vec_capacity r.1) }

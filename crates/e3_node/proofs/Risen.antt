@@ -1,5 +1,5 @@
 -- The whole node behind a rise, and what is told of it.
-use Rattle.std.proofs.Common.{◌≡◌, ◌+◌, ◌++◌, ◌∷◌, [], ◌≤◌, ℕ, false, List, Result, Err, refl, sym, subst, ap, ◌∙◌, append-nil, arith}
+use Rattle.std.proofs.Common.{◌≡◌, ◌≢◌, ◌+◌, ◌++◌, ◌∷◌, [], ◌≤◌, ℕ, false, List, Result, Err, refl, sym, subst, ap, ◌∙◌, append-nil, arith}
 use Rattle.std.specs.Prelude.{IfOk}
 use Rattle.e3_disk.specs.Meaning.{Meaning}
 use Rattle.e3_disk.specs.Meters.{HasFailed}
@@ -62,6 +62,12 @@ allowed_of meaning sc h site old (Down new logged) (Failed kept inc why) rising 
 allowed_of meaning sc h site old (Down new logged) Missed rising made = rising
 allowed_of meaning sc h site old (Down new logged) NoMemory rising made = tt
 allowed_of meaning sc h site old (Down new logged) Foreign rising made = absurd made
+
+-- and it never finds a log that is not the site's
+pub never_foreign_made : {D : Type 0} (meaning : Meaning D) (sc : Scenario) (h : List Entry)
+    (site : ℕ) (old : D) (state : State D) (r : Raised) → RiseMakes meaning sc h site old state r → r ≢ Foreign
+never_foreign_made meaning sc h site old (Up s l rose logged) r made = λ is. subst (λ (x : Raised). RiseMakes meaning sc h site old (Up s l rose logged) x) is made
+never_foreign_made meaning sc h site old (Down new logged) r made = λ is. subst (λ (x : Raised). RiseMakes meaning sc h site old (Down new logged) x) is made
 
 -- a missed rise leaves the disk as it stands
 missed_disk : (sc : Scenario) (h : List Entry) (site capacity logged : ℕ) (image : List ℕ → Type 0) → DiskTells sc h site capacity logged image →

@@ -3,7 +3,7 @@ use Rattle.std.proofs.Common.{◌≡◌, ◌==◌, ◌||◌, ◌+◌, ◌-◌, �
 use Rattle.std.specs.Prelude.{Bool, Result, Ok, Err, OnOk}
 use Rattle.std.proofs.lemmas.List.Elements.{All-nil, All-cons}
 use Rattle.e3_law_local.specs.Others.{Allows, numbered_on}
-use Rattle.e3_node.specs.SharedStands.{HasEntered, IsClaimed, SharedStands}
+use Rattle.e3_node.specs.SharedStands.{HasEntered, IsClaimed, SharedGoesOn, SharedStands}
 use Rattle.e3_node.specs.Rising.{RiseIsEntered, entered_by}
 use Rattle.e3_node.specs.declared.rising.Raised.{Raised}
 use Rattle.e3_node.specs.declared.rising.Raised.TheVariants as raised
@@ -38,6 +38,15 @@ under marks played = let all : used_of marks ≤ most_of marks = played.within i
 -- nothing has grown
 pub no_growth : (before now : List Mark) → now ≡ before → HaveGrown before now
 no_growth before now same = ([], same ∙ sym (append-nil before), All-nil (HasOwner (last_owner before)))
+
+-- so what stood goes on
+pub still_on : (before now : List Mark) → SharedStands before → now ≡ before → SharedGoesOn before now
+still_on before now stands same = record {
+  stands = let P : List Mark → Type 0 = λ l. SharedStands l in subst P (sym same) stands;
+  grew = no_growth before now same;
+  scenario = ap (λ (l : List Mark). scenario_of l) same;
+  most = ap (λ (l : List Mark). most_of l) same;
+}
 
 -- the claim changes neither the scenario nor the entries
 pub record Reads (before now : List Mark) : Type 0 where
@@ -93,22 +102,24 @@ may_enter before now outs e claim site may takes few =
 pub has_entered : (before now after : List Mark) (outs : ℕ) (e : Entry) → IsClaimed e.owner outs before now → UsesAll now e →
     after ≡ now ++ mark.Entered (numbered_on (entries_of now) e) ∷ [] → IsPlayed after → HasEntered e before after
 has_entered before now after outs e claim all_used is played = record {
-  stands = record {
-    played = played;
-    within = under after played;
-    none =
-        let P : List Mark → Type 0 = λ l. NothingIsPromised l in
-        subst P (sym is) (claims_are_used before now outs e claim.is claim.stands.none all_used);
+  on = record {
+    stands = record {
+      played = played;
+      within = under after played;
+      none =
+          let P : List Mark → Type 0 = λ l. NothingIsPromised l in
+          subst P (sym is) (claims_are_used before now outs e claim.is claim.stands.none all_used);
+    };
+    grew = (
+      P ∷ E ∷ [],
+      all,
+      All-cons (HasOwner (last_owner before)) P (E ∷ []) (e.owner, claim.exists, eq-eqb e.owner e.owner refl)
+          (All-cons (HasOwner (last_owner before)) E [] (e.owner, claim.exists, rw (eq-eqb e.owner e.owner refl) (either (e.owner == 0)))
+          (All-nil (HasOwner (last_owner before)))),
+    );
+    scenario = ap (λ (l : List Mark). scenario_of l) all ∙ stay.0;
+    most = ap (λ (l : List Mark). most_of l) all ∙ stay.1;
   };
-  grew = (
-    P ∷ E ∷ [],
-    all,
-    All-cons (HasOwner (last_owner before)) P (E ∷ []) (e.owner, claim.exists, eq-eqb e.owner e.owner refl)
-        (All-cons (HasOwner (last_owner before)) E [] (e.owner, claim.exists, rw (eq-eqb e.owner e.owner refl) (either (e.owner == 0)))
-        (All-nil (HasOwner (last_owner before)))),
-  );
-  scenario = ap (λ (l : List Mark). scenario_of l) all ∙ stay.0;
-  most = ap (λ (l : List Mark). most_of l) all ∙ stay.1;
   entries =
       ap (λ (l : List Mark). entries_of l) all ∙ entries_append before (P ∷ E ∷ [])
       ∙ ap (λ (h : List Entry). entries_of before ++ numbered_on h e ∷ []) (claimed_reads e.owner outs before now claim).entries;
@@ -148,10 +159,7 @@ claim_told before now owner outs (Err fault) stands exists is = tt
 entered_rise : (site : ℕ) (r : Raised) (e : Entry) (before now : List Mark) → HasEntered e before now → numbered_on (entries_of before) e ≡ e → e ∷ [] ≡ entered_by site r →
     RiseIsEntered site r before now
 entered_rise site r e before now has plain one = record {
-  stands = has.stands;
-  grew = has.grew;
-  scenario = has.scenario;
-  most = has.most;
+  on = has.on;
   entries = has.entries ∙ ap (λ (x : Entry). entries_of before ++ x ∷ []) plain ∙ ap (λ (l : List Entry). entries_of before ++ l) one;
 }
 
@@ -169,9 +177,6 @@ missed_entered site before now has = entered_rise site raised.Missed (record { o
 -- or taken back
 pub withdrawn_rise : (site : ℕ) (r : Raised) (before now : List Mark) → SharedStands before → now ≡ before → entered_by site r ≡ [] → RiseIsEntered site r before now
 withdrawn_rise site r before now stands is none = record {
-  stands = let P : List Mark → Type 0 = λ l. SharedStands l in subst P (sym is) stands;
-  grew = no_growth before now is;
-  scenario = ap (λ (l : List Mark). scenario_of l) is;
-  most = ap (λ (l : List Mark). most_of l) is;
+  on = still_on before now stands is;
   entries = ap (λ (l : List Mark). entries_of l) is ∙ sym (append-nil (entries_of before)) ∙ ap (λ (l : List Entry). entries_of before ++ l) (sym none);
 }

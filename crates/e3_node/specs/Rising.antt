@@ -31,9 +31,8 @@ use Rattle.e3_types.specs.declared.records.Record.{Record}
 use Rattle.e3_types.specs.declared.records.Record.TheVariants as log
 use Rattle.e3_types.specs.declared.scenarios.Scenario.{Scenario}
 use Rattle.e3_types.specs.declared.transactions.Row.{Row}
-use Rattle.e3_node.specs.SharedStands.{SharedStands}
-use Rattle.e3_wire.specs.Claims.{HaveGrown}
-use Rattle.e3_wire.specs.Marks.{entries_of, most_of, scenario_of}
+use Rattle.e3_node.specs.SharedStands.{SharedGoesOn}
+use Rattle.e3_wire.specs.Marks.{entries_of}
 use Rattle.e3_wire.specs.declared.marks.Mark.{Mark}
 use Rattle.e3_world.specs.Given.{IsGiven}
 use Rattle.e3_world.specs.Legal.{IsLegal, IsRise, IsRising}
@@ -176,12 +175,10 @@ abbrev pub IsAllowed : Scenario → List Entry → ℕ → Raised → Type 0
 IsAllowed sc history site (Rose kept inc) = IsRise sc history site kept inc
 IsAllowed sc history site (Failed kept inc why) = IsRise sc history site kept inc
 IsAllowed sc history site Missed = IsRising sc history site
-IsAllowed sc history site _ = Unit {0}
+IsAllowed sc history site NoMemory = Unit {0}
+IsAllowed sc history site Foreign = ⊥
 
--- what became of a rise is entered, and what is shared stands again
+-- what became of a rise is entered, and what is shared goes on
 pub record RiseIsEntered (site : ℕ) (r : Raised) (before now : List Mark) : Type 0 where
-  pub stands : SharedStands now
-  pub grew : HaveGrown before now
-  pub scenario : scenario_of now ≡ scenario_of before
-  pub most : most_of now ≡ most_of before
+  pub on : SharedGoesOn before now
   pub entries : entries_of now ≡ entries_of before ++ entered_by site r

@@ -5,8 +5,8 @@ use Rattle.e3_disk.specs.Meaning.{Meaning}
 use Rattle.e3_law_local.specs.Least.{AreOfSites}
 use Rattle.e3_law_local.specs.Others.{AreOthers}
 use Rattle.e3_node.specs.Ends.{FellOver}
-use Rattle.e3_node.specs.NodeStands.{IsFallen, IsIn}
-use Rattle.e3_node.specs.NodeView.{disk_of}
+use Rattle.e3_node.specs.NodeStands.{IsFallen, IsIn, NodeStands}
+use Rattle.e3_node.specs.NodeView.{NodeView, disk_of}
 use Rattle.e3_node.specs.declared.fault.InputFault.{InputFault}
 use Rattle.e3_node.specs.declared.fault.InputFault.TheVariants.{Fell}
 use Rattle.e3_node.specs.declared.state.State.{State}
@@ -63,6 +63,15 @@ pub record HasKeptPromises (lock : TableId) (site : ℕ) (p q : APass) : Type 0 
   pub room : (note_of site (seen_by q)).room ≤ (note_of site (seen_by p)).room
 
 module _ {D : Type 0} (meaning : Meaning D) where
+  -- A call of a node may take turns by this pass: it rests and speaks for the node's site, and the node stands for what it has
+  -- seen, outside of a recover step.
+  pub record NodeMayTakeTurns (lock : TableId) (p : APass) (node : NodeView D) : Type 0 where
+    pub idle : IsIdle lock p
+    pub owns : Owns p node.site
+    pub played : IsPlayed (seen_by p)
+    pub stands : NodeStands meaning (scenario_seen p) (history_seen p) node
+    pub restless : is_calm (present_items (scenario_seen p) (history_seen p)) ≡ false
+
   -- the site made the step of an input behind what others entered
   pub record HasStepped (sc : Scenario) (before more : List Entry) (site : ℕ) (i : Input) (new : State D) : Type 0 where
     pub now : List Entry

@@ -11,26 +11,24 @@ ghost use Rattle.e3_node.specs.Ends.{FellOver, HasFailedToRise, HasRisen, is_fal
 ghost use Rattle.e3_node.specs.NodeStands.{NodeStands};
 ghost use Rattle.e3_node.specs.NodeView.{disk_of, is_up_in};
 ghost use Rattle.e3_node.specs.Places.{HasGivenNoneBack};
-ghost use Rattle.e3_node.specs.SharedStands.{SharedStands};
-ghost use Rattle.e3_node.specs.Turns.{HasSeenMore, Meanwhile, history_seen, scenario_seen};
+ghost use Rattle.e3_node.specs.SharedStands.{SharedGoesOn, SharedStands};
+ghost use Rattle.e3_node.specs.Turns.{HasKeptPromises, HasTurned, Meanwhile, NodeMayTakeTurns, history_seen, scenario_seen};
 ghost use Rattle.e3_node.specs.declared.fault.CutFault.TheVariants as cut_fault;
 ghost use Rattle.e3_node.specs.declared.fault.InputFault.{InputFault as InputFaults};
 ghost use Rattle.e3_node.specs.declared.fault.InputFault.TheVariants as input_fault;
 ghost use Rattle.e3_node.specs.declared.fault.RiseFault.TheVariants as rise_fault;
 ghost use Rattle.e3_play.specs.Entering.{IsFirst};
 ghost use Rattle.e3_site_log.specs.Ends.{IsReason, Takes, calls_for};
-ghost use Rattle.e3_turn.specs.Passes.{IsIdle, Owns, SameOwners, seen_by};
+ghost use Rattle.e3_turn.specs.Passes.{seen_by};
 ghost use Rattle.e3_types.specs.declared.entries.Act.TheVariants as act;
 ghost use Rattle.e3_types.specs.declared.entries.Entry.{Entry as Entries};
 ghost use Rattle.e3_types.specs.declared.entries.Why.{Why};
 ghost use Rattle.e3_types.specs.declared.scenarios.Scenario.{Scenario};
-ghost use Rattle.e3_wire.specs.Claims.{HaveGrown};
 ghost use Rattle.e3_wire.specs.Marks.{entries_of, most_of, note_of, nothing, scenario_of, used_of};
-ghost use Rattle.e3_wire.specs.Wires.{IsPlayed, TakesLeast};
+ghost use Rattle.e3_wire.specs.Wires.{TakesLeast};
 ghost use Rattle.e3_world.specs.Items.{add_txn, is_up_at, open_at};
 ghost use Rattle.e3_world.specs.Legal.{IsCut, IsDue, IsRising, entry_of, made_by};
 ghost use Rattle.e3_world.specs.Moves.{log_of, rows_at};
-ghost use Rattle.e3_world.specs.Packets.{is_calm, present_items};
 
 use crate::entering::{claim, enter, is_full};
 use crate::readying::wish_of;
@@ -138,9 +136,7 @@ impl<D: Disk + Drill + Drop> Node<D> {
         requires shared { SharedStands shared.old }
         requires standing { NodeStands D.meaning (scenario_of shared.old) (entries_of shared.old) self.old }
         requires turn { is_up_at (entries_of shared.old) self.old.site ≡ false → IsRising (scenario_of shared.old) (entries_of shared.old) self.old.site }
-        ensures shared { SharedStands shared.new }
-        ensures grew { HaveGrown shared.old shared.new }
-        ensures same { (scenario_of shared.new ≡ scenario_of shared.old) × (most_of shared.new ≡ most_of shared.old) }
+        ensures shared { SharedGoesOn shared.old shared.new }
         ensures stands { NodeStands D.meaning (scenario_of shared.new) (entries_of shared.new) self.new }
         ensures site { self.new.site ≡ self.old.site }
         ensures up { (result ≡ Err rise_fault.Up) ↔ (is_up_at (entries_of shared.old) self.old.site ≡ true) }
@@ -185,9 +181,7 @@ impl<D: Disk + Drill + Drop> Node<D> {
         requires standing { NodeStands D.meaning (scenario_of shared.old) (entries_of shared.old) self.old }
         requires due { is_up_at (entries_of shared.old) self.old.site ≡ true → IsDue (scenario_of shared.old) (entries_of shared.old) self.old.site input }
         requires first { is_up_at (entries_of shared.old) self.old.site ≡ true → IsFirst (scenario_of shared.old) (entries_of shared.old) input }
-        ensures shared { SharedStands shared.new }
-        ensures grew { HaveGrown shared.old shared.new }
-        ensures same { (scenario_of shared.new ≡ scenario_of shared.old) × (most_of shared.new ≡ most_of shared.old) }
+        ensures shared { SharedGoesOn shared.old shared.new }
         ensures stands { NodeStands D.meaning (scenario_of shared.new) (entries_of shared.new) self.new }
         ensures site { self.new.site ≡ self.old.site }
         ensures stepped { OnOk result (entries_of shared.new ≡ entries_of shared.old ++ entry_of (scenario_of shared.old) (entries_of shared.old) self.old.site input ∷ []) }
@@ -229,23 +223,14 @@ impl<D: Disk + Drill + Drop> Node<D> {
         pass: &mut WirePass,
         input: Input,
     ) -> Result<(), InputFault>
-        requires idle { IsIdle wire.now pass.old }
-        requires owns { Owns pass.old self.old.site }
-        requires played { IsPlayed (seen_by pass.old) }
-        requires standing { NodeStands D.meaning (scenario_seen pass.old) (history_seen pass.old) self.old }
-        requires restless { is_calm (present_items (scenario_seen pass.old) (history_seen pass.old)) ≡ false }
+        requires turns { NodeMayTakeTurns D.meaning wire.now pass.old self.old }
         requires due { is_up_at (history_seen pass.old) self.old.site ≡ true → MayTake (scenario_seen pass.old) (history_seen pass.old) self.old.site input }
         requires takes { is_up_at (history_seen pass.old) self.old.site ≡ true → TakesLeast (scenario_seen pass.old) (history_seen pass.old) self.old.site input }
 
         // each claim is followed by its entry, which uses its place, and uses its room or gives it back: no place and no room are
         // promised to the site that were not before, and no place was given back
-        ensures idle { IsIdle wire.now pass.new }
-        ensures same { SameOwners pass.old pass.new }
-        ensures played { IsPlayed (seen_by pass.new) }
-        ensures seen { HasSeenMore pass.old pass.new }
+        ensures turned { HasKeptPromises wire.now self.old.site pass.old pass.new }
         ensures scenario { (scenario_seen pass.new ≡ scenario_seen pass.old) × (most_of (seen_by pass.new) ≡ most_of (seen_by pass.old)) }
-        ensures promised { (note_of self.old.site (seen_by pass.new)).places ≡ (note_of self.old.site (seen_by pass.old)).places }
-        ensures room { (note_of self.old.site (seen_by pass.new)).room ≤ (note_of self.old.site (seen_by pass.old)).room }
         ensures none_back { HasGivenNoneBack self.old.site (seen_by pass.old) (seen_by pass.new) }
 
         ensures stands { NodeStands D.meaning (scenario_seen pass.new) (history_seen pass.new) self.new }
@@ -292,21 +277,14 @@ impl<D: Disk + Drill + Drop> Node<D> {
         pass: &mut WirePass,
         inputs: List<Input>,
     ) -> Result<(), InputFault>
-        requires idle { IsIdle wire.now pass.old }
-        requires owns { Owns pass.old self.old.site }
-        requires played { IsPlayed (seen_by pass.old) }
-        requires standing { NodeStands D.meaning (scenario_seen pass.old) (history_seen pass.old) self.old }
-        requires restless { is_calm (present_items (scenario_seen pass.old) (history_seen pass.old)) ≡ false }
+        requires turns { NodeMayTakeTurns D.meaning wire.now pass.old self.old }
         requires few { (1 ≤ length inputs) × (length inputs ≤ 8) }
         requires due { is_up_at (history_seen pass.old) self.old.site ≡ true → MayTakeAll (scenario_seen pass.old) (history_seen pass.old) self.old.site inputs }
         requires takes { is_up_at (history_seen pass.old) self.old.site ≡ true → AreFirstTo (scenario_seen pass.old) (history_seen pass.old) self.old.site inputs }
         requires places { is_up_at (history_seen pass.old) self.old.site ≡ true → length inputs ≤ (note_of self.old.site (seen_by pass.old)).places }
 
         // as of `input_by_turns`, but that nothing is promised to the site behind it; where the site is down that stays
-        ensures idle { IsIdle wire.now pass.new }
-        ensures same { SameOwners pass.old pass.new }
-        ensures played { IsPlayed (seen_by pass.new) }
-        ensures seen { HasSeenMore pass.old pass.new }
+        ensures turned { HasTurned wire.now pass.old pass.new }
         ensures scenario { (scenario_seen pass.new ≡ scenario_seen pass.old) × (most_of (seen_by pass.new) ≡ most_of (seen_by pass.old)) }
         ensures promised { is_up_at (history_seen pass.old) self.old.site ≡ true → note_of self.old.site (seen_by pass.new) ≡ nothing }
         ensures kept { is_up_at (history_seen pass.old) self.old.site ≡ false → note_of self.old.site (seen_by pass.new) ≡ note_of self.old.site (seen_by pass.old) }
@@ -327,9 +305,7 @@ impl<D: Disk + Drill + Drop> Node<D> {
         requires shared { SharedStands shared.old }
         requires standing { NodeStands D.meaning (scenario_of shared.old) (entries_of shared.old) self.old }
         requires crash { is_up_at (entries_of shared.old) self.old.site ≡ true → IsCut (scenario_of shared.old) (entries_of shared.old) self.old.site }
-        ensures shared { SharedStands shared.new }
-        ensures grew { HaveGrown shared.old shared.new }
-        ensures same { (scenario_of shared.new ≡ scenario_of shared.old) × (most_of shared.new ≡ most_of shared.old) }
+        ensures shared { SharedGoesOn shared.old shared.new }
         ensures stands { NodeStands D.meaning (scenario_of shared.new) (entries_of shared.new) self.new }
         ensures site { self.new.site ≡ self.old.site }
         ensures entered { OnOk result (entries_of shared.new ≡ entries_of shared.old ++ record { owner = self.old.site; act = act.Cut } ∷ []) }

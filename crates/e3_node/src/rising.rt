@@ -7,6 +7,7 @@ ghost use Rattle.e3_node.specs.Bodies.{DiskTells, log_with};
 ghost use Rattle.e3_node.specs.NodeStands.{IsFallen};
 ghost use Rattle.e3_node.specs.NodeView.{disk_of, is_up_in};
 ghost use Rattle.e3_node.specs.declared.readying.Wish.{Wish as Wishes};
+ghost use Rattle.e3_node.specs.declared.rising.Raised.TheVariants as raises;
 ghost use Rattle.e3_node.specs.Rising.{IsAllowed, IsReady, MayRise, RiseIsEntered, RiseMakes, RiseOver, RiseTakes, raised_by, raised_of, told_of};
 ghost use Rattle.e3_site_log.specs.Ends.{IsDue, IsShortIf, MayTurn};
 ghost use Rattle.e3_node.specs.SharedStands.{IsClaimed};
@@ -168,7 +169,7 @@ pub(crate) fn risen<D: Disk + Drill + Drop>(state: State<D>, wish: Wish) -> (Sta
 {
     match state {
         State::Down(disk, logged) => raise(disk, logged, &wish),
-        up => (up, Raised::NoMemory),
+        State::Up(..) => unreachable!(),
     }
 }
 
@@ -191,18 +192,21 @@ pub(crate) fn enter_rise(shared: &mut Shared, owner: u32, raised: Raised)
             let act = Act::Miss;
             enter(shared, Entry { owner, act });
         }
-        Raised::NoMemory | Raised::Foreign => shared.withdraw(owner, 0),
+        Raised::NoMemory => shared.withdraw(owner, 0),
+        Raised::Foreign => unreachable!(),
     }
 }
 
 /// What became of a rise, as it is told.
 pub(crate) fn told(raised: Raised) -> Result<u32, RiseFault>
+    requires own { raised ≢ raises.Foreign }
     ensures { result ≡ told_of raised }
 {
     match raised {
         Raised::Rose { inc, .. } => Ok(inc),
         Raised::Failed { why, .. } => Err(RiseFault::Failed { why }),
         Raised::Missed => Err(RiseFault::Missed),
-        Raised::NoMemory | Raised::Foreign => Err(RiseFault::NoMemory),
+        Raised::NoMemory => Err(RiseFault::NoMemory),
+        Raised::Foreign => unreachable!(),
     }
 }

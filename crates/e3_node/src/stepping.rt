@@ -5,7 +5,7 @@ ghost use Rattle.e3_node.specs.Bodies.{DiskTells};
 ghost use Rattle.e3_node.specs.Ends.{FellOver, is_fall};
 ghost use Rattle.e3_node.specs.NodeStands.{IsFallen, IsIn, IsUp, logged_in};
 ghost use Rattle.e3_node.specs.NodeView.{disk_of};
-ghost use Rattle.e3_node.specs.SharedStands.{SharedStands};
+ghost use Rattle.e3_node.specs.SharedStands.{MayGoOn, SharedGoesOn};
 ghost use Rattle.e3_node.specs.declared.fault.InputFault.{InputFault as InputFaults};
 ghost use Rattle.e3_node.specs.declared.fault.InputFault.TheVariants as input_fault;
 ghost use Rattle.e3_site.specs.SiteView.{entry_of_plan};
@@ -13,8 +13,7 @@ ghost use Rattle.e3_site_log.specs.Ends.{IsReason, Takes, calls_for};
 ghost use Rattle.e3_play.specs.Entering.{IsFirst};
 ghost use Rattle.e3_types.specs.declared.entries.Act.TheVariants as act;
 ghost use Rattle.e3_types.specs.declared.entries.Why.{Why as Whys};
-ghost use Rattle.e3_wire.specs.Claims.{HaveGrown};
-ghost use Rattle.e3_wire.specs.Marks.{entries_of, last_owner, most_of, scenario_of};
+ghost use Rattle.e3_wire.specs.Marks.{entries_of, most_of, scenario_of};
 ghost use Rattle.e3_world.specs.Items.{is_up_at};
 ghost use Rattle.e3_world.specs.Legal.{IsDue, entry_of, made_by};
 ghost use Rattle.e3_world.specs.Moves.{log_of};
@@ -77,15 +76,11 @@ fn step<D: Disk>(
     shared: &mut Shared,
     input: Input,
 ) -> Result<(), InputFault>
-    requires shared { SharedStands shared.old }
-    requires some { 1 ≤ number }
-    requires exists { number ≤ last_owner shared.old }
+    requires shared { MayGoOn number shared.old }
     requires up { IsUp D.meaning (scenario_of shared.old) (entries_of shared.old) number site.old log.old rose.now logged.old }
     requires due { IsDue (scenario_of shared.old) (entries_of shared.old) number input }
     requires first { IsFirst (scenario_of shared.old) (entries_of shared.old) input }
-    ensures shared { SharedStands shared.new }
-    ensures grew { HaveGrown shared.old shared.new }
-    ensures same { (scenario_of shared.new ≡ scenario_of shared.old) × (most_of shared.new ≡ most_of shared.old) }
+    ensures shared { SharedGoesOn shared.old shared.new }
     ensures stepped { OnOk result (entries_of shared.new ≡ entries_of shared.old ++ entry_of (scenario_of shared.old) (entries_of shared.old) number input ∷ []) }
     ensures up { OnOk result (IsUp D.meaning (scenario_of shared.old) (entries_of shared.new) number site.new log.new rose.now logged.new) }
     ensures never { result ≡ Err input_fault.Down → ⊥ }
@@ -134,15 +129,11 @@ pub(crate) fn take_input<D: Disk + Drop>(
     shared: &mut Shared,
     input: Input,
 ) -> Result<(), InputFault>
-    requires shared { SharedStands shared.old }
-    requires some { 1 ≤ number }
-    requires exists { number ≤ last_owner shared.old }
+    requires shared { MayGoOn number shared.old }
     requires stands { IsIn D.meaning (scenario_of shared.old) (entries_of shared.old) number state.old }
     requires due { is_up_at (entries_of shared.old) number ≡ true → IsDue (scenario_of shared.old) (entries_of shared.old) number input }
     requires first { is_up_at (entries_of shared.old) number ≡ true → IsFirst (scenario_of shared.old) (entries_of shared.old) input }
-    ensures shared { SharedStands shared.new }
-    ensures grew { HaveGrown shared.old shared.new }
-    ensures same { (scenario_of shared.new ≡ scenario_of shared.old) × (most_of shared.new ≡ most_of shared.old) }
+    ensures shared { SharedGoesOn shared.old shared.new }
     ensures stepped { OnOk result (entries_of shared.new ≡ entries_of shared.old ++ entry_of (scenario_of shared.old) (entries_of shared.old) number input ∷ []) }
     ensures up { OnOk result (IsIn D.meaning (scenario_of shared.old) (entries_of shared.new) number state.new) }
     ensures down { (result ≡ Err input_fault.Down) ↔ (is_up_at (entries_of shared.old) number ≡ false) }

@@ -1,23 +1,18 @@
 -- The place of a step.
-use Rattle.std.specs.Prelude.{◌≡◌, ◌∷◌, [], ℕ, List, Option, Some, None, Result, Ok, Err, IfOk}
+use Rattle.std.specs.Prelude.{◌≡◌, ℕ, List, Result, IfOk}
 use Rattle.std.proofs.Common.{refl, ap, sym, ◌∙◌}
 use Rattle.e3_types.specs.declared.entries.Input.{Input}
 use Rattle.e3_types.specs.declared.list.NoMemory.{NoMemory}
-use Rattle.e3_world.specs.declared.lives.At.{At}
 use Rattle.e3_world.specs.declared.lives.Incarnation.{Incarnation}
 use Rattle.e3_world.specs.declared.lives.Life.{Life}
 use Rattle.e3_world.specs.declared.lives.Made.{Made}
 use Rattle.e3_world.specs.Lives.{life_of}
 use Rattle.e3_world.specs.Moves.{unnumbered_input}
 use Rattle.e3_world.specs.Steps.{step_at, step_of}
+use Rattle.e3_readings.proofs.Results.{ok_is}
 use Rattle.e3_cards.specs.declared.cards.Cards.{Cards}
 use Rattle.e3_cards.specs.Cards.{card_of}
 use Rattle.e3_cards.specs.Tables.{CardsStand}
-
--- a result with a value that equals another
-pub ok_is : {X : Type 0} (r : Result X NoMemory) (x y : X) → x ≡ y → IfOk r (λ out. out ≡ x) → IfOk r (λ out. out ≡ y)
-ok_is (Ok out) x y e h = h ∙ e
-ok_is (Err f) x y e h = tt
 
 -- the cards of a site stand for its own number
 pub own_stands : (site : ℕ) (cards : Cards) (life : Life) → CardsStand site cards life → CardsStand cards.site cards life

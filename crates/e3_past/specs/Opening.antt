@@ -1,8 +1,7 @@
 -- The transactions that are open at a site, as its tables keep them.
-use Rattle.std.specs.Prelude.{◌≡◌, ◌+◌, ◌≤◌, ◌∷◌, [], ℕ, Bool, true, false, List, Option, Some, None, filter, length, map, vec_capacity}
+use Rattle.std.specs.Prelude.{◌≡◌, ◌+◌, ◌≤◌, ◌∷◌, [], ℕ, List, Option, Some, None, filter, length, map, vec_capacity}
 use Rattle.std.specs.List.{flat_map}
 use Rattle.e3_types.specs.declared.records.Record.{Record}
-use Rattle.e3_types.specs.declared.records.Record.TheVariants as log
 use Rattle.e3_types.specs.declared.transactions.Txn.{Txn}
 use Rattle.e3_world.specs.declared.lives.Life.{Life}
 use Rattle.e3_world.specs.declared.lives.SiteStep.{SiteStep}

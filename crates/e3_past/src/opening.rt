@@ -19,7 +19,7 @@ use crate::arriving::fresh;
 use crate::tables::{Opens, Tables};
 use e3_cards::Cards;
 use e3_places::Standing;
-use e3_readings::{in_order, is_decision, is_undecided};
+use e3_readings::{in_order, is_decision, is_undecided, txn_of_record};
 use e3_step::decides;
 use e3_types::{List, NoMemory, Record, Told, Txn};
 use e3_world::SiteStep;
@@ -58,12 +58,9 @@ fn add_one(cards: &Cards, t: &Txn, out: &mut Vec<Txn>) -> Result<(), NoMemory>
 fn add_recorded(cards: &Cards, r: &Record, out: &mut Vec<Txn>) -> Result<(), NoMemory>
     ensures { IfOk result (λ u. (a : At) → CardsStand a.site cards.now a.life → out.new.items ≡ out.old.items ++ undecided_among a.life.log (txn_of_record r.now)) }
 {
-    match r {
-        Record::Vote { txn, .. }
-        | Record::Join { txn, .. }
-        | Record::Attempt { txn, .. }
-        | Record::Decision { txn, .. } => add_one(cards, txn, out),
-        _ => Ok(()),
+    match txn_of_record(r) {
+        Some(t) => add_one(cards, t, out),
+        None => Ok(()),
     }
 }
 

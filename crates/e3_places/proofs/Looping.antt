@@ -1,7 +1,7 @@
 -- What loops make, one item at a time.
 use Rattle.std.specs.Prelude.{◌≡◌, ◌<◌, ◌+◌, ◌++◌, ◌∷◌, [], if◌then◌else◌, ℕ, Bool, true, false, List, filter, map, fold, take, length}
 use Rattle.std.specs.List.{flat_map}
-use Rattle.std.proofs.Common.{refl, ap, sym, ◌∙◌, arith, get_or}
+use Rattle.std.proofs.Common.{◌⊎◌, inl, inr, refl, ap, sym, ◌∙◌, arith, get_or}
 use Rattle.std.proofs.lemmas.Grind.{common_steps}
 use Rattle.std.proofs.lemmas.List.{append-nil}
 use Rattle.std.proofs.lemmas.List.Concat.{flat_map-append}
@@ -41,6 +41,11 @@ pub filter_next : {X : Type 0} (p : X → Bool) (xs : List X) (i : ℕ) (x : X) 
 filter_next p xs i x was ys zs h e g k =
     k ∙ ap (λ (l : List _). l ++ filter p (x ∷ [])) g ∙ assoc was (filter p (take i xs)) (filter p (x ∷ []))
     ∙ ap (λ (l : List _). was ++ l) (sym (filter-append p (take i xs) (x ∷ [])) ∙ ap (filter p) (sym (take_next xs i x h e)))
+
+-- one more item, where a test says so
+pub one_if : {X : Type 0} (b : Bool) (x : X) (ys zs : List X) → ((b ≡ true) × (zs ≡ ys ++ x ∷ [])) ⊎ ((b ≡ false) × (zs ≡ ys)) → zs ≡ ys ++ (if b then x ∷ [] else [])
+one_if b x ys zs (inl h) = h.1 ∙ sym (ap (λ (c : Bool). ys ++ (if c then x ∷ [] else [])) h.0)
+one_if b x ys zs (inr h) = h.1 ∙ sym (append-nil ys) ∙ sym (ap (λ (c : Bool). ys ++ (if c then x ∷ [] else [])) h.0)
 
 pub committed_both : (t : Txn) (votes cast : List Asked) (was x y : Answer) → x ≡ fold written was (filter (λ a. same_txn t a.txn) votes)
     → y ≡ fold written x (filter (λ a. same_txn t a.txn) cast) → y ≡ fold written was (filter (λ a. same_txn t a.txn) (votes ++ cast))

@@ -1,5 +1,5 @@
 // What stands on a name, or of a transaction, behind one more step.
-ghost use Rattle.std.specs.Prelude.{◌≡◌, ◌++◌, ◌∷◌, [], if◌then◌else◌, IfOk, filter, fold, map};
+ghost use Rattle.std.specs.Prelude.{◌≡◌, ◌++◌, IfOk, filter, fold, map};
 ghost use Rattle.std.specs.List.{flat_map, list_any};
 ghost use Rattle.e3_types.specs.Same.{same_txn};
 ghost use Rattle.e3_places.specs.Standing.{passes, is_told, is_sent, is_heard, decided_in, voted, cast_in, cast_of, is_left, again, newly, standing_by, with_cast, votes_by, claims_by, written, row_with, row_by, place_by};
@@ -8,7 +8,8 @@ use crate::doings::Doings;
 use crate::picks::Pick;
 use crate::places::{Claims, Place, Standing};
 use e3_readings::{copy_asked, is_decision};
-use e3_types::{Answer, Dir, List, Message, Name, NoMemory, NumOp, Op, Packet, Record, Told, Txn};
+use e3_tables::write_of;
+use e3_types::{Answer, Dir, List, Message, Name, NoMemory, NumOp, Packet, Record, Told, Txn};
 use e3_world::Asked;
 use std::alloc::Global;
 
@@ -134,20 +135,13 @@ pub fn cast_on(alloc: Global, pick: &Pick, records: &[Record]) -> Result<List<As
     Ok(out)
 }
 
-fn add_one(records: &[Record], a: &Asked, out: &mut List<Asked>) -> Result<(), NoMemory>
-    ensures { IfOk result (λ u. out.new ≡ out.old ++ (if is_left records.now a.now then a.now ∷ [] else [])) }
-{
-    if !decided_in(records, &a.txn) {
-        out.push(copy_asked(a))?;
-    }
-    Ok(())
-}
-
 fn add_left(records: &[Record], asked: &[Asked], out: &mut List<Asked>) -> Result<(), NoMemory>
     ensures { IfOk result (λ u. out.new ≡ out.old ++ filter (is_left records.now) asked.now) }
 {
     for a in asked {
-        add_one(records, a, out)?;
+        if !decided_in(records, &a.txn) {
+            out.push(copy_asked(a))?;
+        }
     }
     Ok(())
 }
@@ -183,9 +177,9 @@ pub(crate) fn claims_by(doings: &Doings<'_>, pick: &Pick, was: &Claims) -> Resul
 fn written(was: Answer, a: &Asked) -> Answer
     ensures { result ≡ written was a.now }
 {
-    match &a.op {
-        Op::Write(_, val) => Answer::Value(val.copy()),
-        Op::Read(_) => was,
+    match write_of(&a.op) {
+        Some((_, val)) => Answer::Value(val.copy()),
+        None => was,
     }
 }
 

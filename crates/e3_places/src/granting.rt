@@ -1,5 +1,5 @@
 // Which requests a decision grants.
-ghost use Rattle.std.specs.Prelude.{◌≡◌, ◌++◌, ◌∷◌, [], if◌then◌else◌, ℕ, true, IfOk, take};
+ghost use Rattle.std.specs.Prelude.{◌≡◌, ◌++◌, [], ℕ, true, IfOk, take};
 ghost use Rattle.e3_world.specs.declared.lives.At.{At};
 ghost use Rattle.e3_world.specs.declared.lives.Life.{Life};
 ghost use Rattle.e3_world.specs.Lives.{life_by};
@@ -83,13 +83,6 @@ fn in_order(alloc: Global, names: &[Name]) -> Result<List<Name>, NoMemory>
     Ok(out)
 }
 
-fn add_given(doings: &Doings<'_>, name: &Name, out: &mut List<Asked>) -> Result<(), NoMemory>
-    ensures { IfOk result (λ u. out.new ≡ out.old ++ given_behind doings.now.places.now.names.entries doings.now.new.now doings.now.records.now doings.now.events.now doings.now.outs.now name.now) }
-{
-    let asked = given_behind(doings, name)?;
-    add_asked(asked.as_slice(), out)
-}
-
 fn granted_by(doings: &Doings<'_>, restless: &[Name]) -> Result<List<Asked>, NoMemory>
     ensures { IfOk result (λ out. out ≡ granted_by doings.now.places.now restless.now doings.now.new.now doings.now.records.now doings.now.events.now doings.now.outs.now) }
 {
@@ -97,7 +90,8 @@ fn granted_by(doings: &Doings<'_>, restless: &[Name]) -> Result<List<Asked>, NoM
     let names = in_order(doings.alloc, all.as_slice())?;
     let mut out = List::new(doings.alloc);
     for name in names.as_slice() {
-        add_given(doings, name, &mut out)?;
+        let asked = given_behind(doings, name)?;
+        add_asked(asked.as_slice(), &mut out)?;
     }
     Ok(out)
 }
@@ -129,22 +123,15 @@ pub fn grants_after(
     granted_by(&doings, restless)
 }
 
-fn add_restless(doings: &Doings<'_>, name: &Name, out: &mut List<Name>) -> Result<(), NoMemory>
-    ensures { IfOk result (λ u. out.new ≡ out.old ++ (if is_restless doings.now.places.now.names.entries doings.now.new.now doings.now.records.now doings.now.events.now doings.now.outs.now name.now then name.now ∷ [] else [])) }
-{
-    if is_restless(doings, name)? {
-        out.push(name.copy())?;
-    }
-    Ok(())
-}
-
 fn restless_by(doings: &Doings<'_>, restless: &[Name]) -> Result<List<Name>, NoMemory>
     ensures { IfOk result (λ out. out ≡ restless_by doings.now.places.now restless.now doings.now.new.now doings.now.records.now doings.now.events.now doings.now.outs.now) }
 {
     let all = stirred(doings, restless)?;
     let mut out = List::new(doings.alloc);
     for name in all.as_slice() {
-        add_restless(doings, name, &mut out)?;
+        if is_restless(doings, name)? {
+            out.push(name.copy())?;
+        }
     }
     Ok(out)
 }

@@ -34,20 +34,13 @@ fn add_standing(
     Ok(())
 }
 
-fn add_vote(records: &[Record], a: &Asked, out: &mut List<Lock>) -> Result<(), NoMemory>
-    ensures { IfOk result (λ u. out.new ≡ out.old ++ left_lock records.now a.now) }
-{
-    if !decided_in(records, &a.txn) {
-        out.push(lock_for(a))?;
-    }
-    Ok(())
-}
-
 fn add_votes(records: &[Record], votes: &[Asked], out: &mut List<Lock>) -> Result<(), NoMemory>
     ensures { IfOk result (λ u. out.new ≡ out.old ++ flat_map (left_lock records.now) votes.now) }
 {
     for a in votes {
-        add_vote(records, a, out)?;
+        if !decided_in(records, &a.txn) {
+            out.push(lock_for(a))?;
+        }
     }
     Ok(())
 }

@@ -218,32 +218,18 @@ pub(crate) fn names_touched(doings: &Doings<'_>) -> Result<List<Name>, NoMemory>
     Ok(out)
 }
 
-fn add_keys(asked: &[Asked], out: &mut List<TxnId>) -> Result<(), NoMemory>
-    ensures { IfOk result (λ u. out.new ≡ out.old ++ map (λ a. txn_id a.txn) asked.now) }
-{
-    for a in asked {
-        out.push(txn_id(&a.txn))?;
-    }
-    Ok(())
-}
-
-fn add_txn_keys(txns: &[Txn], out: &mut List<TxnId>) -> Result<(), NoMemory>
-    ensures { IfOk result (λ u. out.new ≡ out.old ++ map txn_id txns.now) }
-{
-    for t in txns {
-        out.push(txn_id(t))?;
-    }
-    Ok(())
-}
-
 /// The transactions that a step touches, as keys, some of them more than once.
 pub(crate) fn keys_touched(doings: &Doings<'_>) -> Result<List<TxnId>, NoMemory>
     ensures { IfOk result (λ out. out ≡ keys_touched doings.now.new.now doings.now.records.now doings.now.events.now doings.now.outs.now) }
 {
     let mut out = List::new(doings.alloc);
     let asked = added(doings)?;
-    add_keys(asked.as_slice(), &mut out)?;
+    for a in asked.as_slice() {
+        out.push(txn_id(&a.txn))?;
+    }
     let txns = reached(doings)?;
-    add_txn_keys(txns.as_slice(), &mut out)?;
+    for t in txns.as_slice() {
+        out.push(txn_id(t))?;
+    }
     Ok(out)
 }

@@ -26,9 +26,7 @@ fn copy_weights(alloc: Global, weights: &[u32]) -> Result<List<u32>, NoMemory>
     ensures { IfOk result (λ out. out ≡ weights.now) }
 {
     let mut out = List::new(alloc);
-    for w in weights {
-        out.push(*w)?;
-    }
+    out.extend(weights)?;
     Ok(out)
 }
 

@@ -47,7 +47,7 @@ alone sc k (item.Recover sites) keeps = inr tt
 alone sc k (item.Split parts) keeps = inl refl
 alone sc k item.Merge keeps = inl refl
 alone sc k (item.Crash site) keeps = inr tt
-alone sc k (item.Restart site) keeps = inr (exists sc site keeps).1
+alone sc k (item.Restart site) keeps = inr (exists sc site keeps)
 alone sc k (item.Stop site count leave) keeps =
     let parts : (exist sc (site ∷ []) ≡ true) × (nat_le 1 count ≡ true) = and_parts (exist sc (site ∷ [])) (nat_le 1 count) keeps in
     inr (leb-true 1 count parts.1, (exists sc site parts.0).0, (exists sc site parts.0).1)
@@ -239,9 +239,9 @@ alone_is sc items s n l is step = by (let P : List Item → Type 0 = λ i. IsSte
     by (inl asks) = absurd (stop_asks s n l [] asks)
     by (inr alone) = alone
 
-pub restart_exists : (sc : Scenario) (items : List Item) (s : ℕ) → items ≡ item.Restart s ∷ [] → IsStep sc items → s ≤ length sc.weights
+pub restart_exists : (sc : Scenario) (items : List Item) (s : ℕ) → items ≡ item.Restart s ∷ [] → IsStep sc items → (1 ≤ s) × (s ≤ length sc.weights)
 restart_exists sc items s is step = by (let P : List Item → Type 0 = λ i. IsStep sc i in subst P is step)
   where
-    by : IsStep sc (item.Restart s ∷ []) → s ≤ length sc.weights
+    by : IsStep sc (item.Restart s ∷ []) → (1 ≤ s) × (s ≤ length sc.weights)
     by (inl asks) = absurd cc
     by (inr alone) = alone

@@ -14,7 +14,7 @@ use Rattle.e3_world.specs.declared.names.Addressed.{Addressed}
 -- the step is a crash, a restart, a recovery or a stop, of a site that exists; a stop counts from 1
 abbrev pub StandsAlone : Scenario → List Item → Type 0
 StandsAlone sc (item.Crash site ∷ []) = Unit {0}
-StandsAlone sc (item.Restart site ∷ []) = site ≤ length sc.weights
+StandsAlone sc (item.Restart site ∷ []) = (1 ≤ site) × (site ≤ length sc.weights)
 StandsAlone sc (item.Recover sites ∷ []) = Unit {0}
 StandsAlone sc (item.Stop site calls leave ∷ []) = (1 ≤ calls) × (1 ≤ site) × (site ≤ length sc.weights)
 StandsAlone sc _ = ⊥

@@ -32,6 +32,7 @@ pub fn crash<S: Sites>(sites: &mut S, site: u32) -> Result<(), RunFault>
 pub fn restart<S: Sites>(sites: &mut S, site: u32) -> Result<(), RunFault>
     requires standing { S.stands sites.old }
     requires fresh { IsFresh (S.scenario sites.old) (S.entries sites.old) (item.Restart site ∷ []) }
+    requires least { 1 ≤ site }
     requires exists { site ≤ length (S.scenario sites.old).weights }
     ensures on { SitesGoOn S.stands S.since S.scenario S.most sites.old sites.new }
     ensures grown { StaysInStep (S.entries sites.old) (S.entries sites.new) }

@@ -82,7 +82,6 @@ pub fn begin_step<S: Sites>(
     requires given { IsGiven scenario.now }
     requires most { S.most sites.old ≤ 2000000 }
     requires more { suc done ≤ length scenario.now.steps }
-    requires few { length scenario.now.steps < 2 ^ 32 }
     requires settled { IsSettled scenario.now (S.entries sites.old) done }
     requires known { KnowsNames scenario.now (S.entries sites.old) names.old }
     ensures on { SitesGoOn S.stands S.since S.scenario S.most sites.old sites.new }

@@ -76,6 +76,7 @@ pub trait Sites {
     /// A rise of a site: with `Ok` it is up, or its rise failed or was missed.
     fn rise(&mut self, site: u32) -> Result<(), RunFault>
         requires standing { stands self.old }
+        requires least { 1 ≤ site }
         requires turn { IsRising (scenario self.old) (entries self.old) site }
         ensures on { SitesGoOn stands since scenario most self.old self.new }
         ensures rose { OnOk result (AfterRise (scenario self.old) (entries self.old) site (entries self.new)) }

@@ -1,7 +1,8 @@
 -- What a call says where it answered.
-use Rattle.std.specs.Prelude.{Result, Ok, Err, IfOk}
+use Rattle.std.specs.Prelude.{◌≡◌, Result, Ok, Err, IfOk}
+use Rattle.std.proofs.Common.{◌∙◌}
 
--- what follows from a fact holds where the fact does
-pub ok_so : {X E : Type 0} (r : Result X E) (P Q : X → Type 0) → ((x : X) → P x → Q x) → IfOk r P → IfOk r Q
-ok_so (Ok x) P Q so p = so x p
-ok_so (Err e) P Q so p = tt
+-- the same answer by another name
+pub ok_is : {X E : Type 0} (r : Result X E) (x y : X) → x ≡ y → IfOk r (λ o. o ≡ x) → IfOk r (λ o. o ≡ y)
+ok_is (Ok o) x y e h = h ∙ e
+ok_is (Err f) x y e h = tt

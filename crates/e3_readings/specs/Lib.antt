@@ -9,3 +9,5 @@ pub mod Places
 pub mod Requests
 pub mod States
 pub mod Awaiting
+pub mod Expecting
+pub mod Bringing

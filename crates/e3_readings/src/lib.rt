@@ -31,17 +31,19 @@ pub use elections::{
     is_decision, next_call,
 };
 pub use inputs::{inputs_asked, inputs_to};
-pub use lives::{life_by, life_of, present_log};
+pub use lives::{add_records, life_by, life_of, present_log};
 pub use logs::{
-    attempted, attempted_by, decision, decision_by, has_voted, is_undecided, is_vote, key_of,
-    last_attempt, last_attempt_by, last_elected, last_elected_by, lock_on, logged_inc, mode_of,
-    state_by, state_of, voted_locks, voted_ops,
+    attempted, attempted_behind, attempted_by, decision, decision_behind, decision_by, has_voted,
+    is_undecided, is_vote, key_of, last_attempt, last_attempt_behind, last_attempt_by,
+    last_elected, last_elected_behind, last_elected_by, lock_on, logged_inc, mode_of, state_by,
+    state_of, voted_locks, voted_ops,
 };
-pub use opens::{add_logged, add_undecided_in, in_order, open_in};
+pub use opens::{add_logged, add_undecided_in, in_order, open_in, txn_of_record};
 pub use operations::{
-    answers, arrivals, done, done_locks, expected, expected_by, first_reason, has_refusal, holders,
-    holds, is_among, is_answered, issued, issued_in, kept_reason, nth_op, op_told, performed_by,
-    queue, reasons_in, same_asked, taken_up, tells_op, tells_own, unanswered, waiting,
+    answers, arrivals, brought, done, done_locks, expected, expected_by, first_reason, holders,
+    holds, is_among, is_answered, is_new_to, issued, issued_in, kept_reason, nth_op, op_told,
+    own_expected, performed_by, queue, reasons_in, same_asked, taken_up, tells_op, tells_own,
+    unanswered, waiting,
 };
 pub use own::{last_own, own_write};
 pub use places::{SiteRecord, add_placed};

@@ -7,7 +7,12 @@ use e3_types::{Copied, List, NoMemory, Record};
 use e3_world::{Life, Moment, SiteStep};
 use std::alloc::Global;
 
-fn add_records(alloc: Global, records: &[Record], out: &mut List<Record>) -> Result<(), NoMemory>
+/// Adds copies of these records.
+pub fn add_records(
+    alloc: Global,
+    records: &[Record],
+    out: &mut List<Record>,
+) -> Result<(), NoMemory>
     ensures { IfOk result (λ u. out.new ≡ out.old ++ records.now) }
 {
     for r in records {

@@ -1,6 +1,5 @@
 // What a log says of a transaction. A log is a list of records, the oldest first.
-ghost use Rattle.std.specs.Prelude.{◌≡◌, ◌++◌, Option, IfOk, OnErr};
-ghost use Rattle.std.specs.List.{flat_map};
+ghost use Rattle.std.specs.Prelude.{◌≡◌, ◌++◌, IfOk, OnErr, fold};
 ghost use Rattle.e3_readings.specs.States.{state_by};
 ghost use Rattle.e3_world.specs.Logs.{last_elected_by, last_elected, last_attempt_by, last_attempt, decision_by, decision, attempted_by, attempted, is_vote, has_voted, state_of, is_undecided, logged_inc_by, logged_inc, ops_of_vote, voted_ops, key_of, mode_of, lock_on, vote_locks, voted_locks};
 
@@ -18,11 +17,18 @@ pub fn last_elected_by(t: &Txn, n: u32, r: &Record) -> u32
     }
 }
 
+/// Last_Elected of the transaction behind these records, where it was n before them.
+pub fn last_elected_behind(t: &Txn, n: u32, records: &[Record]) -> u32
+    ensures { result ≡ fold (last_elected_by t.now) n records.now }
+{
+    records.iter().fold(n, |m, r| last_elected_by(t, m, r))
+}
+
 /// Last_Elected: the greatest number of an election of the transaction that the site joined, 1 if it joined none.
 pub fn last_elected(t: &Txn, log: &[Record]) -> u32
     ensures { result ≡ last_elected t.now log.now }
 {
-    log.iter().fold(1, |n, r| last_elected_by(t, n, r))
+    last_elected_behind(t, 1, log)
 }
 
 /// Last_Attempt of the transaction behind one more record of a log.
@@ -35,11 +41,18 @@ pub fn last_attempt_by(t: &Txn, n: u32, r: &Record) -> u32
     }
 }
 
+/// Last_Attempt of the transaction behind these records, where it was n before them.
+pub fn last_attempt_behind(t: &Txn, n: u32, records: &[Record]) -> u32
+    ensures { result ≡ fold (last_attempt_by t.now) n records.now }
+{
+    records.iter().fold(n, |m, r| last_attempt_by(t, m, r))
+}
+
 /// Last_Attempt: the greatest number of an attempt of the transaction, 0 if there is none.
 pub fn last_attempt(t: &Txn, log: &[Record]) -> u32
     ensures { result ≡ last_attempt t.now log.now }
 {
-    log.iter().fold(0, |n, r| last_attempt_by(t, n, r))
+    last_attempt_behind(t, 0, log)
 }
 
 /// The decision of the transaction behind one more record of a log.
@@ -52,11 +65,18 @@ pub fn decision_by(t: &Txn, was: Option<Dir>, r: &Record) -> Option<Dir>
     }
 }
 
+/// The decision of the transaction behind these records, where this was it before them.
+pub fn decision_behind(t: &Txn, was: Option<Dir>, records: &[Record]) -> Option<Dir>
+    ensures { result ≡ fold (decision_by t.now) was records.now }
+{
+    records.iter().fold(was, |d, r| decision_by(t, d, r))
+}
+
 /// The decision of the transaction, if there is one.
 pub fn decision(t: &Txn, log: &[Record]) -> Option<Dir>
     ensures { result ≡ decision t.now log.now }
 {
-    log.iter().fold(None, |was, r| decision_by(t, was, r))
+    decision_behind(t, None, log)
 }
 
 /// The direction of the last attempt of the transaction behind one more record of a log.
@@ -69,11 +89,18 @@ pub fn attempted_by(t: &Txn, was: Option<Dir>, r: &Record) -> Option<Dir>
     }
 }
 
+/// The direction of the last attempt of the transaction behind these records, where this was it before them.
+pub fn attempted_behind(t: &Txn, was: Option<Dir>, records: &[Record]) -> Option<Dir>
+    ensures { result ≡ fold (attempted_by t.now) was records.now }
+{
+    records.iter().fold(was, |d, r| attempted_by(t, d, r))
+}
+
 /// The direction of the last attempt of the transaction, if there is one.
 pub fn attempted(t: &Txn, log: &[Record]) -> Option<Dir>
     ensures { result ≡ attempted t.now log.now }
 {
-    log.iter().fold(None, |was, r| attempted_by(t, was, r))
+    attempted_behind(t, None, log)
 }
 
 /// The record is a vote of the transaction.

@@ -1,5 +1,5 @@
 // The transactions that a site knows, and those of them that are open.
-ghost use Rattle.std.specs.Prelude.{◌≡◌, ◌++◌, [], fold, filter, map, IfOk};
+ghost use Rattle.std.specs.Prelude.{◌≡◌, ◌++◌, ◌∷◌, [], fold, filter, map, IfOk, MatchOption};
 ghost use Rattle.std.specs.List.{flat_map};
 ghost use Rattle.e3_readings.specs.Opens.{open_in, undecided_in};
 ghost use Rattle.e3_world.specs.Items.{add_txn, began_in, known_txns, txn_of_record};
@@ -12,16 +12,26 @@ use e3_types::{List, NoMemory, Record, Told, Txn};
 use e3_world::{Life, Moment};
 use std::alloc::Global;
 
-// Adds the transaction of a record.
-fn add_recorded(r: &Record, txns: &mut List<Txn>) -> Result<(), NoMemory>
-    ensures { IfOk result (λ u. txns.new ≡ txns.old ++ txn_of_record r.now) }
+/// The transaction of a record, if it is of one.
+pub fn txn_of_record(r: &Record) -> Option<&Txn>
+    ensures { MatchOption result (txn_of_record r.now ≡ []) (λ t. txn_of_record r.now ≡ t.now ∷ []) }
 {
     match r {
         Record::Vote { txn, .. }
         | Record::Join { txn, .. }
         | Record::Attempt { txn, .. }
-        | Record::Decision { txn, .. } => txns.push(*txn),
-        _ => Ok(()),
+        | Record::Decision { txn, .. } => Some(txn),
+        Record::Birth { .. } | Record::Inc { .. } => None,
+    }
+}
+
+// Adds the transaction of a record.
+fn add_recorded(r: &Record, txns: &mut List<Txn>) -> Result<(), NoMemory>
+    ensures { IfOk result (λ u. txns.new ≡ txns.old ++ txn_of_record r.now) }
+{
+    match txn_of_record(r) {
+        Some(t) => txns.push(*t),
+        None => Ok(()),
     }
 }
 

@@ -1,9 +1,11 @@
 // Operations of transactions at a site, read off its steps of the present incarnation.
-ghost use Rattle.std.specs.Prelude.{◌≡◌, ◌≤◌, ◌++◌, ◌∷◌, [], ◌&&◌, ◌==◌, not, Option, IfOk, OnErr, fold, length, suc, filter, option_copied};
+ghost use Rattle.std.specs.Prelude.{◌≡◌, ◌≤◌, ◌++◌, ◌∷◌, [], ◌&&◌, not, IfOk, OnErr, suc, option_copied};
 ghost use Rattle.std.specs.List.{list_any, flat_map};
 ghost use Rattle.e3_types.specs.Same.{same_txn};
 ghost use Rattle.e3_readings.specs.Awaiting.{first_of};
-ghost use Rattle.e3_world.specs.Logs.{is_undecided, key_of, lock_on};
+ghost use Rattle.e3_readings.specs.Bringing.{brought, is_new_to, issued_before};
+ghost use Rattle.e3_readings.specs.Expecting.{own_expected};
+ghost use Rattle.e3_world.specs.Logs.{is_undecided};
 ghost use Rattle.e3_world.specs.Operations.{is_refusal, issued_in, issued, nth_op, taken_up, same_asked, is_fresh, and_arrived, arrived_by, arrivals, answer_told, answer_sent, answers, is_answered, performed_by, done, waiting, done_locks, holders, holds, queue, tells_op, op_told, unanswered, expected_with, expected_by, expected, reason_in, kept_reason};
 
 use crate::asked::{asked_of, copy_asked};
@@ -24,7 +26,7 @@ fn is_refusal(e: &Told) -> bool
 }
 
 /// Some event among these is a refusal.
-pub fn has_refusal(events: &[Told]) -> bool
+pub(crate) fn has_refusal(events: &[Told]) -> bool
     ensures { result ≡ list_any is_refusal events.now }
 {
     events.iter().any(|e| is_refusal(e))
@@ -61,9 +63,46 @@ pub fn nth_op(n: u32, ops: &[Op]) -> Option<&Op>
     }
 }
 
-/// The operation that a step takes up at its site: that of a Do packet, or of a client's call for a key of the site's
-/// own. The steps are those before it.
-#[tactic(auto, using(crate::proofs::Equal::same_txn_refl))]
+// How many operations of the transaction of a Do input these steps issued.
+fn issued_before(alloc: Global, input: &Input, steps: &[Moment]) -> Result<u64, NoMemory>
+    ensures { IfOk result (λ count. count ≡ issued_before input.now steps.now) }
+{
+    match input {
+        Input::Do { txn, .. } => {
+            let ops = issued(alloc, txn, steps)?;
+            Ok(ops.len())
+        }
+        _ => Ok(0),
+    }
+}
+
+/// The operation that an input brings to the site, where so many of its transaction were issued before and these events are
+/// told: that of a Do packet, or of a client's call for a key of the site's own that was not refused.
+pub fn brought(
+    site: u32,
+    count: u64,
+    input: &Input,
+    events: &[Told],
+) -> Result<Option<Asked>, NoMemory>
+    ensures { IfOk result (λ o. o ≡ brought site count input.now events.now) }
+{
+    match input {
+        Input::Deliver { packet } => match &packet.msg {
+            Message::Do { txn, n, op } => Ok(Some(asked_of(txn, *n, op))),
+            _ => Ok(None),
+        },
+        Input::Do { txn, op } => {
+            if !has_refusal(events) && key_of(op).site == site {
+                Ok(Some(asked_of(txn, number_behind(count)?, op)))
+            } else {
+                Ok(None)
+            }
+        }
+        _ => Ok(None),
+    }
+}
+
+/// The operation that a step takes up at its site: the one that its input brings. The steps are those before it.
 pub fn taken_up(
     alloc: Global,
     site: u32,
@@ -72,21 +111,8 @@ pub fn taken_up(
 ) -> Result<Option<Asked>, NoMemory>
     ensures { IfOk result (λ o. o ≡ taken_up site steps.now m.now) }
 {
-    match &m.input {
-        Input::Deliver { packet } => match &packet.msg {
-            Message::Do { txn, n, op } => Ok(Some(asked_of(txn, *n, op))),
-            _ => Ok(None),
-        },
-        Input::Do { txn, op } => {
-            if !has_refusal(m.told.as_slice()) && key_of(op).site == site {
-                let earlier = issued(alloc, txn, steps)?;
-                Ok(Some(asked_of(txn, number_behind(earlier.len())?, op)))
-            } else {
-                Ok(None)
-            }
-        }
-        _ => Ok(None),
-    }
+    let before = issued_before(alloc, &m.input, steps)?;
+    brought(site, before, &m.input, m.told.as_slice())
 }
 
 /// The two are the same operation of the same transaction.
@@ -103,10 +129,17 @@ pub fn is_among(a: &Asked, asked: &[Asked]) -> bool
     asked.iter().any(|b| same_asked(a, b))
 }
 
+/// An operation whose transaction is in this state is new where these came before: the state is q, and it is none of these.
+pub fn is_new_to(state: State, came: &[Asked], a: &Asked) -> bool
+    ensures { result ≡ is_new_to state came.now a.now }
+{
+    state == State::Q && !is_among(a, came)
+}
+
 fn is_fresh(asked: &[Asked], m: &Moment, a: &Asked) -> bool
     ensures { result ≡ is_fresh asked.now m.now a.now }
 {
-    state_of(&a.txn, m.before.as_slice()) == State::Q && !is_among(a, asked)
+    is_new_to(state_of(&a.txn, m.before.as_slice()), asked, a)
 }
 
 fn and_arrived(m: &Moment, taken: Option<Asked>, asked: &mut List<Asked>) -> Result<(), NoMemory>
@@ -437,6 +470,19 @@ pub fn expected_by(t: &Txn, site: u32, was: Expected, m: &Moment) -> Result<Expe
     }
 }
 
+/// What is expected of the coordinator's own site, which has done these in this incarnation.
+pub fn own_expected(inc: u32, done: &[Performed]) -> Result<Expected, NoMemory>
+    ensures { IfOk result (λ e. e ≡ own_expected inc done.now) }
+{
+    match done {
+        [] => Ok(Expected { inc: 0, count: 0 }),
+        [_, ..] => Ok(Expected {
+            inc,
+            count: small(done.len() as u64)?,
+        }),
+    }
+}
+
 fn own_answers(
     alloc: Global,
     own: u32,
@@ -447,11 +493,7 @@ fn own_answers(
     ensures { IfOk result (λ e. e ≡ expected own inc t.now steps.now own) }
 {
     let answered = done(alloc, own, t, steps)?;
-    let count = small(answered.len())?;
-    match answered.as_slice() {
-        [] => Ok(Expected { inc: 0, count: 0 }),
-        [_, ..] => Ok(Expected { inc, count }),
-    }
+    own_expected(inc, answered.as_slice())
 }
 
 /// Under which incarnation a site answered operations of a transaction, and how many, as far as its coordinator, the

@@ -1,5 +1,5 @@
 // The rounds of a recovery step, for transactions in the order in which they are taken.
-ghost use Rattle.std.specs.Prelude.{◌≡◌, ◌++◌, [], filter, IfOk};
+ghost use Rattle.std.specs.Prelude.{◌≡◌, ◌++◌, filter, IfOk};
 ghost use Rattle.std.specs.List.{flat_map};
 ghost use Rattle.e3_readings.specs.RoundOf.{round_of};
 ghost use Rattle.e3_types.specs.Sets.{has_site};

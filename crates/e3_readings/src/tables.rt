@@ -7,7 +7,7 @@ ghost use Rattle.e3_world.specs.Moves.{rows_at};
 
 use crate::logs::voted_ops;
 use e3_tables::row_written;
-use e3_types::{Answer, Dir, KeyRow, List, Name, NoMemory, NumOp, Record, Row};
+use e3_types::{Answer, Copied, Dir, KeyRow, List, Name, NoMemory, NumOp, Record, Row};
 use std::alloc::Global;
 use std::cmp::Ordering;
 
@@ -79,11 +79,7 @@ pub fn table_by(
     ensures { IfOk result (λ out. out ≡ table_by log.now rows r.now) }
 {
     match r {
-        Record::Birth { rows: born, .. } => {
-            let mut out = List::new(alloc);
-            add_rows(born.as_slice(), &mut out)?;
-            Ok(out)
-        }
+        Record::Birth { rows: born, .. } => born.copied(alloc),
         Record::Decision {
             txn,
             dir: Dir::Commit,

@@ -66,16 +66,10 @@ fn items_taken(site: u32, during: &[Entry]) -> Result<u64, NoMemory>
 }
 
 /// How many of the sites are this one.
-fn count_of(sites: &[u32], site: u32) -> Result<u64, NoMemory>
-    ensures { IfOk result (λ n. n ≡ count_by (λ s. s == site) sites.now) }
+fn count_of(sites: &[u32], site: u32) -> u64
+    ensures { result ≡ count_by (λ s. s == site) sites.now }
 {
-    let mut n = 0;
-    for s in sites {
-        if *s == site {
-            n = one_more(n)?;
-        }
-    }
-    Ok(n)
+    sites.iter().filter(|s| **s == site).count() as u64
 }
 
 #[tactic(auto, unfolding(crate::specs::Skips::not_begun_line))]
@@ -99,7 +93,7 @@ fn push_input_skip(
 {
     match taker {
         Taker::Site(site) => {
-            let had = count_of(earlier, *site)?;
+            let had = count_of(earlier, *site);
             let took = items_taken(*site, during)?;
             if had < took {
                 Ok(())
@@ -141,8 +135,7 @@ fn add_site(earlier: &mut List<u32>, taker: &Taker) -> Result<(), NoMemory>
 {
     match taker {
         Taker::Site(site) => earlier.push(*site),
-        Taker::NotBegun(_) => Ok(()),
-        Taker::Nobody => Ok(()),
+        Taker::NotBegun(_) | Taker::Nobody => Ok(()),
     }
 }
 

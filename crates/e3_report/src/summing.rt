@@ -3,7 +3,6 @@ ghost use Rattle.std.specs.Prelude.{◌≡◌, ◌++◌, ◌+◌, ◌-◌, IfOk,
 ghost use Rattle.e3_world.specs.Moves.{all_records, trail_of};
 ghost use Rattle.e3_report.specs.Summary.{is_cut, is_fall, is_rise, is_kind, count_of, committed, aborted, begun, count_line, summary_with, summary_over, summary_of};
 
-use crate::counts::one_more;
 use crate::logs::walk_of;
 use crate::orders::commit_order;
 use crate::tallies::{aborted, begun};
@@ -34,16 +33,10 @@ fn is_kind(kind: Kind, act: &Act) -> bool
 }
 
 /// How many entries of a kind there are.
-fn count_of(kind: Kind, history: &[Entry]) -> Result<u64, NoMemory>
-    ensures { IfOk result (λ n. n ≡ count_of (is_kind kind) history.now) }
+fn count_of(kind: Kind, history: &[Entry]) -> u64
+    ensures { result ≡ count_of (is_kind kind) history.now }
 {
-    let mut n = 0;
-    for e in history {
-        if is_kind(kind, &e.act) {
-            n = one_more(n)?;
-        }
-    }
-    Ok(n)
+    history.iter().filter(|e| is_kind(kind, &e.act)).count() as u64
 }
 
 /// How many transactions are committed.
@@ -74,7 +67,7 @@ fn push_count(out: &mut List<u8>, word: &str, number: u64) -> Result<(), NoMemor
 fn push_kind(out: &mut List<u8>, word: &str, kind: Kind, history: &[Entry]) -> Result<(), NoMemory>
     ensures { OnOk result (out.new ≡ out.old ++ count_line word.now (count_of (is_kind kind) history.now)) }
 {
-    push_count(out, word, count_of(kind, history)?)
+    push_count(out, word, count_of(kind, history))
 }
 
 /// Adds how many transactions are committed, are aborted, and were begun and are neither.

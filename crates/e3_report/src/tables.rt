@@ -9,7 +9,8 @@ ghost use Rattle.e3_report.specs.Tables.{ops_at, ops_in, ops_with, ops_by, enter
 
 use crate::keys::TxnKey;
 use e3_readings::table_of as plain_table_of;
-use e3_types::{Copied, Dir, KeyRow, List, Name, NoMemory, NumOp, Op, Record, Row, Txn, Val};
+use e3_tables::write_of;
+use e3_types::{Dir, KeyRow, List, Name, NoMemory, NumOp, Record, Row, Txn, Val};
 use std::alloc::Global;
 use std::collections::BTreeMap;
 use std::marker::Model;
@@ -102,9 +103,9 @@ impl Table {
     fn install_op(&mut self, op: &NumOp) -> Result<(), NoMemory>
         ensures { OnOk result (self.new ≡ install_op self.old op.now) }
     {
-        match &op.op {
-            Op::Write(key, val) => self.set(&key.name, val),
-            Op::Read(_) => Ok(()),
+        match write_of(&op.op) {
+            Some((key, val)) => self.set(&key.name, val),
+            None => Ok(()),
         }
     }
 

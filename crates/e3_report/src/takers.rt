@@ -38,12 +38,13 @@ pub(crate) fn taker_of(names: &Names, item: &Item) -> Taker
 {
     match item {
         Item::Begin { site, .. } => Taker::Site(*site),
-        Item::Read { name, .. } => to_coordinator(names, name),
-        Item::Write { name, .. } => to_coordinator(names, name),
-        Item::Commit { name } => to_coordinator(names, name),
-        Item::Cancel { name } => to_coordinator(names, name),
-        Item::Expire { site, name } => to_site(names, name, *site),
-        Item::Elect { site, name, .. } => to_site(names, name, *site),
+        Item::Read { name, .. }
+        | Item::Write { name, .. }
+        | Item::Commit { name }
+        | Item::Cancel { name } => to_coordinator(names, name),
+        Item::Expire { site, name } | Item::Elect { site, name, .. } => {
+            to_site(names, name, *site)
+        }
         _ => Taker::Nobody,
     }
 }

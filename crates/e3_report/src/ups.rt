@@ -16,16 +16,7 @@ pub(crate) fn enter_up(ups: &mut BTreeSet<u32>, entry: &Entry) -> Result<(), NoM
                 return Err(NoMemory);
             }
         }
-        Act::RiseFall { .. } => {
-            ups.remove(&entry.owner);
-        }
-        Act::Miss => {
-            ups.remove(&entry.owner);
-        }
-        Act::Cut => {
-            ups.remove(&entry.owner);
-        }
-        Act::Fall { .. } => {
+        Act::RiseFall { .. } | Act::Miss | Act::Cut | Act::Fall { .. } => {
             ups.remove(&entry.owner);
         }
         _ => {}

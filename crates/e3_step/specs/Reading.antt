@@ -1,13 +1,12 @@
 -- What a rule needs of its site's past and of the step so far, where that is less than what the definitions list.
-use Rattle.std.specs.Prelude.{◌==◌, ◌&&◌, ◌∷◌, [], ℕ, Bool, false, List, Option, Some, None, fold}
+use Rattle.std.specs.Prelude.{ℕ, List, fold}
 use Rattle.e3_types.specs.declared.transactions.Answer.{Answer}
-use Rattle.e3_types.specs.declared.transactions.Op.{Op}
 use Rattle.e3_types.specs.declared.transactions.Txn.{Txn}
 use Rattle.e3_world.specs.declared.lives.At.{At}
 use Rattle.e3_world.specs.declared.lives.Made.{Made}
-use Rattle.e3_world.specs.Logs.{key_of, row_value, table_of}
+use Rattle.e3_world.specs.Logs.{row_value, table_of}
 use Rattle.e3_world.specs.Making.{log_now, steps_now, own_write}
-use Rattle.e3_world.specs.Operations.{done, issued, nth_op, unanswered}
+use Rattle.e3_world.specs.Operations.{done}
 
 -- the value of a name in the table behind this step's records
 abbrev pub row_now : At → List ℕ → Made → Answer

@@ -1,9 +1,6 @@
 // What a site does with an attempt that is asked of it, and with an acknowledgement.
-ghost use Rattle.std.specs.Prelude.{◌≡◌, ◌==◌, ◌&&◌, ◌∷◌, IfOk, if◌then◌else◌};
-ghost use Rattle.e3_types.specs.declared.messages.Message.TheVariants as msg;
+ghost use Rattle.std.specs.Prelude.{◌≡◌, ◌∷◌, IfOk};
 ghost use Rattle.e3_types.specs.Quorums.{is_quorum};
-ghost use Rattle.e3_types.specs.Same.{same_dir};
-ghost use Rattle.e3_world.specs.Making.{may_decide, and_cast, and_decide};
 ghost use Rattle.e3_world.specs.AttemptRules.{on_pre, on_ack};
 
 use crate::making::{

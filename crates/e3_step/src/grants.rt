@@ -33,7 +33,7 @@ fn grant_all<P: Past>(
     ensures { IfOk result (λ u. made.new ≡ fold (and_grant (P.at p.now)) made.old asked.now) }
 {
     for q in asked {
-        and_do(alloc, p, &q.txn, q.n, &q.op, made)?;
+        and_do(alloc, p, q, made)?;
     }
     Ok(())
 }

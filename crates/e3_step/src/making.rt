@@ -1,22 +1,21 @@
 // How a step of a site is put together: what is read at the site, and what a rule adds to the step.
-ghost use Rattle.std.specs.Prelude.{◌≡◌, ◌||◌, ◌++◌, ◌∷◌, [], IfOk, fold, map};
+ghost use Rattle.std.specs.Prelude.{◌≡◌, ◌||◌, IfOk, map};
 ghost use Rattle.e3_types.specs.declared.messages.Message.TheVariants as msg;
-ghost use Rattle.e3_types.specs.Quorums.{is_quorum};
-ghost use Rattle.e3_types.specs.Sets.{others};
 ghost use Rattle.e3_world.specs.Logs.{decision, attempted, has_voted};
-ghost use Rattle.e3_world.specs.Making.{nothing, log_now, steps_now, state_now, open_now, elected_now, attempt_now, is_coordinator, is_present, may_abort, may_decide, may_attempt, and_record, and_tell, and_send, and_cast, and_decide, and_abort, and_abort_for, and_attempt, and_vote, own_write, answer_now, and_do};
+ghost use Rattle.e3_world.specs.Making.{nothing, log_now, state_now, open_now, elected_now, attempt_now, is_coordinator, is_present, may_abort, may_decide, may_attempt, and_record, and_tell, and_send, and_cast, and_decide, and_abort, and_abort_for, and_attempt, and_vote, answer_now, and_do};
 ghost use Rattle.e3_step.specs.SoFar.{IsSoFar};
 
 use crate::past::Past;
 use e3_quorum::is_quorum_with;
 use e3_readings::{
-    attempted_by, decision_by, has_voted, last_attempt_by, last_elected_by, state_by,
+    attempted_behind, decision_behind, has_voted, last_attempt_behind, last_elected_behind,
+    state_by,
 };
 use e3_types::{
     Answer, Copied, Dir, List, Message, Name, NoMemory, NumOp, Op, Packet, Record, SiteSet, State,
     Told, Txn,
 };
-use e3_world::{Made, Performed};
+use e3_world::{Asked, Made, Performed};
 use std::alloc::Global;
 
 /// A step that made nothing yet.
@@ -35,19 +34,13 @@ pub fn nothing(alloc: Global) -> Made
 pub fn decision_now<P: Past>(p: &P, t: &Txn, made: &Made) -> Option<Dir>
     ensures { result ≡ decision t.now (log_now (P.at p.now) made.now) }
 {
-    made.records
-        .as_slice()
-        .iter()
-        .fold(p.decision(t), |was, r| decision_by(t, was, r))
+    decision_behind(t, p.decision(t), made.records.as_slice())
 }
 
 fn attempted_now<P: Past>(p: &P, t: &Txn, made: &Made) -> Option<Dir>
     ensures { result ≡ attempted t.now (log_now (P.at p.now) made.now) }
 {
-    made.records
-        .as_slice()
-        .iter()
-        .fold(p.attempted(t), |was, r| attempted_by(t, was, r))
+    attempted_behind(t, p.attempted(t), made.records.as_slice())
 }
 
 fn or_voted(t: &Txn, before: bool, records: &[Record]) -> bool
@@ -85,20 +78,14 @@ pub fn open_now<P: Past>(p: &P, t: &Txn, made: &Made) -> bool
 pub fn elected_now<P: Past>(p: &P, t: &Txn, made: &Made) -> u32
     ensures { result ≡ elected_now (P.at p.now) t.now made.now }
 {
-    made.records
-        .as_slice()
-        .iter()
-        .fold(p.elected(t), |n, r| last_elected_by(t, n, r))
+    last_elected_behind(t, p.elected(t), made.records.as_slice())
 }
 
 /// Last_Attempt with the step's records.
 pub fn attempt_now<P: Past>(p: &P, t: &Txn, made: &Made) -> u32
     ensures { result ≡ attempt_now (P.at p.now) t.now made.now }
 {
-    made.records
-        .as_slice()
-        .iter()
-        .fold(p.attempt(t), |n, r| last_attempt_by(t, n, r))
+    last_attempt_behind(t, p.attempt(t), made.records.as_slice())
 }
 
 /// The site is the transaction's coordinator.
@@ -310,22 +297,16 @@ pub fn answer_now<P: Past>(
     }
 }
 
-/// The answer to an operation of this number goes to the coordinator, under the site's incarnation.
-pub fn send_done<P: Past>(
-    p: &P,
-    t: &Txn,
-    n: u32,
-    answer: Answer,
-    made: &mut Made,
-) -> Result<(), NoMemory>
-    ensures { IfOk result (λ u. made.new ≡ and_send (P.at p.now) t.now.site (msg.Done t.now n (P.at p.now).life.inc answer) made.old) }
+/// The answer to a request goes to its coordinator, under the site's incarnation.
+pub fn send_done<P: Past>(p: &P, q: &Asked, answer: Answer, made: &mut Made) -> Result<(), NoMemory>
+    ensures { IfOk result (λ u. made.new ≡ and_send (P.at p.now) q.now.txn.site (msg.Done q.now.txn q.now.n (P.at p.now).life.inc answer) made.old) }
 {
     and_send(
         p,
-        t.site,
+        q.txn.site,
         Message::Done {
-            txn: *t,
-            n,
+            txn: q.txn,
+            n: q.n,
             inc: p.inc(),
             answer,
         },
@@ -333,18 +314,11 @@ pub fn send_done<P: Past>(
     )
 }
 
-/// The operation is done, and its answer goes to the coordinator.
-pub fn and_do<P: Past>(
-    alloc: Global,
-    p: &P,
-    t: &Txn,
-    n: u32,
-    op: &Op,
-    made: &mut Made,
-) -> Result<(), NoMemory>
+/// The request is done, and its answer goes to the coordinator.
+pub fn and_do<P: Past>(alloc: Global, p: &P, q: &Asked, made: &mut Made) -> Result<(), NoMemory>
     requires { IsSoFar (P.at p.now) made.old }
-    ensures { IfOk result (λ u. made.new ≡ and_do (P.at p.now) t.now n op.now made.old) }
+    ensures { IfOk result (λ u. made.new ≡ and_do (P.at p.now) q.now.txn q.now.n q.now.op made.old) }
 {
-    let answer = answer_now(alloc, p, t, op, made)?;
-    send_done(p, t, n, answer, made)
+    let answer = answer_now(alloc, p, &q.txn, &q.op, made)?;
+    send_done(p, q, answer, made)
 }

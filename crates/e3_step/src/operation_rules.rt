@@ -1,11 +1,11 @@
 // What a site does with an operation, with its answer, and with the news that one died.
-ghost use Rattle.std.specs.Prelude.{◌≡◌, ◌==◌, ◌||◌, IfOk, if◌then◌else◌};
+ghost use Rattle.std.specs.Prelude.{◌≡◌, IfOk, if◌then◌else◌};
 ghost use Rattle.e3_types.specs.declared.entries.Told.TheVariants as told;
 ghost use Rattle.e3_types.specs.declared.messages.Message.TheVariants as msg;
 ghost use Rattle.e3_types.specs.declared.transactions.Dir.TheVariants.{Abort};
 ghost use Rattle.e3_step.specs.Asking.{by_grant, asked_by, on_asked};
 ghost use Rattle.e3_step.specs.SoFar.{IsSoFar};
-ghost use Rattle.e3_world.specs.Making.{is_coordinator, may_abort, and_tell, and_send, and_decide, and_abort_for};
+ghost use Rattle.e3_world.specs.Making.{is_coordinator, may_abort, and_send, and_decide, and_abort_for};
 ghost use Rattle.e3_world.specs.OperationRules.{on_do, on_done, on_died};
 
 use crate::making::{
@@ -19,16 +19,22 @@ use e3_types::{Answer, Dir, Grant, Message, NoMemory, Op, State, Told, Txn};
 use e3_world::{Asked, Made};
 use std::alloc::Global;
 
-fn die<P: Past>(p: &P, t: &Txn, n: u32, older: Txn, made: &mut Made) -> Result<(), NoMemory>
-    ensures { IfOk result (λ u. made.new ≡ (if is_coordinator (P.at p.now) t.now then and_abort_for (P.at p.now) t.now (told.Died t.now older) made.old
-        else and_send (P.at p.now) t.now.site (msg.Died t.now n older) (and_decide (P.at p.now) t.now Abort made.old))) }
+// The request's transaction dies: its coordinator aborts it, another site tells the coordinator.
+fn die<P: Past>(p: &P, q: &Asked, older: Txn, made: &mut Made) -> Result<(), NoMemory>
+    ensures { IfOk result (λ u. made.new ≡ (if is_coordinator (P.at p.now) q.now.txn then and_abort_for (P.at p.now) q.now.txn (told.Died q.now.txn older) made.old
+        else and_send (P.at p.now) q.now.txn.site (msg.Died q.now.txn q.now.n older) (and_decide (P.at p.now) q.now.txn Abort made.old))) }
 {
+    let t = &q.txn;
     if is_coordinator(p, t) {
-        and_abort_for(p, t, Told::Died { txn: *t, older }, made)
-    } else {
-        and_decide(p, t, Dir::Abort, made)?;
-        and_send(p, t.site, Message::Died { txn: *t, n, older }, made)
+        return and_abort_for(p, t, Told::Died { txn: *t, older }, made);
     }
+    and_decide(p, t, Dir::Abort, made)?;
+    let news = Message::Died {
+        txn: *t,
+        n: q.n,
+        older,
+    };
+    and_send(p, t.site, news, made)
 }
 
 fn by_grant<P: Past>(
@@ -42,9 +48,9 @@ fn by_grant<P: Past>(
     ensures { IfOk result (λ u. made.new ≡ by_grant (P.at p.now) q.now made.old grant) }
 {
     match grant {
-        Grant::Held => and_do(alloc, p, &q.txn, q.n, &q.op, made),
+        Grant::Held => and_do(alloc, p, q, made),
         Grant::Waits => Ok(()),
-        Grant::Dies { older } => die(p, &q.txn, q.n, older, made),
+        Grant::Dies { older } => die(p, q, older, made),
     }
 }
 
@@ -79,7 +85,7 @@ fn asked_by<P: Past>(
     ensures { IfOk result (λ u. made.new ≡ asked_by (P.at p.now) q.now made.old found waits grant) }
 {
     match found {
-        Some(answer) => send_done(p, &q.txn, q.n, answer, made),
+        Some(answer) => send_done(p, q, answer, made),
         None => unless_waiting(alloc, p, q, waits, grant, made),
     }
 }

@@ -1,5 +1,5 @@
 // What a step of a site does: the records, packets and events of an input, read off the site's own past alone.
-ghost use Rattle.std.specs.Prelude.{◌≡◌, ◌∷◌, [], IfOk, Option, fold, suc, length};
+ghost use Rattle.std.specs.Prelude.{◌≡◌, [], IfOk, fold, suc, length};
 ghost use Rattle.e3_client.specs.Clients.{busy_or};
 ghost use Rattle.e3_world.specs.Making.{nothing, and_send, and_tell, attempt_now, log_now, state_now};
 ghost use Rattle.e3_types.specs.declared.entries.Input.TheVariants as input;
@@ -7,7 +7,7 @@ ghost use Rattle.e3_types.specs.declared.entries.Told.TheVariants as told;
 ghost use Rattle.e3_types.specs.declared.messages.Message.TheVariants as msg;
 ghost use Rattle.e3_world.specs.Logs.{key_of};
 ghost use Rattle.e3_world.specs.Operations.{issued, unanswered};
-ghost use Rattle.e3_world.specs.Steps.{refuse, or_refused, on_begin, and_ask, on_commit, on_expire, on_elect, on_input, handled, settle, step_at};
+ghost use Rattle.e3_world.specs.Steps.{refuse, on_begin, and_ask, on_commit, on_expire, on_elect, on_input, handled, step_at};
 ghost use Rattle.e3_step.specs.SoFar.{IsSoFar};
 
 use crate::election_rules::and_join;

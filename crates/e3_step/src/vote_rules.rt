@@ -1,8 +1,5 @@
 // What a site does when it is asked for its vote, and a coordinator with a yes.
 ghost use Rattle.std.specs.Prelude.{◌≡◌, ◌==◌, ◌&&◌, ◌||◌, not, IfOk};
-ghost use Rattle.std.specs.List.{list_any};
-ghost use Rattle.e3_types.specs.Same.{same_txn};
-ghost use Rattle.e3_types.specs.Sets.{has_site, is_within};
 ghost use Rattle.e3_world.specs.VoteRules.{vote_rule, on_vote_req, on_yes};
 
 use crate::making::{

@@ -1,15 +1,15 @@
 -- What a transaction notes to do at a site, and what reads and the commit make of it.
-use Rattle.std.specs.Prelude.{◌&&◌, ◌∷◌, [], if◌then◌else◌, Bool, true, not, nat_lt, ℕ, List, fold}
+use Rattle.std.specs.Prelude.{◌&&◌, ◌∷◌, [], Bool, true, not, nat_lt, ℕ, List, fold}
 use Rattle.std.specs.List.{list_all, list_any}
 use Rattle.e3_types.specs.declared.transactions.Answer.{Answer}
-use Rattle.e3_types.specs.declared.transactions.Answer.TheVariants.{Value}
+use Rattle.e3_types.specs.declared.transactions.Answer.TheVariants.{Written}
 use Rattle.e3_types.specs.declared.transactions.NumOp.{NumOp}
 use Rattle.e3_types.specs.declared.transactions.Op.{Op}
-use Rattle.e3_types.specs.declared.transactions.Op.TheVariants.{Read, Write}
 use Rattle.e3_types.specs.declared.transactions.Row.{Row}
 use Rattle.e3_types.specs.declared.transactions.Txn.{Txn}
 use Rattle.e3_types.specs.Same.{same_numbers}
 use Rattle.e3_world.specs.Logs.{set_row, install_op, row_value}
+use Rattle.e3_world.specs.Making.{own_write}
 
 -- a table: its rows, and room for so many names more
 pub record TableRows : Type 0 where
@@ -36,10 +36,9 @@ abbrev pub ascend : List NumOp → Bool
 ascend [] = true
 ascend (o ∷ ops) = list_all (λ p. nat_lt o.n p.n) ops && ascend ops
 
--- what a name reads behind a write or a read more
+-- what a name reads behind a write or a read more, as behind an own one: its number and its answer tell nothing of it
 abbrev pub read_of : List ℕ → Answer → Op → Answer
-read_of name was (Write key val) = if same_numbers name key.name then Value val else was
-read_of name was (Read key) = was
+read_of name was op = own_write name was (record { n = 0; op = op; answer = Written })
 
 -- what it reads behind one operation more
 abbrev pub read_by : List ℕ → Answer → NumOp → Answer

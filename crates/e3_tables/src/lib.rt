@@ -3,6 +3,8 @@
 
 mod tables;
 mod workspace;
+mod writes;
 
-pub use tables::{Tables, row_written};
-pub use workspace::{Workspace, written};
+pub use tables::Tables;
+pub use workspace::Workspace;
+pub use writes::{row_written, write_of, written};

@@ -8,7 +8,8 @@ ghost use Rattle.e3_types.specs.Sorted.{IsAscending};
 ghost use Rattle.e3_tables.specs.Work.{names_differ, in_order, installed, read_behind};
 
 use crate::Workspace;
-use e3_types::{List, Name, NoMemory, NumOp, Op, Row, Val, place_of};
+use crate::writes::row_written;
+use e3_types::{List, Name, NoMemory, NumOp, Row, Val, place_of};
 use std::marker::Model;
 
 /// The records of a site, in byte order of their names.
@@ -58,19 +59,6 @@ fn sort_rows(rows: &mut Vec<Row>)
         put_row(rows, count, row);
         taken += 1;
         count = rows.len() - (total - taken);
-    }
-}
-
-/// The row that an operation sets, if it writes: the value under its name.
-pub fn row_written(op: &NumOp) -> Option<Row>
-    ensures { MatchOption result ((rows : Items Row) → install_op rows op.now ≡ rows) (λ row. (rows : Items Row) → install_op rows op.now ≡ set_row row rows) }
-{
-    match &op.op {
-        Op::Write(key, val) => Some(Row {
-            name: key.name.copy(),
-            val: val.copy(),
-        }),
-        Op::Read(_) => None,
     }
 }
 

@@ -3,10 +3,11 @@ ghost use Rattle.std.specs.Prelude.{◌≡◌, ◌≤◌, ◌+◌, ◌++◌, ◌
 ghost use Rattle.std.specs.List.{list_all};
 ghost use Rattle.e3_types.specs.declared.transactions.Answer.{Answer as Answers};
 ghost use Rattle.e3_types.specs.declared.transactions.Answer.TheVariants.{Value};
-ghost use Rattle.e3_tables.specs.Work.{ascend, read_by, read_behind, read_of};
+ghost use Rattle.e3_tables.specs.Work.{ascend, read_by, read_behind};
 
 use crate::Tables;
-use e3_types::{Answer, Name, NoMemory, NumOp, Op, Txn, Val};
+use crate::writes::written;
+use e3_types::{Answer, Name, NoMemory, NumOp, Txn, Val};
 use std::alloc::Global;
 use std::marker::Model;
 
@@ -26,16 +27,6 @@ impl Model for Workspace {
     ghost view = { λ a. record { txn = a.txn; ops = a.ops.items; room = vec_capacity a.ops - vec_len a.ops } };
 
     ghost invariant = { λ a. ascend a.ops.items ≡ true };
-}
-
-/// What the operation writes to the name, if it does.
-pub fn written<'a>(op: &'a Op, name: &Name) -> Option<&'a Val>
-    ensures { MatchOption result ((was : Answers) → read_of name.now was op.now ≡ was) (λ val. (was : Answers) → read_of name.now was op.now ≡ Value val.now) }
-{
-    match op {
-        Op::Write(key, val) if name.is_same(&key.name) => Some(val),
-        _ => None,
-    }
 }
 
 // The last that these operations write to the name, if one does.

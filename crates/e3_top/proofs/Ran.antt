@@ -1,5 +1,5 @@
 -- What came of a run, by what was prepared and what was written of it.
-use Rattle.std.proofs.Common.{◌≡◌, ◌≢◌, ◌≤◌, ◌<◌, ◌⊎◌, inl, inr, ℕ, List, [], length, take, Option, sym, subst, ◌∙◌, arith, String, Global}
+use Rattle.std.proofs.Common.{◌≡◌, ◌≢◌, ◌≤◌, ◌<◌, ◌⊎◌, inl, inr, ℕ, List, length, take, Option, sym, subst, ◌∙◌, arith, String, Global}
 use Rattle.std.specs.Io.KnownBytes.{Appends}
 use Rattle.e3_disk.specs.Meaning.{Meaning}
 use Rattle.e3_outside.specs.Faults.{HasFailed}
@@ -7,7 +7,7 @@ use Rattle.e3_top.proofs.Runs.{drained_run}
 use Rattle.e3_top.proofs.Spelled.{idle_no_check, idle_no_run}
 use Rattle.e3_top.proofs.Statuses.{check_completes, drill_completes, gen_completes, may_finish, run_completes}
 use Rattle.e3_top.proofs.Verdicts.{drained_verdict}
-use Rattle.e3_top.specs.Due.{HasText, IsOutcome}
+use Rattle.e3_top.specs.Due.{HasText, IsOutcome, NothingHappened}
 use Rattle.e3_top.specs.Ends.{IsCutShort, IsPrepared, SourceFails}
 use Rattle.e3_top.specs.Ran.{Around, HasRun}
 use Rattle.e3_top.specs.Words.{IsCheck, IsDrill, IsGen, IsRun, MayEnd}
@@ -27,7 +27,7 @@ pub ran_to_the_sink : {D S K : Type 0} (meaning : Meaning D) (left : S → Optio
     (status ≢ 4 → (status ≡ due) × Appends (written was.sink) (written now.sink) text) →
     (status ≡ 4 → HasFailed (sink_faults was.sink) (sink_faults now.sink) × ((count : ℕ) × (count < length text) × Appends (written was.sink) (written now.sink) (take count text))) →
     HasText status ⊎ (status ≡ 4) → (status ≡ due) ⊎ (status ≡ 4) →
-    (IsGen words → (h ≡ []) × (now.disks ≡ was.disks)) → (IsCheck words → now.disks ≡ was.disks) → (¬ IsRun words → ¬ IsCheck words → now.source ≡ was.source) →
+    (IsGen words → NothingHappened was.disks now.disks h) → (IsCheck words → now.disks ≡ was.disks) → (¬ IsRun words → ¬ IsCheck words → now.source ≡ was.source) →
     source_faults was.source ≤ source_faults now.source → sink_faults was.sink ≤ sink_faults now.sink →
     HasRun meaning left source_faults written sink_faults words most was now status h
 ran_to_the_sink meaning left source_faults written sink_faults words most was now due status h text prepared may wrote failed known same told untouched unread rises sinks = record {
@@ -86,7 +86,7 @@ pub ran_without_text : {D S K : Type 0} (meaning : Meaning D) (left : S → Opti
     (status ≡ 3) ⊎ (status ≡ 5) → MayEnd words status →
     (status ≡ 3 → SourceFails was.disks now.disks words (left was.source) (left now.source) (source_faults was.source) (source_faults now.source) h) →
     (status ≡ 5 → IsCutShort meaning was.disks now.disks words (left was.source) (left now.source) most h) → now.sink ≡ was.sink →
-    (IsGen words → (h ≡ []) × (now.disks ≡ was.disks)) → (IsCheck words → now.disks ≡ was.disks) → (¬ IsRun words → ¬ IsCheck words → now.source ≡ was.source) →
+    (IsGen words → NothingHappened was.disks now.disks h) → (IsCheck words → now.disks ≡ was.disks) → (¬ IsRun words → ¬ IsCheck words → now.source ≡ was.source) →
     source_faults was.source ≤ source_faults now.source →
     HasRun meaning left source_faults written sink_faults words most was now status h
 ran_without_text meaning left source_faults written sink_faults words most was now status h which may lost short same told untouched unread rises = record {

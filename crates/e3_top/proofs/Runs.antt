@@ -22,7 +22,7 @@ use Rattle.e3_scenario.specs.Faults.{fault_text}
 use Rattle.e3_scenario.specs.Scenarios.{scenario_of}
 use Rattle.e3_scenario.specs.declared.faults.ScenarioFault.{ScenarioFault}
 use Rattle.e3_scenario.specs.declared.faults.ScenarioFault.TheVariants as fault
-use Rattle.e3_top.specs.Due.{IsAsked, IsOutcome, IsRunOf, IsTextOf, Plays, Succeeds, told_of}
+use Rattle.e3_top.specs.Due.{IsAsked, IsOutcome, IsRunOf, IsTextOf, NothingHappened, Plays, Succeeds, told_of}
 use Rattle.e3_top.specs.Ends.{IsPrepared}
 use Rattle.e3_top.proofs.Spelled.{run_no_check, run_no_drill, run_no_gen, gen_no_check, plays_no_check}
 use Rattle.e3_top.proofs.Statuses.{neither}
@@ -106,25 +106,30 @@ played_text meaning before now words bytes sc most status h told text plays safe
   checked = λ check. absurd (plays_no_check plays check);
 }
 
+-- the scenario of which the words ask to be told is the one that is played
+pub asked_plays : (words : List (String Global)) (bytes : List ℕ) (telling : Telling) (sc : Scenario) → IsAsked words bytes telling sc → Plays words bytes sc
+asked_plays words bytes (Report trace) sc asked = inl (record { trace = trace; spelled = asked.0 }, asked.1)
+asked_plays words bytes (Summary n) sc asked = inr (record { drill = record { n = n; spelled = asked.0 }; unread = asked.1; same = asked.2 })
+
 -- so it is where it was made, for what the words ask to be told
 pub played_due : {D : Type 0} (meaning : Meaning D) (before now : List D) (words : List (String Global)) (bytes : List ℕ) (telling : Telling) (sc : Scenario) (most : ℕ) (h : List Entry) (r : Result Due Stop) →
     IsAsked words bytes telling sc → IsRunOf meaning before now sc most h → IfOk r (λ due. IsTextOf sc most h (told_of telling sc h) due.status due.text) →
     IfOk r (λ due. IsOutcome meaning before now words bytes most due.status h due.text)
 played_due meaning before now words bytes telling sc most h (Err fault) asked safe made = tt
 played_due meaning before now words bytes (Report trace) sc most h (Ok due) asked safe made =
-    played_text meaning before now words bytes sc most due.status h (report_of sc h trace) due.text (inl (record { trace = trace; spelled = asked.0 }, asked.1)) safe
+    played_text meaning before now words bytes sc most due.status h (report_of sc h trace) due.text (asked_plays words bytes (Report trace) sc asked) safe
     (done_run meaning before now words trace bytes sc most h due.text asked.0 asked.1 safe) made
 played_due meaning before now words bytes (Summary n) sc most h (Ok due) asked safe made =
-    played_text meaning before now words bytes sc most due.status h (summary_of n sc h) due.text (inr (record { drill = record { n = n; spelled = asked.0 }; unread = asked.1; same = asked.2 })) safe
+    played_text meaning before now words bytes sc most due.status h (summary_of n sc h) due.text (asked_plays words bytes (Summary n) sc asked) safe
     (done_drill meaning before now words n bytes sc most h due.text asked.0 asked.1 asked.2 safe) made
 
 -- the line for other words is due
-pub refused_run : {D : Type 0} (meaning : Meaning D) (before now : List D) (words : List (String Global)) (most : ℕ) (h : List Entry) (text : List ℕ) → ¬ IsCommand words → h ≡ [] → now ≡ before →
+pub refused_run : {D : Type 0} (meaning : Meaning D) (before now : List D) (words : List (String Global)) (most : ℕ) (h : List Entry) (text : List ℕ) → ¬ IsCommand words → NothingHappened before now h →
     text ≡ refused_words → IsOutcome meaning before now words [] most 1 h text
-refused_run meaning before now words most h text other empty same says = record {
+refused_run meaning before now words most h text other nothing says = record {
   known = inl (omega arith);
   done = λ e. absurd (omega (arith, e));
-  words_refused = λ e. record { no_command = other; unread = refl; empty = empty; untouched = same; says = says };
+  words_refused = λ e. record { no_command = other; unread = refl; empty = nothing.0; untouched = nothing.1; says = says };
   scenario_refused = λ e. absurd (omega (arith, e));
   history_full = λ e. absurd (omega (arith, e));
   judged = neither 1 8 9 (λ e. omega (arith, e)) (λ e. omega (arith, e));
@@ -132,11 +137,11 @@ refused_run meaning before now words most h text other empty same says = record 
 }
 
 -- the text of a generated scenario is due
-pub told_run : {D : Type 0} (meaning : Meaning D) (before now : List D) (words : List (String Global)) (n most : ℕ) (h : List Entry) (text : List ℕ) → Spell words (Gen n) → h ≡ [] → now ≡ before →
+pub told_run : {D : Type 0} (meaning : Meaning D) (before now : List D) (words : List (String Global)) (n most : ℕ) (h : List Entry) (text : List ℕ) → Spell words (Gen n) → NothingHappened before now h →
     text ≡ generated n → IsOutcome meaning before now words [] most 0 h text
-told_run meaning before now words n most h text gen empty same says = record {
+told_run meaning before now words n most h text gen nothing says = record {
   known = inl (omega arith);
-  done = λ e. inr (inr (inl (record { gen = record { n = n; spelled = gen }; unread = refl; empty = empty; untouched = same; says = says })));
+  done = λ e. inr (inr (inl (record { gen = record { n = n; spelled = gen }; unread = refl; empty = nothing.0; untouched = nothing.1; says = says })));
   words_refused = λ e. absurd (omega (arith, e));
   scenario_refused = λ e. absurd (omega (arith, e));
   history_full = λ e. absurd (omega (arith, e));
@@ -146,12 +151,12 @@ told_run meaning before now words n most h text gen empty same says = record {
 
 -- the line of a fault is due
 pub no_scenario : {D : Type 0} (meaning : Meaning D) (before now : List D) (words : List (String Global)) (bytes : List ℕ) (most : ℕ) (fault : ScenarioFault) (h : List Entry) (text : List ℕ) → IsRun words →
-    scenario_of bytes ≡ Err fault → h ≡ [] → now ≡ before → text ≡ fault_text fault → IsOutcome meaning before now words bytes most 2 h text
-no_scenario meaning before now words bytes most fault h text run spelled empty same says = record {
+    scenario_of bytes ≡ Err fault → NothingHappened before now h → text ≡ fault_text fault → IsOutcome meaning before now words bytes most 2 h text
+no_scenario meaning before now words bytes most fault h text run spelled nothing says = record {
   known = inl (omega arith);
   done = λ e. absurd (omega (arith, e));
   words_refused = λ e. absurd (omega (arith, e));
-  scenario_refused = λ e. inl (record { run = run; fault = fault; spelled = spelled; empty = empty; untouched = same; says = says });
+  scenario_refused = λ e. inl (record { run = run; fault = fault; spelled = spelled; empty = nothing.0; untouched = nothing.1; says = says });
   history_full = λ e. absurd (omega (arith, e));
   judged = neither 2 8 9 (λ e. omega (arith, e)) (λ e. omega (arith, e));
   checked = λ check. absurd (run_no_check run check);
@@ -202,31 +207,27 @@ told_text sc most h told (Err stop) text whole says made = tt
 told_text sc most h told (Ok due) text whole says made = inl (made.0, whole, of_ok (λ t. t ≡ told) text made.1 says)
 
 -- the line for other words, where it was made
-pub refused_due : {D : Type 0} (meaning : Meaning D) (before now : List D) (words : List (String Global)) (most : ℕ) (h : List Entry) (r : Result Due Stop) (text : Result (List ℕ) NoMemory) → ¬ IsCommand words → h ≡ [] → now ≡ before →
+pub refused_due : {D : Type 0} (meaning : Meaning D) (before now : List D) (words : List (String Global)) (most : ℕ) (h : List Entry) (r : Result Due Stop) (text : Result (List ℕ) NoMemory) → ¬ IsCommand words → NothingHappened before now h →
     IfOk text (λ line. line ≡ refused_words) → IfOk r (λ due. (due.status ≡ 1) × (text ≡ Ok due.text)) →
     IfOk r (λ due. IsOutcome meaning before now words [] most due.status h due.text)
-refused_due meaning before now words most h (Err fault) text other empty same says made = tt
-refused_due meaning before now words most h (Ok due) text other empty same says made =
-    subst (λ (n : ℕ). IsOutcome meaning before now words [] most n h due.text) (sym made.0) (refused_run meaning before now words most h due.text other empty same (of_ok (λ line. line ≡ refused_words) text made.1 says))
+refused_due meaning before now words most h (Err fault) text other nothing says made = tt
+refused_due meaning before now words most h (Ok due) text other nothing says made =
+    subst (λ (n : ℕ). IsOutcome meaning before now words [] most n h due.text) (sym made.0) (refused_run meaning before now words most h due.text other nothing (of_ok (λ line. line ≡ refused_words) text made.1 says))
 
 -- the text of a generated scenario, where it was made
-pub told_due : {D : Type 0} (meaning : Meaning D) (before now : List D) (words : List (String Global)) (n most : ℕ) (h : List Entry) (r : Result Due Stop) (text : Result (List ℕ) NoMemory) → Spell words (Gen n) → h ≡ [] → now ≡ before →
+pub told_due : {D : Type 0} (meaning : Meaning D) (before now : List D) (words : List (String Global)) (n most : ℕ) (h : List Entry) (r : Result Due Stop) (text : Result (List ℕ) NoMemory) → Spell words (Gen n) → NothingHappened before now h →
     IfOk text (λ t. t ≡ generated n) → IfOk r (λ due. (due.status ≡ 0) × (text ≡ Ok due.text)) →
     IfOk r (λ due. IsOutcome meaning before now words [] most due.status h due.text)
-told_due meaning before now words n most h (Err fault) text gen empty same says made = tt
-told_due meaning before now words n most h (Ok due) text gen empty same says made =
-    subst (λ (s : ℕ). IsOutcome meaning before now words [] most s h due.text) (sym made.0) (told_run meaning before now words n most h due.text gen empty same (of_ok (λ t. t ≡ generated n) text made.1 says))
-
--- a drill of a number plays its generated scenario
-pub drill_plays : {words : List (String Global)} (n : ℕ) (sc : Scenario) → Spell words (Drill n) → sc ≡ generated_scenario n → Plays words [] sc
-drill_plays n sc drill same = inr (record { drill = record { n = n; spelled = drill }; unread = refl; same = same })
+told_due meaning before now words n most h (Err fault) text gen nothing says made = tt
+told_due meaning before now words n most h (Ok due) text gen nothing says made =
+    subst (λ (s : ℕ). IsOutcome meaning before now words [] most s h due.text) (sym made.0) (told_run meaning before now words n most h due.text gen nothing (of_ok (λ t. t ≡ generated n) text made.1 says))
 
 -- the line of a fault, where it was made
 pub fault_due : {D : Type 0} (meaning : Meaning D) (before now : List D) (words : List (String Global)) (trace : Bool) (bytes : List ℕ) (f : ScenarioFault) (most : ℕ) (h : List Entry) (r : Result Due Stop) (text : Result (List ℕ) NoMemory) →
-    Spell words (Run trace) → (f ≡ fault.NoMemory) ⊎ (scenario_of bytes ≡ Err f) → h ≡ [] → now ≡ before → IfOk text (λ line. (f ≢ fault.NoMemory) × (line ≡ fault_text f)) →
+    Spell words (Run trace) → (f ≡ fault.NoMemory) ⊎ (scenario_of bytes ≡ Err f) → NothingHappened before now h → IfOk text (λ line. (f ≢ fault.NoMemory) × (line ≡ fault_text f)) →
     IfOk r (λ due. (due.status ≡ 2) × (text ≡ Ok due.text)) → IfOk r (λ due. IsOutcome meaning before now words bytes most due.status h due.text)
-fault_due meaning before now words trace bytes f most h (Err stop) text run cause empty same says made = tt
-fault_due meaning before now words trace bytes f most h (Ok due) text run cause empty same says made = by cause
+fault_due meaning before now words trace bytes f most h (Err stop) text run cause nothing says made = tt
+fault_due meaning before now words trace bytes f most h (Ok due) text run cause nothing says made = by cause
   where
     line : (f ≢ fault.NoMemory) × (due.text ≡ fault_text f)
     line = of_ok (λ line. (f ≢ fault.NoMemory) × (line ≡ fault_text f)) text made.1 says
@@ -234,4 +235,4 @@ fault_due meaning before now words trace bytes f most h (Ok due) text run cause 
     by : (f ≡ fault.NoMemory) ⊎ (scenario_of bytes ≡ Err f) → IsOutcome meaning before now words bytes most due.status h due.text
     by (inl e) = absurd (line.0 e)
     by (inr spelled) = subst (λ (n : ℕ). IsOutcome meaning before now words bytes most n h due.text) (sym made.0)
-        (no_scenario meaning before now words bytes most f h due.text (record { trace = trace; spelled = run }) spelled empty same line.1)
+        (no_scenario meaning before now words bytes most f h due.text (record { trace = trace; spelled = run }) spelled nothing line.1)

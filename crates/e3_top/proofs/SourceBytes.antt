@@ -5,7 +5,7 @@ use Rattle.std.specs.Prelude.{IfErr, IfOk, Result}
 use Rattle.e3_disk.specs.Meaning.{Meaning}
 use Rattle.e3_outside.specs.Faults.{HasFailed}
 use Rattle.e3_top.proofs.Spelled.{same_most}
-use Rattle.e3_top.specs.Due.{IsOutcome}
+use Rattle.e3_top.specs.Due.{IsOutcome, NothingHappened}
 use Rattle.e3_top.specs.Ends.{IsCutShort, IsDue, IsHistoryOf, IsPrepared, IsRead, IsReady, IsTaken, SourceFails}
 use Rattle.e3_top.specs.Words.{IsRun, IsCheck, most_bytes}
 use Rattle.e3_top.specs.declared.preparing.Due.{Due}
@@ -63,38 +63,38 @@ prepared_of meaning before now words had left bytes most h (Ok made) read due = 
 
 -- where memory ran out behind the bytes that were read
 cut_behind : {D : Type 0} (meaning : Meaning D) (before now : List D) (words : List (String Global)) (had left : Option (List ℕ)) (bytes : List ℕ) (most : ℕ) (h : List Entry) →
-    IsRead words had left bytes → ((h ≡ []) × (now ≡ before)) ⊎ IsHistoryOf meaning before now words bytes most h → IsCutShort meaning before now words had left most h
+    IsRead words had left bytes → NothingHappened before now h ⊎ IsHistoryOf meaning before now words bytes most h → IsCutShort meaning before now words had left most h
 cut_behind meaning before now words had left bytes most h read (inl nothing) = record { bytes = bytes; taken = read.taken; happened = inl nothing }
 cut_behind meaning before now words had left bytes most h read (inr history) = record { bytes = bytes; taken = read.taken; happened = inr (read, history) }
 
 -- where it ran out before anything happened
 pub cut_before : {D : Type 0} (meaning : Meaning D) (before now : List D) (words : List (String Global)) (had left : Option (List ℕ)) (most : ℕ) (h : List Entry) (c : Command) → Spell words c →
-    ((bytes : List ℕ) × (length bytes ≤ most_bytes c) × Consumes had left bytes) → h ≡ [] → now ≡ before → IsCutShort meaning before now words had left most h
-cut_before meaning before now words had left most h c spelled some none same = record {
+    ((bytes : List ℕ) × (length bytes ≤ most_bytes c) × Consumes had left bytes) → NothingHappened before now h → IsCutShort meaning before now words had left most h
+cut_before meaning before now words had left most h c spelled some nothing = record {
   bytes = some.0;
   taken = taken_for words had left some.0 c spelled some.2 some.1;
-  happened = inl (none, same);
+  happened = inl nothing;
 }
 
 -- where the source failed
 pub fails_reading : {D : Type 0} (before now : List D) (words : List (String Global)) (had left : Option (List ℕ)) (faults_before faults_now : ℕ) (h : List Entry) (c : Command) → Spell words c → IsRun words ⊎ IsCheck words →
-    ((bytes : List ℕ) × (length bytes < most_bytes c) × Consumes had left bytes) → HasFailed faults_before faults_now → h ≡ [] → now ≡ before →
+    ((bytes : List ℕ) × (length bytes < most_bytes c) × Consumes had left bytes) → HasFailed faults_before faults_now → NothingHappened before now h →
     SourceFails before now words had left faults_before faults_now h
-fails_reading before now words had left faults_before faults_now h c spelled reads some rose none same = record {
+fails_reading before now words had left faults_before faults_now h c spelled reads some rose nothing = record {
   reads = reads;
   counted = rose;
   bytes = some.0;
   taken = some.2;
   few = λ d other. subst (λ (n : ℕ). length some.0 < n) (same_most words c d spelled other) some.1;
-  empty = none;
-  untouched = same;
+  empty = nothing.0;
+  untouched = nothing.1;
 }
 
--- nothing is due but that memory ran out
+-- nothing is due but that memory ran out before anything happened
 pub wants_memory : {D : Type 0} (meaning : Meaning D) (before now : List D) (words : List (String Global)) (bytes : List ℕ) (most : ℕ) (h : List Entry) (r : Result Due Stop) →
-    r ≡ Err stop.NoMemory → IsDue meaning before now words bytes most r h
-wants_memory meaning before now words bytes most h r e =
-    subst (λ (q : Result Due Stop). IsDue meaning before now words bytes most q h) (sym e) (record { outcome = tt; status = tt; only_memory = refl })
+    r ≡ Err stop.NoMemory → NothingHappened before now h → IsDue meaning before now words bytes most r h
+wants_memory meaning before now words bytes most h r e nothing =
+    subst (λ (q : Result Due Stop). IsDue meaning before now words bytes most q h) (sym e) (record { outcome = tt; status = tt; only_memory = refl; cut_short = λ f. inl nothing })
 
 -- where nothing but memory was lacking the source did not fail
 not_lost : (r : Result Due Stop) → IfErr r (λ s. s ≡ stop.NoMemory) → r ≡ Err stop.SourceFailed → ⊥
@@ -102,14 +102,13 @@ not_lost r only e = let same : stop.SourceFailed ≡ stop.NoMemory = subst (λ (
 
 -- what is due for bytes that were read is ready
 pub ready_of : {D S : Type 0} (meaning : Meaning D) (left : S → Option (List ℕ)) (faults : S → ℕ) (before after : List D) (words : List (String Global)) (was now : S) (bytes : List ℕ) (most : ℕ) (h : List Entry) (r : Result Due Stop) →
-    IsRead words (left was) (left now) bytes → IsDue meaning before after words bytes most r h →
-    (r ≡ Err stop.NoMemory → ((h ≡ []) × (after ≡ before)) ⊎ IsHistoryOf meaning before after words bytes most h) → faults was ≤ faults now →
+    IsRead words (left was) (left now) bytes → IsDue meaning before after words bytes most r h → faults was ≤ faults now →
     IsReady meaning left faults before after words was now most r h
-ready_of meaning left faults before after words was now bytes most h r read due cut counts = record {
+ready_of meaning left faults before after words was now bytes most h r read due counts = record {
   prepared = prepared_of meaning before after words (left was) (left now) bytes most h r read due.outcome;
   status = due.status;
   source_failed = λ e. absurd (not_lost r due.only_memory e);
-  no_memory = λ e. cut_behind meaning before after words (left was) (left now) bytes most h read (cut e);
+  no_memory = λ e. cut_behind meaning before after words (left was) (left now) bytes most h read (due.cut_short e);
   never_falls = counts;
 }
 

@@ -3,7 +3,7 @@ use Rattle.std.specs.Prelude.{◌≡◌, ◌≤◌, ◌⊎◌, ℕ, List, [], St
 use Rattle.std.specs.declared.alloc.Global.{Global}
 use Rattle.e3_check.specs.Claims.{IsVerdict}
 use Rattle.e3_disk.specs.Meaning.{Meaning}
-use Rattle.e3_fleet.specs.Over.{AreOver}
+use Rattle.e3_fleet.specs.Over.{AreBlank, AreOver}
 use Rattle.e3_gen.specs.Generated.{generated, generated_scenario}
 use Rattle.e3_law_rounds.specs.Commits.{CommitRoundsEnd}
 use Rattle.e3_law_rounds.specs.Rounds.{RoundsAreBounded}
@@ -40,6 +40,15 @@ pub record IsRunOf {D : Type 0} (meaning : Meaning D) (disks_before disks_now : 
   pub rounds : RoundsAreBounded sc history
   pub commits : CommitRoundsEnd sc history
   pub over : AreOver meaning sc history disks_before disks_now
+
+-- the disks that a command is carried out over: sixteen, one for each site that there may be, and each blank
+pub record AreSixteenBlank {D : Type 0} (meaning : Meaning D) (disks : List D) : Type 0 where
+  pub sixteen : length disks ≡ 16
+  pub blank : AreBlank meaning disks
+
+-- nothing happened: the history is empty, and the disks are as they were
+abbrev pub NothingHappened : {D : Type 0} → List D → List D → List Entry → Type 0
+NothingHappened disks_before disks_now history = (history ≡ []) × (disks_now ≡ disks_before)
 
 -- A run is done: the bytes spell a scenario, the history is one of it and went through all of it, and the text is its report, with the
 -- trace where the words ask for it.

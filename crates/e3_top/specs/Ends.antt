@@ -4,7 +4,7 @@ use Rattle.std.specs.Io.KnownBytes.{Appends, Consumes, IsAtEnd}
 use Rattle.std.specs.declared.alloc.Global.{Global}
 use Rattle.e3_disk.specs.Meaning.{Meaning}
 use Rattle.e3_outside.specs.Faults.{HasFailed}
-use Rattle.e3_top.specs.Due.{IsOutcome, IsRunOf, Plays}
+use Rattle.e3_top.specs.Due.{IsOutcome, IsRunOf, NothingHappened, Plays}
 use Rattle.e3_top.specs.Words.{IsRun, IsCheck, MayEnd, most_bytes}
 use Rattle.e3_top.specs.declared.preparing.Due.{Due}
 use Rattle.e3_top.specs.declared.preparing.Stop.{Stop}
@@ -72,15 +72,18 @@ pub record IsCutShort {D : Type 0} (meaning : Meaning D) (disks_before disks_now
     (words : List (String Global)) (had left : Option (List ℕ)) (most : ℕ) (history : List Entry) : Type 0 where
   pub bytes : List ℕ
   pub taken : IsTaken words had left bytes
-  pub happened : ((history ≡ []) × (disks_now ≡ disks_before))
+  pub happened : NothingHappened disks_before disks_now history
       ⊎ (IsRead words had left bytes × IsHistoryOf meaning disks_before disks_now words bytes most history)
 
--- What is due for the bytes that were read: a text, with a status that the words may end with; or memory ran out.
+-- What is due for the bytes that were read: a text, with a status that the words may end with; or memory ran out, where nothing
+-- had happened yet, or the history is one of the scenario that is played.
 pub record IsDue {D : Type 0} (meaning : Meaning D) (disks_before disks_now : List D)
     (words : List (String Global)) (bytes : List ℕ) (most : ℕ) (due : Result Due Stop) (history : List Entry) : Type 0 where
   pub outcome : IfOk due (λ d. IsOutcome meaning disks_before disks_now words bytes most d.status history d.text)
   pub status : IfOk due (λ d. MayEnd words d.status)
   pub only_memory : IfErr due (λ e. e ≡ stop.NoMemory)
+  pub cut_short : due ≡ Err stop.NoMemory →
+      NothingHappened disks_before disks_now history ⊎ IsHistoryOf meaning disks_before disks_now words bytes most history
 
 -- All is read and made, and this text is due with this status.
 pub record IsPrepared {D : Type 0} (meaning : Meaning D) (disks_before disks_now : List D)

@@ -1,10 +1,10 @@
 -- What came of a run: a field for each status, and what holds whatever the status is.
-use Rattle.std.specs.Prelude.{◌≡◌, ◌≤◌, ◌⊎◌, ℕ, List, [], Option, String}
+use Rattle.std.specs.Prelude.{◌≡◌, ◌≤◌, ◌⊎◌, ℕ, List, Option, String}
 use Rattle.std.specs.Io.KnownBytes.{IsAtEnd}
 use Rattle.std.specs.declared.alloc.Global.{Global}
 use Rattle.e3_disk.specs.Meaning.{Meaning}
 use Rattle.e3_outside.specs.Faults.{HasFailed}
-use Rattle.e3_top.specs.Due.{HasText}
+use Rattle.e3_top.specs.Due.{HasText, NothingHappened}
 use Rattle.e3_top.specs.Ends.{Finishes, IsCutShort, SinkFails, SourceFails}
 use Rattle.e3_top.specs.Words.{IsCheck, IsDrill, IsGen, IsRun, MayEnd}
 use Rattle.e3_types.specs.declared.entries.Entry.{Entry}
@@ -46,7 +46,7 @@ pub record HasRun {D S K : Type 0} (meaning : Meaning D) (left : S → Option (L
   -- there is no other status, and each comes only for words that may have it
   pub statuses : MayEnd words status
   -- with a generated scenario nothing happens, whatever the status is
-  pub told : IsGen words → (history ≡ []) × (now.disks ≡ was.disks)
+  pub told : IsGen words → NothingHappened was.disks now.disks history
   -- a verdict touches no disk, whatever the status is
   pub untouched : IsCheck words → now.disks ≡ was.disks
   -- Only a run and a verdict touch the source: nothing of it is left for a run with 0 and 6, and for a verdict with 0, 2 and 8.

@@ -68,22 +68,12 @@ fn read_two(word: &String, more: &String) -> Option<Command>
     ensures some { IfSome result (λ c. HasNumber c × (string_bytes word.now ∷ string_bytes more.now ∷ [] ≡ words_of c)) }
     ensures none { IsNone result → (c : Command) → HasNumber c → ¬ (string_bytes word.now ∷ string_bytes more.now ∷ [] ≡ words_of c) }
 {
-    if is_word(word, "run") {
-        if is_word(more, "--trace") {
-            Some(Command::Run { trace: true })
-        } else {
-            None
-        }
+    if is_word(word, "run") && is_word(more, "--trace") {
+        Some(Command::Run { trace: true })
     } else if is_word(word, "gen") {
-        match number(more) {
-            Some(n) => Some(Command::Gen { n }),
-            None => None,
-        }
+        Some(Command::Gen { n: number(more)? })
     } else if is_word(word, "drill") {
-        match number(more) {
-            Some(n) => Some(Command::Drill { n }),
-            None => None,
-        }
+        Some(Command::Drill { n: number(more)? })
     } else {
         None
     }

@@ -6,6 +6,7 @@ mod checking;
 mod commands;
 mod preparing;
 mod running;
+mod stage;
 mod words;
 
 pub use commands::{Command, read_words};

@@ -4,16 +4,16 @@ ghost use Rattle.e3_fleet.specs.Over.{AreBlank};
 ghost use Rattle.e3_play.specs.Delivered.{IsFull};
 ghost use Rattle.e3_scenario.specs.Faults.{fault_text};
 ghost use Rattle.e3_scenario.specs.Scenarios.{scenario_of};
-ghost use Rattle.e3_top.specs.Due.{IsAsked, IsRunOf, IsTextOf, told_of};
-ghost use Rattle.e3_top.specs.Ends.{IsDue, IsHistoryOf, IsReady};
+ghost use Rattle.e3_top.specs.Due.{AreSixteenBlank, IsAsked, IsRunOf, IsTextOf, NothingHappened, told_of};
+ghost use Rattle.e3_top.specs.Ends.{IsDue, IsReady};
 ghost use Rattle.e3_top.specs.Words.{IsCheck, IsGen, IsRun, refused_history_full};
 ghost use Rattle.e3_top.specs.Commands.{IsCommand, Spell};
 ghost use Rattle.e3_top.specs.declared.commands.Command.TheVariants.{Run, Gen, Drill};
 ghost use Rattle.e3_world.specs.Given.{IsGiven};
 ghost use Rattle.e3_world.specs.Legal.{IsWhole};
 
-use crate::checking::read_and_judge;
 use crate::commands::{Command, read_words};
+use crate::stage::Stage;
 use crate::words::{refused_history_full, refused_words};
 use e3_disk::{Disk, Drill};
 use e3_fleet::{Played, play_over};
@@ -128,70 +128,6 @@ fn text_of(
     }
 }
 
-// Plays a scenario.
-fn play<D: Disk + Drill + Drop + Send, G: Gate + Sync, R: Wait + Threads + Sync>(
-    rt: &R,
-    alloc: Global,
-    scenario: &Scenario,
-    disks: Vec<D>,
-    gate: &G,
-    most: u32,
-) -> Played<D>
-    requires given { IsGiven scenario.now }
-    requires enough { length scenario.now.weights ≤ length disks.items }
-    requires blank { AreBlank D.meaning disks.items }
-    requires most { most ≤ 2000000 }
-    ensures whole { OnOk result.ended (IsWhole scenario.now result.history.entries) }
-    ensures full { result.ended ≡ Err RunFault.HistoryFull → IsFull scenario.now result.history.entries most }
-    ensures history { IsRunOf D.meaning disks.items result.disks.items scenario.now most result.history.entries }
-{
-    one_order();
-    rounds_end();
-    commits_end();
-    play_over(
-        rt,
-        alloc,
-        scenario,
-        disks,
-        gate,
-        MOST_THREADS,
-        MOST_PACKETS,
-        most,
-    )
-}
-
-// Plays a scenario, and tells of it what the words ask for.
-fn prepare_play<D: Disk + Drill + Drop + Send, G: Gate + Sync, R: Wait + Threads + Sync>(
-    rt: &R,
-    alloc: Global,
-    words: &[String],
-    bytes: &[u8],
-    telling: Telling,
-    scenario: &Scenario,
-    disks: Vec<D>,
-    gate: &G,
-    most: u32,
-) -> Prepared<D>
-    requires asked { IsAsked words.now bytes.now telling scenario.now }
-    requires given { IsGiven scenario.now }
-    requires enough { length scenario.now.weights ≤ length disks.items }
-    requires blank { AreBlank D.meaning disks.items }
-    requires most { most ≤ 2000000 }
-    ensures due { IsDue D.meaning disks.items result.disks.items words.now bytes.now most result.due result.history.entries }
-    ensures history { IsRunOf D.meaning disks.items result.disks.items scenario.now most result.history.entries }
-{
-    let Played {
-        ended,
-        history,
-        disks,
-    } = play(rt, alloc, scenario, disks, gate, most);
-    Prepared {
-        due: text_of(alloc, telling, scenario, ended, &history, most),
-        history,
-        disks,
-    }
-}
-
 // A text that is due without a run, or want of memory; nothing happens.
 fn unplayed<D: Drop>(
     alloc: Global,
@@ -201,8 +137,7 @@ fn unplayed<D: Drop>(
 ) -> Prepared<D>
     ensures due { IfOk result.due (λ due. (due.status ≡ status) × (text ≡ Ok due.text)) }
     ensures only_memory { IfErr result.due (λ e. e ≡ Stop.NoMemory) }
-    ensures history { result.history.entries ≡ [] }
-    ensures disks { result.disks.items ≡ disks.items }
+    ensures nothing { NothingHappened disks.items result.disks.items result.history.entries }
 {
     Prepared {
         due: made(status, text),
@@ -214,49 +149,13 @@ fn unplayed<D: Drop>(
 /// Why there is no text, before anything happens.
 pub fn unprepared<D: Drop>(alloc: Global, stop: Stop, disks: Vec<D>) -> Prepared<D>
     ensures due { result.due ≡ Err stop }
-    ensures history { result.history.entries ≡ [] }
-    ensures disks { result.disks.items ≡ disks.items }
+    ensures nothing { NothingHappened disks.items result.disks.items result.history.entries }
 {
     Prepared {
         due: Err(stop),
         history: History::new(alloc),
         disks,
     }
-}
-
-// The text for words that spell no command.
-fn refuse_words<D: Disk + Drill + Drop>(
-    alloc: Global,
-    words: &[String],
-    disks: Vec<D>,
-    most: u32,
-) -> Prepared<D>
-    requires { ¬ IsCommand words.now }
-    ensures due { IsDue D.meaning disks.items result.disks.items words.now [] most result.due result.history.entries }
-    ensures history { result.history.entries ≡ [] }
-    ensures disks { result.disks.items ≡ disks.items }
-{
-    let (_words, _most) = (words, most);
-    unplayed(alloc, 1, refused_words(alloc), disks)
-}
-
-// The text of a generated scenario.
-fn tell_generated<D: Disk + Drill + Drop>(
-    alloc: Global,
-    words: &[String],
-    n: u32,
-    disks: Vec<D>,
-    most: u32,
-) -> Prepared<D>
-    requires spelled { Spell words.now (Gen n) }
-    requires least { 1 ≤ n }
-    requires most { n ≤ 1000 }
-    ensures due { IsDue D.meaning disks.items result.disks.items words.now [] most result.due result.history.entries }
-    ensures history { result.history.entries ≡ [] }
-    ensures disks { result.disks.items ≡ disks.items }
-{
-    let (_words, _most) = (words, most);
-    unplayed(alloc, 0, generated(alloc, n), disks)
 }
 
 // The line of a fault. Where a read wants memory there is none.
@@ -269,139 +168,167 @@ fn line_of(alloc: Global, fault: &ScenarioFault) -> Result<List<u8>, NoMemory>
     }
 }
 
-// The line for bytes that spell no scenario.
-fn refuse_scenario<D: Disk + Drill + Drop>(
-    alloc: Global,
-    words: &[String],
-    trace: bool,
-    bytes: &[u8],
-    fault: &ScenarioFault,
-    disks: Vec<D>,
-    most: u32,
-) -> Prepared<D>
-    requires run { Spell words.now (Run trace) }
-    requires refused { (fault.now ≡ ScenarioFault.NoMemory) ⊎ (scenario_of bytes.now ≡ Err fault.now) }
-    ensures due { IsDue D.meaning disks.items result.disks.items words.now bytes.now most result.due result.history.entries }
-    ensures history { result.history.entries ≡ [] }
-    ensures disks { result.disks.items ≡ disks.items }
-{
-    let (_words, _trace, _bytes, _most) = (words, trace, bytes, most);
-    unplayed(alloc, 2, line_of(alloc, fault), disks)
-}
+impl<G, R> Stage<'_, G, R> {
+    // The text for words that spell no command.
+    fn refuse_words<D: Disk + Drill + Drop>(&self, disks: Vec<D>) -> Prepared<D>
+        requires { ¬ IsCommand self.now.words.now }
+        ensures due { IsDue D.meaning disks.items result.disks.items self.now.words.now [] self.now.most result.due result.history.entries }
+        ensures nothing { NothingHappened disks.items result.disks.items result.history.entries }
+    {
+        unplayed(self.alloc, 1, refused_words(self.alloc), disks)
+    }
 
-// The run over the bytes that were read.
-fn prepare_bytes<D: Disk + Drill + Drop + Send, G: Gate + Sync, R: Wait + Threads + Sync>(
-    rt: &R,
-    alloc: Global,
-    words: &[String],
-    trace: bool,
-    bytes: &[u8],
-    disks: Vec<D>,
-    gate: &G,
-    most: u32,
-) -> Prepared<D>
-    requires run { Spell words.now (Run trace) }
-    requires sixteen { length disks.items ≡ 16 }
-    requires blank { AreBlank D.meaning disks.items }
-    requires most { most ≤ 2000000 }
-    ensures due { IsDue D.meaning disks.items result.disks.items words.now bytes.now most result.due result.history.entries }
-    ensures cut_short { ((result.history.entries ≡ []) × (result.disks.items ≡ disks.items))
-        ⊎ IsHistoryOf D.meaning disks.items result.disks.items words.now bytes.now most result.history.entries }
-{
-    match read_scenario(alloc, bytes) {
-        Err(fault) => refuse_scenario(alloc, words, trace, bytes, &fault, disks, most),
-        Ok(scenario) => {
-            let telling = Telling::Report { trace };
-            prepare_play(
-                rt, alloc, words, bytes, telling, &scenario, disks, gate, most,
-            )
-        }
+    // The text of a generated scenario.
+    fn tell_generated<D: Disk + Drill + Drop>(&self, n: u32, disks: Vec<D>) -> Prepared<D>
+        requires spelled { Spell self.now.words.now (Gen n) }
+        requires least { 1 ≤ n }
+        requires most { n ≤ 1000 }
+        ensures due { IsDue D.meaning disks.items result.disks.items self.now.words.now [] self.now.most result.due result.history.entries }
+        ensures nothing { NothingHappened disks.items result.disks.items result.history.entries }
+    {
+        unplayed(self.alloc, 0, generated(self.alloc, n), disks)
+    }
+
+    // The line for bytes that spell no scenario.
+    fn refuse_scenario<D: Disk + Drill + Drop>(
+        &self,
+        trace: bool,
+        bytes: &[u8],
+        fault: &ScenarioFault,
+        disks: Vec<D>,
+    ) -> Prepared<D>
+        requires run { Spell self.now.words.now (Run trace) }
+        requires refused { (fault.now ≡ ScenarioFault.NoMemory) ⊎ (scenario_of bytes.now ≡ Err fault.now) }
+        ensures { IsDue D.meaning disks.items result.disks.items self.now.words.now bytes.now self.now.most result.due result.history.entries }
+    {
+        unplayed(self.alloc, 2, line_of(self.alloc, fault), disks)
     }
 }
 
-// Reads the source and plays the scenario that it has.
-fn read_and_play<
-    S: Source,
-    D: Disk + Drill + Drop + Send,
-    G: Gate + Sync,
-    R: Wait + Threads + Sync,
->(
-    rt: &R,
-    alloc: Global,
-    words: &[String],
-    trace: bool,
-    source: &mut S,
-    disks: Vec<D>,
-    gate: &G,
-    most: u32,
-) -> Prepared<D>
-    requires run { Spell words.now (Run trace) }
-    requires sixteen { length disks.items ≡ 16 }
-    requires blank { AreBlank D.meaning disks.items }
-    requires most { most ≤ 2000000 }
-    ensures ready { IsReady D.meaning S.left S.faults disks.items result.disks.items words.now source.old source.new most result.due result.history.entries }
-{
-    match read_up_to(alloc, source, MOST) {
-        Err(ReadFault::Failed) => unprepared(alloc, Stop::SourceFailed, disks),
-        Err(ReadFault::NoMemory) => unprepared(alloc, Stop::NoMemory, disks),
-        Ok(bytes) => prepare_bytes(rt, alloc, words, trace, bytes.as_slice(), disks, gate, most),
+impl<G: Gate + Sync, R: Wait + Threads + Sync> Stage<'_, G, R> {
+    // Plays a scenario.
+    fn play<D: Disk + Drill + Drop + Send>(&self, scenario: &Scenario, disks: Vec<D>) -> Played<D>
+        requires given { IsGiven scenario.now }
+        requires enough { length scenario.now.weights ≤ length disks.items }
+        requires blank { AreBlank D.meaning disks.items }
+        ensures whole { OnOk result.ended (IsWhole scenario.now result.history.entries) }
+        ensures full { result.ended ≡ Err RunFault.HistoryFull → IsFull scenario.now result.history.entries self.now.most }
+        ensures history { IsRunOf D.meaning disks.items result.disks.items scenario.now self.now.most result.history.entries }
+    {
+        one_order();
+        rounds_end();
+        commits_end();
+        play_over(
+            self.rt,
+            self.alloc,
+            scenario,
+            disks,
+            self.gate,
+            MOST_THREADS,
+            MOST_PACKETS,
+            self.most,
+        )
     }
-}
 
-// Plays the generated scenario of a number.
-fn generate_and_play<D: Disk + Drill + Drop + Send, G: Gate + Sync, R: Wait + Threads + Sync>(
-    rt: &R,
-    alloc: Global,
-    words: &[String],
-    n: u32,
-    disks: Vec<D>,
-    gate: &G,
-    most: u32,
-) -> Prepared<D>
-    requires drill { Spell words.now (Drill n) }
-    requires least { 1 ≤ n }
-    requires most { n ≤ 1000 }
-    requires sixteen { length disks.items ≡ 16 }
-    requires blank { AreBlank D.meaning disks.items }
-    requires bound { most ≤ 2000000 }
-    ensures due { IsDue D.meaning disks.items result.disks.items words.now [] most result.due result.history.entries }
-    ensures cut_short { ((result.history.entries ≡ []) × (result.disks.items ≡ disks.items))
-        ⊎ IsHistoryOf D.meaning disks.items result.disks.items words.now [] most result.history.entries }
-{
-    match generated_scenario(alloc, n) {
-        Err(NoMemory) => unprepared(alloc, Stop::NoMemory, disks),
-        Ok(scenario) => {
-            let telling = Telling::Summary { n };
-            prepare_play(rt, alloc, words, &[], telling, &scenario, disks, gate, most)
+    // Plays a scenario, and tells of it what the words ask for.
+    fn prepare_play<D: Disk + Drill + Drop + Send>(
+        &self,
+        bytes: &[u8],
+        telling: Telling,
+        scenario: &Scenario,
+        disks: Vec<D>,
+    ) -> Prepared<D>
+        requires asked { IsAsked self.now.words.now bytes.now telling scenario.now }
+        requires given { IsGiven scenario.now }
+        requires enough { length scenario.now.weights ≤ length disks.items }
+        requires blank { AreBlank D.meaning disks.items }
+        ensures { IsDue D.meaning disks.items result.disks.items self.now.words.now bytes.now self.now.most result.due result.history.entries }
+    {
+        let Played {
+            ended,
+            history,
+            disks,
+        } = self.play(scenario, disks);
+        Prepared {
+            due: text_of(self.alloc, telling, scenario, ended, &history, self.most),
+            history,
+            disks,
         }
     }
-}
 
-/// Does all that the words ask for but writing the text. Only a run and a verdict touch the source.
-pub fn prepare<S: Source, D: Disk + Drill + Drop + Send, G: Gate + Sync, R: Wait + Threads + Sync>(
-    rt: &R,
-    alloc: Global,
-    words: &[String],
-    source: &mut S,
-    disks: Vec<D>,
-    gate: &G,
-    most: u32,
-) -> Prepared<D>
-    requires sixteen { length disks.items ≡ 16 }
-    requires blank { AreBlank D.meaning disks.items }
-    requires most { most ≤ 2000000 }
-    ensures ready { IsReady D.meaning S.left S.faults disks.items result.disks.items words.now source.old source.new most result.due result.history.entries }
-    ensures told { IsGen words.now → (result.history.entries ≡ []) × (result.disks.items ≡ disks.items) }
-    ensures untouched { IsCheck words.now → result.disks.items ≡ disks.items }
-    ensures unread { ¬ IsRun words.now → ¬ IsCheck words.now → source.new ≡ source.old }
-{
-    match read_words(words) {
-        None => refuse_words(alloc, words, disks, most),
-        Some(Command::Run { trace }) => {
-            read_and_play(rt, alloc, words, trace, source, disks, gate, most)
+    // The run over the bytes that were read.
+    fn prepare_bytes<D: Disk + Drill + Drop + Send>(
+        &self,
+        trace: bool,
+        bytes: &[u8],
+        disks: Vec<D>,
+    ) -> Prepared<D>
+        requires run { Spell self.now.words.now (Run trace) }
+        requires disks { AreSixteenBlank D.meaning disks.items }
+        ensures { IsDue D.meaning disks.items result.disks.items self.now.words.now bytes.now self.now.most result.due result.history.entries }
+    {
+        match read_scenario(self.alloc, bytes) {
+            Err(fault) => self.refuse_scenario(trace, bytes, &fault, disks),
+            Ok(scenario) => {
+                let telling = Telling::Report { trace };
+                self.prepare_play(bytes, telling, &scenario, disks)
+            }
         }
-        Some(Command::Gen { n }) => tell_generated(alloc, words, n, disks, most),
-        Some(Command::Drill { n }) => { generate_and_play(rt, alloc, words, n, disks, gate, most) }
-        Some(Command::Check) => read_and_judge(alloc, words, source, disks, most),
+    }
+
+    // Reads the source and plays the scenario that it has.
+    fn read_and_play<S: Source, D: Disk + Drill + Drop + Send>(
+        &self,
+        trace: bool,
+        source: &mut S,
+        disks: Vec<D>,
+    ) -> Prepared<D>
+        requires run { Spell self.now.words.now (Run trace) }
+        requires disks { AreSixteenBlank D.meaning disks.items }
+        ensures ready { IsReady D.meaning S.left S.faults disks.items result.disks.items self.now.words.now source.old source.new self.now.most result.due result.history.entries }
+    {
+        match read_up_to(self.alloc, source, MOST) {
+            Err(ReadFault::Failed) => unprepared(self.alloc, Stop::SourceFailed, disks),
+            Err(ReadFault::NoMemory) => unprepared(self.alloc, Stop::NoMemory, disks),
+            Ok(bytes) => self.prepare_bytes(trace, bytes.as_slice(), disks),
+        }
+    }
+
+    // Plays the generated scenario of a number.
+    fn generate_and_play<D: Disk + Drill + Drop + Send>(&self, n: u32, disks: Vec<D>) -> Prepared<D>
+        requires drill { Spell self.now.words.now (Drill n) }
+        requires least { 1 ≤ n }
+        requires most { n ≤ 1000 }
+        requires disks { AreSixteenBlank D.meaning disks.items }
+        ensures { IsDue D.meaning disks.items result.disks.items self.now.words.now [] self.now.most result.due result.history.entries }
+    {
+        match generated_scenario(self.alloc, n) {
+            Err(NoMemory) => unprepared(self.alloc, Stop::NoMemory, disks),
+            Ok(scenario) => {
+                let telling = Telling::Summary { n };
+                self.prepare_play(&[], telling, &scenario, disks)
+            }
+        }
+    }
+
+    /// Does all that the words ask for but writing the text. Only a run and a verdict touch the source.
+    pub fn prepare<S: Source, D: Disk + Drill + Drop + Send>(
+        &self,
+        source: &mut S,
+        disks: Vec<D>,
+    ) -> Prepared<D>
+        requires { AreSixteenBlank D.meaning disks.items }
+        ensures ready { IsReady D.meaning S.left S.faults disks.items result.disks.items self.now.words.now source.old source.new self.now.most result.due result.history.entries }
+        ensures told { IsGen self.now.words.now → NothingHappened disks.items result.disks.items result.history.entries }
+        ensures untouched { IsCheck self.now.words.now → result.disks.items ≡ disks.items }
+        ensures unread { ¬ IsRun self.now.words.now → ¬ IsCheck self.now.words.now → source.new ≡ source.old }
+    {
+        match read_words(self.words) {
+            None => self.refuse_words(disks),
+            Some(Command::Run { trace }) => self.read_and_play(trace, source, disks),
+            Some(Command::Gen { n }) => self.tell_generated(n, disks),
+            Some(Command::Drill { n }) => self.generate_and_play(n, disks),
+            Some(Command::Check) => self.read_and_judge(source, disks),
+        }
     }
 }

@@ -6,7 +6,8 @@ ghost use Rattle.e3_outside.specs.Faults.{HasFailed};
 ghost use Rattle.e3_top.specs.Due.{HasText};
 ghost use Rattle.e3_top.specs.Ran.{HasRun};
 
-use crate::preparing::{Due, Prepared, Stop, prepare};
+use crate::preparing::{Due, Prepared, Stop};
+use crate::stage::Stage;
 use e3_disk::{Disk, Drill};
 use e3_outside::{Failed, Gate, Sink, Source, write_all};
 use e3_world::History;
@@ -86,11 +87,18 @@ pub fn run_within<
         (record { disks = disks.items; source = source.old; sink = sink.old }) (record { disks = result.disks.items; source = source.new; sink = sink.new })
         result.status result.history.entries }
 {
+    let stage = Stage {
+        rt,
+        alloc,
+        words,
+        gate,
+        most,
+    };
     let Prepared {
         due,
         history,
         disks,
-    } = prepare(rt, alloc, words, source, disks, gate, most);
+    } = stage.prepare(source, disks);
     match due {
         Ok(due) => finish(due, history, disks, sink),
         Err(Stop::SourceFailed) => Ended {

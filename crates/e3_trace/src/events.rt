@@ -5,7 +5,7 @@ ghost use Rattle.e3_trace.specs.Events.{of_of, verdict_of, refusal_by, refusal_o
 
 use crate::cuts::{SPACE, behind, cut};
 use crate::faults::Fault;
-use crate::fields::{Field, TxnName, sites, txn_name};
+use crate::fields::{Field, TxnName, sites, txn_from, txn_name};
 use crate::known::Known;
 use e3_lines::is_text;
 use e3_types::{Answer, Dir, Refusal, State, Told, Txn, Verdict};
@@ -143,12 +143,7 @@ fn told_by(alloc: Global, known: &Known, name: TxnName, text: &[u8]) -> Result<T
     match behind(text, "began") {
         Ok(rest) => {
             let sites = sites(alloc, rest)?;
-            let txn = Txn {
-                site: name.0,
-                inc: name.1.0,
-                seq: name.1.1,
-                sites,
-            };
+            let txn = txn_from(name, sites);
             Ok(Told::Began { txn })
         }
         Err(_) => match known.named(name) {

@@ -1,12 +1,12 @@
 // The fields of a trace's lines. Only lists take memory.
 ghost use Rattle.std.specs.Prelude.{◌≡◌, ◌≤◌, ℕ, List as Items, Option, IfErr, IfSome};
 ghost use Rattle.e3_trace.specs.Cuts.{space, pair_of, Gives};
-ghost use Rattle.e3_trace.specs.Fields.{number_of, u32_of, u64_of, name_of, value_of, numbers_of, sites_of, parts_of, key_of, dir_of, state_of, op_of, answer_of, txn_name_of};
+ghost use Rattle.e3_trace.specs.Fields.{number_of, u32_of, u64_of, name_of, value_of, numbers_of, sites_of, parts_of, key_of, dir_of, state_of, op_of, answer_of, txn_name_of, txn_from};
 
 use crate::cuts::{BAR, COMMA, POINT, SPACE, behind, cut};
 use crate::faults::Fault;
 use e3_lines::{is_text, name_of, number_of_digits, value_of};
-use e3_types::{Answer, Dir, Key, List, Name, Op, SiteSet, State, Val};
+use e3_types::{Answer, Dir, Key, List, Name, Op, SiteSet, State, Txn, Val};
 use std::alloc::Global;
 
 /// The name of a transaction without its sites: its coordinator, the coordinator's incarnation, and its number there.
@@ -228,6 +228,18 @@ impl Field for Answer {
             let val = Val::read(rest)?;
             Ok(Answer::Value(val))
         }
+    }
+}
+
+/// The transaction of a name and its sites.
+pub(crate) fn txn_from(name: TxnName, sites: SiteSet) -> Txn
+    ensures { result ≡ txn_from name sites }
+{
+    Txn {
+        site: name.0,
+        inc: name.1.0,
+        seq: name.1.1,
+        sites,
     }
 }
 

@@ -5,7 +5,7 @@ ghost use Rattle.e3_trace.specs.Fields.{named, txn_of, known_told};
 
 use crate::cuts::{SPACE, cut};
 use crate::faults::Fault;
-use crate::fields::{Field, TxnName, txn_name};
+use crate::fields::{Field, TxnName, txn_from, txn_name};
 use e3_types::{NoMemory, SiteSet, Told, Txn};
 use std::alloc::Global;
 use std::collections::BTreeMap;
@@ -43,12 +43,7 @@ impl Known {
         ensures { result ≡ named self.now name }
     {
         let sites = self.begun.get(&name).copied()?;
-        Some(Txn {
-            site: name.0,
-            inc: name.1.0,
-            seq: name.1.1,
-            sites,
-        })
+        Some(txn_from(name, sites))
     }
 
     /// A transaction that began.

@@ -5,13 +5,15 @@ use Rattle.e3_crew.proofs.Giving.{gave}
 use Rattle.e3_crew.proofs.Turning.{owns_one}
 use Rattle.e3_crew.proofs.working.give.Goals as goal
 
-pub input_by_turns-answer-requires-clause-owns : goal.input_by_turns-answer-requires-clause-owns
-input_by_turns-answer-requires-clause-owns g c = owns_one _ _ c.requires.pass.owner_is
+pub input_by_turns-answer-requires-clause-turns : goal.input_by_turns-answer-requires-clause-turns
+input_by_turns-answer-requires-clause-turns g c =
+    let k = c.requires.knows in
+    record { idle = c.requires.pass.idle; owns = owns_one _ _ c.requires.pass.owner_is; played = k.played; stands = k.stands; restless = k.restless }
 
 pub returns-clause-pass : goal.returns-clause-pass
 returns-clause-pass g c = record {
-  idle = c.input_by_turns-answer.ensures.idle;
-  owner_is = c.input_by_turns-answer.ensures.same.owners ∙ c.requires.pass.owner_is ∙ ap (λ s. s ∷ []) (sym c.input_by_turns-answer.ensures.site);
+  idle = c.input_by_turns-answer.ensures.turned.turned.idle;
+  owner_is = c.input_by_turns-answer.ensures.turned.turned.same.owners ∙ c.requires.pass.owner_is ∙ ap (λ s. s ∷ []) (sym c.input_by_turns-answer.ensures.site);
 }
 
 pub returns-clause-given : goal.returns-clause-given
@@ -22,11 +24,11 @@ returns-clause-given g c =
     subst P (sym c.given.ensures)
     (gave g.D.Disk.meaning c.others_leave_nodes.ensures.moves (seen_by c.args.pass.now)
     (seen_by c.input_by_turns-answer.new.pass) c.args.node.now c.input_by_turns-answer.new.self c.args.input c.input_by_turns-answer.result c.requires.knows (record {
-      played = e.played;
+      played = e.turned.turned.played;
       scenario = e.scenario.0;
       most = e.scenario.1;
-      promised = e.promised;
-      room = e.room;
+      promised = e.turned.promised;
+      room = e.turned.room;
       stands = e.stands;
       site = e.site;
       stepped = e.stepped;

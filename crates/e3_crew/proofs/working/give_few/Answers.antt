@@ -25,8 +25,10 @@ are_deliveries inputs slice few is same = is ∙ ap (map input.Deliver) same
 as_long : (inputs : List Input) (slice few : List Packet) → inputs ≡ map input.Deliver slice → slice ≡ few → length inputs ≡ length few
 as_long inputs slice few is same = ap (λ (l : List Input). length l) (are_deliveries inputs slice few is same) ∙ length-map few input.Deliver
 
-pub batch-answer-requires-clause-owns : goal.batch-answer-requires-clause-owns
-batch-answer-requires-clause-owns g c = owns_one _ _ c.requires.pass.owner_is
+pub batch-answer-requires-clause-turns : goal.batch-answer-requires-clause-turns
+batch-answer-requires-clause-turns g c =
+    let k = c.requires.knows in
+    record { idle = c.requires.pass.idle; owns = owns_one _ _ c.requires.pass.owner_is; played = k.played; stands = k.stands; restless = k.restless }
 
 pub batch-answer-requires-clause-few : goal.batch-answer-requires-clause-few
 batch-answer-requires-clause-few g c =
@@ -60,8 +62,8 @@ batch-answer-requires-clause-places g c = λ up.
 
 pub returns-clause-pass : goal.returns-clause-pass
 returns-clause-pass g c = record {
-  idle = c.batch-answer.ensures.idle;
-  owner_is = c.batch-answer.ensures.same.owners ∙ c.requires.pass.owner_is ∙ ap (λ s. s ∷ []) (sym c.batch-answer.ensures.site);
+  idle = c.batch-answer.ensures.turned.idle;
+  owner_is = c.batch-answer.ensures.turned.same.owners ∙ c.requires.pass.owner_is ∙ ap (λ s. s ∷ []) (sym c.batch-answer.ensures.site);
 }
 
 pub returns-clause-worked : goal.returns-clause-worked
@@ -72,7 +74,7 @@ returns-clause-worked g c =
     batch_worked g.D.Disk.meaning c.others_leave_nodes.ensures.moves (places_alone (length c.args.few)) (seen_by c.args.pass.now)
     (seen_by c.batch-answer.new.pass) c.args.node.now c.batch-answer.new.self c.deliveries-inputs.result c.batch-answer.result c.requires.knows c.requires.first.up
     (omega (arith, long, most)) (record {
-      played = e.played;
+      played = e.turned.played;
       scenario = e.scenario.0;
       most = e.scenario.1;
       promised = e.promised;

@@ -10,7 +10,7 @@ ghost use Rattle.e3_world.specs.Items.{items_through};
 ghost use Rattle.e3_world.specs.Packets.{is_calm, present_items};
 
 use e3_disk::{Disk, Drill};
-use e3_judge::{is_calm, items_through, present_items};
+use e3_judge::{Prefix, is_calm, present_items};
 use e3_node::Node;
 use e3_types::{Input, List, Packet};
 use e3_wire::{Shared, Wire, WirePass, places_are_noted};
@@ -25,13 +25,11 @@ fn is_delivering(alloc: Global, shared: &Shared) -> bool
     ensures through { result ≡ true → items_through (scenario_of shared.now) (entries_of shared.now) ≡ true }
     ensures restless { result ≡ true → is_calm (present_items (scenario_of shared.now) (entries_of shared.now)) ≡ false }
 {
-    if is_calm(present_items(shared.scenario(), shared.history())) {
+    let so_far = Prefix::of(alloc, shared.scenario(), shared.history());
+    if is_calm(present_items(so_far.scenario, so_far.entries)) {
         return false;
     }
-    matches!(
-        items_through(alloc, shared.scenario(), shared.history()),
-        Ok(true)
-    )
+    matches!(so_far.items_through(), Ok(true))
 }
 
 // Their deliveries.

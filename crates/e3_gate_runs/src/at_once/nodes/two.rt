@@ -9,7 +9,7 @@ ghost use Rattle.e3_wire.specs.Marks.{entries_of, scenario_of};
 ghost use Rattle.e3_world.specs.Legal.{Guard, entry_of};
 
 use e3_disk::{Disk, Drill};
-use e3_judge::{checks_are_exact, entry_breach, entry_of, inputs_at};
+use e3_judge::{Prefix, checks_are_exact};
 use e3_node::{Node, other_entries_keep_nodes};
 use e3_types::{Act, Entry, Input};
 use e3_wire::Shared;
@@ -21,10 +21,8 @@ fn is_allowed(alloc: Global, shared: &Shared, entry: &Entry) -> bool
 {
     checks_are_exact();
     shared.tell();
-    matches!(
-        entry_breach(alloc, shared.scenario(), shared.history(), entry),
-        Ok(None)
-    )
+    let before = Prefix::of(alloc, shared.scenario(), shared.history());
+    matches!(before.entry_breach(entry), Ok(None))
 }
 
 // The node rises.
@@ -81,13 +79,8 @@ fn may_take<D: Disk + Drill + Drop>(
 ) -> bool
     ensures { result ≡ true → Guard (scenario_of shared.now) (entries_of shared.now) (entry_of (scenario_of shared.now) (entries_of shared.now) node.now.site input.now) }
 {
-    match entry_of(
-        alloc,
-        shared.scenario(),
-        shared.history(),
-        node.site(),
-        input,
-    ) {
+    let before = Prefix::of(alloc, shared.scenario(), shared.history());
+    match before.entry_of(node.site(), input) {
         Ok(step) => is_allowed(alloc, shared, &step),
         Err(_) => false,
     }
@@ -156,7 +149,8 @@ fn begins<D: Disk + Drill + Drop>(
     if !enters_line(alloc, shared, node, other, number) {
         return false;
     }
-    match inputs_at(alloc, shared.scenario(), shared.history(), node.site()) {
+    let so_far = Prefix::of(alloc, shared.scenario(), shared.history());
+    match so_far.inputs_at(node.site()) {
         Ok(items) => takes_all(alloc, shared, node, other, items.as_slice()),
         Err(_) => false,
     }

@@ -9,7 +9,7 @@ pub returns-then-span-at-lt5-clause-damaged : goal.returns-then-span-at-lt5-clau
 returns-then-span-at-lt5-clause-damaged g c = λ place e.
     let content = g.D.Disk.meaning.content c.args.disk.now in
     let w = window c.args.span.from c.args.span.count content in
-    let full : length w ≡ c.args.span.count = window_full c.args.span.from c.args.span.count content c.requires.inside in
+    let full : length w ≡ c.args.span.count = window_full c.args.span.from c.args.span.count content c.requires.may.inside in
     let gate : get_or (take 1 (drop c.args.at w)) 0 0 ≡ 165 = c.in_ok-is_open.ensures.gate.0 (search rules) in
     (cc, short_is_damage w c.args.at gate (omega arith))
 
@@ -17,23 +17,23 @@ pub returns-then-span-at-clause-damaged : goal.returns-then-span-at-clause-damag
 returns-then-span-at-clause-damaged g c = λ place e.
     let content = g.D.Disk.meaning.content c.args.disk.now in
     let w = window c.args.span.from c.args.span.count content in
-    let full : length w ≡ c.args.span.count = window_full c.args.span.from c.args.span.count content c.requires.inside in
+    let full : length w ≡ c.args.span.count = window_full c.args.span.from c.args.span.count content c.requires.may.inside in
     let gate : get_or (take 1 (drop c.args.at w)) 0 0 ≡ 165 = c.in_ok-is_open.ensures.gate.0 (search rules) in
     let size : to_be_bytes w32 c.from-size.result ≡ take 4 (drop (c.args.at + 1) w) =
     ap (to_be_bytes w32) c.from-size.ensures ∙ c.in_ok-read_size.ensures.size
-    ∙ ap (λ (l : List ℕ). take 4 (drop (c.args.at + 1) (window c.args.span.from c.args.span.count l))) (c.in_ok-is_open.ensures.same (λ e. absurd cc)) in
+    ∙ ap (λ (l : List ℕ). take 4 (drop (c.args.at + 1) (window c.args.span.from c.args.span.count l))) (c.in_ok-is_open.ensures.looks.same (λ e. absurd cc)) in
     (cc, long_is_damage w c.args.at c.from-size.result gate size (omega arith) (omega arith))
 
 pub returns-clause-next : goal.returns-clause-next
 returns-clause-next g c =
     let content = g.D.Disk.meaning.content c.args.disk.now in
     let w = window c.args.span.from c.args.span.count content in
-    let full : length w ≡ c.args.span.count = window_full c.args.span.from c.args.span.count content c.requires.inside in
+    let full : length w ≡ c.args.span.count = window_full c.args.span.from c.args.span.count content c.requires.may.inside in
     let gate : get_or (take 1 (drop c.args.at w)) 0 0 ≡ 165 = c.in_ok-is_open.ensures.gate.0 (search rules) in
     let size : to_be_bytes w32 c.from-size.result ≡ take 4 (drop (c.args.at + 1) w) =
     ap (to_be_bytes w32) c.from-size.ensures ∙ c.in_ok-read_size.ensures.size
-    ∙ ap (λ (l : List ℕ). take 4 (drop (c.args.at + 1) (window c.args.span.from c.args.span.count l))) (c.in_ok-is_open.ensures.same (λ e. absurd cc)) in
-    let same : g.D.Disk.meaning.content c.read_size.new.disk ≡ content = c.in_ok-read_size.ensures.same (λ e. absurd cc) ∙ c.in_ok-is_open.ensures.same (λ e. absurd cc) in
+    ∙ ap (λ (l : List ℕ). take 4 (drop (c.args.at + 1) (window c.args.span.from c.args.span.count l))) (c.in_ok-is_open.ensures.looks.same (λ e. absurd cc)) in
+    let same : g.D.Disk.meaning.content c.read_size.new.disk ≡ content = c.in_ok-read_size.ensures.looks.same (λ e. absurd cc) ∙ c.in_ok-is_open.ensures.looks.same (λ e. absurd cc) in
     let body : c.in_ok-body.body ≡ take c.from-size.result (drop (c.args.at + 5) w) =
     c.in_ok-body.ensures.body ∙ ap (λ (l : List ℕ). take c.from-size.result (drop (c.args.at + 5) (window c.args.span.from c.args.span.count l))) same in
     frame_at w c.args.at c.from-size.result _ gate size (omega arith) body (omega arith)

@@ -31,12 +31,12 @@ reading-preserved g c =
       place = rw (bodies, len) (new_end old body c.reading.at inv.place);
       within = omega (arith, next.within, full);
       same = search rules;
-      images = λ image at. inv.images image (c.in_ok-body.ensures.images image at);
+      images = λ image at. inv.images image (c.in_ok-body.ensures.looks.images image at);
       places = pushed ∙ ap (λ (fs : List Frame). fs ++ found ∷ []) inv.places
           ∙ ap (λ (p : ℕ). frames_from c.args.span.from old ++ (record { place = p; body = body }) ∷ []) place
           ∙ sym (places_push c.args.span.from old body) ∙ ap (λ (bs : List (List ℕ)). frames_from c.args.span.from bs) (sym bodies);
       powered = search rules;
       calls = search rules;
       stops = search rules;
-      keeps = keeps_chain _ _ _ inv.keeps inv.stops inv.calls c.in_ok-body.ensures.meters.keeps;
+      keeps = keeps_chain _ _ _ inv.keeps inv.stops inv.calls c.in_ok-body.ensures.looks.keeps;
     }

@@ -12,12 +12,12 @@ returns-clause-front g c =
     let content = g.D.Disk.meaning.content c.args.disk.now in
     let w = window c.args.span.from c.args.span.count content in
     let n = c.from-size.result in
-    let full : length w ≡ c.args.span.count = window_full c.args.span.from c.args.span.count content c.requires.inside in
+    let full : length w ≡ c.args.span.count = window_full c.args.span.from c.args.span.count content c.requires.may.inside in
     let gate : get_or (take 1 (drop 0 w)) 0 0 ≡ 165 = c.in_ok-is_open.ensures.gate.0 (search rules) in
     let size : to_be_bytes w32 n ≡ take 4 (drop 1 w) =
     ap (to_be_bytes w32) c.from-size.ensures ∙ c.in_ok-read_size.ensures.size
-    ∙ ap (λ (l : List ℕ). take 4 (drop 1 (window c.args.span.from c.args.span.count l))) (c.in_ok-is_open.ensures.same (λ e. absurd cc)) in
-    let same : g.D.Disk.meaning.content c.read_size.new.disk ≡ content = c.in_ok-read_size.ensures.same (λ e. absurd cc) ∙ c.in_ok-is_open.ensures.same (λ e. absurd cc) in
+    ∙ ap (λ (l : List ℕ). take 4 (drop 1 (window c.args.span.from c.args.span.count l))) (c.in_ok-is_open.ensures.looks.same (λ e. absurd cc)) in
+    let same : g.D.Disk.meaning.content c.read_size.new.disk ≡ content = c.in_ok-read_size.ensures.looks.same (λ e. absurd cc) ∙ c.in_ok-is_open.ensures.looks.same (λ e. absurd cc) in
     let body : List ℕ = take n (drop 5 w) in
     let f : FrameAt w 0 body = frame_at w 0 n body gate size (omega arith) refl (omega arith) in
     record {

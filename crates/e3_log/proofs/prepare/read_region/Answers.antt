@@ -16,7 +16,7 @@ hand_out-requires-clause-raw g c =
     let found = c.in_ok-found.found in
     let end = c.in_ok-found.end in
     let read : ReadsTo at (piece c.args.capacity c.args.region content) found end =
-    subst (λ (l : List ℕ). ReadsTo at l found end) (c.span_of.ensures.bytes content (sym c.requires.length))
+    subst (λ (l : List ℕ). ReadsTo at l found end) (c.span_of.ensures.bytes content (sym c.requires.holds.len_is))
     (subst (λ (k : ℕ). ReadsTo k (window c.span_of.result.from c.span_of.result.count content) found end) c.span_of.ensures.from c.in_ok-found.ensures.frames) in
     subst (λ (k : ℕ). IsRaw k c.own_of.result found) (sym c.start-start.ensures)
     (subst (λ (f : Front). IsRaw at f found) (sym c.own_of.ensures)
@@ -29,11 +29,11 @@ overflow_add-result g c =
     let found = c.in_ok-found.found in
     let end = c.in_ok-found.end in
     let read : ReadsTo at (piece c.args.capacity c.args.region content) found end =
-    subst (λ (l : List ℕ). ReadsTo at l found end) (c.span_of.ensures.bytes content (sym c.requires.length))
+    subst (λ (l : List ℕ). ReadsTo at l found end) (c.span_of.ensures.bytes content (sym c.requires.holds.len_is))
     (subst (λ (k : ℕ). ReadsTo k (window c.span_of.result.from c.span_of.result.count content) found end) c.span_of.ensures.from c.in_ok-found.ensures.frames) in
     let bound = end_read c.args.capacity content c.args.region c.args.fronts.0 c.args.fronts.1 found end c.requires.fronts read in
     let low = limit_low c.args.capacity c.args.region in
-    omega (arith, bound.0, low, c.start-start.ensures, c.requires.most)
+    omega (arith, bound.0, low, c.start-start.ensures, c.requires.holds.most)
 
 pub returns-clause-held : goal.returns-clause-held
 returns-clause-held g c =
@@ -42,7 +42,7 @@ returns-clause-held g c =
     let found = c.in_ok-found.found in
     let end = c.in_ok-found.end in
     let read : ReadsTo at (piece c.args.capacity c.args.region content) found end =
-    subst (λ (l : List ℕ). ReadsTo at l found end) (c.span_of.ensures.bytes content (sym c.requires.length))
+    subst (λ (l : List ℕ). ReadsTo at l found end) (c.span_of.ensures.bytes content (sym c.requires.holds.len_is))
     (subst (λ (k : ℕ). ReadsTo k (window c.span_of.result.from c.span_of.result.count content) found end) c.span_of.ensures.from c.in_ok-found.ensures.frames) in
     let handed : handed_frames found ≡ c.in_ok-frames.frames = sym c.in_ok-frames.ensures in
     let begins : at ≡ c.start-start.result = sym c.start-start.ensures in
@@ -59,7 +59,7 @@ returns-clause-end g c =
     let found = c.in_ok-found.found in
     let end = c.in_ok-found.end in
     let read : ReadsTo at (piece c.args.capacity c.args.region content) found end =
-    subst (λ (l : List ℕ). ReadsTo at l found end) (c.span_of.ensures.bytes content (sym c.requires.length))
+    subst (λ (l : List ℕ). ReadsTo at l found end) (c.span_of.ensures.bytes content (sym c.requires.holds.len_is))
     (subst (λ (k : ℕ). ReadsTo k (window c.span_of.result.from c.span_of.result.count content) found end) c.span_of.ensures.from c.in_ok-found.ensures.frames) in
     let bound = end_read c.args.capacity content c.args.region c.args.fronts.0 c.args.fronts.1 found end c.requires.fronts read in
     (omega (arith, bound.0, c.start-start.ensures), omega (arith, bound.1, c.start-start.ensures), omega (arith, c.start-start.ensures))

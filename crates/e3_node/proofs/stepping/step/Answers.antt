@@ -48,7 +48,7 @@ enter-requires-clause-may g c =
     let fits : length step.outs ≡ c.room_for-room.result =
     ap (λ (p : SiteStep). length p.outs) c.apply.ensures.step ∙ sym (c.room_for-room.ensures ∙ ap length c.outs.ensures) in
     let may : MayEnterBehind c.claim.new.shared e =
-    may_enter was c.claim.new.shared _ e c.in_ok-claim.ensures.claimed c.requires.some (step_allowed sc h c.args.number c.args.input step is c.requires.some c.requires.up.up c.requires.due)
+    may_enter was c.claim.new.shared _ e c.in_ok-claim.ensures.claimed c.requires.shared.some (step_allowed sc h c.args.number c.args.input step is c.requires.shared.some c.requires.up.up c.requires.due)
     (first_takes_least sc h c.args.number c.args.input c.requires.due c.requires.first) (omega (arith, fits)) in
     subst (λ (x : Entry). MayEnterBehind c.claim.new.shared x) (sym c.step_of-step.ensures) may
 
@@ -72,8 +72,8 @@ enter-requires-in-Err-clause-may g c =
     records_made sc h c.args.number c.args.input c.into_step-made.result (c.into_step-made.ensures ∙ made.step_is) in
     let e : Entry = record { owner = c.args.number; act = Fall d.inputs records c.in-Err.why } in
     let may : MayEnterBehind c.claim.new.shared e =
-    may_enter was c.claim.new.shared _ e c.in_ok-claim.ensures.claimed c.requires.some
-    (fall_allowed sc h c.args.number c.args.input d.inputs records c.in-Err.why made.inputs_are rs c.requires.some c.requires.up.up c.requires.due
+    may_enter was c.claim.new.shared _ e c.in_ok-claim.ensures.claimed c.requires.shared.some
+    (fall_allowed sc h c.args.number c.args.input d.inputs records c.in-Err.why made.inputs_are rs c.requires.shared.some c.requires.up.up c.requires.due
     (λ none. c.in-Err.ensures.some (c.records-records.ensures ∙ records_made sc h c.args.number c.args.input d.plan.step made.step_is ∙ sym rs ∙ none)))
     (fall_takes sc h c.args.number c.args.input d.inputs made.inputs_are (first_takes_least sc h c.args.number c.args.input c.requires.due c.requires.first)) (omega arith) in
     subst (λ (x : Entry). MayEnterBehind c.claim.new.shared x) (sym c.fall_of-fall.ensures) may
@@ -96,33 +96,7 @@ returns-in-Ok-clause-shared g c =
     let is : step ≡ step_kept c.args.input (made_by sc h c.args.number c.args.input) = c.apply.ensures.step ∙ made.step_is in
     let e : Entry = entry_of_plan c.args.number c.args.input step in
     let has : HasEntered e was c.enter.new.shared = has_from was c.claim.new.shared c.enter.new.shared _ c.step_of-step.result e c.step_of-step.ensures c.in_ok-claim.ensures.claimed c.enter.ensures in
-    has.stands
-
-pub returns-in-Ok-clause-grew : goal.returns-in-Ok-clause-grew
-returns-in-Ok-clause-grew g c =
-    let was = c.args.shared.now in
-    let sc = scenario_of was in
-    let h = entries_of was in
-    let d = c.in_ok-draft.draft in
-    let made = draft_made sc h c.args.number c.args.site.now _ c.args.input d c.requires.up.stands c.in_ok-draft.ensures.ready in
-    let step : SiteStep = c.apply.result in
-    let is : step ≡ step_kept c.args.input (made_by sc h c.args.number c.args.input) = c.apply.ensures.step ∙ made.step_is in
-    let e : Entry = entry_of_plan c.args.number c.args.input step in
-    let has : HasEntered e was c.enter.new.shared = has_from was c.claim.new.shared c.enter.new.shared _ c.step_of-step.result e c.step_of-step.ensures c.in_ok-claim.ensures.claimed c.enter.ensures in
-    has.grew
-
-pub returns-in-Ok-clause-same : goal.returns-in-Ok-clause-same
-returns-in-Ok-clause-same g c =
-    let was = c.args.shared.now in
-    let sc = scenario_of was in
-    let h = entries_of was in
-    let d = c.in_ok-draft.draft in
-    let made = draft_made sc h c.args.number c.args.site.now _ c.args.input d c.requires.up.stands c.in_ok-draft.ensures.ready in
-    let step : SiteStep = c.apply.result in
-    let is : step ≡ step_kept c.args.input (made_by sc h c.args.number c.args.input) = c.apply.ensures.step ∙ made.step_is in
-    let e : Entry = entry_of_plan c.args.number c.args.input step in
-    let has : HasEntered e was c.enter.new.shared = has_from was c.claim.new.shared c.enter.new.shared _ c.step_of-step.result e c.step_of-step.ensures c.in_ok-claim.ensures.claimed c.enter.ensures in
-    (has.scenario, has.most)
+    has.on
 
 pub returns-in-Ok-clause-stepped : goal.returns-in-Ok-clause-stepped
 returns-in-Ok-clause-stepped g c =
@@ -154,10 +128,10 @@ returns-in-Ok-clause-up g c =
     let slice : c.records-records.result.now ≡ (made_by sc h c.args.number c.args.input).records = c.records-records.ensures ∙ records_made sc h c.args.number c.args.input d.plan.step made.step_is in
     let follows : Follows c.args.number (log_of sc h c.args.number) c.records-records.result.now c.in_ok-short.short =
     step_follows c.logs_are_sound.ensures.orderly c.logs_are_sound.ensures.sets c.logs_are_sound.ensures.sound c.logs_are_sound.ensures.mention c.logs_are_sound.ensures.begun c.logs_are_sound.ensures.votes sc h c.args.number
-    c.requires.shared.played.given c.requires.shared.played.legal c.requires.up.up c.args.rose.now c.prepare.new.site c.args.input c.in_ok-short.short c.records-records.result.now ready c.requires.some c.requires.due
+    c.requires.shared.stands.played.given c.requires.shared.stands.played.legal c.requires.up.up c.args.rose.now c.prepare.new.site c.args.input c.in_ok-short.short c.records-records.result.now ready c.requires.shared.some c.requires.due
     slice made.back c.in_ok-short.ensures.short in
     let order = step_order c.logs_are_sound.ensures.orderly c.logs_are_sound.ensures.sets sc h c.args.number c.args.input
-    c.requires.shared.played.given c.requires.shared.played.legal c.requires.some c.requires.up.up c.requires.due in
+    c.requires.shared.stands.played.given c.requires.shared.stands.played.legal c.requires.shared.some c.requires.up.up c.requires.due in
     let wrote = c.in-Ok.ensures.logged c.args.number (entries_at h c.args.number) (log_of sc h c.args.number) c.requires.up.logged follows.short follows.orderly follows.back in
     let logged = step_logged g.D.Disk.meaning sc h c.args.number c.args.input c.records-records.result.now c.write.new.logged c.write.new.log slice wrote in
     subst (λ (l : List Entry). IsUp g.D.Disk.meaning sc l c.args.number c.apply.new.self c.write.new.log c.args.rose.now c.write.new.logged) (sym entered)
@@ -180,35 +154,7 @@ returns-in-Err-clause-shared g c =
     records_made sc h c.args.number c.args.input c.into_step-made.result (c.into_step-made.ensures ∙ made.step_is) in
     let e : Entry = record { owner = c.args.number; act = Fall d.inputs records c.in-Err.why } in
     let has : HasEntered e was c.enter-in-Err.new.shared = has_from was c.claim.new.shared c.enter-in-Err.new.shared _ c.fall_of-fall.result e c.fall_of-fall.ensures c.in_ok-claim.ensures.claimed c.enter-in-Err.ensures in
-    has.stands
-
-pub returns-in-Err-clause-grew : goal.returns-in-Err-clause-grew
-returns-in-Err-clause-grew g c =
-    let was = c.args.shared.now in
-    let sc = scenario_of was in
-    let h = entries_of was in
-    let d = c.in_ok-draft.draft in
-    let made = draft_made sc h c.args.number c.args.site.now _ c.args.input d c.requires.up.stands c.in_ok-draft.ensures.ready in
-    let records : List Record = c.into_step-made.result.records in
-    let rs : records ≡ (made_by sc h c.args.number c.args.input).records =
-    records_made sc h c.args.number c.args.input c.into_step-made.result (c.into_step-made.ensures ∙ made.step_is) in
-    let e : Entry = record { owner = c.args.number; act = Fall d.inputs records c.in-Err.why } in
-    let has : HasEntered e was c.enter-in-Err.new.shared = has_from was c.claim.new.shared c.enter-in-Err.new.shared _ c.fall_of-fall.result e c.fall_of-fall.ensures c.in_ok-claim.ensures.claimed c.enter-in-Err.ensures in
-    has.grew
-
-pub returns-in-Err-clause-same : goal.returns-in-Err-clause-same
-returns-in-Err-clause-same g c =
-    let was = c.args.shared.now in
-    let sc = scenario_of was in
-    let h = entries_of was in
-    let d = c.in_ok-draft.draft in
-    let made = draft_made sc h c.args.number c.args.site.now _ c.args.input d c.requires.up.stands c.in_ok-draft.ensures.ready in
-    let records : List Record = c.into_step-made.result.records in
-    let rs : records ≡ (made_by sc h c.args.number c.args.input).records =
-    records_made sc h c.args.number c.args.input c.into_step-made.result (c.into_step-made.ensures ∙ made.step_is) in
-    let e : Entry = record { owner = c.args.number; act = Fall d.inputs records c.in-Err.why } in
-    let has : HasEntered e was c.enter-in-Err.new.shared = has_from was c.claim.new.shared c.enter-in-Err.new.shared _ c.fall_of-fall.result e c.fall_of-fall.ensures c.in_ok-claim.ensures.claimed c.enter-in-Err.ensures in
-    (has.scenario, has.most)
+    has.on
 
 pub returns-in-Err-clause-fell : goal.returns-in-Err-clause-fell
 returns-in-Err-clause-fell g c = λ why is.
@@ -231,7 +177,7 @@ returns-in-Err-clause-fell g c = λ why is.
     let slice : c.records-records.result.now ≡ (made_by sc h c.args.number c.args.input).records = c.records-records.ensures ∙ records_made sc h c.args.number c.args.input d.plan.step made.step_is in
     let follows : Follows c.args.number (log_of sc h c.args.number) c.records-records.result.now c.in_ok-short.short =
     step_follows c.logs_are_sound.ensures.orderly c.logs_are_sound.ensures.sets c.logs_are_sound.ensures.sound c.logs_are_sound.ensures.mention c.logs_are_sound.ensures.begun c.logs_are_sound.ensures.votes sc h c.args.number
-    c.requires.shared.played.given c.requires.shared.played.legal c.requires.up.up c.args.rose.now c.prepare.new.site c.args.input c.in_ok-short.short c.records-records.result.now ready c.requires.some c.requires.due
+    c.requires.shared.stands.played.given c.requires.shared.stands.played.legal c.requires.up.up c.args.rose.now c.prepare.new.site c.args.input c.in_ok-short.short c.records-records.result.now ready c.requires.shared.some c.requires.due
     slice made.back c.in_ok-short.ensures.short in
     let disk = c.write.new.log.disk in
     let stands : DiskTells sc more c.args.number (g.D.Disk.meaning.meters disk).capacity c.write.new.logged (g.D.Disk.meaning.image disk) =
@@ -253,13 +199,13 @@ returns-in-Err-clause-why g c = λ why is.
     let slice : c.records-records.result.now ≡ (made_by sc h c.args.number c.args.input).records = c.records-records.ensures ∙ records_made sc h c.args.number c.args.input d.plan.step made.step_is in
     let follows : Follows c.args.number (log_of sc h c.args.number) c.records-records.result.now c.in_ok-short.short =
     step_follows c.logs_are_sound.ensures.orderly c.logs_are_sound.ensures.sets c.logs_are_sound.ensures.sound c.logs_are_sound.ensures.mention c.logs_are_sound.ensures.begun c.logs_are_sound.ensures.votes sc h c.args.number
-    c.requires.shared.played.given c.requires.shared.played.legal c.requires.up.up c.args.rose.now c.prepare.new.site c.args.input c.in_ok-short.short c.records-records.result.now ready c.requires.some c.requires.due
+    c.requires.shared.stands.played.given c.requires.shared.stands.played.legal c.requires.up.up c.args.rose.now c.prepare.new.site c.args.input c.in_ok-short.short c.records-records.result.now ready c.requires.shared.some c.requires.due
     slice made.back c.in_ok-short.ensures.short in
     let old = g.D.Disk.meaning.meters c.args.log.now.disk in
     let new = g.D.Disk.meaning.meters c.write.new.log.disk in
     let l = log_of sc h c.args.number in
     let brief = up_brief c.logs_are_sound.ensures.orderly c.logs_are_sound.ensures.sets c.logs_are_sound.ensures.sound c.logs_are_sound.ensures.mention c.logs_are_sound.ensures.begun c.logs_are_sound.ensures.votes sc h c.args.number
-    c.requires.shared.played.given c.requires.shared.played.legal c.requires.up.up c.args.rose.now c.prepare.new.site ready in
+    c.requires.shared.stands.played.given c.requires.shared.stands.played.legal c.requires.up.up c.args.rose.now c.prepare.new.site ready in
     let size : c.len.result ≡ size_of c.records-records.result.now =
     c.len.ensures ∙ ap length c.in_ok-draft.ensures.ready.drafted.body_is ∙ sym (ap size_of c.records-records.ensures) in
     let due : IsDue g.D.Disk.meaning.meters c.args.log.now l c.in_ok-short.short (size_of c.records-records.result.now) =

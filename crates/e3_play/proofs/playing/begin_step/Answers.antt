@@ -1,10 +1,11 @@
 use Rattle.std.proofs.Common.{◌≡◌, ◌≤◌, ◌∙◌, ◌+◌, ◌∷◌, [], suc, sym, subst, ap, length, arith, List, rules}
 use Rattle.e3_play.specs.Delivered.{IsFull}
+use Rattle.std.proofs.lemmas.List.Sums.{count_by-le-length}
 use Rattle.e3_types.specs.declared.entries.Entry.{Entry}
 use Rattle.e3_types.specs.declared.scenarios.Item.{Item}
 use Rattle.e3_types.specs.declared.scenarios.Item.TheVariants as item
 use Rattle.e3_types.specs.declared.scenarios.Scenario.{Scenario}
-use Rattle.e3_world.specs.Packets.{step_items}
+use Rattle.e3_world.specs.Packets.{is_line, lines, step_items}
 use Rattle.e3_types.specs.declared.entries.Act.TheVariants as act
 use Rattle.e3_play.specs.Played.{IsFresh, IsSettled, IsStep}
 use Rattle.e3_play.proofs.Full.{line_full}
@@ -12,6 +13,17 @@ use Rattle.e3_play.proofs.Forms.{alone_is, crash_is, exchange_asks, no_stop, rec
 use Rattle.e3_play.proofs.Knowing.{knows_line, knows_more}
 use Rattle.e3_play.proofs.Settling.{IsBegun, line_begins, stop_settles}
 use Rattle.e3_play.proofs.playing.begin_step.Goals as goal
+
+-- the history has a line for each step that is through
+pub overflow_add-number : goal.overflow_add-number
+overflow_add-number g c =
+    let S = g.S.Sites in
+    let sites = c.args.sites.now in
+    let through : lines (S.entries sites) ≡ c.args.done = c.requires.settled.at in
+    let each : lines (S.entries sites) ≤ length (S.entries sites) = count_by-le-length is_line (S.entries sites) in
+    let within : length (S.entries sites) ≤ S.most sites = g.met.S.Sites.within sites c.requires.standing in
+    let few : S.most sites ≤ 2000000 = c.requires.most in
+    omega (arith, through, each, within, few)
 
 pub stop-requires-clause-some : goal.stop-requires-clause-some
 stop-requires-clause-some g c =
@@ -59,13 +71,20 @@ restart-requires-clause-fresh g c =
     subst (λ l. IsFresh sc (S.entries c.line-in-Restart.new.self) l) (sym (c.step_items-items.ensures ∙ ap (step_items sc) next) ∙ items) begun.fresh in
     subst (λ it. IsFresh it (S.entries c.line-in-Restart.new.self) (item.Restart c.in-Restart.site ∷ [])) (sym (c.in_ok-line-in-Restart.ensures.on.scenario ∙ c.requires.played)) fresh
 
+pub restart-requires-clause-least : goal.restart-requires-clause-least
+restart-requires-clause-least g c =
+    let items : List Item = c.step_items-items.result.now in
+    let next : c.args.done + 1 ≡ suc c.args.done = omega arith in
+    let step : IsStep c.args.scenario.now items = subst (λ l. IsStep c.args.scenario.now l) (sym (c.step_items-items.ensures ∙ ap (step_items c.args.scenario.now) next)) (step_is_given c.args.scenario.now c.args.done c.requires.given) in
+    (restart_exists c.args.scenario.now items c.in-Restart.site (restart_is items c.in-Restart.site (sym c.kind_of.ensures ∙ c.in-Restart.is)) step).0
+
 pub restart-requires-clause-exists : goal.restart-requires-clause-exists
 restart-requires-clause-exists g c =
     let items : List Item = c.step_items-items.result.now in
     let next : c.args.done + 1 ≡ suc c.args.done = omega arith in
     let step : IsStep c.args.scenario.now items = subst (λ l. IsStep c.args.scenario.now l) (sym (c.step_items-items.ensures ∙ ap (step_items c.args.scenario.now) next)) (step_is_given c.args.scenario.now c.args.done c.requires.given) in
     subst (λ (sc : Scenario). c.in-Restart.site ≤ length sc.weights) (sym (c.in_ok-line-in-Restart.ensures.on.scenario ∙ c.requires.played))
-    (restart_exists c.args.scenario.now items c.in-Restart.site (restart_is items c.in-Restart.site (sym c.kind_of.ensures ∙ c.in-Restart.is)) step)
+    (restart_exists c.args.scenario.now items c.in-Restart.site (restart_is items c.in-Restart.site (sym c.kind_of.ensures ∙ c.in-Restart.is)) step).1
 
 pub recovery-requires-clause-fresh : goal.recovery-requires-clause-fresh
 recovery-requires-clause-fresh g c =

@@ -1,4 +1,4 @@
-use Rattle.std.proofs.Common.{◌∙◌, [], sym, subst, ap}
+use Rattle.std.proofs.Common.{◌∙◌, sym, subst, ap}
 use Rattle.e3_readings.specs.Bindings.{bound_behind}
 use Rattle.e3_play.specs.Settled.{is_asking}
 use Rattle.e3_play.proofs.SameSteps.{same_step}

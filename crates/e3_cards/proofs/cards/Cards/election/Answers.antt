@@ -1,9 +1,9 @@
 use Rattle.std.proofs.Common.{ap}
 use Rattle.e3_cards.specs.declared.card.Card.{Card}
-use Rattle.e3_cards.proofs.Reading.{is_card, ok_is}
+use Rattle.e3_cards.proofs.Reading.{ok_is}
 use Rattle.e3_cards.proofs.cards.Cards.election.Goals as goal
 
 pub returns : goal.returns
 returns c = λ a stands.
-    let card = is_card c.args.self.now c.args.t.now c.card_or.result.now a c.card_or.ensures c.known.ensures stands in
+    let card = c.card_of.ensures a stands in
     ok_is c.copy_election.result _ _ (ap (λ (k : Card). k.election) card) c.copy_election.ensures

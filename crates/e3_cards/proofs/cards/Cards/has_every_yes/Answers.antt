@@ -1,8 +1,8 @@
 use Rattle.std.proofs.Common.{◌∙◌}
-use Rattle.e3_cards.proofs.Reading.{is_card, yes_at}
+use Rattle.e3_cards.proofs.Reading.{yes_at}
 use Rattle.e3_cards.proofs.cards.Cards.has_every_yes.Goals as goal
 
 pub returns : goal.returns
 returns c = λ a stands input.
-    let card = is_card c.args.self.now c.args.t.now c.card_or.result.now a c.card_or.ensures c.known.ensures stands in
-    c.every_yes.ensures ∙ yes_at c.args.self.now.site c.args.t.now a c.args.input.now c.args.made.now c.card_or.result.now stands.site_is input card
+    let card = c.card_of.ensures a stands in
+    c.every_yes.ensures ∙ yes_at c.args.self.now.site c.args.t.now a c.args.input.now c.args.made.now c.card_of.result.now stands.site_is input card

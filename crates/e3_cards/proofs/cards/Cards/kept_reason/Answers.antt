@@ -1,10 +1,9 @@
 use Rattle.std.proofs.Common.{ap, ◌∙◌}
 use Rattle.e3_cards.specs.declared.card.Card.{Card}
 use Rattle.e3_readings.specs.Awaiting.{first_of}
-use Rattle.e3_cards.proofs.Reading.{is_card}
 use Rattle.e3_cards.proofs.cards.Cards.kept_reason.Goals as goal
 
 pub returns : goal.returns
 returns c = λ a stands.
-    let card = is_card c.args.self.now c.args.t.now c.card_or.result.now a c.card_or.ensures c.known.ensures stands in
+    let card = c.card_of.ensures a stands in
     c.reason_of.ensures ∙ ap (λ (k : Card). first_of k.reasons) card

@@ -1,11 +1,11 @@
 use Rattle.std.proofs.Common.{ap, fold, List}
 use Rattle.e3_world.specs.declared.lives.Performed.{Performed}
 use Rattle.e3_world.specs.Making.{own_write}
-use Rattle.e3_cards.proofs.Reading.{is_card, ok_is, done_now}
+use Rattle.e3_cards.proofs.Reading.{ok_is, done_now}
 use Rattle.e3_cards.proofs.cards.Cards.own_value.Goals as goal
 
 pub returns : goal.returns
 returns c = λ a stands input.
-    let card = is_card c.args.self.now c.args.t.now c.card_or-card.result.now a c.card_or-card.ensures c.known.ensures stands in
-    let done = done_now c.args.self.now.site c.args.t.now a c.args.input.now c.args.made.now c.card_or-card.result.now stands.site_is input card in
+    let card = c.card_of-card.ensures a stands in
+    let done = done_now c.args.self.now.site c.args.t.now a c.args.input.now c.args.made.now c.card_of-card.result.now stands.site_is input card in
     ok_is c.own_with.result _ _ (ap (λ (l : List Performed). fold (own_write c.args.name.now) c.args.row l) done) c.own_with.ensures

@@ -1,8 +1,8 @@
 use Rattle.std.proofs.Common.{◌∙◌}
-use Rattle.e3_cards.proofs.Reading.{is_card, waits_at}
+use Rattle.e3_cards.proofs.Reading.{waits_at}
 use Rattle.e3_cards.proofs.cards.Cards.waits.Goals as goal
 
 pub returns : goal.returns
 returns c = λ a stands.
-    let card = is_card c.args.self.now c.args.t.now c.card_or.result.now a c.card_or.ensures c.known.ensures stands in
-    c.waits_now.ensures ∙ waits_at c.args.t.now a c.args.made.now c.card_or.result.now card
+    let card = c.card_of.ensures a stands in
+    c.waits_now.ensures ∙ waits_at c.args.t.now a c.args.made.now c.card_of.result.now card

@@ -1,16 +1,14 @@
 -- as many as the group has are the whole group
 use Rattle.std.proofs.Common.{◌∙◌, ap, length, sym, subst, map, List, ℕ}
-use Rattle.std.specs.Prelude.{◌==◌}
 use Rattle.e3_types.specs.declared.verdicts.SiteReport.{SiteReport}
 use Rattle.e3_world.specs.Gatherings.{Election}
 use Rattle.e3_elect.specs.Calling.{IsWhole}
-use Rattle.e3_elect.proofs.Members.{mapped_length, whole_test}
+use Rattle.e3_elect.proofs.Members.{mapped_length}
 use Rattle.e3_elect.proofs.election.Election.complete.Goals as goal
 
 pub returns-clause-whole : goal.returns-clause-whole
 returns-clause-whole c =
-    let P : Election → Type 0 = λ e. IsWhole e.group (map (λ (x : SiteReport). x.site) e.reports) (length c.as_slice.result.now == c.count.result) in
+    let P : Election → Type 0 = λ e. IsWhole e.group (map (λ (x : SiteReport). x.site) e.reports) c.is_as_many.result in
     let came : List ℕ = map (λ (x : SiteReport). x.site) c.self.inside.reports.items in
-    subst P c.self.view_is
-    (whole_test c.self.inside.group came (length c.as_slice.result.now) c.count.result (ap (λ (l : List SiteReport). length l) c.as_slice.ensures.value ∙ sym (mapped_length (λ (x : SiteReport). x.site) c.self.inside.reports.items))
-    c.count.ensures.number c.count.ensures.ascending c.self.invariant.3)
+    let many = mapped_length (λ (x : SiteReport). x.site) c.self.inside.reports.items ∙ sym (ap (λ (l : List SiteReport). length l) c.as_slice.ensures.value) in
+    subst P c.self.view_is (c.is_as_many.ensures.whole came many c.self.invariant.3)

@@ -24,6 +24,14 @@ rise-answer-requires-clause-turn g c = λ down.
     (node_there c.args.self.now.workers.items c.args.at c.index_mut.result.now (slice_get_read c.args.self.now.workers.items (length c.args.self.now.workers.items) c.args.at c.index_mut.result.now refl c.requires.within c.index_mut.ensures.value))).site)
     c.requires.turn
 
+pub rise_answer-requires : goal.rise_answer-requires
+rise_answer-requires g c = λ e.
+    let there : slice_get (nodes_of c.args.self.now.workers.items) c.args.at ≡ Some c.index_mut.result.now.node =
+    node_there c.args.self.now.workers.items c.args.at c.index_mut.result.now (slice_get_read c.args.self.now.workers.items (length c.args.self.now.workers.items) c.args.at c.index_mut.result.now refl c.requires.within c.index_mut.ensures.value) in
+    let site : c.index_mut.result.now.node.site ≡ suc c.args.at = (c.requires.standing.seated c.args.at c.index_mut.result.now.node there).site in
+    let down : is_up_at (entries_of c.args.self.now.shared) c.index_mut.result.now.node.site ≡ false = subst (λ (s : ℕ). is_up_at (entries_of c.args.self.now.shared) s ≡ false) (sym site) c.requires.turn.down in
+    true_not_false (sym (c.rise-answer.ensures.up.0 e) ∙ down)
+
 pub returns-clause-went : goal.returns-clause-went
 returns-clause-went g c =
     let there : slice_get (nodes_of c.args.self.now.workers.items) c.args.at ≡ Some c.index_mut.result.now.node =
@@ -34,7 +42,7 @@ returns-clause-went g c =
           worker_on g.D.Disk.meaning c.args.self.now.shared c.rise-answer.new.shared c.args.self.now.workers.items c.args.at _
           (node_on g.D.Disk.meaning c.other_entries_keep_nodes.ensures.nodes (λ d. g.met.D.Disk.counted d)
           c.args.self.now.shared c.rise-answer.new.shared (nodes_of c.args.self.now.workers.items) c.args.at c.index_mut.result.now.node c.rise-answer.new.self there
-          c.requires.standing c.rise-answer.ensures.shared c.rise-answer.ensures.same.0 c.rise-answer.ensures.same.1 c.rise-answer.ensures.site
+          c.requires.standing c.rise-answer.ensures.shared.stands c.rise-answer.ensures.shared.scenario c.rise-answer.ensures.shared.most c.rise-answer.ensures.site
           c.rise-answer.ensures.stands
           (subst (λ (s : ℕ). Went (scenario_of c.args.self.now.shared) (entries_of c.args.self.now.shared) (entries_of c.rise-answer.new.shared) s (g.D.Disk.meaning.meters (disk_of c.index_mut.result.now.node.state)) (g.D.Disk.meaning.meters (disk_of c.rise-answer.new.self.state))) site
           (rise_went (scenario_of c.args.self.now.shared) (entries_of c.args.self.now.shared) (entries_of c.rise-answer.new.shared) c.index_mut.result.now.node.site (g.D.Disk.meaning.meters (disk_of c.index_mut.result.now.node.state)) (g.D.Disk.meaning.meters (disk_of c.rise-answer.new.self.state)) (g.D.Disk.meaning.image (disk_of c.index_mut.result.now.node.state)) c.rise-answer.result
@@ -58,5 +66,5 @@ returns-clause-rose g c =
 
 pub returns-clause-kept : goal.returns-clause-kept
 returns-clause-kept g c = rw c.rise_answer.ensures
-    (rise_kept (entries_of c.args.self.now.shared) (entries_of c.rise-answer.new.shared) c.rise-answer.result (λ e. (c.rise-answer.ensures.kept (inl e)).0)
+    (rise_kept (entries_of c.args.self.now.shared) (entries_of c.rise-answer.new.shared) c.rise-answer.result
     c.rise-answer.ensures.no_memory (λ e. (c.rise-answer.ensures.kept (inr e)).0))

@@ -13,12 +13,12 @@ pub take_all-requires-clause-turns : goal.take_all-requires-clause-turns
 take_all-requires-clause-turns g c =
     let p = c.args.pass.now in
     record {
-      idle = c.requires.idle;
-      owns = subst (λ (x : NodeView _). Owns p x.site) (sym c.self.view_is) c.requires.owns;
-      played = c.requires.played;
-      some = subst (λ (x : NodeView _). 1 ≤ x.site) (sym c.self.view_is) c.requires.standing.some;
-      exists = subst (λ (x : NodeView _). x.site ≤ last_owner (seen_by p)) (sym c.self.view_is) c.requires.standing.exists;
-      restless = c.requires.restless;
+      idle = c.requires.turns.idle;
+      owns = subst (λ (x : NodeView _). Owns p x.site) (sym c.self.view_is) c.requires.turns.owns;
+      played = c.requires.turns.played;
+      some = subst (λ (x : NodeView _). 1 ≤ x.site) (sym c.self.view_is) c.requires.turns.stands.some;
+      exists = subst (λ (x : NodeView _). x.site ≤ last_owner (seen_by p)) (sym c.self.view_is) c.requires.turns.stands.exists;
+      restless = c.requires.turns.restless;
     }
 
 pub returns-clause-stands : goal.returns-clause-stands
@@ -28,8 +28,8 @@ returns-clause-stands g c =
     let sc = scenario_seen p in
     let h = history_seen p in
     let more = history_seen q in
-    node_with g.D.Disk.meaning sc (scenario_seen q) h more c.args.self.now _ c.take_all.new.state c.requires.standing
-    (keys_stay p q c.requires.played c.take_all.ensures.turned.seen).0
+    node_with g.D.Disk.meaning sc (scenario_seen q) h more c.args.self.now _ c.take_all.new.state c.requires.turns.stands
+    (keys_stay p q c.requires.turns.played c.take_all.ensures.turned.seen).0
     (subst (λ (x : NodeView _). IsIn g.D.Disk.meaning sc more x.site c.take_all.new.state) c.self.view_is c.take_all.ensures.stands)
     (ap (λ (x : NodeView _). let n : NodeView _ = record { site = x.site; weights = x.weights; rows = x.rows; state = c.take_all.new.state } in n) c.self.view_is)
 
@@ -40,4 +40,4 @@ returns-clause-ended g c =
     c.self.view_is c.take_all.ensures.ended
 
 pub returns-clause-scenario : goal.returns-clause-scenario
-returns-clause-scenario g c = keys_stay c.args.pass.now c.take_all.new.pass c.requires.played c.take_all.ensures.turned.seen
+returns-clause-scenario g c = keys_stay c.args.pass.now c.take_all.new.pass c.requires.turns.played c.take_all.ensures.turned.seen

@@ -50,6 +50,6 @@ returns-clause-stands g c =
     (cut_in g.D.Disk.meaning sc h site c.self.inside.state state before c.replace_with.ensures.0
     c.replace_with.ensures.1.1.0 c.replace_with.ensures.1.0 (ap (λ (m : Meters). m.capacity) c.replace_with.ensures.1.1.1)) in
     node_with g.D.Disk.meaning sc (scenario_of c.enter.new.shared) h more c.args.self.now _ state c.requires.standing
-    has.scenario
+    has.on.scenario
     (subst (λ (x : NodeView _). IsIn g.D.Disk.meaning sc more x.site state) c.self.view_is behind)
     (ap (λ (x : NodeView _). let n : NodeView _ = record { site = x.site; weights = x.weights; rows = x.rows; state = state } in n) c.self.view_is)

@@ -7,9 +7,12 @@ use Rattle.e3_wire.specs.Marks.{entries_of, last_owner, scenario_of}
 use Rattle.e3_node.proofs.Steps.{input_in, node_with}
 use Rattle.e3_node.proofs.node.Node.input.Goals as goal
 
-pub take_input-requires-clause-exists : goal.take_input-requires-clause-exists
-take_input-requires-clause-exists g c =
-    subst (λ (x : NodeView _). x.site ≤ last_owner c.args.shared.now) (sym c.self.view_is) c.requires.standing.exists
+pub take_input-requires-clause-shared : goal.take_input-requires-clause-shared
+take_input-requires-clause-shared g c = record {
+  stands = c.requires.shared;
+  some = subst (λ (x : NodeView _). 1 ≤ x.site) (sym c.self.view_is) c.requires.standing.some;
+  exists = subst (λ (x : NodeView _). x.site ≤ last_owner c.args.shared.now) (sym c.self.view_is) c.requires.standing.exists;
+}
 
 pub returns-in-Err-clause-fell : goal.returns-in-Err-clause-fell
 returns-in-Err-clause-fell g c = λ why is.
@@ -27,6 +30,6 @@ returns-in-Err-clause-stands g c =
     (λ why is. c.in-Err.ensures.fell why (ap (λ (f : InputFault). Err f) is))
     c.settle.ensures.fell c.settle.ensures.kept in
     node_with g.D.Disk.meaning sc (scenario_of c.take_input.new.shared) h more c.args.self.now _ c.settle.new.state c.requires.standing
-    c.take_input.ensures.same.0
+    c.take_input.ensures.shared.scenario
     (subst (λ (x : NodeView _). IsIn g.D.Disk.meaning sc more x.site c.settle.new.state) c.self.view_is now)
     (ap (λ (x : NodeView _). let n : NodeView _ = record { site = x.site; weights = x.weights; rows = x.rows; state = c.settle.new.state } in n) c.self.view_is)

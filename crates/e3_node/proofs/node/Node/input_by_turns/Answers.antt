@@ -1,7 +1,7 @@
 use Rattle.std.proofs.Common.{◌≡◌, ◌≤◌, ◌++◌, ◌∷◌, [], ap, subst, sym}
 use Rattle.e3_node.specs.NodeStands.{IsIn}
 use Rattle.e3_node.specs.NodeView.{NodeView, disk_of}
-use Rattle.e3_node.specs.Turns.{Meanwhile, history_seen, scenario_seen}
+use Rattle.e3_node.specs.Turns.{HasKeptPromises, Meanwhile, history_seen, scenario_seen}
 use Rattle.e3_site_log.specs.Ends.{Takes, calls_for}
 use Rattle.e3_turn.specs.Passes.{Owns, seen_by}
 use Rattle.e3_wire.specs.Marks.{last_owner}
@@ -15,12 +15,12 @@ pub take_by_turns-requires-clause-turns : goal.take_by_turns-requires-clause-tur
 take_by_turns-requires-clause-turns g c =
     let p = c.args.pass.now in
     record {
-      idle = c.requires.idle;
-      owns = subst (λ (x : NodeView _). Owns p x.site) (sym c.self.view_is) c.requires.owns;
-      played = c.requires.played;
-      some = subst (λ (x : NodeView _). 1 ≤ x.site) (sym c.self.view_is) c.requires.standing.some;
-      exists = subst (λ (x : NodeView _). x.site ≤ last_owner (seen_by p)) (sym c.self.view_is) c.requires.standing.exists;
-      restless = c.requires.restless;
+      idle = c.requires.turns.idle;
+      owns = subst (λ (x : NodeView _). Owns p x.site) (sym c.self.view_is) c.requires.turns.owns;
+      played = c.requires.turns.played;
+      some = subst (λ (x : NodeView _). 1 ≤ x.site) (sym c.self.view_is) c.requires.turns.stands.some;
+      exists = subst (λ (x : NodeView _). x.site ≤ last_owner (seen_by p)) (sym c.self.view_is) c.requires.turns.stands.exists;
+      restless = c.requires.turns.restless;
     }
 
 pub returns-in-Ok-clause-takes : goal.returns-in-Ok-clause-takes
@@ -30,6 +30,14 @@ returns-in-Ok-clause-takes g c =
     subst (λ (x : NodeView _). Takes (calls_for (made_by sc h x.site c.args.input).records) (g.D.Disk.meaning.meters (disk_of x.state)) (g.D.Disk.meaning.meters (disk_of c.take_by_turns.new.state)))
     c.self.view_is c.in-Ok.ensures.takes
 
+pub returns-in-Ok-clause-turned : goal.returns-in-Ok-clause-turned
+returns-in-Ok-clause-turned g c =
+    subst (λ (x : NodeView _). HasKeptPromises c.args.wire.now x.site c.args.pass.now c.take_by_turns.new.pass) c.self.view_is c.take_by_turns.ensures.turned
+
+pub returns-in-Ok-clause-scenario : goal.returns-in-Ok-clause-scenario
+returns-in-Ok-clause-scenario g c =
+    keys_stay c.args.pass.now c.take_by_turns.new.pass c.requires.turns.played c.take_by_turns.ensures.turned.turned.seen
+
 pub returns-in-Ok-clause-stands : goal.returns-in-Ok-clause-stands
 returns-in-Ok-clause-stands g c =
     let p = c.args.pass.now in
@@ -37,8 +45,8 @@ returns-in-Ok-clause-stands g c =
     let sc = scenario_seen p in
     let more = history_seen q in
     let new = c.take_by_turns.new.state in
-    node_with g.D.Disk.meaning sc (scenario_seen q) (history_seen p) more c.args.self.now _ new c.requires.standing
-    (keys_stay p q c.requires.played c.take_by_turns.ensures.turned.turned.seen).0
+    node_with g.D.Disk.meaning sc (scenario_seen q) (history_seen p) more c.args.self.now _ new c.requires.turns.stands
+    (keys_stay p q c.requires.turns.played c.take_by_turns.ensures.turned.turned.seen).0
     (subst (λ (x : NodeView _). IsIn g.D.Disk.meaning sc more x.site new) c.self.view_is c.in-Ok.ensures.ended.stands)
     (ap (λ (x : NodeView _). let n : NodeView _ = record { site = x.site; weights = x.weights; rows = x.rows; state = new } in n) c.self.view_is)
 
@@ -53,6 +61,14 @@ returns-in-Ok-clause-stepped g c =
       subst (λ (x : NodeView _). more ≡ ended.now ++ entry_of sc ended.now x.site c.args.input ∷ []) c.self.view_is ended.entered,
     )
 
+pub returns-in-Err-clause-turned : goal.returns-in-Err-clause-turned
+returns-in-Err-clause-turned g c =
+    subst (λ (x : NodeView _). HasKeptPromises c.args.wire.now x.site c.args.pass.now c.take_by_turns.new.pass) c.self.view_is c.take_by_turns.ensures.turned
+
+pub returns-in-Err-clause-scenario : goal.returns-in-Err-clause-scenario
+returns-in-Err-clause-scenario g c =
+    keys_stay c.args.pass.now c.take_by_turns.new.pass c.requires.turns.played c.take_by_turns.ensures.turned.turned.seen
+
 pub returns-in-Err-clause-stands : goal.returns-in-Err-clause-stands
 returns-in-Err-clause-stands g c =
     let p = c.args.pass.now in
@@ -62,7 +78,7 @@ returns-in-Err-clause-stands g c =
     let more = history_seen q in
     let told = in_told g.D.Disk.meaning sc h more c.self.inside.site c.args.input c.self.inside.state c.take_by_turns.new.state
     c.in-Err.fault c.settle.new.state c.in-Err.ensures.ended c.settle.ensures.fell c.settle.ensures.kept in
-    node_with g.D.Disk.meaning sc (scenario_seen q) h more c.args.self.now _ c.settle.new.state c.requires.standing
-    (keys_stay p q c.requires.played c.take_by_turns.ensures.turned.turned.seen).0
+    node_with g.D.Disk.meaning sc (scenario_seen q) h more c.args.self.now _ c.settle.new.state c.requires.turns.stands
+    (keys_stay p q c.requires.turns.played c.take_by_turns.ensures.turned.turned.seen).0
     (subst (λ (x : NodeView _). IsIn g.D.Disk.meaning sc more x.site c.settle.new.state) c.self.view_is told)
     (ap (λ (x : NodeView _). let n : NodeView _ = record { site = x.site; weights = x.weights; rows = x.rows; state = c.settle.new.state } in n) c.self.view_is)

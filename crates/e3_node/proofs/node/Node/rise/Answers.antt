@@ -5,7 +5,7 @@ use Rattle.e3_node.specs.Rising.{IsAllowed, IsWish, MayRise, RiseMakes, RiseIsEn
 use Rattle.e3_wire.specs.Marks.{entries_of, last_owner, scenario_of}
 use Rattle.e3_world.specs.Items.{is_up_at}
 use Rattle.e3_node.proofs.Keeping.{told_in}
-use Rattle.e3_node.proofs.Risen.{allowed_of, failed_told, may_rise, missed_told, node_risen, rose_told, spared_told}
+use Rattle.e3_node.proofs.Risen.{allowed_of, failed_told, may_rise, missed_told, never_foreign_made, node_risen, rose_told, spared_told}
 use Rattle.e3_node.proofs.node.Node.rise.Goals as goal
 
 pub claim-requires-clause-exists : goal.claim-requires-clause-exists
@@ -35,6 +35,28 @@ enter_rise-requires-clause-allowed g c =
     let allowed : IsAllowed sc h node.site r = allowed_of g.D.Disk.meaning sc h node.site (disk_of node.state) state r (c.requires.turn down) made in
     (v, c.in_ok-claim.ensures.claimed, subst (λ (x : NodeView _). IsAllowed sc h x.site r) (sym c.self.view_is) allowed)
 
+pub told-requires : goal.told-requires
+told-requires g c =
+    let v = c.args.shared.now in
+    let sc = scenario_of v in
+    let h = entries_of v in
+    let node = c.args.self.now in
+    let wish = c.in_ok-wish.wish in
+    let r = c.replace_with-raised.result in
+    let state = c.replace_with-raised.new.dest in
+    let down : is_up_at h node.site ≡ false = sym (c.if-is_up.ensures.stands sc h c.requires.standing) in
+    let is : IsWish node.site node.weights node.rows wish = subst (λ (x : NodeView _). IsWish x.site x.weights x.rows wish) c.self.view_is c.in_ok-wish.ensures in
+    let may : MayRise sc h wish = may_rise g.D.Disk.meaning v node wish c.requires.shared c.requires.standing (c.requires.turn down) is in
+    let stands = told_in g.D.Disk.meaning sc h node.site node.state c.requires.standing.state in
+    let here : IsFallen g.D.Disk.meaning sc h wish.site node.state = subst (λ (n : ℕ). IsFallen g.D.Disk.meaning sc h n node.state) (sym is.site_is) stands in
+    let inside : IsFallen g.D.Disk.meaning sc h wish.site c.self.inside.state =
+    subst (λ (x : NodeView _). IsFallen g.D.Disk.meaning sc h wish.site x.state) (sym c.self.view_is) here in
+    let made : RiseMakes g.D.Disk.meaning sc h node.site (disk_of node.state) state r =
+    subst (λ (n : ℕ). RiseMakes g.D.Disk.meaning sc h n (disk_of node.state) state r) is.site_is
+    (subst (λ (x : NodeView _). RiseMakes g.D.Disk.meaning sc h wish.site (disk_of x.state) state r) c.self.view_is
+    (c.replace_with-raised.ensures.0 sc h may inside)) in
+    record { own = never_foreign_made g.D.Disk.meaning sc h node.site (disk_of node.state) state r made }
+
 pub returns-clause-stands : goal.returns-clause-stands
 returns-clause-stands g c =
     let v = c.args.shared.now in
@@ -58,7 +80,7 @@ returns-clause-stands g c =
     let has : RiseIsEntered c.self.inside.site r v c.enter_rise.new.shared = c.enter_rise.ensures.entered v c.in_ok-claim.ensures.claimed in
     let entered : entries_of c.enter_rise.new.shared ≡ h ++ entered_by node.site r = has.entries ∙ ap (λ (x : NodeView _). h ++ entered_by x.site r) c.self.view_is in
     node_risen g.D.Disk.meaning sc (scenario_of c.enter_rise.new.shared) h (entries_of c.enter_rise.new.shared) node _ state r
-    c.requires.standing down made has.scenario entered
+    c.requires.standing down made has.on.scenario entered
     (ap (λ (x : NodeView _). let n : NodeView _ = record { site = x.site; weights = x.weights; rows = x.rows; state = state } in n) c.self.view_is)
 
 pub returns-clause-rose : goal.returns-clause-rose

@@ -1,4 +1,0 @@
-use Rattle.e3_gate_sites.proofs.sites.bodies.planned.Given as goal
-
-abbrev pub ghost-plan : goal.ghost-plan
-ghost-plan g a = g.now

@@ -1,9 +1,0 @@
-use Rattle.std.proofs.Common.{◌≡◌, ◌||◌, not, length, nat_le}
-use Rattle.std.specs.List.{list_all}
-use Rattle.e3_world.specs.Items.{inputs_at, is_up_at, turn_of}
-use Rattle.e3_world.specs.Packets.{sites_to}
-use Rattle.e3_judge.proofs.items.items_through.Given as goal
-
-abbrev pub invariant-loop-s : goal.invariant-loop-s
-invariant-loop-s l = l.through
-    ≡ list_all (λ s. not (is_up_at l.history s) || nat_le (length (inputs_at l.sc l.history s)) (turn_of l.history s)) (sites_to l.s)

@@ -1,7 +1,0 @@
-use Rattle.std.proofs.Common.{◌≡◌, take}
-use Rattle.std.specs.List.{flat_map}
-use Rattle.e3_world.specs.Items.{open_at}
-use Rattle.e3_judge.proofs.rounds.open_of.Given as goal
-
-abbrev pub invariant-loop-site : goal.invariant-loop-site
-invariant-loop-site l = l.txns ≡ flat_map (open_at l.sc l.history) (take l.site-index l.sites)

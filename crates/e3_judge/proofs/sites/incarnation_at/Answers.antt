@@ -1,7 +1,0 @@
-use Rattle.std.proofs.Common.{ap, ◌∙◌}
-use Rattle.e3_judge.specs.declared.sites.Standing.{Standing}
-use Rattle.e3_judge.proofs.Standings.{incarnation_stands}
-use Rattle.e3_judge.proofs.sites.incarnation_at.Goals as goal
-
-pub returns : goal.returns
-returns c = ap (λ (s : Standing). s.incarnation) c.in_ok-standing.ensures ∙ incarnation_stands c.args.sc.now c.args.history.now c.args.site
