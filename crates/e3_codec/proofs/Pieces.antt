@@ -6,11 +6,9 @@ use Rattle.e3_types.specs.Spelling.{u8}
 pub one_byte : (n : ℕ) → n < 256 → u8 n ≡ n ∷ []
 one_byte n few = let same : n / 1 % 256 ≡ n = omega (arith, few) in (λ i. same i ∷ [])
 
--- three pieces, one behind the other
-pub appended_3 : (out a b c p q r : List ℕ) → p ≡ out ++ a → q ≡ p ++ b → r ≡ q ++ c → r ≡ out ++ (a ++ (b ++ c))
-appended_3 out a b c p q r ep eq er =
-    let all : r ≡ ((out ++ a) ++ b) ++ c = er ∙ ap (λ (l : List ℕ). l ++ c) (eq ∙ ap (λ (l : List ℕ). l ++ b) ep) in
-    all ∙ simp append_assoc
+-- two pieces, one behind the other
+pub appended_2 : (out a b p q : List ℕ) → p ≡ out ++ a → q ≡ p ++ b → q ≡ out ++ (a ++ b)
+appended_2 out a b p q ep eq = let all : q ≡ (out ++ a) ++ b = eq ∙ ap (λ (l : List ℕ). l ++ b) ep in all ∙ simp append_assoc
 
 -- four pieces, one behind the other
 pub appended_4 : (out a b c d p q r s : List ℕ) → p ≡ out ++ a → q ≡ p ++ b → r ≡ q ++ c → s ≡ r ++ d → s ≡ out ++ (a ++ (b ++ (c ++ d)))
@@ -23,3 +21,12 @@ pub appended_5 : (out a b c d e p q r s t : List ℕ) → p ≡ out ++ a → q �
     t ≡ out ++ (a ++ (b ++ (c ++ (d ++ e))))
 appended_5 out a b c d e p q r s t ep eq er es et =
     et ∙ ap (λ (l : List ℕ). l ++ e) (appended_4 out a b c d p q r s ep eq er es) ∙ simp append_assoc
+
+-- a third piece behind two that were written as one
+pub behind_head : (out a b c p q : List ℕ) → p ≡ out ++ (a ++ b) → q ≡ p ++ c → q ≡ out ++ (a ++ (b ++ c))
+behind_head out a b c p q ep eq = let all : q ≡ (out ++ (a ++ b)) ++ c = eq ∙ ap (λ (l : List ℕ). l ++ c) ep in all ∙ simp append_assoc
+
+-- and a fourth
+pub behind_two : (out a b c d p q r : List ℕ) → p ≡ out ++ (a ++ b) → q ≡ p ++ c → r ≡ q ++ d → r ≡ out ++ (a ++ (b ++ (c ++ d)))
+behind_two out a b c d p q r ep eq er =
+    let all : r ≡ ((out ++ (a ++ b)) ++ c) ++ d = er ∙ ap (λ (l : List ℕ). l ++ d) (eq ∙ ap (λ (l : List ℕ). l ++ c) ep) in all ∙ simp append_assoc

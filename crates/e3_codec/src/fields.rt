@@ -194,28 +194,37 @@ pub fn put_dir(out: &mut List<u8>, dir: Dir) -> Result<(), NoMemory>
     }
 }
 
-/// Writes a name. Its length fits into the byte, since a name has at most 32.
+// The length of a name, which fits into a byte, since a name has at most 32: its type says so of a name, and not of what is
+// behind a reference.
+fn name_len(name: &Name) -> u8
+    ensures { result ≡ length name.now }
+{
+    let name = name.copy();
+    name.bytes().len() as u8
+}
+
+// The length of a value, which fits into two bytes, since a value has at most 256.
+fn val_len(val: &Val) -> u16
+    ensures { result ≡ length val.now }
+{
+    let val = val.copy();
+    val.bytes().len() as u16
+}
+
+/// Writes a name.
 pub fn put_name(out: &mut List<u8>, name: &Name) -> Result<(), NoMemory>
     ensures { OnOk result (out.new ≡ out.old ++ spell_name name.now) }
 {
-    let bytes = name.bytes();
-    let Ok(len) = u8::try_from(bytes.len()) else {
-        return Err(NoMemory);
-    };
-    put_u8(out, len)?;
-    out.extend(bytes)?;
+    put_u8(out, name_len(name))?;
+    out.extend(name.bytes())?;
     Ok(())
 }
 
-/// Writes a value. Its length fits into the two bytes, since a value has at most 256.
+/// Writes a value.
 pub fn put_val(out: &mut List<u8>, val: &Val) -> Result<(), NoMemory>
     ensures { OnOk result (out.new ≡ out.old ++ spell_val val.now) }
 {
-    let bytes = val.bytes();
-    let Ok(len) = u16::try_from(bytes.len()) else {
-        return Err(NoMemory);
-    };
-    put_u16(out, len)?;
-    out.extend(bytes)?;
+    put_u16(out, val_len(val))?;
+    out.extend(val.bytes())?;
     Ok(())
 }

@@ -1,13 +1,13 @@
 // From records to bytes.
 ghost use Rattle.std.specs.Prelude.{◌≡◌, ◌++◌, IfOk, OnOk};
 ghost use Rattle.std.specs.List.{AllByRecursion};
-ghost use Rattle.e3_types.specs.Spelling.{spell_record, spelling};
+ghost use Rattle.e3_types.specs.Spelling.{spell_record, spell_txn, spelling, u8};
 ghost use Rattle.e3_types.specs.declared.records.Record.TheVariants as log;
 ghost use Rattle.e3_codec.specs.Fields.{HasSpelling};
 
 use crate::fields::{put_dir, put_txn, put_u8, put_u32};
 use crate::listed::put_list;
-use e3_types::{Dir, List, NoMemory, NumOp, Record, Row, Txn};
+use e3_types::{List, NoMemory, NumOp, Record, Row, Txn};
 use std::alloc::Global;
 
 fn put_birth(
@@ -28,41 +28,21 @@ fn put_birth(
     Ok(())
 }
 
+// The tag of a record of a transaction, and the transaction.
+fn put_head(out: &mut List<u8>, tag: u8, txn: &Txn) -> Result<(), NoMemory>
+    ensures { OnOk result (out.new ≡ out.old ++ (u8 tag ++ spell_txn txn.now)) }
+{
+    put_u8(out, tag)?;
+    put_txn(out, txn)?;
+    Ok(())
+}
+
 fn put_vote(out: &mut List<u8>, txn: &Txn, ops: &[NumOp]) -> Result<(), NoMemory>
     ensures bytes { OnOk result (out.new ≡ out.old ++ spell_record (log.Vote txn.now ops.now)) }
     ensures few { OnOk result (HasSpelling (log.Vote txn.now ops.now)) }
 {
-    put_u8(out, 3)?;
-    put_txn(out, txn)?;
+    put_head(out, 3, txn)?;
     put_list(out, ops)?;
-    Ok(())
-}
-
-fn put_join(out: &mut List<u8>, txn: &Txn, n: u32) -> Result<(), NoMemory>
-    ensures { OnOk result (out.new ≡ out.old ++ spell_record (log.Join txn.now n)) }
-{
-    put_u8(out, 4)?;
-    put_txn(out, txn)?;
-    put_u32(out, n)?;
-    Ok(())
-}
-
-fn put_attempt(out: &mut List<u8>, txn: &Txn, n: u32, dir: Dir) -> Result<(), NoMemory>
-    ensures { OnOk result (out.new ≡ out.old ++ spell_record (log.Attempt txn.now n dir)) }
-{
-    put_u8(out, 5)?;
-    put_txn(out, txn)?;
-    put_u32(out, n)?;
-    put_dir(out, dir)?;
-    Ok(())
-}
-
-fn put_decision(out: &mut List<u8>, txn: &Txn, dir: Dir) -> Result<(), NoMemory>
-    ensures { OnOk result (out.new ≡ out.old ++ spell_record (log.Decision txn.now dir)) }
-{
-    put_u8(out, 6)?;
-    put_txn(out, txn)?;
-    put_dir(out, dir)?;
     Ok(())
 }
 
@@ -83,9 +63,22 @@ fn put_record(out: &mut List<u8>, r: &Record) -> Result<(), NoMemory>
             Ok(())
         }
         Record::Vote { txn, ops } => put_vote(out, txn, ops.as_slice()),
-        Record::Join { txn, n } => put_join(out, txn, *n),
-        Record::Attempt { txn, n, dir } => put_attempt(out, txn, *n, *dir),
-        Record::Decision { txn, dir } => put_decision(out, txn, *dir),
+        Record::Join { txn, n } => {
+            put_head(out, 4, txn)?;
+            put_u32(out, *n)?;
+            Ok(())
+        }
+        Record::Attempt { txn, n, dir } => {
+            put_head(out, 5, txn)?;
+            put_u32(out, *n)?;
+            put_dir(out, *dir)?;
+            Ok(())
+        }
+        Record::Decision { txn, dir } => {
+            put_head(out, 6, txn)?;
+            put_dir(out, *dir)?;
+            Ok(())
+        }
     }
 }
 

@@ -7,7 +7,7 @@ use Rattle.e3_disk.specs.Meters.{Keeps, Meters}
 use Rattle.e3_crew.specs.Turns.{AtStart, BehindFallOver, BehindOthers, BehindSteps, WentOn}
 use Rattle.e3_crew.specs.Workers.{HasWorked, KnowsWith}
 use Rattle.e3_crew.proofs.Growing.{alike_meanwhile, lines_meanwhile, meanwhile_all, meanwhile_none, meanwhile_on, meanwhile_own, restless_on}
-use Rattle.e3_node.specs.Batches.{BatchEnded, EndedShort, HasFallenOverAll, HasSteppedAll, fall_over, stepped}
+use Rattle.e3_node.specs.Batches.{BatchEnded, EndedShort, HasFallenOverAll, HasSteppedAll, OneFrameTakes, fall_over, stepped}
 use Rattle.e3_node.specs.Claims.{MovesStay}
 use Rattle.e3_site_log.specs.Ends.{IsReason, Takes, calls_for}
 use Rattle.e3_node.specs.NodeStands.{NodeStands}
@@ -15,6 +15,8 @@ use Rattle.e3_node.specs.NodeView.{NodeView, disk_of}
 use Rattle.e3_node.specs.Turns.{Meanwhile}
 use Rattle.e3_node.specs.declared.fault.InputFault.{InputFault}
 use Rattle.e3_node.specs.declared.fault.InputFault.TheVariants as input_fault
+use Rattle.e3_node.specs.declared.state.State.{State}
+use Rattle.e3_node.specs.declared.state.State.TheVariants.{Down, Up}
 use Rattle.e3_node.proofs.Batches.{records_same}
 use Rattle.e3_types.specs.declared.entries.Entry.{Entry}
 use Rattle.e3_types.specs.declared.entries.Input.{Input}
@@ -42,14 +44,21 @@ steps_more sc h site (i ∷ inputs) some =
 front_legal : (sc : Scenario) (h all : List Entry) → Meanwhile 0 h all → IsLegal sc all → IsLegal sc h
 front_legal sc h all m legal = legal_front sc h m.others (subst (IsLegal sc) m.is legal)
 
-few_taken : (n : ℕ) (inputs : List Input) → length inputs ≤ 8 → n < length inputs → length (take n inputs) ≤ 8
-few_taken n inputs few less =
-    let same : length (take n inputs) ≡ n = length-take-le n inputs (omega (arith, less)) in
-    omega (arith, same, few, less)
+few_taken : (n : ℕ) (inputs : List Input) → length inputs ≤ 8 → n ≤ length inputs → length (take n inputs) ≤ 8
+few_taken n inputs few within =
+    let same : length (take n inputs) ≡ n = length-take-le n inputs within in
+    omega (arith, same, few, within)
+
+-- one frame takes no more than all inputs
+taken_within : {D : Type 0} (meters : D → Meters) (old : State D) (sc : Scenario) (h : List Entry) (site : ℕ) (inputs : List Input) (n : ℕ) →
+    OneFrameTakes meters old sc h site inputs n → n ≤ length inputs
+taken_within meters (Down disk logged) sc h site inputs n takes = absurd takes
+taken_within meters (Up s log rose logged) sc h site inputs n (inl all) = omega (arith, all)
+taken_within meters (Up s log rose logged) sc h site inputs n (inr (some, less, none)) = omega (arith, less)
 
 -- the clauses of the call
 pub record AnsweredAll {D : Type 0} (meaning : Meaning D)
-    (before marks : List Mark) (old new : NodeView D) (inputs : List Input) (answer : Result (Unit {0}) InputFault) : Type 0 where
+    (before marks : List Mark) (old new : NodeView D) (inputs : List Input) (answer : Result ℕ InputFault) : Type 0 where
   pub played : IsPlayed marks
   pub scenario : scenario_of marks ≡ scenario_of before
   pub most : most_of marks ≡ most_of before
@@ -128,18 +137,21 @@ module _ {D : Type 0} (meaning : Meaning D) (law : MovesStay)
 
   short_went : IsPlayed before → IsLegal sc (entries_of marks) → 1 ≤ old.site → is_up_at was old.site ≡ true → Keeps first last → length inputs ≤ 8 →
       EndedShort meaning.meters sc was (entries_of marks) old.site inputs old.state new.state → Grown
-  short_went played legal some up keeps few (n, less, inl s) = stepped_went played legal some up keeps (take n inputs) (few_taken n inputs few less) s
+  short_went played legal some up keeps few (n, less, inl s) = stepped_went played legal some up keeps (take n inputs) (few_taken n inputs few (omega (arith, less))) s
   short_went played legal some up keeps few (n, less, inr (why, f)) = fallen_went played legal some up keeps (take n inputs) why f
 
-  grown : (answer : Result (Unit {0}) InputFault) → KnowsWith meaning promise before old → is_up_at was old.site ≡ true → length inputs ≤ 8 →
+  grown : (answer : Result ℕ InputFault) → KnowsWith meaning promise before old → is_up_at was old.site ≡ true → length inputs ≤ 8 →
       AnsweredAll meaning before marks old new inputs answer → IsLegal sc (entries_of marks) → Grown
-  grown (Ok done) knows up few a legal = stepped_went knows.played legal knows.stands.some up a.keeps inputs few a.ended
+  grown (Ok n) knows up few a legal =
+      let within : n ≤ length inputs = taken_within meaning.meters old.state sc was old.site inputs n a.ended.0 in
+      stepped_went knows.played legal knows.stands.some up a.keeps (take n inputs) (few_taken n inputs few within) a.ended.1
   grown (Err input_fault.Down) knows up few a legal = absurd (let down : is_up_at was old.site ≡ false = a.down.0 refl in let both : true ≡ false = sym up ∙ down in cc)
-  grown (Err (input_fault.Fell why)) knows up few a legal = fallen_went knows.played legal knows.stands.some up a.keeps inputs why a.ended
+  grown (Err (input_fault.Fell why)) knows up few a legal =
+      fallen_went knows.played legal knows.stands.some up a.keeps (take a.ended.0 inputs) why a.ended.2
   grown (Err input_fault.HistoryFull) knows up few a legal = absurd a.ended
   grown (Err input_fault.NoMemory) knows up few a legal = short_went knows.played legal knows.stands.some up a.keeps few a.ended
 
-  pub batch_worked : (answer : Result (Unit {0}) InputFault) → KnowsWith meaning promise before old → is_up_at (entries_of before) old.site ≡ true → length inputs ≤ 8 →
+  pub batch_worked : (answer : Result ℕ InputFault) → KnowsWith meaning promise before old → is_up_at (entries_of before) old.site ≡ true → length inputs ≤ 8 →
       AnsweredAll meaning before marks old new inputs answer → HasWorked meaning before old marks new
   batch_worked answer knows up few a = record {
     knows = record {

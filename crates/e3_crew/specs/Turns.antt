@@ -65,8 +65,8 @@ pub data WentOn (sc : Scenario) (site : ℕ) (start : List Entry) (first : Meter
       IsFallOver sc before site inputs why now m n → WentOn sc site start first now n
 
 -- what an input is to a worker: its site may fall over it, or be down and pass it over, and the worker goes on
-abbrev pub given : Result (Unit {0}) InputFault → Result (Unit {0}) RunFault
-given (Ok done) = Ok done
+abbrev pub given : {A : Type 0} → Result A InputFault → Result (Unit {0}) RunFault
+given (Ok done) = Ok tt
 given (Err input_fault.HistoryFull) = Err run_fault.HistoryFull
 given (Err input_fault.NoMemory) = Err run_fault.NoMemory
 given (Err fault) = Ok tt

@@ -8,12 +8,12 @@ use e3_node::InputFault;
 use e3_play::RunFault;
 use e3_wire::WireFault;
 
-/// What an input is to a worker.
-pub(crate) fn given(answer: Result<(), InputFault>) -> Result<(), RunFault>
+/// What an input, or a batch, is to a worker: of a batch that ended before its last packet the rest are pending as before.
+pub(crate) fn given<T: Drop>(answer: Result<T, InputFault>) -> Result<(), RunFault>
     ensures { result ≡ given answer }
 {
     match answer {
-        Ok(()) => Ok(()),
+        Ok(_) => Ok(()),
         Err(fault) => match fault {
             InputFault::HistoryFull => Err(RunFault::HistoryFull),
             InputFault::NoMemory => Err(RunFault::NoMemory),

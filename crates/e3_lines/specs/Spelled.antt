@@ -1,7 +1,13 @@
--- What texts spell: names, values, and numbers in digits.
-use Rattle.std.specs.Prelude.{ℕ, ◌+◌, ◌-◌, ◌*◌, Bool, ◌&&◌, nat_le, List, [], ◌∷◌, length, Option, Some, None, if◌then◌else◌}
+-- What texts spell: words, names, values, and numbers in digits.
+use Rattle.std.specs.Prelude.{ℕ, ◌+◌, ◌-◌, ◌*◌, Bool, ◌&&◌, nat_le, List, [], ◌∷◌, bytes_eq, length, Option, Some, None, if◌then◌else◌}
+use Rattle.std.specs.Borrow.{Bor}
 use Rattle.std.specs.List.{list_all}
 use Rattle.e3_types.specs.Text.{is_letter}
+
+-- what a text stands for that is one of these words
+abbrev pub one_of : {A : Type 0} → List ℕ → List (Bor (List ℕ) × A) → Option A
+one_of text [] = None
+one_of text (word ∷ words) = if bytes_eq text word.0.now then Some word.1 else one_of text words
 
 -- a name: 1 to 32 bytes of a to z, 0 to 9 and _
 abbrev pub name_of : List ℕ → Option (List ℕ)

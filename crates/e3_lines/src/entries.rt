@@ -1,10 +1,12 @@
 // The lines of an entry of a history, as a trace has them.
 ghost use Rattle.std.specs.Prelude.{◌≡◌, ◌++◌, OnOk};
 ghost use Rattle.std.specs.List.{flat_map};
-ghost use Rattle.e3_lines.specs.Entries.{fall_form, rise_form, failed_rise_form, form_text, input_line, marked_record, packet_line, told_mark_line, lines_behind, entry_trace, trace_of};
+ghost use Rattle.e3_lines.specs.Entries.{fall_form, rise_form, failed_rise_form, form_text, marked_record, packet_line, lines_behind, entry_trace, trace_of};
+ghost use Rattle.e3_lines.specs.Events.{told_text};
+ghost use Rattle.e3_lines.specs.Inputs.{input_text};
 
 use crate::inputs::push_input;
-use crate::listed::{Lines, push_each};
+use crate::listed::{Lines, Marked, push_each, push_marked_lines};
 use crate::messages::push_message;
 use crate::{
     push_kept, push_labelled, push_line_end, push_number, push_parts, push_records, push_text,
@@ -62,14 +64,11 @@ fn push_form(out: &mut List<u8>, act: &Act) -> Result<(), NoMemory>
     }
 }
 
-impl Lines for Input {
-    ghost lines = { input_line };
+impl Marked for Input {
+    ghost words = { input_text };
 
-    #[tactic(auto, unfolding(crate::specs::Entries::input_line))]
-    fn push(&self, out: &mut List<u8>) -> Result<(), NoMemory> {
-        push_text(out, "i ")?;
-        push_input(out, self)?;
-        push_line_end(out)
+    fn push_words(&self, out: &mut List<u8>) -> Result<(), NoMemory> {
+        push_input(out, self)
     }
 }
 
@@ -92,18 +91,15 @@ impl Lines for Packet {
     }
 }
 
-impl Lines for Told {
-    ghost lines = { told_mark_line };
+impl Marked for Told {
+    ghost words = { told_text };
 
-    #[tactic(auto, unfolding(crate::specs::Entries::told_mark_line))]
-    fn push(&self, out: &mut List<u8>) -> Result<(), NoMemory> {
-        push_text(out, "t ")?;
-        push_told_text(out, self)?;
-        push_line_end(out)
+    fn push_words(&self, out: &mut List<u8>) -> Result<(), NoMemory> {
+        push_told_text(out, self)
     }
 }
 
-#[tactic(auto, unfolding(crate::specs::Entries::lines_behind))]
+#[tactic(auto, unfolding(crate::specs::Entries::lines_behind, crate::specs::Entries::input_line, crate::specs::Entries::told_mark_line))]
 fn push_behind(out: &mut List<u8>, act: &Act) -> Result<(), NoMemory>
     ensures { OnOk result (out.new ≡ out.old ++ lines_behind act.now) }
 {
@@ -116,14 +112,14 @@ fn push_behind(out: &mut List<u8>, act: &Act) -> Result<(), NoMemory>
         } => {
             push_marked(out, records.as_slice())?;
             push_each(out, outs.as_slice())?;
-            push_each(out, told.as_slice())
+            push_marked_lines(out, "t ", told.as_slice())
         }
         Act::Fall {
             inputs,
             records,
             ..
         } => {
-            push_each(out, inputs.as_slice())?;
+            push_marked_lines(out, "i ", inputs.as_slice())?;
             push_marked(out, records.as_slice())
         }
         _ => Ok(()),

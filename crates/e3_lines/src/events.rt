@@ -65,7 +65,7 @@ fn push_refusal(out: &mut List<u8>, refusal: Refusal) -> Result<(), NoMemory>
 }
 
 // Adds a word, and how much there is of how much behind it.
-fn push_of(out: &mut List<u8>, word: &str, part: u64, whole: u64) -> Result<(), NoMemory>
+fn push_part_of_whole(out: &mut List<u8>, word: &str, part: u64, whole: u64) -> Result<(), NoMemory>
     ensures { OnOk result (out.new ≡ out.old ++ (word.now ++ decimal part ++ codes " of " ++ decimal whole)) }
 {
     push_labelled(out, word, part)?;
@@ -81,7 +81,7 @@ fn push_verdict(out: &mut List<u8>, verdict: Verdict) -> Result<(), NoMemory>
         Verdict::Commit => push_text(out, "commit"),
         Verdict::PreCommit => push_text(out, "pre-commit"),
         Verdict::PreAbort => push_text(out, "pre-abort"),
-        Verdict::Block { have, total } => push_of(out, "block ", have, total),
+        Verdict::Block { have, total } => push_part_of_whole(out, "block ", have, total),
     }
 }
 
@@ -190,7 +190,7 @@ pub fn push_why(out: &mut List<u8>, why: Why) -> Result<(), NoMemory>
 {
     match why {
         Why::Fault => push_text(out, "fault"),
-        Why::Full { need, room } => push_of(out, "full ", need, room),
+        Why::Full { need, room } => push_part_of_whole(out, "full ", need, room),
     }
 }
 

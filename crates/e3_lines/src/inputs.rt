@@ -1,10 +1,10 @@
 // The inputs of sites, as a trace has them.
 ghost use Rattle.std.specs.Prelude.{◌≡◌, ◌++◌, OnOk};
-ghost use Rattle.e3_lines.specs.Inputs.{operation_text, do_input, elect_input, input_text};
+ghost use Rattle.e3_lines.specs.Inputs.{operation_text, input_text};
 
 use crate::texts::push_word_and_txn;
 use crate::{push_key, push_labelled, push_sites, push_text};
-use e3_types::{Input, List, NoMemory, Op, SiteSet, Txn};
+use e3_types::{Input, List, NoMemory, Op};
 
 /// Adds an operation.
 #[tactic(auto, unfolding(crate::specs::Inputs::operation_text))]
@@ -25,26 +25,8 @@ pub(crate) fn push_operation(out: &mut List<u8>, op: &Op) -> Result<(), NoMemory
     }
 }
 
-#[tactic(auto, unfolding(crate::specs::Inputs::do_input))]
-fn push_do(out: &mut List<u8>, txn: &Txn, op: &Op) -> Result<(), NoMemory>
-    ensures { OnOk result (out.new ≡ out.old ++ do_input txn.now op.now) }
-{
-    push_word_and_txn(out, "do ", txn)?;
-    push_text(out, " ")?;
-    push_operation(out, op)
-}
-
-#[tactic(auto, unfolding(crate::specs::Inputs::elect_input))]
-fn push_elect(out: &mut List<u8>, txn: &Txn, sites: SiteSet) -> Result<(), NoMemory>
-    ensures { OnOk result (out.new ≡ out.old ++ elect_input txn.now sites) }
-{
-    push_word_and_txn(out, "elect ", txn)?;
-    push_text(out, " ")?;
-    push_sites(out, sites)
-}
-
 /// Adds an input.
-#[tactic(auto, unfolding(crate::specs::Inputs::input_text, crate::specs::Inputs::begin_input))]
+#[tactic(auto, unfolding(crate::specs::Inputs::input_text, crate::specs::Inputs::begin_input, crate::specs::Inputs::do_input, crate::specs::Inputs::elect_input))]
 pub(crate) fn push_input(out: &mut List<u8>, input: &Input) -> Result<(), NoMemory>
     ensures { OnOk result (out.new ≡ out.old ++ input_text input.now) }
 {
@@ -53,11 +35,19 @@ pub(crate) fn push_input(out: &mut List<u8>, input: &Input) -> Result<(), NoMemo
             push_text(out, "begin ")?;
             push_sites(out, *sites)
         }
-        Input::Do { txn, op } => push_do(out, txn, op),
+        Input::Do { txn, op } => {
+            push_word_and_txn(out, "do ", txn)?;
+            push_text(out, " ")?;
+            push_operation(out, op)
+        }
         Input::Commit { txn } => push_word_and_txn(out, "commit ", txn),
         Input::Cancel { txn } => push_word_and_txn(out, "cancel ", txn),
         Input::Expire { txn } => push_word_and_txn(out, "expire ", txn),
-        Input::Elect { txn, group } => push_elect(out, txn, *group),
+        Input::Elect { txn, group } => {
+            push_word_and_txn(out, "elect ", txn)?;
+            push_text(out, " ")?;
+            push_sites(out, *group)
+        }
         Input::Deliver { packet } => push_labelled(out, "deliver ", packet.number),
     }
 }

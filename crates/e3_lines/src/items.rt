@@ -5,10 +5,8 @@ ghost use Rattle.std.specs.List.{flat_map};
 ghost use Rattle.e3_lines.specs.Texts.{key_text};
 ghost use Rattle.e3_lines.specs.Items.{begin_text, write_text, elect_text, stop_text, item_text, item_line};
 
-use crate::listed::{Lines, push_each};
-use crate::texts::{
-    push_key, push_labelled, push_leave, push_line_end, push_parts, push_sites, push_text,
-};
+use crate::listed::{Marked, push_marked_lines};
+use crate::texts::{push_key, push_labelled, push_leave, push_parts, push_sites, push_text};
 use e3_types::{Item, Key, Leave, List, NoMemory, SiteSet};
 
 fn push_word_and_name(out: &mut List<u8>, word: &str, name: &[u8]) -> Result<(), NoMemory>
@@ -106,20 +104,18 @@ pub fn push_item(out: &mut List<u8>, item: &Item) -> Result<(), NoMemory>
     }
 }
 
-impl Lines for Item {
-    ghost lines = { item_line };
+impl Marked for Item {
+    ghost words = { item_text };
 
-    #[tactic(auto, unfolding(crate::specs::Items::item_line))]
-    fn push(&self, out: &mut List<u8>) -> Result<(), NoMemory> {
-        push_text(out, "> ")?;
-        push_item(out, self)?;
-        push_line_end(out)
+    fn push_words(&self, out: &mut List<u8>) -> Result<(), NoMemory> {
+        push_item(out, self)
     }
 }
 
 /// Adds a line for each item.
+#[tactic(auto, unfolding(crate::specs::Items::item_line))]
 pub fn push_items(out: &mut List<u8>, items: &[Item]) -> Result<(), NoMemory>
     ensures { OnOk result (out.new ≡ out.old ++ flat_map item_line items.now) }
 {
-    push_each(out, items)
+    push_marked_lines(out, "> ", items)
 }

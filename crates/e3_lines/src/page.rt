@@ -25,8 +25,8 @@ pub struct Page {
     is_whole: bool,
 }
 
-// Remembers whether memory was lacking for what was added.
-fn note(is_whole: &mut bool, added: Result<(), NoMemory>)
+// Remembers it where memory was lacking for what was added.
+fn remember_lack(is_whole: &mut bool, added: Result<(), NoMemory>)
     ensures { is_whole.new ≡ true → (is_whole.old ≡ true) × IsOk added }
 {
     if added.is_err() {
@@ -79,7 +79,7 @@ impl Page {
     pub fn bytes(&mut self, bytes: &[u8])
         ensures { Adds self.old self.new bytes.now }
     {
-        note(&mut self.is_whole, self.text.extend(bytes));
+        remember_lack(&mut self.is_whole, self.text.extend(bytes));
     }
 
     /// Adds a text.
@@ -104,7 +104,7 @@ impl Page {
     pub fn labelled(&mut self, label: &str, number: u64)
         ensures { Adds self.old self.new (label.now ++ decimal number) }
     {
-        note(
+        remember_lack(
             &mut self.is_whole,
             push_labelled(&mut self.text, label, number),
         );
@@ -114,28 +114,28 @@ impl Page {
     pub fn txn(&mut self, txn: &Txn)
         ensures { Adds self.old self.new (txn_text txn.now) }
     {
-        note(&mut self.is_whole, push_txn(&mut self.text, txn));
+        remember_lack(&mut self.is_whole, push_txn(&mut self.text, txn));
     }
 
     /// Adds the answer to an operation.
     pub fn answer(&mut self, answer: &Answer)
         ensures { Adds self.old self.new (answer_text answer.now) }
     {
-        note(&mut self.is_whole, push_answer(&mut self.text, answer));
+        remember_lack(&mut self.is_whole, push_answer(&mut self.text, answer));
     }
 
     /// Adds a transaction, and what is told of it.
     pub fn told(&mut self, told: &Told)
         ensures { Adds self.old self.new (told_text told.now) }
     {
-        note(&mut self.is_whole, push_told_text(&mut self.text, told));
+        remember_lack(&mut self.is_whole, push_told_text(&mut self.text, told));
     }
 
     /// Adds the lines of records.
     pub fn records(&mut self, records: &[Record])
         ensures { Adds self.old self.new (flat_map (record_lines []) records.now) }
     {
-        note(
+        remember_lack(
             &mut self.is_whole,
             push_records(&mut self.text, "", records),
         );
@@ -145,48 +145,48 @@ impl Page {
     pub fn sites(&mut self, sites: SiteSet)
         ensures { Adds self.old self.new (sites_text sites) }
     {
-        note(&mut self.is_whole, push_sites(&mut self.text, sites));
+        remember_lack(&mut self.is_whole, push_sites(&mut self.text, sites));
     }
 
     /// Adds a direction.
     pub fn dir(&mut self, dir: Dir)
         ensures { Adds self.old self.new (dir_text dir) }
     {
-        note(&mut self.is_whole, push_dir(&mut self.text, dir));
+        remember_lack(&mut self.is_whole, push_dir(&mut self.text, dir));
     }
 
     /// Adds a state.
     pub fn state(&mut self, state: State)
         ensures { Adds self.old self.new (state_text state) }
     {
-        note(&mut self.is_whole, push_state(&mut self.text, state));
+        remember_lack(&mut self.is_whole, push_state(&mut self.text, state));
     }
 
     /// Adds a key.
     pub fn key(&mut self, key: &Key)
         ensures { Adds self.old self.new (key_text key.now) }
     {
-        note(&mut self.is_whole, push_key(&mut self.text, key));
+        remember_lack(&mut self.is_whole, push_key(&mut self.text, key));
     }
 
     /// Adds a line for each item.
     pub fn items(&mut self, items: &[Item])
         ensures { Adds self.old self.new (flat_map item_line items.now) }
     {
-        note(&mut self.is_whole, push_items(&mut self.text, items));
+        remember_lack(&mut self.is_whole, push_items(&mut self.text, items));
     }
 
     /// Adds a line for each row of a table.
     pub fn rows(&mut self, rows: &[Row])
         ensures { Adds self.old self.new (flat_map row_line rows.now) }
     {
-        note(&mut self.is_whole, push_rows(&mut self.text, rows));
+        remember_lack(&mut self.is_whole, push_rows(&mut self.text, rows));
     }
 
     /// Adds the lines of entries, as a trace has them.
     pub fn trace(&mut self, history: &[Entry])
         ensures { Adds self.old self.new (trace_of history.now) }
     {
-        note(&mut self.is_whole, push_trace(&mut self.text, history));
+        remember_lack(&mut self.is_whole, push_trace(&mut self.text, history));
     }
 }

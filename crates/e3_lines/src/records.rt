@@ -3,13 +3,13 @@ ghost use Rattle.std.specs.Prelude.{◌≡◌, ◌++◌, ℕ, List as Items, OnO
 ghost use Rattle.std.specs.Fmt.{decimal};
 ghost use Rattle.std.specs.List.{flat_map};
 ghost use Rattle.e3_lines.specs.Texts.{txn_text};
-ghost use Rattle.e3_lines.specs.Records.{row_line, birth_row_line, birth_lines, read_line, write_line, op_line, vote_lines, inc_line, join_line, attempt_line, decision_line, record_lines};
+ghost use Rattle.e3_lines.specs.Records.{row_line, birth_row_line, birth_lines, op_line, vote_lines, inc_line, join_line, attempt_line, decision_line, record_lines};
 
 use crate::listed::{Lines, push_each};
 use crate::texts::{
     push_commas, push_dir, push_labelled, push_line_end, push_text, push_word_and_txn,
 };
-use e3_types::{Dir, List, NoMemory, NumOp, Op, Record, Row, Txn};
+use e3_types::{Dir, Key, List, NoMemory, NumOp, Op, Record, Row, Txn};
 
 impl Lines for Row {
     ghost lines = { row_line };
@@ -30,32 +30,20 @@ pub fn push_rows(out: &mut List<u8>, rows: &[Row]) -> Result<(), NoMemory>
     push_each(out, rows)
 }
 
-// Adds the mark, and a word with a number behind it.
-fn push_mark_and_number(
-    out: &mut List<u8>,
-    mark: &str,
-    word: &str,
-    number: u32,
-) -> Result<(), NoMemory>
-    ensures { OnOk result (out.new ≡ out.old ++ (mark.now ++ word.now ++ decimal number)) }
-{
-    push_text(out, mark)?;
-    push_labelled(out, word, number as u64)
-}
-
-// Adds the mark, and a word with a number and a name behind it.
+// Adds the mark, and a word with a number and the name of a key behind it.
 fn push_mark_and_name(
     out: &mut List<u8>,
     mark: &str,
     word: &str,
     n: u32,
-    name: &[u8],
+    key: &Key,
 ) -> Result<(), NoMemory>
-    ensures { OnOk result (out.new ≡ out.old ++ (mark.now ++ word.now ++ decimal n ++ codes " " ++ name.now)) }
+    ensures { OnOk result (out.new ≡ out.old ++ (mark.now ++ word.now ++ decimal n ++ codes " " ++ key.now.name)) }
 {
-    push_mark_and_number(out, mark, word, n)?;
+    push_text(out, mark)?;
+    push_labelled(out, word, n as u64)?;
     push_text(out, " ")?;
-    out.extend(name)
+    out.extend(key.name.bytes())
 }
 
 // Adds the mark, and a word with a transaction behind it.
@@ -85,7 +73,8 @@ fn push_birth(
 ) -> Result<(), NoMemory>
     ensures { OnOk result (out.new ≡ out.old ++ birth_lines mark.now format weights.now rows.now) }
 {
-    push_mark_and_number(out, mark, "birth ", format)?;
+    push_text(out, mark)?;
+    push_labelled(out, "birth ", format as u64)?;
     push_text(out, " ")?;
     push_commas(out, weights)?;
     push_line_end(out)?;
@@ -95,37 +84,21 @@ fn push_birth(
     Ok(())
 }
 
-#[tactic(auto, unfolding(crate::specs::Records::read_line))]
-fn push_read(out: &mut List<u8>, mark: &str, n: u32, name: &[u8]) -> Result<(), NoMemory>
-    ensures { OnOk result (out.new ≡ out.old ++ read_line mark.now n name.now) }
-{
-    push_mark_and_name(out, mark, "read ", n, name)?;
-    push_line_end(out)
-}
-
-#[tactic(auto, unfolding(crate::specs::Records::write_line))]
-fn push_write(
-    out: &mut List<u8>,
-    mark: &str,
-    n: u32,
-    name: &[u8],
-    val: &[u8],
-) -> Result<(), NoMemory>
-    ensures { OnOk result (out.new ≡ out.old ++ write_line mark.now n name.now val.now) }
-{
-    push_mark_and_name(out, mark, "write ", n, name)?;
-    push_text(out, " ")?;
-    out.extend(val)?;
-    push_line_end(out)
-}
-
-#[tactic(auto, unfolding(crate::specs::Records::op_line))]
+#[tactic(auto, unfolding(crate::specs::Records::op_line, crate::specs::Records::read_line, crate::specs::Records::write_line))]
 fn push_op(out: &mut List<u8>, mark: &str, op: &NumOp) -> Result<(), NoMemory>
     ensures { OnOk result (out.new ≡ out.old ++ op_line mark.now op.now) }
 {
     match &op.op {
-        Op::Read(key) => push_read(out, mark, op.n, key.name.bytes()),
-        Op::Write(key, val) => push_write(out, mark, op.n, key.name.bytes(), val.bytes()),
+        Op::Read(key) => {
+            push_mark_and_name(out, mark, "read ", op.n, key)?;
+            push_line_end(out)
+        }
+        Op::Write(key, val) => {
+            push_mark_and_name(out, mark, "write ", op.n, key)?;
+            push_text(out, " ")?;
+            out.extend(val.bytes())?;
+            push_line_end(out)
+        }
     }
 }
 
@@ -146,7 +119,8 @@ fn push_vote(out: &mut List<u8>, mark: &str, txn: &Txn, ops: &[NumOp]) -> Result
 fn push_inc(out: &mut List<u8>, mark: &str, inc: u32) -> Result<(), NoMemory>
     ensures { OnOk result (out.new ≡ out.old ++ inc_line mark.now inc) }
 {
-    push_mark_and_number(out, mark, "inc ", inc)?;
+    push_text(out, mark)?;
+    push_labelled(out, "inc ", inc as u64)?;
     push_line_end(out)
 }
 

@@ -1,6 +1,6 @@
 // What texts spell: words, names, values, and numbers in digits.
 ghost use Rattle.std.specs.Prelude.{◌≡◌, ◌==◌, ◌<◌, ◌≤◌, IfSome, bytes_eq, length, position};
-ghost use Rattle.e3_lines.specs.Spelled.{name_of, value_of, digits_from};
+ghost use Rattle.e3_lines.specs.Spelled.{one_of, name_of, value_of, digits_from};
 
 use e3_types::{Name, Val};
 
@@ -9,6 +9,18 @@ pub fn is_text(text: &[u8], wanted: &str) -> bool
     ensures { result ≡ bytes_eq text.now wanted.now }
 {
     text == wanted.as_bytes()
+}
+
+/// What the text stands for, where it is one of these words.
+pub fn one_of<T: Copy>(text: &[u8], words: &[(&str, T)]) -> Option<T>
+    ensures { result ≡ one_of text.now words.now }
+{
+    for word in words {
+        if is_text(text, word.0) {
+            return Some(word.1);
+        }
+    }
+    None
 }
 
 /// The place of the first byte of this kind.

@@ -1,4 +1,4 @@
--- What reading a log finds, step by step.
+-- What stands at a place of a disk, a frame or a closed gate; and what calls that only read ask of a disk, and do to it.
 use Rattle.std.specs.Prelude.{◌≡◌, ℕ, ◌+◌, ◌-◌, ◌^◌, ◌<◌, ◌≤◌, true, false, Option, Some, None, Result, IsErrOf, List, ◌++◌, length, drop}
 use Rattle.e3_disk.specs.Images.{Within}
 use Rattle.e3_disk.specs.Meaning.{Meaning}

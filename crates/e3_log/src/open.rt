@@ -28,28 +28,35 @@ pub struct Span {
     pub count: u64,
 }
 
-// Reads bytes of a range.
-fn read_in<D: Disk>(disk: &mut D, span: Span, at: u64, into: &mut [u8]) -> Result<(), OpenCause>
-    requires within { at + length into.old ≤ span.count }
-    requires may { MayRead D.meaning disk.old span }
-    ensures bytes { OnOk result (into.new ≡ take (length into.old) (drop at (window span.from span.count (D.meaning.content disk.old)))) }
+// A place in a range.
+#[derive(Clone, Copy)]
+struct Spot {
+    span: Span,
+    at: u64,
+}
+
+// Reads bytes of a range, from a place on.
+fn read_in<D: Disk>(disk: &mut D, spot: Spot, into: &mut [u8]) -> Result<(), OpenCause>
+    requires within { spot.at + length into.old ≤ spot.span.count }
+    requires may { MayRead D.meaning disk.old spot.span }
+    ensures bytes { OnOk result (into.new ≡ take (length into.old) (drop spot.at (window spot.span.from spot.span.count (D.meaning.content disk.old)))) }
     ensures cause { IfErr result (λ e. e ≡ OpenCause.Failed) }
     ensures looks { Looks D.meaning disk.old disk.new result }
 {
-    disk.read_at(span.from + at, into)?;
+    disk.read_at(spot.span.from + spot.at, into)?;
     Ok(())
 }
 
 // Whether the gate at a place is open.
-fn is_open<D: Disk>(disk: &mut D, span: Span, at: u64) -> Result<bool, OpenCause>
-    requires within { at < span.count }
-    requires may { MayRead D.meaning disk.old span }
-    ensures gate { IfOk result (λ gate. IsTrue gate ↔ (slice_index (take 1 (drop at (window span.from span.count (D.meaning.content disk.old)))) 0 ≡ OPEN_GATE)) }
+fn is_open<D: Disk>(disk: &mut D, spot: Spot) -> Result<bool, OpenCause>
+    requires within { spot.at < spot.span.count }
+    requires may { MayRead D.meaning disk.old spot.span }
+    ensures gate { IfOk result (λ gate. IsTrue gate ↔ (slice_index (take 1 (drop spot.at (window spot.span.from spot.span.count (D.meaning.content disk.old)))) 0 ≡ OPEN_GATE)) }
     ensures cause { IfErr result (λ e. e ≡ OpenCause.Failed) }
     ensures looks { Looks D.meaning disk.old disk.new result }
 {
     let mut gate = [0; 1];
-    read_in(disk, span, at, &mut gate)?;
+    read_in(disk, spot, &mut gate)?;
     Ok(gate[0] == OPEN)
 }
 
@@ -61,33 +68,32 @@ fn number_of(size: &[u8]) -> u32
 }
 
 // The length of a body, which stands behind its gate.
-fn read_size<D: Disk>(disk: &mut D, span: Span, at: u64) -> Result<u32, OpenCause>
-    requires within { at + 4 ≤ span.count }
-    requires may { MayRead D.meaning disk.old span }
-    ensures size { IfOk result (λ n. to_be_bytes w32 n ≡ take 4 (drop at (window span.from span.count (D.meaning.content disk.old)))) }
+fn read_size<D: Disk>(disk: &mut D, spot: Spot) -> Result<u32, OpenCause>
+    requires within { spot.at + 4 ≤ spot.span.count }
+    requires may { MayRead D.meaning disk.old spot.span }
+    ensures size { IfOk result (λ n. to_be_bytes w32 n ≡ take 4 (drop spot.at (window spot.span.from spot.span.count (D.meaning.content disk.old)))) }
     ensures cause { IfErr result (λ e. e ≡ OpenCause.Failed) }
     ensures looks { Looks D.meaning disk.old disk.new result }
 {
     let mut size = [0; 4];
-    read_in(disk, span, at, &mut size)?;
+    read_in(disk, spot, &mut size)?;
     Ok(number_of(&size))
 }
 
 fn read_body<D: Disk>(
     alloc: Global,
     disk: &mut D,
-    span: Span,
-    at: u64,
+    spot: Spot,
     len: u64,
 ) -> Result<List<u8>, OpenCause>
-    requires within { at + len ≤ span.count }
-    requires may { MayRead D.meaning disk.old span }
-    ensures body { IfOk result (λ body. body ≡ take len (drop at (window span.from span.count (D.meaning.content disk.old)))) }
+    requires within { spot.at + len ≤ spot.span.count }
+    requires may { MayRead D.meaning disk.old spot.span }
+    ensures body { IfOk result (λ body. body ≡ take len (drop spot.at (window spot.span.from spot.span.count (D.meaning.content disk.old)))) }
     ensures cause { IfErr result (λ e. (e ≡ OpenCause.Failed) ⊎ (e ≡ OpenCause.NoMemory)) }
     ensures looks { Looks D.meaning disk.old disk.new result }
 {
     let mut body = vec![in alloc; 0; len as usize]?;
-    read_in(disk, span, at, body.as_mut_slice())?;
+    read_in(disk, spot, body.as_mut_slice())?;
     Ok(List::from_vec(body))
 }
 
@@ -104,15 +110,10 @@ fn told_in(head: &[u8]) -> Option<u32>
 }
 
 // The generation that the body at a place tells, if it does.
-fn read_told<D: Disk>(
-    disk: &mut D,
-    span: Span,
-    at: u64,
-    size: u64,
-) -> Result<Option<u32>, OpenCause>
-    requires within { at + size ≤ span.count }
-    requires may { MayRead D.meaning disk.old span }
-    ensures told { IfOk result (λ told. told ≡ told_by (take size (drop at (window span.from span.count (D.meaning.content disk.old))))) }
+fn read_told<D: Disk>(disk: &mut D, spot: Spot, size: u64) -> Result<Option<u32>, OpenCause>
+    requires within { spot.at + size ≤ spot.span.count }
+    requires may { MayRead D.meaning disk.old spot.span }
+    ensures told { IfOk result (λ told. told ≡ told_by (take size (drop spot.at (window spot.span.from spot.span.count (D.meaning.content disk.old))))) }
     ensures cause { IfErr result (λ e. e ≡ OpenCause.Failed) }
     ensures looks { Looks D.meaning disk.old disk.new result }
 {
@@ -120,7 +121,7 @@ fn read_told<D: Disk>(
         return Ok(None);
     }
     let mut head = [0; 5];
-    read_in(disk, span, at, &mut head)?;
+    read_in(disk, spot, &mut head)?;
     Ok(told_in(&head))
 }
 
@@ -132,17 +133,17 @@ pub fn read_front<D: Disk>(disk: &mut D, span: Span) -> Result<Front, OpenCause>
     ensures cause { IfErr result (λ e. e ≡ OpenCause.Failed) }
     ensures looks { Looks D.meaning disk.old disk.new result }
 {
-    if !is_open(disk, span, 0)? {
+    if !is_open(disk, Spot { span, at: 0 })? {
         return Ok(Front::Shut);
     }
     if span.count < 5 {
         return Ok(Front::Broken);
     }
-    let size = u64::from(read_size(disk, span, 1)?);
+    let size = u64::from(read_size(disk, Spot { span, at: 1 })?);
     if span.count - 5 < size {
         return Ok(Front::Broken);
     }
-    let told = read_told(disk, span, 5, size)?;
+    let told = read_told(disk, Spot { span, at: 5 }, size)?;
     Ok(Front::Whole { told })
 }
 
@@ -164,17 +165,17 @@ fn read_frame<D: Disk>(
     if at == span.count {
         return Err(OpenCause::Damaged { at: place });
     }
-    if !is_open(disk, span, at)? {
+    if !is_open(disk, Spot { span, at })? {
         return Ok(None);
     }
     if span.count - at < 5 {
         return Err(OpenCause::Damaged { at: place });
     }
-    let size = u64::from(read_size(disk, span, at + 1)?);
+    let size = u64::from(read_size(disk, Spot { span, at: at + 1 })?);
     if span.count - at - 5 < size {
         return Err(OpenCause::Damaged { at: place });
     }
-    let body = read_body(alloc, disk, span, at + 5, size)?;
+    let body = read_body(alloc, disk, Spot { span, at: at + 5 }, size)?;
     Ok(Some(body))
 }
 

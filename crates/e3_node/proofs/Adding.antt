@@ -6,7 +6,7 @@ use Rattle.std.proofs.lemmas.Grind.{flat_map-append}
 use Rattle.e3_codec.specs.Fields.{AllCanBeReadBack}
 use Rattle.e3_disk.specs.Meters.{Meters}
 use Rattle.e3_log.specs.Stands.{LogState}
-use Rattle.e3_node.specs.Batched.{IsBatch, OnlyForMemory, first_of}
+use Rattle.e3_node.specs.Batched.{HasNoMoreRoom, IsBatch, OnlyForMemory, first_of}
 use Rattle.e3_node.specs.Batches.{inputs_in, unnumbered_of, unnumbered_steps, stepped}
 use Rattle.e3_node.specs.Briefing.{BriefsAreTold, IsBriefOf}
 use Rattle.e3_node.specs.Drafts.{IsAsBefore, IsReady}
@@ -32,9 +32,9 @@ use Rattle.e3_world.specs.Legal.{entry_of, made_by, records_by}
 use Rattle.e3_world.specs.Moves.{log_of}
 use Rattle.e3_world.specs.declared.lives.Incarnation.{Incarnation}
 use Rattle.e3_world.specs.declared.lives.SiteStep.{SiteStep}
-use Rattle.e3_node.proofs.Batches.{plain_push, records_push, stepped_push}
-use Rattle.e3_node.proofs.Bundles.{steps_log}
-use Rattle.e3_site_log.specs.Ends.{IsDue, IsShortIf, MayTurn}
+use Rattle.e3_node.proofs.Batches.{plain_push, records_push, some_inputs, stepped_push}
+use Rattle.e3_node.proofs.Bundles.{plain_length, steps_log}
+use Rattle.e3_site_log.specs.Ends.{HasRoom, IsDue, IsShortIf, MayTurn}
 use Rattle.e3_site_log.specs.declared.writing.Short.{Short}
 use Rattle.e3_site_log.proofs.Holding.{back_both}
 use Rattle.e3_node.proofs.Several.{claims_push}
@@ -59,16 +59,16 @@ step_plain : (sc : Scenario) (h : List Entry) (site : ℕ) (i : Input) (step : S
 step_plain sc h site i step is = ap (λ (p : SiteStep). entry_of_plan site i p) is
 
 -- what is said of a refusal
-pub err_so : (r : Result (Unit {0}) InputFault) (X : Type 0) → X → OnErr r X
+pub err_so : {A : Type 0} (r : Result A InputFault) (X : Type 0) → X → OnErr r X
 err_so (Ok done) X is = tt
 err_so (Err fault) X is = is
 
 -- a claim was refused where a place was left: for want of memory
-pub claim_refused : (w : WireFault) (r : Result (Unit {0}) InputFault) → IsErrAnd r (λ f. f ≡ input_fault_of w) → (w ≡ wire_fault.HistoryFull → ⊥) → OnlyForMemory r
+pub claim_refused : {A : Type 0} (w : WireFault) (r : Result A InputFault) → IsErrAnd r (λ f. f ≡ input_fault_of w) → (w ≡ wire_fault.HistoryFull → ⊥) → OnlyForMemory r
 claim_refused w (Ok done) is never = absurd is
 claim_refused wire_fault.HistoryFull (Err fault) is never = absurd (never refl)
-claim_refused wire_fault.NoMemory (Err fault) is never =
-    let P : InputFault → Type 0 = λ f. OnlyForMemory (Err f) in subst P (sym is) tt
+claim_refused {A} wire_fault.NoMemory (Err fault) is never =
+    let P : InputFault → Type 0 = λ f. let r : Result A InputFault = Err f in OnlyForMemory r in subst P (sym is) tt
 
 -- what a draft has is what the history makes
 made_behind : (sc : Scenario) (h : List Entry) (site : ℕ) (rose : List Record) (s t : SiteView) (i : Input) (d : Draft) → StandsAlike sc h site rose s →
@@ -120,6 +120,31 @@ module _ {D : Type 0} (meters : D → Meters) (on_disk : LogState D) where
     pub inputs_so_far : (b : Batch) (s : SiteView) (now : List Mark) → IsBatch meters on_disk sc h site rose marks first done b s now → inputs_in b.steps.items ≡ done
     inputs_so_far b s now was = ap (λ (l : List Entry). inputs_in l) was.steps_are ∙ inputs_done sc h site done
 
+    pub count_so_far : (b : Batch) (s : SiteView) (now : List Mark) → IsBatch meters on_disk sc h site rose marks first done b s now → length b.steps.items ≡ length done
+    count_so_far b s now was = ap (λ (l : List Entry). length l) was.steps_are ∙ plain_length sc h site done
+
+    -- what its frame has with the records of one input more
+    body_with : (b : Batch) (s t : SiteView) (now : List Mark) (i : Input) (d : Draft) (body : List ℕ) → IsBatch meters on_disk sc h site rose marks first done b s now →
+        IsLogInOrder site (log_of sc (stepped sc h site done) site) → IsReady (now_with rose sc (stepped sc h site done) s.site) i s t d → body ≡ b.body ++ d.body →
+        body ≡ spelling (records_by sc h site (done ++ i ∷ []))
+    body_with b s t now i d body was order ready is =
+        let mine : List Record = (made_by sc (stepped sc h site done) site i).records in
+        let is_made : IsMade sc (stepped sc h site done) site i d = made_behind sc (stepped sc h site done) site rose s t i d was.stands order ready in
+        let recorded : d.plan.step.records ≡ mine = ap (λ (p : SiteStep). p.records) is_made.step_is in
+        is ∙ ap (λ (l : List ℕ). l ++ d.body) was.body_is ∙ ap (λ (l : List ℕ). spelling (records_by sc h site done) ++ l) (ready.drafted.body_is ∙ ap spelling recorded)
+        ∙ sym (flat_map-append spell_record (records_by sc h site done) mine) ∙ ap spelling (sym (records_push sc h site done i))
+
+    -- where that has no room, the frame takes no more
+    pub no_more_room : (b : Batch) (s t : SiteView) (now : List Mark) (i : Input) (d : Draft) (body : List ℕ) → IsBatch meters on_disk sc h site rose marks first done b s now →
+        IsLogInOrder site (log_of sc (stepped sc h site done) site) → IsReady (now_with rose sc (stepped sc h site done) s.site) i s t d → body ≡ b.body ++ d.body →
+        b.records ≢ [] → (HasRoom meters on_disk (length body) → ⊥) →
+        HasNoMoreRoom meters on_disk (record { scenario = sc; history = h; site = site; rose = rose; marks = marks; first = first; done = done }) i
+    no_more_room b s t now i d body was order ready is some none =
+        let P : List ℕ → Type 0 = λ l. HasRoom meters on_disk (length l) → ⊥ in (
+          some_inputs sc h site done (λ nothing. some (was.records_are ∙ nothing)),
+          subst P (body_with b s t now i d body was order ready is) none,
+        )
+
     -- while nothing is recorded, the site tells the brief of the log before the batch
     pub brief_so_far : (b : Batch) (s t : SiteView) (now : List Mark) → IsBatch meters on_disk sc h site rose marks first done b s now →
         BriefsAreTold sc (stepped sc h site done) site rose → IsAsBefore s t → b.records ≡ [] → IsBriefOf t (log_of sc h site)
@@ -142,9 +167,7 @@ module _ {D : Type 0} (meters : D → Meters) (on_disk : LogState D) where
     batch_added b c s t new now then outs i d made step short was order told ready still made_is go weights number counted step_is outs_are steps records body shorts is_short may due claim = record {
       steps_are = steps ∙ ap (λ (l : List Entry). l ++ step ∷ []) was.steps_are ∙ ap (λ (x : Entry). unnumbered_steps sc h site done ++ x ∷ []) entry ∙ sym (plain_push sc h site done i);
       records_are = records_now;
-      body_is =
-          body ∙ ap (λ (l : List ℕ). l ++ d.body) was.body_is ∙ ap (λ (l : List ℕ). spelling (records_by sc h site done) ++ l) (ready.drafted.body_is ∙ ap spelling recorded)
-          ∙ sym (flat_map-append spell_record (records_by sc h site done) mine) ∙ ap spelling (sym (records_push sc h site done i));
+      body_is = body_with b s t now i d c.body was order ready body;
       back =
           let P : List Record → Type 0 = λ rs. Each (IsOwn site) rs → AllCanBeReadBack site rs in
           subst P (sym (records_push sc h site done i)) (λ own.

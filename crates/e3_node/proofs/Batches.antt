@@ -1,5 +1,5 @@
 -- The steps of several inputs, one behind the other.
-use Rattle.std.proofs.Common.{◌≡◌, ◌≤◌, ◌++◌, ◌∷◌, [], ℕ, true, List, refl, sym, ap, ◌∙◌, append-nil, append_assoc}
+use Rattle.std.proofs.Common.{◌≡◌, ◌≢◌, ◌≤◌, ◌++◌, ◌∷◌, [], ℕ, true, List, length, refl, sym, ap, ◌∙◌, append-nil, append_assoc, arith}
 use Rattle.std.specs.List.{AllByRecursion as Each}
 use Rattle.e3_law_steps.specs.Begun.{BegunAreTransactions, RecordsMentionWhatStands}
 use Rattle.e3_node.specs.Batches.{unnumbered_of, unnumbered_steps, stepped}
@@ -41,6 +41,11 @@ records_push sc h site (j ∷ inputs) i =
     let rest : List Record = records_by sc (h ++ entry_of sc h site j ∷ []) site inputs in
     ap (λ l. (made_by sc h site j).records ++ l) (records_push sc (h ++ entry_of sc h site j ∷ []) site inputs i)
     ∙ sym (append_assoc (made_by sc h site j).records rest (made_by sc (stepped sc (h ++ entry_of sc h site j ∷ []) site inputs) site i).records)
+
+-- no inputs record nothing
+pub some_inputs : (sc : Scenario) (h : List Entry) (site : ℕ) (inputs : List Input) → records_by sc h site inputs ≢ [] → 1 ≤ length inputs
+some_inputs sc h site [] some = absurd (some refl)
+some_inputs sc h site (i ∷ inputs) some = omega arith
 
 -- where the moves of the site are the same, so are those with the steps, and the steps
 next_same : (sc : Scenario) (site : ℕ) (h k : List Entry) (i : Input) → moves_of sc k site ≡ moves_of sc h site →

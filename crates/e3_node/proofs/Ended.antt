@@ -1,11 +1,10 @@
 -- What is told of a batch, and how its site stands behind it.
-use Rattle.std.proofs.Common.{◌≡◌, inl, inr, ℕ, false, List, length, take, refl, sym, subst, ap, ◌∙◌}
-use Rattle.std.proofs.Math.Seq.{take-length}
+use Rattle.std.proofs.Common.{◌≡◌, inl, inr, ℕ, false, List, take, refl, sym, subst, ap, ◌∙◌}
 use Rattle.std.specs.Prelude.{None, Option, Result, Some, Ok, Err}
 use Rattle.e3_disk.specs.Meaning.{Meaning}
 use Rattle.e3_disk.specs.Meters.{Keeps}
 use Rattle.e3_node.specs.Batched.{OnlyForMemory}
-use Rattle.e3_node.specs.Batches.{BatchEnded, HasFallenOverAll, HasSteppedAll, fall_over}
+use Rattle.e3_node.specs.Batches.{BatchEnded, HasFallenOverAll, HasSteppedAll, OneFrameTakes, fall_over}
 use Rattle.e3_node.specs.Ending.{Came, EndsWith, answer_by}
 use Rattle.e3_node.specs.NodeStands.{IsDown, IsIn, logged_in}
 use Rattle.e3_node.specs.NodeView.{disk_of}
@@ -22,7 +21,7 @@ use Rattle.e3_world.proofs.Readings.{up_same}
 use Rattle.e3_world.proofs.Turns.{self}
 
 -- a refusal of an input is no answer of a site that was down
-pub never_down : (r : Result (Unit {0}) InputFault) → OnlyForMemory r → r ≡ Err input_fault.Down → ⊥
+pub never_down : (r : Result ℕ InputFault) → OnlyForMemory r → r ≡ Err input_fault.Down → ⊥
 never_down (Ok done) never is = absurd cc
 never_down (Err input_fault.NoMemory) never is = absurd cc
 never_down (Err input_fault.HistoryFull) never is = never
@@ -30,14 +29,10 @@ never_down (Err input_fault.Down) never is = never
 never_down (Err (input_fault.Fell why)) never is = never
 
 -- what is answered is what was refused
-pub refused_down : (r : Result (Unit {0}) InputFault) (fell : Option Why) → answer_by r fell ≡ Err input_fault.Down → r ≡ Err input_fault.Down
+pub refused_down : (r : Result ℕ InputFault) (fell : Option Why) → answer_by r fell ≡ Err input_fault.Down → r ≡ Err input_fault.Down
 refused_down (Ok done) None is = absurd cc
 refused_down (Ok done) (Some why) is = absurd cc
 refused_down (Err fault) fell is = is
-
--- all inputs
-all_of : (n : ℕ) (inputs : List Input) → n ≡ length inputs → take n inputs ≡ inputs
-all_of n inputs is = ap (λ (k : ℕ). take k inputs) is ∙ take-length inputs
 
 module _ {D : Type 0} (meaning : Meaning D) (sc : Scenario) (before more : List Entry) (site : ℕ) (inputs : List Input)
     (old : State D) where
@@ -52,15 +47,13 @@ module _ {D : Type 0} (meaning : Meaning D) (sc : Scenario) (before more : List 
       let same : disk_of new ≡ disk_of mid = ap (λ (s : State D). disk_of s) down in
       subst (λ (d : D). HasFallenOverAll meaning.meters sc before more site done why old d) (sym same) came.0
 
-  pub ended_told : (mid new : State D) (r : Result (Unit {0}) InputFault) (fell : Option Why) → OnlyForMemory r →
+  pub ended_told : (mid new : State D) (r : Result ℕ InputFault) (fell : Option Why) → OnlyForMemory r →
       EndsWith meaning sc before more site inputs old mid r fell →
       ((why : Why) → fell ≡ Some why → new ≡ Down (disk_of mid) (logged_in mid)) → (fell ≡ None → new ≡ mid) → BatchEnded meaning.meters sc before more site inputs old new (answer_by r fell)
-  ended_told mid new (Ok done) None never ends down kept =
-      subst (λ (l : List Input). HasSteppedAll meaning.meters sc before more site l old new) (all_of ends.count inputs ends.all)
-      (steps_told mid new (take ends.count inputs) ends.came (kept refl))
-  ended_told mid new (Ok done) (Some why) never ends down kept =
-      subst (λ (l : List Input). HasFallenOverAll meaning.meters sc before more site l why old (disk_of new)) (all_of ends.count inputs ends.all)
-      (fall_told mid new (take ends.count inputs) why ends.came (down why refl))
+  ended_told mid new (Ok n) None never ends down kept =
+      let P : ℕ → Type 0 = λ k. OneFrameTakes meaning.meters old sc before site inputs k × HasSteppedAll meaning.meters sc before more site (take k inputs) old new in
+      subst P (sym ends.all.0) (ends.all.1, steps_told mid new (take ends.count inputs) ends.came (kept refl))
+  ended_told mid new (Ok n) (Some why) never ends down kept = (ends.count, ends.all.1, fall_told mid new (take ends.count inputs) why ends.came (down why refl))
   ended_told mid new (Err input_fault.Down) fell never ends down kept = absurd never
   ended_told mid new (Err (input_fault.Fell why)) fell never ends down kept = absurd never
   ended_told mid new (Err input_fault.HistoryFull) fell never ends down kept = absurd never
@@ -86,7 +79,7 @@ module _ {D : Type 0} (meaning : Meaning D) (sc : Scenario) (before more : List 
     pub stands : IsIn meaning sc more site new
     pub keeps : Keeps (meaning.meters (disk_of old)) (meaning.meters (disk_of new))
 
-  pub ended_up : (mid new : State D) (r : Result (Unit {0}) InputFault) (fell : Option Why) → EndsWith meaning sc before more site inputs old mid r fell →
+  pub ended_up : (mid new : State D) (r : Result ℕ InputFault) (fell : Option Why) → EndsWith meaning sc before more site inputs old mid r fell →
       ((why : Why) → fell ≡ Some why → new ≡ Down (disk_of mid) (logged_in mid)) → (fell ≡ None → new ≡ mid) → StandsBehind new
   ended_up mid new r fell ends down kept = record {
     stands = came_in mid new (take ends.count inputs) fell ends.came down kept;

@@ -1,14 +1,15 @@
 -- A batch before its first input, and behind what others put.
-use Rattle.std.proofs.Common.{◌≡◌, ◌<◌, ◌≤◌, ◌++◌, ◌∷◌, [], ℕ, List, Option, length, take, refl, sym, subst, ap, ◌∙◌, append-nil, append_assoc, arith}
-use Rattle.std.specs.Prelude.{None, Result, OnOk, OnErr}
+use Rattle.std.proofs.Common.{◌≡◌, ◌<◌, ◌≤◌, ◌+◌, ◌++◌, ◌∷◌, [], inl, inr, ℕ, List, Option, length, take, refl, sym, subst, ap, ◌∙◌, append-nil, append_assoc, arith}
+use Rattle.std.specs.Prelude.{IfOk, IsErrAnd, None, OnErr, Result, Ok, Err}
+use Rattle.std.proofs.lemmas.List.{length-take-le}
 use Rattle.e3_disk.specs.Meters.{Meters}
 use Rattle.e3_log.specs.Stands.{LogState}
-use Rattle.e3_node.specs.Batched.{HasPlanned, IsBatch}
+use Rattle.e3_node.specs.Batched.{AreAdded, HasNoMoreRoom, HasPlanned, IsBatch}
 use Rattle.e3_node.specs.Batches.{unnumbered_steps}
 use Rattle.e3_node.specs.Several.{AreOwned, claims_for, marks_in}
 use Rattle.e3_node.specs.Turns.{Meanwhile}
 use Rattle.e3_node.specs.declared.batching.Batch.{Batch}
-use Rattle.e3_site_log.specs.Ends.{IsShortIf, MayTurn}
+use Rattle.e3_site_log.specs.Ends.{HasRoom, IsShortIf, MayTurn, size_of}
 use Rattle.e3_site_log.specs.declared.writing.Short.{Short}
 use Rattle.e3_node.specs.declared.fault.InputFault.{InputFault}
 use Rattle.e3_site.specs.SiteView.{SiteView}
@@ -25,6 +26,7 @@ use Rattle.e3_wire.specs.Wires.{IsPlayed}
 use Rattle.e3_wire.specs.declared.marks.Mark.{Mark}
 use Rattle.e3_wire.specs.declared.marks.Mark.TheVariants as mark
 use Rattle.e3_wire.specs.declared.marks.Note.{Note}
+use Rattle.e3_world.specs.Legal.{records_by}
 use Rattle.e3_world.specs.Moves.{log_of}
 use Rattle.e3_wire.proofs.Foreign.{notes_stay}
 use Rattle.e3_wire.proofs.Notes.{scenario_stays}
@@ -50,6 +52,40 @@ no_batch meters on_disk sc h site rose marks batch s stands steps records body s
   may = let P : Option Short → Type 0 = λ o. MayTurn on_disk o in subst P (sym short) tt;
   due = λ some. absurd (some refl);
 }
+
+-- what is said of an answer where there is none
+if_refused : (r : Result ℕ InputFault) (P : InputFault → Type 0) (Q : ℕ → Type 0) → IsErrAnd r P → IfOk r Q
+if_refused (Ok n) P Q is = absurd is
+if_refused (Err fault) P Q is = tt
+
+on_refused : (r : Result ℕ InputFault) (X : Type 0) → X → OnErr r X
+on_refused (Ok n) X is = tt
+on_refused (Err fault) X is = is
+
+-- How many were added: all of them, or those before one that was refused, or before one that the frame has no room for.
+module _ {D : Type 0} (meters : D → Meters) (on_disk : LogState D) (sc : Scenario) (h : List Entry) (site : ℕ) (inputs : List Input) where
+  pub added_all : (count : ℕ) → count ≡ length inputs → AreAdded meters on_disk sc h site inputs (Ok count) (length inputs)
+  added_all count is = record { within = omega arith; all = (is, inl refl); short = tt }
+
+  pub added_before : (r : Result ℕ InputFault) (P : InputFault → Type 0) (n : ℕ) → IsErrAnd r P → n < length inputs → AreAdded meters on_disk sc h site inputs r n
+  added_before r P n is low = record {
+    within = omega (arith, low);
+    all = if_refused r P _ is;
+    short = on_refused r _ low;
+  }
+
+  pub added_some : (rose : List Record) (marks : List Mark) (first count n : ℕ) (i : Input) → count ≡ n → n < length inputs → take (n + 1) inputs ≡ take n inputs ++ i ∷ [] →
+      HasNoMoreRoom meters on_disk (record { scenario = sc; history = h; site = site; rose = rose; marks = marks; first = first; done = take n inputs }) i →
+      AreAdded meters on_disk sc h site inputs (Ok count) n
+  added_some rose marks first count n i is low more room =
+      let long : length (take n inputs) ≡ n = length-take-le n inputs (omega (arith, low)) in
+      let one : 1 ≤ length (take n inputs) = room.0 in
+      let P : List Input → Type 0 = λ l. HasRoom meters on_disk (size_of (records_by sc h site l)) → ⊥ in
+      record {
+        within = omega (arith, low);
+        all = (is, inr (omega (arith, long, one), low, subst P (sym more) room.1));
+        short = tt;
+      }
 
 -- a site that stands does so behind what others put while its pass rested
 pub stands_taken : (p : APass) (site : ℕ) (rose : List Record) (marks : List Mark) (s : SiteView) → Owns p site → GrewByOthers belongs p marks → IsPlayed (seen_by p) → IsPlayed marks →
@@ -81,12 +117,12 @@ places_taken p site n marks owns grew few =
     subst P (sym same) few
 
 -- what was added to a batch
-abbrev pub Added : {D : Type 0} → (D → Meters) → LogState D → Scenario → List Entry → ℕ → List Record → List Mark → ℕ → List Input → Result (Unit {0}) InputFault → Batch → SiteView →
+abbrev pub Added : {D : Type 0} → (D → Meters) → LogState D → Scenario → List Entry → ℕ → List Record → List Mark → ℕ → List Input → Result ℕ InputFault → Batch → SiteView →
     List Mark → Type 0
 Added meters on_disk sc h site rose marks first inputs answer batch s now =
-    (n : ℕ) × (n ≤ length inputs) × OnOk answer (n ≡ length inputs) × OnErr answer (n < length inputs) × IsBatch meters on_disk sc h site rose marks first (take n inputs) batch s now
+    (n : ℕ) × AreAdded meters on_disk sc h site inputs answer n × IsBatch meters on_disk sc h site rose marks first (take n inputs) batch s now
 
-pub planned : {D : Type 0} (meters : D → Meters) (on_disk : LogState D) (p : APass) (site : ℕ) (rose : List Record) (first : ℕ) (inputs : List Input) (answer : Result (Unit {0}) InputFault) (batch : Batch) (s : SiteView) (marks freed shared now : List Mark) →
+pub planned : {D : Type 0} (meters : D → Meters) (on_disk : LogState D) (p : APass) (site : ℕ) (rose : List Record) (first : ℕ) (inputs : List Input) (answer : Result ℕ InputFault) (batch : Batch) (s : SiteView) (marks freed shared now : List Mark) →
     GrewByOthers belongs p marks → IsPlayed marks → freed ≡ marks ++ mark.Freed site ∷ [] → now ≡ shared →
     Added meters on_disk (scenario_of freed) (entries_of freed) site rose freed first inputs answer batch s shared →
     HasPlanned meters on_disk p site rose first inputs answer batch s now
@@ -98,26 +134,26 @@ planned meters on_disk p site rose first inputs answer batch s marks freed share
     let Q : Scenario → Type 0 = λ sc. IsBatch meters on_disk sc (entries_of freed) site rose freed first done batch s now in
     let R : List Entry → Type 0 = λ h. IsBatch meters on_disk (scenario_of marks) h site rose freed first done batch s now in
     let S : List Mark → Type 0 = λ l. IsBatch meters on_disk (scenario_of marks) (entries_of marks) site rose l first done batch s now in
+    let T : Scenario → Type 0 = λ sc. AreAdded meters on_disk sc (entries_of freed) site inputs answer added.0 in
+    let U : List Entry → Type 0 = λ h. AreAdded meters on_disk (scenario_of marks) h site inputs answer added.0 in
     record {
       between = marks;
       grew = grew;
       played = played;
       count = added.0;
-      within = added.1;
-      all = added.2;
-      short = added.3;
-      made = subst S free (subst R entries (subst Q keys (subst P (sym is) added.4)));
+      added = subst U entries (subst T keys added.1);
+      made = subst S free (subst R entries (subst Q keys (subst P (sym is) added.2)));
     }
 
 -- what is freed and claimed is of the pass
-pub claims_grew : {D : Type 0} (meters : D → Meters) (on_disk : LogState D) (p q : APass) (site : ℕ) (rose : List Record) (first : ℕ) (inputs : List Input) (answer : Result (Unit {0}) InputFault) (batch : Batch) (s : SiteView) (marks freed now : List Mark) →
+pub claims_grew : {D : Type 0} (meters : D → Meters) (on_disk : LogState D) (p q : APass) (site : ℕ) (rose : List Record) (first : ℕ) (inputs : List Input) (answer : Result ℕ InputFault) (batch : Batch) (s : SiteView) (marks freed now : List Mark) →
     Owns p site → SameOwners p q → seen_by q ≡ marks → freed ≡ marks ++ mark.Freed site ∷ [] →
     Added meters on_disk (scenario_of freed) (entries_of freed) site rose freed first inputs answer batch s now → GrewByOwners belongs q now
 claims_grew meters on_disk p q site rose first inputs answer batch s marks freed now owns same seen free added =
     let steps : List Entry = unnumbered_steps (scenario_of freed) (entries_of freed) site (take added.0 inputs) in
     let has : 0 < count_of site (owners_of q) = subst (λ (l : List ℕ). 0 < count_of site l) (sym same.owners) owns in
     grew_own (last_of q) (owners_of q) (seen_by q) marks now (mark.Freed site ∷ claims_for steps) seen
-    (added.4.claimed ∙ ap (λ (l : List Mark). l ++ claims_for steps) free ∙ append_assoc marks (mark.Freed site ∷ []) (claims_for steps))
+    (added.2.claimed ∙ ap (λ (l : List Mark). l ++ claims_for steps) free ∙ append_assoc marks (mark.Freed site ∷ []) (claims_for steps))
     (own_planned (last_of q) site (owners_of q) steps has (plain_own (scenario_of freed) (entries_of freed) site (take added.0 inputs)))
 
 -- so are the entries

@@ -1,7 +1,7 @@
 -- A batch that was planned, behind what others put since.
 use Rattle.std.proofs.Common.{◌≡◌, ◌≢◌, ◌+◌, ◌-◌, ◌≤◌, ◌++◌, ◌∷◌, [], inl, inr, ℕ, zero, suc, true, false, List, length, take, refl, sym, subst, ap, ◌∙◌, append_assoc, arith}
 use Rattle.std.proofs.lemmas.List.{length-take-le}
-use Rattle.std.specs.Prelude.{None, Option, Result, Some}
+use Rattle.std.specs.Prelude.{None, Option, Result, Some, Ok, Err, IfOk}
 use Rattle.atomic_table.specs.Seated.{TableId}
 use Rattle.e3_codec.specs.Fields.{AllCanBeReadBack}
 use Rattle.e3_disk.specs.Meaning.{Meaning}
@@ -18,11 +18,11 @@ use Rattle.e3_log.specs.Frames.{frames}
 use Rattle.e3_log.specs.Regions.{other, start}
 use Rattle.e3_log.specs.Stands.{LogState}
 use Rattle.e3_node.specs.Batched.{HasPlanned, IsBatch}
-use Rattle.e3_node.specs.Batches.{IsOneFrame, fall_over, unnumbered_steps, stepped}
+use Rattle.e3_node.specs.Batches.{FrameTakes, IsOneFrame, fall_over, unnumbered_steps, stepped}
 use Rattle.e3_node.specs.Bodies.{DiskTells, entries_at}
 use Rattle.e3_node.specs.Ending.{EndsWith}
 use Rattle.e3_site_log.specs.Bodies.{IsLogged, ReadsLeft, body_of}
-use Rattle.e3_site_log.specs.Ends.{EndsAt, IsDue, IsReason, IsShortIf, Takes, calls_for, size_of}
+use Rattle.e3_site_log.specs.Ends.{EndsAt, HasRoom, IsDue, IsReason, IsShortIf, Takes, calls_for, size_of}
 use Rattle.e3_site_log.specs.declared.writing.Short.{Short}
 use Rattle.e3_node.specs.NodeStands.{IsUp, steps_at}
 use Rattle.e3_node.specs.Several.{MayEnterAll, claims_for, marks_in}
@@ -50,9 +50,9 @@ use Rattle.e3_wire.proofs.Notes.{entry_uses, scenario_stays}
 use Rattle.e3_wire.proofs.Staying.{are_others_marks}
 use Rattle.e3_world.specs.Items.{is_up_at}
 use Rattle.e3_world.specs.Legal.{AreDue, Guard, IsLegal, records_by}
-use Rattle.e3_world.specs.Moves.{log_by, log_of}
+use Rattle.e3_world.specs.Moves.{log_by, log_of, moves_of}
 use Rattle.e3_world.specs.Packets.{is_calm, present_items}
-use Rattle.e3_node.proofs.Batches.{plain_same, records_own, records_same, stepped_same, stepped_up}
+use Rattle.e3_node.proofs.Batches.{plain_same, records_own, records_same, some_inputs, stepped_same, stepped_up}
 use Rattle.e3_node.proofs.Bundles.{all_due_first, plain_length, plain_list, plain_own, stepped_count, steps_log, steps_logged, steps_use}
 use Rattle.e3_node.proofs.Outcomes.{due_meanwhile, fallen_all_tells, first_of_all, first_turn, may_all, may_take_front, meanwhile_then, moves_meanwhile, stands_same}
 use Rattle.e3_node.proofs.Orders.{log_in_order, stepped_legal}
@@ -66,11 +66,6 @@ fall_all_guard : (sc : Scenario) (h : List Entry) (site : ℕ) (inputs : List In
 fall_all_guard sc h zero inputs records why one up due some is = absurd (omega (arith, one))
 fall_all_guard sc h (suc n) inputs records why one up due some is = record { up = up; due = due; some = some; made = is }
 
--- no inputs record nothing
-some_inputs : (sc : Scenario) (h : List Entry) (site : ℕ) (inputs : List Input) → records_by sc h site inputs ≢ [] → 1 ≤ length inputs
-some_inputs sc h site [] some = absurd (some refl)
-some_inputs sc h site (i ∷ inputs) some = omega arith
-
 -- where a write ended the frame: behind those before it, or behind the brief
 one_frame : {D : Type 0} (meters : D → Meters) (site : ℕ) (old new : LogState D) (log records : List Record) (short : Option Short) → IsShortIf site log short →
     (records ≡ [] → new ≡ old) → (records ≢ [] → EndsAt meters old short records new.end) → IsOneFrame log records old.end new.end (meters old.disk).capacity
@@ -83,6 +78,19 @@ one_frame meters site old new log (r ∷ rs) (Some s) is same end = by (end (λ 
     by (inl behind) = inl behind
     by (inr turned) =
         inr (other old.region, turned ∙ ap (λ (l : List ℕ). start (meters old.disk).capacity (other old.region) + 10 + length l + length (frames (body_of (r ∷ rs)))) is.body_is)
+
+-- what is said of an answer goes on to what follows from it
+if_told : (r : Result ℕ InputFault) (P Q : ℕ → Type 0) → ((n : ℕ) → P n → Q n) → IfOk r P → IfOk r Q
+if_told (Ok n) P Q so is = so n is
+if_told (Err fault) P Q so is = tt
+
+-- what one frame takes is the same where the moves of the site are
+frame_same : {D : Type 0} (meters : D → Meters) (log : LogState D) (sc : Scenario) (h k : List Entry) (site : ℕ) (inputs : List Input) (n : ℕ) →
+    moves_of sc k site ≡ moves_of sc h site → FrameTakes meters log sc k site inputs n → FrameTakes meters log sc h site inputs n
+frame_same meters log sc h k site inputs n same (inl all) = inl all
+frame_same meters log sc h k site inputs n same (inr (some, less, none)) =
+    let P : List Record → Type 0 = λ rs. HasRoom meters log (size_of rs) → ⊥ in
+    inr (some, less, subst P (records_same sc site h k (take (n + 1) inputs) same) none)
 
 -- what was seen, and marks of others behind it
 module _ (p : APass) (site : ℕ) (owns : Owns p site) (was : IsPlayed (seen_by p)) where
@@ -101,7 +109,7 @@ module _ (p : APass) (site : ℕ) (owns : Owns p site) (was : IsPlayed (seen_by 
       let one = are_others_marks p site marks owns grew in
       ap (λ (l : List Mark). note_of site l) one.1 ∙ notes_stay site (seen_by p) one.0 one.2
 
-module _ {rose : List Record} {D0 : Type 0} (meters0 : D0 → Meters) (on_disk : LogState D0) (p q : APass) (site first : ℕ) (inputs : List Input) (answer : Result (Unit {0}) InputFault)
+module _ {rose : List Record} {D0 : Type 0} (meters0 : D0 → Meters) (on_disk : LogState D0) (p q : APass) (site first : ℕ) (inputs : List Input) (answer : Result ℕ InputFault)
     (batch : Batch) (s : SiteView) (plan : HasPlanned meters0 on_disk p site rose first inputs answer batch s (seen_by q)) (owns : Owns p site) (owns_q : Owns q site)
     (was : IsPlayed (seen_by p)) (played_q : IsPlayed (seen_by q)) where
   abbrev sc : Scenario
@@ -131,6 +139,15 @@ module _ {rose : List Record} {D0 : Type 0} (meters0 : D0 → Meters) (on_disk :
   pub first_keys : scenario_of b ≡ sc
   first_keys = keys p site owns was b plan.grew
 
+  -- how many one frame takes, as the pass saw the history first
+  pub frame_seen : IfOk answer (λ n. (n ≡ plan.count) × FrameTakes meters0 on_disk sc h site inputs plan.count)
+  frame_seen =
+      let P : Scenario → ℕ → Type 0 = λ k n. (n ≡ plan.count) × FrameTakes meters0 on_disk k h1 site inputs plan.count in
+      let Q : ℕ → Type 0 = λ n. (n ≡ plan.count) × FrameTakes meters0 on_disk sc h site inputs plan.count in
+      if_told answer (P (scenario_of b)) Q
+      (λ n is. (is.0, frame_same meters0 on_disk sc h h1 site inputs plan.count (moves_meanwhile sc h h1 site first_while) (subst (λ (k : Scenario). P k n) first_keys is).1))
+      plan.added.all
+
   pub made : IsBatch meters0 on_disk sc h1 site rose f first done batch s (seen_by q)
   made = let P : Scenario → Type 0 = λ k. IsBatch meters0 on_disk k h1 site rose f first done batch s (seen_by q) in subst P first_keys plan.made
 
@@ -152,7 +169,7 @@ module _ {rose : List Record} {D0 : Type 0} (meters0 : D0 → Meters) (on_disk :
       ∙ ap (λ (w : Note). let v : Note = record { places = w.places + length steps; room = w.room + outs_in steps } in v) (note_freed b site)
 
   pub count_is : length done ≡ plan.count
-  count_is = length-take-le plan.count inputs plan.within
+  count_is = length-take-le plan.count inputs plan.added.within
 
   pub steps_are : length batch.steps.items ≡ plan.count
   steps_are = ap (λ (l : List Entry). length l) made.steps_are ∙ plain_length sc h1 site done ∙ count_is
@@ -384,21 +401,20 @@ module _ {rose : List Record} {D0 : Type 0} (meters0 : D0 → Meters) (on_disk :
         log_while = ap log_by (moves_meanwhile sc h k site all_while)
 
         -- the steps are its end
-        pub steps_end : LogsAreOrderly → LoggedSitesAreSets → (short : Option Short) → IsShortIf site (log_of sc k site) short → (batch.records ≡ [] → (new ≡ old) × (n ≡ n0)) →
+        pub steps_end : IfOk answer (λ n. (n ≡ plan.count) × FrameTakes meaning.meters old sc h site inputs plan.count) → LogsAreOrderly → LoggedSitesAreSets → (short : Option Short) → IsShortIf site (log_of sc k site) short → (batch.records ≡ [] → (new ≡ old) × (n ≡ n0)) →
             IsLogged meaning site (entries_at k site + 1) (log_of sc k site ++ batch.records) n new →
             (meaning.meters new.disk).powered ≡ true → Takes (calls_for batch.records) (meaning.meters old.disk) (meaning.meters new.disk) → Keeps (meaning.meters old.disk) (meaning.meters new.disk) →
             (batch.records ≢ [] → EndsAt meaning.meters old short batch.records new.end) → (now : List Mark) → now ≡ marks ++ marks_in k batch.steps.items →
             EndsWith meaning sc h (entries_of now) site inputs (Up s0 old rose n0) (Up s new rose n) answer None
-        steps_end logs sets short is_short still wrote lit takes keeps end now is =
+        steps_end told logs sets short is_short still wrote lit takes keeps end now is =
             let entered : entries_of now ≡ stepped sc k site done = history_stepped now is in
             let T : List Record → Type 0 = λ rs. Takes (calls_for rs) (meaning.meters old.disk) (meaning.meters new.disk) in
             let F : List Record → Type 0 = λ rs. IsOneFrame (log_of sc h site) rs old.end new.end (meaning.meters old.disk).capacity in
             let G : List Record → Type 0 = λ l. IsOneFrame l batch.records old.end new.end (meaning.meters old.disk).capacity in
             record {
               count = plan.count;
-              within = plan.within;
-              all = plan.all;
-              short = plan.short;
+              all = told;
+              short = plan.added.short;
               came = (
                 record {
                   now = k;
@@ -413,22 +429,21 @@ module _ {rose : List Record} {D0 : Type 0} (meters0 : D0 → Meters) (on_disk :
             }
 
         -- or the fall is
-        pub fall_end : (why : Why) → batch.records ≢ [] →
+        pub fall_end : IfOk answer (λ n. (n ≡ plan.count) × FrameTakes meaning.meters old sc h site inputs plan.count) → (why : Why) → batch.records ≢ [] →
             ((bytes : List ℕ) → meaning.image new.disk bytes → ReadsLeft site (meaning.meters new.disk).capacity (entries_at k site + 1) (log_of sc k site) batch.records n why bytes) →
             IsReason why (log_of sc k site) batch.records (meaning.meters old.disk) (meaning.meters new.disk) → Keeps (meaning.meters old.disk) (meaning.meters new.disk) →
             (over : List Input) → over ≡ done → (now : List Mark) →
             now ≡ marks ++ mark.Entered (numbered_on k (record { owner = site; act = Fall over batch.records why })) ∷ [] →
             EndsWith meaning sc h (entries_of now) site inputs (Up s0 old rose n0) (Up s new rose n) answer (Some why)
-        fall_end why some_records left reason keeps over over_is now is =
+        fall_end told why some_records left reason keeps over over_is now is =
             let entered : entries_of now ≡ k ++ fall_over sc k site done why ∷ [] = history_fallen over why now over_is is in
             let H : List Entry → Type 0 = λ l. DiskTells sc l site (meaning.meters new.disk).capacity n (meaning.image new.disk) in
             let R : List Record → Type 0 = λ rs. IsReason why (log_of sc h site) rs (meaning.meters old.disk) (meaning.meters new.disk) in
             let L : List Record → Type 0 = λ l. IsReason why l batch.records (meaning.meters old.disk) (meaning.meters new.disk) in
             record {
               count = plan.count;
-              within = plan.within;
-              all = plan.all;
-              short = plan.short;
+              all = told;
+              short = plan.added.short;
               came = (
                 record {
                   now = k;

@@ -1,17 +1,19 @@
 -- The steps of some inputs, made and not yet entered.
-use Rattle.std.specs.Prelude.{◌≡◌, ◌≢◌, ◌+◌, ◌≤◌, ◌<◌, ◌++◌, ◌∷◌, [], ℕ, List, Option, Some, None, Result, Ok, Err, OnErr, OnOk, length, take}
+use Rattle.std.specs.Prelude.{◌≡◌, ◌≢◌, ◌+◌, ◌≤◌, ◌<◌, ◌++◌, ◌∷◌, [], ℕ, List, Option, Some, None, Result, Ok, Err, IfOk, OnErr, length, take}
 use Rattle.std.specs.List.{AllByRecursion as Each}
 use Rattle.e3_codec.specs.Fields.{AllCanBeReadBack}
 use Rattle.e3_disk.specs.Meters.{Meters}
 use Rattle.e3_log.specs.Stands.{LogState}
-use Rattle.e3_node.specs.Batches.{unnumbered_steps, stepped}
+use Rattle.e3_node.specs.Batches.{FrameTakes, unnumbered_steps, stepped}
 use Rattle.e3_node.specs.Several.{claims_for}
 use Rattle.e3_node.specs.Telling.{IsOwn}
 use Rattle.e3_node.specs.declared.batching.Batch.{Batch}
+use Rattle.e3_node.specs.declared.briefing.Room.{Room}
+use Rattle.e3_node.specs.declared.briefing.Room.TheVariants as room
 use Rattle.e3_node.specs.declared.fault.InputFault.{InputFault}
 use Rattle.e3_node.specs.declared.fault.InputFault.TheVariants as input_fault
 use Rattle.e3_site.specs.SiteView.{SiteView}
-use Rattle.e3_site_log.specs.Ends.{IsDue, IsShortIf, MayTurn}
+use Rattle.e3_site_log.specs.Ends.{HasRoom, IsDue, IsShortIf, MayTurn, size_of}
 use Rattle.e3_site_log.specs.declared.writing.Short.{Short}
 use Rattle.e3_site.specs.StandsAlike.{StandsAlike}
 use Rattle.e3_turn.specs.Passes.{GrewByOthers}
@@ -44,6 +46,11 @@ abbrev pub first_of : Option Short → Option Short → Option Short
 first_of (Some new) old = Some new
 first_of None old = old
 
+-- what is said of the short log where there is room
+abbrev pub IfReady : Room → (Option Short → Type 0) → Type 0
+IfReady (room.Ready short) P = P short
+IfReady room.Full P = Unit {0}
+
 -- A batch has the steps of these inputs behind a history, and the site stands behind them. It counted no more inputs since
 -- the first. Behind the marks of the history a place and the room of its packets are claimed for each. The log is turned for it
 -- unless its frame has room.
@@ -61,7 +68,7 @@ pub record IsBatch {D : Type 0} (meters : D → Meters) (on_disk : LogState D) (
   pub due : records_by sc history site done ≢ [] → IsDue meters on_disk (log_of sc history site) batch.short (length batch.body)
 
 -- want of memory is the only refusal
-abbrev pub OnlyForMemory : Result (Unit {0}) InputFault → Type 0
+abbrev pub OnlyForMemory : {A : Type 0} → Result A InputFault → Type 0
 OnlyForMemory (Ok done) = Unit {0}
 OnlyForMemory (Err input_fault.NoMemory) = Unit {0}
 OnlyForMemory (Err fault) = ⊥
@@ -70,15 +77,24 @@ OnlyForMemory (Err fault) = ⊥
 abbrev pub IsBatchAt : {D : Type 0} → (D → Meters) → LogState D → BatchAt → Batch → SiteView → List Mark → Type 0
 IsBatchAt meters on_disk at batch s now = IsBatch meters on_disk at.scenario at.history at.site at.rose at.marks at.first at.done batch s now
 
+-- it has the steps of some inputs, and with that of one more its frame would have no room behind the log
+abbrev pub HasNoMoreRoom : {D : Type 0} → (D → Meters) → LogState D → BatchAt → Input → Type 0
+HasNoMoreRoom meters on_disk at i =
+    (1 ≤ length at.done) × (HasRoom meters on_disk (size_of (records_by at.scenario at.history at.site (at.done ++ i ∷ []))) → ⊥)
+
+-- So many of the inputs were added to a batch: where none was refused, as many as one frame takes, and that many are told.
+pub record AreAdded {D : Type 0} (meters : D → Meters) (on_disk : LogState D) (sc : Scenario) (history : List Entry) (site : ℕ) (inputs : List Input) (answer : Result ℕ InputFault) (count : ℕ) : Type 0 where
+  pub within : count ≤ length inputs
+  pub all : IfOk answer (λ n. (n ≡ count) × FrameTakes meters on_disk sc history site inputs count)
+  pub short : OnErr answer (count < length inputs)
+
 -- What others put is behind what the pass had seen. Behind that all falls that was promised to the site, and a batch has the
--- first of the inputs, all of them where none was refused.
-pub record HasPlanned {D : Type 0} (meters : D → Meters) (on_disk : LogState D) (p : APass) (site : ℕ) (rose : List Record) (first : ℕ) (inputs : List Input) (answer : Result (Unit {0}) InputFault) (batch : Batch) (s : SiteView)
+-- first of the inputs, as many as were added.
+pub record HasPlanned {D : Type 0} (meters : D → Meters) (on_disk : LogState D) (p : APass) (site : ℕ) (rose : List Record) (first : ℕ) (inputs : List Input) (answer : Result ℕ InputFault) (batch : Batch) (s : SiteView)
     (now : List Mark) : Type 0 where
   pub between : List Mark
   pub grew : GrewByOthers belongs p between
   pub played : IsPlayed between
   pub count : ℕ
-  pub within : count ≤ length inputs
-  pub all : OnOk answer (count ≡ length inputs)
-  pub short : OnErr answer (count < length inputs)
+  pub added : AreAdded meters on_disk (scenario_of between) (entries_of between) site inputs answer count
   pub made : IsBatch meters on_disk (scenario_of between) (entries_of between) site rose (between ++ mark.Freed site ∷ []) first (take count inputs) batch s now

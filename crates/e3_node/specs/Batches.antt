@@ -1,17 +1,19 @@
 -- What a call with several packets makes of a history.
-use Rattle.std.specs.Prelude.{◌≡◌, ◌≢◌, ◌⊎◌, ◌+◌, ◌<◌, ◌++◌, ◌∷◌, [], ℕ, List, Result, Ok, Err, length, map, take}
+use Rattle.std.specs.Prelude.{◌≡◌, ◌≢◌, ◌⊎◌, ◌+◌, ◌<◌, ◌≤◌, ◌++◌, ◌∷◌, [], ℕ, List, Result, Ok, Err, length, map, take}
 use Rattle.e3_disk.specs.Meters.{Meters}
 use Rattle.e3_log.specs.Frames.{frames}
 use Rattle.e3_world.specs.Brief.{brief}
 use Rattle.e3_log.specs.Regions.{start}
+use Rattle.e3_log.specs.Stands.{LogState}
 use Rattle.e3_log.specs.declared.region.Region.{Region}
 use Rattle.e3_node.specs.NodeView.{disk_of, end_of}
 use Rattle.e3_node.specs.Turns.{Meanwhile}
 use Rattle.e3_node.specs.declared.fault.InputFault.{InputFault}
 use Rattle.e3_node.specs.declared.fault.InputFault.TheVariants as input_fault
 use Rattle.e3_node.specs.declared.state.State.{State}
+use Rattle.e3_node.specs.declared.state.State.TheVariants.{Down, Up}
 use Rattle.e3_site_log.specs.Bodies.{body_of}
-use Rattle.e3_site_log.specs.Ends.{IsReason, Takes, calls_for, size_of}
+use Rattle.e3_site_log.specs.Ends.{HasRoom, IsReason, Takes, calls_for, size_of}
 use Rattle.e3_types.specs.declared.entries.Act.TheVariants.{Fall, Step}
 use Rattle.e3_types.specs.declared.entries.Entry.{Entry}
 use Rattle.e3_types.specs.declared.entries.Input.{Input}
@@ -59,6 +61,17 @@ IsOneFrame log records old new capacity =
     ⊎ ((region : Region) × (new ≡ start capacity region + 10 + size_of (brief log) + length (frames (body_of records))))
 
 module _ {D : Type 0} (meters : D → Meters) where
+  -- One frame takes the first n of these inputs: all of them; or one at least, and the frame of what the first n and the next
+  -- record would have no room behind this log.
+  abbrev pub FrameTakes : LogState D → Scenario → List Entry → ℕ → List Input → ℕ → Type 0
+  FrameTakes log sc history site inputs n = (n ≡ length inputs)
+      ⊎ ((1 ≤ n) × (n < length inputs) × (HasRoom meters log (size_of (records_by sc history site (take (n + 1) inputs))) → ⊥))
+
+  -- so it is behind the log of a site that is up
+  abbrev pub OneFrameTakes : State D → Scenario → List Entry → ℕ → List Input → ℕ → Type 0
+  OneFrameTakes (Down disk logged) sc history site inputs n = ⊥
+  OneFrameTakes (Up s log rose logged) sc history site inputs n = FrameTakes log sc history site inputs n
+
   -- The site made the steps of these inputs behind what others entered: their records are one frame behind those before it, or
   -- behind the brief of the log that was turned for it; or none where they record nothing. It took its calls of an arm.
   pub record HasSteppedAll (sc : Scenario) (before more : List Entry) (site : ℕ) (inputs : List Input) (old new : State D) : Type 0 where
@@ -81,11 +94,13 @@ module _ {D : Type 0} (meters : D → Meters) where
       × (HasSteppedAll sc before more site (take n inputs) old new
       ⊎ ((why : Why) × HasFallenOverAll sc before more site (take n inputs) why old (disk_of new)))
 
-  -- How a batch ended: with the steps of all its inputs, or a fall over all of them; or so with those before the one that
-  -- memory was wanting for. A site that was down did nothing. No batch is refused for a full history.
-  abbrev pub BatchEnded : Scenario → List Entry → List Entry → ℕ → List Input → State D → State D → Result (Unit {0}) InputFault → Type 0
-  BatchEnded sc before more site inputs old new (Ok done) = HasSteppedAll sc before more site inputs old new
-  BatchEnded sc before more site inputs old new (Err (input_fault.Fell why)) = HasFallenOverAll sc before more site inputs why old (disk_of new)
+  -- How a batch ended: with the steps of as many of its inputs as one frame takes, and that many are told, or a fall over so
+  -- many; or so with those before the one that memory was wanting for. A site that was down did nothing. No batch is refused for a full history.
+  abbrev pub BatchEnded : Scenario → List Entry → List Entry → ℕ → List Input → State D → State D → Result ℕ InputFault → Type 0
+  BatchEnded sc before more site inputs old new (Ok n) =
+      OneFrameTakes old sc before site inputs n × HasSteppedAll sc before more site (take n inputs) old new
+  BatchEnded sc before more site inputs old new (Err (input_fault.Fell why)) =
+      (n : ℕ) × OneFrameTakes old sc before site inputs n × HasFallenOverAll sc before more site (take n inputs) why old (disk_of new)
   BatchEnded sc before more site inputs old new (Err input_fault.Down) = (more ≡ before) × (new ≡ old)
   BatchEnded sc before more site inputs old new (Err input_fault.NoMemory) = EndedShort sc before more site inputs old new
   BatchEnded sc before more site inputs old new (Err input_fault.HistoryFull) = ⊥

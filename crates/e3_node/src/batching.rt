@@ -1,7 +1,7 @@
 // Several packets of a site that is up, by its worker: their steps have one frame.
-ghost use Rattle.std.specs.Prelude.{◌≡◌, ◌≤◌, ◌<◌, ◌+◌, ◌++◌, ◌∷◌, [], None, false, ℕ, length, take, vec_capacity, IfOk, OnOk, OnErr, List as Items};
+ghost use Rattle.std.specs.Prelude.{◌≡◌, ◌≤◌, ◌<◌, ◌+◌, ◌++◌, ◌∷◌, [], None, true, false, ℕ, length, take, vec_capacity, IfOk, OnOk, OnErr, List as Items};
 ghost use Rattle.e3_site.specs.StandsAlike.{IsLogInOrder, StandsAlike};
-ghost use Rattle.e3_node.specs.Batched.{BatchAt, HasPlanned, IsBatchAt, OnlyForMemory, first_of};
+ghost use Rattle.e3_node.specs.Batched.{AreAdded, BatchAt, HasNoMoreRoom, HasPlanned, IsBatchAt, OnlyForMemory, first_of};
 ghost use Rattle.e3_node.specs.Batches.{stepped};
 ghost use Rattle.e3_node.specs.Briefing.{BriefsAreTold};
 ghost use Rattle.e3_node.specs.Several.{AreOwned, MayEnterAll, marks_in};
@@ -13,7 +13,7 @@ ghost use Rattle.e3_wire.specs.declared.marks.Mark.{Mark};
 ghost use Rattle.e3_world.specs.Moves.{log_of};
 
 use crate::InputFault;
-use crate::briefing::{shorten_batch, spare_for};
+use crate::briefing::{Room, shorten_batch, spare_for};
 use crate::drafts::prepare;
 use crate::reading::add_records;
 use crate::stepping::{room_for, step_of};
@@ -78,8 +78,15 @@ fn set_short(batch: &mut Batch, short: Option<Short>)
     }
 }
 
-// One input more: it is planned behind those before it, and its place, which is left, is claimed. All memory is taken before
-// the site does the step; behind that nothing is refused.
+// How many steps a batch has.
+fn steps_in(batch: &Batch) -> usize
+    ensures { result ≡ length batch.now.steps.items }
+{
+    batch.steps.as_slice().len()
+}
+
+// One input more, if the frame has room for what it records: it is planned behind those before it, and its place, which is
+// left, is claimed. All memory is taken before the site does the step; behind that nothing is refused.
 fn add_one<D: Disk>(
     shared: &mut Shared,
     number: u32,
@@ -89,7 +96,7 @@ fn add_one<D: Disk>(
     spare: u64,
     batch: &mut Batch,
     input: &Input,
-) -> Result<(), InputFault>
+) -> Result<bool, InputFault>
     ghost at: { BatchAt }
     requires owner { number ≤ last_owner shared.old }
     requires site { number ≡ at.site }
@@ -101,7 +108,8 @@ fn add_one<D: Disk>(
     ensures owners { last_owner shared.new ≡ last_owner shared.old }
     ensures most { most_of shared.new ≡ most_of shared.old }
     ensures used { used_of shared.new ≤ used_of shared.old + 1 }
-    ensures added { OnOk result (IsBatchAt D.meaning.meters log.now (record at { done = at.done ++ input.now ∷ [] }) batch.new site.new shared.new) }
+    ensures added { IfOk result (λ added. added ≡ true → IsBatchAt D.meaning.meters log.now (record at { done = at.done ++ input.now ∷ [] }) batch.new site.new shared.new) }
+    ensures full { IfOk result (λ added. added ≡ false → IsBatchAt D.meaning.meters log.now at batch.new site.new shared.new × HasNoMoreRoom D.meaning.meters log.now at input.now) }
     ensures kept { OnErr result (IsBatchAt D.meaning.meters log.now at batch.new site.new shared.new) }
     ensures refused { OnlyForMemory result }
 {
@@ -110,7 +118,7 @@ fn add_one<D: Disk>(
     let room = room_for(draft.plan.outs());
     let records = both_records(alloc, batch.records.as_slice(), draft.plan.records())?;
     let body = both_bodies(alloc, batch.body.as_slice(), draft.body.as_slice())?;
-    let short = shorten_batch(
+    let Room::Ready(short) = shorten_batch(
         alloc,
         site,
         log,
@@ -118,7 +126,10 @@ fn add_one<D: Disk>(
         records.as_slice(),
         body.len(),
         spare,
-    )?;
+    )?
+    else {
+        return Ok(false);
+    };
     reserve(&mut batch.steps)?;
     shared.claim(number, room)?;
     let step = step_of(number, input.copy(), site.apply(draft.plan));
@@ -126,10 +137,11 @@ fn add_one<D: Disk>(
     batch.records = records;
     batch.body = body;
     set_short(batch, short);
-    Ok(())
+    Ok(true)
 }
 
-// These inputs, one behind the other, up to the first that is refused. A place is left for each.
+// These inputs, one behind the other, up to the first that is refused or that the frame has no room for: how many were added. A
+// place is left for each.
 fn add_all<D: Disk>(
     shared: &mut Shared,
     number: u32,
@@ -138,7 +150,7 @@ fn add_all<D: Disk>(
     log: &Log<D>,
     batch: &mut Batch,
     inputs: &[Input],
-) -> Result<(), InputFault>
+) -> Result<usize, InputFault>
     ghost at: { BatchAt }
     requires owner { number ≤ last_owner shared.old }
     requires site { number ≡ at.site }
@@ -147,20 +159,22 @@ fn add_all<D: Disk>(
     requires orders { (n : ℕ) → n ≤ length inputs.now → IsLogInOrder at.site (log_of at.scenario (stepped at.scenario at.history at.site (take n inputs.now)) at.site) }
     requires briefs { (n : ℕ) → n ≤ length inputs.now → BriefsAreTold at.scenario (stepped at.scenario at.history at.site (take n inputs.now)) at.site at.rose }
     requires left { used_of shared.old + length inputs.now ≤ most_of shared.old }
-    ensures added { (n : ℕ) × (n ≤ length inputs.now) × OnOk result (n ≡ length inputs.now) × OnErr result (n < length inputs.now)
+    ensures added { (n : ℕ) × AreAdded D.meaning.meters log.now at.scenario at.history at.site inputs.now result n
         × IsBatchAt D.meaning.meters log.now (record at { done = take n inputs.now }) batch.new site.new shared.new }
     ensures refused { OnlyForMemory result }
 {
     let spare = spare_for(site, inputs);
     for input in inputs {
-        add_one(shared, number, site, rose, log, spare, batch, input)?;
+        if !add_one(shared, number, site, rose, log, spare, batch, input)? {
+            return Ok(steps_in(batch));
+        }
     }
-    Ok(())
+    Ok(steps_in(batch))
 }
 
 /// In one turn, all that is promised to the site is freed, and the steps of these inputs are made, up to the first that is
-/// refused, with a place claimed for each. So many places were promised that no claim is refused for a full history.
-/// The records that the site rose with are passed on for the proof alone.
+/// refused or that the frame has no room for, with a place claimed for each: how many steps were made. So many places were
+/// promised that no claim is refused for a full history. The records that the site rose with are passed on for the proof alone.
 pub(crate) fn plan_all<R: Wait, D: Disk>(
     rt: &R,
     wire: &Wire,
@@ -171,7 +185,7 @@ pub(crate) fn plan_all<R: Wait, D: Disk>(
     log: &Log<D>,
     batch: &mut Batch,
     inputs: &[Input],
-) -> Result<(), InputFault>
+) -> Result<usize, InputFault>
     requires idle { IsIdle wire.now pass.old }
     requires owns { Owns pass.old number }
     requires played { IsPlayed (seen_by pass.old) }

@@ -3,10 +3,12 @@ ghost use Rattle.std.specs.Prelude.{◌≡◌, ◌≢◌, ◌≤◌, ◌<◌, []
 ghost use Rattle.std.specs.List.{AllByRecursion as Each};
 ghost use Rattle.e3_world.specs.Brief.{brief};
 ghost use Rattle.e3_world.specs.Orderly.{IsOrderly};
+ghost use Rattle.e3_node.specs.Batched.{IfReady};
 ghost use Rattle.e3_node.specs.Briefing.{IsBriefOf, IsReadBrief, asked_of, spare_for, spare_of};
+ghost use Rattle.e3_node.specs.declared.briefing.Room.TheVariants as room;
 ghost use Rattle.e3_node.specs.Telling.{IsOwn};
 ghost use Rattle.e3_node.specs.declared.readying.Unready.TheVariants as unready;
-ghost use Rattle.e3_site_log.specs.Ends.{IsDue, IsShortIf, MayTurn};
+ghost use Rattle.e3_site_log.specs.Ends.{HasRoom, IsDue, IsShortIf, MayTurn};
 ghost use Rattle.e3_site_log.specs.declared.writing.Short.{Short as Shorts};
 ghost use Rattle.e3_types.specs.declared.records.Record.{Record as Records};
 
@@ -123,7 +125,8 @@ fn spare_of(site: &Site, input: &Input) -> u64
 }
 
 /// How many bytes more than its frame has so far a batch of these inputs may want: what a site records of a packet is a few
-/// numbers but for a vote, which has the operations of its transaction. Nothing rests on it but how often a brief is made.
+/// numbers but for a vote, which has the operations of its transaction. Nothing rests on it but how often a brief is made, and
+/// how many of the inputs one frame takes where more are recorded than that.
 pub(crate) fn spare_for(site: &Site, inputs: &[Input]) -> u64
     ensures { result ≡ spare_for site.now inputs.now }
 {
@@ -134,8 +137,18 @@ pub(crate) fn spare_for(site: &Site, inputs: &[Input]) -> u64
     spare
 }
 
-/// What the log is turned to for a batch with one input more, if that is not settled yet. The site has done the steps before:
-/// once they recorded something, its tables don't tell the brief of the log any more.
+/// Whether the frame of a batch takes one input more.
+#[derive(Drop)]
+pub(crate) enum Room {
+    /// It does, and this is what the log is turned to for it, if that was not settled before.
+    Ready(Option<Short>),
+    /// It has no room behind the log, and the log can't be turned any more.
+    Full,
+}
+
+/// Whether a batch has room for one input more, with which its frame has these records and this length. The site has done the
+/// steps before: once they recorded something, its tables don't tell the brief of the log any more, so that the log is turned
+/// only if that was settled before.
 pub(crate) fn shorten_batch<D: Disk>(
     alloc: Global,
     site: &Site,
@@ -144,21 +157,23 @@ pub(crate) fn shorten_batch<D: Disk>(
     records: &[Record],
     len: u64,
     spare: u64,
-) -> Result<Option<Short>, NoMemory>
-    ensures short { (l : Items Records) → (batch.now.records ≡ [] → IsBriefOf site.now l) → IfOk result (IsShortIf site.now.site l) }
+) -> Result<Room, NoMemory>
+    ensures short { (l : Items Records) → (batch.now.records ≡ [] → IsBriefOf site.now l) → IfOk result (λ r. IfReady r (IsShortIf site.now.site l)) }
     ensures due { (l : Items Records) → (batch.now.records ≡ [] → IsBriefOf site.now l) → log.now.failed ≡ false → records.now ≢ [] →
-        batch.now.short ≡ None → IfOk result (λ s. IsDue D.meaning.meters log.now l s len) }
-    ensures may { IfOk result (MayTurn log.now) }
-    ensures none { (s : Shorts) → batch.now.short ≡ Given s → result ≡ Ok None }
+        batch.now.short ≡ None → IfOk result (λ r. IfReady r (λ s. IsDue D.meaning.meters log.now l s len)) }
+    ensures may { IfOk result (λ r. IfReady r (MayTurn log.now)) }
+    ensures none { (s : Shorts) → batch.now.short ≡ Given s → result ≡ Ok (room.Ready None) }
+    ensures full { IfOk result (λ r. r ≡ room.Full → (batch.now.records ≢ []) × (HasRoom D.meaning.meters log.now len → ⊥)) }
 {
     if records.is_empty() || batch.short.is_some() {
-        return Ok(None);
+        return Ok(Room::Ready(None));
     }
     if batch.records.is_empty() {
-        return shorten(alloc, site, log, records, len.saturating_add(spare));
+        let len = len.saturating_add(spare);
+        return Ok(Room::Ready(shorten(alloc, site, log, records, len)?));
     }
     if log.fits(len) {
-        return Ok(None);
+        return Ok(Room::Ready(None));
     }
-    Err(NoMemory)
+    Ok(Room::Full)
 }

@@ -266,9 +266,11 @@ impl<D: Disk + Drill + Drop> Node<D> {
     /// One to eight packets for the site, by a worker whose pass speaks for it, outside of a recover step: what `input_by_turns`
     /// does with each of them in their order, but that all their records are one frame, and their steps are entered in one
     /// turn. They are the first packets to the site, and a place is promised to it for each, as `next_few` of the wire promises
-    /// them; a place that is not used is given back. So no batch is refused for a full history. A site that falls over them has
-    /// one fall over all of them. Where memory runs out behind the first of them, those have their frame and their steps, or one
-    /// fall, and the rest have nothing. All memory is taken before the frame is written.
+    /// them; a place that is not used is given back. So no batch is refused for a full history. With Ok it is told how many of
+    /// the packets, from the first on, have their steps: all of them, but where the frame with the records of one more would have
+    /// no room behind the log; the rest stay pending. A site that falls over them has one fall over so many. Where memory runs out
+    /// behind the first of them, those have their frame and their steps, or one fall, and the rest have nothing. All memory is
+    /// taken before the frame is written.
     pub fn batch<R: Wait>(
         &mut self,
         rt: &R,
@@ -276,7 +278,7 @@ impl<D: Disk + Drill + Drop> Node<D> {
         wire: &Wire,
         pass: &mut WirePass,
         inputs: List<Input>,
-    ) -> Result<(), InputFault>
+    ) -> Result<usize, InputFault>
         requires turns { NodeMayTakeTurns D.meaning wire.now pass.old self.old }
         requires few { (1 ≤ length inputs) × (length inputs ≤ 8) }
         requires due { is_up_at (history_seen pass.old) self.old.site ≡ true → MayTakeAll (scenario_seen pass.old) (history_seen pass.old) self.old.site inputs }

@@ -31,21 +31,22 @@ use e3_wire::{Wire, WirePass};
 use std::alloc::Global;
 use std::sync::Wait;
 
-/// How a batch ended: whether one of its inputs was refused, and whether the site fell over those before that.
+/// How a batch ended: how many of its inputs were planned, or that one was refused, and whether the site fell over those before
+/// that.
 #[derive(Clone, Copy)]
 pub(crate) struct BatchEnd {
-    pub refused: Result<(), InputFault>,
+    pub planned: Result<usize, InputFault>,
     pub fell: Option<Why>,
 }
 
 // What is answered of it.
-fn answer_of(end: BatchEnd) -> Result<(), InputFault>
-    ensures { result ≡ answer_by end.refused end.fell }
+fn answer_of(end: BatchEnd) -> Result<usize, InputFault>
+    ensures { result ≡ answer_by end.planned end.fell }
 {
-    match end.refused {
+    match end.planned {
         Err(fault) => Err(fault),
-        Ok(()) => match end.fell {
-            None => Ok(()),
+        Ok(steps) => match end.fell {
+            None => Ok(steps),
             Some(why) => Err(InputFault::Fell { why }),
         },
     }
@@ -60,8 +61,8 @@ fn first_of(inputs: List<Input>, steps: &[Entry]) -> List<Input>
     List::from_vec(first)
 }
 
-// A site that is up takes several packets: their steps are planned and their places claimed in one turn, one frame is
-// written outside of it, and the steps are entered in another; or the site falls over all of them.
+// A site that is up takes several packets: their steps are planned and their places claimed in one turn, as many as one frame
+// takes; the frame is written outside of it, and the steps are entered in another; or the site falls over all of them.
 fn step_all<R: Wait, D: Disk>(
     rt: &R,
     alloc: Global,
@@ -82,9 +83,9 @@ fn step_all<R: Wait, D: Disk>(
     requires places { length inputs ≤ (note_of number (seen_by pass.old)).places }
     ensures turned { HasTurned wire.now pass.old pass.new }
     ensures ended { EndsWith D.meaning (scenario_seen pass.old) (history_seen pass.old) (history_seen pass.new) number inputs
-        (state.Up site.old log.old rose.now logged.old) (state.Up site.new log.new rose.now logged.new) result.refused result.fell }
-    ensures refused { OnlyForMemory result.refused }
-    ensures never { result.refused ≡ Err input_fault.Down → ⊥ }
+        (state.Up site.old log.old rose.now logged.old) (state.Up site.new log.new rose.now logged.new) result.planned result.fell }
+    ensures refused { OnlyForMemory result.planned }
+    ensures never { result.planned ≡ Err input_fault.Down → ⊥ }
     ensures none { note_of number (seen_by pass.new) ≡ nothing }
 {
     logs_are_sound();
@@ -94,7 +95,7 @@ fn step_all<R: Wait, D: Disk>(
         body: List::new(alloc),
         short: None,
     };
-    let refused = plan_all(
+    let planned = plan_all(
         rt,
         wire,
         pass,
@@ -116,7 +117,7 @@ fn step_all<R: Wait, D: Disk>(
         Ok(()) => {
             enter_steps(rt, wire, pass, batch.steps);
             BatchEnd {
-                refused,
+                planned,
                 fell: None,
             }
         }
@@ -125,7 +126,7 @@ fn step_all<R: Wait, D: Disk>(
             let fall = fall_of(number, over, batch.records, why);
             wire.commit_entry(rt, pass, fall);
             BatchEnd {
-                refused,
+                planned,
                 fell: Some(why),
             }
         }
@@ -152,7 +153,7 @@ pub(crate) fn take_all<R: Wait, D: Disk + Drop>(
     number: u32,
     state: &mut State<D>,
     inputs: List<Input>,
-) -> Result<(), InputFault>
+) -> Result<usize, InputFault>
     requires turns { MayTakeTurns wire.now number pass.old }
     requires stands { IsIn D.meaning (scenario_seen pass.old) (history_seen pass.old) number state.old }
     requires any { 1 ≤ length inputs }

@@ -9,16 +9,14 @@ mod memory_sink;
 mod memory_source;
 mod sink;
 mod source;
-mod standard_sink;
-mod standard_source;
+mod standard;
 
 pub use gate::{Gate, OpenGate};
 pub use memory_sink::MemSink;
 pub use memory_source::MemSource;
 pub use sink::{Sink, write_all};
 pub use source::{ReadFault, Source, read_up_to};
-pub use standard_sink::StdSink;
-pub use standard_source::StdSource;
+pub use standard::{Standard, StdSink, StdSource};
 
 /// A call of a stream has failed, and the stream has counted a fault.
 #[derive(Clone, Copy, Debug, PartialEq, Eq)]

@@ -1,7 +1,8 @@
 // The transactions that are open at a site.
-ghost use Rattle.std.specs.Prelude.{◌≡◌, ◌+◌, ◌≤◌, ◌++◌, ◌∷◌, [], ℕ, IfOk, OnOk, List as Items, length, vec_capacity};
+ghost use Rattle.std.specs.Prelude.{◌≡◌, ◌+◌, ◌≤◌, ◌++◌, ◌∷◌, [], ℕ, IfOk, MatchOption, OnOk, List as Items, length, vec_capacity};
 ghost use Rattle.std.specs.List.{flat_map, list_any};
 ghost use Rattle.e3_types.specs.declared.records.Record.{Record as SomeRecord};
+ghost use Rattle.e3_types.specs.declared.transactions.Txn.{Txn as SomeTxn};
 ghost use Rattle.e3_world.specs.declared.lives.At.{At};
 ghost use Rattle.e3_world.specs.declared.lives.Life.{Life};
 ghost use Rattle.e3_world.specs.Items.{began_in, txn_of_record};
@@ -55,56 +56,68 @@ fn add_one(cards: &Cards, t: &Txn, out: &mut Vec<Txn>) -> Result<(), NoMemory>
     Ok(())
 }
 
-fn add_recorded(cards: &Cards, r: &Record, out: &mut Vec<Txn>) -> Result<(), NoMemory>
-    ensures { IfOk result (λ u. (a : At) → CardsStand a.site cards.now a.life → out.new.items ≡ out.old.items ++ undecided_among a.life.log (txn_of_record r.now)) }
+// What makes a transaction known to a site: a record of it, an operation of it that came, or what tells its begin.
+trait MakesKnown {
+    ghost known: { Self → Items SomeTxn };
+
+    fn txn(&self) -> Option<&Txn>
+        ensures { MatchOption result (known self.now ≡ []) (λ t. known self.now ≡ t.now ∷ []) };
+}
+
+impl MakesKnown for Record {
+    ghost known = { txn_of_record };
+
+    fn txn(&self) -> Option<&Txn> {
+        txn_of_record(self)
+    }
+}
+
+impl MakesKnown for Told {
+    ghost known = { began_in };
+
+    fn txn(&self) -> Option<&Txn> {
+        match self {
+            Told::Began { txn } => Some(txn),
+            _ => None,
+        }
+    }
+}
+
+impl MakesKnown for Option<Standing> {
+    ghost known = { fresh_txns };
+
+    fn txn(&self) -> Option<&Txn> {
+        match self {
+            Some(s) => Some(&s.asked.txn),
+            None => None,
+        }
+    }
+}
+
+// Adds the transaction that it makes known, where the log leaves it undecided.
+fn add_known<T: MakesKnown>(cards: &Cards, source: &T, out: &mut Vec<Txn>) -> Result<(), NoMemory>
+    ensures { IfOk result (λ u. (a : At) → CardsStand a.site cards.now a.life → out.new.items ≡ out.old.items ++ undecided_among a.life.log (T.known source.now)) }
 {
-    match txn_of_record(r) {
+    match source.txn() {
         Some(t) => add_one(cards, t, out),
         None => Ok(()),
     }
 }
 
-// Adds the transactions of these records that the log leaves undecided.
-fn add_logged(cards: &Cards, records: &[Record], out: &mut Vec<Txn>) -> Result<(), NoMemory>
-    ensures { IfOk result (λ u. (a : At) → CardsStand a.site cards.now a.life → out.new.items ≡ out.old.items ++ undecided_among a.life.log (flat_map txn_of_record records.now)) }
+// Adds the transactions that these make known and the log leaves undecided.
+fn add_all_known<T: MakesKnown>(
+    cards: &Cards,
+    sources: &[T],
+    out: &mut Vec<Txn>,
+) -> Result<(), NoMemory>
+    ensures { IfOk result (λ u. (a : At) → CardsStand a.site cards.now a.life → out.new.items ≡ out.old.items ++ undecided_among a.life.log (flat_map T.known sources.now)) }
 {
-    match records {
+    match sources {
         [] => Ok(()),
-        [r, rest @ ..] => {
-            add_recorded(cards, r, out)?;
-            add_logged(cards, rest, out)
+        [first, rest @ ..] => {
+            add_known(cards, first, out)?;
+            add_all_known(cards, rest, out)
         }
-    }
-}
-
-fn add_told(cards: &Cards, event: &Told, out: &mut Vec<Txn>) -> Result<(), NoMemory>
-    ensures { IfOk result (λ u. (a : At) → CardsStand a.site cards.now a.life → out.new.items ≡ out.old.items ++ undecided_among a.life.log (began_in event.now)) }
-{
-    match event {
-        Told::Began { txn } => add_one(cards, txn, out),
-        _ => Ok(()),
-    }
-}
-
-// Adds the transactions that these events tell as begun and the log leaves undecided.
-fn add_begun(cards: &Cards, told: &[Told], out: &mut Vec<Txn>) -> Result<(), NoMemory>
-    ensures { IfOk result (λ u. (a : At) → CardsStand a.site cards.now a.life → out.new.items ≡ out.old.items ++ undecided_among a.life.log (flat_map began_in told.now)) }
-{
-    match told {
-        [] => Ok(()),
-        [event, rest @ ..] => {
-            add_told(cards, event, out)?;
-            add_begun(cards, rest, out)
-        }
-    }
-}
-
-fn add_fresh(cards: &Cards, new: &Option<Standing>, out: &mut Vec<Txn>) -> Result<(), NoMemory>
-    ensures { IfOk result (λ u. (a : At) → CardsStand a.site cards.now a.life → out.new.items ≡ out.old.items ++ undecided_among a.life.log (fresh_txns new.now)) }
-{
-    match new {
-        Some(s) => add_one(cards, &s.asked.txn, out),
-        None => Ok(()),
     }
 }
 
@@ -119,7 +132,7 @@ fn add_arrived(
     ensures { IfOk result (λ u. (a : At) → CardsStand a.site cards.now a.life → out.new.items ≡ out.old.items ++ undecided_among a.life.log (fresh_txns (fresh_of a.site a.life step.now))) }
 {
     let new = fresh(alloc, cards, &step.input, step.told.as_slice())?;
-    add_fresh(cards, &new, out)
+    add_known(cards, &new, out)
 }
 
 // A record among these decides a transaction.
@@ -174,9 +187,9 @@ pub(crate) fn added(alloc: Global, cards: &Cards, step: &SiteStep) -> Result<Ope
     ensures { IfOk result (λ more. (a : At) → CardsStand a.site cards.now a.life → AreAdded a.site a.life step.now more) }
 {
     let mut more = no_opens(alloc);
-    add_logged(cards, step.records.as_slice(), &mut more.logged)?;
+    add_all_known(cards, step.records.as_slice(), &mut more.logged)?;
     add_arrived(alloc, cards, step, &mut more.arrived)?;
-    add_begun(cards, step.told.as_slice(), &mut more.begun)?;
+    add_all_known(cards, step.told.as_slice(), &mut more.begun)?;
     Ok(more)
 }
 
@@ -226,7 +239,7 @@ pub(crate) fn note_opens(cards: &Cards, opens: &mut Opens, r: &Record) -> Result
     ensures { IfOk result (λ u. (site inc : ℕ) → (log : Items SomeRecord) → CardsStand site cards.now (unstepped inc log) → OpensStand site opens.old (unstepped inc log)
         → OpensStand site opens.new (unstepped inc (log ++ r.now ∷ []))) }
 {
-    add_recorded(cards, r, &mut opens.logged)?;
+    add_known(cards, r, &mut opens.logged)?;
     sift_by(r, &mut opens.logged);
     Ok(())
 }

@@ -35,6 +35,7 @@ impl Whose for Brand {
 // of each step of the definitions may: `steps_may_follow_the_log`.
 #[derive(Drop)]
 struct Reader<'a, K: Whose> {
+    alloc: Global,
     weights: &'a [u32],
     cards: &'a Cards,
     names: &'a Names,
@@ -55,6 +56,10 @@ impl<'a, K: Whose> Model for Reader<'a, K> {
 
 impl<'a, K: Whose> Past for Reader<'a, K> {
     ghost at = { λ _. K.place };
+
+    fn alloc(&self) -> Global {
+        self.alloc
+    }
 
     fn weights(&self) -> &[u32] {
         self.weights
@@ -99,90 +104,73 @@ impl<'a, K: Whose> Past for Reader<'a, K> {
         cards.seen(t).voted
     }
 
-    fn issued_count(&self, alloc: Global, t: &Txn) -> Result<u64, NoMemory> {
+    fn issued_count(&self, t: &Txn) -> Result<u64, NoMemory> {
         let cards = self.cards;
-        Ok(cards.issued_count(alloc, t))
+        Ok(cards.issued_count(self.alloc, t))
     }
 
-    fn unanswered(&self, alloc: Global, t: &Txn, made: &Made) -> Result<Option<u32>, NoMemory> {
+    fn unanswered(&self, t: &Txn, made: &Made) -> Result<Option<u32>, NoMemory> {
         let cards = self.cards;
-        cards.unanswered(alloc, t, made)
+        cards.unanswered(self.alloc, t, made)
     }
 
-    fn is_awaited(
-        &self,
-        alloc: Global,
-        f: u32,
-        t: &Txn,
-        n: u32,
-        made: &Made,
-    ) -> Result<bool, NoMemory> {
+    fn is_awaited(&self, f: u32, t: &Txn, n: u32, made: &Made) -> Result<bool, NoMemory> {
         let cards = self.cards;
-        cards.is_awaited(alloc, f, t, n, self.input, made)
+        cards.is_awaited(self.alloc, f, t, n, self.input, made)
     }
 
-    fn expected(&self, alloc: Global, t: &Txn, of: u32) -> Result<Expected, NoMemory> {
+    fn expected(&self, t: &Txn, of: u32) -> Result<Expected, NoMemory> {
         let cards = self.cards;
-        cards.expected(alloc, t, of)
+        cards.expected(self.alloc, t, of)
     }
 
-    fn kept_reason(&self, alloc: Global, t: &Txn) -> Result<Option<Refusal>, NoMemory> {
+    fn kept_reason(&self, t: &Txn) -> Result<Option<Refusal>, NoMemory> {
         let cards = self.cards;
-        Ok(cards.kept_reason(alloc, t))
+        Ok(cards.kept_reason(self.alloc, t))
     }
 
-    fn done(&self, alloc: Global, t: &Txn) -> Result<List<Performed>, NoMemory> {
+    fn done(&self, t: &Txn) -> Result<List<Performed>, NoMemory> {
         let cards = self.cards;
-        cards.done(alloc, t)
+        cards.done(self.alloc, t)
     }
 
-    fn own_value(
-        &self,
-        alloc: Global,
-        t: &Txn,
-        name: &Name,
-        row: Answer,
-        made: &Made,
-    ) -> Result<Answer, NoMemory> {
+    fn value(&self, t: &Txn, name: &Name, made: &Made) -> Result<Answer, NoMemory> {
         let cards = self.cards;
-        cards.own_value(alloc, t, name, row, self.input, made)
+        let row = names::row(self.alloc, self.names, name, made)?;
+        cards.own_value(self.alloc, t, name, row, self.input, made)
     }
 
-    fn row(&self, alloc: Global, name: &Name, made: &Made) -> Result<Answer, NoMemory> {
-        names::row(alloc, self.names, name, made)
-    }
-
-    fn answer(&self, alloc: Global, q: &Asked) -> Result<Option<Answer>, NoMemory> {
+    fn answer(&self, q: &Asked) -> Result<Option<Answer>, NoMemory> {
         let cards = self.cards;
-        Ok(cards.answer(alloc, q))
+        Ok(cards.answer(self.alloc, q))
     }
 
-    fn is_waiting(&self, alloc: Global, q: &Asked, made: &Made) -> Result<bool, NoMemory> {
+    fn is_waiting(&self, q: &Asked, made: &Made) -> Result<bool, NoMemory> {
         let cards = self.cards;
-        Ok(cards.is_waiting(alloc, q, made))
+        Ok(cards.is_waiting(self.alloc, q, made))
     }
 
-    fn waits(&self, alloc: Global, t: &Txn, made: &Made) -> Result<bool, NoMemory> {
+    fn waits(&self, t: &Txn, made: &Made) -> Result<bool, NoMemory> {
         let cards = self.cards;
-        Ok(cards.waits(alloc, t, made))
+        Ok(cards.waits(self.alloc, t, made))
     }
 
-    fn lock(&self, alloc: Global, q: &Asked, made: &Made) -> Result<Grant, NoMemory> {
-        names::lock(alloc, self.names, q, made)
+    fn lock(&self, q: &Asked, made: &Made) -> Result<Grant, NoMemory> {
+        names::lock(self.alloc, self.names, q, made)
     }
 
-    fn grants_after(&self, alloc: Global, made: &Made) -> Result<List<Asked>, NoMemory> {
-        names::grants_after(alloc, self.cards, self.names, self.input, made)
+    fn grants_after(&self, made: &Made) -> Result<List<Asked>, NoMemory> {
+        names::grants_after(self.alloc, self.cards, self.names, self.input, made)
     }
 
-    fn has_every_yes(&self, alloc: Global, t: &Txn, made: &Made) -> Result<bool, NoMemory> {
+    fn has_every_yes(&self, t: &Txn, made: &Made) -> Result<bool, NoMemory> {
         let cards = self.cards;
-        Ok(cards.has_every_yes(alloc, t, self.input, made))
+        Ok(cards.has_every_yes(self.alloc, t, self.input, made))
     }
 
-    fn election(&self, alloc: Global, t: &Txn) -> Result<Option<Election>, NoMemory> {
+    fn election(&self, t: &Txn) -> Result<Option<Election>, NoMemory> {
         let cards = self.cards;
-        cards.election(alloc, t)
+        cards.election(self.alloc, t)
     }
 
     fn round(&self, t: &Txn) -> Option<Acks> {
@@ -212,13 +200,14 @@ fn step_at_place<K: Whose>(
     ensures { IfOk result (λ made. made ≡ step_at K.place) }
 {
     let reader: Reader<'_, K> = Reader {
+        alloc,
         weights,
         cards,
         names,
         input,
         of: PhantomData,
     };
-    step_at(alloc, &reader)
+    step_at(&reader)
 }
 
 /// What an input makes a site do for whose life its tables stand. The weights are those of all sites, that of site 1 first.

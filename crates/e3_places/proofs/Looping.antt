@@ -33,9 +33,6 @@ flat_next f xs i x was ys zs h e g k =
     ∙ ap (λ (l : List _). was ++ l)
     (ap (λ (l : List _). flat_map f (take i xs) ++ l) (sym (append-nil (f x))) ∙ sym (flat_map-append f (take i xs) (x ∷ [])) ∙ ap (flat_map f) (sym (take_next xs i x h e)))
 
-one_left : {X : Type 0} (p : X → Bool) (x : X) → (if p x then x ∷ [] else []) ≡ filter p (x ∷ [])
-one_left p x = refl
-
 pub filter_next : {X : Type 0} (p : X → Bool) (xs : List X) (i : ℕ) (x : X) (was ys zs : List X) → i < length xs → x ≡ get_or xs i x → ys ≡ was ++ filter p (take i xs)
     → zs ≡ ys ++ (if p x then x ∷ [] else []) → zs ≡ was ++ filter p (take (i + 1) xs)
 filter_next p xs i x was ys zs h e g k =
@@ -76,16 +73,6 @@ held_made name other rs claims o0 o1 o2 o3 standing votes cast again n e0 s e1 v
     ∙ assoc (flat_map (held_by rs) claims.standing) (flat_map (left_lock rs) claims.votes) (flat_map (left_lock rs) own)
     ∙ ap (λ (l : List Lock). flat_map (held_by rs) claims.standing ++ l) (sym (flat_map-append (left_lock rs) claims.votes own) ∙ sym (left_parts rs (claims.votes ++ own)))
 
-pub map_next : {X Y : Type 0} (f : X → Y) (xs : List X) (i : ℕ) (x : X) (was ys zs : List Y) → i < length xs → x ≡ get_or xs i x → ys ≡ was ++ map f (take i xs) → zs ≡ ys ++ f x ∷ []
-    → zs ≡ was ++ map f (take (i + 1) xs)
-map_next f xs i x was ys zs h e g k =
-    k ∙ ap (λ (l : List _). l ++ f x ∷ []) g ∙ assoc was (map f (take i xs)) (f x ∷ [])
-    ∙ ap (λ (l : List _). was ++ l) (sym (more (take i xs)) ∙ ap (map f) (sym (take_next xs i x h e)))
-  where
-    more : (ys : List _) → map f (ys ++ x ∷ []) ≡ map f ys ++ f x ∷ []
-    more [] = refl
-    more (y ∷ ys) = ap (λ (l : List _). f y ∷ l) (more ys)
-
 pub picked_next : {X Y : Type 0} (p : X → Bool) (f : X → Y) (xs : List X) (i : ℕ) (x : X) (was ys zs : List Y) → i < length xs → x ≡ get_or xs i x
     → ys ≡ was ++ map f (filter p (take i xs)) → zs ≡ ys ++ (if p x then f x ∷ [] else []) → zs ≡ was ++ map f (filter p (take (i + 1) xs))
 picked_next p f xs i x was ys zs h e g k =
@@ -104,7 +91,3 @@ picked_next p f xs i x was ys zs h e g k =
     more : (ys : List _) → map f (filter p (ys ++ x ∷ [])) ≡ map f (filter p ys) ++ (if p x then f x ∷ [] else [])
     more [] = last (p x)
     more (y ∷ ys) = one (p y) y ys (more ys)
-
-pub map_pushed : {X Y : Type 0} (f : X → Y) (xs : List X) (i : ℕ) (x : X) (was ys zs : List Y) (y : Y) → i < length xs → x ≡ get_or xs i x → ys ≡ was ++ map f (take i xs) → y ≡ f x
-    → zs ≡ ys ++ y ∷ [] → zs ≡ was ++ map f (take (i + 1) xs)
-map_pushed f xs i x was ys zs y h e g d k = map_next f xs i x was ys zs h e g (k ∙ ap (λ (v : _). ys ++ v ∷ []) d)

@@ -4,9 +4,10 @@ ghost use Rattle.e3_world.specs.Steps.{step_of};
 
 use crate::anew::Anew;
 use crate::packets::unnumbered_input;
+use e3_readings::life_of;
 use e3_step::step_at;
-use e3_types::{Input, NoMemory, Record};
-use e3_world::{Made, SiteStep};
+use e3_types::{Input, List, NoMemory, Record};
+use e3_world::{At, Made, SiteStep};
 use std::alloc::Global;
 
 /// What an input makes a site do that rose with this log, the records of the rise among it, and made these steps since,
@@ -22,6 +23,16 @@ pub fn step_of(
 ) -> Result<Made, NoMemory>
     ensures { IfOk result (λ made. made ≡ step_of weights.now site (record { rose = rose.now; since = since.now }) input.now) }
 {
-    let past = Anew::of(alloc, weights, site, rose, since, &unnumbered_input(input))?;
-    step_at(alloc, &past)
+    let mut copied = List::new(alloc);
+    copied.extend(weights)?;
+    let past = Anew {
+        alloc,
+        place: At {
+            weights: copied,
+            site,
+            life: life_of(alloc, rose, since)?,
+            input: unnumbered_input(input),
+        },
+    };
+    step_at(&past)
 }

@@ -1,5 +1,5 @@
 -- What a map has behind one more entry, where equal keys are one.
-use Rattle.std.specs.Prelude.{◌≡◌, ◌==◌, ◌&&◌, ◌||◌, ◌∷◌, [], ℕ, Bool, true, false, cond, List, Some}
+use Rattle.std.specs.Prelude.{◌≡◌, ◌==◌, ◌&&◌, ◌||◌, ◌∷◌, [], ◌+◌, ℕ, Bool, true, false, cond, List, Some, length}
 use Rattle.std.specs.BTreeMap.{is_at, insert_entry}
 use Rattle.std.specs.BTreeSet.{insert_key}
 use Rattle.std.specs.Cmp.{unsigned_tied}
@@ -76,6 +76,21 @@ module _ {K : Type 0} (cmp : K → K → Ordering) (exact : CmpEqualImpliesEq cm
   added q k [] = refl
   added q k (x ∷ xs) = added_at q k x xs (cmp k x) refl (added q k xs)
 
+-- a key that no key of a set equals is one more
+module _ {K : Type 0} (cmp : K → K → Ordering) where
+  counted_at : (k x : K) (xs : List K) (o : Ordering) → cmp k x ≡ o → list_any (is_at (cmp k)) (x ∷ xs) ≡ false →
+      (list_any (is_at (cmp k)) xs ≡ false → length (insert_key cmp xs k) ≡ length xs + 1) →
+      length (insert_key cmp (x ∷ xs) k) ≡ length (x ∷ xs) + 1
+  counted_at k x xs Less is new ih = rw is (omega arith)
+  counted_at k x xs Equal is new ih =
+      let no : true ≡ false = sym (ap (λ o. is_eq o || list_any (is_at (cmp k)) xs) is) ∙ new in absurd cc
+  counted_at k x xs Greater is new ih =
+      let behind = ih (sym (ap (λ o. is_eq o || list_any (is_at (cmp k)) xs) is) ∙ new) in rw is (omega (arith, behind))
+
+  counted : (k : K) (xs : List K) → list_any (is_at (cmp k)) xs ≡ false → length (insert_key cmp xs k) ≡ length xs + 1
+  counted k [] new = refl
+  counted k (x ∷ xs) new = counted_at k x xs (cmp k x) refl new (counted k xs)
+
 -- equal lists of numbers
 pub key_same : (q k : List ℕ) → is_at (slice_cmp nat_cmp q) k ≡ same_numbers q k
 key_same q k = sym (texts_ties q k) ∙ pointwise_same q k
@@ -102,11 +117,31 @@ pub txn_same : (q t : Txn) → same_numbers (numbers_of q) (numbers_of t) ≡ sa
 unfolding numbers_of
 txn_same q t = four (q.site == t.site) (q.inc == t.inc) (q.seq == t.seq) (same_numbers q.sites t.sites)
 
--- one more transaction of a set
-pub txn_added : (q t : Txn) (keys : List (List ℕ)) → has_txn q (with_txn t keys) ≡ (same_txn q t || has_txn q keys)
-txn_added q t keys =
+-- one more transaction of a set, at its place
+pub txn_inserted : (q t : Txn) (keys : List (List ℕ)) → has_txn q (insert_key (slice_cmp nat_cmp) keys (numbers_of t)) ≡ (same_txn q t || has_txn q keys)
+txn_inserted q t keys =
     added (slice_cmp nat_cmp) exact_bytes (numbers_of q) (numbers_of t) keys
     ∙ ap (λ b. b || has_txn q keys) (key_same (numbers_of q) (numbers_of t) ∙ txn_same q t)
+
+-- one transaction is there where the other is
+there : (q t : Txn) (keys : List (List ℕ)) (b : Bool) → same_txn q t ≡ b → has_txn t keys ≡ true → has_txn q keys ≡ (b || has_txn q keys)
+there q t keys true same is =
+    let one : numbers_of q ≡ numbers_of t = exact_bytes (numbers_of q) (numbers_of t)
+    (equal_at (slice_cmp nat_cmp (numbers_of q) (numbers_of t)) (key_same (numbers_of q) (numbers_of t) ∙ txn_same q t ∙ same)) in
+    ap (λ l. list_any (is_at (slice_cmp nat_cmp l)) keys) one ∙ is
+there q t keys false same is = refl
+
+-- one more transaction of a set
+pub txn_added : (q t : Txn) (keys : List (List ℕ)) → has_txn q (with_txn t keys) ≡ (same_txn q t || has_txn q keys)
+txn_added q t keys = by (has_txn t keys) refl
+  where
+    by : (b : Bool) → has_txn t keys ≡ b → has_txn q (with_txn t keys) ≡ (same_txn q t || has_txn q keys)
+    by true is = rw is (there q t keys (same_txn q t) refl is)
+    by false is = rw is (txn_inserted q t keys)
+
+-- a transaction that is not there is one more
+pub txn_counted : (t : Txn) (keys : List (List ℕ)) → has_txn t keys ≡ false → length (insert_key (slice_cmp nat_cmp) keys (numbers_of t)) ≡ length keys + 1
+txn_counted t keys new = counted (slice_cmp nat_cmp) (numbers_of t) keys new
 
 -- equal numbers
 number_same : (q k : ℕ) → is_at (nat_cmp q) k ≡ (k == q)

@@ -11,11 +11,11 @@ use Rattle.e3_world.specs.Logs.{is_vote}
 use Rattle.e3_world.specs.Moves.{Placed}
 use Rattle.e3_world.specs.Serial.{is_commit, is_committed, votes_among, order_in, commit_order}
 use Rattle.e3_report.specs.Keys.{has_txn}
-use Rattle.e3_report.specs.Orders.{with_commit, commits_of, with_vote, voters_of, last_vote, backward}
+use Rattle.e3_report.specs.Orders.{with_decision, decided, with_vote, voters_of, last_vote, backward}
 use Rattle.e3_report.proofs.Maps.{txn_added}
 
 -- the set behind one more record
-commit_added : (q : Txn) (keys : List (List ℕ)) (r : Record) → has_txn q (with_commit keys r) ≡ (is_commit q r || has_txn q keys)
+commit_added : (q : Txn) (keys : List (List ℕ)) (r : Record) → has_txn q (with_decision Commit keys r) ≡ (is_commit q r || has_txn q keys)
 commit_added q keys (log.Birth format site weights rows) = refl
 commit_added q keys (log.Inc inc) = refl
 commit_added q keys (log.Vote t ops) = refl
@@ -39,10 +39,10 @@ swapped false b c = refl
 
 -- the set tells what is committed
 commits_tell : (q : Txn) (keys : List (List ℕ)) (placed : List Placed) →
-    has_txn q (fold (λ ks p. with_commit ks p.entered) keys placed) ≡ (has_txn q keys || is_committed q placed)
+    has_txn q (fold (λ ks p. with_decision Commit ks p.entered) keys placed) ≡ (has_txn q keys || is_committed q placed)
 commits_tell q keys [] = sym (or-false (has_txn q keys))
 commits_tell q keys (p ∷ placed) =
-    commits_tell q (with_commit keys p.entered) placed
+    commits_tell q (with_decision Commit keys p.entered) placed
     ∙ ap (λ b. b || is_committed q placed) (commit_added q keys p.entered)
     ∙ swapped (is_commit q p.entered) (has_txn q keys) (is_committed q placed)
 
@@ -58,23 +58,23 @@ maybe_reversed false t = refl
 
 -- the votes of the rest, behind one more record
 one_before : (all : List Placed) (p : Placed) (rest : List Placed) (r : Record) → p.entered ≡ r →
-    order_in all (p ∷ rest) ≡ reverse (last_vote (commits_of all) (voters_of rest) r) ++ order_in all rest
+    order_in all (p ∷ rest) ≡ reverse (last_vote (decided Commit all) (voters_of rest) r) ++ order_in all rest
 one_before all p rest (log.Birth format site weights rows) is = rw is refl
 one_before all p rest (log.Inc inc) is = rw is refl
 one_before all p rest (log.Vote t ops) is =
-    rw is (sym (ap (λ l. l ++ order_in all rest) (maybe_reversed (has_txn t (commits_of all) && not (has_txn t (voters_of rest))) t
+    rw is (sym (ap (λ l. l ++ order_in all rest) (maybe_reversed (has_txn t (decided Commit all) && not (has_txn t (voters_of rest))) t
     ∙ ap (λ b. if b && not (has_txn t (voters_of rest)) then t ∷ [] else []) (commits_tell t [] all)
     ∙ ap (λ b. if is_committed t all && not b then t ∷ [] else []) (voters_tell t rest))))
 one_before all p rest (log.Join t n) is = rw is refl
 one_before all p rest (log.Attempt t n dir) is = rw is refl
 one_before all p rest (log.Decision t dir) is = rw is refl
 
-reversed_order : (all rest : List Placed) → reverse (backward (commits_of all) rest) ≡ order_in all rest
+reversed_order : (all rest : List Placed) → reverse (backward (decided Commit all) rest) ≡ order_in all rest
 reversed_order all [] = refl
 reversed_order all (p ∷ rest) =
-    reverse-append (backward (commits_of all) rest) (last_vote (commits_of all) (voters_of rest) p.entered)
-    ∙ ap (λ l. reverse (last_vote (commits_of all) (voters_of rest) p.entered) ++ l) (reversed_order all rest)
+    reverse-append (backward (decided Commit all) rest) (last_vote (decided Commit all) (voters_of rest) p.entered)
+    ∙ ap (λ l. reverse (last_vote (decided Commit all) (voters_of rest) p.entered) ++ l) (reversed_order all rest)
     ∙ sym (one_before all p rest p.entered refl)
 
-pub order_is_reversed : (placed : List Placed) → reverse (backward (commits_of placed) placed) ≡ commit_order placed
+pub order_is_reversed : (placed : List Placed) → reverse (backward (decided Commit placed) placed) ≡ commit_order placed
 order_is_reversed placed = reversed_order placed placed

@@ -1,5 +1,5 @@
 -- Maps and sets as the lists of their entries and keys, and transactions as keys.
-use Rattle.std.specs.Prelude.{◌∷◌, ℕ, Bool, List, Option}
+use Rattle.std.specs.Prelude.{◌∷◌, if◌then◌else◌, ℕ, Bool, List, Option}
 use Rattle.std.specs.List.{list_any}
 use Rattle.std.specs.BTreeMap.{is_at}
 use Rattle.std.specs.BTreeSet.{insert_key}
@@ -18,7 +18,7 @@ has_txn t keys = list_any (is_at (slice_cmp nat_cmp (numbers_of t))) keys
 
 -- the transaction among these, which ascend
 abbrev pub with_txn : Txn → List (List ℕ) → List (List ℕ)
-with_txn t keys = insert_key (slice_cmp nat_cmp) keys (numbers_of t)
+with_txn t keys = if has_txn t keys then keys else insert_key (slice_cmp nat_cmp) keys (numbers_of t)
 
 -- the site is one of these
 abbrev pub has_number : ℕ → List ℕ → Bool

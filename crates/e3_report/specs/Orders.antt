@@ -2,19 +2,20 @@
 use Rattle.std.specs.Prelude.{◌&&◌, ◌++◌, ◌∷◌, [], if◌then◌else◌, not, ℕ, List, fold}
 use Rattle.e3_types.specs.declared.records.Record.{Record}
 use Rattle.e3_types.specs.declared.records.Record.TheVariants as log
-use Rattle.e3_types.specs.declared.transactions.Dir.TheVariants.{Commit}
+use Rattle.e3_types.specs.declared.transactions.Dir.{Dir}
 use Rattle.e3_types.specs.declared.transactions.Txn.{Txn}
+use Rattle.e3_types.specs.Same.{same_dir}
 use Rattle.e3_world.specs.Moves.{Placed}
 use Rattle.e3_report.specs.Keys.{has_txn, with_txn}
 
--- the transactions that are committed, with one more record
-abbrev pub with_commit : List (List ℕ) → Record → List (List ℕ)
-with_commit keys (log.Decision t Commit) = with_txn t keys
-with_commit keys _ = keys
+-- the transactions that are decided in this direction, with one more record
+abbrev pub with_decision : Dir → List (List ℕ) → Record → List (List ℕ)
+with_decision dir keys (log.Decision t d) = if same_dir d dir then with_txn t keys else keys
+with_decision dir keys _ = keys
 
--- the transactions that these records commit
-abbrev pub commits_of : List Placed → List (List ℕ)
-commits_of placed = fold (λ keys p. with_commit keys p.entered) [] placed
+-- the transactions that these records decide in this direction
+abbrev pub decided : Dir → List Placed → List (List ℕ)
+decided dir placed = fold (λ keys p. with_decision dir keys p.entered) [] placed
 
 -- the transactions that are voted for, with one more record
 abbrev pub with_vote : Record → List (List ℕ) → List (List ℕ)

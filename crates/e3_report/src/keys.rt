@@ -1,5 +1,5 @@
 // Transactions as keys of maps, and sets of transactions.
-ghost use Rattle.std.specs.Prelude.{◌≡◌, [], OnOk, nat_eq, Some};
+ghost use Rattle.std.specs.Prelude.{◌≡◌, [], OnOk, length, nat_eq, Some};
 ghost use Rattle.std.specs.Cmp.{partial_equiv_from_equiv};
 ghost use Rattle.std.specs.Cmp.Lexicographic.{pointwise, slice_cmp, nat_list_eq_equiv, nat_list_cmp_total, texts_ties, texts_po};
 ghost use Rattle.std.specs.Ordering.{nat_cmp, ordering_then};
@@ -142,6 +142,12 @@ impl TxnSet {
         }
     }
 
+    pub(crate) fn len(&self) -> u64
+        ensures { result ≡ length self.now }
+    {
+        self.keys.len() as u64
+    }
+
     pub(crate) fn has(&self, txn: &Txn) -> bool
         ensures { result ≡ has_txn txn.now self.now }
     {
@@ -152,6 +158,9 @@ impl TxnSet {
     pub(crate) fn add(&mut self, txn: &Txn) -> Result<(), NoMemory>
         ensures { OnOk result (self.new ≡ with_txn txn.now self.old) }
     {
+        if self.has(txn) {
+            return Ok(());
+        }
         match self.keys.insert(TxnKey::of(txn)) {
             Ok(_) => Ok(()),
             Err(_) => Err(NoMemory),

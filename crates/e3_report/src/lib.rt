@@ -2,6 +2,7 @@
 #![tactic(auto)]
 
 mod counts;
+mod decisions;
 mod keys;
 mod known;
 mod logs;

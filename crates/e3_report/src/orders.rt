@@ -3,38 +3,15 @@ ghost use Rattle.std.specs.Prelude.{◌≡◌, ◌++◌, IfOk, OnOk, codes};
 ghost use Rattle.std.specs.List.{flat_map};
 ghost use Rattle.e3_lines.specs.Texts.{line_end};
 ghost use Rattle.e3_world.specs.Serial.{commit_order};
-ghost use Rattle.e3_report.specs.Orders.{with_commit, commits_of, with_vote, last_vote, backward};
+ghost use Rattle.e3_report.specs.Orders.{with_vote, last_vote, backward};
 ghost use Rattle.e3_report.specs.Report.{txn_line, order_lines};
 
+use crate::decisions::decided;
 use crate::keys::TxnSet;
 use e3_lines::{push_line, push_line_end, push_txn};
 use e3_readings::SiteRecord;
 use e3_types::{Dir, List, NoMemory, Record, Txn};
 use std::alloc::Global;
-
-/// One more record, which may be a commit.
-fn note_commit(committed: &mut TxnSet, r: &Record) -> Result<(), NoMemory>
-    ensures { OnOk result (committed.new ≡ with_commit committed.old r.now) }
-{
-    match r {
-        Record::Decision {
-            txn,
-            dir: Dir::Commit,
-        } => committed.add(txn),
-        _ => Ok(()),
-    }
-}
-
-/// The transactions that some log commits.
-fn commits_of(alloc: Global, placed: &[SiteRecord]) -> Result<TxnSet, NoMemory>
-    ensures { IfOk result (λ committed. committed ≡ commits_of placed.now) }
-{
-    let mut committed = TxnSet::new(alloc);
-    for p in placed {
-        note_commit(&mut committed, p.entered())?;
-    }
-    Ok(committed)
-}
 
 /// One more record before those that were seen. The transaction of a vote is found where it is committed and this is its
 /// last vote.
@@ -75,7 +52,7 @@ fn backward(alloc: Global, committed: &TxnSet, placed: &[SiteRecord]) -> Result<
 pub(crate) fn commit_order(alloc: Global, placed: &[SiteRecord]) -> Result<List<Txn>, NoMemory>
     ensures { IfOk result (λ txns. txns ≡ commit_order placed.now) }
 {
-    let committed = commits_of(alloc, placed)?;
+    let committed = decided(alloc, Dir::Commit, placed)?;
     let mut found = backward(alloc, &committed, placed)?.into_vec();
     found.reverse();
     Ok(List::from_vec(found))

@@ -1,7 +1,7 @@
 // The summary of a drill.
 ghost use Rattle.std.specs.Prelude.{◌≡◌, ◌++◌, ◌+◌, ◌-◌, IfOk, OnOk, codes};
 ghost use Rattle.e3_world.specs.Moves.{all_records, trail_of};
-ghost use Rattle.e3_report.specs.Summary.{is_cut, is_fall, is_rise, is_kind, count_of, committed, aborted, begun, count_line, summary_with, summary_over, summary_of};
+ghost use Rattle.e3_report.specs.Summary.{is_cut, is_fall, is_rise, is_kind, count_of, committed, aborted, begun, count_line, summary_with, summary_of};
 
 use crate::logs::walk_of;
 use crate::orders::commit_order;
@@ -39,19 +39,35 @@ fn count_of(kind: Kind, history: &[Entry]) -> u64
     history.iter().filter(|e| is_kind(kind, &e.act)).count() as u64
 }
 
-/// How many transactions are committed.
-fn committed(alloc: Global, placed: &[SiteRecord]) -> Result<u64, NoMemory>
-    ensures { IfOk result (λ n. n ≡ committed placed.now) }
+/// How many transactions are committed, are aborted, and were begun.
+#[derive(Clone, Copy)]
+struct Counted {
+    committed: u64,
+    aborted: u64,
+    begun: u64,
+}
+
+/// What is counted of transactions, where these are the records of all logs.
+fn count_all(alloc: Global, placed: &[SiteRecord], history: &[Entry]) -> Result<Counted, NoMemory>
+    ensures committed { IfOk result (λ c. c.committed ≡ committed placed.now) }
+    ensures aborted { IfOk result (λ c. c.aborted ≡ aborted placed.now) }
+    ensures begun { IfOk result (λ c. c.begun ≡ begun history.now) }
 {
-    let txns = commit_order(alloc, placed)?;
-    Ok(txns.len())
+    Ok(Counted {
+        committed: commit_order(alloc, placed)?.len(),
+        aborted: aborted(alloc, placed)?,
+        begun: begun(alloc, history)?,
+    })
 }
 
 /// How many transactions were begun and are neither committed nor aborted: none where those are more.
-fn undecided(begun: u64, committed: u64, aborted: u64) -> u64
-    ensures { result ≡ begun - (committed + aborted) }
+fn undecided(counted: Counted) -> u64
+    ensures { result ≡ counted.begun - (counted.committed + counted.aborted) }
 {
-    begun.saturating_sub(committed).saturating_sub(aborted)
+    counted
+        .begun
+        .saturating_sub(counted.committed)
+        .saturating_sub(counted.aborted)
 }
 
 #[tactic(auto, unfolding(crate::specs::Summary::count_line))]
@@ -71,18 +87,13 @@ fn push_kind(out: &mut List<u8>, word: &str, kind: Kind, history: &[Entry]) -> R
 }
 
 /// Adds how many transactions are committed, are aborted, and were begun and are neither.
-fn push_transactions(
-    out: &mut List<u8>,
-    committed: u64,
-    aborted: u64,
-    begun: u64,
-) -> Result<(), NoMemory>
-    ensures { OnOk result (out.new ≡ out.old ++ (count_line (codes "committed") committed ++ count_line (codes "aborted") aborted
-        ++ count_line (codes "undecided") (begun - (committed + aborted)))) }
+fn push_transactions(out: &mut List<u8>, counted: Counted) -> Result<(), NoMemory>
+    ensures { OnOk result (out.new ≡ out.old ++ (count_line (codes "committed") counted.committed ++ count_line (codes "aborted") counted.aborted
+        ++ count_line (codes "undecided") (counted.begun - (counted.committed + counted.aborted)))) }
 {
-    push_count(out, "committed", committed)?;
-    push_count(out, "aborted", aborted)?;
-    push_count(out, "undecided", undecided(begun, committed, aborted))
+    push_count(out, "committed", counted.committed)?;
+    push_count(out, "aborted", counted.aborted)?;
+    push_count(out, "undecided", undecided(counted))
 }
 
 /// Adds how many cuts, falls and rises there were.
@@ -99,34 +110,16 @@ fn push_faults(out: &mut List<u8>, history: &[Entry]) -> Result<(), NoMemory>
 fn push_summary(
     out: &mut List<u8>,
     n: u32,
-    committed: u64,
-    aborted: u64,
-    begun: u64,
+    counted: Counted,
     history: &[Entry],
 ) -> Result<(), NoMemory>
-    ensures { OnOk result (out.new ≡ out.old ++ summary_with n committed aborted begun history.now) }
+    ensures { OnOk result (out.new ≡ out.old ++ summary_with n counted.committed counted.aborted counted.begun history.now) }
 {
     push_count(out, "drill", n as u64)?;
     push_kind(out, "steps", Kind::Step, history)?;
-    push_transactions(out, committed, aborted, begun)?;
+    push_transactions(out, counted)?;
     push_faults(out, history)?;
     push_line(out, "end")
-}
-
-fn summary_over(
-    alloc: Global,
-    n: u32,
-    placed: &[SiteRecord],
-    history: &[Entry],
-) -> Result<List<u8>, NoMemory>
-    ensures { IfOk result (λ text. text ≡ summary_over n placed.now history.now) }
-{
-    let committed = committed(alloc, placed)?;
-    let aborted = aborted(alloc, placed)?;
-    let begun = begun(alloc, history)?;
-    let mut out = List::new(alloc);
-    push_summary(&mut out, n, committed, aborted, begun, history)?;
-    Ok(out)
 }
 
 /// The summary of the drill with this number, over its scenario and history: a line for the number, then one for each count.
@@ -139,6 +132,10 @@ pub fn summary(
 ) -> Result<List<u8>, NoMemory>
     ensures { IfOk result (λ text. text ≡ summary_of n scenario.now history.now.entries) }
 {
-    let walk = walk_of(alloc, scenario, history.as_slice())?;
-    summary_over(alloc, n, walk.placed(), history.as_slice())
+    let entries = history.as_slice();
+    let walk = walk_of(alloc, scenario, entries)?;
+    let counted = count_all(alloc, walk.placed(), entries)?;
+    let mut out = List::new(alloc);
+    push_summary(&mut out, n, counted, entries)?;
+    Ok(out)
 }

@@ -1,90 +1,34 @@
 // Transactions that are counted once each.
-ghost use Rattle.std.specs.Prelude.{◌≡◌, IfOk, OnOk, fold};
+ghost use Rattle.std.specs.Prelude.{◌≡◌, IfOk, OnOk};
 ghost use Rattle.std.specs.List.{flat_map};
-ghost use Rattle.e3_report.specs.Summary.{aborted_by, begun_by, events_of, aborted, begun};
-ghost use Rattle.e3_report.specs.Tallies.{no_tally, tallied, all_tallied};
+ghost use Rattle.e3_report.specs.Summary.{aborted, begun, begun_by, events_of};
+ghost use Rattle.e3_report.specs.Tallies.{with_txns};
 
-use crate::counts::one_more;
+use crate::decisions::decided;
 use crate::keys::TxnSet;
 use e3_readings::SiteRecord;
-use e3_types::{Act, Dir, Entry, NoMemory, Record, Told, Txn};
+use e3_types::{Act, Dir, Entry, NoMemory, Told};
 use std::alloc::Global;
-use std::marker::Model;
 
-/// The transactions that were seen, and how many they are.
-#[derive(Drop)]
-struct Tally {
-    seen: TxnSet,
-    count: u64,
+/// The transactions that these events tell to be begun.
+fn add_begun(begun: &mut TxnSet, events: &[Told]) -> Result<(), NoMemory>
+    ensures { OnOk result (begun.new ≡ with_txns begun.old (flat_map begun_by events.now)) }
+{
+    for event in events {
+        if let Told::Began { txn } = event {
+            begun.add(txn)?;
+        }
+    }
+    Ok(())
 }
 
-impl Model for Tally {
-    ghost use Rattle.e3_report.specs.Tallies.{Tallied};
-
-    ghost Value = { Tallied };
-
-    ghost view = { λ a. record { seen = a.seen; count = a.count } };
-}
-
-impl Tally {
-    fn new(alloc: Global) -> Tally
-        ensures { result ≡ no_tally }
-    {
-        Tally {
-            seen: TxnSet::new(alloc),
-            count: 0,
-        }
-    }
-
-    fn add(&mut self, txn: &Txn) -> Result<(), NoMemory>
-        ensures { OnOk result (self.new ≡ tallied self.old txn.now) }
-    {
-        if self.seen.has(txn) {
-            return Ok(());
-        }
-        self.seen.add(txn)?;
-        self.count = one_more(self.count)?;
-        Ok(())
-    }
-
-    fn add_abort(&mut self, r: &Record) -> Result<(), NoMemory>
-        ensures { OnOk result (self.new ≡ all_tallied self.old (aborted_by r.now)) }
-    {
-        match r {
-            Record::Decision {
-                txn,
-                dir: Dir::Abort,
-            } => self.add(txn),
-            _ => Ok(()),
-        }
-    }
-
-    fn add_begun(&mut self, event: &Told) -> Result<(), NoMemory>
-        ensures { OnOk result (self.new ≡ all_tallied self.old (begun_by event.now)) }
-    {
-        match event {
-            Told::Began { txn } => self.add(txn),
-            _ => Ok(()),
-        }
-    }
-
-    #[tactic(auto, using(crate::proofs::Tallying::tallied_each))]
-    fn add_all_begun(&mut self, events: &[Told]) -> Result<(), NoMemory>
-        ensures { OnOk result (self.new ≡ all_tallied self.old (flat_map begun_by events.now)) }
-    {
-        for event in events {
-            self.add_begun(event)?;
-        }
-        Ok(())
-    }
-
-    fn add_act(&mut self, act: &Act) -> Result<(), NoMemory>
-        ensures { OnOk result (self.new ≡ all_tallied self.old (flat_map begun_by (events_of act.now))) }
-    {
-        match act {
-            Act::Step { told, .. } => self.add_all_begun(told.as_slice()),
-            _ => Ok(()),
-        }
+/// The transactions that an act tells to be begun.
+fn add_act(begun: &mut TxnSet, act: &Act) -> Result<(), NoMemory>
+    ensures { OnOk result (begun.new ≡ with_txns begun.old (flat_map begun_by (events_of act.now))) }
+{
+    match act {
+        Act::Step { told, .. } => add_begun(begun, told.as_slice()),
+        _ => Ok(()),
     }
 }
 
@@ -93,21 +37,17 @@ impl Tally {
 pub(crate) fn aborted(alloc: Global, placed: &[SiteRecord]) -> Result<u64, NoMemory>
     ensures { IfOk result (λ n. n ≡ aborted placed.now) }
 {
-    let mut tally = Tally::new(alloc);
-    for p in placed {
-        tally.add_abort(p.entered())?;
-    }
-    Ok(tally.count)
+    let aborted = decided(alloc, Dir::Abort, placed)?;
+    Ok(aborted.len())
 }
 
 /// How many transactions a client was told to be begun.
-#[tactic(auto, using(crate::proofs::Tallying::begins_counted))]
 pub(crate) fn begun(alloc: Global, history: &[Entry]) -> Result<u64, NoMemory>
     ensures { IfOk result (λ n. n ≡ begun history.now) }
 {
-    let mut tally = Tally::new(alloc);
+    let mut begun = TxnSet::new(alloc);
     for e in history {
-        tally.add_act(&e.act)?;
+        add_act(&mut begun, &e.act)?;
     }
-    Ok(tally.count)
+    Ok(begun.len())
 }

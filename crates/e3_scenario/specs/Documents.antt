@@ -112,21 +112,21 @@ abbrev pub more_rows : List ℕ → List KeyRow → List Data → Option (List K
 more_rows all rows [] = Some rows
 more_rows all rows (value ∷ values) = option_and_then (λ row. more_rows all (rows ++ row ∷ []) values) (row_in all value)
 
--- a share of a hundred, 0 where it is left out
-abbrev pub share_at : Members → List ℕ → Option ℕ
-share_at members key = by (get_member key members)
+-- a number from 0 to this, 0 where it is left out
+abbrev pub number_at : ℕ → Members → List ℕ → Option ℕ
+number_at most members key = by (get_member key members)
   where
     by : Option Data → Option ℕ
     by None = Some 0
-    by (Some value) = option_and_then (number_within 0 100) (as_integer value)
+    by (Some value) = option_and_then (number_within 0 most) (as_integer value)
+
+-- a share of a hundred, 0 where it is left out
+abbrev pub share_at : Members → List ℕ → Option ℕ
+share_at members key = number_at 100 members key
 
 -- the luck, 0 where it is left out
 abbrev pub luck_at : Members → Option ℕ
-luck_at members = by (get_member (codes "luck") members)
-  where
-    by : Option Data → Option ℕ
-    by None = Some 0
-    by (Some value) = option_and_then (number_within 0 9223372036854775807) (as_integer value)
+luck_at members = number_at 9223372036854775807 members (codes "luck")
 
 -- the values of an array; none where it is no array
 abbrev pub values_or_none : Data → List Data

@@ -4,7 +4,7 @@ ghost use Rattle.std.specs.BTreeMap.{keys};
 ghost use Rattle.std.specs.List.{list_all};
 ghost use Rattle.toml.specs.Data.{as_integer, get_member};
 ghost use Rattle.toml.specs.View.{view, table_view};
-ghost use Rattle.e3_scenario.specs.Documents.{is_known, keys_known, values_of, is_integer, is_text, is_texts, is_step, is_kind, has_kind, kind_fault, number_within, weight_of, more_weights, weights_of, row_of, row_in, more_rows, share_at, luck_at, values_or_none, values_at, step_size, sizes_fit, steps_fit};
+ghost use Rattle.e3_scenario.specs.Documents.{is_known, keys_known, values_of, is_integer, is_text, is_texts, is_step, is_kind, has_kind, kind_fault, number_within, weight_of, more_weights, weights_of, row_of, row_in, more_rows, number_at, share_at, luck_at, values_or_none, values_at, step_size, sizes_fit, steps_fit};
 
 use crate::faults::Field;
 use crate::parts::key;
@@ -78,30 +78,19 @@ fn is_text(value: &Value) -> bool
     value.as_str().is_some()
 }
 
-#[tactic(auto, using(crate::proofs::Values::next_value))]
 fn are_integers(values: &[Value]) -> bool
-    ensures { result ≡ list_all is_integer (map view values.now) }
+    ensures { result ≡ list_all (λ value. is_integer (view value)) values.now }
 {
-    for value in values {
-        if !is_integer(value) {
-            return false;
-        }
-    }
-    true
+    values.iter().all(|value| is_integer(value))
 }
 
-#[tactic(auto, using(crate::proofs::Values::next_value))]
 fn are_texts(values: &[Value]) -> bool
-    ensures { result ≡ list_all is_text (map view values.now) }
+    ensures { result ≡ list_all (λ value. is_text (view value)) values.now }
 {
-    for value in values {
-        if !is_text(value) {
-            return false;
-        }
-    }
-    true
+    values.iter().all(|value| is_text(value))
 }
 
+#[tactic(auto, using(crate::proofs::Values::all_values))]
 fn is_texts(value: &Value) -> bool
     ensures { result ≡ is_texts (view value.now) }
 {
@@ -117,18 +106,13 @@ fn is_step(value: &Value) -> bool
     is_text(value) || is_texts(value)
 }
 
-#[tactic(auto, using(crate::proofs::Values::next_value))]
 fn are_steps(values: &[Value]) -> bool
-    ensures { result ≡ list_all is_step (map view values.now) }
+    ensures { result ≡ list_all (λ value. is_step (view value)) values.now }
 {
-    for value in values {
-        if !is_step(value) {
-            return false;
-        }
-    }
-    true
+    values.iter().all(|value| is_step(value))
 }
 
+#[tactic(auto, using(crate::proofs::Values::all_values))]
 fn is_kind(kind: Kind, value: &Value) -> bool
     ensures { result ≡ is_kind kind (view value.now) }
 {
@@ -252,35 +236,36 @@ pub fn rows(alloc: Global, all: SiteSet, values: &[Value]) -> Result<Option<List
     Ok(Some(rows))
 }
 
-/// A share of a hundred, 0 where it is left out.
-pub fn share_at(table: &Table, key: &str) -> Option<u32>
-    ensures value { result ≡ share_at (table_view table.now) key.now }
-    ensures few { IfSome result (λ share. share ≤ 100) }
+// A number from 0 to `most`, 0 where it is left out.
+fn number_at(table: &Table, key: &str, most: u64) -> Option<u64>
+    ensures value { result ≡ number_at most (table_view table.now) key.now }
+    ensures within { IfSome result (λ number. number ≤ most) }
 {
     let Some(value) = value_at(table, key) else {
         return Some(0);
     };
     let number = value.as_integer()?;
-    if 0 <= number && number <= 100 {
-        Some(number as u32)
+    if 0 <= number && number as u64 <= most {
+        Some(number as u64)
     } else {
         None
     }
+}
+
+/// A share of a hundred, 0 where it is left out.
+pub fn share_at(table: &Table, key: &str) -> Option<u32>
+    ensures value { result ≡ share_at (table_view table.now) key.now }
+    ensures few { IfSome result (λ share. share ≤ 100) }
+{
+    let share = number_at(table, key, 100)?;
+    Some(share as u32)
 }
 
 /// The luck, 0 where it is left out.
 pub fn luck_at(table: &Table) -> Option<u64>
     ensures { result ≡ luck_at (table_view table.now) }
 {
-    let Some(value) = value_at(table, "luck") else {
-        return Some(0);
-    };
-    let number = value.as_integer()?;
-    if 0 <= number && number <= 9223372036854775807 {
-        Some(number as u64)
-    } else {
-        None
-    }
+    number_at(table, "luck", 9223372036854775807)
 }
 
 fn values_or_none(value: &Value) -> &[Value]

@@ -4,32 +4,27 @@ ghost use Rattle.e3_types.specs.Quorums.{is_quorum};
 ghost use Rattle.e3_world.specs.AttemptRules.{on_pre, on_ack};
 
 use crate::making::{
-    and_decide, and_record, and_send, attempt_now, cast_decision, elected_now, may_decide, open_now,
+    Attempt, and_decide, and_record, and_send, attempt_now, cast_decision, elected_now, may_decide,
+    open_now,
 };
 use crate::past::Past;
 use e3_commit::Acks;
 use e3_quorum::is_quorum_with;
-use e3_types::{Dir, Message, NoMemory, Record, Txn};
+use e3_types::{Message, NoMemory, Record, Txn};
 use e3_world::Made;
 
 /// An undecided site that joined this number last attempts it, once, and acknowledges to site f.
-pub fn on_pre<P: Past>(
-    p: &P,
-    f: u32,
-    t: &Txn,
-    n: u32,
-    dir: Dir,
-    made: &mut Made,
-) -> Result<(), NoMemory>
-    ensures { IfOk result (λ u. made.new ≡ on_pre (P.at p.now) f t.now n dir made.old) }
+pub fn on_pre<P: Past>(p: &P, f: u32, asked: Attempt, made: &mut Made) -> Result<(), NoMemory>
+    ensures { IfOk result (λ u. made.new ≡ on_pre (P.at p.now) f asked.txn asked.n asked.dir made.old) }
 {
-    if !(open_now(p, t, made) && elected_now(p, t, made) == n) {
+    let Attempt { txn, n, dir } = asked;
+    if !(open_now(p, &txn, made) && elected_now(p, &txn, made) == n) {
         return Ok(());
     }
-    if attempt_now(p, t, made) != n {
-        and_record(Record::Attempt { txn: *t, n, dir }, made)?;
+    if attempt_now(p, &txn, made) != n {
+        and_record(Record::Attempt { txn, n, dir }, made)?;
     }
-    and_send(p, f, Message::Ack { txn: *t, n, dir }, made)
+    and_send(p, f, Message::Ack { txn, n, dir }, made)
 }
 
 // The site has attempted what these acknowledge, with those that acknowledged it: together they are a quorum.
@@ -40,27 +35,21 @@ fn has_quorum<P: Past>(p: &P, t: &Txn, r: &Acks) -> bool
 }
 
 /// An acknowledgement of site f in the round in progress: with a quorum the site decides.
-pub fn on_ack<P: Past>(
-    p: &P,
-    f: u32,
-    t: &Txn,
-    n: u32,
-    dir: Dir,
-    made: &mut Made,
-) -> Result<(), NoMemory>
-    ensures { IfOk result (λ u. made.new ≡ on_ack (P.at p.now) f t.now n dir made.old) }
+pub fn on_ack<P: Past>(p: &P, f: u32, told: Attempt, made: &mut Made) -> Result<(), NoMemory>
+    ensures { IfOk result (λ u. made.new ≡ on_ack (P.at p.now) f told.txn told.n told.dir made.old) }
 {
-    let Some(mut r) = p.round(t) else {
+    let Attempt { txn, n, dir } = told;
+    let Some(mut r) = p.round(&txn) else {
         return Ok(());
     };
     r.add(f, n, dir);
     if r.number() == n
         && r.direction() == dir
-        && may_decide(p, t, dir, made)
-        && has_quorum(p, t, &r)
+        && may_decide(p, &txn, dir, made)
+        && has_quorum(p, &txn, &r)
     {
-        and_decide(p, t, dir, made)?;
-        cast_decision(p, r.receivers(), t, dir, made)
+        and_decide(p, &txn, dir, made)?;
+        cast_decision(p, r.receivers(), &txn, dir, made)
     } else {
         Ok(())
     }

@@ -6,15 +6,14 @@ ghost use Rattle.e3_world.specs.Elections.{all_heard, greatest_heard};
 ghost use Rattle.e3_world.specs.ElectionRules.{and_verdict, and_join, on_last, on_elected, on_report};
 
 use crate::making::{
-    and_attempt, and_cast, and_decide, and_record, and_send, and_tell, attempt_now, cast_decision,
-    elected_now, may_decide, state_now,
+    Attempt, and_attempt, and_cast, and_decide, and_record, and_send, and_tell, attempt_now,
+    cast_decision, elected_now, may_decide, state_now,
 };
 use crate::past::Past;
 use e3_elect::Election;
 use e3_rule::verdict_of;
 use e3_types::{Call, Dir, Message, NoMemory, Record, SiteReport, SiteSet, Told, Txn, Verdict};
 use e3_world::Made;
-use std::alloc::Global;
 
 fn decide_for<P: Past>(
     p: &P,
@@ -55,8 +54,8 @@ pub fn and_verdict<P: Past>(
     match verdict {
         Verdict::Abort => decide_for(p, t, Dir::Abort, group, made),
         Verdict::Commit => decide_for(p, t, Dir::Commit, group, made),
-        Verdict::PreCommit => and_attempt(p, t, n, Dir::Commit, group, made),
-        Verdict::PreAbort => and_attempt(p, t, n, Dir::Abort, group, made),
+        Verdict::PreCommit => and_attempt(p, Attempt::new(t, n, Dir::Commit), group, made),
+        Verdict::PreAbort => and_attempt(p, Attempt::new(t, n, Dir::Abort), group, made),
         Verdict::Block { .. } => Ok(()),
     }
 }
@@ -94,7 +93,6 @@ pub fn and_join<P: Past>(p: &P, t: &Txn, e: &Election, made: &mut Made) -> Resul
 
 /// An answer of site f to the call of the election in progress: with the last one the site joins.
 pub fn on_last<P: Past>(
-    alloc: Global,
     p: &P,
     f: u32,
     t: &Txn,
@@ -104,7 +102,7 @@ pub fn on_last<P: Past>(
 ) -> Result<(), NoMemory>
     ensures { IfOk result (λ u. made.new ≡ on_last (P.at p.now) f t.now call elected made.old) }
 {
-    let Some(mut e) = p.election(alloc, t)? else {
+    let Some(mut e) = p.election(t)? else {
         return Ok(());
     };
     if !e.heard(f, call, elected) {
@@ -132,7 +130,6 @@ pub fn on_elected<P: Past>(p: &P, f: u32, t: &Txn, n: u32, made: &mut Made) -> R
 
 /// A report to the elector: with the last one it has a verdict.
 pub fn on_report<P: Past>(
-    alloc: Global,
     p: &P,
     t: &Txn,
     n: u32,
@@ -141,7 +138,7 @@ pub fn on_report<P: Past>(
 ) -> Result<(), NoMemory>
     ensures { IfOk result (λ u. made.new ≡ on_report (P.at p.now) t.now n report made.old) }
 {
-    let Some(mut e) = p.election(alloc, t)? else {
+    let Some(mut e) = p.election(t)? else {
         return Ok(());
     };
     if !e.reported(n, report) || !e.complete() {

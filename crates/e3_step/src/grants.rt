@@ -8,7 +8,6 @@ use crate::making::and_do;
 use crate::past::Past;
 use e3_types::{NoMemory, Record};
 use e3_world::{Asked, Made};
-use std::alloc::Global;
 
 /// The record is a decision.
 pub fn decides(r: &Record) -> bool
@@ -23,29 +22,24 @@ fn has_decision(records: &[Record], seen: u64) -> bool
     records.iter().skip(seen as usize).any(|r| decides(r))
 }
 
-fn grant_all<P: Past>(
-    alloc: Global,
-    p: &P,
-    asked: &[Asked],
-    made: &mut Made,
-) -> Result<(), NoMemory>
+fn grant_all<P: Past>(p: &P, asked: &[Asked], made: &mut Made) -> Result<(), NoMemory>
     requires { IsSoFar (P.at p.now) made.old }
     ensures { IfOk result (λ u. made.new ≡ fold (and_grant (P.at p.now)) made.old asked.now) }
 {
     for q in asked {
-        and_do(alloc, p, q, made)?;
+        and_do(p, q, made)?;
     }
     Ok(())
 }
 
 /// Where a rule recorded a decision behind the first so many records, the requests that this grants are done.
-pub fn and_grants<P: Past>(alloc: Global, p: &P, seen: u64, made: &mut Made) -> Result<(), NoMemory>
+pub fn and_grants<P: Past>(p: &P, seen: u64, made: &mut Made) -> Result<(), NoMemory>
     requires { IsSoFar (P.at p.now) made.old }
     ensures { IfOk result (λ u. made.new ≡ and_grants (P.at p.now) seen made.old) }
 {
     if has_decision(made.records.as_slice(), seen) {
-        let asked = p.grants_after(alloc, made)?;
-        grant_all(alloc, p, asked.as_slice(), made)?;
+        let asked = p.grants_after(made)?;
+        grant_all(p, asked.as_slice(), made)?;
     }
     Ok(())
 }

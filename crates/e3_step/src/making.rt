@@ -18,6 +18,23 @@ use e3_types::{
 use e3_world::{Asked, Made, Performed};
 use std::alloc::Global;
 
+/// An attempt to end a transaction: under which number, in which direction.
+#[derive(Clone, Copy)]
+pub struct Attempt {
+    pub txn: Txn,
+    pub n: u32,
+    pub dir: Dir,
+}
+
+impl Attempt {
+    /// The attempt of this transaction.
+    pub fn new(t: &Txn, n: u32, dir: Dir) -> Attempt
+        ensures { result ≡ record { txn = t.now; n = n; dir = dir } }
+    {
+        Attempt { txn: *t, n, dir }
+    }
+}
+
 /// A step that made nothing yet.
 pub fn nothing(alloc: Global) -> Made
     ensures { result ≡ nothing }
@@ -222,23 +239,22 @@ pub fn and_abort_for<P: Past>(p: &P, t: &Txn, why: Told, made: &mut Made) -> Res
 /// itself, else the pre-decision.
 pub fn and_attempt<P: Past>(
     p: &P,
-    t: &Txn,
-    n: u32,
-    dir: Dir,
+    own: Attempt,
     to: SiteSet,
     made: &mut Made,
 ) -> Result<(), NoMemory>
-    ensures { IfOk result (λ u. made.new ≡ and_attempt (P.at p.now) t.now n dir to made.old) }
+    ensures { IfOk result (λ u. made.new ≡ and_attempt (P.at p.now) own.txn own.n own.dir to made.old) }
 {
-    if !may_attempt(p, t, n, made) {
+    let Attempt { txn, n, dir } = own;
+    if !may_attempt(p, &txn, n, made) {
         return Ok(());
     }
-    and_record(Record::Attempt { txn: *t, n, dir }, made)?;
-    if is_quorum_with(p.weights(), p.site(), &[], t.sites) {
-        and_decide(p, t, dir, made)?;
-        cast_decision(p, to, t, dir, made)
+    and_record(Record::Attempt { txn, n, dir }, made)?;
+    if is_quorum_with(p.weights(), p.site(), &[], txn.sites) {
+        and_decide(p, &txn, dir, made)?;
+        cast_decision(p, to, &txn, dir, made)
     } else {
-        and_cast(p, to, &Message::Pre { txn: *t, n, dir }, made)
+        and_cast(p, to, &Message::Pre { txn, n, dir }, made)
     }
 }
 
@@ -256,44 +272,29 @@ fn voted(alloc: Global, performed: &[Performed]) -> Result<List<NumOp>, NoMemory
 }
 
 /// The vote, with the operations that the site has done.
-pub fn and_vote<P: Past>(alloc: Global, p: &P, t: &Txn, made: &mut Made) -> Result<(), NoMemory>
+pub fn and_vote<P: Past>(p: &P, t: &Txn, made: &mut Made) -> Result<(), NoMemory>
     ensures { IfOk result (λ u. made.new ≡ and_vote (P.at p.now) t.now made.old) }
 {
-    let performed = p.done(alloc, t)?;
-    let ops = voted(alloc, performed.as_slice())?;
+    let performed = p.done(t)?;
+    let ops = voted(p.alloc(), performed.as_slice())?;
     and_record(Record::Vote { txn: *t, ops }, made)
 }
 
-/// The site's vote goes to a site, a yes or a no.
-pub fn send_vote<P: Past>(
-    p: &P,
-    to: u32,
-    t: &Txn,
-    yes: bool,
-    made: &mut Made,
-) -> Result<(), NoMemory>
-    ensures { IfOk result (λ u. made.new ≡ and_send (P.at p.now) to (msg.Vote t.now yes) made.old) }
+/// The message of the site's vote, a yes or a no.
+pub fn vote_of(t: &Txn, yes: bool) -> Message
+    ensures { result ≡ msg.Vote t.now yes }
 {
-    and_send(p, to, Message::Vote { txn: *t, yes }, made)
+    Message::Vote { txn: *t, yes }
 }
 
 /// The answer to an operation that is done now.
-pub fn answer_now<P: Past>(
-    alloc: Global,
-    p: &P,
-    t: &Txn,
-    op: &Op,
-    made: &Made,
-) -> Result<Answer, NoMemory>
+pub fn answer_now<P: Past>(p: &P, t: &Txn, op: &Op, made: &Made) -> Result<Answer, NoMemory>
     requires { IsSoFar (P.at p.now) made.now }
     ensures { IfOk result (λ x. x ≡ answer_now (P.at p.now) t.now op.now made.now) }
 {
     match op {
         Op::Write(_, _) => Ok(Answer::Written),
-        Op::Read(key) => {
-            let row = p.row(alloc, &key.name, made)?;
-            p.own_value(alloc, t, &key.name, row, made)
-        }
+        Op::Read(key) => p.value(t, &key.name, made),
     }
 }
 
@@ -315,10 +316,10 @@ pub fn send_done<P: Past>(p: &P, q: &Asked, answer: Answer, made: &mut Made) -> 
 }
 
 /// The request is done, and its answer goes to the coordinator.
-pub fn and_do<P: Past>(alloc: Global, p: &P, q: &Asked, made: &mut Made) -> Result<(), NoMemory>
+pub fn and_do<P: Past>(p: &P, q: &Asked, made: &mut Made) -> Result<(), NoMemory>
     requires { IsSoFar (P.at p.now) made.old }
     ensures { IfOk result (λ u. made.new ≡ and_do (P.at p.now) q.now.txn q.now.n q.now.op made.old) }
 {
-    let answer = answer_now(alloc, p, &q.txn, &q.op, made)?;
+    let answer = answer_now(p, &q.txn, &q.op, made)?;
     send_done(p, q, answer, made)
 }

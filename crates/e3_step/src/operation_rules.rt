@@ -10,14 +10,13 @@ ghost use Rattle.e3_world.specs.OperationRules.{on_do, on_done, on_died};
 
 use crate::making::{
     and_abort, and_abort_for, and_decide, and_do, and_send, and_tell, is_coordinator, is_present,
-    may_abort, open_now, send_done, send_vote, state_now,
+    may_abort, open_now, send_done, state_now, vote_of,
 };
 use crate::past::Past;
 use e3_client::kept_locks;
 use e3_readings::asked_of;
 use e3_types::{Answer, Dir, Grant, Message, NoMemory, Op, State, Told, Txn};
 use e3_world::{Asked, Made};
-use std::alloc::Global;
 
 // The request's transaction dies: its coordinator aborts it, another site tells the coordinator.
 fn die<P: Past>(p: &P, q: &Asked, older: Txn, made: &mut Made) -> Result<(), NoMemory>
@@ -37,25 +36,18 @@ fn die<P: Past>(p: &P, q: &Asked, older: Txn, made: &mut Made) -> Result<(), NoM
     and_send(p, t.site, news, made)
 }
 
-fn by_grant<P: Past>(
-    alloc: Global,
-    p: &P,
-    q: &Asked,
-    grant: Grant,
-    made: &mut Made,
-) -> Result<(), NoMemory>
+fn by_grant<P: Past>(p: &P, q: &Asked, grant: Grant, made: &mut Made) -> Result<(), NoMemory>
     requires { IsSoFar (P.at p.now) made.old }
     ensures { IfOk result (λ u. made.new ≡ by_grant (P.at p.now) q.now made.old grant) }
 {
     match grant {
-        Grant::Held => and_do(alloc, p, q, made),
+        Grant::Held => and_do(p, q, made),
         Grant::Waits => Ok(()),
         Grant::Dies { older } => die(p, q, older, made),
     }
 }
 
 fn unless_waiting<P: Past>(
-    alloc: Global,
     p: &P,
     q: &Asked,
     waits: bool,
@@ -68,12 +60,11 @@ fn unless_waiting<P: Past>(
     if waits {
         Ok(())
     } else {
-        by_grant(alloc, p, q, grant, made)
+        by_grant(p, q, grant, made)
     }
 }
 
 fn asked_by<P: Past>(
-    alloc: Global,
     p: &P,
     q: &Asked,
     found: Option<Answer>,
@@ -86,23 +77,22 @@ fn asked_by<P: Past>(
 {
     match found {
         Some(answer) => send_done(p, q, answer, made),
-        None => unless_waiting(alloc, p, q, waits, grant, made),
+        None => unless_waiting(p, q, waits, grant, made),
     }
 }
 
-fn on_asked<P: Past>(alloc: Global, p: &P, q: &Asked, made: &mut Made) -> Result<(), NoMemory>
+fn on_asked<P: Past>(p: &P, q: &Asked, made: &mut Made) -> Result<(), NoMemory>
     requires { IsSoFar (P.at p.now) made.old }
     ensures { IfOk result (λ u. made.new ≡ on_asked (P.at p.now) q.now made.old) }
 {
-    let found = p.answer(alloc, q)?;
-    let waits = p.is_waiting(alloc, q, made)?;
-    let grant = p.lock(alloc, q, made)?;
-    asked_by(alloc, p, q, found, waits, grant, made)
+    let found = p.answer(q)?;
+    let waits = p.is_waiting(q, made)?;
+    let grant = p.lock(q, made)?;
+    asked_by(p, q, found, waits, grant, made)
 }
 
 /// A request for a lock, from site f: the operation is done, waits, or its transaction dies.
 pub fn on_do<P: Past>(
-    alloc: Global,
     p: &P,
     f: u32,
     t: &Txn,
@@ -114,10 +104,10 @@ pub fn on_do<P: Past>(
     ensures { IfOk result (λ u. made.new ≡ on_do (P.at p.now) f t.now n op.now made.old) }
 {
     match state_now(p, t, made) {
-        State::A => send_vote(p, f, t, false, made),
+        State::A => and_send(p, f, vote_of(t, false), made),
         State::Q => {
             let q = asked_of(t, n, op);
-            on_asked(alloc, p, &q, made)?;
+            on_asked(p, &q, made)?;
             Ok(())
         }
         _ => Ok(()),
@@ -151,7 +141,6 @@ fn doom<P: Past>(
 /// The answer to the unanswered operation, from site f, is told; under another incarnation of f than its earlier
 /// answers the transaction is doomed.
 pub fn on_done<P: Past>(
-    alloc: Global,
     p: &P,
     f: u32,
     t: &Txn,
@@ -165,10 +154,10 @@ pub fn on_done<P: Past>(
     if !(is_coordinator(p, t) && is_present(p, t) && open_now(p, t, made)) {
         return Ok(());
     }
-    if !p.is_awaited(alloc, f, t, n, made)? {
+    if !p.is_awaited(f, t, n, made)? {
         return Ok(());
     }
-    let e = p.expected(alloc, t, f)?;
+    let e = p.expected(t, f)?;
     if !kept_locks(e.count, e.inc, inc) {
         return doom(p, t, f, e.inc, inc, made);
     }

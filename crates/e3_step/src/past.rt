@@ -28,6 +28,9 @@ pub trait Past {
     /// The place where the step is made.
     ghost at: { Self → At };
 
+    /// The allocator of what is read and of the step's own lists.
+    fn alloc(&self) -> Global;
+
     /// The weights of all sites, that of site 1 first.
     fn weights(&self) -> &[u32]
         ensures { result.now ≡ (at self.now).weights };
@@ -65,80 +68,63 @@ pub trait Past {
         ensures { result ≡ has_voted t.now (at self.now).life.log };
 
     /// How many operations of the transaction the steps before this one issued.
-    fn issued_count(&self, alloc: Global, t: &Txn) -> Result<u64, NoMemory>
+    fn issued_count(&self, t: &Txn) -> Result<u64, NoMemory>
         ensures { IfOk result (λ n. n ≡ length (issued t.now (at self.now).life.steps)) };
 
     /// The operation of the transaction that is unanswered behind the steps before this one, if it is undecided now.
-    fn unanswered(&self, alloc: Global, t: &Txn, made: &Made) -> Result<Option<u32>, NoMemory>
+    fn unanswered(&self, t: &Txn, made: &Made) -> Result<Option<u32>, NoMemory>
         ensures { IfOk result (λ n. n ≡ unanswered t.now (log_now (at self.now) made.now) (at self.now).life.steps) };
 
     /// Operation n of the transaction is its unanswered one, with the step so far, and its key is at site f.
-    fn is_awaited(
-        &self,
-        alloc: Global,
-        f: u32,
-        t: &Txn,
-        n: u32,
-        made: &Made,
-    ) -> Result<bool, NoMemory>
+    fn is_awaited(&self, f: u32, t: &Txn, n: u32, made: &Made) -> Result<bool, NoMemory>
         ensures { IfOk result (λ b. b ≡ is_awaited (at self.now) f t.now n made.now) };
 
     /// What is expected of a site for the transaction.
-    fn expected(&self, alloc: Global, t: &Txn, of: u32) -> Result<Expected, NoMemory>
+    fn expected(&self, t: &Txn, of: u32) -> Result<Expected, NoMemory>
         ensures { IfOk result (λ e. e ≡ expected (at self.now).site (at self.now).life.inc t.now (at self.now).life.steps of) };
 
     /// The reason that is kept for the end of the transaction, if there is one.
-    fn kept_reason(&self, alloc: Global, t: &Txn) -> Result<Option<Refusal>, NoMemory>
+    fn kept_reason(&self, t: &Txn) -> Result<Option<Refusal>, NoMemory>
         ensures { IfOk result (λ why. why ≡ first_of (kept_reason t.now (at self.now).life.steps)) };
 
     /// The operations of the transaction that the site answered before the step, in the order of arrival.
-    fn done(&self, alloc: Global, t: &Txn) -> Result<List<Performed>, NoMemory>
+    fn done(&self, t: &Txn) -> Result<List<Performed>, NoMemory>
         ensures { IfOk result (λ out. out ≡ done (at self.now).site t.now (at self.now).life.steps) };
 
-    /// The value that the transaction's last write of the name here gave it, with the step so far, or else this row.
-    fn own_value(
-        &self,
-        alloc: Global,
-        t: &Txn,
-        name: &Name,
-        row: Answer,
-        made: &Made,
-    ) -> Result<Answer, NoMemory>
-        ensures { IfOk result (λ x. x ≡ own_value (at self.now) t.now name.now row made.now) };
-
-    /// The value of the name in the table, with the step's records.
-    fn row(&self, alloc: Global, name: &Name, made: &Made) -> Result<Answer, NoMemory>
+    /// The value of the name for the transaction: what its last write of the name here gave it, with the step so far, or else
+    /// what the table has, with the step's records.
+    fn value(&self, t: &Txn, name: &Name, made: &Made) -> Result<Answer, NoMemory>
         requires { IsSoFar (at self.now) made.now }
-        ensures { IfOk result (λ x. x ≡ row_now (at self.now) name.now made.now) };
+        ensures { IfOk result (λ x. x ≡ own_value (at self.now) t.now name.now (row_now (at self.now) name.now made.now) made.now) };
 
     /// The first answer to this operation before the step, if it was answered.
-    fn answer(&self, alloc: Global, q: &Asked) -> Result<Option<Answer>, NoMemory>
+    fn answer(&self, q: &Asked) -> Result<Option<Answer>, NoMemory>
         ensures { IfOk result (λ x. x ≡ first_of (answers q.now (at self.now).life.steps)) };
 
     /// The operation waited before the step, and its transaction is undecided now.
-    fn is_waiting(&self, alloc: Global, q: &Asked, made: &Made) -> Result<bool, NoMemory>
+    fn is_waiting(&self, q: &Asked, made: &Made) -> Result<bool, NoMemory>
         ensures { IfOk result (λ b. b ≡ is_waiting (at self.now) q.now made.now) };
 
     /// An operation of the transaction waited before the step, and the transaction is undecided now.
-    fn waits(&self, alloc: Global, t: &Txn, made: &Made) -> Result<bool, NoMemory>
+    fn waits(&self, t: &Txn, made: &Made) -> Result<bool, NoMemory>
         ensures { IfOk result (λ b. b ≡ list_any (λ q. same_txn t.now q.txn) (waits_now (at self.now) made.now)) };
 
     /// What the lock rule answers to this request, with the step's records.
-    fn lock(&self, alloc: Global, q: &Asked, made: &Made) -> Result<Grant, NoMemory>
+    fn lock(&self, q: &Asked, made: &Made) -> Result<Grant, NoMemory>
         requires { IsSoFar (at self.now) made.now }
         ensures { IfOk result (λ g. g ≡ lock_now (at self.now) q.now made.now) };
 
     /// The requests that are granted now, name by name, where a decision has freed locks.
-    fn grants_after(&self, alloc: Global, made: &Made) -> Result<List<Asked>, NoMemory>
+    fn grants_after(&self, made: &Made) -> Result<List<Asked>, NoMemory>
         requires { IsSoFar (at self.now) made.now }
         ensures { IfOk result (λ out. out ≡ grants_after (at self.now) made.now) };
 
     /// The votes of the transaction are being gathered, and with the step so far the yes of every other site came.
-    fn has_every_yes(&self, alloc: Global, t: &Txn, made: &Made) -> Result<bool, NoMemory>
+    fn has_every_yes(&self, t: &Txn, made: &Made) -> Result<bool, NoMemory>
         ensures { IfOk result (λ b. b ≡ has_every_yes (at self.now) t.now made.now) };
 
     /// The election of the transaction that is in progress before the step, if there is one.
-    fn election(&self, alloc: Global, t: &Txn) -> Result<Option<Election>, NoMemory>
+    fn election(&self, t: &Txn) -> Result<Option<Election>, NoMemory>
         ensures { IfOk result (λ e. e ≡ election_in_progress (at self.now).site (at self.now).life.inc t.now (at self.now).life.steps) };
 
     /// Who acknowledged the attempt of the transaction that is in progress before the step, if there is one.

@@ -1,5 +1,5 @@
 // What a step of a site does: the records, packets and events of an input, read off the site's own past alone.
-ghost use Rattle.std.specs.Prelude.{◌≡◌, [], IfOk, fold, suc, length};
+ghost use Rattle.std.specs.Prelude.{◌≡◌, [], IfOk, fold, suc, length, if◌then◌else◌};
 ghost use Rattle.e3_client.specs.Clients.{busy_or};
 ghost use Rattle.e3_world.specs.Making.{nothing, and_send, and_tell, attempt_now, log_now, state_now};
 ghost use Rattle.e3_types.specs.declared.entries.Input.TheVariants as input;
@@ -13,8 +13,8 @@ ghost use Rattle.e3_step.specs.SoFar.{IsSoFar};
 use crate::election_rules::and_join;
 use crate::grants::and_grants;
 use crate::making::{
-    and_abort, and_attempt, and_cast, and_decide, and_send, and_tell, and_vote, attempt_now,
-    decision_now, elected_now, is_present, may_abort, nothing, state_now,
+    Attempt, and_abort, and_attempt, and_cast, and_decide, and_send, and_tell, and_vote,
+    attempt_now, decision_now, elected_now, is_present, may_abort, nothing, state_now,
 };
 use crate::messages::on_message;
 use crate::past::Past;
@@ -23,27 +23,20 @@ use e3_elect::Election;
 use e3_readings::{key_of, next, number_behind};
 use e3_types::{Dir, Input, List, Message, NoMemory, Op, Refusal, SiteSet, State, Told, Txn};
 use e3_world::Made;
-use std::alloc::Global;
 use std::mem;
 
 // The refusal of an operation or a commit, where the transaction is undecided.
-fn refuse_undecided<P: Past>(
-    alloc: Global,
-    p: &P,
-    t: &Txn,
-    made: &Made,
-) -> Result<Option<Refusal>, NoMemory>
+fn refuse_undecided<P: Past>(p: &P, t: &Txn, made: &Made) -> Result<Option<Refusal>, NoMemory>
     ensures { IfOk result (λ why. why ≡ busy_or (state_now (P.at p.now) t.now made.now) (attempt_now (P.at p.now) t.now made.now)
         (unanswered t.now (log_now (P.at p.now) made.now) (P.at p.now).life.steps)) }
 {
-    let unanswered = p.unanswered(alloc, t, made)?;
+    let unanswered = p.unanswered(t, made)?;
     Ok(refuse_open(state_now(p, t, made), attempt_now(p, t, made), unanswered))
 }
 
 /// The first cause that applies: no transaction of this incarnation; decided, with the reason kept; busy; too late.
 #[tactic(auto, using(e3_client::proofs::Refusing::open_at))]
 pub fn refuse<P: Past>(
-    alloc: Global,
     p: &P,
     t: &Txn,
     cancels: bool,
@@ -51,7 +44,7 @@ pub fn refuse<P: Past>(
 ) -> Result<Option<Refusal>, NoMemory>
     ensures { IfOk result (λ why. why ≡ refuse (P.at p.now) t.now cancels made.now) }
 {
-    let kept = p.kept_reason(alloc, t)?;
+    let kept = p.kept_reason(t)?;
     if let Some(dir) = decision_now(p, t, made) {
         return match kept {
             None => Ok(Some(Refusal::Over { dir })),
@@ -64,7 +57,7 @@ pub fn refuse<P: Past>(
     if cancels {
         return Ok(refuse_attempted(attempt_now(p, t, made)));
     }
-    refuse_undecided(alloc, p, t, made)
+    refuse_undecided(p, t, made)
 }
 
 /// A begin: the transaction has the next number of the incarnation.
@@ -86,16 +79,10 @@ pub fn on_begin<P: Past>(p: &P, sites: SiteSet, made: &mut Made) -> Result<(), N
 }
 
 /// Another site is asked for its vote, with the incarnation and the number of its answers.
-pub fn and_ask<P: Past>(
-    alloc: Global,
-    p: &P,
-    t: &Txn,
-    to: u32,
-    made: &mut Made,
-) -> Result<(), NoMemory>
+pub fn and_ask<P: Past>(p: &P, t: &Txn, to: u32, made: &mut Made) -> Result<(), NoMemory>
     ensures { IfOk result (λ u. made.new ≡ and_ask (P.at p.now) t.now made.old to) }
 {
-    let e = p.expected(alloc, t, to)?;
+    let e = p.expected(t, to)?;
     and_send(
         p,
         to,
@@ -108,33 +95,27 @@ pub fn and_ask<P: Past>(
     )
 }
 
-fn ask_all<P: Past>(
-    alloc: Global,
-    p: &P,
-    t: &Txn,
-    sites: SiteSet,
-    made: &mut Made,
-) -> Result<(), NoMemory>
+fn ask_all<P: Past>(p: &P, t: &Txn, sites: SiteSet, made: &mut Made) -> Result<(), NoMemory>
     ensures { IfOk result (λ u. made.new ≡ fold (and_ask (P.at p.now) t.now) made.old sites) }
 {
     for to in sites.iter() {
-        and_ask(alloc, p, t, to, made)?;
+        and_ask(p, t, to, made)?;
     }
     Ok(())
 }
 
 /// A commit: the coordinator votes and asks the other sites, or aborts where it joined an election.
-pub fn on_commit<P: Past>(alloc: Global, p: &P, t: &Txn, made: &mut Made) -> Result<(), NoMemory>
+pub fn on_commit<P: Past>(p: &P, t: &Txn, made: &mut Made) -> Result<(), NoMemory>
     ensures { IfOk result (λ u. made.new ≡ on_commit (P.at p.now) t.now made.old) }
 {
     if elected_now(p, t, made) != 1 {
         return and_abort(p, t, made);
     }
-    and_vote(alloc, p, t, made)?;
+    and_vote(p, t, made)?;
     let others = t.sites.without(p.site());
     match others.split_first() {
-        None => and_attempt(p, t, 1, Dir::Commit, t.sites, made),
-        Some(_) => ask_all(alloc, p, t, others, made),
+        None => and_attempt(p, Attempt::new(t, 1, Dir::Commit), t.sites, made),
+        Some(_) => ask_all(p, t, others, made),
     }
 }
 
@@ -152,31 +133,19 @@ pub fn on_expire<P: Past>(p: &P, t: &Txn, made: &mut Made) -> Result<(), NoMemor
 }
 
 /// An elect: a new call, which drops any election of the transaction here.
-pub fn on_elect<P: Past>(
-    alloc: Global,
-    p: &P,
-    t: &Txn,
-    group: SiteSet,
-    made: &mut Made,
-) -> Result<(), NoMemory>
+pub fn on_elect<P: Past>(p: &P, t: &Txn, group: SiteSet, made: &mut Made) -> Result<(), NoMemory>
     ensures { IfOk result (λ u. made.new ≡ on_elect (P.at p.now) t.now group made.old) }
 {
     let call = p.next_call()?;
-    let e = Election::start(alloc, call, group, p.site(), elected_now(p, t, made))?;
+    let e = Election::start(p.alloc(), call, group, p.site(), elected_now(p, t, made))?;
     and_cast(p, group, &Message::Ask { txn: *t, call }, made)?;
     and_join(p, t, &e, made)
 }
 
-fn on_operation<P: Past>(
-    alloc: Global,
-    p: &P,
-    t: &Txn,
-    op: &Op,
-    made: &mut Made,
-) -> Result<(), NoMemory>
+fn on_operation<P: Past>(p: &P, t: &Txn, op: &Op, made: &mut Made) -> Result<(), NoMemory>
     ensures { IfOk result (λ u. made.new ≡ and_send (P.at p.now) (key_of op.now).site (msg.Do t.now (suc (length (issued t.now (P.at p.now).life.steps))) op.now) made.old) }
 {
-    let n = number_behind(p.issued_count(alloc, t)?)?;
+    let n = number_behind(p.issued_count(t)?)?;
     and_send(
         p,
         key_of(op).site,
@@ -196,94 +165,84 @@ fn tell_refused(t: &Txn, refusal: Refusal, made: &mut Made) -> Result<(), NoMemo
 }
 
 // A call for an operation, by a step that made nothing yet.
-fn take_do<P: Past>(alloc: Global, p: &P, t: &Txn, op: &Op, made: &mut Made) -> Result<(), NoMemory>
+fn take_do<P: Past>(p: &P, t: &Txn, op: &Op, made: &mut Made) -> Result<(), NoMemory>
     requires { made.old ≡ nothing }
     ensures { IfOk result (λ u. made.new ≡ on_input (P.at p.now) (input.Do t.now op.now) nothing) }
 {
-    match refuse(alloc, p, t, false, made)? {
+    match refuse(p, t, false, made)? {
         Some(refusal) => tell_refused(t, refusal, made),
-        None => on_operation(alloc, p, t, op, made),
+        None => on_operation(p, t, op, made),
     }
 }
 
-// A call for a commit.
-fn take_commit<P: Past>(alloc: Global, p: &P, t: &Txn, made: &mut Made) -> Result<(), NoMemory>
+// A call for an end of the transaction: a cancel, or a commit.
+fn take_end<P: Past>(p: &P, t: &Txn, cancels: bool, made: &mut Made) -> Result<(), NoMemory>
     requires { made.old ≡ nothing }
-    ensures { IfOk result (λ u. made.new ≡ on_input (P.at p.now) (input.Commit t.now) nothing) }
+    ensures { IfOk result (λ u. made.new ≡ on_input (P.at p.now) (if cancels then input.Cancel t.now else input.Commit t.now) nothing) }
 {
-    match refuse(alloc, p, t, false, made)? {
-        Some(refusal) => tell_refused(t, refusal, made),
-        None => on_commit(alloc, p, t, made),
-    }
-}
-
-// A call for a cancel.
-fn take_cancel<P: Past>(alloc: Global, p: &P, t: &Txn, made: &mut Made) -> Result<(), NoMemory>
-    requires { made.old ≡ nothing }
-    ensures { IfOk result (λ u. made.new ≡ on_input (P.at p.now) (input.Cancel t.now) nothing) }
-{
-    match refuse(alloc, p, t, true, made)? {
-        Some(refusal) => tell_refused(t, refusal, made),
-        None => and_abort(p, t, made),
+    match (refuse(p, t, cancels, made)?, cancels) {
+        (Some(refusal), _) => tell_refused(t, refusal, made),
+        (None, true) => and_abort(p, t, made),
+        (None, false) => on_commit(p, t, made),
     }
 }
 
 // Any input.
-fn take<P: Past>(alloc: Global, p: &P, input: &Input, made: &mut Made) -> Result<(), NoMemory>
+fn take<P: Past>(p: &P, input: &Input, made: &mut Made) -> Result<(), NoMemory>
     requires { made.old ≡ nothing }
     ensures { IfOk result (λ u. made.new ≡ on_input (P.at p.now) input.now nothing) }
 {
     match input {
         Input::Begin { sites } => on_begin(p, *sites, made),
-        Input::Do { txn, op } => take_do(alloc, p, txn, op, made),
-        Input::Commit { txn } => take_commit(alloc, p, txn, made),
-        Input::Cancel { txn } => take_cancel(alloc, p, txn, made),
+        Input::Do { txn, op } => take_do(p, txn, op, made),
+        Input::Commit { txn } => take_end(p, txn, false, made),
+        Input::Cancel { txn } => take_end(p, txn, true, made),
         Input::Expire { txn } => on_expire(p, txn, made),
-        Input::Elect { txn, group } => on_elect(alloc, p, txn, *group, made),
-        Input::Deliver { packet } => on_message(alloc, p, packet.from, &packet.msg, made),
+        Input::Elect { txn, group } => on_elect(p, txn, *group, made),
+        Input::Deliver { packet } => on_message(p, packet.from, &packet.msg, made),
     }
 }
 
 /// Each input, by a step that made nothing yet.
-pub fn on_input<P: Past>(alloc: Global, p: &P, input: &Input) -> Result<Made, NoMemory>
+pub fn on_input<P: Past>(p: &P, input: &Input) -> Result<Made, NoMemory>
     ensures { IfOk result (λ made. made ≡ on_input (P.at p.now) input.now nothing) }
 {
-    let mut made = nothing(alloc);
-    take(alloc, p, input, &mut made)?;
+    let mut made = nothing(p.alloc());
+    take(p, input, &mut made)?;
     Ok(made)
 }
 
 /// One message of a step to its own site.
-pub fn handled<P: Past>(alloc: Global, p: &P, m: &Message, made: &mut Made) -> Result<(), NoMemory>
+pub fn handled<P: Past>(p: &P, m: &Message, made: &mut Made) -> Result<(), NoMemory>
     requires { IsSoFar (P.at p.now) (handled (P.at p.now) made.old m.now) }
     ensures { IfOk result (λ u. made.new ≡ handled (P.at p.now) made.old m.now) }
 {
     let seen = made.records.len();
-    on_message(alloc, p, p.site(), m, made)?;
-    and_grants(alloc, p, seen, made)?;
+    on_message(p, p.site(), m, made)?;
+    and_grants(p, seen, made)?;
     Ok(())
 }
 
 /// The messages that wait in the step, the first first; those that they make wait behind them.
-pub fn settle_once<P: Past>(alloc: Global, p: &P, made: &mut Made) -> Result<(), NoMemory>
+pub fn settle_once<P: Past>(p: &P, made: &mut Made) -> Result<(), NoMemory>
     requires { IsSoFar (P.at p.now) (fold (handled (P.at p.now)) (record made.old { own = [] }) made.old.own) }
     ensures { IfOk result (λ u. made.new ≡ fold (handled (P.at p.now)) (record made.old { own = [] }) made.old.own) }
 {
-    let own = mem::replace(&mut made.own, List::new(alloc));
+    let own = mem::replace(&mut made.own, List::new(p.alloc()));
     for m in own.as_slice() {
-        handled(alloc, p, m, made)?;
+        handled(p, m, made)?;
     }
     Ok(())
 }
 
 /// The step that is made at this place.
-pub fn step_at<P: Past>(alloc: Global, p: &P) -> Result<Made, NoMemory>
+pub fn step_at<P: Past>(p: &P) -> Result<Made, NoMemory>
     ensures { IfOk result (λ made. made ≡ step_at (P.at p.now)) }
 {
-    let mut made = on_input(alloc, p, p.input())?;
-    and_grants(alloc, p, 0, &mut made)?;
-    settle_once(alloc, p, &mut made)?;
-    settle_once(alloc, p, &mut made)?;
-    settle_once(alloc, p, &mut made)?;
+    let mut made = on_input(p, p.input())?;
+    and_grants(p, 0, &mut made)?;
+    settle_once(p, &mut made)?;
+    settle_once(p, &mut made)?;
+    settle_once(p, &mut made)?;
     Ok(made)
 }

@@ -3,12 +3,12 @@ ghost use Rattle.std.specs.Prelude.{◌≡◌, ◌==◌, ◌&&◌, ◌||◌, not
 ghost use Rattle.e3_world.specs.VoteRules.{vote_rule, on_vote_req, on_yes};
 
 use crate::making::{
-    and_attempt, and_decide, and_vote, elected_now, is_coordinator, send_vote, state_now,
+    Attempt, and_attempt, and_decide, and_send, and_vote, elected_now, is_coordinator, state_now,
+    vote_of,
 };
 use crate::past::Past;
 use e3_types::{Dir, NoMemory, State, Txn};
-use e3_world::Made;
-use std::alloc::Global;
+use e3_world::{Expected, Made};
 
 fn may_say_yes(count: u32, have: u64, inc: u32, present: u32, waits: bool) -> bool
     ensures { result ≡ (count == have && (count == 0 || inc == present) && not waits) }
@@ -18,44 +18,35 @@ fn may_say_yes(count: u32, have: u64, inc: u32, present: u32, waits: bool) -> bo
 
 /// The site may say yes: it has done as many operations as it is asked for, in this incarnation where there are any, and
 /// none waits.
-pub fn vote_rule<P: Past>(
-    alloc: Global,
-    p: &P,
-    t: &Txn,
-    inc: u32,
-    count: u32,
-    made: &Made,
-) -> Result<bool, NoMemory>
-    ensures { IfOk result (λ b. b ≡ vote_rule (P.at p.now) t.now inc count made.now) }
+pub fn vote_rule<P: Past>(p: &P, t: &Txn, asked: Expected, made: &Made) -> Result<bool, NoMemory>
+    ensures { IfOk result (λ b. b ≡ vote_rule (P.at p.now) t.now asked.inc asked.count made.now) }
 {
-    let performed = p.done(alloc, t)?;
-    let waits = p.waits(alloc, t, made)?;
-    Ok(may_say_yes(count, performed.len(), inc, p.inc(), waits))
+    let performed = p.done(t)?;
+    let waits = p.waits(t, made)?;
+    Ok(may_say_yes(asked.count, performed.len(), asked.inc, p.inc(), waits))
 }
 
-/// A site that is asked for its vote, by site f.
+/// A site that is asked for its vote, by site f, which says what it expects of it.
 pub fn on_vote_req<P: Past>(
-    alloc: Global,
     p: &P,
     f: u32,
     t: &Txn,
-    inc: u32,
-    count: u32,
+    asked: Expected,
     made: &mut Made,
 ) -> Result<(), NoMemory>
-    ensures { IfOk result (λ u. made.new ≡ on_vote_req (P.at p.now) f t.now inc count made.old) }
+    ensures { IfOk result (λ u. made.new ≡ on_vote_req (P.at p.now) f t.now asked.inc asked.count made.old) }
 {
     let first = elected_now(p, t, made) == 1;
     match (state_now(p, t, made), first) {
-        (State::A, _) => send_vote(p, f, t, false, made),
-        (State::W, true) => send_vote(p, f, t, true, made),
+        (State::A, _) => and_send(p, f, vote_of(t, false), made),
+        (State::W, true) => and_send(p, f, vote_of(t, true), made),
         (State::Q, true) => {
-            if vote_rule(alloc, p, t, inc, count, made)? {
-                and_vote(alloc, p, t, made)?;
-                send_vote(p, f, t, true, made)
+            if vote_rule(p, t, asked, made)? {
+                and_vote(p, t, made)?;
+                and_send(p, f, vote_of(t, true), made)
             } else {
                 and_decide(p, t, Dir::Abort, made)?;
-                send_vote(p, f, t, false, made)
+                and_send(p, f, vote_of(t, false), made)
             }
         }
         _ => Ok(()),
@@ -63,7 +54,7 @@ pub fn on_vote_req<P: Past>(
 }
 
 /// A yes: with the last one the coordinator attempts to commit.
-pub fn on_yes<P: Past>(alloc: Global, p: &P, t: &Txn, made: &mut Made) -> Result<(), NoMemory>
+pub fn on_yes<P: Past>(p: &P, t: &Txn, made: &mut Made) -> Result<(), NoMemory>
     ensures { IfOk result (λ u. made.new ≡ on_yes (P.at p.now) t.now made.old) }
 {
     if !(is_coordinator(p, t)
@@ -72,8 +63,8 @@ pub fn on_yes<P: Past>(alloc: Global, p: &P, t: &Txn, made: &mut Made) -> Result
     {
         return Ok(());
     }
-    if p.has_every_yes(alloc, t, made)? {
-        and_attempt(p, t, 1, Dir::Commit, t.sites, made)?;
+    if p.has_every_yes(t, made)? {
+        and_attempt(p, Attempt::new(t, 1, Dir::Commit), t.sites, made)?;
     }
     Ok(())
 }

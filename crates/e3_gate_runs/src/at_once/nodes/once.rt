@@ -57,7 +57,7 @@ fn takes_all<D: Disk + Drill + Drop, R: Wait>(
     requires may { MayTakeAtOnce D.meaning pass.old node.old inputs }
 {
     match node.batch(rt, alloc, wire, pass, inputs) {
-        Ok(()) => Some(wire.len(rt, pass).saturating_sub(before)),
+        Ok(_) => Some(wire.len(rt, pass).saturating_sub(before)),
         Err(_) => None,
     }
 }

@@ -1,4 +1,4 @@
-use Rattle.std.proofs.Common.{◌≡◌, ◌<◌, ◌≤◌, ◌+◌, ◌++◌, ◌∷◌, [], ℕ, List, length, refl, sym, subst, ap, ◌∙◌, arith}
+use Rattle.std.proofs.Common.{rules, ◌≡◌, ◌<◌, ◌≤◌, ◌+◌, ◌++◌, ◌∷◌, [], ℕ, List, Option, length, refl, sym, subst, ap, ◌∙◌, arith}
 use Rattle.std.specs.Prelude.{Result, Err}
 use Rattle.e3_node.specs.declared.batching.Batch.{Batch}
 use Rattle.e3_site.specs.SiteView.{SiteView, entry_of_plan}
@@ -7,17 +7,23 @@ use Rattle.e3_types.specs.declared.entries.Input.{Input}
 use Rattle.e3_types.specs.declared.records.Record.{Record}
 use Rattle.e3_wire.specs.Marks.{last_owner, most_of, used_of}
 use Rattle.e3_wire.specs.declared.marks.Mark.TheVariants as mark
-use Rattle.e3_site_log.specs.Ends.{IsDue}
+use Rattle.e3_site_log.specs.Ends.{HasRoom, IsDue, IsShortIf, MayTurn}
+use Rattle.e3_site_log.specs.declared.writing.Short.{Short}
+use Rattle.e3_node.specs.Batched.{IfReady}
+use Rattle.e3_node.specs.declared.briefing.Room.{Room}
+use Rattle.e3_node.specs.declared.briefing.Room.TheVariants.{Full}
 use Rattle.e3_wire.specs.declared.fault.WireFault.{WireFault}
-use Rattle.e3_node.proofs.Adding.{batch_added, batch_same, claim_refused, err_so}
+use Rattle.e3_node.proofs.Adding.{batch_added, batch_same, claim_refused, err_so, no_more_room}
 use Rattle.e3_node.proofs.Several.{most_push, owners_push, used_push}
 use Rattle.e3_node.proofs.batching.add_one.Goals as goal
 
 pub returns-clause-added : goal.returns-clause-added
-returns-clause-added g c =
+returns-clause-added g c = λ yes.
     let d = c.in_ok-draft.draft in
+    let ready : (P : Option Short → Type 0) → IfReady c.in_ok-short.field-0 P → P c.in-Ready.short =
+    λ P is. subst (λ (r : Room). IfReady r P) c.in-Ready.is is in
     batch_added g.D.Disk.meaning.meters c.args.log.now g.at.scenario g.at.history g.at.site g.at.rose g.at.marks g.at.first g.at.done c.args.batch.now c.set_short.new.batch c.args.site.now c.prepare.new.site
-    c.apply.new.self c.args.shared.now c.claim.new.self c.room_for-room.result c.args.input.now d c.apply.result c.step_of-step.result c.in_ok-short.short c.requires.1.1.1.0 c.requires.1.1.1.1.1.0
+    c.apply.new.self c.args.shared.now c.claim.new.self c.room_for-room.result c.args.input.now d c.apply.result c.step_of-step.result c.in-Ready.short c.requires.1.1.1.0 c.requires.1.1.1.1.1.0
     c.requires.1.1.1.1.1.1.0 c.in_ok-draft.ensures.ready c.prepare.ensures.still c.apply.ensures.step c.apply.ensures.stand
     (ap (λ (v : SiteView). v.weights) c.apply.ensures.done) (ap (λ (v : SiteView). v.site) c.apply.ensures.done)
     (ap (λ (v : SiteView). v.inputs) c.apply.ensures.done)
@@ -26,12 +32,27 @@ returns-clause-added g c =
     (ap (λ (b : Batch). b.steps.items) c.set_short.ensures ∙ c.push_reserved.ensures.items ∙ ap (λ (l : List Entry). l ++ c.step_of-step.result ∷ []) c.reserve.ensures.items)
     (ap (λ (b : Batch). b.records) c.set_short.ensures ∙ c.in_ok-records.ensures ∙ ap (λ (l : List Record). l ++ c.records.result.now) c.as_slice.ensures ∙ ap (λ (l : List Record). c.args.batch.now.records ++ l) c.records.ensures)
     (ap (λ (b : Batch). b.body) c.set_short.ensures ∙ c.in_ok-body.ensures ∙ ap (λ (l : List ℕ). l ++ c.as_slice-3.result.now) c.as_slice-2.ensures ∙ ap (λ (l : List ℕ). c.args.batch.now.body ++ l) c.as_slice-3.ensures)
-    (ap (λ (b : Batch). b.short) c.set_short.ensures) c.in_ok-short.ensures.short c.in_ok-short.ensures.may
+    (ap (λ (b : Batch). b.short) c.set_short.ensures)
+    (λ l brief. ready (IsShortIf c.prepare.new.site.site l) (c.in_ok-short.ensures.short l brief)) (ready (MayTurn c.args.log.now) c.in_ok-short.ensures.may)
     (λ l brief some none.
-    let D : ℕ → Type 0 = λ n. IsDue g.D.Disk.meaning.meters c.args.log.now l c.in_ok-short.short n in
+    let D : ℕ → Type 0 = λ n. IsDue g.D.Disk.meaning.meters c.args.log.now l c.in-Ready.short n in
     let size : c.len.result ≡ length c.set_short.new.batch.body = c.len.ensures ∙ sym (ap (λ (b : Batch). length b.body) c.set_short.ensures) in
-    subst D size (c.in_ok-short.ensures.due l brief c.requires.1.1.1.1.0 (λ empty. some (ap (λ (b : Batch). b.records) c.set_short.ensures ∙ sym c.as_slice-4.ensures ∙ empty)) none))
+    subst D size (ready (λ s. IsDue g.D.Disk.meaning.meters c.args.log.now l s c.len.result)
+    (c.in_ok-short.ensures.due l brief c.requires.1.1.1.1.0 (λ empty. some (ap (λ (b : Batch). b.records) c.set_short.ensures ∙ sym c.as_slice-4.ensures ∙ empty)) none)))
     (c.in_ok-claim.ensures.ok ∙ ap (λ (n : ℕ). c.args.shared.now ++ mark.Place n c.room_for-room.result ∷ []) c.requires.1.1.0)
+
+pub returns-in_default-clause-full : goal.returns-in_default-clause-full
+returns-in_default-clause-full g c = λ no.
+    let is : c.in_ok-short.field-0 ≡ Full = search rules in
+    let full = c.in_ok-short.ensures.full is in
+    let L : ℕ → Type 0 = λ n. HasRoom g.D.Disk.meaning.meters c.args.log.now n → ⊥ in (
+      batch_same g.D.Disk.meaning.meters c.args.log.now g.at.scenario g.at.history g.at.site g.at.rose g.at.marks g.at.first g.at.done c.args.batch.now c.args.batch.now c.args.site.now c.prepare.new.site
+          c.args.shared.now c.args.shared.now c.requires.1.1.1.0 refl refl refl refl c.prepare.ensures.still refl,
+      no_more_room g.D.Disk.meaning.meters c.args.log.now g.at.scenario g.at.history g.at.site g.at.rose g.at.marks g.at.first g.at.done c.args.batch.now c.args.site.now c.prepare.new.site
+          c.args.shared.now c.args.input.now c.in_ok-draft.draft c.in_ok-body.body c.requires.1.1.1.0 c.requires.1.1.1.1.1.0 c.in_ok-draft.ensures.ready
+          (c.in_ok-body.ensures ∙ ap (λ (l : List ℕ). l ++ c.as_slice-3.result.now) c.as_slice-2.ensures ∙ ap (λ (l : List ℕ). c.args.batch.now.body ++ l) c.as_slice-3.ensures)
+          full.0 (subst L c.len.ensures full.1),
+    )
 
 pub returns-clause-most : goal.returns-clause-most
 returns-clause-most g c = ap most_of c.in_ok-claim.ensures.ok ∙ most_push c.args.shared.now c.args.number c.room_for-room.result

@@ -23,16 +23,16 @@ use Rattle.e3_world.specs.Moves.{log_of}
 use Rattle.e3_node.proofs.Bundles.{plain_own}
 use Rattle.e3_node.proofs.Ended.{never_down}
 use Rattle.e3_node.proofs.BatchOrders.{batch_brief, batch_order}
-use Rattle.e3_node.proofs.Results.{all_due, all_follow, alone, fall_end, fall_may, made, may_all_enter, note_fallen, note_stepped, steps_are, steps_end, turned, up_2, up_first, up_second}
+use Rattle.e3_node.proofs.Results.{all_due, all_follow, alone, fall_end, fall_may, frame_seen, made, may_all_enter, note_fallen, note_stepped, steps_are, steps_end, turned, up_2, up_first, up_second}
 use Rattle.e3_node.proofs.Waiting.{still_owns}
 use Rattle.e3_node.proofs.Written.{Follows}
 use Rattle.e3_node.proofs.taking.step_all.Goals as goal
 
-pub plan_all-refused-requires-clause-stands : goal.plan_all-refused-requires-clause-stands
-plan_all-refused-requires-clause-stands g c = c.requires.up.stands.alike
+pub plan_all-planned-requires-clause-stands : goal.plan_all-planned-requires-clause-stands
+plan_all-planned-requires-clause-stands g c = c.requires.up.stands.alike
 
-pub plan_all-refused-requires-clause-orders : goal.plan_all-refused-requires-clause-orders
-plan_all-refused-requires-clause-orders g c =
+pub plan_all-planned-requires-clause-orders : goal.plan_all-planned-requires-clause-orders
+plan_all-planned-requires-clause-orders g c =
     let p = c.args.pass.now in
     let n = c.args.number in
     let Q : List Input → Type 0 = λ l. (marks : List Mark) → GrewByOthers belongs p marks → IsPlayed marks → (k : ℕ) → k ≤ length l →
@@ -42,8 +42,8 @@ plan_all-refused-requires-clause-orders g c =
     c.requires.turns.restless c.requires.due c.requires.takes marks grew played k
     c.logs_are_sound.ensures.orderly c.logs_are_sound.ensures.sets)
 
-pub plan_all-refused-requires-clause-briefs : goal.plan_all-refused-requires-clause-briefs
-plan_all-refused-requires-clause-briefs g c =
+pub plan_all-planned-requires-clause-briefs : goal.plan_all-planned-requires-clause-briefs
+plan_all-planned-requires-clause-briefs g c =
     let p = c.args.pass.now in
     let n = c.args.number in
     let Q : List Input → Type 0 = λ l. (marks : List Mark) → GrewByOthers belongs p marks → IsPlayed marks → (k : ℕ) → k ≤ length l →
@@ -55,47 +55,47 @@ plan_all-refused-requires-clause-briefs g c =
     c.logs_are_sound.ensures.mention c.logs_are_sound.ensures.begun
     c.logs_are_sound.ensures.votes c.args.rose.now c.requires.up.stands.risen)
 
-pub plan_all-refused-requires-clause-sound : goal.plan_all-refused-requires-clause-sound
-plan_all-refused-requires-clause-sound g c = c.requires.up.logged.stands.sound
+pub plan_all-planned-requires-clause-sound : goal.plan_all-planned-requires-clause-sound
+plan_all-planned-requires-clause-sound g c = c.requires.up.logged.stands.sound
 
 pub write-requires-clause-lit : goal.write-requires-clause-lit
 write-requires-clause-lit g c = c.requires.up.lit
 
 pub write-requires-clause-may : goal.write-requires-clause-may
-write-requires-clause-may g c = c.plan_all-refused.ensures.planned.made.may
+write-requires-clause-may g c = c.plan_all-planned.ensures.planned.made.may
 
 pub write-requires-clause-spelled : goal.write-requires-clause-spelled
 write-requires-clause-spelled g c =
     let p = c.args.pass.now in
-    let q = c.plan_all-refused.new.pass in
+    let q = c.plan_all-planned.new.pass in
     let n = c.args.number in
     let s0 = c.args.site.now in
-    let b = c.plan_all-refused.new.batch in
-    let s1 = c.plan_all-refused.new.site in
-    let answer = c.plan_all-refused.result in
+    let b = c.plan_all-planned.new.batch in
+    let s1 = c.plan_all-planned.new.site in
+    let answer = c.plan_all-planned.result in
     let plan : HasPlanned g.D.Disk.meaning.meters c.args.log.now p n c.args.rose.now s0.inputs c.args.inputs answer b s1 (seen_by q) =
-    subst (λ (l : List Input). HasPlanned g.D.Disk.meaning.meters c.args.log.now p n c.args.rose.now s0.inputs l answer b s1 (seen_by q)) c.as_slice.ensures c.plan_all-refused.ensures.planned in
-    let mine = still_owns p q n c.plan_all-refused.ensures.same c.requires.turns.owns in
+    subst (λ (l : List Input). HasPlanned g.D.Disk.meaning.meters c.args.log.now p n c.args.rose.now s0.inputs l answer b s1 (seen_by q)) c.as_slice.ensures c.plan_all-planned.ensures.planned in
+    let mine = still_owns p q n c.plan_all-planned.ensures.same c.requires.turns.owns in
     let is = made g.D.Disk.meaning.meters c.args.log.now p q n s0.inputs c.args.inputs answer b s1 plan c.requires.turns.owns mine c.requires.turns.played
-    c.plan_all-refused.ensures.played in
+    c.plan_all-planned.ensures.played in
     c.as_slice-3.ensures ∙ is.body_is ∙ ap spelling (sym is.records_are) ∙ ap spelling (sym c.as_slice-2.ensures)
 
 pub enter_steps-requires-clause-owned : goal.enter_steps-requires-clause-owned
 enter_steps-requires-clause-owned g c =
     let p = c.args.pass.now in
-    let q = c.plan_all-refused.new.pass in
+    let q = c.plan_all-planned.new.pass in
     let n = c.args.number in
     let s0 = c.args.site.now in
     let l0 = c.args.log.now in
     let l1 = c.write.new.log in
-    let b = c.plan_all-refused.new.batch in
-    let s1 = c.plan_all-refused.new.site in
-    let answer = c.plan_all-refused.result in
+    let b = c.plan_all-planned.new.batch in
+    let s1 = c.plan_all-planned.new.site in
+    let answer = c.plan_all-planned.result in
     let plan : HasPlanned g.D.Disk.meaning.meters c.args.log.now p n c.args.rose.now s0.inputs c.args.inputs answer b s1 (seen_by q) =
-    subst (λ (l : List Input). HasPlanned g.D.Disk.meaning.meters c.args.log.now p n c.args.rose.now s0.inputs l answer b s1 (seen_by q)) c.as_slice.ensures c.plan_all-refused.ensures.planned in
-    let mine = still_owns p q n c.plan_all-refused.ensures.same c.requires.turns.owns in
+    subst (λ (l : List Input). HasPlanned g.D.Disk.meaning.meters c.args.log.now p n c.args.rose.now s0.inputs l answer b s1 (seen_by q)) c.as_slice.ensures c.plan_all-planned.ensures.planned in
+    let mine = still_owns p q n c.plan_all-planned.ensures.same c.requires.turns.owns in
     let is = made g.D.Disk.meaning.meters c.args.log.now p q n s0.inputs c.args.inputs answer b s1 plan c.requires.turns.owns mine c.requires.turns.played
-    c.plan_all-refused.ensures.played in
+    c.plan_all-planned.ensures.played in
     record {
       site = n;
       some = c.requires.turns.some;
@@ -106,161 +106,162 @@ enter_steps-requires-clause-owned g c =
 pub enter_steps-requires-clause-may : goal.enter_steps-requires-clause-may
 enter_steps-requires-clause-may g c =
     let p = c.args.pass.now in
-    let q = c.plan_all-refused.new.pass in
+    let q = c.plan_all-planned.new.pass in
     let n = c.args.number in
     let s0 = c.args.site.now in
     let l0 = c.args.log.now in
     let l1 = c.write.new.log in
-    let b = c.plan_all-refused.new.batch in
-    let s1 = c.plan_all-refused.new.site in
-    let answer = c.plan_all-refused.result in
+    let b = c.plan_all-planned.new.batch in
+    let s1 = c.plan_all-planned.new.site in
+    let answer = c.plan_all-planned.result in
     let plan : HasPlanned g.D.Disk.meaning.meters c.args.log.now p n c.args.rose.now s0.inputs c.args.inputs answer b s1 (seen_by q) =
-    subst (λ (l : List Input). HasPlanned g.D.Disk.meaning.meters c.args.log.now p n c.args.rose.now s0.inputs l answer b s1 (seen_by q)) c.as_slice.ensures c.plan_all-refused.ensures.planned in
-    let mine = still_owns p q n c.plan_all-refused.ensures.same c.requires.turns.owns in
+    subst (λ (l : List Input). HasPlanned g.D.Disk.meaning.meters c.args.log.now p n c.args.rose.now s0.inputs l answer b s1 (seen_by q)) c.as_slice.ensures c.plan_all-planned.ensures.planned in
+    let mine = still_owns p q n c.plan_all-planned.ensures.same c.requires.turns.owns in
     λ marks grew played.
     may_all_enter g.D.Disk.meaning.meters c.args.log.now p q n s0.inputs c.args.inputs answer b s1 plan c.requires.turns.owns mine c.requires.turns.played
-    c.plan_all-refused.ensures.played c.requires.turns.some c.requires.up.up c.requires.turns.restless c.requires.due c.requires.takes
+    c.plan_all-planned.ensures.played c.requires.turns.some c.requires.up.up c.requires.turns.restless c.requires.due c.requires.takes
     marks grew played c.requires.turns.exists (up_second g.D.Disk.meaning.meters c.args.log.now p q n s0.inputs c.args.inputs answer b s1
-    plan c.requires.turns.owns mine c.requires.turns.played c.plan_all-refused.ensures.played c.requires.turns.some c.requires.up.up
+    plan c.requires.turns.owns mine c.requires.turns.played c.plan_all-planned.ensures.played c.requires.turns.some c.requires.up.up
     c.requires.turns.restless c.requires.due c.requires.takes marks grew played g.D.Disk.meaning s0 l0 c.args.logged.now c.requires.up)
 
 pub commit_entry-requires-clause-owns : goal.commit_entry-requires-clause-owns
 commit_entry-requires-clause-owns g c =
     let p = c.args.pass.now in
-    let q = c.plan_all-refused.new.pass in
+    let q = c.plan_all-planned.new.pass in
     let n = c.args.number in
     let s0 = c.args.site.now in
     let l0 = c.args.log.now in
     let l1 = c.write.new.log in
-    let b = c.plan_all-refused.new.batch in
-    let s1 = c.plan_all-refused.new.site in
-    let answer = c.plan_all-refused.result in
+    let b = c.plan_all-planned.new.batch in
+    let s1 = c.plan_all-planned.new.site in
+    let answer = c.plan_all-planned.result in
     let plan : HasPlanned g.D.Disk.meaning.meters c.args.log.now p n c.args.rose.now s0.inputs c.args.inputs answer b s1 (seen_by q) =
-    subst (λ (l : List Input). HasPlanned g.D.Disk.meaning.meters c.args.log.now p n c.args.rose.now s0.inputs l answer b s1 (seen_by q)) c.as_slice.ensures c.plan_all-refused.ensures.planned in
-    let mine = still_owns p q n c.plan_all-refused.ensures.same c.requires.turns.owns in
+    subst (λ (l : List Input). HasPlanned g.D.Disk.meaning.meters c.args.log.now p n c.args.rose.now s0.inputs l answer b s1 (seen_by q)) c.as_slice.ensures c.plan_all-planned.ensures.planned in
+    let mine = still_owns p q n c.plan_all-planned.ensures.same c.requires.turns.owns in
     subst (λ (y : Entry). Owns q y.owner) (sym c.fall_of-fall.ensures) mine
 
 pub commit_entry-requires-clause-may : goal.commit_entry-requires-clause-may
 commit_entry-requires-clause-may g c =
     let p = c.args.pass.now in
-    let q = c.plan_all-refused.new.pass in
+    let q = c.plan_all-planned.new.pass in
     let n = c.args.number in
     let s0 = c.args.site.now in
     let l0 = c.args.log.now in
     let l1 = c.write.new.log in
-    let b = c.plan_all-refused.new.batch in
-    let s1 = c.plan_all-refused.new.site in
-    let answer = c.plan_all-refused.result in
+    let b = c.plan_all-planned.new.batch in
+    let s1 = c.plan_all-planned.new.site in
+    let answer = c.plan_all-planned.result in
     let plan : HasPlanned g.D.Disk.meaning.meters c.args.log.now p n c.args.rose.now s0.inputs c.args.inputs answer b s1 (seen_by q) =
-    subst (λ (l : List Input). HasPlanned g.D.Disk.meaning.meters c.args.log.now p n c.args.rose.now s0.inputs l answer b s1 (seen_by q)) c.as_slice.ensures c.plan_all-refused.ensures.planned in
-    let mine = still_owns p q n c.plan_all-refused.ensures.same c.requires.turns.owns in
+    subst (λ (l : List Input). HasPlanned g.D.Disk.meaning.meters c.args.log.now p n c.args.rose.now s0.inputs l answer b s1 (seen_by q)) c.as_slice.ensures c.plan_all-planned.ensures.planned in
+    let mine = still_owns p q n c.plan_all-planned.ensures.same c.requires.turns.owns in
     subst (λ (y : Entry). MayEnterBehind (seen_by q) y) (sym c.fall_of-fall.ensures)
     (fall_may g.D.Disk.meaning.meters c.args.log.now p q n s0.inputs c.args.inputs answer b s1 plan c.requires.turns.owns mine c.requires.turns.played
-    c.plan_all-refused.ensures.played c.requires.turns.some c.requires.up.up c.requires.turns.restless c.requires.due c.requires.takes
+    c.plan_all-planned.ensures.played c.requires.turns.some c.requires.up.up c.requires.turns.restless c.requires.due c.requires.takes
     c.first_of-over.result c.in-Err.why (c.first_of-over.ensures ∙ ap (λ (k : ℕ). take k c.args.inputs)
     (ap length c.as_slice-in-Err.ensures.value ∙ steps_are g.D.Disk.meaning.meters c.args.log.now p q n s0.inputs c.args.inputs answer b s1
-    plan c.requires.turns.owns mine c.requires.turns.played c.plan_all-refused.ensures.played))
+    plan c.requires.turns.owns mine c.requires.turns.played c.plan_all-planned.ensures.played))
     (λ none. c.in-Err.ensures.some (c.as_slice-2.ensures ∙ none)) (up_first g.D.Disk.meaning.meters c.args.log.now p q n s0.inputs c.args.inputs answer b s1
-    plan c.requires.turns.owns mine c.requires.turns.played c.plan_all-refused.ensures.played
+    plan c.requires.turns.owns mine c.requires.turns.played c.plan_all-planned.ensures.played
     g.D.Disk.meaning s0 l0 c.args.logged.now c.requires.up) c.requires.turns.exists)
 
 pub commit_entry-requires-clause-alone : goal.commit_entry-requires-clause-alone
 commit_entry-requires-clause-alone g c =
     let p = c.args.pass.now in
-    let q = c.plan_all-refused.new.pass in
+    let q = c.plan_all-planned.new.pass in
     let n = c.args.number in
     let s0 = c.args.site.now in
     let l0 = c.args.log.now in
     let l1 = c.write.new.log in
-    let b = c.plan_all-refused.new.batch in
-    let s1 = c.plan_all-refused.new.site in
-    let answer = c.plan_all-refused.result in
+    let b = c.plan_all-planned.new.batch in
+    let s1 = c.plan_all-planned.new.site in
+    let answer = c.plan_all-planned.result in
     let plan : HasPlanned g.D.Disk.meaning.meters c.args.log.now p n c.args.rose.now s0.inputs c.args.inputs answer b s1 (seen_by q) =
-    subst (λ (l : List Input). HasPlanned g.D.Disk.meaning.meters c.args.log.now p n c.args.rose.now s0.inputs l answer b s1 (seen_by q)) c.as_slice.ensures c.plan_all-refused.ensures.planned in
-    let mine = still_owns p q n c.plan_all-refused.ensures.same c.requires.turns.owns in
+    subst (λ (l : List Input). HasPlanned g.D.Disk.meaning.meters c.args.log.now p n c.args.rose.now s0.inputs l answer b s1 (seen_by q)) c.as_slice.ensures c.plan_all-planned.ensures.planned in
+    let mine = still_owns p q n c.plan_all-planned.ensures.same c.requires.turns.owns in
     λ calm.
-    alone g.D.Disk.meaning.meters c.args.log.now p q n s0.inputs c.args.inputs answer b s1 plan c.requires.turns.owns mine c.requires.turns.played c.plan_all-refused.ensures.played
+    alone g.D.Disk.meaning.meters c.args.log.now p q n s0.inputs c.args.inputs answer b s1 plan c.requires.turns.owns mine c.requires.turns.played c.plan_all-planned.ensures.played
     c.requires.turns.some c.requires.up.up c.requires.turns.restless c.requires.due c.requires.takes calm
 
 pub returns-in-Ok-clause-turned : goal.returns-in-Ok-clause-turned
 returns-in-Ok-clause-turned g c =
     let p = c.args.pass.now in
-    let q = c.plan_all-refused.new.pass in
+    let q = c.plan_all-planned.new.pass in
     let n = c.args.number in
     let s0 = c.args.site.now in
     let l0 = c.args.log.now in
     let l1 = c.write.new.log in
-    let b = c.plan_all-refused.new.batch in
-    let s1 = c.plan_all-refused.new.site in
-    let answer = c.plan_all-refused.result in
+    let b = c.plan_all-planned.new.batch in
+    let s1 = c.plan_all-planned.new.site in
+    let answer = c.plan_all-planned.result in
     let plan : HasPlanned g.D.Disk.meaning.meters c.args.log.now p n c.args.rose.now s0.inputs c.args.inputs answer b s1 (seen_by q) =
-    subst (λ (l : List Input). HasPlanned g.D.Disk.meaning.meters c.args.log.now p n c.args.rose.now s0.inputs l answer b s1 (seen_by q)) c.as_slice.ensures c.plan_all-refused.ensures.planned in
-    let mine = still_owns p q n c.plan_all-refused.ensures.same c.requires.turns.owns in
+    subst (λ (l : List Input). HasPlanned g.D.Disk.meaning.meters c.args.log.now p n c.args.rose.now s0.inputs l answer b s1 (seen_by q)) c.as_slice.ensures c.plan_all-planned.ensures.planned in
+    let mine = still_owns p q n c.plan_all-planned.ensures.same c.requires.turns.owns in
     let r = c.enter_steps.new.pass in
     let ent = c.enter_steps.ensures.entered in
     let tail = marks_in (entries_of ent.0) b.steps.items in
     turned g.D.Disk.meaning.meters c.args.log.now p q n s0.inputs c.args.inputs answer b s1 plan c.requires.turns.owns mine c.requires.turns.played
-    c.plan_all-refused.ensures.played c.requires.turns.some c.requires.up.up c.requires.turns.restless c.requires.due c.requires.takes ent.0 ent.1 ent.2
-    c.args.wire.now r tail ent.3 c.enter_steps.ensures.idle c.plan_all-refused.ensures.same c.enter_steps.ensures.same c.enter_steps.ensures.played
+    c.plan_all-planned.ensures.played c.requires.turns.some c.requires.up.up c.requires.turns.restless c.requires.due c.requires.takes ent.0 ent.1 ent.2
+    c.args.wire.now r tail ent.3 c.enter_steps.ensures.idle c.plan_all-planned.ensures.same c.enter_steps.ensures.same c.enter_steps.ensures.played
 
 pub returns-in-Ok-clause-none : goal.returns-in-Ok-clause-none
 returns-in-Ok-clause-none g c =
     let p = c.args.pass.now in
-    let q = c.plan_all-refused.new.pass in
+    let q = c.plan_all-planned.new.pass in
     let n = c.args.number in
     let s0 = c.args.site.now in
     let l0 = c.args.log.now in
     let l1 = c.write.new.log in
-    let b = c.plan_all-refused.new.batch in
-    let s1 = c.plan_all-refused.new.site in
-    let answer = c.plan_all-refused.result in
+    let b = c.plan_all-planned.new.batch in
+    let s1 = c.plan_all-planned.new.site in
+    let answer = c.plan_all-planned.result in
     let plan : HasPlanned g.D.Disk.meaning.meters c.args.log.now p n c.args.rose.now s0.inputs c.args.inputs answer b s1 (seen_by q) =
-    subst (λ (l : List Input). HasPlanned g.D.Disk.meaning.meters c.args.log.now p n c.args.rose.now s0.inputs l answer b s1 (seen_by q)) c.as_slice.ensures c.plan_all-refused.ensures.planned in
-    let mine = still_owns p q n c.plan_all-refused.ensures.same c.requires.turns.owns in
+    subst (λ (l : List Input). HasPlanned g.D.Disk.meaning.meters c.args.log.now p n c.args.rose.now s0.inputs l answer b s1 (seen_by q)) c.as_slice.ensures c.plan_all-planned.ensures.planned in
+    let mine = still_owns p q n c.plan_all-planned.ensures.same c.requires.turns.owns in
     let r = c.enter_steps.new.pass in
     let ent = c.enter_steps.ensures.entered in
     let tail = marks_in (entries_of ent.0) b.steps.items in
     note_stepped g.D.Disk.meaning.meters c.args.log.now p q n s0.inputs c.args.inputs answer b s1 plan c.requires.turns.owns mine c.requires.turns.played
-    c.plan_all-refused.ensures.played c.requires.turns.some c.requires.up.up c.requires.turns.restless c.requires.due c.requires.takes ent.0 ent.1 ent.2 (seen_by r) ent.3
+    c.plan_all-planned.ensures.played c.requires.turns.some c.requires.up.up c.requires.turns.restless c.requires.due c.requires.takes ent.0 ent.1 ent.2 (seen_by r) ent.3
 
 pub returns-in-Ok-clause-ended : goal.returns-in-Ok-clause-ended
 returns-in-Ok-clause-ended g c =
     let p = c.args.pass.now in
-    let q = c.plan_all-refused.new.pass in
+    let q = c.plan_all-planned.new.pass in
     let n = c.args.number in
     let s0 = c.args.site.now in
     let l0 = c.args.log.now in
     let l1 = c.write.new.log in
-    let b = c.plan_all-refused.new.batch in
-    let s1 = c.plan_all-refused.new.site in
-    let answer = c.plan_all-refused.result in
+    let b = c.plan_all-planned.new.batch in
+    let s1 = c.plan_all-planned.new.site in
+    let answer = c.plan_all-planned.result in
     let plan : HasPlanned g.D.Disk.meaning.meters l0 p n c.args.rose.now s0.inputs c.args.inputs answer b s1 (seen_by q) =
-    subst (λ (l : List Input). HasPlanned g.D.Disk.meaning.meters l0 p n c.args.rose.now s0.inputs l answer b s1 (seen_by q)) c.as_slice.ensures c.plan_all-refused.ensures.planned in
-    let mine = still_owns p q n c.plan_all-refused.ensures.same c.requires.turns.owns in
+    subst (λ (l : List Input). HasPlanned g.D.Disk.meaning.meters l0 p n c.args.rose.now s0.inputs l answer b s1 (seen_by q)) c.as_slice.ensures c.plan_all-planned.ensures.planned in
+    let mine = still_owns p q n c.plan_all-planned.ensures.same c.requires.turns.owns in
     let r = c.enter_steps.new.pass in
     let ent = c.enter_steps.ensures.entered in
     let sc = scenario_of (seen_by p) in
     let k = entries_of ent.0 in
     let m = c.write.new.logged in
     let up_k : is_up_at k n ≡ true =
-    up_second g.D.Disk.meaning.meters l0 p q n s0.inputs c.args.inputs answer b s1 plan c.requires.turns.owns mine c.requires.turns.played c.plan_all-refused.ensures.played
+    up_second g.D.Disk.meaning.meters l0 p q n s0.inputs c.args.inputs answer b s1 plan c.requires.turns.owns mine c.requires.turns.played c.plan_all-planned.ensures.played
     c.requires.turns.some c.requires.up.up c.requires.turns.restless c.requires.due c.requires.takes ent.0 ent.1 ent.2
     g.D.Disk.meaning s0 l0 c.args.logged.now c.requires.up in
     let up_1 : is_up_at (entries_of plan.between) n ≡ true = up_first g.D.Disk.meaning.meters l0 p q n s0.inputs c.args.inputs answer b s1
-    plan c.requires.turns.owns mine c.requires.turns.played c.plan_all-refused.ensures.played
+    plan c.requires.turns.owns mine c.requires.turns.played c.plan_all-planned.ensures.played
     g.D.Disk.meaning s0 l0 c.args.logged.now c.requires.up in
-    let here = up_2 g.D.Disk.meaning.meters l0 p q n s0.inputs c.args.inputs answer b s1 plan c.requires.turns.owns mine c.requires.turns.played c.plan_all-refused.ensures.played
+    let here = up_2 g.D.Disk.meaning.meters l0 p q n s0.inputs c.args.inputs answer b s1 plan c.requires.turns.owns mine c.requires.turns.played c.plan_all-planned.ensures.played
     c.requires.turns.some c.requires.up.up c.requires.turns.restless c.requires.due c.requires.takes ent.0 ent.1 ent.2
     g.D.Disk.meaning s0 l0 l1 c.args.logged.now m c.requires.up refl in
     let follow : Follows n (log_of sc k n) c.as_slice-2.result.now b.short =
     subst (λ (rs : List Record). Follows n (log_of sc k n) rs b.short) (sym c.as_slice-2.ensures)
-    (all_follow g.D.Disk.meaning.meters l0 p q n s0.inputs c.args.inputs answer b s1 plan c.requires.turns.owns mine c.requires.turns.played c.plan_all-refused.ensures.played
+    (all_follow g.D.Disk.meaning.meters l0 p q n s0.inputs c.args.inputs answer b s1 plan c.requires.turns.owns mine c.requires.turns.played c.plan_all-planned.ensures.played
     c.requires.turns.some c.requires.up.up c.requires.turns.restless c.requires.due c.requires.takes ent.0 ent.1 ent.2
     c.logs_are_sound.ensures.orderly c.logs_are_sound.ensures.sets c.logs_are_sound.ensures.mention c.logs_are_sound.ensures.begun
     c.logs_are_sound.ensures.votes up_1 up_k) in
-    steps_end g.D.Disk.meaning.meters l0 p q n s0.inputs c.args.inputs answer b s1 plan c.requires.turns.owns mine c.requires.turns.played c.plan_all-refused.ensures.played
+    steps_end g.D.Disk.meaning.meters l0 p q n s0.inputs c.args.inputs answer b s1 plan c.requires.turns.owns mine c.requires.turns.played c.plan_all-planned.ensures.played
     c.requires.turns.some c.requires.up.up c.requires.turns.restless c.requires.due c.requires.takes ent.0 ent.1 ent.2
     g.D.Disk.meaning s0 l0 l1 c.args.logged.now m c.requires.up refl
+    (frame_seen g.D.Disk.meaning.meters l0 p q n s0.inputs c.args.inputs answer b s1 plan c.requires.turns.owns mine c.requires.turns.played c.plan_all-planned.ensures.played)
     c.logs_are_sound.ensures.orderly c.logs_are_sound.ensures.sets b.short follow.short
     (λ none. c.write.ensures.same (c.as_slice-2.ensures ∙ none))
     (subst (λ (rs : List Record). IsLogged g.D.Disk.meaning n (entries_at k n + 1) (log_of sc k n ++ rs) m l1) c.as_slice-2.ensures
@@ -273,22 +274,22 @@ returns-in-Ok-clause-ended g c =
 
 pub returns-in-Ok-clause-never : goal.returns-in-Ok-clause-never
 returns-in-Ok-clause-never g c =
-    never_down c.plan_all-refused.result c.plan_all-refused.ensures.refused
+    never_down c.plan_all-planned.result c.plan_all-planned.ensures.refused
 
 pub returns-in-Err-clause-turned : goal.returns-in-Err-clause-turned
 returns-in-Err-clause-turned g c =
     let p = c.args.pass.now in
-    let q = c.plan_all-refused.new.pass in
+    let q = c.plan_all-planned.new.pass in
     let n = c.args.number in
     let s0 = c.args.site.now in
     let l0 = c.args.log.now in
     let l1 = c.write.new.log in
-    let b = c.plan_all-refused.new.batch in
-    let s1 = c.plan_all-refused.new.site in
-    let answer = c.plan_all-refused.result in
+    let b = c.plan_all-planned.new.batch in
+    let s1 = c.plan_all-planned.new.site in
+    let answer = c.plan_all-planned.result in
     let plan : HasPlanned g.D.Disk.meaning.meters c.args.log.now p n c.args.rose.now s0.inputs c.args.inputs answer b s1 (seen_by q) =
-    subst (λ (l : List Input). HasPlanned g.D.Disk.meaning.meters c.args.log.now p n c.args.rose.now s0.inputs l answer b s1 (seen_by q)) c.as_slice.ensures c.plan_all-refused.ensures.planned in
-    let mine = still_owns p q n c.plan_all-refused.ensures.same c.requires.turns.owns in
+    subst (λ (l : List Input). HasPlanned g.D.Disk.meaning.meters c.args.log.now p n c.args.rose.now s0.inputs l answer b s1 (seen_by q)) c.as_slice.ensures c.plan_all-planned.ensures.planned in
+    let mine = still_owns p q n c.plan_all-planned.ensures.same c.requires.turns.owns in
     let r = c.commit_entry.new.pass in
     let over = c.first_of-over.result in
     let why = c.in-Err.why in
@@ -298,23 +299,23 @@ returns-in-Err-clause-turned g c =
     let ent : P e = subst P c.fall_of-fall.ensures c.commit_entry.ensures.entered in
     let tail : List Mark = mark.Entered (numbered_on (entries_of ent.0) e) ∷ [] in
     turned g.D.Disk.meaning.meters c.args.log.now p q n s0.inputs c.args.inputs answer b s1 plan c.requires.turns.owns mine c.requires.turns.played
-    c.plan_all-refused.ensures.played c.requires.turns.some c.requires.up.up c.requires.turns.restless c.requires.due c.requires.takes ent.0 ent.1 ent.3
-    c.args.wire.now r tail ent.2 c.commit_entry.ensures.idle c.plan_all-refused.ensures.same c.commit_entry.ensures.same c.commit_entry.ensures.played
+    c.plan_all-planned.ensures.played c.requires.turns.some c.requires.up.up c.requires.turns.restless c.requires.due c.requires.takes ent.0 ent.1 ent.3
+    c.args.wire.now r tail ent.2 c.commit_entry.ensures.idle c.plan_all-planned.ensures.same c.commit_entry.ensures.same c.commit_entry.ensures.played
 
 pub returns-in-Err-clause-none : goal.returns-in-Err-clause-none
 returns-in-Err-clause-none g c =
     let p = c.args.pass.now in
-    let q = c.plan_all-refused.new.pass in
+    let q = c.plan_all-planned.new.pass in
     let n = c.args.number in
     let s0 = c.args.site.now in
     let l0 = c.args.log.now in
     let l1 = c.write.new.log in
-    let b = c.plan_all-refused.new.batch in
-    let s1 = c.plan_all-refused.new.site in
-    let answer = c.plan_all-refused.result in
+    let b = c.plan_all-planned.new.batch in
+    let s1 = c.plan_all-planned.new.site in
+    let answer = c.plan_all-planned.result in
     let plan : HasPlanned g.D.Disk.meaning.meters c.args.log.now p n c.args.rose.now s0.inputs c.args.inputs answer b s1 (seen_by q) =
-    subst (λ (l : List Input). HasPlanned g.D.Disk.meaning.meters c.args.log.now p n c.args.rose.now s0.inputs l answer b s1 (seen_by q)) c.as_slice.ensures c.plan_all-refused.ensures.planned in
-    let mine = still_owns p q n c.plan_all-refused.ensures.same c.requires.turns.owns in
+    subst (λ (l : List Input). HasPlanned g.D.Disk.meaning.meters c.args.log.now p n c.args.rose.now s0.inputs l answer b s1 (seen_by q)) c.as_slice.ensures c.plan_all-planned.ensures.planned in
+    let mine = still_owns p q n c.plan_all-planned.ensures.same c.requires.turns.owns in
     let r = c.commit_entry.new.pass in
     let over = c.first_of-over.result in
     let why = c.in-Err.why in
@@ -324,25 +325,25 @@ returns-in-Err-clause-none g c =
     let ent : P e = subst P c.fall_of-fall.ensures c.commit_entry.ensures.entered in
     let tail : List Mark = mark.Entered (numbered_on (entries_of ent.0) e) ∷ [] in
     note_fallen g.D.Disk.meaning.meters c.args.log.now p q n s0.inputs c.args.inputs answer b s1 plan c.requires.turns.owns mine c.requires.turns.played
-    c.plan_all-refused.ensures.played c.requires.turns.some c.requires.up.up c.requires.turns.restless c.requires.due c.requires.takes ent.0 ent.1 ent.3 over why (seen_by r)
+    c.plan_all-planned.ensures.played c.requires.turns.some c.requires.up.up c.requires.turns.restless c.requires.due c.requires.takes ent.0 ent.1 ent.3 over why (seen_by r)
     (c.first_of-over.ensures ∙ ap (λ (k : ℕ). take k c.args.inputs)
     (ap length c.as_slice-in-Err.ensures.value ∙ steps_are g.D.Disk.meaning.meters c.args.log.now p q n s0.inputs c.args.inputs answer b s1
-    plan c.requires.turns.owns mine c.requires.turns.played c.plan_all-refused.ensures.played)) ent.2
+    plan c.requires.turns.owns mine c.requires.turns.played c.plan_all-planned.ensures.played)) ent.2
 
 pub returns-in-Err-clause-ended : goal.returns-in-Err-clause-ended
 returns-in-Err-clause-ended g c =
     let p = c.args.pass.now in
-    let q = c.plan_all-refused.new.pass in
+    let q = c.plan_all-planned.new.pass in
     let n = c.args.number in
     let s0 = c.args.site.now in
     let l0 = c.args.log.now in
     let l1 = c.write.new.log in
-    let b = c.plan_all-refused.new.batch in
-    let s1 = c.plan_all-refused.new.site in
-    let answer = c.plan_all-refused.result in
+    let b = c.plan_all-planned.new.batch in
+    let s1 = c.plan_all-planned.new.site in
+    let answer = c.plan_all-planned.result in
     let plan : HasPlanned g.D.Disk.meaning.meters l0 p n c.args.rose.now s0.inputs c.args.inputs answer b s1 (seen_by q) =
-    subst (λ (l : List Input). HasPlanned g.D.Disk.meaning.meters l0 p n c.args.rose.now s0.inputs l answer b s1 (seen_by q)) c.as_slice.ensures c.plan_all-refused.ensures.planned in
-    let mine = still_owns p q n c.plan_all-refused.ensures.same c.requires.turns.owns in
+    subst (λ (l : List Input). HasPlanned g.D.Disk.meaning.meters l0 p n c.args.rose.now s0.inputs l answer b s1 (seen_by q)) c.as_slice.ensures c.plan_all-planned.ensures.planned in
+    let mine = still_owns p q n c.plan_all-planned.ensures.same c.requires.turns.owns in
     let r = c.commit_entry.new.pass in
     let over = c.first_of-over.result in
     let why = c.in-Err.why in
@@ -354,38 +355,39 @@ returns-in-Err-clause-ended g c =
     let k = entries_of ent.0 in
     let m = c.write.new.logged in
     let up_k : is_up_at k n ≡ true =
-    up_second g.D.Disk.meaning.meters l0 p q n s0.inputs c.args.inputs answer b s1 plan c.requires.turns.owns mine c.requires.turns.played c.plan_all-refused.ensures.played
+    up_second g.D.Disk.meaning.meters l0 p q n s0.inputs c.args.inputs answer b s1 plan c.requires.turns.owns mine c.requires.turns.played c.plan_all-planned.ensures.played
     c.requires.turns.some c.requires.up.up c.requires.turns.restless c.requires.due c.requires.takes ent.0 ent.1 ent.3
     g.D.Disk.meaning s0 l0 c.args.logged.now c.requires.up in
     let up_1 : is_up_at (entries_of plan.between) n ≡ true = up_first g.D.Disk.meaning.meters l0 p q n s0.inputs c.args.inputs answer b s1
-    plan c.requires.turns.owns mine c.requires.turns.played c.plan_all-refused.ensures.played
+    plan c.requires.turns.owns mine c.requires.turns.played c.plan_all-planned.ensures.played
     g.D.Disk.meaning s0 l0 c.args.logged.now c.requires.up in
-    let here = up_2 g.D.Disk.meaning.meters l0 p q n s0.inputs c.args.inputs answer b s1 plan c.requires.turns.owns mine c.requires.turns.played c.plan_all-refused.ensures.played
+    let here = up_2 g.D.Disk.meaning.meters l0 p q n s0.inputs c.args.inputs answer b s1 plan c.requires.turns.owns mine c.requires.turns.played c.plan_all-planned.ensures.played
     c.requires.turns.some c.requires.up.up c.requires.turns.restless c.requires.due c.requires.takes ent.0 ent.1 ent.3
     g.D.Disk.meaning s0 l0 l1 c.args.logged.now m c.requires.up refl in
     let follow : Follows n (log_of sc k n) c.as_slice-2.result.now b.short =
     subst (λ (rs : List Record). Follows n (log_of sc k n) rs b.short) (sym c.as_slice-2.ensures)
-    (all_follow g.D.Disk.meaning.meters l0 p q n s0.inputs c.args.inputs answer b s1 plan c.requires.turns.owns mine c.requires.turns.played c.plan_all-refused.ensures.played
+    (all_follow g.D.Disk.meaning.meters l0 p q n s0.inputs c.args.inputs answer b s1 plan c.requires.turns.owns mine c.requires.turns.played c.plan_all-planned.ensures.played
     c.requires.turns.some c.requires.up.up c.requires.turns.restless c.requires.due c.requires.takes ent.0 ent.1 ent.3
     c.logs_are_sound.ensures.orderly c.logs_are_sound.ensures.sets c.logs_are_sound.ensures.mention c.logs_are_sound.ensures.begun
     c.logs_are_sound.ensures.votes up_1 up_k) in
     let some : b.records ≢ [] = λ none. c.in-Err.ensures.some (c.as_slice-2.ensures ∙ none) in
-    fall_end g.D.Disk.meaning.meters l0 p q n s0.inputs c.args.inputs answer b s1 plan c.requires.turns.owns mine c.requires.turns.played c.plan_all-refused.ensures.played
+    fall_end g.D.Disk.meaning.meters l0 p q n s0.inputs c.args.inputs answer b s1 plan c.requires.turns.owns mine c.requires.turns.played c.plan_all-planned.ensures.played
     c.requires.turns.some c.requires.up.up c.requires.turns.restless c.requires.due c.requires.takes ent.0 ent.1 ent.3
-    g.D.Disk.meaning s0 l0 l1 c.args.logged.now m c.requires.up refl why some
+    g.D.Disk.meaning s0 l0 l1 c.args.logged.now m c.requires.up refl
+    (frame_seen g.D.Disk.meaning.meters l0 p q n s0.inputs c.args.inputs answer b s1 plan c.requires.turns.owns mine c.requires.turns.played c.plan_all-planned.ensures.played) why some
     (subst (λ (rs : List Record). (bytes : List ℕ) → g.D.Disk.meaning.image l1.disk bytes →
     ReadsLeft n (g.D.Disk.meaning.meters l1.disk).capacity (entries_at k n + 1) (log_of sc k n) rs m why bytes) c.as_slice-2.ensures
     (c.in-Err.ensures.left n (entries_at k n) (log_of sc k n) here.logged follow.short follow.orderly follow.back))
     (subst (λ (rs : List Record). IsReason why (log_of sc k n) rs (g.D.Disk.meaning.meters l0.disk) (g.D.Disk.meaning.meters l1.disk)) c.as_slice-2.ensures
     (c.in-Err.ensures.reason n (entries_at k n) (log_of sc k n) here.logged follow.short
     (subst (λ (rs : List Record). IsDue g.D.Disk.meaning.meters l0 (log_of sc k n) b.short (size_of rs)) (sym c.as_slice-2.ensures)
-    (all_due g.D.Disk.meaning.meters l0 p q n s0.inputs c.args.inputs answer b s1 plan c.requires.turns.owns mine c.requires.turns.played c.plan_all-refused.ensures.played
+    (all_due g.D.Disk.meaning.meters l0 p q n s0.inputs c.args.inputs answer b s1 plan c.requires.turns.owns mine c.requires.turns.played c.plan_all-planned.ensures.played
     c.requires.turns.some c.requires.up.up c.requires.turns.restless c.requires.due c.requires.takes ent.0 ent.1 ent.3 some))))
     c.write.ensures.keeps over
     (c.first_of-over.ensures ∙ ap (λ (j : ℕ). take j c.args.inputs) (ap length c.as_slice-in-Err.ensures.value ∙ steps_are g.D.Disk.meaning.meters l0 p q n s0.inputs
-    c.args.inputs answer b s1 plan c.requires.turns.owns mine c.requires.turns.played c.plan_all-refused.ensures.played))
+    c.args.inputs answer b s1 plan c.requires.turns.owns mine c.requires.turns.played c.plan_all-planned.ensures.played))
     (seen_by r) ent.2
 
 pub returns-in-Err-clause-never : goal.returns-in-Err-clause-never
 returns-in-Err-clause-never g c =
-    never_down c.plan_all-refused.result c.plan_all-refused.ensures.refused
+    never_down c.plan_all-planned.result c.plan_all-planned.ensures.refused

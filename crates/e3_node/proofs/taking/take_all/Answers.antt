@@ -1,4 +1,4 @@
-use Rattle.std.proofs.Common.{refl, subst, sym, ◌∙◌}
+use Rattle.std.proofs.Common.{ℕ, refl, subst, sym, ◌∙◌}
 use Rattle.std.specs.Prelude.{Result}
 use Rattle.e3_node.specs.Batches.{BatchEnded}
 use Rattle.e3_node.specs.Ending.{EndsWith}
@@ -33,10 +33,10 @@ returns-in-Up-clause-stands g c =
     let h = history_seen c.args.pass.now in
     let more = history_seen c.step_all-end.new.pass in
     let mid = Up c.step_all-end.new.site c.step_all-end.new.log c.in-Up.rose c.step_all-end.new.logged in
-    let ends : EndsWith g.D.Disk.meaning sc h more c.args.number c.args.inputs c.args.state.now mid e.refused e.fell =
-    subst (λ (s : State _). EndsWith g.D.Disk.meaning sc h more c.args.number c.args.inputs s mid e.refused e.fell) (sym c.in-Up.is) c.step_all-end.ensures.ended in
+    let ends : EndsWith g.D.Disk.meaning sc h more c.args.number c.args.inputs c.args.state.now mid e.planned e.fell =
+    subst (λ (s : State _). EndsWith g.D.Disk.meaning sc h more c.args.number c.args.inputs s mid e.planned e.fell) (sym c.in-Up.is) c.step_all-end.ensures.ended in
     let behind = ended_up g.D.Disk.meaning sc h more c.args.number c.args.inputs c.args.state.now mid c.settle_batch.new.state
-    e.refused e.fell ends c.settle_batch.ensures.fell c.settle_batch.ensures.kept in
+    e.planned e.fell ends c.settle_batch.ensures.fell c.settle_batch.ensures.kept in
     behind.stands
 
 pub returns-in-Up-clause-keeps : goal.returns-in-Up-clause-keeps
@@ -46,10 +46,10 @@ returns-in-Up-clause-keeps g c =
     let h = history_seen c.args.pass.now in
     let more = history_seen c.step_all-end.new.pass in
     let mid = Up c.step_all-end.new.site c.step_all-end.new.log c.in-Up.rose c.step_all-end.new.logged in
-    let ends : EndsWith g.D.Disk.meaning sc h more c.args.number c.args.inputs c.args.state.now mid e.refused e.fell =
-    subst (λ (s : State _). EndsWith g.D.Disk.meaning sc h more c.args.number c.args.inputs s mid e.refused e.fell) (sym c.in-Up.is) c.step_all-end.ensures.ended in
+    let ends : EndsWith g.D.Disk.meaning sc h more c.args.number c.args.inputs c.args.state.now mid e.planned e.fell =
+    subst (λ (s : State _). EndsWith g.D.Disk.meaning sc h more c.args.number c.args.inputs s mid e.planned e.fell) (sym c.in-Up.is) c.step_all-end.ensures.ended in
     let behind = ended_up g.D.Disk.meaning sc h more c.args.number c.args.inputs c.args.state.now mid c.settle_batch.new.state
-    e.refused e.fell ends c.settle_batch.ensures.fell c.settle_batch.ensures.kept in
+    e.planned e.fell ends c.settle_batch.ensures.fell c.settle_batch.ensures.kept in
     behind.keeps
 
 pub returns-in-Up-clause-ended : goal.returns-in-Up-clause-ended
@@ -59,11 +59,11 @@ returns-in-Up-clause-ended g c =
     let h = history_seen c.args.pass.now in
     let more = history_seen c.step_all-end.new.pass in
     let mid = Up c.step_all-end.new.site c.step_all-end.new.log c.in-Up.rose c.step_all-end.new.logged in
-    let ends : EndsWith g.D.Disk.meaning sc h more c.args.number c.args.inputs c.args.state.now mid e.refused e.fell =
-    subst (λ (s : State _). EndsWith g.D.Disk.meaning sc h more c.args.number c.args.inputs s mid e.refused e.fell) (sym c.in-Up.is) c.step_all-end.ensures.ended in
-    subst (λ (x : Result (Unit {0}) InputFault). BatchEnded g.D.Disk.meaning.meters sc h more c.args.number c.args.inputs c.args.state.now c.settle_batch.new.state x) (sym c.answer_of.ensures)
+    let ends : EndsWith g.D.Disk.meaning sc h more c.args.number c.args.inputs c.args.state.now mid e.planned e.fell =
+    subst (λ (s : State _). EndsWith g.D.Disk.meaning sc h more c.args.number c.args.inputs s mid e.planned e.fell) (sym c.in-Up.is) c.step_all-end.ensures.ended in
+    subst (λ (x : Result ℕ InputFault). BatchEnded g.D.Disk.meaning.meters sc h more c.args.number c.args.inputs c.args.state.now c.settle_batch.new.state x) (sym c.answer_of.ensures)
     (ended_told g.D.Disk.meaning sc h more c.args.number c.args.inputs c.args.state.now mid c.settle_batch.new.state
-    e.refused e.fell c.step_all-end.ensures.refused ends c.settle_batch.ensures.fell c.settle_batch.ensures.kept)
+    e.planned e.fell c.step_all-end.ensures.refused ends c.settle_batch.ensures.fell c.settle_batch.ensures.kept)
 
 pub returns-in-Up-clause-never : goal.returns-in-Up-clause-never
 returns-in-Up-clause-never g c =
@@ -72,11 +72,11 @@ returns-in-Up-clause-never g c =
     let h = history_seen c.args.pass.now in
     let more = history_seen c.step_all-end.new.pass in
     let mid = Up c.step_all-end.new.site c.step_all-end.new.log c.in-Up.rose c.step_all-end.new.logged in
-    let ends : EndsWith g.D.Disk.meaning sc h more c.args.number c.args.inputs c.args.state.now mid e.refused e.fell =
-    subst (λ (s : State _). EndsWith g.D.Disk.meaning sc h more c.args.number c.args.inputs s mid e.refused e.fell) (sym c.in-Up.is) c.step_all-end.ensures.ended in
-    λ is. subst (λ (x : Result (Unit {0}) InputFault). BatchEnded g.D.Disk.meaning.meters sc h more c.args.number c.args.inputs c.args.state.now c.settle_batch.new.state x) (sym c.answer_of.ensures ∙ is)
+    let ends : EndsWith g.D.Disk.meaning sc h more c.args.number c.args.inputs c.args.state.now mid e.planned e.fell =
+    subst (λ (s : State _). EndsWith g.D.Disk.meaning sc h more c.args.number c.args.inputs s mid e.planned e.fell) (sym c.in-Up.is) c.step_all-end.ensures.ended in
+    λ is. subst (λ (x : Result ℕ InputFault). BatchEnded g.D.Disk.meaning.meters sc h more c.args.number c.args.inputs c.args.state.now c.settle_batch.new.state x) (sym c.answer_of.ensures ∙ is)
     (ended_told g.D.Disk.meaning sc h more c.args.number c.args.inputs c.args.state.now mid c.settle_batch.new.state
-    e.refused e.fell c.step_all-end.ensures.refused ends c.settle_batch.ensures.fell c.settle_batch.ensures.kept)
+    e.planned e.fell c.step_all-end.ensures.refused ends c.settle_batch.ensures.fell c.settle_batch.ensures.kept)
 
 pub returns-in-Up-clause-down : goal.returns-in-Up-clause-down
 returns-in-Up-clause-down g c =
@@ -84,6 +84,6 @@ returns-in-Up-clause-down g c =
     let sc = scenario_seen c.args.pass.now in
     let h = history_seen c.args.pass.now in
     let stood = subst (λ (s : State _). IsIn g.D.Disk.meaning sc h c.args.number s) c.in-Up.is c.requires.stands in (
-      λ is. absurd (c.step_all-end.ensures.never (refused_down e.refused e.fell (sym c.answer_of.ensures ∙ is))),
+      λ is. absurd (c.step_all-end.ensures.never (refused_down e.planned e.fell (sym c.answer_of.ensures ∙ is))),
       λ none. absurd (let both = sym none ∙ stood.up in cc),
     )
