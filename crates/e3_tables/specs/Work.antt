@@ -2,14 +2,12 @@
 use Rattle.std.specs.Prelude.{◌&&◌, ◌∷◌, [], Bool, true, not, nat_lt, ℕ, List, fold}
 use Rattle.std.specs.List.{list_all, list_any}
 use Rattle.e3_types.specs.declared.transactions.Answer.{Answer}
-use Rattle.e3_types.specs.declared.transactions.Answer.TheVariants.{Written}
 use Rattle.e3_types.specs.declared.transactions.NumOp.{NumOp}
-use Rattle.e3_types.specs.declared.transactions.Op.{Op}
 use Rattle.e3_types.specs.declared.transactions.Row.{Row}
 use Rattle.e3_types.specs.declared.transactions.Txn.{Txn}
 use Rattle.e3_types.specs.Same.{same_numbers}
 use Rattle.e3_world.specs.Logs.{set_row, install_op, row_value}
-use Rattle.e3_world.specs.Making.{own_write}
+use Rattle.e3_world.specs.Making.{read_of}
 
 -- a table: its rows, and room for so many names more
 pub record TableRows : Type 0 where
@@ -35,10 +33,6 @@ in_order rows = fold (λ ordered row. set_row row ordered) [] rows
 abbrev pub ascend : List NumOp → Bool
 ascend [] = true
 ascend (o ∷ ops) = list_all (λ p. nat_lt o.n p.n) ops && ascend ops
-
--- what a name reads behind a write or a read more, as behind an own one: its number and its answer tell nothing of it
-abbrev pub read_of : List ℕ → Answer → Op → Answer
-read_of name was op = own_write name was (record { n = 0; op = op; answer = Written })
 
 -- what it reads behind one operation more
 abbrev pub read_by : List ℕ → Answer → NumOp → Answer

@@ -5,7 +5,7 @@ ghost use Rattle.e3_types.specs.declared.transactions.Answer.TheVariants.{Value}
 ghost use Rattle.e3_types.specs.declared.transactions.Op.TheVariants.{Read, Write};
 ghost use Rattle.e3_types.specs.declared.transactions.Row.{Row};
 ghost use Rattle.e3_world.specs.Logs.{install_op, key_of, set_row};
-ghost use Rattle.e3_tables.specs.Work.{read_of};
+ghost use Rattle.e3_world.specs.Making.{read_of};
 
 use e3_types::{Key, Name, NumOp, Op, Row, Val};
 

@@ -1,5 +1,5 @@
 // Copies of values that hold lists.
-ghost use Rattle.std.specs.Prelude.{◌≡◌, IfOk};
+ghost use Rattle.std.specs.Prelude.{◌≡◌, ◌++◌, IfOk};
 
 use crate::{
     Act, Entry, Input, Item, KeyRow, List, NoMemory, NumOp, Packet, Record, Row, Scenario, SiteSet,
@@ -62,13 +62,30 @@ impl Copied for KeyRow {
     }
 }
 
+impl<T: Copied + Drop> List<T> {
+    /// A list of equal items. Want of memory is the only error.
+    pub fn of_copies(alloc: Global, items: &[T]) -> Result<List<T>, NoMemory>
+        ensures { IfOk result (λ list. list ≡ items.now) }
+    {
+        let mut list = List::new(alloc);
+        list.add_copies(alloc, items)?;
+        Ok(list)
+    }
+
+    /// Adds equal items at the end. Want of memory is the only error; some of them may stand there then.
+    pub fn add_copies(&mut self, alloc: Global, items: &[T]) -> Result<(), NoMemory>
+        ensures { IfOk result (λ u. self.new ≡ self.old ++ items.now) }
+    {
+        for item in items {
+            self.push(item.copied(alloc)?)?;
+        }
+        Ok(())
+    }
+}
+
 impl<T: Copied + Drop> Copied for List<T> {
     fn copied(&self, alloc: Global) -> Result<List<T>, NoMemory> {
-        let mut out = List::new(alloc);
-        for x in self.as_slice() {
-            out.push(x.copied(alloc)?)?;
-        }
-        Ok(out)
+        List::of_copies(alloc, self.as_slice())
     }
 }
 

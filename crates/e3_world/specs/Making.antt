@@ -136,13 +136,14 @@ abbrev pub and_vote : At → Txn → Made → Made
 and_vote a t made =
     and_record (log.Vote t (map (λ p. record { n = p.n; op = p.op }) (done a.site t a.life.steps))) made
 
+-- what a name reads behind an operation of its transaction: a write of the name sets it, all else leaves it
+abbrev pub read_of : List ℕ → Answer → Op → Answer
+read_of name was (Write key val) = if same_numbers name key.name then Value val else was
+read_of name was (Read key) = was
+
 -- what a read answers: the transaction's own last write of the name here, else the row, else absent
 abbrev pub own_write : List ℕ → Answer → Performed → Answer
-own_write name was p = by p.op
-  where
-    by : Op → Answer
-    by (Write key val) = if same_numbers name key.name then Value val else was
-    by (Read key) = was
+own_write name was p = read_of name was p.op
 
 -- the answer to an operation that is done now
 abbrev pub answer_now : At → Txn → Op → Made → Answer
