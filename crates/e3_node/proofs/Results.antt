@@ -1,5 +1,5 @@
 -- A batch that was planned, behind what others put since.
-use Rattle.std.proofs.Common.{◌≡◌, ◌≢◌, ◌+◌, ◌-◌, ◌≤◌, ◌++◌, ◌∷◌, [], inl, inr, ℕ, zero, suc, true, false, List, length, take, refl, sym, subst, ap, ◌∙◌, append_assoc, arith}
+use Rattle.std.proofs.Common.{◌≡◌, ◌≢◌, ◌+◌, ◌-◌, ◌≤◌, ◌<◌, ◌++◌, ◌∷◌, [], inl, inr, ℕ, zero, suc, true, false, List, length, take, refl, sym, subst, ap, ◌∙◌, append_assoc, arith}
 use Rattle.std.proofs.lemmas.List.{length-take-le}
 use Rattle.std.specs.Prelude.{None, Option, Result, Some, Ok, Err, IfOk}
 use Rattle.atomic_table.specs.Seated.{TableId}
@@ -18,7 +18,7 @@ use Rattle.e3_log.specs.Frames.{frames}
 use Rattle.e3_log.specs.Regions.{other, start}
 use Rattle.e3_log.specs.Stands.{LogState}
 use Rattle.e3_node.specs.Batched.{HasPlanned, IsBatch}
-use Rattle.e3_node.specs.Batches.{FrameTakes, IsOneFrame, fall_over, unnumbered_steps, stepped}
+use Rattle.e3_node.specs.Batches.{EndsBehind, FrameTakes, IsOneFrame, fall_over, unnumbered_steps, stepped}
 use Rattle.e3_node.specs.Bodies.{DiskTells, entries_at}
 use Rattle.e3_node.specs.Ending.{EndsWith}
 use Rattle.e3_site_log.specs.Bodies.{IsLogged, ReadsLeft, body_of}
@@ -37,6 +37,7 @@ use Rattle.e3_types.specs.declared.entries.Act.TheVariants.{Fall}
 use Rattle.e3_types.specs.declared.entries.Entry.{Entry}
 use Rattle.e3_types.specs.declared.entries.Input.{Input}
 use Rattle.e3_types.specs.declared.entries.Why.{Why}
+use Rattle.e3_types.specs.declared.entries.Why.TheVariants.{Fault}
 use Rattle.e3_types.specs.declared.records.Record.{Record}
 use Rattle.e3_types.specs.declared.scenarios.Scenario.{Scenario}
 use Rattle.e3_wire.specs.Claims.{APass}
@@ -55,7 +56,7 @@ use Rattle.e3_world.specs.Packets.{is_calm, present_items}
 use Rattle.e3_node.proofs.Batches.{plain_same, records_own, records_same, some_inputs, stepped_same, stepped_up}
 use Rattle.e3_node.proofs.Bundles.{all_due_first, plain_length, plain_list, plain_own, stepped_count, steps_log, steps_logged, steps_use}
 use Rattle.e3_node.proofs.Outcomes.{due_meanwhile, fallen_all_tells, first_of_all, first_turn, may_all, may_take_front, meanwhile_then, moves_meanwhile, stands_same}
-use Rattle.e3_node.proofs.Orders.{log_in_order, stepped_legal}
+use Rattle.e3_node.proofs.Orders.{log_in_order, stepped_legal, up_log}
 use Rattle.e3_node.proofs.Several.{entries_claimed, entries_freed, entries_in, note_claimed, note_entered, note_freed, outs_in, used_all}
 use Rattle.e3_node.proofs.Waiting.{one_while, up_meanwhile}
 use Rattle.e3_node.proofs.Written.{Follows}
@@ -66,12 +67,19 @@ fall_all_guard : (sc : Scenario) (h : List Entry) (site : ℕ) (inputs : List In
 fall_all_guard sc h zero inputs records why one up due some is = absurd (omega (arith, one))
 fall_all_guard sc h (suc n) inputs records why one up due some is = record { up = up; due = due; some = some; made = is }
 
--- where a write ended the frame: behind those before it, or behind the brief
+-- where a write ended the frame: behind those before it, where no short log was given
+ends_behind : {D : Type 0} (meters : D → Meters) (old new : LogState D) (records : List Record) (short : Option Short) → short ≡ None →
+    (records ≡ [] → new ≡ old) → (records ≢ [] → EndsAt meters old short records new.end) → EndsBehind records old.end new.end
+ends_behind meters old new [] short none same end =
+    let plain : old.end + 0 ≡ old.end = omega arith in ap (λ (l : LogState _). l.end) (same refl) ∙ sym plain
+ends_behind meters old new (r ∷ rs) None none same end = end (λ nothing. cc)
+ends_behind meters old new (r ∷ rs) (Some s) none same end = absurd cc
+
+-- or behind the brief
 one_frame : {D : Type 0} (meters : D → Meters) (site : ℕ) (old new : LogState D) (log records : List Record) (short : Option Short) → IsShortIf site log short →
     (records ≡ [] → new ≡ old) → (records ≢ [] → EndsAt meters old short records new.end) → IsOneFrame log records old.end new.end (meters old.disk).capacity
-one_frame meters site old new log [] short is same end =
-    inl (let plain : old.end + 0 ≡ old.end = omega arith in ap (λ (l : LogState _). l.end) (same refl) ∙ sym plain)
-one_frame meters site old new log (r ∷ rs) None is same end = inl (end (λ none. cc))
+one_frame meters site old new log records None is same end = inl (ends_behind meters old new records None refl same end)
+one_frame meters site old new log [] (Some s) is same end = inl (ends_behind meters old new [] None refl same (λ some. absurd (some refl)))
 one_frame meters site old new log (r ∷ rs) (Some s) is same end = by (end (λ none. cc))
   where
     by : EndsAt meters old (Some s) (r ∷ rs) new.end → IsOneFrame log (r ∷ rs) old.end new.end (meters old.disk).capacity
@@ -79,10 +87,21 @@ one_frame meters site old new log (r ∷ rs) (Some s) is same end = by (end (λ 
     by (inr turned) =
         inr (other old.region, turned ∙ ap (λ (l : List ℕ). start (meters old.disk).capacity (other old.region) + 10 + length l + length (frames (body_of (r ∷ rs)))) is.body_is)
 
+-- without a short log, what follows from room for the frame
+fits_so : {D : Type 0} (meters : D → Meters) (old : LogState D) (log : List Record) (short : Option Short) (size : ℕ) (P : Type 0) → short ≡ None →
+    IsDue meters old log short size → log ≢ [] → (HasRoom meters old size → P) → P
+fits_so meters old log None size P none (inl room) some so = so room
+fits_so meters old log None size P none (inr empty) some so = absurd (some empty)
+fits_so meters old log (Some s) size P none due some so = absurd cc
+
 -- what is said of an answer goes on to what follows from it
 if_told : (r : Result ℕ InputFault) (P Q : ℕ → Type 0) → ((n : ℕ) → P n → Q n) → IfOk r P → IfOk r Q
 if_told (Ok n) P Q so is = so n is
 if_told (Err fault) P Q so is = tt
+
+if_both : (r : Result ℕ InputFault) (P Q R : ℕ → Type 0) → ((n : ℕ) → P n → Q n → R n) → IfOk r P → IfOk r Q → IfOk r R
+if_both (Ok n) P Q R so p q = so n p q
+if_both (Err fault) P Q R so p q = tt
 
 -- what one frame takes is the same where the moves of the site are
 frame_same : {D : Type 0} (meters : D → Meters) (log : LogState D) (sc : Scenario) (h k : List Entry) (site : ℕ) (inputs : List Input) (n : ℕ) →
@@ -167,6 +186,9 @@ module _ {rose : List Record} {D0 : Type 0} (meters0 : D0 → Meters) (on_disk :
   note_q =
       ap (λ (l : List Mark). note_of site l) claimed ∙ note_claimed site f steps (plain_own sc h1 site done)
       ∙ ap (λ (w : Note). let v : Note = record { places = w.places + length steps; room = w.room + outs_in steps } in v) (note_freed b site)
+
+  pub body_size : length batch.body ≡ size_of batch.records
+  body_size = ap length (made.body_is ∙ ap spelling (sym made.records_are))
 
   pub count_is : length done ≡ plan.count
   count_is = length-take-le plan.count inputs plan.added.within
@@ -297,8 +319,7 @@ module _ {rose : List Record} {D0 : Type 0} (meters0 : D0 → Meters) (on_disk :
       all_due recorded =
           let P : List Record → Type 0 = λ l. IsDue meters0 on_disk l batch.short (size_of batch.records) in
           let N : ℕ → Type 0 = λ n. IsDue meters0 on_disk (log_of sc h1 site) batch.short n in
-          let size : length batch.body ≡ size_of batch.records = ap length (made.body_is ∙ ap spelling (sym made.records_are)) in
-          subst P (sym log_second) (subst N size (made.due (λ none. recorded (made.records_are ∙ none))))
+          subst P (sym log_second) (subst N body_size (made.due (λ none. recorded (made.records_are ∙ none))))
 
       -- once the steps are entered
       pub history_stepped : (now : List Mark) → now ≡ marks ++ marks_in k batch.steps.items → entries_of now ≡ stepped sc k site done
@@ -401,20 +422,27 @@ module _ {rose : List Record} {D0 : Type 0} (meters0 : D0 → Meters) (on_disk :
         log_while = ap log_by (moves_meanwhile sc h k site all_while)
 
         -- the steps are its end
-        pub steps_end : IfOk answer (λ n. (n ≡ plan.count) × FrameTakes meaning.meters old sc h site inputs plan.count) → LogsAreOrderly → LoggedSitesAreSets → (short : Option Short) → IsShortIf site (log_of sc k site) short → (batch.records ≡ [] → (new ≡ old) × (n ≡ n0)) →
+        pub steps_end : IfOk answer (λ n. (n ≡ plan.count) × FrameTakes meaning.meters old sc h site inputs plan.count) → LogsAreOrderly → LoggedSitesAreSets → (short : Option Short) → IsShortIf site (log_of sc k site) short → IfOk answer (λ m. m < length inputs → short ≡ None) →
+            (batch.records ≡ [] → (new ≡ old) × (n ≡ n0)) →
             IsLogged meaning site (entries_at k site + 1) (log_of sc k site ++ batch.records) n new →
             (meaning.meters new.disk).powered ≡ true → Takes (calls_for batch.records) (meaning.meters old.disk) (meaning.meters new.disk) → Keeps (meaning.meters old.disk) (meaning.meters new.disk) →
             (batch.records ≢ [] → EndsAt meaning.meters old short batch.records new.end) → (now : List Mark) → now ≡ marks ++ marks_in k batch.steps.items →
             EndsWith meaning sc h (entries_of now) site inputs (Up s0 old rose n0) (Up s new rose n) answer None
-        steps_end told logs sets short is_short still wrote lit takes keeps end now is =
+        steps_end told logs sets short is_short plain still wrote lit takes keeps end now is =
             let entered : entries_of now ≡ stepped sc k site done = history_stepped now is in
             let T : List Record → Type 0 = λ rs. Takes (calls_for rs) (meaning.meters old.disk) (meaning.meters new.disk) in
             let F : List Record → Type 0 = λ rs. IsOneFrame (log_of sc h site) rs old.end new.end (meaning.meters old.disk).capacity in
             let G : List Record → Type 0 = λ l. IsOneFrame l batch.records old.end new.end (meaning.meters old.disk).capacity in
+            let E : List Record → Type 0 = λ rs. EndsBehind rs old.end new.end in
             record {
               count = plan.count;
               all = told;
               short = plan.added.short;
+              stays =
+                  if_both answer (λ m. (m ≡ plan.count) × FrameTakes meaning.meters old sc h site inputs plan.count) (λ m. m < length inputs → short ≡ None)
+                  _ (λ m told plain none less.
+                  subst E seen_records (ends_behind meaning.meters old new batch.records short (plain (subst (λ (j : ℕ). j < length inputs) (sym told.0) less)) (λ none. (still none).0) end)) told plain;
+              fault = if_told answer (λ m. (m ≡ plan.count) × FrameTakes meaning.meters old sc h site inputs plan.count) _ (λ m told why some. absurd cc) told;
               came = (
                 record {
                   now = k;
@@ -430,12 +458,14 @@ module _ {rose : List Record} {D0 : Type 0} (meters0 : D0 → Meters) (on_disk :
 
         -- or the fall is
         pub fall_end : IfOk answer (λ n. (n ≡ plan.count) × FrameTakes meaning.meters old sc h site inputs plan.count) → (why : Why) → batch.records ≢ [] →
+            IfOk answer (λ m. m < length inputs → batch.short ≡ None) → IsDue meaning.meters old (log_of sc k site) batch.short (size_of batch.records) →
+            (HasRoom meaning.meters old (size_of batch.records) → why ≡ Fault) →
             ((bytes : List ℕ) → meaning.image new.disk bytes → ReadsLeft site (meaning.meters new.disk).capacity (entries_at k site + 1) (log_of sc k site) batch.records n why bytes) →
             IsReason why (log_of sc k site) batch.records (meaning.meters old.disk) (meaning.meters new.disk) → Keeps (meaning.meters old.disk) (meaning.meters new.disk) →
             (over : List Input) → over ≡ done → (now : List Mark) →
             now ≡ marks ++ mark.Entered (numbered_on k (record { owner = site; act = Fall over batch.records why })) ∷ [] →
             EndsWith meaning sc h (entries_of now) site inputs (Up s0 old rose n0) (Up s new rose n) answer (Some why)
-        fall_end told why some_records left reason keeps over over_is now is =
+        fall_end told why some_records plain due room left reason keeps over over_is now is =
             let entered : entries_of now ≡ k ++ fall_over sc k site done why ∷ [] = history_fallen over why now over_is is in
             let H : List Entry → Type 0 = λ l. DiskTells sc l site (meaning.meters new.disk).capacity n (meaning.image new.disk) in
             let R : List Record → Type 0 = λ rs. IsReason why (log_of sc h site) rs (meaning.meters old.disk) (meaning.meters new.disk) in
@@ -444,6 +474,13 @@ module _ {rose : List Record} {D0 : Type 0} (meters0 : D0 → Meters) (on_disk :
               count = plan.count;
               all = told;
               short = plan.added.short;
+              stays = if_told answer (λ m. (m ≡ plan.count) × FrameTakes meaning.meters old sc h site inputs plan.count) _ (λ m told none. absurd cc) told;
+              fault =
+                  if_both answer (λ m. (m ≡ plan.count) × FrameTakes meaning.meters old sc h site inputs plan.count) (λ m. m < length inputs → batch.short ≡ None)
+                  _ (λ m told plain because is less.
+                  let same : because ≡ why = cc in
+                  same ∙ fits_so meaning.meters old (log_of sc k site) batch.short (size_of batch.records) (why ≡ Fault)
+                  (plain (subst (λ (j : ℕ). j < length inputs) (sym told.0) less)) due (up_log sc k site up_2.up) room) told plain;
               came = (
                 record {
                   now = k;

@@ -18,6 +18,7 @@ use Rattle.e3_types.specs.declared.entries.Act.TheVariants.{Fall, Step}
 use Rattle.e3_types.specs.declared.entries.Entry.{Entry}
 use Rattle.e3_types.specs.declared.entries.Input.{Input}
 use Rattle.e3_types.specs.declared.entries.Why.{Why}
+use Rattle.e3_types.specs.declared.entries.Why.TheVariants.{Fault}
 use Rattle.e3_types.specs.declared.records.Record.{Record}
 use Rattle.e3_types.specs.declared.scenarios.Scenario.{Scenario}
 use Rattle.e3_world.specs.declared.lives.Made.{Made}
@@ -54,11 +55,20 @@ pub record FellOverAll (sc : Scenario) (history : List Entry) (site : ℕ) (inpu
   pub some : records_by sc history site inputs ≢ []
   pub entered : more ≡ history ++ fall_over sc history site inputs why ∷ []
 
+-- the frame of these records ends behind those that ended there before: the log was not turned
+abbrev pub EndsBehind : List Record → ℕ → ℕ → Type 0
+EndsBehind records old new = new ≡ old + length (frames (body_of records))
+
 -- The frame of these records ends behind those that ended there, or behind the brief of this log at the begin of a region.
 abbrev pub IsOneFrame : List Record → List Record → ℕ → ℕ → ℕ → Type 0
 IsOneFrame log records old new capacity =
-    (new ≡ old + length (frames (body_of records)))
+    EndsBehind records old new
     ⊎ ((region : Region) × (new ≡ start capacity region + 10 + size_of (brief log) + length (frames (body_of records))))
+
+-- Where a frame took fewer than all of these inputs, the first n, the log was not turned for it.
+abbrev pub StaysIfFewer : {D : Type 0} → Scenario → List Entry → ℕ → List Input → ℕ → State D → State D → Type 0
+StaysIfFewer sc history site inputs n old new =
+    n < length inputs → EndsBehind (records_by sc history site (take n inputs)) (end_of old) (end_of new)
 
 module _ {D : Type 0} (meters : D → Meters) where
   -- One frame takes the first n of these inputs: all of them; or one at least, and the frame of what the first n and the next
@@ -94,13 +104,16 @@ module _ {D : Type 0} (meters : D → Meters) where
       × (HasSteppedAll sc before more site (take n inputs) old new
       ⊎ ((why : Why) × HasFallenOverAll sc before more site (take n inputs) why old (disk_of new)))
 
-  -- How a batch ended: with the steps of as many of its inputs as one frame takes, and that many are told, or a fall over so
-  -- many; or so with those before the one that memory was wanting for. A site that was down did nothing. No batch is refused for a full history.
+  -- How a batch ended: with the steps of as many of its inputs as one frame takes, and that many are told, without a turn of the
+  -- log where they are not all; or a fall over so many, for a fault of the disk where they are not all; or so with those before
+  -- the one that memory was wanting for. A site that was down did nothing. No batch is refused for a full history.
   abbrev pub BatchEnded : Scenario → List Entry → List Entry → ℕ → List Input → State D → State D → Result ℕ InputFault → Type 0
   BatchEnded sc before more site inputs old new (Ok n) =
       OneFrameTakes old sc before site inputs n × HasSteppedAll sc before more site (take n inputs) old new
+      × StaysIfFewer sc before site inputs n old new
   BatchEnded sc before more site inputs old new (Err (input_fault.Fell why)) =
       (n : ℕ) × OneFrameTakes old sc before site inputs n × HasFallenOverAll sc before more site (take n inputs) why old (disk_of new)
+      × (n < length inputs → why ≡ Fault)
   BatchEnded sc before more site inputs old new (Err input_fault.Down) = (more ≡ before) × (new ≡ old)
   BatchEnded sc before more site inputs old new (Err input_fault.NoMemory) = EndedShort sc before more site inputs old new
   BatchEnded sc before more site inputs old new (Err input_fault.HistoryFull) = ⊥

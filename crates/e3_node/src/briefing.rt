@@ -163,7 +163,7 @@ pub(crate) fn shorten_batch<D: Disk>(
         batch.now.short ≡ None → IfOk result (λ r. IfReady r (λ s. IsDue D.meaning.meters log.now l s len)) }
     ensures may { IfOk result (λ r. IfReady r (MayTurn log.now)) }
     ensures none { (s : Shorts) → batch.now.short ≡ Given s → result ≡ Ok (room.Ready None) }
-    ensures full { IfOk result (λ r. r ≡ room.Full → (batch.now.records ≢ []) × (HasRoom D.meaning.meters log.now len → ⊥)) }
+    ensures full { IfOk result (λ r. r ≡ room.Full → (batch.now.records ≢ []) × (batch.now.short ≡ None) × (HasRoom D.meaning.meters log.now len → ⊥)) }
 {
     if records.is_empty() || batch.short.is_some() {
         return Ok(Room::Ready(None));

@@ -268,9 +268,9 @@ impl<D: Disk + Drill + Drop> Node<D> {
     /// turn. They are the first packets to the site, and a place is promised to it for each, as `next_few` of the wire promises
     /// them; a place that is not used is given back. So no batch is refused for a full history. With Ok it is told how many of
     /// the packets, from the first on, have their steps: all of them, but where the frame with the records of one more would have
-    /// no room behind the log; the rest stay pending. A site that falls over them has one fall over so many. Where memory runs out
-    /// behind the first of them, those have their frame and their steps, or one fall, and the rest have nothing. All memory is
-    /// taken before the frame is written.
+    /// no room behind the log, which is not turned then; the rest stay pending. A site that falls over them has one fall over so
+    /// many. Where memory runs out behind the first of them, those have their frame and their steps, or one fall, and the rest
+    /// have nothing. All memory is taken before the frame is written.
     pub fn batch<R: Wait>(
         &mut self,
         rt: &R,

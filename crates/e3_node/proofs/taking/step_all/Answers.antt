@@ -1,4 +1,5 @@
-use Rattle.std.proofs.Common.{◌≡◌, ◌≢◌, ◌≤◌, ◌+◌, ◌++◌, ◌∷◌, [], ℕ, true, List, length, take, refl, sym, subst, ap, ◌∙◌}
+use Rattle.std.proofs.Common.{◌≡◌, ◌≢◌, ◌≤◌, ◌<◌, ◌+◌, ◌++◌, ◌∷◌, [], ℕ, true, List, length, take, refl, sym, subst, ap, ◌∙◌}
+use Rattle.std.specs.Prelude.{IfOk, None}
 use Rattle.e3_law_local.specs.Others.{numbered_on}
 use Rattle.e3_site.specs.StandsAlike.{IsLogInOrder}
 use Rattle.e3_node.specs.Batched.{HasPlanned}
@@ -7,7 +8,7 @@ use Rattle.e3_node.specs.Bodies.{entries_at}
 use Rattle.e3_node.specs.Briefing.{BriefsAreTold}
 use Rattle.e3_node.specs.Several.{AreOf, marks_in}
 use Rattle.e3_site_log.specs.Bodies.{IsLogged, ReadsLeft}
-use Rattle.e3_site_log.specs.Ends.{EndsAt, IsDue, IsReason, Takes, calls_for, size_of}
+use Rattle.e3_site_log.specs.Ends.{EndsAt, HasRoom, IsDue, IsReason, Takes, calls_for, size_of}
 use Rattle.e3_turn.specs.Passes.{GrewByOthers, Owns, seen_by}
 use Rattle.e3_types.specs.Spelling.{spelling}
 use Rattle.e3_types.specs.declared.entries.Act.TheVariants.{Fall}
@@ -23,7 +24,7 @@ use Rattle.e3_world.specs.Moves.{log_of}
 use Rattle.e3_node.proofs.Bundles.{plain_own}
 use Rattle.e3_node.proofs.Ended.{never_down}
 use Rattle.e3_node.proofs.BatchOrders.{batch_brief, batch_order}
-use Rattle.e3_node.proofs.Results.{all_due, all_follow, alone, fall_end, fall_may, frame_seen, made, may_all_enter, note_fallen, note_stepped, steps_are, steps_end, turned, up_2, up_first, up_second}
+use Rattle.e3_node.proofs.Results.{all_due, all_follow, alone, body_size, fall_end, fall_may, frame_seen, made, may_all_enter, note_fallen, note_stepped, steps_are, steps_end, turned, up_2, up_first, up_second}
 use Rattle.e3_node.proofs.Waiting.{still_owns}
 use Rattle.e3_node.proofs.Written.{Follows}
 use Rattle.e3_node.proofs.taking.step_all.Goals as goal
@@ -263,6 +264,7 @@ returns-in-Ok-clause-ended g c =
     g.D.Disk.meaning s0 l0 l1 c.args.logged.now m c.requires.up refl
     (frame_seen g.D.Disk.meaning.meters l0 p q n s0.inputs c.args.inputs answer b s1 plan c.requires.turns.owns mine c.requires.turns.played c.plan_all-planned.ensures.played)
     c.logs_are_sound.ensures.orderly c.logs_are_sound.ensures.sets b.short follow.short
+    (subst (λ (l : List Input). IfOk answer (λ k. k < length l → b.short ≡ None)) c.as_slice.ensures c.plan_all-planned.ensures.stays)
     (λ none. c.write.ensures.same (c.as_slice-2.ensures ∙ none))
     (subst (λ (rs : List Record). IsLogged g.D.Disk.meaning n (entries_at k n + 1) (log_of sc k n ++ rs) m l1) c.as_slice-2.ensures
     (c.in-Ok.ensures.logged n (entries_at k n) (log_of sc k n) here.logged follow.short follow.orderly follow.back))
@@ -371,18 +373,24 @@ returns-in-Err-clause-ended g c =
     c.logs_are_sound.ensures.orderly c.logs_are_sound.ensures.sets c.logs_are_sound.ensures.mention c.logs_are_sound.ensures.begun
     c.logs_are_sound.ensures.votes up_1 up_k) in
     let some : b.records ≢ [] = λ none. c.in-Err.ensures.some (c.as_slice-2.ensures ∙ none) in
+    let due : IsDue g.D.Disk.meaning.meters l0 (log_of sc k n) b.short (size_of b.records) =
+    all_due g.D.Disk.meaning.meters l0 p q n s0.inputs c.args.inputs answer b s1 plan c.requires.turns.owns mine c.requires.turns.played c.plan_all-planned.ensures.played
+    c.requires.turns.some c.requires.up.up c.requires.turns.restless c.requires.due c.requires.takes ent.0 ent.1 ent.3 some in
+    let size : length c.as_slice-3.result.now ≡ size_of b.records =
+    ap length c.as_slice-3.ensures ∙ body_size g.D.Disk.meaning.meters l0 p q n s0.inputs c.args.inputs answer b s1 plan c.requires.turns.owns mine c.requires.turns.played
+    c.plan_all-planned.ensures.played in
     fall_end g.D.Disk.meaning.meters l0 p q n s0.inputs c.args.inputs answer b s1 plan c.requires.turns.owns mine c.requires.turns.played c.plan_all-planned.ensures.played
     c.requires.turns.some c.requires.up.up c.requires.turns.restless c.requires.due c.requires.takes ent.0 ent.1 ent.3
     g.D.Disk.meaning s0 l0 l1 c.args.logged.now m c.requires.up refl
     (frame_seen g.D.Disk.meaning.meters l0 p q n s0.inputs c.args.inputs answer b s1 plan c.requires.turns.owns mine c.requires.turns.played c.plan_all-planned.ensures.played) why some
+    (subst (λ (l : List Input). IfOk answer (λ k. k < length l → b.short ≡ None)) c.as_slice.ensures c.plan_all-planned.ensures.stays) due
+    (λ fits. c.in-Err.ensures.room c.requires.up.logged.stands.sound (subst (λ (size : ℕ). HasRoom g.D.Disk.meaning.meters l0 size) (sym size) fits))
     (subst (λ (rs : List Record). (bytes : List ℕ) → g.D.Disk.meaning.image l1.disk bytes →
     ReadsLeft n (g.D.Disk.meaning.meters l1.disk).capacity (entries_at k n + 1) (log_of sc k n) rs m why bytes) c.as_slice-2.ensures
     (c.in-Err.ensures.left n (entries_at k n) (log_of sc k n) here.logged follow.short follow.orderly follow.back))
     (subst (λ (rs : List Record). IsReason why (log_of sc k n) rs (g.D.Disk.meaning.meters l0.disk) (g.D.Disk.meaning.meters l1.disk)) c.as_slice-2.ensures
     (c.in-Err.ensures.reason n (entries_at k n) (log_of sc k n) here.logged follow.short
-    (subst (λ (rs : List Record). IsDue g.D.Disk.meaning.meters l0 (log_of sc k n) b.short (size_of rs)) (sym c.as_slice-2.ensures)
-    (all_due g.D.Disk.meaning.meters l0 p q n s0.inputs c.args.inputs answer b s1 plan c.requires.turns.owns mine c.requires.turns.played c.plan_all-planned.ensures.played
-    c.requires.turns.some c.requires.up.up c.requires.turns.restless c.requires.due c.requires.takes ent.0 ent.1 ent.3 some))))
+    (subst (λ (rs : List Record). IsDue g.D.Disk.meaning.meters l0 (log_of sc k n) b.short (size_of rs)) (sym c.as_slice-2.ensures) due)))
     c.write.ensures.keeps over
     (c.first_of-over.ensures ∙ ap (λ (j : ℕ). take j c.args.inputs) (ap length c.as_slice-in-Err.ensures.value ∙ steps_are g.D.Disk.meaning.meters l0 p q n s0.inputs
     c.args.inputs answer b s1 plan c.requires.turns.owns mine c.requires.turns.played c.plan_all-planned.ensures.played))
