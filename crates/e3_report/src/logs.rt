@@ -73,21 +73,10 @@ fn add_born(born: &mut BTreeSet<u32>, site: u32, records: &[Record]) -> Result<(
 fn doubtful(alloc: Global, why: Why, records: &[Record]) -> Result<List<Record>, NoMemory>
     ensures { IfOk result (λ out. out ≡ doubtful why records.now) }
 {
-    let mut out = List::new(alloc);
     match why {
-        Why::Fault => add_copies(alloc, &mut out, records)?,
-        Why::Full { .. } => {}
+        Why::Fault => List::of_copies(alloc, records),
+        Why::Full { .. } => Ok(List::new(alloc)),
     }
-    Ok(out)
-}
-
-fn add_copies(alloc: Global, out: &mut List<Record>, records: &[Record]) -> Result<(), NoMemory>
-    ensures { OnOk result (out.new ≡ out.old ++ records.now) }
-{
-    for r in records {
-        out.push(r.copied(alloc)?)?;
-    }
-    Ok(())
 }
 
 impl Walk {
@@ -136,10 +125,10 @@ impl Walk {
     fn and_kept(&mut self, alloc: Global, site: u32, kept: bool) -> Result<(), NoMemory>
         ensures { OnOk result (self.new ≡ and_kept site kept self.old) }
     {
-        let mut records = List::new(alloc);
-        if kept {
-            add_copies(alloc, &mut records, self.tail(site))?;
+        if !kept {
+            return Ok(());
         }
+        let records = List::of_copies(alloc, self.tail(site))?;
         self.and_records(alloc, site, records.as_slice())
     }
 

@@ -16,10 +16,7 @@ fn inc_by(was: Option<u32>, act: &Act) -> Option<u32>
 {
     match act {
         Act::Rise { inc, .. } => Some(*inc),
-        Act::RiseFall { .. } => None,
-        Act::Miss => None,
-        Act::Cut => None,
-        Act::Fall { .. } => None,
+        Act::RiseFall { .. } | Act::Miss | Act::Cut | Act::Fall { .. } => None,
         _ => was,
     }
 }

@@ -16,10 +16,7 @@ use std::collections::BTreeSet;
 fn is_delivery(input: &Input) -> bool
     ensures { result ≡ is_delivery input.now }
 {
-    match input {
-        Input::Deliver { .. } => true,
-        _ => false,
-    }
+    matches!(input, Input::Deliver { .. })
 }
 
 /// As many more as there are inputs that are no deliveries.

@@ -17,10 +17,7 @@ use std::alloc::Global;
 fn is_line(entry: &Entry) -> bool
     ensures { result ≡ is_line entry.now }
 {
-    match entry.act {
-        Act::Line { .. } => true,
-        _ => false,
-    }
+    matches!(entry.act, Act::Line { .. })
 }
 
 /// The entries up to the next line.

@@ -157,15 +157,6 @@ impl Model for Votes {
     ghost view = { λ a. a.ops.entries };
 }
 
-fn add_ops(alloc: Global, out: &mut List<NumOp>, ops: &[NumOp]) -> Result<(), NoMemory>
-    ensures { OnOk result (out.new ≡ out.old ++ ops.now) }
-{
-    for o in ops {
-        out.push(o.copy())?;
-    }
-    Ok(())
-}
-
 impl Votes {
     fn new(alloc: Global) -> Votes
         ensures { result ≡ [] }
@@ -203,7 +194,7 @@ impl Votes {
     {
         let key = TxnKey::of(txn);
         let mut all = self.take(alloc, &key);
-        add_ops(alloc, &mut all, ops)?;
+        all.add_copies(alloc, ops)?;
         match self.ops.insert(key, all) {
             Ok(_) => Ok(()),
             Err(_) => Err(NoMemory),
