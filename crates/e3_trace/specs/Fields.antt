@@ -35,10 +35,14 @@ u32_of text = number_of 4294967295 text
 abbrev pub u64_of : Form ℕ
 u64_of text = number_of 18446744073709551615 text
 
+-- more members of a list, each spelled by a piece
+abbrev pub list_from : {A : Type 0} → Form A → List A → List (List ℕ) → Option (List A)
+list_from member list [] = Some list
+list_from member list (piece ∷ more) = option_and_then (λ x. list_from member (list ++ x ∷ []) more) (member piece)
+
 -- more numbers of a list
 abbrev pub numbers_from : List ℕ → List (List ℕ) → Option (List ℕ)
-numbers_from numbers [] = Some numbers
-numbers_from numbers (piece ∷ more) = option_and_then (λ n. numbers_from (numbers ++ n ∷ []) more) (u32_of piece)
+numbers_from = list_from u32_of
 
 -- one or more numbers, with commas between them
 unfoldable pub numbers_of : Form (List ℕ)
@@ -50,8 +54,7 @@ sites_of text = option_and_then (λ sites. if is_set sites then Some sites else 
 
 -- more parts of the network
 abbrev pub parts_from : List (List ℕ) → List (List ℕ) → Option (List (List ℕ))
-parts_from parts [] = Some parts
-parts_from parts (piece ∷ more) = option_and_then (λ sites. parts_from (parts ++ sites ∷ []) more) (sites_of piece)
+parts_from = list_from sites_of
 
 -- one or more parts of the network, with bars between them
 unfoldable pub parts_of : Form (List (List ℕ))

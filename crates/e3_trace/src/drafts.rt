@@ -138,20 +138,14 @@ impl Draft {
     pub(crate) fn takes_records(&self) -> bool
         ensures { result ≡ takes_records self.now }
     {
-        let has_records = match &self.head {
-            Head::Whole(_) => false,
-            _ => true,
-        };
+        let has_records = !matches!(&self.head, Head::Whole(_));
         has_records && self.due == 0 && self.outs.is_empty() && self.told.is_empty()
     }
 
     fn is_step(&self) -> bool
         ensures { result ≡ is_step self.now.head }
     {
-        match &self.head {
-            Head::Step(_) => true,
-            _ => false,
-        }
+        matches!(&self.head, Head::Step(_))
     }
 
     /// Packets may come.

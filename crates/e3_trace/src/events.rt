@@ -7,9 +7,19 @@ use crate::cuts::{SPACE, behind, cut};
 use crate::faults::Fault;
 use crate::fields::{Field, TxnName, sites, txn_from, txn_name};
 use crate::known::Known;
-use e3_lines::is_text;
+use e3_lines::{is_text, one_of};
 use e3_types::{Answer, Dir, Refusal, State, Told, Txn, Verdict};
 use std::alloc::Global;
+
+// A blocked group has more than a word.
+const VERDICTS: [(&str, Verdict); 4] = [
+    ("abort", Verdict::Abort),
+    ("commit", Verdict::Commit),
+    ("pre-commit", Verdict::PreCommit),
+    ("pre-abort", Verdict::PreAbort),
+];
+
+const ENDS: [(&str, Dir); 2] = [("committed", Dir::Commit), ("aborted", Dir::Abort)];
 
 /// Two numbers with `of` between them.
 #[tactic(auto, unfolding(crate::specs::Events::of_of))]
@@ -30,19 +40,12 @@ impl Field for Verdict {
 
     #[tactic(auto, unfolding(crate::specs::Events::verdict_of))]
     fn read(text: &[u8]) -> Result<Verdict, Fault> {
-        if is_text(text, "abort") {
-            Ok(Verdict::Abort)
-        } else if is_text(text, "commit") {
-            Ok(Verdict::Commit)
-        } else if is_text(text, "pre-commit") {
-            Ok(Verdict::PreCommit)
-        } else if is_text(text, "pre-abort") {
-            Ok(Verdict::PreAbort)
-        } else {
-            let rest = behind(text, "block")?;
-            let (have, total) = of(rest)?;
-            Ok(Verdict::Block { have, total })
+        if let Some(verdict) = one_of(text, &VERDICTS) {
+            return Ok(verdict);
         }
+        let rest = behind(text, "block")?;
+        let (have, total) = of(rest)?;
+        Ok(Verdict::Block { have, total })
     }
 }
 
@@ -51,20 +54,16 @@ fn refusal_by(known: &Known, verb: &[u8], text: &[u8]) -> Result<Refusal, Fault>
     ensures { Gives result (refusal_by known.now verb.now text.now) }
 {
     if is_text(verb, "busy") {
-        let op = u32::read(text)?;
-        Ok(Refusal::Busy { op })
+        u32::read(text).map(|op| Refusal::Busy { op })
     } else if is_text(verb, "over") {
-        let dir = Dir::read(text)?;
-        Ok(Refusal::Over { dir })
+        Dir::read(text).map(|dir| Refusal::Over { dir })
     } else if is_text(verb, "died") {
-        let older = known.txn(text)?;
-        Ok(Refusal::Died { older })
+        known.txn(text).map(|older| Refusal::Died { older })
     } else if is_text(verb, "doomed") {
         let (site, (had, now)) = <(u32, (u32, u32))>::read(text)?;
         Ok(Refusal::Doomed { site, had, now })
     } else if is_text(verb, "too-late") {
-        let attempt = u32::read(text)?;
-        Ok(Refusal::TooLate { attempt })
+        u32::read(text).map(|attempt| Refusal::TooLate { attempt })
     } else {
         Err(Fault::Bad)
     }
@@ -119,20 +118,11 @@ fn event_by(known: &Known, txn: Txn, verb: &[u8], text: &[u8]) -> Result<Told, F
 fn event(known: &Known, txn: Txn, text: &[u8]) -> Result<Told, Fault>
     ensures { Gives result (event_of known.now txn text.now) }
 {
-    if is_text(text, "committed") {
-        Ok(Told::Ended {
-            txn,
-            dir: Dir::Commit,
-        })
-    } else if is_text(text, "aborted") {
-        Ok(Told::Ended {
-            txn,
-            dir: Dir::Abort,
-        })
-    } else {
-        let (verb, rest) = cut(text, SPACE)?;
-        event_by(known, txn, verb, rest)
+    if let Some(dir) = one_of(text, &ENDS) {
+        return Ok(Told::Ended { txn, dir });
     }
+    let (verb, rest) = cut(text, SPACE)?;
+    event_by(known, txn, verb, rest)
 }
 
 // What is told of the transaction of this name: it begins here, or it began before.

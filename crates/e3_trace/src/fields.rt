@@ -1,16 +1,27 @@
 // The fields of a trace's lines. Only lists take memory.
-ghost use Rattle.std.specs.Prelude.{◌≡◌, ◌≤◌, ℕ, List as Items, Option, IfErr, IfSome};
-ghost use Rattle.e3_trace.specs.Cuts.{space, pair_of, Gives};
-ghost use Rattle.e3_trace.specs.Fields.{number_of, u32_of, u64_of, name_of, value_of, numbers_of, sites_of, parts_of, key_of, dir_of, state_of, op_of, answer_of, txn_name_of, txn_from};
+ghost use Rattle.std.specs.Prelude.{◌≡◌, ◌≤◌, ℕ, [], List as Items, Option, IfErr, IfSome};
+ghost use Rattle.e3_trace.specs.Cuts.{space, pair_of, pieces, Gives};
+ghost use Rattle.e3_trace.specs.Fields.{number_of, u32_of, u64_of, name_of, value_of, list_from, numbers_of, sites_of, parts_of, key_of, dir_of, state_of, op_of, answer_of, txn_name_of, txn_from};
 
 use crate::cuts::{BAR, COMMA, POINT, SPACE, behind, cut};
 use crate::faults::Fault;
-use e3_lines::{is_text, name_of, number_of_digits, value_of};
+use e3_lines::{is_text, name_of, number_of_digits, one_of, value_of};
 use e3_types::{Answer, Dir, Key, List, Name, Op, SiteSet, State, Txn, Val};
 use std::alloc::Global;
 
 /// The name of a transaction without its sites: its coordinator, the coordinator's incarnation, and its number there.
 pub(crate) type TxnName = (u32, (u32, u32));
+
+const DIRS: [(&str, Dir); 2] = [("abort", Dir::Abort), ("commit", Dir::Commit)];
+
+const STATES: [(&str, State); 6] = [
+    ("q", State::Q),
+    ("w", State::W),
+    ("pc", State::Pc),
+    ("pa", State::Pa),
+    ("c", State::C),
+    ("a", State::A),
+];
 
 /// A field that a whole text spells.
 pub(crate) trait Field {
@@ -86,27 +97,61 @@ impl Field for Val {
     }
 }
 
-/// One or more numbers, with commas between them.
-#[tactic(auto, using(crate::proofs::Places::pieces_none, crate::proofs::Places::pieces_some), unfolding(crate::specs::Fields::numbers_of))]
-pub(crate) fn numbers(alloc: Global, text: &[u8]) -> Result<List<u32>, Fault>
-    ensures { Gives result (numbers_of text.now) }
+/// What a piece of a list spells.
+trait Piece {
+    /// The member of a piece, where it spells one.
+    ghost form: { Items ℕ → Option Self };
+
+    /// Reads the member. A set takes memory while it is read.
+    fn member(alloc: Global, text: &[u8]) -> Result<Self, Fault>
+        ensures { Gives result (form text.now) };
+}
+
+impl Piece for u32 {
+    ghost form = { u32_of };
+
+    fn member(_alloc: Global, text: &[u8]) -> Result<u32, Fault> {
+        u32::read(text)
+    }
+}
+
+impl Piece for SiteSet {
+    ghost form = { sites_of };
+
+    fn member(alloc: Global, text: &[u8]) -> Result<SiteSet, Fault> {
+        sites(alloc, text)
+    }
+}
+
+// The members of one piece or more, between marks.
+#[tactic(auto, using(crate::proofs::Places::pieces_none, crate::proofs::Places::pieces_some))]
+fn list<T: Piece + Drop>(alloc: Global, text: &[u8], mark: u8) -> Result<List<T>, Fault>
+    ensures { Gives result (list_from T.form [] (pieces mark text.now)) }
 {
-    let mut numbers = List::new(alloc);
+    let mut members = List::new(alloc);
     let mut left = text;
     'pieces: loop {
-        match cut(left, COMMA) {
+        match cut(left, mark) {
             Ok((piece, more)) => {
-                let number = u32::read(piece)?;
-                numbers.push(number)?;
+                let member = T::member(alloc, piece)?;
+                members.push(member)?;
                 left = more;
             }
             Err(_) => {
-                let number = u32::read(left)?;
-                numbers.push(number)?;
-                return Ok(numbers);
+                let member = T::member(alloc, left)?;
+                members.push(member)?;
+                return Ok(members);
             }
         }
     }
+}
+
+/// One or more numbers, with commas between them.
+#[tactic(auto, unfolding(crate::specs::Fields::numbers_of))]
+pub(crate) fn numbers(alloc: Global, text: &[u8]) -> Result<List<u32>, Fault>
+    ensures { Gives result (numbers_of text.now) }
+{
+    list(alloc, text, COMMA)
 }
 
 /// One or more sites, strictly ascending, with commas between them.
@@ -119,26 +164,11 @@ pub(crate) fn sites(alloc: Global, text: &[u8]) -> Result<SiteSet, Fault>
 }
 
 /// One or more parts of the network, with bars between them.
-#[tactic(auto, using(crate::proofs::Places::pieces_none, crate::proofs::Places::pieces_some), unfolding(crate::specs::Fields::parts_of))]
+#[tactic(auto, unfolding(crate::specs::Fields::parts_of))]
 pub(crate) fn parts(alloc: Global, text: &[u8]) -> Result<List<SiteSet>, Fault>
     ensures { Gives result (parts_of text.now) }
 {
-    let mut parts = List::new(alloc);
-    let mut left = text;
-    'pieces: loop {
-        match cut(left, BAR) {
-            Ok((piece, more)) => {
-                let part = sites(alloc, piece)?;
-                parts.push(part)?;
-                left = more;
-            }
-            Err(_) => {
-                let part = sites(alloc, left)?;
-                parts.push(part)?;
-                return Ok(parts);
-            }
-        }
-    }
+    list(alloc, text, BAR)
 }
 
 /// A key: a site, a point, and a name.
@@ -160,13 +190,7 @@ impl Field for Dir {
 
     #[tactic(auto, unfolding(crate::specs::Fields::dir_of))]
     fn read(text: &[u8]) -> Result<Dir, Fault> {
-        if is_text(text, "abort") {
-            Ok(Dir::Abort)
-        } else if is_text(text, "commit") {
-            Ok(Dir::Commit)
-        } else {
-            Err(Fault::Bad)
-        }
+        one_of(text, &DIRS).ok_or(Fault::Bad)
     }
 }
 
@@ -176,21 +200,7 @@ impl Field for State {
 
     #[tactic(auto, unfolding(crate::specs::Fields::state_of))]
     fn read(text: &[u8]) -> Result<State, Fault> {
-        if is_text(text, "q") {
-            Ok(State::Q)
-        } else if is_text(text, "w") {
-            Ok(State::W)
-        } else if is_text(text, "pc") {
-            Ok(State::Pc)
-        } else if is_text(text, "pa") {
-            Ok(State::Pa)
-        } else if is_text(text, "c") {
-            Ok(State::C)
-        } else if is_text(text, "a") {
-            Ok(State::A)
-        } else {
-            Err(Fault::Bad)
-        }
+        one_of(text, &STATES).ok_or(Fault::Bad)
     }
 }
 

@@ -7,7 +7,7 @@ use crate::cuts::{SPACE, cut};
 use crate::faults::Fault;
 use crate::fields::Field;
 use crate::known::Known;
-use e3_lines::is_text;
+use e3_lines::{is_text, one_of};
 use e3_types::{Answer, Call, Dir, Message, Op, State, Txn};
 
 fn number_and_txn(known: &Known, text: &[u8]) -> Result<(u32, Txn), Fault>
@@ -32,13 +32,7 @@ fn died(known: &Known, text: &[u8]) -> Result<Message, Fault>
 fn yes(text: &[u8]) -> Result<bool, Fault>
     ensures { Gives result (yes_of text.now) }
 {
-    if is_text(text, "yes") {
-        Ok(true)
-    } else if is_text(text, "no") {
-        Ok(false)
-    } else {
-        Err(Fault::Bad)
-    }
+    one_of(text, &[("yes", true), ("no", false)]).ok_or(Fault::Bad)
 }
 
 #[tactic(auto, unfolding(crate::specs::Messages::vote_of))]

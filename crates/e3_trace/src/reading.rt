@@ -23,6 +23,9 @@ use std::alloc::Global;
 use std::marker::Model;
 use std::mem;
 
+/// The most entries of a history.
+pub(crate) const MOST_ENTRIES: u64 = 2_000_000;
+
 /// What the lines so far spell: the transactions that they tell, the entries that are read, and the one whose lines are
 /// being read. Packets are found in the entries.
 #[derive(Drop)]
@@ -190,7 +193,7 @@ impl Reading {
         ensures { result ≡ is_over self.now }
     {
         let done = self.past.len();
-        2000000 < done || (done == 2000000 && self.draft.is_some())
+        MOST_ENTRIES < done || (done == MOST_ENTRIES && self.draft.is_some())
     }
 
     /// The lines end: the history, where no line of an entry is due. Nothing is left here.

@@ -5,11 +5,17 @@ ghost use Rattle.e3_trace.specs.Trace.{nothing_read, ended, lines_read, behind_m
 
 use crate::cuts::{FEED, cut};
 use crate::faults::{Fault, TraceFault};
-use crate::reading::Reading;
+use crate::reading::{MOST_ENTRIES, Reading};
 use e3_lines::is_text;
 use e3_types::Scenario;
 use e3_world::History;
 use std::alloc::Global;
+
+/// The most bytes that are read as a trace.
+const MOST_BYTES: usize = 268_435_456;
+
+/// How long the line of the mark is, with its end.
+const MARK_LINE: usize = 7;
 
 // The text behind the first line that is the mark.
 #[tactic(auto, using(crate::proofs::Lines::mark_none, crate::proofs::Lines::mark_here, crate::proofs::Lines::mark_later))]
@@ -38,7 +44,7 @@ pub fn before_mark(bytes: &[u8]) -> &[u8]
 {
     match behind_mark(bytes) {
         None => bytes,
-        Some(text) => &bytes[..bytes.len() - text.len() - 7],
+        Some(text) => &bytes[..bytes.len() - text.len() - MARK_LINE],
     }
 }
 
@@ -85,7 +91,7 @@ fn entries_in(text: &[u8]) -> u64
     let mut count = 0u64;
     let mut before = FEED;
     for byte in text {
-        if before == FEED && byte.is_ascii_digit() && count <= 2000000 {
+        if before == FEED && byte.is_ascii_digit() && count <= MOST_ENTRIES {
             count += 1;
         }
         before = *byte;
@@ -123,7 +129,7 @@ pub fn read_trace(alloc: Global, _scenario: &Scenario, bytes: &[u8]) -> Result<H
     ensures ok { IfOk result (λ h. history_of bytes.now ≡ Ok h.entries) }
     ensures fault { IfErr result (λ fault. (fault ≡ TraceFault.NoMemory) ⊎ (history_of bytes.now ≡ Err fault)) }
 {
-    if bytes.len() > 268435456 {
+    if bytes.len() > MOST_BYTES {
         return Err(TraceFault::TooLong);
     }
     match behind_mark(bytes) {
