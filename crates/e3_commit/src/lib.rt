@@ -2,9 +2,7 @@
 #![tactic(auto)]
 
 mod acks;
-mod rounds;
 mod votes;
 
-pub use acks::Acks;
-pub use rounds::Round;
+pub use acks::{Acks, Round};
 pub use votes::Votes;
