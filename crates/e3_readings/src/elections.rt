@@ -11,21 +11,12 @@ use e3_elect::Election;
 use e3_types::{Call, Input, Message, NoMemory, Packet, Record, SiteReport, SiteSet, Told, Txn};
 use e3_world::Moment;
 use std::alloc::Global;
-use std::marker::Model;
 
 // How many elections of any transaction a site began in its incarnation, and the one of a transaction in progress.
 #[derive(Drop)]
 struct Elections {
     calls: u32,
     now: Option<Election>,
-}
-
-impl Model for Elections {
-    ghost use Rattle.e3_world.specs.Gatherings.{Elections as Counted};
-
-    ghost Value = { Counted };
-
-    ghost view = { λ a. record { calls = a.calls; now = a.now } };
 }
 
 /// The record is a decision of the transaction.
@@ -196,15 +187,11 @@ pub fn election_anew(
     Ok(heard_all(at, e))
 }
 
-// The elections behind a step, which ends the one in progress by a decision or a verdict.
-fn ended(t: &Txn, m: &Moment, calls: u32, now: Option<Election>) -> Elections
-    ensures { result ≡ record { calls = calls; now = if ends_election t.now m.now then None else now } }
+// What is left of an election behind a step, which ends it by a decision or a verdict.
+fn unended(t: &Txn, m: &Moment, now: Option<Election>) -> Option<Election>
+    ensures { result ≡ (if ends_election t.now m.now then None else now) }
 {
-    if ends_election(t, m) {
-        Elections { calls, now: None }
-    } else {
-        Elections { calls, now }
-    }
+    if ends_election(t, m) { None } else { now }
 }
 
 fn read_off<'a>(site: u32, t: &'a Txn, m: &'a Moment) -> Electing<'a>
@@ -258,27 +245,27 @@ fn election_by(
     was: Elections,
     m: &Moment,
 ) -> Result<Elections, NoMemory>
-    ensures { IfOk result (λ e. e ≡ election_by site inc t.now was m.now) }
+    ensures { IfOk result (λ e. record { calls = e.calls; now = e.now }
+        ≡ election_by site inc t.now (record { calls = was.calls; now = was.now }) m.now) }
 {
-    let calls = was.calls;
-    let now = was.now;
+    let mut calls = was.calls;
+    let mut now = was.now;
     match &m.input {
         Input::Elect { txn, group } => {
-            let calls = next(calls)?;
-            let call = Call { inc, seq: calls };
-            let now = if t.is_same(txn) {
-                elected_anew(alloc, site, t, m, call, *group)?
-            } else {
-                now
-            };
-            Ok(ended(t, m, calls, now))
+            calls = next(calls)?;
+            if t.is_same(txn) {
+                now = elected_anew(alloc, site, t, m, Call { inc, seq: calls }, *group)?;
+            }
         }
         Input::Deliver { packet } => {
-            let now = after_packet(site, t, m, now, packet);
-            Ok(ended(t, m, calls, now))
+            now = after_packet(site, t, m, now, packet);
         }
-        _ => Ok(ended(t, m, calls, now)),
+        _ => {}
     }
+    Ok(Elections {
+        calls,
+        now: unended(t, m, now),
+    })
 }
 
 /// The election of a transaction in progress at a site, in this incarnation.

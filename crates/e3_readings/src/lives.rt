@@ -15,10 +15,7 @@ pub fn add_records(
 ) -> Result<(), NoMemory>
     ensures { IfOk result (λ u. out.new ≡ out.old ++ records.now) }
 {
-    for r in records {
-        out.push(r.copied(alloc)?)?;
-    }
-    Ok(())
+    out.add_copies(alloc, records)
 }
 
 /// The log at present: the one that the site rose with, and the records of its steps since, the oldest first.
@@ -29,10 +26,9 @@ pub fn present_log(
 ) -> Result<List<Record>, NoMemory>
     ensures { IfOk result (λ log. log ≡ present_log (record { rose = rose.now; since = since.now })) }
 {
-    let mut log = List::new(alloc);
-    add_records(alloc, rose, &mut log)?;
+    let mut log = List::of_copies(alloc, rose)?;
     for s in since {
-        add_records(alloc, s.records.as_slice(), &mut log)?;
+        log.add_copies(alloc, s.records.as_slice())?;
     }
     Ok(log)
 }
@@ -56,7 +52,7 @@ pub fn life_by(alloc: Global, life: Life, s: &SiteStep) -> Result<Life, NoMemory
     let mut log = life.log;
     let mut steps = life.steps;
     let m = moment_of(alloc, &log, s)?;
-    add_records(alloc, s.records.as_slice(), &mut log)?;
+    log.add_copies(alloc, s.records.as_slice())?;
     steps.push(m)?;
     Ok(Life {
         log,
@@ -70,10 +66,8 @@ pub fn life_by(alloc: Global, life: Life, s: &SiteStep) -> Result<Life, NoMemory
 pub fn life_of(alloc: Global, rose: &[Record], since: &[SiteStep]) -> Result<Life, NoMemory>
     ensures { IfOk result (λ life. life ≡ life_of (record { rose = rose.now; since = since.now })) }
 {
-    let mut log = List::new(alloc);
-    add_records(alloc, rose, &mut log)?;
     let mut life = Life {
-        log,
+        log: List::of_copies(alloc, rose)?,
         inc: logged_inc(rose),
         steps: List::new(alloc),
     };

@@ -1,7 +1,7 @@
 // What a log says of a transaction. A log is a list of records, the oldest first.
 ghost use Rattle.std.specs.Prelude.{◌≡◌, ◌++◌, IfOk, OnErr, fold};
 ghost use Rattle.e3_readings.specs.States.{state_by};
-ghost use Rattle.e3_world.specs.Logs.{last_elected_by, last_elected, last_attempt_by, last_attempt, decision_by, decision, attempted_by, attempted, is_vote, has_voted, state_of, is_undecided, logged_inc_by, logged_inc, ops_of_vote, voted_ops, key_of, mode_of, lock_on, vote_locks, voted_locks};
+ghost use Rattle.e3_world.specs.Logs.{last_elected_by, last_elected, last_attempt_by, last_attempt, decision_by, decision, attempted_by, attempted, is_vote, has_voted, state_of, is_undecided, logged_inc_by, logged_inc, voted_ops, key_of, mode_of, lock_on, vote_locks, voted_locks};
 
 use e3_types::{Dir, Key, List, Lock, Mode, Name, NoMemory, NumOp, Op, Record, State, Txn};
 use std::alloc::Global;
@@ -164,26 +164,17 @@ pub fn logged_inc(log: &[Record]) -> u32
     log.iter().fold(0, |n, r| logged_inc_by(n, r))
 }
 
-fn ops_of_vote(t: &Txn, r: &Record, out: &mut List<NumOp>) -> Result<(), NoMemory>
-    ensures { IfOk result (λ u. out.new ≡ out.old ++ ops_of_vote t.now r.now) }
-{
-    if let Record::Vote { txn, ops } = r {
-        if t.is_same(txn) {
-            for o in ops.as_slice() {
-                out.push(o.copy())?;
-            }
-        }
-    }
-    Ok(())
-}
-
 /// The operations of all votes of the transaction, in the order of the log.
 pub fn voted_ops(alloc: Global, t: &Txn, log: &[Record]) -> Result<List<NumOp>, NoMemory>
     ensures { IfOk result (λ ops. ops ≡ voted_ops t.now log.now) }
 {
     let mut out = List::new(alloc);
     for r in log {
-        ops_of_vote(t, r, &mut out)?;
+        if let Record::Vote { txn, ops } = r {
+            if t.is_same(txn) {
+                out.add_copies(alloc, ops.as_slice())?;
+            }
+        }
     }
     Ok(out)
 }

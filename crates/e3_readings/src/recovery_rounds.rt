@@ -9,7 +9,7 @@ use std::alloc::Global;
 use std::marker::Model;
 
 /// A recovery round: a transaction, the members of the group that are up and its sites, and the least of them, which elects.
-#[derive(Drop)]
+#[derive(Clone, Copy)]
 pub struct RecoveryRound {
     pub txn: Txn,
     pub members: SiteSet,
@@ -22,6 +22,8 @@ impl Model for RecoveryRound {
     ghost Value = { Round };
 
     ghost view = { λ r. record { txn = r.txn; members = r.members; elector = r.elector } };
+
+    ghost inverse = { λ r. record { txn = r.txn; members = r.members; elector = r.elector } };
 }
 
 impl RecoveryRound {
@@ -29,11 +31,7 @@ impl RecoveryRound {
     pub fn copy(&self) -> RecoveryRound
         ensures { result ≡ self.now }
     {
-        RecoveryRound {
-            txn: self.txn,
-            members: self.members,
-            elector: self.elector,
-        }
+        *self
     }
 }
 

@@ -3,4 +3,4 @@ use Rattle.e3_world.specs.Elections.{election_by}
 use Rattle.e3_readings.proofs.elections.election_in_progress.Given as goal
 
 abbrev pub invariant-loop-m : goal.invariant-loop-m
-invariant-loop-m l = l.elections ≡ fold (election_by l.site l.inc l.t) (record { calls = 0; now = None }) (take l.m-index l.steps)
+invariant-loop-m l = record { calls = l.elections.calls; now = l.elections.now } ≡ fold (election_by l.site l.inc l.t) (record { calls = 0; now = None }) (take l.m-index l.steps)
