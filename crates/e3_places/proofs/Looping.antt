@@ -7,17 +7,11 @@ use Rattle.std.proofs.lemmas.List.{append-nil}
 use Rattle.std.proofs.lemmas.List.Concat.{flat_map-append}
 use Rattle.std.proofs.lemmas.List.Elements.{filter-append}
 use Rattle.std.proofs.lemmas.List.Sums.{fold-append}
-use Rattle.e3_types.specs.declared.locks.Lock.{Lock}
-use Rattle.e3_types.specs.declared.records.Record.{Record}
 use Rattle.e3_types.specs.declared.transactions.Answer.{Answer}
 use Rattle.e3_types.specs.declared.transactions.Txn.{Txn}
 use Rattle.e3_types.specs.Same.{same_txn}
 use Rattle.e3_world.specs.declared.lives.Asked.{Asked}
-use Rattle.e3_places.specs.declared.picks.Pick.TheVariants as pick
-use Rattle.e3_places.specs.declared.places.Claims.{Claims}
-use Rattle.e3_places.specs.declared.places.Standing.{Standing}
-use Rattle.e3_readings.specs.Requests.{lock_for}
-use Rattle.e3_places.specs.Standing.{is_on, passes, cast_of, is_left, left_lock, held_by, held_with, written}
+use Rattle.e3_places.specs.Standing.{written}
 
 assoc : {X : Type 0} (xs ys zs : List X) → (xs ++ ys) ++ zs ≡ xs ++ (ys ++ zs)
 assoc [] ys zs = refl
@@ -49,29 +43,6 @@ pub committed_both : (t : Txn) (votes cast : List Asked) (was x y : Answer) → 
 committed_both t votes cast was x y e f =
     f ∙ ap (λ (v : Answer). fold written v (filter (λ a. same_txn t a.txn) cast)) e
     ∙ sym (ap (fold written was) (filter-append (λ a. same_txn t a.txn) votes cast) ∙ fold-append written was (filter (λ a. same_txn t a.txn) votes) (filter (λ a. same_txn t a.txn) cast))
-
-left_parts : (rs : List Record) (xs : List Asked) → map lock_for (filter (is_left rs) xs) ≡ flat_map (left_lock rs) xs
-left_parts rs [] = refl
-left_parts rs (x ∷ xs) = by (is_left rs x) refl (left_parts rs xs)
-  where
-    by : (b : Bool) → is_left rs x ≡ b → map lock_for (filter (is_left rs) xs) ≡ flat_map (left_lock rs) xs
-        → map lock_for (if b then x ∷ filter (is_left rs) xs else filter (is_left rs) xs) ≡ (if b then lock_for x ∷ [] else []) ++ flat_map (left_lock rs) xs
-    by true e ih = ap (λ (l : List Lock). lock_for x ∷ l) ih
-    by false e ih = ih
-
-pub held_made : (name other : List ℕ) (rs : List Record) (claims : Claims) (o0 o1 o2 o3 : List Lock) (standing : List Standing) (votes cast again : List Asked) → other ≡ name → o0 ≡ []
-    → standing ≡ claims.standing → o1 ≡ o0 ++ flat_map (held_by rs) standing → votes ≡ claims.votes → o2 ≡ o1 ++ flat_map (left_lock rs) votes
-    → cast ≡ filter (passes (pick.On other)) (cast_of rs) → again ≡ cast → o3 ≡ o2 ++ flat_map (left_lock rs) again → o3 ≡ held_with name rs claims
-held_made name other rs claims o0 o1 o2 o3 standing votes cast again n e0 s e1 v e2 c d e3 =
-    let own : List Asked = filter (is_on name) (cast_of rs) in
-    let last : again ≡ own = d ∙ c ∙ ap (λ (m : List ℕ). filter (is_on m) (cast_of rs)) n in
-    let first : o1 ≡ flat_map (held_by rs) claims.standing = e1 ∙ ap (λ (l : List Lock). l ++ flat_map (held_by rs) standing) e0 ∙ ap (flat_map (held_by rs)) s in
-    let second : o2 ≡ flat_map (held_by rs) claims.standing ++ flat_map (left_lock rs) claims.votes =
-    e2 ∙ ap (λ (l : List Lock). l ++ flat_map (left_lock rs) votes) first ∙ ap (λ (l : List Asked). flat_map (held_by rs) claims.standing ++ flat_map (left_lock rs) l) v in
-    e3 ∙ ap (λ (l : List Lock). l ++ flat_map (left_lock rs) again) second
-    ∙ ap (λ (l : List Asked). (flat_map (held_by rs) claims.standing ++ flat_map (left_lock rs) claims.votes) ++ flat_map (left_lock rs) l) last
-    ∙ assoc (flat_map (held_by rs) claims.standing) (flat_map (left_lock rs) claims.votes) (flat_map (left_lock rs) own)
-    ∙ ap (λ (l : List Lock). flat_map (held_by rs) claims.standing ++ l) (sym (flat_map-append (left_lock rs) claims.votes own) ∙ sym (left_parts rs (claims.votes ++ own)))
 
 pub picked_next : {X Y : Type 0} (p : X → Bool) (f : X → Y) (xs : List X) (i : ℕ) (x : X) (was ys zs : List Y) → i < length xs → x ≡ get_or xs i x
     → ys ≡ was ++ map f (filter p (take i xs)) → zs ≡ ys ++ (if p x then f x ∷ [] else []) → zs ≡ was ++ map f (filter p (take (i + 1) xs))

@@ -205,10 +205,6 @@ held_by rs s = if s.answered && not (decided_in rs s.asked.txn) then lock_for s.
 abbrev pub waits_by : List Record → Standing → List Asked
 waits_by rs s = if not s.answered && not (decided_in rs s.asked.txn) then s.asked ∷ [] else []
 
--- the lock of an operation of a vote, unless these records decide its transaction
-abbrev pub left_lock : List Record → Asked → List Lock
-left_lock rs a = if is_left rs a then lock_for a ∷ [] else []
-
 -- the locks on a name that are held, where these records are made: for operations done and for votes
 abbrev pub held_with : List ℕ → List Record → Claims → List Lock
 held_with name rs claims = flat_map (held_by rs) claims.standing ++ map lock_for (votes_by (is_on name) claims.votes rs)

@@ -146,7 +146,8 @@ fn add_left(records: &[Record], asked: &[Asked], out: &mut List<Asked>) -> Resul
     Ok(())
 }
 
-fn votes_by(
+/// The operations of votes behind a step.
+pub fn votes_by(
     alloc: Global,
     pick: &Pick,
     votes: &[Asked],

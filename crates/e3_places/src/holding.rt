@@ -1,15 +1,12 @@
 // The locks on a name that are held, and those for which operations wait.
-ghost use Rattle.std.specs.Prelude.{◌≡◌, ◌++◌, IfOk, map, filter};
-ghost use Rattle.std.specs.List.{flat_map};
-ghost use Rattle.e3_readings.specs.Requests.{lock_for};
-ghost use Rattle.e3_places.specs.Standing.{decided_in, is_on, cast_of, held_by, wanted_by, left_lock, held_with, wanted_with};
+ghost use Rattle.std.specs.Prelude.{◌≡◌, ◌++◌, IfOk};
+ghost use Rattle.e3_places.specs.Standing.{held_by, wanted_by, held_with, wanted_with};
 
-use crate::behind::{cast_on, decided_in};
+use crate::behind::{decided_in, votes_by};
 use crate::picks::Pick;
 use crate::places::{Claims, Standing};
 use e3_readings::lock_for;
 use e3_types::{List, Lock, Name, NoMemory, Record};
-use e3_world::Asked;
 use std::alloc::Global;
 
 fn add_held(records: &[Record], s: &Standing, out: &mut List<Lock>) -> Result<(), NoMemory>
@@ -17,30 +14,6 @@ fn add_held(records: &[Record], s: &Standing, out: &mut List<Lock>) -> Result<()
 {
     if s.answered && !decided_in(records, &s.asked.txn) {
         out.push(lock_for(&s.asked))?;
-    }
-    Ok(())
-}
-
-fn add_standing(
-    records: &[Record],
-    standing: &[Standing],
-    out: &mut List<Lock>,
-) -> Result<(), NoMemory>
-    ensures { IfOk result (λ u. out.new ≡ out.old ++ flat_map (held_by records.now) standing.now) }
-{
-    for s in standing {
-        add_held(records, s, out)?;
-    }
-    Ok(())
-}
-
-fn add_votes(records: &[Record], votes: &[Asked], out: &mut List<Lock>) -> Result<(), NoMemory>
-    ensures { IfOk result (λ u. out.new ≡ out.old ++ flat_map (left_lock records.now) votes.now) }
-{
-    for a in votes {
-        if !decided_in(records, &a.txn) {
-            out.push(lock_for(a))?;
-        }
     }
     Ok(())
 }
@@ -54,11 +27,19 @@ pub fn held(
 ) -> Result<List<Lock>, NoMemory>
     ensures { IfOk result (λ out. out ≡ held_with name.now records.now claims.now) }
 {
+    let votes = votes_by(
+        alloc,
+        &Pick::On(name.copy()),
+        claims.votes.as_slice(),
+        records,
+    )?;
     let mut out = List::new(alloc);
-    add_standing(records, claims.standing.as_slice(), &mut out)?;
-    add_votes(records, claims.votes.as_slice(), &mut out)?;
-    let cast = cast_on(alloc, &Pick::On(name.copy()), records)?;
-    add_votes(records, cast.as_slice(), &mut out)?;
+    for s in claims.standing.as_slice() {
+        add_held(records, s, &mut out)?;
+    }
+    for a in votes.as_slice() {
+        out.push(lock_for(a))?;
+    }
     Ok(out)
 }
 

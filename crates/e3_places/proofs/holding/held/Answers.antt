@@ -1,8 +1,9 @@
-use Rattle.e3_places.proofs.Looping.{held_made}
+use Rattle.std.proofs.Common.{[]}
+use Rattle.e3_places.specs.Standing.{held_by}
+use Rattle.e3_places.proofs.Looping.{flat_next}
 use Rattle.e3_places.proofs.holding.held.Goals as goal
 
-pub returns : goal.returns
-returns c =
-    held_made c.args.name.now c.copy.result c.args.records.now c.args.claims.now c.new-out.result c.add_standing.new.out c.add_votes.new.out c.add_votes-2.new.out c.as_slice.result.now
-    c.as_slice-2.result.now c.in_ok-cast.cast c.as_slice-3.result.now c.copy.ensures c.new-out.ensures c.as_slice.ensures c.in_ok-add_standing.ensures c.as_slice-2.ensures
-    c.in_ok-add_votes.ensures c.in_ok-cast.ensures c.as_slice-3.ensures c.in_ok-add_votes-2.ensures
+pub loop-s-preserved : goal.loop-s-preserved
+loop-s-preserved c =
+    flat_next (held_by c.args.records.now) c.as_slice-s-items.result.now c.loop-s.s-index c.s-item.result [] c.loop-s.out c.add_held.new.out c.loop-s-test.true c.s-item.is
+    c.loop-s.invariant c.in_ok-add_held.ensures
