@@ -10,7 +10,6 @@ ghost use Rattle.e3_judge.specs.declared.breach.Guard.TheVariants as guard;
 ghost use Rattle.e3_judge.specs.Checks.{Check, is_site, line_is_due, parts_are_due, may_drop, drop_is_due, is_crash, is_next_inc, step_checks, fall_checks, rising_checks, rise_checks, checks, first_failing};
 ghost use Rattle.e3_judge.specs.Equal.{is_some, same_list, same_packet, same_record, same_told};
 
-use crate::copies::add_copies;
 use crate::equal::{Same, same_list};
 use crate::inputs::is_empty;
 use crate::prefix::Prefix;
@@ -87,7 +86,7 @@ fn add_kept(
     ensures { IfOk result (λ u. log.new ≡ log.old ++ log_by (kept_moves site kept tail.now)) }
 {
     match tail {
-        Some(tail) if kept => add_copies(alloc, tail.records.as_slice(), log),
+        Some(tail) if kept => log.add_copies(alloc, tail.records.as_slice()),
         _ => Ok(()),
     }
 }
@@ -344,8 +343,9 @@ impl Prefix<'_> {
                 ..
             } => self.fall_breach(owner, inputs.as_slice(), records.as_slice()),
             Act::Cut => Ok(self.cut_breach(owner)),
-            Act::Rise { kept, inc } => self.rise_breach(owner, *kept, *inc),
-            Act::RiseFall { kept, inc, .. } => { self.rise_breach(owner, *kept, *inc) }
+            Act::Rise { kept, inc } | Act::RiseFall { kept, inc, .. } => {
+                self.rise_breach(owner, *kept, *inc)
+            }
             Act::Miss => Ok(self.rising_breach(owner)),
         }
     }

@@ -47,6 +47,20 @@ fn same_truth(a: bool, b: bool) -> bool
     a == b
 }
 
+// The two values are of one variant and have the same parts. Each arm is a variant with its parts, as a pattern that
+// binds those of the other value, and the test of the parts.
+macro_rules! same_variant {
+    (
+        $one:expr, $other:expr;
+        $($kind:ident::$variant:ident { $($part:ident: $its:ident),* } => $same:expr),+ $(,)?
+    ) => {
+        match ($one, $other) {
+            $(($kind::$variant { $($part),* }, $kind::$variant { $($part: $its),* }) => $same,)+
+            _ => false,
+        }
+    };
+}
+
 impl Same for SiteSet {
     ghost same = { same_numbers };
 
@@ -100,44 +114,21 @@ impl Same for Record {
     ghost same = { same_record };
 
     fn is_same(&self, other: &Record) -> bool {
-        match (self, other) {
-            (
-                Record::Birth {
-                    format,
-                    site,
-                    weights,
-                    rows,
-                },
-                Record::Birth {
-                    format: f,
-                    site: s,
-                    weights: w,
-                    rows: r,
-                },
-            ) => {
+        same_variant!(self, other;
+            Record::Birth { format: f, site: s, weights: w, rows: r } => {
                 format == f
                     && site == s
                     && same_numbers(weights.as_slice(), w.as_slice())
                     && same_list(rows.as_slice(), r.as_slice())
-            }
-            (Record::Inc { inc }, Record::Inc { inc: i }) => inc == i,
-            (Record::Vote { txn, ops }, Record::Vote { txn: t, ops: o }) => {
+            },
+            Record::Inc { inc: i } => inc == i,
+            Record::Vote { txn: t, ops: o } => {
                 txn.is_same(t) && same_list(ops.as_slice(), o.as_slice())
-            }
-            (Record::Join { txn, n }, Record::Join { txn: t, n: m }) => txn.is_same(t) && n == m,
-            (
-                Record::Attempt { txn, n, dir },
-                Record::Attempt {
-                    txn: t,
-                    n: m,
-                    dir: d,
-                },
-            ) => { txn.is_same(t) && n == m && dir.is_same(*d) }
-            (Record::Decision { txn, dir }, Record::Decision { txn: t, dir: d }) => {
-                txn.is_same(t) && dir.is_same(*d)
-            }
-            _ => false,
-        }
+            },
+            Record::Join { txn: t, n: m } => txn.is_same(t) && n == m,
+            Record::Attempt { txn: t, n: m, dir: d } => txn.is_same(t) && n == m && dir.is_same(*d),
+            Record::Decision { txn: t, dir: d } => txn.is_same(t) && dir.is_same(*d),
+        )
     }
 }
 
@@ -145,97 +136,30 @@ impl Same for Message {
     ghost same = { same_message };
 
     fn is_same(&self, other: &Message) -> bool {
-        match (self, other) {
-            (
-                Message::Do { txn, n, op },
-                Message::Do {
-                    txn: t,
-                    n: m,
-                    op: o,
-                },
-            ) => { txn.is_same(t) && n == m && op.is_same(o) }
-            (
-                Message::Done {
-                    txn,
-                    n,
-                    inc,
-                    answer,
-                },
-                Message::Done {
-                    txn: t,
-                    n: m,
-                    inc: i,
-                    answer: a,
-                },
-            ) => txn.is_same(t) && n == m && inc == i && answer.is_same(a),
-            (
-                Message::Died { txn, n, older },
-                Message::Died {
-                    txn: t,
-                    n: m,
-                    older: o,
-                },
-            ) => { txn.is_same(t) && n == m && older.is_same(o) }
-            (Message::Ask { txn, call }, Message::Ask { txn: t, call: c }) => {
-                txn.is_same(t) && call.is_same(*c)
-            }
-            (
-                Message::LastElected { txn, call, elected },
-                Message::LastElected {
-                    txn: t,
-                    call: c,
-                    elected: e,
-                },
-            ) => txn.is_same(t) && call.is_same(*c) && elected == e,
-            (Message::Elected { txn, n }, Message::Elected { txn: t, n: m }) => {
-                txn.is_same(t) && n == m
-            }
-            (
-                Message::Report {
-                    txn,
-                    n,
-                    state,
-                    attempt,
-                },
-                Message::Report {
-                    txn: t,
-                    n: m,
-                    state: s,
-                    attempt: a,
-                },
-            ) => txn.is_same(t) && n == m && state.is_same(*s) && attempt == a,
-            (
-                Message::VoteReq { txn, inc, count },
-                Message::VoteReq {
-                    txn: t,
-                    inc: i,
-                    count: c,
-                },
-            ) => { txn.is_same(t) && inc == i && count == c }
-            (Message::Vote { txn, yes }, Message::Vote { txn: t, yes: y }) => {
-                txn.is_same(t) && same_truth(*yes, *y)
-            }
-            (
-                Message::Pre { txn, n, dir },
-                Message::Pre {
-                    txn: t,
-                    n: m,
-                    dir: d,
-                },
-            ) => { txn.is_same(t) && n == m && dir.is_same(*d) }
-            (
-                Message::Ack { txn, n, dir },
-                Message::Ack {
-                    txn: t,
-                    n: m,
-                    dir: d,
-                },
-            ) => { txn.is_same(t) && n == m && dir.is_same(*d) }
-            (Message::Decide { txn, dir }, Message::Decide { txn: t, dir: d }) => {
-                txn.is_same(t) && dir.is_same(*d)
-            }
-            _ => false,
-        }
+        same_variant!(self, other;
+            Message::Do { txn: t, n: m, op: o } => txn.is_same(t) && n == m && op.is_same(o),
+            Message::Done { txn: t, n: m, inc: i, answer: a } => {
+                txn.is_same(t) && n == m && inc == i && answer.is_same(a)
+            },
+            Message::Died { txn: t, n: m, older: o } => {
+                txn.is_same(t) && n == m && older.is_same(o)
+            },
+            Message::Ask { txn: t, call: c } => txn.is_same(t) && call.is_same(*c),
+            Message::LastElected { txn: t, call: c, elected: e } => {
+                txn.is_same(t) && call.is_same(*c) && elected == e
+            },
+            Message::Elected { txn: t, n: m } => txn.is_same(t) && n == m,
+            Message::Report { txn: t, n: m, state: s, attempt: a } => {
+                txn.is_same(t) && n == m && state.is_same(*s) && attempt == a
+            },
+            Message::VoteReq { txn: t, inc: i, count: c } => {
+                txn.is_same(t) && inc == i && count == c
+            },
+            Message::Vote { txn: t, yes: y } => txn.is_same(t) && same_truth(*yes, *y),
+            Message::Pre { txn: t, n: m, dir: d } => txn.is_same(t) && n == m && dir.is_same(*d),
+            Message::Ack { txn: t, n: m, dir: d } => txn.is_same(t) && n == m && dir.is_same(*d),
+            Message::Decide { txn: t, dir: d } => txn.is_same(t) && dir.is_same(*d),
+        )
     }
 }
 
@@ -254,18 +178,15 @@ impl Same for Input {
     ghost same = { same_input };
 
     fn is_same(&self, other: &Input) -> bool {
-        match (self, other) {
-            (Input::Begin { sites }, Input::Begin { sites: s }) => sites.is_same(s),
-            (Input::Do { txn, op }, Input::Do { txn: t, op: o }) => txn.is_same(t) && op.is_same(o),
-            (Input::Commit { txn }, Input::Commit { txn: t }) => txn.is_same(t),
-            (Input::Cancel { txn }, Input::Cancel { txn: t }) => txn.is_same(t),
-            (Input::Expire { txn }, Input::Expire { txn: t }) => txn.is_same(t),
-            (Input::Elect { txn, group }, Input::Elect { txn: t, group: g }) => {
-                txn.is_same(t) && group.is_same(g)
-            }
-            (Input::Deliver { packet }, Input::Deliver { packet: p }) => packet.is_same(p),
-            _ => false,
-        }
+        same_variant!(self, other;
+            Input::Begin { sites: s } => sites.is_same(s),
+            Input::Do { txn: t, op: o } => txn.is_same(t) && op.is_same(o),
+            Input::Commit { txn: t } => txn.is_same(t),
+            Input::Cancel { txn: t } => txn.is_same(t),
+            Input::Expire { txn: t } => txn.is_same(t),
+            Input::Elect { txn: t, group: g } => txn.is_same(t) && group.is_same(g),
+            Input::Deliver { packet: p } => packet.is_same(p),
+        )
     }
 }
 
@@ -273,22 +194,14 @@ impl Same for Refusal {
     ghost same = { same_refusal };
 
     fn is_same(&self, other: &Refusal) -> bool {
-        match (self, other) {
-            (Refusal::NoTxn, Refusal::NoTxn) => true,
-            (Refusal::Busy { op }, Refusal::Busy { op: o }) => op == o,
-            (Refusal::Over { dir }, Refusal::Over { dir: d }) => dir.is_same(*d),
-            (Refusal::Died { older }, Refusal::Died { older: o }) => older.is_same(o),
-            (
-                Refusal::Doomed { site, had, now },
-                Refusal::Doomed {
-                    site: s,
-                    had: h,
-                    now: n,
-                },
-            ) => { site == s && had == h && now == n }
-            (Refusal::TooLate { attempt }, Refusal::TooLate { attempt: a }) => attempt == a,
-            _ => false,
-        }
+        same_variant!(self, other;
+            Refusal::NoTxn {} => true,
+            Refusal::Busy { op: o } => op == o,
+            Refusal::Over { dir: d } => dir.is_same(*d),
+            Refusal::Died { older: o } => older.is_same(o),
+            Refusal::Doomed { site: s, had: h, now: n } => site == s && had == h && now == n,
+            Refusal::TooLate { attempt: a } => attempt == a,
+        )
     }
 }
 
@@ -296,16 +209,13 @@ impl Same for Verdict {
     ghost same = { same_verdict };
 
     fn is_same(&self, other: &Verdict) -> bool {
-        match (self, other) {
-            (Verdict::Abort, Verdict::Abort) => true,
-            (Verdict::Commit, Verdict::Commit) => true,
-            (Verdict::PreCommit, Verdict::PreCommit) => true,
-            (Verdict::PreAbort, Verdict::PreAbort) => true,
-            (Verdict::Block { have, total }, Verdict::Block { have: h, total: t }) => {
-                have == h && total == t
-            }
-            _ => false,
-        }
+        same_variant!(self, other;
+            Verdict::Abort {} => true,
+            Verdict::Commit {} => true,
+            Verdict::PreCommit {} => true,
+            Verdict::PreAbort {} => true,
+            Verdict::Block { have: h, total: t } => have == h && total == t,
+        )
     }
 }
 
@@ -313,51 +223,19 @@ impl Same for Told {
     ghost same = { same_told };
 
     fn is_same(&self, other: &Told) -> bool {
-        match (self, other) {
-            (Told::Began { txn }, Told::Began { txn: t }) => txn.is_same(t),
-            (
-                Told::Op { txn, n, answer },
-                Told::Op {
-                    txn: t,
-                    n: m,
-                    answer: a,
-                },
-            ) => { txn.is_same(t) && n == m && answer.is_same(a) }
-            (Told::Ended { txn, dir }, Told::Ended { txn: t, dir: d }) => {
-                txn.is_same(t) && dir.is_same(*d)
-            }
-            (Told::Died { txn, older }, Told::Died { txn: t, older: o }) => {
-                txn.is_same(t) && older.is_same(o)
-            }
-            (
-                Told::Doomed {
-                    txn,
-                    site,
-                    had,
-                    now,
-                },
-                Told::Doomed {
-                    txn: t,
-                    site: s,
-                    had: h,
-                    now: n,
-                },
-            ) => txn.is_same(t) && site == s && had == h && now == n,
-            (Told::Refused { txn, refusal }, Told::Refused { txn: t, refusal: r }) => {
-                txn.is_same(t) && refusal.is_same(r)
-            }
-            (Told::Kept { txn, state }, Told::Kept { txn: t, state: s }) => {
-                txn.is_same(t) && state.is_same(*s)
-            }
-            (
-                Told::Verdict { txn, n, verdict },
-                Told::Verdict {
-                    txn: t,
-                    n: m,
-                    verdict: v,
-                },
-            ) => { txn.is_same(t) && n == m && verdict.is_same(v) }
-            _ => false,
-        }
+        same_variant!(self, other;
+            Told::Began { txn: t } => txn.is_same(t),
+            Told::Op { txn: t, n: m, answer: a } => txn.is_same(t) && n == m && answer.is_same(a),
+            Told::Ended { txn: t, dir: d } => txn.is_same(t) && dir.is_same(*d),
+            Told::Died { txn: t, older: o } => txn.is_same(t) && older.is_same(o),
+            Told::Doomed { txn: t, site: s, had: h, now: n } => {
+                txn.is_same(t) && site == s && had == h && now == n
+            },
+            Told::Refused { txn: t, refusal: r } => txn.is_same(t) && refusal.is_same(r),
+            Told::Kept { txn: t, state: s } => txn.is_same(t) && state.is_same(*s),
+            Told::Verdict { txn: t, n: m, verdict: v } => {
+                txn.is_same(t) && n == m && verdict.is_same(v)
+            },
+        )
     }
 }

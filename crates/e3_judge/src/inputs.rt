@@ -6,7 +6,6 @@ ghost use Rattle.e3_world.specs.Packets.{pending};
 ghost use Rattle.e3_judge.specs.Checks.{is_in_order, is_next_item, delivery_is_due, round_is_due, input_is_due, inputs_are_due, same_round, is_empty};
 ghost use Rattle.e3_judge.specs.Equal.{is_some, same_input, same_packet};
 
-use crate::copies::add_copies;
 use crate::equal::Same;
 use crate::prefix::Prefix;
 use crate::{has_delivery, is_calm, present_items, turn_of};
@@ -124,8 +123,7 @@ impl Prefix<'_> {
     pub(crate) fn inputs_are_due(&self, site: u32, inputs: &[Input]) -> Result<bool, NoMemory>
         ensures { IfOk result (λ b. b ≡ inputs_are_due self.now.scenario.now self.now.entries.now site inputs.now) }
     {
-        let mut history = List::new(self.alloc);
-        add_copies(self.alloc, self.entries, &mut history)?;
+        let mut history = List::of_copies(self.alloc, self.entries)?;
         for input in inputs {
             let prefix = Prefix::of(self.alloc, self.scenario, history.as_slice());
             if !prefix.input_is_due(site, input)? {
@@ -142,12 +140,11 @@ impl Prefix<'_> {
         ensures { IfOk result (λ out. out ≡ records_by self.now.scenario.now self.now.entries.now site inputs.now) }
     {
         let mut out = List::new(self.alloc);
-        let mut history = List::new(self.alloc);
-        add_copies(self.alloc, self.entries, &mut history)?;
+        let mut history = List::of_copies(self.alloc, self.entries)?;
         for input in inputs {
             let prefix = Prefix::of(self.alloc, self.scenario, history.as_slice());
             let made = prefix.made_by(site, input)?;
-            add_copies(self.alloc, made.records.as_slice(), &mut out)?;
+            out.add_copies(self.alloc, made.records.as_slice())?;
             let entry = prefix.entry_of(site, input)?;
             history.push(entry)?;
         }

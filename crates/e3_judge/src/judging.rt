@@ -10,13 +10,11 @@ use e3_types::{Entry, NoMemory, Scenario};
 use e3_world::History;
 use std::alloc::Global;
 
+/// The first breach of a history, none where it is legal.
+pub type Judged = Result<Option<Breach>, NoMemory>;
+
 // The first of these entries from a place on that breaks the rules behind those before it.
-fn breach_of(
-    alloc: Global,
-    scenario: &Scenario,
-    history: &[Entry],
-    from: usize,
-) -> Result<Option<Breach>, NoMemory>
+fn breach_of(alloc: Global, scenario: &Scenario, history: &[Entry], from: usize) -> Judged
     requires { from ≤ length history.now }
     ensures { IfOk result (λ b. b ≡ breach_after scenario.now (take from history.now) (drop from history.now)) }
 {
@@ -33,12 +31,7 @@ fn breach_of(
 }
 
 // The first of these entries that breaks the rules, where those before a place break none.
-fn breach_behind(
-    alloc: Global,
-    scenario: &Scenario,
-    history: &[Entry],
-    from: usize,
-) -> Result<Option<Breach>, NoMemory>
+fn breach_behind(alloc: Global, scenario: &Scenario, history: &[Entry], from: usize) -> Judged
     requires within { from ≤ length history.now }
     requires legal { IsLegal scenario.now (take from history.now) }
     ensures { IfOk result (λ b. b ≡ first_breach scenario.now history.now) }
@@ -50,11 +43,7 @@ fn breach_behind(
 /// legal. Every reading is made anew for every entry, so this takes about the cube of the history's length. A faster body
 /// may come under the same contract. Want of memory is the only error.
 #[tactic(auto, using(crate::proofs::Breaches::judged))]
-pub fn judge(
-    alloc: Global,
-    scenario: &Scenario,
-    history: &History,
-) -> Result<Option<Breach>, NoMemory>
+pub fn judge(alloc: Global, scenario: &Scenario, history: &History) -> Judged
     ensures { IfOk result (IsJudged scenario.now history.now.entries) }
 {
     breach_of(alloc, scenario, history.as_slice(), 0)
@@ -62,12 +51,7 @@ pub fn judge(
 
 /// The same where the entries before this place are known to be legal: they are read, and not judged anew.
 #[tactic(auto, using(crate::proofs::Breaches::judged))]
-pub fn judge_behind(
-    alloc: Global,
-    scenario: &Scenario,
-    history: &History,
-    from: usize,
-) -> Result<Option<Breach>, NoMemory>
+pub fn judge_behind(alloc: Global, scenario: &Scenario, history: &History, from: usize) -> Judged
     requires within { from ≤ length history.now.entries }
     requires legal { IsLegal scenario.now (take from history.now.entries) }
     ensures { IfOk result (IsJudged scenario.now history.now.entries) }

@@ -6,7 +6,6 @@
 mod breach;
 mod checks;
 mod clashing;
-mod copies;
 mod counts;
 mod equal;
 mod inputs;
@@ -28,7 +27,7 @@ pub use clashing::clash;
 pub use equal::{Same, same_list};
 pub use inputs::{is_at, is_round};
 pub use items::{has_delivery, is_up_at, since_line, to_line, turn_of};
-pub use judging::{is_whole, judge, judge_behind};
+pub use judging::{Judged, is_whole, judge, judge_behind};
 pub use laws::checks_are_exact;
 pub use orders::order;
 pub use packets::{is_calm, lines, present_items, sent_count};

@@ -5,7 +5,6 @@ ghost use Rattle.e3_types.specs.Sets.{has_site};
 ghost use Rattle.e3_world.specs.Moves.{own_entries};
 ghost use Rattle.e3_judge.specs.Clashes.{with_owner, owners, decisions_in, nothing_yet, with_step, with_fall, risen, decided_by, decided_at, decisions};
 
-use crate::copies::add_copies;
 use e3_types::{Act, Copied, Entry, List, NoMemory, Record, Why};
 use std::alloc::Global;
 
@@ -73,7 +72,7 @@ fn risen(alloc: Global, was: Decided, kept: bool) -> Result<Decided, NoMemory>
 {
     let mut sure = was.sure;
     if kept {
-        add_copies(alloc, was.doubted.as_slice(), &mut sure)?;
+        sure.add_copies(alloc, was.doubted.as_slice())?;
     }
     Ok(Decided {
         sure,
@@ -88,8 +87,7 @@ fn decided_by(alloc: Global, was: Decided, act: &Act) -> Result<Decided, NoMemor
     match act {
         Act::Step { records, .. } => with_step(alloc, was, records.as_slice()),
         Act::Fall { records, why, .. } => with_fall(alloc, was, records.as_slice(), why),
-        Act::Rise { kept, .. } => risen(alloc, was, *kept),
-        Act::RiseFall { kept, .. } => risen(alloc, was, *kept),
+        Act::Rise { kept, .. } | Act::RiseFall { kept, .. } => risen(alloc, was, *kept),
         _ => Ok(was),
     }
 }
@@ -146,7 +144,7 @@ pub fn decisions(alloc: Global, history: &[Entry]) -> Result<List<Record>, NoMem
     let mut out = List::new(alloc);
     for s in sites.as_slice() {
         let log = decided_at(alloc, history, *s)?;
-        add_copies(alloc, log.as_slice(), &mut out)?;
+        out.add_copies(alloc, log.as_slice())?;
     }
     Ok(out)
 }

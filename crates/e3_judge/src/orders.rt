@@ -1,5 +1,5 @@
 // The committed transactions, each at its last vote.
-ghost use Rattle.std.specs.Prelude.{◌≡◌, ◌++◌, ◌<◌, drop, length, suc, slice_index_or, IfOk, OnOk};
+ghost use Rattle.std.specs.Prelude.{◌≡◌, ◌++◌, ◌<◌, drop, length, suc, slice_index_or, option_to_list, IfOk};
 ghost use Rattle.std.specs.List.{list_any};
 ghost use Rattle.e3_world.specs.Logs.{is_vote};
 ghost use Rattle.e3_world.specs.Moves.{all_records, trail_of};
@@ -39,20 +39,13 @@ fn votes_among(t: &Txn, records: &[SiteRecord]) -> bool
     records.iter().any(|p| is_vote(t, p.entered()))
 }
 
-// Adds the transaction of a vote, where some log commits it and it has no vote among the rest.
-fn add_vote(
-    out: &mut List<Txn>,
-    all: &[SiteRecord],
-    rest: &[SiteRecord],
-    r: &Record,
-) -> Result<(), NoMemory>
-    ensures { OnOk result (out.new ≡ out.old ++ last_vote all.now rest.now r.now) }
+// The transaction of a vote, where some log commits it and it has no vote among the rest.
+fn last_vote(all: &[SiteRecord], rest: &[SiteRecord], r: &Record) -> Option<Txn>
+    ensures { option_to_list result ≡ last_vote all.now rest.now r.now }
 {
     match r {
-        Record::Vote { txn, .. } if is_committed(txn, all) && !votes_among(txn, rest) => {
-            out.push(*txn)
-        }
-        _ => Ok(()),
+        Record::Vote { txn, .. } if is_committed(txn, all) && !votes_among(txn, rest) => Some(*txn),
+        _ => None,
     }
 }
 
@@ -62,7 +55,9 @@ fn order_of(alloc: Global, records: &[SiteRecord]) -> Result<List<Txn>, NoMemory
 {
     let mut out = List::new(alloc);
     for at in 0..records.len() {
-        add_vote(&mut out, records, &records[at + 1..], records[at].entered())?;
+        if let Some(txn) = last_vote(records, &records[at + 1..], records[at].entered()) {
+            out.push(txn)?;
+        }
     }
     Ok(out)
 }

@@ -53,20 +53,17 @@ pub fn sent_count(history: &[Entry]) -> Result<u64, NoMemory>
 }
 
 /// The items of the present step.
-pub fn present_items<'a>(sc: &'a Scenario, history: &[Entry]) -> &'a [Item]
-    ensures { result.now ≡ present_items sc.now history.now }
+pub fn present_items<'a>(scenario: &'a Scenario, history: &[Entry]) -> &'a [Item]
+    ensures { result.now ≡ present_items scenario.now history.now }
 {
-    step_items(sc, lines(history))
+    step_items(scenario, lines(history))
 }
 
 /// The network is calm in a recover step.
 pub fn is_calm(items: &[Item]) -> bool
     ensures { result ≡ is_calm items.now }
 {
-    match items {
-        [Item::Recover { .. }, ..] => true,
-        _ => false,
-    }
+    matches!(items, [Item::Recover { .. }, ..])
 }
 
 // Some part has both sites.
@@ -77,10 +74,10 @@ fn same_part(parts: &[SiteSet], s: u32, u: u32) -> bool
 }
 
 // Some part of the network has both sites. At first all sites are one part.
-fn is_joined(sc: &Scenario, before: &[Entry], s: u32, u: u32) -> bool
-    ensures { result ≡ same_part (parts_of sc.now before.now) s u }
+fn is_joined(scenario: &Scenario, before: &[Entry], s: u32, u: u32) -> bool
+    ensures { result ≡ same_part (parts_of scenario.now before.now) s u }
 {
-    let mut joined = is_site(sc, s) && is_site(sc, u);
+    let mut joined = is_site(scenario, s) && is_site(scenario, u);
     for e in before {
         if let Act::Parts { parts } = &e.act {
             joined = same_part(parts.as_slice(), s, u);
@@ -103,16 +100,20 @@ fn copies_by_luck(loss: u32, repeat: u32, x: u32) -> u64
 }
 
 // How many copies of a packet are to be delivered, by the parts, the calm and the luck where it is sent.
-fn copies(sc: &Scenario, before: &[Entry], packet: &Packet) -> u64
-    ensures { result ≡ copies_of (fate_of sc.now before.now packet.now) }
+fn copies(scenario: &Scenario, before: &[Entry], packet: &Packet) -> u64
+    ensures { result ≡ copies_of (fate_of scenario.now before.now packet.now) }
 {
-    if !is_joined(sc, before, packet.from, packet.to) {
+    if !is_joined(scenario, before, packet.from, packet.to) {
         return 0;
     }
-    if is_calm(present_items(sc, before)) {
+    if is_calm(present_items(scenario, before)) {
         return 1;
     }
-    copies_by_luck(sc.loss, sc.repeat, fate_word(sc.luck, packet.number) % 100)
+    copies_by_luck(
+        scenario.loss,
+        scenario.repeat,
+        fate_word(scenario.luck, packet.number) % 100,
+    )
 }
 
 // The input is the delivery of the packet with this number.
@@ -154,16 +155,16 @@ fn taken(number: u64, history: &[Entry]) -> Result<u64, NoMemory>
 // Adds the packets of one entry, behind those before it, that have a copy left.
 #[tactic(auto, unfolding(crate::specs::LeftOf::left_of))]
 fn add_left(
-    sc: &Scenario,
+    scenario: &Scenario,
     history: &[Entry],
     before: &[Entry],
     e: &Entry,
     left: &mut List<Packet>,
 ) -> Result<(), NoMemory>
-    ensures { IfOk result (λ u. left.new ≡ left.old ++ left_of sc.now history.now before.now e.now) }
+    ensures { IfOk result (λ u. left.new ≡ left.old ++ left_of scenario.now history.now before.now e.now) }
 {
     for p in outs_of(&e.act) {
-        if taken(p.number, history)? < copies(sc, before, p) {
+        if taken(p.number, history)? < copies(scenario, before, p) {
             left.push(p.copy())?;
         }
     }

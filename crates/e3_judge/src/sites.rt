@@ -6,7 +6,6 @@ ghost use Rattle.e3_world.specs.Legal.{entry_of, made_by, numbered};
 ghost use Rattle.e3_world.specs.Packets.{sent};
 ghost use Rattle.e3_judge.specs.Standing.{kept_in, nothing_yet, standing_by, stepped};
 
-use crate::copies::add_copies;
 use crate::counts::add;
 use crate::packets::sent_count;
 use crate::prefix::Prefix;
@@ -71,7 +70,7 @@ fn risen(alloc: Global, now: &Incarnation, records: &[Record]) -> Result<Incarna
     ensures { IfOk result (λ i. i ≡ record { rose = present_log now.now ++ records.now; since = [] }) }
 {
     let mut rose = log_now(alloc, now)?;
-    add_copies(alloc, records, &mut rose)?;
+    rose.add_copies(alloc, records)?;
     Ok(Incarnation {
         rose,
         since: List::new(alloc),
@@ -92,20 +91,20 @@ fn kept_in(alloc: Global, was: Standing, kept: bool) -> Result<Incarnation, NoMe
 // The records of a rise: its incarnation, with the birth before it where the log was empty.
 fn rise_records(
     alloc: Global,
-    sc: &Scenario,
+    scenario: &Scenario,
     site: u32,
     inc: u32,
     log: &[Record],
 ) -> Result<List<Record>, NoMemory>
-    ensures { IfOk result (λ records. records ≡ rise_records sc.now site inc log.now) }
+    ensures { IfOk result (λ records. records ≡ rise_records scenario.now site inc log.now) }
 {
     let mut records = List::new(alloc);
     if log.is_empty() {
         records.push(Record::Birth {
             format: 1,
             site,
-            weights: sc.weights.copied(alloc)?,
-            rows: rows_at(alloc, site, sc.rows.as_slice())?,
+            weights: scenario.weights.copied(alloc)?,
+            rows: rows_at(alloc, site, scenario.rows.as_slice())?,
         })?;
     }
     records.push(Record::Inc { inc })?;
@@ -171,30 +170,30 @@ fn with_fall(
 // The records of a rise behind the log at present.
 fn risen_with(
     alloc: Global,
-    sc: &Scenario,
+    scenario: &Scenario,
     site: u32,
     inc: u32,
     now: &Incarnation,
 ) -> Result<List<Record>, NoMemory>
-    ensures { IfOk result (λ records. records ≡ rise_records sc.now site inc (present_log now.now)) }
+    ensures { IfOk result (λ records. records ≡ rise_records scenario.now site inc (present_log now.now)) }
 {
     let log = log_now(alloc, now)?;
-    rise_records(alloc, sc, site, inc, log.as_slice())
+    rise_records(alloc, scenario, site, inc, log.as_slice())
 }
 
 fn standing_by(
     alloc: Global,
-    sc: &Scenario,
+    scenario: &Scenario,
     site: u32,
     was: Standing,
     act: &Act,
 ) -> Result<Standing, NoMemory>
-    ensures { IfOk result (λ s. s ≡ standing_by sc.now site was act.now) }
+    ensures { IfOk result (λ s. s ≡ standing_by scenario.now site was act.now) }
 {
     match act {
         Act::Rise { kept, inc } => {
             let now = kept_in(alloc, was, *kept)?;
-            let records = risen_with(alloc, sc, site, *inc, &now)?;
+            let records = risen_with(alloc, scenario, site, *inc, &now)?;
             Ok(Standing {
                 incarnation: risen(alloc, &now, records.as_slice())?,
                 tail: None,
@@ -202,7 +201,7 @@ fn standing_by(
         }
         Act::RiseFall { kept, inc, why } => {
             let now = kept_in(alloc, was, *kept)?;
-            let records = risen_with(alloc, sc, site, *inc, &now)?;
+            let records = risen_with(alloc, scenario, site, *inc, &now)?;
             Ok(Standing {
                 incarnation: now,
                 tail: left_by(*why, List::new(alloc), records),
@@ -328,8 +327,7 @@ impl Prefix<'_> {
 pub fn copied_with(alloc: Global, history: &[Entry], more: Entry) -> Result<List<Entry>, NoMemory>
     ensures { IfOk result (λ entries. entries ≡ history.now ++ more ∷ []) }
 {
-    let mut entries = List::new(alloc);
-    add_copies(alloc, history, &mut entries)?;
+    let mut entries = List::of_copies(alloc, history)?;
     entries.push(more)?;
     Ok(entries)
 }

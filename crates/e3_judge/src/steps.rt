@@ -14,26 +14,26 @@ use std::alloc::Global;
 
 /// The owner is a site of the scenario.
 #[tactic(auto, using(crate::proofs::AllSites::has_from_one))]
-pub fn is_site(sc: &Scenario, owner: u32) -> bool
-    ensures { result ≡ has_site (all_sites sc.now) owner }
+pub fn is_site(scenario: &Scenario, owner: u32) -> bool
+    ensures { result ≡ has_site (all_sites scenario.now) owner }
 {
-    1 <= owner && owner as u64 <= sc.weights.len()
+    1 <= owner && owner as u64 <= scenario.weights.len()
 }
 
 /// The parts that a split or a merge asks for. A merge of more than 64 sites, which no set of sites can name, is said to
 /// want memory.
 pub fn parts_due(
     alloc: Global,
-    sc: &Scenario,
+    scenario: &Scenario,
     items: &[Item],
 ) -> Result<Option<List<SiteSet>>, NoMemory>
-    ensures { IfOk result (λ due. due ≡ parts_due sc.now items.now) }
+    ensures { IfOk result (λ due. due ≡ parts_due scenario.now items.now) }
 {
     match items {
         [Item::Split { parts }, ..] => Ok(Some(parts.copied(alloc)?)),
         [Item::Merge, ..] => {
             let mut parts = List::new(alloc);
-            parts.push(all_sites(sc)?)?;
+            parts.push(all_sites(scenario)?)?;
             Ok(Some(parts))
         }
         _ => Ok(None),
@@ -44,10 +44,7 @@ pub fn parts_due(
 fn is_rising(e: &Entry) -> bool
     ensures { result ≡ is_rising e.now }
 {
-    match e.act {
-        Act::Rise { .. } | Act::RiseFall { .. } | Act::Miss => true,
-        _ => false,
-    }
+    matches!(e.act, Act::Rise { .. } | Act::RiseFall { .. } | Act::Miss)
 }
 
 // The site has such an entry among these.
@@ -65,11 +62,11 @@ fn has_rising(entries: &[Entry], site: u64) -> bool
 
 // All sites of a lower number have such an entry.
 #[tactic(auto, using(crate::proofs::AllSites::all_next))]
-fn lower_rose(sc: &Scenario, history: &[Entry], site: u64) -> bool
-    ensures { result ≡ list_all (λ s. not (nat_lt s site) || has_rising history.now s) (all_sites sc.now) }
+fn lower_rose(scenario: &Scenario, history: &[Entry], site: u64) -> bool
+    ensures { result ≡ list_all (λ s. not (nat_lt s site) || has_rising history.now s) (all_sites scenario.now) }
 {
     let mut all = true;
-    for s in 0..sc.weights.len() {
+    for s in 0..scenario.weights.len() {
         let rose = s + 1 >= site || has_rising(history, s + 1);
         all = all && rose;
     }
@@ -78,11 +75,11 @@ fn lower_rose(sc: &Scenario, history: &[Entry], site: u64) -> bool
 
 // All sites have such an entry.
 #[tactic(auto, using(crate::proofs::AllSites::all_next))]
-fn all_rose(sc: &Scenario, history: &[Entry]) -> bool
-    ensures { result ≡ list_all (has_rising history.now) (all_sites sc.now) }
+fn all_rose(scenario: &Scenario, history: &[Entry]) -> bool
+    ensures { result ≡ list_all (has_rising history.now) (all_sites scenario.now) }
 {
     let mut all = true;
-    for s in 0..sc.weights.len() {
+    for s in 0..scenario.weights.len() {
         let rose = has_rising(history, s + 1);
         all = all && rose;
     }
@@ -90,13 +87,13 @@ fn all_rose(sc: &Scenario, history: &[Entry]) -> bool
 }
 
 /// The site has its turn to rise: before the first line by ascending number, later in its restart step.
-pub fn may_rise(sc: &Scenario, history: &[Entry], site: u32) -> bool
-    ensures { result ≡ may_rise sc.now history.now site }
+pub fn may_rise(scenario: &Scenario, history: &[Entry], site: u32) -> bool
+    ensures { result ≡ may_rise scenario.now history.now site }
 {
     if lines(history) == 0 {
-        return !has_rising(history, site as u64) && lower_rose(sc, history, site as u64);
+        return !has_rising(history, site as u64) && lower_rose(scenario, history, site as u64);
     }
-    match present_items(sc, history) {
+    match present_items(scenario, history) {
         [Item::Restart { site: s }, ..] => {
             *s == site && !has_rising(since_line(history), site as u64)
         }
@@ -121,8 +118,9 @@ impl Prefix<'_> {
     {
         match present_items(self.scenario, self.entries) {
             [Item::Recover { .. }, ..] => Ok(self.due_round()?.is_none()),
-            [Item::Split { .. }, ..] => Ok(begins_with_parts(since_line(self.entries))),
-            [Item::Merge, ..] => Ok(begins_with_parts(since_line(self.entries))),
+            [Item::Split { .. } | Item::Merge, ..] => {
+                Ok(begins_with_parts(since_line(self.entries)))
+            }
             [Item::Crash { site }, ..] => Ok(!is_up_at(self.entries, *site)),
             [Item::Restart { site }, ..] => {
                 let rose = has_rising(since_line(self.entries), *site as u64);

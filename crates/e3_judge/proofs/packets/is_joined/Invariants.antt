@@ -4,4 +4,4 @@ use Rattle.e3_world.specs.Packets.{parts_of}
 use Rattle.e3_judge.proofs.packets.is_joined.Given as goal
 
 abbrev pub invariant-loop-e : goal.invariant-loop-e
-invariant-loop-e l = l.joined ≡ same_part (parts_of l.sc (take l.e-index l.before)) l.s l.u
+invariant-loop-e l = l.joined ≡ same_part (parts_of l.scenario (take l.e-index l.before)) l.s l.u
