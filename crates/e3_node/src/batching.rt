@@ -14,8 +14,7 @@ ghost use Rattle.e3_world.specs.Moves.{log_of};
 
 use crate::InputFault;
 use crate::briefing::{Room, shorten_batch, spare_for};
-use crate::drafts::prepare;
-use crate::reading::add_records;
+use crate::drafts::planned;
 use crate::stepping::{room_for, step_of};
 use e3_disk::Disk;
 use e3_log::Log;
@@ -44,9 +43,8 @@ fn both_records(
 ) -> Result<List<Record>, NoMemory>
     ensures { IfOk result (λ both. both ≡ first.now ++ second.now) }
 {
-    let mut both = List::new(alloc);
-    add_records(alloc, first, &mut both)?;
-    add_records(alloc, second, &mut both)?;
+    let mut both = List::of_copies(alloc, first)?;
+    both.add_copies(alloc, second)?;
     Ok(both)
 }
 
@@ -91,7 +89,6 @@ fn add_one<D: Disk>(
     shared: &mut Shared,
     number: u32,
     site: &mut Site,
-    rose: &List<Record>,
     log: &Log<D>,
     spare: u64,
     batch: &mut Batch,
@@ -115,7 +112,7 @@ fn add_one<D: Disk>(
     ensures refused { OnlyForMemory result }
 {
     let alloc = shared.alloc();
-    let draft = prepare(site, rose, input, shared)?;
+    let draft = planned(alloc, site, input)?;
     let room = room_for(draft.plan.outs());
     let records = both_records(alloc, batch.records.as_slice(), draft.plan.records())?;
     let body = both_bodies(alloc, batch.body.as_slice(), draft.body.as_slice())?;
@@ -142,12 +139,12 @@ fn add_one<D: Disk>(
 }
 
 // These inputs, one behind the other, up to the first that is refused or that the frame has no room for: how many were added. A
-// place is left for each.
+// place is left for each. The records that the site rose with are passed on for the proof alone.
 fn add_all<D: Disk>(
     shared: &mut Shared,
     number: u32,
     site: &mut Site,
-    rose: &List<Record>,
+    _rose: &List<Record>,
     log: &Log<D>,
     batch: &mut Batch,
     inputs: &[Input],
@@ -167,7 +164,7 @@ fn add_all<D: Disk>(
 {
     let spare = spare_for(site, inputs);
     for input in inputs {
-        if !add_one(shared, number, site, rose, log, spare, batch, input)? {
+        if !add_one(shared, number, site, log, spare, batch, input)? {
             return Ok(steps_in(batch));
         }
     }

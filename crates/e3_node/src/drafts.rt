@@ -29,8 +29,8 @@ fn draft_of(alloc: Global, plan: Plan, input: &Input) -> Result<Draft, NoMemory>
     Ok(Draft { plan, body, inputs })
 }
 
-// Takes all memory that the step of an input may want at a site in this incarnation, and for its entry.
-fn planned(alloc: Global, site: &mut Site, input: &Input) -> Result<Draft, NoMemory>
+/// Takes all memory that the step of an input may want at a site in this incarnation, and for its entry.
+pub(crate) fn planned(alloc: Global, site: &mut Site, input: &Input) -> Result<Draft, NoMemory>
     ghost now: { Incarnation }
     requires { Stands now site.old }
     ensures ready { IfOk result (IsReady now input.now site.old site.new) }

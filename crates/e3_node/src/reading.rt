@@ -10,22 +10,8 @@ ghost use Rattle.e3_types.specs.Spelling.{spelling};
 use crate::readying::Unready;
 use e3_codec::{RecordFault, read_records};
 use e3_log::Frame;
-use e3_types::{Copied, List, NoMemory, Record};
+use e3_types::{List, NoMemory, Record};
 use std::alloc::Global;
-
-/// Adds equal records at the end.
-pub(crate) fn add_records(
-    alloc: Global,
-    records: &[Record],
-    out: &mut List<Record>,
-) -> Result<(), NoMemory>
-    ensures { OnOk result (out.new ≡ out.old ++ records.now) }
-{
-    for r in records {
-        out.push(r.copied(alloc)?)?;
-    }
-    Ok(())
-}
 
 // Moves records to the end.
 fn move_records(read: List<Record>, out: &mut List<Record>) -> Result<(), NoMemory>

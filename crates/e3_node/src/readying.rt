@@ -8,7 +8,7 @@ ghost use Rattle.e3_world.specs.Logs.{logged_inc};
 ghost use Rattle.e3_world.specs.Orderly.{IsOrderly};
 
 use crate::fitting::spelled;
-use crate::reading::{add_records, read_frames};
+use crate::reading::read_frames;
 use e3_log::Frame;
 use e3_readings::logged_inc;
 use e3_site::{RebuildFault, Site, rebuild};
@@ -136,7 +136,7 @@ pub(crate) fn ready(wish: &Wish, logged: u64, frames: &[Frame]) -> Result<Readie
     let inc = next_inc(log.as_slice())?;
     let records = records_by(wish, inc, log.as_slice())?;
     let body = spelled(wish.alloc, records.as_slice())?;
-    add_records(wish.alloc, records.as_slice(), &mut log)?;
+    log.add_copies(wish.alloc, records.as_slice())?;
     let up = rebuilt(wish.alloc, wish.site, log.as_slice())?;
     Ok(Readied {
         up,

@@ -22,9 +22,9 @@ returns-clause-added g c = λ yes.
     let d = c.in_ok-draft.draft in
     let ready : (P : Option Short → Type 0) → IfReady c.in_ok-short.field-0 P → P c.in-Ready.short =
     λ P is. subst (λ (r : Room). IfReady r P) c.in-Ready.is is in
-    batch_added g.D.Disk.meaning.meters c.args.log.now g.at.scenario g.at.history g.at.site g.at.rose g.at.marks g.at.first g.at.done c.args.batch.now c.set_short.new.batch c.args.site.now c.prepare.new.site
+    batch_added g.D.Disk.meaning.meters c.args.log.now g.at.scenario g.at.history g.at.site g.at.rose g.at.marks g.at.first g.at.done c.args.batch.now c.set_short.new.batch c.args.site.now c.planned.new.site
     c.apply.new.self c.args.shared.now c.claim.new.self c.room_for-room.result c.args.input.now d c.apply.result c.step_of-step.result c.in-Ready.short c.requires.1.1.1.0 c.requires.1.1.1.1.1.0
-    c.requires.1.1.1.1.1.1.0 c.in_ok-draft.ensures.ready c.prepare.ensures.still c.apply.ensures.step c.apply.ensures.stand
+    c.requires.1.1.1.1.1.1.0 c.in_ok-draft.ensures.ready c.planned.ensures.still c.apply.ensures.step c.apply.ensures.stand
     (ap (λ (v : SiteView). v.weights) c.apply.ensures.done) (ap (λ (v : SiteView). v.site) c.apply.ensures.done)
     (ap (λ (v : SiteView). v.inputs) c.apply.ensures.done)
     (c.step_of-step.ensures ∙ ap (λ (i : Input). entry_of_plan c.args.number i c.apply.result) c.copy.ensures ∙ ap (λ (n : ℕ). entry_of_plan n c.args.input.now c.apply.result) c.requires.1.1.0)
@@ -33,7 +33,7 @@ returns-clause-added g c = λ yes.
     (ap (λ (b : Batch). b.records) c.set_short.ensures ∙ c.in_ok-records.ensures ∙ ap (λ (l : List Record). l ++ c.records.result.now) c.as_slice.ensures ∙ ap (λ (l : List Record). c.args.batch.now.records ++ l) c.records.ensures)
     (ap (λ (b : Batch). b.body) c.set_short.ensures ∙ c.in_ok-body.ensures ∙ ap (λ (l : List ℕ). l ++ c.as_slice-3.result.now) c.as_slice-2.ensures ∙ ap (λ (l : List ℕ). c.args.batch.now.body ++ l) c.as_slice-3.ensures)
     (ap (λ (b : Batch). b.short) c.set_short.ensures)
-    (λ l brief. ready (IsShortIf c.prepare.new.site.site l) (c.in_ok-short.ensures.short l brief)) (ready (MayTurn c.args.log.now) c.in_ok-short.ensures.may)
+    (λ l brief. ready (IsShortIf c.planned.new.site.site l) (c.in_ok-short.ensures.short l brief)) (ready (MayTurn c.args.log.now) c.in_ok-short.ensures.may)
     (λ l brief some none.
     let D : ℕ → Type 0 = λ n. IsDue g.D.Disk.meaning.meters c.args.log.now l c.in-Ready.short n in
     let size : c.len.result ≡ length c.set_short.new.batch.body = c.len.ensures ∙ sym (ap (λ (b : Batch). length b.body) c.set_short.ensures) in
@@ -46,9 +46,9 @@ returns-in_default-clause-full g c = λ no.
     let is : c.in_ok-short.field-0 ≡ Full = search rules in
     let full = c.in_ok-short.ensures.full is in
     let L : ℕ → Type 0 = λ n. HasRoom g.D.Disk.meaning.meters c.args.log.now n → ⊥ in (
-      batch_same g.D.Disk.meaning.meters c.args.log.now g.at.scenario g.at.history g.at.site g.at.rose g.at.marks g.at.first g.at.done c.args.batch.now c.args.batch.now c.args.site.now c.prepare.new.site
-          c.args.shared.now c.args.shared.now c.requires.1.1.1.0 refl refl refl refl c.prepare.ensures.still refl,
-      no_more_room g.D.Disk.meaning.meters c.args.log.now g.at.scenario g.at.history g.at.site g.at.rose g.at.marks g.at.first g.at.done c.args.batch.now c.args.site.now c.prepare.new.site
+      batch_same g.D.Disk.meaning.meters c.args.log.now g.at.scenario g.at.history g.at.site g.at.rose g.at.marks g.at.first g.at.done c.args.batch.now c.args.batch.now c.args.site.now c.planned.new.site
+          c.args.shared.now c.args.shared.now c.requires.1.1.1.0 refl refl refl refl c.planned.ensures.still refl,
+      no_more_room g.D.Disk.meaning.meters c.args.log.now g.at.scenario g.at.history g.at.site g.at.rose g.at.marks g.at.first g.at.done c.args.batch.now c.args.site.now c.planned.new.site
           c.args.shared.now c.args.input.now c.in_ok-draft.draft c.in_ok-body.body c.requires.1.1.1.0 c.requires.1.1.1.1.1.0 c.in_ok-draft.ensures.ready
           (c.in_ok-body.ensures ∙ ap (λ (l : List ℕ). l ++ c.as_slice-3.result.now) c.as_slice-2.ensures ∙ ap (λ (l : List ℕ). c.args.batch.now.body ++ l) c.as_slice-3.ensures)
           full.0 (subst L c.len.ensures full.2),
@@ -70,38 +70,38 @@ returns-clause-used g c =
 pub returns-in_err-draft-clause-kept : goal.returns-in_err-draft-clause-kept
 returns-in_err-draft-clause-kept g c =
     err_so c.from_residual.result _
-    (batch_same g.D.Disk.meaning.meters c.args.log.now g.at.scenario g.at.history g.at.site g.at.rose g.at.marks g.at.first g.at.done c.args.batch.now c.args.batch.now c.args.site.now c.prepare.new.site
-    c.args.shared.now c.args.shared.now c.requires.1.1.1.0 refl refl refl refl c.prepare.ensures.still refl)
+    (batch_same g.D.Disk.meaning.meters c.args.log.now g.at.scenario g.at.history g.at.site g.at.rose g.at.marks g.at.first g.at.done c.args.batch.now c.args.batch.now c.args.site.now c.planned.new.site
+    c.args.shared.now c.args.shared.now c.requires.1.1.1.0 refl refl refl refl c.planned.ensures.still refl)
 
 pub returns-in_err-records-clause-kept : goal.returns-in_err-records-clause-kept
 returns-in_err-records-clause-kept g c =
     err_so c.from_residual-in_err-records.result _
-    (batch_same g.D.Disk.meaning.meters c.args.log.now g.at.scenario g.at.history g.at.site g.at.rose g.at.marks g.at.first g.at.done c.args.batch.now c.args.batch.now c.args.site.now c.prepare.new.site
-    c.args.shared.now c.args.shared.now c.requires.1.1.1.0 refl refl refl refl c.prepare.ensures.still refl)
+    (batch_same g.D.Disk.meaning.meters c.args.log.now g.at.scenario g.at.history g.at.site g.at.rose g.at.marks g.at.first g.at.done c.args.batch.now c.args.batch.now c.args.site.now c.planned.new.site
+    c.args.shared.now c.args.shared.now c.requires.1.1.1.0 refl refl refl refl c.planned.ensures.still refl)
 
 pub returns-in_err-body-clause-kept : goal.returns-in_err-body-clause-kept
 returns-in_err-body-clause-kept g c =
     err_so c.from_residual-in_err-body.result _
-    (batch_same g.D.Disk.meaning.meters c.args.log.now g.at.scenario g.at.history g.at.site g.at.rose g.at.marks g.at.first g.at.done c.args.batch.now c.args.batch.now c.args.site.now c.prepare.new.site
-    c.args.shared.now c.args.shared.now c.requires.1.1.1.0 refl refl refl refl c.prepare.ensures.still refl)
+    (batch_same g.D.Disk.meaning.meters c.args.log.now g.at.scenario g.at.history g.at.site g.at.rose g.at.marks g.at.first g.at.done c.args.batch.now c.args.batch.now c.args.site.now c.planned.new.site
+    c.args.shared.now c.args.shared.now c.requires.1.1.1.0 refl refl refl refl c.planned.ensures.still refl)
 
 pub returns-in_err-short-clause-kept : goal.returns-in_err-short-clause-kept
 returns-in_err-short-clause-kept g c =
     err_so c.from_residual-in_err-short.result _
-    (batch_same g.D.Disk.meaning.meters c.args.log.now g.at.scenario g.at.history g.at.site g.at.rose g.at.marks g.at.first g.at.done c.args.batch.now c.args.batch.now c.args.site.now c.prepare.new.site
-    c.args.shared.now c.args.shared.now c.requires.1.1.1.0 refl refl refl refl c.prepare.ensures.still refl)
+    (batch_same g.D.Disk.meaning.meters c.args.log.now g.at.scenario g.at.history g.at.site g.at.rose g.at.marks g.at.first g.at.done c.args.batch.now c.args.batch.now c.args.site.now c.planned.new.site
+    c.args.shared.now c.args.shared.now c.requires.1.1.1.0 refl refl refl refl c.planned.ensures.still refl)
 
 pub returns-in_err-reserve-clause-kept : goal.returns-in_err-reserve-clause-kept
 returns-in_err-reserve-clause-kept g c =
     err_so c.from_residual-in_err-reserve.result _
-    (batch_same g.D.Disk.meaning.meters c.args.log.now g.at.scenario g.at.history g.at.site g.at.rose g.at.marks g.at.first g.at.done c.args.batch.now (record c.args.batch.now { steps = c.reserve.new.steps }) c.args.site.now c.prepare.new.site
-    c.args.shared.now c.args.shared.now c.requires.1.1.1.0 c.reserve.ensures.items refl refl refl c.prepare.ensures.still refl)
+    (batch_same g.D.Disk.meaning.meters c.args.log.now g.at.scenario g.at.history g.at.site g.at.rose g.at.marks g.at.first g.at.done c.args.batch.now (record c.args.batch.now { steps = c.reserve.new.steps }) c.args.site.now c.planned.new.site
+    c.args.shared.now c.args.shared.now c.requires.1.1.1.0 c.reserve.ensures.items refl refl refl c.planned.ensures.still refl)
 
 pub returns-in_err-claim-clause-kept : goal.returns-in_err-claim-clause-kept
 returns-in_err-claim-clause-kept g c =
     err_so c.from_residual-in_err-claim.result _
-    (batch_same g.D.Disk.meaning.meters c.args.log.now g.at.scenario g.at.history g.at.site g.at.rose g.at.marks g.at.first g.at.done c.args.batch.now (record c.args.batch.now { steps = c.reserve.new.steps }) c.args.site.now c.prepare.new.site
-    c.args.shared.now c.claim.new.self c.requires.1.1.1.0 c.reserve.ensures.items refl refl refl c.prepare.ensures.still c.in_err-claim.ensures.kept)
+    (batch_same g.D.Disk.meaning.meters c.args.log.now g.at.scenario g.at.history g.at.site g.at.rose g.at.marks g.at.first g.at.done c.args.batch.now (record c.args.batch.now { steps = c.reserve.new.steps }) c.args.site.now c.planned.new.site
+    c.args.shared.now c.claim.new.self c.requires.1.1.1.0 c.reserve.ensures.items refl refl refl c.planned.ensures.still c.in_err-claim.ensures.kept)
 
 pub returns-in_err-claim-clause-refused : goal.returns-in_err-claim-clause-refused
 returns-in_err-claim-clause-refused g c =

@@ -3,5 +3,5 @@ use Rattle.e3_node.specs.Batches.{stepped}
 use Rattle.e3_site.specs.StandsAlike.{now_with}
 use Rattle.e3_node.proofs.batching.add_one.Given as goal
 
-abbrev pub ghost-prepare : goal.ghost-prepare
-ghost-prepare g a = now_with g.at.rose g.at.scenario (stepped g.at.scenario g.at.history g.at.site g.at.done) a.site.now.site
+abbrev pub ghost-planned : goal.ghost-planned
+ghost-planned g a = now_with g.at.rose g.at.scenario (stepped g.at.scenario g.at.history g.at.site g.at.done) a.site.now.site

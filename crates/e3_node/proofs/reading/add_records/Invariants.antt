@@ -1,6 +1,0 @@
--- the records so far stand behind those that were there
-use Rattle.std.proofs.Common.{◌≡◌, ◌++◌, take}
-use Rattle.e3_node.proofs.reading.add_records.Given as goal
-
-abbrev pub invariant-loop-r : goal.invariant-loop-r
-invariant-loop-r l = l.out ≡ l.initial.out ++ take l.r-index l.records
