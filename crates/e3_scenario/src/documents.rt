@@ -14,6 +14,8 @@ use e3_types::{KeyRow, List, NoMemory, SiteSet};
 use std::alloc::Global;
 use toml::{Table, Value};
 
+const MOST_WEIGHTS: usize = 16;
+
 /// The kind of the value at a key.
 #[derive(Clone, Copy)]
 pub enum Kind {
@@ -192,7 +194,7 @@ pub fn weights(alloc: Global, values: &[Value]) -> Result<Option<List<u32>>, NoM
     ensures value { IfOk result (λ weights. weights ≡ weights_of (map view values.now)) }
     ensures few { IfOk result (λ weights. IfSome weights (λ ws. length ws ≤ 16)) }
 {
-    if 1 <= values.len() && values.len() <= 16 {
+    if 1 <= values.len() && values.len() <= MOST_WEIGHTS {
         more_weights(alloc, values)
     } else {
         Ok(None)
@@ -287,6 +289,11 @@ pub fn values_at<'a>(table: &'a Table, key: &str) -> &'a [Value]
     }
 }
 
+// The most steps, and the most items of all of them.
+const MOST_STEPS: usize = 10_000;
+
+const MOST_GROUPED: usize = 16;
+
 #[tactic(auto, using(crate::proofs::Values::length_view))]
 fn step_size(value: &Value) -> usize
     ensures { result ≡ step_size (view value.now) }
@@ -301,10 +308,10 @@ fn step_size(value: &Value) -> usize
 fn sizes_fit(values: &[Value]) -> bool
     ensures { result ≡ sizes_fit 10000 (map view values.now) }
 {
-    let mut room = 10000;
+    let mut room = MOST_STEPS;
     for value in values {
         let size = step_size(value);
-        if size < 1 || 16 < size || room < size {
+        if size < 1 || MOST_GROUPED < size || room < size {
             return false;
         }
         room -= size;
@@ -318,5 +325,5 @@ pub fn steps_fit(values: &[Value]) -> bool
     ensures value { result ≡ steps_fit (map view values.now) }
     ensures few { IsTrue result → length values.now ≤ 10000 }
 {
-    values.len() <= 10000 && sizes_fit(values)
+    values.len() <= MOST_STEPS && sizes_fit(values)
 }

@@ -8,6 +8,9 @@ use crate::faults::ScenarioFault;
 use crate::sayings::Said;
 use e3_types::{Item, List, Name, SiteSet};
 
+/// The most operations of a transaction.
+const MOST_OPERATIONS: u64 = 64;
+
 fn named_fault(step: u32, said: &Said, name: &Name) -> Option<ScenarioFault>
     ensures { result ≡ named_fault step said.now name.now [] }
 {
@@ -75,7 +78,7 @@ fn operation_fault(
 ) -> Option<ScenarioFault>
     ensures { result ≡ operation_fault all step said.now name.now site }
 {
-    if 64 <= said.operations(name) {
+    if MOST_OPERATIONS <= said.operations(name) {
         return Some(ScenarioFault::BadLine { step });
     }
     fault_at(all, step, said, name, site)

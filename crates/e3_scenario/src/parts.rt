@@ -4,7 +4,7 @@ ghost use Rattle.e3_scenario.specs.Parts.{has_leading_zero, number_of, site_of, 
 ghost use Rattle.e3_scenario.specs.Words.{comma, pieces};
 
 use crate::words::{BAR, COMMA, POINT, SPACE, after, before, rest};
-use e3_lines::{is_text, name_of, number_of_digits};
+use e3_lines::{is_text, name_of, number_of_digits, one_of};
 use e3_types::{Key, Leave, List, NoMemory, SiteSet};
 use std::alloc::Global;
 
@@ -98,13 +98,15 @@ fn junk(text: &[u8]) -> Option<Leave>
 pub fn leave(text: &[u8]) -> Option<Leave>
     ensures { result ≡ leave_of text.now }
 {
-    if is_text(text, "none") {
-        Some(Leave::None)
-    } else if is_text(text, "half") {
-        Some(Leave::Half)
-    } else if is_text(text, "all") {
-        Some(Leave::All)
-    } else if is_text(before(text, SPACE), "junk") {
+    let plain = [
+        ("none", Leave::None),
+        ("half", Leave::Half),
+        ("all", Leave::All),
+    ];
+    if let Some(leave) = one_of(text, &plain) {
+        return Some(leave);
+    }
+    if is_text(before(text, SPACE), "junk") {
         junk(text)
     } else {
         None

@@ -16,6 +16,9 @@ use e3_world::sites_to;
 use std::alloc::Global;
 use toml::{Table, Value};
 
+/// The most bytes that are read as a scenario.
+const MOST_BYTES: usize = 4_194_304;
+
 fn or_range<T: Drop>(field: Field, value: Option<T>) -> Read<T>
     ensures { result ≡ or_range field value }
 {
@@ -127,7 +130,7 @@ pub fn read_scenario(alloc: Global, bytes: &[u8]) -> Result<Scenario, ScenarioFa
     ensures given { IfOk result IsGiven }
     ensures fault { IfErr result (λ fault. (fault ≡ ScenarioFault.NoMemory) ⊎ (scenario_of bytes.now ≡ Err fault)) }
 {
-    if bytes.len() > 4194304 {
+    if bytes.len() > MOST_BYTES {
         return Err(ScenarioFault::TooLong);
     }
     match toml::table_from_slice(alloc, bytes) {

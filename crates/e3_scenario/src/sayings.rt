@@ -12,6 +12,8 @@ use std::alloc::Global;
 use std::marker::Model;
 use std::mem;
 
+const MOST_BEGINS: u64 = 4_000;
+
 /// What the items so far say: the begins of earlier steps and of this one, a name for each operation, and the present
 /// parts of the network.
 #[derive(Drop)]
@@ -51,12 +53,12 @@ impl Said {
         })
     }
 
-    /// There are 4,000 begins or more.
+    /// No more begins may come.
     pub fn is_full(&self) -> bool
         ensures { result ≡ nat_le 4000 (length self.now.earlier + length self.now.fresh) }
     {
         let earlier = self.earlier.len();
-        4000 <= earlier || 4000 - earlier <= self.fresh.len()
+        MOST_BEGINS <= earlier || MOST_BEGINS - earlier <= self.fresh.len()
     }
 
     /// The name was begun, in an earlier step or in this one.
