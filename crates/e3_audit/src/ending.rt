@@ -40,8 +40,7 @@ fn is_alone_made(prefix: &Prefix<'_>, item: &Item) -> Result<bool, NoMemory>
 {
     match item {
         Item::Recover { .. } => Ok(prefix.due_round()?.is_none()),
-        Item::Split { .. } => Ok(begins_with_parts(since_line(prefix.entries))),
-        Item::Merge => Ok(begins_with_parts(since_line(prefix.entries))),
+        Item::Split { .. } | Item::Merge => Ok(begins_with_parts(since_line(prefix.entries))),
         Item::Crash { site } => Ok(!is_up_at(prefix.entries, *site)),
         Item::Restart { site } => {
             let rose = !may_rise(prefix.scenario, prefix.entries, *site);

@@ -5,7 +5,7 @@ ghost use Rattle.e3_judge.specs.Claims.{IsJudged};
 ghost use Rattle.e3_world.specs.Legal.{IsWhole, is_through};
 
 use crate::walking::{Walked, walk};
-use e3_judge::{Breach, Prefix, judge_behind, lines};
+use e3_judge::{Breach, Judged, Prefix, judge_behind, lines};
 use e3_types::{Entry, NoMemory, Scenario};
 use e3_world::History;
 use std::alloc::Global;
@@ -21,11 +21,7 @@ pub struct Audited {
 /// legal. A walk with a value for each site and the network passes over entries that it sees to be legal, in about the time
 /// of the run that made them. From the first on that it does not so see, e3_judge's plain readings go on. Want of memory is
 /// the only error.
-pub fn judge(
-    alloc: Global,
-    scenario: &Scenario,
-    history: &History,
-) -> Result<Option<Breach>, NoMemory>
+pub fn judge(alloc: Global, scenario: &Scenario, history: &History) -> Judged
     ensures { IfOk result (IsJudged scenario.now history.now.entries) }
 {
     let walked = walk(alloc, scenario, history.as_slice())?;

@@ -64,11 +64,7 @@ fn turn(
             }
             None => Ok(false),
         },
-        Act::RiseFall { .. } => {
-            seat.stay_down();
-            Ok(true)
-        }
-        Act::Miss => {
+        Act::RiseFall { .. } | Act::Miss => {
             seat.stay_down();
             Ok(true)
         }

@@ -94,16 +94,6 @@ fn step_at(seat: &mut Seat, prefix: &Prefix<'_>, step: &SeenStep<'_>) -> Result<
     Ok(true)
 }
 
-fn copies_of(alloc: Global, packets: &[Packet]) -> Result<List<Packet>, NoMemory>
-    ensures { IfOk result (λ copies. copies ≡ packets.now) }
-{
-    let mut copies = List::new(alloc);
-    for packet in packets {
-        copies.push(packet.copy())?;
-    }
-    Ok(copies)
-}
-
 // The packets are sent, one after the other.
 fn send_all(alloc: Global, net: &mut Net, outs: &[Packet]) -> Result<(), NoMemory>
     ensures { IfOk result (λ u. net.new.traffic ≡ sends_all net.old.traffic outs.now) }
@@ -115,7 +105,7 @@ fn send_all(alloc: Global, net: &mut Net, outs: &[Packet]) -> Result<(), NoMemor
         return Err(NoMemory);
     }
     net.reserve(count)?;
-    let _sent = net.send_all(copies_of(alloc, outs)?);
+    let _sent = net.send_all(List::of_copies(alloc, outs)?);
     Ok(())
 }
 
