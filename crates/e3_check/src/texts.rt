@@ -4,47 +4,37 @@ ghost use Rattle.e3_check.specs.Findings.{finding_text, illegal_text, legal_text
 
 use crate::checking::Finding;
 use e3_judge::Breach;
-use e3_lines::{push_labelled, push_text};
+use e3_lines::{push_labelled, push_line, push_text};
 use e3_scenario::fault_line;
 use e3_trace::TraceFault;
 use e3_types::{List, NoMemory};
 use std::alloc::Global;
 
-fn push_whole(out: &mut List<u8>, whole: bool) -> Result<(), NoMemory>
-    ensures { OnOk result (out.new ≡ out.old ++ whole_text whole) }
+fn whole_text(whole: bool) -> &'static str
+    ensures { result.now ≡ whole_text whole }
 {
-    if whole {
-        push_text(out, " whole")
-    } else {
-        Ok(())
-    }
+    if whole { " whole" } else { "" }
 }
 
-#[tactic(auto, unfolding(crate::specs::Findings::legal_text))]
-fn legal_text(alloc: Global, count: u64, whole: bool) -> Result<List<u8>, NoMemory>
-    ensures { IfOk result (λ text. text ≡ legal_text count whole) }
+#[tactic(auto, unfolding(crate::specs::Findings::legal_text, e3_lines::specs::Texts::line_end))]
+fn push_legal(out: &mut List<u8>, count: u64, whole: bool) -> Result<(), NoMemory>
+    ensures { OnOk result (out.new ≡ out.old ++ legal_text count whole) }
 {
-    let mut text = List::new(alloc);
-    push_labelled(&mut text, "legal ", count)?;
-    push_whole(&mut text, whole)?;
-    push_text(&mut text, "\n")?;
-    Ok(text)
+    push_labelled(out, "legal ", count)?;
+    push_line(out, whole_text(whole))
 }
 
-#[tactic(auto, unfolding(crate::specs::Findings::illegal_text))]
-fn illegal_text(alloc: Global, breach: Breach) -> Result<List<u8>, NoMemory>
-    ensures { IfOk result (λ text. text ≡ illegal_text breach) }
+#[tactic(auto, unfolding(crate::specs::Findings::illegal_text, e3_lines::specs::Texts::line_end))]
+fn push_illegal(out: &mut List<u8>, breach: Breach) -> Result<(), NoMemory>
+    ensures { OnOk result (out.new ≡ out.old ++ illegal_text breach) }
 {
-    let mut text = List::new(alloc);
-    push_labelled(&mut text, "illegal ", breach.at)?;
-    push_text(&mut text, " ")?;
-    push_text(&mut text, breach.guard.word())?;
-    push_text(&mut text, "\n")?;
-    Ok(text)
+    push_labelled(out, "illegal ", breach.at)?;
+    push_text(out, " ")?;
+    push_line(out, breach.guard.word())
 }
 
 #[tactic(auto, unfolding(crate::specs::Findings::trace_text))]
-fn trace_text(alloc: Global, fault: TraceFault) -> Result<List<u8>, NoMemory>
+fn trace_line(alloc: Global, fault: TraceFault) -> Result<List<u8>, NoMemory>
     ensures { IfOk result (λ text. text ≡ trace_text fault) }
 {
     let mut text = List::new(alloc);
@@ -59,14 +49,22 @@ fn trace_text(alloc: Global, fault: TraceFault) -> Result<List<u8>, NoMemory>
     Ok(text)
 }
 
+fn push_finding(alloc: Global, out: &mut List<u8>, finding: Finding) -> Result<(), NoMemory>
+    ensures { OnOk result (out.new ≡ out.old ++ finding_text finding) }
+{
+    match finding {
+        Finding::Legal { count, whole } => push_legal(out, count, whole),
+        Finding::Illegal { breach } => push_illegal(out, breach),
+        Finding::NoScenario { fault } => out.extend(fault_line(alloc, &fault)?.as_slice()),
+        Finding::NoTrace { fault } => out.extend(trace_line(alloc, fault)?.as_slice()),
+    }
+}
+
 /// The line that is written for a finding.
 pub(crate) fn finding_text(alloc: Global, finding: Finding) -> Result<List<u8>, NoMemory>
     ensures { IfOk result (λ text. text ≡ finding_text finding) }
 {
-    match finding {
-        Finding::Legal { count, whole } => legal_text(alloc, count, whole),
-        Finding::Illegal { breach } => illegal_text(alloc, breach),
-        Finding::NoScenario { fault } => fault_line(alloc, &fault),
-        Finding::NoTrace { fault } => trace_text(alloc, fault),
-    }
+    let mut text = List::new(alloc);
+    push_finding(alloc, &mut text, finding)?;
+    Ok(text)
 }
