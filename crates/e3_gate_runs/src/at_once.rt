@@ -8,12 +8,10 @@ mod batches;
 mod meeting;
 mod nodes;
 
-use crate::playing::CAPACITY;
+use crate::playing::{Ran, run_behind};
 use batches::push_batches;
-use e3_fleet::memory_disks;
 use e3_lines::Page;
-use e3_outside::{MemSink, MemSource};
-use e3_top::run;
+use e3_outside::MemSink;
 use e3_types::List;
 use meeting::Meeting;
 use nodes::push_nodes;
@@ -35,60 +33,12 @@ struct Tally {
     same: u64,
 }
 
-// The word that asks for a run.
-fn words(alloc: Global) -> Option<Vec<String>> {
-    let mut words = Vec::new(alloc);
-    words.push(String::from_str(alloc, "run").ok()?).ok()?;
-    Some(words)
-}
-
-// What is read: the scenario.
-fn source(alloc: Global) -> Option<MemSource> {
-    let mut text = List::new(alloc);
-    text.extend(SCENARIO.as_bytes()).ok()?;
-    Some(MemSource::new(text, 4096, List::new(alloc)))
-}
-
-// Runs what is asked for over disks in memory, and answers whether memory was there for them.
-fn is_run<R: Wait + Threads + Sync>(
-    rt: &R,
-    alloc: Global,
-    source: &mut MemSource,
-    sink: &mut MemSink,
-    gate: &Meeting,
-    words: &[String],
-) -> bool {
-    let Ok(disks) = memory_disks(alloc, CAPACITY, 0, List::new(alloc)) else {
-        return false;
-    };
-    let _ended = run(rt, alloc, words, source, sink, disks, gate);
-    true
-}
-
-// Writes the report of a run behind this gate, and answers whether memory was there for it.
-fn is_reported<R: Wait + Threads + Sync>(
-    rt: &R,
-    alloc: Global,
-    sink: &mut MemSink,
-    gate: &Meeting,
-) -> bool {
-    let Some(mut source) = source(alloc) else {
-        return false;
-    };
-    match words(alloc) {
-        Some(words) => is_run(rt, alloc, &mut source, sink, gate, &words),
-        None => false,
-    }
-}
-
 // The report of a run behind this gate; none without memory.
 fn reported<R: Wait + Threads + Sync>(rt: &R, alloc: Global, gate: &Meeting) -> Option<MemSink> {
-    let mut sink = MemSink::new(alloc, 65536, 65536, List::new(alloc)).ok()?;
-    if is_reported(rt, alloc, &mut sink, gate) {
-        Some(sink)
-    } else {
-        None
-    }
+    let mut text = List::new(alloc);
+    text.extend(SCENARIO.as_bytes()).ok()?;
+    let Ran { sink, .. } = run_behind(rt, alloc, text, gate)?;
+    Some(sink)
 }
 
 impl Tally {

@@ -1,8 +1,10 @@
-// A run of a scenario over disks in memory.
+// Runs of scenarios over disks in memory.
 ghost use Rattle.e3_world.specs.Given.{IsGiven};
 
+use e3_disk::MemDisk;
 use e3_fleet::{memory_disks, play_over};
-use e3_outside::OpenGate;
+use e3_outside::{Gate, MemSink, MemSource, OpenGate};
+use e3_top::{Ended, run};
 use e3_types::{List, Scenario};
 use e3_world::History;
 use std::alloc::Global;
@@ -36,4 +38,35 @@ pub fn history_of<R: Wait + Threads + Sync>(
         rt, alloc, scenario, disks, &OpenGate, THREADS, PACKETS, MOST,
     );
     Some(played.history)
+}
+
+/// What a run leaves.
+#[derive(Drop)]
+pub struct Ran {
+    pub ended: Ended<MemDisk>,
+    pub sink: MemSink,
+}
+
+// The word that asks for a run.
+fn words(alloc: Global) -> Option<Vec<String>> {
+    let mut words = Vec::new(alloc);
+    words.push(String::from_str(alloc, "run").ok()?).ok()?;
+    Some(words)
+}
+
+/// A run of what is read, as the program does it, behind a gate; none without memory.
+pub fn run_behind<G: Gate + Sync, R: Wait + Threads + Sync>(
+    rt: &R,
+    alloc: Global,
+    text: List<u8>,
+    gate: &G,
+) -> Option<Ran> {
+    let words = words(alloc)?;
+    let mut source = MemSource::new(text, 4096, List::new(alloc));
+    let mut sink = MemSink::new(alloc, 65536, 65536, List::new(alloc)).ok()?;
+    let Ok(disks) = memory_disks(alloc, CAPACITY, 0, List::new(alloc)) else {
+        return None;
+    };
+    let ended = run(rt, alloc, &words, &mut source, &mut sink, disks, gate);
+    Some(Ran { ended, sink })
 }

@@ -2,14 +2,12 @@
 ghost use Rattle.std.specs.Prelude.{IfSome};
 ghost use Rattle.e3_world.specs.Given.{IsGiven};
 
-use crate::at_once::words;
-use crate::playing::{CAPACITY, MOST};
+use crate::playing::{CAPACITY, MOST, run_behind};
 use e3_disk::MemDisk;
 use e3_fleet::{Played, memory_disks, play_over};
 use e3_lines::Page;
-use e3_outside::{MemSink, MemSource, OpenGate};
+use e3_outside::OpenGate;
 use e3_scenario::read_scenario;
-use e3_top::run;
 use e3_types::{List, Scenario};
 use std::alloc::Global;
 use std::sync::Wait;
@@ -98,30 +96,14 @@ pub fn scenario_of(alloc: Global, steps: &[&str]) -> Option<Scenario>
     read_scenario(alloc, text.as_slice()).ok()
 }
 
-// The calls by the end of a run of what is read, which says itself how many packets a worker takes; none without memory.
-fn calls_by_run<R: Wait + Threads + Sync>(
-    rt: &R,
-    alloc: Global,
-    source: &mut MemSource,
-    words: &[String],
-) -> Option<Calls> {
-    let mut sink = MemSink::new(alloc, 65536, 65536, List::new(alloc)).ok()?;
-    let Ok(disks) = memory_disks(alloc, CAPACITY, 0, List::new(alloc)) else {
-        return None;
-    };
-    let ended = run(rt, alloc, words, source, &mut sink, disks, &OpenGate);
-    if ended.status != 0 {
-        return None;
-    }
-    calls_on(&ended.disks)
-}
-
-// The same of a run of the scenario of these steps.
+// The same by a run of the text of these steps, which says itself how many packets a worker takes.
 fn calls_run<R: Wait + Threads + Sync>(rt: &R, alloc: Global, steps: &[&str]) -> Option<Calls> {
     let text = text_of(alloc, steps).done()?;
-    let mut source = MemSource::new(text, 4096, List::new(alloc));
-    let words = words(alloc)?;
-    calls_by_run(rt, alloc, &mut source, &words)
+    let ran = run_behind(rt, alloc, text, &OpenGate)?;
+    if ran.ended.status != 0 {
+        return None;
+    }
+    calls_on(&ran.ended.disks)
 }
 
 // The calls by the end of the scenario of these steps, with so many packets in one turn of work, or by a run where no number is
@@ -141,16 +123,9 @@ fn calls_of<R: Wait + Threads + Sync>(
     }
 }
 
-// The calls that the last of these steps makes; none without memory.
-fn made<R: Wait + Threads + Sync>(
-    rt: &R,
-    alloc: Global,
-    steps: &[&str],
-    packets: Option<u32>,
-) -> Option<Calls> {
-    let earlier = steps.get(..steps.len().saturating_sub(1))?;
-    let before = calls_of(rt, alloc, earlier, packets)?;
-    let behind = calls_of(rt, alloc, steps, packets)?;
+// The calls that came between these; none where any of them are missing.
+fn between(before: Option<Calls>, behind: Option<Calls>) -> Option<Calls> {
+    let (before, behind) = (before?, behind?);
     Some(Calls {
         first: behind.first.saturating_sub(before.first),
         second: behind.second.saturating_sub(before.second),
@@ -170,8 +145,11 @@ fn push_calls(page: &mut Page, packets: Option<u32>, calls: Calls) {
 
 // Adds the calls that the last of these steps makes, by one packet in each turn of work, by eight, and by a run.
 fn push_made<R: Wait + Threads + Sync>(rt: &R, alloc: Global, page: &mut Page, steps: &[&str]) {
+    let earlier = steps.get(..steps.len().saturating_sub(1)).unwrap_or(&[]);
     for packets in [Some(1u32), Some(8), None] {
-        match made(rt, alloc, steps, packets) {
+        let before = calls_of(rt, alloc, earlier, packets);
+        let behind = calls_of(rt, alloc, steps, packets);
+        match between(before, behind) {
             Some(calls) => push_calls(page, packets, calls),
             None => page.lack(),
         }
