@@ -8,7 +8,8 @@
 //! history are as the settings say, `events NAME: SETTINGS` counts some events of it, and `log NAME: SETTINGS` what site 1 does whose
 //! log has no room. `disk` has the bytes of the disk of site 1, and `fronts` how each front of the text is refused. `change BODIES:
 //! VALUES` opens logs over a disk with a frame for each body, where one byte is changed by one of the values, and `open PLACE:
-//! BYTES` one over a disk that is blank but for these bytes.
+//! BYTES` one over a disk that is blank but for these bytes. `pace N` makes a history of about N entries, and its report.
+//! With words the program reads no such lines, and does what `pace.rt` says of them.
 #![tactic(auto)]
 
 mod damage;
@@ -17,19 +18,25 @@ mod fronts;
 mod given;
 mod judging;
 mod logs;
+mod pace;
 mod standing;
 mod texts;
 
 use e3_lines::Page;
+use e3_outside::StdSource;
 use given::{Asked, Given};
 use std::alloc::Global;
+use std::env;
 use std::process::ExitCode;
 use std::sync::Wait;
 use std::thread::Threads;
-use texts::cut;
+use texts::{cut, number};
 
 /// Where the input can't be read, or memory is lacking for it.
 const NO_MEMORY: u8 = 5;
+
+/// For words that ask for nothing.
+const REFUSED: u8 = 1;
 
 // Adds the lines of what is run of a text, by the first letter of what is asked.
 fn push_command<R: Wait + Threads + Sync>(
@@ -55,6 +62,7 @@ fn push_command<R: Wait + Threads + Sync>(
         Some(b'd') => ends::push_disk(rt, alloc, page, text),
         Some(b'l') => logs::push_log(rt, alloc, page, &asked),
         Some(b'f') => fronts::push_fronts(rt, alloc, page, text),
+        Some(b'p') => pace::push_report(alloc, page, number(rest).min(1000) as u32),
         Some(b'c') => damage::push_changes(alloc, page, name, settings),
         Some(b'o') => damage::push_open(alloc, page, name, settings),
         _ => page.lack(),
@@ -98,9 +106,31 @@ fn lines<R: Wait + Threads + Sync>(rt: &R, alloc: Global, input: &[u8]) -> Page 
     page
 }
 
+// The words behind the program's name; none without memory.
+fn words_of(rt: &HostRuntime, alloc: Global) -> Option<Vec<String>> {
+    let mut words = Vec::new(alloc);
+    for word in env::args(rt).ok()?.skip(1) {
+        words.push(word).ok()?;
+    }
+    Some(words)
+}
+
 fn main(rt: HostRuntime) -> ExitCode {
-    match Page::read(rt.alloc(), rt.reader()).done() {
-        Some(input) => lines(&rt, rt.alloc(), input.as_slice()).print(&rt),
+    let alloc = rt.alloc();
+    let Some(words) = words_of(&rt, alloc) else {
+        return ExitCode::from(NO_MEMORY);
+    };
+    if !words.is_empty() {
+        let Some(asked) = pace::read_words(&words) else {
+            return ExitCode::from(REFUSED);
+        };
+        let mut page = Page::new(alloc);
+        let mut source = StdSource::new(rt.reader());
+        pace::push_asked(&rt, alloc, &mut page, &mut source, asked);
+        return page.print(&rt);
+    }
+    match Page::read(alloc, rt.reader()).done() {
+        Some(input) => lines(&rt, alloc, input.as_slice()).print(&rt),
         None => ExitCode::from(NO_MEMORY),
     }
 }

@@ -24,7 +24,7 @@ const TURN: u8 = 7;
 #[derive(Clone, Copy)]
 pub struct Rise {
     pub bytes: u64,
-    pub micros: u128,
+    pub micros: u64,
 }
 
 /// Two rises over one log: before it is turned, and behind that.
@@ -162,7 +162,7 @@ fn rise_over(alloc: Global, disk: MemDisk) -> Option<Risen> {
 fn timed_rise<R: Clock>(rt: &R, alloc: Global, disk: MemDisk) -> Option<(Risen, Rise)> {
     let start = Instant::now(rt).ok()?;
     let risen = rise_over(alloc, disk)?;
-    let micros = start.elapsed(rt).ok()?.as_micros();
+    let micros = u64::try_from(start.elapsed(rt).ok()?.as_micros()).unwrap_or(u64::MAX);
     let bytes = risen.bytes;
     Some((risen, Rise { bytes, micros }))
 }
