@@ -1,14 +1,12 @@
-// Worked cases of values, bytes, disks, packets and verdicts: bodies of records and bytes that are none, which stand in the input,
-// disks in memory, logs and streams, the fates and the order of packets, and what an elector concludes.
+// Worked cases of values, bytes, disks and packets: bodies of records and bytes that are none, which stand in the input, disks in
+// memory, logs and streams, and the fates and the order of packets.
 
 mod bodies;
 mod disks;
 mod logs;
 mod nets;
 mod streams;
-mod texts;
 mod values;
-mod verdicts;
 
 use e3_lines::Page;
 use std::alloc::Global;
@@ -22,5 +20,4 @@ pub fn push_lines(alloc: Global, page: &mut Page, given: &Page) {
     logs::push_lines(alloc, page);
     streams::push_lines(alloc, page);
     nets::push_lines(alloc, page);
-    verdicts::push_lines(page);
 }

@@ -1,12 +1,18 @@
 //! Worked cases of the layers below a run, of its parts, and of sites: what is read off their logs and histories, and their
-//! logs in two regions.
+//! logs in two regions. Then texts that are read: scenarios and their faults, a report and a trace, verdicts on traces, and the
+//! generated scenarios.
 //! Each part stands behind a line `== NAME`, in the standard input where it reads any, and in the file of this program's output.
 #![tactic(auto)]
 
+mod cases;
+mod checks;
+mod forms;
+mod generated;
 mod layers;
 mod parts;
 mod regions;
 mod sites;
+mod texts;
 
 use e3_lines::Page;
 use std::process::ExitCode;
@@ -18,5 +24,8 @@ fn main(rt: HostRuntime) -> ExitCode {
     parts::push_lines(rt.alloc(), &mut page, &given);
     sites::push_lines(rt.alloc(), &mut page, &given);
     regions::push_lines(rt.alloc(), &mut page, &given);
+    forms::push_lines(rt.alloc(), &mut page, &given);
+    checks::push_lines(rt.alloc(), &mut page, &given);
+    generated::push_lines(rt.alloc(), &mut page);
     page.print(&rt)
 }

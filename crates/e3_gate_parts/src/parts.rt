@@ -1,11 +1,11 @@
-// Worked cases of the parts: quorums, the rule of a decision, votes, elections, a client's transaction, locks and records. The
+// Worked cases of the parts: quorums, votes, elections, verdicts, a client's transaction, locks and records. The
 // input has the calls on tables of locks.
 
 mod clients;
 mod locks;
 mod quorums;
 mod rows;
-mod texts;
+mod verdicts;
 
 use e3_lines::Page;
 use std::alloc::Global;
@@ -14,6 +14,7 @@ use std::alloc::Global;
 pub fn push_lines(alloc: Global, page: &mut Page, given: &Page) {
     let input = page.part(alloc, given, "parts");
     quorums::push_lines(alloc, page);
+    verdicts::push_lines(page);
     clients::push_lines(alloc, page);
     locks::push_lines(alloc, page, input.as_slice());
     rows::push_lines(alloc, page);

@@ -5,6 +5,7 @@ mod answers;
 mod commands;
 mod held;
 
+use crate::texts::{cut, number, parts_of};
 use e3_lines::Page;
 use e3_types::NoMemory;
 use held::{Held, blank};
@@ -25,28 +26,32 @@ fn did(alloc: Global, page: &mut Page, held: Held, word: &[u8]) -> Held {
 }
 
 // Does what the words behind the capacity say, each behind the one before.
-fn push_words(alloc: Global, page: &mut Page, line: &[u8], capacity: &[u8]) {
-    let Ok(mut held) = blank(alloc, commands::number(capacity)) else {
-        return page.lack();
-    };
-    for word in line.split(|byte| *byte == b' ').skip(1) {
+fn push_words(alloc: Global, page: &mut Page, capacity: u64, words: &[u8]) -> Result<(), NoMemory> {
+    let mut held = blank(alloc, capacity)?;
+    for word in parts_of(alloc, words, b' ')?.iter() {
         held = did(alloc, page, held, word);
     }
     page.text("\n");
+    Ok(())
 }
 
 // Adds the lines of a disk.
 fn push_line(alloc: Global, page: &mut Page, line: &[u8]) {
-    let capacity = line.split(|byte| *byte == b' ').next().unwrap_or(&[]);
+    let (capacity, words) = cut(line, b' ');
     page.text("disk of ");
     page.bytes(capacity);
-    push_words(alloc, page, line, capacity);
+    if push_words(alloc, page, number(capacity), words).is_err() {
+        page.lack();
+    }
 }
 
 /// Adds all lines.
 pub fn push_lines(alloc: Global, page: &mut Page, given: &Page) {
     let input = page.part(alloc, given, "regions");
-    for line in input.as_slice().split(|byte| *byte == b'\n') {
+    let Ok(lines) = parts_of(alloc, input.as_slice(), b'\n') else {
+        return page.lack();
+    };
+    for line in lines.iter() {
         if !line.is_empty() {
             push_line(alloc, page, line);
         }

@@ -10,22 +10,16 @@ mod bodies;
 mod histories;
 mod logs;
 mod readings;
-mod texts;
 
+use crate::cases::cases_in;
+use crate::texts::{cut, number};
+use e3_judge::Prefix;
 use e3_lines::Page;
 use e3_scenario::read_scenario;
 use e3_trace::{before_mark, read_trace};
 use e3_types::{Entry, List, NoMemory, Scenario};
 use e3_world::History;
 use std::alloc::Global;
-
-// A number; 0 where the word is none.
-fn number(word: &[u8]) -> u32 {
-    let Ok(text) = str::from_utf8(word) else {
-        return 0;
-    };
-    text.parse::<u32>().unwrap_or(0)
-}
 
 // Adds the steps of a site, by its tables and by the definitions.
 fn push_bodies(alloc: Global, page: &mut Page, scenario: &Scenario, entries: &[Entry], site: u32) {
@@ -38,16 +32,17 @@ fn push_bodies(alloc: Global, page: &mut Page, scenario: &Scenario, entries: &[E
 
 // Adds what is read of a history: the first letter of the head says what, and the second word at which site.
 fn push_by(alloc: Global, page: &mut Page, head: &[u8], scenario: &Scenario, history: &History) {
-    let mut words = head.split(|byte| *byte == b' ');
-    let kind = words.next().unwrap_or(b"");
-    let site = number(words.next().unwrap_or(b""));
+    let (kind, rest) = cut(head, b' ');
+    let (site, _) = cut(rest, b' ');
+    let site = number(site).min(64) as u32;
     let entries = history.as_slice();
+    let all = Prefix::of(alloc, scenario, entries);
     match kind.first() {
         Some(b'l') => logs::push_logs(alloc, page, entries, site),
         Some(b'b') => push_bodies(alloc, page, scenario, entries, site),
-        Some(b'r') => readings::push_readings(alloc, page, scenario, entries, site),
+        Some(b'r') => readings::push_readings(alloc, page, &all, site),
         Some(b's') => histories::push_step(alloc, page, scenario, entries),
-        Some(b'h') => histories::push_history(alloc, page, scenario, entries, site),
+        Some(b'h') => histories::push_history(page, &all, site),
         Some(b'f') => histories::push_found(alloc, page, scenario, history),
         Some(b't') => histories::push_table(alloc, page, scenario, site),
         _ => page.text(" no kind"),
@@ -55,14 +50,11 @@ fn push_by(alloc: Global, page: &mut Page, head: &[u8], scenario: &Scenario, his
 }
 
 // Adds the lines of a case.
-fn push_case(alloc: Global, page: &mut Page, head: &[u8], text: &Page) {
-    if !text.is_whole() {
-        page.lack();
-    }
-    let Ok(scenario) = read_scenario(alloc, before_mark(text.as_slice())) else {
+fn push_case(alloc: Global, page: &mut Page, head: &[u8], text: &[u8]) {
+    let Ok(scenario) = read_scenario(alloc, before_mark(text)) else {
         return page.text("no scenario\n");
     };
-    let Ok(history) = read_trace(alloc, &scenario, text.as_slice()) else {
+    let Ok(history) = read_trace(alloc, &scenario, text) else {
         return page.text("no trace\n");
     };
     page.bytes(head);
@@ -74,19 +66,10 @@ fn push_case(alloc: Global, page: &mut Page, head: &[u8], text: &Page) {
 /// Adds all lines.
 pub fn push_lines(alloc: Global, page: &mut Page, given: &Page) {
     let input = page.part(alloc, given, "sites");
-    let mut head = b"".as_slice();
-    let mut text = Page::new(alloc);
-    for line in input.as_slice().split_inclusive(|byte| *byte == b'\n') {
-        match line.strip_prefix(b"#case ") {
-            Some(next) => {
-                if !head.is_empty() {
-                    push_case(alloc, page, head, &text);
-                }
-                head = next.strip_suffix(b"\n").unwrap_or(next);
-                text = Page::new(alloc);
-            }
-            None => text.bytes(line),
-        }
+    let Ok(cases) = cases_in(alloc, input.as_slice()) else {
+        return page.lack();
+    };
+    for case in cases.as_slice() {
+        push_case(alloc, page, case.name.as_slice(), case.text.as_slice());
     }
-    push_case(alloc, page, head, &text);
 }

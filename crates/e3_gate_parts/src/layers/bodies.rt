@@ -1,43 +1,11 @@
 // Bodies of frames, byte by byte, and bytes that are no records.
-use crate::layers::texts::{push_hex, push_known};
+use crate::texts::{cut, number, parts_of, push_hex, push_known, spelled_by};
 use e3_codec::{
     RecordFault, each_list_has_one_spelling, put_records, read_records, records_are_a_format,
 };
 use e3_lines::Page;
 use e3_types::{List, NoMemory, Record};
 use std::alloc::Global;
-
-const DIGITS: &[u8; 16] = b"0123456789ABCDEF";
-
-// A digit of sixteen; 0 for another byte.
-fn value(digit: u8) -> u8 {
-    let mut value = 0u8;
-    let mut next = 0u8;
-    for byte in DIGITS {
-        if *byte == digit {
-            value = next;
-        }
-        next = next.saturating_add(1);
-    }
-    value
-}
-
-// The bytes that digits spell, two for each.
-fn bytes_of(alloc: Global, digits: &[u8]) -> Page {
-    let mut bytes = Page::new(alloc);
-    let mut high = None;
-    for digit in digits {
-        let low = value(*digit);
-        match high {
-            Some(above) => {
-                bytes.bytes(&[low.wrapping_add(16u8.wrapping_mul(above))]);
-                high = None;
-            }
-            None => high = Some(low),
-        }
-    }
-    bytes
-}
 
 fn read(alloc: Global, body: &[u8]) -> Result<List<Record>, RecordFault> {
     read_records(alloc, 1, body)
@@ -140,19 +108,11 @@ fn push_changes(alloc: Global, page: &mut Page, body: &[u8]) {
     page.text("\n");
 }
 
-// A number; 0 for another word.
-fn number(word: &[u8]) -> u64 {
-    match str::from_utf8(word) {
-        Ok(word) => word.parse::<u64>().unwrap_or(0),
-        Err(_) => 0,
-    }
-}
-
 // Adds where the body is bad with another byte in it: the line has its place and its value behind its first word.
 fn push_field(alloc: Global, page: &mut Page, body: &[u8], line: &[u8]) {
-    let mut words = line.split(|byte| *byte == b' ').skip(1);
-    let place = number(words.next().unwrap_or(b""));
-    let byte = number(words.next().unwrap_or(b""));
+    let (_, words) = cut(line, b' ');
+    let (place, byte) = cut(words, b' ');
+    let (place, byte) = (number(place), number(byte));
     let value = if byte < 256 { byte as u8 } else { 255 };
     page.labelled("byte ", place);
     page.labelled(" is ", byte);
@@ -170,11 +130,7 @@ fn push_named(alloc: Global, page: &mut Page, name: &[u8], body: &[u8]) {
 }
 
 // Adds what a line asks of the body before it, by the line's first letter.
-fn push_asked(alloc: Global, page: &mut Page, body: &Page, line: &[u8]) {
-    if !body.is_whole() {
-        page.lack();
-    }
-    let body = body.as_slice();
+fn push_asked(alloc: Global, page: &mut Page, body: &[u8], line: &[u8]) {
     match line.first() {
         Some(b'r') => push_body(alloc, page, body),
         Some(b'c') => push_cuts(alloc, page, body),
@@ -185,16 +141,24 @@ fn push_asked(alloc: Global, page: &mut Page, body: &Page, line: &[u8]) {
     }
 }
 
+// Adds what is asked of each body.
+fn push_bodies(alloc: Global, page: &mut Page, input: &[u8]) -> Result<(), NoMemory> {
+    let mut body = List::new(alloc);
+    for line in parts_of(alloc, input, b'\n')?.iter() {
+        match line {
+            [b'#', digits @ ..] => body = spelled_by(alloc, digits)?,
+            _ => push_asked(alloc, page, body.as_slice(), line),
+        }
+    }
+    Ok(())
+}
+
 /// Adds the lines of bodies. The input has them in digits, each behind a `#`, and what is asked of each on the lines behind it: `read`,
 /// `cut`, `greater`, `byte PLACE VALUE`, or `name` and more words, which are its name.
 pub fn push_lines(alloc: Global, page: &mut Page, input: &[u8]) {
     records_are_a_format();
     each_list_has_one_spelling();
-    let mut body = Page::new(alloc);
-    for line in input.split(|byte| *byte == b'\n') {
-        match line {
-            [b'#', digits @ ..] => body = bytes_of(alloc, digits),
-            _ => push_asked(alloc, page, &body, line),
-        }
+    if push_bodies(alloc, page, input).is_err() {
+        page.lack();
     }
 }

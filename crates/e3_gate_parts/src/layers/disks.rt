@@ -1,5 +1,5 @@
 // Disks in memory, by calls through the bounds: what a stop leaves, what fits, and which calls fail.
-use crate::layers::texts::push_hex;
+use crate::texts::{bytes_of, push_hex};
 use e3_disk::{Disk, DiskFault, Drill, MemDisk, Piece, torn_writes_keep_the_rest, write_pieces};
 use e3_lines::Page;
 use e3_types::{Leave, List};
@@ -90,8 +90,7 @@ fn push_stop<D: Drill>(alloc: Global, page: &mut Page, disk: &mut D, leave: Leav
 const PIECES: [(u64, &[u8]); 3] = [(0, b"v"), (1, b"wxyz"), (0, b"never")];
 
 fn piece_of(alloc: Global, place: u64, text: &[u8]) -> Option<Piece> {
-    let mut bytes = List::new(alloc);
-    bytes.extend(text).ok()?;
+    let bytes = bytes_of(alloc, text).ok()?;
     Some(Piece { place, bytes })
 }
 

@@ -1,7 +1,7 @@
 // Logs over disks in memory, by calls through the bounds: how long a frame is, what an append leaves that fails or is stopped, and
 // why a log is not opened.
 use crate::layers::disks::push_content;
-use crate::layers::texts::push_hex;
+use crate::texts::push_hex;
 use e3_disk::{Disk, Drill, MemDisk};
 use e3_lines::Page;
 use e3_log::{

@@ -1,5 +1,5 @@
 // Streams in memory and over readers and writers of std: what a call takes, what fails, and when it is made again.
-use crate::layers::texts::push_hex;
+use crate::texts::{bytes_of, push_hex};
 use e3_lines::Page;
 use e3_outside::{
     Failed, MemSink, MemSource, ReadFault, Sink, Source, StdSink, StdSource, read_up_to, write_all,
@@ -19,15 +19,9 @@ fn list_of(alloc: Global, call: u64) -> Option<List<u64>> {
     Some(calls)
 }
 
-fn bytes_of(alloc: Global, text: &[u8]) -> Option<List<u8>> {
-    let mut bytes = List::new(alloc);
-    bytes.extend(text).ok()?;
-    Some(bytes)
-}
-
 // A source of three letters, two for a read, whose call of this number fails.
 fn source_of(alloc: Global, fails: u64) -> Option<MemSource> {
-    let text = bytes_of(alloc, b"abc")?;
+    let text = bytes_of(alloc, b"abc").ok()?;
     match list_of(alloc, fails) {
         Some(fails) => Some(MemSource::new(text, 2, fails)),
         None => None,

@@ -1,6 +1,6 @@
 // The values of which all is made: sets of sites, the age of transactions, names, values, lists and their copies, fronts of
 // queues, the generator's words, and histories.
-use crate::layers::texts::{push_flag, push_known, push_numbers};
+use crate::texts::{push_flag, push_known};
 use e3_lines::Page;
 use e3_locks::front;
 use e3_types::{Act, Copied, Entry, List, Lock, Mode, Name, NoMemory, Record, SiteSet, Txn, Val};
@@ -129,7 +129,9 @@ fn push_lists(alloc: Global, page: &mut Page) {
     match three_numbers(alloc) {
         Some(mut list) => {
             page.text("a list:");
-            push_numbers(page, list.as_slice());
+            for number in list.as_slice() {
+                page.labelled(" ", *number);
+            }
             page.text(", without memory");
             push_flag(page, list.reserve(u64::MAX).is_err());
             page.text(", a record's copy");

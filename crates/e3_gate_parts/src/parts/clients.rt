@@ -2,10 +2,10 @@
 ghost use Rattle.std.specs.Prelude.{◌≡◌, IfSome, IsTrue};
 ghost use Rattle.e3_types.specs.Sets.{has_site};
 
-use crate::parts::texts::{push_refused, push_word};
+use crate::texts::push_word;
 use e3_client::{Client, Heard};
 use e3_lines::Page;
-use e3_types::{NoMemory, Refusal, SiteSet, State, Txn};
+use e3_types::{NoMemory, Refusal, SiteSet, State, Told, Txn};
 use std::alloc::Global;
 
 // The transaction of these clients, and an older one.
@@ -18,6 +18,15 @@ fn txn(seq: u32) -> Txn {
     }
 }
 
+// Adds why the client is refused, as a report says it.
+fn push_refused(page: &mut Page, refusal: Refusal) {
+    page.text(" ");
+    page.told(&Told::Refused {
+        txn: txn(2),
+        refusal,
+    });
+}
+
 fn push_next(page: &mut Page, client: &Client, state: State, attempt: u32) {
     page.text(" operation");
     if client.issued() >= 64 {
@@ -25,14 +34,14 @@ fn push_next(page: &mut Page, client: &Client, state: State, attempt: u32) {
     }
     match client.next_op(state, attempt) {
         Ok(n) => page.labelled(" ", u64::from(n)),
-        Err(why) => push_refused(page, txn(2), why),
+        Err(why) => push_refused(page, why),
     }
 }
 
 fn push_told(page: &mut Page, answer: Result<(), Refusal>) {
     match answer {
         Ok(()) => push_word(page, "goes"),
-        Err(why) => push_refused(page, txn(2), why),
+        Err(why) => push_refused(page, why),
     }
 }
 
@@ -64,23 +73,27 @@ fn begun(alloc: Global, txn: Txn) -> Option<Client>
     }
 }
 
-// Adds what a client is refused that waits for no answer.
-fn push_idle(page: &mut Page, client: &Client) {
-    for (label, state, attempt) in [
-        ("begun", State::Q, 0),
-        ("voted", State::W, 0),
-        ("attempted", State::Pc, 1),
-        ("attempted to abort", State::Pa, 3),
-        ("committed", State::C, 1),
-        ("aborted", State::A, 0),
-    ] {
+// How far a transaction is: a label, its state and its last attempt.
+const STAGES: [(&str, State, u32); 6] = [
+    ("begun", State::Q, 0),
+    ("voted", State::W, 0),
+    ("attempted", State::Pc, 1),
+    ("attempted to abort", State::Pa, 3),
+    ("committed", State::C, 1),
+    ("aborted", State::A, 0),
+];
+
+// Adds what a client is refused at each stage. Where it waits for an answer, an end comes before that, and that before too late.
+fn push_stages(page: &mut Page, front: &str, client: &Client) {
+    for (label, state, attempt) in STAGES {
+        page.text(front);
         push_calls(page, label, client, state, attempt);
     }
 }
 
 fn push_states(alloc: Global, page: &mut Page) {
     match begun(alloc, txn(2)) {
-        Some(client) => push_idle(page, &client),
+        Some(client) => push_stages(page, "", &client),
         None => page.lack(),
     }
 }
@@ -95,19 +108,6 @@ fn issue(client: &mut Client, site: u32)
     }
 }
 
-// Adds what a client is refused that waits for an answer: an end comes before that, and that before too late.
-fn push_waiting(page: &mut Page, client: &Client) {
-    for (label, state, attempt) in [
-        ("unanswered", State::Q, 0),
-        ("unanswered and voted", State::W, 0),
-        ("unanswered and attempted", State::Pc, 1),
-        ("unanswered and committed", State::C, 1),
-        ("unanswered and aborted", State::A, 0),
-    ] {
-        push_calls(page, label, client, state, attempt);
-    }
-}
-
 fn push_busy(alloc: Global, page: &mut Page) {
     let txn = txn(2);
     if !txn.sites.has(2) {
@@ -116,7 +116,7 @@ fn push_busy(alloc: Global, page: &mut Page) {
     match begun(alloc, txn) {
         Some(mut client) => {
             issue(&mut client, 2);
-            push_waiting(page, &client);
+            push_stages(page, "waiting ", &client);
         }
         None => page.lack(),
     }

@@ -1,6 +1,6 @@
 // What the two tables of locks answer to the same calls, of several modes and names. The transactions are numbered in the order in
 // which they began: the first is the oldest.
-use crate::parts::texts::{push_found, push_grant, push_word};
+use crate::texts::{cut, parts_of, push_txn, push_word};
 use e3_lines::Page;
 use e3_locks::{Granted, ListLocks, LockCall, LockTable, Locks, replay_locks};
 use e3_types::{Grant, List, Mode, Name, NoMemory, SiteSet, Txn};
@@ -20,6 +20,18 @@ fn push_mode(page: &mut Page, mode: Mode) {
     match mode {
         Mode::Shared => push_word(page, "shared"),
         Mode::Exclusive => push_word(page, "exclusive"),
+    }
+}
+
+// Adds how a lock's request is answered.
+fn push_grant(page: &mut Page, grant: &Grant) {
+    match grant {
+        Grant::Held => push_word(page, "held"),
+        Grant::Waits => push_word(page, "waits"),
+        Grant::Dies { older } => {
+            push_word(page, "dies for");
+            push_txn(page, older);
+        }
     }
 }
 
@@ -46,7 +58,7 @@ fn push_waits_of(page: &mut Page, waiter: &Txn, others: &[Txn]) {
     page.txn(waiter);
     page.text(" waits for");
     for other in others {
-        push_found(page, Some(*other));
+        push_txn(page, other);
     }
 }
 
@@ -70,7 +82,7 @@ fn push_waits<L: Locks>(page: &mut Page, locks: &L) {
 
 fn push_granted(page: &mut Page, granted: &[Granted]) {
     for lock in granted {
-        push_found(page, Some(lock.txn));
+        push_txn(page, &lock.txn);
         push_name(page, &lock.name);
         push_mode(page, lock.mode);
     }
@@ -81,7 +93,7 @@ fn push_holders<L: Locks>(page: &mut Page, locks: &L, name: &Name) {
     push_name(page, name);
     for seq in 1..6 {
         if let Some(mode) = locks.holds(txn(seq), name) {
-            push_found(page, Some(txn(seq)));
+            push_txn(page, &txn(seq));
             push_mode(page, mode);
         }
     }
@@ -222,7 +234,7 @@ fn call_of(word: &[u8]) -> Option<LockCall> {
 
 fn calls_of(alloc: Global, words: &[u8]) -> Result<List<LockCall>, NoMemory> {
     let mut calls = List::new(alloc);
-    for word in words.split(|byte| *byte == b' ') {
+    for word in parts_of(alloc, words, b' ')?.iter() {
         if let Some(call) = call_of(word) {
             calls.push(call)?;
         }
@@ -241,12 +253,12 @@ fn names(alloc: Global) -> Option<List<Name>> {
 
 // Adds the lines of a case: what it shows, who leaves behind the calls, and the calls.
 fn push_line(alloc: Global, page: &mut Page, line: &[u8], names: &[Name]) {
-    let mut parts = line.split(|byte| *byte == b'|');
-    let label = parts.next().unwrap_or(b"");
-    let Some([leaver]) = parts.next() else {
+    let (label, rest) = cut(line, b'|');
+    let (leaver, calls) = cut(rest, b'|');
+    let [leaver] = leaver else {
         return;
     };
-    match calls_of(alloc, parts.next().unwrap_or(b"")) {
+    match calls_of(alloc, calls) {
         Ok(calls) => push_case(alloc, page, label, calls.as_slice(), number(*leaver), names),
         Err(NoMemory) => page.lack(),
     }
@@ -254,7 +266,10 @@ fn push_line(alloc: Global, page: &mut Page, line: &[u8], names: &[Name]) {
 
 // Adds the lines of all cases.
 fn push_cases(alloc: Global, page: &mut Page, input: &[u8], names: &[Name]) {
-    for line in input.split(|byte| *byte == b'\n') {
+    let Ok(lines) = parts_of(alloc, input, b'\n') else {
+        return page.lack();
+    };
+    for line in lines.iter() {
         push_line(alloc, page, line, names);
     }
 }

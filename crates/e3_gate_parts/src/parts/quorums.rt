@@ -1,19 +1,27 @@
-// Quorums, the rule of a decision, votes and acknowledgements, and elections.
+// Quorums, votes and acknowledgements, and elections.
 ghost use Rattle.std.specs.Prelude.{◌≡◌, IfSome};
 
-use crate::parts::texts::{flag, push_known, push_word};
+use crate::parts::verdicts::report;
+use crate::texts::{push_flag, push_word};
 use e3_commit::{Round, Votes};
 use e3_elect::Election;
 use e3_lines::Page;
 use e3_quorum::{WeightFault, Weights};
-use e3_rule::decide;
-use e3_types::{Call, Copied, Dir, NoMemory, SiteReport, SiteSet, State, Verdict};
+use e3_types::{Call, Copied, Dir, NoMemory, SiteReport, SiteSet, State};
 use std::alloc::Global;
 
 fn set(sites: &[u32]) -> Option<SiteSet>
     ensures { IfSome result (λ set. set ≡ sites.now) }
 {
     SiteSet::of(sites)
+}
+
+// Adds a number behind a space, or a dash for none.
+fn push_known(page: &mut Page, number: Option<u32>) {
+    match number {
+        Some(number) => page.labelled(" ", u64::from(number)),
+        None => push_word(page, "-"),
+    }
 }
 
 fn weights_of(alloc: Global, weights: &[u32]) -> Result<Weights, WeightFault> {
@@ -52,7 +60,7 @@ fn push_shared(alloc: Global, page: &mut Page) {
     match shared(alloc) {
         Some((weight, is_quorum, shared)) => {
             page.labelled("weight ", weight);
-            push_word(page, flag(is_quorum));
+            push_flag(page, is_quorum);
             page.labelled(" ", u64::from(shared));
             page.text("\n");
         }
@@ -73,60 +81,12 @@ fn push_quorums(alloc: Global, page: &mut Page) {
     push_shared(alloc, page);
 }
 
-// What a site of this number reports.
-fn report(site: u32, state: State, attempt: u32) -> SiteReport {
-    SiteReport {
-        site,
-        state,
-        attempt,
-    }
-}
-
-fn push_verdict(page: &mut Page, reports: &[SiteReport], have: u64, total: u64) {
-    if reports.is_empty() {
-        return;
-    }
-    match decide(reports, have, total) {
-        Verdict::Abort => page.text("rule: abort"),
-        Verdict::Commit => page.text("rule: commit"),
-        Verdict::PreCommit => page.text("rule: pre-commit"),
-        Verdict::PreAbort => page.text("rule: pre-abort"),
-        Verdict::Block { have, total } => {
-            page.labelled("rule: block, ", have);
-            page.labelled(" of ", total);
-        }
-    }
-    page.text("\n");
-}
-
-// The verdicts in the order of the rule, and by the reports of the greatest attempt those of a quorum.
-fn push_rules(page: &mut Page) {
-    let voted = report(1, State::W, 0);
-    let late = report(2, State::Pc, 3);
-    let old = report(3, State::Pa, 2);
-    let ended = report(4, State::C, 2);
-    let off = report(5, State::A, 0);
-    let first = report(6, State::Pc, 1);
-    for (reports, have, total) in [
-        ([late, ended, off].as_slice(), 1, 9),
-        (&[voted, ended], 1, 9),
-        (&[voted, late], 2, 4),
-        (&[late, old], 3, 4),
-        (&[first, voted], 3, 4),
-        (&[voted, old], 3, 4),
-        (&[first, old], 3, 4),
-        (&[voted, voted], 3, 4),
-    ] {
-        push_verdict(page, reports, have, total);
-    }
-}
-
 // Adds the votes of a commit of three sites, each behind the one before.
 fn push_votes(page: &mut Page, sites: SiteSet) {
     let mut votes = Votes::start(sites, 1);
     page.text("all said yes:");
     for from in [2, 2, 4, 3] {
-        push_word(page, flag(votes.yes(from)));
+        push_flag(page, votes.yes(from));
     }
     page.text("\n");
 }
@@ -136,11 +96,11 @@ fn push_acks(page: &mut Page, to: SiteSet, site: u32, acks: &[(u32, u32, Dir)]) 
     let mut round = Round::attempt(1, Dir::Commit, to, site);
     page.text("acknowledged by:");
     for (from, n, dir) in acks {
-        push_known(page, Some(round.ack(*from, *n, *dir).count()));
+        page.labelled(" ", u64::from(round.ack(*from, *n, *dir).count()));
     }
     page.text("; in order:");
     for from in round.acks().copy().arrivals() {
-        push_known(page, Some(*from));
+        page.labelled(" ", u64::from(*from));
     }
     page.text("\n");
 }
@@ -171,7 +131,7 @@ fn push_calls(page: &mut Page, election: &mut Election, answers: &[(u32, Call, u
     page.text("elected:");
     push_known(page, election.number());
     for (from, call, elected) in answers {
-        push_word(page, flag(election.heard(*from, *call, *elected)));
+        push_flag(page, election.heard(*from, *call, *elected));
         push_known(page, election.number());
     }
     page.text("\n");
@@ -207,13 +167,10 @@ fn push_answers(alloc: Global, page: &mut Page) {
 // Adds whether the whole group has reported, then of each report whether it is taken and whether all have reported with it, and how
 // many have at the end.
 fn push_taken(page: &mut Page, election: &mut Election, reports: &[(u32, u32)]) {
-    push_word(page, flag(election.complete()));
+    push_flag(page, election.complete());
     for (from, n) in reports {
-        push_word(
-            page,
-            flag(election.reported(*n, report(*from, State::Pc, 1))),
-        );
-        push_word(page, flag(election.complete()));
+        push_flag(page, election.reported(*n, report(*from, State::Pc, 1)));
+        push_flag(page, election.complete());
     }
     page.text("; of ");
     page.labelled("", election.group().count() as u64);
@@ -249,7 +206,7 @@ fn push_reported(alloc: Global, page: &mut Page, group: SiteSet, reports: &[(u32
 fn push_copy(page: &mut Page, election: &Election, copy: &mut Election) {
     page.text("joined:");
     push_known(page, copy.joined_number());
-    push_word(page, flag(copy.reported(9, report(3, State::Pc, 1))));
+    push_flag(page, copy.reported(9, report(3, State::Pc, 1)));
     page.labelled("; reports ", copy.reports().len() as u64);
     page.labelled(" and ", election.reports().len() as u64);
     page.text("\n");
@@ -285,6 +242,5 @@ fn push_gathered(alloc: Global, page: &mut Page) {
 /// Adds the lines of these parts.
 pub fn push_lines(alloc: Global, page: &mut Page) {
     push_quorums(alloc, page);
-    push_rules(page);
     push_gathered(alloc, page);
 }

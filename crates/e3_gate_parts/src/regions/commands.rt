@@ -1,4 +1,5 @@
 // What is done with a disk, as a word says it: a name, and what it is told behind colons.
+use crate::texts::{cut, number, spelled_by};
 use e3_types::{Leave, List, NoMemory};
 use std::alloc::Global;
 
@@ -29,44 +30,6 @@ pub enum Command {
     Unknown,
 }
 
-/// A number in decimal digits, 0 where it is none.
-pub fn number(text: &[u8]) -> u64 {
-    let mut sum = 0u64;
-    for digit in text {
-        if *digit < b'0' || *digit > b'9' {
-            return 0;
-        }
-        sum = sum
-            .saturating_mul(10)
-            .saturating_add(u64::from(*digit - b'0'));
-    }
-    sum
-}
-
-fn half_byte(digit: u8) -> u8 {
-    match digit {
-        b'0'..=b'9' => digit - b'0',
-        b'A'..=b'F' => digit - b'A' + 10,
-        _ => 0,
-    }
-}
-
-// Bytes as two digits each.
-fn bytes(alloc: Global, text: &[u8]) -> Result<List<u8>, NoMemory> {
-    let mut out = List::new(alloc);
-    let mut high = None;
-    for digit in text {
-        match high {
-            None => high = Some(half_byte(*digit)),
-            Some(first) => {
-                out.push((first % 16) * 16 + half_byte(*digit) % 16)?;
-                high = None;
-            }
-        }
-    }
-    Ok(out)
-}
-
 fn leave(text: &[u8]) -> Leave {
     match text {
         b"none" => Leave::None,
@@ -78,22 +41,20 @@ fn leave(text: &[u8]) -> Leave {
 
 /// What a word says.
 pub fn read_command(alloc: Global, word: &[u8]) -> Result<Command, NoMemory> {
-    let mut parts = word.split(|byte| *byte == b':');
-    let name = parts.next().unwrap_or(&[]);
-    let first = parts.next().unwrap_or(&[]);
-    let second = parts.next().unwrap_or(&[]);
+    let (name, rest) = cut(word, b':');
+    let (first, second) = cut(rest, b':');
     Ok(match name {
         b"put" => Command::Put {
             place: number(first),
-            bytes: bytes(alloc, second)?,
+            bytes: spelled_by(alloc, second)?,
         },
         b"open" => Command::Open,
         b"append" => Command::Append {
-            body: bytes(alloc, first)?,
+            body: spelled_by(alloc, first)?,
         },
         b"clear" => Command::Clear,
         b"turn" => Command::Turn {
-            body: bytes(alloc, first)?,
+            body: spelled_by(alloc, first)?,
         },
         b"fits" => Command::Fits {
             length: number(first),

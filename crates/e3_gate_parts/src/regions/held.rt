@@ -1,6 +1,7 @@
 // A disk, or the log over it, and what is done with it.
 use crate::regions::answers::{push_append, push_cause, push_frames, push_turn, push_write};
 use crate::regions::commands::Command;
+use crate::texts::bytes_of;
 use e3_codec::{put_records, read_records};
 use e3_disk::{Disk, DiskFault, Drill, MemDisk};
 use e3_lines::Page;
@@ -219,9 +220,7 @@ fn act_on_log<D: Drill>(page: &mut Page, log: &mut Log<D>, command: &Command) {
 
 // Adds a copy of a body to those of a log.
 fn note_body(alloc: Global, bodies: &mut List<List<u8>>, body: &[u8]) -> Result<(), NoMemory> {
-    let mut copy = List::new(alloc);
-    copy.extend(body)?;
-    bodies.push(copy)
+    bodies.push(bytes_of(alloc, body)?)
 }
 
 // Adds a body to the log, and to those that it holds where it took it.

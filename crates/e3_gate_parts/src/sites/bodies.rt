@@ -4,9 +4,8 @@ ghost use Rattle.e3_site.specs.SiteView.{IsPlanOf, Stands, planned_step, risen_w
 ghost use Rattle.e3_world.specs.declared.lives.Incarnation.{Incarnation};
 
 use crate::sites::logs::log_of;
-use crate::sites::texts::push_one;
 use e3_judge::{since_line, to_line};
-use e3_lines::{push_text, push_trace};
+use e3_lines::{push_text, push_trace, push_txn};
 use e3_plain::step_of;
 use e3_readings::{life_of, open_in};
 use e3_site::{Plan, RebuildFault, Site, rebuild};
@@ -49,7 +48,8 @@ fn entry_of(owner: u32, input: &Input, made: Made) -> Entry {
 fn names_of(alloc: Global, txns: &[Txn]) -> Result<List<u8>, NoMemory> {
     let mut out = List::new(alloc);
     for t in txns {
-        push_one(&mut out, Some(*t))?;
+        push_text(&mut out, " ")?;
+        push_txn(&mut out, t)?;
     }
     Ok(out)
 }

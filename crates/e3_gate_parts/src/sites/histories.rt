@@ -1,5 +1,5 @@
 // What is due in a history, what its last step makes, what is found in it, and the rows of a site.
-use crate::sites::texts::{push_count, push_found as push_one};
+use crate::texts::{push_count, push_txn};
 use e3_judge::{Prefix, clash, order, turn_of};
 use e3_lines::Page;
 use e3_plain::unnumbered_input;
@@ -37,7 +37,7 @@ pub fn push_step(alloc: Global, page: &mut Page, scenario: &Scenario, history: &
 // Adds a round.
 fn push_round(page: &mut Page, round: &RecoveryRound) {
     page.text(", round");
-    push_one(page, &round.txn);
+    push_txn(page, &round.txn);
     page.labelled(" by ", u64::from(round.elector));
     page.text(" of ");
     page.sites(round.members);
@@ -65,23 +65,16 @@ fn push_taken(page: &mut Page, prefix: &Prefix<'_>, site: u32) {
 }
 
 /// Adds how many packets are pending, how many items and steps a site took, and the round that is due.
-pub fn push_history(
-    alloc: Global,
-    page: &mut Page,
-    scenario: &Scenario,
-    history: &[Entry],
-    site: u32,
-) {
-    let all = Prefix::of(alloc, scenario, history);
+pub fn push_history(page: &mut Page, all: &Prefix<'_>, site: u32) {
     push_count(page, " pending ", all.pending());
-    push_taken(page, &all, site);
-    push_due(page, &all);
+    push_taken(page, all, site);
+    push_due(page, all);
 }
 
 // Adds the transaction that is decided both ways.
 fn push_clash(alloc: Global, page: &mut Page, scenario: &Scenario, history: &History) {
     match clash(alloc, scenario, history) {
-        Ok(Some(txn)) => push_one(page, &txn),
+        Ok(Some(txn)) => push_txn(page, &txn),
         Ok(None) => page.text(" -"),
         Err(NoMemory) => page.lack(),
     }
@@ -92,7 +85,7 @@ fn push_order(alloc: Global, page: &mut Page, scenario: &Scenario, history: &His
     match order(alloc, scenario, history) {
         Ok(order) => {
             for t in order.as_slice() {
-                push_one(page, t);
+                push_txn(page, t);
             }
         }
         Err(NoMemory) => page.lack(),

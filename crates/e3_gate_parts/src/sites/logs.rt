@@ -1,5 +1,5 @@
 // Records that are the log of a site, or are out of order.
-use crate::sites::texts::push_count;
+use crate::texts::push_count;
 use e3_judge::{since_line, to_line};
 use e3_lines::Page;
 use e3_site::{RebuildFault, Site, first_disorder, rebuild};
@@ -11,14 +11,6 @@ fn records_of(entry: &Entry) -> &[Record] {
         Act::Step { records, .. } => records.as_slice(),
         _ => &[],
     }
-}
-
-// Adds the records of an entry to a log.
-fn add_records(alloc: Global, log: &mut List<Record>, entry: &Entry) -> Result<(), NoMemory> {
-    for record in records_of(entry) {
-        log.push(record.copied(alloc)?)?;
-    }
-    Ok(())
 }
 
 fn push_site(page: &mut Page, site: &Site) {
@@ -68,7 +60,7 @@ fn push_log(alloc: Global, page: &mut Page, site: u32, log: &[Record]) {
 // The log with an entry's records behind it.
 fn log_with(alloc: Global, log: &List<Record>, entry: &Entry) -> Result<List<Record>, NoMemory> {
     let mut more = log.copied(alloc)?;
-    add_records(alloc, &mut more, entry)?;
+    more.add_copies(alloc, records_of(entry))?;
     Ok(more)
 }
 
@@ -87,7 +79,7 @@ fn push_behind(alloc: Global, page: &mut Page, site: u32, log: &List<Record>, hi
 pub fn log_of(alloc: Global, history: &[Entry]) -> Result<List<Record>, NoMemory> {
     let mut log = List::new(alloc);
     for entry in history {
-        add_records(alloc, &mut log, entry)?;
+        log.add_copies(alloc, records_of(entry))?;
     }
     Ok(log)
 }

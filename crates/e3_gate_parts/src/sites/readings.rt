@@ -1,13 +1,19 @@
 // What is read off the log and the steps of a site, of each transaction that was begun.
-use crate::sites::texts::{push_count, push_flag};
+use crate::texts::push_count;
 use e3_commit::Acks;
 use e3_elect::Election;
 use e3_judge::Prefix;
 use e3_lines::Page;
 use e3_readings::*;
-use e3_types::{Act, Entry, List, Mode, Name, NoMemory, Record, Row, Scenario, SiteSet, Told, Txn};
+use e3_types::{Act, Entry, List, Mode, Name, NoMemory, Record, Row, SiteSet, Told, Txn};
 use e3_world::{Incarnation, Life, Moment};
 use std::alloc::Global;
+
+// Adds whether something holds behind its label.
+fn push_flag(page: &mut Page, label: &str, holds: bool) {
+    page.text(label);
+    page.text(if holds { "true" } else { "false" });
+}
 
 fn told_of(entry: &Entry) -> &[Told] {
     match &entry.act {
@@ -216,16 +222,9 @@ fn push_incarnation(
 }
 
 /// Adds what is read off the present incarnation of a site.
-pub fn push_readings(
-    alloc: Global,
-    page: &mut Page,
-    scenario: &Scenario,
-    history: &[Entry],
-    site: u32,
-) {
-    let all = Prefix::of(alloc, scenario, history);
+pub fn push_readings(alloc: Global, page: &mut Page, all: &Prefix<'_>, site: u32) {
     match all.incarnation_at(site) {
-        Ok(now) => push_incarnation(alloc, page, &now, history, site),
+        Ok(now) => push_incarnation(alloc, page, &now, all.entries, site),
         Err(NoMemory) => page.lack(),
     }
 }

@@ -1,7 +1,8 @@
-// The texts that are checked. A case is `#case NAME` and a text; or `#case NAME` and `#of BASE LINE NEXT`, and lines: that is the
-// text of an earlier case, in whose trace these lines stand in place of those from LINE on and before NEXT. Lines of a trace
-// are counted from 1 behind `#trace`.
+// Texts of the input, each with a name: `#case NAME` and a text; or `#case NAME` and `#of BASE LINE NEXT`, and lines: that is the text
+// of an earlier case, in whose trace these lines stand in place of those from LINE on and before NEXT. Lines of a trace are counted
+// from 1 behind `#trace`.
 
+use crate::texts::{bytes_of, cut, number};
 use e3_types::{List, NoMemory};
 use std::alloc::Global;
 
@@ -20,39 +21,29 @@ struct Change {
     next: u64,
 }
 
-fn bytes(alloc: Global, text: &[u8]) -> Result<List<u8>, NoMemory> {
-    let mut out = List::new(alloc);
-    out.extend(text)?;
-    Ok(out)
-}
-
 fn without_end(line: &[u8]) -> &[u8] {
     line.strip_suffix(b"\n").unwrap_or(line)
 }
 
-// The number of a word of digits.
-fn number(word: &[u8]) -> u64 {
-    word.iter().fold(0, |n: u64, digit| {
-        n.saturating_mul(10)
-            .saturating_add(digit.saturating_sub(b'0') as u64)
-    })
-}
-
 // What stands behind `#of `.
 fn change_in(alloc: Global, words: &[u8]) -> Result<Change, NoMemory> {
-    let mut words = words.split(|byte| *byte == b' ');
-    let base = bytes(alloc, words.next().unwrap_or(b""))?;
-    let line = number(words.next().unwrap_or(b""));
-    let next = number(words.next().unwrap_or(b""));
-    Ok(Change { base, line, next })
+    let (base, lines) = cut(words, b' ');
+    let (line, next) = cut(lines, b' ');
+    Ok(Change {
+        base: bytes_of(alloc, base)?,
+        line: number(line),
+        next: number(next),
+    })
 }
 
 // The text of the case with this name; none where there is no such case.
 fn text_of<'a>(cases: &'a [Case], name: &[u8]) -> &'a [u8] {
-    match cases.iter().find(|case| case.name.as_slice() == name) {
-        Some(case) => case.text.as_slice(),
-        None => b"",
+    for case in cases {
+        if case.name.as_slice() == name {
+            return case.text.as_slice();
+        }
     }
+    b""
 }
 
 // The text with these lines in place of its own.
@@ -103,7 +94,7 @@ fn case_of(
     Ok(Case { name, text })
 }
 
-/// The cases of the input.
+/// The cases of an input.
 pub fn cases_in(alloc: Global, input: &[u8]) -> Result<List<Case>, NoMemory> {
     let mut cases = List::new(alloc);
     let mut name = List::new(alloc);
@@ -115,7 +106,7 @@ pub fn cases_in(alloc: Global, input: &[u8]) -> Result<List<Case>, NoMemory> {
                 let case = case_of(alloc, cases.as_slice(), name, change, text)?;
                 cases.push(case)?;
             }
-            name = bytes(alloc, without_end(words))?;
+            name = bytes_of(alloc, without_end(words))?;
             change = None;
             text = List::new(alloc);
         } else if let Some(words) = line.strip_prefix(b"#of ") {

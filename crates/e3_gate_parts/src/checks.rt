@@ -2,10 +2,9 @@
 // worked scenarios, and some that were cut or changed. Printed are the name, the status, and the line that tells the verdict.
 // Where the plain judge, asked beside it, finds anything else in the history, that is told too.
 
-mod cases;
 mod plain;
 
-use cases::{Case, cases_in};
+use crate::cases::{Case, cases_in};
 use e3_check::check;
 use e3_lines::Page;
 use e3_types::NoMemory;

@@ -1,5 +1,6 @@
 // Texts of scenarios: the line of the fault of each, and what is read. A text stands on one line, with a semicolon for each line
 // feed.
+use crate::texts::{cut, number};
 use e3_lines::Page;
 use e3_scenario::{fault_line, read_scenario};
 use e3_types::{KeyRow, NoMemory, Scenario};
@@ -50,14 +51,6 @@ pub fn push_steps(alloc: Global, page: &mut Page, steps: &[u8]) {
     push_fault(alloc, page, &text);
 }
 
-// A number; 0 where the word is none.
-fn number(word: &[u8]) -> u64 {
-    let Ok(text) = str::from_utf8(word) else {
-        return 0;
-    };
-    text.parse::<u64>().unwrap_or(0)
-}
-
 // Adds the line of a text that is a front, a piece so many times, and a back.
 fn push_repeated(
     alloc: Global,
@@ -81,11 +74,10 @@ fn push_repeated(
 /// Adds the lines of a text at its limit, and with one piece more. The four parts of the line are the most pieces, what stands
 /// before them, a piece, and what stands behind them.
 pub fn push_limit(alloc: Global, page: &mut Page, line: &[u8]) {
-    let mut parts = line.split(|byte| *byte == b'|');
-    let most = number(parts.next().unwrap_or(b""));
-    let front = parts.next().unwrap_or(b"");
-    let piece = parts.next().unwrap_or(b"");
-    let back = parts.next().unwrap_or(b"");
+    let (most, rest) = cut(line, b'|');
+    let (front, rest) = cut(rest, b'|');
+    let (piece, back) = cut(rest, b'|');
+    let most = number(most);
     for count in [most, most.saturating_add(1)] {
         push_repeated(alloc, page, front, piece, back, count);
     }

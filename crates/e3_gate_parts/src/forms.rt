@@ -3,6 +3,7 @@
 
 mod scenarios;
 
+use crate::texts::{cut, parts_of};
 use e3_lines::Page;
 use e3_report::report;
 use e3_scenario::read_scenario;
@@ -27,9 +28,7 @@ fn push_report(alloc: Global, page: &mut Page, input: &[u8], line: &[u8]) {
 
 // Adds the lines of a case: the first letter of the line says what is done with what stands behind its first word.
 fn push_case(alloc: Global, page: &mut Page, input: &[u8], line: &[u8]) {
-    let mut halves = line.splitn(2, |byte| *byte == b' ');
-    let word = halves.next().unwrap_or(b"");
-    let rest = halves.next().unwrap_or(b"");
+    let (word, rest) = cut(line, b' ');
     match word.first() {
         Some(b't') => scenarios::push_line(alloc, page, rest),
         Some(b's') => scenarios::push_steps(alloc, page, rest),
@@ -44,10 +43,13 @@ fn push_case(alloc: Global, page: &mut Page, input: &[u8], line: &[u8]) {
 
 /// Adds all lines.
 pub fn push_lines(alloc: Global, page: &mut Page, given: &Page) {
-    let input = page.part(alloc, given, "texts");
+    let input = page.part(alloc, given, "forms");
     let cases = before_mark(input.as_slice());
     let cases = cases.strip_suffix(b"\n").unwrap_or(cases);
-    for line in cases.split(|byte| *byte == b'\n') {
+    let Ok(lines) = parts_of(alloc, cases, b'\n') else {
+        return page.lack();
+    };
+    for line in lines.iter() {
         push_case(alloc, page, input.as_slice(), line);
     }
 }
