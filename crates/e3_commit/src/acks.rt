@@ -132,26 +132,26 @@ impl Acks {
 #[derive(Drop)]
 pub struct Round {
     site: u32,
-    round: Acks,
+    acks: Acks,
 }
 
 impl Round {
     /// The attempt of this number and direction by this site, which these others have to acknowledge; none has yet.
     pub fn attempt(n: u32, dir: Dir, to: SiteSet, site: u32) -> Round
-        ensures { result ≡ record { site = site; round = record { n = n; dir = dir; to = to; acked = [] } } }
+        ensures { result ≡ record { site = site; acks = record { n = n; dir = dir; to = to; acked = [] } } }
     {
         Round {
             site,
-            round: Acks::awaited(n, dir, to),
+            acks: Acks::awaited(n, dir, to),
         }
     }
 
     // Those that acknowledged, with the sender, where it is a site that a set can have.
     fn attempted(&self) -> SiteSet
         ensures { result ≡ (if nat_le 1 self.now.site && nat_le self.now.site 64
-            then with_site self.now.site (set_of self.now.round.acked) else set_of self.now.round.acked) }
+            then with_site self.now.site (set_of self.now.acks.acked) else set_of self.now.acks.acked) }
     {
-        let acked = self.round.sites();
+        let acked = self.acks.sites();
         if 1 <= self.site && self.site <= 64 {
             acked.with(self.site)
         } else {
@@ -163,18 +163,18 @@ impl Round {
     /// with its sender; without it where no set has it, whose sites are 1 to 64. An acknowledgement of another attempt, one
     /// of a site that was not asked, and a second one of a site add none.
     pub fn ack(&mut self, from: u32, n: u32, dir: Dir) -> SiteSet
-        ensures round { self.new ≡ record self.old { round = count_ack self.old.round from n dir } }
+        ensures acks { self.new ≡ record self.old { acks = count_ack self.old.acks from n dir } }
         ensures sites { result ≡ (if nat_le 1 self.old.site && nat_le self.old.site 64
-            then with_site self.old.site (set_of self.new.round.acked) else set_of self.new.round.acked) }
+            then with_site self.old.site (set_of self.new.acks.acked) else set_of self.new.acks.acked) }
     {
-        self.round.add(from, n, dir);
+        self.acks.add(from, n, dir);
         self.attempted()
     }
 
     /// Who acknowledged it.
     pub fn acks(&self) -> &Acks
-        ensures { result.now ≡ self.now.round }
+        ensures { result.now ≡ self.now.acks }
     {
-        &self.round
+        &self.acks
     }
 }

@@ -95,7 +95,7 @@ fn first_up(history: &[Entry], rounds: &[RecoveryRound]) -> Option<RecoveryRound
 {
     for r in rounds {
         if is_up_at(history, r.elector) {
-            return Some(r.copy());
+            return Some(*r);
         }
     }
     None

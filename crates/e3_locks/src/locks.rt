@@ -31,6 +31,7 @@ pub trait Locks {
     /// Makes room for one request more, and changes no lock. Want of memory is the only error.
     fn reserve(&mut self) -> Result<(), NoMemory>
         ensures places { (n : List ℕ) → place n (lists self.new) ≡ place n (lists self.old) }
+        ensures kept { (lists self.old).room ≤ (lists self.new).room }
         ensures room { OnOk result (1 ≤ (lists self.new).room) };
 
     /// What a release of all that the transaction has would grant: name by name in byte order, on each name the longest

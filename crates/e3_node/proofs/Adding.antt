@@ -34,7 +34,7 @@ use Rattle.e3_world.specs.declared.lives.Incarnation.{Incarnation}
 use Rattle.e3_world.specs.declared.lives.SiteStep.{SiteStep}
 use Rattle.e3_node.proofs.Batches.{plain_push, records_push, some_inputs, stepped_push}
 use Rattle.e3_node.proofs.Bundles.{plain_length, steps_log}
-use Rattle.e3_site_log.specs.Ends.{HasRoom, IsDue, IsShortIf, MayTurn}
+use Rattle.e3_site_log.specs.Ends.{HasRoom, HasRoomUnlessShort, IsShortIf, MayTurn}
 use Rattle.e3_site_log.specs.declared.writing.Short.{Short}
 use Rattle.e3_site_log.proofs.Holding.{back_both}
 use Rattle.e3_node.proofs.Several.{claims_push}
@@ -92,7 +92,7 @@ module _ {D : Type 0} (meters : D → Meters) (on_disk : LogState D) where
   may_first None old one two = two
   may_first (Some s) old one two = one
 
-  due_first : (l : List Record) (new old : Option Short) (size : ℕ) → (old ≡ None → IsDue meters on_disk l new size) → IsDue meters on_disk l (first_of new old) size
+  due_first : (l : List Record) (new old : Option Short) (size : ℕ) → (old ≡ None → HasRoomUnlessShort meters on_disk l new size) → HasRoomUnlessShort meters on_disk l (first_of new old) size
   due_first l None None size due = due refl
   due_first l None (Some s) size due = tt
   due_first l (Some s) old size due = tt
@@ -112,8 +112,8 @@ module _ {D : Type 0} (meters : D → Meters) (on_disk : LogState D) where
       short = let P : Option Short → Type 0 = λ o. IsShortIf site (log_of sc h site) o in subst P (sym short) was.short;
       may = let P : Option Short → Type 0 = λ o. MayTurn on_disk o in subst P (sym short) was.may;
       due = λ some.
-          let P : Option Short → Type 0 = λ o. IsDue meters on_disk (log_of sc h site) o (length c.body) in
-          let Q : List ℕ → Type 0 = λ l. IsDue meters on_disk (log_of sc h site) b.short (length l) in
+          let P : Option Short → Type 0 = λ o. HasRoomUnlessShort meters on_disk (log_of sc h site) o (length c.body) in
+          let Q : List ℕ → Type 0 = λ l. HasRoomUnlessShort meters on_disk (log_of sc h site) b.short (length l) in
           subst P (sym short) (subst Q (sym body) (was.due some));
     }
 
@@ -162,7 +162,7 @@ module _ {D : Type 0} (meters : D → Meters) (on_disk : LogState D) where
         new.weights ≡ t.weights → new.site ≡ t.site → new.inputs ≡ count_on t.inputs → step ≡ entry_of_plan site i made → outs ≡ length d.plan.step.outs →
         c.steps.items ≡ b.steps.items ++ step ∷ [] → c.records ≡ b.records ++ d.plan.step.records → c.body ≡ b.body ++ d.body → c.short ≡ first_of short b.short →
         ((l : List Record) → (b.records ≡ [] → IsBriefOf t l) → IsShortIf t.site l short) → MayTurn on_disk short →
-        ((l : List Record) → (b.records ≡ [] → IsBriefOf t l) → c.records ≢ [] → b.short ≡ None → IsDue meters on_disk l short (length c.body)) →
+        ((l : List Record) → (b.records ≡ [] → IsBriefOf t l) → c.records ≢ [] → b.short ≡ None → HasRoomUnlessShort meters on_disk l short (length c.body)) →
         then ≡ now ++ mark.Place site outs ∷ [] → IsBatch meters on_disk sc h site rose marks first (done ++ i ∷ []) c new then
     batch_added b c s t new now then outs i d made step short was order told ready still made_is go weights number counted step_is outs_are steps records body shorts is_short may due claim = record {
       steps_are = steps ∙ ap (λ (l : List Entry). l ++ step ∷ []) was.steps_are ∙ ap (λ (x : Entry). unnumbered_steps sc h site done ++ x ∷ []) entry ∙ sym (plain_push sc h site done i);
@@ -196,7 +196,7 @@ module _ {D : Type 0} (meters : D → Meters) (on_disk : LogState D) where
           subst Q (sym shorts) (short_first site l short b.short (subst P there (is_short l brief)) was.short);
       may = let P : Option Short → Type 0 = λ o. MayTurn on_disk o in subst P (sym shorts) (may_first short b.short may was.may);
       due = λ some.
-          let Q : Option Short → Type 0 = λ o. IsDue meters on_disk l o (length c.body) in
+          let Q : Option Short → Type 0 = λ o. HasRoomUnlessShort meters on_disk l o (length c.body) in
           subst Q (sym shorts) (due_first l short b.short (length c.body) (due l brief (λ none. some (sym records_now ∙ none))));
     }
       where

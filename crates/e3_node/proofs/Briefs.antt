@@ -20,7 +20,7 @@ use Rattle.e3_node.specs.Briefing.{IsBriefOf, IsReadBrief}
 use Rattle.e3_node.specs.Telling.{IsOwn}
 use Rattle.e3_site.specs.Rebuilt.{IsRebuilt}
 use Rattle.e3_site.specs.SiteView.{SiteView, risen_with}
-use Rattle.e3_site_log.specs.Ends.{IsDue}
+use Rattle.e3_site_log.specs.Ends.{HasRoomUnlessShort}
 use Rattle.e3_site_log.specs.declared.writing.Short.{Short}
 use Rattle.e3_site.specs.Tables.{IsInOrder}
 use Rattle.e3_site.proofs.AlikeTables.{in_order_alike}
@@ -134,7 +134,7 @@ brief_own site l all =
 
 -- a short log of records is none only of an empty log, which is due whatever its frame has
 pub due_short : {D : Type 0} (meters : D → Meters) (on_disk : LogState D) (l records : List Record) (size : ℕ) (r : Result (Option Short) NoMemory) →
-    IfOk r (λ s. s ≡ None → records ≡ []) → (records ≡ [] → l ≡ []) → IfOk r (λ s. IsDue meters on_disk l s size)
+    IfOk r (λ s. s ≡ None → records ≡ []) → (records ≡ [] → l ≡ []) → IfOk r (λ s. HasRoomUnlessShort meters on_disk l s size)
 due_short meters on_disk l records size (Ok None) none empty = inr (empty (none refl))
 due_short meters on_disk l records size (Ok (Some s)) none empty = tt
 due_short meters on_disk l records size (Err e) none empty = tt

@@ -22,7 +22,7 @@ use Rattle.e3_node.specs.Batches.{EndsBehind, FrameTakes, IsOneFrame, fall_over,
 use Rattle.e3_node.specs.Bodies.{DiskTells, entries_at}
 use Rattle.e3_node.specs.Ending.{EndsWith}
 use Rattle.e3_site_log.specs.Bodies.{IsLogged, ReadsLeft, body_of}
-use Rattle.e3_site_log.specs.Ends.{EndsAt, HasRoom, IsDue, IsReason, IsShortIf, Takes, calls_for, size_of}
+use Rattle.e3_site_log.specs.Ends.{EndsAt, HasRoom, HasRoomUnlessShort, IsReason, IsShortIf, Takes, calls_for, size_of}
 use Rattle.e3_site_log.specs.declared.writing.Short.{Short}
 use Rattle.e3_node.specs.NodeStands.{IsUp, steps_at}
 use Rattle.e3_node.specs.Several.{MayEnterAll, claims_for, marks_in}
@@ -89,7 +89,7 @@ one_frame meters site old new log (r ∷ rs) (Some s) is same end = by (end (λ 
 
 -- without a short log, what follows from room for the frame
 fits_so : {D : Type 0} (meters : D → Meters) (old : LogState D) (log : List Record) (short : Option Short) (size : ℕ) (P : Type 0) → short ≡ None →
-    IsDue meters old log short size → log ≢ [] → (HasRoom meters old size → P) → P
+    HasRoomUnlessShort meters old log short size → log ≢ [] → (HasRoom meters old size → P) → P
 fits_so meters old log None size P none (inl room) some so = so room
 fits_so meters old log None size P none (inr empty) some so = absurd (some empty)
 fits_so meters old log (Some s) size P none due some so = absurd cc
@@ -315,10 +315,10 @@ module _ {rose : List Record} {D0 : Type 0} (meters0 : D0 → Meters) (on_disk :
       }
 
       -- without a short log the frame has room
-      pub all_due : batch.records ≢ [] → IsDue meters0 on_disk (log_of sc k site) batch.short (size_of batch.records)
+      pub all_due : batch.records ≢ [] → HasRoomUnlessShort meters0 on_disk (log_of sc k site) batch.short (size_of batch.records)
       all_due recorded =
-          let P : List Record → Type 0 = λ l. IsDue meters0 on_disk l batch.short (size_of batch.records) in
-          let N : ℕ → Type 0 = λ n. IsDue meters0 on_disk (log_of sc h1 site) batch.short n in
+          let P : List Record → Type 0 = λ l. HasRoomUnlessShort meters0 on_disk l batch.short (size_of batch.records) in
+          let N : ℕ → Type 0 = λ n. HasRoomUnlessShort meters0 on_disk (log_of sc h1 site) batch.short n in
           subst P (sym log_second) (subst N body_size (made.due (λ none. recorded (made.records_are ∙ none))))
 
       -- once the steps are entered
@@ -458,7 +458,7 @@ module _ {rose : List Record} {D0 : Type 0} (meters0 : D0 → Meters) (on_disk :
 
         -- or the fall is
         pub fall_end : IfOk answer (λ n. (n ≡ plan.count) × FrameTakes meaning.meters old sc h site inputs plan.count) → (why : Why) → batch.records ≢ [] →
-            IfOk answer (λ m. m < length inputs → batch.short ≡ None) → IsDue meaning.meters old (log_of sc k site) batch.short (size_of batch.records) →
+            IfOk answer (λ m. m < length inputs → batch.short ≡ None) → HasRoomUnlessShort meaning.meters old (log_of sc k site) batch.short (size_of batch.records) →
             (HasRoom meaning.meters old (size_of batch.records) → why ≡ Fault) →
             ((bytes : List ℕ) → meaning.image new.disk bytes → ReadsLeft site (meaning.meters new.disk).capacity (entries_at k site + 1) (log_of sc k site) batch.records n why bytes) →
             IsReason why (log_of sc k site) batch.records (meaning.meters old.disk) (meaning.meters new.disk) → Keeps (meaning.meters old.disk) (meaning.meters new.disk) →

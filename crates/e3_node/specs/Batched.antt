@@ -13,7 +13,7 @@ use Rattle.e3_node.specs.declared.briefing.Room.TheVariants as room
 use Rattle.e3_node.specs.declared.fault.InputFault.{InputFault}
 use Rattle.e3_node.specs.declared.fault.InputFault.TheVariants as input_fault
 use Rattle.e3_site.specs.SiteView.{SiteView}
-use Rattle.e3_site_log.specs.Ends.{HasRoom, IsDue, IsShortIf, MayTurn, size_of}
+use Rattle.e3_site_log.specs.Ends.{HasRoom, HasRoomUnlessShort, IsShortIf, MayTurn, size_of}
 use Rattle.e3_site_log.specs.declared.writing.Short.{Short}
 use Rattle.e3_site.specs.StandsAlike.{StandsAlike}
 use Rattle.e3_turn.specs.Passes.{GrewByOthers}
@@ -65,7 +65,7 @@ pub record IsBatch {D : Type 0} (meters : D → Meters) (on_disk : LogState D) (
   pub claimed : now ≡ marks ++ claims_for (unnumbered_steps sc history site done)
   pub short : IsShortIf site (log_of sc history site) batch.short
   pub may : MayTurn on_disk batch.short
-  pub due : records_by sc history site done ≢ [] → IsDue meters on_disk (log_of sc history site) batch.short (length batch.body)
+  pub due : records_by sc history site done ≢ [] → HasRoomUnlessShort meters on_disk (log_of sc history site) batch.short (length batch.body)
 
 -- want of memory is the only refusal
 abbrev pub OnlyForMemory : {A : Type 0} → Result A InputFault → Type 0

@@ -8,7 +8,7 @@ ghost use Rattle.e3_node.specs.Briefing.{IsBriefOf, IsReadBrief, asked_of, spare
 ghost use Rattle.e3_node.specs.declared.briefing.Room.TheVariants as room;
 ghost use Rattle.e3_node.specs.Telling.{IsOwn};
 ghost use Rattle.e3_node.specs.declared.readying.Unready.TheVariants as unready;
-ghost use Rattle.e3_site_log.specs.Ends.{HasRoom, IsDue, IsShortIf, MayTurn};
+ghost use Rattle.e3_site_log.specs.Ends.{HasRoom, HasRoomUnlessShort, IsShortIf, MayTurn};
 ghost use Rattle.e3_site_log.specs.declared.writing.Short.{Short as Shorts};
 ghost use Rattle.e3_types.specs.declared.records.Record.{Record as Records};
 
@@ -55,7 +55,7 @@ pub(crate) fn shorten<D: Disk>(
 ) -> Result<Option<Short>, NoMemory>
     ensures short { (l : Items Records) → IsBriefOf site.now l → IfOk result (IsShortIf site.now.site l) }
     ensures due { (l : Items Records) → IsBriefOf site.now l → log.now.failed ≡ false → records.now ≢ [] →
-        IfOk result (λ s. IsDue D.meaning.meters log.now l s len) }
+        IfOk result (λ s. HasRoomUnlessShort D.meaning.meters log.now l s len) }
     ensures may { IfOk result (MayTurn log.now) }
 {
     if records.is_empty() || log.fits(len) {
@@ -87,7 +87,7 @@ pub(crate) fn shorten_read<D: Disk>(
     requires { rise.now.read ≤ length rise.now.rose }
     ensures short { (l : Items Records) → IsReadBrief wish.now.site (take rise.now.read rise.now.rose) l → IfOk result (IsShortIf wish.now.site l) }
     ensures due { (l : Items Records) → IsReadBrief wish.now.site (take rise.now.read rise.now.rose) l → log.now.failed ≡ false →
-        IfOk result (λ s. IsDue D.meaning.meters log.now l s (length rise.now.body)) }
+        IfOk result (λ s. HasRoomUnlessShort D.meaning.meters log.now l s (length rise.now.body)) }
     ensures may { IfOk result (MayTurn log.now) }
     ensures never { IsOrderly wish.now.site (take rise.now.read rise.now.rose) → result ≡ Err unready.Foreign → ⊥ }
 {
@@ -160,7 +160,7 @@ pub(crate) fn shorten_batch<D: Disk>(
 ) -> Result<Room, NoMemory>
     ensures short { (l : Items Records) → (batch.now.records ≡ [] → IsBriefOf site.now l) → IfOk result (λ r. IfReady r (IsShortIf site.now.site l)) }
     ensures due { (l : Items Records) → (batch.now.records ≡ [] → IsBriefOf site.now l) → log.now.failed ≡ false → records.now ≢ [] →
-        batch.now.short ≡ None → IfOk result (λ r. IfReady r (λ s. IsDue D.meaning.meters log.now l s len)) }
+        batch.now.short ≡ None → IfOk result (λ r. IfReady r (λ s. HasRoomUnlessShort D.meaning.meters log.now l s len)) }
     ensures may { IfOk result (λ r. IfReady r (MayTurn log.now)) }
     ensures none { (s : Shorts) → batch.now.short ≡ Given s → result ≡ Ok (room.Ready None) }
     ensures full { IfOk result (λ r. r ≡ room.Full → (batch.now.records ≢ []) × (batch.now.short ≡ None) × (HasRoom D.meaning.meters log.now len → ⊥)) }

@@ -9,7 +9,7 @@ ghost use Rattle.e3_node.specs.NodeView.{disk_of, is_up_in};
 ghost use Rattle.e3_node.specs.declared.readying.Wish.{Wish as Wishes};
 ghost use Rattle.e3_node.specs.declared.rising.Raised.TheVariants as raises;
 ghost use Rattle.e3_node.specs.Rising.{IsAllowed, IsReady, MayRise, RiseIsEntered, RiseMakes, RiseOver, RiseTakes, raised_by, raised_of, told_of};
-ghost use Rattle.e3_site_log.specs.Ends.{IsDue, IsShortIf, MayTurn};
+ghost use Rattle.e3_site_log.specs.Ends.{HasRoomUnlessShort, IsShortIf, MayTurn};
 ghost use Rattle.e3_node.specs.SharedStands.{IsClaimed};
 ghost use Rattle.e3_types.specs.Spelling.{spelling};
 ghost use Rattle.e3_types.specs.declared.entries.Entry.{Entry as Entries};
@@ -65,7 +65,7 @@ fn log_rise<D: Disk + Drop>(
     requires may { MayTurn log short }
     ensures makes { (sc : Scenario) (h : Items Entries) (wish : Wishes) (logged : ℕ) (bodies : Items (Items ℕ)) → MayRise sc h wish → IsReady wish logged bodies rise →
         Stands D.meaning bodies log → DiskTells sc h wish.site (D.meaning.meters log.disk).capacity logged (D.meaning.image log.disk) →
-        IsShortIf wish.site (log_with sc h wish.site rise.kept) short → IsDue D.meaning.meters log (log_with sc h wish.site rise.kept) short (length rise.body) →
+        IsShortIf wish.site (log_with sc h wish.site rise.kept) short → HasRoomUnlessShort D.meaning.meters log (log_with sc h wish.site rise.kept) short (length rise.body) →
         RiseMakes D.meaning sc h wish.site log.disk result.0 result.1 }
     ensures keeps { Keeps (D.meaning.meters log.disk) (D.meaning.meters (disk_of result.0)) }
     ensures takes { RiseTakes 4 result.1 (D.meaning.meters log.disk) (D.meaning.meters (disk_of result.0)) }

@@ -10,7 +10,7 @@ ghost use Rattle.e3_world.specs.Operations.{holders, queue};
 ghost use Rattle.e3_world.specs.Steps.{is_begin};
 
 use e3_locks::lock_grant;
-use e3_readings::{add_records, holders, key_of, lock_for, next, queue, waiting};
+use e3_readings::{holders, key_of, lock_for, next, queue, waiting};
 use e3_types::{Answer, Copied, Grant, Input, List, Lock, NoMemory, Record, Txn};
 use e3_world::{Asked, At, Made, Moment};
 use std::alloc::Global;
@@ -20,7 +20,7 @@ pub fn log_now(alloc: Global, a: &At, made: &Made) -> Result<List<Record>, NoMem
     ensures { IfOk result (λ out. out ≡ log_now a.now made.now) }
 {
     let mut out = a.life.log.copied(alloc)?;
-    add_records(alloc, made.records.as_slice(), &mut out)?;
+    out.add_copies(alloc, made.records.as_slice())?;
     Ok(out)
 }
 

@@ -31,7 +31,7 @@ pub use elections::{
     is_decision, next_call,
 };
 pub use inputs::{inputs_asked, inputs_to};
-pub use lives::{add_records, life_by, life_of, present_log};
+pub use lives::{life_by, life_of, present_log};
 pub use logs::{
     attempted, attempted_behind, attempted_by, decision, decision_behind, decision_by, has_voted,
     is_undecided, is_vote, key_of, last_attempt, last_attempt_behind, last_attempt_by,

@@ -7,17 +7,6 @@ use e3_types::{Copied, List, NoMemory, Record};
 use e3_world::{Life, Moment, SiteStep};
 use std::alloc::Global;
 
-/// Adds copies of these records.
-pub fn add_records(
-    alloc: Global,
-    records: &[Record],
-    out: &mut List<Record>,
-) -> Result<(), NoMemory>
-    ensures { IfOk result (λ u. out.new ≡ out.old ++ records.now) }
-{
-    out.add_copies(alloc, records)
-}
-
 /// The log at present: the one that the site rose with, and the records of its steps since, the oldest first.
 pub fn present_log(
     alloc: Global,

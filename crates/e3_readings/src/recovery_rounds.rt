@@ -26,15 +26,6 @@ impl Model for RecoveryRound {
     ghost inverse = { λ r. record { txn = r.txn; members = r.members; elector = r.elector } };
 }
 
-impl RecoveryRound {
-    /// An equal round.
-    pub fn copy(&self) -> RecoveryRound
-        ensures { result ≡ self.now }
-    {
-        *self
-    }
-}
-
 // Those of these sites that are in the set.
 fn sites_in(alloc: Global, set: SiteSet, sites: &[u32]) -> Result<List<u32>, NoMemory>
     ensures { IfOk result (λ out. out ≡ filter (has_site set) sites.now) }

@@ -79,9 +79,9 @@ abbrev pub HasRoom : {D : Type 0} → (D → Meters) → LogState D → ℕ → 
 HasRoom meters on_disk size = on_disk.end + 6 + size ≤ limit (meters on_disk.disk).capacity on_disk.region
 
 -- Without a short log the body has room, or the log is empty.
-abbrev pub IsDue : {D : Type 0} → (D → Meters) → LogState D → List Record → Option Short → ℕ → Type 0
-IsDue meters on_disk log None size = HasRoom meters on_disk size ⊎ (log ≡ [])
-IsDue meters on_disk log (Some short) size = Unit {0}
+abbrev pub HasRoomUnlessShort : {D : Type 0} → (D → Meters) → LogState D → List Record → Option Short → ℕ → Type 0
+HasRoomUnlessShort meters on_disk log None size = HasRoom meters on_disk size ⊎ (log ≡ [])
+HasRoomUnlessShort meters on_disk log (Some short) size = Unit {0}
 
 -- where the closed gate is behind the frame of these records, where a log was turned to a short one in the other region
 abbrev pub turned_to : {D : Type 0} → (D → Meters) → LogState D → Short → List Record → ℕ

@@ -5,7 +5,7 @@ use Rattle.e3_disk.specs.Meaning.{Meaning}
 use Rattle.e3_world.specs.Orderly.{IsOrderly}
 use Rattle.e3_log.specs.Stands.{LogState}
 use Rattle.e3_site_log.specs.Bodies.{IsLogged, ReadsLeft}
-use Rattle.e3_site_log.specs.Ends.{IsDue, IsReason, IsShortIf, size_of}
+use Rattle.e3_site_log.specs.Ends.{HasRoomUnlessShort, IsReason, IsShortIf, size_of}
 use Rattle.e3_site_log.specs.declared.writing.Short.{Short}
 use Rattle.e3_types.specs.declared.entries.Why.{Why}
 use Rattle.e3_types.specs.declared.records.Record.{Record}
@@ -26,4 +26,4 @@ module _ {D : Type 0} (meaning : Meaning D) (old new : LogState D) (before after
   -- and the reason is true, where the log was turned unless the frame had room
   abbrev pub Reasons : Result (Unit {0}) Why → Type 0
   Reasons result = (site most : ℕ) (l : List Record) → IsLogged meaning site most l before old → IsShortIf site l short →
-      IsDue meaning.meters old l short (size_of records) → IfErr result (λ why. IsReason why l records (meaning.meters old.disk) (meaning.meters new.disk))
+      HasRoomUnlessShort meaning.meters old l short (size_of records) → IfErr result (λ why. IsReason why l records (meaning.meters old.disk) (meaning.meters new.disk))

@@ -83,6 +83,7 @@ impl Workspace {
     pub fn reserve(&mut self) -> Result<(), NoMemory>
         ensures txn { self.new.txn ≡ self.old.txn }
         ensures ops { self.new.ops ≡ self.old.ops }
+        ensures kept { self.old.room ≤ self.new.room }
         ensures room { OnOk result (1 ≤ self.new.room) }
     {
         match self.ops.reserve(1) {

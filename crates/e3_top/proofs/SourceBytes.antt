@@ -6,7 +6,7 @@ use Rattle.e3_disk.specs.Meaning.{Meaning}
 use Rattle.e3_outside.specs.Faults.{HasFailed}
 use Rattle.e3_top.proofs.Spelled.{same_most}
 use Rattle.e3_top.specs.Due.{IsOutcome, NothingHappened}
-use Rattle.e3_top.specs.Ends.{IsCutShort, IsDue, IsHistoryOf, IsPrepared, IsRead, IsReady, IsTaken, SourceFails}
+use Rattle.e3_top.specs.Ends.{IsCutShort, IsResponse, IsHistoryOf, IsPrepared, IsRead, IsReady, IsTaken, SourceFails}
 use Rattle.e3_top.specs.Words.{IsRun, IsCheck, most_bytes}
 use Rattle.e3_top.specs.declared.preparing.Due.{Due}
 use Rattle.e3_top.specs.declared.preparing.Stop.{Stop}
@@ -92,9 +92,9 @@ fails_reading before now words had left faults_before faults_now h c spelled rea
 
 -- nothing is due but that memory ran out before anything happened
 pub wants_memory : {D : Type 0} (meaning : Meaning D) (before now : List D) (words : List (String Global)) (bytes : List ℕ) (most : ℕ) (h : List Entry) (r : Result Due Stop) →
-    r ≡ Err stop.NoMemory → NothingHappened before now h → IsDue meaning before now words bytes most r h
+    r ≡ Err stop.NoMemory → NothingHappened before now h → IsResponse meaning before now words bytes most r h
 wants_memory meaning before now words bytes most h r e nothing =
-    subst (λ (q : Result Due Stop). IsDue meaning before now words bytes most q h) (sym e) (record { outcome = tt; status = tt; only_memory = refl; cut_short = λ f. inl nothing })
+    subst (λ (q : Result Due Stop). IsResponse meaning before now words bytes most q h) (sym e) (record { outcome = tt; status = tt; only_memory = refl; cut_short = λ f. inl nothing })
 
 -- where nothing but memory was lacking the source did not fail
 not_lost : (r : Result Due Stop) → IfErr r (λ s. s ≡ stop.NoMemory) → r ≡ Err stop.SourceFailed → ⊥
@@ -102,7 +102,7 @@ not_lost r only e = let same : stop.SourceFailed ≡ stop.NoMemory = subst (λ (
 
 -- what is due for bytes that were read is ready
 pub ready_of : {D S : Type 0} (meaning : Meaning D) (left : S → Option (List ℕ)) (faults : S → ℕ) (before after : List D) (words : List (String Global)) (was now : S) (bytes : List ℕ) (most : ℕ) (h : List Entry) (r : Result Due Stop) →
-    IsRead words (left was) (left now) bytes → IsDue meaning before after words bytes most r h → faults was ≤ faults now →
+    IsRead words (left was) (left now) bytes → IsResponse meaning before after words bytes most r h → faults was ≤ faults now →
     IsReady meaning left faults before after words was now most r h
 ready_of meaning left faults before after words was now bytes most h r read due counts = record {
   prepared = prepared_of meaning before after words (left was) (left now) bytes most h r read due.outcome;

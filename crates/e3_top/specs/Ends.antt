@@ -77,7 +77,7 @@ pub record IsCutShort {D : Type 0} (meaning : Meaning D) (disks_before disks_now
 
 -- What is due for the bytes that were read: a text, with a status that the words may end with; or memory ran out, where nothing
 -- had happened yet, or the history is one of the scenario that is played.
-pub record IsDue {D : Type 0} (meaning : Meaning D) (disks_before disks_now : List D)
+pub record IsResponse {D : Type 0} (meaning : Meaning D) (disks_before disks_now : List D)
     (words : List (String Global)) (bytes : List ℕ) (most : ℕ) (due : Result Due Stop) (history : List Entry) : Type 0 where
   pub outcome : IfOk due (λ d. IsOutcome meaning disks_before disks_now words bytes most d.status history d.text)
   pub status : IfOk due (λ d. MayEnd words d.status)

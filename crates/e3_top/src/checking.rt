@@ -1,6 +1,6 @@
 // The verdict on a printed history, up to the writing of its text.
 ghost use Rattle.std.specs.Prelude.{◌≡◌};
-ghost use Rattle.e3_top.specs.Ends.{IsDue, IsReady};
+ghost use Rattle.e3_top.specs.Ends.{IsResponse, IsReady};
 ghost use Rattle.e3_top.specs.Commands.{Spell};
 ghost use Rattle.e3_top.specs.declared.commands.Command.TheVariants.{Check};
 
@@ -18,7 +18,7 @@ impl<G, R> Stage<'_, G, R> {
     // The verdict on the bytes that were read. Nothing is played, and no disk is touched.
     fn judge_bytes<D: Disk + Drill + Drop>(&self, bytes: &[u8], disks: Vec<D>) -> Prepared<D>
         requires { Spell self.now.words.now Check }
-        ensures due { IsDue D.meaning disks.items result.disks.items self.now.words.now bytes.now self.now.most result.due result.history.entries }
+        ensures due { IsResponse D.meaning disks.items result.disks.items self.now.words.now bytes.now self.now.most result.due result.history.entries }
         ensures disks { result.disks.items ≡ disks.items }
     {
         match check(self.alloc, bytes) {

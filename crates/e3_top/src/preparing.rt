@@ -5,7 +5,7 @@ ghost use Rattle.e3_play.specs.Delivered.{IsFull};
 ghost use Rattle.e3_scenario.specs.Faults.{fault_text};
 ghost use Rattle.e3_scenario.specs.Scenarios.{scenario_of};
 ghost use Rattle.e3_top.specs.Due.{AreSixteenBlank, IsAsked, IsRunOf, IsTextOf, NothingHappened, told_of};
-ghost use Rattle.e3_top.specs.Ends.{IsDue, IsReady};
+ghost use Rattle.e3_top.specs.Ends.{IsResponse, IsReady};
 ghost use Rattle.e3_top.specs.Words.{IsCheck, IsGen, IsRun, refused_history_full};
 ghost use Rattle.e3_top.specs.Commands.{IsCommand, Spell};
 ghost use Rattle.e3_top.specs.declared.commands.Command.TheVariants.{Run, Gen, Drill};
@@ -172,7 +172,7 @@ impl<G, R> Stage<'_, G, R> {
     // The text for words that spell no command.
     fn refuse_words<D: Disk + Drill + Drop>(&self, disks: Vec<D>) -> Prepared<D>
         requires { ¬ IsCommand self.now.words.now }
-        ensures due { IsDue D.meaning disks.items result.disks.items self.now.words.now [] self.now.most result.due result.history.entries }
+        ensures due { IsResponse D.meaning disks.items result.disks.items self.now.words.now [] self.now.most result.due result.history.entries }
         ensures nothing { NothingHappened disks.items result.disks.items result.history.entries }
     {
         unplayed(self.alloc, 1, refused_words(self.alloc), disks)
@@ -183,7 +183,7 @@ impl<G, R> Stage<'_, G, R> {
         requires spelled { Spell self.now.words.now (Gen n) }
         requires least { 1 ≤ n }
         requires most { n ≤ 1000 }
-        ensures due { IsDue D.meaning disks.items result.disks.items self.now.words.now [] self.now.most result.due result.history.entries }
+        ensures due { IsResponse D.meaning disks.items result.disks.items self.now.words.now [] self.now.most result.due result.history.entries }
         ensures nothing { NothingHappened disks.items result.disks.items result.history.entries }
     {
         unplayed(self.alloc, 0, generated(self.alloc, n), disks)
@@ -199,7 +199,7 @@ impl<G, R> Stage<'_, G, R> {
     ) -> Prepared<D>
         requires run { Spell self.now.words.now (Run trace) }
         requires refused { (fault.now ≡ ScenarioFault.NoMemory) ⊎ (scenario_of bytes.now ≡ Err fault.now) }
-        ensures { IsDue D.meaning disks.items result.disks.items self.now.words.now bytes.now self.now.most result.due result.history.entries }
+        ensures { IsResponse D.meaning disks.items result.disks.items self.now.words.now bytes.now self.now.most result.due result.history.entries }
     {
         unplayed(self.alloc, 2, line_of(self.alloc, fault), disks)
     }
@@ -242,7 +242,7 @@ impl<G: Gate + Sync, R: Wait + Threads + Sync> Stage<'_, G, R> {
         requires given { IsGiven scenario.now }
         requires enough { length scenario.now.weights ≤ length disks.items }
         requires blank { AreBlank D.meaning disks.items }
-        ensures { IsDue D.meaning disks.items result.disks.items self.now.words.now bytes.now self.now.most result.due result.history.entries }
+        ensures { IsResponse D.meaning disks.items result.disks.items self.now.words.now bytes.now self.now.most result.due result.history.entries }
     {
         let Played {
             ended,
@@ -265,7 +265,7 @@ impl<G: Gate + Sync, R: Wait + Threads + Sync> Stage<'_, G, R> {
     ) -> Prepared<D>
         requires run { Spell self.now.words.now (Run trace) }
         requires disks { AreSixteenBlank D.meaning disks.items }
-        ensures { IsDue D.meaning disks.items result.disks.items self.now.words.now bytes.now self.now.most result.due result.history.entries }
+        ensures { IsResponse D.meaning disks.items result.disks.items self.now.words.now bytes.now self.now.most result.due result.history.entries }
     {
         match read_scenario(self.alloc, bytes) {
             Err(fault) => self.refuse_scenario(trace, bytes, &fault, disks),
@@ -300,7 +300,7 @@ impl<G: Gate + Sync, R: Wait + Threads + Sync> Stage<'_, G, R> {
         requires least { 1 ≤ n }
         requires most { n ≤ 1000 }
         requires disks { AreSixteenBlank D.meaning disks.items }
-        ensures { IsDue D.meaning disks.items result.disks.items self.now.words.now [] self.now.most result.due result.history.entries }
+        ensures { IsResponse D.meaning disks.items result.disks.items self.now.words.now [] self.now.most result.due result.history.entries }
     {
         match generated_scenario(self.alloc, n) {
             Err(NoMemory) => unprepared(self.alloc, Stop::NoMemory, disks),

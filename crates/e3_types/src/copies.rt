@@ -1,5 +1,5 @@
 // Copies of values that hold lists.
-ghost use Rattle.std.specs.Prelude.{◌≡◌, ◌++◌, IfOk};
+ghost use Rattle.std.specs.Prelude.{◌≡◌, ◌++◌, ℕ, take, IfOk, OnErr};
 
 use crate::{
     Act, Entry, Input, Item, KeyRow, List, NoMemory, NumOp, Packet, Record, Row, Scenario, SiteSet,
@@ -72,9 +72,10 @@ impl<T: Copied + Drop> List<T> {
         Ok(list)
     }
 
-    /// Adds equal items at the end. Want of memory is the only error; some of them may stand there then.
+    /// Adds equal items at the end. Want of memory is the only error; the first few may stand there then.
     pub fn add_copies(&mut self, alloc: Global, items: &[T]) -> Result<(), NoMemory>
-        ensures { IfOk result (λ u. self.new ≡ self.old ++ items.now) }
+        ensures ok { IfOk result (λ u. self.new ≡ self.old ++ items.now) }
+        ensures err { OnErr result ((few : ℕ) × (self.new ≡ self.old ++ take few items.now)) }
     {
         for item in items {
             self.push(item.copied(alloc)?)?;

@@ -7,7 +7,7 @@ use Rattle.e3_types.specs.declared.entries.Input.{Input}
 use Rattle.e3_types.specs.declared.records.Record.{Record}
 use Rattle.e3_wire.specs.Marks.{last_owner, most_of, used_of}
 use Rattle.e3_wire.specs.declared.marks.Mark.TheVariants as mark
-use Rattle.e3_site_log.specs.Ends.{HasRoom, IsDue, IsShortIf, MayTurn}
+use Rattle.e3_site_log.specs.Ends.{HasRoom, HasRoomUnlessShort, IsShortIf, MayTurn}
 use Rattle.e3_site_log.specs.declared.writing.Short.{Short}
 use Rattle.e3_node.specs.Batched.{IfReady}
 use Rattle.e3_node.specs.declared.briefing.Room.{Room}
@@ -35,9 +35,9 @@ returns-clause-added g c = λ yes.
     (ap (λ (b : Batch). b.short) c.set_short.ensures)
     (λ l brief. ready (IsShortIf c.planned.new.site.site l) (c.in_ok-short.ensures.short l brief)) (ready (MayTurn c.args.log.now) c.in_ok-short.ensures.may)
     (λ l brief some none.
-    let D : ℕ → Type 0 = λ n. IsDue g.D.Disk.meaning.meters c.args.log.now l c.in-Ready.short n in
+    let D : ℕ → Type 0 = λ n. HasRoomUnlessShort g.D.Disk.meaning.meters c.args.log.now l c.in-Ready.short n in
     let size : c.len.result ≡ length c.set_short.new.batch.body = c.len.ensures ∙ sym (ap (λ (b : Batch). length b.body) c.set_short.ensures) in
-    subst D size (ready (λ s. IsDue g.D.Disk.meaning.meters c.args.log.now l s c.len.result)
+    subst D size (ready (λ s. HasRoomUnlessShort g.D.Disk.meaning.meters c.args.log.now l s c.len.result)
     (c.in_ok-short.ensures.due l brief c.requires.1.1.1.1.0 (λ empty. some (ap (λ (b : Batch). b.records) c.set_short.ensures ∙ sym c.as_slice-4.ensures ∙ empty)) none)))
     (c.in_ok-claim.ensures.ok ∙ ap (λ (n : ℕ). c.args.shared.now ++ mark.Place n c.room_for-room.result ∷ []) c.requires.1.1.0)
 

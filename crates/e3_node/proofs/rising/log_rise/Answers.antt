@@ -4,7 +4,7 @@ use Rattle.e3_world.specs.Orderly.{IsOrderly}
 use Rattle.e3_node.specs.Bodies.{entries_at, log_with}
 use Rattle.e3_node.specs.Rising.{HasNotRaised}
 use Rattle.e3_site_log.specs.Bodies.{IsLogged, ReadsLeft}
-use Rattle.e3_site_log.specs.Ends.{IsDue, IsReason, size_of}
+use Rattle.e3_site_log.specs.Ends.{HasRoomUnlessShort, IsReason, size_of}
 use Rattle.e3_types.specs.declared.records.Record.{Record}
 use Rattle.e3_node.proofs.Rises.{may_follow, not_raised, raised, was_logged}
 use Rattle.e3_node.proofs.rising.log_rise.Goals as goal
@@ -34,7 +34,7 @@ returns-in-Err-clause-makes g c = λ sc h wish logged bodies may is stands tells
     (subst (λ (rs : List Record). IsOrderly wish.site (l ++ rs)) (sym c.as_slice-records.ensures) follow)
     (subst (λ (rs : List Record). AllCanBeReadBack wish.site rs) (sym c.as_slice-records.ensures) is.fits) in
     let size = ap length c.requires.spelled ∙ sym (ap size_of c.as_slice-records.ensures) in
-    let fits : IsDue g.D.Disk.meaning.meters c.args.log l c.args.short (size_of c.as_slice-records.result.now) = subst (λ (n : ℕ). IsDue g.D.Disk.meaning.meters c.args.log l c.args.short n) size due in
+    let fits : HasRoomUnlessShort g.D.Disk.meaning.meters c.args.log l c.args.short (size_of c.as_slice-records.result.now) = subst (λ (n : ℕ). HasRoomUnlessShort g.D.Disk.meaning.meters c.args.log l c.args.short n) size due in
     let reason = c.in-Err.ensures.reason wish.site (entries_at h wish.site) l was is_short fits in
     subst (λ (d : _). HasNotRaised g.D.Disk.meaning sc h wish.site c.args.log.disk d c.write.new.logged c.args.rise.kept c.args.rise.inc c.in-Err.why)
     (sym c.into_disk.ensures)

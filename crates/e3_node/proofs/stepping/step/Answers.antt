@@ -7,7 +7,7 @@ use Rattle.e3_node.specs.SharedStands.{HasEntered}
 use Rattle.e3_node.specs.declared.fault.InputFault.{InputFault}
 use Rattle.e3_node.specs.declared.fault.InputFault.TheVariants as input_fault
 use Rattle.e3_site.specs.SiteView.{SiteView, count_on, entry_of_plan, step_kept}
-use Rattle.e3_site_log.specs.Ends.{IsDue, IsReason, Takes, calls_for, size_of}
+use Rattle.e3_site_log.specs.Ends.{HasRoomUnlessShort, IsReason, Takes, calls_for, size_of}
 use Rattle.e3_types.specs.declared.entries.Act.TheVariants.{Fall}
 use Rattle.e3_types.specs.declared.entries.Entry.{Entry}
 use Rattle.e3_types.specs.declared.entries.Why.{Why}
@@ -208,8 +208,8 @@ returns-in-Err-clause-why g c = λ why is.
     c.requires.shared.stands.played.given c.requires.shared.stands.played.legal c.requires.up.up c.args.rose.now c.prepare.new.site ready in
     let size : c.len.result ≡ size_of c.records-records.result.now =
     c.len.ensures ∙ ap length c.in_ok-draft.ensures.ready.drafted.body_is ∙ sym (ap size_of c.records-records.ensures) in
-    let due : IsDue g.D.Disk.meaning.meters c.args.log.now l c.in_ok-short.short (size_of c.records-records.result.now) =
-    subst (λ (n : ℕ). IsDue g.D.Disk.meaning.meters c.args.log.now l c.in_ok-short.short n) size (c.in_ok-short.ensures.due l brief c.requires.up.logged.stands.sound c.in-Err.ensures.some) in
+    let due : HasRoomUnlessShort g.D.Disk.meaning.meters c.args.log.now l c.in_ok-short.short (size_of c.records-records.result.now) =
+    subst (λ (n : ℕ). HasRoomUnlessShort g.D.Disk.meaning.meters c.args.log.now l c.in_ok-short.short n) size (c.in_ok-short.ensures.due l brief c.requires.up.logged.stands.sound c.in-Err.ensures.some) in
     let same : c.in-Err.why ≡ why = cc in
     subst (λ (w : Why). IsReason w l (made_by sc h c.args.number c.args.input).records old new) same
     (subst (λ (rs : List Record). IsReason c.in-Err.why l rs old new) slice

@@ -8,7 +8,7 @@ use Rattle.e3_node.specs.Bodies.{entries_at}
 use Rattle.e3_node.specs.Briefing.{BriefsAreTold}
 use Rattle.e3_node.specs.Several.{AreOf, marks_in}
 use Rattle.e3_site_log.specs.Bodies.{IsLogged, ReadsLeft}
-use Rattle.e3_site_log.specs.Ends.{EndsAt, HasRoom, IsDue, IsReason, Takes, calls_for, size_of}
+use Rattle.e3_site_log.specs.Ends.{EndsAt, HasRoom, HasRoomUnlessShort, IsReason, Takes, calls_for, size_of}
 use Rattle.e3_turn.specs.Passes.{GrewByOthers, Owns, seen_by}
 use Rattle.e3_types.specs.Spelling.{spelling}
 use Rattle.e3_types.specs.declared.entries.Act.TheVariants.{Fall}
@@ -373,7 +373,7 @@ returns-in-Err-clause-ended g c =
     c.logs_are_sound.ensures.orderly c.logs_are_sound.ensures.sets c.logs_are_sound.ensures.mention c.logs_are_sound.ensures.begun
     c.logs_are_sound.ensures.votes up_1 up_k) in
     let some : b.records ≢ [] = λ none. c.in-Err.ensures.some (c.as_slice-2.ensures ∙ none) in
-    let due : IsDue g.D.Disk.meaning.meters l0 (log_of sc k n) b.short (size_of b.records) =
+    let due : HasRoomUnlessShort g.D.Disk.meaning.meters l0 (log_of sc k n) b.short (size_of b.records) =
     all_due g.D.Disk.meaning.meters l0 p q n s0.inputs c.args.inputs answer b s1 plan c.requires.turns.owns mine c.requires.turns.played c.plan_all-planned.ensures.played
     c.requires.turns.some c.requires.up.up c.requires.turns.restless c.requires.due c.requires.takes ent.0 ent.1 ent.3 some in
     let size : length c.as_slice-3.result.now ≡ size_of b.records =
@@ -390,7 +390,7 @@ returns-in-Err-clause-ended g c =
     (c.in-Err.ensures.left n (entries_at k n) (log_of sc k n) here.logged follow.short follow.orderly follow.back))
     (subst (λ (rs : List Record). IsReason why (log_of sc k n) rs (g.D.Disk.meaning.meters l0.disk) (g.D.Disk.meaning.meters l1.disk)) c.as_slice-2.ensures
     (c.in-Err.ensures.reason n (entries_at k n) (log_of sc k n) here.logged follow.short
-    (subst (λ (rs : List Record). IsDue g.D.Disk.meaning.meters l0 (log_of sc k n) b.short (size_of rs)) (sym c.as_slice-2.ensures) due)))
+    (subst (λ (rs : List Record). HasRoomUnlessShort g.D.Disk.meaning.meters l0 (log_of sc k n) b.short (size_of rs)) (sym c.as_slice-2.ensures) due)))
     c.write.ensures.keeps over
     (c.first_of-over.ensures ∙ ap (λ (j : ℕ). take j c.args.inputs) (ap length c.as_slice-in-Err.ensures.value ∙ steps_are g.D.Disk.meaning.meters l0 p q n s0.inputs
     c.args.inputs answer b s1 plan c.requires.turns.owns mine c.requires.turns.played c.plan_all-planned.ensures.played))

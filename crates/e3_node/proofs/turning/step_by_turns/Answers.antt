@@ -6,7 +6,7 @@ use Rattle.e3_node.specs.NodeStands.{IsUp, StandsBy}
 use Rattle.e3_node.specs.Turns.{IsStill, history_seen, scenario_seen}
 use Rattle.e3_node.specs.declared.state.State.TheVariants.{Up}
 use Rattle.e3_site.specs.SiteView.{SiteView, count_on, entry_of_plan, step_kept}
-use Rattle.e3_site_log.specs.Ends.{IsDue, IsReason, Takes, calls_for, size_of}
+use Rattle.e3_site_log.specs.Ends.{HasRoomUnlessShort, IsReason, Takes, calls_for, size_of}
 use Rattle.e3_turn.specs.Passes.{GrewByOthers, Owns, seen_by}
 use Rattle.e3_types.specs.declared.entries.Act.TheVariants.{Fall}
 use Rattle.e3_types.specs.declared.entries.Entry.{Entry}
@@ -351,8 +351,8 @@ returns-in-Err-clause-why g c = λ why is.
     c.requires.turns.played.given c.requires.turns.played.legal c.requires.up.up c.args.rose.now c.prepare_by_turns.new.site stood in
     let size : c.len.result ≡ size_of c.records-records.result.now =
     c.len.ensures ∙ ap length c.in_ok-draft.ensures.ready.drafted.body_is ∙ sym (ap size_of c.records-records.ensures) in
-    let fits : IsDue g.D.Disk.meaning.meters c.args.log.now l c.in_ok-short.short (size_of c.records-records.result.now) =
-    subst (λ (n : ℕ). IsDue g.D.Disk.meaning.meters c.args.log.now l c.in_ok-short.short n) size (c.in_ok-short.ensures.due l brief c.requires.up.logged.stands.sound c.in-Err.ensures.some) in
+    let fits : HasRoomUnlessShort g.D.Disk.meaning.meters c.args.log.now l c.in_ok-short.short (size_of c.records-records.result.now) =
+    subst (λ (n : ℕ). HasRoomUnlessShort g.D.Disk.meaning.meters c.args.log.now l c.in_ok-short.short n) size (c.in_ok-short.ensures.due l brief c.requires.up.logged.stands.sound c.in-Err.ensures.some) in
     let same : c.in-Err.why ≡ why = cc in
     subst (λ (w : Why). IsReason w l (made_by sc h c.args.number c.args.input).records old new) same
     (subst (λ (rs : List Record). IsReason c.in-Err.why l rs old new) slice

@@ -1,6 +1,6 @@
 use Rattle.std.proofs.Common.{◌≡◌, ◌⊎◌, inl, inr, ◌+◌, [], ℕ, List, Option, subst, arith}
 use Rattle.e3_site_log.specs.Bodies.{ReadsLeft}
-use Rattle.e3_site_log.specs.Ends.{HasRoom, IsDue, IsShortIf, size_of}
+use Rattle.e3_site_log.specs.Ends.{HasRoom, HasRoomUnlessShort, IsShortIf, size_of}
 use Rattle.e3_site_log.specs.declared.writing.Short.{Short}
 use Rattle.e3_site_log.proofs.Reasons.{empty_end, if_err, reason_add}
 use Rattle.e3_site_log.proofs.Writes.{left_later}
@@ -35,7 +35,7 @@ pub returns-in-None-clause-reason : goal.returns-in-None-clause-reason
 returns-in-None-clause-reason g c = λ site most l was is due.
     let log = c.args.log.now in
     let size = size_of c.args.records.now in
-    let due_none : HasRoom g.D.Disk.meaning.meters log size ⊎ (l ≡ []) = subst (λ (s : Option Short). IsDue g.D.Disk.meaning.meters log l s size) c.in-None.is due in
+    let due_none : HasRoom g.D.Disk.meaning.meters log size ⊎ (l ≡ []) = subst (λ (s : Option Short). HasRoomUnlessShort g.D.Disk.meaning.meters log l s size) c.in-None.is due in
     reason_add g.D.Disk.meaning.meters l c.args.records.now log c.add.new.log c.args.body.now c.add.result c.requires.spelled
     (with_end l due_none (empty_end g.D.Disk.meaning site most l c.args.logged.now log was))
     (c.add.ensures.fault was.stands.sound) c.add.ensures.full
