@@ -12,7 +12,7 @@ loop-input-preserved c =
     let entries = c.of-prefix.ensures.entries ∙ c.as_slice.ensures in
     let records = c.as_slice-in-loop-input.ensures ∙ ap (λ m. m.records) c.in_ok-made.ensures in
     let more : c.add_copies.new.self ≡ c.loop-input.out ++ (made_by sc h c.args.site i).records =
-    cc (scenario, entries, records, c.in_ok-add_copies.ensures) in
+    cc (scenario, entries, records, c.in_ok-add_copies.ensures.ok) in
     let pushed : c.push.new.self ≡ h ++ entry_of sc h c.args.site i ∷ [] = cc (scenario, entries, c.in_ok-entry.ensures, c.in_ok-push.ensures.ok) in
     c.loop-input.invariant
     ∙ records_on sc h c.push.new.self c.args.site c.args.inputs.now c.loop-input.input-index i c.loop-input-test.true c.input-item.is c.loop-input.out
