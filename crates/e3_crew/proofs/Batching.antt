@@ -54,7 +54,7 @@ taken_within : {D : Type 0} (meters : D → Meters) (old : State D) (sc : Scenar
     OneFrameTakes meters old sc h site inputs n → n ≤ length inputs
 taken_within meters (Down disk logged) sc h site inputs n takes = absurd takes
 taken_within meters (Up s log rose logged) sc h site inputs n (inl all) = omega (arith, all)
-taken_within meters (Up s log rose logged) sc h site inputs n (inr (some, less, none)) = omega (arith, less)
+taken_within meters (Up s log rose logged) sc h site inputs n (inr fill) = let less : n < length inputs = fill.fewer in omega (arith, less)
 
 -- the clauses of the call
 pub record AnsweredAll {D : Type 0} (meaning : Meaning D)

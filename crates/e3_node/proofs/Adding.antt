@@ -32,7 +32,7 @@ use Rattle.e3_world.specs.Legal.{entry_of, made_by, records_by}
 use Rattle.e3_world.specs.Moves.{log_of}
 use Rattle.e3_world.specs.declared.lives.Incarnation.{Incarnation}
 use Rattle.e3_world.specs.declared.lives.SiteStep.{SiteStep}
-use Rattle.e3_node.proofs.Batches.{plain_push, records_push, some_inputs, stepped_push}
+use Rattle.e3_node.proofs.Batches.{plain_push, records_push, stepped_push}
 use Rattle.e3_node.proofs.Bundles.{plain_length, steps_log}
 use Rattle.e3_site_log.specs.Ends.{HasRoom, HasRoomUnlessShort, IsShortIf, MayTurn}
 use Rattle.e3_site_log.specs.declared.writing.Short.{Short}
@@ -97,6 +97,12 @@ module _ {D : Type 0} (meters : D → Meters) (on_disk : LogState D) where
   due_first l None (Some s) size due = tt
   due_first l (Some s) old size due = tt
 
+  -- without a short log the frame behind a log that is not empty has room
+  pub has_room : (l : List Record) (short : Option Short) (size : ℕ) → short ≡ None → HasRoomUnlessShort meters on_disk l short size → l ≢ [] → HasRoom meters on_disk size
+  has_room l None size none (inl room) some = room
+  has_room l None size none (inr empty) some = absurd (some empty)
+  has_room l (Some s) size none due some = absurd cc
+
   module _ (sc : Scenario) (h : List Entry) (site : ℕ) (rose : List Record) (marks : List Mark) (first : ℕ) (done : List Input) where
     -- spare memory is nothing to a batch
     pub batch_same : (b c : Batch) (s t : SiteView) (now then : List Mark) → IsBatch meters on_disk sc h site rose marks first done b s now → c.steps.items ≡ b.steps.items →
@@ -137,11 +143,14 @@ module _ {D : Type 0} (meters : D → Meters) (on_disk : LogState D) where
     -- where that has no room, the frame takes no more
     pub no_more_room : (b : Batch) (s t : SiteView) (now : List Mark) (i : Input) (d : Draft) (body : List ℕ) → IsBatch meters on_disk sc h site rose marks first done b s now →
         IsLogInOrder site (log_of sc (stepped sc h site done) site) → IsReady (now_with rose sc (stepped sc h site done) s.site) i s t d → body ≡ b.body ++ d.body →
-        b.records ≢ [] → (HasRoom meters on_disk (length body) → ⊥) →
+        b.records ≢ [] → b.short ≡ None → (HasRoom meters on_disk (length body) → ⊥) →
         HasNoMoreRoom meters on_disk (record { scenario = sc; history = h; site = site; rose = rose; marks = marks; first = first; done = done }) i
-    no_more_room b s t now i d body was order ready is some none =
-        let P : List ℕ → Type 0 = λ l. HasRoom meters on_disk (length l) → ⊥ in (
-          some_inputs sc h site done (λ nothing. some (was.records_are ∙ nothing)),
+    no_more_room b s t now i d body was order ready is some plain none =
+        let P : List ℕ → Type 0 = λ l. HasRoom meters on_disk (length l) → ⊥ in
+        let R : List ℕ → Type 0 = λ l. HasRoom meters on_disk (length l) in
+        let recorded : records_by sc h site done ≢ [] = λ nothing. some (was.records_are ∙ nothing) in (
+          recorded,
+          λ logged. subst R was.body_is (has_room (log_of sc h site) b.short (length b.body) plain (was.due recorded) logged),
           subst P (body_with b s t now i d body was order ready is) none,
         )
 

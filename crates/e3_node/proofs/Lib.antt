@@ -3,6 +3,7 @@ pub mod Pasts
 pub mod Left
 pub mod Tails
 pub mod Told
+pub mod Framing
 mod Orders
 mod BatchOrders
 pub mod Keeping

@@ -1,7 +1,6 @@
 -- A batch before its first input, and behind what others put.
-use Rattle.std.proofs.Common.{◌≡◌, ◌<◌, ◌≤◌, ◌+◌, ◌++◌, ◌∷◌, [], inl, inr, ℕ, List, Option, length, take, refl, sym, subst, ap, ◌∙◌, append-nil, append_assoc, arith}
+use Rattle.std.proofs.Common.{◌≡◌, ◌≢◌, ◌<◌, ◌≤◌, ◌+◌, ◌++◌, ◌∷◌, [], inl, inr, ℕ, List, Option, length, take, refl, sym, subst, ap, ◌∙◌, append-nil, append_assoc, arith}
 use Rattle.std.specs.Prelude.{IfOk, IsErrAnd, None, OnErr, Result, Ok, Err}
-use Rattle.std.proofs.lemmas.List.{length-take-le}
 use Rattle.e3_disk.specs.Meters.{Meters}
 use Rattle.e3_log.specs.Stands.{LogState}
 use Rattle.e3_node.specs.Batched.{AreAdded, HasNoMoreRoom, HasPlanned, IsBatch}
@@ -74,16 +73,14 @@ module _ {D : Type 0} (meters : D → Meters) (on_disk : LogState D) (sc : Scena
     short = on_refused r _ low;
   }
 
-  pub added_some : (rose : List Record) (marks : List Mark) (first count n : ℕ) (i : Input) → count ≡ n → n < length inputs → take (n + 1) inputs ≡ take n inputs ++ i ∷ [] →
+  pub added_some : (rose : List Record) (marks : List Mark) (first count n : ℕ) (i : Input) → log_of sc h site ≢ [] → count ≡ n → n < length inputs → take (n + 1) inputs ≡ take n inputs ++ i ∷ [] →
       HasNoMoreRoom meters on_disk (record { scenario = sc; history = h; site = site; rose = rose; marks = marks; first = first; done = take n inputs }) i →
       AreAdded meters on_disk sc h site inputs (Ok count) n
-  added_some rose marks first count n i is low more room =
-      let long : length (take n inputs) ≡ n = length-take-le n inputs (omega (arith, low)) in
-      let one : 1 ≤ length (take n inputs) = room.0 in
+  added_some rose marks first count n i logged is low more room =
       let P : List Input → Type 0 = λ l. HasRoom meters on_disk (size_of (records_by sc h site l)) → ⊥ in
       record {
         within = omega (arith, low);
-        all = (is, inr (omega (arith, long, one), low, subst P (sym more) room.1));
+        all = (is, inr (record { fewer = low; some = room.0; room = room.1 logged; full = subst P (sym more) room.2 }));
         short = tt;
       }
 

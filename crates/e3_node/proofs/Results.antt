@@ -14,15 +14,13 @@ use Rattle.e3_law_serial.specs.Orderly.{LogsAreOrderly}
 use Rattle.e3_world.specs.Orderly.{IsOrderly}
 use Rattle.e3_law_brief.specs.Sets.{LoggedSitesAreSets}
 use Rattle.e3_law_steps.specs.Trails.{VotesAtTheirSite}
-use Rattle.e3_log.specs.Frames.{frames}
-use Rattle.e3_log.specs.Regions.{other, start}
 use Rattle.e3_log.specs.Stands.{LogState}
 use Rattle.e3_node.specs.Batched.{HasPlanned, IsBatch}
-use Rattle.e3_node.specs.Batches.{EndsBehind, FrameTakes, IsOneFrame, fall_over, unnumbered_steps, stepped}
+use Rattle.e3_node.specs.Batches.{FillFrame, FrameTakes, fall_over, unnumbered_steps, stepped}
 use Rattle.e3_node.specs.Bodies.{DiskTells, entries_at}
 use Rattle.e3_node.specs.Ending.{EndsWith}
-use Rattle.e3_site_log.specs.Bodies.{IsLogged, ReadsLeft, body_of}
-use Rattle.e3_site_log.specs.Ends.{EndsAt, HasRoom, HasRoomUnlessShort, IsReason, IsShortIf, Takes, calls_for, size_of}
+use Rattle.e3_site_log.specs.Bodies.{IsLogged, ReadsLeft}
+use Rattle.e3_site_log.specs.Ends.{HasRoom, HasRoomUnlessShort, IsBehind, IsPut, IsReason, IsShortIf, Takes, calls_for, size_of}
 use Rattle.e3_site_log.specs.declared.writing.Short.{Short}
 use Rattle.e3_node.specs.NodeStands.{IsUp, steps_at}
 use Rattle.e3_node.specs.Several.{MayEnterAll, claims_for, marks_in}
@@ -30,6 +28,7 @@ use Rattle.e3_node.specs.Turns.{HasTurned, Meanwhile}
 use Rattle.e3_node.specs.declared.batching.Batch.{Batch}
 use Rattle.e3_node.specs.declared.fault.InputFault.{InputFault}
 use Rattle.e3_node.specs.declared.state.State.TheVariants.{Up}
+use Rattle.e3_node.specs.Ends.{IsOneFrame}
 use Rattle.e3_site.specs.SiteView.{SiteView}
 use Rattle.e3_turn.specs.Passes.{GrewByOthers, IsIdle, OwnsAll, Owns, SameOwners, seen_by}
 use Rattle.e3_types.specs.Spelling.{spelling}
@@ -53,6 +52,8 @@ use Rattle.e3_world.specs.Items.{is_up_at}
 use Rattle.e3_world.specs.Legal.{AreDue, Guard, IsLegal, records_by}
 use Rattle.e3_world.specs.Moves.{log_by, log_of, moves_of}
 use Rattle.e3_world.specs.Packets.{is_calm, present_items}
+use Rattle.e3_node.proofs.Adding.{has_room}
+use Rattle.e3_node.proofs.Framing.{one_frame, put_plain}
 use Rattle.e3_node.proofs.Batches.{plain_same, records_own, records_same, some_inputs, stepped_same, stepped_up}
 use Rattle.e3_node.proofs.Bundles.{all_due_first, plain_length, plain_list, plain_own, stepped_count, steps_log, steps_logged, steps_use}
 use Rattle.e3_node.proofs.Outcomes.{due_meanwhile, fallen_all_tells, first_of_all, first_turn, may_all, may_take_front, meanwhile_then, moves_meanwhile, stands_same}
@@ -67,32 +68,11 @@ fall_all_guard : (sc : Scenario) (h : List Entry) (site : ℕ) (inputs : List In
 fall_all_guard sc h zero inputs records why one up due some is = absurd (omega (arith, one))
 fall_all_guard sc h (suc n) inputs records why one up due some is = record { up = up; due = due; some = some; made = is }
 
--- where a write ended the frame: behind those before it, where no short log was given
-ends_behind : {D : Type 0} (meters : D → Meters) (old new : LogState D) (records : List Record) (short : Option Short) → short ≡ None →
-    (records ≡ [] → new ≡ old) → (records ≢ [] → EndsAt meters old short records new.end) → EndsBehind records old.end new.end
-ends_behind meters old new [] short none same end =
-    let plain : old.end + 0 ≡ old.end = omega arith in ap (λ (l : LogState _). l.end) (same refl) ∙ sym plain
-ends_behind meters old new (r ∷ rs) None none same end = end (λ nothing. cc)
-ends_behind meters old new (r ∷ rs) (Some s) none same end = absurd cc
-
--- or behind the brief
-one_frame : {D : Type 0} (meters : D → Meters) (site : ℕ) (old new : LogState D) (log records : List Record) (short : Option Short) → IsShortIf site log short →
-    (records ≡ [] → new ≡ old) → (records ≢ [] → EndsAt meters old short records new.end) → IsOneFrame log records old.end new.end (meters old.disk).capacity
-one_frame meters site old new log records None is same end = inl (ends_behind meters old new records None refl same end)
-one_frame meters site old new log [] (Some s) is same end = inl (ends_behind meters old new [] None refl same (λ some. absurd (some refl)))
-one_frame meters site old new log (r ∷ rs) (Some s) is same end = by (end (λ none. cc))
-  where
-    by : EndsAt meters old (Some s) (r ∷ rs) new.end → IsOneFrame log (r ∷ rs) old.end new.end (meters old.disk).capacity
-    by (inl behind) = inl behind
-    by (inr turned) =
-        inr (other old.region, turned ∙ ap (λ (l : List ℕ). start (meters old.disk).capacity (other old.region) + 10 + length l + length (frames (body_of (r ∷ rs)))) is.body_is)
-
--- without a short log, what follows from room for the frame
-fits_so : {D : Type 0} (meters : D → Meters) (old : LogState D) (log : List Record) (short : Option Short) (size : ℕ) (P : Type 0) → short ≡ None →
-    HasRoomUnlessShort meters old log short size → log ≢ [] → (HasRoom meters old size → P) → P
-fits_so meters old log None size P none (inl room) some so = so room
-fits_so meters old log None size P none (inr empty) some so = absurd (some empty)
-fits_so meters old log (Some s) size P none due some so = absurd cc
+-- fewer than all fill the frame
+fills : {D : Type 0} {meters : D → Meters} {log : LogState D} {sc : Scenario} {h : List Entry} {site : ℕ} {inputs : List Input} {n : ℕ} →
+    FrameTakes meters log sc h site inputs n → n < length inputs → FillFrame meters log sc h site inputs n
+fills (inl all) less = absurd (omega (arith, all, less))
+fills (inr fill) less = fill
 
 -- what is said of an answer goes on to what follows from it
 if_told : (r : Result ℕ InputFault) (P Q : ℕ → Type 0) → ((n : ℕ) → P n → Q n) → IfOk r P → IfOk r Q
@@ -107,9 +87,16 @@ if_both (Err fault) P Q R so p q = tt
 frame_same : {D : Type 0} (meters : D → Meters) (log : LogState D) (sc : Scenario) (h k : List Entry) (site : ℕ) (inputs : List Input) (n : ℕ) →
     moves_of sc k site ≡ moves_of sc h site → FrameTakes meters log sc k site inputs n → FrameTakes meters log sc h site inputs n
 frame_same meters log sc h k site inputs n same (inl all) = inl all
-frame_same meters log sc h k site inputs n same (inr (some, less, none)) =
-    let P : List Record → Type 0 = λ rs. HasRoom meters log (size_of rs) → ⊥ in
-    inr (some, less, subst P (records_same sc site h k (take (n + 1) inputs) same) none)
+frame_same meters log sc h k site inputs n same (inr fill) =
+    let now : records_by sc k site (take n inputs) ≡ records_by sc h site (take n inputs) = records_same sc site h k (take n inputs) same in
+    let N : List Record → Type 0 = λ rs. HasRoom meters log (size_of rs) → ⊥ in
+    let R : List Record → Type 0 = λ rs. HasRoom meters log (size_of rs) in
+    inr (record {
+      fewer = fill.fewer;
+      some = λ none. fill.some (now ∙ none);
+      room = subst R now fill.room;
+      full = subst N (records_same sc site h k (take (n + 1) inputs) same) fill.full;
+    })
 
 -- what was seen, and marks of others behind it
 module _ (p : APass) (site : ℕ) (owns : Owns p site) (was : IsPlayed (seen_by p)) where
@@ -426,14 +413,15 @@ module _ {rose : List Record} {D0 : Type 0} (meters0 : D0 → Meters) (on_disk :
             (batch.records ≡ [] → (new ≡ old) × (n ≡ n0)) →
             IsLogged meaning site (entries_at k site + 1) (log_of sc k site ++ batch.records) n new →
             (meaning.meters new.disk).powered ≡ true → Takes (calls_for batch.records) (meaning.meters old.disk) (meaning.meters new.disk) → Keeps (meaning.meters old.disk) (meaning.meters new.disk) →
-            (batch.records ≢ [] → EndsAt meaning.meters old short batch.records new.end) → (now : List Mark) → now ≡ marks ++ marks_in k batch.steps.items →
+            (batch.records ≢ [] → IsPut meaning.meters old short batch.records new) → (HasRoom meaning.meters old (size_of batch.records) → batch.records ≢ [] → IsBehind old batch.records new) →
+            (now : List Mark) → now ≡ marks ++ marks_in k batch.steps.items →
             EndsWith meaning sc h (entries_of now) site inputs (Up s0 old rose n0) (Up s new rose n) answer None
-        steps_end told logs sets short is_short plain still wrote lit takes keeps end now is =
+        steps_end told logs sets short is_short plain still wrote lit takes keeps put room now is =
             let entered : entries_of now ≡ stepped sc k site done = history_stepped now is in
             let T : List Record → Type 0 = λ rs. Takes (calls_for rs) (meaning.meters old.disk) (meaning.meters new.disk) in
-            let F : List Record → Type 0 = λ rs. IsOneFrame (log_of sc h site) rs old.end new.end (meaning.meters old.disk).capacity in
-            let G : List Record → Type 0 = λ l. IsOneFrame l batch.records old.end new.end (meaning.meters old.disk).capacity in
-            let E : List Record → Type 0 = λ rs. EndsBehind rs old.end new.end in
+            let F : List Record → Type 0 = λ rs. IsOneFrame meaning.meters (log_of sc h site) rs old new in
+            let G : List Record → Type 0 = λ l. IsOneFrame meaning.meters l batch.records old new in
+            let B : List Record → Type 0 = λ rs. IsBehind old rs new in
             record {
               count = plan.count;
               all = told;
@@ -441,7 +429,9 @@ module _ {rose : List Record} {D0 : Type 0} (meters0 : D0 → Meters) (on_disk :
               stays =
                   if_both answer (λ m. (m ≡ plan.count) × FrameTakes meaning.meters old sc h site inputs plan.count) (λ m. m < length inputs → short ≡ None)
                   _ (λ m told plain none less.
-                  subst E seen_records (ends_behind meaning.meters old new batch.records short (plain (subst (λ (j : ℕ). j < length inputs) (sym told.0) less)) (λ none. (still none).0) end)) told plain;
+                  let fill : FillFrame meaning.meters old sc h site inputs plan.count = fills told.1 less in
+                  let some : batch.records ≢ [] = λ none. fill.some (sym seen_records ∙ none) in
+                  subst B seen_records (put_plain meaning.meters old new batch.records short (plain (subst (λ (j : ℕ). j < length inputs) (sym told.0) less)) (put some))) told plain;
               fault = if_told answer (λ m. (m ≡ plan.count) × FrameTakes meaning.meters old sc h site inputs plan.count) _ (λ m told why some. absurd cc) told;
               came = (
                 record {
@@ -449,7 +439,7 @@ module _ {rose : List Record} {D0 : Type 0} (meters0 : D0 → Meters) (on_disk :
                   meanwhile = all_while;
                   entered = entered;
                   takes = subst T seen_records takes;
-                  frame = subst F seen_records (subst G log_while (one_frame meaning.meters site old new (log_of sc k site) batch.records short is_short (λ none. (still none).0) end));
+                  frame = subst F seen_records (subst G log_while (one_frame meaning.meters site old new (log_of sc k site) batch.records short is_short (λ none. (still none).0) put room));
                 },
                 stepped_stands logs sets still wrote lit (entries_of now) entered,
               );
@@ -479,8 +469,7 @@ module _ {rose : List Record} {D0 : Type 0} (meters0 : D0 → Meters) (on_disk :
                   if_both answer (λ m. (m ≡ plan.count) × FrameTakes meaning.meters old sc h site inputs plan.count) (λ m. m < length inputs → batch.short ≡ None)
                   _ (λ m told plain because is less.
                   let same : because ≡ why = cc in
-                  same ∙ fits_so meaning.meters old (log_of sc k site) batch.short (size_of batch.records) (why ≡ Fault)
-                  (plain (subst (λ (j : ℕ). j < length inputs) (sym told.0) less)) due (up_log sc k site up_2.up) room) told plain;
+                  same ∙ room (has_room meaning.meters old (log_of sc k site) batch.short (size_of batch.records) (plain (subst (λ (j : ℕ). j < length inputs) (sym told.0) less)) due (up_log sc k site up_2.up))) told plain;
               came = (
                 record {
                   now = k;

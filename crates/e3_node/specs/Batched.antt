@@ -77,10 +77,13 @@ OnlyForMemory (Err fault) = ⊥
 abbrev pub IsBatchAt : {D : Type 0} → (D → Meters) → LogState D → BatchAt → Batch → SiteView → List Mark → Type 0
 IsBatchAt meters on_disk at batch s now = IsBatch meters on_disk at.scenario at.history at.site at.rose at.marks at.first at.done batch s now
 
--- it has the steps of some inputs, and with that of one more its frame would have no room behind the log
+-- Its steps record something, and the frame of that has room behind the log of a site that has one; with the step of one more
+-- input it would have none.
 abbrev pub HasNoMoreRoom : {D : Type 0} → (D → Meters) → LogState D → BatchAt → Input → Type 0
 HasNoMoreRoom meters on_disk at i =
-    (1 ≤ length at.done) × (HasRoom meters on_disk (size_of (records_by at.scenario at.history at.site (at.done ++ i ∷ []))) → ⊥)
+    (records_by at.scenario at.history at.site at.done ≢ [])
+    × (log_of at.scenario at.history at.site ≢ [] → HasRoom meters on_disk (size_of (records_by at.scenario at.history at.site at.done)))
+    × (HasRoom meters on_disk (size_of (records_by at.scenario at.history at.site (at.done ++ i ∷ []))) → ⊥)
 
 -- So many of the inputs were added to a batch: where none was refused, as many as one frame takes, and that many are told.
 pub record AreAdded {D : Type 0} (meters : D → Meters) (on_disk : LogState D) (sc : Scenario) (history : List Entry) (site : ℕ) (inputs : List Input) (answer : Result ℕ InputFault) (count : ℕ) : Type 0 where

@@ -1,25 +1,20 @@
 -- What a call with several packets makes of a history.
-use Rattle.std.specs.Prelude.{◌≡◌, ◌≢◌, ◌⊎◌, ◌+◌, ◌<◌, ◌≤◌, ◌++◌, ◌∷◌, [], ℕ, List, Result, Ok, Err, length, map, take}
+use Rattle.std.specs.Prelude.{◌≡◌, ◌≢◌, ◌⊎◌, ◌+◌, ◌<◌, ◌++◌, ◌∷◌, [], ℕ, List, Result, Ok, Err, length, map, take}
 use Rattle.e3_disk.specs.Meters.{Meters}
-use Rattle.e3_log.specs.Frames.{frames}
-use Rattle.e3_world.specs.Brief.{brief}
-use Rattle.e3_log.specs.Regions.{start}
 use Rattle.e3_log.specs.Stands.{LogState}
-use Rattle.e3_log.specs.declared.region.Region.{Region}
-use Rattle.e3_node.specs.NodeView.{disk_of, end_of}
+use Rattle.e3_node.specs.Ends.{IsOneFrame, OnLogs}
+use Rattle.e3_node.specs.NodeView.{disk_of}
 use Rattle.e3_node.specs.Turns.{Meanwhile}
 use Rattle.e3_node.specs.declared.fault.InputFault.{InputFault}
 use Rattle.e3_node.specs.declared.fault.InputFault.TheVariants as input_fault
 use Rattle.e3_node.specs.declared.state.State.{State}
 use Rattle.e3_node.specs.declared.state.State.TheVariants.{Down, Up}
-use Rattle.e3_site_log.specs.Bodies.{body_of}
-use Rattle.e3_site_log.specs.Ends.{HasRoom, IsReason, Takes, calls_for, size_of}
+use Rattle.e3_site_log.specs.Ends.{HasRoom, IsBehind, IsReason, Takes, calls_for, size_of}
 use Rattle.e3_types.specs.declared.entries.Act.TheVariants.{Fall, Step}
 use Rattle.e3_types.specs.declared.entries.Entry.{Entry}
 use Rattle.e3_types.specs.declared.entries.Input.{Input}
 use Rattle.e3_types.specs.declared.entries.Why.{Why}
 use Rattle.e3_types.specs.declared.entries.Why.TheVariants.{Fault}
-use Rattle.e3_types.specs.declared.records.Record.{Record}
 use Rattle.e3_types.specs.declared.scenarios.Scenario.{Scenario}
 use Rattle.e3_world.specs.declared.lives.Made.{Made}
 use Rattle.e3_world.specs.Items.{inputs_of}
@@ -55,41 +50,37 @@ pub record FellOverAll (sc : Scenario) (history : List Entry) (site : ℕ) (inpu
   pub some : records_by sc history site inputs ≢ []
   pub entered : more ≡ history ++ fall_over sc history site inputs why ∷ []
 
--- the frame of these records ends behind those that ended there before: the log was not turned
-abbrev pub EndsBehind : List Record → ℕ → ℕ → Type 0
-EndsBehind records old new = new ≡ old + length (frames (body_of records))
-
--- The frame of these records ends behind those that ended there, or behind the brief of this log at the begin of a region.
-abbrev pub IsOneFrame : List Record → List Record → ℕ → ℕ → ℕ → Type 0
-IsOneFrame log records old new capacity =
-    EndsBehind records old new
-    ⊎ ((region : Region) × (new ≡ start capacity region + 10 + size_of (brief log) + length (frames (body_of records))))
-
 -- Where a frame took fewer than all of these inputs, the first n, the log was not turned for it.
 abbrev pub StaysIfFewer : {D : Type 0} → Scenario → List Entry → ℕ → List Input → ℕ → State D → State D → Type 0
 StaysIfFewer sc history site inputs n old new =
-    n < length inputs → EndsBehind (records_by sc history site (take n inputs)) (end_of old) (end_of new)
+    n < length inputs → OnLogs (λ log more. IsBehind log (records_by sc history site (take n inputs)) more) old new
+
+-- Fewer than all of these inputs fill a frame: the first n record something, and the frame of that has room behind this log, but
+-- with the records of the next it would have none.
+pub record FillFrame {D : Type 0} (meters : D → Meters) (log : LogState D) (sc : Scenario) (history : List Entry) (site : ℕ) (inputs : List Input) (n : ℕ) : Type 0 where
+  pub fewer : n < length inputs
+  pub some : records_by sc history site (take n inputs) ≢ []
+  pub room : HasRoom meters log (size_of (records_by sc history site (take n inputs)))
+  pub full : HasRoom meters log (size_of (records_by sc history site (take (n + 1) inputs))) → ⊥
 
 module _ {D : Type 0} (meters : D → Meters) where
-  -- One frame takes the first n of these inputs: all of them; or one at least, and the frame of what the first n and the next
-  -- record would have no room behind this log.
+  -- One frame takes the first n of these inputs: all of them, or those that fill it.
   abbrev pub FrameTakes : LogState D → Scenario → List Entry → ℕ → List Input → ℕ → Type 0
-  FrameTakes log sc history site inputs n = (n ≡ length inputs)
-      ⊎ ((1 ≤ n) × (n < length inputs) × (HasRoom meters log (size_of (records_by sc history site (take (n + 1) inputs))) → ⊥))
+  FrameTakes log sc history site inputs n = (n ≡ length inputs) ⊎ FillFrame meters log sc history site inputs n
 
   -- so it is behind the log of a site that is up
   abbrev pub OneFrameTakes : State D → Scenario → List Entry → ℕ → List Input → ℕ → Type 0
   OneFrameTakes (Down disk logged) sc history site inputs n = ⊥
   OneFrameTakes (Up s log rose logged) sc history site inputs n = FrameTakes log sc history site inputs n
 
-  -- The site made the steps of these inputs behind what others entered: their records are one frame behind those before it, or
-  -- behind the brief of the log that was turned for it; or none where they record nothing. It took its calls of an arm.
+  -- The site made the steps of these inputs behind what others entered: their records are one frame, or none. It took its calls of
+  -- an arm.
   pub record HasSteppedAll (sc : Scenario) (before more : List Entry) (site : ℕ) (inputs : List Input) (old new : State D) : Type 0 where
     pub now : List Entry
     pub meanwhile : Meanwhile site before now
     pub entered : more ≡ stepped sc now site inputs
     pub takes : Takes (calls_for (records_by sc before site inputs)) (meters (disk_of old)) (meters (disk_of new))
-    pub frame : IsOneFrame (log_of sc before site) (records_by sc before site inputs) (end_of old) (end_of new) (meters (disk_of old)).capacity
+    pub frame : OnLogs (IsOneFrame meters (log_of sc before site) (records_by sc before site inputs)) old new
 
   -- or it fell over them, and the reason is true
   pub record HasFallenOverAll (sc : Scenario) (before more : List Entry) (site : ℕ) (inputs : List Input) (why : Why) (old : State D) (disk : D) : Type 0 where

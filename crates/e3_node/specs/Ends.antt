@@ -1,5 +1,5 @@
 -- How the calls of a node end.
-use Rattle.std.specs.Prelude.{◌≡◌, ◌≢◌, ◌++◌, ◌∷◌, [], ℕ, Bool, true, false, List}
+use Rattle.std.specs.Prelude.{◌≡◌, ◌≢◌, ◌⊎◌, ◌++◌, ◌∷◌, [], ℕ, Bool, true, false, List}
 use Rattle.e3_disk.specs.Meters.{Meters}
 use Rattle.e3_node.specs.declared.fault.CutFault.{CutFault}
 use Rattle.e3_node.specs.declared.fault.CutFault.TheVariants as cut_fault
@@ -7,19 +7,37 @@ use Rattle.e3_node.specs.declared.fault.InputFault.{InputFault}
 use Rattle.e3_node.specs.declared.fault.InputFault.TheVariants as input_fault
 use Rattle.e3_node.specs.declared.fault.RiseFault.{RiseFault}
 use Rattle.e3_node.specs.declared.fault.RiseFault.TheVariants as rise_fault
+use Rattle.e3_node.specs.declared.state.State.{State}
+use Rattle.e3_node.specs.declared.state.State.TheVariants.{Up}
+use Rattle.e3_log.specs.Stands.{LogState}
 use Rattle.e3_play.specs.Entering.{fall_of}
 use Rattle.e3_types.specs.declared.entries.Act.TheVariants.{Rise, RiseFall}
 use Rattle.e3_types.specs.declared.entries.Entry.{Entry}
 use Rattle.e3_types.specs.declared.entries.Input.{Input}
 use Rattle.e3_types.specs.declared.entries.Why.{Why}
+use Rattle.e3_types.specs.declared.records.Record.{Record}
+use Rattle.e3_types.specs.Spelling.{spelling}
 use Rattle.e3_types.specs.declared.scenarios.Scenario.{Scenario}
 use Rattle.e3_wire.specs.declared.fault.WireFault.{WireFault}
 use Rattle.e3_wire.specs.declared.fault.WireFault.TheVariants as wire_fault
+use Rattle.e3_world.specs.Brief.{brief}
 use Rattle.e3_world.specs.Legal.{IsRise, made_by}
 use Rattle.e3_world.specs.Moves.{rise_records}
 use Rattle.e3_node.specs.Bodies.{IsKeptExactly, IsRead, log_with}
 use Rattle.e3_site_log.specs.Bodies.{joined}
-use Rattle.e3_site_log.specs.Ends.{IsReason}
+use Rattle.e3_site_log.specs.Ends.{HasRoom, IsBehind, IsReason, IsTurned, size_of}
+
+-- A relation of the logs of a site that was up and is up.
+abbrev pub OnLogs : {D : Type 0} → (LogState D → LogState D → Type 0) → State D → State D → Type 0
+OnLogs P (Up s old rose logged) (Up t new risen count) = P old new
+OnLogs P old new = ⊥
+
+-- What a log is behind one that had the records of this log, once these are written: as it was where there are none. Else they
+-- are one frame, behind the frames before it; or, where it had no room there, behind the brief of this log, in the other region.
+abbrev pub IsOneFrame : {D : Type 0} → (D → Meters) → List Record → List Record → LogState D → LogState D → Type 0
+IsOneFrame meters log [] old new = new ≡ old
+IsOneFrame meters log (r ∷ rs) old new = IsBehind old (r ∷ rs) new
+    ⊎ ((HasRoom meters old (size_of (r ∷ rs)) → ⊥) × IsTurned meters old (spelling (brief log)) (r ∷ rs) new)
 
 -- the site fell over an input for this reason: its step records something, and the fall is entered in its place
 pub record FellOver (sc : Scenario) (history : List Entry) (site : ℕ) (i : Input) (why : Why) (more : List Entry) : Type 0 where

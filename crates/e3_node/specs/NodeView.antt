@@ -16,11 +16,6 @@ abbrev pub disk_of : {D : Type 0} → State D → D
 disk_of (Down disk logged) = disk
 disk_of (Up site log rose logged) = log.disk
 
--- where the frames on its disk end, which the log knows while the site is up
-abbrev pub end_of : {D : Type 0} → State D → ℕ
-end_of (Down disk logged) = 0
-end_of (Up site log rose logged) = log.end
-
 -- the site is up
 abbrev pub is_up_in : {D : Type 0} → State D → Bool
 is_up_in (Down disk logged) = false

@@ -7,7 +7,7 @@ ghost use Rattle.e3_law_local.specs.Drafts.{MayTake, MayTakeAll};
 ghost use Rattle.e3_law_local.specs.Least.{AreFirstTo};
 ghost use Rattle.e3_node.specs.Batches.{BatchEnded};
 ghost use Rattle.e3_node.specs.Bodies.{DiskStands};
-ghost use Rattle.e3_node.specs.Ends.{FellOver, HasFailedToRise, HasRisen, is_fall};
+ghost use Rattle.e3_node.specs.Ends.{FellOver, HasFailedToRise, HasRisen, IsOneFrame, OnLogs, is_fall};
 ghost use Rattle.e3_node.specs.NodeStands.{NodeStands};
 ghost use Rattle.e3_node.specs.NodeView.{disk_of, is_up_in};
 ghost use Rattle.e3_node.specs.Places.{HasGivenNoneBack};
@@ -194,7 +194,8 @@ impl<D: Disk + Drill + Drop> Node<D> {
             (entries_of shared.new ≡ entries_of shared.old) × (disk_of self.new.state ≡ disk_of self.old.state) }
 
         // the disk's count of faults rose, or a frame had no room, and its end is told exactly; no call arms or cuts it, and what
-        // is left of an arm pays for the calls of the frame
+        // is left of an arm pays for the calls of the frame. Where nothing is recorded the disk is as it was; the log is turned
+        // only where the frame has no room
         ensures why { (why : Why) → result ≡ Err (input_fault.Fell why) →
             IsReason why (log_of (scenario_of shared.old) (entries_of shared.old) self.old.site)
             (made_by (scenario_of shared.old) (entries_of shared.old) self.old.site input).records
@@ -202,6 +203,8 @@ impl<D: Disk + Drill + Drop> Node<D> {
         ensures meters { Keeps (D.meaning.meters (disk_of self.old.state)) (D.meaning.meters (disk_of self.new.state)) }
         ensures takes { OnOk result (Takes (calls_for (made_by (scenario_of shared.old) (entries_of shared.old) self.old.site input).records)
             (D.meaning.meters (disk_of self.old.state)) (D.meaning.meters (disk_of self.new.state))) }
+        ensures frame { OnOk result (OnLogs (IsOneFrame D.meaning.meters (log_of (scenario_of shared.old) (entries_of shared.old) self.old.site)
+            (made_by (scenario_of shared.old) (entries_of shared.old) self.old.site input).records) self.old.state self.new.state) }
     {
         match take_input(self.site, &mut self.state, shared, input) {
             Ok(()) => Ok(()),
@@ -252,6 +255,8 @@ impl<D: Disk + Drill + Drop> Node<D> {
         ensures meters { Keeps (D.meaning.meters (disk_of self.old.state)) (D.meaning.meters (disk_of self.new.state)) }
         ensures takes { OnOk result (Takes (calls_for (made_by (scenario_seen pass.old) (history_seen pass.old) self.old.site input).records)
             (D.meaning.meters (disk_of self.old.state)) (D.meaning.meters (disk_of self.new.state))) }
+        ensures frame { OnOk result (OnLogs (IsOneFrame D.meaning.meters (log_of (scenario_seen pass.old) (history_seen pass.old) self.old.site)
+            (made_by (scenario_seen pass.old) (history_seen pass.old) self.old.site input).records) self.old.state self.new.state) }
     {
         let state = &mut self.state;
         match take_by_turns(rt, alloc, wire, pass, self.site, state, input) {

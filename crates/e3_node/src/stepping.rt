@@ -2,7 +2,7 @@
 ghost use Rattle.std.specs.Prelude.{◌≡◌, ◌^◌, ◌<◌, ◌≤◌, ◌++◌, ◌∷◌, ◌↔◌, [], true, false, length, OnOk, Err};
 ghost use Rattle.e3_disk.specs.Meters.{Keeps};
 ghost use Rattle.e3_node.specs.Bodies.{DiskTells};
-ghost use Rattle.e3_node.specs.Ends.{FellOver, is_fall};
+ghost use Rattle.e3_node.specs.Ends.{FellOver, IsOneFrame, OnLogs, is_fall};
 ghost use Rattle.e3_node.specs.NodeStands.{IsFallen, IsIn, IsUp, logged_in};
 ghost use Rattle.e3_node.specs.NodeView.{disk_of};
 ghost use Rattle.e3_node.specs.SharedStands.{MayGoOn, SharedGoesOn};
@@ -97,6 +97,8 @@ fn step<D: Disk>(
     ensures keeps { Keeps (D.meaning.meters log.old.disk) (D.meaning.meters log.new.disk) }
     ensures takes { OnOk result (Takes (calls_for (made_by (scenario_of shared.old) (entries_of shared.old) number input).records)
         (D.meaning.meters log.old.disk) (D.meaning.meters log.new.disk)) }
+    ensures frame { OnOk result (IsOneFrame D.meaning.meters (log_of (scenario_of shared.old) (entries_of shared.old) number)
+        (made_by (scenario_of shared.old) (entries_of shared.old) number input).records log.old log.new) }
 {
     logs_are_sound();
     if is_full(shared) {
@@ -151,6 +153,8 @@ pub(crate) fn take_input<D: Disk + Drop>(
     ensures keeps { Keeps (D.meaning.meters (disk_of state.old)) (D.meaning.meters (disk_of state.new)) }
     ensures takes { OnOk result (Takes (calls_for (made_by (scenario_of shared.old) (entries_of shared.old) number input).records)
         (D.meaning.meters (disk_of state.old)) (D.meaning.meters (disk_of state.new))) }
+    ensures frame { OnOk result (OnLogs (IsOneFrame D.meaning.meters (log_of (scenario_of shared.old) (entries_of shared.old) number)
+        (made_by (scenario_of shared.old) (entries_of shared.old) number input).records) state.old state.new) }
 {
     match state {
         State::Down(_, _) => Err(InputFault::Down),

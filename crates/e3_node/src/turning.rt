@@ -2,6 +2,7 @@
 ghost use Rattle.std.specs.Prelude.{◌≡◌, ◌≤◌, ◌↔◌, true, false, OnOk, Err};
 ghost use Rattle.e3_disk.specs.Meters.{Keeps};
 ghost use Rattle.e3_law_local.specs.Drafts.{MayTake};
+ghost use Rattle.e3_node.specs.Ends.{IsOneFrame, OnLogs};
 ghost use Rattle.e3_node.specs.NodeStands.{IsIn, IsUp};
 ghost use Rattle.e3_node.specs.NodeView.{disk_of};
 ghost use Rattle.e3_node.specs.Places.{HasGivenNoneBack};
@@ -69,6 +70,8 @@ fn step_by_turns<R: Wait, D: Disk>(
     ensures keeps { Keeps (D.meaning.meters log.old.disk) (D.meaning.meters log.new.disk) }
     ensures takes { OnOk result (Takes (calls_for (made_by (scenario_seen pass.old) (history_seen pass.old) number input).records)
         (D.meaning.meters log.old.disk) (D.meaning.meters log.new.disk)) }
+    ensures frame { OnOk result (IsOneFrame D.meaning.meters (log_of (scenario_seen pass.old) (history_seen pass.old) number)
+        (made_by (scenario_seen pass.old) (history_seen pass.old) number input).records log.old log.new) }
 {
     logs_are_sound();
     let draft = prepare_by_turns(alloc, site, rose, &input, pass)?;
@@ -118,6 +121,8 @@ pub(crate) fn take_by_turns<R: Wait, D: Disk + Drop>(
     ensures keeps { Keeps (D.meaning.meters (disk_of state.old)) (D.meaning.meters (disk_of state.new)) }
     ensures takes { OnOk result (Takes (calls_for (made_by (scenario_seen pass.old) (history_seen pass.old) number input).records)
         (D.meaning.meters (disk_of state.old)) (D.meaning.meters (disk_of state.new))) }
+    ensures frame { OnOk result (OnLogs (IsOneFrame D.meaning.meters (log_of (scenario_seen pass.old) (history_seen pass.old) number)
+        (made_by (scenario_seen pass.old) (history_seen pass.old) number input).records) state.old state.new) }
 {
     match state {
         State::Down(_, _) => Err(InputFault::Down),

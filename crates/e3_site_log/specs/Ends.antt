@@ -83,16 +83,19 @@ abbrev pub HasRoomUnlessShort : {D : Type 0} → (D → Meters) → LogState D �
 HasRoomUnlessShort meters on_disk log None size = HasRoom meters on_disk size ⊎ (log ≡ [])
 HasRoomUnlessShort meters on_disk log (Some short) size = Unit {0}
 
--- where the closed gate is behind the frame of these records, where a log was turned to a short one in the other region
-abbrev pub turned_to : {D : Type 0} → (D → Meters) → LogState D → Short → List Record → ℕ
-turned_to meters on_disk short records =
-    start (meters on_disk.disk).capacity (other on_disk.region) + 10 + length short.body + length (frames (body_of records))
+-- The frame of these records is behind the frames before it: the log was not turned.
+abbrev pub IsBehind : {D : Type 0} → LogState D → List Record → LogState D → Type 0
+IsBehind old records new = (new.region ≡ old.region) × (new.end ≡ old.end + length (frames (body_of records)))
 
--- It is there, behind the frames before it or behind the short log that was given.
-abbrev pub EndsAt : {D : Type 0} → (D → Meters) → LogState D → Option Short → List Record → ℕ → Type 0
-EndsAt meters on_disk None records end = end ≡ on_disk.end + length (frames (body_of records))
-EndsAt meters on_disk (Some short) records end =
-    (end ≡ on_disk.end + length (frames (body_of records))) ⊎ (end ≡ turned_to meters on_disk short records)
+-- It is behind a short log, in the other region: the log was turned to that.
+abbrev pub IsTurned : {D : Type 0} → (D → Meters) → LogState D → List ℕ → List Record → LogState D → Type 0
+IsTurned meters old short records new = (new.region ≡ other old.region)
+    × (new.end ≡ start (meters old.disk).capacity (other old.region) + 10 + length short + length (frames (body_of records)))
+
+-- It is where a write puts it: behind the frames before it, or behind the short log that was given.
+abbrev pub IsPut : {D : Type 0} → (D → Meters) → LogState D → Option Short → List Record → LogState D → Type 0
+IsPut meters old None records new = IsBehind old records new
+IsPut meters old (Some short) records new = IsBehind old records new ⊎ IsTurned meters old short.body records new
 
 -- An arm that has not run out has been taken so many calls at least, and has some left.
 abbrev pub Takes : ℕ → Meters → Meters → Type 0

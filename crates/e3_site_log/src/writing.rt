@@ -6,7 +6,7 @@ ghost use Rattle.e3_world.specs.Brief.{brief};
 ghost use Rattle.e3_world.specs.Orderly.{IsOrderly};
 ghost use Rattle.e3_log.specs.Regions.{limit, other, start};
 ghost use Rattle.e3_site_log.specs.Bodies.{IsLogged, ReadsLeft};
-ghost use Rattle.e3_site_log.specs.Ends.{EndsAt, HasRoom, IsReason, IsShortOf, MayTurn, Takes, calls_for, turn_why, turned_to, why_of};
+ghost use Rattle.e3_site_log.specs.Ends.{HasRoom, IsBehind, IsPut, IsReason, IsShortOf, IsTurned, MayTurn, Takes, calls_for, turn_why, why_of};
 ghost use Rattle.e3_site_log.specs.Writing.{Leaves, Reasons, Writes};
 ghost use Rattle.e3_types.specs.Spelling.{spelling};
 ghost use Rattle.e3_types.specs.declared.records.Record.{Record as Records};
@@ -51,7 +51,7 @@ fn add<D: Disk>(
     ensures full { (need room : ℕ) → result ≡ Err (Why.Full need room) →
         (limit (D.meaning.meters log.old.disk).capacity log.old.region < log.old.end + 6 + length body.now)
         × (need ≡ log.old.end + 6 + length body.now) × (room ≡ limit (D.meaning.meters log.old.disk).capacity log.old.region) }
-    ensures end { OnOk result (log.new.end ≡ log.old.end + 5 + length body.now) }
+    ensures end { OnOk result (IsBehind log.old records.now log.new) }
     ensures keeps { Keeps (D.meaning.meters log.old.disk) (D.meaning.meters log.new.disk) }
     ensures lit { OnOk result ((D.meaning.meters log.new.disk).powered ≡ true) }
     ensures takes { OnOk result (Takes 4 (D.meaning.meters log.old.disk) (D.meaning.meters log.new.disk)) }
@@ -144,7 +144,7 @@ fn turn_and_add<D: Disk>(
     ensures logged { Writes D.meaning log.old log.new logged.old logged.new (Given short.now) records.now result }
     ensures left { Leaves D.meaning log.old log.new logged.old logged.new (Given short.now) records.now result }
     ensures reason { Reasons D.meaning log.old log.new logged.old logged.new (Given short.now) records.now result }
-    ensures end { OnOk result (log.new.end ≡ turned_to D.meaning.meters log.old short.now records.now) }
+    ensures end { OnOk result (IsTurned D.meaning.meters log.old short.now.body records.now log.new) }
     ensures keeps { Keeps (D.meaning.meters log.old.disk) (D.meaning.meters log.new.disk) }
     ensures lit { OnOk result ((D.meaning.meters log.new.disk).powered ≡ true) }
     ensures takes { OnOk result (Takes 4 (D.meaning.meters log.old.disk) (D.meaning.meters log.new.disk)) }
@@ -171,8 +171,8 @@ pub fn write<D: Disk>(
     ensures logged { Writes D.meaning log.old log.new logged.old logged.new short.now records.now result }
     ensures left { Leaves D.meaning log.old log.new logged.old logged.new short.now records.now result }
     ensures reason { Reasons D.meaning log.old log.new logged.old logged.new short.now records.now result }
-    ensures end { OnOk result (records.now ≢ [] → EndsAt D.meaning.meters log.old short.now records.now log.new.end) }
-    ensures stays { log.old.failed ≡ false → HasRoom D.meaning.meters log.old (length body.now) → OnOk result (records.now ≢ [] → log.new.end ≡ log.old.end + 5 + length body.now) }
+    ensures end { OnOk result (records.now ≢ [] → IsPut D.meaning.meters log.old short.now records.now log.new) }
+    ensures stays { log.old.failed ≡ false → HasRoom D.meaning.meters log.old (length body.now) → OnOk result (records.now ≢ [] → IsBehind log.old records.now log.new) }
     ensures room { log.old.failed ≡ false → HasRoom D.meaning.meters log.old (length body.now) → IfErr result (λ why. why ≡ Why.Fault) }
     ensures some { IfErr result (λ _. records.now ≢ []) }
     ensures same { records.now ≡ [] → (log.new ≡ log.old) × (logged.new ≡ logged.old) }

@@ -75,7 +75,7 @@ pub record IsCutShort {D : Type 0} (meaning : Meaning D) (disks_before disks_now
   pub happened : NothingHappened disks_before disks_now history
       ⊎ (IsRead words had left bytes × IsHistoryOf meaning disks_before disks_now words bytes most history)
 
--- What is due for the bytes that were read: a text, with a status that the words may end with; or memory ran out, where nothing
+-- The response to the bytes that were read: a text, with a status that the words may end with; or memory ran out, where nothing
 -- had happened yet, or the history is one of the scenario that is played.
 pub record IsResponse {D : Type 0} (meaning : Meaning D) (disks_before disks_now : List D)
     (words : List (String Global)) (bytes : List ℕ) (most : ℕ) (due : Result Due Stop) (history : List Entry) : Type 0 where

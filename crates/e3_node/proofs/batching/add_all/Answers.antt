@@ -1,4 +1,4 @@
-use Rattle.std.proofs.Common.{rules, true, false, ◌≡◌, ◌<◌, ◌≤◌, ◌+◌, ◌++◌, ◌∷◌, [], ℕ, List, length, take, ap, sym, subst, ◌∙◌, arith}
+use Rattle.std.proofs.Common.{rules, true, false, ◌≡◌, ◌≢◌, ◌<◌, ◌≤◌, ◌+◌, ◌++◌, ◌∷◌, [], ℕ, List, length, take, ap, sym, subst, ◌∙◌, arith}
 use Rattle.std.proofs.lemmas.List.{length-take-le, take_more}
 use Rattle.e3_site.specs.StandsAlike.{IsLogInOrder}
 use Rattle.e3_node.specs.Batched.{HasNoMoreRoom, IsBatchAt}
@@ -90,9 +90,11 @@ returns-then-not-branch-clause-added g c =
     let made : P (take at inputs) = subst P far full.0 in
     let count : c.steps_in.result ≡ at =
     c.steps_in.ensures ∙ count_so_far g.D.Disk.meaning.meters c.args.log.now g.at.scenario g.at.history g.at.site g.at.rose g.at.marks g.at.first (take at inputs) c.add_one.new.batch c.add_one.new.site c.add_one.new.shared made
-    ∙ length-take-le at inputs (omega (arith, low)) in (
+    ∙ length-take-le at inputs (omega (arith, low)) in
+    let logged : log_of g.at.scenario g.at.history g.at.site ≢ [] =
+    (c.requires.1.1.1.1.1.1.0 0 (omega arith) c.args.site.now c.requires.1.1.1.0.stands).some in (
       at,
-      added_some g.D.Disk.meaning.meters c.args.log.now g.at.scenario g.at.history g.at.site inputs g.at.rose g.at.marks g.at.first c.steps_in.result at c.input-item.result count low
+      added_some g.D.Disk.meaning.meters c.args.log.now g.at.scenario g.at.history g.at.site inputs g.at.rose g.at.marks g.at.first c.steps_in.result at c.input-item.result logged count low
           (take_more inputs at c.input-item.result low ∙ ap (λ (x : Input). take at inputs ++ x ∷ []) (sym c.input-item.is)) (subst R far full.1),
       made,
     )

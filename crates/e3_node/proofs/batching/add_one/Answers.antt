@@ -51,7 +51,7 @@ returns-in_default-clause-full g c = λ no.
       no_more_room g.D.Disk.meaning.meters c.args.log.now g.at.scenario g.at.history g.at.site g.at.rose g.at.marks g.at.first g.at.done c.args.batch.now c.args.site.now c.planned.new.site
           c.args.shared.now c.args.input.now c.in_ok-draft.draft c.in_ok-body.body c.requires.1.1.1.0 c.requires.1.1.1.1.1.0 c.in_ok-draft.ensures.ready
           (c.in_ok-body.ensures ∙ ap (λ (l : List ℕ). l ++ c.as_slice-3.result.now) c.as_slice-2.ensures ∙ ap (λ (l : List ℕ). c.args.batch.now.body ++ l) c.as_slice-3.ensures)
-          full.0 (subst L c.len.ensures full.2),
+          full.0 full.1 (subst L c.len.ensures full.2),
     )
 
 pub returns-in_default-clause-stays : goal.returns-in_default-clause-stays

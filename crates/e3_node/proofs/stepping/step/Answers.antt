@@ -1,13 +1,13 @@
 use Rattle.std.proofs.Common.{◌≡◌, ◌≢◌, [], ◌∙◌, ℕ, Err, ap, sym, subst, List, length, arith}
 use Rattle.std.specs.Prelude.{IsErrAnd, Ok, Result}
 use Rattle.e3_node.specs.Bodies.{DiskTells, entries_at}
-use Rattle.e3_node.specs.Ends.{FellOver, input_fault_of}
+use Rattle.e3_node.specs.Ends.{FellOver, IsOneFrame, input_fault_of}
 use Rattle.e3_node.specs.NodeStands.{IsUp, StandsBy}
 use Rattle.e3_node.specs.SharedStands.{HasEntered}
 use Rattle.e3_node.specs.declared.fault.InputFault.{InputFault}
 use Rattle.e3_node.specs.declared.fault.InputFault.TheVariants as input_fault
 use Rattle.e3_site.specs.SiteView.{SiteView, count_on, entry_of_plan, step_kept}
-use Rattle.e3_site_log.specs.Ends.{HasRoomUnlessShort, IsReason, Takes, calls_for, size_of}
+use Rattle.e3_site_log.specs.Ends.{HasRoom, HasRoomUnlessShort, IsReason, Takes, calls_for, size_of}
 use Rattle.e3_types.specs.declared.entries.Act.TheVariants.{Fall}
 use Rattle.e3_types.specs.declared.entries.Entry.{Entry}
 use Rattle.e3_types.specs.declared.entries.Why.{Why}
@@ -19,6 +19,7 @@ use Rattle.e3_wire.specs.declared.fault.WireFault.TheVariants as wire_fault
 use Rattle.e3_world.specs.Legal.{made_by}
 use Rattle.e3_world.specs.Moves.{log_of}
 use Rattle.e3_world.specs.declared.lives.SiteStep.{SiteStep}
+use Rattle.e3_node.proofs.Framing.{one_frame}
 use Rattle.e3_node.proofs.Guarding.{first_takes_least}
 use Rattle.e3_node.proofs.Orders.{step_order}
 use Rattle.e3_node.proofs.Sharing.{fall_uses, has_from, may_enter, step_uses}
@@ -214,6 +215,29 @@ returns-in-Err-clause-why g c = λ why is.
     subst (λ (w : Why). IsReason w l (made_by sc h c.args.number c.args.input).records old new) same
     (subst (λ (rs : List Record). IsReason c.in-Err.why l rs old new) slice
     (c.in-Err.ensures.reason c.args.number (entries_at h c.args.number) l c.requires.up.logged follows.short due))
+
+pub returns-in-Ok-clause-frame : goal.returns-in-Ok-clause-frame
+returns-in-Ok-clause-frame g c =
+    let was = c.args.shared.now in
+    let sc = scenario_of was in
+    let h = entries_of was in
+    let d = c.in_ok-draft.draft in
+    let made = draft_made sc h c.args.number c.args.site.now _ c.args.input d c.requires.up.stands c.in_ok-draft.ensures.ready in
+    let ready : StandsBy sc h c.args.number c.args.rose.now c.prepare.new.site =
+    record { alike = c.in_ok-draft.ensures.still.stands sc h c.args.number c.args.rose.now c.requires.up.stands.alike; risen = c.requires.up.stands.risen; order = c.requires.up.stands.order } in
+    let slice : c.records-records.result.now ≡ (made_by sc h c.args.number c.args.input).records = c.records-records.ensures ∙ records_made sc h c.args.number c.args.input d.plan.step made.step_is in
+    let follows : Follows c.args.number (log_of sc h c.args.number) c.records-records.result.now c.in_ok-short.short =
+    step_follows c.logs_are_sound.ensures.orderly c.logs_are_sound.ensures.sets c.logs_are_sound.ensures.sound c.logs_are_sound.ensures.mention c.logs_are_sound.ensures.begun c.logs_are_sound.ensures.votes sc h c.args.number
+    c.requires.shared.stands.played.given c.requires.shared.stands.played.legal c.requires.up.up c.args.rose.now c.prepare.new.site c.args.input c.in_ok-short.short c.records-records.result.now ready c.requires.shared.some c.requires.due
+    slice made.back c.in_ok-short.ensures.short in
+    let l = log_of sc h c.args.number in
+    let F : List Record → Type 0 = λ rs. IsOneFrame g.D.Disk.meaning.meters l rs c.args.log.now c.write.new.log in
+    let size : size_of c.records-records.result.now ≡ length c.as_slice-records.result.now =
+    ap size_of c.records-records.ensures ∙ sym (ap length c.in_ok-draft.ensures.ready.drafted.body_is) ∙ sym (ap length c.as_slice-records.ensures) in
+    subst F slice
+    (one_frame g.D.Disk.meaning.meters c.args.number c.args.log.now c.write.new.log l c.records-records.result.now c.in_ok-short.short follows.short
+    (λ none. (c.write.ensures.same none).0) c.in-Ok.ensures.end
+    (λ fits. c.in-Ok.ensures.stays c.requires.up.logged.stands.sound (subst (λ (n : ℕ). HasRoom g.D.Disk.meaning.meters c.args.log.now n) size fits)))
 
 pub returns-in-Ok-clause-takes : goal.returns-in-Ok-clause-takes
 returns-in-Ok-clause-takes g c =

@@ -8,7 +8,7 @@ use Rattle.e3_node.specs.Bodies.{entries_at}
 use Rattle.e3_node.specs.Briefing.{BriefsAreTold}
 use Rattle.e3_node.specs.Several.{AreOf, marks_in}
 use Rattle.e3_site_log.specs.Bodies.{IsLogged, ReadsLeft}
-use Rattle.e3_site_log.specs.Ends.{EndsAt, HasRoom, HasRoomUnlessShort, IsReason, Takes, calls_for, size_of}
+use Rattle.e3_site_log.specs.Ends.{IsBehind, IsPut, HasRoom, HasRoomUnlessShort, IsReason, Takes, calls_for, size_of}
 use Rattle.e3_turn.specs.Passes.{GrewByOthers, Owns, seen_by}
 use Rattle.e3_types.specs.Spelling.{spelling}
 use Rattle.e3_types.specs.declared.entries.Act.TheVariants.{Fall}
@@ -271,7 +271,11 @@ returns-in-Ok-clause-ended g c =
     c.in-Ok.ensures.lit
     (subst (λ (rs : List Record). Takes (calls_for rs) (g.D.Disk.meaning.meters l0.disk) (g.D.Disk.meaning.meters l1.disk)) c.as_slice-2.ensures c.in-Ok.ensures.takes)
     c.write.ensures.keeps
-    (subst (λ (rs : List Record). rs ≢ [] → EndsAt g.D.Disk.meaning.meters l0 b.short rs l1.end) c.as_slice-2.ensures c.in-Ok.ensures.end)
+    (subst (λ (rs : List Record). rs ≢ [] → IsPut g.D.Disk.meaning.meters l0 b.short rs l1) c.as_slice-2.ensures c.in-Ok.ensures.end)
+    (λ fits. subst (λ (rs : List Record). rs ≢ [] → IsBehind l0 rs l1) c.as_slice-2.ensures
+    (c.in-Ok.ensures.stays c.requires.up.logged.stands.sound (subst (λ (size : ℕ). HasRoom g.D.Disk.meaning.meters l0 size)
+    (sym (ap length c.as_slice-3.ensures ∙ body_size g.D.Disk.meaning.meters l0 p q n s0.inputs c.args.inputs answer b s1 plan c.requires.turns.owns mine c.requires.turns.played
+    c.plan_all-planned.ensures.played)) fits)))
     (seen_by r) ent.3
 
 pub returns-in-Ok-clause-never : goal.returns-in-Ok-clause-never

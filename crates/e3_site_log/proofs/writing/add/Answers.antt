@@ -1,10 +1,11 @@
-use Rattle.std.proofs.Common.{◌≡◌, ◌+◌, sym, subst, ap, ◌∙◌, length, Err, rules}
+use Rattle.std.proofs.Common.{◌≡◌, ◌+◌, sym, subst, ap, ◌∙◌, length, Err, arith, rules}
 use Rattle.e3_log.specs.declared.fault.AppendFault.{AppendFault}
-use Rattle.e3_site_log.specs.Bodies.{ReadsLeft, bodies_in, counted}
+use Rattle.e3_log.specs.Frames.{frames}
+use Rattle.e3_site_log.specs.Bodies.{ReadsLeft, bodies_in, body_of, counted}
 use Rattle.e3_types.specs.declared.entries.Why.{Why}
 use Rattle.e3_types.specs.declared.entries.Why.TheVariants.{Fault, Full}
 use Rattle.e3_site_log.proofs.Frames.{some_spelled, untagged}
-use Rattle.e3_site_log.proofs.Reasons.{add_fault, add_full}
+use Rattle.e3_site_log.proofs.Reasons.{add_fault, add_full, frame_length}
 use Rattle.e3_site_log.proofs.Writes.{added, left_add}
 use Rattle.e3_site_log.proofs.writing.add.Goals as goal
 
@@ -19,6 +20,12 @@ returns-in-Ok-clause-logged g c = λ site most l was orderly back.
     let sum : c.saturating_add.result ≡ counted (c.args.logged.now + length c.args.records.now) = search rules in
     added g.D.Disk.meaning site most l c.args.logged.now c.saturating_add.result c.args.log.now c.append.new.self c.args.records.now c.args.body.now
     c.requires.spelled c.requires.some was orderly back c.in-Ok.ensures.stands c.in-Ok.ensures.log.1 sum
+
+pub returns-in-Ok-clause-end : goal.returns-in-Ok-clause-end
+returns-in-Ok-clause-end g c =
+    let size : length (frames (body_of c.args.records.now)) ≡ 5 + length c.args.body.now = frame_length c.args.records.now c.args.body.now c.requires.spelled c.requires.some in
+    let end : c.append.new.self.end ≡ c.args.log.now.end + 5 + length c.args.body.now = c.in-Ok.ensures.end in
+    (c.in-Ok.ensures.log.0, omega (arith, end, size))
 
 pub returns-in-Err-clause-left : goal.returns-in-Err-clause-left
 returns-in-Err-clause-left g c = λ site most l was orderly back bytes at.

@@ -1,9 +1,9 @@
-use Rattle.std.proofs.Common.{◌≡◌, ◌+◌, length, arith}
+use Rattle.std.proofs.Common.{◌≡◌, ◌+◌, ◌∙◌, length, arith}
 use Rattle.e3_log.specs.Frames.{frames}
 use Rattle.e3_log.specs.Regions.{other, start}
 use Rattle.e3_site_log.specs.Bodies.{body_of}
-use Rattle.e3_site_log.specs.Ends.{Takes, turned_to}
-use Rattle.e3_site_log.proofs.Reasons.{frame_length, keeps_then, on_ok, reason_behind, takes_on}
+use Rattle.e3_site_log.specs.Ends.{IsBehind, IsTurned, Takes}
+use Rattle.e3_site_log.proofs.Reasons.{keeps_then, on_ok, reason_behind, takes_on}
 use Rattle.e3_site_log.proofs.writing.turn_and_add.Goals as goal
 
 pub returns-in-Ok-clause-logged : goal.returns-in-Ok-clause-logged
@@ -28,10 +28,9 @@ returns-in-Err-clause-reason g c = λ site most l was is due. c.in-Err.ensures.r
 
 pub returns-in-Ok-clause-end : goal.returns-in-Ok-clause-end
 returns-in-Ok-clause-end g c =
-    let size : length (frames (body_of c.args.records.now)) ≡ 5 + length c.args.body.now = frame_length c.args.records.now c.args.body.now c.requires.spelled c.requires.some in
     let mid : c.turn_to.new.log.end ≡ start (g.D.Disk.meaning.meters c.args.log.now.disk).capacity (other c.args.log.now.region) + 10 + length c.args.short.now.body = c.in-Ok.ensures.log.1 in
-    on_ok {A = c.add.new.log.end ≡ c.turn_to.new.log.end + 5 + length c.args.body.now} {B = c.add.new.log.end ≡ turned_to g.D.Disk.meaning.meters c.args.log.now c.args.short.now c.args.records.now}
-    c.add.result (λ end. omega (arith, end, mid, size)) c.add.ensures.end
+    on_ok {A = IsBehind c.turn_to.new.log c.args.records.now c.add.new.log} {B = IsTurned g.D.Disk.meaning.meters c.args.log.now c.args.short.now.body c.args.records.now c.add.new.log}
+    c.add.result (λ end. (end.0 ∙ c.in-Ok.ensures.log.0, (let behind : c.add.new.log.end ≡ c.turn_to.new.log.end + length (frames (body_of c.args.records.now)) = end.1 in omega (arith, behind, mid)))) c.add.ensures.end
 
 pub returns-in-Ok-clause-keeps : goal.returns-in-Ok-clause-keeps
 returns-in-Ok-clause-keeps g c =

@@ -1,4 +1,5 @@
 use Rattle.std.proofs.Common.{◌≡◌, ◌≤◌, ◌++◌, ◌∷◌, [], ap, subst, sym}
+use Rattle.e3_node.specs.Ends.{IsOneFrame, OnLogs}
 use Rattle.e3_node.specs.NodeStands.{IsIn}
 use Rattle.e3_node.specs.NodeView.{NodeView, disk_of}
 use Rattle.e3_node.specs.Turns.{HasKeptPromises, Meanwhile, history_seen, scenario_seen}
@@ -6,6 +7,7 @@ use Rattle.e3_site_log.specs.Ends.{Takes, calls_for}
 use Rattle.e3_turn.specs.Passes.{Owns, seen_by}
 use Rattle.e3_wire.specs.Marks.{last_owner}
 use Rattle.e3_world.specs.Legal.{entry_of, made_by}
+use Rattle.e3_world.specs.Moves.{log_of}
 use Rattle.e3_node.proofs.Steps.{node_with}
 use Rattle.e3_node.proofs.Turned.{in_told}
 use Rattle.e3_node.proofs.Waiting.{keys_stay}
@@ -29,6 +31,13 @@ returns-in-Ok-clause-takes g c =
     let h = history_seen c.args.pass.now in
     subst (λ (x : NodeView _). Takes (calls_for (made_by sc h x.site c.args.input).records) (g.D.Disk.meaning.meters (disk_of x.state)) (g.D.Disk.meaning.meters (disk_of c.take_by_turns.new.state)))
     c.self.view_is c.in-Ok.ensures.takes
+
+pub returns-in-Ok-clause-frame : goal.returns-in-Ok-clause-frame
+returns-in-Ok-clause-frame g c =
+    let sc = scenario_seen c.args.pass.now in
+    let h = history_seen c.args.pass.now in
+    subst (λ (x : NodeView _). OnLogs (IsOneFrame g.D.Disk.meaning.meters (log_of sc h x.site) (made_by sc h x.site c.args.input).records) x.state c.take_by_turns.new.state)
+    c.self.view_is c.in-Ok.ensures.frame
 
 pub returns-in-Ok-clause-turned : goal.returns-in-Ok-clause-turned
 returns-in-Ok-clause-turned g c =
