@@ -81,7 +81,7 @@ came_back {D} meaning law sc h olds news rest before now all seated kept was is 
     one_site at x y old new there here one two =
         subst (λ (d : D). IsOver meaning sc h (suc at) d new) (sym one)
         (subst (λ (d : D). IsOver meaning sc h (suc at) (disk_of x.state) d) (sym two) (record {
-          stands = subst (λ (s : ℕ). DiskStands sc h s (meaning.meters (disk_of y.state)).capacity (meaning.image (disk_of y.state))) (seated at y here).site (law sc h y (seated at y here).stands);
+          stands = subst (λ (s : ℕ). DiskStands meaning sc h s (disk_of y.state)) (seated at y here).site (law sc h y (seated at y here).stands);
           served = (kept.each at x y there here).served;
           rooms = subst (λ (n : ℕ). HadNoRooms sc h (suc at) n) (kept.each at x y there here).served.capacity (seated at y here).rooms;
         }))

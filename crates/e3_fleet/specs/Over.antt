@@ -75,7 +75,7 @@ pub record HasServed (sc : Scenario) (history : List Entry) (site : ℕ) (old ne
 
 -- what the disk of a site came to: it stands for the site's log, and so it served
 pub record IsOver {D : Type 0} (meaning : Meaning D) (sc : Scenario) (history : List Entry) (site : ℕ) (old new : D) : Type 0 where
-  pub stands : DiskStands sc history site (meaning.meters new).capacity (meaning.image new)
+  pub stands : DiskStands meaning sc history site new
   pub served : HasServed sc history site (meaning.meters old) (meaning.meters new)
   pub rooms : HadNoRooms sc history site (meaning.meters old).capacity
 

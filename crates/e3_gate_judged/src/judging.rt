@@ -84,7 +84,7 @@ fn scenario_of(alloc: Global, text: &[u8]) -> Option<Scenario> {
 }
 
 // Adds what is said of a run of this scenario; its sink, which has its report, comes back.
-fn said_of(alloc: Global, page: &mut Page, scenario: &Scenario, ran: Ran) -> MemSink {
+fn push_outcome(alloc: Global, page: &mut Page, scenario: &Scenario, ran: Ran) -> MemSink {
     let Ran { ended, sink, .. } = ran;
     page.labelled("status ", u64::from(ended.status));
     page.labelled(", written ", sink.written().len() as u64);
@@ -94,7 +94,7 @@ fn said_of(alloc: Global, page: &mut Page, scenario: &Scenario, ran: Ran) -> Mem
 }
 
 // The same of a run of what is given; none without memory, or where its text spells no scenario.
-fn said<R: Wait + Threads + Sync>(
+fn run_of<R: Wait + Threads + Sync>(
     rt: &R,
     alloc: Global,
     page: &mut Page,
@@ -102,12 +102,17 @@ fn said<R: Wait + Threads + Sync>(
 ) -> Option<MemSink> {
     let scenario = scenario_of(alloc, given.text())?;
     let ran = played(rt, alloc, given)?;
-    Some(said_of(alloc, page, &scenario, ran))
+    Some(push_outcome(alloc, page, &scenario, ran))
 }
 
 /// Adds the line of what is said of a run of what is given.
-pub fn push_said<R: Wait + Threads + Sync>(rt: &R, alloc: Global, page: &mut Page, given: &Given) {
-    if said(rt, alloc, page, given).is_none() {
+pub fn push_run_line<R: Wait + Threads + Sync>(
+    rt: &R,
+    alloc: Global,
+    page: &mut Page,
+    given: &Given,
+) {
+    if run_of(rt, alloc, page, given).is_none() {
         page.lack();
     }
     page.text("\n");
@@ -122,7 +127,7 @@ pub fn push_judged<R: Wait + Threads + Sync>(
 ) {
     page.bytes(asked.name);
     page.text(": ");
-    push_said(rt, alloc, page, &asked.given());
+    push_run_line(rt, alloc, page, &asked.given());
 }
 
 // The text with these words for its `@`.
@@ -146,7 +151,7 @@ fn push_stopped<R: Wait + Threads + Sync>(
     if !text.is_whole() {
         page.lack();
     }
-    match said(rt, alloc, page, &Given::with(text.as_slice(), settings)) {
+    match run_of(rt, alloc, page, &Given::with(text.as_slice(), settings)) {
         Some(sink) => push_events(page, sink.written()),
         None => page.lack(),
     }

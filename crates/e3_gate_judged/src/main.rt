@@ -101,7 +101,7 @@ fn lines<R: Wait + Threads + Sync>(rt: &R, alloc: Global, input: &[u8]) -> Page 
         push_line(rt, alloc, &mut page, &mut text, line);
     }
     if page.as_slice().is_empty() {
-        judging::push_said(rt, alloc, &mut page, &Given::of(text.as_slice()));
+        judging::push_run_line(rt, alloc, &mut page, &Given::of(text.as_slice()));
     }
     page
 }

@@ -46,7 +46,7 @@ use Rattle.e3_net.specs.declared.waiting.Waiting.{Waiting}
 use Rattle.e3_net.specs.Traffic.{wait}
 use Rattle.e3_net.specs.Stands.{given, waiting_of, without}
 use Rattle.e3_net.proofs.Pushing.{pending_waits, waiting_push}
-use Rattle.e3_law_rounds.specs.Rounds.{elects, is_elect, is_of_round, is_own, said_at, said_in, verdicts_in}
+use Rattle.e3_law_rounds.specs.Rounds.{elects, is_elect, is_of_round, is_own, verdicts_at, verdicts_told, verdicts_in}
 use Rattle.e3_law_steps.specs.Waiting.{is_answer}
 use Rattle.e3_law_steps.proofs.Deciding.{AddsAnswers, is_answer_from, step_adds_answers, tells_answer}
 use Rattle.e3_law_rounds.proofs.Deliveries.Forced.{no_inputs}
@@ -266,7 +266,7 @@ no_verdicts (told.Verdict u n v ∷ events) all = absurd cc
 record After (sc : Scenario) (r : RecoveryRound) (h : List Entry) (e : Entry) : Type 0 where
   tail : Tail sc r (h ++ e ∷ [])
   not_own : is_own r e ≡ false
-  silent : said_in r.txn (e ∷ []) ≡ []
+  silent : verdicts_told r.txn (e ∷ []) ≡ []
 
 decided_on : (sc : Scenario) (r : RecoveryRound) (h : List Entry) (e : Entry) → Tail sc r h → (s : ℕ) → has_site r.members s ≡ true →
     is_undecided r.txn (log_of sc (h ++ e ∷ []) s) ≡ false
@@ -335,7 +335,7 @@ first_late P [] p all is = absurd cc
 first_late P (q ∷ ps) p all is = let same : q ≡ p = cc in subst (λ x. P x ≡ true) same (and_parts (P q) (list_all P ps) all).0
 
 -- an entry that is no step
-sends_nothing : (sc : Scenario) (r : RecoveryRound) (h : List Entry) (e : Entry) → Tail sc r h → outs_of e.act ≡ [] → is_own r e ≡ false → said_in r.txn (e ∷ []) ≡ [] →
+sends_nothing : (sc : Scenario) (r : RecoveryRound) (h : List Entry) (e : Entry) → Tail sc r h → outs_of e.act ≡ [] → is_own r e ≡ false → verdicts_told r.txn (e ∷ []) ≡ [] →
     After sc r h e
 sends_nothing sc r h e tail none not_own silent = record {
   tail = record { late = pending_all (is_late r) sc h e tail.late (ap (list_all (is_late r)) none); decided = decided_on sc r h e tail };
@@ -391,7 +391,7 @@ by_act sc r h group items o (Line number) given is tail other guard = sends_noth
 pub record Ended (sc : Scenario) (r : RecoveryRound) (h more : List Entry) : Type 0 where
   pub tail : Tail sc r (h ++ more)
   pub none_own : count_by (is_own r) more ≡ 0
-  pub none_said : said_in r.txn more ≡ []
+  pub none_said : verdicts_told r.txn more ≡ []
 
 pub tail_ends : (sc : Scenario) (r : RecoveryRound) (h more : List Entry) (group : List ℕ) (items : List Item) → IsGiven sc →
     present_items sc h ≡ item.Recover group ∷ items → LegalAfter sc h more → list_any is_line more ≡ false → list_any elects more ≡ false → Tail sc r h →
@@ -406,5 +406,5 @@ tail_ends sc r h (e ∷ more) group items given is guards no_line no_elect tail 
       tail = subst (Tail sc r) (append_assoc h (e ∷ []) more) rest.tail;
       none_own = sum_by-append _ (e ∷ []) more ∙ (let one : count_by (is_own r) (e ∷ []) ≡ 0 = rw here.not_own refl in let two : count_by (is_own r) more ≡ 0 = rest.none_own in
           let none : count_by (is_own r) (e ∷ []) + count_by (is_own r) more ≡ 0 = omega (arith, one, two) in none);
-      none_said = flat_map-append (said_at r.txn) (e ∷ []) more ∙ ap (λ l. l ++ said_in r.txn more) here.silent ∙ rest.none_said;
+      none_said = flat_map-append (verdicts_at r.txn) (e ∷ []) more ∙ ap (λ l. l ++ verdicts_told r.txn more) here.silent ∙ rest.none_said;
     }

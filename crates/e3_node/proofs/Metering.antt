@@ -68,7 +68,7 @@ keeps_lit a b keeps = record {
 
 -- a sync, and then the calls of a frame
 pub takes_both : (a b c : Meters) (r : Raised) → TakesOne a b → RiseTakes 4 r b c → RiseTakes 5 r a c
-takes_both a b c (raised_as.Rose kept inc) first second = λ armed.
+takes_both a b c (raised_as.Risen kept inc) first second = λ armed.
     let left : b.calls_left ≡ a.calls_left - 1 = first.0 in
     let more : 1 < a.calls_left = first.1 armed in
     let some : 0 < b.calls_left = omega (arith, left, more) in

@@ -13,7 +13,7 @@ use Rattle.e3_node.specs.declared.fault.RiseFault.{RiseFault}
 use Rattle.e3_node.specs.declared.fault.RiseFault.TheVariants as rise_fault
 use Rattle.e3_node.specs.declared.readying.Wish.{Wish}
 use Rattle.e3_node.specs.declared.rising.Raised.{Raised}
-use Rattle.e3_node.specs.declared.rising.Raised.TheVariants.{Rose, Failed, Missed, NoMemory, Foreign}
+use Rattle.e3_node.specs.declared.rising.Raised.TheVariants.{Risen, Failed, Missed, NoMemory, Foreign}
 use Rattle.e3_node.specs.declared.state.State.{State}
 use Rattle.e3_node.specs.declared.state.State.TheVariants.{Down, Up}
 use Rattle.e3_site_log.specs.Ends.{Takes}
@@ -52,12 +52,12 @@ may_rise meaning marks node wish shared was rising is = record {
 pub allowed_of : {D : Type 0} (meaning : Meaning D) (sc : Scenario) (h : List Entry)
     (site : ℕ) (old : D) (state : State D) (r : Raised) → IsRising sc h site → RiseMakes meaning sc h site old state r →
     IsAllowed sc h site r
-allowed_of meaning sc h site old (Up s l rose logged) (Rose kept inc) rising made = made.allowed
+allowed_of meaning sc h site old (Up s l rose logged) (Risen kept inc) rising made = made.allowed
 allowed_of meaning sc h site old (Up s l rose logged) (Failed kept inc why) rising made = absurd made
 allowed_of meaning sc h site old (Up s l rose logged) Missed rising made = absurd made
 allowed_of meaning sc h site old (Up s l rose logged) NoMemory rising made = absurd made
 allowed_of meaning sc h site old (Up s l rose logged) Foreign rising made = absurd made
-allowed_of meaning sc h site old (Down new logged) (Rose kept inc) rising made = absurd made
+allowed_of meaning sc h site old (Down new logged) (Risen kept inc) rising made = absurd made
 allowed_of meaning sc h site old (Down new logged) (Failed kept inc why) rising made = made.allowed
 allowed_of meaning sc h site old (Down new logged) Missed rising made = rising
 allowed_of meaning sc h site old (Down new logged) NoMemory rising made = tt
@@ -84,12 +84,12 @@ missed_disk sc h site capacity logged image tells = λ bytes at.
 rise_in : {D : Type 0} (meaning : Meaning D) (sc : Scenario) (h : List Entry)
     (site : ℕ) (old : D) (state : State D) (r : Raised) → is_up_at h site ≡ false → RiseMakes meaning sc h site old state r →
     IsIn meaning sc (h ++ entered_by site r) site state
-rise_in meaning sc h site old (Up s l rose logged) (Rose kept inc) down made = made.up
+rise_in meaning sc h site old (Up s l rose logged) (Risen kept inc) down made = made.up
 rise_in meaning sc h site old (Up s l rose logged) (Failed kept inc why) down made = absurd made
 rise_in meaning sc h site old (Up s l rose logged) Missed down made = absurd made
 rise_in meaning sc h site old (Up s l rose logged) NoMemory down made = absurd made
 rise_in meaning sc h site old (Up s l rose logged) Foreign down made = absurd made
-rise_in meaning sc h site old (Down new logged) (Rose kept inc) down made = absurd made
+rise_in meaning sc h site old (Down new logged) (Risen kept inc) down made = absurd made
 rise_in meaning sc h site old (Down new logged) (Failed kept inc why) down made = record {
   down = up_same h (rise_fall_of site kept inc why) site (self site);
   stands = made.stands;
@@ -117,7 +117,7 @@ node_risen meaning sc now h more old new state r was down made same entered is =
 rose_as : {D : Type 0} (meaning : Meaning D) (sc : Scenario) (h more : List Entry)
     (site : ℕ) (old : D) (state : State D) (r : Raised) → TailsAreOrderly → IsGiven sc → IsLegal sc h → RiseMakes meaning sc h site old state r →
     more ≡ h ++ entered_by site r → IfOk (told_of r) (λ inc. HasRisen sc h site inc more (meaning.meters old).capacity (meaning.image old))
-rose_as meaning sc h more site old (Up s l rose logged) (Rose kept inc) tails given legal made entered =
+rose_as meaning sc h more site old (Up s l rose logged) (Risen kept inc) tails given legal made entered =
     record {
       kept = kept;
       allowed = made.allowed;
@@ -129,7 +129,7 @@ rose_as meaning sc h more site old (Up s l rose logged) (Failed kept inc why) ta
 rose_as meaning sc h more site old (Up s l rose logged) Missed tails given legal made entered = absurd made
 rose_as meaning sc h more site old (Up s l rose logged) NoMemory tails given legal made entered = absurd made
 rose_as meaning sc h more site old (Up s l rose logged) Foreign tails given legal made entered = absurd made
-rose_as meaning sc h more site old (Down new logged) (Rose kept inc) tails given legal made entered = absurd made
+rose_as meaning sc h more site old (Down new logged) (Risen kept inc) tails given legal made entered = absurd made
 rose_as meaning sc h more site old (Down new logged) (Failed kept inc why) tails given legal made entered = tt
 rose_as meaning sc h more site old (Down new logged) Missed tails given legal made entered = tt
 rose_as meaning sc h more site old (Down new logged) NoMemory tails given legal made entered = tt
@@ -146,12 +146,12 @@ pub failed_told : {D : Type 0} (meaning : Meaning D) (sc : Scenario) (h more : L
     (site : ℕ) (old : D) (state : State D) (r : Raised) → TailsAreOrderly → IsGiven sc → IsLegal sc h → RiseMakes meaning sc h site old state r →
     more ≡ h ++ entered_by site r → (why : Why) → told_of r ≡ Err (rise_fault.Failed why) →
     HasFailedToRise sc h site why more (meaning.meters old) (meaning.meters (disk_of state)) (meaning.image old)
-failed_told meaning sc h more site old (Up s l rose logged) (Rose kept inc) tails given legal made entered why is = absurd cc
+failed_told meaning sc h more site old (Up s l rose logged) (Risen kept inc) tails given legal made entered why is = absurd cc
 failed_told meaning sc h more site old (Up s l rose logged) (Failed kept inc because) tails given legal made entered why is = absurd made
 failed_told meaning sc h more site old (Up s l rose logged) Missed tails given legal made entered why is = absurd made
 failed_told meaning sc h more site old (Up s l rose logged) NoMemory tails given legal made entered why is = absurd made
 failed_told meaning sc h more site old (Up s l rose logged) Foreign tails given legal made entered why is = absurd made
-failed_told meaning sc h more site old (Down new logged) (Rose kept inc) tails given legal made entered why is = absurd made
+failed_told meaning sc h more site old (Down new logged) (Risen kept inc) tails given legal made entered why is = absurd made
 failed_told meaning sc h more site old (Down new logged) (Failed kept inc because) tails given legal made entered why is =
     let same : because ≡ why = cc in
     subst (λ (w : Why). HasFailedToRise sc h site w more (meaning.meters old) (meaning.meters new) (meaning.image old)) same
@@ -171,12 +171,12 @@ failed_told meaning sc h more site old (Down new logged) Foreign tails given leg
 pub missed_told : {D : Type 0} (meaning : Meaning D) (sc : Scenario) (h : List Entry)
     (site : ℕ) (old : D) (state : State D) (r : Raised) → RiseMakes meaning sc h site old state r →
     told_of r ≡ Err rise_fault.Missed → HasFailed (meaning.meters old).faults (meaning.meters (disk_of state)).faults
-missed_told meaning sc h site old (Up s l rose logged) (Rose kept inc) made is = absurd cc
+missed_told meaning sc h site old (Up s l rose logged) (Risen kept inc) made is = absurd cc
 missed_told meaning sc h site old (Up s l rose logged) (Failed kept inc why) made is = absurd made
 missed_told meaning sc h site old (Up s l rose logged) Missed made is = absurd made
 missed_told meaning sc h site old (Up s l rose logged) NoMemory made is = absurd made
 missed_told meaning sc h site old (Up s l rose logged) Foreign made is = absurd made
-missed_told meaning sc h site old (Down new logged) (Rose kept inc) made is = absurd made
+missed_told meaning sc h site old (Down new logged) (Risen kept inc) made is = absurd made
 missed_told meaning sc h site old (Down new logged) (Failed kept inc why) made is = absurd cc
 missed_told meaning sc h site old (Down new logged) Missed made is = made.1
 missed_told meaning sc h site old (Down new logged) NoMemory made is = absurd cc
@@ -186,12 +186,12 @@ missed_told meaning sc h site old (Down new logged) Foreign made is = absurd mad
 pub spared_told : {D : Type 0} (meaning : Meaning D) (sc : Scenario) (h : List Entry)
     (site : ℕ) (old : D) (state : State D) (r : Raised) → RiseMakes meaning sc h site old state r →
     RiseTakes 5 r (meaning.meters old) (meaning.meters (disk_of state)) → told_of r ≡ Err rise_fault.NoMemory → Takes 0 (meaning.meters old) (meaning.meters (disk_of state))
-spared_told meaning sc h site old (Up s l rose logged) (Rose kept inc) made takes is = absurd cc
+spared_told meaning sc h site old (Up s l rose logged) (Risen kept inc) made takes is = absurd cc
 spared_told meaning sc h site old (Up s l rose logged) (Failed kept inc why) made takes is = absurd made
 spared_told meaning sc h site old (Up s l rose logged) Missed made takes is = absurd made
 spared_told meaning sc h site old (Up s l rose logged) NoMemory made takes is = absurd made
 spared_told meaning sc h site old (Up s l rose logged) Foreign made takes is = absurd made
-spared_told meaning sc h site old (Down new logged) (Rose kept inc) made takes is = absurd made
+spared_told meaning sc h site old (Down new logged) (Risen kept inc) made takes is = absurd made
 spared_told meaning sc h site old (Down new logged) (Failed kept inc why) made takes is = absurd cc
 spared_told meaning sc h site old (Down new logged) Missed made takes is = absurd cc
 spared_told meaning sc h site old (Down new logged) NoMemory made takes is = takes

@@ -34,7 +34,7 @@ use Rattle.e3_node.specs.declared.readying.Unready.{Unready}
 use Rattle.e3_node.specs.declared.readying.Unready.TheVariants as unready
 use Rattle.e3_node.specs.declared.readying.Wish.{Wish}
 use Rattle.e3_node.specs.declared.rising.Raised.{Raised}
-use Rattle.e3_node.specs.declared.rising.Raised.TheVariants.{Rose, Failed, Missed, NoMemory, Foreign}
+use Rattle.e3_node.specs.declared.rising.Raised.TheVariants.{Risen, Failed, Missed, NoMemory, Foreign}
 use Rattle.e3_node.specs.declared.state.State.{State}
 use Rattle.e3_node.specs.declared.state.State.TheVariants.{Down, Up}
 use Rattle.e3_site.specs.Rebuilt.{IsRebuilt}
@@ -341,7 +341,7 @@ reason_since (Full need room) log records old mid new keeps reason = subst (λ (
 pub makes_since : {D : Type 0} (meaning : Meaning D) (sc : Scenario) (h : List Entry)
     (site : ℕ) (old mid : D) (state : State D) (r : Raised) → Within (meaning.image old) (meaning.image mid) → Keeps (meaning.meters old) (meaning.meters mid) →
     RiseMakes meaning sc h site mid state r → RiseMakes meaning sc h site old state r
-makes_since meaning sc h site old mid (Up s l rose logged) (Rose kept inc) within keeps made = record {
+makes_since meaning sc h site old mid (Up s l rose logged) (Risen kept inc) within keeps made = record {
   allowed = made.allowed;
   read = subst (λ (c : ℕ). IsRead sc h site c kept (meaning.image old)) keeps.capacity (read_since meaning.image sc h site (meaning.meters mid).capacity kept old mid within made.read);
   up = made.up;
@@ -350,7 +350,7 @@ makes_since meaning sc h site old mid (Up s l rose logged) (Failed kept inc why)
 makes_since meaning sc h site old mid (Up s l rose logged) Missed within keeps made = absurd made
 makes_since meaning sc h site old mid (Up s l rose logged) NoMemory within keeps made = absurd made
 makes_since meaning sc h site old mid (Up s l rose logged) Foreign within keeps made = absurd made
-makes_since meaning sc h site old mid (Down new logged) (Rose kept inc) within keeps made = absurd made
+makes_since meaning sc h site old mid (Down new logged) (Risen kept inc) within keeps made = absurd made
 makes_since meaning sc h site old mid (Down new logged) (Failed kept inc why) within keeps made = record {
   allowed = made.allowed;
   read = subst (λ (c : ℕ). IsRead sc h site c kept (meaning.image old)) keeps.capacity (read_since meaning.image sc h site (meaning.meters mid).capacity kept old mid within made.read);

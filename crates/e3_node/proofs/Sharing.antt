@@ -164,8 +164,8 @@ entered_rise site r e before now has plain one = record {
 }
 
 pub rose_entered : (site : ℕ) (kept : Bool) (inc : ℕ) (before now : List Mark) → HasEntered (record { owner = site; act = act.Rise kept inc }) before now →
-    RiseIsEntered site (raised.Rose kept inc) before now
-rose_entered site kept inc before now has = entered_rise site (raised.Rose kept inc) (record { owner = site; act = act.Rise kept inc }) before now has refl refl
+    RiseIsEntered site (raised.Risen kept inc) before now
+rose_entered site kept inc before now has = entered_rise site (raised.Risen kept inc) (record { owner = site; act = act.Rise kept inc }) before now has refl refl
 
 pub failed_entered : (site : ℕ) (kept : Bool) (inc : ℕ) (why : Why) (before now : List Mark) → HasEntered (record { owner = site; act = act.RiseFall kept inc why }) before now →
     RiseIsEntered site (raised.Failed kept inc why) before now

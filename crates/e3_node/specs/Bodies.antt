@@ -1,5 +1,6 @@
 -- What the disk of a site stands for in a history.
 use Rattle.std.specs.Prelude.{◌≡◌, ◌≢◌, ◌<◌, ◌^◌, ◌++◌, ◌↔◌, ℕ, Bool, true, nat_lt, List, Option, None, length}
+use Rattle.e3_disk.specs.Meaning.{Meaning}
 use Rattle.e3_site_log.specs.Bodies.{ReadsAs, joined}
 use Rattle.e3_types.specs.declared.entries.Entry.{Entry}
 use Rattle.e3_types.specs.declared.records.Record.{Record}
@@ -52,7 +53,7 @@ abbrev pub IsKeptExactly : Scenario → List Entry → ℕ → Bool → List Rec
 IsKeptExactly sc history site kept records =
     (kept ≡ true) ↔ ((open_tail sc history site ≢ None) × (brief records ≡ brief (log_with sc history site true)))
 
--- A disk of this capacity with these images stands for a site of a history. Bytes read as one list of records at most, of one
--- generation, so it reads as such a log and as no other.
-pub record DiskStands (sc : Scenario) (history : List Entry) (site capacity : ℕ) (image : List ℕ → Type 0) : Type 0 where
-  pub holds : DiskHolds sc history site capacity image
+-- A disk stands for a site of a history. Bytes read as one list of records at most, of one generation, so it reads as such a log
+-- and as no other.
+pub record DiskStands {D : Type 0} (meaning : Meaning D) (sc : Scenario) (history : List Entry) (site : ℕ) (disk : D) : Type 0 where
+  pub holds : DiskHolds sc history site (meaning.meters disk).capacity (meaning.image disk)

@@ -41,14 +41,14 @@ MovesStay = (sc : Scenario) (site : ℕ) (h more : List Entry) → AreOthers sit
 -- so does a disk
 abbrev pub DisksKept : {D : Type 0} → Meaning D → Type 0
 DisksKept {D} meaning =
-    (sc : Scenario) (h : List Entry) (e : Entry) (site : ℕ) (disk : D) → DiskStands sc h site (meaning.meters disk).capacity (meaning.image disk) →
-    e.owner ≢ site → DiskStands sc (h ++ e ∷ []) site (meaning.meters disk).capacity (meaning.image disk)
+    (sc : Scenario) (h : List Entry) (e : Entry) (site : ℕ) (disk : D) → DiskStands meaning sc h site disk →
+    e.owner ≢ site → DiskStands meaning sc (h ++ e ∷ []) site disk
 
 -- the disk of a node that stands for a history stands for its site there
 abbrev pub NodesDisks : {D : Type 0} → Meaning D → Type 0
 NodesDisks {D} meaning =
     (sc : Scenario) (h : List Entry) (node : NodeView D) → NodeStands meaning sc h node →
-    DiskStands sc h node.site (meaning.meters (disk_of node.state)).capacity (meaning.image (disk_of node.state))
+    DiskStands meaning sc h node.site (disk_of node.state)
 
 -- it is up exactly where the history has its site up
 abbrev pub NodesUp : {D : Type 0} → Meaning D → Type 0

@@ -16,7 +16,7 @@ use Rattle.e3_node.specs.declared.readying.Unready.{Unready}
 use Rattle.e3_node.specs.declared.readying.Unready.TheVariants as unready
 use Rattle.e3_node.specs.declared.readying.Wish.{Wish}
 use Rattle.e3_node.specs.declared.rising.Raised.{Raised}
-use Rattle.e3_node.specs.declared.rising.Raised.TheVariants.{Rose, Failed, Missed, NoMemory, Foreign}
+use Rattle.e3_node.specs.declared.rising.Raised.TheVariants.{Risen, Failed, Missed, NoMemory, Foreign}
 use Rattle.e3_node.specs.declared.state.State.{State}
 use Rattle.e3_node.specs.declared.state.State.TheVariants.{Down, Up}
 use Rattle.e3_log.specs.Stands.{LogState}
@@ -127,7 +127,7 @@ pub record HasNotRaised {D : Type 0} (meaning : Meaning D) (sc : Scenario)
 
 -- what a rise makes of a disk; a log that is not the site's comes of no disk that stands
 abbrev pub RiseMakes : {D : Type 0} → Meaning D → Scenario → List Entry → ℕ → D → State D → Raised → Type 0
-RiseMakes meaning sc history site old (Up s l rose logged) (Rose kept inc) = HasRaised meaning sc history site old s l rose logged kept inc
+RiseMakes meaning sc history site old (Up s l rose logged) (Risen kept inc) = HasRaised meaning sc history site old s l rose logged kept inc
 RiseMakes meaning sc history site old (Down new logged) (Failed kept inc why) = HasNotRaised meaning sc history site old new logged kept inc why
 RiseMakes meaning sc history site old (Down new logged) Missed =
     DiskTells sc history site (meaning.meters new).capacity logged (meaning.image new) × HasFailed (meaning.meters old).faults (meaning.meters new).faults
@@ -141,7 +141,7 @@ RiseOver meaning wish logged old new raised = (sc : Scenario) (history : List En
 
 -- what it takes of an arm, where its frame takes so many calls and what is before it so many
 abbrev pub RiseTakes : ℕ → Raised → Meters → Meters → Type 0
-RiseTakes n (Rose kept inc) old new = Takes n old new
+RiseTakes n (Risen kept inc) old new = Takes n old new
 RiseTakes n NoMemory old new = Takes 0 old new
 RiseTakes n _ old new = Unit {0}
 
@@ -158,21 +158,21 @@ raised_by unready.Foreign = Foreign
 
 -- the entries that come of a rise
 abbrev pub entered_by : ℕ → Raised → List Entry
-entered_by site (Rose kept inc) = rise_of site kept inc ∷ []
+entered_by site (Risen kept inc) = rise_of site kept inc ∷ []
 entered_by site (Failed kept inc why) = rise_fall_of site kept inc why ∷ []
 entered_by site Missed = record { owner = site; act = act.Miss } ∷ []
 entered_by site _ = []
 
 -- what is told of a rise
 abbrev pub told_of : Raised → Result ℕ RiseFault
-told_of (Rose kept inc) = Ok inc
+told_of (Risen kept inc) = Ok inc
 told_of (Failed kept inc why) = Err (rise_fault.Failed why)
 told_of Missed = Err rise_fault.Missed
 told_of _ = Err rise_fault.NoMemory
 
 -- what a rise makes is allowed
 abbrev pub IsAllowed : Scenario → List Entry → ℕ → Raised → Type 0
-IsAllowed sc history site (Rose kept inc) = IsRise sc history site kept inc
+IsAllowed sc history site (Risen kept inc) = IsRise sc history site kept inc
 IsAllowed sc history site (Failed kept inc why) = IsRise sc history site kept inc
 IsAllowed sc history site Missed = IsRising sc history site
 IsAllowed sc history site NoMemory = Unit {0}

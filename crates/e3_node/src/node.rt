@@ -111,7 +111,7 @@ impl<D: Disk + Drill + Drop> Node<D> {
     pub fn into_disk(self) -> D
         ensures is { result ≡ disk_of self.state }
         ensures stands { (sc : Scenario) (h : Items Entries) → NodeStands D.meaning sc h self →
-            DiskStands sc h self.site (D.meaning.meters result).capacity (D.meaning.image result) }
+            DiskStands D.meaning sc h self.site result }
     {
         into_disk(self.state)
     }

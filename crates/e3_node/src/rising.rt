@@ -32,7 +32,7 @@ use e3_wire::Shared;
 #[derive(Clone, Copy)]
 pub(crate) enum Raised {
     /// The site is up.
-    Rose { kept: bool, inc: u32 },
+    Risen { kept: bool, inc: u32 },
     /// Its frame was not written, or may not have been.
     Failed { kept: bool, inc: u32, why: Why },
     /// The disk failed before its log was read.
@@ -78,7 +78,7 @@ fn log_rise<D: Disk + Drop>(
     match write(&mut log, &mut logged, &short, records, body) {
         Ok(()) => (
             State::Up(rise.up, log, rise.rose, logged),
-            Raised::Rose { kept, inc },
+            Raised::Risen { kept, inc },
         ),
         Err(why) => (
             State::Down(log.into_disk(), logged),
@@ -180,7 +180,7 @@ pub(crate) fn enter_rise(shared: &mut Shared, owner: u32, raised: Raised)
     ensures entered { (before : Items MarkValue) → IsClaimed owner 0 before shared.old → RiseIsEntered owner raised before shared.new }
 {
     match raised {
-        Raised::Rose { kept, inc } => {
+        Raised::Risen { kept, inc } => {
             let act = Act::Rise { kept, inc };
             enter(shared, Entry { owner, act });
         }
@@ -203,7 +203,7 @@ pub(crate) fn told(raised: Raised) -> Result<u32, RiseFault>
     ensures { result ≡ told_of raised }
 {
     match raised {
-        Raised::Rose { inc, .. } => Ok(inc),
+        Raised::Risen { inc, .. } => Ok(inc),
         Raised::Failed { why, .. } => Err(RiseFault::Failed { why }),
         Raised::Missed => Err(RiseFault::Missed),
         Raised::NoMemory => Err(RiseFault::NoMemory),

@@ -11,7 +11,7 @@ use Rattle.e3_types.specs.declared.records.Record.{Record}
 use Rattle.e3_types.specs.declared.verdicts.Verdict.{Verdict}
 use Rattle.e3_world.specs.Items.{RecoveryRound}
 use Rattle.e3_world.proofs.Turns.{self}
-use Rattle.e3_law_rounds.specs.Rounds.{said_at, said_in, verdict_in, verdicts_in}
+use Rattle.e3_law_rounds.specs.Rounds.{verdicts_at, verdicts_told, verdict_in, verdicts_in}
 use Rattle.e3_play.specs.Reports.{later, later_of, verdict_of}
 
 -- one more list of those that are folded
@@ -50,17 +50,17 @@ apart a b differ = by (a == b) refl
 
 -- an entry of the elector, and one of another site
 pub told_by_elector : (r : RecoveryRound) (e : Entry) (was : Option Verdict) (i : Input) (records : List Record) (outs : List Packet) (told : List Told) →
-    e.act ≡ Step i records outs told → e.owner ≡ r.elector → fold later was (flat_map (verdict_in r.txn) told) ≡ fold (later_of r.elector) was (said_at r.txn e)
+    e.act ≡ Step i records outs told → e.owner ≡ r.elector → fold later was (flat_map (verdict_in r.txn) told) ≡ fold (later_of r.elector) was (verdicts_at r.txn e)
 told_by_elector r e was i records outs told is mine =
     sym (ap (λ act. fold (later_of r.elector) was (map (λ v. record { site = e.owner; verdict = v }) (verdicts_in r.txn act))) is
     ∙ by_elector r.elector e.owner was (flat_map (verdict_in r.txn) told) (eq-eqb e.owner r.elector mine))
 
-pub told_by_another : (r : RecoveryRound) (e : Entry) (was : Option Verdict) → e.owner ≢ r.elector → was ≡ fold (later_of r.elector) was (said_at r.txn e)
+pub told_by_another : (r : RecoveryRound) (e : Entry) (was : Option Verdict) → e.owner ≢ r.elector → was ≡ fold (later_of r.elector) was (verdicts_at r.txn e)
 told_by_another r e was differ = sym (by_another r.elector e.owner was (verdicts_in r.txn e.act) (apart e.owner r.elector differ))
 
 -- the one verdict of a round is reported
 pub one_is_told : (r : RecoveryRound) (entered : List Entry) (said : Verdict) →
-    said_in r.txn entered ≡ record { site = r.elector; verdict = said } ∷ [] → verdict_of r entered ≡ Some said
+    verdicts_told r.txn entered ≡ record { site = r.elector; verdict = said } ∷ [] → verdict_of r entered ≡ Some said
 one_is_told r entered said one = ap (fold (later_of r.elector) None) one ∙ here
   where
     here : later_of r.elector None (record { site = r.elector; verdict = said }) ≡ Some said

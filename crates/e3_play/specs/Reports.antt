@@ -2,7 +2,7 @@
 use Rattle.std.specs.Prelude.{◌≡◌, ◌==◌, ◌&&◌, ◌++◌, ◌∷◌, [], ℕ, Bool, true, false, List, if◌then◌else◌, drop, length, fold, Option, Some, None}
 use Rattle.std.specs.List.{list_any}
 use Rattle.e3_law_rounds.specs.Queues.{falls}
-use Rattle.e3_law_rounds.specs.Rounds.{RoundEnds, Said, said_in}
+use Rattle.e3_law_rounds.specs.Rounds.{RoundEnds, ToldVerdict, verdicts_told}
 use Rattle.e3_play.specs.declared.reporting.RoundReport.{RoundReport}
 use Rattle.e3_play.specs.Rounds.{AfterRound}
 use Rattle.e3_types.specs.declared.entries.Entry.{Entry}
@@ -34,12 +34,12 @@ abbrev pub later : Option Verdict → Verdict → Option Verdict
 later was verdict = Some verdict
 
 -- the verdict, where this site told it; else the one before
-abbrev pub later_of : ℕ → Option Verdict → Said → Option Verdict
+abbrev pub later_of : ℕ → Option Verdict → ToldVerdict → Option Verdict
 later_of site was said = if said.site == site then Some said.verdict else was
 
 -- the verdict on a round's transaction that its elector tells in these entries, if it tells one: the last
 abbrev pub verdict_of : RecoveryRound → List Entry → Option Verdict
-verdict_of r entries = fold (later_of r.elector) None (said_in r.txn entries)
+verdict_of r entries = fold (later_of r.elector) None (verdicts_told r.txn entries)
 
 -- what is reported of a round that entered what is behind `before`
 pub record IsReport (before after : List Entry) (r : RecoveryRound) (report : RoundReport) : Type 0 where

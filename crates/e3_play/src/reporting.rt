@@ -1,7 +1,7 @@
 // What is reported of a round: the verdict that its elector told.
 ghost use Rattle.std.specs.Prelude.{◌≡◌, fold};
 ghost use Rattle.std.specs.List.{flat_map};
-ghost use Rattle.e3_law_rounds.specs.Rounds.{said_at, verdict_in};
+ghost use Rattle.e3_law_rounds.specs.Rounds.{verdicts_at, verdict_in};
 ghost use Rattle.e3_play.specs.Reports.{later, later_of, verdict_of};
 
 use e3_readings::RecoveryRound;
@@ -48,7 +48,7 @@ fn verdict_after(txn: &Txn, was: Option<Verdict>, told: &[Told]) -> Option<Verdi
 
 // The last verdict of the round's elector on its transaction, the one before and this entry taken together.
 fn verdict_with(round: &RecoveryRound, was: Option<Verdict>, entry: &Entry) -> Option<Verdict>
-    ensures { result ≡ fold (later_of round.now.elector) was (said_at round.now.txn entry.now) }
+    ensures { result ≡ fold (later_of round.now.elector) was (verdicts_at round.now.txn entry.now) }
 {
     if entry.owner != round.elector {
         return was;

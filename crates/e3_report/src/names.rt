@@ -1,28 +1,15 @@
 // The names that the begins of a scenario bind to transactions.
 ghost use Rattle.std.specs.Prelude.{◌≡◌, [], ◌+◌, Option, OnOk, slice_get, suc, option_to_list};
 ghost use Rattle.e3_world.specs.Items.{begin_names, binds};
-ghost use Rattle.e3_world.specs.Packets.{step_items};
 ghost use Rattle.e3_report.specs.Names.{no_naming, meant, begins, and_bound, and_begin, naming_by};
 
 use crate::counts::one_more;
+use e3_readings::step_items;
 use e3_types::{Act, Entry, Input, Item, Name, NoMemory, Scenario, Told, Txn};
 use e3_world::Bound;
 use std::alloc::Global;
 use std::collections::BTreeMap;
 use std::marker::Model;
-
-/// The items of the step with this number, counted from 1; none where there is no such step.
-pub(crate) fn step_items(scenario: &Scenario, number: u32) -> &[Item]
-    ensures { result.now ≡ step_items scenario.now number }
-{
-    if number == 0 {
-        return &[];
-    }
-    match scenario.steps.as_slice().get((number - 1) as usize) {
-        Some(items) => items.as_slice(),
-        None => &[],
-    }
-}
 
 /// The name of the begin item for the site that has so many before it.
 fn begin_name(items: &[Item], site: u32, before: u64) -> Option<Name>
@@ -140,7 +127,7 @@ impl Names {
                 ..
             } => self.begin(
                 entry.owner,
-                step_items(scenario, self.number),
+                step_items(scenario, u64::from(self.number)),
                 told.as_slice(),
             ),
             _ => Ok(()),

@@ -7,10 +7,10 @@ ghost use Rattle.e3_report.specs.Ups.{up_in};
 ghost use Rattle.e3_report.specs.Steps.{until_line, site_events, event_lines, start_lines, step_heading, step_lines, lines_by, steps_after};
 
 use crate::known::Known;
-use crate::names::step_items;
 use crate::skips::push_skips;
 use crate::ups::enter_up;
 use e3_lines::{push_entry, push_items, push_labelled, push_line, push_line_end};
+use e3_readings::step_items;
 use e3_types::{Act, Entry, List, NoMemory, Scenario};
 use std::alloc::Global;
 
@@ -89,7 +89,7 @@ fn push_step(
 ) -> Result<(), NoMemory>
     ensures { OnOk result (out.new ≡ out.old ++ step_lines (meant known.now.names) (up_in known.now.ups.keys) scenario.now number during.now) }
 {
-    let items = step_items(scenario, number);
+    let items = step_items(scenario, u64::from(number));
     push_step_heading(out, number)?;
     push_items(out, items)?;
     push_skips(alloc, out, known, during, items)?;

@@ -5,13 +5,13 @@ ghost use Rattle.e3_types.specs.Sets.{has_site, is_within};
 ghost use Rattle.e3_scenario.specs.Faults.{named_fault, begin_fault, operation_fault, expire_fault, elect_fault, recover_fault, split_fault, site_fault, stop_fault, item_fault};
 
 use crate::faults::ScenarioFault;
-use crate::sayings::Said;
+use crate::sayings::SoFar;
 use e3_types::{Item, List, Name, SiteSet};
 
 /// The most operations of a transaction.
 const MOST_OPERATIONS: u64 = 64;
 
-fn named_fault(step: u32, said: &Said, name: &Name) -> Option<ScenarioFault>
+fn named_fault(step: u32, said: &SoFar, name: &Name) -> Option<ScenarioFault>
     ensures { result ≡ named_fault step said.now name.now [] }
 {
     match said.sites_of(name) {
@@ -22,7 +22,7 @@ fn named_fault(step: u32, said: &Said, name: &Name) -> Option<ScenarioFault>
 
 // An item at one site: that exists, and is the transaction's.
 #[tactic(auto, unfolding(crate::specs::Faults::expire_fault))]
-fn fault_at(all: SiteSet, step: u32, said: &Said, name: &Name, site: u32) -> Option<ScenarioFault>
+fn fault_at(all: SiteSet, step: u32, said: &SoFar, name: &Name, site: u32) -> Option<ScenarioFault>
     ensures { result ≡ expire_fault all step said.now site name.now }
 {
     if !all.has(site) {
@@ -35,7 +35,7 @@ fn fault_at(all: SiteSet, step: u32, said: &Said, name: &Name, site: u32) -> Opt
     }
 }
 
-fn fault_among(step: u32, said: &Said, name: &Name, sites: SiteSet) -> Option<ScenarioFault>
+fn fault_among(step: u32, said: &SoFar, name: &Name, sites: SiteSet) -> Option<ScenarioFault>
     ensures { result ≡ named_fault step said.now name.now sites }
 {
     match said.sites_of(name) {
@@ -49,7 +49,7 @@ fn fault_among(step: u32, said: &Said, name: &Name, sites: SiteSet) -> Option<Sc
 fn begin_fault(
     all: SiteSet,
     step: u32,
-    said: &Said,
+    said: &SoFar,
     name: &Name,
     site: u32,
     sites: SiteSet,
@@ -72,7 +72,7 @@ fn begin_fault(
 fn operation_fault(
     all: SiteSet,
     step: u32,
-    said: &Said,
+    said: &SoFar,
     name: &Name,
     site: u32,
 ) -> Option<ScenarioFault>
@@ -88,7 +88,7 @@ fn operation_fault(
 fn elect_fault(
     all: SiteSet,
     step: u32,
-    said: &Said,
+    said: &SoFar,
     site: u32,
     name: &Name,
     sites: SiteSet,
@@ -102,7 +102,7 @@ fn elect_fault(
 }
 
 #[tactic(auto, unfolding(crate::specs::Faults::recover_fault))]
-fn recover_fault(all: SiteSet, step: u32, said: &Said, sites: SiteSet) -> Option<ScenarioFault>
+fn recover_fault(all: SiteSet, step: u32, said: &SoFar, sites: SiteSet) -> Option<ScenarioFault>
     ensures { result ≡ recover_fault all step said.now sites }
 {
     if !sites.within(all) {
@@ -174,7 +174,7 @@ fn stop_fault(all: SiteSet, step: u32, site: u32, count: u32) -> Option<Scenario
 }
 
 /// The first fault of an item, behind what the items before it say.
-pub fn item_fault(all: SiteSet, step: u32, said: &Said, item: &Item) -> Option<ScenarioFault>
+pub fn item_fault(all: SiteSet, step: u32, said: &SoFar, item: &Item) -> Option<ScenarioFault>
     ensures { result ≡ item_fault all step said.now item.now }
 {
     match item {

@@ -9,7 +9,7 @@ use crate::documents::{
     keys_known, kind_fault, luck_at, rows, share_at, steps_fit, values_at, weights,
 };
 use crate::faults::{Field, ScenarioFault};
-use crate::sayings::Said;
+use crate::sayings::SoFar;
 use crate::steps::{Read, steps};
 use e3_types::{KeyRow, List, NoMemory, Scenario};
 use e3_world::sites_to;
@@ -83,7 +83,7 @@ fn with_steps(alloc: Global, values: &[Value], base: Scenario) -> Result<Read<Sc
 {
     let mut scenario = base;
     let all = sites_to(scenario.weights.len() as u32);
-    let mut said = Said::nothing(alloc, all)?;
+    let mut said = SoFar::nothing(alloc, all)?;
     match steps(alloc, all, &mut said, values)? {
         Err(fault) => Ok(Err(fault)),
         Ok(steps) => {

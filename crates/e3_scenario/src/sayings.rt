@@ -17,14 +17,14 @@ const MOST_BEGINS: u64 = 4_000;
 /// What the items so far say: the begins of earlier steps and of this one, a name for each operation, and the present
 /// parts of the network.
 #[derive(Drop)]
-pub struct Said {
+pub struct SoFar {
     earlier: Begins,
     fresh: List<Begun>,
     ops: Operations,
     parts: List<SiteSet>,
 }
 
-impl Model for Said {
+impl Model for SoFar {
     ghost use Rattle.e3_world.specs.Given.{SaidSoFar};
 
     ghost Value = { SaidSoFar };
@@ -38,14 +38,14 @@ fn has_name(begun: &[Begun], name: &Name) -> bool
     begun.iter().any(|b| name.is_same(&b.name))
 }
 
-impl Said {
+impl SoFar {
     /// Nothing is said yet: no name is begun, and these sites are one part.
-    pub fn nothing(alloc: Global, all: SiteSet) -> Result<Said, NoMemory>
+    pub fn nothing(alloc: Global, all: SiteSet) -> Result<SoFar, NoMemory>
         ensures { IfOk result (λ said. said ≡ nothing_said all) }
     {
         let mut parts = List::new(alloc);
         parts.push(all)?;
-        Ok(Said {
+        Ok(SoFar {
             earlier: Begins::none(alloc),
             fresh: List::new(alloc),
             ops: Operations::none(alloc),

@@ -8,7 +8,7 @@ use crate::documents::values;
 use crate::faults::ScenarioFault;
 use crate::items::item;
 use crate::judging::item_fault;
-use crate::sayings::Said;
+use crate::sayings::SoFar;
 use e3_types::{Item, List, NoMemory, SiteSet};
 use std::alloc::Global;
 use std::slice;
@@ -35,7 +35,7 @@ fn judged(
     all: SiteSet,
     step: u32,
     grouped: bool,
-    said: &Said,
+    said: &SoFar,
     spelled: Option<Item>,
 ) -> Result<Item, ScenarioFault>
     ensures { result ≡ judged all step grouped said.now spelled }
@@ -68,7 +68,7 @@ fn items(
     all: SiteSet,
     step: u32,
     grouped: bool,
-    said: &mut Said,
+    said: &mut SoFar,
     values: &[Value],
 ) -> Result<Read<List<Item>>, NoMemory>
     ensures { IfOk result (λ read. with_said said.new read ≡ items_read all step grouped said.old [] (map view values.now)) }
@@ -91,7 +91,7 @@ fn step(
     alloc: Global,
     all: SiteSet,
     step: u32,
-    said: &mut Said,
+    said: &mut SoFar,
     value: &Value,
 ) -> Result<Read<List<Item>>, NoMemory>
     ensures { IfOk result (λ read. with_said said.new read ≡ step_read all step said.old (view value.now)) }
@@ -107,7 +107,7 @@ fn step(
 pub fn steps(
     alloc: Global,
     all: SiteSet,
-    said: &mut Said,
+    said: &mut SoFar,
     values: &[Value],
 ) -> Result<Read<List<List<Item>>>, NoMemory>
     requires { length values.now ≤ 10000 }

@@ -7,7 +7,7 @@ use Rattle.e3_top.proofs.Runs.{drained_run}
 use Rattle.e3_top.proofs.Spelled.{idle_no_check, idle_no_run}
 use Rattle.e3_top.proofs.Statuses.{check_completes, drill_completes, gen_completes, may_finish, run_completes}
 use Rattle.e3_top.proofs.Verdicts.{drained_verdict}
-use Rattle.e3_top.specs.Due.{HasText, IsOutcome, NothingHappened}
+use Rattle.e3_top.specs.Outcomes.{HasText, IsOutcome, NothingHappened}
 use Rattle.e3_top.specs.Ends.{IsCutShort, IsPrepared, SourceFails}
 use Rattle.e3_top.specs.Ran.{Around, HasRun}
 use Rattle.e3_top.specs.Words.{IsCheck, IsDrill, IsGen, IsRun, MayEnd}

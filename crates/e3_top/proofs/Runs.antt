@@ -3,7 +3,7 @@ use Rattle.std.proofs.Common.{◌≡◌, ◌≢◌, ◌≤◌, ◌<◌, ◌⊎�
 use Rattle.std.specs.Io.KnownBytes.{IsAtEnd}
 use Rattle.std.specs.Prelude.{IfOk, Result}
 use Rattle.e3_types.specs.declared.list.NoMemory.{NoMemory}
-use Rattle.e3_top.specs.declared.preparing.Due.{Due}
+use Rattle.e3_top.specs.declared.preparing.Response.{Response}
 use Rattle.e3_top.specs.declared.preparing.Stop.{Stop}
 use Rattle.e3_top.specs.declared.preparing.Telling.{Telling}
 use Rattle.e3_top.specs.declared.preparing.Telling.TheVariants.{Report, Summary}
@@ -22,7 +22,7 @@ use Rattle.e3_scenario.specs.Faults.{fault_text}
 use Rattle.e3_scenario.specs.Scenarios.{scenario_of}
 use Rattle.e3_scenario.specs.declared.faults.ScenarioFault.{ScenarioFault}
 use Rattle.e3_scenario.specs.declared.faults.ScenarioFault.TheVariants as fault
-use Rattle.e3_top.specs.Due.{IsAsked, IsOutcome, IsRunOf, IsTextOf, NothingHappened, Plays, Succeeds, told_of}
+use Rattle.e3_top.specs.Outcomes.{IsAsked, IsOutcome, IsRunOf, IsTextOf, NothingHappened, Plays, Succeeds, told_of}
 use Rattle.e3_top.specs.Ends.{IsPrepared}
 use Rattle.e3_top.proofs.Spelled.{run_no_check, run_no_drill, run_no_gen, gen_no_check, plays_no_check}
 use Rattle.e3_top.proofs.Statuses.{neither}
@@ -112,7 +112,7 @@ asked_plays words bytes (Report trace) sc asked = inl (record { trace = trace; s
 asked_plays words bytes (Summary n) sc asked = inr (record { drill = record { n = n; spelled = asked.0 }; unread = asked.1; same = asked.2 })
 
 -- so it is where it was made, for what the words ask to be told
-pub played_due : {D : Type 0} (meaning : Meaning D) (before now : List D) (words : List (String Global)) (bytes : List ℕ) (telling : Telling) (sc : Scenario) (most : ℕ) (h : List Entry) (r : Result Due Stop) →
+pub played_due : {D : Type 0} (meaning : Meaning D) (before now : List D) (words : List (String Global)) (bytes : List ℕ) (telling : Telling) (sc : Scenario) (most : ℕ) (h : List Entry) (r : Result Response Stop) →
     IsAsked words bytes telling sc → IsRunOf meaning before now sc most h → IfOk r (λ due. IsTextOf sc most h (told_of telling sc h) due.status due.text) →
     IfOk r (λ due. IsOutcome meaning before now words bytes most due.status h due.text)
 played_due meaning before now words bytes telling sc most h (Err fault) asked safe made = tt
@@ -201,13 +201,13 @@ pub of_ok : {T E : Type 0} {x : T} (P : T → Type 0) (r : Result T E) → r ≡
 of_ok {T} {E} P r is holds = subst (λ (q : Result T E). IfOk q P) is holds
 
 -- the text of a history that went through its scenario, where it was made
-pub told_text : (sc : Scenario) (most : ℕ) (h : List Entry) (told : List ℕ) (r : Result Due Stop) (text : Result (List ℕ) NoMemory) → IsWhole sc h → IfOk text (λ t. t ≡ told) →
+pub told_text : (sc : Scenario) (most : ℕ) (h : List Entry) (told : List ℕ) (r : Result Response Stop) (text : Result (List ℕ) NoMemory) → IsWhole sc h → IfOk text (λ t. t ≡ told) →
     IfOk r (λ due. (due.status ≡ 0) × (text ≡ Ok due.text)) → IfOk r (λ due. IsTextOf sc most h told due.status due.text)
 told_text sc most h told (Err stop) text whole says made = tt
 told_text sc most h told (Ok due) text whole says made = inl (made.0, whole, of_ok (λ t. t ≡ told) text made.1 says)
 
 -- the line for other words, where it was made
-pub refused_due : {D : Type 0} (meaning : Meaning D) (before now : List D) (words : List (String Global)) (most : ℕ) (h : List Entry) (r : Result Due Stop) (text : Result (List ℕ) NoMemory) → ¬ IsCommand words → NothingHappened before now h →
+pub refused_due : {D : Type 0} (meaning : Meaning D) (before now : List D) (words : List (String Global)) (most : ℕ) (h : List Entry) (r : Result Response Stop) (text : Result (List ℕ) NoMemory) → ¬ IsCommand words → NothingHappened before now h →
     IfOk text (λ line. line ≡ refused_words) → IfOk r (λ due. (due.status ≡ 1) × (text ≡ Ok due.text)) →
     IfOk r (λ due. IsOutcome meaning before now words [] most due.status h due.text)
 refused_due meaning before now words most h (Err fault) text other nothing says made = tt
@@ -215,7 +215,7 @@ refused_due meaning before now words most h (Ok due) text other nothing says mad
     subst (λ (n : ℕ). IsOutcome meaning before now words [] most n h due.text) (sym made.0) (refused_run meaning before now words most h due.text other nothing (of_ok (λ line. line ≡ refused_words) text made.1 says))
 
 -- the text of a generated scenario, where it was made
-pub told_due : {D : Type 0} (meaning : Meaning D) (before now : List D) (words : List (String Global)) (n most : ℕ) (h : List Entry) (r : Result Due Stop) (text : Result (List ℕ) NoMemory) → Spell words (Gen n) → NothingHappened before now h →
+pub told_due : {D : Type 0} (meaning : Meaning D) (before now : List D) (words : List (String Global)) (n most : ℕ) (h : List Entry) (r : Result Response Stop) (text : Result (List ℕ) NoMemory) → Spell words (Gen n) → NothingHappened before now h →
     IfOk text (λ t. t ≡ generated n) → IfOk r (λ due. (due.status ≡ 0) × (text ≡ Ok due.text)) →
     IfOk r (λ due. IsOutcome meaning before now words [] most due.status h due.text)
 told_due meaning before now words n most h (Err fault) text gen nothing says made = tt
@@ -223,7 +223,7 @@ told_due meaning before now words n most h (Ok due) text gen nothing says made =
     subst (λ (s : ℕ). IsOutcome meaning before now words [] most s h due.text) (sym made.0) (told_run meaning before now words n most h due.text gen nothing (of_ok (λ t. t ≡ generated n) text made.1 says))
 
 -- the line of a fault, where it was made
-pub fault_due : {D : Type 0} (meaning : Meaning D) (before now : List D) (words : List (String Global)) (trace : Bool) (bytes : List ℕ) (f : ScenarioFault) (most : ℕ) (h : List Entry) (r : Result Due Stop) (text : Result (List ℕ) NoMemory) →
+pub fault_due : {D : Type 0} (meaning : Meaning D) (before now : List D) (words : List (String Global)) (trace : Bool) (bytes : List ℕ) (f : ScenarioFault) (most : ℕ) (h : List Entry) (r : Result Response Stop) (text : Result (List ℕ) NoMemory) →
     Spell words (Run trace) → (f ≡ fault.NoMemory) ⊎ (scenario_of bytes ≡ Err f) → NothingHappened before now h → IfOk text (λ line. (f ≢ fault.NoMemory) × (line ≡ fault_text f)) →
     IfOk r (λ due. (due.status ≡ 2) × (text ≡ Ok due.text)) → IfOk r (λ due. IsOutcome meaning before now words bytes most due.status h due.text)
 fault_due meaning before now words trace bytes f most h (Err stop) text run cause nothing says made = tt

@@ -5,10 +5,10 @@ use Rattle.std.specs.Prelude.{IfErr, IfOk, Result}
 use Rattle.e3_disk.specs.Meaning.{Meaning}
 use Rattle.e3_outside.specs.Faults.{HasFailed}
 use Rattle.e3_top.proofs.Spelled.{same_most}
-use Rattle.e3_top.specs.Due.{IsOutcome, NothingHappened}
+use Rattle.e3_top.specs.Outcomes.{IsOutcome, NothingHappened}
 use Rattle.e3_top.specs.Ends.{IsCutShort, IsResponse, IsHistoryOf, IsPrepared, IsRead, IsReady, IsTaken, SourceFails}
 use Rattle.e3_top.specs.Words.{IsRun, IsCheck, most_bytes}
-use Rattle.e3_top.specs.declared.preparing.Due.{Due}
+use Rattle.e3_top.specs.declared.preparing.Response.{Response}
 use Rattle.e3_top.specs.declared.preparing.Stop.{Stop}
 use Rattle.e3_top.specs.declared.preparing.Stop.TheVariants as stop
 use Rattle.e3_types.specs.declared.entries.Entry.{Entry}
@@ -55,7 +55,7 @@ other_read words had other = record {
 }
 
 -- what is due for bytes that were read is prepared
-prepared_of : {D : Type 0} (meaning : Meaning D) (before now : List D) (words : List (String Global)) (had left : Option (List ℕ)) (bytes : List ℕ) (most : ℕ) (h : List Entry) (r : Result Due Stop) →
+prepared_of : {D : Type 0} (meaning : Meaning D) (before now : List D) (words : List (String Global)) (had left : Option (List ℕ)) (bytes : List ℕ) (most : ℕ) (h : List Entry) (r : Result Response Stop) →
     IsRead words had left bytes → IfOk r (λ due. IsOutcome meaning before now words bytes most due.status h due.text) →
     IfOk r (λ due. IsPrepared meaning before now words had left most due.status h due.text)
 prepared_of meaning before now words had left bytes most h (Err stop) read due = tt
@@ -91,17 +91,17 @@ fails_reading before now words had left faults_before faults_now h c spelled rea
 }
 
 -- nothing is due but that memory ran out before anything happened
-pub wants_memory : {D : Type 0} (meaning : Meaning D) (before now : List D) (words : List (String Global)) (bytes : List ℕ) (most : ℕ) (h : List Entry) (r : Result Due Stop) →
+pub wants_memory : {D : Type 0} (meaning : Meaning D) (before now : List D) (words : List (String Global)) (bytes : List ℕ) (most : ℕ) (h : List Entry) (r : Result Response Stop) →
     r ≡ Err stop.NoMemory → NothingHappened before now h → IsResponse meaning before now words bytes most r h
 wants_memory meaning before now words bytes most h r e nothing =
-    subst (λ (q : Result Due Stop). IsResponse meaning before now words bytes most q h) (sym e) (record { outcome = tt; status = tt; only_memory = refl; cut_short = λ f. inl nothing })
+    subst (λ (q : Result Response Stop). IsResponse meaning before now words bytes most q h) (sym e) (record { outcome = tt; status = tt; only_memory = refl; cut_short = λ f. inl nothing })
 
 -- where nothing but memory was lacking the source did not fail
-not_lost : (r : Result Due Stop) → IfErr r (λ s. s ≡ stop.NoMemory) → r ≡ Err stop.SourceFailed → ⊥
-not_lost r only e = let same : stop.SourceFailed ≡ stop.NoMemory = subst (λ (q : Result Due Stop). IfErr q (λ s. s ≡ stop.NoMemory)) e only in cc
+not_lost : (r : Result Response Stop) → IfErr r (λ s. s ≡ stop.NoMemory) → r ≡ Err stop.SourceFailed → ⊥
+not_lost r only e = let same : stop.SourceFailed ≡ stop.NoMemory = subst (λ (q : Result Response Stop). IfErr q (λ s. s ≡ stop.NoMemory)) e only in cc
 
 -- what is due for bytes that were read is ready
-pub ready_of : {D S : Type 0} (meaning : Meaning D) (left : S → Option (List ℕ)) (faults : S → ℕ) (before after : List D) (words : List (String Global)) (was now : S) (bytes : List ℕ) (most : ℕ) (h : List Entry) (r : Result Due Stop) →
+pub ready_of : {D S : Type 0} (meaning : Meaning D) (left : S → Option (List ℕ)) (faults : S → ℕ) (before after : List D) (words : List (String Global)) (was now : S) (bytes : List ℕ) (most : ℕ) (h : List Entry) (r : Result Response Stop) →
     IsRead words (left was) (left now) bytes → IsResponse meaning before after words bytes most r h → faults was ≤ faults now →
     IsReady meaning left faults before after words was now most r h
 ready_of meaning left faults before after words was now bytes most h r read due counts = record {
@@ -113,11 +113,11 @@ ready_of meaning left faults before after words was now bytes most h r read due 
 }
 
 -- where the source failed, and where memory ran out before anything happened
-pub lost_ready : {D S : Type 0} (meaning : Meaning D) (left : S → Option (List ℕ)) (faults : S → ℕ) (before after : List D) (words : List (String Global)) (was now : S) (most : ℕ) (h : List Entry) (r : Result Due Stop) →
+pub lost_ready : {D S : Type 0} (meaning : Meaning D) (left : S → Option (List ℕ)) (faults : S → ℕ) (before after : List D) (words : List (String Global)) (was now : S) (most : ℕ) (h : List Entry) (r : Result Response Stop) →
     r ≡ Err stop.SourceFailed → SourceFails before after words (left was) (left now) (faults was) (faults now) h → faults was ≤ faults now →
     IsReady meaning left faults before after words was now most r h
 lost_ready meaning left faults before after words was now most h r e fails counts =
-    subst (λ (q : Result Due Stop). IsReady meaning left faults before after words was now most q h) (sym e) (record {
+    subst (λ (q : Result Response Stop). IsReady meaning left faults before after words was now most q h) (sym e) (record {
       prepared = tt;
       status = tt;
       source_failed = λ f. fails;
@@ -125,11 +125,11 @@ lost_ready meaning left faults before after words was now most h r e fails count
       never_falls = counts;
     })
 
-pub wanting_ready : {D S : Type 0} (meaning : Meaning D) (left : S → Option (List ℕ)) (faults : S → ℕ) (before after : List D) (words : List (String Global)) (was now : S) (most : ℕ) (h : List Entry) (r : Result Due Stop) →
+pub wanting_ready : {D S : Type 0} (meaning : Meaning D) (left : S → Option (List ℕ)) (faults : S → ℕ) (before after : List D) (words : List (String Global)) (was now : S) (most : ℕ) (h : List Entry) (r : Result Response Stop) →
     r ≡ Err stop.NoMemory → IsCutShort meaning before after words (left was) (left now) most h → faults was ≤ faults now →
     IsReady meaning left faults before after words was now most r h
 wanting_ready meaning left faults before after words was now most h r e cut counts =
-    subst (λ (q : Result Due Stop). IsReady meaning left faults before after words was now most q h) (sym e) (record {
+    subst (λ (q : Result Response Stop). IsReady meaning left faults before after words was now most q h) (sym e) (record {
       prepared = tt;
       status = tt;
       source_failed = λ f. absurd (let other = f in cc);

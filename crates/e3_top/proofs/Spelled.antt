@@ -1,6 +1,6 @@
 -- Words spell commands of one kind, which takes so many bytes at most.
 use Rattle.std.proofs.Common.{◌≡◌, ◌⊎◌, inl, inr, ℕ, true, false, nat_eq, if◌then◌else◌, List, [], refl, sym, ◌∙◌, arith, get_or, ap, String, Global}
-use Rattle.e3_top.specs.Due.{Plays}
+use Rattle.e3_top.specs.Outcomes.{Plays}
 use Rattle.e3_top.specs.Words.{IsRun, IsGen, IsDrill, IsCheck, most_bytes}
 use Rattle.e3_types.specs.declared.scenarios.Scenario.{Scenario}
 use Rattle.e3_top.specs.Commands.{Spell, words_of}

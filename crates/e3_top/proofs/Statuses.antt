@@ -3,9 +3,9 @@ use Rattle.std.proofs.Common.{◌≡◌, ◌≢◌, ◌≤◌, ◌⊎◌, inl, i
 use Rattle.std.specs.Prelude.{IfOk, Result}
 use Rattle.e3_check.specs.Claims.{IsVerdict}
 use Rattle.e3_top.proofs.Spelled.{run_no_gen, run_no_drill, run_no_check, gen_no_drill, gen_no_check, drill_no_check}
-use Rattle.e3_top.specs.Due.{HasText, IsAsked, IsTextOf}
+use Rattle.e3_top.specs.Outcomes.{HasText, IsAsked, IsTextOf}
 use Rattle.e3_top.specs.Words.{IsRun, IsGen, IsDrill, IsCheck, MayEnd}
-use Rattle.e3_top.specs.declared.preparing.Due.{Due}
+use Rattle.e3_top.specs.declared.preparing.Response.{Response}
 use Rattle.e3_top.specs.declared.preparing.Stop.{Stop}
 use Rattle.e3_top.specs.declared.preparing.Telling.{Telling}
 use Rattle.e3_top.specs.declared.preparing.Telling.TheVariants.{Report, Summary}
@@ -210,20 +210,20 @@ check_completes words status {P} may known rose check calm = by known
     by (inr e) = absurd (calm (rose e))
 
 -- the statuses of a text that was made
-pub refused_may : (words : List (String Global)) (r : Result Due Stop) (text : Result (List ℕ) NoMemory) → ¬ IsCommand words → IfOk r (λ due. (due.status ≡ 1) × (text ≡ Ok due.text)) → IfOk r (λ due. MayEnd words due.status)
+pub refused_may : (words : List (String Global)) (r : Result Response Stop) (text : Result (List ℕ) NoMemory) → ¬ IsCommand words → IfOk r (λ due. (due.status ≡ 1) × (text ≡ Ok due.text)) → IfOk r (λ due. MayEnd words due.status)
 refused_may words (Err stop) text other made = tt
 refused_may words (Ok due) text other made = subst (λ (s : ℕ). MayEnd words s) (sym made.0) (may_refuse words other)
 
-pub told_may : (words : List (String Global)) (n : ℕ) (r : Result Due Stop) (text : Result (List ℕ) NoMemory) → Spell words (Gen n) → IfOk r (λ due. (due.status ≡ 0) × (text ≡ Ok due.text)) → IfOk r (λ due. MayEnd words due.status)
+pub told_may : (words : List (String Global)) (n : ℕ) (r : Result Response Stop) (text : Result (List ℕ) NoMemory) → Spell words (Gen n) → IfOk r (λ due. (due.status ≡ 0) × (text ≡ Ok due.text)) → IfOk r (λ due. MayEnd words due.status)
 told_may words n (Err stop) text gen made = tt
 told_may words n (Ok due) text gen made = may_tell words n due.status gen made.0
 
-pub fault_may : (words : List (String Global)) (trace : Bool) (r : Result Due Stop) (text : Result (List ℕ) NoMemory) → Spell words (Run trace) → IfOk r (λ due. (due.status ≡ 2) × (text ≡ Ok due.text)) → IfOk r (λ due. MayEnd words due.status)
+pub fault_may : (words : List (String Global)) (trace : Bool) (r : Result Response Stop) (text : Result (List ℕ) NoMemory) → Spell words (Run trace) → IfOk r (λ due. (due.status ≡ 2) × (text ≡ Ok due.text)) → IfOk r (λ due. MayEnd words due.status)
 fault_may words trace (Err stop) text run made = tt
 fault_may words trace (Ok due) text run made =
     let two = made.0 in may_run words due.status (record { trace = trace; spelled = run }) (omega (arith, two)) (λ e. omega (arith, e, two))
 
-pub played_may : (words : List (String Global)) (bytes : List ℕ) (telling : Telling) (sc : Scenario) (most : ℕ) (h : List Entry) (told : List ℕ) (r : Result Due Stop) → IsAsked words bytes telling sc →
+pub played_may : (words : List (String Global)) (bytes : List ℕ) (telling : Telling) (sc : Scenario) (most : ℕ) (h : List Entry) (told : List ℕ) (r : Result Response Stop) → IsAsked words bytes telling sc →
     IfOk r (λ due. IsTextOf sc most h told due.status due.text) → IfOk r (λ due. MayEnd words due.status)
 played_may words bytes telling sc most h told (Err stop) asked made = tt
 played_may words bytes (Report trace) sc most h told (Ok due) asked (inl done) =

@@ -3,7 +3,7 @@ use Rattle.std.proofs.Common.{◌≡◌, ◌≢◌, ◌<◌, ◌⊎◌, inl, inr
 use Rattle.std.specs.Io.KnownBytes.{IsAtEnd}
 use Rattle.e3_check.specs.Claims.{IsFor, IsVerdict, HasLegal, HasIllegal, HasNoScenario}
 use Rattle.e3_disk.specs.Meaning.{Meaning}
-use Rattle.e3_top.specs.Due.{HasText, IsOutcome, IsChecked}
+use Rattle.e3_top.specs.Outcomes.{HasText, IsOutcome, IsChecked}
 use Rattle.e3_top.specs.Ends.{IsPrepared}
 use Rattle.e3_top.specs.Words.{IsCheck}
 use Rattle.e3_types.specs.declared.entries.Entry.{Entry}

@@ -4,9 +4,9 @@ use Rattle.std.specs.Io.KnownBytes.{Appends, Consumes, IsAtEnd}
 use Rattle.std.specs.declared.alloc.Global.{Global}
 use Rattle.e3_disk.specs.Meaning.{Meaning}
 use Rattle.e3_outside.specs.Faults.{HasFailed}
-use Rattle.e3_top.specs.Due.{IsOutcome, IsRunOf, NothingHappened, Plays}
+use Rattle.e3_top.specs.Outcomes.{IsOutcome, IsRunOf, NothingHappened, Plays}
 use Rattle.e3_top.specs.Words.{IsRun, IsCheck, MayEnd, most_bytes}
-use Rattle.e3_top.specs.declared.preparing.Due.{Due}
+use Rattle.e3_top.specs.declared.preparing.Response.{Response}
 use Rattle.e3_top.specs.declared.preparing.Stop.{Stop}
 use Rattle.e3_top.specs.declared.preparing.Stop.TheVariants as stop
 use Rattle.e3_types.specs.declared.entries.Entry.{Entry}
@@ -78,7 +78,7 @@ pub record IsCutShort {D : Type 0} (meaning : Meaning D) (disks_before disks_now
 -- The response to the bytes that were read: a text, with a status that the words may end with; or memory ran out, where nothing
 -- had happened yet, or the history is one of the scenario that is played.
 pub record IsResponse {D : Type 0} (meaning : Meaning D) (disks_before disks_now : List D)
-    (words : List (String Global)) (bytes : List ℕ) (most : ℕ) (due : Result Due Stop) (history : List Entry) : Type 0 where
+    (words : List (String Global)) (bytes : List ℕ) (most : ℕ) (due : Result Response Stop) (history : List Entry) : Type 0 where
   pub outcome : IfOk due (λ d. IsOutcome meaning disks_before disks_now words bytes most d.status history d.text)
   pub status : IfOk due (λ d. MayEnd words d.status)
   pub only_memory : IfErr due (λ e. e ≡ stop.NoMemory)
@@ -95,7 +95,7 @@ pub record IsPrepared {D : Type 0} (meaning : Meaning D) (disks_before disks_now
 -- All that the words ask for is done but the writing of a text: one is due, or it is said why there is none. Of a source `left` is
 -- what it has yet to give, and it counts its faults.
 pub record IsReady {D S : Type 0} (meaning : Meaning D) (left : S → Option (List ℕ)) (faults : S → ℕ) (disks_before disks_now : List D)
-    (words : List (String Global)) (was now : S) (most : ℕ) (due : Result Due Stop) (history : List Entry) : Type 0 where
+    (words : List (String Global)) (was now : S) (most : ℕ) (due : Result Response Stop) (history : List Entry) : Type 0 where
   pub prepared : IfOk due (λ d. IsPrepared meaning disks_before disks_now words (left was) (left now) most d.status history d.text)
   pub status : IfOk due (λ d. MayEnd words d.status)
   pub source_failed : due ≡ Err stop.SourceFailed → SourceFails disks_before disks_now words (left was) (left now) (faults was) (faults now) history

@@ -1,5 +1,5 @@
 pub mod Words
-pub mod Due
+pub mod Outcomes
 pub mod Ends
 pub mod Ran
 pub mod Commands

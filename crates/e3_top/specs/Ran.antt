@@ -1,10 +1,10 @@
--- What came of a run: a field for each status, and what holds whatever the status is.
+-- What came of a run: what each status says, those with a text in one field, and what holds whatever the status is.
 use Rattle.std.specs.Prelude.{◌≡◌, ◌≤◌, ◌⊎◌, ℕ, List, Option, String}
 use Rattle.std.specs.Io.KnownBytes.{IsAtEnd}
 use Rattle.std.specs.declared.alloc.Global.{Global}
 use Rattle.e3_disk.specs.Meaning.{Meaning}
 use Rattle.e3_outside.specs.Faults.{HasFailed}
-use Rattle.e3_top.specs.Due.{HasText, NothingHappened}
+use Rattle.e3_top.specs.Outcomes.{HasText, NothingHappened}
 use Rattle.e3_top.specs.Ends.{Finishes, IsCutShort, SinkFails, SourceFails}
 use Rattle.e3_top.specs.Words.{IsCheck, IsDrill, IsGen, IsRun, MayEnd}
 use Rattle.e3_types.specs.declared.entries.Entry.{Entry}

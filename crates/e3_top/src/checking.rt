@@ -4,7 +4,7 @@ ghost use Rattle.e3_top.specs.Ends.{IsResponse, IsReady};
 ghost use Rattle.e3_top.specs.Commands.{Spell};
 ghost use Rattle.e3_top.specs.declared.commands.Command.TheVariants.{Check};
 
-use crate::preparing::{Due, Prepared, Stop, unprepared};
+use crate::preparing::{Prepared, Response, Stop, unprepared};
 use crate::stage::Stage;
 use e3_check::check;
 use e3_disk::{Disk, Drill};
@@ -24,7 +24,7 @@ impl<G, R> Stage<'_, G, R> {
         match check(self.alloc, bytes) {
             Err(NoMemory) => unprepared(self.alloc, Stop::NoMemory, disks),
             Ok(checked) => Prepared {
-                due: Ok(Due {
+                due: Ok(Response {
                     status: checked.status,
                     text: checked.text,
                 }),

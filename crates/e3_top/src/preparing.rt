@@ -4,7 +4,7 @@ ghost use Rattle.e3_fleet.specs.Over.{AreBlank};
 ghost use Rattle.e3_play.specs.Delivered.{IsFull};
 ghost use Rattle.e3_scenario.specs.Faults.{fault_text};
 ghost use Rattle.e3_scenario.specs.Scenarios.{scenario_of};
-ghost use Rattle.e3_top.specs.Due.{AreSixteenBlank, IsAsked, IsRunOf, IsTextOf, NothingHappened, told_of};
+ghost use Rattle.e3_top.specs.Outcomes.{AreSixteenBlank, IsAsked, IsRunOf, IsTextOf, NothingHappened, told_of};
 ghost use Rattle.e3_top.specs.Ends.{IsResponse, IsReady};
 ghost use Rattle.e3_top.specs.Words.{IsCheck, IsGen, IsRun, refused_history_full};
 ghost use Rattle.e3_top.specs.Commands.{IsCommand, Spell};
@@ -39,9 +39,9 @@ const MOST_THREADS: usize = 16;
 /// How many packets a worker takes in one turn of work at most: their records are one frame.
 const MOST_PACKETS: u32 = 8;
 
-/// A text that is due, and the status that the run ends with when it is written.
+/// A text, and the status that the run ends with when it is written.
 #[derive(Drop)]
-pub struct Due {
+pub struct Response {
     pub status: u8,
     pub text: List<u8>,
 }
@@ -63,18 +63,18 @@ pub enum Telling {
 /// What words, source and disks came to: the text that is due, or why there is none; the history; and the disks.
 #[derive(Drop)]
 pub struct Prepared<D: Drop> {
-    pub due: Result<Due, Stop>,
+    pub due: Result<Response, Stop>,
     pub history: History,
     pub disks: Vec<D>,
 }
 
 // A text with its status, or want of memory.
-fn made(status: u8, text: Result<List<u8>, NoMemory>) -> Result<Due, Stop>
+fn made(status: u8, text: Result<List<u8>, NoMemory>) -> Result<Response, Stop>
     ensures due { IfOk result (λ due. (due.status ≡ status) × (text ≡ Ok due.text)) }
     ensures only_memory { IfErr result (λ e. e ≡ Stop.NoMemory) }
 {
     match text {
-        Ok(text) => Ok(Due { status, text }),
+        Ok(text) => Ok(Response { status, text }),
         Err(NoMemory) => Err(Stop::NoMemory),
     }
 }
@@ -95,13 +95,13 @@ fn tell(
 }
 
 // The text of a scenario that was not played to its end.
-fn unfinished(alloc: Global, fault: RunFault) -> Result<Due, Stop>
+fn unfinished(alloc: Global, fault: RunFault) -> Result<Response, Stop>
     ensures due { IfOk result (λ due. (fault ≡ RunFault.HistoryFull) × (due.status ≡ 6) × (due.text ≡ refused_history_full)) }
     ensures only_memory { IfErr result (λ e. e ≡ Stop.NoMemory) }
 {
     match fault {
         RunFault::HistoryFull => match refused_history_full(alloc) {
-            Ok(text) => Ok(Due { status: 6, text }),
+            Ok(text) => Ok(Response { status: 6, text }),
             Err(NoMemory) => Err(Stop::NoMemory),
         },
         RunFault::NoMemory => Err(Stop::NoMemory),
@@ -116,7 +116,7 @@ fn text_of(
     ended: Result<(), RunFault>,
     history: &History,
     most: u32,
-) -> Result<Due, Stop>
+) -> Result<Response, Stop>
     requires whole { OnOk ended (IsWhole scenario.now history.now.entries) }
     requires full { ended ≡ Err RunFault.HistoryFull → IsFull scenario.now history.now.entries most }
     ensures due { IfOk result (λ due. IsTextOf scenario.now most history.now.entries (told_of telling scenario.now history.now.entries) due.status due.text) }

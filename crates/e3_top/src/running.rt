@@ -3,10 +3,10 @@ ghost use Rattle.std.specs.Prelude.{◌≡◌, ◌≢◌, ◌≤◌, ◌<◌, �
 ghost use Rattle.std.specs.Io.KnownBytes.{Appends};
 ghost use Rattle.e3_fleet.specs.Over.{AreBlank};
 ghost use Rattle.e3_outside.specs.Faults.{HasFailed};
-ghost use Rattle.e3_top.specs.Due.{HasText};
+ghost use Rattle.e3_top.specs.Outcomes.{HasText};
 ghost use Rattle.e3_top.specs.Ran.{HasRun};
 
-use crate::preparing::{Due, Prepared, Stop};
+use crate::preparing::{Prepared, Response, Stop};
 use crate::stage::Stage;
 use e3_disk::{Disk, Drill};
 use e3_outside::{Failed, Gate, Sink, Source, write_all};
@@ -29,7 +29,12 @@ pub struct Ended<D: Drop> {
 }
 
 // Writes the text that is due.
-fn finish<K: Sink, D: Drop>(due: Due, history: History, disks: Vec<D>, sink: &mut K) -> Ended<D>
+fn finish<K: Sink, D: Drop>(
+    due: Response,
+    history: History,
+    disks: Vec<D>,
+    sink: &mut K,
+) -> Ended<D>
     requires { HasText due.status }
     ensures history { result.history.entries ≡ history.entries }
     ensures disks { result.disks.items ≡ disks.items }

@@ -1,3 +1,4 @@
+// What a change of a worked history makes of it: which changes are still legal, and which guard refuses the others.
 ghost use Rattle.std.specs.Prelude.{◌≡◌, true, false, None};
 ghost use Rattle.e3_judge.specs.Checks.{first_breach, is_whole};
 ghost use Rattle.e3_judge.specs.declared.breach.Guard.TheVariants as guard;

@@ -1,3 +1,4 @@
+// What is said of every worked history: that it is one, and of those among the examples their texts, reports and traces.
 ghost use Rattle.std.specs.Prelude.{◌≡◌, ◌++◌, ◌≤◌, true, false, Ok};
 ghost use Rattle.e3_report.specs.Report.{report_of};
 ghost use Rattle.e3_scenario.specs.Scenarios.{scenario_of};

@@ -1,3 +1,4 @@
+// What laws say of worked histories: recovery rounds, commits and waits.
 ghost use Rattle.std.specs.Prelude.{◌≡◌, ◌++◌, ◌∷◌, None};
 ghost use Rattle.e3_law_rounds.specs.Commits.{CommitRoundsEnd, CommitStands};
 ghost use Rattle.e3_law_rounds.specs.Rounds.{AllStayUp, RoundStands, elect_entry};

@@ -18,7 +18,7 @@ use Rattle.e3_world.specs.Moves.{moves_of, unnumbered}
 use Rattle.e3_world.specs.Packets.{is_calm, parts_of, sent}
 use Rattle.e3_world.specs.Steps.{step_at}
 use Rattle.e3_law_rounds.specs.Queues.{IsQueue, are_within}
-use Rattle.e3_law_rounds.specs.Rounds.{Said, is_own, ends_txn, said_in}
+use Rattle.e3_law_rounds.specs.Rounds.{ToldVerdict, is_own, ends_txn, verdicts_told}
 use Rattle.e3_law_steps.proofs.Moving.{plain_numbered}
 use Rattle.e3_law_rounds.proofs.Deliveries.Queue.{delivery_shifts, delivery_shifts_any, staying}
 use Rattle.e3_law_rounds.proofs.Deliveries.Walking.{Next, Rest, goes_on}
@@ -111,24 +111,24 @@ deliver sc members h more queue q left rest is_queue is member = record {
     next = goes_on sc members h more first.p first.ps rest ready (subst (λ s. has_site members s ≡ true) (sym to) member)
 
 -- The entries of a round so far: so many own ones, these verdicts told.
-pub record Entered (start h : List Entry) (r : RecoveryRound) (own : ℕ) (said : List Said) : Type 0 where
+pub record Entered (start h : List Entry) (r : RecoveryRound) (own : ℕ) (said : List ToldVerdict) : Type 0 where
   pub round : List Entry
   pub is : h ≡ start ++ round
   pub count : count_by (is_own r) round ≡ own
-  pub says : said_in r.txn round ≡ said
+  pub says : verdicts_told r.txn round ≡ said
 
-pub entered_on : (start h : List Entry) (r : RecoveryRound) (own : ℕ) (said : List Said) (e : Entry) → Entered start h r own said → is_own r e ≡ true → said_in r.txn (e ∷ []) ≡ [] →
+pub entered_on : (start h : List Entry) (r : RecoveryRound) (own : ℕ) (said : List ToldVerdict) (e : Entry) → Entered start h r own said → is_own r e ≡ true → verdicts_told r.txn (e ∷ []) ≡ [] →
     Entered start (h ++ e ∷ []) r (suc own) said
 entered_on start h r own said e was mine quiet = record {
   round = was.round ++ e ∷ [];
   is = ap (λ l. l ++ e ∷ []) was.is ∙ append_assoc start was.round (e ∷ []);
   count = sum_by-append _ was.round (e ∷ []) ∙ (let one : count_by (is_own r) (e ∷ []) ≡ 1 = rw mine refl in let before : count_by (is_own r) was.round ≡ own = was.count in
       let all : count_by (is_own r) was.round + count_by (is_own r) (e ∷ []) ≡ suc own = omega (arith, one, before) in all);
-  says = flat_map-append _ was.round (e ∷ []) ∙ ap (λ l. said_in r.txn was.round ++ l) quiet ∙ append-nil (said_in r.txn was.round) ∙ was.says;
+  says = flat_map-append _ was.round (e ∷ []) ∙ ap (λ l. verdicts_told r.txn was.round ++ l) quiet ∙ append-nil (verdicts_told r.txn was.round) ∙ was.says;
 }
 
 -- a delivery of the round's own that tells nothing
-pub entered_next : (sc : Scenario) (start h more : List Entry) (q : Packet) (left : List Packet) (r : RecoveryRound) (own : ℕ) (said : List Said) (made : Made) →
+pub entered_next : (sc : Scenario) (start h more : List Entry) (q : Packet) (left : List Packet) (r : RecoveryRound) (own : ℕ) (said : List ToldVerdict) (made : Made) →
     (d : Delivery sc r.members h more q left) → Entered start h r own said → has_site r.members q.«from» ≡ true → ends_txn r.txn q.msg ≡ true →
     step_at (taking sc h q) ≡ made → made.told ≡ [] →
     Entered start (h ++ entry_of sc h q.to (input.Deliver d.p) ∷ []) r (suc own) said
@@ -141,7 +141,7 @@ entered_next sc start h more q left r own said made d was by_member of_t step no
         let sent_by : has_site r.members d.p.«from» ≡ true = ap (λ (x : Packet). has_site r.members x.«from») d.same ∙ by_member in
         rw (sent_by, says) refl
 
-    quiet : said_in r.txn (entry_of sc h q.to (input.Deliver d.p) ∷ []) ≡ []
+    quiet : verdicts_told r.txn (entry_of sc h q.to (input.Deliver d.p) ∷ []) ≡ []
     quiet = let told_is : (made_by sc h q.to (input.Deliver d.p)).told ≡ [] = ap (λ (x : Made). x.told) (d.made ∙ step) ∙ none in rw told_is refl
 
 -- it is one of the round's own
@@ -153,12 +153,12 @@ own_next sc h more q left r d by_member of_t =
     rw (sent_by, says) refl
 
 -- an entry of the round's own that tells verdicts
-pub entered_told : (start h : List Entry) (r : RecoveryRound) (own : ℕ) (said more : List Said) (e : Entry) → Entered start h r own said → is_own r e ≡ true →
-    said_in r.txn (e ∷ []) ≡ more → Entered start (h ++ e ∷ []) r (suc own) (said ++ more)
+pub entered_told : (start h : List Entry) (r : RecoveryRound) (own : ℕ) (said more : List ToldVerdict) (e : Entry) → Entered start h r own said → is_own r e ≡ true →
+    verdicts_told r.txn (e ∷ []) ≡ more → Entered start (h ++ e ∷ []) r (suc own) (said ++ more)
 entered_told start h r own said more e was mine says = record {
   round = was.round ++ e ∷ [];
   is = ap (λ l. l ++ e ∷ []) was.is ∙ append_assoc start was.round (e ∷ []);
   count = sum_by-append _ was.round (e ∷ []) ∙ (let one : count_by (is_own r) (e ∷ []) ≡ 1 = rw mine refl in let before : count_by (is_own r) was.round ≡ own = was.count in
       let all : count_by (is_own r) was.round + count_by (is_own r) (e ∷ []) ≡ suc own = omega (arith, one, before) in all);
-  says = flat_map-append _ was.round (e ∷ []) ∙ ap (λ l. said_in r.txn was.round ++ l) says ∙ ap (λ l. l ++ more) was.says;
+  says = flat_map-append _ was.round (e ∷ []) ∙ ap (λ l. verdicts_told r.txn was.round ++ l) says ∙ ap (λ l. l ++ more) was.says;
 }

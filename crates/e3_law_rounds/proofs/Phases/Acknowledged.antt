@@ -33,7 +33,7 @@ use Rattle.e3_world.specs.Rounds.{count_ack, round_by}
 use Rattle.e3_world.specs.Steps.{step_at}
 use Rattle.e3_world.proofs.Turns.{self}
 use Rattle.e3_law_rounds.specs.Queues.{IsQueue, are_within}
-use Rattle.e3_law_rounds.specs.Rounds.{Said, is_own, said_in}
+use Rattle.e3_law_rounds.specs.Rounds.{ToldVerdict, is_own, verdicts_told}
 use Rattle.e3_law_rounds.proofs.Phases.Asked.{plain_mails, within_all}
 use Rattle.e3_law_rounds.proofs.Phases.Decided.{decide_mail, decides_now, late_plain, late_staying}
 use Rattle.e3_law_steps.proofs.Deciding.{AddsAnswers}
@@ -56,7 +56,7 @@ abbrev pub round_with : RecoveryRound → ℕ → Dir → List ℕ → Round
 round_with r n dir done = record { n = n; dir = dir; to = others r.elector r.members; acked = done }
 
 -- All members have attempted; these have acknowledged, and are no quorum with the elector; the other acknowledgements are pending.
-pub record Acknowledged (sc : Scenario) (start : List Entry) (r : RecoveryRound) (base : List Entry) (n : ℕ) (dir : Dir) (h : List Entry) (own : ℕ) (said : List Said) (done todo : List ℕ) : Type 0 where
+pub record Acknowledged (sc : Scenario) (start : List Entry) (r : RecoveryRound) (base : List Entry) (n : ℕ) (dir : Dir) (h : List Entry) (own : ℕ) (said : List ToldVerdict) (done todo : List ℕ) : Type 0 where
   pub queue : List Packet
   pub is_queue : IsQueue sc h queue
   pub plain_queue : map unnumbered queue ≡ map (ack_mail r n dir) todo
@@ -73,7 +73,7 @@ counts : (r : RecoveryRound) (n : ℕ) (dir : Dir) (done : List ℕ) (m : ℕ) �
 counts r n dir done m member fresh = rw (self n, same_dir_self dir, member, fresh) refl
 
 -- an acknowledgement that makes no quorum yet
-pub acknowledged_on : (sc : Scenario) (start : List Entry) (r : RecoveryRound) (base : List Entry) (n : ℕ) (dir : Dir) (h more : List Entry) (own : ℕ) (said : List Said) (done todo : List ℕ) (m : ℕ) →
+pub acknowledged_on : (sc : Scenario) (start : List Entry) (r : RecoveryRound) (base : List Entry) (n : ℕ) (dir : Dir) (h more : List Entry) (own : ℕ) (said : List ToldVerdict) (done todo : List ℕ) (m : ℕ) →
     has_site r.members m ≡ true → has_site r.members r.elector ≡ true → (m == r.elector) ≡ false → has_site (others r.elector r.members) m ≡ true → has_site done m ≡ false →
     is_quorum sc.weights (r.elector ∷ (done ++ m ∷ [])) r.txn.sites ≡ false →
     Rest sc r.members h more → Acknowledged sc start r base n dir h own said done (m ∷ todo) →
@@ -133,7 +133,7 @@ acknowledged_on sc start r base n dir h more own said done todo m member leads a
             (log_on sc h r.elector (input.Deliver d.p) ∙ ap (λ (x : Made). log_of sc h r.elector ++ x.records) made ∙ append-nil (log_of sc h r.elector) ∙ was.logs r.elector)
 
 -- The elector has decided; acknowledgements are left, behind them its decision to the others, and behind that late packets.
-pub record Won (sc : Scenario) (start : List Entry) (r : RecoveryRound) (base : List Entry) (n : ℕ) (dir : Dir) (h : List Entry) (own : ℕ) (said : List Said) (todo : List ℕ) : Type 0 where
+pub record Won (sc : Scenario) (start : List Entry) (r : RecoveryRound) (base : List Entry) (n : ℕ) (dir : Dir) (h : List Entry) (own : ℕ) (said : List ToldVerdict) (todo : List ℕ) : Type 0 where
   pub queue : List Packet
   pub is_queue : IsQueue sc h queue
   pub lates : List Packet
@@ -167,7 +167,7 @@ others_again s (x ∷ xs) = by (others_again s xs) (x == s) refl
     by rest false is = rw (is, is) (ap (λ l. x ∷ l) rest)
 
 -- the acknowledgement that makes the quorum
-pub won_begins : (sc : Scenario) (start : List Entry) (r : RecoveryRound) (base : List Entry) (n : ℕ) (dir : Dir) (h more : List Entry) (own : ℕ) (said : List Said) (done todo : List ℕ) (m : ℕ) →
+pub won_begins : (sc : Scenario) (start : List Entry) (r : RecoveryRound) (base : List Entry) (n : ℕ) (dir : Dir) (h more : List Entry) (own : ℕ) (said : List ToldVerdict) (done todo : List ℕ) (m : ℕ) →
     has_site r.members m ≡ true → has_site r.members r.elector ≡ true → (m == r.elector) ≡ false → has_site (others r.elector r.members) m ≡ true → has_site done m ≡ false →
     is_quorum sc.weights (r.elector ∷ (done ++ m ∷ [])) r.txn.sites ≡ true →
     may_decide (taking sc h (ack_mail r n dir m)) r.txn dir nothing ≡ true →
@@ -248,7 +248,7 @@ won_begins sc start r base n dir h more own said done todo m member leads away r
         let sent_by : has_site r.members d.p.«from» ≡ true = ap (λ (x : Packet). has_site r.members x.«from») d.same ∙ member in
         rw (sent_by, says, same_self t) refl
 
-    silent : said_in t (e ∷ []) ≡ []
+    silent : verdicts_told t (e ∷ []) ≡ []
     silent = rw (none_said t r.elector (input.Deliver d.p) (made_by sc h r.elector (input.Deliver d.p)).records (numbered _ (made_by sc h r.elector (input.Deliver d.p)).outs) (made_by sc h r.elector (input.Deliver d.p)).told says_none) refl
 
     now : Won sc start r base n dir (h ++ e ∷ []) (suc own) said todo

@@ -21,7 +21,7 @@ use Rattle.e3_world.specs.Moves.{log_of, moves_of, unnumbered}
 use Rattle.e3_world.specs.Packets.{is_calm, parts_of, pending, present_items, sent}
 use Rattle.e3_world.proofs.Turns.{self}
 use Rattle.e3_law_rounds.specs.Queues.{IsCounted, IsQueue, are_within}
-use Rattle.e3_law_rounds.specs.Rounds.{elect_entry, is_own, said_in}
+use Rattle.e3_law_rounds.specs.Rounds.{elect_entry, is_own, verdicts_told}
 use Rattle.e3_law_rounds.proofs.Deliveries.Delivering.{Entered, entered_on}
 use Rattle.e3_law_steps.proofs.Moving.{log_on, log_still, moves_still, place, place_log, plain_numbered}
 use Rattle.e3_law_rounds.proofs.Deliveries.Queue.{delivery_shifts, queue_begins, queue_entry}
@@ -141,7 +141,7 @@ asked_on sc start r h more done todo m member leads from_other to_other rest was
         mine = let says : p.msg ≡ msg.Ask t (call_of sc start r) = ap (λ (q : Packet). q.msg) first.first in
             let sent_by : has_site r.members p.«from» ≡ true = ap (λ (q : Packet). has_site r.members q.«from») first.first ∙ leads in rw (sent_by, says, same_self t) refl
 
-        quiet : said_in t (e ∷ []) ≡ []
+        quiet : verdicts_told t (e ∷ []) ≡ []
         quiet = rw made refl
 
 -- what an elector sends to the others of its group stays in its part

@@ -30,7 +30,7 @@ use Rattle.e3_world.specs.Steps.{step_at}
 use Rattle.e3_world.proofs.Pushes.{life_log_at}
 use Rattle.e3_world.proofs.Turns.{self}
 use Rattle.e3_law_rounds.specs.Queues.{IsQueue}
-use Rattle.e3_law_rounds.specs.Rounds.{Said, is_own, said_in}
+use Rattle.e3_law_rounds.specs.Rounds.{ToldVerdict, is_own, verdicts_told}
 use Rattle.e3_law_steps.proofs.Deciding.{AddsAnswers, step_adds_answers}
 use Rattle.e3_law_rounds.proofs.Deliveries.Delivering.{Delivery, Entered, deliver, entered_on, taking}
 use Rattle.e3_law_steps.proofs.Moving.{log_on, log_still}
@@ -50,7 +50,7 @@ fits t Abort l = true
 fits t Commit l = has_voted t l
 
 -- The elector and these members have decided; to those the decision is on its way, and behind it are late packets.
-pub record Decided (sc : Scenario) (start : List Entry) (r : RecoveryRound) (base : List Entry) (dir : Dir) (h : List Entry) (own : ℕ) (said : List Said) (done todo : List ℕ) : Type 0 where
+pub record Decided (sc : Scenario) (start : List Entry) (r : RecoveryRound) (base : List Entry) (dir : Dir) (h : List Entry) (own : ℕ) (said : List ToldVerdict) (done todo : List ℕ) : Type 0 where
   pub queue : List Packet
   pub is_queue : IsQueue sc h queue
   pub lates : List Packet
@@ -115,7 +115,7 @@ late_staying r parts (p ∷ ps) all =
     by rest here false is = rw is rest
 
 -- a member takes the decision
-pub decided_on : (sc : Scenario) (start : List Entry) (r : RecoveryRound) (base : List Entry) (dir : Dir) (h more : List Entry) (own : ℕ) (said : List Said) (done todo : List ℕ) (m : ℕ) →
+pub decided_on : (sc : Scenario) (start : List Entry) (r : RecoveryRound) (base : List Entry) (dir : Dir) (h more : List Entry) (own : ℕ) (said : List ToldVerdict) (done todo : List ℕ) (m : ℕ) →
     has_site r.members m ≡ true → has_site r.members r.elector ≡ true → (r.elector == m) ≡ false → has_site todo m ≡ false →
     (is_undecided r.txn (log_of sc base m) ≡ false) ⊎ (fits r.txn dir (log_of sc base m) ≡ true) →
     Rest sc r.members h more → Decided sc start r base dir h own said done (m ∷ todo) →
@@ -208,11 +208,11 @@ decided_on sc start r base dir h more own said done todo m member leads other_si
             let sent_by : has_site r.members d.p.«from» ≡ true = ap (λ (x : Packet). has_site r.members x.«from») d.same ∙ leads in
             rw (sent_by, says, same_self t) refl
 
-        silent : said_in t (e ∷ []) ≡ []
+        silent : verdicts_told t (e ∷ []) ≡ []
         silent = rw (none_said t m (input.Deliver d.p) (made_by sc h m (input.Deliver d.p)).records (numbered _ (made_by sc h m (input.Deliver d.p)).outs) (made_by sc h m (input.Deliver d.p)).told says_none) refl
 
 -- once all have it, the tail begins
-pub tail_begins : (sc : Scenario) (start : List Entry) (r : RecoveryRound) (base : List Entry) (dir : Dir) (h : List Entry) (own : ℕ) (said : List Said) (done : List ℕ) →
+pub tail_begins : (sc : Scenario) (start : List Entry) (r : RecoveryRound) (base : List Entry) (dir : Dir) (h : List Entry) (own : ℕ) (said : List ToldVerdict) (done : List ℕ) →
     ((s : ℕ) → has_site r.members s ≡ true → has_site (r.elector ∷ done) s ≡ true) → Decided sc start r base dir h own said done [] → Tail sc r h
 tail_begins sc start r base dir h own said done each was = record {
   late = ap (list_all (is_late r)) (queue_is_pending sc h was.queue was.is_queue) ∙ sym (late_plain r was.queue) ∙ ap (list_all (is_late r)) was.plain_queue ∙ was.are_late;

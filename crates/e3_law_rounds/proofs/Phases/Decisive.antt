@@ -10,7 +10,7 @@ use Rattle.e3_world.specs.Logs.{is_undecided, last_attempt, last_elected}
 use Rattle.e3_world.specs.Making.{nothing, may_decide}
 use Rattle.e3_world.specs.Moves.{log_of, moves_of}
 use Rattle.e3_world.proofs.Pushes.{life_log_at}
-use Rattle.e3_law_rounds.specs.Rounds.{Said}
+use Rattle.e3_law_rounds.specs.Rounds.{ToldVerdict}
 use Rattle.e3_law_rounds.proofs.Phases.Acknowledged.{Acknowledged, Won, ack_mail, acknowledged_on, won_begins}
 use Rattle.e3_law_rounds.proofs.Phases.Decided.{Decided, decided_on, fits, may_is, tail_begins}
 use Rattle.e3_law_rounds.proofs.Deliveries.Delivering.{Entered, taking}
@@ -21,7 +21,7 @@ use Rattle.e3_law_rounds.proofs.Phases.Won.{Prepared, attempt_of, acknowledged_b
 use Rattle.std.proofs.lemmas.Bool.{or_parts}
 
 -- acknowledgements come until they make a quorum, and the rest of them late
-pub to_win : (sc : Scenario) (start : List Entry) (r : RecoveryRound) (base : List Entry) (n : ℕ) (dir : Dir) (h more : List Entry) (own : ℕ) (said : List Said) (done todo : List ℕ) →
+pub to_win : (sc : Scenario) (start : List Entry) (r : RecoveryRound) (base : List Entry) (n : ℕ) (dir : Dir) (h more : List Entry) (own : ℕ) (said : List ToldVerdict) (done todo : List ℕ) →
     has_site r.members r.elector ≡ true → (is_undecided r.txn (log_of sc base r.elector) && fits r.txn dir (log_of sc base r.elector)) ≡ true →
     Each (Turn r) done todo → is_quorum sc.weights (r.elector ∷ done) r.txn.sites ≡ false → is_quorum sc.weights (r.elector ∷ (done ++ todo)) r.txn.sites ≡ true →
     Rest sc r.members h more → Acknowledged sc start r base n dir h own said done todo →
@@ -56,7 +56,7 @@ to_win sc start r base n dir h more own said done (m ∷ todo) leads may each fe
     by false still goes_on = sums (goes_on still)
 
 -- all take the decision
-pub to_tail : (sc : Scenario) (start : List Entry) (r : RecoveryRound) (base : List Entry) (dir : Dir) (h more : List Entry) (own : ℕ) (said : List Said) (all : List ℕ) →
+pub to_tail : (sc : Scenario) (start : List Entry) (r : RecoveryRound) (base : List Entry) (dir : Dir) (h more : List Entry) (own : ℕ) (said : List ToldVerdict) (all : List ℕ) →
     has_site r.members r.elector ≡ true → Each (Turn r) [] all → ((s : ℕ) → has_site r.members s ≡ true → has_site (r.elector ∷ all) s ≡ true) →
     ((m : ℕ) → has_site r.members m ≡ true → (is_undecided r.txn (log_of sc base m) ≡ false) ⊎ (fits r.txn dir (log_of sc base m) ≡ true)) →
     Rest sc r.members h more → Decided sc start r base dir h own said [] all →
@@ -68,7 +68,7 @@ to_tail sc start r base dir h more own said all leads each covers either rest wa
     record { now = end.now; later = end.later; is = end.is; rest = end.rest; phase = (tail_begins sc start r base dir end.now (own + length all) said all covers end.phase, end.phase.entered) }
 
 -- all are asked to attempt, and do
-pub to_attempts : (sc : Scenario) (start : List Entry) (r : RecoveryRound) (base : List Entry) (n : ℕ) (dir : Dir) (h more : List Entry) (own : ℕ) (said : List Said) (all : List ℕ) →
+pub to_attempts : (sc : Scenario) (start : List Entry) (r : RecoveryRound) (base : List Entry) (n : ℕ) (dir : Dir) (h more : List Entry) (own : ℕ) (said : List ToldVerdict) (all : List ℕ) →
     has_site r.members r.elector ≡ true → Each (Turn r) [] all →
     ((m : ℕ) → has_site r.members m ≡ true → (is_undecided r.txn (log_of sc base m) ≡ true) × ((last_elected r.txn (log_of sc base m) == n) ≡ true) × ((last_attempt r.txn (log_of sc base m) == n) ≡ false)) →
     Rest sc r.members h more → Prepared sc start r base n dir h own said [] all →
@@ -81,7 +81,7 @@ to_attempts sc start r base n dir h more own said all leads each ready rest was 
     record { now = end.now; later = end.later; is = end.is; rest = end.rest; phase = (acknowledged_begins sc start r base n dir end.now (own + length all) said all end.phase, end.phase.logs) }
 
 -- from there to the tail
-pub attempts_to_tail : (sc : Scenario) (start : List Entry) (r : RecoveryRound) (n : ℕ) (dir : Dir) (h more : List Entry) (own : ℕ) (said : List Said) (all : List ℕ) →
+pub attempts_to_tail : (sc : Scenario) (start : List Entry) (r : RecoveryRound) (n : ℕ) (dir : Dir) (h more : List Entry) (own : ℕ) (said : List ToldVerdict) (all : List ℕ) →
     has_site r.members r.elector ≡ true → Each (Turn r) [] all → others r.elector r.members ≡ all →
     ((s : ℕ) → has_site r.members s ≡ true → has_site (r.elector ∷ all) s ≡ true) →
     (is_undecided r.txn (log_of sc h r.elector) && fits r.txn dir (log_of sc h r.elector)) ≡ true →

@@ -28,7 +28,7 @@ use Rattle.e3_world.specs.Packets.{pending}
 use Rattle.e3_world.specs.Steps.{step_at}
 use Rattle.e3_world.proofs.Turns.{self}
 use Rattle.e3_law_rounds.specs.Queues.{IsQueue}
-use Rattle.e3_law_rounds.specs.Rounds.{is_own, said_at, said_in}
+use Rattle.e3_law_rounds.specs.Rounds.{is_own, verdicts_at, verdicts_told}
 use Rattle.e3_law_rounds.proofs.Deliveries.Delivering.{Delivery, Entered, deliver, entered_next, taking}
 use Rattle.e3_law_rounds.proofs.Deliveries.Gathering.{elections_of, elections_on, group_at, group_on, life_on, life_with}
 use Rattle.e3_law_rounds.proofs.Phases.Joined.{Joined, join_of, number_of, numbered_election, report_mail, site_report}
@@ -187,7 +187,7 @@ block_ends sc start r all h more own have total done m member leads away fresh c
         let sent_by : has_site r.members d.p.«from» ≡ true = ap (λ (x : Packet). has_site r.members x.«from») d.same ∙ member in
         rw (sent_by, says, same_self t) refl
 
-    says : said_in t (e ∷ []) ≡ record { site = r.elector; verdict = verdict.Block have total } ∷ []
+    says : verdicts_told t (e ∷ []) ≡ record { site = r.elector; verdict = verdict.Block have total } ∷ []
     says = let told_is : (made_by sc h r.elector (input.Deliver d.p)).told ≡ told.Verdict t n (verdict.Block have total) ∷ [] = ap (λ (x : Made). x.told) (d.made ∙ step) in rw (told_is, same_self t) refl
 
     now : Entered start (h ++ e ∷ []) r (suc own) (record { site = r.elector; verdict = verdict.Block have total } ∷ [])
@@ -196,5 +196,5 @@ block_ends sc start r all h more own have total done m member leads away fresh c
       is = ap (λ l. l ++ e ∷ []) was.entered.is ∙ append_assoc start was.entered.round (e ∷ []);
       count = sum_by-append _ was.entered.round (e ∷ []) ∙ (let one : count_by (is_own r) (e ∷ []) ≡ 1 = rw mine refl in let before : count_by (is_own r) was.entered.round ≡ own = was.entered.count in
           let sum_is : count_by (is_own r) was.entered.round + count_by (is_own r) (e ∷ []) ≡ suc own = omega (arith, one, before) in sum_is);
-      says = flat_map-append (said_at t) was.entered.round (e ∷ []) ∙ ap (λ l. l ++ said_in t (e ∷ [])) was.entered.says ∙ says;
+      says = flat_map-append (verdicts_at t) was.entered.round (e ∷ []) ∙ ap (λ l. l ++ verdicts_told t (e ∷ [])) was.entered.says ∙ says;
     }

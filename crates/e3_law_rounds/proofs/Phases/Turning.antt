@@ -39,7 +39,7 @@ use Rattle.e3_world.specs.Steps.{step_at}
 use Rattle.e3_world.proofs.Pushes.{life_log_at}
 use Rattle.e3_world.proofs.Turns.{self}
 use Rattle.e3_law_rounds.specs.Queues.{are_within}
-use Rattle.e3_law_rounds.specs.Rounds.{said_in}
+use Rattle.e3_law_rounds.specs.Rounds.{verdicts_told}
 use Rattle.e3_law_rounds.proofs.Phases.Acknowledged.{all_stay, round_with}
 use Rattle.e3_law_rounds.proofs.Phases.Asked.{plain_mails, within_all}
 use Rattle.e3_law_rounds.proofs.Phases.Decided.{Decided, decide_mail, late_plain, late_staying}
@@ -60,7 +60,7 @@ use Rattle.e3_law_steps.proofs.Lists.{both_all}
 
 -- an entry tells one verdict, and behind it events that are none
 pub said_first : (t : Txn) (n : ℕ) (v : Verdict) (o : ℕ) (i : Input) (rs : List Record) (outs : List Packet) (rest : List Told) → list_all no_verdict rest ≡ true →
-    said_in t (record { owner = o; act = Step i rs outs (told.Verdict t n v ∷ rest) } ∷ []) ≡ record { site = o; verdict = v } ∷ []
+    verdicts_told t (record { owner = o; act = Step i rs outs (told.Verdict t n v ∷ rest) } ∷ []) ≡ record { site = o; verdict = v } ∷ []
 said_first t n v o i rs outs rest all = rw (same_self t, none_said t o i rs outs rest all) refl
 
 -- the verdict asks for an attempt, and the elector alone is no quorum: it attempts, and asks the others to
@@ -125,7 +125,7 @@ prepared_begins sc start r all dir h more own done m member leads away fresh com
     begins : After q
     begins = rw (same_self t, later_number, was.grouped) refl
 
-    says : said_in t (e ∷ []) ≡ record { site = r.elector; verdict = pre_of dir } ∷ []
+    says : verdicts_told t (e ∷ []) ≡ record { site = r.elector; verdict = pre_of dir } ∷ []
     says =
         let told_is : (made_by sc h r.elector (input.Deliver d.p)).told ≡ told.Verdict t n (pre_of dir) ∷ [] = ap (λ (x : Made). x.told) made in
         rw (told_is, same_self t) refl
@@ -216,11 +216,11 @@ conclusion_begins sc start r all dir v x h more own done m member leads away row
         ∙ ap (λ l. staying (parts_of sc h) l ++ lates) (plain_mails r.elector (msg.Decide t dir) (others r.elector r.members))
         ∙ ap (λ l. l ++ lates) mails_stay
 
-    says : said_in t (e ∷ []) ≡ record { site = r.elector; verdict = v } ∷ []
+    says : verdicts_told t (e ∷ []) ≡ record { site = r.elector; verdict = v } ∷ []
     says =
         let made : Made = made_by sc h r.elector (input.Deliver d.p) in
         let told_is : made.told ≡ told.Verdict t n v ∷ (concludes.more ++ follows.ops) = ap (λ (y : Made). y.told) d.made ∙ follows.told ∙ ap (λ l. l ++ follows.ops) concludes.told in
-        ap (λ l. said_in t (record { owner = r.elector; act = Step (input.Deliver d.p) made.records e_outs l } ∷ [])) told_is
+        ap (λ l. verdicts_told t (record { owner = r.elector; act = Step (input.Deliver d.p) made.records e_outs l } ∷ [])) told_is
         ∙ said_first t n v r.elector (input.Deliver d.p) made.records e_outs (concludes.more ++ follows.ops)
         (both_all no_verdict concludes.more follows.ops concludes.plain_told (no_verdicts follows.ops follows.tell_answers))
       where

@@ -30,7 +30,7 @@ use Rattle.e3_world.specs.Steps.{step_at}
 use Rattle.e3_world.proofs.Pushes.{life_log_at}
 use Rattle.e3_world.proofs.Turns.{self}
 use Rattle.e3_law_rounds.specs.Queues.{IsQueue, are_within}
-use Rattle.e3_law_rounds.specs.Rounds.{Said}
+use Rattle.e3_law_rounds.specs.Rounds.{ToldVerdict}
 use Rattle.e3_law_rounds.proofs.Phases.Acknowledged.{Acknowledged, Won, ack_mail, round_with}
 use Rattle.e3_law_rounds.proofs.Phases.Decided.{Decided, decide_mail}
 use Rattle.e3_law_rounds.proofs.Deliveries.Delivering.{Delivery, Entered, deliver, entered_next, taking}
@@ -48,7 +48,7 @@ abbrev pub attempt_of : RecoveryRound → ℕ → Dir → List ℕ → ℕ → L
 attempt_of r n dir tried s = if has_site (r.elector ∷ tried) s then log.Attempt r.txn n dir ∷ [] else []
 
 -- The elector and these members have attempted, those are still to be asked to.
-pub record Prepared (sc : Scenario) (start : List Entry) (r : RecoveryRound) (base : List Entry) (n : ℕ) (dir : Dir) (h : List Entry) (own : ℕ) (said : List Said) (done todo : List ℕ) : Type 0 where
+pub record Prepared (sc : Scenario) (start : List Entry) (r : RecoveryRound) (base : List Entry) (n : ℕ) (dir : Dir) (h : List Entry) (own : ℕ) (said : List ToldVerdict) (done todo : List ℕ) : Type 0 where
   pub queue : List Packet
   pub is_queue : IsQueue sc h queue
   pub plain_queue : map unnumbered queue ≡ map (pre_mail r n dir) todo ++ map (ack_mail r n dir) done
@@ -56,7 +56,7 @@ pub record Prepared (sc : Scenario) (start : List Entry) (r : RecoveryRound) (ba
   pub round : (rounds_of r.elector r.txn (life_at (moves_of sc h r.elector))).now ≡ Some (round_with r n dir [])
   pub entered : Entered start h r own said
 
-pub prepared_on : (sc : Scenario) (start : List Entry) (r : RecoveryRound) (base : List Entry) (n : ℕ) (dir : Dir) (h more : List Entry) (own : ℕ) (said : List Said) (done todo : List ℕ) (m : ℕ) →
+pub prepared_on : (sc : Scenario) (start : List Entry) (r : RecoveryRound) (base : List Entry) (n : ℕ) (dir : Dir) (h more : List Entry) (own : ℕ) (said : List ToldVerdict) (done todo : List ℕ) (m : ℕ) →
     has_site r.members m ≡ true → has_site r.members r.elector ≡ true → (r.elector == m) ≡ false → (m == r.elector) ≡ false → has_site (r.elector ∷ done) m ≡ false →
     is_undecided r.txn (log_of sc base m) ≡ true → (last_elected r.txn (log_of sc base m) == n) ≡ true → (last_attempt r.txn (log_of sc base m) == n) ≡ false →
     Rest sc r.members h more → Prepared sc start r base n dir h own said done (m ∷ todo) →
@@ -134,7 +134,7 @@ prepared_on sc start r base n dir h more own said done todo m member leads from_
             ∙ ap (λ b. log_of sc base m ++ (if b then log.Attempt t n dir ∷ [] else [])) (sym its_site))
 
 -- once all have attempted, their acknowledgements are the queue
-pub acknowledged_begins : (sc : Scenario) (start : List Entry) (r : RecoveryRound) (base : List Entry) (n : ℕ) (dir : Dir) (h : List Entry) (own : ℕ) (said : List Said) (all : List ℕ) →
+pub acknowledged_begins : (sc : Scenario) (start : List Entry) (r : RecoveryRound) (base : List Entry) (n : ℕ) (dir : Dir) (h : List Entry) (own : ℕ) (said : List ToldVerdict) (all : List ℕ) →
     Prepared sc start r base n dir h own said all [] → Acknowledged sc start r h n dir h own said [] all
 acknowledged_begins sc start r base n dir h own said all was = record {
   queue = was.queue;
@@ -146,7 +146,7 @@ acknowledged_begins sc start r base n dir h own said all was = record {
 }
 
 -- an acknowledgement that comes late
-pub won_on : (sc : Scenario) (start : List Entry) (r : RecoveryRound) (base : List Entry) (n : ℕ) (dir : Dir) (h more : List Entry) (own : ℕ) (said : List Said) (todo : List ℕ) (m : ℕ) →
+pub won_on : (sc : Scenario) (start : List Entry) (r : RecoveryRound) (base : List Entry) (n : ℕ) (dir : Dir) (h more : List Entry) (own : ℕ) (said : List ToldVerdict) (todo : List ℕ) (m : ℕ) →
     has_site r.members m ≡ true → has_site r.members r.elector ≡ true → (m == r.elector) ≡ false →
     Rest sc r.members h more → Won sc start r base n dir h own said (m ∷ todo) →
     (e : Entry) × (later : List Entry) × (more ≡ e ∷ later) × Rest sc r.members (h ++ e ∷ []) later × Won sc start r base n dir (h ++ e ∷ []) (suc own) said todo
@@ -216,7 +216,7 @@ others_apart s (y ∷ xs) x has = by (others_apart s xs x) (y == s) refl
         last rest is (y == x) refl (sym (let same : has_site (others s (y ∷ xs)) x ≡ ((y == x) || has_site (others s xs) x) = rw is refl in same) ∙ has)
 
 -- once no acknowledgement is left, the decision is delivered
-pub decided_begins : (sc : Scenario) (start : List Entry) (r : RecoveryRound) (base : List Entry) (n : ℕ) (dir : Dir) (h : List Entry) (own : ℕ) (said : List Said) →
+pub decided_begins : (sc : Scenario) (start : List Entry) (r : RecoveryRound) (base : List Entry) (n : ℕ) (dir : Dir) (h : List Entry) (own : ℕ) (said : List ToldVerdict) →
     Won sc start r base n dir h own said [] → Decided sc start r base dir h own said [] (others r.elector r.members)
 decided_begins sc start r base n dir h own said was = record {
   queue = was.queue;

@@ -28,7 +28,7 @@ use Rattle.e3_world.specs.Packets.{is_calm, parts_of, pending, present_items, se
 use Rattle.e3_world.specs.Steps.{on_input, step_at}
 use Rattle.e3_world.proofs.Turns.{self}
 use Rattle.e3_law_rounds.specs.Queues.{IsCounted, IsQueue}
-use Rattle.e3_law_rounds.specs.Rounds.{elect_entry, said_in}
+use Rattle.e3_law_rounds.specs.Rounds.{elect_entry, verdicts_told}
 use Rattle.e3_law_rounds.proofs.Phases.Decided.{Decided, late_plain, late_staying}
 use Rattle.e3_law_steps.proofs.Deciding.{AddsAnswers, step_adds_answers}
 use Rattle.e3_law_rounds.proofs.Deliveries.Delivering.{Entered, plain_staying}
@@ -89,7 +89,7 @@ alone_concludes sc start r dir n v x one counted none calm row concludes = recor
     is = refl;
     count = rw (same_self t) refl;
     says =
-        ap (λ l. said_in t (record { owner = r.elector; act = Step i made.records (numbered (suc (length (sent start))) made.outs) l } ∷ [])) told_is
+        ap (λ l. verdicts_told t (record { owner = r.elector; act = Step i made.records (numbered (suc (length (sent start))) made.outs) l } ∷ [])) told_is
         ∙ said_first t n v r.elector i made.records (numbered (suc (length (sent start))) made.outs) (concludes.more ++ follows.ops)
         (both_all no_verdict concludes.more follows.ops concludes.plain_told (no_verdicts follows.ops follows.tell_answers));
   };
@@ -145,7 +145,7 @@ alone_blocked sc start r have total one counted none calm low blocked = (
     is = refl;
     count = rw (same_self t) refl;
     says =
-        ap (λ (y : Made). said_in t (record { owner = r.elector; act = Step i y.records (numbered (suc (length (sent start))) y.outs) y.told } ∷ [])) made
+        ap (λ (y : Made). verdicts_told t (record { owner = r.elector; act = Step i y.records (numbered (suc (length (sent start))) y.outs) y.told } ∷ [])) made
         ∙ said_first t n (verdict.Block have total) r.elector i (log.Join t n ∷ []) [] [] refl;
   },
 )

@@ -13,7 +13,7 @@ use Rattle.e3_world.specs.Items.{RecoveryRound}
 use Rattle.e3_world.specs.Logs.{is_undecided}
 use Rattle.e3_world.specs.Moves.{log_of}
 use Rattle.e3_world.specs.Packets.{pending}
-use Rattle.e3_law_rounds.specs.Rounds.{elect_entry, elects, is_block, is_own, said_at, said_in}
+use Rattle.e3_law_rounds.specs.Rounds.{elect_entry, elects, is_block, is_own, verdicts_at, verdicts_told}
 use Rattle.e3_law_rounds.proofs.Beginning.{Begun}
 use Rattle.e3_law_rounds.proofs.Deliveries.Delivering.{Entered}
 use Rattle.e3_law_rounds.proofs.Verdict.Idle.{idle_ends}
@@ -23,7 +23,7 @@ use Rattle.std.proofs.lemmas.Bool.{or_parts}
 
 -- what comes of a round with this verdict
 pub record Outcome (sc : Scenario) (start more : List Entry) (r : RecoveryRound) (v : Verdict) : Type 0 where
-  pub one : said_in r.txn (elect_entry sc start r ∷ more) ≡ record { site = r.elector; verdict = v } ∷ []
+  pub one : verdicts_told r.txn (elect_entry sc start r ∷ more) ≡ record { site = r.elector; verdict = v } ∷ []
   pub decided : is_block v ≡ false → (s : ℕ) → has_site r.members s ≡ true → is_undecided r.txn (log_of sc (start ++ elect_entry sc start r ∷ more) s) ≡ false
   pub few : count_by (is_own r) (elect_entry sc start r ∷ more) ≤ 1 + 7 * (length r.members - 1)
 
@@ -53,8 +53,8 @@ pub ends_decided : (sc : Scenario) (start more : List Entry) (r : RecoveryRound)
     Walked sc r (start ++ elect_entry sc start r ∷ []) more (λ now. Tail sc r now × Entered start now r own (record { site = r.elector; verdict = v } ∷ [])) → Outcome sc start more r v
 ends_decided sc start more r v own begun some few w = record {
   one =
-      ap (said_in r.txn) (sym split.is) ∙ flat_map-append (said_at r.txn) w.phase.1.round w.later
-      ∙ ap (λ l. l ++ said_in r.txn w.later) w.phase.1.says ∙ ap (λ l. (record { site = r.elector; verdict = v } ∷ []) ++ l) ended.none_said;
+      ap (verdicts_told r.txn) (sym split.is) ∙ flat_map-append (verdicts_at r.txn) w.phase.1.round w.later
+      ∙ ap (λ l. l ++ verdicts_told r.txn w.later) w.phase.1.says ∙ ap (λ l. (record { site = r.elector; verdict = v } ∷ []) ++ l) ended.none_said;
   decided = λ no_block s member. ap (λ l. is_undecided r.txn (log_of sc l s)) (sym (w.is ∙ append_assoc start (e ∷ []) more)) ∙ ended.tail.decided s member;
   few = (
       let counted : count_by (is_own r) w.phase.1.round ≡ own = w.phase.1.count in
@@ -80,8 +80,8 @@ pub ends_blocked : (sc : Scenario) (start more : List Entry) (r : RecoveryRound)
     Walked sc r (start ++ elect_entry sc start r ∷ []) more (λ now. (pending sc now ≡ []) × Entered start now r own (record { site = r.elector; verdict = v } ∷ [])) → Outcome sc start more r v
 ends_blocked sc start more r v own begun some few blocks w = record {
   one =
-      ap (said_in r.txn) (sym split.is) ∙ flat_map-append (said_at r.txn) w.phase.1.round w.later
-      ∙ ap (λ l. l ++ said_in r.txn w.later) w.phase.1.says ∙ ap (λ l. (record { site = r.elector; verdict = v } ∷ []) ++ l) idle.1;
+      ap (verdicts_told r.txn) (sym split.is) ∙ flat_map-append (verdicts_at r.txn) w.phase.1.round w.later
+      ∙ ap (λ l. l ++ verdicts_told r.txn w.later) w.phase.1.says ∙ ap (λ l. (record { site = r.elector; verdict = v } ∷ []) ++ l) idle.1;
   decided = λ no_block s member. absurd (let clash : true ≡ false = sym blocks ∙ no_block in cc);
   few = (
       let counted : count_by (is_own r) w.phase.1.round ≡ own = w.phase.1.count in
@@ -98,5 +98,5 @@ ends_blocked sc start more r v own begun some few blocks w = record {
     split : Parted sc start more r w.phase.1.round w.later
     split = parted sc start more r own w.phase.1.round w.now w.later some begun.one_round w.is w.phase.1.is w.phase.1.count
 
-    idle : (count_by (is_own r) w.later ≡ 0) × (said_in r.txn w.later ≡ [])
+    idle : (count_by (is_own r) w.later ≡ 0) × (verdicts_told r.txn w.later ≡ [])
     idle = idle_ends sc r w.now w.later w.rest.group w.rest.items begun.given w.rest.recovers w.rest.guards w.rest.no_line split.no_elect w.phase.0

@@ -16,7 +16,7 @@ use Rattle.e3_world.specs.Given.{IsGiven}
 use Rattle.e3_world.specs.Items.{RecoveryRound}
 use Rattle.e3_world.specs.Legal.{AreDue, Guard, IsDue, LegalAfter}
 use Rattle.e3_world.specs.Packets.{is_calm, is_line, outs_of, pending, present_items}
-use Rattle.e3_law_rounds.specs.Rounds.{elects, is_elect, is_of_round, is_own, said_at, said_in}
+use Rattle.e3_law_rounds.specs.Rounds.{elects, is_elect, is_of_round, is_own, verdicts_at, verdicts_told}
 use Rattle.e3_law_rounds.proofs.Tail.{no_item, pending_all}
 use Rattle.std.proofs.lemmas.Bool.{or_parts}
 use Rattle.e3_law_rounds.proofs.Deliveries.Walking.{items_on}
@@ -29,7 +29,7 @@ none_pass (p ∷ ps) all = absurd cc
 record After (sc : Scenario) (r : RecoveryRound) (h : List Entry) (e : Entry) : Type 0 where
   none : pending sc (h ++ e ∷ []) ≡ []
   not_own : is_own r e ≡ false
-  silent : said_in r.txn (e ∷ []) ≡ []
+  silent : verdicts_told r.txn (e ∷ []) ≡ []
 
 -- no input is due but an Elect
 none_due : (sc : Scenario) (h : List Entry) (group : List ℕ) (items : List Item) (site : ℕ) (i : Input) → IsGiven sc →
@@ -71,7 +71,7 @@ by_act sc r h group items o (Line number) given is none other guard = record { n
 
 pub idle_ends : (sc : Scenario) (r : RecoveryRound) (h more : List Entry) (group : List ℕ) (items : List Item) → IsGiven sc →
     present_items sc h ≡ item.Recover group ∷ items → LegalAfter sc h more → list_any is_line more ≡ false → list_any elects more ≡ false → pending sc h ≡ [] →
-    (count_by (is_own r) more ≡ 0) × (said_in r.txn more ≡ [])
+    (count_by (is_own r) more ≡ 0) × (verdicts_told r.txn more ≡ [])
 idle_ends sc r h [] group items given is guards no_line no_elect none = (refl, refl)
 idle_ends sc r h (e ∷ more) group items given is guards no_line no_elect none =
     let line = or_parts (is_line e) (list_any is_line more) no_line in
@@ -80,5 +80,5 @@ idle_ends sc r h (e ∷ more) group items given is guards no_line no_elect none 
     let rest = idle_ends sc r (h ++ e ∷ []) more group items given (items_on sc h e line.0 ∙ is) guards.1 line.1 elect.1 here.none in (
       sum_by-append _ (e ∷ []) more ∙ (let one : count_by (is_own r) (e ∷ []) ≡ 0 = rw here.not_own refl in let two : count_by (is_own r) more ≡ 0 = rest.0 in
           let sum_is : count_by (is_own r) (e ∷ []) + count_by (is_own r) more ≡ 0 = omega (arith, one, two) in sum_is),
-      flat_map-append (said_at r.txn) (e ∷ []) more ∙ ap (λ l. l ++ said_in r.txn more) here.silent ∙ rest.1,
+      flat_map-append (verdicts_at r.txn) (e ∷ []) more ∙ ap (λ l. l ++ verdicts_told r.txn more) here.silent ∙ rest.1,
     )

@@ -7,5 +7,5 @@ use Rattle.e3_node.proofs.node.Node.into_disk.Goals as goal
 pub returns-clause-stands : goal.returns-clause-stands
 returns-clause-stands g c = λ sc h was.
     let is : c.into_disk.result ≡ disk_of c.args.self.state = c.into_disk.ensures ∙ ap (λ (n : NodeView _). disk_of n.state) c.self.view_is in
-    subst (λ (d : _). DiskStands sc h c.args.self.site (g.D.Disk.meaning.meters d).capacity (g.D.Disk.meaning.image d)) (sym is)
+    subst (λ (d : _). DiskStands g.D.Disk.meaning sc h c.args.self.site d) (sym is)
     (node_disk g.D.Disk.meaning sc h c.args.self was)
