@@ -16,7 +16,7 @@ returns-clause-ready c =
     let site = c.args.wish.now.site in
     let read = c.in_ok-log.log in
     let all : c.add_copies.new.self ≡ read ++ c.in_ok-records.records =
-    c.in_ok-add_copies.ensures ∙ ap (λ (l : List Record). read ++ l) c.as_slice-4.ensures in
+    c.in_ok-add_copies.ensures.ok ∙ ap (λ (l : List Record). read ++ l) c.as_slice-4.ensures in
     let made : c.in_ok-records.records ≡ records_by c.args.wish.now c.in_ok-inc.inc read =
     c.in_ok-records.ensures ∙ ap (λ (l : List Record). records_by c.args.wish.now c.in_ok-inc.inc l) c.as_slice-2.ensures in
     record {
