@@ -376,8 +376,8 @@ returns-in-Ok-clause-frame g c =
     slice made.back c.in_ok-short.ensures.short in
     let l = log_of sc h c.args.number in
     let F : List Record → Type 0 = λ rs. IsOneFrame g.D.Disk.meaning.meters l rs c.args.log.now c.write.new.log in
-    let size : size_of c.records-records.result.now ≡ length c.as_slice-records.result.now =
-    ap size_of c.records-records.ensures ∙ sym (ap length c.in_ok-draft.ensures.ready.drafted.body_is) ∙ sym (ap length c.as_slice-records.ensures) in
+    let size : size_of c.records-records.result.now ≡ length c.as_slice-body.result.now =
+    ap size_of c.records-records.ensures ∙ sym (ap length c.in_ok-draft.ensures.ready.drafted.body_is) ∙ sym (ap length c.as_slice-body.ensures) in
     subst F slice
     (one_frame g.D.Disk.meaning.meters c.args.number c.args.log.now c.write.new.log l c.records-records.result.now c.in_ok-short.short then.short
     (λ none. (c.write.ensures.same none).0) c.in-Ok.ensures.end
