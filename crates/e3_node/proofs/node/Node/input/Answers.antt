@@ -1,9 +1,11 @@
 use Rattle.std.proofs.Common.{◌≤◌, ap, subst, sym, refl, Err}
-use Rattle.e3_node.specs.Ends.{FellOver}
+use Rattle.e3_node.specs.Ends.{FellOver, IsOneFrame, OnLogs}
 use Rattle.e3_node.specs.NodeStands.{IsIn}
 use Rattle.e3_node.specs.NodeView.{NodeView}
 use Rattle.e3_node.specs.declared.fault.InputFault.{InputFault}
 use Rattle.e3_wire.specs.Marks.{entries_of, last_owner, scenario_of}
+use Rattle.e3_world.specs.Legal.{made_by}
+use Rattle.e3_world.specs.Moves.{log_of}
 use Rattle.e3_node.proofs.Steps.{input_in, node_with}
 use Rattle.e3_node.proofs.node.Node.input.Goals as goal
 
@@ -13,6 +15,13 @@ take_input-requires-clause-shared g c = record {
   some = subst (λ (x : NodeView _). 1 ≤ x.site) (sym c.self.view_is) c.requires.standing.some;
   exists = subst (λ (x : NodeView _). x.site ≤ last_owner c.args.shared.now) (sym c.self.view_is) c.requires.standing.exists;
 }
+
+pub returns-in-Ok-clause-frame : goal.returns-in-Ok-clause-frame
+returns-in-Ok-clause-frame g c =
+    let sc = scenario_of c.args.shared.now in
+    let h = entries_of c.args.shared.now in
+    subst (λ (x : NodeView _). OnLogs (IsOneFrame g.D.Disk.meaning.meters (log_of sc h x.site) (made_by sc h x.site c.args.input).records) x.state c.take_input.new.state)
+    c.self.view_is c.in-Ok.ensures.frame
 
 pub returns-in-Err-clause-fell : goal.returns-in-Err-clause-fell
 returns-in-Err-clause-fell g c = λ why is.
