@@ -108,8 +108,8 @@ fn takes<D: Disk + Drill + Drop>(
     }
 }
 
-// The input is no delivery.
-fn is_plain(input: &Input) -> bool
+// No input but a delivery asks for anything more.
+fn is_no_delivery(input: &Input) -> bool
     ensures { (sc : Scenario) (h : Items Entries) → result ≡ true → IsFirst sc h input.now }
 {
     !matches!(input, Input::Deliver { .. })
@@ -128,7 +128,7 @@ fn takes_all<D: Disk + Drill + Drop>(
 {
     for item in items {
         let input = item.copy();
-        if !is_plain(&input) || !takes(alloc, shared, node, other, input) {
+        if !is_no_delivery(&input) || !takes(alloc, shared, node, other, input) {
             return false;
         }
     }
