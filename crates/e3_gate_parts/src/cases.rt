@@ -2,7 +2,7 @@
 // of an earlier case, in whose trace these lines stand in place of those from LINE on and before NEXT. Lines of a trace are counted
 // from 1 behind `#trace`.
 
-use crate::texts::{bytes_of, cut, number};
+use crate::texts::{bytes_of, cut, lines_of, number};
 use e3_types::{List, NoMemory};
 use std::alloc::Global;
 
@@ -11,29 +11,6 @@ use std::alloc::Global;
 pub struct Case {
     pub name: List<u8>,
     pub text: List<u8>,
-}
-
-/// The lines of an earlier case that are replaced.
-#[derive(Drop)]
-struct Change {
-    base: List<u8>,
-    line: u64,
-    next: u64,
-}
-
-fn without_end(line: &[u8]) -> &[u8] {
-    line.strip_suffix(b"\n").unwrap_or(line)
-}
-
-// What stands behind `#of `.
-fn change_in(alloc: Global, words: &[u8]) -> Result<Change, NoMemory> {
-    let (base, lines) = cut(words, b' ');
-    let (line, next) = cut(lines, b' ');
-    Ok(Change {
-        base: bytes_of(alloc, base)?,
-        line: number(line),
-        next: number(next),
-    })
 }
 
 // The text of the case with this name; none where there is no such case.
@@ -46,7 +23,21 @@ fn text_of<'a>(cases: &'a [Case], name: &[u8]) -> &'a [u8] {
     b""
 }
 
-// The text with these lines in place of its own.
+// Adds the lines of a text from a line of its trace on and before the next; what stands before the trace counts as line 0.
+fn push_lines(out: &mut List<u8>, lines: &[&[u8]], from: u64, next: u64) -> Result<(), NoMemory> {
+    let mut at: u64 = 0;
+    for line in lines {
+        if from <= at && at < next {
+            out.extend(line)?;
+        }
+        if at > 0 || *line == b"#trace\n".as_slice() {
+            at = at.saturating_add(1);
+        }
+    }
+    Ok(())
+}
+
+// The text with these lines in place of those from a line of its trace on and before the next.
 fn changed(
     alloc: Global,
     text: &[u8],
@@ -54,70 +45,58 @@ fn changed(
     next: u64,
     lines: &[u8],
 ) -> Result<List<u8>, NoMemory> {
-    let mut front = List::new(alloc);
-    let mut rest = List::new(alloc);
-    let mut at: u64 = 0;
-    for piece in text.split_inclusive(|byte| *byte == b'\n') {
-        if at < line {
-            front.extend(piece)?;
-        }
-        if next <= at {
-            rest.extend(piece)?;
-        }
-        if at > 0 || piece == b"#trace\n".as_slice() {
-            at = at.saturating_add(1);
-        }
-    }
-    front.extend(lines)?;
-    front.extend(rest.as_slice())?;
-    Ok(front)
+    let all = lines_of(alloc, text)?;
+    let mut out = List::new(alloc);
+    push_lines(&mut out, &all, 0, line)?;
+    out.extend(lines)?;
+    push_lines(&mut out, &all, next, u64::MAX)?;
+    Ok(out)
 }
 
-// The case of this name, with the change that it has.
-fn case_of(
-    alloc: Global,
-    cases: &[Case],
-    name: List<u8>,
-    change: Option<Change>,
-    text: List<u8>,
-) -> Result<Case, NoMemory> {
-    let text = match change {
-        None => text,
-        Some(change) => changed(
-            alloc,
-            text_of(cases, change.base.as_slice()),
-            change.line,
-            change.next,
-            text.as_slice(),
-        )?,
+// The text of a case, by what stands behind its first line, and the cases before it.
+fn told(alloc: Global, cases: &[Case], text: &[u8]) -> Result<List<u8>, NoMemory> {
+    let Some(change) = text.strip_prefix(b"#of ") else {
+        return bytes_of(alloc, text);
     };
+    let (words, lines) = cut(change, b'\n');
+    let (base, words) = cut(words, b' ');
+    let (line, next) = cut(words, b' ');
+    changed(
+        alloc,
+        text_of(cases, base),
+        number(line),
+        number(next),
+        lines,
+    )
+}
+
+// The case that these lines tell, behind the cases before it.
+fn case_of(alloc: Global, cases: &[Case], lines: &[u8]) -> Result<Case, NoMemory> {
+    let (head, text) = cut(lines, b'\n');
+    let name = bytes_of(alloc, head.strip_prefix(b"#case ").unwrap_or(head))?;
+    let text = told(alloc, cases, text)?;
     Ok(Case { name, text })
+}
+
+// Adds the case that these lines tell.
+fn push_case(alloc: Global, cases: &mut List<Case>, lines: &[u8]) -> Result<(), NoMemory> {
+    let case = case_of(alloc, cases.as_slice(), lines)?;
+    cases.push(case)
 }
 
 /// The cases of an input.
 pub fn cases_in(alloc: Global, input: &[u8]) -> Result<List<Case>, NoMemory> {
     let mut cases = List::new(alloc);
-    let mut name = List::new(alloc);
-    let mut change = None;
-    let mut text = List::new(alloc);
-    for line in input.split_inclusive(|byte| *byte == b'\n') {
-        if let Some(words) = line.strip_prefix(b"#case ") {
-            if !name.is_empty() {
-                let case = case_of(alloc, cases.as_slice(), name, change, text)?;
-                cases.push(case)?;
-            }
-            name = bytes_of(alloc, without_end(words))?;
-            change = None;
-            text = List::new(alloc);
-        } else if let Some(words) = line.strip_prefix(b"#of ") {
-            change = Some(change_in(alloc, without_end(words))?);
-        } else {
-            text.extend(line)?;
+    let mut lines = List::new(alloc);
+    for line in lines_of(alloc, input)?.iter() {
+        if line.starts_with(b"#case ") && !lines.is_empty() {
+            push_case(alloc, &mut cases, lines.as_slice())?;
+            lines = List::new(alloc);
         }
+        lines.extend(line)?;
     }
-    if !name.is_empty() {
-        let case = case_of(alloc, cases.as_slice(), name, change, text)?;
-        cases.push(case)?;
+    if !lines.is_empty() {
+        push_case(alloc, &mut cases, lines.as_slice())?;
     }
     Ok(cases)
 }

@@ -8,21 +8,25 @@ use e3_lines::Page;
 use e3_report::report;
 use e3_scenario::read_scenario;
 use e3_trace::{before_mark, read_trace};
-use e3_types::NoMemory;
+use e3_types::{NoMemory, Scenario};
 use std::alloc::Global;
+
+// Adds the report, and the trace, of a scenario and of the history whose trace stands in the input.
+fn push_told(alloc: Global, page: &mut Page, input: &[u8], scenario: &Scenario) {
+    let Ok(history) = read_trace(alloc, scenario, input) else {
+        return page.text("no trace\n");
+    };
+    match report(alloc, scenario, &history, true) {
+        Ok(text) => page.bytes(text.as_slice()),
+        Err(NoMemory) => page.lack(),
+    }
+}
 
 // Adds the report, and the trace, of the scenario on this line and of the history whose trace stands in the input.
 fn push_report(alloc: Global, page: &mut Page, input: &[u8], line: &[u8]) {
-    let text = scenarios::text_of(alloc, line);
-    let Ok(scenario) = read_scenario(alloc, text.as_slice()) else {
-        return page.text("no scenario\n");
-    };
-    let Ok(history) = read_trace(alloc, &scenario, input) else {
-        return page.text("no trace\n");
-    };
-    match report(alloc, &scenario, &history, true) {
-        Ok(text) => page.bytes(text.as_slice()),
-        Err(NoMemory) => page.lack(),
+    match read_scenario(alloc, scenarios::text_of(alloc, line).as_slice()) {
+        Ok(scenario) => push_told(alloc, page, input, &scenario),
+        Err(_) => page.text("no scenario\n"),
     }
 }
 

@@ -2,8 +2,8 @@
 // memory, logs and streams, and the fates and the order of packets.
 
 mod bodies;
-mod disks;
-mod logs;
+pub mod disks;
+pub mod logs;
 mod nets;
 mod streams;
 mod values;

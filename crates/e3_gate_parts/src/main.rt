@@ -4,6 +4,7 @@
 //! Each part stands behind a line `== NAME`, in the standard input where it reads any, and in the file of this program's output.
 #![tactic(auto)]
 
+mod answers;
 mod cases;
 mod checks;
 mod forms;

@@ -1,7 +1,6 @@
 // Logs in two regions over disks in memory. Each line of the input is the capacity of a disk and what is done with it,
 // word by word; it is printed with what came of each word.
 
-mod answers;
 mod commands;
 mod held;
 

@@ -17,18 +17,9 @@ use e3_judge::Prefix;
 use e3_lines::Page;
 use e3_scenario::read_scenario;
 use e3_trace::{before_mark, read_trace};
-use e3_types::{Entry, List, NoMemory, Scenario};
+use e3_types::Scenario;
 use e3_world::History;
 use std::alloc::Global;
-
-// Adds the steps of a site, by its tables and by the definitions.
-fn push_bodies(alloc: Global, page: &mut Page, scenario: &Scenario, entries: &[Entry], site: u32) {
-    let mut out = List::new(alloc);
-    match bodies::push_bodies(alloc, &mut out, scenario, entries, site) {
-        Ok(()) => page.bytes(out.as_slice()),
-        Err(NoMemory) => page.lack(),
-    }
-}
 
 // Adds what is read of a history: the first letter of the head says what, and the second word at which site.
 fn push_by(alloc: Global, page: &mut Page, head: &[u8], scenario: &Scenario, history: &History) {
@@ -39,7 +30,7 @@ fn push_by(alloc: Global, page: &mut Page, head: &[u8], scenario: &Scenario, his
     let all = Prefix::of(alloc, scenario, entries);
     match kind.first() {
         Some(b'l') => logs::push_logs(alloc, page, entries, site),
-        Some(b'b') => push_bodies(alloc, page, scenario, entries, site),
+        Some(b'b') => bodies::push_bodies(alloc, page, scenario, entries, site),
         Some(b'r') => readings::push_readings(alloc, page, &all, site),
         Some(b's') => histories::push_step(alloc, page, scenario, entries),
         Some(b'h') => histories::push_history(page, &all, site),
@@ -49,18 +40,23 @@ fn push_by(alloc: Global, page: &mut Page, head: &[u8], scenario: &Scenario, his
     }
 }
 
-// Adds the lines of a case.
-fn push_case(alloc: Global, page: &mut Page, head: &[u8], text: &[u8]) {
-    let Ok(scenario) = read_scenario(alloc, before_mark(text)) else {
-        return page.text("no scenario\n");
-    };
-    let Ok(history) = read_trace(alloc, &scenario, text) else {
+// Adds the lines of a case of this scenario.
+fn push_told(alloc: Global, page: &mut Page, head: &[u8], scenario: &Scenario, text: &[u8]) {
+    let Ok(history) = read_trace(alloc, scenario, text) else {
         return page.text("no trace\n");
     };
     page.bytes(head);
     page.text(":");
-    push_by(alloc, page, head, &scenario, &history);
+    push_by(alloc, page, head, scenario, &history);
     page.text("\n");
+}
+
+// Adds the lines of a case.
+fn push_case(alloc: Global, page: &mut Page, head: &[u8], text: &[u8]) {
+    match read_scenario(alloc, before_mark(text)) {
+        Ok(scenario) => push_told(alloc, page, head, &scenario, text),
+        Err(_) => page.text("no scenario\n"),
+    }
 }
 
 /// Adds all lines.

@@ -12,19 +12,42 @@ pub fn bytes_of(alloc: Global, bytes: &[u8]) -> Result<List<u8>, NoMemory> {
 
 /// What stands before the first such byte, and what stands behind it.
 pub fn cut(line: &[u8], mark: u8) -> (&[u8], &[u8]) {
-    let mut halves = line.splitn(2, |byte| *byte == mark);
-    (halves.next().unwrap_or(b""), halves.next().unwrap_or(b""))
+    for at in 0..line.len() {
+        if line[at] == mark {
+            return (&line[..at], &line[at + 1..]);
+        }
+    }
+    (line, b"")
 }
 
 /// The parts of a text between such bytes.
 pub fn parts_of<'a>(alloc: Global, text: &'a [u8], mark: u8) -> Result<Vec<&'a [u8]>, NoMemory> {
     let mut parts = Vec::new(alloc);
-    for part in text.split(|byte| *byte == mark) {
-        if parts.push(part).is_err() {
-            return Err(NoMemory);
+    let mut start = 0;
+    for at in 0..=text.len() {
+        if at == text.len() || text[at] == mark {
+            if parts.push(text.get(start..at).unwrap_or(b"")).is_err() {
+                return Err(NoMemory);
+            }
+            start = at + 1;
         }
     }
     Ok(parts)
+}
+
+/// The lines of a text, each with its line feed.
+pub fn lines_of(alloc: Global, text: &[u8]) -> Result<Vec<&[u8]>, NoMemory> {
+    let mut lines = Vec::new(alloc);
+    let mut start = 0;
+    for at in 0..text.len() {
+        if text[at] == b'\n' || at + 1 == text.len() {
+            if lines.push(text.get(start..=at).unwrap_or(b"")).is_err() {
+                return Err(NoMemory);
+            }
+            start = at + 1;
+        }
+    }
+    Ok(lines)
 }
 
 /// A number; 0 where the word is none.

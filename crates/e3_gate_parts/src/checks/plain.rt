@@ -35,7 +35,11 @@ fn line_of(alloc: Global, scenario: &Scenario, history: &History) -> Page {
 
 /// The line that tells what the plain judge finds; none where there is no scenario, or no trace.
 pub fn plain_line(alloc: Global, text: &[u8]) -> Option<Page> {
-    let scenario = read_scenario(alloc, before_mark(text)).ok()?;
-    let history = read_trace(alloc, &scenario, text).ok()?;
-    Some(line_of(alloc, &scenario, &history))
+    let Ok(scenario) = read_scenario(alloc, before_mark(text)) else {
+        return None;
+    };
+    match read_trace(alloc, &scenario, text) {
+        Ok(history) => Some(line_of(alloc, &scenario, &history)),
+        Err(_) => None,
+    }
 }

@@ -38,14 +38,12 @@ fn push_body(alloc: Global, page: &mut Page, body: &[u8]) {
 
 // The end of all places, where records are not written as these bytes; none where they are.
 fn other_place(alloc: Global, records: &[Record], bytes: &[u8]) -> Result<Option<u64>, NoMemory> {
-    match spelled(alloc, records) {
-        Ok(again) => Ok(if again.as_slice() == bytes {
-            None
-        } else {
-            Some(u64::MAX)
-        }),
-        Err(NoMemory) => Err(NoMemory),
-    }
+    let again = spelled(alloc, records)?;
+    Ok(if again.as_slice() == bytes {
+        None
+    } else {
+        Some(u64::MAX)
+    })
 }
 
 // The place where bytes are bad in the log of site 1; none where they are records, which are written as just these bytes.

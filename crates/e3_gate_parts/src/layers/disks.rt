@@ -1,12 +1,13 @@
 // Disks in memory, by calls through the bounds: what a stop leaves, what fits, and which calls fail.
+use crate::answers::push_write;
 use crate::texts::{bytes_of, push_hex};
 use e3_disk::{Disk, DiskFault, Drill, MemDisk, Piece, torn_writes_keep_the_rest, write_pieces};
 use e3_lines::Page;
-use e3_types::{Leave, List};
+use e3_types::{Leave, List, NoMemory};
 use std::alloc::Global;
 
 // What a stop may leave.
-const LEAVES: [(&str, Leave); 4] = [
+static LEAVES: [(&str, Leave); 4] = [
     ("none", Leave::None),
     ("half", Leave::Half),
     ("all", Leave::All),
@@ -15,20 +16,18 @@ const LEAVES: [(&str, Leave); 4] = [
 
 // Adds how a call ended.
 fn push_end(page: &mut Page, end: Result<(), DiskFault>) {
-    match end {
-        Ok(()) => page.text(" ok"),
-        Err(DiskFault::Failed) => page.text(" failed"),
-        Err(DiskFault::Full { need, room }) => {
-            page.labelled(" full ", need);
-            page.labelled(" of ", room);
-        }
-    }
+    page.text(" ");
+    push_write(page, end);
 }
 
 // The bytes that a disk reads back; none without memory, or where it fails.
 fn content<D: Disk>(alloc: Global, disk: &mut D) -> Option<Vec<u8>> {
-    let len = disk.len().ok()?;
-    let mut bytes = vec![in alloc; 0u8; len as usize].ok()?;
+    let Ok(len) = disk.len() else {
+        return None;
+    };
+    let Ok(mut bytes) = vec![in alloc; 0u8; len as usize] else {
+        return None;
+    };
     match disk.read_at(0, &mut bytes) {
         Ok(()) => Some(bytes),
         Err(_) => None,
@@ -73,7 +72,8 @@ fn cut<D: Drill>(disk: &mut D) {
     disk.power_cut();
 }
 
-fn light<D: Drill>(disk: &mut D) {
+/// Gives a disk power.
+pub fn light<D: Drill>(disk: &mut D) {
     disk.power_on();
 }
 
@@ -87,19 +87,18 @@ fn push_stop<D: Drill>(alloc: Global, page: &mut Page, disk: &mut D, leave: Leav
 }
 
 // Three pieces, each of which begins within the one byte of a blank disk or right behind it.
-const PIECES: [(u64, &[u8]); 3] = [(0, b"v"), (1, b"wxyz"), (0, b"never")];
+static PIECES: [(u64, &[u8]); 3] = [(0, b"v"), (1, b"wxyz"), (0, b"never")];
 
-fn piece_of(alloc: Global, place: u64, text: &[u8]) -> Option<Piece> {
-    let bytes = bytes_of(alloc, text).ok()?;
-    Some(Piece { place, bytes })
-}
-
-fn three_pieces(alloc: Global) -> Option<List<Piece>> {
+fn three_pieces(alloc: Global) -> Result<List<Piece>, NoMemory> {
     let mut pieces = List::new(alloc);
-    for (place, text) in PIECES {
-        pieces.push(piece_of(alloc, place, text)?).ok()?;
+    for (place, text) in &PIECES {
+        let bytes = bytes_of(alloc, text)?;
+        pieces.push(Piece {
+            place: *place,
+            bytes,
+        })?;
     }
-    Some(pieces)
+    Ok(pieces)
 }
 
 fn put_each<D: Disk>(disk: &mut D, pieces: &[Piece]) -> Result<(), DiskFault> {
@@ -125,13 +124,16 @@ fn push_torn<D: Drill>(
     push_content(alloc, page, disk);
 }
 
+// What is written to a disk of eight bytes.
+static DIGITS: [&[u8]; 3] = [b"123456", b"1234567", b"12345678"];
+
 // Adds which writes fit on a disk of eight bytes.
 fn push_fits<D: Disk>(alloc: Global, page: &mut Page, disk: &mut D) {
     page.labelled(
         "writes of 6, 7 and 8 bytes behind the first of ",
         disk.capacity(),
     );
-    for bytes in [b"123456".as_slice(), b"1234567", b"12345678"] {
+    for bytes in &DIGITS {
         push_end(page, put(disk, 1, bytes));
     }
     push_content(alloc, page, disk);
@@ -150,36 +152,48 @@ fn push_calls<D: Drill>(alloc: Global, page: &mut Page, disk: &mut D) {
 }
 
 // A blank disk of 16 bytes.
-fn blank(alloc: Global) -> Option<MemDisk> {
-    MemDisk::blank(alloc, 16).ok()
+fn blank(alloc: Global) -> Result<MemDisk, NoMemory> {
+    MemDisk::blank(alloc, 16)
 }
 
-// A disk of eight bytes, whose call of this number fails.
-fn faulty(alloc: Global, call: u64) -> Option<MemDisk> {
+/// A blank disk of this many bytes, up to 64, whose call of this number fails.
+pub fn faulty(alloc: Global, capacity: u64, call: u64) -> Result<MemDisk, NoMemory> {
     let mut fails = List::new(alloc);
-    fails.push(call).ok()?;
-    MemDisk::with_faults(alloc, 8, fails).ok()
+    fails.push(call)?;
+    MemDisk::with_faults(alloc, capacity.max(2).min(64), fails)
 }
 
 fn push_stops(alloc: Global, page: &mut Page) {
-    for (name, leave) in LEAVES {
+    for (name, leave) in &LEAVES {
         page.text("stop ");
         page.text(name);
         match blank(alloc) {
-            Some(mut disk) => push_stop(alloc, page, &mut disk, leave),
-            None => page.lack(),
+            Ok(mut disk) => push_stop(alloc, page, &mut disk, *leave),
+            Err(NoMemory) => page.lack(),
         }
     }
 }
 
 fn push_all_torn(alloc: Global, page: &mut Page, pieces: &[Piece]) {
-    for (name, leave) in LEAVES {
+    for (name, leave) in &LEAVES {
         page.text("stop in the second write ");
         page.text(name);
         match blank(alloc) {
-            Some(mut disk) => push_torn(alloc, page, &mut disk, pieces, leave),
-            None => page.lack(),
+            Ok(mut disk) => push_torn(alloc, page, &mut disk, pieces, *leave),
+            Err(NoMemory) => page.lack(),
         }
+    }
+}
+
+// Adds the lines of disks of eight bytes.
+fn push_small(alloc: Global, page: &mut Page) {
+    match faulty(alloc, 8, 99) {
+        Ok(mut disk) => push_fits(alloc, page, &mut disk),
+        Err(NoMemory) => page.lack(),
+    }
+    match faulty(alloc, 8, 2) {
+        Ok(mut disk) => push_calls(alloc, page, &mut disk),
+        Err(NoMemory) => page.lack(),
     }
 }
 
@@ -188,15 +202,8 @@ pub fn push_lines(alloc: Global, page: &mut Page) {
     torn_writes_keep_the_rest();
     push_stops(alloc, page);
     match three_pieces(alloc) {
-        Some(pieces) => push_all_torn(alloc, page, pieces.as_slice()),
-        None => page.lack(),
+        Ok(pieces) => push_all_torn(alloc, page, pieces.as_slice()),
+        Err(NoMemory) => page.lack(),
     }
-    match faulty(alloc, 99) {
-        Some(mut disk) => push_fits(alloc, page, &mut disk),
-        None => page.lack(),
-    }
-    match faulty(alloc, 2) {
-        Some(mut disk) => push_calls(alloc, page, &mut disk),
-        None => page.lack(),
-    }
+    push_small(alloc, page);
 }

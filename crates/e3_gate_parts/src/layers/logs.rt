@@ -1,6 +1,7 @@
 // Logs over disks in memory, by calls through the bounds: how long a frame is, what an append leaves that fails or is stopped, and
 // why a log is not opened.
-use crate::layers::disks::push_content;
+use crate::answers;
+use crate::layers::disks::{faulty, push_content};
 use crate::texts::push_hex;
 use e3_disk::{Disk, Drill, MemDisk};
 use e3_lines::Page;
@@ -8,19 +9,16 @@ use e3_log::{
     AppendFault, Frame, Log, OpenCause, OpenRefused, calls_are_whole_or_not_at_all,
     regions_have_one_reading,
 };
-use e3_types::{Leave, List};
+use e3_types::{Leave, List, NoMemory};
 use std::alloc::Global;
 
-/// Opens a log over a disk.
-pub fn open<D: Disk + Drop>(
-    alloc: Global,
-    disk: D,
-) -> Result<(Log<D>, List<Frame>), OpenRefused<D>> {
+// Opens a log over a disk.
+fn open<D: Disk + Drop>(alloc: Global, disk: D) -> Result<(Log<D>, List<Frame>), OpenRefused<D>> {
     Log::open(alloc, disk)
 }
 
-/// A log over a disk that it opens.
-pub fn log_over<D: Disk + Drop>(alloc: Global, disk: D) -> Option<Log<D>> {
+// A log over a disk that it opens.
+fn log_over<D: Disk + Drop>(alloc: Global, disk: D) -> Option<Log<D>> {
     match open(alloc, disk) {
         Ok((log, _frames)) => Some(log),
         Err(_) => None,
@@ -35,33 +33,20 @@ pub fn add<D: Disk>(log: &mut Log<D>, body: &[u8]) -> Result<(), AppendFault> {
     log.append(body)
 }
 
-/// The disk of a log.
-pub fn disk_of<D: Disk>(log: Log<D>) -> D {
+// The disk of a log.
+fn disk_of<D: Disk>(log: Log<D>) -> D {
     log.into_disk()
 }
 
-/// A blank disk whose regions have this capacity each.
-pub fn blank(alloc: Global, capacity: u64) -> Option<MemDisk> {
-    MemDisk::blank(alloc, capacity.max(1).min(64) * 2).ok()
-}
-
-// A blank disk whose call of this number fails.
-fn faulty(alloc: Global, call: u64) -> Option<MemDisk> {
-    let mut fails = List::new(alloc);
-    fails.push(call).ok()?;
-    MemDisk::with_faults(alloc, 64, fails).ok()
+// A blank disk whose regions have this capacity each.
+fn blank(alloc: Global, capacity: u64) -> Result<MemDisk, NoMemory> {
+    MemDisk::blank(alloc, capacity.max(1).min(64) * 2)
 }
 
 // Adds how an append of a body ended.
 fn push_append<D: Disk>(page: &mut Page, log: &mut Log<D>, body: &[u8]) {
-    match add(log, body) {
-        Ok(()) => page.text(" ok"),
-        Err(AppendFault::Failed) => page.text(" failed"),
-        Err(AppendFault::Full { need, room }) => {
-            page.labelled(" full ", need);
-            page.labelled(" of ", room);
-        }
-    }
+    page.text(" ");
+    answers::push_append(page, add(log, body));
 }
 
 // Adds frames, each by its place and its body.
@@ -117,12 +102,14 @@ fn push_fault<D: Drill + Drop>(alloc: Global, page: &mut Page, disk: D) {
     }
 }
 
-fn arm<D: Drill>(log: &mut Log<D>, calls: u32, leave: Leave) {
+/// Lets the disk of a log stop in one of its next calls.
+pub fn arm<D: Drill>(log: &mut Log<D>, calls: u32, leave: Leave) {
     log.arm(calls.max(1), leave);
 }
 
-fn lit<D: Drill>(log: Log<D>) -> D {
-    let mut disk = disk_of(log);
+/// The disk of a log, with power.
+pub fn lit<D: Drill>(log: Log<D>) -> D {
+    let mut disk = log.into_disk();
     disk.power_on();
     disk
 }
@@ -160,7 +147,7 @@ fn push_stop<D: Drill + Drop>(alloc: Global, page: &mut Page, disk: D, calls: u3
 }
 
 // What a stop leaves; the byte 165 is an open gate.
-const LEAVES: [(&str, Leave); 5] = [
+static LEAVES: [(&str, Leave); 5] = [
     ("none", Leave::None),
     ("half", Leave::Half),
     ("all", Leave::All),
@@ -170,19 +157,19 @@ const LEAVES: [(&str, Leave); 5] = [
 
 // Adds the lines of stops in a call, with each leave.
 fn push_stops(alloc: Global, page: &mut Page, calls: u32) {
-    for (name, leave) in LEAVES {
+    for (name, leave) in &LEAVES {
         page.labelled("stop in call ", u64::from(calls));
         page.text(" ");
         page.text(name);
         match blank(alloc, 32) {
-            Some(disk) => push_stop(alloc, page, disk, calls, leave),
-            None => page.lack(),
+            Ok(disk) => push_stop(alloc, page, disk, calls, *leave),
+            Err(NoMemory) => page.lack(),
         }
     }
 }
 
-/// Adds why a log is not opened.
-pub fn push_cause(page: &mut Page, cause: OpenCause) {
+// Adds why a log is not opened.
+fn push_cause(page: &mut Page, cause: OpenCause) {
     match cause {
         OpenCause::Failed => page.text(" failed"),
         OpenCause::Damaged { at } => page.labelled(" damaged at ", at),
@@ -211,7 +198,7 @@ fn push_opened<D: Disk + Drop>(alloc: Global, page: &mut Page, disk: D) {
 }
 
 // Regions of sixteen bytes that are damaged, and at last some that are not.
-const DAMAGED: [&[u8]; 7] = [
+static DAMAGED: [&[u8]; 7] = [
     &[0xA5, 0, 0, 0, 0x40],
     &[0xA5, 0, 0, 0, 1, 2, 0xA5, 0, 0, 0, 0xFF],
     &[0xA5, 0, 0, 0, 5, 1, 2, 3, 4, 5, 0xA5, 0, 0, 0, 2, 9],
@@ -235,28 +222,20 @@ fn push_sizes(alloc: Global, page: &mut Page) {
     for capacity in [10, 11, 12] {
         page.labelled("an incarnation in a region of ", capacity);
         match blank(alloc, capacity) {
-            Some(disk) => push_first(alloc, page, disk),
-            None => page.lack(),
+            Ok(disk) => push_first(alloc, page, disk),
+            Err(NoMemory) => page.lack(),
         }
     }
-}
-
-// Adds what fails in a case, and gives its disk.
-fn failing(alloc: Global, page: &mut Page, label: &str, call: u64) -> Option<MemDisk> {
-    page.labelled(label, call);
-    page.text(" fails");
-    let disk = faulty(alloc, call);
-    if disk.is_none() {
-        page.lack();
-    }
-    disk
 }
 
 // Adds the lines of appends that fail. Opening makes five calls, and an append four.
 fn push_faults(alloc: Global, page: &mut Page) {
     for call in [6, 7, 8, 9, 99] {
-        if let Some(disk) = failing(alloc, page, "an append where call ", call) {
-            push_fault(alloc, page, disk);
+        page.labelled("an append where call ", call);
+        page.text(" fails");
+        match faulty(alloc, 64, call) {
+            Ok(disk) => push_fault(alloc, page, disk),
+            Err(NoMemory) => page.lack(),
         }
     }
 }
@@ -264,18 +243,21 @@ fn push_faults(alloc: Global, page: &mut Page) {
 // Adds the lines of openings that fail.
 fn push_refused(alloc: Global, page: &mut Page) {
     for call in 1..7 {
-        if let Some(disk) = failing(alloc, page, "open where call ", call) {
-            push_opened(alloc, page, disk);
+        page.labelled("open where call ", call);
+        page.text(" fails");
+        match faulty(alloc, 64, call) {
+            Ok(disk) => push_opened(alloc, page, disk),
+            Err(NoMemory) => page.lack(),
         }
     }
 }
 
 // Adds the lines of openings of damaged disks.
 fn push_openings(alloc: Global, page: &mut Page) {
-    for bytes in DAMAGED {
+    for bytes in &DAMAGED {
         match blank(alloc, 16) {
-            Some(disk) => push_damaged(alloc, page, disk, bytes),
-            None => page.lack(),
+            Ok(disk) => push_damaged(alloc, page, disk, bytes),
+            Err(NoMemory) => page.lack(),
         }
     }
 }

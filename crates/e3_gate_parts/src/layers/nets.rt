@@ -1,7 +1,7 @@
 // Networks: what is lost and what comes twice, what parts and the calm do to it, and the order in which packets are taken.
 use e3_lines::Page;
 use e3_net::Net;
-use e3_types::{List, Message, Packet, SiteSet, Txn};
+use e3_types::{List, Message, NoMemory, Packet, SiteSet, Txn};
 use std::alloc::Global;
 
 fn vote() -> Message {
@@ -17,15 +17,14 @@ fn vote() -> Message {
 }
 
 // A network of three sites that loses and repeats so many packets of a hundred.
-fn net_of(alloc: Global, loss: u32, repeat: u32) -> Option<Net> {
+fn net_of(alloc: Global, loss: u32, repeat: u32) -> Result<Net, NoMemory> {
     let loss = loss.min(100);
-    Net::new(alloc, 3, 17, loss, repeat.min(100 - loss)).ok()
+    Net::new(alloc, 3, 17, loss, repeat.min(100 - loss))
 }
 
 // Sends a vote, with room for it; its number, or none without memory.
 fn send(net: &mut Net, from: u32, to: u32) -> Option<u64> {
-    net.reserve(1).ok()?;
-    if net.sent() == u64::MAX {
+    if net.reserve(1).is_err() || net.sent() == u64::MAX {
         return None;
     }
     Some(net.send(from, to, vote()))
@@ -100,23 +99,22 @@ fn push_fates(page: &mut Page, net: &mut Net) {
 }
 
 // Two parts: sites 1 and 2, and site 3.
-fn two_parts(alloc: Global) -> Option<List<SiteSet>> {
+fn two_parts(alloc: Global) -> Result<List<SiteSet>, NoMemory> {
     let mut parts = List::new(alloc);
-    parts
-        .extend(&[SiteSet::one(1).with(2), SiteSet::one(3)])
-        .ok()?;
-    Some(parts)
+    parts.push(SiteSet::one(1).with(2))?;
+    parts.push(SiteSet::one(3))?;
+    Ok(parts)
 }
 
 // Splits the network, and calms it; whether there was memory for it.
 fn split(alloc: Global, net: &mut Net) -> bool {
     match two_parts(alloc) {
-        Some(parts) => {
+        Ok(parts) => {
             net.parts(parts);
             net.calm(true);
             true
         }
-        None => false,
+        Err(NoMemory) => false,
     }
 }
 
@@ -156,18 +154,17 @@ fn unsent(to: u32) -> Packet {
 }
 
 // Two packets for site 2 and one between them for site 3.
-fn three_packets(alloc: Global) -> Option<List<Packet>> {
+fn three_packets(alloc: Global) -> Result<List<Packet>, NoMemory> {
     let mut outs = List::new(alloc);
     for to in [2, 3, 2] {
-        outs.push(unsent(to)).ok()?;
+        outs.push(unsent(to))?;
     }
-    Some(outs)
+    Ok(outs)
 }
 
 // Sends packets, with room for them; as they were sent, or none without memory.
 fn send_all(net: &mut Net, outs: List<Packet>) -> Option<List<Packet>> {
-    net.reserve(3).ok()?;
-    if outs.len() > 3 || net.sent() > 1000 {
+    if net.reserve(3).is_err() || outs.len() > 3 || net.sent() > 1000 {
         return None;
     }
     Some(net.send_all(outs))
@@ -192,6 +189,11 @@ fn push_order(page: &mut Page, net: &mut Net, outs: List<Packet>) {
     push_first(page, net);
     push_all_sent(page, net, outs);
     push_first(page, net);
+    push_rest(page, net);
+}
+
+// Takes them, and adds in which order they come.
+fn push_rest(page: &mut Page, net: &mut Net) {
     push_taken(page, net, 3);
     push_one(page, net, 2);
     push_first(page, net);
@@ -204,15 +206,15 @@ fn push_order(page: &mut Page, net: &mut Net, outs: List<Packet>) {
 
 fn push_all_fates(alloc: Global, page: &mut Page) {
     match net_of(alloc, 25, 30) {
-        Some(mut net) => push_fates(page, &mut net),
-        None => page.lack(),
+        Ok(mut net) => push_fates(page, &mut net),
+        Err(NoMemory) => page.lack(),
     }
 }
 
 fn push_split(alloc: Global, page: &mut Page) {
     match net_of(alloc, 0, 0) {
-        Some(mut net) => push_parts(alloc, page, &mut net),
-        None => page.lack(),
+        Ok(mut net) => push_parts(alloc, page, &mut net),
+        Err(NoMemory) => page.lack(),
     }
 }
 
@@ -220,16 +222,16 @@ fn push_calms(alloc: Global, page: &mut Page) {
     for (loss, repeat) in [(100, 0), (0, 100)] {
         page.labelled("calm with loss ", u64::from(loss));
         match net_of(alloc, loss, repeat) {
-            Some(mut net) => push_calm(page, &mut net),
-            None => page.lack(),
+            Ok(mut net) => push_calm(page, &mut net),
+            Err(NoMemory) => page.lack(),
         }
     }
 }
 
 fn push_ordered(alloc: Global, page: &mut Page, outs: List<Packet>) {
     match net_of(alloc, 0, 0) {
-        Some(mut net) => push_order(page, &mut net, outs),
-        None => page.lack(),
+        Ok(mut net) => push_order(page, &mut net, outs),
+        Err(NoMemory) => page.lack(),
     }
 }
 
@@ -239,7 +241,7 @@ pub fn push_lines(alloc: Global, page: &mut Page) {
     push_split(alloc, page);
     push_calms(alloc, page);
     match three_packets(alloc) {
-        Some(outs) => push_ordered(alloc, page, outs),
-        None => page.lack(),
+        Ok(outs) => push_ordered(alloc, page, outs),
+        Err(NoMemory) => page.lack(),
     }
 }

@@ -4,34 +4,30 @@ use e3_lines::Page;
 use e3_outside::{
     Failed, MemSink, MemSource, ReadFault, Sink, Source, StdSink, StdSource, read_up_to, write_all,
 };
-use e3_types::List;
+use e3_types::{List, NoMemory};
 use std::alloc::Global;
 use std::io::{self, ErrorKind, Read, Write};
 
 const LETTERS: &[u8] = b"abcdefghijklmnopqrstuvwxy";
 
 // The number of the call that fails; none for 0.
-fn list_of(alloc: Global, call: u64) -> Option<List<u64>> {
+fn list_of(alloc: Global, call: u64) -> Result<List<u64>, NoMemory> {
     let mut calls = List::new(alloc);
     if call > 0 {
-        calls.push(call).ok()?;
+        calls.push(call)?;
     }
-    Some(calls)
+    Ok(calls)
 }
 
 // A source of three letters, two for a read, whose call of this number fails.
-fn source_of(alloc: Global, fails: u64) -> Option<MemSource> {
-    let text = bytes_of(alloc, b"abc").ok()?;
-    match list_of(alloc, fails) {
-        Some(fails) => Some(MemSource::new(text, 2, fails)),
-        None => None,
-    }
+fn source_of(alloc: Global, fails: u64) -> Result<MemSource, NoMemory> {
+    let text = bytes_of(alloc, b"abc")?;
+    Ok(MemSource::new(text, 2, list_of(alloc, fails)?))
 }
 
 // A sink of this room, which takes ten bytes for a write, and whose call of this number fails.
-fn sink_of(alloc: Global, room: u64, fails: u64) -> Option<MemSink> {
-    let fails = list_of(alloc, fails)?;
-    MemSink::new(alloc, room, 10, fails).ok()
+fn sink_of(alloc: Global, room: u64, fails: u64) -> Result<MemSink, NoMemory> {
+    MemSink::new(alloc, room, 10, list_of(alloc, fails)?)
 }
 
 // Adds what one read gives.
@@ -161,8 +157,8 @@ fn push_halting(page: &mut Page, kind: ErrorKind, times: u32) {
 fn push_sources(alloc: Global, page: &mut Page) {
     for fails in [0, 2] {
         match source_of(alloc, fails) {
-            Some(mut source) => push_reads(page, &mut source),
-            None => page.lack(),
+            Ok(mut source) => push_reads(page, &mut source),
+            Err(NoMemory) => page.lack(),
         }
     }
 }
@@ -171,25 +167,28 @@ fn push_sources(alloc: Global, page: &mut Page) {
 fn push_bounds(alloc: Global, page: &mut Page) {
     for (most, fails) in [(2, 2), (10, 4), (10, 2)] {
         match source_of(alloc, fails) {
-            Some(mut source) => push_all(alloc, page, &mut source, most),
-            None => page.lack(),
+            Ok(mut source) => push_all(alloc, page, &mut source, most),
+            Err(NoMemory) => page.lack(),
         }
     }
     push_all(alloc, page, &mut StdSource::new(b"abc".as_slice()), 10);
 }
 
+// The rooms of sinks, their calls that fail, and what is written to them.
+static SINKS: [(u64, u64, &[u8]); 5] = [
+    (100, 4, LETTERS),
+    (100, 2, LETTERS),
+    (0, 99, LETTERS),
+    (4, 99, LETTERS),
+    (100, 1, b""),
+];
+
 // Adds the lines of sinks. The letters are written as ten, ten and five bytes: a fourth call is not made.
 fn push_sinks(alloc: Global, page: &mut Page) {
-    for (room, fails, text) in [
-        (100, 4, LETTERS),
-        (100, 2, LETTERS),
-        (0, 99, LETTERS),
-        (4, 99, LETTERS),
-        (100, 1, b""),
-    ] {
-        match sink_of(alloc, room, fails) {
-            Some(mut sink) => push_letters(page, &mut sink, text),
-            None => page.lack(),
+    for (room, fails, text) in &SINKS {
+        match sink_of(alloc, *room, *fails) {
+            Ok(mut sink) => push_letters(page, &mut sink, text),
+            Err(NoMemory) => page.lack(),
         }
     }
 }

@@ -1,19 +1,19 @@
 // The values of which all is made: sets of sites, the age of transactions, names, values, lists and their copies, fronts of
 // queues, the generator's words, and histories.
-use crate::texts::{push_flag, push_known};
+use crate::texts::{push_count, push_flag, push_known};
 use e3_lines::Page;
 use e3_locks::front;
 use e3_types::{Act, Copied, Entry, List, Lock, Mode, Name, NoMemory, Record, SiteSet, Txn, Val};
 use e3_world::{History, fate_word};
 use std::alloc::Global;
 
-const RISING: [&[u32]; 6] = [&[], &[1], &[2], &[1, 2], &[3], &[64]];
+static RISING: [&[u32]; 6] = [&[], &[1], &[2], &[1, 2], &[3], &[64]];
 
 // Adds which of these sets comes before the one that stands before it here, or which behind it.
 fn push_order(page: &mut Page, label: &str, rising: bool) {
     page.text(label);
     let mut before = SiteSet::empty();
-    for sites in RISING {
+    for sites in &RISING {
         let set = SiteSet::of(sites).unwrap_or(before);
         push_flag(page, if rising { before < set } else { set < before });
         before = set;
@@ -27,20 +27,24 @@ fn push_all_sites(alloc: Global, page: &mut Page) {
     match all.list(alloc) {
         Ok(list) => {
             page.labelled("sites of all bits: ", list.len());
-            push_flag(
-                page,
-                SiteSet::of(list.as_slice()).is_some_and(|set| set.is_same(all)),
-            );
+            let is_all = match SiteSet::of(list.as_slice()) {
+                Some(set) => set.is_same(all),
+                None => false,
+            };
+            push_flag(page, is_all);
             page.text("\n");
         }
         Err(NoMemory) => page.lack(),
     }
 }
 
+// Lists of which some are sets.
+static LISTS: [&[u32]; 6] = [&[0], &[65], &[2, 1], &[1, 1], &[0, 1], &[1, 64]];
+
 // Adds which lists are sets.
 fn push_are_sets(page: &mut Page) {
     page.text("are sets:");
-    for sites in [[0].as_slice(), &[65], &[2, 1], &[1, 1], &[0, 1], &[1, 64]] {
+    for sites in &LISTS {
         push_flag(page, SiteSet::of(sites).is_some());
     }
     page.text("\n");
@@ -87,70 +91,80 @@ fn push_are_txns(page: &mut Page) {
     page.text("\n");
 }
 
-// Adds which texts are names, and which are values.
-fn push_texts(page: &mut Page) {
+// Texts of which some are names.
+static NAMES: [&[u8]; 7] = [&[b'z'; 32], b"a_0", &[b'z'; 33], b"", b"aB", b"a-b", b"a b"];
+
+// Texts of which some are values.
+static VALUES: [&[u8]; 3] = [&[255; 256], &[0; 257], b""];
+
+// Adds which texts are names.
+fn push_names(page: &mut Page) {
     page.text("are names:");
-    for bytes in [
-        [b'z'; 32].as_slice(),
-        b"a_0",
-        &[b'z'; 33],
-        b"",
-        b"aB",
-        b"a-b",
-        b"a b",
-    ] {
+    for bytes in &NAMES {
         push_flag(page, Name::new(bytes).is_some());
     }
-    page.text("\nare values:");
-    for bytes in [[255; 256].as_slice(), &[0; 257], b""] {
+    page.text("\n");
+}
+
+// Adds which texts are values.
+fn push_values(page: &mut Page) {
+    page.text("are values:");
+    for bytes in &VALUES {
         push_flag(page, Val::new(bytes).is_some());
     }
     page.text("\n");
 }
 
 // A list of three numbers.
-fn three_numbers(alloc: Global) -> Option<List<u64>> {
+fn three_numbers(alloc: Global) -> Result<List<u64>, NoMemory> {
     let mut list = List::new(alloc);
-    list.push(7).ok()?;
-    list.extend(&[8, 9]).ok()?;
-    Some(list)
+    list.push(7)?;
+    list.extend(&[8, 9])?;
+    Ok(list)
 }
 
-// Whether a copy is the same record.
-fn is_copied(alloc: Global) -> bool {
-    matches!(
-        (Record::Inc { inc: 1 }).copied(alloc),
-        Ok(Record::Inc { inc: 1 })
-    )
+fn is_first(record: &Record) -> bool {
+    matches!(record, Record::Inc { inc: 1 })
 }
 
-// Adds a list, whether there is no memory for a list that is too long, and whether a copy is the same record.
+// Adds whether a copy is the same record.
+fn push_copy(alloc: Global, page: &mut Page) {
+    page.text(", a record's copy");
+    match (Record::Inc { inc: 1 }).copied(alloc) {
+        Ok(copy) => push_flag(page, is_first(&copy)),
+        Err(NoMemory) => page.lack(),
+    }
+    page.text("\n");
+}
+
+// Adds a list, and whether there is no memory for a list that is too long.
+fn push_list(page: &mut Page, list: &mut List<u64>) {
+    page.text("a list:");
+    for number in list.as_slice() {
+        page.labelled(" ", *number);
+    }
+    page.text(", without memory");
+    push_flag(page, list.reserve(u64::MAX).is_err());
+}
+
 fn push_lists(alloc: Global, page: &mut Page) {
     match three_numbers(alloc) {
-        Some(mut list) => {
-            page.text("a list:");
-            for number in list.as_slice() {
-                page.labelled(" ", *number);
-            }
-            page.text(", without memory");
-            push_flag(page, list.reserve(u64::MAX).is_err());
-            page.text(", a record's copy");
-            push_flag(page, is_copied(alloc));
-            page.text("\n");
-        }
-        None => page.lack(),
+        Ok(mut list) => push_list(page, &mut list),
+        Err(NoMemory) => page.lack(),
     }
+    push_copy(alloc, page);
+}
+
+fn lock(seq: u32, mode: Mode) -> Lock {
+    let txn = txn(1, 1, seq, SiteSet::one(1));
+    Lock { txn, mode }
 }
 
 // Adds how many requests of one transaction are granted where none is held.
-fn push_front(alloc: Global, page: &mut Page, mode: Mode) -> Result<(), NoMemory> {
-    let one = SiteSet::one(1);
-    let first = txn(1, 1, 1, one);
-    let other = txn(1, 1, 2, one);
-    let queue = [first, first, other].map(|txn| Lock { txn, mode });
-    page.labelled("a front of ", front(alloc, &[], &queue)?.len());
+fn push_front(alloc: Global, page: &mut Page, mode: Mode) {
+    let queue = [lock(1, mode), lock(1, mode), lock(2, mode)];
+    push_count(page, "a front of ", front(alloc, &[], &queue));
     page.text("\n");
-    Ok(())
 }
 
 fn line_at(history: &History, at: u64) -> Option<u64> {
@@ -166,16 +180,16 @@ fn line_at(history: &History, at: u64) -> Option<u64> {
 }
 
 // A history of three lines, of the owners 1, 0 and 1.
-fn three_lines(alloc: Global) -> Option<History> {
+fn three_lines(alloc: Global) -> Result<History, NoMemory> {
     let mut history = History::new(alloc);
     for number in 1..4u32 {
-        history.reserve(1).ok()?;
+        history.reserve(1)?;
         history.push(Entry {
             owner: number % 2,
             act: Act::Line { number },
         });
     }
-    Some(history)
+    Ok(history)
 }
 
 // Adds its entries, those of site 1, and the line at each place.
@@ -197,22 +211,20 @@ fn push_plain(alloc: Global, page: &mut Page) {
     push_all_sites(alloc, page);
     push_ages(page);
     push_are_txns(page);
-    push_texts(page);
+    push_names(page);
+    push_values(page);
 }
 
 /// Adds the lines of values. The generator's published demonstration has the first word 2,707,161,783 for 42 on the stream 54.
 pub fn push_lines(alloc: Global, page: &mut Page) {
     push_plain(alloc, page);
     push_lists(alloc, page);
-    for mode in [Mode::Shared, Mode::Exclusive] {
-        if push_front(alloc, page, mode).is_err() {
-            page.lack();
-        }
-    }
+    push_front(alloc, page, Mode::Shared);
+    push_front(alloc, page, Mode::Exclusive);
     page.labelled("the first word of 42 on 54: ", u64::from(fate_word(42, 54)));
     page.text("\n");
     match three_lines(alloc) {
-        Some(history) => push_history(page, &history),
-        None => page.lack(),
+        Ok(history) => push_history(page, &history),
+        Err(NoMemory) => page.lack(),
     }
 }

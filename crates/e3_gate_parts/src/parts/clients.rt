@@ -74,7 +74,7 @@ fn begun(alloc: Global, txn: Txn) -> Option<Client>
 }
 
 // How far a transaction is: a label, its state and its last attempt.
-const STAGES: [(&str, State, u32); 6] = [
+static STAGES: [(&str, State, u32); 6] = [
     ("begun", State::Q, 0),
     ("voted", State::W, 0),
     ("attempted", State::Pc, 1),
@@ -85,9 +85,9 @@ const STAGES: [(&str, State, u32); 6] = [
 
 // Adds what a client is refused at each stage. Where it waits for an answer, an end comes before that, and that before too late.
 fn push_stages(page: &mut Page, front: &str, client: &Client) {
-    for (label, state, attempt) in STAGES {
+    for (label, state, attempt) in &STAGES {
         page.text(front);
-        push_calls(page, label, client, state, attempt);
+        push_calls(page, label, client, *state, *attempt);
     }
 }
 
@@ -245,17 +245,21 @@ fn push_answers(alloc: Global, page: &mut Page) {
 
 // Adds what clients are told whose transaction ended with a reason, beside a commit too, and with what is no reason.
 fn push_reasons(alloc: Global, page: &mut Page) {
-    let busy = Refusal::Busy { op: 1 };
-    for (label, state, reasons) in [
-        ("died", State::A, [died()].as_slice()),
-        ("doomed", State::A, &[doomed()]),
-        ("doomed before it died", State::A, &[doomed(), died()]),
-        ("committed, with a reason", State::C, &[died()]),
-        ("committed, with a doom", State::C, &[doomed()]),
-        ("ended as busy", State::A, &[busy]),
-    ] {
-        push_ended(alloc, page, label, state, reasons);
-    }
+    let both = [doomed(), died()];
+    let reasons = both.as_slice();
+    let (doomed, died) = (&reasons[..1], &reasons[1..]);
+    push_ended(alloc, page, "died", State::A, died);
+    push_ended(alloc, page, "doomed", State::A, doomed);
+    push_ended(alloc, page, "doomed before it died", State::A, reasons);
+    push_ended(alloc, page, "committed, with a reason", State::C, died);
+    push_ended(alloc, page, "committed, with a doom", State::C, doomed);
+    push_ended(
+        alloc,
+        page,
+        "ended as busy",
+        State::A,
+        &[Refusal::Busy { op: 1 }],
+    );
 }
 
 /// Adds the lines of a client.

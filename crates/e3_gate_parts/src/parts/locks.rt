@@ -232,21 +232,31 @@ fn call_of(word: &[u8]) -> Option<LockCall> {
     Some(LockCall::Request { txn, name, mode })
 }
 
+// Adds the call that a word says, where it says one.
+fn push_call(calls: &mut List<LockCall>, word: &[u8]) -> Result<(), NoMemory> {
+    match call_of(word) {
+        Some(call) => calls.push(call),
+        None => Ok(()),
+    }
+}
+
 fn calls_of(alloc: Global, words: &[u8]) -> Result<List<LockCall>, NoMemory> {
     let mut calls = List::new(alloc);
-    for word in parts_of(alloc, words, b' ')?.iter() {
-        if let Some(call) = call_of(word) {
-            calls.push(call)?;
-        }
+    for word in &parts_of(alloc, words, b' ')? {
+        push_call(&mut calls, word)?;
     }
     Ok(calls)
 }
 
 // The names that are looked at behind the calls.
+static NAMES: [&[u8]; 3] = [b"a", b"ab", b"b"];
+
 fn names(alloc: Global) -> Option<List<Name>> {
     let mut names = List::new(alloc);
-    for bytes in [b"a".as_slice(), b"ab", b"b"] {
-        names.push(Name::new(bytes)?).ok()?;
+    for bytes in &NAMES {
+        if names.push(Name::new(bytes)?).is_err() {
+            return None;
+        }
     }
     Some(names)
 }

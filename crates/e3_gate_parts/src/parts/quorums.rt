@@ -28,16 +28,22 @@ fn weights_of(alloc: Global, weights: &[u32]) -> Result<Weights, WeightFault> {
     Weights::new(alloc, weights)
 }
 
+fn push_fault(page: &mut Page, fault: WeightFault) {
+    match fault {
+        WeightFault::Count { count } => page.labelled(": a count of ", count),
+        WeightFault::Range { site, weight } => {
+            page.labelled(": site ", u64::from(site));
+            page.labelled(" weighs ", u64::from(weight));
+        }
+        WeightFault::NoMemory => page.lack(),
+    }
+}
+
 fn push_weights(alloc: Global, page: &mut Page, weights: &[u32]) {
     page.labelled("weights, ", weights.len() as u64);
     match weights_of(alloc, weights) {
         Ok(_) => page.text(": made"),
-        Err(WeightFault::Count { count }) => page.labelled(": a count of ", count),
-        Err(WeightFault::Range { site, weight }) => {
-            page.labelled(": site ", u64::from(site));
-            page.labelled(" weighs ", u64::from(weight));
-        }
-        Err(WeightFault::NoMemory) => page.lack(),
+        Err(fault) => push_fault(page, fault),
     }
     page.text("\n");
 }
@@ -68,14 +74,11 @@ fn push_shared(alloc: Global, page: &mut Page) {
     }
 }
 
+// Weights of sites, of which the last are some.
+static WEIGHTS: [&[u32]; 5] = [&[], &[1; 17], &[1000, 0], &[1001], &[1; 16]];
+
 fn push_quorums(alloc: Global, page: &mut Page) {
-    for weights in [
-        [].as_slice(),
-        [1; 17].as_slice(),
-        [1000, 0].as_slice(),
-        [1001].as_slice(),
-        [1; 16].as_slice(),
-    ] {
+    for weights in &WEIGHTS {
         push_weights(alloc, page, weights);
     }
     push_shared(alloc, page);
@@ -91,13 +94,8 @@ fn push_votes(page: &mut Page, sites: SiteSet) {
     page.text("\n");
 }
 
-// Adds how many sites attempted behind each of these acknowledgements of an attempt by this site, and in which order they came.
-fn push_acks(page: &mut Page, to: SiteSet, site: u32, acks: &[(u32, u32, Dir)]) {
-    let mut round = Round::attempt(1, Dir::Commit, to, site);
-    page.text("acknowledged by:");
-    for (from, n, dir) in acks {
-        page.labelled(" ", u64::from(round.ack(*from, *n, *dir).count()));
-    }
+// Adds in which order the acknowledgements of a round came.
+fn push_arrivals(page: &mut Page, round: &Round) {
     page.text("; in order:");
     for from in round.acks().copy().arrivals() {
         page.labelled(" ", u64::from(*from));
@@ -105,26 +103,47 @@ fn push_acks(page: &mut Page, to: SiteSet, site: u32, acks: &[(u32, u32, Dir)]) 
     page.text("\n");
 }
 
+// Adds how many sites attempted behind each of these acknowledgements of an attempt by this site, and in which order they came.
+fn push_acks(page: &mut Page, to: SiteSet, site: u32, acks: &[(u32, u32, Dir)]) {
+    let mut round = Round::attempt(1, Dir::Commit, to, site);
+    page.text("acknowledged by:");
+    for (from, n, dir) in acks {
+        page.labelled(" ", u64::from(round.ack(*from, *n, *dir).count()));
+    }
+    push_arrivals(page, &round);
+}
+
+// Acknowledgements of an attempt of site 1 to commit, which is the first.
+static ACKS: [(u32, u32, Dir); 6] = [
+    (2, 2, Dir::Commit),
+    (2, 1, Dir::Abort),
+    (4, 1, Dir::Commit),
+    (2, 1, Dir::Commit),
+    (2, 1, Dir::Commit),
+    (3, 1, Dir::Commit),
+];
+
 // Adds the acknowledgements of an attempt of site 1, each behind the one before, and of one whose sender is no site of a set.
 fn push_acknowledged(page: &mut Page, sites: SiteSet) {
-    for (site, acks) in [
-        (
-            1,
-            [
-                (2, 2, Dir::Commit),
-                (2, 1, Dir::Abort),
-                (4, 1, Dir::Commit),
-                (2, 1, Dir::Commit),
-                (2, 1, Dir::Commit),
-                (3, 1, Dir::Commit),
-            ]
-            .as_slice(),
-        ),
-        (70, &[(3, 1, Dir::Commit), (2, 1, Dir::Commit)]),
-    ] {
-        push_acks(page, sites.without(1), site, acks);
-    }
+    let to = sites.without(1);
+    push_acks(page, to, 1, &ACKS);
+    push_acks(page, to, 70, &[(3, 1, Dir::Commit), (2, 1, Dir::Commit)]);
 }
+
+// The call of an election of site 2, and another one.
+const CALL: Call = Call { inc: 1, seq: 1 };
+
+const OTHER: Call = Call { inc: 1, seq: 2 };
+
+// Answers to an election: a stranger's, one to another call, one that counts, and one more.
+static ANSWERS: [(u32, Call, u32); 4] = [(4, CALL, 9), (3, OTHER, 9), (3, CALL, 6), (3, CALL, 9)];
+
+// Of three sites an answer twice; a number that is the greatest of all; and the answers of a group that does not have the elector.
+static TWICE: [(u32, Call, u32); 3] = [(3, CALL, 6), (3, CALL, 6), (4, CALL, 5)];
+
+static GREATEST: [(u32, Call, u32); 1] = [(3, CALL, 4_294_967_295)];
+
+static OTHERS: [(u32, Call, u32); 2] = [(3, CALL, 6), (4, CALL, 5)];
 
 // Adds what an election hears, and which number it comes to.
 fn push_calls(page: &mut Page, election: &mut Election, answers: &[(u32, Call, u32)]) {
@@ -139,29 +158,19 @@ fn push_calls(page: &mut Page, election: &mut Election, answers: &[(u32, Call, u
 
 // Adds what an election of site 2 hears, whose own number is 4.
 fn push_heard(alloc: Global, page: &mut Page, group: SiteSet, answers: &[(u32, Call, u32)]) {
-    match Election::start(alloc, Call { inc: 1, seq: 1 }, group, 2, 4) {
+    match Election::start(alloc, CALL, group, 2, 4) {
         Ok(mut election) => push_calls(page, &mut election, answers),
         Err(NoMemory) => page.lack(),
     }
 }
 
-// Adds what an election hears in two groups: a stranger, another call, an answer, and one more; of three sites an answer twice; a
-// number that is the greatest of all; and the answers of a group that does not have the elector.
+// Adds what elections of several groups hear.
 fn push_answers(alloc: Global, page: &mut Page) {
-    let call = Call { inc: 1, seq: 1 };
-    let other = Call { inc: 1, seq: 2 };
     let two = SiteSet::one(2).with(3);
-    for (group, answers) in [
-        (
-            two,
-            [(4, call, 9), (3, other, 9), (3, call, 6), (3, call, 9)].as_slice(),
-        ),
-        (two.with(4), &[(3, call, 6), (3, call, 6), (4, call, 5)]),
-        (two, &[(3, call, 4_294_967_295)]),
-        (SiteSet::one(3).with(4), &[(3, call, 6), (4, call, 5)]),
-    ] {
-        push_heard(alloc, page, group, answers);
-    }
+    push_heard(alloc, page, two, &ANSWERS);
+    push_heard(alloc, page, two.with(4), &TWICE);
+    push_heard(alloc, page, two, &GREATEST);
+    push_heard(alloc, page, SiteSet::one(3).with(4), &OTHERS);
 }
 
 // Adds whether the whole group has reported, then of each report whether it is taken and whether all have reported with it, and how
@@ -179,8 +188,8 @@ fn push_taken(page: &mut Page, election: &mut Election, reports: &[(u32, u32)]) 
 }
 
 // Adds what an election of site 2 takes of these reports, each by its site and under its number, once it heard site 3 and joined.
-fn push_joined(page: &mut Page, election: &mut Election, call: Call, reports: &[(u32, u32)]) {
-    election.heard(3, call, 6);
+fn push_joined(page: &mut Page, election: &mut Election, reports: &[(u32, u32)]) {
+    election.heard(3, CALL, 6);
     if election.number().is_none() {
         return;
     }
@@ -195,9 +204,8 @@ fn push_joined(page: &mut Page, election: &mut Election, call: Call, reports: &[
 }
 
 fn push_reported(alloc: Global, page: &mut Page, group: SiteSet, reports: &[(u32, u32)]) {
-    let call = Call { inc: 1, seq: 1 };
-    match Election::start(alloc, call, group, 2, 4) {
-        Ok(mut election) => push_joined(page, &mut election, call, reports),
+    match Election::start(alloc, CALL, group, 2, 4) {
+        Ok(mut election) => push_joined(page, &mut election, reports),
         Err(NoMemory) => page.lack(),
     }
 }
@@ -213,7 +221,7 @@ fn push_copy(page: &mut Page, election: &Election, copy: &mut Election) {
 }
 
 fn push_copied(alloc: Global, page: &mut Page, group: SiteSet) {
-    let Ok(mut election) = Election::start(alloc, Call { inc: 1, seq: 1 }, group, 2, 4) else {
+    let Ok(mut election) = Election::start(alloc, CALL, group, 2, 4) else {
         return page.lack();
     };
     election.joined_under(9, report(2, State::W, 0));
@@ -223,20 +231,18 @@ fn push_copied(alloc: Global, page: &mut Page, group: SiteSet) {
     }
 }
 
-// Adds the lines of a commit, and of elections; the reports are one under another number, a stranger's, one that counts, the same
-// once more, and the elector's own; the last election was copied.
+// Reports to an election: one under another number, a stranger's, one that counts, the same once more, and the elector's own.
+static REPORTS: [(u32, u32); 5] = [(3, 6), (4, 7), (3, 7), (3, 7), (2, 7)];
+
+// Adds the lines of a commit, and of elections, the last of which was copied.
 fn push_gathered(alloc: Global, page: &mut Page) {
     let sites = SiteSet::one(1).with(2).with(3);
     push_votes(page, sites);
     push_acknowledged(page, sites);
     push_answers(alloc, page);
-    push_reported(
-        alloc,
-        page,
-        SiteSet::one(2).with(3),
-        &[(3, 6), (4, 7), (3, 7), (3, 7), (2, 7)],
-    );
-    push_copied(alloc, page, SiteSet::one(2).with(3));
+    let group = SiteSet::one(2).with(3);
+    push_reported(alloc, page, group, &REPORTS);
+    push_copied(alloc, page, group);
 }
 
 /// Adds the lines of these parts.

@@ -7,7 +7,7 @@ use e3_tables::{Tables, Workspace};
 use e3_types::{Key, List, Name, NumOp, Op, Row, SiteSet, Txn, Val};
 use std::alloc::Global;
 
-const NAMES: [&[u8]; 4] = [b"a", b"ab", b"b", b"c"];
+static NAMES: [&[u8]; 4] = [b"a", b"ab", b"b", b"c"];
 
 fn name(bytes: &[u8]) -> Option<Name> {
     Name::new(bytes)
@@ -90,10 +90,16 @@ fn row(named: &[u8], bytes: &[u8]) -> Option<Row> {
     }
 }
 
-fn rows(alloc: Global, all: &[(&[u8], &[u8])]) -> Option<List<Row>> {
+// The rows that a table is born with: out of order, and a name comes twice among them.
+static BORN: [(&[u8], &[u8]); 3] = [(b"b", b"1"), (b"ab", b"3"), (b"b", b"2")];
+
+// These rows; none without memory.
+fn rows(alloc: Global) -> Option<List<Row>> {
     let mut out = List::new(alloc);
-    for (named, bytes) in all {
-        out.push(row(named, bytes)?).ok()?;
+    for (named, bytes) in &BORN {
+        if out.push(row(named, bytes)?).is_err() {
+            return None;
+        }
     }
     Some(out)
 }
@@ -123,7 +129,7 @@ fn push_values(page: &mut Page, label: &str, tables: &Tables) {
     page.text("rows, ");
     page.text(label);
     page.text(":");
-    for named in NAMES {
+    for named in &NAMES {
         push_value(page, named, tables);
     }
     page.text("\n");
@@ -140,14 +146,19 @@ fn push_read(page: &mut Page, named: &[u8], work: &Workspace, tables: &Tables) {
     }
 }
 
-// Adds what a read of each name answers inside the transaction, and the numbers of its operations.
-fn push_reads(page: &mut Page, work: &Workspace, tables: &Tables) {
+// Adds the numbers of the operations of a transaction.
+fn push_numbers(page: &mut Page, work: &Workspace) {
     page.text("  read behind operations");
     for op in work.ops() {
         page.labelled(" ", u64::from(op.n));
     }
     page.text(":");
-    for named in NAMES {
+}
+
+// Adds the numbers of the operations of a transaction, and what a read of each name answers inside it.
+fn push_reads(page: &mut Page, work: &Workspace, tables: &Tables) {
+    push_numbers(page, work);
+    for named in &NAMES {
         push_read(page, named, work, tables);
     }
     page.text("\n");
@@ -167,7 +178,7 @@ fn install(tables: &mut Tables, work: Workspace) -> bool {
 }
 
 // The operations of the first transaction.
-const FIRST: [Noted; 5] = [
+static FIRST: [Noted; 5] = [
     (1, b"c", Some(b"7")),
     (2, b"b", None),
     (4, b"ab", Some(b"8")),
@@ -185,9 +196,9 @@ fn push_noted(alloc: Global, page: &mut Page, tables: &Tables, ops: &[Noted]) {
 
 // Adds what is read in the first transaction, behind none, two and five of its operations, and beside it.
 fn push_writes(alloc: Global, page: &mut Page, tables: &Tables) {
-    for count in [0, 2, 5] {
-        push_noted(alloc, page, tables, FIRST.get(..count).unwrap_or(&[]));
-    }
+    push_noted(alloc, page, tables, &[]);
+    push_noted(alloc, page, tables, &FIRST[..2]);
+    push_noted(alloc, page, tables, &FIRST);
     push_reads(page, &work_of(alloc, 2), tables);
     push_values(page, "before the commit", tables);
 }
@@ -209,33 +220,32 @@ fn push_installed(alloc: Global, page: &mut Page, tables: &mut Tables, label: &s
     push_values(page, label, tables);
 }
 
+// Two reads, and two writes of one name.
+static READS: [Noted; 2] = [(1, b"a", None), (2, b"c", None)];
+
+static WRITES: [Noted; 2] = [(1, b"b", Some(b"1")), (2, b"b", Some(b""))];
+
 // Adds what stands behind the first transaction, behind commits that write nothing, and behind one that puts a row in the place of an
 // old one.
 fn push_later(alloc: Global, page: &mut Page, tables: &mut Tables) {
-    let cases: [(&str, &[Noted]); 4] = [
-        ("several names installed", &FIRST),
-        ("nothing installed", &[]),
-        ("reads installed", &[(1, b"a", None), (2, b"c", None)]),
-        (
-            "an old row replaced",
-            &[(1, b"b", Some(b"1")), (2, b"b", Some(b""))],
-        ),
-    ];
-    for (label, ops) in cases {
-        push_installed(alloc, page, tables, label, ops);
-    }
+    push_installed(alloc, page, tables, "several names installed", &FIRST);
+    push_installed(alloc, page, tables, "nothing installed", &[]);
+    push_installed(alloc, page, tables, "reads installed", &READS);
+    push_installed(alloc, page, tables, "an old row replaced", &WRITES);
 }
+
+// Writes in descending order of their names.
+static DESCENDING: [Noted; 3] = [
+    (1, b"c", Some(b"1")),
+    (2, b"ab", Some(b"2")),
+    (3, b"a", Some(b"3")),
+];
 
 // Adds a table that has no rows, and the rows that come into it in descending order.
 fn push_first(alloc: Global, page: &mut Page) {
     let mut tables = Tables::new(List::new(alloc));
     push_values(page, "no rows", &tables);
-    let ops: [Noted; 3] = [
-        (1, b"c", Some(b"1")),
-        (2, b"ab", Some(b"2")),
-        (3, b"a", Some(b"3")),
-    ];
-    push_installed(alloc, page, &mut tables, "the first rows", &ops);
+    push_installed(alloc, page, &mut tables, "the first rows", &DESCENDING);
 }
 
 // Adds the lines of a table that is born with these rows.
@@ -246,9 +256,9 @@ fn push_born(alloc: Global, page: &mut Page, born: List<Row>) {
     push_later(alloc, page, &mut tables);
 }
 
-/// Adds the lines of records. The first rows are out of order, and a name comes twice among them.
+/// Adds the lines of records.
 pub fn push_lines(alloc: Global, page: &mut Page) {
-    match rows(alloc, &[(b"b", b"1"), (b"ab", b"3"), (b"b", b"2")]) {
+    match rows(alloc) {
         Some(born) => push_born(alloc, page, born),
         None => page.lack(),
     }

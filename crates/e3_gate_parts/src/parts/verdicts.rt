@@ -13,6 +13,17 @@ fn txn() -> Txn {
     }
 }
 
+// What a site of this number reports, where a table needs it as a constant.
+macro_rules! reported {
+    ($site:expr, $state:ident, $attempt:expr) => {
+        SiteReport {
+            site: $site,
+            state: State::$state,
+            attempt: $attempt,
+        }
+    };
+}
+
 /// What a site of this number reports.
 pub fn report(site: u32, state: State, attempt: u32) -> SiteReport {
     SiteReport {
@@ -40,22 +51,24 @@ fn push_concluded(page: &mut Page, what: &str, reports: &[SiteReport]) {
     push_verdict(page, verdict_of(&[1, 1, 1], txn().sites, reports));
 }
 
+// What each case shows of a conclusion, and the reports of its group.
+static CONCLUDED: [(&str, &[SiteReport]); 5] = [
+    ("a site aborted", &[reported!(1, Pc, 1), reported!(2, A, 0)]),
+    ("a site committed", &[reported!(3, C, 1)]),
+    ("no quorum", &[reported!(2, Pc, 1)]),
+    (
+        "the last attempts are to commit",
+        &[reported!(1, W, 0), reported!(3, Pc, 1)],
+    ),
+    (
+        "a later attempt is to abort",
+        &[reported!(1, Pc, 1), reported!(2, Pa, 2)],
+    ),
+];
+
 // Adds what an elector concludes in each case.
 fn push_all_concluded(page: &mut Page) {
-    let first = report(1, State::Pc, 1);
-    for (what, reports) in [
-        ("a site aborted", [first, report(2, State::A, 0)].as_slice()),
-        ("a site committed", &[report(3, State::C, 1)]),
-        ("no quorum", &[report(2, State::Pc, 1)]),
-        (
-            "the last attempts are to commit",
-            &[report(1, State::W, 0), report(3, State::Pc, 1)],
-        ),
-        (
-            "a later attempt is to abort",
-            &[first, report(2, State::Pa, 2)],
-        ),
-    ] {
+    for (what, reports) in &CONCLUDED {
         push_concluded(page, what, reports);
     }
 }
@@ -68,25 +81,35 @@ fn push_rule(page: &mut Page, reports: &[SiteReport], have: u64, total: u64) {
     push_verdict(page, decide(reports, have, total));
 }
 
-// The verdicts in the order of the rule, and by the reports of the greatest attempt those of a quorum.
+const VOTED: SiteReport = reported!(1, W, 0);
+
+const LATE: SiteReport = reported!(2, Pc, 3);
+
+const OLD: SiteReport = reported!(3, Pa, 2);
+
+const ENDED: SiteReport = reported!(4, C, 2);
+
+const OFF: SiteReport = reported!(5, A, 0);
+
+const FIRST: SiteReport = reported!(6, Pc, 1);
+
+// Reports, what their sites weigh, and what all sites do: in the order of the rule, and by the reports of the greatest attempt those
+// of a quorum.
+static RULES: [(&[SiteReport], u64, u64); 8] = [
+    (&[LATE, ENDED, OFF], 1, 9),
+    (&[VOTED, ENDED], 1, 9),
+    (&[VOTED, LATE], 2, 4),
+    (&[LATE, OLD], 3, 4),
+    (&[FIRST, VOTED], 3, 4),
+    (&[VOTED, OLD], 3, 4),
+    (&[FIRST, OLD], 3, 4),
+    (&[VOTED, VOTED], 3, 4),
+];
+
+// Adds the verdicts by the rule.
 fn push_rules(page: &mut Page) {
-    let voted = report(1, State::W, 0);
-    let late = report(2, State::Pc, 3);
-    let old = report(3, State::Pa, 2);
-    let ended = report(4, State::C, 2);
-    let off = report(5, State::A, 0);
-    let first = report(6, State::Pc, 1);
-    for (reports, have, total) in [
-        ([late, ended, off].as_slice(), 1, 9),
-        (&[voted, ended], 1, 9),
-        (&[voted, late], 2, 4),
-        (&[late, old], 3, 4),
-        (&[first, voted], 3, 4),
-        (&[voted, old], 3, 4),
-        (&[first, old], 3, 4),
-        (&[voted, voted], 3, 4),
-    ] {
-        push_rule(page, reports, have, total);
+    for (reports, have, total) in &RULES {
+        push_rule(page, reports, *have, *total);
     }
 }
 

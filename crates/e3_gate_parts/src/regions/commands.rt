@@ -39,23 +39,11 @@ fn leave(text: &[u8]) -> Leave {
     }
 }
 
-/// What a word says.
-pub fn read_command(alloc: Global, word: &[u8]) -> Result<Command, NoMemory> {
-    let (name, rest) = cut(word, b':');
-    let (first, second) = cut(rest, b':');
-    Ok(match name {
-        b"put" => Command::Put {
-            place: number(first),
-            bytes: spelled_by(alloc, second)?,
-        },
+// What a word says that has no bytes.
+fn plain_command(name: &[u8], first: &[u8], second: &[u8]) -> Command {
+    match name {
         b"open" => Command::Open,
-        b"append" => Command::Append {
-            body: spelled_by(alloc, first)?,
-        },
         b"clear" => Command::Clear,
-        b"turn" => Command::Turn {
-            body: spelled_by(alloc, first)?,
-        },
         b"fits" => Command::Fits {
             length: number(first),
         },
@@ -67,5 +55,24 @@ pub fn read_command(alloc: Global, word: &[u8]) -> Result<Command, NoMemory> {
         b"brief" => Command::Brief,
         b"site" => Command::Site,
         _ => Command::Unknown,
-    })
+    }
+}
+
+/// What a word says.
+pub fn read_command(alloc: Global, word: &[u8]) -> Result<Command, NoMemory> {
+    let (name, rest) = cut(word, b':');
+    let (first, second) = cut(rest, b':');
+    match name {
+        b"put" => Ok(Command::Put {
+            place: number(first),
+            bytes: spelled_by(alloc, second)?,
+        }),
+        b"append" => Ok(Command::Append {
+            body: spelled_by(alloc, first)?,
+        }),
+        b"turn" => Ok(Command::Turn {
+            body: spelled_by(alloc, first)?,
+        }),
+        _ => Ok(plain_command(name, first, second)),
+    }
 }

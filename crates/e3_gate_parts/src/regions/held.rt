@@ -1,17 +1,16 @@
 // A disk, or the log over it, and what is done with it.
-use crate::regions::answers::{push_append, push_cause, push_frames, push_turn, push_write};
+use crate::answers::{push_append, push_cause, push_frames, push_turn, push_write};
+use crate::layers::disks::light;
+use crate::layers::logs::{self, arm, lit};
 use crate::regions::commands::Command;
 use crate::texts::bytes_of;
 use e3_codec::{put_records, read_records};
 use e3_disk::{Disk, DiskFault, Drill, MemDisk};
 use e3_lines::Page;
-use e3_log::{AppendFault, Frame, Log, TurnFault};
+use e3_log::{Frame, Log, TurnFault};
 use e3_site::{RebuildFault, Site, brief, of_site, rebuild};
-use e3_types::{Leave, List, NoMemory, Record};
+use e3_types::{List, NoMemory, Record};
 use std::alloc::Global;
-
-/// The first byte of a body that a turn writes.
-const TURN: u8 = 7;
 
 /// What there is: nothing, a disk, or a log over one, with the bodies that it was opened with and those that it took since.
 #[derive(Drop)]
@@ -68,14 +67,6 @@ fn bodies(alloc: Global, page: &mut Page, frames: List<Frame>) -> List<List<u8>>
         }
     }
     out
-}
-
-// Adds a body that is one.
-fn append<D: Disk>(log: &mut Log<D>, body: &[u8]) -> Result<(), AppendFault> {
-    match body {
-        [first, ..] if *first != TURN => log.append(body),
-        _ => Ok(()),
-    }
 }
 
 // Closes the other region, and turns the log to this body, where it is one.
@@ -178,20 +169,6 @@ fn rise(alloc: Global, page: &mut Page, bodies: &[List<u8>]) {
     }
 }
 
-fn arm<D: Drill>(log: &mut Log<D>, calls: u32, leave: Leave) {
-    log.arm(calls.max(1), leave);
-}
-
-fn light<D: Drill>(disk: &mut D) {
-    disk.power_on();
-}
-
-fn lit<D: Disk + Drill + Drop>(log: Log<D>) -> D {
-    let mut disk = log.into_disk();
-    light(&mut disk);
-    disk
-}
-
 // Does with a disk over which there is no log what keeps it one.
 fn act_on_disk<D: Drill>(page: &mut Page, disk: &mut D, command: &Command) {
     match command {
@@ -231,7 +208,7 @@ fn add(
     bodies: &mut List<List<u8>>,
     body: &[u8],
 ) {
-    let end = append(log, body);
+    let end = logs::add(log, body);
     push_append(page, end);
     if end.is_ok() && note_body(alloc, bodies, body).is_err() {
         page.lack();

@@ -4,8 +4,9 @@ ghost use Rattle.e3_site.specs.SiteView.{IsPlanOf, Stands, planned_step, risen_w
 ghost use Rattle.e3_world.specs.declared.lives.Incarnation.{Incarnation};
 
 use crate::sites::logs::log_of;
+use crate::texts::push_txn;
 use e3_judge::{since_line, to_line};
-use e3_lines::{push_text, push_trace, push_txn};
+use e3_lines::Page;
 use e3_plain::step_of;
 use e3_readings::{life_of, open_in};
 use e3_site::{Plan, RebuildFault, Site, rebuild};
@@ -15,20 +16,12 @@ use std::alloc::Global;
 use std::slice;
 
 // Adds the first text, and the second where it is another.
-fn push_both(out: &mut List<u8>, by_tables: &[u8], by_past: &[u8]) -> Result<(), NoMemory> {
-    out.extend(by_tables)?;
-    if by_tables == by_past {
-        return Ok(());
+fn push_both(page: &mut Page, by_tables: &Page, by_past: &Page) {
+    page.page(by_tables);
+    if by_tables.as_slice() != by_past.as_slice() || !by_past.is_whole() {
+        page.text("but by its past: ");
+        page.page(by_past);
     }
-    push_text(out, "but by its past: ")?;
-    out.extend(by_past)
-}
-
-// The lines of an entry.
-fn lines_of(alloc: Global, entry: &Entry) -> Result<List<u8>, NoMemory> {
-    let mut out = List::new(alloc);
-    push_trace(&mut out, slice::from_ref(entry))?;
-    Ok(out)
 }
 
 // The entry of a step.
@@ -44,14 +37,45 @@ fn entry_of(owner: u32, input: &Input, made: Made) -> Entry {
     }
 }
 
-// The transactions, each behind a space.
-fn names_of(alloc: Global, txns: &[Txn]) -> Result<List<u8>, NoMemory> {
-    let mut out = List::new(alloc);
-    for t in txns {
-        push_text(&mut out, " ")?;
-        push_txn(&mut out, t)?;
+// The lines of the step that the definitions make of an input.
+fn lines_by_past(
+    alloc: Global,
+    weights: &[u32],
+    owner: u32,
+    rose: &[Record],
+    since: &[SiteStep],
+    input: &Input,
+) -> Page {
+    let mut lines = Page::new(alloc);
+    match step_of(alloc, weights, owner, rose, since, input) {
+        Ok(made) => lines.trace(slice::from_ref(&entry_of(owner, input, made))),
+        Err(NoMemory) => lines.lack(),
     }
-    Ok(out)
+    lines
+}
+
+// The lines of the step of a plan.
+fn lines_of(alloc: Global, plan: &Plan, owner: u32, input: &Input) -> Page {
+    let mut lines = Page::new(alloc);
+    match plan.entry(owner, input) {
+        Ok(entry) => lines.trace(slice::from_ref(&entry)),
+        Err(NoMemory) => lines.lack(),
+    }
+    lines
+}
+
+// The transactions, each behind a space.
+fn names_of(alloc: Global, txns: Result<List<Txn>, NoMemory>) -> Page {
+    let mut names = Page::new(alloc);
+    match txns {
+        Ok(txns) => {
+            for t in txns.as_slice() {
+                push_txn(&mut names, t);
+            }
+        }
+        Err(NoMemory) => names.lack(),
+    }
+    names
 }
 
 // The plan for an input. The log and the steps are passed on for the proof alone.
@@ -69,36 +93,24 @@ fn planned(
     site.plan(input)
 }
 
-// Adds the step of a plan, and that of the definitions, where it is another.
-fn push_plan(
+// The transactions that are open at a site by its past.
+fn open_by_past(
     alloc: Global,
-    out: &mut List<u8>,
-    plan: &Plan,
-    owner: u32,
-    input: &Input,
-    made: Made,
-) -> Result<(), NoMemory> {
-    let by_tables = lines_of(alloc, &plan.entry(owner, input)?)?;
-    let by_past = lines_of(alloc, &entry_of(owner, input, made))?;
-    push_both(out, by_tables.as_slice(), by_past.as_slice())
+    site: u32,
+    rose: &[Record],
+    since: &[SiteStep],
+) -> Result<List<Txn>, NoMemory> {
+    let life = life_of(alloc, rose, since)?;
+    open_in(alloc, site, &life)
 }
 
 // Adds the transactions that are open at a site by its tables, and those that are by its past, where they are others.
-fn push_open(
-    alloc: Global,
-    out: &mut List<u8>,
-    site: &Site,
-    rose: &[Record],
-    since: &[SiteStep],
-) -> Result<(), NoMemory> {
-    let life = life_of(alloc, rose, since)?;
-    let by_past = open_in(alloc, site.site(), &life)?;
-    let by_tables = site.open_txns()?;
-    let read = names_of(alloc, by_tables.as_slice())?;
-    let told = names_of(alloc, by_past.as_slice())?;
-    push_text(out, "open")?;
-    push_both(out, read.as_slice(), told.as_slice())?;
-    push_text(out, "\n")
+fn push_open(alloc: Global, page: &mut Page, site: &Site, rose: &[Record], since: &[SiteStep]) {
+    page.text("open");
+    let by_tables = names_of(alloc, site.open_txns());
+    let by_past = names_of(alloc, open_by_past(alloc, site.site(), rose, since));
+    push_both(page, &by_tables, &by_past);
+    page.text("\n");
 }
 
 // Does the step of a plan, which is the site's last one then. The log and the input are passed on for the proof alone.
@@ -118,11 +130,11 @@ fn done(
     since.push(site.apply(plan))
 }
 
-// Adds the step of an input by both bodies, and does it.
+// Adds the step of an input by the site's tables, and these lines, by its past, where they are others; and does the step.
 fn push_step(
     alloc: Global,
-    out: &mut List<u8>,
-    weights: &[u32],
+    page: &mut Page,
+    by_past: &Page,
     site: &mut Site,
     rose: &[Record],
     since: &mut List<SiteStep>,
@@ -132,8 +144,8 @@ fn push_step(
     ensures { OnOk result (Stands (record { rose = rose.now; since = since.new }) site.new) }
 {
     let plan = planned(site, rose, since.as_slice(), input)?;
-    let made = step_of(alloc, weights, site.site(), rose, since.as_slice(), input)?;
-    push_plan(alloc, out, &plan, site.site(), input, made)?;
+    let by_tables = lines_of(alloc, &plan, site.site(), input);
+    push_both(page, &by_tables, by_past);
     done(site, plan, rose, since, input)
 }
 
@@ -148,24 +160,48 @@ fn input_of(owner: u32, entry: &Entry) -> Option<&Input> {
 // Adds the steps of the inputs that the site has in a history, and what is open behind each.
 fn push_steps(
     alloc: Global,
-    out: &mut List<u8>,
+    page: &mut Page,
     weights: &[u32],
-    site: Site,
+    site: &mut Site,
     rose: &[Record],
     history: &[Entry],
 ) -> Result<(), NoMemory>
-    requires { Stands (risen_with rose.now) site }
+    requires { Stands (risen_with rose.now) site.old }
 {
-    let mut site = site;
     let owner = site.site();
     let mut since = List::new(alloc);
     for entry in history {
         if let Some(input) = input_of(owner, entry) {
-            push_step(alloc, out, weights, &mut site, rose, &mut since, input)?;
-            push_open(alloc, out, &site, rose, since.as_slice())?;
+            let by_past = lines_by_past(alloc, weights, owner, rose, since.as_slice(), input);
+            push_step(alloc, page, &by_past, site, rose, &mut since, input)?;
+            push_open(alloc, page, site, rose, since.as_slice());
         }
     }
     Ok(())
+}
+
+// Adds the steps of the site that rises with a log.
+fn push_risen(
+    alloc: Global,
+    page: &mut Page,
+    weights: &[u32],
+    site: u32,
+    log: &[Record],
+    history: &[Entry],
+) {
+    if log.is_empty() {
+        return page.text(" no log");
+    }
+    page.text("\n");
+    match rebuild(alloc, site, log) {
+        Ok(mut site) => {
+            if push_steps(alloc, page, weights, &mut site, log, history).is_err() {
+                page.lack();
+            }
+        }
+        Err(RebuildFault::Order { .. }) => page.text(" out of order"),
+        Err(RebuildFault::NoMemory) => page.lack(),
+    }
 }
 
 /// Adds the steps that the site of a log makes of its inputs in a history, each by the site's tables, and by the definitions
@@ -173,26 +209,21 @@ fn push_steps(
 /// inputs are those behind it.
 pub fn push_bodies(
     alloc: Global,
-    out: &mut List<u8>,
+    page: &mut Page,
     scenario: &Scenario,
     history: &[Entry],
     site: u32,
-) -> Result<(), NoMemory> {
-    let log = log_of(alloc, to_line(history))?;
-    if log.is_empty() {
-        return push_text(out, " no log");
-    }
-    push_text(out, "\n")?;
-    match rebuild(alloc, site, log.as_slice()) {
-        Ok(site) => push_steps(
-            alloc,
-            out,
-            scenario.weights.as_slice(),
-            site,
-            log.as_slice(),
-            since_line(history),
-        ),
-        Err(RebuildFault::Order { .. }) => push_text(out, " out of order"),
-        Err(RebuildFault::NoMemory) => Err(NoMemory),
-    }
+) {
+    let Ok(log) = log_of(alloc, to_line(history)) else {
+        return page.lack();
+    };
+    let weights = scenario.weights.as_slice();
+    push_risen(
+        alloc,
+        page,
+        weights,
+        site,
+        log.as_slice(),
+        since_line(history),
+    );
 }

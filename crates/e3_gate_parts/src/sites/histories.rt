@@ -18,6 +18,14 @@ fn push_unnumbered(page: &mut Page, input: &Input) {
     page.text("\n");
 }
 
+// Adds the entry that the definitions make of an input behind a history.
+fn push_made(page: &mut Page, before: &Prefix<'_>, owner: u32, input: &Input) {
+    match before.entry_of(owner, input) {
+        Ok(entry) => page.trace(slice::from_ref(&entry)),
+        Err(NoMemory) => page.lack(),
+    }
+}
+
 /// Adds the last step of a history as the definitions make it of its input, and the packet that it takes, without its number.
 pub fn push_step(alloc: Global, page: &mut Page, scenario: &Scenario, history: &[Entry]) {
     let Some((last, before)) = history.split_last() else {
@@ -27,11 +35,12 @@ pub fn push_step(alloc: Global, page: &mut Page, scenario: &Scenario, history: &
         return page.text(" no step");
     };
     push_unnumbered(page, input);
-    let before = Prefix::of(alloc, scenario, before);
-    match before.entry_of(last.owner, input) {
-        Ok(entry) => page.trace(slice::from_ref(&entry)),
-        Err(NoMemory) => page.lack(),
-    }
+    push_made(
+        page,
+        &Prefix::of(alloc, scenario, before),
+        last.owner,
+        input,
+    );
 }
 
 // Adds a round.
