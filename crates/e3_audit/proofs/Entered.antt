@@ -110,9 +110,9 @@ goes_on sc h e site seat a new was one owner stays allowed seated lines net seat
 -- a step
 
 -- numbers do not matter to what is numbered
-numbered_plain : (n : ℕ) (ps : List Packet) → numbered n (map unnumbered ps) ≡ numbered n ps
-numbered_plain n [] = refl
-numbered_plain n (p ∷ ps) = ap (λ rest. record p { number = n } ∷ rest) (numbered_plain (suc n) ps)
+numbered_unnumbered : (n : ℕ) (ps : List Packet) → numbered n (map unnumbered ps) ≡ numbered n ps
+numbered_unnumbered n [] = refl
+numbered_unnumbered n (p ∷ ps) = ap (λ rest. record p { number = n } ∷ rest) (numbered_unnumbered (suc n) ps)
 
 numbered_again : (n : ℕ) (ps : List Packet) → numbered n (numbered n ps) ≡ numbered n ps
 numbered_again n [] = refl
@@ -156,7 +156,7 @@ as_planned sc h site i plan count records outs told made counted same =
     os = (exact_list same_packet exact_packet outs (numbered (suc count) plan.outs)).0 (and_parts a b first).1
         ∙ ap (λ n. numbered (suc n) plan.outs) counted
         ∙ ap (λ p. numbered (suc (length (sent h))) p.outs) made
-        ∙ numbered_plain (suc (length (sent h))) (made_by sc h site i).outs
+        ∙ numbered_unnumbered (suc (length (sent h))) (made_by sc h site i).outs
 
     ts : told ≡ (made_by sc h site i).told
     ts = (exact_list same_told exact_told told plan.told).0 (and_parts (a && b) (same_list same_told told plan.told) same).1 ∙ ap (λ p. p.told) made

@@ -4,4 +4,4 @@ pub mod Seats
 pub mod Through
 pub mod Entered
 pub mod Asking
-pub mod Turned
+pub mod FallsAndRises

@@ -10,21 +10,7 @@ use crate::seat::{are_done, have_risen};
 use e3_judge::{Prefix, begins_with_parts, is_up_at, may_rise, since_line};
 use e3_readings::step_items;
 use e3_types::{Item, NoMemory};
-
-// An item of a group.
-fn is_groupable(item: &Item) -> bool
-    ensures { result ≡ is_groupable item.now }
-{
-    match item {
-        Item::Recover { .. }
-        | Item::Split { .. }
-        | Item::Merge
-        | Item::Crash { .. }
-        | Item::Restart { .. }
-        | Item::Stop { .. } => false,
-        _ => true,
-    }
-}
+use e3_world::is_groupable;
 
 // The items are those of a group.
 fn are_groupable(items: &[Item]) -> bool

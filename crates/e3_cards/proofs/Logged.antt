@@ -14,25 +14,26 @@ use Rattle.e3_cards.specs.declared.seen.Seen.{Seen}
 use Rattle.e3_cards.specs.Cards.{card_of}
 use Rattle.e3_cards.specs.Noting.{noted, unstepped}
 use Rattle.e3_cards.specs.Seeing.{seen_of}
-use Rattle.e3_cards.specs.Tables.{CardsStand, IsKnown, card_at, txn_key}
+use Rattle.e3_world.specs.Transactions.{IsFoundByBits}
+use Rattle.e3_cards.specs.Tables.{CardsStand, card_at, txn_key}
 use Rattle.e3_cards.proofs.Putting.{Inserts, put_step, same_turned}
 use Rattle.e3_cards.proofs.Seeing.{seen_push}
 use Rattle.e3_cards.proofs.Untouched.{seen_one}
 
 -- the transaction has the card, and the others have theirs
-pub put_at : (ms ns : List (TxnKey × Card)) (t : Txn) (card : Card) (k : TxnKey) → IsKnown t → k ≡ txn_key t → Inserts ms ns k card
-    → (u : Txn) → IsKnown u → card_at ns u ≡ (if same_txn t u then card else card_at ms u)
+pub put_at : (ms ns : List (TxnKey × Card)) (t : Txn) (card : Card) (k : TxnKey) → IsFoundByBits t → k ≡ txn_key t → Inserts ms ns k card
+    → (u : Txn) → IsFoundByBits u → card_at ns u ≡ (if same_txn t u then card else card_at ms u)
 put_at ms ns t card k here key h u known = put_step ms ns (record { txn = t; card = card }) k u here known key (h (txn_key u)) (card_at ms u) refl
 
 -- so the others of a transaction that is taken out
-pub others_at : (ms ns : List (TxnKey × Card)) (t : Txn) (card : Card) (k : TxnKey) → IsKnown t → k ≡ txn_key t → Inserts ms ns k card
-    → (u : Txn) → IsKnown u → same_txn t u ≡ false → card_at ns u ≡ card_at ms u
+pub others_at : (ms ns : List (TxnKey × Card)) (t : Txn) (card : Card) (k : TxnKey) → IsFoundByBits t → k ≡ txn_key t → Inserts ms ns k card
+    → (u : Txn) → IsFoundByBits u → same_txn t u ≡ false → card_at ns u ≡ card_at ms u
 others_at ms ns t card k here key h u known e = put_at ms ns t card k here key h u known ∙ ap (λ (b : Bool). if b then card else card_at ms u) e
 
 -- what was taken out and put back, changed
-pub turned_at : (ms mid ns : List (TxnKey × Card)) (t : Txn) (card : Card) → ((u : Txn) → IsKnown u → same_txn t u ≡ false → card_at mid u ≡ card_at ms u)
-    → ((u : Txn) → IsKnown u → card_at ns u ≡ (if same_txn t u then card else card_at mid u))
-    → (u : Txn) → IsKnown u → card_at ns u ≡ (if same_txn t u then card else card_at ms u)
+pub turned_at : (ms mid ns : List (TxnKey × Card)) (t : Txn) (card : Card) → ((u : Txn) → IsFoundByBits u → same_txn t u ≡ false → card_at mid u ≡ card_at ms u)
+    → ((u : Txn) → IsFoundByBits u → card_at ns u ≡ (if same_txn t u then card else card_at mid u))
+    → (u : Txn) → IsFoundByBits u → card_at ns u ≡ (if same_txn t u then card else card_at ms u)
 turned_at ms mid ns t card rest done u known = done u known ∙ by (same_txn t u) refl
   where
     by : (b : Bool) → same_txn t u ≡ b → (if b then card else card_at mid u) ≡ (if b then card else card_at ms u)
@@ -49,7 +50,7 @@ other_card site inc log u r none =
 
 -- the cards of a log with a record of this transaction
 pub note_stands : (was now : Cards) (t : Txn) (r : Record) → txn_of_record r ≡ t ∷ [] → now.site ≡ was.site → now.inc ≡ was.inc → now.begins ≡ was.begins → now.calls ≡ was.calls
-    → ((u : Txn) → IsKnown u → card_at now.map.entries u ≡ (if same_txn t u then noted t r (card_at was.map.entries t) else card_at was.map.entries u))
+    → ((u : Txn) → IsFoundByBits u → card_at now.map.entries u ≡ (if same_txn t u then noted t r (card_at was.map.entries t) else card_at was.map.entries u))
     → (site inc : ℕ) (log : List Record) → CardsStand site was (unstepped inc log) → CardsStand site now (unstepped inc (log ++ r ∷ []))
 note_stands was now t r is s i b c change site inc log stands = record {
   site_is = s ∙ stands.site_is;
@@ -59,7 +60,7 @@ note_stands was now t r is s i b c change site inc log stands = record {
   cards_are = λ u known. change u known ∙ by u known (same_txn t u) refl;
 }
   where
-    by : (u : Txn) → IsKnown u → (b : Bool) → same_txn t u ≡ b
+    by : (u : Txn) → IsFoundByBits u → (b : Bool) → same_txn t u ≡ b
         → (if b then noted t r (card_at was.map.entries t) else card_at was.map.entries u) ≡ card_of site u (unstepped inc (log ++ r ∷ []))
     by u known true e = ap (λ (v : Txn). noted v r (card_at was.map.entries v)) (same_txn_eq t u e) ∙ ap (noted u r) (stands.cards_are u known) ∙ seen_card site inc log u r
     by u known false e =

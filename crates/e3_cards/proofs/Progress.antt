@@ -39,8 +39,8 @@ yes_step t life s =
     fold-append (yes_by t) none life.steps (lived life s ∷ [])
 
 -- the log before a step is nothing to the round
-round_plain : (site : ℕ) (t : Txn) (was : Rounds) (life : Life) (s : SiteStep) → round_by site t was (lived life s) ≡ round_by site t was (moment_of s)
-round_plain site t was life s = by s.input
+round_lived : (site : ℕ) (t : Txn) (was : Rounds) (life : Life) (s : SiteStep) → round_by site t was (lived life s) ≡ round_by site t was (moment_of s)
+round_lived site t was life s = by s.input
   where
     by_msg : (packet : Packet) (k : Message)
         → round_by site t was (lived life (record s { input = input.Deliver (record packet { msg = k }) })) ≡ round_by site t was (moment_of (record s { input = input.Deliver (record packet { msg = k }) }))
@@ -55,7 +55,7 @@ round_plain site t was life s = by s.input
 pub rounds_step : (site : ℕ) (t : Txn) (life : Life) (s : SiteStep) → rounds_of site t (life.steps ++ lived life s ∷ []) ≡ round_by site t (rounds_of site t life.steps) (moment_of s)
 rounds_step site t life s =
     let start : Rounds = record { group = []; now = None } in
-    fold-append (round_by site t) start life.steps (lived life s ∷ []) ∙ round_plain site t (rounds_of site t life.steps) life s
+    fold-append (round_by site t) start life.steps (lived life s ∷ []) ∙ round_lived site t (rounds_of site t life.steps) life s
 
 -- what was seen serves in place of the log
 report_seen : (site : ℕ) (t : Txn) (log : List Record) → report_by site t log ≡ seen_report site (seen_of t log)

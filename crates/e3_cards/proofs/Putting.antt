@@ -26,13 +26,14 @@ use Rattle.e3_cards.specs.declared.keys.TxnKey.{TxnKey}
 use Rattle.e3_cards.specs.declared.cards.Cards.{Cards}
 use Rattle.e3_cards.specs.declared.cards.Changes.{Changes}
 use Rattle.e3_cards.specs.Cards.{card_of, card_by, blank, moment_of}
-use Rattle.e3_cards.specs.Tables.{txn_key, key_cmp, IsKnown, CardsStand, card_at, call_now, named, add_txn, touched, change_of, put, AreChanges, HasCard, HasRoom, IsRoomier}
+use Rattle.e3_world.specs.Transactions.{IsFoundByBits}
+use Rattle.e3_cards.specs.Tables.{txn_key, key_cmp, CardsStand, card_at, call_now, named, add_once, touched, change_of, put, AreChanges, HasCard, HasRoom, IsRoomier}
 use Rattle.e3_cards.proofs.Keeping.{card_step}
 use Rattle.e3_cards.proofs.Progress.{lived, count_push}
 use Rattle.e3_cards.proofs.Untouched.{same_key, untouched}
 
 -- one more change
-pub put_step : (ms ns : List (TxnKey × Card)) (c : Change) (k : TxnKey) (t : Txn) → IsKnown c.txn → IsKnown t → k ≡ txn_key c.txn
+pub put_step : (ms ns : List (TxnKey × Card)) (c : Change) (k : TxnKey) (t : Txn) → IsFoundByBits c.txn → IsFoundByBits t → k ≡ txn_key c.txn
     → lookup (is_at (key_cmp (txn_key t))) ns ≡ cond (is_at (key_cmp k) (txn_key t)) (Some c.card) (lookup (is_at (key_cmp (txn_key t))) ms)
     → (was : Card) → card_at ms t ≡ was → card_at ns t ≡ put t was c
 put_step ms ns c k t p q key e was is =
@@ -76,19 +77,19 @@ put_all_of site call entries s t (u ∷ us) x = by (put_all_of site call entries
         ap (λ (y : Card). fold (put t) y (map (change_of site call entries s) us)) here ∙ ih x ∙ rw is refl
 
 -- among the transactions with one more are those before, and this one
-among_more : (t : Txn) (acc : List Txn) (u : Txn) → list_any (same_txn t) (add_txn acc u) ≡ (list_any (same_txn t) acc || same_txn t u)
+among_more : (t : Txn) (acc : List Txn) (u : Txn) → list_any (same_txn t) (add_once acc u) ≡ (list_any (same_txn t) acc || same_txn t u)
 among_more t acc u = by (list_any (same_txn u) acc) (same_txn t u) refl refl
   where
-    by : (b c : Bool) → list_any (same_txn u) acc ≡ b → same_txn t u ≡ c → list_any (same_txn t) (add_txn acc u) ≡ (list_any (same_txn t) acc || same_txn t u)
+    by : (b c : Bool) → list_any (same_txn u) acc ≡ b → same_txn t u ≡ c → list_any (same_txn t) (add_once acc u) ≡ (list_any (same_txn t) acc || same_txn t u)
     by true true e f =
         let here : list_any (same_txn t) acc ≡ true = ap (λ (v : Txn). list_any (same_txn v) acc) (same_txn_eq t u f) ∙ e in
         rw (e, f, here) refl
     by true false e f = rw (e, f) (grind (arith, common_steps))
     by false c e f = rw e (list_any-append (same_txn t) acc (u ∷ []) ∙ grind (arith, common_steps))
 
-among_all : (t : Txn) (us : List Txn) (acc : List Txn) → list_any (same_txn t) (fold add_txn acc us) ≡ (list_any (same_txn t) acc || list_any (same_txn t) us)
+among_all : (t : Txn) (us : List Txn) (acc : List Txn) → list_any (same_txn t) (fold add_once acc us) ≡ (list_any (same_txn t) acc || list_any (same_txn t) us)
 among_all t [] acc = grind (arith, common_steps)
-among_all t (u ∷ us) acc = let ih = among_all t us (add_txn acc u) in let one = among_more t acc u in grind (arith, common_steps, ih, one)
+among_all t (u ∷ us) acc = let ih = among_all t us (add_once acc u) in let one = among_more t acc u in grind (arith, common_steps, ih, one)
 
 -- all that a step touches, and so all
 put_touched : (site : ℕ) (call : Call) (entries : List (TxnKey × Card)) (s : SiteStep) (t : Txn)
@@ -132,7 +133,7 @@ counted p life s n k same are e =
 -- and the cards stand for the life with the step
 pub stands_on : (was now : Cards) (s : SiteStep) (changes : Changes) → AreChanges was s changes → now.site ≡ was.site → now.inc ≡ was.inc
     → now.begins ≡ changes.begins → now.calls ≡ changes.calls
-    → ((t : Txn) → IsKnown t → card_at now.map.entries t ≡ fold (put t) (card_at was.map.entries t) changes.cards)
+    → ((t : Txn) → IsFoundByBits t → card_at now.map.entries t ≡ fold (put t) (card_at was.map.entries t) changes.cards)
     → (site : ℕ) (life : Life) → CardsStand site was life → CardsStand site now (life_by life s)
 stands_on was now s changes are site_kept inc_kept begins calls done site life stands = record {
   site_is = site_kept ∙ stands.site_is;
@@ -196,9 +197,9 @@ roomier_by ms ns k c e none h =
     roomier ms ns k (none_of (lookup (is_at (key_cmp k)) ms) none) (λ q. h q ∙ ap (λ (x : Card). cond (is_at (key_cmp k) q) (Some x) (lookup (is_at (key_cmp q)) ms)) e)
 
 -- an insert at a key with a card comes to pass
-pub put_result : {A E : Type 0} (r : Result A E) (ms ns : List (TxnKey × Card)) (c : Change) (k : TxnKey) → IsKnown c.txn → k ≡ txn_key c.txn → HasCard ms (txn_key c.txn)
+pub put_result : {A E : Type 0} (r : Result A E) (ms ns : List (TxnKey × Card)) (c : Change) (k : TxnKey) → IsFoundByBits c.txn → k ≡ txn_key c.txn → HasCard ms (txn_key c.txn)
     → OnOk r (Inserts ms ns k c.card) → OnErr r (lookup (is_at (key_cmp k)) ms ≡ None)
-    → ((t : Txn) → IsKnown t → card_at ns t ≡ put t (card_at ms t) c) × ((q : TxnKey) → HasCard ms q → HasCard ns q)
+    → ((t : Txn) → IsFoundByBits t → card_at ns t ≡ put t (card_at ms t) c) × ((q : TxnKey) → HasCard ms q → HasCard ns q)
 put_result (Ok x) ms ns c k known key has done absent =
     (λ t here. put_step ms ns c k t known here key (done (txn_key t)) (card_at ms t) refl, λ q. keys_stay ms ns k q c.card done)
 put_result (Err x) ms ns c k known key has done none =

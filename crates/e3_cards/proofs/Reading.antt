@@ -32,7 +32,8 @@ use Rattle.e3_readings.specs.Expecting.{own_expected}
 use Rattle.e3_readings.specs.Awaiting.{first_of, is_number, is_at_site, is_awaited}
 use Rattle.e3_cards.specs.Readings.{unanswered_of, expected_of, done_of, done_with}
 use Rattle.e3_cards.specs.Seeing.{seen_of, seen_by}
-use Rattle.e3_cards.specs.Tables.{IsKnown, CardsStand, card_at, call_now}
+use Rattle.e3_world.specs.Transactions.{IsFoundByBits}
+use Rattle.e3_cards.specs.Tables.{CardsStand, card_at, call_now}
 use Rattle.e3_cards.proofs.Answered.{done_is, waits_is, answer_is, waiting_is}
 use Rattle.e3_cards.proofs.Arrivals.{came_push}
 use Rattle.e3_cards.proofs.Counting.{unanswered_is, expected_is}
@@ -41,7 +42,7 @@ use Rattle.e3_cards.proofs.Progress.{lived, yes_step}
 use Rattle.e3_cards.proofs.Seeing.{seen_more}
 
 -- the card that is found is the place's
-pub is_card : (cards : Cards) (t : Txn) (c : Card) (a : At) → c ≡ card_at cards.map.entries t → IsKnown t → CardsStand a.site cards a.life → c ≡ card_of a.site t a.life
+pub is_card : (cards : Cards) (t : Txn) (c : Card) (a : At) → c ≡ card_at cards.map.entries t → IsFoundByBits t → CardsStand a.site cards a.life → c ≡ card_of a.site t a.life
 is_card cards t c a e known stands = e ∙ stands.cards_are t known
 
 -- the step so far, as the step of a life

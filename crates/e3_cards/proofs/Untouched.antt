@@ -42,10 +42,12 @@ use Rattle.e3_cards.specs.Cards.{card_by, moment_of}
 use Rattle.e3_cards.specs.Electing.{election_now, election_upon, seen_report}
 use Rattle.e3_cards.specs.Issued.{number_told, counted_in}
 use Rattle.e3_cards.specs.Seeing.{seen_by}
-use Rattle.e3_cards.specs.Tables.{txn_key, key_cmp, IsKnown, named, input_txns, told_txns, sent_txns}
+use Rattle.e3_readings.specs.Answering.{answered_txns}
+use Rattle.e3_world.specs.Transactions.{IsFoundByBits}
+use Rattle.e3_cards.specs.Tables.{txn_key, key_cmp, named, input_txns, told_txns}
 
 -- sets with equal bits are equal
-same_known : (t u : Txn) → IsKnown t → IsKnown u → (bits_of t.sites == bits_of u.sites) ≡ same_numbers t.sites u.sites
+same_known : (t u : Txn) → IsFoundByBits t → IsFoundByBits u → (bits_of t.sites == bits_of u.sites) ≡ same_numbers t.sites u.sites
 same_known t u p q =
     let here : bits_of t.sites ≡ bits_of u.sites → same_numbers t.sites u.sites ≡ true =
     λ e. rw (sym p ∙ ap sites_of e ∙ q) (same_numbers_refl u.sites) in
@@ -53,7 +55,7 @@ same_known t u p q =
     grind (arith, common_steps, here, back)
 
 -- the order of keys finds a transaction
-pub same_key : (t u : Txn) → IsKnown t → IsKnown u → is_at (key_cmp (txn_key t)) (txn_key u) ≡ same_txn t u
+pub same_key : (t u : Txn) → IsFoundByBits t → IsFoundByBits u → is_at (key_cmp (txn_key t)) (txn_key u) ≡ same_txn t u
 same_key t u p q = let e = same_known t u p q in grind (arith, common_steps, e)
 
 unvoted : (s : Seen) → record s { voted = s.voted || false } ≡ s
@@ -88,10 +90,10 @@ told_one : (t : Txn) (e : Told) → list_any (same_txn t) (told_txns e) ≡ fals
 told_one t (told.Op u n answer) e = rw (none_left (same_txn t u) false e) refl
 told_one t _ e = refl
 
-sent_one : (t : Txn) (p : Packet) → list_any (same_txn t) (sent_txns p) ≡ false → heard_sent t p ≡ []
+sent_one : (t : Txn) (p : Packet) → list_any (same_txn t) (answered_txns p) ≡ false → heard_sent t p ≡ []
 sent_one t p e = by p.msg e
   where
-    by : (k : Message) → list_any (same_txn t) (sent_txns (record p { msg = k })) ≡ false → heard_sent t (record p { msg = k }) ≡ []
+    by : (k : Message) → list_any (same_txn t) (answered_txns (record p { msg = k })) ≡ false → heard_sent t (record p { msg = k }) ≡ []
     by (msg.Done u n inc answer) e = rw (none_left (same_txn t u) false e) refl
     by _ e = refl
 
@@ -234,7 +236,7 @@ election_one site call t seen was s e records events = upon ∙ by s.input e
 -- a transaction that a step does not name keeps its card
 pub untouched : (site : ℕ) (call : Call) (t : Txn) (c : Card) (s : SiteStep) → list_any (same_txn t) (named s) ≡ false → card_by site call t c s ≡ c
 untouched site call t c s e =
-    let most = sym (list_any-append (same_txn t) (input_txns s.input ++ flat_map txn_of_record s.records ++ flat_map told_txns s.told) (flat_map sent_txns s.outs)) ∙ e in
+    let most = sym (list_any-append (same_txn t) (input_txns s.input ++ flat_map txn_of_record s.records ++ flat_map told_txns s.told) (flat_map answered_txns s.outs)) ∙ e in
     let some = sym (list_any-append (same_txn t) (input_txns s.input ++ flat_map txn_of_record s.records) (flat_map told_txns s.told)) ∙ none_left _ _ most in
     let first = sym (list_any-append (same_txn t) (input_txns s.input) (flat_map txn_of_record s.records)) ∙ none_left _ _ some in
     let of_input = none_left _ _ first in
@@ -250,7 +252,7 @@ untouched site call t c s e =
     ap (λ (l : List Refusal). c.reasons ++ l) (none_flat (same_txn t) (reason_in t) told_txns (reason_one t) s.told of_told) ∙ append-nil c.reasons in
     let came : came_by c.seen c.came (taken_of site t (length c.issued) s.input s.told) ≡ c.came = ap (came_by c.seen c.came) (taken_one site t (length c.issued) s.input s.told of_input) in
     let events : flat_map (heard_told t) s.told ≡ [] = none_flat (same_txn t) (heard_told t) told_txns (told_one t) s.told of_told in
-    let packets : flat_map (heard_sent t) s.outs ≡ [] = none_flat (same_txn t) (heard_sent t) sent_txns (sent_one t) s.outs of_outs in
+    let packets : flat_map (heard_sent t) s.outs ≡ [] = none_flat (same_txn t) (heard_sent t) answered_txns (sent_one t) s.outs of_outs in
     let heard : c.heard ++ heard_in t s.told s.outs ≡ c.heard = rw (events, packets) (append-nil c.heard) in
     let votes = votes_one site t c.votes s of_input in
     let election = election_one site call t c.seen c.election s of_input of_records of_told in

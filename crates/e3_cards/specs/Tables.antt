@@ -7,21 +7,20 @@ use Rattle.std.specs.Ordering.{nat_cmp, ordering_then}
 use Rattle.std.specs.declared.cmp.Ordering.{Ordering}
 use Rattle.e3_types.specs.declared.entries.Input.{Input}
 use Rattle.e3_types.specs.declared.entries.Told.{Told}
-use Rattle.e3_types.specs.declared.messages.Message.{Message}
-use Rattle.e3_types.specs.declared.messages.Packet.{Packet}
 use Rattle.e3_types.specs.declared.transactions.Call.{Call}
 use Rattle.e3_types.specs.declared.transactions.Txn.{Txn}
 use Rattle.e3_types.specs.declared.entries.Input.TheVariants as input
 use Rattle.e3_types.specs.declared.entries.Told.TheVariants as told
-use Rattle.e3_types.specs.declared.messages.Message.TheVariants as msg
 use Rattle.e3_types.specs.Same.{same_txn}
-use Rattle.e3_types.specs.Sites.{sites_of, bits_of}
+use Rattle.e3_types.specs.Sites.{bits_of}
 use Rattle.e3_world.specs.declared.lives.Life.{Life}
 use Rattle.e3_world.specs.declared.lives.SiteStep.{SiteStep}
 use Rattle.e3_world.specs.Elections.{is_elect}
 use Rattle.e3_world.specs.Items.{txn_of_record}
 use Rattle.e3_world.specs.Sound.{txn_in}
 use Rattle.e3_world.specs.Steps.{is_begin}
+use Rattle.e3_world.specs.Transactions.{IsFoundByBits}
+use Rattle.e3_readings.specs.Answering.{answered_txns}
 use Rattle.e3_cards.specs.declared.card.Card.{Card}
 use Rattle.e3_cards.specs.declared.card.Change.{Change}
 use Rattle.e3_cards.specs.declared.keys.TxnKey.{TxnKey}
@@ -37,10 +36,6 @@ txn_key t = record { site = t.site; inc = t.inc; seq = t.seq; bits = bits_of t.s
 abbrev pub key_cmp : TxnKey → TxnKey → Ordering
 key_cmp a b = ordering_then (nat_cmp a.site b.site) (ordering_then (nat_cmp a.inc b.inc) (ordering_then (nat_cmp a.seq b.seq) (nat_cmp a.bits b.bits)))
 
--- the sites are a set, which its bits give back; those of every transaction of the program are
-abbrev pub IsKnown : Txn → Type 0
-IsKnown t = sites_of (bits_of t.sites) ≡ t.sites
-
 -- the card that entries have for a transaction
 abbrev pub card_at : List (TxnKey × Card) → Txn → Card
 card_at entries t = unwrap_or (lookup (is_at (key_cmp (txn_key t))) entries) blank
@@ -55,7 +50,7 @@ pub record CardsStand (site : ℕ) (cards : Cards) (life : Life) : Type 0 where
   pub inc_is : cards.inc ≡ life.inc
   pub begins_are : cards.begins ≡ count_by is_begin life.steps
   pub calls_are : cards.calls ≡ count_by is_elect life.steps
-  pub cards_are : (t : Txn) → IsKnown t → card_at cards.map.entries t ≡ card_of site t life
+  pub cards_are : (t : Txn) → IsFoundByBits t → card_at cards.map.entries t ≡ card_of site t life
 
 -- the transaction of an input
 abbrev pub input_txns : Input → List Txn
@@ -75,25 +70,17 @@ told_txns (told.Doomed t site had now) = t ∷ []
 told_txns (told.Verdict t n verdict) = t ∷ []
 told_txns _ = []
 
--- the transaction of a packet that a card keeps: of an answer
-abbrev pub sent_txns : Packet → List Txn
-sent_txns packet = by packet.msg
-  where
-    by : Message → List Txn
-    by (msg.Done t n inc answer) = t ∷ []
-    by _ = []
-
 -- the transactions that a step names where a card may change
 abbrev pub named : SiteStep → List Txn
-named s = input_txns s.input ++ flat_map txn_of_record s.records ++ flat_map told_txns s.told ++ flat_map sent_txns s.outs
+named s = input_txns s.input ++ flat_map txn_of_record s.records ++ flat_map told_txns s.told ++ flat_map answered_txns s.outs
 
 -- the transactions with one more, each once
-abbrev pub add_txn : List Txn → Txn → List Txn
-add_txn txns t = if list_any (same_txn t) txns then txns else txns ++ t ∷ []
+abbrev pub add_once : List Txn → Txn → List Txn
+add_once txns t = if list_any (same_txn t) txns then txns else txns ++ t ∷ []
 
 -- the transactions whose cards a step may change, each once
 abbrev pub touched : SiteStep → List Txn
-touched s = fold add_txn [] (named s)
+touched s = fold add_once [] (named s)
 
 -- the card that a step makes of a transaction's
 abbrev pub change_of : ℕ → Call → List (TxnKey × Card) → SiteStep → Txn → Change
@@ -107,7 +94,7 @@ put t was c = if same_txn c.txn t then c.card else was
 pub record AreChanges (was : Cards) (s : SiteStep) (changes : Changes) : Type 0 where
   pub begins : changes.begins ≡ (if is_begin (moment_of s) then suc was.begins else was.begins)
   pub calls : changes.calls ≡ (if is_elect (moment_of s) then suc was.calls else was.calls)
-  pub cards : (t : Txn) → IsKnown t
+  pub cards : (t : Txn) → IsFoundByBits t
       → fold (put t) (card_at was.map.entries t) changes.cards ≡ card_by was.site (call_now was) t (card_at was.map.entries t) s
 
 -- there is a card for a key
@@ -121,5 +108,5 @@ HasRoom entries (c ∷ cs) = HasCard entries (txn_key c.txn) × HasRoom entries 
 
 -- whatever the first entries have, the second have; and no card is another
 pub record IsRoomier (old new : List (TxnKey × Card)) : Type 0 where
-  pub cards : (t : Txn) → IsKnown t → card_at new t ≡ card_at old t
+  pub cards : (t : Txn) → IsFoundByBits t → card_at new t ≡ card_at old t
   pub keys : (k : TxnKey) → HasCard old k → HasCard new k

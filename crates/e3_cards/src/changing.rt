@@ -7,17 +7,18 @@ ghost use Rattle.e3_world.specs.Lives.{life_by};
 ghost use Rattle.e3_world.specs.Steps.{is_begin};
 ghost use Rattle.e3_cards.specs.declared.keys.TxnKey.{TxnKey as KeptKey};
 ghost use Rattle.e3_cards.specs.Cards.{moment_of};
-ghost use Rattle.e3_cards.specs.Tables.{card_at, call_now, txn_key, touched, change_of, put, IsKnown, CardsStand, AreChanges, HasCard, HasRoom, IsRoomier};
+ghost use Rattle.e3_world.specs.Transactions.{IsFoundByBits};
+ghost use Rattle.e3_cards.specs.Tables.{card_at, call_now, txn_key, touched, change_of, put, CardsStand, AreChanges, HasCard, HasRoom, IsRoomier};
 
 use crate::card::{Card, Change, blank};
 use crate::cards::{Cards, Changes};
 use crate::copying::copy_at;
-use crate::keys::{TxnKey, known, txn_key};
+use crate::keys::{TxnKey, txn_key};
 use crate::stepping::step_card;
 use crate::touched::touched;
 use e3_readings::next;
 use e3_types::{Input, List, NoMemory, Txn};
-use e3_world::SiteStep;
+use e3_world::{SiteStep, found_by_bits};
 use std::alloc::Global;
 use std::collections::BTreeMap;
 
@@ -103,16 +104,16 @@ pub fn ready(
 
 fn put_one(map: &mut BTreeMap<TxnKey, Card>, change: Change)
     requires { HasCard map.old.entries (txn_key change.txn) }
-    ensures cards { (t : SomeTxn) → IsKnown t → card_at map.new.entries t ≡ put t (card_at map.old.entries t) change }
+    ensures cards { (t : SomeTxn) → IsFoundByBits t → card_at map.new.entries t ≡ put t (card_at map.old.entries t) change }
     ensures keys { (k : KeptKey) → HasCard map.old.entries k → HasCard map.new.entries k }
 {
-    known(&change.txn);
+    found_by_bits(&change.txn);
     let _ = map.insert(txn_key(&change.txn), change.card);
 }
 
 fn put_all(map: &mut BTreeMap<TxnKey, Card>, changes: List<Change>)
     requires { HasRoom map.old.entries changes }
-    ensures { (t : SomeTxn) → IsKnown t → card_at map.new.entries t ≡ fold (put t) (card_at map.old.entries t) changes }
+    ensures { (t : SomeTxn) → IsFoundByBits t → card_at map.new.entries t ≡ fold (put t) (card_at map.old.entries t) changes }
 {
     for change in changes.into_vec() {
         put_one(map, change);

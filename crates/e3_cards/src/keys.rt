@@ -1,8 +1,8 @@
 // Transactions as keys of maps.
 ghost use Rattle.std.specs.Prelude.{◌≡◌};
-ghost use Rattle.e3_cards.specs.Tables.{txn_key, IsKnown};
+ghost use Rattle.e3_cards.specs.Tables.{txn_key};
 
-use e3_types::{SiteSet, Txn};
+use e3_types::Txn;
 
 /// A transaction as a key, its sites as bits.
 #[derive(Clone, Copy, PartialEq, Eq, PartialOrd, Ord)]
@@ -23,12 +23,4 @@ pub fn txn_key(t: &Txn) -> TxnKey
         seq: t.seq,
         bits: t.sites.bits(),
     }
-}
-
-/// The law that each transaction of the program is found by its bits.
-pub fn known(t: &Txn)
-    ensures { IsKnown t.now }
-{
-    let twin = SiteSet::of_bits(t.sites.bits());
-    let _same = twin.is_same(t.sites);
 }

@@ -22,7 +22,7 @@ pub use card::{Card, Change, Counted, Heard, blank};
 pub use cards::{Cards, Changes, card_or};
 pub use changing::{apply, changes, ready};
 pub use copying::copy_at;
-pub use keys::{TxnKey, known, txn_key};
+pub use keys::{TxnKey, txn_key};
 pub use noting::note;
 pub use seen::{Seen, seen_behind, seen_by, seen_state};
 pub use stepping::step_card;

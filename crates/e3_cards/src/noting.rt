@@ -6,14 +6,16 @@ ghost use Rattle.e3_types.specs.Same.{same_txn};
 ghost use Rattle.e3_world.specs.Items.{txn_of_record};
 ghost use Rattle.e3_cards.specs.Cards.{blank};
 ghost use Rattle.e3_cards.specs.Noting.{noted, unstepped};
-ghost use Rattle.e3_cards.specs.Tables.{card_at, IsKnown, CardsStand};
+ghost use Rattle.e3_world.specs.Transactions.{IsFoundByBits};
+ghost use Rattle.e3_cards.specs.Tables.{card_at, CardsStand};
 
 use crate::card::{Card, blank};
 use crate::cards::Cards;
-use crate::keys::{TxnKey, known, txn_key};
+use crate::keys::{TxnKey, txn_key};
 use crate::seen::seen_by;
 use e3_readings::txn_of_record;
 use e3_types::{NoMemory, Record, Txn};
+use e3_world::found_by_bits;
 use std::alloc::Global;
 use std::collections::BTreeMap;
 
@@ -29,9 +31,9 @@ fn or_blank(alloc: Global, card: Option<Card>) -> Card
 // Takes the card of a transaction out; a blank one stands in its place.
 fn take_card(alloc: Global, kept: &mut BTreeMap<TxnKey, Card>, t: &Txn) -> Result<Card, NoMemory>
     ensures card { IfOk result (λ card. card ≡ card_at kept.old.entries t.now) }
-    ensures rest { OnOk result ((u : SomeTxn) → IsKnown u → same_txn t.now u ≡ false → card_at kept.new.entries u ≡ card_at kept.old.entries u) }
+    ensures rest { OnOk result ((u : SomeTxn) → IsFoundByBits u → same_txn t.now u ≡ false → card_at kept.new.entries u ≡ card_at kept.old.entries u) }
 {
-    known(t);
+    found_by_bits(t);
     match kept.insert(txn_key(t), blank(alloc)) {
         Ok(was) => Ok(or_blank(alloc, was)),
         Err(_) => Err(NoMemory),
@@ -40,9 +42,9 @@ fn take_card(alloc: Global, kept: &mut BTreeMap<TxnKey, Card>, t: &Txn) -> Resul
 
 // The card of a transaction is this one from now on.
 fn put_card(kept: &mut BTreeMap<TxnKey, Card>, t: &Txn, card: Card) -> Result<(), NoMemory>
-    ensures { OnOk result ((u : SomeTxn) → IsKnown u → card_at kept.new.entries u ≡ (if same_txn t.now u then card else card_at kept.old.entries u)) }
+    ensures { OnOk result ((u : SomeTxn) → IsFoundByBits u → card_at kept.new.entries u ≡ (if same_txn t.now u then card else card_at kept.old.entries u)) }
 {
-    known(t);
+    found_by_bits(t);
     match kept.insert(txn_key(t), card) {
         Ok(_) => Ok(()),
         Err(_) => Err(NoMemory),
@@ -63,7 +65,7 @@ fn note_in(
     t: &Txn,
     r: &Record,
 ) -> Result<(), NoMemory>
-    ensures { OnOk result ((u : SomeTxn) → IsKnown u → card_at kept.new.entries u
+    ensures { OnOk result ((u : SomeTxn) → IsFoundByBits u → card_at kept.new.entries u
         ≡ (if same_txn t.now u then noted t.now r.now (card_at kept.old.entries t.now) else card_at kept.old.entries u)) }
 {
     let was = take_card(alloc, kept, t)?;

@@ -18,7 +18,7 @@ ghost use Rattle.e3_cards.specs.Tables.{CardsStand, card_at, call_now};
 use crate::card::{Card, blank};
 use crate::cards::{Cards, card_or};
 use crate::copying::copy_election;
-use crate::keys::{known, txn_key};
+use crate::keys::txn_key;
 use crate::operations::{
     answer_of, awaits, done_of, done_with, expected_of, is_waiting_now, own_with, unanswered_now,
     waits_now,
@@ -28,7 +28,7 @@ use e3_commit::Acks;
 use e3_elect::Election;
 use e3_readings::{first_reason, have_every_yes, next, own_expected, votes_after};
 use e3_types::{Answer, Call, Input, List, Name, NoMemory, Refusal, Txn};
-use e3_world::{Asked, Expected, Made, Performed};
+use e3_world::{Asked, Expected, Made, Performed, found_by_bits};
 use std::alloc::Global;
 
 fn seen_at(cards: &Cards, t: &Txn) -> Seen
@@ -78,7 +78,7 @@ impl Cards {
         requires { none.now ≡ blank }
         ensures { (a : Place) → CardsStand a.site self.now a.life → result.now ≡ card_of a.site t.now a.life }
     {
-        known(t);
+        found_by_bits(t);
         card_or(&self.map, t, none)
     }
 
@@ -86,7 +86,7 @@ impl Cards {
     pub fn seen(&self, t: &Txn) -> Seen
         ensures { (a : Place) → CardsStand a.site self.now a.life → result ≡ seen_of t.now a.life.log }
     {
-        known(t);
+        found_by_bits(t);
         seen_at(self, t)
     }
 
@@ -144,21 +144,6 @@ impl Cards {
     {
         let none = blank(alloc);
         done_of(alloc, self.card_of(t, &none))
-    }
-
-    /// The operations of the transaction that the site answered, with the step so far, in the order of arrival.
-    pub fn done_now(
-        &self,
-        alloc: Global,
-        t: &Txn,
-        input: &Input,
-        made: &Made,
-    ) -> Result<List<Performed>, NoMemory>
-        ensures { (a : Place) → CardsStand a.site self.now a.life → a.input ≡ input.now → IfOk result (λ out. out ≡ done a.site t.now (steps_now a made.now)) }
-    {
-        let none = blank(alloc);
-        let card = self.card_of(t, &none);
-        done_with(alloc, self.site, t, card, input, made)
     }
 
     /// The value that the transaction's last write of the name here gave it, with the step so far, or else this row.
@@ -222,7 +207,7 @@ impl Cards {
     pub fn round(&self, t: &Txn) -> Option<Acks>
         ensures { (a : Place) → CardsStand a.site self.now a.life → result ≡ round_in_progress a.site t.now a.life.steps }
     {
-        known(t);
+        found_by_bits(t);
         round_at(self, t)
     }
 

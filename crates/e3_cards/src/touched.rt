@@ -4,7 +4,8 @@ ghost use Rattle.std.specs.List.{flat_map, list_any};
 ghost use Rattle.e3_types.specs.Same.{same_txn};
 ghost use Rattle.e3_world.specs.Items.{txn_of_record};
 ghost use Rattle.e3_world.specs.Sound.{txn_in};
-ghost use Rattle.e3_cards.specs.Tables.{touched, add_txn, input_txns, told_txns, sent_txns};
+ghost use Rattle.e3_readings.specs.Answering.{answered_txns};
+ghost use Rattle.e3_cards.specs.Tables.{touched, add_once, input_txns, told_txns};
 
 use e3_readings::txn_of_record;
 use e3_types::{Input, List, Message, NoMemory, Packet, Record, Told, Txn};
@@ -36,8 +37,8 @@ fn is_among(t: &Txn, txns: &[Txn]) -> bool
     txns.iter().any(|u| t.is_same(u))
 }
 
-fn add_txn(t: &Txn, out: &mut List<Txn>) -> Result<(), NoMemory>
-    ensures { IfOk result (λ u. out.new ≡ add_txn out.old t.now) }
+fn add_once(t: &Txn, out: &mut List<Txn>) -> Result<(), NoMemory>
+    ensures { IfOk result (λ u. out.new ≡ add_once out.old t.now) }
 {
     if is_among(t, out.as_slice()) {
         Ok(())
@@ -47,7 +48,7 @@ fn add_txn(t: &Txn, out: &mut List<Txn>) -> Result<(), NoMemory>
 }
 
 fn add_input(input: &Input, out: &mut List<Txn>) -> Result<(), NoMemory>
-    ensures { IfOk result (λ u. out.new ≡ fold add_txn out.old (input_txns input.now)) }
+    ensures { IfOk result (λ u. out.new ≡ fold add_once out.old (input_txns input.now)) }
 {
     match input {
         Input::Begin { .. } => Ok(()),
@@ -55,43 +56,43 @@ fn add_input(input: &Input, out: &mut List<Txn>) -> Result<(), NoMemory>
         | Input::Commit { txn }
         | Input::Cancel { txn }
         | Input::Expire { txn }
-        | Input::Elect { txn, .. } => add_txn(txn, out),
-        Input::Deliver { packet } => add_txn(&txn_in(&packet.msg), out),
+        | Input::Elect { txn, .. } => add_once(txn, out),
+        Input::Deliver { packet } => add_once(&txn_in(&packet.msg), out),
     }
 }
 
 fn add_record(r: &Record, out: &mut List<Txn>) -> Result<(), NoMemory>
-    ensures { IfOk result (λ u. out.new ≡ fold add_txn out.old (txn_of_record r.now)) }
+    ensures { IfOk result (λ u. out.new ≡ fold add_once out.old (txn_of_record r.now)) }
 {
     match txn_of_record(r) {
-        Some(t) => add_txn(t, out),
+        Some(t) => add_once(t, out),
         None => Ok(()),
     }
 }
 
 fn add_told(e: &Told, out: &mut List<Txn>) -> Result<(), NoMemory>
-    ensures { IfOk result (λ u. out.new ≡ fold add_txn out.old (told_txns e.now)) }
+    ensures { IfOk result (λ u. out.new ≡ fold add_once out.old (told_txns e.now)) }
 {
     match e {
         Told::Op { txn, .. }
         | Told::Died { txn, .. }
         | Told::Doomed { txn, .. }
-        | Told::Verdict { txn, .. } => add_txn(txn, out),
+        | Told::Verdict { txn, .. } => add_once(txn, out),
         _ => Ok(()),
     }
 }
 
 fn add_sent(packet: &Packet, out: &mut List<Txn>) -> Result<(), NoMemory>
-    ensures { IfOk result (λ u. out.new ≡ fold add_txn out.old (sent_txns packet.now)) }
+    ensures { IfOk result (λ u. out.new ≡ fold add_once out.old (answered_txns packet.now)) }
 {
     match &packet.msg {
-        Message::Done { txn, .. } => add_txn(txn, out),
+        Message::Done { txn, .. } => add_once(txn, out),
         _ => Ok(()),
     }
 }
 
 fn add_records(records: &[Record], out: &mut List<Txn>) -> Result<(), NoMemory>
-    ensures { IfOk result (λ u. out.new ≡ fold add_txn out.old (flat_map txn_of_record records.now)) }
+    ensures { IfOk result (λ u. out.new ≡ fold add_once out.old (flat_map txn_of_record records.now)) }
 {
     for r in records {
         add_record(r, out)?;
@@ -100,7 +101,7 @@ fn add_records(records: &[Record], out: &mut List<Txn>) -> Result<(), NoMemory>
 }
 
 fn add_events(events: &[Told], out: &mut List<Txn>) -> Result<(), NoMemory>
-    ensures { IfOk result (λ u. out.new ≡ fold add_txn out.old (flat_map told_txns events.now)) }
+    ensures { IfOk result (λ u. out.new ≡ fold add_once out.old (flat_map told_txns events.now)) }
 {
     for e in events {
         add_told(e, out)?;
@@ -109,7 +110,7 @@ fn add_events(events: &[Told], out: &mut List<Txn>) -> Result<(), NoMemory>
 }
 
 fn add_packets(outs: &[Packet], out: &mut List<Txn>) -> Result<(), NoMemory>
-    ensures { IfOk result (λ u. out.new ≡ fold add_txn out.old (flat_map sent_txns outs.now)) }
+    ensures { IfOk result (λ u. out.new ≡ fold add_once out.old (flat_map answered_txns outs.now)) }
 {
     for packet in outs {
         add_sent(packet, out)?;

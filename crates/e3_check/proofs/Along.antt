@@ -40,7 +40,7 @@ use Rattle.e3_law_steps.specs.Mentions.{Mention, OfTxn as Transaction, OfVal, of
 use Rattle.e3_law_steps.proofs.Begun.Lists.{each-unflat, each-within}
 use Rattle.e3_law_steps.proofs.Begun.Laws.{guard_at, entries_mention, packets_own}
 use Rattle.e3_law_steps.proofs.Begun.Begins.{IsOf, begun_all}
-use Rattle.e3_trace.specs.Cuts.{feed}
+use Rattle.e3_lines.specs.Marks.{feed}
 use Rattle.e3_trace.specs.Fields.{Known}
 use Rattle.e3_trace.specs.Tellable.{lacks, InputTells, ActTells, known_outs, known_events, known_act, TellsAfter}
 use Rattle.e3_check.specs.Traces.{ValuesAreLines, LegalAreTellable}
@@ -324,20 +324,20 @@ step_goes sc h known s i records outs events given lines legal guard along typed
         (each-weaker (Below (suc (length (sent h)) + length outs)) (Below (suc (length (sent h ++ outs)))) (λ p less. omega (arith, less, count)) outs new)
 
 -- an entry that has one line
-plain_goes : (h : List Entry) (known : Known) (e : Entry) → begun_in e.act ≡ [] → outs_of e.act ≡ [] → known_act known e.act ≡ known → Along h known → ActTells known e.owner e.act → Goes h known e
-plain_goes h known e none out same along tells = record { tells = tells; along = along_quiet h known e none out same along }
+quiet_goes : (h : List Entry) (known : Known) (e : Entry) → begun_in e.act ≡ [] → outs_of e.act ≡ [] → known_act known e.act ≡ known → Along h known → ActTells known e.owner e.act → Goes h known e
+quiet_goes h known e none out same along tells = record { tells = tells; along = along_quiet h known e none out same along }
 
 entry_goes : (sc : Scenario) (h : List Entry) (known : Known) (owner : ℕ) (act : Act) → IsGiven sc → ValuesAreLines sc → IsLegal sc h → Guard sc h (record { owner = owner; act = act }) →
     Along h known → ActTyped act → Goes h known (record { owner = owner; act = act })
-entry_goes sc h known owner (Line number) given lines legal guard along typed = plain_goes h known (record { owner = owner; act = Line number }) refl refl refl along typed
-entry_goes sc h known owner (Drop number) given lines legal guard along typed = plain_goes h known (record { owner = owner; act = Drop number }) refl refl refl along typed
+entry_goes sc h known owner (Line number) given lines legal guard along typed = quiet_goes h known (record { owner = owner; act = Line number }) refl refl refl along typed
+entry_goes sc h known owner (Drop number) given lines legal guard along typed = quiet_goes h known (record { owner = owner; act = Drop number }) refl refl refl along typed
 entry_goes sc h known zero (Parts parts) given lines legal guard along typed =
-    plain_goes h known (record { owner = 0; act = Parts parts }) refl refl refl along (due_parts sc h parts given guard typed)
+    quiet_goes h known (record { owner = 0; act = Parts parts }) refl refl refl along (due_parts sc h parts given guard typed)
 entry_goes sc h known (suc s) (Parts parts) given lines legal guard along typed = absurd guard
-entry_goes sc h known owner Cut given lines legal guard along typed = plain_goes h known (record { owner = owner; act = Cut }) refl refl refl along tt
-entry_goes sc h known owner Miss given lines legal guard along typed = plain_goes h known (record { owner = owner; act = Miss }) refl refl refl along tt
-entry_goes sc h known owner (Rise kept inc) given lines legal guard along typed = plain_goes h known (record { owner = owner; act = Rise kept inc }) refl refl refl along typed
-entry_goes sc h known owner (RiseFall kept inc why) given lines legal guard along typed = plain_goes h known (record { owner = owner; act = RiseFall kept inc why }) refl refl refl along typed
+entry_goes sc h known owner Cut given lines legal guard along typed = quiet_goes h known (record { owner = owner; act = Cut }) refl refl refl along tt
+entry_goes sc h known owner Miss given lines legal guard along typed = quiet_goes h known (record { owner = owner; act = Miss }) refl refl refl along tt
+entry_goes sc h known owner (Rise kept inc) given lines legal guard along typed = quiet_goes h known (record { owner = owner; act = Rise kept inc }) refl refl refl along typed
+entry_goes sc h known owner (RiseFall kept inc why) given lines legal guard along typed = quiet_goes h known (record { owner = owner; act = RiseFall kept inc why }) refl refl refl along typed
 entry_goes sc h known zero (Step i records outs events) given lines legal guard along typed = absurd guard
 entry_goes sc h known zero (Fall inputs records why) given lines legal guard along typed = absurd guard
 entry_goes sc h known (suc s) (Step i records outs events) given lines legal guard along typed = step_goes sc h known s i records outs events given lines legal guard along typed

@@ -21,7 +21,7 @@ use Rattle.e3_law_steps.specs.Trails.{begun_by, DifferInName, AllDiffer}
 use Rattle.e3_law_steps.proofs.Each.{each-push, each-filter, each-at, each-weaker, each-right}
 use Rattle.e3_law_steps.specs.Mentions.{Mention, OfTxn, OfVal, of_event, begun_in, WasBegun}
 use Rattle.e3_law_steps.proofs.Begun.Lists.{each-unflat, each-join, each-within}
-use Rattle.e3_trace.specs.Cuts.{feed}
+use Rattle.e3_lines.specs.Marks.{feed}
 use Rattle.e3_trace.specs.Fields.{Known, TxnName, txn_from, name_cmp, named, packet_at, known_sent, known_told}
 use Rattle.e3_trace.specs.Tellable.{lacks, known_outs, known_events, EventsTell}
 use Rattle.e3_check.specs.Typed.{EventTyped}

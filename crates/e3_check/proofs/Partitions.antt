@@ -10,7 +10,7 @@ use Rattle.e3_types.specs.declared.scenarios.Item.{Item}
 use Rattle.e3_types.specs.declared.scenarios.Item.TheVariants as item
 use Rattle.e3_types.specs.declared.scenarios.Scenario.{Scenario}
 use Rattle.e3_types.specs.Sets.{is_set, has_site}
-use Rattle.e3_world.specs.Given.{IsGiven, SaidSoFar, is_group, is_partition, say_item, items_keep, is_step_form, close_step, steps_keep, exist}
+use Rattle.e3_world.specs.Given.{IsGiven, ItemsSoFar, is_group, is_partition, with_item, items_keep, is_step_form, close_step, steps_keep, exist}
 use Rattle.e3_world.specs.Legal.{IsParts, parts_due}
 use Rattle.e3_world.specs.Packets.{sites_to, all_sites, items_or, step_items, present_items, lines}
 use Rattle.e3_trace.specs.Tellable.{is_some_set, AreParts}
@@ -22,13 +22,13 @@ IsPart part = is_some_set part ≡ true
 
 -- items that keep the rules, behind something
 abbrev Keep : Scenario → List Item → Type 0
-Keep sc items = (k : SaidSoFar) × (items_keep sc k items ≡ true)
+Keep sc items = (k : ItemsSoFar) × (items_keep sc k items ≡ true)
 
-step_keeps : (sc : Scenario) (k : SaidSoFar) (steps : List (List Item)) (n : ℕ) → steps_keep sc k steps ≡ true → IfAny (Keep sc) (slice_get steps n)
+step_keeps : (sc : Scenario) (k : ItemsSoFar) (steps : List (List Item)) (n : ℕ) → steps_keep sc k steps ≡ true → IfAny (Keep sc) (slice_get steps n)
 step_keeps sc k [] n is = tt
-step_keeps sc k (items ∷ steps) n is = by (λ m. step_keeps sc (close_step (fold (say_item sc) k items)) steps m parts.1) n
+step_keeps sc k (items ∷ steps) n is = by (λ m. step_keeps sc (close_step (fold (with_item sc) k items)) steps m parts.1) n
   where
-    parts : ((is_step_form items && items_keep sc k items) ≡ true) × (steps_keep sc (close_step (fold (say_item sc) k items)) steps ≡ true)
+    parts : ((is_step_form items && items_keep sc k items) ≡ true) × (steps_keep sc (close_step (fold (with_item sc) k items)) steps ≡ true)
     parts = and_parts (is_step_form items && items_keep sc k items) _ is
 
     by : ((m : ℕ) → IfAny (Keep sc) (slice_get steps m)) → (m : ℕ) → IfAny (Keep sc) (slice_get (items ∷ steps) m)

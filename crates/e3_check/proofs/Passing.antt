@@ -8,7 +8,7 @@ use Rattle.e3_report.specs.Report.{trace_lines}
 use Rattle.e3_scenario.specs.Scenarios.{scenario_of}
 use Rattle.e3_scenario.proofs.GivenLaws.{given_scenario}
 use Rattle.e3_check.specs.Traces.{printed, LegalTracesReadBack}
-use Rattle.e3_trace.specs.Cuts.{feed, pieces}
+use Rattle.e3_lines.specs.Marks.{feed, pieces}
 use Rattle.e3_trace.specs.Tellable.{ended_line, IsBefore}
 use Rattle.e3_trace.specs.Trace.{front_of}
 use Rattle.e3_trace.proofs.Cutting.{pieces_join}

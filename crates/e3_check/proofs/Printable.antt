@@ -12,24 +12,25 @@ use Rattle.e3_types.specs.declared.scenarios.Leave.{Leave}
 use Rattle.e3_types.specs.declared.scenarios.Scenario.{Scenario}
 use Rattle.e3_types.specs.declared.transactions.Key.{Key}
 use Rattle.e3_types.specs.Sets.{has_site}
-use Rattle.e3_world.specs.Given.{SaidSoFar, is_groupable, close_step, rows_differ}
+use Rattle.e3_world.specs.Given.{ItemsSoFar, is_groupable, close_step, rows_differ}
 use Rattle.e3_world.specs.Packets.{sites_to, all_sites}
 use Rattle.e3_scenario.specs.declared.faults.Field.{Field}
 use Rattle.e3_scenario.specs.declared.faults.Field.TheVariants as field
 use Rattle.e3_scenario.specs.declared.faults.ScenarioFault.{ScenarioFault}
 use Rattle.e3_scenario.specs.declared.faults.ScenarioFault.TheVariants as fault
 use Rattle.e3_scenario.specs.Documents.{document, keys_known, kind_fault, values_of, values_at, weights_of, row_with, row_of, row_in, more_rows, share_at, luck_at, steps_fit}
-use Rattle.e3_scenario.specs.Faults.{item_fault, say}
+use Rattle.e3_scenario.specs.Faults.{item_fault, take_item}
 use Rattle.e3_scenario.specs.Items.{begin_of, read_of as item_read_of, write_of, commit_of, cancel_of, expire_of, elect_of, recover_of, split_of, merge_of, crash_of, restart_of, stop_of, transaction_item, site_item, item_by, item_of}
 use Rattle.e3_scenario.specs.Parts.{name_of, value_of, site_of, sites_of, key_of, count_of, leave_of, parts_of}
-use Rattle.e3_scenario.specs.Scenarios.{or_range, repeat_with, numbers_in, base_in, nothing_said, fields_in, by_kind, by_document, scenario_of}
+use Rattle.e3_scenario.specs.Scenarios.{or_range, repeat_with, numbers_in, base_in, no_items_yet, fields_in, by_kind, by_document, scenario_of}
 use Rattle.e3_scenario.specs.Steps.{and_read, or_fault, judged, item_in, StepSoFar, items_read, read_of, step_read, steps_read}
-use Rattle.e3_scenario.specs.Words.{is_printable, space, before, after, rest, word}
+use Rattle.e3_scenario.specs.Words.{is_printable, before, after, rest, word}
+use Rattle.e3_lines.specs.Marks.{space}
 use Rattle.e3_law_steps.proofs.Each.{each-append, each-push, each-map, IfAny}
 use Rattle.e3_law_steps.specs.Mentions.{values_in}
 use Rattle.e3_law_steps.proofs.Begun.Lists.{each-join}
 use Rattle.e3_check.specs.Traces.{ValuesAreLines}
-use Rattle.e3_trace.specs.Cuts.{feed}
+use Rattle.e3_lines.specs.Marks.{feed}
 use Rattle.e3_trace.specs.Tellable.{lacks}
 use Rattle.e3_trace.proofs.Cutting.{lacks_by}
 
@@ -278,10 +279,10 @@ item_line value = by (as_str value)
     by None = tt
     by (Some text) = text_line text
 
-judged_line : (all : List ℕ) (step : ℕ) (grouped : Bool) (said : SaidSoFar) (o : Option Item) → IfAny ItemLine o → IfRead ItemLine (judged all step grouped said o)
-judged_line all step grouped said None is = tt
-judged_line all step grouped said (Some it) is =
-    if_read ItemLine (grouped && not (is_groupable it)) (Err (fault.BadLine step)) (or_fault it (item_fault all step said it)) tt (by (item_fault all step said it))
+judged_line : (all : List ℕ) (step : ℕ) (grouped : Bool) (so_far : ItemsSoFar) (o : Option Item) → IfAny ItemLine o → IfRead ItemLine (judged all step grouped so_far o)
+judged_line all step grouped so_far None is = tt
+judged_line all step grouped so_far (Some it) is =
+    if_read ItemLine (grouped && not (is_groupable it)) (Err (fault.BadLine step)) (or_fault it (item_fault all step so_far it)) tt (by (item_fault all step so_far it))
   where
     by : (o : Option ScenarioFault) → IfRead ItemLine (or_fault it o)
     by None = is
@@ -290,27 +291,27 @@ judged_line all step grouped said (Some it) is =
 abbrev StepLine : StepSoFar → Type 0
 StepLine s = Each ItemLine s.items
 
-items_lines : (all : List ℕ) (step : ℕ) (grouped : Bool) (said : SaidSoFar) (items : List Item) (values : List Data) → Each ItemLine items → IfRead StepLine (items_read all step grouped said items values)
-items_lines all step grouped said items [] is = is
-items_lines all step grouped said items (value ∷ values) is =
-    then_read ItemLine StepLine (judged all step grouped said (item_in value)) (λ it. items_read all step grouped (say all said it) (items ++ it ∷ []) values)
-    (judged_line all step grouped said (item_in value) (item_line value))
-    (λ it this. items_lines all step grouped (say all said it) (items ++ it ∷ []) values (each-push ItemLine items it is this))
+items_lines : (all : List ℕ) (step : ℕ) (grouped : Bool) (so_far : ItemsSoFar) (items : List Item) (values : List Data) → Each ItemLine items → IfRead StepLine (items_read all step grouped so_far items values)
+items_lines all step grouped so_far items [] is = is
+items_lines all step grouped so_far items (value ∷ values) is =
+    then_read ItemLine StepLine (judged all step grouped so_far (item_in value)) (λ it. items_read all step grouped (take_item all so_far it) (items ++ it ∷ []) values)
+    (judged_line all step grouped so_far (item_in value) (item_line value))
+    (λ it this. items_lines all step grouped (take_item all so_far it) (items ++ it ∷ []) values (each-push ItemLine items it is this))
 
-step_line : (all : List ℕ) (step : ℕ) (said : SaidSoFar) (value : Data) → IfRead StepLine (step_read all step said value)
-step_line all step said value = by (values_of value)
+step_line : (all : List ℕ) (step : ℕ) (so_far : ItemsSoFar) (value : Data) → IfRead StepLine (step_read all step so_far value)
+step_line all step so_far value = by (values_of value)
   where
-    by : (o : Option (List Data)) → IfRead StepLine (read_of all step said value o)
-    by None = items_lines all step false said [] (value ∷ []) tt
-    by (Some values) = items_lines all step true said [] values tt
+    by : (o : Option (List Data)) → IfRead StepLine (read_of all step so_far value o)
+    by None = items_lines all step false so_far [] (value ∷ []) tt
+    by (Some values) = items_lines all step true so_far [] values tt
 
-steps_lines : (all : List ℕ) (step : ℕ) (said : SaidSoFar) (steps : List (List Item)) (values : List Data) → Each (Each ItemLine) steps →
-    IfRead (Each (Each ItemLine)) (steps_read all step said steps values)
-steps_lines all step said steps [] is = is
-steps_lines all step said steps (value ∷ values) is =
-    then_read StepLine (Each (Each ItemLine)) (step_read all step said value) (λ read. steps_read all (suc step) (close_step read.said) (steps ++ read.items ∷ []) values)
-    (step_line all step said value)
-    (λ read this. steps_lines all (suc step) (close_step read.said) (steps ++ read.items ∷ []) values (each-push (Each ItemLine) steps read.items is this))
+steps_lines : (all : List ℕ) (step : ℕ) (so_far : ItemsSoFar) (steps : List (List Item)) (values : List Data) → Each (Each ItemLine) steps →
+    IfRead (Each (Each ItemLine)) (steps_read all step so_far steps values)
+steps_lines all step so_far steps [] is = is
+steps_lines all step so_far steps (value ∷ values) is =
+    then_read StepLine (Each (Each ItemLine)) (step_read all step so_far value) (λ read. steps_read all (suc step) (close_step read.so_far) (steps ++ read.items ∷ []) values)
+    (step_line all step so_far value)
+    (λ read this. steps_lines all (suc step) (close_step read.so_far) (steps ++ read.items ∷ []) values (each-push (Each ItemLine) steps read.items is this))
 
 -- the whole
 abbrev AnyNumber : ℕ → Type 0
@@ -335,8 +336,8 @@ fields_lines : (ms : Members) → IfRead ScenarioLines (fields_in ms)
 fields_lines ms = then_read RowLines ScenarioLines (base_in ms) _ (base_lines ms) (λ sc is.
     if_read ScenarioLines (not (steps_fit (values_at ms (codes "steps")))) (Err (fault.Range field.Steps)) _ tt
     (if_read ScenarioLines (not (rows_differ sc.rows)) (Err fault.RowTwice) _ tt
-    (then_read (Each (Each ItemLine)) ScenarioLines (steps_read (all_sites sc) 1 (nothing_said (all_sites sc)) [] (values_at ms (codes "steps"))) (λ steps. Ok (record sc { steps = steps }))
-    (steps_lines (all_sites sc) 1 (nothing_said (all_sites sc)) [] (values_at ms (codes "steps")) tt) (λ steps these. record { rows = is; steps = these }))))
+    (then_read (Each (Each ItemLine)) ScenarioLines (steps_read (all_sites sc) 1 (no_items_yet (all_sites sc)) [] (values_at ms (codes "steps"))) (λ steps. Ok (record sc { steps = steps }))
+    (steps_lines (all_sites sc) 1 (no_items_yet (all_sites sc)) [] (values_at ms (codes "steps")) tt) (λ steps these. record { rows = is; steps = these }))))
 
 kind_lines : (ms : Members) (o : Option Field) → IfRead ScenarioLines (by_kind ms o)
 kind_lines ms None = fields_lines ms

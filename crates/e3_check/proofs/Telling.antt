@@ -25,7 +25,7 @@ use Rattle.e3_law_steps.proofs.Operations.Tracing.{OfTxn}
 use Rattle.e3_law_steps.proofs.Each.{each-weaker}
 use Rattle.e3_law_steps.specs.Mentions.{Mention, OfTxn as Transaction, OfVal, of_op, of_answer, of_message, of_input, of_record, of_refusal, of_event}
 use Rattle.e3_law_steps.proofs.Begun.Lists.{each-unflat}
-use Rattle.e3_trace.specs.Cuts.{feed}
+use Rattle.e3_lines.specs.Marks.{feed}
 use Rattle.e3_trace.specs.Fields.{Known, named, packet_at, known_sent}
 use Rattle.e3_trace.specs.Tellable.{IsShort, lacks, is_some_set, IsBegun, IsOp, IsAnswer, InputTells, MessageTells, RefusalTells, EventTells, IsVoteOp, RecordTells, OutsTell}
 use Rattle.e3_check.specs.Typed.{IsTyped, OpTyped, NumOpTyped, AnswerTyped, MessageTyped, PacketTyped, InputTyped, RecordTyped, RefusalTyped, EventTyped}

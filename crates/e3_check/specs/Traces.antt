@@ -7,7 +7,7 @@ use Rattle.e3_world.specs.Given.{IsGiven}
 use Rattle.e3_world.specs.Legal.{IsLegal}
 use Rattle.e3_law_steps.specs.Mentions.{values_of}
 use Rattle.e3_report.specs.Report.{trace_lines}
-use Rattle.e3_trace.specs.Cuts.{feed}
+use Rattle.e3_lines.specs.Marks.{feed}
 use Rattle.e3_trace.specs.Tellable.{lacks, ended_line, IsBefore, IsTellable}
 use Rattle.e3_trace.specs.Trace.{history_of}
 use Rattle.e3_check.specs.Typed.{AreTyped}

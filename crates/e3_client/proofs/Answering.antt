@@ -22,7 +22,7 @@ use Rattle.e3_world.specs.declared.lives.Moment.{Moment}
 use Rattle.e3_world.specs.Logs.{key_of}
 use Rattle.e3_world.specs.Operations.{expected_by, expected_with as counted_with, kept_reason, op_told, tells_op}
 use Rattle.e3_client.specs.declared.client.Issued.{Issued}
-use Rattle.e3_client.specs.Clients.{Kept, expected_with, is_awaited, is_due, is_issued_to, unanswered, unanswered_from, with_answer}
+use Rattle.e3_client.specs.Clients.{Kept, expected_with, is_awaited, is_awaited_from, is_issued_to, unanswered, unanswered_from, with_answer}
 use Rattle.e3_client.specs.Rule.{IsKept, and_told, brings, is_answer, is_answer_of, is_answered}
 use Rattle.e3_client.proofs.Beside.{any_push, expected_push, nil_end, reasons_more, same_self, still_issued, told_more, told_push, zeros}
 use Rattle.e3_client.proofs.Numbered.{answered_set, expected_set, not_answered, sites_set, unanswered_set}
@@ -152,7 +152,7 @@ awaited n None e = absurd (true_not_false (sym e))
 awaited n (Some k) e = let same : k ≡ n = grind (arith, common_steps, e) in ap (λ (a : ℕ). Some a) same
 
 -- an answer that is taken
-pub answers : (own f n inc : ℕ) (steps : List Moment) (k : Kept) (m : Moment) (x : Answer) → IsKept own (steps ++ m ∷ []) k → is_due f n k.ops ≡ true
+pub answers : (own f n inc : ℕ) (steps : List Moment) (k : Kept) (m : Moment) (x : Answer) → IsKept own (steps ++ m ∷ []) k → is_awaited_from f n k.ops ≡ true
     → brings own f inc k.txn n m.input ≡ true → IsKept own (steps ++ and_told m (told.Op k.txn n x) ∷ []) (record k { ops = with_answer f n inc k.ops })
 answers own f zero inc steps k m x kept due on = absurd (let parts = and_parts (is_awaited 0 (unanswered k.ops)) false due in true_not_false (sym parts.1))
 answers own f (suc i) inc steps k m x kept due on =

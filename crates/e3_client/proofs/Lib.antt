@@ -1,4 +1,4 @@
-pub mod Due
+pub mod Awaited
 pub mod Numbered
 pub mod Beside
 pub mod Answering

@@ -55,13 +55,13 @@ is_awaited n None = false
 is_awaited n (Some m) = n == m
 
 -- the answer is one to the unanswered operation, by the site to which that was issued
-abbrev pub is_due : ℕ → ℕ → List Issued → Bool
-is_due site n ops = is_awaited n (unanswered ops) && is_issued_to site n ops
+abbrev pub is_awaited_from : ℕ → ℕ → List Issued → Bool
+is_awaited_from site n ops = is_awaited n (unanswered ops) && is_issued_to site n ops
 
 -- what an answer of a site under an incarnation comes to
 abbrev pub heard_of : ℕ → ℕ → ℕ → List Issued → Heard
 heard_of site n inc ops =
-    if not (is_due site n ops) then Stale
+    if not (is_awaited_from site n ops) then Stale
     else if (expected site ops).count == 0 || (expected site ops).inc == inc then Taken
     else Doomed site (expected site ops).inc inc
 

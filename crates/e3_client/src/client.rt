@@ -13,7 +13,7 @@ ghost use Rattle.e3_world.specs.Operations.{expected as expected_at, issued as i
 ghost use Rattle.e3_world.specs.Steps.{refuse as refuse_at};
 ghost use Rattle.e3_client.specs.declared.client.Heard.TheVariants.{Taken};
 ghost use Rattle.e3_client.specs.Rule.{IsKept, IsQuiet, StandsAt, and_told, brings};
-ghost use Rattle.e3_client.specs.Clients.{unanswered, unanswered_from, expected, expected_with, is_issued_to, is_due, heard_of, with_answer, refuse, refuse_cancel, refuse_decided, or_kept, GoesUnless};
+ghost use Rattle.e3_client.specs.Clients.{unanswered, unanswered_from, expected, expected_with, is_issued_to, is_awaited_from, heard_of, with_answer, refuse, refuse_cancel, refuse_decided, or_kept, GoesUnless};
 
 use crate::refusals::{kept_locks, refuse_attempted, refuse_open};
 use e3_types::{Dir, NoMemory, Refusal, State, Txn};
@@ -211,8 +211,8 @@ impl Client {
     }
 
     // The answer is one to the unanswered operation, by its site.
-    fn is_due(&self, site: u32, n: u32) -> bool
-        ensures { result ≡ is_due site n self.now.ops }
+    fn is_awaited_from(&self, site: u32, n: u32) -> bool
+        ensures { result ≡ is_awaited_from site n self.now.ops }
     {
         match self.unanswered() {
             Some(m) => n == m && self.is_issued_to(site, n),
@@ -239,7 +239,7 @@ impl Client {
         ensures rule { (own : ℕ) (steps : Items Moment) (m : Moment) (x : Answer) → result ≡ Taken → IsKept own (steps ++ m ∷ []) self.old →
             brings own from inc self.old.txn n m.input ≡ true → IsKept own (steps ++ and_told m (told.Op self.old.txn n x) ∷ []) self.new }
     {
-        if !self.is_due(from, n) {
+        if !self.is_awaited_from(from, n) {
             return Heard::Stale;
         }
         let (had, count) = self.expected(from);

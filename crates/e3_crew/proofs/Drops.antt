@@ -19,7 +19,7 @@ use Rattle.e3_node.specs.NodeStands.{NodeStands}
 use Rattle.e3_node.specs.NodeView.{NodeView, disk_of}
 use Rattle.e3_node.specs.Turns.{history_seen, scenario_seen}
 use Rattle.e3_play.specs.Delivered.{IsFullBefore, IsPacketDue}
-use Rattle.e3_play.proofs.Bounds.{packet_full, packet_owed}
+use Rattle.e3_play.proofs.DuePackets.{packet_full, packet_owed}
 use Rattle.e3_types.specs.declared.messages.Packet.{Packet}
 use Rattle.e3_turn.specs.Passes.{GrewByOthers, IsIdle, OwnsAll, SameOwners, last_of, owners_of, seen_by}
 use Rattle.e3_turn.specs.Chronicles.{IsForeign, count_of}

@@ -24,7 +24,7 @@ use Rattle.e3_play.specs.Delivered.{IsFullBefore, IsItemDue}
 use Rattle.e3_play.specs.Settled.{is_asking}
 use Rattle.e3_play.specs.declared.sites.RunFault.{RunFault}
 use Rattle.e3_play.specs.declared.sites.RunFault.TheVariants.{HistoryFull}
-use Rattle.e3_play.proofs.Open.{item_full, up_within}
+use Rattle.e3_play.proofs.DueItems.{item_full, up_within}
 use Rattle.e3_play.proofs.SameSteps.{same_step}
 use Rattle.e3_turn.specs.Passes.{seen_by}
 use Rattle.e3_types.specs.declared.entries.Entry.{Entry}
@@ -43,9 +43,9 @@ use Rattle.e3_world.specs.declared.names.Addressed.{Addressed}
 use Rattle.e3_world.proofs.Guards.{item_no, up_some}
 
 -- what a step asks of a site has no delivery
-plain_to : (s : ℕ) (sc : Scenario) (h : List Entry) (items : List Item) → list_any is_delivery (inputs_to s (filter_map (input_of sc h) items)) ≡ false
-plain_to s sc h [] = refl
-plain_to s sc h (it ∷ items) = by (input_of sc h it) refl (plain_to s sc h items)
+items_bring_no_packets : (s : ℕ) (sc : Scenario) (h : List Entry) (items : List Item) → list_any is_delivery (inputs_to s (filter_map (input_of sc h) items)) ≡ false
+items_bring_no_packets s sc h [] = refl
+items_bring_no_packets s sc h (it ∷ items) = by (input_of sc h it) refl (items_bring_no_packets s sc h items)
   where
     at : (a : Addressed) (rest : List Addressed) (b : Bool) → (a.site == s) ≡ b → is_delivery a.input ≡ false → list_any is_delivery (inputs_to s rest) ≡ false →
         list_any is_delivery (inputs_to s (a ∷ rest)) ≡ false
@@ -57,8 +57,8 @@ plain_to s sc h (it ∷ items) = by (input_of sc h it) refl (plain_to s sc h ite
     by None is rest = rw is rest
     by (Some a) is rest = rw is (at a (filter_map (input_of sc h) items) (a.site == s) refl (item_no sc h it a is) rest)
 
-pub inputs_plain : (sc : Scenario) (h : List Entry) (s : ℕ) → list_any is_delivery (inputs_at sc h s) ≡ false
-inputs_plain sc h s = plain_to s sc (to_line h) (present_items sc (to_line h))
+pub inputs_are_no_packets : (sc : Scenario) (h : List Entry) (s : ℕ) → list_any is_delivery (inputs_at sc h s) ≡ false
+inputs_are_no_packets sc h s = items_bring_no_packets s sc (to_line h) (present_items sc (to_line h))
 
 -- at the beginning of a step none is done
 pub at_first : (sc : Scenario) (h : List Entry) (s : ℕ) (items : List Input) → items ≡ inputs_at sc h s → taken_at h s ≡ [] → AtItems sc h s items 0
@@ -107,7 +107,7 @@ module _ {D : Type 0} (meaning : Meaning D) where
       let Q : ℕ → Type 0 = λ s. AreDone (scenario_seen p) (history_seen p) s after.items 0 in record {
         pass = dealt.pass;
         knows = knows_dealt wire p olds after i d crew low dealt;
-        no_packets = rw mine (inputs_plain (scenario_seen p) (history_seen p) (i + 1));
+        no_packets = rw mine (inputs_are_no_packets (scenario_seen p) (history_seen p) (i + 1));
         begun = subst P (sym dealt.seen) (subst Q (sym site) (λ up. at_first (scenario_seen p) (history_seen p) (i + 1) after.items mine (fresh (i + 1))));
       }
 

@@ -56,12 +56,12 @@ at_index [] k i low is = absurd (omega (arith, low))
 at_index (x ∷ items) zero i low is = ap Some (sym is)
 at_index (x ∷ items) (suc k) i low is = at_index items k i (omega (arith, low)) is
 
-pub plain_at : (items : List Input) (k : ℕ) (i : Input) → list_any is_delivery items ≡ false → slice_get items k ≡ Some i → is_delivery i ≡ false
-plain_at [] k i plain is = absurd cc
-plain_at (x ∷ items) zero i plain is =
+pub item_is_no_packet : (items : List Input) (k : ℕ) (i : Input) → list_any is_delivery items ≡ false → slice_get items k ≡ Some i → is_delivery i ≡ false
+item_is_no_packet [] k i plain is = absurd cc
+item_is_no_packet (x ∷ items) zero i plain is =
     let same : x ≡ i = cc in
     let P : Input → Type 0 = λ y. is_delivery y ≡ false in subst P same (neither (is_delivery x) (list_any is_delivery items) plain).0
-plain_at (x ∷ items) (suc k) i plain is = plain_at items k i (neither (is_delivery x) (list_any is_delivery items) plain).1 is
+item_is_no_packet (x ∷ items) (suc k) i plain is = item_is_no_packet items k i (neither (is_delivery x) (list_any is_delivery items) plain).1 is
 
 -- what is no delivery takes no packet
 pub takes_none : (sc : Scenario) (h : List Entry) (site : ℕ) (i : Input) → is_delivery i ≡ false → TakesLeast sc h site i

@@ -9,7 +9,7 @@ use Rattle.e3_fleet.specs.Stops.{arm_by}
 use Rattle.e3_fleet.proofs.Kept.{GoesOn, GoesWith, kept_more, kept_on}
 use Rattle.e3_fleet.proofs.Places.{get_low, get_set, get_set_other, set_length}
 use Rattle.e3_fleet.proofs.Rooms.{rooms_push}
-use Rattle.e3_fleet.proofs.Turns.{goes_other}
+use Rattle.e3_fleet.proofs.Numbers.{goes_other}
 use Rattle.e3_node.specs.Claims.{NodesKept}
 use Rattle.e3_node.specs.NodeStands.{NodeStands}
 use Rattle.e3_node.specs.NodeView.{NodeView, disk_of}

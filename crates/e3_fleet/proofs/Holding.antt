@@ -12,7 +12,7 @@ use Rattle.e3_node.specs.NodeStands.{NodeStands}
 use Rattle.e3_node.specs.NodeView.{NodeView}
 use Rattle.e3_node.proofs.Sharing.{no_growth}
 use Rattle.e3_play.specs.Settled.{is_asking}
-use Rattle.e3_play.proofs.Open.{asking_is_no_recovery}
+use Rattle.e3_play.proofs.DueItems.{asking_is_no_recovery}
 use Rattle.e3_turn.specs.Chronicles.{count_of, down_from, IsForeign}
 use Rattle.e3_turn.specs.Passes.{GrewByOthers, GrewByOwners, HasTurn, IsIdle, OwnsAll, SameOwners, last_of, owners_of, seen_by}
 use Rattle.e3_turn.proofs.Totals.{count_of_below}

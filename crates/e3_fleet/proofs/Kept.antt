@@ -1,7 +1,7 @@
 -- What the numbers of a disk came to, over one more entry.
 use Rattle.std.proofs.Common.{◌≡◌, ◌≢◌, ◌==◌, inl, inr, ◌⊎◌, ◌≤◌, ◌<◌, ◌+◌, ◌++◌, ◌∷◌, [], ℕ, suc, Bool, true, false, List, length, refl, sym, ap, subst, ◌∙◌, arith, eqb-true, eq-eqb}
 use Rattle.e3_disk.specs.Meters.{Meters, LAST, IsCounted, HasFailed, raised}
-use Rattle.e3_fleet.specs.Over.{HasServed, RoseBy, faults_at, is_fault}
+use Rattle.e3_fleet.specs.Over.{HasServed, HasGrownBy, faults_at, is_fault}
 use Rattle.e3_fleet.specs.Stops.{Arm, PayFor, arm_by, arms_of, calls_in, codes_in, cuts_at, ends_arm, is_cut, is_over, takes_of}
 use Rattle.e3_fleet.specs.Fleets.{HasKept, HasKeptWith}
 use Rattle.e3_fleet.proofs.Arming.{Costs, IsAll, IsBefore, IsLast, IsPart, at_place, calls_push, codes_push, counted_if, in_two, length_push, costs_own, over_push, own_push, pay_end, pay_less, pay_more, pay_over, raised_more, raised_none}
@@ -83,12 +83,12 @@ raise : (o x y n k m : ℕ) → x ≡ raised o n → y ≡ raised x k → m ≡ 
 raise o x y n k m was is all = is ∙ ap (λ z. raised z k) was ∙ raised_more o n k ∙ ap (λ z. raised o z) (sym all)
 
 -- the faults
-rises_on : (o x y n k m : ℕ) → y ≤ LAST → x ≤ y → RoseBy n o x → (k ≡ 0) ⊎ ((k ≡ 1) × HasFailed x y) → m ≡ n + k → RoseBy m o y
+rises_on : (o x y n k m : ℕ) → y ≤ LAST → x ≤ y → HasGrownBy n o x → (k ≡ 0) ⊎ ((k ≡ 1) × HasFailed x y) → m ≡ n + k → HasGrownBy m o y
 rises_on o x y n k m counted up (inr last) rose all = inr (omega (arith, last, counted, up))
 rises_on o x y n k m counted up (inl low) (inl none) all = inl (omega (arith, low, none, all, up))
 rises_on o x y n k m counted up (inl low) (inr rose) all = by (y == LAST) refl
   where
-    by : (b : Bool) → (y == LAST) ≡ b → RoseBy m o y
+    by : (b : Bool) → (y == LAST) ≡ b → HasGrownBy m o y
     by true is = inr (eqb-true y LAST is)
     by false is =
         let apart : y ≢ LAST = (λ e. true_not_false (sym (eq-eqb y LAST e) ∙ is)) in
@@ -119,7 +119,7 @@ fell_on f a o s x y goes faults stops was =
     omega (arith, own, past)
 
 -- and in all of it
-fell_all : (f a o s faults stops : ℕ) → faults < LAST → RoseBy f o faults → stops ≤ s + a → f + stops + o ≤ a + faults + s
+fell_all : (f a o s faults stops : ℕ) → faults < LAST → HasGrownBy f o faults → stops ≤ s + a → f + stops + o ≤ a + faults + s
 fell_all f a o s faults stops low (inl rose) spent = omega (arith, rose, spent)
 fell_all f a o s faults stops low (inr last) spent = absurd (omega (arith, low, last))
 
@@ -177,7 +177,7 @@ kept_in spare left sc h e site o x y counted goes was = record {
     arms : length (arms_of sc (h ++ e ∷ []) site) ≡ length (arms_of sc h site) + length (arm_by sc site e)
     arms = length_push sc h e site
 
-    faults : RoseBy (faults_at (h ++ e ∷ []) site) o.faults y.faults
+    faults : HasGrownBy (faults_at (h ++ e ∷ []) site) o.faults y.faults
     faults = rises_on o.faults x.faults y.faults (faults_at h site) (counted_if is_fault site e) (faults_at (h ++ e ∷ []) site) counted.faults goes.goes.grows
         was.served.faults goes.rose (own_push is_fault h e site)
 

@@ -1,7 +1,7 @@
 pub mod Arming
 pub mod Places
 pub mod Kept
-pub mod Turns
+pub mod Numbers
 pub mod Rooms
 pub mod Going
 pub mod Owned

@@ -8,7 +8,7 @@ use Rattle.e3_fleet.specs.Fleets.{cut_answer, input_answer, rise_answer}
 use Rattle.e3_fleet.specs.Stops.{arm_by, calls_of, is_cut, is_end}
 use Rattle.e3_fleet.proofs.Going.{Went}
 use Rattle.e3_fleet.proofs.Kept.{GoesOn, Took}
-use Rattle.e3_fleet.proofs.Turns.{goes_cut, goes_own, goes_stop, keeps_on, still, stop_apart}
+use Rattle.e3_fleet.proofs.Numbers.{goes_cut, goes_own, goes_stop, keeps_on, still, stop_apart}
 use Rattle.e3_node.specs.Ends.{FellOver, HasFailedToRise, HasRisen, is_fall}
 use Rattle.e3_site_log.specs.Ends.{IsReason, calls_for}
 use Rattle.e3_node.specs.NodeView.{NodeView, disk_of}

@@ -8,7 +8,7 @@ use Rattle.e3_fleet.specs.Stops.{part_of, rises_of, steps_of}
 use Rattle.e3_fleet.proofs.Arming.{Costs}
 use Rattle.e3_fleet.proofs.Kept.{Took, kept_in, kept_more, kept_on, kept_through}
 use Rattle.e3_fleet.proofs.Rooms.{rooms_push}
-use Rattle.e3_fleet.proofs.Turns.{goes_in, goes_own, keeps_on}
+use Rattle.e3_fleet.proofs.Numbers.{goes_in, goes_own, keeps_on}
 use Rattle.e3_node.specs.Batches.{fall_over, stepped}
 use Rattle.e3_site_log.specs.Ends.{IsReason, Takes, calls_for}
 use Rattle.e3_types.specs.declared.entries.Act.TheVariants.{Fall}

@@ -18,7 +18,7 @@ use Rattle.e3_fleet.proofs.Owned.{input_went, takes_so}
 use Rattle.e3_fleet.proofs.Places.{get_some}
 use Rattle.e3_fleet.proofs.Rooms.{rooms_push}
 use Rattle.e3_fleet.proofs.Together.{batch_kept, batch_rooms, fall_kept, fall_rooms}
-use Rattle.e3_fleet.proofs.Turns.{goes_other}
+use Rattle.e3_fleet.proofs.Numbers.{goes_other}
 use Rattle.e3_law_local.specs.Others.{AreOthers}
 use Rattle.e3_node.specs.Ends.{FellOver, is_fall}
 use Rattle.e3_site_log.specs.Ends.{IsReason}

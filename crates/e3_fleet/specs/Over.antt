@@ -38,8 +38,8 @@ abbrev pub faults_at : List Entry → ℕ → ℕ
 faults_at history site = count_by is_fault (own_entries site history)
 
 -- the count rose so often at least, or stands at its last value
-abbrev pub RoseBy : ℕ → ℕ → ℕ → Type 0
-RoseBy times before now = (before + times ≤ now) ⊎ (now ≡ LAST)
+abbrev pub HasGrownBy : ℕ → ℕ → ℕ → Type 0
+HasGrownBy times before now = (before + times ≤ now) ⊎ (now ≡ LAST)
 
 -- where the entry is one for want of room, its numbers are such
 abbrev pub HadNoRoom : Scenario → List Entry → ℕ → ℕ → Act → Type 0
@@ -63,7 +63,7 @@ FellByStops sc history site old new = (before after : List Entry) → history �
 -- its site whose line is entered; the calls and the codes of these arms add up to those of the stops; and its power was cut
 -- once for each cut of its site.
 pub record HasServed (sc : Scenario) (history : List Entry) (site : ℕ) (old new : Meters) : Type 0 where
-  pub faults : RoseBy (faults_at history site) old.faults new.faults
+  pub faults : HasGrownBy (faults_at history site) old.faults new.faults
   pub grows : old.faults ≤ new.faults
   pub capacity : new.capacity ≡ old.capacity
   pub arms : new.arms ≡ raised old.arms (length (arms_of sc history site))

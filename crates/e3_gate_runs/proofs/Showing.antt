@@ -15,7 +15,7 @@ use Rattle.e3_law_local.specs.Least.{AreFirstTo, queue_to}
 use Rattle.e3_node.specs.NodeStands.{NodeStands}
 use Rattle.e3_node.specs.NodeView.{NodeView}
 use Rattle.e3_node.specs.Turns.{history_seen, scenario_seen}
-use Rattle.e3_play.proofs.Open.{one_of_all, up_within}
+use Rattle.e3_play.proofs.DueItems.{one_of_all, up_within}
 use Rattle.e3_turn.specs.Passes.{GrewByOwners, Owns, SameOwners, seen_by}
 use Rattle.e3_types.specs.declared.entries.Entry.{Entry}
 use Rattle.e3_types.specs.declared.entries.Input.{Input}

@@ -13,49 +13,49 @@ use Rattle.e3_types.specs.declared.scenarios.Leave.TheVariants as leave
 use Rattle.e3_types.specs.Same.{same_numbers}
 use Rattle.e3_types.specs.Sets.{has_site, is_within, others}
 use Rattle.e3_types.proofs.SameSites.{same_numbers_refl, same_numbers_eq}
-use Rattle.e3_world.specs.Given.{BegunName, SaidSoFar, IsGiven, exist, is_begun, is_group, is_partition, count_ops, keeps_rules, say_item, close_step, steps_keep}
+use Rattle.e3_world.specs.Given.{BegunName, ItemsSoFar, IsGiven, exist, is_begun, is_group, is_partition, count_ops, keeps_rules, with_item, close_step, steps_keep}
 use Rattle.e3_gen.specs.declared.draws.RecordWords.{RecordWords}
 use Rattle.e3_gen.specs.Draws.{txn_words, behind_txns}
 use Rattle.e3_gen.specs.Items.{five, txn_name, sites_of, fellow, key_of, operations, cut_off, crashed, stopped, last_items, items_at, coordinator}
 use Rattle.e3_gen.specs.Generated.{items_to, step_of, scenario_with, generated_scenario}
 
 -- what is said with these names, operations and parts, between two steps
-abbrev said : List BegunName → List (List ℕ) → List (List ℕ) → SaidSoFar
-said begun ops parts = record { earlier = begun; fresh = []; ops = ops; parts = parts }
+abbrev items_between : List BegunName → List (List ℕ) → List (List ℕ) → ItemsSoFar
+items_between begun ops parts = record { earlier = begun; fresh = []; ops = ops; parts = parts }
 
 module _ (n : ℕ) (steps : List (List Item)) where
   -- steps of one item each keep the rules, and lead to what is said then
-  record Goes (k : SaidSoFar) (items : List Item) (l : SaidSoFar) : Type 0 where
+  record Goes (k : ItemsSoFar) (items : List Item) (l : ItemsSoFar) : Type 0 where
     keep : (more : List (List Item)) → steps_keep (scenario_with n steps) l more ≡ true → steps_keep (scenario_with n steps) k (map step_of items ++ more) ≡ true
 
-  nowhere : (k : SaidSoFar) → Goes k [] k
+  nowhere : (k : ItemsSoFar) → Goes k [] k
   nowhere k = record { keep = λ more is. is }
 
   both : (a b : Bool) → a ≡ true → b ≡ true → (a && b) ≡ true
   both a b e f = rw (e, f) refl
 
-  one : (k l m : SaidSoFar) (i : Item) (items : List Item) → keeps_rules (scenario_with n steps) k i ≡ true →
-      close_step (say_item (scenario_with n steps) k i) ≡ l → Goes l items m → Goes k (i ∷ items) m
+  one : (k l m : ItemsSoFar) (i : Item) (items : List Item) → keeps_rules (scenario_with n steps) k i ≡ true →
+      close_step (with_item (scenario_with n steps) k i) ≡ l → Goes l items m → Goes k (i ∷ items) m
   one k l m i items keeps leads goes = record {
     keep = λ more is.
-        both (keeps_rules (scenario_with n steps) k i && true) (steps_keep (scenario_with n steps) (close_step (say_item (scenario_with n steps) k i)) (map step_of items ++ more))
+        both (keeps_rules (scenario_with n steps) k i && true) (steps_keep (scenario_with n steps) (close_step (with_item (scenario_with n steps) k i)) (map step_of items ++ more))
         (both (keeps_rules (scenario_with n steps) k i) true keeps refl)
-        (subst (λ (x : SaidSoFar). steps_keep (scenario_with n steps) x (map step_of items ++ more) ≡ true) (sym leads) (goes.keep more is));
+        (subst (λ (x : ItemsSoFar). steps_keep (scenario_with n steps) x (map step_of items ++ more) ≡ true) (sym leads) (goes.keep more is));
   }
 
   map_both : (xs ys : List Item) (more : List (List Item)) → map step_of (xs ++ ys) ++ more ≡ map step_of xs ++ (map step_of ys ++ more)
   map_both [] ys more = refl
   map_both (x ∷ xs) ys more = ap (λ l. step_of x ∷ l) (map_both xs ys more)
 
-  followed : (k l m : SaidSoFar) (xs ys : List Item) → Goes k xs l → Goes l ys m → Goes k (xs ++ ys) m
+  followed : (k l m : ItemsSoFar) (xs ys : List Item) → Goes k xs l → Goes l ys m → Goes k (xs ++ ys) m
   followed k l m xs ys first second = record {
     keep = λ more is.
         subst (λ (z : List (List Item)). steps_keep (scenario_with n steps) k z ≡ true) (sym (map_both xs ys more)) (first.keep (map step_of ys ++ more) (second.keep more is));
   }
 
   -- a step that begins nothing leaves the names as they are
-  closed : (begun : List BegunName) (ops parts : List (List ℕ)) → said (begun ++ []) ops parts ≡ said begun ops parts
-  closed begun ops parts = ap (λ b. said b ops parts) (append-nil begun)
+  closed : (begun : List BegunName) (ops parts : List (List ℕ)) → items_between (begun ++ []) ops parts ≡ items_between begun ops parts
+  closed begun ops parts = ap (λ b. items_between b ops parts) (append-nil begun)
 
 or_right : (a b : Bool) → b ≡ true → (a || b) ≡ true
 or_right true b e = refl
@@ -102,20 +102,20 @@ record Did (ops : List (List ℕ)) (name : List ℕ) (now : List (List ℕ)) : T
   others_same : (q : List ℕ) → same_numbers q name ≡ false → count_ops now q ≡ count_ops ops q
 
 module _ (n : ℕ) (steps : List (List Item)) where
-  abbrev To : SaidSoFar → List Item → SaidSoFar → Type 0
+  abbrev To : ItemsSoFar → List Item → ItemsSoFar → Type 0
   To k items l = Goes n steps k items l
 
   -- what the operations of a transaction lead to
   record AllDone (begun : List BegunName) (ops parts : List (List ℕ)) (name : List ℕ) (items : List Item) : Type 0 where
     now : List (List ℕ)
-    goes : To (said begun ops parts) items (said begun now parts)
+    goes : To (items_between begun ops parts) items (items_between begun now parts)
     did : Did ops name now
 
   operate : (begun : List BegunName) (ops parts : List (List ℕ)) (name sites : List ℕ) (words : List RecordWords) →
       ((s : ℕ) → has_site sites s ≡ true → is_begun begun name (s ∷ []) ≡ true) → count_ops ops name + 2 * length sites ≤ 64 →
       AllDone begun ops parts name (operations name words sites)
-  operate begun ops parts name sites [] at few = record { now = ops; goes = nowhere n steps (said begun ops parts); did = record { others_same = λ q o. refl } }
-  operate begun ops parts name [] (w ∷ words) at few = record { now = ops; goes = nowhere n steps (said begun ops parts); did = record { others_same = λ q o. refl } }
+  operate begun ops parts name sites [] at few = record { now = ops; goes = nowhere n steps (items_between begun ops parts); did = record { others_same = λ q o. refl } }
+  operate begun ops parts name [] (w ∷ words) at few = record { now = ops; goes = nowhere n steps (items_between begun ops parts); did = record { others_same = λ q o. refl } }
   operate begun ops parts name (site ∷ sites) (w ∷ words) at few =
       let here : is_begun begun name (site ∷ []) ≡ true = at site (rw (eq-eqb site site refl) refl) in
       let once : List (List ℕ) = ops ++ name ∷ [] in
@@ -127,11 +127,11 @@ module _ (n : ℕ) (steps : List (List Item)) where
       record {
         now = rest.now;
         goes =
-            one n steps (said begun ops parts) (said begun once parts) (said begun rest.now parts)
+            one n steps (items_between begun ops parts) (items_between begun once parts) (items_between begun rest.now parts)
             (item.Write name (key_of site w.name) (decimal w.value)) (item.Read name (key_of site w.name) ∷ operations name words sites)
             (both_true (is_begun begun name ((key_of site w.name).site ∷ [])) (nat_lt (count_ops ops name) 64) (site_key site w.name begun name here) (below (count_ops ops name) 64 (omega (arith, few))))
             (closed n steps begun once parts)
-            (one n steps (said begun once parts) (said begun twice parts) (said begun rest.now parts)
+            (one n steps (items_between begun once parts) (items_between begun twice parts) (items_between begun rest.now parts)
             (item.Read name (key_of site w.name)) (operations name words sites)
             (both_true (is_begun begun name ((key_of site w.name).site ∷ [])) (nat_lt (count_ops once name) 64) (site_key site w.name begun name here) (below (count_ops once name) 64 (omega (arith, few, counted))))
             (closed n steps begun twice parts) rest.goes);
@@ -164,15 +164,15 @@ fits (suc (suc (suc (suc (suc (suc c)))))) low high = absurd (omega (arith, high
 
 module _ (n : ℕ) (steps : List (List Item)) (begun : List BegunName) (ops : List (List ℕ)) where
   -- between two steps, while all sites are one part
-  abbrev calm : SaidSoFar
-  calm = said begun ops (five ∷ [])
+  abbrev calm : ItemsSoFar
+  calm = items_between begun ops (five ∷ [])
 
   -- a step that says nothing new
-  idle : (parts : List (List ℕ)) (m : SaidSoFar) (i : Item) (items : List Item) → keeps_rules (scenario_with n steps) (said begun ops parts) i ≡ true →
-      say_item (scenario_with n steps) (said begun ops parts) i ≡ said begun ops parts → Goes n steps (said begun ops parts) items m →
-      Goes n steps (said begun ops parts) (i ∷ items) m
+  idle : (parts : List (List ℕ)) (m : ItemsSoFar) (i : Item) (items : List Item) → keeps_rules (scenario_with n steps) (items_between begun ops parts) i ≡ true →
+      with_item (scenario_with n steps) (items_between begun ops parts) i ≡ items_between begun ops parts → Goes n steps (items_between begun ops parts) items m →
+      Goes n steps (items_between begun ops parts) (i ∷ items) m
   idle parts m i items keeps same goes =
-      one n steps (said begun ops parts) (said begun ops parts) m i items keeps
+      one n steps (items_between begun ops parts) (items_between begun ops parts) m i items keeps
       (ap close_step same ∙ closed n steps begun ops parts) goes
 
   both_are : (a b : Bool) → a ≡ true → b ≡ true → (a && b) ≡ true
@@ -180,11 +180,11 @@ module _ (n : ℕ) (steps : List (List Item)) (begun : List BegunName) (ops : Li
 
   ends_cut_off : (name : List ℕ) (c : ℕ) → Fits c → is_begun begun name [] ≡ true → Goes n steps calm (cut_off name c) calm
   ends_cut_off name c fit known =
-      one n steps calm (said begun ops ((c ∷ []) ∷ others c five ∷ [])) calm (item.Split ((c ∷ []) ∷ others c five ∷ [])) _
+      one n steps calm (items_between begun ops ((c ∷ []) ∷ others c five ∷ [])) calm (item.Split ((c ∷ []) ∷ others c five ∷ [])) _
       (fit.parts n steps) (closed n steps begun ops ((c ∷ []) ∷ others c five ∷ []))
       (idle ((c ∷ []) ∷ others c five ∷ []) calm (item.Commit name) _ known refl
       (idle ((c ∷ []) ∷ others c five ∷ []) calm (item.Recover (others c five)) _ (both_are _ _ (fit.rest n steps) fit.one_part) refl
-      (one n steps (said begun ops ((c ∷ []) ∷ others c five ∷ [])) calm calm item.Merge (item.Recover five ∷ []) refl (closed n steps begun ops (five ∷ []))
+      (one n steps (items_between begun ops ((c ∷ []) ∷ others c five ∷ [])) calm calm item.Merge (item.Recover five ∷ []) refl (closed n steps begun ops (five ∷ []))
       (idle (five ∷ []) calm (item.Recover five) [] refl refl (nowhere n steps calm)))))
 
   ends_crashed : (name : List ℕ) (site : ℕ) → exist (scenario_with n steps) (site ∷ []) ≡ true → is_begun begun name [] ≡ true → Goes n steps calm (crashed name site) calm
@@ -227,7 +227,7 @@ names_differ i j small less other = by (same_numbers (txn_name i) (txn_name j)) 
 record Behind (n k : ℕ) (steps : List (List Item)) : Type 0 where
   begun : List BegunName
   ops : List (List ℕ)
-  goes : Goes n steps (said [] [] (five ∷ [])) (items_to n k) (said begun ops (five ∷ []))
+  goes : Goes n steps (items_between [] [] (five ∷ [])) (items_to n k) (items_between begun ops (five ∷ []))
   free : (j : ℕ) → k < j → j < 2 ^ 64 → is_begun begun (txn_name j) [] ≡ false
   none : (j : ℕ) → k < j → j < 2 ^ 64 → count_ops ops (txn_name j) ≡ 0
 
@@ -242,7 +242,7 @@ module _ (n k : ℕ) (steps : List (List Item)) (was : Behind n k steps) (small 
   -- what the transaction's operations and its items lead to
   record Grown (c : ℕ) (words : List RecordWords) : Type 0 where
     done : AllDone n steps (more_begun c) was.ops (five ∷ []) own_name (operations own_name words (sites_of c))
-    goes : Goes n steps (said was.begun was.ops (five ∷ [])) (items_at (suc k) c words) (said (more_begun c) done.now (five ∷ []))
+    goes : Goes n steps (items_between was.begun was.ops (five ∷ [])) (items_at (suc k) c words) (items_between (more_begun c) done.now (five ∷ []))
 
   not_false : (b : Bool) → b ≡ false → not b ≡ true
   not_false b e = rw e refl
@@ -260,13 +260,13 @@ module _ (n k : ℕ) (steps : List (List Item)) (was : Behind n k steps) (small 
       record {
         done = done;
         goes =
-            one n steps (said was.begun was.ops (five ∷ [])) (said (more_begun c) was.ops (five ∷ [])) (said (more_begun c) done.now (five ∷ []))
+            one n steps (items_between was.begun was.ops (five ∷ [])) (items_between (more_begun c) was.ops (five ∷ [])) (items_between (more_begun c) done.now (five ∷ []))
             (item.Begin own_name c (sites_of c)) (operations own_name words (sites_of c) ++ last_items (suc k % 10) own_name c)
             (both_are n steps [] [] (is_group (scenario_with n steps) (sites_of c) && has_site (sites_of c) c) (not (is_begun (was.begun ++ []) own_name []))
             (both_are n steps [] [] (is_group (scenario_with n steps) (sites_of c)) (has_site (sites_of c) c) (fit.group n steps) fit.has)
             (not_false (is_begun (was.begun ++ []) own_name []) (ap (λ b. is_begun b own_name []) (append-nil was.begun) ∙ was.free (suc k) (omega arith) small)))
             refl
-            (followed n steps (said (more_begun c) was.ops (five ∷ [])) (said (more_begun c) done.now (five ∷ [])) (said (more_begun c) done.now (five ∷ []))
+            (followed n steps (items_between (more_begun c) was.ops (five ∷ [])) (items_between (more_begun c) done.now (five ∷ [])) (items_between (more_begun c) done.now (five ∷ []))
             (operations own_name words (sites_of c)) (last_items (suc k % 10) own_name c) done.goes
             (ends n steps (more_begun c) done.now (suc k % 10) own_name c fit (begun_last was.begun own_name (sites_of c) [] refl)));
       }
@@ -280,8 +280,8 @@ module _ (n k : ℕ) (steps : List (List Item)) (was : Behind n k steps) (small 
       record {
         begun = more_begun c;
         ops = grown.done.now;
-        goes = subst (λ (items : List Item). Goes n steps (said [] [] (five ∷ [])) items (said (more_begun c) grown.done.now (five ∷ []))) (sym same)
-            (followed n steps (said [] [] (five ∷ [])) (said was.begun was.ops (five ∷ [])) (said (more_begun c) grown.done.now (five ∷ []))
+        goes = subst (λ (items : List Item). Goes n steps (items_between [] [] (five ∷ [])) items (items_between (more_begun c) grown.done.now (five ∷ []))) (sym same)
+            (followed n steps (items_between [] [] (five ∷ [])) (items_between was.begun was.ops (five ∷ [])) (items_between (more_begun c) grown.done.now (five ∷ []))
             (items_to n k) (items_at (suc k) c words) was.goes grown.goes);
         free = λ j more less. new_still was.begun (txn_name j) own_name (sites_of c) (was.free j (omega (arith, more)) less) (other_name j more less);
         none = λ j more less. grown.done.did.others_same (txn_name j) (other_name j more less) ∙ was.none j (omega (arith, more)) less;
@@ -291,7 +291,7 @@ behind : (n k : ℕ) (steps : List (List Item)) → k < 2 ^ 64 → Behind n k st
 behind n zero steps small = record {
   begun = [];
   ops = [];
-  goes = nowhere n steps (said [] [] (five ∷ []));
+  goes = nowhere n steps (items_between [] [] (five ∷ []));
   free = λ j more less. refl;
   none = λ j more less. refl;
 }
@@ -314,5 +314,5 @@ given n small =
       rows_at_sites = refl;
       rows_differ = refl;
       odds = omega arith;
-      steps = subst (λ (z : List (List Item)). steps_keep (generated_scenario n) (said [] [] (five ∷ [])) z ≡ true) (append-nil (map step_of (items_to n n))) (all.goes.keep [] refl);
+      steps = subst (λ (z : List (List Item)). steps_keep (generated_scenario n) (items_between [] [] (five ∷ [])) z ≡ true) (append-nil (map step_of (items_to n n))) (all.goes.keep [] refl);
     }

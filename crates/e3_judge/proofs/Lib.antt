@@ -8,7 +8,7 @@ pub mod Stepping
 pub mod AllSites
 pub mod CopiesLeft
 pub mod Numbering
-pub mod Splitting
+pub mod AroundLines
 pub mod Standings
 pub mod Adding
 pub mod Placing

@@ -6,9 +6,9 @@ ghost use Rattle.e3_world.specs.Packets.{is_line};
 ghost use Rattle.e3_world.specs.Progress.{up_behind};
 
 use crate::counts::add;
-use crate::packets::{is_line, present_items};
+use crate::packets::present_items;
 use crate::prefix::Prefix;
-use e3_readings::{bind, inputs_asked, inputs_to, nothing_bound};
+use e3_readings::{bind, inputs_asked, inputs_to, is_delivery, is_line, nothing_bound};
 use e3_types::{Act, Entry, Input, List, NoMemory};
 use e3_world::Addressed;
 
@@ -47,13 +47,6 @@ pub fn to_line(history: &[Entry]) -> &[Entry]
 {
     let end = line_end(history);
     &history[..end]
-}
-
-// The input is a delivery.
-fn is_delivery(input: &Input) -> bool
-    ensures { result ≡ is_delivery input.now }
-{
-    matches!(input, Input::Deliver { .. })
 }
 
 // How many of these inputs are items.

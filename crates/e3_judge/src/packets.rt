@@ -1,22 +1,15 @@
 // The packets of a history: how many were sent, and which are pending.
 ghost use Rattle.std.specs.Prelude.{◌≡◌, ◌++◌, length, IfOk};
 ghost use Rattle.e3_judge.specs.LeftOf.{left_of};
-ghost use Rattle.e3_world.specs.Fate.{copies_of, fate_by_luck, same_part};
+ghost use Rattle.e3_world.specs.Fate.{copies_of, same_part};
 ghost use Rattle.e3_world.specs.Packets.{fate_of, is_calm, is_line, lines, outs_of, parts_of, pending, present_items, sent, taken, taken_by, takes_input};
 
 use crate::counts::add;
 use crate::prefix::Prefix;
 use crate::steps::is_site;
-use e3_readings::step_items;
+use e3_readings::{is_line, step_items};
 use e3_types::{Act, Entry, Input, Item, List, NoMemory, Packet, Scenario, SiteSet};
-use e3_world::fate_word;
-
-/// The entry is a line.
-pub(crate) fn is_line(entry: &Entry) -> bool
-    ensures { result ≡ is_line entry.now }
-{
-    matches!(entry.act, Act::Line { .. })
-}
+use e3_world::{copies_by_luck, fate_word, same_part};
 
 /// How many lines there are.
 pub fn lines(history: &[Entry]) -> u64
@@ -66,13 +59,6 @@ pub fn is_calm(items: &[Item]) -> bool
     matches!(items, [Item::Recover { .. }, ..])
 }
 
-// Some part has both sites.
-fn same_part(parts: &[SiteSet], s: u32, u: u32) -> bool
-    ensures { result ≡ same_part parts.now s u }
-{
-    parts.iter().any(|part| part.has(s) && part.has(u))
-}
-
 // Some part of the network has both sites. At first all sites are one part.
 fn is_joined(scenario: &Scenario, before: &[Entry], s: u32, u: u32) -> bool
     ensures { result ≡ same_part (parts_of scenario.now before.now) s u }
@@ -86,19 +72,6 @@ fn is_joined(scenario: &Scenario, before: &[Entry], s: u32, u: u32) -> bool
     joined
 }
 
-// How many copies luck gives, by a number from 0 to 99.
-fn copies_by_luck(loss: u32, repeat: u32, x: u32) -> u64
-    ensures { result ≡ copies_of (fate_by_luck loss repeat x) }
-{
-    if x < loss {
-        0
-    } else if (x as u64) < loss as u64 + repeat as u64 {
-        2
-    } else {
-        1
-    }
-}
-
 // How many copies of a packet are to be delivered, by the parts, the calm and the luck where it is sent.
 fn copies(scenario: &Scenario, before: &[Entry], packet: &Packet) -> u64
     ensures { result ≡ copies_of (fate_of scenario.now before.now packet.now) }
@@ -109,11 +82,11 @@ fn copies(scenario: &Scenario, before: &[Entry], packet: &Packet) -> u64
     if is_calm(present_items(scenario, before)) {
         return 1;
     }
-    copies_by_luck(
+    u64::from(copies_by_luck(
         scenario.loss,
         scenario.repeat,
         fate_word(scenario.luck, packet.number) % 100,
-    )
+    ))
 }
 
 // The input is the delivery of the packet with this number.

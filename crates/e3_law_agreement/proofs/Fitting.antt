@@ -32,7 +32,7 @@ use Rattle.e3_law_agreement.proofs.Refinement.Lists.{in_left, in_map, in_flat_ma
 use Rattle.e3_law_agreement.proofs.Refinement.Sites.{within_in, within_from}
 use Rattle.e3_law_agreement.proofs.Refinement.Following.{in_from_contains}
 use Rattle.e3_law_agreement.proofs.Named.{begun, ItemNamed, StepNamed, Names, names_of_steps}
-use Rattle.e3_law_agreement.proofs.Counting.{Counted, step_case, step_on, counted_on, counted_start}
+use Rattle.e3_law_agreement.proofs.BegunNames.{Counted, step_case, step_on, counted_on, counted_start}
 use Rattle.e3_law_steps.proofs.Items.{plan_is, binding, round_of}
 
 -- what is bound goes on to be bound

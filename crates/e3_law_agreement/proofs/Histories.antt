@@ -22,7 +22,7 @@ use Rattle.e3_world.specs.Moves.{log_of, unnumbered, Silent, Move, Tail, Past, o
 use Rattle.e3_world.specs.Progress.{up_behind}
 use Rattle.e3_world.specs.Sound.{sends, WasSent, step_move, records_in_turn}
 use Rattle.e3_world.proofs.InTrail.{due_was_sent}
-use Rattle.e3_world.proofs.Numbers.{entered_move, step_move_plain}
+use Rattle.e3_world.proofs.Numbers.{entered_move, step_move_unnumbered}
 use Rattle.e3_world.proofs.Pushes.{past_push}
 use Rattle.e3_world.proofs.Readings.{own_same, own_other, up_same, up_other}
 use Rattle.e3_world.proofs.Trails.{trail_moves}
@@ -74,7 +74,7 @@ due_taken sc h site (input.Elect u group) due fits = (fits refl, tt)
 -- the move of a step in the trail
 move_is : (sc : Scenario) (h : List Entry) (site : ℕ) (i : Input) → step_move sc site (moves_of sc h site) i ≡ step_move sc site (moves_at site (trail_of sc h)) (unnumbered_input i)
 move_is sc h site i =
-    ap (λ z. step_move sc site z i) (sym (trail_moves sc site h)) ∙ sym (step_move_plain sc site (moves_at site (trail_of sc h)) i)
+    ap (λ z. step_move sc site z i) (sym (trail_moves sc site h)) ∙ sym (step_move_unnumbered sc site (moves_at site (trail_of sc h)) i)
 
 step_made : (sc : Scenario) (h : List Entry) (site : ℕ) (i : Input) (records : List Record) (outs : List Packet) (events : List Told) → IsStep sc h site i (Step i records outs events)
     → (is_delivery i ≡ false → MayTake site i) → MadeAfter sc (trail_of sc h) (moves_of_act sc site (past_of sc site (own_entries site h)) (Step i records outs events))

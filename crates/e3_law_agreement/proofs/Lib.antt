@@ -1,6 +1,6 @@
 pub mod Named
 pub mod Positions
-pub mod Counting
+pub mod BegunNames
 pub mod Fitting
 pub mod Histories
 pub mod Saying

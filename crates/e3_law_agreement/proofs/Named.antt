@@ -8,7 +8,7 @@ use Rattle.e3_types.specs.declared.scenarios.Scenario.{Scenario}
 use Rattle.e3_types.specs.Same.{same_numbers}
 use Rattle.e3_types.specs.Sets.{has_site, is_within, is_set}
 use Rattle.e3_types.proofs.SameSites.{same_numbers_refl, same_numbers_eq}
-use Rattle.e3_world.specs.Given.{BegunName, SaidSoFar, is_begun, count_ops, is_group, keeps_rules, say_item, items_keep, is_step_form, close_step, steps_keep}
+use Rattle.e3_world.specs.Given.{BegunName, ItemsSoFar, is_begun, count_ops, is_group, keeps_rules, with_item, items_keep, is_step_form, close_step, steps_keep}
 use Rattle.e3_law_agreement.specs.Logs.{IsIn}
 use Rattle.e3_law_agreement.proofs.Refinement.Lists.{in_left, in_right}
 use Rattle.e3_law_agreement.proofs.Protocol.Reached.{in_parts}
@@ -17,7 +17,7 @@ abbrev pub begun : List ℕ → List ℕ → BegunName
 begun name sites = record { name = name; sites = sites }
 
 -- all names that are said so far
-abbrev total : SaidSoFar → List BegunName
+abbrev total : ItemsSoFar → List BegunName
 total k = k.earlier ++ k.fresh
 
 -- a name has one set of sites
@@ -70,42 +70,42 @@ one_more bs name sites one free n s t h k = go (in_parts (begun n s) bs (begun n
     go a (inr (inr e)) = absurd e
 
 -- what one item keeps
-pub record Kept (k l : SaidSoFar) : Type 0 where
+pub record Kept (k l : ItemsSoFar) : Type 0 where
   pub one : OneEach (total k) → OneEach (total l)
   pub sub : Sub (total k) (total l)
   pub earlier : l.earlier ≡ k.earlier
 
-same_kept : (k l : SaidSoFar) → l.earlier ≡ k.earlier → l.fresh ≡ k.fresh → Kept k l
+same_kept : (k l : ItemsSoFar) → l.earlier ≡ k.earlier → l.fresh ≡ k.fresh → Kept k l
 same_kept k l e f =
     let same : total l ≡ total k = ap (λ z. z ++ l.fresh) e ∙ ap (λ z. k.earlier ++ z) f in
     record { one = λ o. subst OneEach (sym same) o; sub = λ b h. subst (λ z. IsIn b z) (sym same) h; earlier = e }
 
-item_kept : (sc : Scenario) (k : SaidSoFar) (it : Item) → keeps_rules sc k it ≡ true → Kept k (say_item sc k it)
+item_kept : (sc : Scenario) (k : ItemsSoFar) (it : Item) → keeps_rules sc k it ≡ true → Kept k (with_item sc k it)
 item_kept sc k (item.Begin name site sites) is =
     let p = and_parts (is_group sc sites && has_site sites site) (not (is_begun (k.earlier ++ k.fresh) name [])) is in
-    let grows : total (say_item sc k (item.Begin name site sites)) ≡ total k ++ begun name sites ∷ [] = sym (append_assoc k.earlier k.fresh (begun name sites ∷ [])) in
+    let grows : total (with_item sc k (item.Begin name site sites)) ≡ total k ++ begun name sites ∷ [] = sym (append_assoc k.earlier k.fresh (begun name sites ∷ [])) in
     record {
       one = λ o. subst OneEach (sym grows) (one_more (total k) name sites o p.1);
       sub = λ b h. subst (λ z. IsIn b z) (sym grows) (in_left b (total k) (begun name sites ∷ []) h);
       earlier = refl;
     }
-item_kept sc k (item.Read name key) is = same_kept k (say_item sc k (item.Read name key)) refl refl
-item_kept sc k (item.Write name key val) is = same_kept k (say_item sc k (item.Write name key val)) refl refl
-item_kept sc k (item.Commit name) is = same_kept k (say_item sc k (item.Commit name)) refl refl
-item_kept sc k (item.Cancel name) is = same_kept k (say_item sc k (item.Cancel name)) refl refl
-item_kept sc k (item.Expire site name) is = same_kept k (say_item sc k (item.Expire site name)) refl refl
-item_kept sc k (item.Elect site name sites) is = same_kept k (say_item sc k (item.Elect site name sites)) refl refl
-item_kept sc k (item.Recover sites) is = same_kept k (say_item sc k (item.Recover sites)) refl refl
-item_kept sc k (item.Split parts) is = same_kept k (say_item sc k (item.Split parts)) refl refl
-item_kept sc k item.Merge is = same_kept k (say_item sc k item.Merge) refl refl
-item_kept sc k (item.Crash site) is = same_kept k (say_item sc k (item.Crash site)) refl refl
-item_kept sc k (item.Restart site) is = same_kept k (say_item sc k (item.Restart site)) refl refl
-item_kept sc k (item.Stop site count leave) is = same_kept k (say_item sc k (item.Stop site count leave)) refl refl
+item_kept sc k (item.Read name key) is = same_kept k (with_item sc k (item.Read name key)) refl refl
+item_kept sc k (item.Write name key val) is = same_kept k (with_item sc k (item.Write name key val)) refl refl
+item_kept sc k (item.Commit name) is = same_kept k (with_item sc k (item.Commit name)) refl refl
+item_kept sc k (item.Cancel name) is = same_kept k (with_item sc k (item.Cancel name)) refl refl
+item_kept sc k (item.Expire site name) is = same_kept k (with_item sc k (item.Expire site name)) refl refl
+item_kept sc k (item.Elect site name sites) is = same_kept k (with_item sc k (item.Elect site name sites)) refl refl
+item_kept sc k (item.Recover sites) is = same_kept k (with_item sc k (item.Recover sites)) refl refl
+item_kept sc k (item.Split parts) is = same_kept k (with_item sc k (item.Split parts)) refl refl
+item_kept sc k item.Merge is = same_kept k (with_item sc k item.Merge) refl refl
+item_kept sc k (item.Crash site) is = same_kept k (with_item sc k (item.Crash site)) refl refl
+item_kept sc k (item.Restart site) is = same_kept k (with_item sc k (item.Restart site)) refl refl
+item_kept sc k (item.Stop site count leave) is = same_kept k (with_item sc k (item.Stop site count leave)) refl refl
 
 single : (x : ℕ) (s : List ℕ) → is_within (x ∷ []) s ≡ true → has_site s x ≡ true
 single x s is = (and_parts (has_site s x) true is).0
 
-item_named : (sc : Scenario) (k : SaidSoFar) (it : Item) (all : List BegunName) → keeps_rules sc k it ≡ true → Sub (total (say_item sc k it)) all → Sub k.earlier all → ItemNamed all it
+item_named : (sc : Scenario) (k : ItemsSoFar) (it : Item) (all : List BegunName) → keeps_rules sc k it ≡ true → Sub (total (with_item sc k it)) all → Sub k.earlier all → ItemNamed all it
 item_named sc k (item.Begin name site sites) all is sub early =
     let p = and_parts (is_group sc sites && has_site sites site) (not (is_begun (k.earlier ++ k.fresh) name [])) is in
     let q = and_parts (is_group sc sites) (has_site sites site) p.0 in
@@ -132,69 +132,69 @@ item_named sc k (item.Crash site) all is sub early = tt
 item_named sc k (item.Restart site) all is sub early = tt
 item_named sc k (item.Stop site count leave) all is sub early = tt
 
-kept_self : (k : SaidSoFar) → Kept k k
+kept_self : (k : ItemsSoFar) → Kept k k
 kept_self k = record { one = λ o. o; sub = λ b h. h; earlier = refl }
 
-kept_trans : (k l m : SaidSoFar) → Kept k l → Kept l m → Kept k m
+kept_trans : (k l m : ItemsSoFar) → Kept k l → Kept l m → Kept k m
 kept_trans k l m a b = record { one = λ o. b.one (a.one o); sub = λ x h. b.sub x (a.sub x h); earlier = b.earlier ∙ a.earlier }
 
-items_kept : (sc : Scenario) (k : SaidSoFar) (items : List Item) → items_keep sc k items ≡ true → Kept k (fold (say_item sc) k items)
+items_kept : (sc : Scenario) (k : ItemsSoFar) (items : List Item) → items_keep sc k items ≡ true → Kept k (fold (with_item sc) k items)
 items_kept sc k [] is = kept_self k
 items_kept sc k (it ∷ items) is =
-    let p = and_parts (keeps_rules sc k it) (items_keep sc (say_item sc k it) items) is in
-    kept_trans k (say_item sc k it) (fold (say_item sc) (say_item sc k it) items) (item_kept sc k it p.0) (items_kept sc (say_item sc k it) items p.1)
+    let p = and_parts (keeps_rules sc k it) (items_keep sc (with_item sc k it) items) is in
+    kept_trans k (with_item sc k it) (fold (with_item sc) (with_item sc k it) items) (item_kept sc k it p.0) (items_kept sc (with_item sc k it) items p.1)
 
-items_named : (sc : Scenario) (k : SaidSoFar) (items : List Item) (all : List BegunName) → items_keep sc k items ≡ true → Sub (total (fold (say_item sc) k items)) all
+items_named : (sc : Scenario) (k : ItemsSoFar) (items : List Item) (all : List BegunName) → items_keep sc k items ≡ true → Sub (total (fold (with_item sc) k items)) all
     → (it : Item) → IsIn it items → ItemNamed all it
 items_named sc k [] all is sub it h = absurd h
 items_named sc k (x ∷ items) all is sub it (inl e) =
-    let p = and_parts (keeps_rules sc k x) (items_keep sc (say_item sc k x) items) is in
-    let first : Sub (total (say_item sc k x)) all = λ b h. sub b ((items_kept sc (say_item sc k x) items p.1).sub b h) in
+    let p = and_parts (keeps_rules sc k x) (items_keep sc (with_item sc k x) items) is in
+    let first : Sub (total (with_item sc k x)) all = λ b h. sub b ((items_kept sc (with_item sc k x) items p.1).sub b h) in
     subst (λ (z : Item). ItemNamed all z) (sym e)
     (item_named sc k x all p.0 first (λ b h. first b ((item_kept sc k x p.0).sub b (in_left b k.earlier k.fresh h))))
 items_named sc k (x ∷ items) all is sub it (inr h) =
-    let p = and_parts (keeps_rules sc k x) (items_keep sc (say_item sc k x) items) is in
-    items_named sc (say_item sc k x) items all p.1 sub it h
+    let p = and_parts (keeps_rules sc k x) (items_keep sc (with_item sc k x) items) is in
+    items_named sc (with_item sc k x) items all p.1 sub it h
 
 -- what is said behind all steps
-abbrev at_end : Scenario → SaidSoFar → List (List Item) → SaidSoFar
-at_end sc k steps = fold (λ so_far items. close_step (fold (say_item sc) so_far items)) k steps
+abbrev at_end : Scenario → ItemsSoFar → List (List Item) → ItemsSoFar
+at_end sc k steps = fold (λ so_far items. close_step (fold (with_item sc) so_far items)) k steps
 
-close_total : (k : SaidSoFar) → total (close_step k) ≡ total k
+close_total : (k : ItemsSoFar) → total (close_step k) ≡ total k
 close_total k = append-nil (k.earlier ++ k.fresh)
 
-steps_sub : (sc : Scenario) (k : SaidSoFar) (steps : List (List Item)) → steps_keep sc k steps ≡ true → Sub (total k) (total (at_end sc k steps))
+steps_sub : (sc : Scenario) (k : ItemsSoFar) (steps : List (List Item)) → steps_keep sc k steps ≡ true → Sub (total k) (total (at_end sc k steps))
 steps_sub sc k [] is b h = h
 steps_sub sc k (items ∷ steps) is b h =
-    let p = and_parts (is_step_form items && items_keep sc k items) (steps_keep sc (close_step (fold (say_item sc) k items)) steps) is in
+    let p = and_parts (is_step_form items && items_keep sc k items) (steps_keep sc (close_step (fold (with_item sc) k items)) steps) is in
     let q = and_parts (is_step_form items) (items_keep sc k items) p.0 in
-    steps_sub sc (close_step (fold (say_item sc) k items)) steps p.1 b (subst (λ z. IsIn b z) (sym (close_total (fold (say_item sc) k items))) ((items_kept sc k items q.1).sub b h))
+    steps_sub sc (close_step (fold (with_item sc) k items)) steps p.1 b (subst (λ z. IsIn b z) (sym (close_total (fold (with_item sc) k items))) ((items_kept sc k items q.1).sub b h))
 
-steps_one : (sc : Scenario) (k : SaidSoFar) (steps : List (List Item)) → steps_keep sc k steps ≡ true → OneEach (total k) → OneEach (total (at_end sc k steps))
+steps_one : (sc : Scenario) (k : ItemsSoFar) (steps : List (List Item)) → steps_keep sc k steps ≡ true → OneEach (total k) → OneEach (total (at_end sc k steps))
 steps_one sc k [] is one = one
 steps_one sc k (items ∷ steps) is one =
-    let p = and_parts (is_step_form items && items_keep sc k items) (steps_keep sc (close_step (fold (say_item sc) k items)) steps) is in
+    let p = and_parts (is_step_form items && items_keep sc k items) (steps_keep sc (close_step (fold (with_item sc) k items)) steps) is in
     let q = and_parts (is_step_form items) (items_keep sc k items) p.0 in
-    steps_one sc (close_step (fold (say_item sc) k items)) steps p.1 (subst OneEach (sym (close_total (fold (say_item sc) k items))) ((items_kept sc k items q.1).one one))
+    steps_one sc (close_step (fold (with_item sc) k items)) steps p.1 (subst OneEach (sym (close_total (fold (with_item sc) k items))) ((items_kept sc k items q.1).one one))
 
 -- a step of a scenario that keeps the rules
 pub record StepNamed (all : List BegunName) (items : List Item) : Type 0 where
   pub form : is_step_form items ≡ true
   pub named : (it : Item) → IsIn it items → ItemNamed all it
 
-steps_named : (sc : Scenario) (k : SaidSoFar) (steps : List (List Item)) (all : List BegunName) → steps_keep sc k steps ≡ true → Sub (total (at_end sc k steps)) all
+steps_named : (sc : Scenario) (k : ItemsSoFar) (steps : List (List Item)) (all : List BegunName) → steps_keep sc k steps ≡ true → Sub (total (at_end sc k steps)) all
     → (items : List Item) → IsIn items steps → StepNamed all items
 steps_named sc k [] all is sub items h = absurd h
 steps_named sc k (x ∷ steps) all is sub items (inl e) =
-    let p = and_parts (is_step_form x && items_keep sc k x) (steps_keep sc (close_step (fold (say_item sc) k x)) steps) is in
+    let p = and_parts (is_step_form x && items_keep sc k x) (steps_keep sc (close_step (fold (with_item sc) k x)) steps) is in
     let q = and_parts (is_step_form x) (items_keep sc k x) p.0 in
     subst (λ (z : List Item). StepNamed all z) (sym e) (record {
       form = q.0;
-      named = items_named sc k x all q.1 (λ b h. sub b (steps_sub sc (close_step (fold (say_item sc) k x)) steps p.1 b (subst (λ z. IsIn b z) (sym (close_total (fold (say_item sc) k x))) h)));
+      named = items_named sc k x all q.1 (λ b h. sub b (steps_sub sc (close_step (fold (with_item sc) k x)) steps p.1 b (subst (λ z. IsIn b z) (sym (close_total (fold (with_item sc) k x))) h)));
     })
 steps_named sc k (x ∷ steps) all is sub items (inr h) =
-    let p = and_parts (is_step_form x && items_keep sc k x) (steps_keep sc (close_step (fold (say_item sc) k x)) steps) is in
-    steps_named sc (close_step (fold (say_item sc) k x)) steps all p.1 sub items h
+    let p = and_parts (is_step_form x && items_keep sc k x) (steps_keep sc (close_step (fold (with_item sc) k x)) steps) is in
+    steps_named sc (close_step (fold (with_item sc) k x)) steps all p.1 sub items h
 
 -- the names of a scenario: each has one set of sites, and each item names sites of it
 pub record Names (steps : List (List Item)) : Type 0 where
@@ -202,7 +202,7 @@ pub record Names (steps : List (List Item)) : Type 0 where
   pub one : OneEach all
   pub each : (items : List Item) → IsIn items steps → StepNamed all items
 
-pub names_of_steps : (sc : Scenario) (k : SaidSoFar) (steps : List (List Item)) → k.earlier ≡ [] → k.fresh ≡ [] → steps_keep sc k steps ≡ true → Names steps
+pub names_of_steps : (sc : Scenario) (k : ItemsSoFar) (steps : List (List Item)) → k.earlier ≡ [] → k.fresh ≡ [] → steps_keep sc k steps ≡ true → Names steps
 names_of_steps sc k steps none free is = record {
   all = total (at_end sc k steps);
   one = steps_one sc k steps is (λ name s t h. absurd (subst (λ z. IsIn (begun name s) z) (ap (λ z. z ++ k.fresh) none ∙ free) h));

@@ -143,9 +143,9 @@ trail_once sc before (m ∷ rest) made more once =
         (quiet_more t s n (flat_map sends before) (sends m) (log_by (moves_at s before)) [] (move_other sc before m.site m.did made more.0 t s n other) (once t s n))))
 
 -- numbers of packets do not matter
-count_plain : (s : ℕ) (t : Txn) (n : ℕ) (ps : List Packet) → count_by (reports_of s t n) (map unnumbered ps) ≡ count_by (reports_of s t n) ps
-count_plain s t n [] = refl
-count_plain s t n (p ∷ ps) = count_cons (reports_of s t n) (unnumbered p) (map unnumbered ps) ∙ ap (λ k. one_if (reports_of s t n p) + k) (count_plain s t n ps) ∙ sym (count_cons (reports_of s t n) p ps)
+count_unnumbered : (s : ℕ) (t : Txn) (n : ℕ) (ps : List Packet) → count_by (reports_of s t n) (map unnumbered ps) ≡ count_by (reports_of s t n) ps
+count_unnumbered s t n [] = refl
+count_unnumbered s t n (p ∷ ps) = count_cons (reports_of s t n) (unnumbered p) (map unnumbered ps) ∙ ap (λ k. one_if (reports_of s t n p) + k) (count_unnumbered s t n ps) ∙ sym (count_cons (reports_of s t n) p ps)
 
 -- a site of a legal history reports at most once for a number
 pub reports_once : (sc : Scenario) (h : List Entry) (t : Txn) (s n : ℕ) → IsGiven sc → IsLegal sc h → count_by (reports_of s t n) (sent h) ≤ 1
@@ -155,7 +155,7 @@ reports_once sc h t s n given legal = by (trail_once sc [] (trail_of sc h) tt ma
     made = legal_made sc h legal (given_fit sc h given legal)
 
     same : count_by (reports_of s t n) (flat_map sends (trail_of sc h)) ≡ count_by (reports_of s t n) (sent h)
-    same = ap (count_by (reports_of s t n)) (trail_sends sc h) ∙ count_plain s t n (sent h)
+    same = ap (count_by (reports_of s t n)) (trail_sends sc h) ∙ count_unnumbered s t n (sent h)
 
     by : SentOnce t s n (flat_map sends (trail_of sc h)) (log_by (moves_at s (trail_of sc h))) → count_by (reports_of s t n) (sent h) ≤ 1
     by (inl none) = omega (arith, sym same, none)

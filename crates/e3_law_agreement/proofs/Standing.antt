@@ -20,7 +20,7 @@ use Rattle.e3_world.specs.Moves.{Move, Past, own_entries, moves_at, moves_of, lo
 use Rattle.e3_world.specs.Packets.{outs_of, sent}
 use Rattle.e3_world.specs.Safe.{Said, said_told, said_msg, said_act, ToldStands}
 use Rattle.e3_world.specs.Sound.{WasSent}
-use Rattle.e3_world.proofs.Pushes.{legal_front, life_log_at, past_push, step_plain}
+use Rattle.e3_world.proofs.Pushes.{legal_front, life_log_at, past_push, step_unnumbered}
 use Rattle.e3_world.specs.Steps.{step_of}
 use Rattle.std.proofs.lemmas.List.Elements.{Contains-append_right}
 use Rattle.e3_world.proofs.Readings.{own_same, own_other}
@@ -113,13 +113,13 @@ step_stands sc h site i records outs events s given legal step fits k = by (in_p
     tells =
         let now = step_tells sc (trail_of sc h) site (unnumbered_input i) is_made taken.0 taken.1 (made_lives_tell sc (trail_of sc h) is_made site) in
         subst (λ z. AllTold z (step_of sc.weights site (incarnation_of z) i)) (trail_moves sc site h)
-        (subst (λ (m : Made). AllTold (moves_at site (trail_of sc h)) m) (step_plain sc.weights site (incarnation_of (moves_at site (trail_of sc h))) i) now.told)
+        (subst (λ (m : Made). AllTold (moves_at site (trail_of sc h)) m) (step_unnumbered sc.weights site (incarnation_of (moves_at site (trail_of sc h))) i) now.told)
 
     -- and what it sends is its own
     own_outs : (p : Packet) → IsIn p made.outs → p.«from» ≡ site
     own_outs =
         subst (λ z. (p : Packet) → IsIn p (step_of sc.weights site (incarnation_of z) i).outs → p.«from» ≡ site) (trail_moves sc site h)
-        (subst (λ (m : Made). (p : Packet) → IsIn p m.outs → p.«from» ≡ site) (step_plain sc.weights site (incarnation_of (moves_at site (trail_of sc h))) i)
+        (subst (λ (m : Made). (p : Packet) → IsIn p m.outs → p.«from» ≡ site) (step_unnumbered sc.weights site (incarnation_of (moves_at site (trail_of sc h))) i)
         (sends_own sc (trail_of sc h) site (unnumbered_input i) is_made taken.0 taken.1 s.txn))
 
     by : IsIn s (flat_map said_told events) ⊎ IsIn s (flat_map (λ (p : Packet). said_msg p.msg) outs) → IsIn (log.Decision s.txn s.dir) (log_of sc (h ++ e ∷ []) site)

@@ -30,7 +30,7 @@ use Rattle.e3_law_agreement.specs.Rows.{MayTake, WasHeard, IsFromAway, Stands, G
 use Rattle.e3_law_agreement.specs.Trails.{marks_of, IsMadeMove, MadeAfter, IsMade}
 use Rattle.e3_law_agreement.specs.Views.{words_of}
 use Rattle.e3_law_agreement.proofs.Refinement.Following.{SentOk, OutsOk, Delivers, TrailOk, made_ok, in_from_contains, in_map_to, moves_here, moves_there}
-use Rattle.e3_law_agreement.proofs.Refinement.Growing.{here, site_step, elect_fits, takes_plain}
+use Rattle.e3_law_agreement.proofs.Refinement.Growing.{here, site_step, elect_fits, takes_unnumbered}
 use Rattle.e3_law_agreement.proofs.Refinement.Lists.{in_left}
 use Rattle.e3_law_agreement.proofs.Refinement.Whole.{good_step}
 use Rattle.e3_law_agreement.proofs.Histories.{made_append}
@@ -99,7 +99,7 @@ pub sends_own : (sc : Scenario) (before : List Move) (x : ℕ) (i : Input) → I
 sends_own sc before x i made fits was t p k =
     let stands = stands_before sc before x i made fits was t in
     let good : Good (here sc t (marks_of sc t before) x (life_at (moves_at x before)) i) (step_at (place sc x (life_at (moves_at x before)) i)) =
-    good_step (here sc t (marks_of sc t before) x (life_at (moves_at x before)) i) stands (takes_plain x i fits) in
+    good_step (here sc t (marks_of sc t before) x (life_at (moves_at x before)) i) stands (takes_unnumbered x i fits) in
     (good.outs p k).0
 
 -- what the steps of a life told stands in its log

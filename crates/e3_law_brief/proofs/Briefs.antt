@@ -21,13 +21,13 @@ use Rattle.e3_world.specs.Brief.{brief, born_by, born_in, inc_in, noted, open_op
 use Rattle.e3_law_brief.proofs.Lists.{fold_leaves, none_pass}
 use Rattle.e3_law_brief.proofs.Notes.{kept_of, each_note, notes_of, said_notes, kept_fit, no_notes, some_notes, open_cases}
 use Rattle.e3_law_brief.proofs.Readings.{is_of, own_of, none_of, own_of_blocks, elected_from, attempt_from, attempted_from, decision_from, voted_from, ops_from}
-use Rattle.e3_law_brief.proofs.Shape.{Said, said_of, Shape, shape_of}
+use Rattle.e3_law_brief.proofs.Shape.{LogOf, logged_of, Shape, shape_of}
 use Rattle.e3_law_steps.proofs.Ascending.{IsLater, Ascends, ascends_fold, each_fold, add_blocks, off_fold}
 use Rattle.e3_law_steps.proofs.Each.{each-of, each-append, each-weaker}
 use Rattle.e3_law_steps.proofs.Tests.{same_self}
 
 -- what a list of one transaction's own records says is what the log says
-pub said_from : (t : Txn) (l own : List Record) → own_of t l ≡ own → said_of t l ≡ said_of t own
+pub said_from : (t : Txn) (l own : List Record) → own_of t l ≡ own → logged_of t l ≡ logged_of t own
 said_from t l own is = λ i. record {
   voted = voted_from t l own is i;
   ops = ops_from t l own is i;
@@ -38,10 +38,10 @@ said_from t l own is = λ i. record {
 }
 
 -- nothing is said of a transaction that no record is of
-abbrev pub unsaid : Said
-unsaid = record { voted = false; ops = []; attempted = None; attempt = 0; elected = 1; decided = None }
+abbrev pub unlogged : LogOf
+unlogged = record { voted = false; ops = []; attempted = None; attempt = 0; elected = 1; decided = None }
 
-kept_none : (t : Txn) (l : List Record) → own_of t l ≡ [] → kept_of t l ≡ unsaid
+kept_none : (t : Txn) (l : List Record) → own_of t l ≡ [] → kept_of t l ≡ unlogged
 kept_none t l none =
     let ops : open_ops t l ≡ [] = open_cases t l (λ x. x ≡ []) refl (ops_from t l [] none) in
     λ i. record {
@@ -105,7 +105,7 @@ own_of_brief t l = own_of_front t l (txns_of l) (ascends_fold [] (flat_map txn_o
     by true is = refl
     by false is = sym (no_notes t (kept_of t l) (kept_none t l (none_of t l (off_fold t [] (flat_map txn_of_record l) is).0)))
 
-pub said_of_brief : (site : ℕ) (t : Txn) (l : List Record) → IsOrderly site l → said_of t (brief l) ≡ kept_of t l
+pub said_of_brief : (site : ℕ) (t : Txn) (l : List Record) → IsOrderly site l → logged_of t (brief l) ≡ kept_of t l
 said_of_brief site t l orderly =
     said_from t (brief l) (noted l t) (own_of_brief t l) ∙ said_notes t (kept_of t l) (kept_fit t l (shape_of site t l orderly).fit)
 
@@ -182,7 +182,7 @@ first_rows site all (log.Attempt t n dir ∷ l) rows orderly none = absurd (let 
 first_rows site all (log.Decision t dir ∷ l) rows orderly none = absurd (let h : false ≡ true = orderly.0.known in cc)
 
 pub forgotten : (site : ℕ) (l : List Record) (t : Txn) → IsOrderly site l → is_undecided t l ≡ false → voted_ops t (brief l) ≡ []
-forgotten site l t orderly decided = ap (λ (s : Said). s.ops) (said_of_brief site t l orderly) ∙ none decided
+forgotten site l t orderly decided = ap (λ (s : LogOf). s.ops) (said_of_brief site t l orderly) ∙ none decided
   where
     none : is_undecided t l ≡ false → open_ops t l ≡ []
     none is = rw is refl
@@ -288,7 +288,7 @@ not_empty site l orderly none = brief_some site l orderly none
 
 pub brief_reads : (site : ℕ) (l : List Record) → IsOrderly site l → ReadAlike l (brief l)
 brief_reads site l orderly =
-    let said : (t : Txn) → said_of t (brief l) ≡ kept_of t l = λ t. said_of_brief site t l orderly in
+    let said : (t : Txn) → logged_of t (brief l) ≡ kept_of t l = λ t. said_of_brief site t l orderly in
     record {
       empty = λ none. ap brief none;
       some = brief_some site l orderly;
@@ -297,12 +297,12 @@ brief_reads site l orderly =
       inc = sym (front_inc l (txns_of l));
       table = sym (brief_table site l orderly);
       txns = sym (brief_txns site l orderly);
-      elected = λ t. sym (ap (λ (s : Said). s.elected) (said t));
-      attempt = λ t. sym (ap (λ (s : Said). s.attempt) (said t));
-      attempted = λ t. sym (ap (λ (s : Said). s.attempted) (said t));
-      decided = λ t. sym (ap (λ (s : Said). s.decided) (said t));
-      voted = λ t. sym (ap (λ (s : Said). s.voted) (said t));
-      ops = λ t is. sym (ap (λ (s : Said). s.ops) (said t) ∙ all t is);
+      elected = λ t. sym (ap (λ (s : LogOf). s.elected) (said t));
+      attempt = λ t. sym (ap (λ (s : LogOf). s.attempt) (said t));
+      attempted = λ t. sym (ap (λ (s : LogOf). s.attempted) (said t));
+      decided = λ t. sym (ap (λ (s : LogOf). s.decided) (said t));
+      voted = λ t. sym (ap (λ (s : LogOf). s.voted) (said t));
+      ops = λ t is. sym (ap (λ (s : LogOf). s.ops) (said t) ∙ all t is);
     }
   where
     all : (t : Txn) → is_undecided t l ≡ true → open_ops t l ≡ voted_ops t l

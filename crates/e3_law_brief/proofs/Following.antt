@@ -15,12 +15,12 @@ use Rattle.e3_world.specs.Items.{txn_of_record}
 use Rattle.e3_world.specs.Logs.{last_attempt, last_elected, logged_inc, logged_inc_by, table_of}
 use Rattle.e3_world.specs.Orderly.{is_among, is_free, is_known, names_ascend, weights_by, weights_in, OrderlyAfter, IsOrderly}
 use Rattle.e3_world.specs.Brief.{brief, born_in, inc_in, vote_in, attempt_in, join_in, decision_in, noted, txns_of}
-use Rattle.e3_law_brief.proofs.Briefs.{unsaid, said_from, each_born, own_of_front, front, blocks, front_weights, front_inc, heard_txns}
+use Rattle.e3_law_brief.proofs.Briefs.{unlogged, said_from, each_born, own_of_front, front, blocks, front_weights, front_inc, heard_txns}
 use Rattle.e3_law_brief.proofs.Lists.{fold_leaves, all_pass, no_push}
 use Rattle.e3_law_brief.proofs.Locks.{state_alike}
 use Rattle.e3_law_brief.proofs.Notes.{notes, kept_of, each_note, notes_of, said_notes, kept_fit}
 use Rattle.e3_law_brief.proofs.Readings.{is_of, own_of}
-use Rattle.e3_law_brief.proofs.Shape.{Said, said_of, Fit, Shape, shape_of, known_parts, known_from}
+use Rattle.e3_law_brief.proofs.Shape.{LogOf, logged_of, Fit, Shape, shape_of, known_parts, known_from}
 use Rattle.e3_law_brief.proofs.Standing.{orderly_append, vote_free}
 use Rattle.e3_law_brief.proofs.Tables.{table_ascends}
 use Rattle.e3_law_steps.proofs.Ascending.{IsLater, Ascends, ascends_fold, other_way}
@@ -28,12 +28,12 @@ use Rattle.e3_law_steps.proofs.Each.{each-left}
 use Rattle.e3_law_steps.proofs.Tests.{same_self}
 
 -- what is said of the transaction here, and it is known
-record At (site : ℕ) (t : Txn) (x : List Record) (s : Said) : Type 0 where
-  said : said_of t x ≡ s
+record At (site : ℕ) (t : Txn) (x : List Record) (s : LogOf) : Type 0 where
+  said : logged_of t x ≡ s
   known : is_known site x t ≡ true
 
 -- behind some of the notes
-at_prefix : (site : ℕ) (t : Txn) (before : List Record) (s : Said) → own_of t before ≡ [] → is_known site before t ≡ true → Fit s → (x : List Record) → x ≡ before ++ notes t s → At site t x s
+at_prefix : (site : ℕ) (t : Txn) (before : List Record) (s : LogOf) → own_of t before ≡ [] → is_known site before t ≡ true → Fit s → (x : List Record) → x ≡ before ++ notes t s → At site t x s
 at_prefix site t before s none known fit x is =
     let own : own_of t x ≡ notes t s =
     ap (λ (l : List Record). own_of t l) is ∙ filter-append (is_of t) before (notes t s)
@@ -53,19 +53,19 @@ at_prefix site t before s none known fit x is =
     }
 
 -- what is said behind the vote alone, behind a join that no attempt follows yet, behind the attempt, and without the decision
-abbrev by_vote : Said → Said
+abbrev by_vote : LogOf → LogOf
 by_vote s = record s { attempted = None; attempt = 0; elected = 1; decided = None }
 
-abbrev by_join : Said → Said
+abbrev by_join : LogOf → LogOf
 by_join s = record s { attempted = None; attempt = 0; elected = s.attempt; decided = None }
 
-abbrev by_attempt : Said → Said
+abbrev by_attempt : LogOf → LogOf
 by_attempt s = record s { elected = max 1 s.attempt; decided = None }
 
-abbrev undecided : Said → Said
+abbrev undecided : LogOf → LogOf
 undecided s = record s { decided = None }
 
-fit_by_vote : (s : Said) → Fit s → Fit (by_vote s)
+fit_by_vote : (s : LogOf) → Fit s → Fit (by_vote s)
 fit_by_vote s f = record {
   least = omega arith;
   most = omega arith;
@@ -78,7 +78,7 @@ fit_by_vote s f = record {
   few = f.few;
 }
 
-fit_by_join : (s : Said) → Fit s → 1 < s.attempt → Fit (by_join s)
+fit_by_join : (s : LogOf) → Fit s → 1 < s.attempt → Fit (by_join s)
 fit_by_join s f high = record {
   least = omega arith;
   most = omega arith;
@@ -91,7 +91,7 @@ fit_by_join s f high = record {
   few = f.few;
 }
 
-fit_by_attempt : (s : Said) → Fit s → Fit (by_attempt s)
+fit_by_attempt : (s : LogOf) → Fit s → Fit (by_attempt s)
 fit_by_attempt s f = record {
   least = omega arith;
   most = omega arith;
@@ -104,7 +104,7 @@ fit_by_attempt s f = record {
   few = f.few;
 }
 
-fit_undecided : (s : Said) → Fit s → Fit (undecided s)
+fit_undecided : (s : LogOf) → Fit s → Fit (undecided s)
 fit_undecided s f = record {
   least = f.least;
   most = f.most;
@@ -118,7 +118,7 @@ fit_undecided s f = record {
 }
 
 -- The notes of a transaction follow where no record is of it yet.
-module _ (site : ℕ) (t : Txn) (before : List Record) (s : Said) (none : own_of t before ≡ []) (known : is_known site before t ≡ true) (fit : Fit s)
+module _ (site : ℕ) (t : Txn) (before : List Record) (s : LogOf) (none : own_of t before ≡ []) (known : is_known site before t ≡ true) (fit : Fit s)
     (free : list_all (is_free t before) s.ops ≡ true) where
   abbrev vote : List Record
   vote = vote_in t s.voted s.ops
@@ -132,14 +132,14 @@ module _ (site : ℕ) (t : Txn) (before : List Record) (s : Said) (none : own_of
   first : (v : Bool) → OrderlyAfter site before (vote_in t v s.ops)
   first false = tt
   first true =
-      let said : said_of t before ≡ unsaid = said_from t before [] none in
-      let decides = ap (λ (x : Said). x.decided) said in
-      let attempts = ap (λ (x : Said). x.attempted) said in
-      let votes = ap (λ (x : Said). x.voted) said in (
+      let said : logged_of t before ≡ unlogged = said_from t before [] none in
+      let decides = ap (λ (x : LogOf). x.decided) said in
+      let attempts = ap (λ (x : LogOf). x.attempted) said in
+      let votes = ap (λ (x : LogOf). x.voted) said in (
         record {
           known = known;
           fresh = state_alike t before [] decides attempts votes;
-          not_joined = ap (λ (x : Said). x.elected) said;
+          not_joined = ap (λ (x : LogOf). x.elected) said;
           ascending = fit.ascending;
           few = fit.few;
           free = free;
@@ -158,14 +158,14 @@ module _ (site : ℕ) (t : Txn) (before : List Record) (s : Said) (none : own_of
       append_assoc before vote (log.Join t s.attempt ∷ []) ∙ ap (λ y. before ++ (vote ++ y)) (sym joined) in
       let here : At site t ((before ++ vote) ++ log.Join t s.attempt ∷ []) (by_join s) =
       at_prefix site t before (by_join s) none known (fit_by_join s fit high) ((before ++ vote) ++ log.Join t s.attempt ∷ []) place in
-      let one : last_elected t (before ++ vote) ≡ 1 = ap (λ (x : Said). x.elected) behind_vote.said in
-      let number : last_attempt t ((before ++ vote) ++ log.Join t s.attempt ∷ []) ≡ 0 = ap (λ (x : Said). x.attempt) here.said in (
+      let one : last_elected t (before ++ vote) ≡ 1 = ap (λ (x : LogOf). x.elected) behind_vote.said in
+      let number : last_attempt t ((before ++ vote) ++ log.Join t s.attempt ∷ []) ≡ 0 = ap (λ (x : LogOf). x.attempt) here.said in (
         record { known = behind_vote.known; rises = subst (λ (k : ℕ). k < s.attempt) (sym one) high },
         (
           record {
             known = here.known;
-            undecided = ap (λ (x : Said). is_none x.decided) here.said;
-            elected = sym (ap (λ (x : Said). x.elected) here.said);
+            undecided = ap (λ (x : LogOf). is_none x.decided) here.said;
+            elected = sym (ap (λ (x : LogOf). x.elected) here.said);
             rises = subst (λ (k : ℕ). k < s.attempt) (sym number) (omega arith);
             first = λ is_one. absurd (omega arith);
           },
@@ -180,14 +180,14 @@ module _ (site : ℕ) (t : Txn) (before : List Record) (s : Said) (none : own_of
   first_attempt dir a is =
       let low : s.attempt ≤ 1 = ltb-false 1 s.attempt is in
       let some : 1 ≤ s.attempt = fit.some dir a in
-      let one : last_elected t (before ++ vote) ≡ 1 = ap (λ (x : Said). x.elected) behind_vote.said in
-      let number : last_attempt t (before ++ vote) ≡ 0 = ap (λ (x : Said). x.attempt) behind_vote.said in (
+      let one : last_elected t (before ++ vote) ≡ 1 = ap (λ (x : LogOf). x.elected) behind_vote.said in
+      let number : last_attempt t (before ++ vote) ≡ 0 = ap (λ (x : LogOf). x.attempt) behind_vote.said in (
         record {
           known = behind_vote.known;
-          undecided = ap (λ (x : Said). is_none x.decided) behind_vote.said;
+          undecided = ap (λ (x : LogOf). is_none x.decided) behind_vote.said;
           elected = omega arith;
           rises = subst (λ (k : ℕ). k < s.attempt) (sym number) (omega arith);
-          first = λ is_one. let h = fit.first dir a is_one in (ap (λ (x : Said). x.voted) behind_vote.said ∙ h.0, h.1);
+          first = λ is_one. let h = fit.first dir a is_one in (ap (λ (x : LogOf). x.voted) behind_vote.said ∙ h.0, h.1);
         },
         tt,
       )
@@ -212,7 +212,7 @@ module _ (site : ℕ) (t : Txn) (before : List Record) (s : Said) (none : own_of
   third : (b : Bool) → nat_lt (max 1 s.attempt) s.elected ≡ b → OrderlyAfter site ((before ++ vote) ++ tries) joins
   third true is =
       let high : max 1 s.attempt < s.elected = ltb-true (max 1 s.attempt) s.elected is in
-      let last : last_elected t ((before ++ vote) ++ tries) ≡ max 1 s.attempt = ap (λ (x : Said). x.elected) behind_attempt.said in
+      let last : last_elected t ((before ++ vote) ++ tries) ≡ max 1 s.attempt = ap (λ (x : LogOf). x.elected) behind_attempt.said in
       rw is (record { known = behind_attempt.known; rises = subst (λ (k : ℕ). k < s.elected) (sym last) high }, tt)
   third false is = rw is tt
 
@@ -226,8 +226,8 @@ module _ (site : ℕ) (t : Txn) (before : List Record) (s : Said) (none : own_of
   fourth (Some dir) is = (
     record {
       known = behind_join.known;
-      undecided = ap (λ (x : Said). is_none x.decided) behind_join.said;
-      voted = λ commits. ap (λ (x : Said). x.voted) behind_join.said ∙ fit.commit (is ∙ ap (λ (x : Dir). Some x) commits);
+      undecided = ap (λ (x : LogOf). is_none x.decided) behind_join.said;
+      voted = λ commits. ap (λ (x : LogOf). x.voted) behind_join.said ∙ fit.commit (is ∙ ap (λ (x : Dir). Some x) commits);
     },
     tt,
   )

@@ -16,24 +16,24 @@ use Rattle.e3_world.specs.Orderly.{ops_ascend}
 use Rattle.e3_world.specs.Brief.{vote_in, attempt_in, join_in, decision_in, open_ops}
 use Rattle.e3_law_brief.proofs.Lists.{fold_four}
 use Rattle.e3_law_brief.proofs.Readings.{is_of}
-use Rattle.e3_law_brief.proofs.Shape.{Said, said_of, Fit, Heard}
+use Rattle.e3_law_brief.proofs.Shape.{LogOf, logged_of, Fit, Heard}
 use Rattle.e3_law_steps.proofs.Each.{each-append}
 use Rattle.e3_law_steps.proofs.Tests.{same_self}
 
 -- the notes of what is said
-abbrev pub notes : Txn → Said → List Record
+abbrev pub notes : Txn → LogOf → List Record
 notes t s = vote_in t s.voted s.ops ++ (attempt_in t s.attempted s.attempt ++ (join_in t s.attempt s.elected ++ decision_in t s.decided))
 
 -- what a log says of a transaction, with the operations that its brief keeps
-abbrev pub kept_of : Txn → List Record → Said
-kept_of t l = record (said_of t l) { ops = open_ops t l }
+abbrev pub kept_of : Txn → List Record → LogOf
+kept_of t l = record (logged_of t l) { ops = open_ops t l }
 
 -- what stands behind the vote
-abbrev pub behind_vote : Txn → Said → List Record
+abbrev pub behind_vote : Txn → LogOf → List Record
 behind_vote t s = attempt_in t s.attempted s.attempt ++ (join_in t s.attempt s.elected ++ decision_in t s.decided)
 
 -- facts of each note
-each_behind : (P : Record → Type 0) (t : Txn) (s : Said) → ((n : ℕ) → P (log.Join t n)) → ((n : ℕ) (dir : Dir) → P (log.Attempt t n dir))
+each_behind : (P : Record → Type 0) (t : Txn) (s : LogOf) → ((n : ℕ) → P (log.Join t n)) → ((n : ℕ) (dir : Dir) → P (log.Attempt t n dir))
     → ((dir : Dir) → s.decided ≡ Some dir → P (log.Decision t dir)) → Each P (behind_vote t s)
 each_behind P t s join attempt decide =
     each-append P (attempt_in t s.attempted s.attempt) (join_in t s.attempt s.elected ++ decision_in t s.decided) (tries s.attempted)
@@ -55,7 +55,7 @@ each_behind P t s join attempt decide =
     decides None decide = tt
     decides (Some dir) decide = (decide dir refl, tt)
 
-pub each_note : (P : Record → Type 0) (t : Txn) (s : Said) → ((ops : List NumOp) → P (log.Vote t ops)) → ((n : ℕ) → P (log.Join t n)) → ((n : ℕ) (dir : Dir) → P (log.Attempt t n dir))
+pub each_note : (P : Record → Type 0) (t : Txn) (s : LogOf) → ((ops : List NumOp) → P (log.Vote t ops)) → ((n : ℕ) → P (log.Join t n)) → ((n : ℕ) (dir : Dir) → P (log.Attempt t n dir))
     → ((dir : Dir) → s.decided ≡ Some dir → P (log.Decision t dir)) → Each P (notes t s)
 each_note P t s vote join attempt decide =
     each-append P (vote_in t s.voted s.ops) (behind_vote t s) (votes s.voted) (each_behind P t s join attempt decide)
@@ -64,7 +64,7 @@ each_note P t s vote join attempt decide =
     votes true = (vote s.ops, tt)
     votes false = tt
 
-pub notes_of : (b : Bool) (t u : Txn) (s : Said) → same_txn t u ≡ b → Each (λ r. is_of t r ≡ b) (notes u s)
+pub notes_of : (b : Bool) (t u : Txn) (s : LogOf) → same_txn t u ≡ b → Each (λ r. is_of t r ≡ b) (notes u s)
 notes_of b t u s same = each_note (λ r. is_of t r ≡ b) u s (λ ops. same) (λ n. same) (λ n dir. same) (λ dir is. same)
 
 -- the pieces of notes under a fold
@@ -96,7 +96,7 @@ own : {A : Type 0} (t : Txn) (x y : A) → (if same_txn t t then x else y) ≡ x
 own t x y = rw (same_self t) refl
 
 -- each reading of notes
-elected_notes : (t : Txn) (s : Said) → Fit s → last_elected t (notes t s) ≡ s.elected
+elected_notes : (t : Txn) (s : LogOf) → Fit s → last_elected t (notes t s) ≡ s.elected
 elected_notes t s f =
     fold_four (last_elected_by t) (vote_in t s.voted s.ops) (attempt_in t s.attempted s.attempt) (join_in t s.attempt s.elected) (decision_in t s.decided)
     1 1 (max 1 s.attempt) s.elected s.elected
@@ -116,7 +116,7 @@ elected_notes t s f =
         let low = ltb-false (max 1 s.attempt) s.elected is in
         rw is (omega (arith, low, f.least, f.most))
 
-attempt_notes : (t : Txn) (s : Said) → Fit s → last_attempt t (notes t s) ≡ s.attempt
+attempt_notes : (t : Txn) (s : LogOf) → Fit s → last_attempt t (notes t s) ≡ s.attempt
 attempt_notes t s f =
     fold_four (last_attempt_by t) (vote_in t s.voted s.ops) (attempt_in t s.attempted s.attempt) (join_in t s.attempt s.elected) (decision_in t s.decided)
     0 0 s.attempt s.attempt s.attempt
@@ -125,7 +125,7 @@ attempt_notes t s f =
     (piece_join (last_attempt_by t) s.attempt t s.attempt s.elected (λ k. refl))
     (piece_decision (last_attempt_by t) s.attempt t s.decided (λ dir. refl))
 
-attempted_notes : (t : Txn) (s : Said) → attempted t (notes t s) ≡ s.attempted
+attempted_notes : (t : Txn) (s : LogOf) → attempted t (notes t s) ≡ s.attempted
 attempted_notes t s =
     fold_four (attempted_by t) (vote_in t s.voted s.ops) (attempt_in t s.attempted s.attempt) (join_in t s.attempt s.elected) (decision_in t s.decided)
     None None s.attempted s.attempted s.attempted
@@ -134,7 +134,7 @@ attempted_notes t s =
     (piece_join (attempted_by t) s.attempted t s.attempt s.elected (λ k. refl))
     (piece_decision (attempted_by t) s.attempted t s.decided (λ dir. refl))
 
-decision_notes : (t : Txn) (s : Said) → decision t (notes t s) ≡ s.decided
+decision_notes : (t : Txn) (s : LogOf) → decision t (notes t s) ≡ s.decided
 decision_notes t s =
     fold_four (decision_by t) (vote_in t s.voted s.ops) (attempt_in t s.attempted s.attempt) (join_in t s.attempt s.elected) (decision_in t s.decided)
     None None None None s.decided
@@ -157,12 +157,12 @@ voteless t (r ∷ rs) each =
     let more = voteless t rs each.1 in
     (or_from (is_vote t r) (list_any (is_vote t) rs) each.0.0 more.0, ap (λ x. x ++ flat_map (ops_of_vote t) rs) each.0.1 ∙ more.1)
 
-no_vote_behind : (t : Txn) (s : Said) → Voteless t (behind_vote t s)
+no_vote_behind : (t : Txn) (s : LogOf) → Voteless t (behind_vote t s)
 no_vote_behind t s =
     voteless t (behind_vote t s)
     (each_behind (λ r. (is_vote t r ≡ false) × (ops_of_vote t r ≡ [])) t s (λ n. (refl, refl)) (λ n dir. (refl, refl)) (λ dir is. (refl, refl)))
 
-voted_notes : (t : Txn) (s : Said) → has_voted t (notes t s) ≡ s.voted
+voted_notes : (t : Txn) (s : LogOf) → has_voted t (notes t s) ≡ s.voted
 voted_notes t s =
     list_any-append (is_vote t) (vote_in t s.voted s.ops) (behind_vote t s)
     ∙ ap (λ b. list_any (is_vote t) (vote_in t s.voted s.ops) || b) (no_vote_behind t s).0 ∙ votes s.voted
@@ -171,7 +171,7 @@ voted_notes t s =
     votes true = rw (same_self t) refl
     votes false = refl
 
-ops_notes : (t : Txn) (s : Said) → Fit s → voted_ops t (notes t s) ≡ s.ops
+ops_notes : (t : Txn) (s : LogOf) → Fit s → voted_ops t (notes t s) ≡ s.ops
 ops_notes t s f =
     flat_map-append (ops_of_vote t) (vote_in t s.voted s.ops) (behind_vote t s)
     ∙ ap (λ x. flat_map (ops_of_vote t) (vote_in t s.voted s.ops) ++ x) (no_vote_behind t s).1
@@ -182,7 +182,7 @@ ops_notes t s f =
     votes false is = sym (f.unvoted is)
 
 -- notes say what they are made of
-pub said_notes : (t : Txn) (s : Said) → Fit s → said_of t (notes t s) ≡ s
+pub said_notes : (t : Txn) (s : LogOf) → Fit s → logged_of t (notes t s) ≡ s
 said_notes t s f = λ i. record {
   voted = voted_notes t s i;
   ops = ops_notes t s f i;
@@ -200,7 +200,7 @@ open_cases t l P none all = by (is_undecided t l) refl
     by true is = rw is all
     by false is = rw is none
 
-pub kept_fit : (t : Txn) (l : List Record) → Fit (said_of t l) → Fit (kept_of t l)
+pub kept_fit : (t : Txn) (l : List Record) → Fit (logged_of t l) → Fit (kept_of t l)
 kept_fit t l f = record {
   least = f.least;
   most = f.most;
@@ -214,13 +214,13 @@ kept_fit t l f = record {
 }
 
 -- what is said of a transaction that no record is of has no notes
-pub no_notes : (t : Txn) (s : Said) → s ≡ record { voted = false; ops = []; attempted = None; attempt = 0; elected = 1; decided = None } → notes t s ≡ []
+pub no_notes : (t : Txn) (s : LogOf) → s ≡ record { voted = false; ops = []; attempted = None; attempt = 0; elected = 1; decided = None } → notes t s ≡ []
 no_notes t s is = ap (λ x. notes t x) is
 
 -- where something is said that a log has records for, there are notes
-pub some_notes : (t : Txn) (s : Said) → Fit s → Heard s → notes t s ≢ []
+pub some_notes : (t : Txn) (s : LogOf) → Fit s → Heard s → notes t s ≢ []
 some_notes t s f heard none =
-    let e : said_of t [] ≡ s = ap (λ (l : List Record). said_of t l) (sym none) ∙ said_notes t s f in
-    let high = heard (sym (ap (λ (x : Said). x.voted) e)) (sym (ap (λ (x : Said). x.attempted) e)) (sym (ap (λ (x : Said). x.decided) e)) in
-    let one : 1 ≡ s.elected = ap (λ (x : Said). x.elected) e in
+    let e : logged_of t [] ≡ s = ap (λ (l : List Record). logged_of t l) (sym none) ∙ said_notes t s f in
+    let high = heard (sym (ap (λ (x : LogOf). x.voted) e)) (sym (ap (λ (x : LogOf). x.attempted) e)) (sym (ap (λ (x : LogOf). x.decided) e)) in
+    let one : 1 ≡ s.elected = ap (λ (x : LogOf). x.elected) e in
     absurd (omega (arith, high, one))

@@ -21,7 +21,7 @@ use Rattle.e3_types.specs.Sites.{bits_of, sites_of}
 use Rattle.e3_types.proofs.SetSteps.{ascends_within, no_bit, with_bit, with_next_site, with_small}
 use Rattle.e3_world.specs.declared.lives.Made.{Made}
 use Rattle.e3_world.specs.declared.names.Addressed.{Addressed}
-use Rattle.e3_world.specs.Given.{IsGiven, SaidSoFar, close_step, exist, is_begun, is_group, is_step_form, items_keep, keeps_rules, say_item, steps_keep}
+use Rattle.e3_world.specs.Given.{IsGiven, ItemsSoFar, close_step, exist, is_begun, is_group, is_step_form, items_keep, keeps_rules, with_item, steps_keep}
 use Rattle.e3_world.specs.Items.{began_in, input_of, inputs_at, plan_of, to_line, turn_of, txn_of as txn_named, txn_of_record}
 use Rattle.e3_world.specs.Legal.{Guard, IsDue, IsLegal, LegalAfter, made_by}
 use Rattle.e3_world.specs.Moves.{log_of, own_entries}
@@ -35,7 +35,7 @@ use Rattle.e3_law_steps.proofs.Begun.Laws.{due_mentions, records_mention}
 use Rattle.e3_law_steps.proofs.Begun.Lists.{any-get, each-join, each-within, held}
 use Rattle.e3_world.specs.Brief.{txns_of}
 use Rattle.e3_law_steps.proofs.Ascending.{each_fold}
-use Rattle.e3_law_brief.specs.Incarnations.{IsKnown}
+use Rattle.e3_world.specs.Transactions.{IsFoundByBits}
 
 -- a set is that of some bits
 record IsOfBits (sites : List ℕ) : Type 0 where
@@ -57,7 +57,7 @@ of_bits sites up (suc n) within =
       is = with_bit was.bits (get_or sites n 0) low here.1 ∙ with_next_site sites (sites_of was.bits) n up (omega (arith, within)) was.is ∙ next;
     }
 
-pub set_known : (t : Txn) → is_set t.sites ≡ true → IsKnown t
+pub set_known : (t : Txn) → is_set t.sites ≡ true → IsFoundByBits t
 set_known t up =
     let made : IsOfBits (take (length t.sites) t.sites) = of_bits t.sites up (length t.sites) (omega arith) in
     let is : sites_of made.bits ≡ t.sites = made.is ∙ take_all (length t.sites) t.sites (omega arith) in
@@ -76,24 +76,24 @@ group_set : (sc : Scenario) (group : List ℕ) → is_group sc group ≡ true �
 group_set sc [] is = refl
 group_set sc (s ∷ ss) is = (and_parts (is_set (s ∷ ss)) (exist sc (s ∷ ss)) is).0
 
-item_sets : (sc : Scenario) (k : SaidSoFar) (it : Item) → keeps_rules sc k it ≡ true → ItemSets it
+item_sets : (sc : Scenario) (k : ItemsSoFar) (it : Item) → keeps_rules sc k it ≡ true → ItemSets it
 item_sets sc k (item.Begin name site sites) keeps =
     let p = and_parts (is_group sc sites && has_site sites site) (not (is_begun (k.earlier ++ k.fresh) name [])) keeps in
     group_set sc sites (and_parts (is_group sc sites) (has_site sites site) p.0).0
 item_sets sc k it keeps = tt
 
-items_set : (sc : Scenario) (k : SaidSoFar) (items : List Item) → items_keep sc k items ≡ true → Each ItemSets items
+items_set : (sc : Scenario) (k : ItemsSoFar) (items : List Item) → items_keep sc k items ≡ true → Each ItemSets items
 items_set sc k [] keep = tt
 items_set sc k (it ∷ items) keep =
-    let p = and_parts (keeps_rules sc k it) (items_keep sc (say_item sc k it) items) keep in
-    (item_sets sc k it p.0, items_set sc (say_item sc k it) items p.1)
+    let p = and_parts (keeps_rules sc k it) (items_keep sc (with_item sc k it) items) keep in
+    (item_sets sc k it p.0, items_set sc (with_item sc k it) items p.1)
 
-steps_set : (sc : Scenario) (k : SaidSoFar) (steps : List (List Item)) → steps_keep sc k steps ≡ true → Each (Each ItemSets) steps
+steps_set : (sc : Scenario) (k : ItemsSoFar) (steps : List (List Item)) → steps_keep sc k steps ≡ true → Each (Each ItemSets) steps
 steps_set sc k [] keep = tt
 steps_set sc k (items ∷ steps) keep =
-    let outer = and_parts (is_step_form items && items_keep sc k items) (steps_keep sc (close_step (fold (say_item sc) k items)) steps) keep in
+    let outer = and_parts (is_step_form items && items_keep sc k items) (steps_keep sc (close_step (fold (with_item sc) k items)) steps) keep in
     let inner = and_parts (is_step_form items) (items_keep sc k items) outer.0 in
-    (items_set sc k items inner.1, steps_set sc (close_step (fold (say_item sc) k items)) steps outer.1)
+    (items_set sc k items inner.1, steps_set sc (close_step (fold (with_item sc) k items)) steps outer.1)
 
 step_set : (sc : Scenario) (n : ℕ) → IsGiven sc → Each ItemSets (step_items sc n)
 step_set sc zero given = tt
@@ -182,7 +182,7 @@ begun_set sc h t given legal begun =
     (each-filter (λ e. Each HasSet (begun_in e.act)) (λ e. e.owner == t.site) h (after_set sc [] h given tt legal))) begun
 
 -- and so each that a log has
-record_known : (sc : Scenario) (h : List Entry) (r : Record) → IsGiven sc → IsLegal sc h → Each (Stands sc h) (of_record r) → Each IsKnown (txn_of_record r)
+record_known : (sc : Scenario) (h : List Entry) (r : Record) → IsGiven sc → IsLegal sc h → Each (Stands sc h) (of_record r) → Each IsFoundByBits (txn_of_record r)
 record_known sc h (log.Birth format site weights rows) given legal stands = tt
 record_known sc h (log.Inc n) given legal stands = tt
 record_known sc h (log.Vote t ops) given legal stands = (set_known t (begun_set sc h t given legal stands.0), tt)
@@ -190,9 +190,9 @@ record_known sc h (log.Join t n) given legal stands = (set_known t (begun_set sc
 record_known sc h (log.Attempt t n dir) given legal stands = (set_known t (begun_set sc h t given legal stands.0), tt)
 record_known sc h (log.Decision t dir) given legal stands = (set_known t (begun_set sc h t given legal stands.0), tt)
 
-pub txns_known : (sc : Scenario) (h : List Entry) (site : ℕ) → IsGiven sc → IsLegal sc h → Each IsKnown (txns_of (log_of sc h site))
+pub txns_known : (sc : Scenario) (h : List Entry) (site : ℕ) → IsGiven sc → IsLegal sc h → Each IsFoundByBits (txns_of (log_of sc h site))
 txns_known sc h site given legal =
     let l : List Record = log_of sc h site in
     let within : Each (Contains (records_at sc h site)) l = each-left (Contains (records_at sc h site)) l _ (each-within (records_at sc h site)) in
-    each_fold IsKnown [] (flat_map txn_of_record l) tt
-    (each-flat (Contains (records_at sc h site)) IsKnown txn_of_record (λ r has. record_known sc h r given legal (records_mention sc h site r legal has)) l within)
+    each_fold IsFoundByBits [] (flat_map txn_of_record l) tt
+    (each-flat (Contains (records_at sc h site)) IsFoundByBits txn_of_record (λ r has. record_known sc h r given legal (records_mention sc h site r legal has)) l within)

@@ -18,8 +18,8 @@ use Rattle.e3_world.specs.Orderly.{is_among, is_known, ops_ascend, weights_by, w
 use Rattle.e3_law_brief.proofs.Readings.{is_of, own_of, elected_leaves, attempt_leaves, attempted_leaves, decision_leaves, vote_leaves, ops_leaves}
 use Rattle.e3_law_steps.proofs.Tests.{or_false, same_is}
 
--- what a log says of a transaction
-pub record Said : Type 0 where
+-- what a log has of a transaction
+pub record LogOf : Type 0 where
   pub voted : Bool
   pub ops : List NumOp
   pub attempted : Option Dir
@@ -27,8 +27,8 @@ pub record Said : Type 0 where
   pub elected : ℕ
   pub decided : Option Dir
 
-abbrev pub said_of : Txn → List Record → Said
-said_of t l = record {
+abbrev pub logged_of : Txn → List Record → LogOf
+logged_of t l = record {
   voted = has_voted t l;
   ops = voted_ops t l;
   attempted = attempted t l;
@@ -38,8 +38,8 @@ said_of t l = record {
 }
 
 -- with one more record
-abbrev pub said_with : Txn → Said → Record → Said
-said_with t s r = record {
+abbrev pub logged_with : Txn → LogOf → Record → LogOf
+logged_with t s r = record {
   voted = s.voted || is_vote t r;
   ops = s.ops ++ ops_of_vote t r;
   attempted = attempted_by t s.attempted r;
@@ -54,7 +54,7 @@ voted_push t l r = list_any-append (is_vote t) l (r ∷ []) ∙ ap (λ b. has_vo
 pub ops_push : (t : Txn) (l : List Record) (r : Record) → voted_ops t (l ++ r ∷ []) ≡ voted_ops t l ++ ops_of_vote t r
 ops_push t l r = flat_map-append (ops_of_vote t) l (r ∷ []) ∙ ap (λ x. voted_ops t l ++ x) (append-nil (ops_of_vote t r))
 
-pub said_push : (t : Txn) (l : List Record) (r : Record) → said_of t (l ++ r ∷ []) ≡ said_with t (said_of t l) r
+pub said_push : (t : Txn) (l : List Record) (r : Record) → logged_of t (l ++ r ∷ []) ≡ logged_with t (logged_of t l) r
 said_push t l r =
     let tries : attempted t (l ++ r ∷ []) ≡ attempted_by t (attempted t l) r = fold-append (attempted_by t) None l (r ∷ []) in
     let number : last_attempt t (l ++ r ∷ []) ≡ last_attempt_by t (last_attempt t l) r = fold-append (last_attempt_by t) 0 l (r ∷ []) in
@@ -70,7 +70,7 @@ said_push t l r =
     }
 
 -- another transaction's record leaves it
-said_leaves : (t : Txn) (s : Said) (r : Record) → is_of t r ≡ false → said_with t s r ≡ s
+said_leaves : (t : Txn) (s : LogOf) (r : Record) → is_of t r ≡ false → logged_with t s r ≡ s
 said_leaves t s r is =
     let votes : (s.voted || is_vote t r) ≡ s.voted = ap (λ b. s.voted || b) (vote_leaves t r is) ∙ or_false s.voted in
     let ops : s.ops ++ ops_of_vote t r ≡ s.ops = ap (λ x. s.ops ++ x) (ops_leaves t r is) ∙ append-nil s.ops in
@@ -85,7 +85,7 @@ said_leaves t s r is =
 
 -- An attempt has the number of a join, or 1; the first one commits what was voted for, and so does a commit. A vote's
 -- operations ascend and are few.
-pub record Fit (s : Said) : Type 0 where
+pub record Fit (s : LogOf) : Type 0 where
   pub least : 1 ≤ s.elected
   pub most : s.attempt ≤ s.elected
   pub none : s.attempted ≡ None → s.attempt ≡ 0
@@ -97,12 +97,12 @@ pub record Fit (s : Said) : Type 0 where
   pub few : list_all (λ o. nat_le o.n 64) s.ops ≡ true
 
 -- where none of the others stands, a join does
-abbrev pub Heard : Said → Type 0
+abbrev pub Heard : LogOf → Type 0
 Heard s = s.voted ≡ false → s.attempted ≡ None → s.decided ≡ None → 2 ≤ s.elected
 
 pub record Shape (site : ℕ) (t : Txn) (l : List Record) : Type 0 where
-  pub fit : Fit (said_of t l)
-  pub heard : own_of t l ≢ [] → Heard (said_of t l)
+  pub fit : Fit (logged_of t l)
+  pub heard : own_of t l ≢ [] → Heard (logged_of t l)
   pub known : own_of t l ≢ [] → is_known site l t ≡ true
 
 -- the state q
@@ -126,7 +126,7 @@ pub none_from : (o : Option Dir) → is_none o ≡ true → o ≡ None
 none_from None h = refl
 none_from (Some d) h = absurd cc
 
-fit_vote : (s : Said) (ops : List NumOp) → Fit s → s.voted ≡ false → s.attempted ≡ None → ops_ascend 0 ops ≡ true → list_all (λ o. nat_le o.n 64) ops ≡ true
+fit_vote : (s : LogOf) (ops : List NumOp) → Fit s → s.voted ≡ false → s.attempted ≡ None → ops_ascend 0 ops ≡ true → list_all (λ o. nat_le o.n 64) ops ≡ true
     → Fit (record s { voted = true; ops = s.ops ++ ops })
 fit_vote s ops f unvoted untried up few =
     let all : s.ops ++ ops ≡ ops = ap (λ x. x ++ ops) (f.unvoted unvoted) in
@@ -142,7 +142,7 @@ fit_vote s ops f unvoted untried up few =
       few = subst (λ (x : List NumOp). list_all (λ o. nat_le o.n 64) x ≡ true) (sym all) few;
     }
 
-fit_join : (s : Said) (n : ℕ) → Fit s → s.elected < n → Fit (record s { elected = max s.elected n })
+fit_join : (s : LogOf) (n : ℕ) → Fit s → s.elected < n → Fit (record s { elected = max s.elected n })
 fit_join s n f rises = record {
   least = omega (arith, f.least);
   most = omega (arith, f.most);
@@ -155,7 +155,7 @@ fit_join s n f rises = record {
   few = f.few;
 }
 
-fit_attempt : (s : Said) (n : ℕ) (dir : Dir) → Fit s → n ≡ s.elected → s.attempt < n → (n ≡ 1 → (s.voted ≡ true) × (dir ≡ Commit))
+fit_attempt : (s : LogOf) (n : ℕ) (dir : Dir) → Fit s → n ≡ s.elected → s.attempt < n → (n ≡ 1 → (s.voted ≡ true) × (dir ≡ Commit))
     → Fit (record s { attempted = Some dir; attempt = max s.attempt n })
 fit_attempt s n dir f is rises first = record {
   least = f.least;
@@ -172,7 +172,7 @@ fit_attempt s n dir f is rises first = record {
   few = f.few;
 }
 
-fit_decision : (s : Said) (dir : Dir) → Fit s → (dir ≡ Commit → s.voted ≡ true) → Fit (record s { decided = Some dir })
+fit_decision : (s : LogOf) (dir : Dir) → Fit s → (dir ≡ Commit → s.voted ≡ true) → Fit (record s { decided = Some dir })
 fit_decision s dir f voted = record {
   least = f.least;
   most = f.most;
@@ -187,19 +187,19 @@ fit_decision s dir f voted = record {
 
 -- what one of the transaction's own records makes of it
 record OwnStep (site : ℕ) (t : Txn) (l : List Record) (r : Record) : Type 0 where
-  fit : Fit (said_with t (said_of t l) r)
-  heard : Heard (said_with t (said_of t l) r)
+  fit : Fit (logged_with t (logged_of t l) r)
+  heard : Heard (logged_with t (logged_of t l) r)
   known : is_known site l t ≡ true
 
-own_step : (site : ℕ) (t : Txn) (l : List Record) (r : Record) → is_of t r ≡ true → Fit (said_of t l) → MayFollow site l r → OwnStep site t l r
+own_step : (site : ℕ) (t : Txn) (l : List Record) (r : Record) → is_of t r ≡ true → Fit (logged_of t l) → MayFollow site l r → OwnStep site t l r
 own_step site t l (log.Birth format number weights rows) is f may = absurd (true≢false (sym is))
 own_step site t l (log.Inc n) is f may = absurd (true≢false (sym is))
 own_step site t l (log.Vote u ops) is f may =
     let same : t ≡ u = same_is t u is in
     let q : Quiet t l = quiet_from t l (subst (λ (x : Txn). state_of x l ≡ Q) (sym same) may.fresh) in
     let votes : (has_voted t l || same_txn t u) ≡ true = or_right (has_voted t l) (same_txn t u) is in
-    let s : Said = said_of t l in
-    let e : said_with t s (log.Vote u ops) ≡ record s { voted = true; ops = s.ops ++ ops } =
+    let s : LogOf = logged_of t l in
+    let e : logged_with t s (log.Vote u ops) ≡ record s { voted = true; ops = s.ops ++ ops } =
     λ i. record { voted = votes i; ops = s.ops ++ own is i; attempted = s.attempted; attempt = s.attempt; elected = s.elected; decided = s.decided } in
     record {
       fit = subst (λ x. Fit x) (sym e) (fit_vote s ops f q.unvoted q.untried may.ascending may.few);
@@ -212,8 +212,8 @@ own_step site t l (log.Vote u ops) is f may =
 own_step site t l (log.Join u n) is f may =
     let same : t ≡ u = same_is t u is in
     let rises : last_elected t l < n = subst (λ (x : Txn). last_elected x l < n) (sym same) may.rises in
-    let s : Said = said_of t l in
-    let e : said_with t s (log.Join u n) ≡ record s { elected = max s.elected n } =
+    let s : LogOf = logged_of t l in
+    let e : logged_with t s (log.Join u n) ≡ record s { elected = max s.elected n } =
     λ i. record { voted = or_false s.voted i; ops = append-nil s.ops i; attempted = s.attempted; attempt = s.attempt; elected = own s.elected is i; decided = s.decided } in
     record {
       fit = subst (λ x. Fit x) (sym e) (fit_join s n f rises);
@@ -228,8 +228,8 @@ own_step site t l (log.Attempt u n dir) is f may =
     let elected : n ≡ last_elected t l = subst (λ (x : Txn). n ≡ last_elected x l) (sym same) may.elected in
     let rises : last_attempt t l < n = subst (λ (x : Txn). last_attempt x l < n) (sym same) may.rises in
     let first : n ≡ 1 → (has_voted t l ≡ true) × (dir ≡ Commit) = subst (λ (x : Txn). n ≡ 1 → (has_voted x l ≡ true) × (dir ≡ Commit)) (sym same) may.first in
-    let s : Said = said_of t l in
-    let e : said_with t s (log.Attempt u n dir) ≡ record s { attempted = Some dir; attempt = max s.attempt n } =
+    let s : LogOf = logged_of t l in
+    let e : logged_with t s (log.Attempt u n dir) ≡ record s { attempted = Some dir; attempt = max s.attempt n } =
     λ i. record { voted = or_false s.voted i; ops = append-nil s.ops i; attempted = way s.attempted is i; attempt = own s.attempt is i; elected = s.elected; decided = s.decided } in
     record {
       fit = subst (λ x. Fit x) (sym e) (fit_attempt s n dir f elected rises first);
@@ -245,8 +245,8 @@ own_step site t l (log.Attempt u n dir) is f may =
 own_step site t l (log.Decision u dir) is f may =
     let same : t ≡ u = same_is t u is in
     let voted : dir ≡ Commit → has_voted t l ≡ true = subst (λ (x : Txn). dir ≡ Commit → has_voted x l ≡ true) (sym same) may.voted in
-    let s : Said = said_of t l in
-    let e : said_with t s (log.Decision u dir) ≡ record s { decided = Some dir } =
+    let s : LogOf = logged_of t l in
+    let e : logged_with t s (log.Decision u dir) ≡ record s { decided = Some dir } =
     λ i. record { voted = or_false s.voted i; ops = append-nil s.ops i; attempted = s.attempted; attempt = s.attempt; elected = s.elected; decided = way s.decided is i } in
     record {
       fit = subst (λ x. Fit x) (sym e) (fit_decision s dir f voted);
@@ -307,14 +307,14 @@ shape_step site t l r sh may = by (is_of t r) refl
     by : (b : Bool) → is_of t r ≡ b → Shape site t (l ++ r ∷ [])
     by true is =
         let own : OwnStep site t l r = own_step site t l r is sh.fit may in
-        let e : said_of t (l ++ r ∷ []) ≡ said_with t (said_of t l) r = said_push t l r in
+        let e : logged_of t (l ++ r ∷ []) ≡ logged_with t (logged_of t l) r = said_push t l r in
         record {
           fit = subst (λ x. Fit x) (sym e) own.fit;
           heard = λ some. subst (λ x. Heard x) (sym e) own.heard;
           known = λ some. known_push site t l r may own.known;
         }
     by false is =
-        let e : said_of t (l ++ r ∷ []) ≡ said_of t l = said_push t l r ∙ said_leaves t (said_of t l) r is in
+        let e : logged_of t (l ++ r ∷ []) ≡ logged_of t l = said_push t l r ∙ said_leaves t (logged_of t l) r is in
         let had : own_of t (l ++ r ∷ []) ≡ own_of t l = own_push t l r is in
         record {
           fit = subst (λ x. Fit x) (sym e) sh.fit;

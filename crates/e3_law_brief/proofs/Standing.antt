@@ -23,7 +23,7 @@ use Rattle.e3_law_brief.proofs.Going.{open_before}
 use Rattle.e3_law_brief.proofs.Locks.{any_back, free_is, lock_of, locks_for, locks_own, none_by, equal_tests}
 use Rattle.e3_law_brief.proofs.Notes.{kept_of, said_notes, kept_fit}
 use Rattle.e3_law_brief.proofs.Readings.{own_of}
-use Rattle.e3_law_brief.proofs.Shape.{Said, shape_of, Quiet, quiet_from, ops_push}
+use Rattle.e3_law_brief.proofs.Shape.{LogOf, shape_of, Quiet, quiet_from, ops_push}
 use Rattle.e3_law_steps.proofs.Ascending.{Ascends, same_from}
 use Rattle.e3_law_steps.proofs.Each.{each-weaker}
 use Rattle.e3_law_steps.proofs.Tests.{same_is}
@@ -199,7 +199,7 @@ vote_free site l ts t orderly up off = by (is_undecided t l) refl
 
         kept : list_any (same_txn u) ts ≡ true → voted_ops u (front l ts) ≡ open_ops u l
         kept is =
-            ap (λ (s : Said). s.ops) (said_from u (front l ts) (noted l u) (own true is) ∙ said_notes u (kept_of u l) (kept_fit u l (shape_of site u l orderly).fit))
+            ap (λ (s : LogOf). s.ops) (said_from u (front l ts) (noted l u) (own true is) ∙ said_notes u (kept_of u l) (kept_fit u l (shape_of site u l orderly).fit))
 
         others : list_any (same_txn u) ts ≡ true → same_txn t u ≡ false
         others is = differ (same_txn t u) refl
@@ -213,7 +213,7 @@ vote_free site l ts t orderly up off = by (is_undecided t l) refl
 
         at : (b : Bool) → list_any (same_txn u) ts ≡ b → (c : Bool) → is_undecided u l ≡ c
             → (voted_ops u (front l ts) ≡ []) ⊎ ((same_txn t u ≡ false) × (is_undecided u l ≡ true) × (voted_ops u (front l ts) ≡ voted_ops u l))
-        at false is c open_is = inl (ap (λ (s : Said). s.ops) (said_from u (front l ts) [] (own false is)))
+        at false is c open_is = inl (ap (λ (s : LogOf). s.ops) (said_from u (front l ts) [] (own false is)))
         at true is false open_is = inl (kept is ∙ opens false open_is)
         at true is true open_is = inr (others is, open_is, kept is ∙ opens true open_is)
 

@@ -10,7 +10,8 @@ use Rattle.e3_world.specs.Steps.{step_of}
 use Rattle.e3_law_brief.specs.Alike.{ReadAlike}
 use Rattle.e3_world.specs.Brief.{brief}
 use Rattle.e3_world.specs.Orderly.{IsOrderly}
-use Rattle.e3_law_brief.specs.Incarnations.{AlikeNow, IsInOrder, open_in}
+use Rattle.e3_world.specs.Items.{undecided_in}
+use Rattle.e3_law_brief.specs.Incarnations.{AlikeNow, IsInOrder}
 
 -- each input makes both do the same
 abbrev pub StepsAreAlike : Type 0
@@ -37,7 +38,7 @@ AlikeTurned = (a b : Incarnation) → AlikeNow a b → AlikeNow b a
 -- they have the same open transactions
 abbrev pub OpensAreAlike : Type 0
 OpensAreAlike = (site : ℕ) (a b : Incarnation) → IsOrderly site (present_log a) → AlikeNow a b →
-    fold add_txn [] (open_in site (life_of a)) ≡ fold add_txn [] (open_in site (life_of b))
+    fold add_txn [] (undecided_in site (life_of a)) ≡ fold add_txn [] (undecided_in site (life_of b))
 
 -- sites that rise with orderly logs of the same brief are alike
 abbrev pub RisesAreAlike : Type 0

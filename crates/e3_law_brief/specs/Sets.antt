@@ -6,9 +6,9 @@ use Rattle.e3_types.specs.declared.scenarios.Scenario.{Scenario}
 use Rattle.e3_world.specs.Given.{IsGiven}
 use Rattle.e3_world.specs.Legal.{IsLegal}
 use Rattle.e3_world.specs.Moves.{log_of}
-use Rattle.e3_law_brief.specs.Incarnations.{IsKnown}
+use Rattle.e3_world.specs.Transactions.{IsFoundByBits}
 use Rattle.e3_world.specs.Brief.{txns_of}
 
 -- the sites of each transaction in the log of each site in each legal history of a given scenario are a set
 abbrev pub LoggedSitesAreSets : Type 0
-LoggedSitesAreSets = (sc : Scenario) (h : List Entry) (site : ℕ) → IsGiven sc → IsLegal sc h → Each IsKnown (txns_of (log_of sc h site))
+LoggedSitesAreSets = (sc : Scenario) (h : List Entry) (site : ℕ) → IsGiven sc → IsLegal sc h → Each IsFoundByBits (txns_of (log_of sc h site))

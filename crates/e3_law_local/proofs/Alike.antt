@@ -10,7 +10,7 @@ use Rattle.e3_types.specs.declared.entries.Input.{Input}
 use Rattle.e3_types.specs.declared.scenarios.Item.{Item}
 use Rattle.e3_types.specs.declared.scenarios.Item.TheVariants as item
 use Rattle.e3_types.specs.declared.scenarios.Scenario.{Scenario}
-use Rattle.e3_world.specs.Given.{IsGiven, SaidSoFar, say_item, items_keep, is_step_form, close_step, steps_keep}
+use Rattle.e3_world.specs.Given.{IsGiven, ItemsSoFar, with_item, items_keep, is_step_form, close_step, steps_keep}
 use Rattle.e3_world.specs.Items.{to_line, input_of, inputs_of, inputs_to, inputs_at, is_delivery, taken_at, turn_of, is_up_at}
 use Rattle.e3_world.specs.Legal.{Guard, LegalAfter, may_rise, entry_of, made_by}
 use Rattle.e3_world.specs.Lives.{incarnation_of}
@@ -56,17 +56,17 @@ count_push : {X : Type 0} (p : X → Bool) (xs ys : List X) → count_by p (xs +
 count_push p xs ys = sum_by-append _ xs ys
 
 -- in a scenario that keeps the rules each step has its form
-form_of : (sc : Scenario) (k : SaidSoFar) (steps : List (List Item)) (n : ℕ) (items : List Item) → steps_keep sc k steps ≡ true →
+form_of : (sc : Scenario) (k : ItemsSoFar) (steps : List (List Item)) (n : ℕ) (items : List Item) → steps_keep sc k steps ≡ true →
     slice_get steps n ≡ Some items → is_step_form items ≡ true
 form_of sc k [] n items keep is = absurd cc
 form_of sc k (x ∷ steps) zero items keep is =
-    let p = and_parts (is_step_form x && items_keep sc k x) (steps_keep sc (close_step (fold (say_item sc) k x)) steps) keep in
+    let p = and_parts (is_step_form x && items_keep sc k x) (steps_keep sc (close_step (fold (with_item sc) k x)) steps) keep in
     let q = and_parts (is_step_form x) (items_keep sc k x) p.0 in
     let same : x ≡ items = cc in
     ap is_step_form (sym same) ∙ q.0
 form_of sc k (x ∷ steps) (suc n) items keep is =
-    let p = and_parts (is_step_form x && items_keep sc k x) (steps_keep sc (close_step (fold (say_item sc) k x)) steps) keep in
-    form_of sc (close_step (fold (say_item sc) k x)) steps n items p.1 is
+    let p = and_parts (is_step_form x && items_keep sc k x) (steps_keep sc (close_step (fold (with_item sc) k x)) steps) keep in
+    form_of sc (close_step (fold (with_item sc) k x)) steps n items p.1 is
 
 -- where a site may rise, the present step asks nothing of the sites
 rise_bare : (sc : Scenario) (h : List Entry) (site s : ℕ) → IsGiven sc → may_rise sc h site ≡ true → inputs_at sc h s ≡ []

@@ -9,5 +9,5 @@ mod Sources
 mod Falling
 pub mod Settling
 pub mod Ending
-mod Alike
+mod FullFrames
 pub mod Left

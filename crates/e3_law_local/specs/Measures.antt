@@ -7,16 +7,12 @@ use Rattle.e3_types.specs.declared.entries.Entry.{Entry}
 use Rattle.e3_types.specs.declared.scenarios.Scenario.{Scenario}
 use Rattle.e3_types.specs.declared.transactions.Txn.{Txn}
 use Rattle.e3_types.specs.Ranks.{rank}
-use Rattle.e3_world.specs.Items.{began_in, is_delivery}
+use Rattle.e3_world.specs.Items.{is_delivery}
 use Rattle.e3_world.specs.Logs.{is_undecided}
 use Rattle.e3_world.specs.Moves.{log_of}
+use Rattle.e3_law_steps.specs.Mentions.{begun_in}
 use Rattle.e3_net.specs.declared.waiting.Waiting.{Waiting}
 use Rattle.e3_net.specs.Stands.{waiting_of}
-
--- the transactions that an act tells as begun
-abbrev pub begun_in : Act → List Txn
-begun_in (Step i records outs events) = flat_map began_in events
-begun_in _ = []
 
 -- the transactions that a history tells as begun
 abbrev pub begun : List Entry → List Txn

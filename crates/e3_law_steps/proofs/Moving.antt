@@ -1,14 +1,13 @@
 -- What one step of a site does to the logs and to the moves of all sites.
-use Rattle.std.proofs.Common.{◌≡◌, ◌==◌, ℕ, false, List, [], ◌∷◌, ◌++◌, ◌∙◌, ap, refl, map, append-nil}
+use Rattle.std.proofs.Common.{◌≡◌, ◌==◌, ℕ, false, List, [], ◌∷◌, ◌++◌, ◌∙◌, ap, append-nil}
 use Rattle.std.proofs.lemmas.Grind.{flat_map-append}
 use Rattle.e3_types.specs.declared.entries.Entry.{Entry}
 use Rattle.e3_types.specs.declared.entries.Input.{Input}
-use Rattle.e3_types.specs.declared.messages.Packet.{Packet}
 use Rattle.e3_types.specs.declared.scenarios.Scenario.{Scenario}
 use Rattle.e3_world.specs.declared.lives.At.{At}
-use Rattle.e3_world.specs.Legal.{entry_of, made_by, numbered}
+use Rattle.e3_world.specs.Legal.{entry_of, made_by}
 use Rattle.e3_world.specs.Lives.{life_at}
-use Rattle.e3_world.specs.Moves.{Move, log_by, recorded, log_of, moves_of, own_entries, past_of, unnumbered, unnumbered_input}
+use Rattle.e3_world.specs.Moves.{Move, log_by, recorded, log_of, moves_of, own_entries, past_of, unnumbered_input}
 use Rattle.e3_world.specs.Packets.{outs_of, sent}
 use Rattle.e3_world.specs.Sound.{step_move}
 use Rattle.e3_world.proofs.Numbers.{entered_move}
@@ -44,11 +43,6 @@ moves_still sc h site s i other = ap (λ l. (past_of sc s l).moves) (own_other s
 pub log_still : (sc : Scenario) (h : List Entry) (site s : ℕ) (i : Input) → (site == s) ≡ false →
     log_of sc (h ++ entry_of sc h site i ∷ []) s ≡ log_of sc h s
 log_still sc h site s i other = ap log_by (moves_still sc h site s i other)
-
--- numbers are nothing to a packet
-pub plain_numbered : (n : ℕ) (ps : List Packet) → map unnumbered (numbered n ps) ≡ map unnumbered ps
-plain_numbered n [] = refl
-plain_numbered n (p ∷ ps) = ap (λ rest. unnumbered p ∷ rest) (plain_numbered _ ps)
 
 pub log_append : (xs ys : List Move) → log_by (xs ++ ys) ≡ log_by xs ++ log_by ys
 log_append xs ys = flat_map-append recorded xs ys

@@ -1,4 +1,5 @@
 pub mod Texts
+pub mod Marks
 pub mod Spelled
 pub mod Items
 pub mod Records

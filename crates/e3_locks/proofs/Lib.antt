@@ -4,7 +4,7 @@ pub mod Granting
 pub mod Grants
 pub mod Placing
 pub mod Requests
-pub mod Splitting
+pub mod TwoParts
 pub mod Tables
 pub mod Awaiting
 pub mod Still

@@ -23,7 +23,8 @@ use Rattle.e3_locks.specs.declared.pairs.Pair.{Pair}
 use Rattle.e3_locks.specs.Places.{Place, would, released}
 use Rattle.e3_locks.specs.Replays.{with_request}
 use Rattle.e3_locks.specs.Standing.{Standing, place_in}
-use Rattle.e3_locks.specs.Pairs.{key_of, pair_key, IsKnown, HasKey, AreFrom, AtEach, IsPaired, IsPut, IsIndex, with_release}
+use Rattle.e3_world.specs.Transactions.{IsFoundByBits}
+use Rattle.e3_locks.specs.Pairs.{key_of, pair_key, HasKey, AreFrom, AtEach, IsPaired, IsPut, IsIndex, with_release}
 use Rattle.e3_locks.proofs.Still.{IsStill, still_requested, still_released, each_requested, each_released, each_place, released_none, released_twice}
 
 -- ---- keys
@@ -175,7 +176,7 @@ found_own pairs at k a = subst (λ l. HasKey k l) (sym a.parts) (has_right k a.b
 
 -- ---- a request
 
-pub index_requested : (old new : List Standing) (pairs more : List Pair) (n : List ℕ) (w : Lock) (g : Grant) → IsKnown w.txn → g ≡ would w (place_in n old)
+pub index_requested : (old new : List Standing) (pairs more : List Pair) (n : List ℕ) (w : Lock) (g : Grant) → IsFoundByBits w.txn → g ≡ would w (place_in n old)
     → ((m : List ℕ) → place_in m new ≡ with_request n w g (λ k. place_in k old) m)
     → IsAscending pair_key more → ((k : List ℕ) → HasKey k pairs → HasKey k more) → (IsPut g → HasKey (key_of w.txn ++ n) more) → IsIndex old pairs → IsIndex new more
 index_requested old new pairs more n w g known grant change up keeps own a = record {
@@ -217,7 +218,7 @@ txn_eq t u e =
     let sites : t.sites ≡ u.sites = same_numbers_eq t.sites u.sites set in
     λ i. record { site = site i; inc = inc i; seq = seq i; sites = sites i }
 
-txn_is : (t u : Txn) → same_txn t u ≡ false → IsKnown t → IsKnown u → key_of u ≡ key_of t → ⊥
+txn_is : (t u : Txn) → same_txn t u ≡ false → IsFoundByBits t → IsFoundByBits u → key_of u ≡ key_of t → ⊥
 txn_is t u other known_t known_u e =
     let site : t.site ≡ u.site = ap (λ (l : List ℕ). get_or l 0 0) (sym e) in
     let inc : t.inc ≡ u.inc = ap (λ (l : List ℕ). get_or l 1 0) (sym e) in
@@ -242,7 +243,7 @@ same_name (x ∷ a) [] m n l e = absurd (omega (arith, l))
 same_name (x ∷ a) (y ∷ b) m n l e = same_name a b m n (omega (arith, l)) (ap (λ (l : List ℕ). drop 1 l) e)
 
 -- one pair of the transaction leaves, and the transaction leaves that name
-pub index_released : (old new : List Standing) (xs : List Pair) (p : Pair) (ys : List Pair) (t : Txn) → IsKnown t → key_of p.txn ≡ key_of t
+pub index_released : (old new : List Standing) (xs : List Pair) (p : Pair) (ys : List Pair) (t : Txn) → IsFoundByBits t → key_of p.txn ≡ key_of t
     → ((m : List ℕ) → place_in m new ≡ with_release p.name t (λ k. place_in k old) m) → IsIndex old (xs ++ p ∷ ys) → IsIndex new (xs ++ ys)
 index_released old new xs p ys t known own change a = record {
   ascending = ascending_less xs p ys a.ascending;

@@ -12,7 +12,7 @@ use Rattle.e3_locks.specs.declared.granted.Granted.{Granted}
 use Rattle.e3_locks.specs.Places.{Place, without}
 
 -- a table of locks: those that are held and those that are waited for, those of one name in the order in which they
--- came; and how many requests more it has room for
+-- came; and its room: with any, a request takes no memory
 pub record LockLists : Type 0 where
   pub held : List Granted
   pub queue : List Granted

@@ -6,8 +6,9 @@ use Rattle.e3_types.specs.declared.locks.Lock.{Lock}
 use Rattle.e3_types.specs.declared.transactions.Txn.{Txn}
 use Rattle.e3_types.specs.Locks.{front}
 use Rattle.e3_types.specs.Same.{same_numbers}
-use Rattle.e3_types.specs.Sites.{sites_of, bits_of}
+use Rattle.e3_types.specs.Sites.{bits_of}
 use Rattle.e3_types.specs.Sorted.{IsUnder, IsAscending}
+use Rattle.e3_world.specs.Transactions.{IsFoundByBits}
 use Rattle.e3_locks.specs.declared.pairs.Pair.{Pair}
 use Rattle.e3_locks.specs.Places.{Place, released}
 use Rattle.e3_locks.specs.Standing.{Standing, Each, place_in}
@@ -19,10 +20,6 @@ key_of t = t.site ∷ t.inc ∷ t.seq ∷ bits_of t.sites ∷ []
 -- a pair as numbers
 abbrev pub pair_key : Pair → List ℕ
 pair_key p = key_of p.txn ++ p.name
-
--- the transaction is found by its bits
-abbrev pub IsKnown : Txn → Type 0
-IsKnown t = sites_of (bits_of t.sites) ≡ t.sites
 
 -- one of the pairs has the key
 abbrev pub HasKey : List ℕ → List Pair → Type 0
@@ -39,7 +36,7 @@ AtEach P p = Each P p.held × Each P p.queue
 
 -- the lock's transaction stands with the name among the pairs
 abbrev pub IsPaired : List ℕ → List Pair → Lock → Type 0
-IsPaired n pairs l = IsKnown l.txn × HasKey (key_of l.txn ++ n) pairs
+IsPaired n pairs l = IsFoundByBits l.txn × HasKey (key_of l.txn ++ n) pairs
 
 -- a request that was answered so is held or waits
 abbrev pub IsPut : Grant → Type 0

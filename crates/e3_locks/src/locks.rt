@@ -20,7 +20,8 @@ pub trait Locks {
         ensures { result ≡ would (record { txn = txn; mode = mode }) (place name.now (lists self.now)) };
 
     /// A request: the lock is held, or waits behind all others, or the transaction dies for the oldest in its way and
-    /// nothing changes. Want of memory is the only error, and changes no lock; with room it does not come.
+    /// nothing changes. Want of memory is the only error, and changes no lock; with room it does not come. It may take all
+    /// the room there is, so one that must not want memory has a `reserve` of its own before it.
     fn request(&mut self, txn: Txn, name: &Name, mode: Mode) -> Result<Grant, NoMemory>
         ensures grant { IfOk result (λ g. g ≡ would (record { txn = txn; mode = mode }) (place name.now (lists self.old))) }
         ensures ok { IfOk result (λ g. (n : List ℕ) → place n (lists self.new)

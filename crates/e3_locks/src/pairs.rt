@@ -5,9 +5,9 @@ ghost use Rattle.std.specs.Cmp.Lexicographic.{slice_cmp};
 ghost use Rattle.e3_types.specs.Same.{same_numbers};
 ghost use Rattle.e3_types.specs.Sorted.{AreUnder, IsAscending, IsAt, IsGap};
 ghost use Rattle.e3_locks.specs.Standing.{Each};
-ghost use Rattle.e3_locks.specs.Pairs.{key_of, pair_key, HasKey, AreFrom, IsPut, IsKnown};
+ghost use Rattle.e3_locks.specs.Pairs.{key_of, pair_key, HasKey, AreFrom, IsPut};
 
-use e3_types::{Grant, Name, SiteSet, Txn};
+use e3_types::{Grant, Name, Txn};
 use std::cmp::Ordering;
 
 // A transaction, and a name on which it holds a lock or waits.
@@ -116,12 +116,4 @@ pub(crate) fn add_put(pairs: &mut Vec<Pair>, grant: &Grant, txn: &Txn, name: &Na
         Grant::Held | Grant::Waits => add_pair(pairs, txn, name),
         Grant::Dies { .. } => {}
     }
-}
-
-// The law that a transaction is found by its bits.
-pub(crate) fn known(t: &Txn)
-    ensures { IsKnown t.now }
-{
-    let twin = SiteSet::of_bits(t.sites.bits());
-    let _same = twin.is_same(t.sites);
 }

@@ -5,9 +5,10 @@ ghost use Rattle.e3_locks.specs.Places.{released};
 ghost use Rattle.e3_locks.specs.Standing.{IsTable, place_in};
 ghost use Rattle.e3_locks.specs.Pairs.{IsIndex, with_release};
 
-use crate::pairs::{Pair, first_of, known};
+use crate::pairs::{Pair, first_of};
 use crate::place::NameLocks;
 use e3_types::{Name, Txn, place_of};
+use e3_world::found_by_bits;
 
 // On this name the transaction's locks and requests leave, and what that grants is held.
 fn release_on(places: &mut Vec<NameLocks>, name: &Name, t: &Txn)
@@ -36,7 +37,7 @@ pub(crate) fn release_all(places: &mut Vec<NameLocks>, pairs: &mut Vec<Pair>, t:
     ensures pairs_len { vec_len pairs.new ≤ vec_len pairs.old }
     ensures pairs_room { vec_capacity pairs.new ≡ vec_capacity pairs.old }
 {
-    known(t);
+    found_by_bits(t);
     let at = first_of(pairs, t);
     'pairs: while at < pairs.len() && pairs[at].is_of(t) {
         let pair = pairs.remove(at);

@@ -10,11 +10,12 @@ ghost use Rattle.e3_locks.specs.Standing.{IsTable, count_at, place_in};
 ghost use Rattle.e3_locks.specs.Waiting.{awaited_at};
 
 use crate::gathers::{awaited_on, granted_on};
-use crate::pairs::{Pair, add_put, known, pairs_of};
+use crate::pairs::{Pair, add_put, pairs_of};
 use crate::place::NameLocks;
 use crate::releases::release_all;
 use crate::{Granted, Locks};
 use e3_types::{Grant, List, Lock, Mode, Name, NoMemory, Txn, place_of};
+use e3_world::found_by_bits;
 use std::alloc::Global;
 use std::marker::Model;
 
@@ -140,7 +141,7 @@ impl Locks for LockTable {
             Ok(()) => {}
             Err(_) => return Err(NoMemory),
         }
-        known(&txn);
+        found_by_bits(&txn);
         let wanted = Lock { txn, mode };
         let grant = request_on(
             self.alloc,

@@ -50,9 +50,9 @@ raw_handed from own found raw told first more is =
     its : (g : ℕ) → told_by first.body ≡ Some g → handed_frames (first ∷ more) ≡ short_frame first ∷ more
     its g e = rw e refl
 
-pub raw_plain : (from : ℕ) (own : Front) (found : List Frame) → IsRaw from own found → is_told own ≡ false → handed_frames found ≡ found
-raw_plain from own [] raw told = refl
-raw_plain from own (f ∷ fs) raw told = by (told_by f.body) refl
+pub raw_untold : (from : ℕ) (own : Front) (found : List Frame) → IsRaw from own found → is_told own ≡ false → handed_frames found ≡ found
+raw_untold from own [] raw told = refl
+raw_untold from own (f ∷ fs) raw told = by (told_by f.body) refl
   where
     by : (o : Option ℕ) → told_by f.body ≡ o → handed_frames (f ∷ fs) ≡ f ∷ fs
     by None e = rw e refl

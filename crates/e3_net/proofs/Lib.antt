@@ -12,5 +12,4 @@ pub mod Leaving
 pub mod Rows
 pub mod Standing
 pub mod Queueing
-pub mod Parting
 pub mod Walking

@@ -3,9 +3,9 @@ ghost use Rattle.std.specs.Prelude.{◌≡◌, ◌+◌, ◌-◌, ◌^◌, ◌<�
 ghost use Rattle.e3_net.specs.Traffic.{copies_now, fresh, packet_to, queue_in, sends, sends_all, takes};
 ghost use Rattle.e3_world.specs.Legal.{numbered};
 
-use crate::queue::{self, Queue};
+use crate::queue::Queue;
 use e3_types::{List, Message, NoMemory, Packet, Scenario, SiteSet};
-use e3_world::{fate_word, sites_to};
+use e3_world::{copies_by_luck, fate_word, same_part, sites_to};
 use std::alloc::Global;
 use std::marker::Model;
 
@@ -99,13 +99,13 @@ impl Net {
         ensures number { result ≡ copies_now self.now.traffic packet.now }
         ensures low { 0 < result → packet.now.to ≤ 64 }
     {
-        if !queue::same_part(self.parts.as_slice(), packet.from, packet.to) {
+        if !same_part(self.parts.as_slice(), packet.from, packet.to) {
             return 0;
         }
         if self.calm {
             return 1;
         }
-        queue::copies_by_luck(
+        copies_by_luck(
             self.loss,
             self.repeat,
             fate_word(self.luck, packet.number) % 100,

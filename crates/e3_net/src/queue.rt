@@ -1,44 +1,13 @@
 // The queue of the packets that are pending, in ascending order of their numbers. Those to a site form a chain.
-ghost use Rattle.std.specs.Prelude.{◌≡◌, ◌+◌, ◌-◌, ◌^◌, ◌<◌, ◌≤◌, ◌++◌, [], true, false, take, IfOk, IsTrue, OnOk, option_copied, option_map, find, length, replicate, slice_get};
-ghost use Rattle.std.specs.List.{list_any};
+ghost use Rattle.std.specs.Prelude.{◌≡◌, ◌+◌, ◌-◌, ◌^◌, ◌<◌, ◌≤◌, ◌++◌, [], take, IfOk, OnOk, option_copied, option_map, find, length, replicate, slice_get};
 ghost use Rattle.std.specs.VecDeque.{deque_len, deque_capacity};
-ghost use Rattle.e3_world.specs.Fate.{copies_of, fate_by_luck, same_part};
 ghost use Rattle.e3_net.specs.Traffic.{goes_to, less_one_to, queue_in, wait};
 
 use crate::slots::{Slot, drop_gone, no_places, place_at, set_copies, set_next, slot_at};
-use e3_types::{List, NoMemory, Packet, SiteSet};
+use e3_types::{List, NoMemory, Packet};
 use std::alloc::Global;
 use std::collections::VecDeque;
 use std::marker::Model;
-
-// Some part has both sites. No part has one above 64.
-pub(crate) fn same_part(parts: &[SiteSet], s: u32, u: u32) -> bool
-    ensures same { result ≡ same_part parts.now s u }
-    ensures low { IsTrue result → u ≤ 64 }
-{
-    for at in 0..parts.len() {
-        let part = parts[at];
-        let _sites = part.count();
-        if part.has(s) && part.has(u) {
-            return true;
-        }
-    }
-    false
-}
-
-// How many copies luck gives, by a number from 0 to 99.
-pub(crate) fn copies_by_luck(loss: u32, repeat: u32, x: u32) -> u8
-    requires { loss + repeat ≤ 100 }
-    ensures { result ≡ copies_of (fate_by_luck loss repeat x) }
-{
-    if x < loss {
-        0
-    } else if x < loss + repeat {
-        2
-    } else {
-        1
-    }
-}
 
 // So many copies of a packet behind those before, as far as there may be more.
 fn add_copies(

@@ -12,7 +12,7 @@ use Rattle.e3_node.specs.Briefing.{BriefsAreTold, IsBriefOf}
 use Rattle.e3_node.specs.Drafts.{IsAsBefore, IsReady}
 use Rattle.e3_node.specs.Ends.{input_fault_of}
 use Rattle.e3_node.specs.Several.{claims_for}
-use Rattle.e3_node.specs.Telling.{IsOwn}
+use Rattle.e3_node.specs.Telling.{IsOfSite}
 use Rattle.e3_node.specs.declared.batching.Batch.{Batch}
 use Rattle.e3_node.specs.declared.drafts.Draft.{Draft}
 use Rattle.e3_node.specs.declared.fault.InputFault.{InputFault}
@@ -32,8 +32,8 @@ use Rattle.e3_world.specs.Legal.{entry_of, made_by, records_by}
 use Rattle.e3_world.specs.Moves.{log_of}
 use Rattle.e3_world.specs.declared.lives.Incarnation.{Incarnation}
 use Rattle.e3_world.specs.declared.lives.SiteStep.{SiteStep}
-use Rattle.e3_node.proofs.Batches.{plain_push, records_push, stepped_push}
-use Rattle.e3_node.proofs.Bundles.{plain_length, steps_log}
+use Rattle.e3_node.proofs.Batches.{unnumbered_push, records_push, stepped_push}
+use Rattle.e3_node.proofs.Bundles.{unnumbered_length, steps_log}
 use Rattle.e3_site_log.specs.Ends.{HasRoom, HasRoomUnlessShort, IsShortIf, MayTurn}
 use Rattle.e3_site_log.specs.declared.writing.Short.{Short}
 use Rattle.e3_site_log.proofs.Holding.{back_both}
@@ -54,9 +54,9 @@ inputs_done sc h site [] = refl
 inputs_done sc h site (i ∷ done) = ap (λ (l : List Input). i ∷ l) (inputs_done sc (h ++ entry_of sc h site i ∷ []) site done)
 
 -- the entry of a step that the history makes
-step_plain : (sc : Scenario) (h : List Entry) (site : ℕ) (i : Input) (step : SiteStep) → step ≡ step_kept i (made_by sc h site i) →
+step_unnumbered : (sc : Scenario) (h : List Entry) (site : ℕ) (i : Input) (step : SiteStep) → step ≡ step_kept i (made_by sc h site i) →
     entry_of_plan site i step ≡ unnumbered_of site i (made_by sc h site i)
-step_plain sc h site i step is = ap (λ (p : SiteStep). entry_of_plan site i p) is
+step_unnumbered sc h site i step is = ap (λ (p : SiteStep). entry_of_plan site i p) is
 
 -- what is said of a refusal
 pub err_so : {A : Type 0} (r : Result A InputFault) (X : Type 0) → X → OnErr r X
@@ -76,7 +76,7 @@ made_behind : (sc : Scenario) (h : List Entry) (site : ℕ) (rose : List Record)
 made_behind sc h site rose s t i d stands order ready = record {
   step_is = step_is;
   inputs_are = ready.drafted.inputs_are;
-  back = subst (λ (p : SiteStep). Each (IsOwn site) p.records → AllCanBeReadBack site p.records) step_is (ready.drafted.back site);
+  back = subst (λ (p : SiteStep). Each (IsOfSite site) p.records → AllCanBeReadBack site p.records) step_is (ready.drafted.back site);
 }
   where
     step_is : d.plan.step ≡ step_kept i (made_by sc h site i)
@@ -127,7 +127,7 @@ module _ {D : Type 0} (meters : D → Meters) (on_disk : LogState D) where
     inputs_so_far b s now was = ap (λ (l : List Entry). inputs_in l) was.steps_are ∙ inputs_done sc h site done
 
     pub count_so_far : (b : Batch) (s : SiteView) (now : List Mark) → IsBatch meters on_disk sc h site rose marks first done b s now → length b.steps.items ≡ length done
-    count_so_far b s now was = ap (λ (l : List Entry). length l) was.steps_are ∙ plain_length sc h site done
+    count_so_far b s now was = ap (λ (l : List Entry). length l) was.steps_are ∙ unnumbered_length sc h site done
 
     -- what its frame has with the records of one input more
     body_with : (b : Batch) (s t : SiteView) (now : List Mark) (i : Input) (d : Draft) (body : List ℕ) → IsBatch meters on_disk sc h site rose marks first done b s now →
@@ -174,14 +174,14 @@ module _ {D : Type 0} (meters : D → Meters) (on_disk : LogState D) where
         ((l : List Record) → (b.records ≡ [] → IsBriefOf t l) → c.records ≢ [] → b.short ≡ None → HasRoomUnlessShort meters on_disk l short (length c.body)) →
         then ≡ now ++ mark.Place site outs ∷ [] → IsBatch meters on_disk sc h site rose marks first (done ++ i ∷ []) c new then
     batch_added b c s t new now then outs i d made step short was order told ready still made_is go weights number counted step_is outs_are steps records body shorts is_short may due claim = record {
-      steps_are = steps ∙ ap (λ (l : List Entry). l ++ step ∷ []) was.steps_are ∙ ap (λ (x : Entry). unnumbered_steps sc h site done ++ x ∷ []) entry ∙ sym (plain_push sc h site done i);
+      steps_are = steps ∙ ap (λ (l : List Entry). l ++ step ∷ []) was.steps_are ∙ ap (λ (x : Entry). unnumbered_steps sc h site done ++ x ∷ []) entry ∙ sym (unnumbered_push sc h site done i);
       records_are = records_now;
       body_is = body_with b s t now i d c.body was order ready body;
       back =
-          let P : List Record → Type 0 = λ rs. Each (IsOwn site) rs → AllCanBeReadBack site rs in
+          let P : List Record → Type 0 = λ rs. Each (IsOfSite site) rs → AllCanBeReadBack site rs in
           subst P (sym (records_push sc h site done i)) (λ own.
-          back_both site (records_by sc h site done) mine (was.back (each_left (IsOwn site) (records_by sc h site done) mine own))
-          (is_made.back (each_right (IsOwn site) (records_by sc h site done) mine own)));
+          back_both site (records_by sc h site done) mine (was.back (each_left (IsOfSite site) (records_by sc h site done) mine own))
+          (is_made.back (each_right (IsOfSite site) (records_by sc h site done) mine own)));
       stands =
           let Q : List Entry → Type 0 = λ k. StandsAlike sc k site rose new in
           let ready_still : StandsAlike sc here site rose t = still.stands sc here site rose was.stands in
@@ -198,7 +198,7 @@ module _ {D : Type 0} (meters : D → Meters) (on_disk : LogState D) where
           ∙ append_assoc marks (claims_for (unnumbered_steps sc h site done)) (mark.Place site outs ∷ [])
           ∙ ap (λ (l : List Mark). marks ++ l) (ap (λ (n : ℕ). claims_for (unnumbered_steps sc h site done) ++ mark.Place site n ∷ [])
           (outs_are ∙ ap (λ (p : SiteStep). length p.outs) is_made.step_is)
-          ∙ sym (claims_push (unnumbered_steps sc h site done) (unnumbered_of site i (made_by sc here site i))) ∙ ap claims_for (sym (plain_push sc h site done i)));
+          ∙ sym (claims_push (unnumbered_steps sc h site done) (unnumbered_of site i (made_by sc here site i))) ∙ ap claims_for (sym (unnumbered_push sc h site done i)));
       short =
           let P : ℕ → Type 0 = λ n. IsShortIf n l short in
           let Q : Option Short → Type 0 = λ o. IsShortIf site l o in
@@ -229,7 +229,7 @@ module _ {D : Type 0} (meters : D → Meters) (on_disk : LogState D) where
             ∙ sym (records_push sc h site done i)
 
         entry : step ≡ unnumbered_of site i (made_by sc here site i)
-        entry = step_is ∙ step_plain sc here site i made (made_is ∙ is_made.step_is)
+        entry = step_is ∙ step_unnumbered sc here site i made (made_is ∙ is_made.step_is)
 
         there : t.site ≡ site
         there = ap (λ (v : SiteView). v.site) still.same ∙ was.stands.site_is

@@ -3,7 +3,7 @@ use Rattle.std.proofs.Common.{◌≡◌, ◌≢◌, ◌≤◌, ◌++◌, ◌∷�
 use Rattle.std.specs.List.{AllByRecursion as Each}
 use Rattle.e3_law_steps.specs.Begun.{BegunAreTransactions, RecordsMentionWhatStands}
 use Rattle.e3_node.specs.Batches.{unnumbered_of, unnumbered_steps, stepped}
-use Rattle.e3_node.specs.Telling.{IsOwn}
+use Rattle.e3_node.specs.Telling.{IsOfSite}
 use Rattle.e3_law_steps.specs.Trails.{VotesAtTheirSite}
 use Rattle.e3_types.specs.declared.entries.Entry.{Entry}
 use Rattle.e3_types.specs.declared.entries.Input.{Input}
@@ -29,10 +29,10 @@ pub stepped_push : (sc : Scenario) (h : List Entry) (site : ℕ) (inputs : List 
 stepped_push sc h site [] i = refl
 stepped_push sc h site (j ∷ inputs) i = stepped_push sc (h ++ entry_of sc h site j ∷ []) site inputs i
 
-pub plain_push : (sc : Scenario) (h : List Entry) (site : ℕ) (inputs : List Input) (i : Input) →
+pub unnumbered_push : (sc : Scenario) (h : List Entry) (site : ℕ) (inputs : List Input) (i : Input) →
     unnumbered_steps sc h site (inputs ++ i ∷ []) ≡ unnumbered_steps sc h site inputs ++ unnumbered_of site i (made_by sc (stepped sc h site inputs) site i) ∷ []
-plain_push sc h site [] i = refl
-plain_push sc h site (j ∷ inputs) i = ap (λ l. unnumbered_of site j (made_by sc h site j) ∷ l) (plain_push sc (h ++ entry_of sc h site j ∷ []) site inputs i)
+unnumbered_push sc h site [] i = refl
+unnumbered_push sc h site (j ∷ inputs) i = ap (λ l. unnumbered_of site j (made_by sc h site j) ∷ l) (unnumbered_push sc (h ++ entry_of sc h site j ∷ []) site inputs i)
 
 pub records_push : (sc : Scenario) (h : List Entry) (site : ℕ) (inputs : List Input) (i : Input) →
     records_by sc h site (inputs ++ i ∷ []) ≡ records_by sc h site inputs ++ (made_by sc (stepped sc h site inputs) site i).records
@@ -59,14 +59,14 @@ stepped_same sc site h k [] same = same
 stepped_same sc site h k (i ∷ inputs) same =
     stepped_same sc site (h ++ entry_of sc h site i ∷ []) (k ++ entry_of sc k site i ∷ []) inputs (next_same sc site h k i same)
 
-pub plain_same : (sc : Scenario) (site : ℕ) (h k : List Entry) (inputs : List Input) → moves_of sc k site ≡ moves_of sc h site →
+pub unnumbered_same : (sc : Scenario) (site : ℕ) (h k : List Entry) (inputs : List Input) → moves_of sc k site ≡ moves_of sc h site →
     unnumbered_steps sc k site inputs ≡ unnumbered_steps sc h site inputs
-plain_same sc site h k [] same = refl
-plain_same sc site h k (i ∷ inputs) same =
+unnumbered_same sc site h k [] same = refl
+unnumbered_same sc site h k (i ∷ inputs) same =
     let rest : List Entry = unnumbered_steps sc (k ++ entry_of sc k site i ∷ []) site inputs in
     ap (λ (ms : List Move). unnumbered_of site i (step_of sc.weights site (incarnation_of ms) i) ∷ rest) same
     ∙ ap (λ l. unnumbered_of site i (made_by sc h site i) ∷ l)
-    (plain_same sc site (h ++ entry_of sc h site i ∷ []) (k ++ entry_of sc k site i ∷ []) inputs (next_same sc site h k i same))
+    (unnumbered_same sc site (h ++ entry_of sc h site i ∷ []) (k ++ entry_of sc k site i ∷ []) inputs (next_same sc site h k i same))
 
 pub records_same : (sc : Scenario) (site : ℕ) (h k : List Entry) (inputs : List Input) → moves_of sc k site ≡ moves_of sc h site →
     records_by sc k site inputs ≡ records_by sc h site inputs
@@ -96,10 +96,10 @@ each_both P (x ∷ xs) ys first second = (first.0, each_both P xs ys first.1 sec
 
 -- what the steps record is of the site
 pub records_own : RecordsMentionWhatStands → BegunAreTransactions → VotesAtTheirSite → (sc : Scenario) (h : List Entry) (site : ℕ) (inputs : List Input) → IsGiven sc →
-    IsLegal sc h → 1 ≤ site → is_up_at h site ≡ true → AreDue sc h site inputs → Each (IsOwn site) (records_by sc h site inputs)
+    IsLegal sc h → 1 ≤ site → is_up_at h site ≡ true → AreDue sc h site inputs → Each (IsOfSite site) (records_by sc h site inputs)
 records_own mentions begun votes sc h site [] given legal one up due = tt
 records_own mentions begun votes sc h site (i ∷ inputs) given legal one up due =
-    each_both (IsOwn site) (made_by sc h site i).records (records_by sc (h ++ entry_of sc h site i ∷ []) site inputs)
+    each_both (IsOfSite site) (made_by sc h site i).records (records_by sc (h ++ entry_of sc h site i ∷ []) site inputs)
     (made_own mentions begun votes sc h site i given legal one up due.0)
     (records_own mentions begun votes sc (h ++ entry_of sc h site i ∷ []) site inputs given
     (legal_push sc h (entry_of sc h site i) legal (guard_step sc h site i one up due.0)) one (up_same h (entry_of sc h site i) site (self site) ∙ up) due.1)

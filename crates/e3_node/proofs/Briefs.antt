@@ -8,7 +8,7 @@ use Rattle.e3_world.specs.Brief.{attempt_in, born_by, born_in, brief, decision_i
 use Rattle.e3_world.specs.Orderly.{IsOrderly, weights_in}
 use Rattle.e3_law_brief.proofs.Laws.{are_some, same_brief}
 use Rattle.e3_law_serial.specs.Orderly.{LogsAreOrderly}
-use Rattle.e3_law_brief.specs.Incarnations.{IsKnown}
+use Rattle.e3_world.specs.Transactions.{IsFoundByBits}
 use Rattle.e3_site.specs.StandsAlike.{IsLogInOrder, StandsAlike, now_with}
 use Rattle.e3_law_steps.specs.Begun.{BegunAreTransactions, RecordsMentionWhatStands}
 use Rattle.e3_law_steps.specs.Bounds.{IsHere}
@@ -17,7 +17,7 @@ use Rattle.e3_law_steps.proofs.Ascending.{each_fold}
 use Rattle.e3_law_steps.proofs.Each.{each-append, each-flat}
 use Rattle.e3_log.specs.Stands.{LogState}
 use Rattle.e3_node.specs.Briefing.{IsBriefOf, IsReadBrief}
-use Rattle.e3_node.specs.Telling.{IsOwn}
+use Rattle.e3_node.specs.Telling.{IsOfSite}
 use Rattle.e3_site.specs.Rebuilt.{IsRebuilt}
 use Rattle.e3_site.specs.SiteView.{SiteView, risen_with}
 use Rattle.e3_site_log.specs.Ends.{HasRoomUnlessShort}
@@ -49,7 +49,7 @@ abbrev IsOne : Txn → Type 0
 IsOne t = is_txn t ≡ true
 
 -- the transactions of a log are ones, and the operations of its votes are here
-txn_own : (site : ℕ) (r : Record) → IsOwn site r → Each IsOne (txn_of_record r)
+txn_own : (site : ℕ) (r : Record) → IsOfSite site r → Each IsOne (txn_of_record r)
 txn_own site (log.Birth format own weights rows) is = tt
 txn_own site (log.Inc inc) is = tt
 txn_own site (log.Vote t ops) is = (is.0, tt)
@@ -57,10 +57,10 @@ txn_own site (log.Join t n) is = (is, tt)
 txn_own site (log.Attempt t n dir) is = (is, tt)
 txn_own site (log.Decision t dir) is = (is, tt)
 
-txns_own : (site : ℕ) (l : List Record) → Each (IsOwn site) l → Each IsOne (txns_of l)
-txns_own site l all = each_fold IsOne [] (flat_map txn_of_record l) tt (each-flat (IsOwn site) IsOne txn_of_record (txn_own site) l all)
+txns_own : (site : ℕ) (l : List Record) → Each (IsOfSite site) l → Each IsOne (txns_of l)
+txns_own site l all = each_fold IsOne [] (flat_map txn_of_record l) tt (each-flat (IsOfSite site) IsOne txn_of_record (txn_own site) l all)
 
-ops_own : (site : ℕ) (t : Txn) (r : Record) → IsOwn site r → Each (IsHere site) (ops_of_vote t r)
+ops_own : (site : ℕ) (t : Txn) (r : Record) → IsOfSite site r → Each (IsHere site) (ops_of_vote t r)
 ops_own site t (log.Birth format own weights rows) is = tt
 ops_own site t (log.Inc inc) is = tt
 ops_own site t (log.Vote u ops) is = by (same_txn t u)
@@ -72,45 +72,45 @@ ops_own site t (log.Join u n) is = tt
 ops_own site t (log.Attempt u n dir) is = tt
 ops_own site t (log.Decision u dir) is = tt
 
-open_own : (site : ℕ) (t : Txn) (l : List Record) → Each (IsOwn site) l → Each (IsHere site) (open_ops t l)
+open_own : (site : ℕ) (t : Txn) (l : List Record) → Each (IsOfSite site) l → Each (IsHere site) (open_ops t l)
 open_own site t l all = by (is_undecided t l)
   where
     by : (b : Bool) → Each (IsHere site) (if b then voted_ops t l else [])
-    by true = each-flat (IsOwn site) (IsHere site) (ops_of_vote t) (ops_own site t) l all
+    by true = each-flat (IsOfSite site) (IsHere site) (ops_of_vote t) (ops_own site t) l all
     by false = tt
 
 -- so is what a brief notes of one
-vote_own : (site : ℕ) (t : Txn) (voted : Bool) (ops : List NumOp) → IsOne t → Each (IsHere site) ops → Each (IsOwn site) (vote_in t voted ops)
+vote_own : (site : ℕ) (t : Txn) (voted : Bool) (ops : List NumOp) → IsOne t → Each (IsHere site) ops → Each (IsOfSite site) (vote_in t voted ops)
 vote_own site t true ops one here = ((one, here), tt)
 vote_own site t false ops one here = tt
 
-attempt_own : (site : ℕ) (t : Txn) (dir : Option Dir) (n : ℕ) → IsOne t → Each (IsOwn site) (attempt_in t dir n)
+attempt_own : (site : ℕ) (t : Txn) (dir : Option Dir) (n : ℕ) → IsOne t → Each (IsOfSite site) (attempt_in t dir n)
 attempt_own site t None n one = tt
 attempt_own site t (Some dir) n one = by (nat_lt 1 n)
   where
-    by : (b : Bool) → Each (IsOwn site) ((if b then log.Join t n ∷ [] else []) ++ log.Attempt t n dir ∷ [])
+    by : (b : Bool) → Each (IsOfSite site) ((if b then log.Join t n ∷ [] else []) ++ log.Attempt t n dir ∷ [])
     by true = (one, (one, tt))
     by false = (one, tt)
 
-join_own : (site : ℕ) (t : Txn) (attempt elected : ℕ) → IsOne t → Each (IsOwn site) (join_in t attempt elected)
+join_own : (site : ℕ) (t : Txn) (attempt elected : ℕ) → IsOne t → Each (IsOfSite site) (join_in t attempt elected)
 join_own site t attempt elected one = by (nat_lt (max 1 attempt) elected)
   where
-    by : (b : Bool) → Each (IsOwn site) (if b then log.Join t elected ∷ [] else [])
+    by : (b : Bool) → Each (IsOfSite site) (if b then log.Join t elected ∷ [] else [])
     by true = (one, tt)
     by false = tt
 
-decision_own : (site : ℕ) (t : Txn) (dir : Option Dir) → IsOne t → Each (IsOwn site) (decision_in t dir)
+decision_own : (site : ℕ) (t : Txn) (dir : Option Dir) → IsOne t → Each (IsOfSite site) (decision_in t dir)
 decision_own site t None one = tt
 decision_own site t (Some dir) one = (one, tt)
 
-noted_own : (site : ℕ) (l : List Record) → Each (IsOwn site) l → (t : Txn) → IsOne t → Each (IsOwn site) (noted l t)
+noted_own : (site : ℕ) (l : List Record) → Each (IsOfSite site) l → (t : Txn) → IsOne t → Each (IsOfSite site) (noted l t)
 noted_own site l all t one =
-    each-append (IsOwn site) (vote_in t (has_voted t l) (open_ops t l)) _ (vote_own site t (has_voted t l) (open_ops t l) one (open_own site t l all))
-    (each-append (IsOwn site) (attempt_in t (attempted t l) (last_attempt t l)) _ (attempt_own site t (attempted t l) (last_attempt t l) one)
-    (each-append (IsOwn site) (join_in t (last_attempt t l) (last_elected t l)) _ (join_own site t (last_attempt t l) (last_elected t l) one)
+    each-append (IsOfSite site) (vote_in t (has_voted t l) (open_ops t l)) _ (vote_own site t (has_voted t l) (open_ops t l) one (open_own site t l all))
+    (each-append (IsOfSite site) (attempt_in t (attempted t l) (last_attempt t l)) _ (attempt_own site t (attempted t l) (last_attempt t l) one)
+    (each-append (IsOfSite site) (join_in t (last_attempt t l) (last_elected t l)) _ (join_own site t (last_attempt t l) (last_elected t l) one)
     (decision_own site t (decision t l) one)))
 
-born_own : (site : ℕ) (rows : List Row) (r : Record) → IsOwn site r → Each (IsOwn site) (born_by rows r)
+born_own : (site : ℕ) (rows : List Row) (r : Record) → IsOfSite site r → Each (IsOfSite site) (born_by rows r)
 born_own site rows (log.Birth format own weights was) is = (tt, tt)
 born_own site rows (log.Inc inc) is = tt
 born_own site rows (log.Vote t ops) is = tt
@@ -118,19 +118,19 @@ born_own site rows (log.Join t n) is = tt
 born_own site rows (log.Attempt t n dir) is = tt
 born_own site rows (log.Decision t dir) is = tt
 
-inc_own : (site inc : ℕ) → Each (IsOwn site) (inc_in inc)
+inc_own : (site inc : ℕ) → Each (IsOfSite site) (inc_in inc)
 inc_own site inc = by (nat_lt 0 inc)
   where
-    by : (b : Bool) → Each (IsOwn site) (if b then log.Inc inc ∷ [] else [])
+    by : (b : Bool) → Each (IsOfSite site) (if b then log.Inc inc ∷ [] else [])
     by true = (tt, tt)
     by false = tt
 
 -- what the brief of a log has is the site's own where the log is
-pub brief_own : (site : ℕ) (l : List Record) → Each (IsOwn site) l → Each (IsOwn site) (brief l)
+pub brief_own : (site : ℕ) (l : List Record) → Each (IsOfSite site) l → Each (IsOfSite site) (brief l)
 brief_own site l all =
-    each-append (IsOwn site) (born_in (table_of l) l) _ (each-flat (IsOwn site) (IsOwn site) (born_by (table_of l)) (born_own site (table_of l)) l all)
-    (each-append (IsOwn site) (inc_in (logged_inc l)) _ (inc_own site (logged_inc l))
-    (each-flat IsOne (IsOwn site) (noted l) (noted_own site l all) (txns_of l) (txns_own site l all)))
+    each-append (IsOfSite site) (born_in (table_of l) l) _ (each-flat (IsOfSite site) (IsOfSite site) (born_by (table_of l)) (born_own site (table_of l)) l all)
+    (each-append (IsOfSite site) (inc_in (logged_inc l)) _ (inc_own site (logged_inc l))
+    (each-flat IsOne (IsOfSite site) (noted l) (noted_own site l all) (txns_of l) (txns_own site l all)))
 
 -- a short log of records is none only of an empty log, which is due whatever its frame has
 pub due_short : {D : Type 0} (meters : D → Meters) (on_disk : LogState D) (l records : List Record) (size : ℕ) (r : Result (Option Short) NoMemory) →
@@ -159,7 +159,7 @@ brief_now logs sounds mentions begun votes sc h site rose s given legal stands r
   same = sym (same_brief (log_of sc h site) (present_log now) both.1);
   orderly = subst (λ (n : ℕ). IsOrderly n (log_of sc h site)) (sym stands.site_is) order.orderly;
   some = some;
-  own = subst (λ (n : ℕ). Each (IsOwn n) (brief (log_of sc h site))) (sym stands.site_is) (brief_own site (log_of sc h site) (log_own mentions begun votes sc h site given legal));
+  own = subst (λ (n : ℕ). Each (IsOfSite n) (brief (log_of sc h site))) (sym stands.site_is) (brief_own site (log_of sc h site) (log_own mentions begun votes sc h site given legal));
 }
   where
     now : Incarnation
@@ -178,12 +178,12 @@ brief_read site read l up is brief_is some begun = record {
     weights_are = λ any. ap weights_in log_is ∙ sym is.weights_are;
     inc_is = ap logged_inc (sym log_is);
     begun = λ zero. absurd (begun (ap logged_inc (sym log_is) ∙ zero));
-    known = subst (λ (x : List Record). Each IsKnown (txns_of x)) (sym log_is) brief_is.known;
+    known = subst (λ (x : List Record). Each IsFoundByBits (txns_of x)) (sym log_is) brief_is.known;
   });
   same = ap brief (append-nil read) ∙ brief_is.same;
   orderly = subst (λ (n : ℕ). IsOrderly n l) (sym is.site_is) brief_is.log_orderly;
   some = some;
-  own = subst (λ (n : ℕ). Each (IsOwn n) (brief l)) (sym is.site_is) brief_is.own;
+  own = subst (λ (n : ℕ). Each (IsOfSite n) (brief l)) (sym is.site_is) brief_is.own;
 }
   where
     now : Incarnation

@@ -47,25 +47,25 @@ use Rattle.e3_node.proofs.Pasts.{entries_on}
 use Rattle.e3_node.proofs.Steps.{one_step_more, step_moves}
 
 -- the entry of a step, once its packets have numbers
-pub plain_entry : (sc : Scenario) (h : List Entry) (site : ℕ) (i : Input) → numbered_on h (unnumbered_of site i (made_by sc h site i)) ≡ entry_of sc h site i
-plain_entry sc h site i =
+pub unnumbered_entry : (sc : Scenario) (h : List Entry) (site : ℕ) (i : Input) → numbered_on h (unnumbered_of site i (made_by sc h site i)) ≡ entry_of sc h site i
+unnumbered_entry sc h site i =
     step_entry sc h site i (made_by sc h site i).records (map unnumbered (made_by sc h site i).outs) (made_by sc h site i).told refl refl refl
 
 -- the steps are the site's, one for each input
-pub plain_own : (sc : Scenario) (h : List Entry) (site : ℕ) (inputs : List Input) → AreOf site (unnumbered_steps sc h site inputs)
-plain_own sc h site [] = tt
-plain_own sc h site (i ∷ inputs) = (refl, plain_own sc (h ++ entry_of sc h site i ∷ []) site inputs)
+pub unnumbered_own : (sc : Scenario) (h : List Entry) (site : ℕ) (inputs : List Input) → AreOf site (unnumbered_steps sc h site inputs)
+unnumbered_own sc h site [] = tt
+unnumbered_own sc h site (i ∷ inputs) = (refl, unnumbered_own sc (h ++ entry_of sc h site i ∷ []) site inputs)
 
-pub plain_length : (sc : Scenario) (h : List Entry) (site : ℕ) (inputs : List Input) → length (unnumbered_steps sc h site inputs) ≡ length inputs
-plain_length sc h site [] = refl
-plain_length sc h site (i ∷ inputs) = ap suc (plain_length sc (h ++ entry_of sc h site i ∷ []) site inputs)
+pub unnumbered_length : (sc : Scenario) (h : List Entry) (site : ℕ) (inputs : List Input) → length (unnumbered_steps sc h site inputs) ≡ length inputs
+unnumbered_length sc h site [] = refl
+unnumbered_length sc h site (i ∷ inputs) = ap suc (unnumbered_length sc (h ++ entry_of sc h site i ∷ []) site inputs)
 
 -- the history that they make
-pub plain_list : (sc : Scenario) (h : List Entry) (site : ℕ) (inputs : List Input) → enter_list h (unnumbered_steps sc h site inputs) ≡ stepped sc h site inputs
-plain_list sc h site [] = refl
-plain_list sc h site (i ∷ inputs) =
-    ap (λ (x : Entry). enter_list (h ++ x ∷ []) (unnumbered_steps sc (h ++ entry_of sc h site i ∷ []) site inputs)) (plain_entry sc h site i)
-    ∙ plain_list sc (h ++ entry_of sc h site i ∷ []) site inputs
+pub unnumbered_list : (sc : Scenario) (h : List Entry) (site : ℕ) (inputs : List Input) → enter_list h (unnumbered_steps sc h site inputs) ≡ stepped sc h site inputs
+unnumbered_list sc h site [] = refl
+unnumbered_list sc h site (i ∷ inputs) =
+    ap (λ (x : Entry). enter_list (h ++ x ∷ []) (unnumbered_steps sc (h ++ entry_of sc h site i ∷ []) site inputs)) (unnumbered_entry sc h site i)
+    ∙ unnumbered_list sc (h ++ entry_of sc h site i ∷ []) site inputs
 
 -- they use just what was claimed for them
 pub steps_use : (sc : Scenario) (h : List Entry) (site : ℕ) (inputs : List Input) (p r : ℕ) →
@@ -196,12 +196,12 @@ may_enter_all sc most more h site (q ∷ packets) rest p r is legal one exists u
   record {
     site = one;
     exists = exists;
-    allowed = subst (λ (k : List Entry). Allows sc k e) (sym is) (subst (Guard sc h) (sym (plain_entry sc h site i)) guard);
+    allowed = subst (λ (k : List Entry). Allows sc k e) (sym is) (subst (Guard sc h) (sym (unnumbered_entry sc h site i)) guard);
     takes = subst (λ (k : List Entry). IsLeastTo sc k site q) (sym is) (front_is_least sc h site q (packets ++ rest) queue);
     place = subst (λ (w : Note). 1 ≤ w.places) (sym note) (let some : 1 ≤ p + suc (length after) = omega arith in some);
     room = subst (λ (w : Note). outs ≤ w.room) (sym note) (let few : outs ≤ r + (outs + outs_in after) = omega arith in few);
   },
-  subst (λ (x : Entry). MayEnterAll (M ++ mark.Entered x ∷ []) after) (sym (ap (λ (k : List Entry). numbered_on k e) is ∙ plain_entry sc h site i))
+  subst (λ (x : Entry). MayEnterAll (M ++ mark.Entered x ∷ []) after) (sym (ap (λ (k : List Entry). numbered_on k e) is ∙ unnumbered_entry sc h site i))
       (may_enter_all sc most (more ++ mark.Entered x ∷ []) (h ++ x ∷ []) site packets (rest ++ on.0) p r
       (entries_append M (mark.Entered x ∷ []) ∙ ap (λ (k : List Entry). k ++ x ∷ []) is)
       (legal_push sc h x legal guard) one exists (up_same h x site (self site) ∙ up) due.1 (on.1 ∙ append_assoc packets rest on.0) noted),
@@ -236,7 +236,7 @@ may_enter_all sc most more h site (q ∷ packets) rest p r is legal one exists u
         let places : (p + suc (length after)) - 1 ≡ p + length after = omega arith in
         let room : (r + (outs + outs_in after)) - outs ≡ r + outs_in after = omega arith in
         entry_uses x M ∙ ap (λ (w : Note). used_by w x.act) note
-        ∙ ap (λ (y : Entry). used_by (record { places = p + suc (length after); room = r + (outs + outs_in after) }) y.act) (sym (plain_entry sc h site i))
+        ∙ ap (λ (y : Entry). used_by (record { places = p + suc (length after); room = r + (outs + outs_in after) }) y.act) (sym (unnumbered_entry sc h site i))
         ∙ used_numbered h site e.act (record { places = p + suc (length after); room = r + (outs + outs_in after) })
         ∙ ap (λ (n : ℕ). let w : Note = record { places = n; room = (r + (outs + outs_in after)) - outs } in w) places
         ∙ ap (λ (n : ℕ). let w : Note = record { places = p + length after; room = n } in w) room

@@ -4,7 +4,7 @@ use Rattle.std.specs.Prelude.{None, Option, Result, Some, Ok, Err}
 use Rattle.e3_disk.specs.Meaning.{Meaning}
 use Rattle.e3_disk.specs.Meters.{Keeps}
 use Rattle.e3_node.specs.Batched.{OnlyForMemory}
-use Rattle.e3_node.specs.Batches.{BatchEnded, HasFallenOverAll, HasSteppedAll, OneFrameTakes, StaysIfFewer, fall_over}
+use Rattle.e3_node.specs.Batches.{BatchEnded, HasFallenOverAll, HasSteppedAll, OneFrameTakes, fall_over}
 use Rattle.e3_node.specs.Ending.{Came, EndsWith, answer_by}
 use Rattle.e3_node.specs.NodeStands.{IsDown, IsIn, logged_in}
 use Rattle.e3_node.specs.NodeView.{disk_of}
@@ -51,11 +51,9 @@ module _ {D : Type 0} (meaning : Meaning D) (sc : Scenario) (before more : List 
       EndsWith meaning sc before more site inputs old mid r fell →
       ((why : Why) → fell ≡ Some why → new ≡ Down (disk_of mid) (logged_in mid)) → (fell ≡ None → new ≡ mid) → BatchEnded meaning.meters sc before more site inputs old new (answer_by r fell)
   ended_told mid new (Ok n) None never ends down kept =
-      let P : ℕ → Type 0 = λ k. OneFrameTakes meaning.meters old sc before site inputs k × HasSteppedAll meaning.meters sc before more site (take k inputs) old new
-      × StaysIfFewer sc before site inputs k old new in
-      let S : State D → Type 0 = λ s. StaysIfFewer sc before site inputs ends.count old s in
-      subst P (sym ends.all.0) (ends.all.1, steps_told mid new (take ends.count inputs) ends.came (kept refl), subst S (sym (kept refl)) (ends.stays refl))
-  ended_told mid new (Ok n) (Some why) never ends down kept = (ends.count, ends.all.1, fall_told mid new (take ends.count inputs) why ends.came (down why refl), ends.fault why refl)
+      let P : ℕ → Type 0 = λ k. OneFrameTakes meaning.meters old sc before site inputs k × HasSteppedAll meaning.meters sc before more site (take k inputs) old new in
+      subst P (sym ends.all.0) (ends.all.1, steps_told mid new (take ends.count inputs) ends.came (kept refl))
+  ended_told mid new (Ok n) (Some why) never ends down kept = (ends.count, ends.all.1, fall_told mid new (take ends.count inputs) why ends.came (down why refl))
   ended_told mid new (Err input_fault.Down) fell never ends down kept = absurd never
   ended_told mid new (Err (input_fault.Fell why)) fell never ends down kept = absurd never
   ended_told mid new (Err input_fault.HistoryFull) fell never ends down kept = absurd never

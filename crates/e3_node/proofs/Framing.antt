@@ -1,5 +1,5 @@
 -- Where a write puts a frame.
-use Rattle.std.proofs.Common.{◌≡◌, ◌≢◌, ◌+◌, ◌∷◌, [], inl, inr, ℕ, List, Option, refl, sym, subst, ap, ◌∙◌}
+use Rattle.std.proofs.Common.{◌≡◌, ◌≢◌, ◌∷◌, [], inl, inr, ℕ, List, Option, refl, sym, subst, ◌∙◌}
 use Rattle.std.specs.Prelude.{None, Some}
 use Rattle.e3_disk.specs.Meters.{Meters}
 use Rattle.e3_log.specs.Regions.{other}
@@ -10,12 +10,6 @@ use Rattle.e3_node.specs.Ends.{IsOneFrame}
 use Rattle.e3_site_log.specs.Ends.{HasRoom, IsBehind, IsPut, IsShortIf, IsTurned, size_of}
 use Rattle.e3_site_log.specs.declared.writing.Short.{Short}
 use Rattle.e3_types.specs.declared.records.Record.{Record}
-
--- without a short log it is behind the frames before it
-pub put_plain : {D : Type 0} (meters : D → Meters) (old new : LogState D) (records : List Record) (short : Option Short) → short ≡ None →
-    IsPut meters old short records new → IsBehind old records new
-put_plain meters old new records None none put = put
-put_plain meters old new records (Some s) none put = absurd cc
 
 -- the other region is another one
 other_differs : (r : Region) → other r ≡ r → ⊥
@@ -33,6 +27,6 @@ one_frame meters site old new log (r ∷ rs) (Some s) is same put room = by (put
     by : IsPut meters old (Some s) (r ∷ rs) new → IsOneFrame meters log (r ∷ rs) old new
     by (inl behind) = inl behind
     by (inr turned) = inr (
-      (λ fits. other_differs old.region (sym turned.0 ∙ (room fits (λ none. cc)).0)),
+      (λ fits. other_differs old.region (sym turned.region ∙ (room fits (λ none. cc)).region)),
       subst (λ (body : List ℕ). IsTurned meters old body (r ∷ rs) new) is.body_is turned,
     )

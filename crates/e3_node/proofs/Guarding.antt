@@ -19,9 +19,9 @@ use Rattle.e3_world.specs.Moves.{unnumbered}
 use Rattle.e3_world.specs.Packets.{sent}
 
 -- numbers do not matter to what is numbered
-numbered_plain : (n : ℕ) (ps : List Packet) → numbered n (map unnumbered ps) ≡ numbered n ps
-numbered_plain n [] = refl
-numbered_plain n (p ∷ ps) = ap (λ (rest : List Packet). record p { number = n } ∷ rest) (numbered_plain (suc n) ps)
+numbered_unnumbered : (n : ℕ) (ps : List Packet) → numbered n (map unnumbered ps) ≡ numbered n ps
+numbered_unnumbered n [] = refl
+numbered_unnumbered n (p ∷ ps) = ap (λ (rest : List Packet). record p { number = n } ∷ rest) (numbered_unnumbered (suc n) ps)
 
 -- the entry of a planned step
 pub step_entry : (sc : Scenario) (h : List Entry) (site : ℕ) (i : Input) (records : List Record) (outs : List Packet) (told : List Told) →
@@ -31,7 +31,7 @@ step_entry sc h site i records outs told rs os ts =
     let n : ℕ = suc (length (sent h)) in
     let made = made_by sc h site i in
     ap (λ (l : List Record). record { owner = site; act = Step i l (numbered n outs) told }) rs
-    ∙ ap (λ (l : List Packet). record { owner = site; act = Step i made.records l told }) (ap (numbered n) os ∙ numbered_plain n made.outs)
+    ∙ ap (λ (l : List Packet). record { owner = site; act = Step i made.records l told }) (ap (numbered n) os ∙ numbered_unnumbered n made.outs)
     ∙ ap (λ (l : List Told). record { owner = site; act = Step i made.records (numbered n made.outs) l }) ts
 
 -- the guard of a fall over one input

@@ -18,7 +18,7 @@ pub mod Steps
 pub mod Telling
 pub mod Waiting
 pub mod Places
-pub mod Turned
+pub mod InputsByTurns
 pub mod Owning
 pub mod Briefs
 pub mod Several

@@ -44,8 +44,8 @@ keeps_both a b c first none left second = record {
     by (inl same) = inl (same ∙ none)
     by (inr stopped) = inr (stopped.0 ∙ ap (λ (n : ℕ). raised n 1) none, (let some : 0 < b.calls_left = stopped.1 in omega (arith, some, left)), stopped.2)
 
-pub rose_since : (a b c : ℕ) → a ≤ b → HasFailed b c → HasFailed a c
-rose_since a b c below rose =
+pub failed_since : (a b c : ℕ) → a ≤ b → HasFailed b c → HasFailed a c
+failed_since a b c below rose =
     let low : min (a + 1) LAST ≤ a + 1 = min-le_left (a + 1) LAST in
     let last : min (a + 1) LAST ≤ LAST = min-le_right (a + 1) LAST in
     let both : min (a + 1) LAST ≤ min (b + 1) LAST = le-min (omega (arith, low, below)) last in

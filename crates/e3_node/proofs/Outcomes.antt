@@ -31,8 +31,8 @@ use Rattle.e3_world.specs.Moves.{Move, Past, left_by, log_of, moves_of, unnumber
 use Rattle.e3_world.specs.Packets.{is_calm, lines, present_items, step_items}
 use Rattle.e3_law_local.proofs.Alike.{all_on}
 use Rattle.e3_law_local.proofs.Laws.{legal_behind}
-use Rattle.e3_node.proofs.Batches.{plain_same}
-use Rattle.e3_node.proofs.Bundles.{due_on_all, first_on, may_enter_all, plain_own}
+use Rattle.e3_node.proofs.Batches.{unnumbered_same}
+use Rattle.e3_node.proofs.Bundles.{due_on_all, first_on, may_enter_all, unnumbered_own}
 use Rattle.e3_site_log.specs.Bodies.{ReadsLeft}
 use Rattle.e3_node.proofs.Left.{left_tells}
 use Rattle.e3_node.proofs.Pasts.{entries_on, past_on}
@@ -123,11 +123,11 @@ module _ (sc : Scenario) (h : List Entry) (site first : ℕ) (done : List Input)
       MayEnterAll now (unnumbered_steps sc h site done)
   may_all played is foreign keys k entries m one exists up firsts due note =
       let steps : List Entry = unnumbered_steps sc h site done in
-      let same : unnumbered_steps sc k site done ≡ steps = plain_same sc site h k done (moves_meanwhile sc h k site m) in
+      let same : unnumbered_steps sc k site done ≡ steps = unnumbered_same sc site h k done (moves_meanwhile sc h k site m) in
       let b : Begins now = begins now played in
       let start : now ≡ mark.Start sc b.most ∷ b.more = b.is ∙ ap (λ (s : Scenario). mark.Start s b.most ∷ b.more) keys in
       let noted : note_of site now ≡ record { places = p + length steps; room = r + outs_in steps } =
-      ap (note_of site) is ∙ notes_stay site (marks ++ claims_for steps) second foreign ∙ note_claimed site marks steps (plain_own sc h site done)
+      ap (note_of site) is ∙ notes_stay site (marks ++ claims_for steps) second foreign ∙ note_claimed site marks steps (unnumbered_own sc h site done)
       ∙ ap (λ (w : Note). let v : Note = record { places = w.places + length steps; room = w.room + outs_in steps } in v) note in
       let packets : List Packet = firsts.packets in
       let deliver : done ≡ map input.Deliver packets = firsts.deliver in

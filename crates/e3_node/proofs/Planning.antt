@@ -30,7 +30,7 @@ use Rattle.e3_world.specs.Moves.{log_of}
 use Rattle.e3_wire.proofs.Foreign.{notes_stay}
 use Rattle.e3_wire.proofs.Notes.{scenario_stays}
 use Rattle.e3_wire.proofs.Staying.{are_others_marks}
-use Rattle.e3_node.proofs.Bundles.{plain_own}
+use Rattle.e3_node.proofs.Bundles.{unnumbered_own}
 use Rattle.e3_node.proofs.Outcomes.{moves_meanwhile, stands_same}
 use Rattle.e3_node.proofs.Several.{entries_freed, grew_own, own_planned, own_marks}
 use Rattle.e3_node.proofs.Waiting.{one_while}
@@ -151,7 +151,7 @@ claims_grew meters on_disk p q site rose first inputs answer batch s marks freed
     let has : 0 < count_of site (owners_of q) = subst (λ (l : List ℕ). 0 < count_of site l) (sym same.owners) owns in
     grew_own (last_of q) (owners_of q) (seen_by q) marks now (mark.Freed site ∷ claims_for steps) seen
     (added.2.claimed ∙ ap (λ (l : List Mark). l ++ claims_for steps) free ∙ append_assoc marks (mark.Freed site ∷ []) (claims_for steps))
-    (own_planned (last_of q) site (owners_of q) steps has (plain_own (scenario_of freed) (entries_of freed) site (take added.0 inputs)))
+    (own_planned (last_of q) site (owners_of q) steps has (unnumbered_own (scenario_of freed) (entries_of freed) site (take added.0 inputs)))
 
 -- so are the entries
 pub entries_grew : (p q : APass) (marks now : List Mark) (steps : List Entry) → (owned : AreOwned p steps) → SameOwners p q → seen_by q ≡ marks →

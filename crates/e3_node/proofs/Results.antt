@@ -1,5 +1,5 @@
 -- A batch that was planned, behind what others put since.
-use Rattle.std.proofs.Common.{◌≡◌, ◌≢◌, ◌+◌, ◌-◌, ◌≤◌, ◌<◌, ◌++◌, ◌∷◌, [], inl, inr, ℕ, zero, suc, true, false, List, length, take, refl, sym, subst, ap, ◌∙◌, append_assoc, arith}
+use Rattle.std.proofs.Common.{◌≡◌, ◌≢◌, ◌+◌, ◌-◌, ◌≤◌, ◌++◌, ◌∷◌, [], inl, inr, ℕ, zero, suc, true, false, List, length, take, refl, sym, subst, ap, ◌∙◌, append_assoc, arith}
 use Rattle.std.proofs.lemmas.List.{length-take-le}
 use Rattle.std.specs.Prelude.{None, Option, Result, Some, Ok, Err, IfOk}
 use Rattle.atomic_table.specs.Seated.{TableId}
@@ -16,7 +16,7 @@ use Rattle.e3_law_brief.specs.Sets.{LoggedSitesAreSets}
 use Rattle.e3_law_steps.specs.Trails.{VotesAtTheirSite}
 use Rattle.e3_log.specs.Stands.{LogState}
 use Rattle.e3_node.specs.Batched.{HasPlanned, IsBatch}
-use Rattle.e3_node.specs.Batches.{FillFrame, FrameTakes, fall_over, unnumbered_steps, stepped}
+use Rattle.e3_node.specs.Batches.{FrameTakes, fall_over, unnumbered_steps, stepped}
 use Rattle.e3_node.specs.Bodies.{DiskTells, entries_at}
 use Rattle.e3_node.specs.Ending.{EndsWith}
 use Rattle.e3_site_log.specs.Bodies.{IsLogged, ReadsLeft}
@@ -52,12 +52,11 @@ use Rattle.e3_world.specs.Items.{is_up_at}
 use Rattle.e3_world.specs.Legal.{AreDue, Guard, IsLegal, records_by}
 use Rattle.e3_world.specs.Moves.{log_by, log_of, moves_of}
 use Rattle.e3_world.specs.Packets.{is_calm, present_items}
-use Rattle.e3_node.proofs.Adding.{has_room}
-use Rattle.e3_node.proofs.Framing.{one_frame, put_plain}
-use Rattle.e3_node.proofs.Batches.{plain_same, records_own, records_same, some_inputs, stepped_same, stepped_up}
-use Rattle.e3_node.proofs.Bundles.{all_due_first, plain_length, plain_list, plain_own, stepped_count, steps_log, steps_logged, steps_use}
+use Rattle.e3_node.proofs.Framing.{one_frame}
+use Rattle.e3_node.proofs.Batches.{unnumbered_same, records_own, records_same, some_inputs, stepped_same, stepped_up}
+use Rattle.e3_node.proofs.Bundles.{all_due_first, unnumbered_length, unnumbered_list, unnumbered_own, stepped_count, steps_log, steps_logged, steps_use}
 use Rattle.e3_node.proofs.Outcomes.{due_meanwhile, fallen_all_tells, first_of_all, first_turn, may_all, may_take_front, meanwhile_then, moves_meanwhile, stands_same}
-use Rattle.e3_node.proofs.Orders.{log_in_order, stepped_legal, up_log}
+use Rattle.e3_node.proofs.Orders.{log_in_order, stepped_legal}
 use Rattle.e3_node.proofs.Several.{entries_claimed, entries_freed, entries_in, note_claimed, note_entered, note_freed, outs_in, used_all}
 use Rattle.e3_node.proofs.Waiting.{one_while, up_meanwhile}
 use Rattle.e3_node.proofs.Written.{Follows}
@@ -68,20 +67,10 @@ fall_all_guard : (sc : Scenario) (h : List Entry) (site : ℕ) (inputs : List In
 fall_all_guard sc h zero inputs records why one up due some is = absurd (omega (arith, one))
 fall_all_guard sc h (suc n) inputs records why one up due some is = record { up = up; due = due; some = some; made = is }
 
--- fewer than all fill the frame
-fills : {D : Type 0} {meters : D → Meters} {log : LogState D} {sc : Scenario} {h : List Entry} {site : ℕ} {inputs : List Input} {n : ℕ} →
-    FrameTakes meters log sc h site inputs n → n < length inputs → FillFrame meters log sc h site inputs n
-fills (inl all) less = absurd (omega (arith, all, less))
-fills (inr fill) less = fill
-
 -- what is said of an answer goes on to what follows from it
 if_told : (r : Result ℕ InputFault) (P Q : ℕ → Type 0) → ((n : ℕ) → P n → Q n) → IfOk r P → IfOk r Q
 if_told (Ok n) P Q so is = so n is
 if_told (Err fault) P Q so is = tt
-
-if_both : (r : Result ℕ InputFault) (P Q R : ℕ → Type 0) → ((n : ℕ) → P n → Q n → R n) → IfOk r P → IfOk r Q → IfOk r R
-if_both (Ok n) P Q R so p q = so n p q
-if_both (Err fault) P Q R so p q = tt
 
 -- what one frame takes is the same where the moves of the site are
 frame_same : {D : Type 0} (meters : D → Meters) (log : LogState D) (sc : Scenario) (h k : List Entry) (site : ℕ) (inputs : List Input) (n : ℕ) →
@@ -171,7 +160,7 @@ module _ {rose : List Record} {D0 : Type 0} (meters0 : D0 → Meters) (on_disk :
 
   pub note_q : note_of site (seen_by q) ≡ record { places = 0 + length steps; room = 0 + outs_in steps }
   note_q =
-      ap (λ (l : List Mark). note_of site l) claimed ∙ note_claimed site f steps (plain_own sc h1 site done)
+      ap (λ (l : List Mark). note_of site l) claimed ∙ note_claimed site f steps (unnumbered_own sc h1 site done)
       ∙ ap (λ (w : Note). let v : Note = record { places = w.places + length steps; room = w.room + outs_in steps } in v) (note_freed b site)
 
   pub body_size : length batch.body ≡ size_of batch.records
@@ -181,7 +170,7 @@ module _ {rose : List Record} {D0 : Type 0} (meters0 : D0 → Meters) (on_disk :
   count_is = length-take-le plan.count inputs plan.added.within
 
   pub steps_are : length batch.steps.items ≡ plan.count
-  steps_are = ap (λ (l : List Entry). length l) made.steps_are ∙ plain_length sc h1 site done ∙ count_is
+  steps_are = ap (λ (l : List Entry). length l) made.steps_are ∙ unnumbered_length sc h1 site done ∙ count_is
 
   pub seen_b : (more : List Mark) × (seen_by q ≡ seen_by p ++ more)
   seen_b = (
@@ -231,7 +220,7 @@ module _ {rose : List Record} {D0 : Type 0} (meters0 : D0 → Meters) (on_disk :
           subst P (sym keys_q) (subst Q (sym entries_q) (subst (λ (l : List Input). TakesInTurn sc h1 site l) (sym is) (first_turn sc h1 site done all_1.0))));
       place =
           (let n : 1 ≤ length done = some_inputs sc h1 site done (λ none. recorded (made.records_are ∙ none)) in
-          let long : length steps ≡ length done = plain_length sc h1 site done in
+          let long : length steps ≡ length done = unnumbered_length sc h1 site done in
           let there : (note_of site (seen_by q)).places ≡ 0 + length steps = ap (λ (w : Note). w.places) note_q in
           omega (arith, n, long, there));
       room = (let none : 0 ≤ (note_of site (seen_by q)).room = omega arith in none);
@@ -261,7 +250,7 @@ module _ {rose : List Record} {D0 : Type 0} (meters0 : D0 → Meters) (on_disk :
       all_2 = due_meanwhile sc h1 k site done was.given legal_2 second_while all_1.2 all_1.0 all_1.1
 
       pub same_steps : batch.steps.items ≡ unnumbered_steps sc k site done
-      same_steps = made.steps_are ∙ sym (plain_same sc site h1 k done (moves_meanwhile sc h1 k site second_while))
+      same_steps = made.steps_are ∙ sym (unnumbered_same sc site h1 k done (moves_meanwhile sc h1 k site second_while))
 
       pub same_records : batch.records ≡ records_by sc k site done
       same_records = made.records_are ∙ sym (records_same sc site h1 k done (moves_meanwhile sc h1 k site second_while))
@@ -312,7 +301,7 @@ module _ {rose : List Record} {D0 : Type 0} (meters0 : D0 → Meters) (on_disk :
       pub history_stepped : (now : List Mark) → now ≡ marks ++ marks_in k batch.steps.items → entries_of now ≡ stepped sc k site done
       history_stepped now is =
           ap (λ (l : List Mark). entries_of l) is ∙ ap (λ (l : List Entry). entries_of (marks ++ marks_in k l)) same_steps
-          ∙ entries_in marks (unnumbered_steps sc k site done) ∙ plain_list sc k site done
+          ∙ entries_in marks (unnumbered_steps sc k site done) ∙ unnumbered_list sc k site done
 
       pub note_stepped : (now : List Mark) → now ≡ marks ++ marks_in k batch.steps.items → note_of site now ≡ nothing
       note_stepped now is =
@@ -322,7 +311,7 @@ module _ {rose : List Record} {D0 : Type 0} (meters0 : D0 → Meters) (on_disk :
           note_same q site owns_q played_q marks grew ∙ note_q
           ∙ ap (λ (es : List Entry). let v : Note = record { places = 0 + length es; room = 0 + outs_in es } in v) same in
           ap (λ (l : List Mark). note_of site l) is ∙ ap (λ (l : List Entry). note_of site (marks ++ marks_in k l)) same_steps
-          ∙ note_entered site marks mine (plain_own sc k site done) ∙ ap (λ (v : Note). used_all v mine) there ∙ steps_use sc k site done 0 0
+          ∙ note_entered site marks mine (unnumbered_own sc k site done) ∙ ap (λ (v : Note). used_all v mine) there ∙ steps_use sc k site done 0 0
 
       -- what was entered is the fall
       pub history_fallen : (over : List Input) (why : Why) (now : List Mark) → over ≡ done →
@@ -337,7 +326,7 @@ module _ {rose : List Record} {D0 : Type 0} (meters0 : D0 → Meters) (on_disk :
           note_of site now ≡ nothing
       note_fallen over why now is now_is =
           let e : Entry = record { owner = site; act = Fall over batch.records why } in
-          let long : length steps ≡ length over = plain_length sc h1 site done ∙ ap (λ (l : List Input). length l) (sym is) in
+          let long : length steps ≡ length over = unnumbered_length sc h1 site done ∙ ap (λ (l : List Input). length l) (sym is) in
           let none : (0 + length steps) - length over ≡ 0 = omega (arith, long) in
           ap (λ (l : List Mark). note_of site l) now_is ∙ entry_uses e marks
           ∙ ap (λ (w : Note). used_by w e.act) (note_same q site owns_q played_q marks grew ∙ note_q)
@@ -409,30 +398,22 @@ module _ {rose : List Record} {D0 : Type 0} (meters0 : D0 → Meters) (on_disk :
         log_while = ap log_by (moves_meanwhile sc h k site all_while)
 
         -- the steps are its end
-        pub steps_end : IfOk answer (λ n. (n ≡ plan.count) × FrameTakes meaning.meters old sc h site inputs plan.count) → LogsAreOrderly → LoggedSitesAreSets → (short : Option Short) → IsShortIf site (log_of sc k site) short → IfOk answer (λ m. m < length inputs → short ≡ None) →
+        pub steps_end : IfOk answer (λ n. (n ≡ plan.count) × FrameTakes meaning.meters old sc h site inputs plan.count) → LogsAreOrderly → LoggedSitesAreSets → (short : Option Short) → IsShortIf site (log_of sc k site) short →
             (batch.records ≡ [] → (new ≡ old) × (n ≡ n0)) →
             IsLogged meaning site (entries_at k site + 1) (log_of sc k site ++ batch.records) n new →
             (meaning.meters new.disk).powered ≡ true → Takes (calls_for batch.records) (meaning.meters old.disk) (meaning.meters new.disk) → Keeps (meaning.meters old.disk) (meaning.meters new.disk) →
             (batch.records ≢ [] → IsPut meaning.meters old short batch.records new) → (HasRoom meaning.meters old (size_of batch.records) → batch.records ≢ [] → IsBehind old batch.records new) →
             (now : List Mark) → now ≡ marks ++ marks_in k batch.steps.items →
             EndsWith meaning sc h (entries_of now) site inputs (Up s0 old rose n0) (Up s new rose n) answer None
-        steps_end told logs sets short is_short plain still wrote lit takes keeps put room now is =
+        steps_end told logs sets short is_short still wrote lit takes keeps put room now is =
             let entered : entries_of now ≡ stepped sc k site done = history_stepped now is in
             let T : List Record → Type 0 = λ rs. Takes (calls_for rs) (meaning.meters old.disk) (meaning.meters new.disk) in
             let F : List Record → Type 0 = λ rs. IsOneFrame meaning.meters (log_of sc h site) rs old new in
             let G : List Record → Type 0 = λ l. IsOneFrame meaning.meters l batch.records old new in
-            let B : List Record → Type 0 = λ rs. IsBehind old rs new in
             record {
               count = plan.count;
               all = told;
               short = plan.added.short;
-              stays =
-                  if_both answer (λ m. (m ≡ plan.count) × FrameTakes meaning.meters old sc h site inputs plan.count) (λ m. m < length inputs → short ≡ None)
-                  _ (λ m told plain none less.
-                  let fill : FillFrame meaning.meters old sc h site inputs plan.count = fills told.1 less in
-                  let some : batch.records ≢ [] = λ none. fill.some (sym seen_records ∙ none) in
-                  subst B seen_records (put_plain meaning.meters old new batch.records short (plain (subst (λ (j : ℕ). j < length inputs) (sym told.0) less)) (put some))) told plain;
-              fault = if_told answer (λ m. (m ≡ plan.count) × FrameTakes meaning.meters old sc h site inputs plan.count) _ (λ m told why some. absurd cc) told;
               came = (
                 record {
                   now = k;
@@ -448,34 +429,29 @@ module _ {rose : List Record} {D0 : Type 0} (meters0 : D0 → Meters) (on_disk :
 
         -- or the fall is
         pub fall_end : IfOk answer (λ n. (n ≡ plan.count) × FrameTakes meaning.meters old sc h site inputs plan.count) → (why : Why) → batch.records ≢ [] →
-            IfOk answer (λ m. m < length inputs → batch.short ≡ None) → HasRoomUnlessShort meaning.meters old (log_of sc k site) batch.short (size_of batch.records) →
             (HasRoom meaning.meters old (size_of batch.records) → why ≡ Fault) →
             ((bytes : List ℕ) → meaning.image new.disk bytes → ReadsLeft site (meaning.meters new.disk).capacity (entries_at k site + 1) (log_of sc k site) batch.records n why bytes) →
             IsReason why (log_of sc k site) batch.records (meaning.meters old.disk) (meaning.meters new.disk) → Keeps (meaning.meters old.disk) (meaning.meters new.disk) →
             (over : List Input) → over ≡ done → (now : List Mark) →
             now ≡ marks ++ mark.Entered (numbered_on k (record { owner = site; act = Fall over batch.records why })) ∷ [] →
             EndsWith meaning sc h (entries_of now) site inputs (Up s0 old rose n0) (Up s new rose n) answer (Some why)
-        fall_end told why some_records plain due room left reason keeps over over_is now is =
+        fall_end told why some_records room left reason keeps over over_is now is =
             let entered : entries_of now ≡ k ++ fall_over sc k site done why ∷ [] = history_fallen over why now over_is is in
             let H : List Entry → Type 0 = λ l. DiskTells sc l site (meaning.meters new.disk).capacity n (meaning.image new.disk) in
             let R : List Record → Type 0 = λ rs. IsReason why (log_of sc h site) rs (meaning.meters old.disk) (meaning.meters new.disk) in
             let L : List Record → Type 0 = λ l. IsReason why l batch.records (meaning.meters old.disk) (meaning.meters new.disk) in
+            let M : List Record → Type 0 = λ rs. HasRoom meaning.meters old (size_of rs) → why ≡ Fault in
             record {
               count = plan.count;
               all = told;
               short = plan.added.short;
-              stays = if_told answer (λ m. (m ≡ plan.count) × FrameTakes meaning.meters old sc h site inputs plan.count) _ (λ m told none. absurd cc) told;
-              fault =
-                  if_both answer (λ m. (m ≡ plan.count) × FrameTakes meaning.meters old sc h site inputs plan.count) (λ m. m < length inputs → batch.short ≡ None)
-                  _ (λ m told plain because is less.
-                  let same : because ≡ why = cc in
-                  same ∙ room (has_room meaning.meters old (log_of sc k site) batch.short (size_of batch.records) (plain (subst (λ (j : ℕ). j < length inputs) (sym told.0) less)) due (up_log sc k site up_2.up))) told plain;
               came = (
                 record {
                   now = k;
                   meanwhile = all_while;
                   fell = record { some = λ none. some_records (same_records ∙ none); entered = entered };
                   reason = subst R seen_records (subst L log_while reason);
+                  room = subst M seen_records room;
                 },
                 subst H (sym entered) (fallen_all_tells sc k site (meaning.meters new.disk).capacity done batch.records why n (meaning.image new.disk) same_records left),
               );

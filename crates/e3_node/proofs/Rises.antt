@@ -10,7 +10,7 @@ use Rattle.e3_disk.specs.Meaning.{Meaning}
 use Rattle.e3_disk.specs.Meters.{Keeps, Meters, HasFailed}
 use Rattle.e3_law_brief.specs.Alike.{ReadAlike}
 use Rattle.e3_world.specs.Brief.{brief, txns_of}
-use Rattle.e3_law_brief.specs.Incarnations.{IsKnown}
+use Rattle.e3_world.specs.Transactions.{IsFoundByBits}
 use Rattle.e3_world.specs.Orderly.{IsOrderly, weights_in}
 use Rattle.e3_law_brief.specs.Sets.{LoggedSitesAreSets}
 use Rattle.e3_law_brief.proofs.Laws.{are_some, same_alike}
@@ -27,7 +27,7 @@ use Rattle.e3_log.specs.Stands.{LogState, Stands}
 use Rattle.e3_log.proofs.Unique.{one_text}
 use Rattle.e3_node.specs.Bodies.{DiskTells, IsRead, ReadsTold, entries_at, log_with, moves_with}
 use Rattle.e3_node.specs.Briefing.{IsReadBrief}
-use Rattle.e3_node.specs.Telling.{IsOwn}
+use Rattle.e3_node.specs.Telling.{IsOfSite}
 use Rattle.e3_node.specs.Rising.{HasNotRaised, HasRaised, IsReady, MayRise, RiseMakes, born_by, raised_by, raised_of, records_by, rise_fall_of, rise_of}
 use Rattle.e3_node.specs.declared.readying.Readied.{Readied}
 use Rattle.e3_node.specs.declared.readying.Unready.{Unready}
@@ -65,7 +65,7 @@ use Rattle.e3_world.proofs.Turns.{self}
 use Rattle.e3_node.proofs.Briefs.{brief_own}
 use Rattle.e3_node.proofs.Guarding.{rise_guard}
 use Rattle.e3_node.proofs.Left.{left_tells, opened_reads}
-use Rattle.e3_node.proofs.Metering.{rose_since}
+use Rattle.e3_node.proofs.Metering.{failed_since}
 use Rattle.e3_node.proofs.Orders.{log_in_order}
 use Rattle.e3_node.proofs.Owning.{log_own}
 use Rattle.e3_node.proofs.Pasts.{entries_on, rise_fall_moves, rise_fall_tail, rise_log, rise_moves, with_log}
@@ -249,13 +249,13 @@ module _ {D : Type 0} (meaning : Meaning D) (logs : LogsAreOrderly) (sets : Logg
       let legal_e : IsLegal sc (h ++ e ∷ []) = legal logs sets sounds sc h wish may ready.kept what.some in
       let all : IsLogInOrder wish.site (log_of sc (h ++ e ∷ []) wish.site) = order logs sets sounds sc h wish may ready.kept what.some in
       let now : log_of sc (h ++ e ∷ []) wish.site ≡ kept_log ++ rise_records sc wish.site up_next kept_log = rise_log sc h wish.site ready.kept up_next in
-      let own : Each (IsOwn wish.site) kept_log =
-      each-left (IsOwn wish.site) kept_log _ (subst (λ (l : List Record). Each (IsOwn wish.site) l) now (log_own mentions begun votes sc (h ++ e ∷ []) wish.site may.given legal_e)) in
+      let own : Each (IsOfSite wish.site) kept_log =
+      each-left (IsOfSite wish.site) kept_log _ (subst (λ (l : List Record). Each (IsOfSite wish.site) l) now (log_own mentions begun votes sc (h ++ e ∷ []) wish.site may.given legal_e)) in
       record {
         orderly = orderly_read;
         same = same_brief;
         log_orderly = orderly logs sets sounds sc h wish may ready.kept what.some;
-        known = subst (λ (ts : List Txn). Each IsKnown ts) (ap txns_of now ∙ no_txns kept_log up_next ∙ (same_alike wish.site kept_log is.read
+        known = subst (λ (ts : List Txn). Each IsFoundByBits ts) (ap txns_of now ∙ no_txns kept_log up_next ∙ (same_alike wish.site kept_log is.read
             (orderly logs sets sounds sc h wish may ready.kept what.some) orderly_read (sym same_brief)).txns) all.known;
         own = brief_own wish.site kept_log own;
       }
@@ -334,7 +334,7 @@ read_since image sc h site capacity kept old mid within read = record { bytes = 
 
 reason_since : (why : Why) (log records : List Record) (old mid new : Meters) → Keeps old mid → IsReason why log records mid new →
     IsReason why log records old new
-reason_since Fault log records old mid new keeps reason = rose_since old.faults mid.faults new.faults keeps.faults reason
+reason_since Fault log records old mid new keeps reason = failed_since old.faults mid.faults new.faults keeps.faults reason
 reason_since (Full need room) log records old mid new keeps reason = subst (λ (c : ℕ). IsFull c log records need room) keeps.capacity reason
 
 -- what a rise makes of a disk it makes of what that came from
@@ -358,7 +358,7 @@ makes_since meaning sc h site old mid (Down new logged) (Failed kept inc why) wi
   reason = reason_since why _ _ (meaning.meters old) (meaning.meters mid) (meaning.meters new) keeps made.reason;
 }
 makes_since meaning sc h site old mid (Down new logged) Missed within keeps made =
-    (made.0, rose_since (meaning.meters old).faults (meaning.meters mid).faults (meaning.meters new).faults keeps.faults made.1)
+    (made.0, failed_since (meaning.meters old).faults (meaning.meters mid).faults (meaning.meters new).faults keeps.faults made.1)
 makes_since meaning sc h site old mid (Down new logged) NoMemory within keeps made = made
 makes_since meaning sc h site old mid (Down new logged) Foreign within keeps made = absurd made
 

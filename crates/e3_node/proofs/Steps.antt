@@ -14,7 +14,7 @@ use Rattle.e3_node.specs.Drafts.{IsAsBefore, IsDraft, IsReady, StandsOnBy}
 use Rattle.e3_node.specs.Ends.{FellOver, is_fall}
 use Rattle.e3_node.specs.NodeStands.{IsDown, IsFallen, IsIn, IsUp, NodeStands, StandsBy, is_step, logged_in, steps_at}
 use Rattle.e3_node.specs.NodeView.{NodeView, disk_of, is_up_in}
-use Rattle.e3_node.specs.Telling.{IsOwn}
+use Rattle.e3_node.specs.Telling.{IsOfSite}
 use Rattle.e3_node.specs.declared.drafts.Draft.{Draft}
 use Rattle.e3_node.specs.declared.fault.InputFault.{InputFault}
 use Rattle.e3_node.specs.declared.fault.InputFault.TheVariants as input_fault
@@ -142,7 +142,7 @@ stays_by old new same go = λ sc h site rose was. stands_still sc h h site rose 
 pub record IsMade (sc : Scenario) (h : List Entry) (site : ℕ) (i : Input) (d : Draft) : Type 0 where
   pub step_is : d.plan.step ≡ step_kept i (made_by sc h site i)
   pub inputs_are : d.inputs ≡ i ∷ []
-  pub back : Each (IsOwn site) (made_by sc h site i).records → AllCanBeReadBack site (made_by sc h site i).records
+  pub back : Each (IsOfSite site) (made_by sc h site i).records → AllCanBeReadBack site (made_by sc h site i).records
 
 pub draft_made : {rose : List Record} (sc : Scenario) (h : List Entry) (site : ℕ) (s new : SiteView) (i : Input) (d : Draft) → StandsBy sc h site rose s →
     IsReady (now_with rose sc h s.site) i s new d → IsMade sc h site i d
@@ -150,7 +150,7 @@ draft_made sc h site s new i d stands is = record {
   step_is = is.made ∙ plan_made sc h site s i stands;
   inputs_are = is.drafted.inputs_are;
   back =
-      subst (λ (p : SiteStep). Each (IsOwn site) p.records → AllCanBeReadBack site p.records) (is.made ∙ plan_made sc h site s i stands)
+      subst (λ (p : SiteStep). Each (IsOfSite site) p.records → AllCanBeReadBack site p.records) (is.made ∙ plan_made sc h site s i stands)
       (is.drafted.back site);
 }
 

@@ -13,7 +13,7 @@ use Rattle.e3_node.specs.Drafts.{IsAsBefore}
 use Rattle.e3_node.specs.Ends.{input_fault_of}
 use Rattle.e3_log.specs.Stands.{LogState}
 use Rattle.e3_node.specs.NodeStands.{IsIn, IsUp, NodeStands}
-use Rattle.e3_node.specs.Telling.{IsOwn}
+use Rattle.e3_node.specs.Telling.{IsOfSite}
 use Rattle.e3_node.specs.Turns.{HasKeptPromises, HasSeenMore, HasTurned, Meanwhile, scenario_seen}
 use Rattle.e3_node.specs.declared.drafts.Draft.{Draft}
 use Rattle.e3_node.specs.declared.fault.InputFault.TheVariants as input_fault
@@ -301,7 +301,7 @@ made_meanwhile sc h now site i d m made =
     record {
       step_is = made.step_is ∙ ap (step_kept i) step;
       inputs_are = made.inputs_are;
-      back = subst (λ (x : Made). Each (IsOwn site) x.records → AllCanBeReadBack site x.records) step made.back;
+      back = subst (λ (x : Made). Each (IsOfSite site) x.records → AllCanBeReadBack site x.records) step made.back;
     }
 
 -- nothing happened

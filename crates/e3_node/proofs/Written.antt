@@ -9,7 +9,7 @@ use Rattle.e3_law_steps.specs.Begun.{BegunAreTransactions, RecordsMentionWhatSta
 use Rattle.e3_law_steps.specs.Trails.{TrailsAreSound, VotesAtTheirSite}
 use Rattle.e3_node.specs.Briefing.{IsBriefOf}
 use Rattle.e3_node.specs.NodeStands.{StandsBy}
-use Rattle.e3_node.specs.Telling.{IsOwn}
+use Rattle.e3_node.specs.Telling.{IsOfSite}
 use Rattle.e3_node.specs.Turns.{Meanwhile}
 use Rattle.e3_site.specs.SiteView.{SiteView}
 use Rattle.e3_site_log.specs.Ends.{IsShortIf}
@@ -49,7 +49,7 @@ module _ (logs : LogsAreOrderly) (sets : LoggedSitesAreSets) (sounds : TrailsAre
 
   -- so a step that is due may be written
   pub step_follows : (rose : List Record) (s : SiteView) (i : Input) (short : Option Short) (records : List Record) → StandsBy sc h site rose s → 1 ≤ site → IsDue sc h site i →
-      records ≡ (made_by sc h site i).records → (Each (IsOwn site) (made_by sc h site i).records → AllCanBeReadBack site (made_by sc h site i).records) →
+      records ≡ (made_by sc h site i).records → (Each (IsOfSite site) (made_by sc h site i).records → AllCanBeReadBack site (made_by sc h site i).records) →
       ((l : List Record) → IsBriefOf s l → IsShortIf s.site l short) → Follows site (log_of sc h site) records short
   step_follows rose s i short records stands one due made back is = record {
     short = up_short rose s short stands is;

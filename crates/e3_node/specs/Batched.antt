@@ -6,7 +6,7 @@ use Rattle.e3_disk.specs.Meters.{Meters}
 use Rattle.e3_log.specs.Stands.{LogState}
 use Rattle.e3_node.specs.Batches.{FrameTakes, unnumbered_steps, stepped}
 use Rattle.e3_node.specs.Several.{claims_for}
-use Rattle.e3_node.specs.Telling.{IsOwn}
+use Rattle.e3_node.specs.Telling.{IsOfSite}
 use Rattle.e3_node.specs.declared.batching.Batch.{Batch}
 use Rattle.e3_node.specs.declared.briefing.Room.{Room}
 use Rattle.e3_node.specs.declared.briefing.Room.TheVariants as room
@@ -59,7 +59,7 @@ pub record IsBatch {D : Type 0} (meters : D → Meters) (on_disk : LogState D) (
   pub steps_are : batch.steps.items ≡ unnumbered_steps sc history site done
   pub records_are : batch.records ≡ records_by sc history site done
   pub body_is : batch.body ≡ spelling (records_by sc history site done)
-  pub back : Each (IsOwn site) (records_by sc history site done) → AllCanBeReadBack site (records_by sc history site done)
+  pub back : Each (IsOfSite site) (records_by sc history site done) → AllCanBeReadBack site (records_by sc history site done)
   pub stands : StandsAlike sc (stepped sc history site done) site rose s
   pub inputs : s.inputs ≤ first + length done
   pub claimed : now ≡ marks ++ claims_for (unnumbered_steps sc history site done)

@@ -2,14 +2,14 @@
 use Rattle.std.specs.Prelude.{◌≡◌, ◌≢◌, ◌⊎◌, ◌+◌, ◌<◌, ◌++◌, ◌∷◌, [], ℕ, List, Result, Ok, Err, length, map, take}
 use Rattle.e3_disk.specs.Meters.{Meters}
 use Rattle.e3_log.specs.Stands.{LogState}
-use Rattle.e3_node.specs.Ends.{IsOneFrame, OnLogs}
+use Rattle.e3_node.specs.Ends.{HasRoomBehind, IsOneFrame, OnLogs}
 use Rattle.e3_node.specs.NodeView.{disk_of}
 use Rattle.e3_node.specs.Turns.{Meanwhile}
 use Rattle.e3_node.specs.declared.fault.InputFault.{InputFault}
 use Rattle.e3_node.specs.declared.fault.InputFault.TheVariants as input_fault
 use Rattle.e3_node.specs.declared.state.State.{State}
 use Rattle.e3_node.specs.declared.state.State.TheVariants.{Down, Up}
-use Rattle.e3_site_log.specs.Ends.{HasRoom, IsBehind, IsReason, Takes, calls_for, size_of}
+use Rattle.e3_site_log.specs.Ends.{HasRoom, IsReason, Takes, calls_for, size_of}
 use Rattle.e3_types.specs.declared.entries.Act.TheVariants.{Fall, Step}
 use Rattle.e3_types.specs.declared.entries.Entry.{Entry}
 use Rattle.e3_types.specs.declared.entries.Input.{Input}
@@ -50,11 +50,6 @@ pub record FellOverAll (sc : Scenario) (history : List Entry) (site : ℕ) (inpu
   pub some : records_by sc history site inputs ≢ []
   pub entered : more ≡ history ++ fall_over sc history site inputs why ∷ []
 
--- Where a frame took fewer than all of these inputs, the first n, the log was not turned for it.
-abbrev pub StaysIfFewer : {D : Type 0} → Scenario → List Entry → ℕ → List Input → ℕ → State D → State D → Type 0
-StaysIfFewer sc history site inputs n old new =
-    n < length inputs → OnLogs (λ log more. IsBehind log (records_by sc history site (take n inputs)) more) old new
-
 -- Fewer than all of these inputs fill a frame: the first n record something, and the frame of that has room behind this log, but
 -- with the records of the next it would have none.
 pub record FillFrame {D : Type 0} (meters : D → Meters) (log : LogState D) (sc : Scenario) (history : List Entry) (site : ℕ) (inputs : List Input) (n : ℕ) : Type 0 where
@@ -82,12 +77,13 @@ module _ {D : Type 0} (meters : D → Meters) where
     pub takes : Takes (calls_for (records_by sc before site inputs)) (meters (disk_of old)) (meters (disk_of new))
     pub frame : OnLogs (IsOneFrame meters (log_of sc before site) (records_by sc before site inputs)) old new
 
-  -- or it fell over them, and the reason is true
+  -- or it fell over them, and the reason is true: for want of room only where their frame had none behind the log
   pub record HasFallenOverAll (sc : Scenario) (before more : List Entry) (site : ℕ) (inputs : List Input) (why : Why) (old : State D) (disk : D) : Type 0 where
     pub now : List Entry
     pub meanwhile : Meanwhile site before now
     pub fell : FellOverAll sc now site inputs why more
     pub reason : IsReason why (log_of sc before site) (records_by sc before site inputs) (meters (disk_of old)) (meters disk)
+    pub room : HasRoomBehind meters old (records_by sc before site inputs) → why ≡ Fault
 
   -- It did so with the first of these inputs alone: memory was wanting for the one behind those.
   abbrev pub EndedShort : Scenario → List Entry → List Entry → ℕ → List Input → State D → State D → Type 0
@@ -95,16 +91,15 @@ module _ {D : Type 0} (meters : D → Meters) where
       × (HasSteppedAll sc before more site (take n inputs) old new
       ⊎ ((why : Why) × HasFallenOverAll sc before more site (take n inputs) why old (disk_of new)))
 
-  -- How a batch ended: with the steps of as many of its inputs as one frame takes, and that many are told, without a turn of the
-  -- log where they are not all; or a fall over so many, for a fault of the disk where they are not all; or so with those before
-  -- the one that memory was wanting for. A site that was down did nothing. No batch is refused for a full history.
+  -- How a batch ended: with the steps of as many of its inputs as one frame takes, and that many are told; or a fall over so many;
+  -- or so with those before the one that memory was wanting for. Where they are not all, their frame has room behind the log, so
+  -- that no turn comes for it, and no fall but for a fault of the disk. A site that was down did nothing. No batch is refused for
+  -- a full history.
   abbrev pub BatchEnded : Scenario → List Entry → List Entry → ℕ → List Input → State D → State D → Result ℕ InputFault → Type 0
   BatchEnded sc before more site inputs old new (Ok n) =
       OneFrameTakes old sc before site inputs n × HasSteppedAll sc before more site (take n inputs) old new
-      × StaysIfFewer sc before site inputs n old new
   BatchEnded sc before more site inputs old new (Err (input_fault.Fell why)) =
       (n : ℕ) × OneFrameTakes old sc before site inputs n × HasFallenOverAll sc before more site (take n inputs) why old (disk_of new)
-      × (n < length inputs → why ≡ Fault)
   BatchEnded sc before more site inputs old new (Err input_fault.Down) = (more ≡ before) × (new ≡ old)
   BatchEnded sc before more site inputs old new (Err input_fault.NoMemory) = EndedShort sc before more site inputs old new
   BatchEnded sc before more site inputs old new (Err input_fault.HistoryFull) = ⊥

@@ -1,14 +1,15 @@
 -- Of which logs a site of the program, or records, tell the brief; and how many bytes packets may want.
-use Rattle.std.specs.Prelude.{◌≡◌, ◌≢◌, ◌+◌, ◌*◌, [], ℕ, min, List, length, fold}
+use Rattle.std.specs.Prelude.{◌≡◌, ◌≢◌, ◌+◌, ◌*◌, [], ℕ, List, length, fold}
 use Rattle.std.specs.List.{AllByRecursion as Each}
 use Rattle.e3_world.specs.Brief.{brief, txns_of}
-use Rattle.e3_law_brief.specs.Incarnations.{IsKnown}
+use Rattle.e3_world.specs.Transactions.{IsFoundByBits}
 use Rattle.e3_world.specs.Orderly.{IsOrderly}
 use Rattle.e3_site.specs.StandsAlike.{StandsAlike}
-use Rattle.e3_node.specs.Telling.{IsOwn}
+use Rattle.e3_node.specs.Telling.{IsOfSite}
 use Rattle.e3_places.specs.Keeping.{claims_at, txn_id}
 use Rattle.e3_site.specs.SiteView.{SiteView, Stands}
 use Rattle.e3_site.specs.Tables.{IsInOrder}
+use Rattle.e3_site_log.specs.Bodies.{counted}
 use Rattle.e3_types.specs.declared.entries.Entry.{Entry}
 use Rattle.e3_types.specs.declared.entries.Input.{Input}
 use Rattle.e3_types.specs.declared.entries.Input.TheVariants as input
@@ -30,7 +31,7 @@ pub record IsBriefOf (s : SiteView) (log : List Record) : Type 0 where
   pub same : brief (present_log now) ≡ brief log
   pub orderly : IsOrderly s.site log
   pub some : log ≢ []
-  pub own : Each (IsOwn s.site) (brief log)
+  pub own : Each (IsOfSite s.site) (brief log)
 
 -- whatever value stands for this history, as a site that rose with these records, tells the brief of the log there
 abbrev pub BriefsAreTold : Scenario → List Entry → ℕ → List Record → Type 0
@@ -41,16 +42,12 @@ pub record IsReadBrief (site : ℕ) (read log : List Record) : Type 0 where
   pub orderly : IsOrderly site read
   pub same : brief read ≡ brief log
   pub log_orderly : IsOrderly site log
-  pub known : Each IsKnown (txns_of read)
-  pub own : Each (IsOwn site) (brief log)
+  pub known : Each IsFoundByBits (txns_of read)
+  pub own : Each (IsOfSite site) (brief log)
 
 -- how many operations of a transaction stand at a site
 abbrev pub asked_of : SiteView → Txn → ℕ
 asked_of s t = length (claims_at s.tables.names.places.txns.entries (txn_id t)).standing
-
--- a sum as 64 bits have it
-abbrev pub capped : ℕ → ℕ
-capped n = min n 18446744073709551615
 
 -- how many bytes what is recorded of an input may have, for the most part
 abbrev pub spare_of : SiteView → Input → ℕ
@@ -58,9 +55,9 @@ spare_of s (input.Deliver packet) = by packet.msg
   where
     by : Message → ℕ
     by (message.Do t n op) = 400
-    by (message.VoteReq t inc count) = capped (400 * capped (asked_of s t + 1))
+    by (message.VoteReq t inc count) = counted (400 * counted (asked_of s t + 1))
     by _ = 100
 spare_of s _ = 100
 
 abbrev pub spare_for : SiteView → List Input → ℕ
-spare_for s inputs = fold (λ n i. capped (n + spare_of s i)) 0 inputs
+spare_for s inputs = fold (λ n i. counted (n + spare_of s i)) 0 inputs

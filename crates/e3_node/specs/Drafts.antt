@@ -3,7 +3,7 @@ use Rattle.std.specs.Prelude.{◌≡◌, ◌<◌, ◌^◌, ◌∷◌, [], ℕ, L
 use Rattle.std.specs.List.{AllByRecursion as Each}
 use Rattle.e3_codec.specs.Fields.{AllCanBeReadBack}
 use Rattle.e3_site.specs.StandsAlike.{StandsAlike}
-use Rattle.e3_node.specs.Telling.{IsOwn}
+use Rattle.e3_node.specs.Telling.{IsOfSite}
 use Rattle.e3_node.specs.declared.drafts.Draft.{Draft}
 use Rattle.e3_site.specs.SiteView.{HasRoomFor, IsPlanOf, SiteView, planned_step}
 use Rattle.e3_types.specs.Spelling.{spelling}
@@ -17,7 +17,7 @@ use Rattle.e3_world.specs.declared.lives.Incarnation.{Incarnation}
 -- back from the log of the site whose it is.
 pub record IsDraft (i : Input) (draft : Draft) : Type 0 where
   pub body_is : draft.body ≡ spelling draft.plan.step.records
-  pub back : (site : ℕ) → Each (IsOwn site) draft.plan.step.records → AllCanBeReadBack site draft.plan.step.records
+  pub back : (site : ℕ) → Each (IsOfSite site) draft.plan.step.records → AllCanBeReadBack site draft.plan.step.records
   pub inputs_are : draft.inputs ≡ i ∷ []
 
 -- The draft is of what the input makes the site do in this incarnation, and the new value has room for it: it can be done

@@ -2,7 +2,7 @@
 use Rattle.std.specs.Prelude.{◌≡◌, ◌<◌, ℕ, List, Option, Some, None, Result, Ok, Err, IfOk, OnErr, length, take}
 use Rattle.e3_disk.specs.Meaning.{Meaning}
 use Rattle.e3_disk.specs.Meters.{Keeps}
-use Rattle.e3_node.specs.Batches.{HasFallenOverAll, HasSteppedAll, OneFrameTakes, StaysIfFewer}
+use Rattle.e3_node.specs.Batches.{HasFallenOverAll, HasSteppedAll, OneFrameTakes}
 use Rattle.e3_node.specs.NodeStands.{IsFallen, IsIn}
 use Rattle.e3_node.specs.NodeView.{disk_of}
 use Rattle.e3_node.specs.declared.fault.InputFault.{InputFault}
@@ -11,7 +11,6 @@ use Rattle.e3_node.specs.declared.state.State.{State}
 use Rattle.e3_types.specs.declared.entries.Entry.{Entry}
 use Rattle.e3_types.specs.declared.entries.Input.{Input}
 use Rattle.e3_types.specs.declared.entries.Why.{Why}
-use Rattle.e3_types.specs.declared.entries.Why.TheVariants.{Fault}
 use Rattle.e3_types.specs.declared.scenarios.Scenario.{Scenario}
 
 -- what is answered: a refusal before a fall
@@ -28,14 +27,11 @@ module _ {D : Type 0} (meaning : Meaning D) where
   Came sc before more site done old new (Some why) =
       HasFallenOverAll meaning.meters sc before more site done why old (disk_of new) × IsFallen meaning sc more site new
 
-  -- It did so with as many inputs as were planned: where none was refused, as many as one frame takes, and that many are told. Where
-  -- those are fewer than all, the log was not turned, and a fall has a fault of the disk as its cause.
+  -- It did so with as many inputs as were planned: where none was refused, as many as one frame takes, and that many are told.
   pub record EndsWith (sc : Scenario) (before more : List Entry) (site : ℕ) (inputs : List Input) (old new : State D)
       (planned : Result ℕ InputFault) (fell : Option Why) : Type 0 where
     pub count : ℕ
     pub all : IfOk planned (λ n. (n ≡ count) × OneFrameTakes meaning.meters old sc before site inputs count)
     pub short : OnErr planned (count < length inputs)
-    pub stays : IfOk planned (λ n. fell ≡ None → StaysIfFewer sc before site inputs count old new)
-    pub fault : IfOk planned (λ n. (why : Why) → fell ≡ Some why → count < length inputs → why ≡ Fault)
     pub came : Came sc before more site (take count inputs) old new fell
     pub keeps : Keeps (meaning.meters (disk_of old)) (meaning.meters (disk_of new))

@@ -8,7 +8,7 @@ use Rattle.e3_node.specs.declared.fault.InputFault.TheVariants as input_fault
 use Rattle.e3_node.specs.declared.fault.RiseFault.{RiseFault}
 use Rattle.e3_node.specs.declared.fault.RiseFault.TheVariants as rise_fault
 use Rattle.e3_node.specs.declared.state.State.{State}
-use Rattle.e3_node.specs.declared.state.State.TheVariants.{Up}
+use Rattle.e3_node.specs.declared.state.State.TheVariants.{Down, Up}
 use Rattle.e3_log.specs.Stands.{LogState}
 use Rattle.e3_play.specs.Entering.{fall_of}
 use Rattle.e3_types.specs.declared.entries.Act.TheVariants.{Rise, RiseFall}
@@ -38,6 +38,11 @@ abbrev pub IsOneFrame : {D : Type 0} → (D → Meters) → List Record → List
 IsOneFrame meters log [] old new = new ≡ old
 IsOneFrame meters log (r ∷ rs) old new = IsBehind old (r ∷ rs) new
     ⊎ ((HasRoom meters old (size_of (r ∷ rs)) → ⊥) × IsTurned meters old (spelling (brief log)) (r ∷ rs) new)
+
+-- The frame of these records has room behind the log of a site that is up.
+abbrev pub HasRoomBehind : {D : Type 0} → (D → Meters) → State D → List Record → Type 0
+HasRoomBehind meters (Up s log rose logged) records = HasRoom meters log (size_of records)
+HasRoomBehind meters (Down disk logged) records = ⊥
 
 -- the site fell over an input for this reason: its step records something, and the fall is entered in its place
 pub record FellOver (sc : Scenario) (history : List Entry) (site : ℕ) (i : Input) (why : Why) (more : List Entry) : Type 0 where

@@ -30,10 +30,10 @@ IsTold (log.Attempt t n dir) = TxnNumbersFit t × IsShort n
 IsTold (log.Decision t dir) = TxnNumbersFit t
 
 -- What a legal history gives of a record of a site: its transaction is one, and a vote's operations are on keys of the site.
-abbrev pub IsOwn : ℕ → Record → Type 0
-IsOwn site (log.Birth format own weights rows) = Unit {0}
-IsOwn site (log.Inc inc) = Unit {0}
-IsOwn site (log.Vote t ops) = (is_txn t ≡ true) × Each (IsHere site) ops
-IsOwn site (log.Join t n) = is_txn t ≡ true
-IsOwn site (log.Attempt t n dir) = is_txn t ≡ true
-IsOwn site (log.Decision t dir) = is_txn t ≡ true
+abbrev pub IsOfSite : ℕ → Record → Type 0
+IsOfSite site (log.Birth format own weights rows) = Unit {0}
+IsOfSite site (log.Inc inc) = Unit {0}
+IsOfSite site (log.Vote t ops) = (is_txn t ≡ true) × Each (IsHere site) ops
+IsOfSite site (log.Join t n) = is_txn t ≡ true
+IsOfSite site (log.Attempt t n dir) = is_txn t ≡ true
+IsOfSite site (log.Decision t dir) = is_txn t ≡ true

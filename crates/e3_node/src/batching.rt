@@ -107,7 +107,6 @@ fn add_one<D: Disk>(
     ensures used { used_of shared.new ≤ used_of shared.old + 1 }
     ensures added { IfOk result (λ added. added ≡ true → IsBatchAt D.meaning.meters log.now (record at { done = at.done ++ input.now ∷ [] }) batch.new site.new shared.new) }
     ensures full { IfOk result (λ added. added ≡ false → IsBatchAt D.meaning.meters log.now at batch.new site.new shared.new × HasNoMoreRoom D.meaning.meters log.now at input.now) }
-    ensures stays { IfOk result (λ added. added ≡ false → batch.new.short ≡ None) }
     ensures kept { OnErr result (IsBatchAt D.meaning.meters log.now at batch.new site.new shared.new) }
     ensures refused { OnlyForMemory result }
 {
@@ -159,7 +158,6 @@ fn add_all<D: Disk>(
     requires left { used_of shared.old + length inputs.now ≤ most_of shared.old }
     ensures added { (n : ℕ) × AreAdded D.meaning.meters log.now at.scenario at.history at.site inputs.now result n
         × IsBatchAt D.meaning.meters log.now (record at { done = take n inputs.now }) batch.new site.new shared.new }
-    ensures stays { IfOk result (λ n. n < length inputs.now → batch.new.short ≡ None) }
     ensures refused { OnlyForMemory result }
 {
     let spare = spare_for(site, inputs);
@@ -202,7 +200,6 @@ pub(crate) fn plan_all<R: Wait, D: Disk>(
     ensures same { SameOwners pass.old pass.new }
     ensures played { IsPlayed (seen_by pass.new) }
     ensures planned { HasPlanned D.meaning.meters log.now pass.old number rose.now site.old.inputs inputs.now result batch.new site.new (seen_by pass.new) }
-    ensures stays { IfOk result (λ n. n < length inputs.now → batch.new.short ≡ None) }
     ensures refused { OnlyForMemory result }
 {
     let mut shared = wire.take(rt, pass);

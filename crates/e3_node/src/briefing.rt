@@ -1,12 +1,12 @@
 // The short log that a log is turned to, where a frame has no room behind it.
-ghost use Rattle.std.specs.Prelude.{◌≡◌, ◌≢◌, ◌≤◌, ◌<◌, [], ℕ, false, length, take, List as Items, IfOk, Some as Given, None, Ok, Err};
+ghost use Rattle.std.specs.Prelude.{◌≡◌, ◌≢◌, ◌≤◌, ◌<◌, [], ℕ, false, length, take, List as Items, IfOk, IsSome, Some as Given, None, Ok, Err};
 ghost use Rattle.std.specs.List.{AllByRecursion as Each};
 ghost use Rattle.e3_world.specs.Brief.{brief};
 ghost use Rattle.e3_world.specs.Orderly.{IsOrderly};
 ghost use Rattle.e3_node.specs.Batched.{IfReady};
 ghost use Rattle.e3_node.specs.Briefing.{IsBriefOf, IsReadBrief, asked_of, spare_for, spare_of};
 ghost use Rattle.e3_node.specs.declared.briefing.Room.TheVariants as room;
-ghost use Rattle.e3_node.specs.Telling.{IsOwn};
+ghost use Rattle.e3_node.specs.Telling.{IsOfSite};
 ghost use Rattle.e3_node.specs.declared.readying.Unready.TheVariants as unready;
 ghost use Rattle.e3_site_log.specs.Ends.{HasRoom, HasRoomUnlessShort, IsShortIf, MayTurn};
 ghost use Rattle.e3_site_log.specs.declared.writing.Short.{Short as Shorts};
@@ -30,7 +30,7 @@ fn short_of<D: Disk>(
     log: &Log<D>,
     records: &[Record],
 ) -> Result<Option<Short>, NoMemory>
-    ensures short { (site : ℕ) (l : Items Records) → records.now ≡ brief l → l ≢ [] → Each (IsOwn site) (brief l) → IfOk result (IsShortIf site l) }
+    ensures short { (site : ℕ) (l : Items Records) → records.now ≡ brief l → l ≢ [] → Each (IsOfSite site) (brief l) → IfOk result (IsShortIf site l) }
     ensures none { IfOk result (λ s. s ≡ None → records.now ≡ []) }
     ensures may { IfOk result (MayTurn log.now) }
 {
@@ -45,7 +45,7 @@ fn short_of<D: Disk>(
     Ok(Some(Short { body, count }))
 }
 
-/// What the log of a site that is up is turned to, where a frame of this length has no room behind it.
+/// What the log of a site that is up is turned to, where a frame of this length has no room behind it, and only there.
 pub(crate) fn shorten<D: Disk>(
     alloc: Global,
     site: &Site,
@@ -56,6 +56,7 @@ pub(crate) fn shorten<D: Disk>(
     ensures short { (l : Items Records) → IsBriefOf site.now l → IfOk result (IsShortIf site.now.site l) }
     ensures due { (l : Items Records) → IsBriefOf site.now l → log.now.failed ≡ false → records.now ≢ [] →
         IfOk result (λ s. HasRoomUnlessShort D.meaning.meters log.now l s len) }
+    ensures needed { IfOk result (λ s. IsSome s → (records.now ≢ []) × (HasRoom D.meaning.meters log.now len → ⊥)) }
     ensures may { IfOk result (MayTurn log.now) }
 {
     if records.is_empty() || log.fits(len) {
@@ -78,7 +79,8 @@ fn brief_read(alloc: Global, site: u32, read: &[Record]) -> Result<List<Record>,
     Ok(of_site(alloc, &before)?)
 }
 
-/// What the log that a rise read is turned to, where the frame of the rise has no room behind it. An empty log is not turned.
+/// What the log that a rise read is turned to, where the frame of the rise has no room behind it, and only there. An empty log
+/// is not turned.
 pub(crate) fn shorten_read<D: Disk>(
     wish: &Wish,
     log: &Log<D>,
@@ -88,6 +90,7 @@ pub(crate) fn shorten_read<D: Disk>(
     ensures short { (l : Items Records) → IsReadBrief wish.now.site (take rise.now.read rise.now.rose) l → IfOk result (IsShortIf wish.now.site l) }
     ensures due { (l : Items Records) → IsReadBrief wish.now.site (take rise.now.read rise.now.rose) l → log.now.failed ≡ false →
         IfOk result (λ s. HasRoomUnlessShort D.meaning.meters log.now l s (length rise.now.body)) }
+    ensures needed { IfOk result (λ s. IsSome s → (rise.now.read ≢ 0) × (HasRoom D.meaning.meters log.now (length rise.now.body) → ⊥)) }
     ensures may { IfOk result (MayTurn log.now) }
     ensures never { IsOrderly wish.now.site (take rise.now.read rise.now.rose) → result ≡ Err unready.Foreign → ⊥ }
 {

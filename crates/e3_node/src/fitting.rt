@@ -2,12 +2,13 @@
 ghost use Rattle.std.specs.Prelude.{◌≡◌, ℕ, IfOk, OnOk};
 ghost use Rattle.std.specs.List.{AllByRecursion};
 ghost use Rattle.e3_codec.specs.Fields.{AllCanBeReadBack, IsShort, RowFits, TxnNumbersFit};
-ghost use Rattle.e3_node.specs.Telling.{IsOwn, IsTold, NumOpTold, OpTold};
+ghost use Rattle.e3_node.specs.Telling.{IsOfSite, IsTold, NumOpTold, OpTold};
 ghost use Rattle.e3_types.specs.Spelling.{spelling};
 ghost use Rattle.e3_types.specs.Text.{IsName, IsValue};
 
 use e3_codec::put_records;
-use e3_types::{List, Name, NoMemory, NumOp, Op, Record, Row, SiteSet, Txn, Val};
+use e3_types::{List, Name, NoMemory, NumOp, Op, Record, Row, Txn, Val};
+use e3_world::found_by_bits;
 use std::alloc::Global;
 
 // The numbers of a transaction fit, and its sites are those of their bits.
@@ -15,8 +16,8 @@ fn tell_txn(t: &Txn)
     ensures { TxnNumbersFit t.now }
 {
     let _txn = t.oldest(&[]);
-    let twin = SiteSet::of_bits(t.sites.bits());
-    let _same = twin.is_same(t.sites);
+    let _bits = t.sites.bits();
+    found_by_bits(t);
 }
 
 // A name has the form of its type.
@@ -128,7 +129,7 @@ fn tell_records(records: &[Record])
 #[tactic(auto, using(crate::proofs::Telling::spelled_back))]
 pub(crate) fn spelled(alloc: Global, records: &[Record]) -> Result<List<u8>, NoMemory>
     ensures bytes { IfOk result (λ bytes. bytes ≡ spelling records.now) }
-    ensures back { OnOk result ((site : ℕ) → AllByRecursion (IsOwn site) records.now → AllCanBeReadBack site records.now) }
+    ensures back { OnOk result ((site : ℕ) → AllByRecursion (IsOfSite site) records.now → AllCanBeReadBack site records.now) }
 {
     tell_records(records);
     put_records(alloc, records)

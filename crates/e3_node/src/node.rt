@@ -7,7 +7,7 @@ ghost use Rattle.e3_law_local.specs.Drafts.{MayTake, MayTakeAll};
 ghost use Rattle.e3_law_local.specs.Least.{AreFirstTo};
 ghost use Rattle.e3_node.specs.Batches.{BatchEnded};
 ghost use Rattle.e3_node.specs.Bodies.{DiskStands};
-ghost use Rattle.e3_node.specs.Ends.{FellOver, HasFailedToRise, HasRisen, IsOneFrame, OnLogs, is_fall};
+ghost use Rattle.e3_node.specs.Ends.{FellOver, HasFailedToRise, HasRisen, HasRoomBehind, IsOneFrame, OnLogs, is_fall};
 ghost use Rattle.e3_node.specs.NodeStands.{NodeStands};
 ghost use Rattle.e3_node.specs.NodeView.{disk_of, is_up_in};
 ghost use Rattle.e3_node.specs.Places.{HasGivenNoneBack};
@@ -23,6 +23,7 @@ ghost use Rattle.e3_turn.specs.Passes.{seen_by};
 ghost use Rattle.e3_types.specs.declared.entries.Act.TheVariants as act;
 ghost use Rattle.e3_types.specs.declared.entries.Entry.{Entry as Entries};
 ghost use Rattle.e3_types.specs.declared.entries.Why.{Why};
+ghost use Rattle.e3_types.specs.declared.entries.Why.TheVariants.{Fault};
 ghost use Rattle.e3_types.specs.declared.scenarios.Scenario.{Scenario};
 ghost use Rattle.e3_wire.specs.Marks.{entries_of, most_of, note_of, nothing, scenario_of, used_of};
 ghost use Rattle.e3_wire.specs.Wires.{TakesLeast};
@@ -193,13 +194,15 @@ impl<D: Disk + Drill + Drop> Node<D> {
         ensures kept { (fault : InputFaults) → result ≡ Err fault → is_fall fault ≡ false →
             (entries_of shared.new ≡ entries_of shared.old) × (disk_of self.new.state ≡ disk_of self.old.state) }
 
-        // the disk's count of faults rose, or a frame had no room, and its end is told exactly; no call arms or cuts it, and what
-        // is left of an arm pays for the calls of the frame. Where nothing is recorded the disk is as it was; the log is turned
-        // only where the frame has no room
+        // a fall: the disk's count of faults rose, or the frame had no room behind the log, and its end is told exactly. No call
+        // arms or cuts the disk, and what is left of an arm pays for the calls of the frame. A step: where it records nothing the
+        // disk is as it was, and the log is turned only where the frame has no room behind it
         ensures why { (why : Why) → result ≡ Err (input_fault.Fell why) →
             IsReason why (log_of (scenario_of shared.old) (entries_of shared.old) self.old.site)
             (made_by (scenario_of shared.old) (entries_of shared.old) self.old.site input).records
             (D.meaning.meters (disk_of self.old.state)) (D.meaning.meters (disk_of self.new.state)) }
+        ensures room { (why : Why) → result ≡ Err (input_fault.Fell why) →
+            HasRoomBehind D.meaning.meters self.old.state (made_by (scenario_of shared.old) (entries_of shared.old) self.old.site input).records → why ≡ Fault }
         ensures meters { Keeps (D.meaning.meters (disk_of self.old.state)) (D.meaning.meters (disk_of self.new.state)) }
         ensures takes { OnOk result (Takes (calls_for (made_by (scenario_of shared.old) (entries_of shared.old) self.old.site input).records)
             (D.meaning.meters (disk_of self.old.state)) (D.meaning.meters (disk_of self.new.state))) }
@@ -252,6 +255,8 @@ impl<D: Disk + Drill + Drop> Node<D> {
             IsReason why (log_of (scenario_seen pass.old) (history_seen pass.old) self.old.site)
             (made_by (scenario_seen pass.old) (history_seen pass.old) self.old.site input).records
             (D.meaning.meters (disk_of self.old.state)) (D.meaning.meters (disk_of self.new.state)) }
+        ensures room { (why : Why) → result ≡ Err (input_fault.Fell why) →
+            HasRoomBehind D.meaning.meters self.old.state (made_by (scenario_seen pass.old) (history_seen pass.old) self.old.site input).records → why ≡ Fault }
         ensures meters { Keeps (D.meaning.meters (disk_of self.old.state)) (D.meaning.meters (disk_of self.new.state)) }
         ensures takes { OnOk result (Takes (calls_for (made_by (scenario_seen pass.old) (history_seen pass.old) self.old.site input).records)
             (D.meaning.meters (disk_of self.old.state)) (D.meaning.meters (disk_of self.new.state))) }
@@ -272,10 +277,10 @@ impl<D: Disk + Drill + Drop> Node<D> {
     /// does with each of them in their order, but that all their records are one frame, and their steps are entered in one
     /// turn. They are the first packets to the site, and a place is promised to it for each, as `next_few` of the wire promises
     /// them; a place that is not used is given back. So no batch is refused for a full history. With Ok it is told how many of
-    /// the packets, from the first on, have their steps: all of them, but where the frame with the records of one more would have
-    /// no room behind the log, which is not turned then; the rest stay pending. A site that falls over them has one fall over so
-    /// many. Where memory runs out behind the first of them, those have their frame and their steps, or one fall, and the rest
-    /// have nothing. All memory is taken before the frame is written.
+    /// the packets, from the first on, have their steps: all of them; or fewer, and then only where their frame has room behind
+    /// the log and that with the records of one more would have none; the rest stay pending. A site that falls over them has one
+    /// fall over so many. Where memory runs out behind the first of them, those have their frame and their steps, or one fall,
+    /// and the rest have nothing. All memory is taken before the frame is written.
     pub fn batch<R: Wait>(
         &mut self,
         rt: &R,

@@ -2,17 +2,18 @@
 ghost use Rattle.std.specs.Prelude.{◌≡◌, ◌^◌, ◌<◌, ◌≤◌, ◌++◌, ◌∷◌, ◌↔◌, [], true, false, length, OnOk, Err};
 ghost use Rattle.e3_disk.specs.Meters.{Keeps};
 ghost use Rattle.e3_node.specs.Bodies.{DiskTells};
-ghost use Rattle.e3_node.specs.Ends.{FellOver, IsOneFrame, OnLogs, is_fall};
+ghost use Rattle.e3_node.specs.Ends.{FellOver, HasRoomBehind, IsOneFrame, OnLogs, is_fall};
 ghost use Rattle.e3_node.specs.NodeStands.{IsFallen, IsIn, IsUp, logged_in};
 ghost use Rattle.e3_node.specs.NodeView.{disk_of};
 ghost use Rattle.e3_node.specs.SharedStands.{MayGoOn, SharedGoesOn};
 ghost use Rattle.e3_node.specs.declared.fault.InputFault.{InputFault as InputFaults};
 ghost use Rattle.e3_node.specs.declared.fault.InputFault.TheVariants as input_fault;
 ghost use Rattle.e3_site.specs.SiteView.{entry_of_plan};
-ghost use Rattle.e3_site_log.specs.Ends.{IsReason, Takes, calls_for};
+ghost use Rattle.e3_site_log.specs.Ends.{HasRoom, IsReason, Takes, calls_for, size_of};
 ghost use Rattle.e3_play.specs.Entering.{IsFirst};
 ghost use Rattle.e3_types.specs.declared.entries.Act.TheVariants as act;
 ghost use Rattle.e3_types.specs.declared.entries.Why.{Why as Whys};
+ghost use Rattle.e3_types.specs.declared.entries.Why.TheVariants.{Fault};
 ghost use Rattle.e3_wire.specs.Marks.{entries_of, most_of, scenario_of};
 ghost use Rattle.e3_world.specs.Items.{is_up_at};
 ghost use Rattle.e3_world.specs.Legal.{IsDue, entry_of, made_by};
@@ -93,6 +94,8 @@ fn step<D: Disk>(
     ensures why { (why : Whys) → result ≡ Err (input_fault.Fell why) →
         IsReason why (log_of (scenario_of shared.old) (entries_of shared.old) number)
         (made_by (scenario_of shared.old) (entries_of shared.old) number input).records (D.meaning.meters log.old.disk) (D.meaning.meters log.new.disk) }
+    ensures room { (why : Whys) → result ≡ Err (input_fault.Fell why) →
+        HasRoom D.meaning.meters log.old (size_of (made_by (scenario_of shared.old) (entries_of shared.old) number input).records) → why ≡ Fault }
     ensures full { (result ≡ Err input_fault.HistoryFull) ↔ (most_of shared.old ≤ length (entries_of shared.old)) }
     ensures keeps { Keeps (D.meaning.meters log.old.disk) (D.meaning.meters log.new.disk) }
     ensures takes { OnOk result (Takes (calls_for (made_by (scenario_of shared.old) (entries_of shared.old) number input).records)
@@ -148,6 +151,8 @@ pub(crate) fn take_input<D: Disk + Drop>(
     ensures why { (why : Whys) → result ≡ Err (input_fault.Fell why) →
         IsReason why (log_of (scenario_of shared.old) (entries_of shared.old) number)
         (made_by (scenario_of shared.old) (entries_of shared.old) number input).records (D.meaning.meters (disk_of state.old)) (D.meaning.meters (disk_of state.new)) }
+    ensures room { (why : Whys) → result ≡ Err (input_fault.Fell why) →
+        HasRoomBehind D.meaning.meters state.old (made_by (scenario_of shared.old) (entries_of shared.old) number input).records → why ≡ Fault }
     ensures full { is_up_at (entries_of shared.old) number ≡ true →
         (result ≡ Err input_fault.HistoryFull) ↔ (most_of shared.old ≤ length (entries_of shared.old)) }
     ensures keeps { Keeps (D.meaning.meters (disk_of state.old)) (D.meaning.meters (disk_of state.new)) }

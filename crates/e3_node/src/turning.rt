@@ -2,16 +2,17 @@
 ghost use Rattle.std.specs.Prelude.{◌≡◌, ◌≤◌, ◌↔◌, true, false, OnOk, Err};
 ghost use Rattle.e3_disk.specs.Meters.{Keeps};
 ghost use Rattle.e3_law_local.specs.Drafts.{MayTake};
-ghost use Rattle.e3_node.specs.Ends.{IsOneFrame, OnLogs};
+ghost use Rattle.e3_node.specs.Ends.{HasRoomBehind, IsOneFrame, OnLogs};
 ghost use Rattle.e3_node.specs.NodeStands.{IsIn, IsUp};
 ghost use Rattle.e3_node.specs.NodeView.{disk_of};
 ghost use Rattle.e3_node.specs.Places.{HasGivenNoneBack};
 ghost use Rattle.e3_node.specs.Turns.{EndsSo, HasKeptPromises, MayTakeTurns, history_seen, scenario_seen};
 ghost use Rattle.e3_node.specs.declared.fault.InputFault.TheVariants as input_fault;
 ghost use Rattle.e3_node.specs.declared.state.State.TheVariants as state;
-ghost use Rattle.e3_site_log.specs.Ends.{IsReason, Takes, calls_for};
+ghost use Rattle.e3_site_log.specs.Ends.{HasRoom, IsReason, Takes, calls_for, size_of};
 ghost use Rattle.e3_turn.specs.Passes.{IsIdle, seen_by};
 ghost use Rattle.e3_types.specs.declared.entries.Why.{Why as Whys};
+ghost use Rattle.e3_types.specs.declared.entries.Why.TheVariants.{Fault};
 ghost use Rattle.e3_wire.specs.Marks.{most_of, used_of};
 ghost use Rattle.e3_wire.specs.Wires.{TakesLeast};
 ghost use Rattle.e3_world.specs.Items.{is_up_at};
@@ -66,6 +67,8 @@ fn step_by_turns<R: Wait, D: Disk>(
     ensures why { (why : Whys) → result ≡ Err (input_fault.Fell why) →
         IsReason why (log_of (scenario_seen pass.old) (history_seen pass.old) number)
         (made_by (scenario_seen pass.old) (history_seen pass.old) number input).records (D.meaning.meters log.old.disk) (D.meaning.meters log.new.disk) }
+    ensures room { (why : Whys) → result ≡ Err (input_fault.Fell why) →
+        HasRoom D.meaning.meters log.old (size_of (made_by (scenario_seen pass.old) (history_seen pass.old) number input).records) → why ≡ Fault }
     ensures full { result ≡ Err input_fault.HistoryFull → most_of (seen_by pass.new) ≤ used_of (seen_by pass.new) }
     ensures keeps { Keeps (D.meaning.meters log.old.disk) (D.meaning.meters log.new.disk) }
     ensures takes { OnOk result (Takes (calls_for (made_by (scenario_seen pass.old) (history_seen pass.old) number input).records)
@@ -117,6 +120,8 @@ pub(crate) fn take_by_turns<R: Wait, D: Disk + Drop>(
     ensures why { (why : Whys) → result ≡ Err (input_fault.Fell why) →
         IsReason why (log_of (scenario_seen pass.old) (history_seen pass.old) number)
         (made_by (scenario_seen pass.old) (history_seen pass.old) number input).records (D.meaning.meters (disk_of state.old)) (D.meaning.meters (disk_of state.new)) }
+    ensures room { (why : Whys) → result ≡ Err (input_fault.Fell why) →
+        HasRoomBehind D.meaning.meters state.old (made_by (scenario_seen pass.old) (history_seen pass.old) number input).records → why ≡ Fault }
     ensures full { result ≡ Err input_fault.HistoryFull → most_of (seen_by pass.new) ≤ used_of (seen_by pass.new) }
     ensures keeps { Keeps (D.meaning.meters (disk_of state.old)) (D.meaning.meters (disk_of state.new)) }
     ensures takes { OnOk result (Takes (calls_for (made_by (scenario_seen pass.old) (history_seen pass.old) number input).records)

@@ -16,7 +16,8 @@ use Rattle.e3_readings.proofs.Equal.{same_txn_refl}
 use Rattle.e3_cards.specs.declared.card.Card.{Card}
 use Rattle.e3_cards.specs.declared.cards.Cards.{Cards}
 use Rattle.e3_cards.specs.Seeing.{seen_state}
-use Rattle.e3_cards.specs.Tables.{CardsStand, card_at, IsKnown}
+use Rattle.e3_world.specs.Transactions.{IsFoundByBits}
+use Rattle.e3_cards.specs.Tables.{CardsStand, card_at}
 use Rattle.e3_cards.proofs.Arrivals.{state_seen, among_own}
 use Rattle.e3_places.specs.declared.places.Standing.{Standing}
 use Rattle.e3_places.specs.Standing.{fresh_of, moment_of}
@@ -34,7 +35,7 @@ fresh_by site life s None is = rw is refl
 fresh_by site life s (Some a) is = rw is refl
 
 -- whether it is new, by its transaction's card
-pub new_is : (cards : Cards) (q : Asked) (c : Card) (r : Bool) → IsKnown q.txn → c ≡ card_at cards.map.entries q.txn → r ≡ is_new_to (seen_state c.seen) c.came q
+pub new_is : (cards : Cards) (q : Asked) (c : Card) (r : Bool) → IsFoundByBits q.txn → c ≡ card_at cards.map.entries q.txn → r ≡ is_new_to (seen_state c.seen) c.came q
     → (a : At) → CardsStand a.site cards a.life → r ≡ is_new a.site a.life q
 new_is cards q c r known is e a stands =
     e ∙ ap (λ (k : Card). is_new_to (seen_state k.seen) k.came q) (is ∙ stands.cards_are q.txn known)

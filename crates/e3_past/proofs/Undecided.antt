@@ -25,7 +25,8 @@ use Rattle.e3_world.specs.Making.{decides}
 use Rattle.e3_world.specs.Operations.{and_arrived, arrivals, is_fresh, taken_up}
 use Rattle.e3_cards.proofs.Arrivals.{arrivals_push}
 use Rattle.e3_cards.specs.Noting.{unstepped}
-use Rattle.e3_readings.specs.Opens.{open_in, undecided_in}
+use Rattle.e3_world.specs.Items.{undecided_in}
+use Rattle.e3_readings.specs.Opens.{open_in}
 use Rattle.e3_places.specs.Standing.{fresh_of, moment_of}
 use Rattle.e3_past.specs.declared.tables.Opens.{Opens}
 use Rattle.e3_past.specs.declared.tables.Tables.{Tables}

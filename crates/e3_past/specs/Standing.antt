@@ -1,8 +1,9 @@
 -- What the tables of a site stand for.
-use Rattle.std.specs.Prelude.{◌≡◌, ◌==◌, ◌&&◌, ◌++◌, ◌∷◌, [], ℕ, Bool, true, false, List, Option, Some, None, length}
+use Rattle.std.specs.Prelude.{◌≡◌, ◌==◌, ◌&&◌, ◌++◌, ◌∷◌, [], ℕ, Bool, true, List, Option, Some, None, length}
 use Rattle.std.specs.Option.{IsSome}
 use Rattle.e3_types.specs.declared.entries.Input.{Input}
 use Rattle.e3_types.specs.declared.records.Record.{Record}
+use Rattle.e3_world.specs.Serial.{is_birth}
 use Rattle.e3_types.specs.declared.records.Record.TheVariants as log
 use Rattle.e3_world.specs.declared.lives.At.{At}
 use Rattle.e3_world.specs.declared.lives.Life.{Life}
@@ -22,11 +23,6 @@ use Rattle.e3_past.specs.Opening.{OpensStand}
 abbrev pub PlacesMayStand : ℕ → Option Places → Life → Type 0
 PlacesMayStand site None life = Unit {0}
 PlacesMayStand site (Some places) life = PlacesStand site places life
-
--- the record is a birth
-abbrev pub is_birth : Record → Bool
-is_birth (log.Birth format site weights rows) = true
-is_birth _ = false
 
 -- names stay known behind one more record: a birth where there is none before it, and else one that may follow those
 abbrev pub may_be_read : List Record → Record → Bool

@@ -13,7 +13,7 @@ use Rattle.e3_past.specs.Standing.{TablesStand}
 
 -- it is what the step makes of just these tables: of the cards, and at every life for which these stand, of what is known of
 -- names, where the step's records may follow the log, and of what is open
-pub record IsBehind (tables : Tables) (s : SiteStep) (behind : Behind) : Type 0 where
+pub record IsMadeOf (tables : Tables) (s : SiteStep) (behind : Behind) : Type 0 where
   pub cards_are : AreChanges tables.cards s behind.cards
   pub names_are : (site : ℕ) (life : Life) → CardsStand site tables.cards life → NamesStand site tables.names life
       → follow life.log s.records ≡ true → AreBehind site tables.names life s behind.names
@@ -29,4 +29,4 @@ pub record HasRoom (tables : Tables) (behind : Behind) : Type 0 where
 -- any life, it makes of the second
 pub record ActAlike (old new : Tables) (behind : Behind) : Type 0 where
   pub stand : (site : ℕ) (life : Life) → TablesStand site life old → TablesStand site life new
-  pub are : (site : ℕ) (life : Life) (s : SiteStep) → TablesStand site life old → IsBehind old s behind → IsBehind new s behind
+  pub are : (site : ℕ) (life : Life) (s : SiteStep) → TablesStand site life old → IsMadeOf old s behind → IsMadeOf new s behind

@@ -8,11 +8,11 @@ ghost use Rattle.e3_places.specs.Standing.{fresh_of};
 ghost use Rattle.e3_readings.specs.Bringing.{is_new_to, issued_before};
 ghost use Rattle.e3_past.specs.Fresh.{is_new, fresh_as};
 
-use e3_cards::{Card, Cards, blank, card_or, known, seen_state};
+use e3_cards::{Card, Cards, blank, card_or, seen_state};
 use e3_places::Standing;
 use e3_readings::{brought, is_new_to};
 use e3_types::{Input, NoMemory, Told};
-use e3_world::Asked;
+use e3_world::{Asked, found_by_bits};
 use std::alloc::Global;
 
 // How many operations of the transaction of a Do input were issued before.
@@ -34,7 +34,7 @@ fn is_new_on(card: &Card, q: &Asked) -> bool
 fn is_new(alloc: Global, cards: &Cards, q: &Asked) -> bool
     ensures { (a : At) → CardsStand a.site cards.now a.life → result ≡ is_new a.site a.life q.now }
 {
-    known(&q.txn);
+    found_by_bits(&q.txn);
     let none = blank(alloc);
     is_new_on(card_or(&cards.map, &q.txn, &none), q)
 }

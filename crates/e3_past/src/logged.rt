@@ -9,7 +9,8 @@ ghost use Rattle.e3_cards.specs.Tables.{CardsStand};
 ghost use Rattle.e3_past.specs.Knowing.{NamesStand};
 ghost use Rattle.e3_places.specs.Keeping.{PlacesStand};
 ghost use Rattle.e3_places.specs.Standing.{may_follow};
-ghost use Rattle.e3_past.specs.Standing.{LoggedStand, PlacesMayStand, TablesStand, is_birth, may_be_read};
+ghost use Rattle.e3_world.specs.Serial.{is_birth};
+ghost use Rattle.e3_past.specs.Standing.{LoggedStand, PlacesMayStand, TablesStand, may_be_read};
 
 use crate::following::may_follow;
 use crate::names::Names;

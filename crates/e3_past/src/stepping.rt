@@ -4,7 +4,7 @@ ghost use Rattle.e3_world.specs.declared.lives.Life.{Life};
 ghost use Rattle.e3_world.specs.Lives.{life_by};
 ghost use Rattle.e3_places.specs.Standing.{follow};
 ghost use Rattle.e3_past.specs.Standing.{TablesStand};
-ghost use Rattle.e3_past.specs.Stepping.{ActAlike, HasRoom, IsBehind};
+ghost use Rattle.e3_past.specs.Stepping.{ActAlike, HasRoom, IsMadeOf};
 
 use crate::names;
 use crate::opening::{added, apply_opens, ready_opens};
@@ -16,7 +16,7 @@ use std::alloc::Global;
 
 /// What a step makes of the tables. It reads them alone, and changes none.
 pub fn behind(alloc: Global, tables: &Tables, step: &SiteStep) -> Result<Behind, NoMemory>
-    ensures { IfOk result (IsBehind tables.now step.now) }
+    ensures { IfOk result (IsMadeOf tables.now step.now) }
 {
     let cards = cards::changes(alloc, &tables.cards, step)?;
     let names = names::behind(alloc, &tables.cards, &tables.names, step)?;
@@ -42,7 +42,7 @@ pub fn ready(alloc: Global, tables: &mut Tables, behind: &Behind) -> Result<(), 
 /// Puts what a step makes in its place: the tables are those of the life with that step, where the step's records may follow
 /// the log. Those of the rules always may: `steps_may_follow_the_log`. It takes no memory.
 pub fn apply(tables: &mut Tables, step: &SiteStep, behind: Behind)
-    requires are { IsBehind tables.old step.now behind }
+    requires are { IsMadeOf tables.old step.now behind }
     requires room { HasRoom tables.old behind }
     ensures { (site : ℕ) (life : Life) → TablesStand site life tables.old → follow life.log step.now.records ≡ true
         → TablesStand site (life_by life step.now) tables.new }

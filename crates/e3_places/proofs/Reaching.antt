@@ -30,7 +30,8 @@ use Rattle.e3_places.specs.declared.places.Claims.{Claims}
 use Rattle.e3_places.specs.declared.places.Standing.{Standing}
 use Rattle.e3_places.specs.Standing.{is_on, is_of, has_key, stand, standing_one, standing_of, cast_of, is_open, votes_of, claims_of, place_of, row_of, decided_in, is_told, is_sent, is_heard, is_left, again, newly, standing_by, with_cast, votes_by, claims_by, written, row_with, row_by, place_by}
 use Rattle.e3_places.specs.Keeping.{txn_id, is_key, claims_at}
-use Rattle.e3_places.specs.Touching.{name_of, decided_txns, told_txns, sent_txns, reached, is_moved, moved_names, added, names_touched, keys_touched}
+use Rattle.e3_readings.specs.Answering.{answered_txns}
+use Rattle.e3_places.specs.Touching.{name_of, decided_txns, told_txns, reached, is_moved, moved_names, added, names_touched, keys_touched}
 use Rattle.e3_places.proofs.Voting.{filter_both}
 
 -- a test of the items of lists
@@ -129,10 +130,10 @@ told_one : (a : Asked) (e : Told) → Implies (is_told a e) (list_any (same_txn 
 told_one a (told.Op t n answer) h = or_false (same_txn a.txn t) ∙ and_right (a.n == n) (same_txn a.txn t) h
 told_one a _ h = h
 
-sent_one : (a : Asked) (p : Packet) → Implies (is_sent a p) (list_any (same_txn a.txn) (sent_txns p))
+sent_one : (a : Asked) (p : Packet) → Implies (is_sent a p) (list_any (same_txn a.txn) (answered_txns p))
 sent_one a p = by p.msg
   where
-    by : (k : Message) → Implies (is_sent a (record p { msg = k })) (list_any (same_txn a.txn) (sent_txns (record p { msg = k })))
+    by : (k : Message) → Implies (is_sent a (record p { msg = k })) (list_any (same_txn a.txn) (answered_txns (record p { msg = k })))
     by (msg.Done t n inc answer) h = or_false (same_txn a.txn t) ∙ and_right (a.n == n) (same_txn a.txn t) h
     by _ h = absurd (true_not_false (sym h))
 
@@ -142,10 +143,10 @@ or_three false true d e f g h = refl
 or_three false false d e f g h = g h
 
 reached_is : (u : Txn) (rs : List Record) (events : List Told) (outs : List Packet)
-    → list_any (same_txn u) (reached rs events outs) ≡ (list_any (same_txn u) (flat_map decided_txns rs) || (list_any (same_txn u) (flat_map told_txns events) || list_any (same_txn u) (flat_map sent_txns outs)))
+    → list_any (same_txn u) (reached rs events outs) ≡ (list_any (same_txn u) (flat_map decided_txns rs) || (list_any (same_txn u) (flat_map told_txns events) || list_any (same_txn u) (flat_map answered_txns outs)))
 reached_is u rs events outs =
-    list_any-append (same_txn u) (flat_map decided_txns rs) (flat_map told_txns events ++ flat_map sent_txns outs)
-    ∙ ap (λ (b : Bool). list_any (same_txn u) (flat_map decided_txns rs) || b) (list_any-append (same_txn u) (flat_map told_txns events) (flat_map sent_txns outs))
+    list_any-append (same_txn u) (flat_map decided_txns rs) (flat_map told_txns events ++ flat_map answered_txns outs)
+    ∙ ap (λ (b : Bool). list_any (same_txn u) (flat_map decided_txns rs) || b) (list_any-append (same_txn u) (flat_map told_txns events) (flat_map answered_txns outs))
 
 decided_all : (u : Txn) (rs : List Record) → list_any (same_txn u) (flat_map decided_txns rs) ≡ decided_in rs u
 decided_all u rs = any_flat (same_txn u) decided_txns rs ∙ any_alike (λ r. list_any (same_txn u) (decided_txns r)) (is_decision u) (decided_one u) rs
@@ -153,14 +154,14 @@ decided_all u rs = any_flat (same_txn u) decided_txns rs ∙ any_alike (λ r. li
 reach_decided : (u : Txn) (rs : List Record) (events : List Told) (outs : List Packet) → Implies (decided_in rs u) (list_any (same_txn u) (reached rs events outs))
 reach_decided u rs events outs h =
     reached_is u rs events outs
-    ∙ ap (λ (b : Bool). b || (list_any (same_txn u) (flat_map told_txns events) || list_any (same_txn u) (flat_map sent_txns outs))) (decided_all u rs ∙ h)
+    ∙ ap (λ (b : Bool). b || (list_any (same_txn u) (flat_map told_txns events) || list_any (same_txn u) (flat_map answered_txns outs))) (decided_all u rs ∙ h)
 
 reach_heard : (a : Asked) (events : List Told) (outs : List Packet)
-    → Implies (is_heard events outs a) (list_any (same_txn a.txn) (flat_map told_txns events) || list_any (same_txn a.txn) (flat_map sent_txns outs))
+    → Implies (is_heard events outs a) (list_any (same_txn a.txn) (flat_map told_txns events) || list_any (same_txn a.txn) (flat_map answered_txns outs))
 reach_heard a events outs =
-    or_three (list_any (is_told a) events) (list_any (same_txn a.txn) (flat_map told_txns events)) (list_any (is_sent a) outs) (list_any (same_txn a.txn) (flat_map sent_txns outs))
+    or_three (list_any (is_told a) events) (list_any (same_txn a.txn) (flat_map told_txns events)) (list_any (is_sent a) outs) (list_any (same_txn a.txn) (flat_map answered_txns outs))
     (λ h. any_flat (same_txn a.txn) told_txns events ∙ imply_any (is_told a) (λ e. list_any (same_txn a.txn) (told_txns e)) (told_one a) events h)
-    (λ h. any_flat (same_txn a.txn) sent_txns outs ∙ imply_any (is_sent a) (λ p. list_any (same_txn a.txn) (sent_txns p)) (sent_one a) outs h)
+    (λ h. any_flat (same_txn a.txn) answered_txns outs ∙ imply_any (is_sent a) (λ p. list_any (same_txn a.txn) (answered_txns p)) (sent_one a) outs h)
 
 reach_moved : (rs : List Record) (events : List Told) (outs : List Packet) (s : Standing) → Implies (is_moved rs events outs s) (list_any (same_txn s.asked.txn) (reached rs events outs))
 reach_moved rs events outs s h =

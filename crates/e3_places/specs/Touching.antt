@@ -3,14 +3,13 @@ use Rattle.std.specs.Prelude.{◌||◌, ◌++◌, ◌∷◌, [], ℕ, Bool, List
 use Rattle.std.specs.List.{flat_map}
 use Rattle.e3_types.specs.declared.entries.Told.{Told}
 use Rattle.e3_types.specs.declared.entries.Told.TheVariants as told
-use Rattle.e3_types.specs.declared.messages.Message.{Message}
-use Rattle.e3_types.specs.declared.messages.Message.TheVariants as msg
 use Rattle.e3_types.specs.declared.messages.Packet.{Packet}
 use Rattle.e3_types.specs.declared.records.Record.{Record}
 use Rattle.e3_types.specs.declared.records.Record.TheVariants as log
 use Rattle.e3_types.specs.declared.transactions.Txn.{Txn}
 use Rattle.e3_world.specs.declared.lives.Asked.{Asked}
 use Rattle.e3_world.specs.Logs.{key_of}
+use Rattle.e3_readings.specs.Answering.{answered_txns}
 use Rattle.e3_places.specs.declared.keys.TxnId.{TxnId}
 use Rattle.e3_places.specs.declared.places.Claims.{Claims}
 use Rattle.e3_places.specs.declared.places.Standing.{Standing}
@@ -31,17 +30,9 @@ abbrev pub told_txns : Told → List Txn
 told_txns (told.Op t n answer) = t ∷ []
 told_txns _ = []
 
--- the transaction of a packet that answers an operation
-abbrev pub sent_txns : Packet → List Txn
-sent_txns packet = by packet.msg
-  where
-    by : Message → List Txn
-    by (msg.Done t n inc answer) = t ∷ []
-    by _ = []
-
 -- the transactions that a step decides, and those of which it answers an operation
 abbrev pub reached : List Record → List Told → List Packet → List Txn
-reached rs events outs = flat_map decided_txns rs ++ (flat_map told_txns events ++ flat_map sent_txns outs)
+reached rs events outs = flat_map decided_txns rs ++ (flat_map told_txns events ++ flat_map answered_txns outs)
 
 -- the step decides the operation's transaction, or answers it
 abbrev pub is_moved : List Record → List Told → List Packet → Standing → Bool

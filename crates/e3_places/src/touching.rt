@@ -3,7 +3,8 @@ ghost use Rattle.std.specs.Prelude.{◌≡◌, ◌++◌, ◌∷◌, [], if◌the
 ghost use Rattle.std.specs.List.{flat_map};
 ghost use Rattle.e3_places.specs.Keeping.{txn_id, claims_at};
 ghost use Rattle.e3_places.specs.Standing.{decided_in, cast_in, cast_of, voted};
-ghost use Rattle.e3_places.specs.Touching.{name_of, decided_txns, told_txns, sent_txns, reached, is_moved, moved_names, added, names_touched, keys_touched};
+ghost use Rattle.e3_readings.specs.Answering.{answered_txns};
+ghost use Rattle.e3_places.specs.Touching.{name_of, decided_txns, told_txns, reached, is_moved, moved_names, added, names_touched, keys_touched};
 
 use crate::behind::{decided_in, is_heard, voted};
 use crate::doings::Doings;
@@ -38,7 +39,7 @@ fn add_told(e: &Told, out: &mut List<Txn>) -> Result<(), NoMemory>
 }
 
 fn add_sent(packet: &Packet, out: &mut List<Txn>) -> Result<(), NoMemory>
-    ensures { IfOk result (λ u. out.new ≡ out.old ++ sent_txns packet.now) }
+    ensures { IfOk result (λ u. out.new ≡ out.old ++ answered_txns packet.now) }
 {
     match &packet.msg {
         Message::Done { txn, .. } => out.push(*txn),
@@ -65,7 +66,7 @@ fn add_all_told(events: &[Told], out: &mut List<Txn>) -> Result<(), NoMemory>
 }
 
 fn add_all_sent(outs: &[Packet], out: &mut List<Txn>) -> Result<(), NoMemory>
-    ensures { IfOk result (λ u. out.new ≡ out.old ++ flat_map sent_txns outs.now) }
+    ensures { IfOk result (λ u. out.new ≡ out.old ++ flat_map answered_txns outs.now) }
 {
     for packet in outs {
         add_sent(packet, out)?;

@@ -1,4 +1,4 @@
--- Facts over plain variables that proofs of the step's parts join.
+-- Facts over variables that proofs of the step's parts join.
 use Rattle.std.specs.Prelude.{◌≡◌, ◌+◌, ◌++◌, ◌<◌, ℕ, List, length, take}
 use Rattle.std.specs.List.{flat_map}
 use Rattle.std.proofs.Common.{◌∙◌, ap, get_or, arith}

@@ -8,7 +8,7 @@ use Rattle.e3_types.specs.declared.scenarios.Item.{Item}
 use Rattle.e3_types.specs.declared.scenarios.Item.TheVariants as item
 use Rattle.e3_types.specs.declared.scenarios.Scenario.{Scenario}
 use Rattle.e3_types.specs.Sets.{has_site}
-use Rattle.e3_world.specs.Given.{IsGiven, SaidSoFar, close_step, exist, is_groupable, is_step_form, items_keep, keeps_rules, say_item, steps_keep}
+use Rattle.e3_world.specs.Given.{IsGiven, ItemsSoFar, close_step, exist, is_groupable, is_step_form, items_keep, keeps_rules, with_item, steps_keep}
 use Rattle.e3_world.specs.Packets.{all_sites, items_or, sites_to, step_items}
 use Rattle.e3_play.specs.Kinds.{kind_by, kind_of}
 use Rattle.e3_play.specs.Played.{IsStep, StandsAlone}
@@ -35,7 +35,7 @@ exists : (sc : Scenario) (s : ℕ) → exist sc (s ∷ []) ≡ true → (1 ≤ s
 exists sc s is = site_among (length sc.weights) s (and_parts (has_site (all_sites sc) s) true is).0
 
 -- a step of one item
-alone : (sc : Scenario) (k : SaidSoFar) (it : Item) → keeps_rules sc k it ≡ true → IsStep sc (it ∷ [])
+alone : (sc : Scenario) (k : ItemsSoFar) (it : Item) → keeps_rules sc k it ≡ true → IsStep sc (it ∷ [])
 alone sc k (item.Begin name site sites) keeps = inl refl
 alone sc k (item.Read name key) keeps = inl refl
 alone sc k (item.Write name key val) keeps = inl refl
@@ -69,21 +69,21 @@ group_asks (item.Crash site ∷ items) all = absurd cc
 group_asks (item.Restart site ∷ items) all = absurd cc
 group_asks (item.Stop site count leave ∷ items) all = absurd cc
 
-form_of : (sc : Scenario) (k : SaidSoFar) (items : List Item) → is_step_form items ≡ true → items_keep sc k items ≡ true → IsStep sc items
+form_of : (sc : Scenario) (k : ItemsSoFar) (items : List Item) → is_step_form items ≡ true → items_keep sc k items ≡ true → IsStep sc items
 form_of sc k [] form keep = absurd cc
 form_of sc k (it ∷ []) form keep = alone sc k it (and_parts (keeps_rules sc k it) true keep).0
 form_of sc k (it ∷ next ∷ items) form keep =
     inl (group_asks (it ∷ next ∷ items) (and_parts (list_all is_groupable (it ∷ next ∷ items)) (nat_le (length items) 14) form).0)
 
 -- what a step keeps
-parts_of_step : (sc : Scenario) (k : SaidSoFar) (items : List Item) (steps : List (List Item)) → steps_keep sc k (items ∷ steps) ≡ true →
-    (is_step_form items ≡ true) × (items_keep sc k items ≡ true) × (steps_keep sc (close_step (fold (say_item sc) k items)) steps ≡ true)
+parts_of_step : (sc : Scenario) (k : ItemsSoFar) (items : List Item) (steps : List (List Item)) → steps_keep sc k (items ∷ steps) ≡ true →
+    (is_step_form items ≡ true) × (items_keep sc k items ≡ true) × (steps_keep sc (close_step (fold (with_item sc) k items)) steps ≡ true)
 parts_of_step sc k items steps keep =
-    let outer : _ = and_parts (is_step_form items && items_keep sc k items) (steps_keep sc (close_step (fold (say_item sc) k items)) steps) keep in
+    let outer : _ = and_parts (is_step_form items && items_keep sc k items) (steps_keep sc (close_step (fold (with_item sc) k items)) steps) keep in
     let inner : _ = and_parts (is_step_form items) (items_keep sc k items) outer.0 in
     (inner.0, inner.1, outer.1)
 
-step_at : (sc : Scenario) (k : SaidSoFar) (steps : List (List Item)) (n : ℕ) → steps_keep sc k steps ≡ true → IsStep sc (items_or (slice_get steps n))
+step_at : (sc : Scenario) (k : ItemsSoFar) (steps : List (List Item)) (n : ℕ) → steps_keep sc k steps ≡ true → IsStep sc (items_or (slice_get steps n))
 step_at sc k [] n keep = inl refl
 step_at sc k (items ∷ steps) zero keep = let parts : _ = parts_of_step sc k items steps keep in form_of sc k items parts.0 parts.1
 step_at sc k (items ∷ steps) (suc n) keep = let parts : _ = parts_of_step sc k items steps keep in step_at sc _ steps n parts.2

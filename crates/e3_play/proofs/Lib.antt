@@ -1,17 +1,17 @@
 pub mod Answered
 pub mod Quiet
 pub mod Entries
-pub mod Full
+pub mod DueRises
 pub mod Steps
 pub mod Settling
 pub mod Forms
 pub mod Knowing
 pub mod Packets
-pub mod Bounds
+pub mod DuePackets
 pub mod SameSteps
-pub mod Open
+pub mod DueItems
 pub mod Order
-pub mod InParts
+pub mod Listed
 pub mod Left
 pub mod Electing
 pub mod Making
@@ -19,4 +19,4 @@ pub mod Onward
 pub mod Told
 pub mod Falling
 pub mod Turning
-mod NoRoom
+mod DueRounds

@@ -20,7 +20,7 @@ use Rattle.e3_world.proofs.Turns.{self, true_not_false}
 use Rattle.e3_play.specs.Played.{IsAsked, IsFresh, IsSettled}
 use Rattle.e3_play.proofs.Quiet.{none_pending}
 use Rattle.e3_play.proofs.Steps.{step_settles}
-use Rattle.e3_play.proofs.Bounds.{bounded, full_too, some_line, whole_parts}
+use Rattle.e3_play.proofs.DuePackets.{bounded, full_too, some_line, whole_parts}
 use Rattle.e3_play.proofs.SameSteps.{same_step}
 use Rattle.e3_play.specs.Delivered.{ACut, ARise, IsFull, IsFullBefore, IsOwed, IsPacketOrRound, OfRecovery}
 use Rattle.e3_play.specs.Entering.{AfterRise}

@@ -15,11 +15,11 @@ use Rattle.e3_world.specs.Progress.{Delivering}
 use Rattle.e3_world.proofs.Guards.{step_through}
 use Rattle.e3_world.proofs.Lines.{end_step, lines_to}
 use Rattle.e3_world.proofs.Readings.{since_push, taken_other, taken_same}
-use Rattle.e3_play.proofs.Full.{parts_open}
+use Rattle.e3_play.proofs.DueRises.{parts_open}
 use Rattle.e3_play.specs.Played.{IsAsked, IsFresh, IsSettled, parts_asked}
 use Rattle.e3_play.specs.Delivered.{IsFull, TheParts}
 use Rattle.e3_play.specs.Settled.{StaysInStep, is_asking, is_parted}
-use Rattle.e3_play.proofs.Bounds.{bounded}
+use Rattle.e3_play.proofs.DuePackets.{bounded}
 use Rattle.e3_play.proofs.SameSteps.{IsSameStep, same_step, since_stays, stays_none, stays_on, stays_one}
 
 pub next_is_line : (sc : Scenario) (h : List Entry) (k : ℕ) → IsSettled sc h k → suc k ≤ length sc.steps → IsLine sc h (suc k)

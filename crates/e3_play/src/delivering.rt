@@ -13,7 +13,7 @@ use e3_law_local::taking_lowers_the_measure;
 use e3_types::{Input, Packet};
 
 // The first pending packet: its site takes it, or it is dropped where that site is down.
-#[tactic(auto, using(crate::proofs::Packets::packet_due, crate::proofs::Bounds::packet_full))]
+#[tactic(auto, using(crate::proofs::Packets::packet_due, crate::proofs::DuePackets::packet_full))]
 fn deliver<S: Sites>(sites: &mut S, packet: Packet) -> Result<(), RunFault>
     requires standing { S.stands sites.old }
     requires delivering { Delivering (S.scenario sites.old) (S.entries sites.old) }

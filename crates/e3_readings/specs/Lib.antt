@@ -8,6 +8,7 @@ pub mod Lasts
 pub mod Places
 pub mod Requests
 pub mod States
+pub mod Answering
 pub mod Awaiting
 pub mod Expecting
 pub mod Bringing

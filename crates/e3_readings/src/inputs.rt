@@ -1,7 +1,7 @@
 // The inputs of items, and which of them go to a site.
 ghost use Rattle.std.specs.Prelude.{◌≡◌, ◌++◌, ◌∷◌, [], filter_map, IfOk, option_copied};
 ghost use Rattle.e3_readings.specs.Inputs.{input_by_name, input_for, input_with, name_in};
-ghost use Rattle.e3_world.specs.Items.{inputs_to};
+ghost use Rattle.e3_world.specs.Items.{inputs_to, is_delivery};
 
 use crate::bound_names::BoundNames;
 use e3_types::{Input, Item, List, Name, NoMemory, Op, Txn};
@@ -128,4 +128,11 @@ pub fn inputs_to(alloc: Global, asked: &[Addressed], site: u64) -> Result<List<I
         }
     }
     Ok(inputs)
+}
+
+/// The input is a packet, and no item of the scenario.
+pub fn is_delivery(input: &Input) -> bool
+    ensures { result ≡ is_delivery input.now }
+{
+    matches!(input, Input::Deliver { .. })
 }

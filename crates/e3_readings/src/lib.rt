@@ -30,7 +30,7 @@ pub use elections::{
     Electing, election_anew, election_behind, election_in_progress, has_decision, has_verdict,
     is_decision, next_call,
 };
-pub use inputs::{inputs_asked, inputs_to};
+pub use inputs::{inputs_asked, inputs_to, is_delivery};
 pub use lives::{life_by, life_of, present_log};
 pub use logs::{
     attempted, attempted_behind, attempted_by, decision, decision_behind, decision_by, has_voted,
@@ -40,15 +40,14 @@ pub use logs::{
 };
 pub use opens::{add_logged, add_undecided_in, in_order, open_in, txn_of_record};
 pub use operations::{
-    answers, arrivals, brought, done, done_locks, expected, expected_by, first_reason, holders,
-    holds, is_among, is_answered, is_new_to, issued, issued_in, kept_reason, nth_op, op_told,
-    own_expected, performed_by, queue, reasons_in, same_asked, taken_up, tells_op, tells_own,
+    answers, arrivals, brought, done, expected, first_reason, holders, holds, is_among, is_new_to,
+    issued, issued_in, kept_reason, nth_op, own_expected, queue, reasons_in, same_asked, tells_own,
     unanswered, waiting,
 };
 pub use own::{last_own, own_write};
 pub use places::{SiteRecord, add_placed};
 pub use recovery_rounds::{RecoveryRound, rounds_of};
 pub use rounds::{Rounds, round_in_progress};
-pub use steps::step_items;
-pub use tables::{install_op, row_value, rows_at, set_row, table_by, table_of};
+pub use steps::{is_line, step_items};
+pub use tables::{install_op, row_value, rows_at, set_row, table_of};
 pub use votes::{have_every_yes, votes_after, votes_in};

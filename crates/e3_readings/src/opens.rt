@@ -1,7 +1,8 @@
 // The transactions that a site knows, and those of them that are open.
 ghost use Rattle.std.specs.Prelude.{◌≡◌, ◌++◌, ◌∷◌, [], fold, filter, map, IfOk, MatchOption};
 ghost use Rattle.std.specs.List.{flat_map};
-ghost use Rattle.e3_readings.specs.Opens.{open_in, undecided_in};
+ghost use Rattle.e3_world.specs.Items.{undecided_in};
+ghost use Rattle.e3_readings.specs.Opens.{open_in};
 ghost use Rattle.e3_world.specs.Items.{add_txn, began_in, known_txns, txn_of_record};
 ghost use Rattle.e3_world.specs.Logs.{is_undecided};
 ghost use Rattle.e3_world.specs.Operations.{arrivals};

@@ -102,8 +102,8 @@ pub fn brought(
     }
 }
 
-/// The operation that a step takes up at its site: the one that its input brings. The steps are those before it.
-pub fn taken_up(
+// The operation that a step takes up at its site: the one that its input brings. The steps are those before it.
+fn taken_up(
     alloc: Global,
     site: u32,
     steps: &[Moment],
@@ -226,8 +226,8 @@ pub fn answers(alloc: Global, a: &Asked, steps: &[Moment]) -> Result<List<Answer
     Ok(out)
 }
 
-/// The operation was answered in these steps.
-pub fn is_answered(alloc: Global, steps: &[Moment], a: &Asked) -> Result<bool, NoMemory>
+// The operation was answered in these steps.
+fn is_answered(alloc: Global, steps: &[Moment], a: &Asked) -> Result<bool, NoMemory>
     ensures { IfOk result (λ b. b ≡ is_answered steps.now a.now) }
 {
     let found = answers(alloc, a, steps)?;
@@ -237,8 +237,8 @@ pub fn is_answered(alloc: Global, steps: &[Moment], a: &Asked) -> Result<bool, N
     }
 }
 
-/// Adds the operation with its first answer, if it was answered.
-pub fn performed_by(
+// Adds the operation with its first answer, if it was answered.
+fn performed_by(
     alloc: Global,
     steps: &[Moment],
     a: &Asked,
@@ -308,8 +308,8 @@ fn is_holding(alloc: Global, log: &[Record], steps: &[Moment], a: &Asked) -> Res
     Ok(is_undecided(&a.txn, log) && is_answered(alloc, steps, a)?)
 }
 
-/// The locks on a name of the operations that were done for undecided transactions, in the order of arrival.
-pub fn done_locks(
+// The locks on a name of the operations that were done for undecided transactions, in the order of arrival.
+fn done_locks(
     alloc: Global,
     site: u32,
     name: &Name,
@@ -370,8 +370,8 @@ pub fn queue(alloc: Global, name: &Name, asked: &[Asked]) -> Result<List<Lock>, 
     Ok(out)
 }
 
-/// The event answers this operation to the client.
-pub fn tells_op(t: &Txn, n: u32, e: &Told) -> bool
+// The event answers this operation to the client.
+fn tells_op(t: &Txn, n: u32, e: &Told) -> bool
     ensures { result ≡ tells_op t.now n e.now }
 {
     match e {
@@ -392,8 +392,8 @@ fn tells(t: &Txn, n: u32, m: &Moment) -> bool
     tell_op(t, n, m.told.as_slice())
 }
 
-/// Some step answered the operation to the client.
-pub fn op_told(t: &Txn, n: u32, steps: &[Moment]) -> bool
+// Some step answered the operation to the client.
+fn op_told(t: &Txn, n: u32, steps: &[Moment]) -> bool
     ensures { result ≡ op_told t.now n steps.now }
 {
     steps.iter().any(|m| tells(t, n, m))
@@ -456,9 +456,9 @@ fn expected_with(
     }
 }
 
-/// What is expected of another site behind one more step: a Done of it counts where its answer was told to the client.
-/// NoMemory comes where the count would pass 32 bits.
-pub fn expected_by(t: &Txn, site: u32, was: Expected, m: &Moment) -> Result<Expected, NoMemory>
+// What is expected of another site behind one more step: a Done of it counts where its answer was told to the client.
+// NoMemory comes where the count would pass 32 bits.
+fn expected_by(t: &Txn, site: u32, was: Expected, m: &Moment) -> Result<Expected, NoMemory>
     ensures ok { IfOk result (λ e. e ≡ expected_by t.now site was m.now) }
     ensures err { OnErr result (4294967295 ≤ was.count) }
 {

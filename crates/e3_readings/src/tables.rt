@@ -69,8 +69,8 @@ fn install(alloc: Global, first: List<Row>, ops: &[NumOp]) -> Result<List<Row>, 
     Ok(rows)
 }
 
-/// The rows behind one more record of a log: a birth's own rows, or with the writes that a commit installs.
-pub fn table_by(
+// The rows behind one more record of a log: a birth's own rows, or with the writes that a commit installs.
+fn table_by(
     alloc: Global,
     log: &[Record],
     rows: List<Row>,

@@ -4,7 +4,7 @@ pub mod Naming
 pub mod Ordering
 pub mod Tabling
 pub mod UpSets
-pub mod Ranges
+pub mod OneSiteMore
 pub mod Passing
 pub mod Walking
 pub mod Standing

@@ -9,15 +9,10 @@ use crate::counts::one_more;
 use crate::known::Known;
 use crate::takers::{Taker, taker_of};
 use e3_lines::{push_line, push_text, push_word_line};
+use e3_readings::is_delivery;
 use e3_types::{Act, Entry, Input, Item, List, NoMemory};
 use std::alloc::Global;
 use std::collections::BTreeSet;
-
-fn is_delivery(input: &Input) -> bool
-    ensures { result ≡ is_delivery input.now }
-{
-    matches!(input, Input::Deliver { .. })
-}
 
 /// As many more as there are inputs that are no deliveries.
 fn count_inputs(inputs: &[Input], before: u64) -> Result<u64, NoMemory>

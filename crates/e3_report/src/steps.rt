@@ -10,15 +10,9 @@ use crate::known::Known;
 use crate::skips::push_skips;
 use crate::ups::enter_up;
 use e3_lines::{push_entry, push_items, push_labelled, push_line, push_line_end};
-use e3_readings::step_items;
+use e3_readings::{is_line, step_items};
 use e3_types::{Act, Entry, List, NoMemory, Scenario};
 use std::alloc::Global;
-
-fn is_line(entry: &Entry) -> bool
-    ensures { result ≡ is_line entry.now }
-{
-    matches!(entry.act, Act::Line { .. })
-}
 
 /// The entries up to the next line.
 fn until_line(entries: &[Entry]) -> &[Entry]
@@ -45,7 +39,7 @@ fn push_site_events(out: &mut List<u8>, site: u64, entries: &[Entry]) -> Result<
 }
 
 /// Adds the events of all sites, site by site.
-#[tactic(auto, unfolding(crate::specs::Steps::event_lines), using(crate::proofs::Ranges::one_site_more))]
+#[tactic(auto, unfolding(crate::specs::Steps::event_lines), using(crate::proofs::OneSiteMore::one_site_more))]
 fn push_events(out: &mut List<u8>, scenario: &Scenario, entries: &[Entry]) -> Result<(), NoMemory>
     ensures { OnOk result (out.new ≡ out.old ++ event_lines scenario.now entries.now) }
 {

@@ -36,7 +36,7 @@ impl Reported<'_> {
     }
 
     /// Adds how each site stands, in ascending order.
-    #[tactic(auto, using(crate::proofs::Ranges::one_site_more))]
+    #[tactic(auto, using(crate::proofs::OneSiteMore::one_site_more))]
     fn push_all_sites(&self, out: &mut List<u8>) -> Result<(), NoMemory>
         ensures { OnOk result (out.new ≡ out.old ++ flat_map (site_by self.now.history.now self.now.placed.now) (all_sites self.now.scenario.now)) }
     {

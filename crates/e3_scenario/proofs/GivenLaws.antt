@@ -13,18 +13,19 @@ use Rattle.e3_types.specs.declared.scenarios.Item.TheVariants as item
 use Rattle.e3_types.specs.declared.scenarios.KeyRow.{KeyRow}
 use Rattle.e3_types.specs.declared.scenarios.Scenario.{Scenario}
 use Rattle.e3_types.specs.declared.transactions.Key.{Key}
-use Rattle.e3_world.specs.Given.{IsGiven, BegunName, SaidSoFar, exist, is_group, is_begun, count_ops, is_partition, is_groupable, keeps_rules, say_item, items_keep, is_step_form, close_step, steps_keep, rows_differ}
+use Rattle.e3_world.specs.Given.{IsGiven, BegunName, ItemsSoFar, exist, is_group, is_begun, count_ops, is_partition, is_groupable, keeps_rules, with_item, items_keep, is_step_form, close_step, steps_keep, rows_differ}
 use Rattle.e3_world.specs.Packets.{all_sites, sites_to}
 use Rattle.e3_scenario.specs.declared.faults.ScenarioFault.{ScenarioFault}
 use Rattle.e3_scenario.specs.declared.faults.ScenarioFault.TheVariants as fault
-use Rattle.e3_scenario.specs.Faults.{has_name, sites_begun, own_fault, named_fault, begin_fault, operation_fault, expire_fault, elect_fault, recover_fault, split_fault, site_fault, stop_fault, item_fault, say}
+use Rattle.e3_scenario.specs.Faults.{has_name, sites_begun, own_fault, named_fault, begin_fault, operation_fault, expire_fault, elect_fault, recover_fault, split_fault, site_fault, stop_fault, item_fault, take_item}
 use Rattle.std.specs.Option.{option_map_or}
 use Rattle.e3_scenario.specs.Documents.{document, keys_known, kind_fault, values_of, values_at, number_within, weight_of, more_weights, weights_of, row_with, row_of, row_in, more_rows, share_at, luck_at, step_size, sizes_fit, steps_fit}
 use Rattle.e3_scenario.specs.Parts.{key_of, value_of}
-use Rattle.e3_scenario.specs.Words.{is_printable, space, before, after}
+use Rattle.e3_scenario.specs.Words.{is_printable, before, after}
+use Rattle.e3_lines.specs.Marks.{space}
 use Rattle.e3_scenario.specs.declared.faults.Field.{Field}
 use Rattle.e3_scenario.specs.declared.faults.Field.TheVariants as field
-use Rattle.e3_scenario.specs.Scenarios.{or_range, repeat_with, base_in, nothing_said, fields_in, by_kind, by_document, scenario_of}
+use Rattle.e3_scenario.specs.Scenarios.{or_range, repeat_with, base_in, no_items_yet, fields_in, by_kind, by_document, scenario_of}
 use Rattle.e3_scenario.specs.Steps.{and_read, or_fault, judged, item_in, StepSoFar, items_read, read_of, step_read, steps_read}
 use Rattle.e3_scenario.specs.Items.{item_of}
 use Rattle.e3_scenario.proofs.SpelledSets.{is_some_set, has_sets, item_sets}
@@ -65,7 +66,7 @@ begun_over (b ∷ begun) name own sites h within = by (same_numbers name b.name)
     by true is more here = let e : b.sites ≡ own = cc in rw (e, within) refl
     by false is more here = more here within
 
-named : (step : ℕ) (k : SaidSoFar) (name sites : List ℕ) → named_fault step k name sites ≡ None → is_begun k.earlier name sites ≡ true
+named : (step : ℕ) (k : ItemsSoFar) (name sites : List ℕ) → named_fault step k name sites ≡ None → is_begun k.earlier name sites ≡ true
 named step k name sites h = by (sites_begun k.earlier name) refl h
   where
     by : (own : Option (List ℕ)) → sites_begun k.earlier name ≡ own → own_fault step sites own ≡ None → is_begun k.earlier name sites ≡ true
@@ -90,7 +91,7 @@ set_of [] set = refl
 set_of (site ∷ sites) set = set
 
 -- an item without a fault, whose sets are sets, keeps the rules
-keeps_begin : (sc : Scenario) (step : ℕ) (k : SaidSoFar) (name : List ℕ) (site : ℕ) (sites : List ℕ) → is_some_set sites ≡ true
+keeps_begin : (sc : Scenario) (step : ℕ) (k : ItemsSoFar) (name : List ℕ) (site : ℕ) (sites : List ℕ) → is_some_set sites ≡ true
     → begin_fault (all_sites sc) step k name site sites ≡ None → keeps_rules sc k (item.Begin name site sites) ≡ true
 unfolding begin_fault
 keeps_begin sc step k name site sites set h =
@@ -102,7 +103,7 @@ keeps_begin sc step k name site sites set h =
     begun_name (k.earlier ++ k.fresh) name ∙ list_any-append (λ x. same_numbers name x.name) k.earlier k.fresh ∙ new in
     rw (group_of sc sites set within, has, begun) refl
 
-keeps_operation : (sc : Scenario) (step : ℕ) (k : SaidSoFar) (name : List ℕ) (site : ℕ)
+keeps_operation : (sc : Scenario) (step : ℕ) (k : ItemsSoFar) (name : List ℕ) (site : ℕ)
     → operation_fault (all_sites sc) step k name site ≡ None → (is_begun k.earlier name (site ∷ []) && nat_lt (count_ops k.ops name) 64) ≡ true
 unfolding operation_fault
 keeps_operation sc step k name site h =
@@ -114,12 +115,12 @@ keeps_operation sc step k name site h =
     below : (n : ℕ) → nat_le 64 n ≡ false → nat_lt n 64 ≡ true
     below n few = grind (arith, nat_tests)
 
-keeps_expire : (sc : Scenario) (step : ℕ) (k : SaidSoFar) (site : ℕ) (name : List ℕ)
+keeps_expire : (sc : Scenario) (step : ℕ) (k : ItemsSoFar) (site : ℕ) (name : List ℕ)
     → expire_fault (all_sites sc) step k site name ≡ None → is_begun k.earlier name (site ∷ []) ≡ true
 unfolding expire_fault
 keeps_expire sc step k site name h = named step k name (site ∷ []) (no_fault _ _ _ h).1
 
-keeps_elect : (sc : Scenario) (step : ℕ) (k : SaidSoFar) (site : ℕ) (name sites : List ℕ) → is_some_set sites ≡ true
+keeps_elect : (sc : Scenario) (step : ℕ) (k : ItemsSoFar) (site : ℕ) (name sites : List ℕ) → is_some_set sites ≡ true
     → elect_fault (all_sites sc) step k site name sites ≡ None → (is_begun k.earlier name sites && is_set sites && has_site sites site) ≡ true
 unfolding elect_fault
 keeps_elect sc step k site name sites set h =
@@ -127,7 +128,7 @@ keeps_elect sc step k site name sites set h =
     let (within, has) = and_parts (is_within sites (all_sites sc)) (has_site sites site) (not_false _ stands) in
     rw (named step k name sites a, set_of sites set, has) refl
 
-keeps_recover : (sc : Scenario) (step : ℕ) (k : SaidSoFar) (sites : List ℕ) → is_some_set sites ≡ true
+keeps_recover : (sc : Scenario) (step : ℕ) (k : ItemsSoFar) (sites : List ℕ) → is_some_set sites ≡ true
     → recover_fault (all_sites sc) step k sites ≡ None → (is_group sc sites && list_any (is_within sites) k.parts) ≡ true
 unfolding recover_fault
 keeps_recover sc step k sites set h =
@@ -154,7 +155,7 @@ keeps_stop sc step site count h =
     let (some, a) = some_or (nat_le 1 count) (fault.BadLine step) (site_fault (all_sites sc) step site) h in
     rw (keeps_site sc step site a, some) refl
 
-keeps : (sc : Scenario) (step : ℕ) (k : SaidSoFar) (i : Item) → has_sets i ≡ true → item_fault (all_sites sc) step k i ≡ None → keeps_rules sc k i ≡ true
+keeps : (sc : Scenario) (step : ℕ) (k : ItemsSoFar) (i : Item) → has_sets i ≡ true → item_fault (all_sites sc) step k i ≡ None → keeps_rules sc k i ≡ true
 keeps sc step k (item.Begin name site sites) set h = keeps_begin sc step k name site sites set h
 keeps sc step k (item.Read name key) set h = keeps_operation sc step k name key.site h
 keeps sc step k (item.Write name key val) set h = keeps_operation sc step k name key.site h
@@ -169,7 +170,7 @@ keeps sc step k (item.Crash site) set h = keeps_site sc step site h
 keeps sc step k (item.Restart site) set h = keeps_site sc step site h
 keeps sc step k (item.Stop site count leave) set h = keeps_stop sc step site count h
 
-says : (sc : Scenario) (k : SaidSoFar) (i : Item) → say (all_sites sc) k i ≡ say_item sc k i
+says : (sc : Scenario) (k : ItemsSoFar) (i : Item) → take_item (all_sites sc) k i ≡ with_item sc k i
 says sc k (item.Begin name site sites) = refl
 says sc k (item.Read name key) = refl
 says sc k (item.Write name key val) = refl
@@ -188,12 +189,12 @@ or_fault_ok i j None h = (cc, refl)
 or_fault_ok i j (Some f) h = cc
 
 -- an item that was read is without a fault, and may stand in the group where it stands in one; its sets are sets
-record IsFine (all : List ℕ) (step : ℕ) (grouped : Bool) (k : SaidSoFar) (i : Item) : Type 0 where
+record IsFine (all : List ℕ) (step : ℕ) (grouped : Bool) (k : ItemsSoFar) (i : Item) : Type 0 where
   sets : has_sets i ≡ true
   none : item_fault all step k i ≡ None
   fits : (grouped && not (is_groupable i)) ≡ false
 
-judged_ok : (all : List ℕ) (step : ℕ) (grouped : Bool) (k : SaidSoFar) (o : Option Item) (j : Item) → ((i : Item) → o ≡ Some i → has_sets i ≡ true)
+judged_ok : (all : List ℕ) (step : ℕ) (grouped : Bool) (k : ItemsSoFar) (o : Option Item) (j : Item) → ((i : Item) → o ≡ Some i → has_sets i ≡ true)
     → judged all step grouped k o ≡ Ok j → IsFine all step grouped k j
 judged_ok all step grouped k None j sets h = cc
 judged_ok all step grouped k (Some i) j sets h = by (grouped && not (is_groupable i)) refl h
@@ -214,11 +215,11 @@ spelled_sets value i h = by (as_str value) h
     by (Some text) some = item_sets text i some
 
 -- items that were read keep the rules
-record AreGiven (sc : Scenario) (grouped : Bool) (k : SaidSoFar) (before after : List Item) (said : SaidSoFar) (count : ℕ) : Type 0 where
+record AreGiven (sc : Scenario) (grouped : Bool) (k : ItemsSoFar) (before after : List Item) (so_far : ItemsSoFar) (count : ℕ) : Type 0 where
   more : List Item
   items : after ≡ before ++ more
   keep : items_keep sc k more ≡ true
-  says : said ≡ fold (say_item sc) k more
+  says : so_far ≡ fold (with_item sc) k more
   counted : length more ≡ count
   fit : grouped ≡ true → list_all is_groupable more ≡ true
 
@@ -227,19 +228,19 @@ groupable true true h g = refl
 groupable true false h g = sym h
 groupable false b h g = cc
 
-items_given : (sc : Scenario) (step : ℕ) (grouped : Bool) (k : SaidSoFar) (before : List Item) (values : List Data) (read : StepSoFar)
-    → items_read (all_sites sc) step grouped k before values ≡ Ok read → AreGiven sc grouped k before read.items read.said (length values)
+items_given : (sc : Scenario) (step : ℕ) (grouped : Bool) (k : ItemsSoFar) (before : List Item) (values : List Data) (read : StepSoFar)
+    → items_read (all_sites sc) step grouped k before values ≡ Ok read → AreGiven sc grouped k before read.items read.so_far (length values)
 items_given sc step grouped k before [] read h =
-    let Given : StepSoFar → Type 0 = λ r. AreGiven sc grouped k before r.items r.said 0 in
-    let e : record { said = k; items = before } ≡ read = cc in
+    let Given : StepSoFar → Type 0 = λ r. AreGiven sc grouped k before r.items r.so_far 0 in
+    let e : record { so_far = k; items = before } ≡ read = cc in
     subst Given e (record { more = []; items = sym (append-nil before); keep = refl; says = refl; counted = refl; fit = λ g. refl })
 items_given sc step grouped k before (value ∷ values) read h =
     let (i, is, more) = and_read_ok (judged (all_sites sc) step grouped k (item_in value)) _ read h in
     let fine = judged_ok (all_sites sc) step grouped k (item_in value) i (spelled_sets value) is in
-    let given = items_given sc step grouped (say (all_sites sc) k i) (before ++ i ∷ []) values read more in
+    let given = items_given sc step grouped (take_item (all_sites sc) k i) (before ++ i ∷ []) values read more in
     let kept : keeps_rules sc k i ≡ true = keeps sc step k i fine.sets fine.none in
-    let rest : items_keep sc (say_item sc k i) given.more ≡ true = let Keep : SaidSoFar → Type 0 = λ q. items_keep sc q given.more ≡ true in subst Keep (says sc k i) given.keep in
-    let told : read.said ≡ fold (say_item sc) (say_item sc k i) given.more = let Told : SaidSoFar → Type 0 = λ q. read.said ≡ fold (say_item sc) q given.more in subst Told (says sc k i) given.says in
+    let rest : items_keep sc (with_item sc k i) given.more ≡ true = let Keep : ItemsSoFar → Type 0 = λ q. items_keep sc q given.more ≡ true in subst Keep (says sc k i) given.keep in
+    let told : read.so_far ≡ fold (with_item sc) (with_item sc k i) given.more = let Told : ItemsSoFar → Type 0 = λ q. read.so_far ≡ fold (with_item sc) q given.more in subst Told (says sc k i) given.says in
     record {
       more = i ∷ given.more;
       items = given.items ∙ append_assoc before (i ∷ []) given.more;
@@ -250,10 +251,10 @@ items_given sc step grouped k before (value ∷ values) read h =
     }
 
 -- a step that was read
-record IsStepGiven (sc : Scenario) (k : SaidSoFar) (read : StepSoFar) : Type 0 where
+record IsStepGiven (sc : Scenario) (k : ItemsSoFar) (read : StepSoFar) : Type 0 where
   form : is_step_form read.items ≡ true
   keep : items_keep sc k read.items ≡ true
-  says : read.said ≡ fold (say_item sc) k read.items
+  says : read.so_far ≡ fold (with_item sc) k read.items
 
 group_form : (items : List Item) → list_all is_groupable items ≡ true → 1 ≤ length items → length items ≤ 16 → is_step_form items ≡ true
 group_form [] all some few = absurd (omega arith)
@@ -265,12 +266,12 @@ one_form [] one = absurd (omega arith)
 one_form (i ∷ []) one = refl
 one_form (i ∷ j ∷ items) one = absurd (omega arith)
 
-step_from : (sc : Scenario) (grouped : Bool) (k : SaidSoFar) (count : ℕ) (read : StepSoFar) → AreGiven sc grouped k [] read.items read.said count
+step_from : (sc : Scenario) (grouped : Bool) (k : ItemsSoFar) (count : ℕ) (read : StepSoFar) → AreGiven sc grouped k [] read.items read.so_far count
     → ((items : List Item) → (grouped ≡ true → list_all is_groupable items ≡ true) → length items ≡ count → is_step_form items ≡ true) → IsStepGiven sc k read
 step_from sc grouped k count read given form =
     let same : given.more ≡ read.items = sym given.items in
     let Keep : List Item → Type 0 = λ q. items_keep sc k q ≡ true in
-    let Told : List Item → Type 0 = λ q. read.said ≡ fold (say_item sc) k q in
+    let Told : List Item → Type 0 = λ q. read.so_far ≡ fold (with_item sc) k q in
     let Form : List Item → Type 0 = λ q. is_step_form q ≡ true in
     record {
       form = subst Form same (form given.more given.fit given.counted);
@@ -278,7 +279,7 @@ step_from sc grouped k count read given form =
       says = subst Told same given.says;
     }
 
-step_given : (sc : Scenario) (step : ℕ) (k : SaidSoFar) (value : Data) (read : StepSoFar) → step_read (all_sites sc) step k value ≡ Ok read
+step_given : (sc : Scenario) (step : ℕ) (k : ItemsSoFar) (value : Data) (read : StepSoFar) → step_read (all_sites sc) step k value ≡ Ok read
     → 1 ≤ step_size value → step_size value ≤ 16 → IsStepGiven sc k read
 step_given sc step k value read h some few = by (values_of value) h some few
   where
@@ -288,12 +289,12 @@ step_given sc step k value read h some few = by (values_of value) h some few
     by None here low high = step_from sc false k 1 read (items_given sc step false k [] (value ∷ []) read here) (λ items all counted. one_form items counted)
 
 -- steps that were read
-record StepsGiven (sc : Scenario) (k : SaidSoFar) (before after : List (List Item)) : Type 0 where
+record StepsGiven (sc : Scenario) (k : ItemsSoFar) (before after : List (List Item)) : Type 0 where
   more : List (List Item)
   steps : after ≡ before ++ more
   keep : steps_keep sc k more ≡ true
 
-steps_given : (sc : Scenario) (step room : ℕ) (k : SaidSoFar) (before : List (List Item)) (values : List Data) (steps : List (List Item))
+steps_given : (sc : Scenario) (step room : ℕ) (k : ItemsSoFar) (before : List (List Item)) (values : List Data) (steps : List (List Item))
     → steps_read (all_sites sc) step k before values ≡ Ok steps → sizes_fit room values ≡ true → StepsGiven sc k before steps
 steps_given sc step room k before [] steps h fit = record { more = []; steps = (let e : before ≡ steps = cc in sym e ∙ sym (append-nil before)); keep = refl }
 steps_given sc step room k before (value ∷ values) steps h fit =
@@ -302,9 +303,9 @@ steps_given sc step room k before (value ∷ values) steps h fit =
     let (fit2, inside) = and_parts _ (nat_le (step_size value) room) fit3 in
     let (low, high) = and_parts (nat_le 1 (step_size value)) (nat_le (step_size value) 16) fit2 in
     let one = step_given sc step k value read is (leb-true _ _ low) (leb-true _ _ high) in
-    let given = steps_given sc (suc step) (room - step_size value) (close_step read.said) (before ++ read.items ∷ []) values steps more rest in
-    let Keep : SaidSoFar → Type 0 = λ q. steps_keep sc (close_step q) given.more ≡ true in
-    let kept : steps_keep sc (close_step (fold (say_item sc) k read.items)) given.more ≡ true = subst Keep one.says given.keep in
+    let given = steps_given sc (suc step) (room - step_size value) (close_step read.so_far) (before ++ read.items ∷ []) values steps more rest in
+    let Keep : ItemsSoFar → Type 0 = λ q. steps_keep sc (close_step q) given.more ≡ true in
+    let kept : steps_keep sc (close_step (fold (with_item sc) k read.items)) given.more ≡ true = subst Keep one.says given.keep in
     record {
       more = read.items ∷ given.more;
       steps = given.steps ∙ append_assoc before (read.items ∷ []) given.more;
@@ -445,11 +446,11 @@ else_ok false f read sc h = cc
 
 -- with its steps
 whole_given : (base : Scenario) (steps : List (List Item)) (values : List Data) → IsBase base → rows_differ base.rows ≡ true → steps_fit values ≡ true
-    → steps_read (all_sites base) 1 (nothing_said (all_sites base)) [] values ≡ Ok steps → IsGiven (record base { steps = steps })
+    → steps_read (all_sites base) 1 (no_items_yet (all_sites base)) [] values ≡ Ok steps → IsGiven (record base { steps = steps })
 whole_given base steps values is differ fit h =
     let (few, sizes) = and_parts (nat_le (length values) 10000) (sizes_fit 10000 values) fit in
-    let given = steps_given (record base { steps = steps }) 1 10000 (nothing_said (all_sites base)) [] values steps h sizes in
-    let Keep : List (List Item) → Type 0 = λ q. steps_keep (record base { steps = steps }) (nothing_said (all_sites base)) q ≡ true in
+    let given = steps_given (record base { steps = steps }) 1 10000 (no_items_yet (all_sites base)) [] values steps h sizes in
+    let Keep : List (List Item) → Type 0 = λ q. steps_keep (record base { steps = steps }) (no_items_yet (all_sites base)) q ≡ true in
     record {
       some = is.some;
       few = is.few;
@@ -465,7 +466,7 @@ fields_given ms sc h =
     let (base, is, a) = and_read_ok (base_in ms) _ sc h in
     let (fit, b) = else_ok (steps_fit (values_at ms (codes "steps"))) (fault.Range field.Steps) _ sc a in
     let (differ, c) = else_ok (rows_differ base.rows) fault.RowTwice _ sc b in
-    let (steps, read, d) = and_read_ok (steps_read (all_sites base) 1 (nothing_said (all_sites base)) [] (values_at ms (codes "steps"))) _ sc c in
+    let (steps, read, d) = and_read_ok (steps_read (all_sites base) 1 (no_items_yet (all_sites base)) [] (values_at ms (codes "steps"))) _ sc c in
     subst IsGiven (ok_same (Ok (record base { steps = steps })) (record base { steps = steps }) sc refl d) (whole_given base steps (values_at ms (codes "steps")) (base_given ms base is) differ fit read)
 
 kind_given : (ms : Members) (o : Option Field) (sc : Scenario) → by_kind ms o ≡ Ok sc → IsGiven sc

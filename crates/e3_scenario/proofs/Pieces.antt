@@ -4,7 +4,8 @@ use Rattle.std.specs.List.{position_or_len}
 use Rattle.std.proofs.Common.{◌≤◌, cond, not, nat_lt, arith, ◌≡◌, ◌==◌, ◌<◌, ◌+◌, ℕ, suc, Bool, true, false, List, [], ◌∷◌, length, take, drop, Option, Some, None, refl, ap, ◌∙◌, if◌then◌else◌}
 use Rattle.std.specs.Prelude.{option_map, unwrap_or}
 use Rattle.e3_types.specs.Sets.{with_site}
-use Rattle.e3_scenario.specs.Words.{comma, before, after, in_front, pieces}
+use Rattle.e3_scenario.specs.Words.{before, after}
+use Rattle.e3_lines.specs.Marks.{comma, in_front, pieces}
 use Rattle.e3_scenario.specs.Parts.{site_of, sites_above}
 
 -- the pieces behind the first

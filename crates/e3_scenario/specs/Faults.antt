@@ -6,7 +6,7 @@ use Rattle.e3_types.specs.Same.{same_numbers}
 use Rattle.e3_types.specs.Sets.{has_site, is_within}
 use Rattle.e3_types.specs.declared.scenarios.Item.{Item}
 use Rattle.e3_types.specs.declared.scenarios.Item.TheVariants as item
-use Rattle.e3_world.specs.Given.{BegunName, SaidSoFar, count_ops}
+use Rattle.e3_world.specs.Given.{BegunName, ItemsSoFar, count_ops}
 use Rattle.e3_scenario.specs.declared.faults.Field.{Field}
 use Rattle.e3_scenario.specs.declared.faults.Field.TheVariants as field
 use Rattle.e3_scenario.specs.declared.faults.ScenarioFault.{ScenarioFault}
@@ -27,39 +27,39 @@ own_fault step sites (Some own) = if is_within sites own then None else Some (fa
 
 -- An item speaks of a transaction and of these of its sites: the name was begun in an earlier step, and the sites are
 -- the transaction's.
-abbrev pub named_fault : ℕ → SaidSoFar → List ℕ → List ℕ → Option ScenarioFault
-named_fault step said name sites = own_fault step sites (sites_begun said.earlier name)
+abbrev pub named_fault : ℕ → ItemsSoFar → List ℕ → List ℕ → Option ScenarioFault
+named_fault step so_far name sites = own_fault step sites (sites_begun so_far.earlier name)
 
 -- begin: one of 4,000 at most, over sites that exist, of which the coordinator is one, and of a new name
-unfoldable pub begin_fault : List ℕ → ℕ → SaidSoFar → List ℕ → ℕ → List ℕ → Option ScenarioFault
-begin_fault all step said name site sites =
-    if nat_le 4000 (length said.earlier + length said.fresh) then Some (fault.BadLine step)
+unfoldable pub begin_fault : List ℕ → ℕ → ItemsSoFar → List ℕ → ℕ → List ℕ → Option ScenarioFault
+begin_fault all step so_far name site sites =
+    if nat_le 4000 (length so_far.earlier + length so_far.fresh) then Some (fault.BadLine step)
     else if not (is_within sites all && has_site sites site) then Some (fault.NoSite step)
-    else if has_name said.earlier name || has_name said.fresh name then Some (fault.NameTwice step)
+    else if has_name so_far.earlier name || has_name so_far.fresh name then Some (fault.NameTwice step)
     else None
 
 -- read, write: one of 64 of its transaction at most, at a site that exists and is the transaction's
-unfoldable pub operation_fault : List ℕ → ℕ → SaidSoFar → List ℕ → ℕ → Option ScenarioFault
-operation_fault all step said name site =
-    if nat_le 64 (count_ops said.ops name) then Some (fault.BadLine step)
+unfoldable pub operation_fault : List ℕ → ℕ → ItemsSoFar → List ℕ → ℕ → Option ScenarioFault
+operation_fault all step so_far name site =
+    if nat_le 64 (count_ops so_far.ops name) then Some (fault.BadLine step)
     else if not (has_site all site) then Some (fault.NoSite step)
-    else named_fault step said name (site ∷ [])
+    else named_fault step so_far name (site ∷ [])
 
 -- expire: at a site that exists and is the transaction's
-unfoldable pub expire_fault : List ℕ → ℕ → SaidSoFar → ℕ → List ℕ → Option ScenarioFault
-expire_fault all step said site name =
-    if not (has_site all site) then Some (fault.NoSite step) else named_fault step said name (site ∷ [])
+unfoldable pub expire_fault : List ℕ → ℕ → ItemsSoFar → ℕ → List ℕ → Option ScenarioFault
+expire_fault all step so_far site name =
+    if not (has_site all site) then Some (fault.NoSite step) else named_fault step so_far name (site ∷ [])
 
 -- elect: among sites that exist, of which the elector is one, and which are the transaction's
-unfoldable pub elect_fault : List ℕ → ℕ → SaidSoFar → ℕ → List ℕ → List ℕ → Option ScenarioFault
-elect_fault all step said site name sites =
-    if not (is_within sites all && has_site sites site) then Some (fault.NoSite step) else named_fault step said name sites
+unfoldable pub elect_fault : List ℕ → ℕ → ItemsSoFar → ℕ → List ℕ → List ℕ → Option ScenarioFault
+elect_fault all step so_far site name sites =
+    if not (is_within sites all && has_site sites site) then Some (fault.NoSite step) else named_fault step so_far name sites
 
 -- recover: of sites that exist and lie in one part of the network
-unfoldable pub recover_fault : List ℕ → ℕ → SaidSoFar → List ℕ → Option ScenarioFault
-recover_fault all step said sites =
+unfoldable pub recover_fault : List ℕ → ℕ → ItemsSoFar → List ℕ → Option ScenarioFault
+recover_fault all step so_far sites =
     if not (is_within sites all) then Some (fault.NoSite step)
-    else if list_any (is_within sites) said.parts then None
+    else if list_any (is_within sites) so_far.parts then None
     else Some (fault.Parts step)
 
 -- split: into parts that name sites that exist, and each of them once
@@ -78,30 +78,30 @@ unfoldable pub stop_fault : List ℕ → ℕ → ℕ → ℕ → Option Scenario
 stop_fault all step site count = if nat_le 1 count then site_fault all step site else Some (fault.BadLine step)
 
 -- The fault of an item, where it has one: over all sites of the scenario, in the step of this number, behind what the
--- items so far say.
-abbrev pub item_fault : List ℕ → ℕ → SaidSoFar → Item → Option ScenarioFault
-item_fault all step said (item.Begin name site sites) = begin_fault all step said name site sites
-item_fault all step said (item.Read name key) = operation_fault all step said name key.site
-item_fault all step said (item.Write name key val) = operation_fault all step said name key.site
-item_fault all step said (item.Commit name) = named_fault step said name []
-item_fault all step said (item.Cancel name) = named_fault step said name []
-item_fault all step said (item.Expire site name) = expire_fault all step said site name
-item_fault all step said (item.Elect site name sites) = elect_fault all step said site name sites
-item_fault all step said (item.Recover sites) = recover_fault all step said sites
-item_fault all step said (item.Split parts) = split_fault all step parts
-item_fault all step said item.Merge = None
-item_fault all step said (item.Crash site) = site_fault all step site
-item_fault all step said (item.Restart site) = site_fault all step site
-item_fault all step said (item.Stop site count leave) = stop_fault all step site count
+-- items so far come to.
+abbrev pub item_fault : List ℕ → ℕ → ItemsSoFar → Item → Option ScenarioFault
+item_fault all step so_far (item.Begin name site sites) = begin_fault all step so_far name site sites
+item_fault all step so_far (item.Read name key) = operation_fault all step so_far name key.site
+item_fault all step so_far (item.Write name key val) = operation_fault all step so_far name key.site
+item_fault all step so_far (item.Commit name) = named_fault step so_far name []
+item_fault all step so_far (item.Cancel name) = named_fault step so_far name []
+item_fault all step so_far (item.Expire site name) = expire_fault all step so_far site name
+item_fault all step so_far (item.Elect site name sites) = elect_fault all step so_far site name sites
+item_fault all step so_far (item.Recover sites) = recover_fault all step so_far sites
+item_fault all step so_far (item.Split parts) = split_fault all step parts
+item_fault all step so_far item.Merge = None
+item_fault all step so_far (item.Crash site) = site_fault all step site
+item_fault all step so_far (item.Restart site) = site_fault all step site
+item_fault all step so_far (item.Stop site count leave) = stop_fault all step site count
 
--- what is said with one more item
-abbrev pub say : List ℕ → SaidSoFar → Item → SaidSoFar
-say all said (item.Begin name site sites) = record said { fresh = said.fresh ++ record { name = name; sites = sites } ∷ [] }
-say all said (item.Read name key) = record said { ops = said.ops ++ name ∷ [] }
-say all said (item.Write name key val) = record said { ops = said.ops ++ name ∷ [] }
-say all said (item.Split parts) = record said { parts = parts }
-say all said item.Merge = record said { parts = all ∷ [] }
-say all said _ = said
+-- what the items come to with one more
+abbrev pub take_item : List ℕ → ItemsSoFar → Item → ItemsSoFar
+take_item all so_far (item.Begin name site sites) = record so_far { fresh = so_far.fresh ++ record { name = name; sites = sites } ∷ [] }
+take_item all so_far (item.Read name key) = record so_far { ops = so_far.ops ++ name ∷ [] }
+take_item all so_far (item.Write name key val) = record so_far { ops = so_far.ops ++ name ∷ [] }
+take_item all so_far (item.Split parts) = record so_far { parts = parts }
+take_item all so_far item.Merge = record so_far { parts = all ∷ [] }
+take_item all so_far _ = so_far
 
 -- the word for a field
 abbrev pub field_word : Field → List ℕ

@@ -3,7 +3,7 @@ use Rattle.std.specs.Prelude.{ℕ, ◌+◌, nat_le, not, List, [], ◌∷◌, le
 use Rattle.toml.specs.Data.{Data, Members}
 use Rattle.e3_types.specs.declared.scenarios.KeyRow.{KeyRow}
 use Rattle.e3_types.specs.declared.scenarios.Scenario.{Scenario}
-use Rattle.e3_world.specs.Given.{SaidSoFar, rows_differ}
+use Rattle.e3_world.specs.Given.{ItemsSoFar, rows_differ}
 use Rattle.e3_world.specs.Packets.{sites_to, all_sites}
 use Rattle.e3_scenario.specs.declared.faults.Field.{Field}
 use Rattle.e3_scenario.specs.declared.faults.Field.TheVariants as field
@@ -37,14 +37,14 @@ base_in members =
     and_read (or_range field.Rows (more_rows (sites_to (length weights)) [] (values_at members (codes "rows")))) (λ rows.
     numbers_in members weights rows))
 
--- nothing is said yet: no name is begun, and all sites are one part
-abbrev pub nothing_said : List ℕ → SaidSoFar
-nothing_said all = record { earlier = []; fresh = []; ops = []; parts = all ∷ [] }
+-- before the first item: no name is begun, and all sites are one part
+abbrev pub no_items_yet : List ℕ → ItemsSoFar
+no_items_yet all = record { earlier = []; fresh = []; ops = []; parts = all ∷ [] }
 
 -- the scenario with the steps that these values spell
 abbrev pub steps_in : List Data → Scenario → Result Scenario ScenarioFault
 steps_in values sc =
-    and_read (steps_read (all_sites sc) 1 (nothing_said (all_sites sc)) [] values) (λ steps. Ok (record sc { steps = steps }))
+    and_read (steps_read (all_sites sc) 1 (no_items_yet (all_sites sc)) [] values) (λ steps. Ok (record sc { steps = steps }))
 
 -- A document's scenario or fault, where its keys are known and of their kinds: first the ranges, then the rows, then
 -- the steps.

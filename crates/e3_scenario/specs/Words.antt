@@ -1,25 +1,10 @@
 -- The text of an item, cut into words.
-use Rattle.std.specs.Prelude.{ℕ, zero, suc, ◌+◌, ◌==◌, Bool, ◌&&◌, nat_le, List, [], ◌∷◌, drop, take, position, Option, Some, option_map, option_and_then, unwrap_or, if◌then◌else◌}
+use Rattle.std.specs.Prelude.{ℕ, zero, suc, ◌+◌, ◌==◌, Bool, ◌&&◌, nat_le, List, drop, take, position, Option, Some, option_map, option_and_then, unwrap_or}
+use Rattle.e3_lines.specs.Marks.{space}
 
 -- a byte that an item may have: a printable one, from hexadecimal 20 to 7E
 abbrev pub is_printable : ℕ → Bool
 is_printable b = nat_le 32 b && nat_le b 126
-
--- the byte between two words
-abbrev pub space : ℕ
-space = 32
-
--- the byte between the site and the name of a key
-abbrev pub point : ℕ
-point = 46
-
--- the byte between two sites of a list
-abbrev pub comma : ℕ
-comma = 44
-
--- the byte between two parts of the network
-abbrev pub bar : ℕ
-bar = 124
 
 -- what stands before the first byte of this kind, or all where there is none
 abbrev pub before : ℕ → List ℕ → List ℕ
@@ -37,13 +22,3 @@ rest (suc n) text = option_and_then (rest n) (after space text)
 -- the word at a place, counted from 0: it ends at the next space, or with the text
 abbrev pub word : ℕ → List ℕ → Option (List ℕ)
 word n text = option_map (before space) (rest n text)
-
--- the pieces with one byte more in front of the first
-abbrev pub in_front : ℕ → List (List ℕ) → List (List ℕ)
-in_front b [] = (b ∷ []) ∷ []
-in_front b (piece ∷ more) = (b ∷ piece) ∷ more
-
--- the pieces of a text between the bytes of this kind; a text without one is a piece itself
-abbrev pub pieces : ℕ → List ℕ → List (List ℕ)
-pieces mark [] = [] ∷ []
-pieces mark (b ∷ text) = if b == mark then [] ∷ pieces mark text else in_front b (pieces mark text)

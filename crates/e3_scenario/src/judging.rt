@@ -5,16 +5,16 @@ ghost use Rattle.e3_types.specs.Sets.{has_site, is_within};
 ghost use Rattle.e3_scenario.specs.Faults.{named_fault, begin_fault, operation_fault, expire_fault, elect_fault, recover_fault, split_fault, site_fault, stop_fault, item_fault};
 
 use crate::faults::ScenarioFault;
-use crate::sayings::SoFar;
+use crate::so_far::SoFar;
 use e3_types::{Item, List, Name, SiteSet};
 
 /// The most operations of a transaction.
 const MOST_OPERATIONS: u64 = 64;
 
-fn named_fault(step: u32, said: &SoFar, name: &Name) -> Option<ScenarioFault>
-    ensures { result ≡ named_fault step said.now name.now [] }
+fn named_fault(step: u32, so_far: &SoFar, name: &Name) -> Option<ScenarioFault>
+    ensures { result ≡ named_fault step so_far.now name.now [] }
 {
-    match said.sites_of(name) {
+    match so_far.sites_of(name) {
         None => Some(ScenarioFault::NoTxn { step }),
         Some(_) => None,
     }
@@ -22,23 +22,29 @@ fn named_fault(step: u32, said: &SoFar, name: &Name) -> Option<ScenarioFault>
 
 // An item at one site: that exists, and is the transaction's.
 #[tactic(auto, unfolding(crate::specs::Faults::expire_fault))]
-fn fault_at(all: SiteSet, step: u32, said: &SoFar, name: &Name, site: u32) -> Option<ScenarioFault>
-    ensures { result ≡ expire_fault all step said.now site name.now }
+fn fault_at(
+    all: SiteSet,
+    step: u32,
+    so_far: &SoFar,
+    name: &Name,
+    site: u32,
+) -> Option<ScenarioFault>
+    ensures { result ≡ expire_fault all step so_far.now site name.now }
 {
     if !all.has(site) {
         return Some(ScenarioFault::NoSite { step });
     }
-    match said.sites_of(name) {
+    match so_far.sites_of(name) {
         None => Some(ScenarioFault::NoTxn { step }),
         Some(own) if own.has(site) => None,
         Some(_) => Some(ScenarioFault::NoSite { step }),
     }
 }
 
-fn fault_among(step: u32, said: &SoFar, name: &Name, sites: SiteSet) -> Option<ScenarioFault>
-    ensures { result ≡ named_fault step said.now name.now sites }
+fn fault_among(step: u32, so_far: &SoFar, name: &Name, sites: SiteSet) -> Option<ScenarioFault>
+    ensures { result ≡ named_fault step so_far.now name.now sites }
 {
-    match said.sites_of(name) {
+    match so_far.sites_of(name) {
         None => Some(ScenarioFault::NoTxn { step }),
         Some(own) if sites.within(own) => None,
         Some(_) => Some(ScenarioFault::NoSite { step }),
@@ -49,20 +55,20 @@ fn fault_among(step: u32, said: &SoFar, name: &Name, sites: SiteSet) -> Option<S
 fn begin_fault(
     all: SiteSet,
     step: u32,
-    said: &SoFar,
+    so_far: &SoFar,
     name: &Name,
     site: u32,
     sites: SiteSet,
 ) -> Option<ScenarioFault>
-    ensures { result ≡ begin_fault all step said.now name.now site sites }
+    ensures { result ≡ begin_fault all step so_far.now name.now site sites }
 {
-    if said.is_full() {
+    if so_far.is_full() {
         return Some(ScenarioFault::BadLine { step });
     }
     if !(sites.within(all) && sites.has(site)) {
         return Some(ScenarioFault::NoSite { step });
     }
-    if said.is_begun(name) {
+    if so_far.is_begun(name) {
         return Some(ScenarioFault::NameTwice { step });
     }
     None
@@ -72,43 +78,43 @@ fn begin_fault(
 fn operation_fault(
     all: SiteSet,
     step: u32,
-    said: &SoFar,
+    so_far: &SoFar,
     name: &Name,
     site: u32,
 ) -> Option<ScenarioFault>
-    ensures { result ≡ operation_fault all step said.now name.now site }
+    ensures { result ≡ operation_fault all step so_far.now name.now site }
 {
-    if MOST_OPERATIONS <= said.operations(name) {
+    if MOST_OPERATIONS <= so_far.operations(name) {
         return Some(ScenarioFault::BadLine { step });
     }
-    fault_at(all, step, said, name, site)
+    fault_at(all, step, so_far, name, site)
 }
 
 #[tactic(auto, unfolding(crate::specs::Faults::elect_fault))]
 fn elect_fault(
     all: SiteSet,
     step: u32,
-    said: &SoFar,
+    so_far: &SoFar,
     site: u32,
     name: &Name,
     sites: SiteSet,
 ) -> Option<ScenarioFault>
-    ensures { result ≡ elect_fault all step said.now site name.now sites }
+    ensures { result ≡ elect_fault all step so_far.now site name.now sites }
 {
     if !(sites.within(all) && sites.has(site)) {
         return Some(ScenarioFault::NoSite { step });
     }
-    fault_among(step, said, name, sites)
+    fault_among(step, so_far, name, sites)
 }
 
 #[tactic(auto, unfolding(crate::specs::Faults::recover_fault))]
-fn recover_fault(all: SiteSet, step: u32, said: &SoFar, sites: SiteSet) -> Option<ScenarioFault>
-    ensures { result ≡ recover_fault all step said.now sites }
+fn recover_fault(all: SiteSet, step: u32, so_far: &SoFar, sites: SiteSet) -> Option<ScenarioFault>
+    ensures { result ≡ recover_fault all step so_far.now sites }
 {
     if !sites.within(all) {
         return Some(ScenarioFault::NoSite { step });
     }
-    if said.is_in_one_part(sites) {
+    if so_far.is_in_one_part(sites) {
         None
     } else {
         Some(ScenarioFault::Parts { step })
@@ -173,19 +179,19 @@ fn stop_fault(all: SiteSet, step: u32, site: u32, count: u32) -> Option<Scenario
     }
 }
 
-/// The first fault of an item, behind what the items before it say.
-pub fn item_fault(all: SiteSet, step: u32, said: &SoFar, item: &Item) -> Option<ScenarioFault>
-    ensures { result ≡ item_fault all step said.now item.now }
+/// The first fault of an item, behind those before it.
+pub fn item_fault(all: SiteSet, step: u32, so_far: &SoFar, item: &Item) -> Option<ScenarioFault>
+    ensures { result ≡ item_fault all step so_far.now item.now }
 {
     match item {
-        Item::Begin { name, site, sites } => begin_fault(all, step, said, name, *site, *sites),
-        Item::Read { name, key } => operation_fault(all, step, said, name, key.site),
-        Item::Write { name, key, .. } => operation_fault(all, step, said, name, key.site),
-        Item::Commit { name } => named_fault(step, said, name),
-        Item::Cancel { name } => named_fault(step, said, name),
-        Item::Expire { site, name } => fault_at(all, step, said, name, *site),
-        Item::Elect { site, name, sites } => elect_fault(all, step, said, *site, name, *sites),
-        Item::Recover { sites } => recover_fault(all, step, said, *sites),
+        Item::Begin { name, site, sites } => begin_fault(all, step, so_far, name, *site, *sites),
+        Item::Read { name, key } => operation_fault(all, step, so_far, name, key.site),
+        Item::Write { name, key, .. } => operation_fault(all, step, so_far, name, key.site),
+        Item::Commit { name } => named_fault(step, so_far, name),
+        Item::Cancel { name } => named_fault(step, so_far, name),
+        Item::Expire { site, name } => fault_at(all, step, so_far, name, *site),
+        Item::Elect { site, name, sites } => elect_fault(all, step, so_far, *site, name, *sites),
+        Item::Recover { sites } => recover_fault(all, step, so_far, *sites),
         Item::Split { parts } => split_fault(all, step, parts),
         Item::Merge => None,
         Item::Crash { site } => site_fault(all, step, *site),

@@ -13,7 +13,7 @@ mod lines;
 mod names;
 mod parts;
 mod reading;
-mod sayings;
+mod so_far;
 mod steps;
 mod words;
 

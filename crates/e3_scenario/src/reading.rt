@@ -9,7 +9,7 @@ use crate::documents::{
     keys_known, kind_fault, luck_at, rows, share_at, steps_fit, values_at, weights,
 };
 use crate::faults::{Field, ScenarioFault};
-use crate::sayings::SoFar;
+use crate::so_far::SoFar;
 use crate::steps::{Read, steps};
 use e3_types::{KeyRow, List, NoMemory, Scenario};
 use e3_world::sites_to;
@@ -83,8 +83,8 @@ fn with_steps(alloc: Global, values: &[Value], base: Scenario) -> Result<Read<Sc
 {
     let mut scenario = base;
     let all = sites_to(scenario.weights.len() as u32);
-    let mut said = SoFar::nothing(alloc, all)?;
-    match steps(alloc, all, &mut said, values)? {
+    let mut so_far = SoFar::nothing(alloc, all)?;
+    match steps(alloc, all, &mut so_far, values)? {
         Err(fault) => Ok(Err(fault)),
         Ok(steps) => {
             scenario.steps = steps;

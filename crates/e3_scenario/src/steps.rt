@@ -1,15 +1,15 @@
 // The steps of a scenario.
 ghost use Rattle.std.specs.Prelude.{◌≡◌, ◌≤◌, [], ◌∷◌, IfOk, length, map};
 ghost use Rattle.toml.specs.View.{view};
-ghost use Rattle.e3_world.specs.Given.{is_groupable};
-ghost use Rattle.e3_scenario.specs.Steps.{or_fault, judged, item_in, with_said, items_read, step_read, steps_read};
+ghost use Rattle.e3_scenario.specs.Steps.{or_fault, judged, item_in, with_so_far, items_read, step_read, steps_read};
 
 use crate::documents::values;
 use crate::faults::ScenarioFault;
 use crate::items::item;
 use crate::judging::item_fault;
-use crate::sayings::SoFar;
+use crate::so_far::SoFar;
 use e3_types::{Item, List, NoMemory, SiteSet};
+use e3_world::is_groupable;
 use std::alloc::Global;
 use std::slice;
 use toml::Value;
@@ -17,28 +17,14 @@ use toml::Value;
 /// What reading gives where memory does not run out: a value, or the fault of the scenario.
 pub type Read<T> = Result<T, ScenarioFault>;
 
-fn is_groupable(item: &Item) -> bool
-    ensures { result ≡ is_groupable item.now }
-{
-    !matches!(
-        item,
-        Item::Recover { .. }
-            | Item::Split { .. }
-            | Item::Merge
-            | Item::Crash { .. }
-            | Item::Restart { .. }
-            | Item::Stop { .. }
-    )
-}
-
 fn judged(
     all: SiteSet,
     step: u32,
     grouped: bool,
-    said: &SoFar,
+    so_far: &SoFar,
     spelled: Option<Item>,
 ) -> Result<Item, ScenarioFault>
-    ensures { result ≡ judged all step grouped said.now spelled }
+    ensures { result ≡ judged all step grouped so_far.now spelled }
 {
     let Some(item) = spelled else {
         return Err(ScenarioFault::BadLine { step });
@@ -46,7 +32,7 @@ fn judged(
     if grouped && !is_groupable(&item) {
         return Err(ScenarioFault::BadLine { step });
     }
-    match item_fault(all, step, said, &item) {
+    match item_fault(all, step, so_far, &item) {
         None => Ok(item),
         Some(fault) => Err(fault),
     }
@@ -61,25 +47,25 @@ fn item_in(alloc: Global, value: &Value) -> Result<Option<Item>, NoMemory>
     }
 }
 
-// The items of a step. Where one has a fault, what is said is of no use any more.
+// The items of a step. Where one has a fault, what they come to is of no use any more.
 #[tactic(auto, using(crate::proofs::Values::next_value))]
 fn items(
     alloc: Global,
     all: SiteSet,
     step: u32,
     grouped: bool,
-    said: &mut SoFar,
+    so_far: &mut SoFar,
     values: &[Value],
 ) -> Result<Read<List<Item>>, NoMemory>
-    ensures { IfOk result (λ read. with_said said.new read ≡ items_read all step grouped said.old [] (map view values.now)) }
+    ensures { IfOk result (λ read. with_so_far so_far.new read ≡ items_read all step grouped so_far.old [] (map view values.now)) }
 {
     let mut items = List::new(alloc);
     for value in values {
         let spelled = item_in(alloc, value)?;
-        match judged(all, step, grouped, said, spelled) {
+        match judged(all, step, grouped, so_far, spelled) {
             Err(fault) => return Ok(Err(fault)),
             Ok(item) => {
-                said.say(alloc, all, &item)?;
+                so_far.take_item(alloc, all, &item)?;
                 items.push(item)?;
             }
         }
@@ -91,35 +77,35 @@ fn step(
     alloc: Global,
     all: SiteSet,
     step: u32,
-    said: &mut SoFar,
+    so_far: &mut SoFar,
     value: &Value,
 ) -> Result<Read<List<Item>>, NoMemory>
-    ensures { IfOk result (λ read. with_said said.new read ≡ step_read all step said.old (view value.now)) }
+    ensures { IfOk result (λ read. with_so_far so_far.new read ≡ step_read all step so_far.old (view value.now)) }
 {
     match values(value) {
-        Some(values) => items(alloc, all, step, true, said, values),
-        None => items(alloc, all, step, false, said, slice::from_ref(value)),
+        Some(values) => items(alloc, all, step, true, so_far, values),
+        None => items(alloc, all, step, false, so_far, slice::from_ref(value)),
     }
 }
 
-/// The steps, each behind what those before it say.
+/// The steps, each behind those before it.
 #[tactic(auto, using(crate::proofs::Values::next_value))]
 pub fn steps(
     alloc: Global,
     all: SiteSet,
-    said: &mut SoFar,
+    so_far: &mut SoFar,
     values: &[Value],
 ) -> Result<Read<List<List<Item>>>, NoMemory>
     requires { length values.now ≤ 10000 }
-    ensures { IfOk result (λ read. read ≡ steps_read all 1 said.old [] (map view values.now)) }
+    ensures { IfOk result (λ read. read ≡ steps_read all 1 so_far.old [] (map view values.now)) }
 {
     let mut steps = List::new(alloc);
     let mut number = 1;
     for value in values {
-        match step(alloc, all, number, said, value)? {
+        match step(alloc, all, number, so_far, value)? {
             Err(first) => return Ok(Err(first)),
             Ok(items) => {
-                said.close(alloc)?;
+                so_far.close(alloc)?;
                 steps.push(items)?;
             }
         }

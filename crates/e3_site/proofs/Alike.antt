@@ -19,7 +19,8 @@ use Rattle.e3_readings.specs.Opens.{open_in}
 use Rattle.e3_law_brief.specs.Alike.{ReadAlike}
 use Rattle.e3_world.specs.Brief.{txns_of}
 use Rattle.e3_world.specs.Orderly.{IsOrderly}
-use Rattle.e3_law_brief.specs.Incarnations.{AlikeNow, IsInOrder, IsKnown}
+use Rattle.e3_world.specs.Transactions.{IsFoundByBits}
+use Rattle.e3_law_brief.specs.Incarnations.{AlikeNow, IsInOrder}
 use Rattle.e3_law_brief.proofs.Alike.Laws.{opens_alike, rises_alike, self_alike, steps_alike, turned_alike}
 use Rattle.e3_site.specs.AlikeLaws.{ExactIsAlike, GoesOnAlike, ListsOpenAlike, PlansAlike, RisesAlike, StillAlike}
 use Rattle.e3_site.specs.StandsAlike.{IsLogInOrder, StandsAlike, now_with}
@@ -36,7 +37,7 @@ log_is sc h site = sym (present_is_log (moves_of sc h site))
 in_order : (sc : Scenario) (h : List Entry) (site : ℕ) → IsLogInOrder site (log_of sc h site) → IsInOrder site (theirs sc h site)
 in_order sc h site order = record {
   orderly = subst (λ (l : List Record). IsOrderly site l) (log_is sc h site) order.orderly;
-  known = subst (λ (l : List Record). Each IsKnown (txns_of l)) (log_is sc h site) order.known;
+  known = subst (λ (l : List Record). Each IsFoundByBits (txns_of l)) (log_is sc h site) order.known;
 }
 
 -- the incarnation of the value is alike to the site's

@@ -16,7 +16,8 @@ use Rattle.e3_world.specs.declared.lives.Life.{Life}
 use Rattle.e3_world.specs.declared.lives.SiteStep.{SiteStep}
 use Rattle.e3_world.proofs.Pushes.{life_log, life_log_at, present_is_log}
 use Rattle.e3_law_brief.specs.Alike.{ReadAlike}
-use Rattle.e3_law_brief.specs.Incarnations.{AlikeNow, IsInOrder as IsInOrderNow, IsKnown}
+use Rattle.e3_world.specs.Transactions.{IsFoundByBits}
+use Rattle.e3_law_brief.specs.Incarnations.{AlikeNow, IsInOrder as IsInOrderNow}
 use Rattle.e3_law_brief.proofs.Alike.Laws.{logs_alike, orders_alike, turned_alike}
 use Rattle.e3_law_serial.specs.Orderly.{LogsAreOrderly}
 use Rattle.e3_law_steps.specs.Trails.{TrailsAreSound}
@@ -42,7 +43,7 @@ in_order_alike sounds logs sc h site rose s given legal stands rose_orderly = (
     inc_is =
         inc_kept _ now.since ∙ stands.alike.inc ∙ sym (inc_kept _ their.since) ∙ all.inc_is ∙ ap logged_inc whole ∙ reads.inc ∙ ap logged_inc (sym (life_log now));
     begun = λ zero. life_log now ∙ reads.empty (sym whole ∙ all.begun (ap logged_inc whole ∙ reads.inc ∙ ap logged_inc (sym (life_log now)) ∙ zero));
-    known = subst (λ (l : List Record). Each IsKnown (txns_of l)) (sym (life_log now)) in_now.known;
+    known = subst (λ (l : List Record). Each IsFoundByBits (txns_of l)) (sym (life_log now)) in_now.known;
   }),
   reads,
 )
@@ -65,7 +66,7 @@ in_order_alike sounds logs sc h site rose s given legal stands rose_orderly = (
     in_their : IsInOrderNow site their
     in_their = record {
       orderly = subst (λ (l : List Record). IsOrderly site l) (whole ∙ present) all.orderly;
-      known = subst (λ (l : List Record). Each IsKnown (txns_of l)) (whole ∙ present) all.known;
+      known = subst (λ (l : List Record). Each IsFoundByBits (txns_of l)) (whole ∙ present) all.known;
     }
 
     alike : AlikeNow their now

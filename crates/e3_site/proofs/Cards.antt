@@ -32,7 +32,8 @@ use Rattle.e3_cards.specs.declared.keys.TxnKey.{TxnKey}
 use Rattle.e3_cards.specs.declared.seen.Seen.{Seen}
 use Rattle.e3_cards.specs.Cards.{blank, card_of}
 use Rattle.e3_cards.specs.Seeing.{seen_of, unseen}
-use Rattle.e3_cards.specs.Tables.{IsKnown, card_at, key_cmp, txn_key}
+use Rattle.e3_world.specs.Transactions.{IsFoundByBits}
+use Rattle.e3_cards.specs.Tables.{card_at, key_cmp, txn_key}
 use Rattle.e3_cards.proofs.Untouched.{same_key}
 use Rattle.e3_places.specs.declared.keys.TxnId.{TxnId as PlaceKey}
 use Rattle.e3_places.specs.declared.places.Claims.{Claims}
@@ -85,16 +86,16 @@ less_older t u less =
     less_level t.site u.site _ _ less (λ inc. less_level t.inc u.inc _ _ inc (λ seq. less_level t.seq u.seq _ _ seq (λ bits. less_number _ _ bits)))
 
 -- a transaction whose sites are a set comes back from its key
-txn_back : (t : Txn) → IsKnown t → txn_of (txn_key t) ≡ t
+txn_back : (t : Txn) → IsFoundByBits t → txn_of (txn_key t) ≡ t
 txn_back t known = λ i. record { site = t.site; inc = t.inc; seq = t.seq; sites = known i }
 
 key_back : (k : TxnKey) → KeyFits k → txn_key (txn_of k) ≡ k
 key_back k fits = λ i. record { site = k.site; inc = k.inc; seq = k.seq; bits = fits i }
 
-key_known : (k : TxnKey) → KeyFits k → IsKnown (txn_of k)
+key_known : (k : TxnKey) → KeyFits k → IsFoundByBits (txn_of k)
 key_known k fits = ap sites_of fits
 
-later_below : (t u : Txn) → IsKnown t → IsKnown u → IsLater t u → key_cmp (txn_key t) (txn_key u) ≡ Less
+later_below : (t u : Txn) → IsFoundByBits t → IsFoundByBits u → IsLater t u → key_cmp (txn_key t) (txn_key u) ≡ Less
 later_below t u p q later = by (key_cmp (txn_key t) (txn_key u)) refl
   where
     by : (r : Ordering) → key_cmp (txn_key t) (txn_key u) ≡ r → key_cmp (txn_key t) (txn_key u) ≡ Less
@@ -106,15 +107,15 @@ later_below t u p q later = by (key_cmp (txn_key t) (txn_key u)) refl
         let less : key_cmp (txn_key u) (txn_key t) ≡ Less = key_total.antisymm (txn_key u) (txn_key t) ∙ ap ordering_reverse is in
         absurd (true≢false (sym (less_older u t less) ∙ later.not_older))
 
-below_all : (t : Txn) (us : List Txn) → IsKnown t → Each IsKnown us → Each (IsLater t) us → Below key_cmp (txn_key t) (map txn_key us)
+below_all : (t : Txn) (us : List Txn) → IsFoundByBits t → Each IsFoundByBits us → Each (IsLater t) us → Below key_cmp (txn_key t) (map txn_key us)
 below_all t [] p qs later = tt
 below_all t (u ∷ us) p qs later = (later_below t u p qs.0 later.0, below_all t us p qs.1 later.1)
 
-keys_ascend : (ts : List Txn) → Each IsKnown ts → Ascends ts → Ascending key_cmp (map txn_key ts)
+keys_ascend : (ts : List Txn) → Each IsFoundByBits ts → Ascends ts → Ascending key_cmp (map txn_key ts)
 keys_ascend [] known up = tt
 keys_ascend (t ∷ ts) known up = (below_all t ts known.0 known.1 up.0, keys_ascend ts known.1 up.1)
 
-any_same : (t : Txn) (ts : List Txn) → IsKnown t → Each IsKnown ts → among key_cmp (txn_key t) (map txn_key ts) ≡ list_any (same_txn t) ts
+any_same : (t : Txn) (ts : List Txn) → IsFoundByBits t → Each IsFoundByBits ts → among key_cmp (txn_key t) (map txn_key ts) ≡ list_any (same_txn t) ts
 any_same t [] p qs = refl
 any_same t (u ∷ us) p qs = let first = same_key t u p qs.0 in let rest = any_same t us p qs.1 in λ i. first i || rest i
 
@@ -183,7 +184,7 @@ noted_none : (t : Txn) (l : List Record) → seen_of t l ≡ unseen → noted l 
 noted_none t l none = ap (λ (s : Seen). seen_notes t s (open_ops t l)) none
 
 module _ (site : ℕ) (life : Life) (txns : List (PlaceKey × Claims)) (cards : List (TxnKey × Card))
-    (claims_stand : (k : PlaceKey) → claims_at txns k ≡ claims_of (is_of k) site life) (cards_stand : (t : Txn) → IsKnown t → card_at cards t ≡ card_of site t life) where
+    (claims_stand : (k : PlaceKey) → claims_at txns k ≡ claims_of (is_of k) site life) (cards_stand : (t : Txn) → IsFoundByBits t → card_at cards t ≡ card_of site t life) where
   abbrev given : TxnKey → List Record
   given k = noted life.log (txn_of k)
 
@@ -203,7 +204,7 @@ module _ (site : ℕ) (life : Life) (txns : List (PlaceKey × Claims)) (cards : 
   each_card (e ∷ es) fits found = (card_told e.0 e.1 fits.0 found.0, each_card es fits.1 found.1)
 
   -- a transaction of the log that has no card has no notes
-  not_kept : (ts : List Txn) → Each IsKnown ts → Covers key_cmp given (keys_of cards) (map txn_key ts)
+  not_kept : (ts : List Txn) → Each IsFoundByBits ts → Covers key_cmp given (keys_of cards) (map txn_key ts)
   not_kept [] known = tt
   not_kept (t ∷ ts) known = (none, not_kept ts known.1)
     where
@@ -214,7 +215,7 @@ module _ (site : ℕ) (life : Life) (txns : List (PlaceKey × Claims)) (cards : 
           ap (noted life.log) (txn_back t known.0) ∙ noted_none t life.log seen
 
   -- nor has one of a card that the log has not
-  not_logged : (es : List (TxnKey × Card)) → Each IsKnown (txns_of life.log) → Each (λ e. KeyFits e.0) es → Covers key_cmp given (map txn_key (txns_of life.log)) (keys_of es)
+  not_logged : (es : List (TxnKey × Card)) → Each IsFoundByBits (txns_of life.log) → Each (λ e. KeyFits e.0) es → Covers key_cmp given (map txn_key (txns_of life.log)) (keys_of es)
   not_logged [] known fits = tt
   not_logged (e ∷ es) known fits = (none, not_logged es known fits.1)
     where
@@ -227,11 +228,11 @@ module _ (site : ℕ) (life : Life) (txns : List (PlaceKey × Claims)) (cards : 
           sym (any_same t (txns_of life.log) (key_known e.0 fits.0) known) ∙ ap (λ (x : TxnKey). among key_cmp x (map txn_key (txns_of life.log))) (key_back e.0 fits.0) ∙ off in
           noted_none t life.log (seen_none t life.log (none_of t life.log (off_fold t [] (flat_map txn_of_record life.log) any).0))
 
-  each_txn : (ts : List Txn) → Each IsKnown ts → flat_map given (map txn_key ts) ≡ flat_map (noted life.log) ts
+  each_txn : (ts : List Txn) → Each IsFoundByBits ts → flat_map given (map txn_key ts) ≡ flat_map (noted life.log) ts
   each_txn [] known = refl
   each_txn (t ∷ ts) known = let first = txn_back t known.0 in let rest = each_txn ts known.1 in λ i. noted life.log (first i) ++ rest i
 
-  pub cards_told : Each IsKnown (txns_of life.log) → IsStrictlySortedBy key_cmp (keys_of cards) → Each (λ e. KeyFits e.0) cards → Each (λ e. lookup (is_at (key_cmp e.0)) cards ≡ Some e.1) cards
+  pub cards_told : Each IsFoundByBits (txns_of life.log) → IsStrictlySortedBy key_cmp (keys_of cards) → Each (λ e. KeyFits e.0) cards → Each (λ e. lookup (is_at (key_cmp e.0)) cards ≡ Some e.1) cards
       → flat_map (card_notes txns) cards ≡ flat_map (noted life.log) (txns_of life.log)
   cards_told known sorted fits found =
       let ts = txns_of life.log in

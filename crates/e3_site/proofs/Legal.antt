@@ -22,7 +22,7 @@ use Rattle.e3_law_agreement.proofs.Refinement.Following.{moves_here, moves_there
 use Rattle.e3_law_serial.proofs.Site.Sites.{AllKeep, SiteKeeps, all_keep, move_keeps}
 use Rattle.e3_law_serial.proofs.Told.Whole.{all_stand}
 use Rattle.e3_law_steps.specs.Trails.{TrailsAreSound}
-use Rattle.e3_cards.specs.Tables.{IsKnown}
+use Rattle.e3_world.specs.Transactions.{IsFoundByBits}
 use Rattle.e3_site.specs.Tables.{IsInOrder}
 use Rattle.e3_site.proofs.Fronts.{rest_weights}
 use Rattle.e3_law_brief.proofs.Sets.{txns_known}
@@ -113,5 +113,5 @@ in_order sounds logs sc h site given legal =
       weights_are = has.weights_are;
       inc_is = subst (λ (ms : List Move). (life_at ms).inc ≡ logged_inc (log_by ms)) same ((all_stand sc trail sound).stories site).clock ∙ ap logged_inc back;
       begun = has.begun;
-      known = subst (λ (l : List Record). Each IsKnown (txns_of l)) back (txns_known sc h site given legal);
+      known = subst (λ (l : List Record). Each IsFoundByBits (txns_of l)) back (txns_known sc h site given legal);
     }

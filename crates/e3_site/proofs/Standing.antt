@@ -4,7 +4,7 @@ use Rattle.std.proofs.lemmas.List.Sums.{fold-append}
 use Rattle.e3_readings.specs.Opens.{open_in}
 use Rattle.e3_past.proofs.RecordsFollow.{step_follows}
 use Rattle.e3_past.specs.Standing.{TablesStand}
-use Rattle.e3_past.specs.Stepping.{ActAlike, IsBehind}
+use Rattle.e3_past.specs.Stepping.{ActAlike, IsMadeOf}
 use Rattle.e3_past.specs.declared.tables.Behind.{Behind}
 use Rattle.e3_past.specs.declared.tables.Tables.{Tables}
 use Rattle.e3_places.specs.Standing.{follow}
@@ -82,16 +82,16 @@ stands_still old new same still = λ sc h site stands. record {
 pub own_still : (old new : SiteView) (plan : PlanView) (behind : Behind) → behind ≡ plan.behind → ActAlike old.tables new.tables behind
     → (now : Incarnation) → Stands now old → IsPlanOf plan old → IsPlanOf plan new
 own_still old new plan behind is alike now stands own =
-    let P : Behind → Type 0 = λ b. IsBehind old.tables plan.step b in
-    let Q : Behind → Type 0 = λ b. IsBehind new.tables plan.step b in
+    let P : Behind → Type 0 = λ b. IsMadeOf old.tables plan.step b in
+    let Q : Behind → Type 0 = λ b. IsMadeOf new.tables plan.step b in
     subst Q is (alike.are old.site (life_of now) plan.step stands (subst P (sym is) own))
 
 -- what is done is the plan's
 pub own_parts : (s : SiteView) (plan : PlanView) (step : SiteStep) (behind : Behind) → step ≡ plan.step → behind ≡ plan.behind → IsPlanOf plan s
-    → IsBehind s.tables step behind
+    → IsMadeOf s.tables step behind
 own_parts s plan step behind steps is own =
-    let P : SiteStep → Type 0 = λ m. IsBehind s.tables m behind in
-    let Q : Behind → Type 0 = λ b. IsBehind s.tables plan.step b in
+    let P : SiteStep → Type 0 = λ m. IsMadeOf s.tables m behind in
+    let Q : Behind → Type 0 = λ b. IsMadeOf s.tables plan.step b in
     subst P (sym steps) (subst Q (sym is) own)
 
 -- behind the entry of a step the site's incarnation has that step

@@ -3,7 +3,7 @@ use Rattle.std.specs.Prelude.{◌++◌, ◌∷◌, [], if◌then◌else◌, ℕ,
 use Rattle.e3_past.specs.declared.tables.Behind.{Behind}
 use Rattle.e3_past.specs.declared.tables.Tables.{Tables}
 use Rattle.e3_past.specs.Standing.{TablesStand}
-use Rattle.e3_past.specs.Stepping.{HasRoom, IsBehind}
+use Rattle.e3_past.specs.Stepping.{HasRoom, IsMadeOf}
 use Rattle.e3_types.specs.declared.entries.Act.TheVariants.{Step}
 use Rattle.e3_types.specs.declared.entries.Entry.{Entry}
 use Rattle.e3_types.specs.declared.entries.Input.{Input}
@@ -49,7 +49,7 @@ pub record PlanView : Type 0 where
 
 -- what the plan makes of tables is what its step makes of the value's
 abbrev pub IsPlanOf : PlanView → SiteView → Type 0
-IsPlanOf plan s = IsBehind s.tables plan.step plan.behind
+IsPlanOf plan s = IsMadeOf s.tables plan.step plan.behind
 
 -- the value's tables have room for what the plan makes of them
 abbrev pub HasRoomFor : PlanView → SiteView → Type 0

@@ -8,7 +8,7 @@ use Rattle.e3_types.specs.declared.scenarios.Scenario.{Scenario}
 use Rattle.e3_world.specs.declared.lives.Incarnation.{Incarnation}
 use Rattle.e3_world.specs.Lives.{incarnation_of}
 use Rattle.e3_world.specs.Moves.{moves_of}
-use Rattle.e3_law_brief.specs.Incarnations.{IsKnown}
+use Rattle.e3_world.specs.Transactions.{IsFoundByBits}
 use Rattle.e3_law_brief.specs.Alike.{ReadAlike}
 use Rattle.e3_world.specs.Brief.{txns_of}
 use Rattle.e3_world.specs.Orderly.{IsOrderly}
@@ -29,4 +29,4 @@ pub record StandsAlike (sc : Scenario) (history : List Entry) (site : ℕ) (rose
 -- the log is orderly, and the sites of each transaction that it has are a set
 pub record IsLogInOrder (site : ℕ) (log : List Record) : Type 0 where
   pub orderly : IsOrderly site log
-  pub known : Each IsKnown (txns_of log)
+  pub known : Each IsFoundByBits (txns_of log)

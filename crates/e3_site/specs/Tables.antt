@@ -18,7 +18,7 @@ use Rattle.e3_world.specs.Brief.{vote_in, attempt_in, join_in, decision_in, txns
 use Rattle.e3_cards.specs.declared.card.Card.{Card}
 use Rattle.e3_cards.specs.declared.keys.TxnKey.{TxnKey}
 use Rattle.e3_cards.specs.declared.seen.Seen.{Seen}
-use Rattle.e3_cards.specs.Tables.{IsKnown}
+use Rattle.e3_world.specs.Transactions.{IsFoundByBits}
 use Rattle.e3_places.specs.declared.keys.TxnId.{TxnId as PlaceKey}
 use Rattle.e3_places.specs.declared.places.Claims.{Claims}
 use Rattle.e3_places.specs.declared.places.Place.{Place}
@@ -79,4 +79,4 @@ pub record IsInOrder (weights : List ℕ) (site : ℕ) (life : Life) : Type 0 wh
   pub weights_are : life.log ≢ [] → weights_in life.log ≡ weights
   pub inc_is : life.inc ≡ logged_inc life.log
   pub begun : logged_inc life.log ≡ 0 → life.log ≡ []
-  pub known : Each IsKnown (txns_of life.log)
+  pub known : Each IsFoundByBits (txns_of life.log)

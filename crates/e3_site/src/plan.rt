@@ -1,6 +1,6 @@
 // A step that a site has planned and not done.
 ghost use Rattle.std.specs.Prelude.{◌≡◌, ◌<◌, ◌^◌, IfOk, length, map};
-ghost use Rattle.e3_past.specs.Stepping.{IsBehind};
+ghost use Rattle.e3_past.specs.Stepping.{IsMadeOf};
 ghost use Rattle.e3_site.specs.SiteView.{entry_of_plan, step_kept};
 ghost use Rattle.e3_world.specs.Moves.{unnumbered};
 
@@ -78,7 +78,7 @@ impl Plan {
         made: Made,
     ) -> Result<Plan, NoMemory>
         ensures kept { IfOk result (λ plan. plan.step ≡ step_kept input.now made) }
-        ensures own { IfOk result (λ plan. IsBehind tables.now plan.step plan.behind) }
+        ensures own { IfOk result (λ plan. IsMadeOf tables.now plan.step plan.behind) }
         ensures few { IfOk result (λ plan. length plan.step.outs < 2 ^ 32) }
     {
         let step = kept(alloc, input, made)?;

@@ -90,8 +90,8 @@ keeps_then a b c first none second = record {
     by (inl same) = inl (same ∙ none)
     by (inr stopped) = inr (stopped.0 ∙ ap (λ (n : ℕ). raised n 1) none, (let some : 0 < b.calls_left = stopped.1 in omega (arith, some, before)), stopped.2)
 
-pub rose_since : (a b c : ℕ) → a ≤ b → HasFailed b c → HasFailed a c
-rose_since a b c below rose =
+pub failed_since : (a b c : ℕ) → a ≤ b → HasFailed b c → HasFailed a c
+failed_since a b c below rose =
     let low : min (a + 1) LAST ≤ a + 1 = min-le_left (a + 1) LAST in
     let last : min (a + 1) LAST ≤ LAST = min-le_right (a + 1) LAST in
     let both : min (a + 1) LAST ≤ min (b + 1) LAST = le-min (omega (arith, low, below)) last in
@@ -210,7 +210,7 @@ module _ {D : Type 0} (meters : D → Meters) (l records : List Record) where
         × (need ≡ start (meters mid.disk).capacity (other mid.region) + 11 + length short.body) × (room ≡ limit (meters mid.disk).capacity (other mid.region))) →
         IfErr r (λ why. IsReason why l records (meters old.disk) (meters new.disk))
     reason_turn (Ok done) same keeps fault full = tt
-    reason_turn (Err Fault) same keeps fault full = rose_since (meters old.disk).faults (meters mid.disk).faults (meters new.disk).faults keeps.faults (fault refl)
+    reason_turn (Err Fault) same keeps fault full = failed_since (meters old.disk).faults (meters mid.disk).faults (meters new.disk).faults keeps.faults (fault refl)
     reason_turn (Err (Full need room)) same keeps fault full =
         let it = full need room refl in
         let cap : ℕ = (meters mid.disk).capacity in
@@ -241,7 +241,7 @@ module _ {D : Type 0} (meters : D → Meters) (l records : List Record) where
         IfErr r (λ why. IsReason why l records (meters old.disk) (meters new.disk))
     reason_behind (Ok done) body is turned place fits keeps fault full = tt
     reason_behind (Err Fault) body is turned place fits keeps fault full =
-        rose_since (meters old.disk).faults (meters mid.disk).faults (meters new.disk).faults keeps.faults (fault refl)
+        failed_since (meters old.disk).faults (meters mid.disk).faults (meters new.disk).faults keeps.faults (fault refl)
     reason_behind (Err (Full need room)) body is turned place fits keeps fault full =
         let it = full need room refl in
         let cap : ℕ = (meters old.disk).capacity in

@@ -83,14 +83,18 @@ abbrev pub HasRoomUnlessShort : {D : Type 0} → (D → Meters) → LogState D �
 HasRoomUnlessShort meters on_disk log None size = HasRoom meters on_disk size ⊎ (log ≡ [])
 HasRoomUnlessShort meters on_disk log (Some short) size = Unit {0}
 
--- The frame of these records is behind the frames before it: the log was not turned.
-abbrev pub IsBehind : {D : Type 0} → LogState D → List Record → LogState D → Type 0
-IsBehind old records new = (new.region ≡ old.region) × (new.end ≡ old.end + length (frames (body_of records)))
+-- The frame of these records is behind the frames before it: the log was not turned, and the other region is as it was.
+pub record IsBehind {D : Type 0} (old : LogState D) (records : List Record) (new : LogState D) : Type 0 where
+  pub region : new.region ≡ old.region
+  pub generation : new.generation ≡ old.generation
+  pub spare : new.spare_open ≡ old.spare_open
+  pub end : new.end ≡ old.end + length (frames (body_of records))
 
--- It is behind a short log, in the other region: the log was turned to that.
-abbrev pub IsTurned : {D : Type 0} → (D → Meters) → LogState D → List ℕ → List Record → LogState D → Type 0
-IsTurned meters old short records new = (new.region ≡ other old.region)
-    × (new.end ≡ start (meters old.disk).capacity (other old.region) + 10 + length short + length (frames (body_of records)))
+-- It is behind a short log, in the other region: the log was turned to that, once.
+pub record IsTurned {D : Type 0} (meters : D → Meters) (old : LogState D) (short : List ℕ) (records : List Record) (new : LogState D) : Type 0 where
+  pub region : new.region ≡ other old.region
+  pub generation : new.generation ≡ old.generation + 1
+  pub end : new.end ≡ start (meters old.disk).capacity (other old.region) + 10 + length short + length (frames (body_of records))
 
 -- It is where a write puts it: behind the frames before it, or behind the short log that was given.
 abbrev pub IsPut : {D : Type 0} → (D → Meters) → LogState D → Option Short → List Record → LogState D → Type 0

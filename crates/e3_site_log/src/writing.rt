@@ -110,6 +110,7 @@ fn turn_to<D: Disk>(log: &mut Log<D>, logged: &mut u64, short: &Short) -> Result
         ≤ limit (D.meaning.meters log.old.disk).capacity (other log.old.region)) }
     ensures log { OnOk result ((log.new.region ≡ other log.old.region)
         × (log.new.end ≡ start (D.meaning.meters log.old.disk).capacity (other log.old.region) + 10 + length short.now.body)) }
+    ensures counts { OnOk result (log.new.generation ≡ log.old.generation + 1) }
     ensures keeps { Keeps (D.meaning.meters log.old.disk) (D.meaning.meters log.new.disk) }
     ensures stops { OnOk result ((D.meaning.meters log.new.disk).stops ≡ (D.meaning.meters log.old.disk).stops) }
     ensures takes { OnOk result (Takes 4 (D.meaning.meters log.old.disk) (D.meaning.meters log.new.disk)) }

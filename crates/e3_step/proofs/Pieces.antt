@@ -1,4 +1,4 @@
--- Facts over plain variables that proofs of the step's parts join.
+-- Facts over variables that proofs of the step's parts join.
 use Rattle.std.specs.Prelude.{◌≡◌, ◌||◌, ◌++◌, ◌∷◌, [], if◌then◌else◌, ℕ, List, length, false}
 use Rattle.std.proofs.Common.{◌∙◌, ap, refl}
 use Rattle.std.proofs.lemmas.List.Folds.{list_any-append}

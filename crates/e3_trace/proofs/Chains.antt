@@ -1,7 +1,8 @@
 -- Fields with spaces between them are read one behind the other.
 use Rattle.std.proofs.Common.{◌≡◌, ℕ, true, List, ◌∷◌, ◌++◌, Some, ap, sym, ◌∙◌, append_assoc}
 use Rattle.std.specs.Prelude.{codes}
-use Rattle.e3_trace.specs.Cuts.{space, Form, pair_of}
+use Rattle.e3_trace.specs.Cuts.{Form, pair_of}
+use Rattle.e3_lines.specs.Marks.{space}
 use Rattle.e3_trace.specs.Tellable.{lacks}
 use Rattle.e3_trace.proofs.Cutting.{pair_again, lacks_join}
 use Rattle.e3_trace.proofs.Words.{joined}

@@ -14,7 +14,8 @@ use Rattle.e3_lines.specs.Inputs.{input_text}
 use Rattle.e3_lines.specs.Entries.{parts_form, step_form, fall_form, rise_form, failed_rise_form, form_text}
 use Rattle.e3_trace.specs.declared.drafts.Draft.{Draft}
 use Rattle.e3_trace.specs.declared.drafts.Head.TheVariants as head
-use Rattle.e3_trace.specs.Cuts.{space, Form, made_of, pair_of, behind}
+use Rattle.e3_trace.specs.Cuts.{Form, made_of, pair_of, behind}
+use Rattle.e3_lines.specs.Marks.{space}
 use Rattle.e3_trace.specs.Drafts.{draft_of}
 use Rattle.e3_trace.specs.Entries.{full_from, full_and, why_and, why_of, kept_of, rise_of, kept_why_of, failed_rise_of, fall_of, whole_of, act_by, draft_by, form_of}
 use Rattle.e3_trace.specs.Events.{of_of}
@@ -25,7 +26,7 @@ use Rattle.e3_trace.proofs.Cutting.{cut_join, cut_whole, pair_again}
 use Rattle.e3_trace.proofs.Lists.{parts_again, parts_lack}
 use Rattle.e3_trace.proofs.Numbers.{short_again, long_again, number_lacks}
 use Rattle.e3_trace.proofs.OneLine.{InLine, also, and_text, short_in, long_in, why_in, kept_in, input_in}
-use Rattle.e3_trace.proofs.Said.{made, of_again, input_again}
+use Rattle.e3_trace.proofs.Sentences.{made, of_again, input_again}
 use Rattle.e3_trace.proofs.Words.{widen, joined}
 
 -- a number does not go on behind a space
@@ -98,28 +99,28 @@ kept_by : (text : List ℕ) (why : Why) → why_of text ≡ None → why_and kep
 unfolding kept_why_of
 kept_by text why none some = rw (none, some) refl
 
-plain_by : (text : List ℕ) (why : Why) → why_of text ≡ Some why → kept_why_of text ≡ Some (false, why)
+why_spelled : (text : List ℕ) (why : Why) → why_of text ≡ Some why → kept_why_of text ≡ Some (false, why)
 unfolding kept_why_of
-plain_by text why some = rw some refl
+why_spelled text why some = rw some refl
 
 kept_why_again : (why : Why) (kept : Bool) → IsWhy why → kept_why_of (why_text why ++ kept_text kept) ≡ Some (kept, why)
 unfolding kept_text
 kept_why_again why true is = kept_by (why_text why ++ codes " kept") why (why_ends why is) (and_again kept_of why (codes "kept") true is refl)
-kept_why_again why false is = ap kept_why_of (append-nil (why_text why)) ∙ plain_by (why_text why) why (why_again why is)
+kept_why_again why false is = ap kept_why_of (append-nil (why_text why)) ∙ why_spelled (why_text why) why (why_again why is)
 
 -- rises
 rise_kept : (inc : ℕ) → IsShort inc → rise_of (decimal inc ++ codes " kept") ≡ Some (act.Rise true inc)
 unfolding rise_of
 rise_kept inc h = rw (cut_join space (decimal inc) (codes "kept") (number_lacks space inc refl (widen inc h)), short_again inc h) refl
 
-rise_plain : (inc : ℕ) → IsShort inc → rise_of (decimal inc) ≡ Some (act.Rise false inc)
+rise_spelled : (inc : ℕ) → IsShort inc → rise_of (decimal inc) ≡ Some (act.Rise false inc)
 unfolding rise_of
-rise_plain inc h = rw (cut_whole space (decimal inc) (number_lacks space inc refl (widen inc h)), short_again inc h) refl
+rise_spelled inc h = rw (cut_whole space (decimal inc) (number_lacks space inc refl (widen inc h)), short_again inc h) refl
 
 rise_again : (inc : ℕ) (kept : Bool) → IsShort inc → rise_of (decimal inc ++ kept_text kept) ≡ Some (act.Rise kept inc)
 unfolding kept_text
 rise_again inc true h = rise_kept inc h
-rise_again inc false h = ap rise_of (append-nil (decimal inc)) ∙ rise_plain inc h
+rise_again inc false h = ap rise_of (append-nil (decimal inc)) ∙ rise_spelled inc h
 
 failed_again : (inc : ℕ) (why : Why) (kept : Bool) → IsShort inc → IsWhy why → failed_rise_of (((decimal inc ++ codes " ") ++ why_text why) ++ kept_text kept) ≡ Some (act.RiseFall kept inc why)
 unfolding failed_rise_of

@@ -2,7 +2,8 @@
 use Rattle.std.proofs.Common.{◌≡◌, ◌==◌, ◌+◌, ◌-◌, ◌≤◌, ℕ, Bool, true, false, List, [], ◌∷◌, ◌++◌, length, take, Option, Some, None, refl, ap, sym, ◌∙◌, subst, arith, append_assoc, length-append, eqb-true, if◌then◌else◌}
 use Rattle.std.specs.Prelude.{bytes_eq, codes}
 use Rattle.std.proofs.lemmas.Option.{same_Some}
-use Rattle.e3_trace.specs.Cuts.{feed, cut, in_front, pieces}
+use Rattle.e3_trace.specs.Cuts.{cut}
+use Rattle.e3_lines.specs.Marks.{feed, in_front, pieces}
 use Rattle.e3_trace.specs.Trace.{behind_mark, front_of}
 use Rattle.e3_trace.proofs.Going.{same_bytes}
 use Rattle.e3_trace.proofs.Places.{pieces_by, pieces_cut}

@@ -9,7 +9,7 @@ use Rattle.e3_lines.specs.Texts.{line_end}
 use Rattle.e3_trace.specs.declared.drafts.Draft.{Draft}
 use Rattle.e3_trace.specs.declared.faults.TraceFault.{TraceFault}
 use Rattle.e3_trace.specs.declared.faults.TraceFault.TheVariants as fault
-use Rattle.e3_trace.specs.Cuts.{space, feed, in_front, pieces}
+use Rattle.e3_lines.specs.Marks.{space, feed, in_front, pieces}
 use Rattle.e3_trace.specs.Fields.{Known}
 use Rattle.e3_trace.specs.Trace.{Reading, next_line, line_by, is_over, one_on, ended, lines_read}
 use Rattle.e3_trace.specs.Tellable.{lacks}

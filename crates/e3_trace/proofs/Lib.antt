@@ -8,7 +8,7 @@ pub mod Numbers
 pub mod Words
 pub mod Lists
 pub mod Chains
-pub mod Said
+pub mod Sentences
 pub mod OneLine
 pub mod Going
 pub mod Firsts

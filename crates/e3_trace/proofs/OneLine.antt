@@ -25,13 +25,13 @@ use Rattle.e3_lines.specs.Texts.{sites_text, txn_text, key_text, dir_text, state
 use Rattle.e3_lines.specs.Events.{answer_text, ended_text, doom_text, refusal_text, block_text, verdict_text, op_text, election_text, began_text, died_text, refused_text, kept_state_text, told_of as told_words, of_txn, told_text, why_text}
 use Rattle.e3_lines.specs.Inputs.{operation_text, begin_input, do_input, elect_input, input_text}
 use Rattle.e3_lines.specs.Messages.{txn_and_number, txn_and_call, txn_and_attempt, do_message, done_message, died_message, last_message, report_message, votereq_message, yes_text, vote_message, decide_message, message_text}
-use Rattle.e3_trace.specs.Cuts.{feed}
+use Rattle.e3_lines.specs.Marks.{feed}
 use Rattle.e3_trace.specs.Fields.{Known}
 use Rattle.e3_trace.specs.Tellable.{IsShort, IsLong, lacks, IsKey, HasNumbers, IsOp, IsAnswer, InputTells, MessageTells, RefusalTells, IsVerdict, EventTells, IsWhy}
 use Rattle.e3_trace.proofs.Cutting.{lacks_join}
 use Rattle.e3_trace.proofs.Lists.{sites_lack}
 use Rattle.e3_trace.proofs.Numbers.{number_lacks}
-use Rattle.e3_trace.proofs.Said.{has_numbers}
+use Rattle.e3_trace.proofs.Sentences.{has_numbers}
 use Rattle.e3_trace.proofs.Words.{widen, txn_lacks, key_lacks, dir_lacks, state_lacks}
 
 -- the text is within a line

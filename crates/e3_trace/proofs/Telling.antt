@@ -17,7 +17,7 @@ use Rattle.e3_lines.specs.Entries.{input_line, marked_record, packet_line as pac
 use Rattle.e3_trace.specs.declared.drafts.Draft.{Draft}
 use Rattle.e3_trace.specs.declared.drafts.Head.TheVariants as head
 use Rattle.e3_trace.specs.declared.faults.TraceFault.TheVariants as fault
-use Rattle.e3_trace.specs.Cuts.{space, feed, pieces}
+use Rattle.e3_lines.specs.Marks.{space, feed, pieces}
 use Rattle.e3_trace.specs.Drafts.{ops_due, is_complete, act_of, entry_from, draft_of}
 use Rattle.e3_trace.specs.Entries.{whole_of}
 use Rattle.e3_trace.specs.Fields.{Known, is_digit}

@@ -1,42 +1,13 @@
 -- A text, cut at the bytes of one kind; and what reads a whole text.
 use Rattle.std.specs.Prelude.{ℕ, ◌==◌, ◌≡◌, Bool, List, [], ◌∷◌, bytes_eq, Option, Some, None, option_map, option_and_then, is_some, if◌then◌else◌, Result, Ok, Err}
+use Rattle.e3_lines.specs.Marks.{space}
 use Rattle.e3_trace.specs.declared.faults.Fault.{Fault}
 use Rattle.e3_trace.specs.declared.faults.Fault.TheVariants.{Bad, NoMemory}
-
--- the byte between two words
-abbrev pub space : ℕ
-space = 32
-
--- the byte between the parts of a transaction's name, and before the name of a key
-abbrev pub point : ℕ
-point = 46
-
--- the byte between two numbers of a list
-abbrev pub comma : ℕ
-comma = 44
-
--- the byte between two parts of the network
-abbrev pub bar : ℕ
-bar = 124
-
--- the byte that ends a line
-abbrev pub feed : ℕ
-feed = 10
 
 -- a text in two at the first byte of this kind: what stands before it, and what stands behind it; none without one
 abbrev pub cut : ℕ → List ℕ → Option (List ℕ × List ℕ)
 cut mark [] = None
 cut mark (b ∷ text) = if b == mark then Some ([], text) else option_map (λ p. (b ∷ p.0, p.1)) (cut mark text)
-
--- the pieces with one byte more in front of the first
-abbrev pub in_front : ℕ → List (List ℕ) → List (List ℕ)
-in_front b [] = (b ∷ []) ∷ []
-in_front b (piece ∷ more) = (b ∷ piece) ∷ more
-
--- the pieces of a text between the bytes of this kind; a text without one is a piece itself
-abbrev pub pieces : ℕ → List ℕ → List (List ℕ)
-pieces mark [] = [] ∷ []
-pieces mark (b ∷ text) = if b == mark then [] ∷ pieces mark text else in_front b (pieces mark text)
 
 -- what reads a whole text: the value that it spells, where it spells one
 abbrev pub Form : Type 0 → Type 0

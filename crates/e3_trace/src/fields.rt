@@ -1,6 +1,7 @@
 // The fields of a trace's lines. Only lists take memory.
 ghost use Rattle.std.specs.Prelude.{◌≡◌, ◌≤◌, ℕ, [], List as Items, Option, IfErr, IfSome};
-ghost use Rattle.e3_trace.specs.Cuts.{space, pair_of, pieces, Gives};
+ghost use Rattle.e3_trace.specs.Cuts.{pair_of, Gives};
+ghost use Rattle.e3_lines.specs.Marks.{space, pieces};
 ghost use Rattle.e3_trace.specs.Fields.{number_of, u32_of, u64_of, name_of, value_of, list_from, numbers_of, sites_of, parts_of, key_of, dir_of, state_of, op_of, answer_of, txn_name_of, txn_from};
 
 use crate::cuts::{BAR, COMMA, POINT, SPACE, behind, cut};

@@ -1,5 +1,6 @@
 // The inputs of sites, read behind what earlier lines tell.
-ghost use Rattle.e3_trace.specs.Cuts.{space, made_of, pair_of, Gives};
+ghost use Rattle.e3_trace.specs.Cuts.{made_of, pair_of, Gives};
+ghost use Rattle.e3_lines.specs.Marks.{space};
 ghost use Rattle.e3_trace.specs.Fields.{sites_of, txn_of};
 ghost use Rattle.e3_trace.specs.Inputs.{elect_from, input_by, input_of};
 ghost use Rattle.e3_trace.specs.Past.{knowing};

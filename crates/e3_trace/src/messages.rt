@@ -1,5 +1,6 @@
 // The messages of sites, read behind what earlier lines tell. Reading one takes no memory of its own.
-ghost use Rattle.e3_trace.specs.Cuts.{space, pair_of, Gives};
+ghost use Rattle.e3_trace.specs.Cuts.{pair_of, Gives};
+ghost use Rattle.e3_lines.specs.Marks.{space};
 ghost use Rattle.e3_trace.specs.Fields.{u32_of, txn_of};
 ghost use Rattle.e3_trace.specs.Messages.{yes_of, died_of, vote_of, deciding_by, message_by, message_of};
 

@@ -1,6 +1,6 @@
 // From the bytes of a trace to its history.
 ghost use Rattle.std.specs.Prelude.{◌≡◌, ◌⊎◌, ◌≤◌, length, Ok, Err, IfOk, IfErr, IfSome, MatchOption, None, Some};
-ghost use Rattle.e3_trace.specs.Cuts.{feed, pieces};
+ghost use Rattle.e3_lines.specs.Marks.{feed, pieces};
 ghost use Rattle.e3_trace.specs.Trace.{nothing_read, ended, lines_read, behind_mark, front_of, next_line, history_of, Spells, GoesOn};
 
 use crate::cuts::{FEED, cut};

@@ -1,2 +1,2 @@
 mod Judging
-mod Opening
+mod Unfolding

@@ -42,14 +42,14 @@ from_left sc all before (e ∷ rest) p has =
 pub pending_sent : (sc : Scenario) (h : List Entry) (p : Packet) → Contains (pending sc h) p → Contains (sent h) p
 pending_sent sc h p has = from_left sc h [] h p has
 
-plain_in : (xs : List Packet) (x : Packet) → Contains xs x → Contains (map unnumbered xs) (unnumbered x)
-plain_in [] x has = no_element x has
-plain_in (y ∷ ys) x has = elim (Contains-append_cases (y ∷ []) ys x has) [
+unnumbered_in : (xs : List Packet) (x : Packet) → Contains xs x → Contains (map unnumbered xs) (unnumbered x)
+unnumbered_in [] x has = no_element x has
+unnumbered_in (y ∷ ys) x has = elim (Contains-append_cases (y ∷ []) ys x has) [
   | inl first ↦ (let P : Packet → Type 0 = λ z. Contains (map unnumbered (y ∷ ys)) (unnumbered z) in subst P (only_one y x first) (0, omega arith, refl))
-  | inr more ↦ Contains-append_right (unnumbered y ∷ []) (map unnumbered ys) (unnumbered x) (plain_in ys x more)
+  | inr more ↦ Contains-append_right (unnumbered y ∷ []) (map unnumbered ys) (unnumbered x) (unnumbered_in ys x more)
 ]
 
 pub due_was_sent : (sc : Scenario) (h : List Entry) (site : ℕ) (p : Packet) → IsDelivery sc h site p → WasSent (trail_of sc h) (unnumbered_input (input.Deliver p))
 due_was_sent sc h site p due =
     let P : List Packet → Type 0 = λ l. Contains l (unnumbered p) in
-    subst P (sym (trail_sends sc h)) (plain_in (sent h) p (pending_sent sc h p due.is_pending))
+    subst P (sym (trail_sends sc h)) (unnumbered_in (sent h) p (pending_sent sc h p due.is_pending))

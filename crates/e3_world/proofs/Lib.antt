@@ -1,7 +1,7 @@
 pub mod Pushes
 pub mod Trails
 pub mod Numbers
-pub mod Rising
+pub mod UpIsRisen
 pub mod Sending
 pub mod InTrail
 pub mod Readings
@@ -10,3 +10,4 @@ pub mod Guards
 pub mod Lines
 pub mod Rises
 pub mod AllSites
+pub mod LowSites

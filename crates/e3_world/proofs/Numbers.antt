@@ -9,22 +9,23 @@ use Rattle.e3_world.specs.Moves.{Move, Stepped, own_entries, past_of, moves_of, 
 use Rattle.e3_world.specs.Sound.{step_move}
 use Rattle.e3_world.specs.Legal.{numbered, entry_of, made_by}
 
-plain-numbered : (n : ℕ) (ps : List Packet) → map unnumbered (numbered n ps) ≡ map unnumbered ps
-plain-numbered n [] = refl
-plain-numbered n (p ∷ ps) = ap (λ rest. unnumbered p ∷ rest) (plain-numbered (suc n) ps)
+-- numbers are nothing to packets that are taken without them
+pub unnumber_numbered : (n : ℕ) (ps : List Packet) → map unnumbered (numbered n ps) ≡ map unnumbered ps
+unnumber_numbered n [] = refl
+unnumber_numbered n (p ∷ ps) = ap (λ rest. unnumbered p ∷ rest) (unnumber_numbered (suc n) ps)
 
 pub entered_move : (sc : Scenario) (h : List Entry) (site : ℕ) (i : Input) →
     moves_of_act sc site (past_of sc site (own_entries site h)) (entry_of sc h site i).act ≡ step_move sc site (moves_of sc h site) i ∷ []
 entered_move sc h site i =
     ap (λ outs. record { site = site; did = Stepped (record { input = unnumbered_input i; records = (made_by sc h site i).records; outs = outs; told = (made_by sc h site i).told }) } ∷ [])
-    (plain-numbered _ (made_by sc h site i).outs)
+    (unnumber_numbered _ (made_by sc h site i).outs)
 
 -- and so it is for the input without its packet's number
-pub step_move_plain : (sc : Scenario) (site : ℕ) (mine : List Move) (i : Input) → step_move sc site mine (unnumbered_input i) ≡ step_move sc site mine i
-step_move_plain sc site mine (input.Begin sites) = refl
-step_move_plain sc site mine (input.Do t op) = refl
-step_move_plain sc site mine (input.Commit t) = refl
-step_move_plain sc site mine (input.Cancel t) = refl
-step_move_plain sc site mine (input.Expire t) = refl
-step_move_plain sc site mine (input.Elect t group) = refl
-step_move_plain sc site mine (input.Deliver packet) = refl
+pub step_move_unnumbered : (sc : Scenario) (site : ℕ) (mine : List Move) (i : Input) → step_move sc site mine (unnumbered_input i) ≡ step_move sc site mine i
+step_move_unnumbered sc site mine (input.Begin sites) = refl
+step_move_unnumbered sc site mine (input.Do t op) = refl
+step_move_unnumbered sc site mine (input.Commit t) = refl
+step_move_unnumbered sc site mine (input.Cancel t) = refl
+step_move_unnumbered sc site mine (input.Expire t) = refl
+step_move_unnumbered sc site mine (input.Elect t group) = refl
+step_move_unnumbered sc site mine (input.Deliver packet) = refl

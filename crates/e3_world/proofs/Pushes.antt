@@ -75,11 +75,11 @@ pub life_log_at : (mine : List Move) → (life_at mine).log ≡ log_by mine
 life_log_at mine = life_log (incarnation_of mine) ∙ present_is_log mine
 
 -- the number of a packet does not matter to a step
-pub step_plain : (weights : List ℕ) (site : ℕ) (now : Incarnation) (i : Input) → step_of weights site now (unnumbered_input i) ≡ step_of weights site now i
-step_plain weights site now (input.Begin sites) = refl
-step_plain weights site now (input.Do t op) = refl
-step_plain weights site now (input.Commit t) = refl
-step_plain weights site now (input.Cancel t) = refl
-step_plain weights site now (input.Expire t) = refl
-step_plain weights site now (input.Elect t group) = refl
-step_plain weights site now (input.Deliver packet) = refl
+pub step_unnumbered : (weights : List ℕ) (site : ℕ) (now : Incarnation) (i : Input) → step_of weights site now (unnumbered_input i) ≡ step_of weights site now i
+step_unnumbered weights site now (input.Begin sites) = refl
+step_unnumbered weights site now (input.Do t op) = refl
+step_unnumbered weights site now (input.Commit t) = refl
+step_unnumbered weights site now (input.Cancel t) = refl
+step_unnumbered weights site now (input.Expire t) = refl
+step_unnumbered weights site now (input.Elect t group) = refl
+step_unnumbered weights site now (input.Deliver packet) = refl

@@ -23,9 +23,9 @@ pub record BegunName : Type 0 where
   pub name : List ℕ
   pub sites : List ℕ
 
--- what the items so far say: the begins of earlier steps and of this one, a name for each operation so far, and the
+-- what the items so far come to: the begins of earlier steps and of this one, a name for each operation so far, and the
 -- present parts
-pub record SaidSoFar : Type 0 where
+pub record ItemsSoFar : Type 0 where
   pub earlier : List BegunName
   pub fresh : List BegunName
   pub ops : List (List ℕ)
@@ -55,7 +55,7 @@ is_groupable (item.Stop site count leave) = false
 is_groupable _ = true
 
 -- an item keeps the rules over the items before it
-abbrev pub keeps_rules : Scenario → SaidSoFar → Item → Bool
+abbrev pub keeps_rules : Scenario → ItemsSoFar → Item → Bool
 keeps_rules sc k (item.Begin name site sites) =
     is_group sc sites && has_site sites site && not (is_begun (k.earlier ++ k.fresh) name [])
 keeps_rules sc k (item.Read name key) = is_begun k.earlier name (key.site ∷ []) && nat_lt (count_ops k.ops name) 64
@@ -71,19 +71,19 @@ keeps_rules sc k (item.Crash site) = exist sc (site ∷ [])
 keeps_rules sc k (item.Restart site) = exist sc (site ∷ [])
 keeps_rules sc k (item.Stop site count leave) = exist sc (site ∷ []) && nat_le 1 count
 
--- what is said with one more item, and behind a step
-abbrev pub say_item : Scenario → SaidSoFar → Item → SaidSoFar
-say_item sc k (item.Begin name site sites) = record k { fresh = k.fresh ++ record { name = name; sites = sites } ∷ [] }
-say_item sc k (item.Read name key) = record k { ops = k.ops ++ name ∷ [] }
-say_item sc k (item.Write name key val) = record k { ops = k.ops ++ name ∷ [] }
-say_item sc k (item.Split parts) = record k { parts = parts }
-say_item sc k item.Merge = record k { parts = all_sites sc ∷ [] }
-say_item sc k _ = k
+-- what the items came to with one more, and behind a step
+abbrev pub with_item : Scenario → ItemsSoFar → Item → ItemsSoFar
+with_item sc k (item.Begin name site sites) = record k { fresh = k.fresh ++ record { name = name; sites = sites } ∷ [] }
+with_item sc k (item.Read name key) = record k { ops = k.ops ++ name ∷ [] }
+with_item sc k (item.Write name key val) = record k { ops = k.ops ++ name ∷ [] }
+with_item sc k (item.Split parts) = record k { parts = parts }
+with_item sc k item.Merge = record k { parts = all_sites sc ∷ [] }
+with_item sc k _ = k
 
 -- each item of a step keeps the rules over those before it
-abbrev pub items_keep : Scenario → SaidSoFar → List Item → Bool
+abbrev pub items_keep : Scenario → ItemsSoFar → List Item → Bool
 items_keep sc k [] = true
-items_keep sc k (item ∷ items) = keeps_rules sc k item && items_keep sc (say_item sc k item) items
+items_keep sc k (item ∷ items) = keeps_rules sc k item && items_keep sc (with_item sc k item) items
 
 -- a step has an item; where it has more, all are of the group kind, and 16 at most
 abbrev pub is_step_form : List Item → Bool
@@ -92,14 +92,14 @@ is_step_form (item ∷ []) = true
 is_step_form (item ∷ more ∷ items) = list_all is_groupable (item ∷ more ∷ items) && nat_le (length items) 14
 
 -- behind a step its begins are earlier ones
-abbrev pub close_step : SaidSoFar → SaidSoFar
+abbrev pub close_step : ItemsSoFar → ItemsSoFar
 close_step k = record k { earlier = k.earlier ++ k.fresh; fresh = [] }
 
 -- each step keeps the rules over those before it
-abbrev pub steps_keep : Scenario → SaidSoFar → List (List Item) → Bool
+abbrev pub steps_keep : Scenario → ItemsSoFar → List (List Item) → Bool
 steps_keep sc k [] = true
 steps_keep sc k (items ∷ steps) =
-    is_step_form items && items_keep sc k items && steps_keep sc (close_step (fold (say_item sc) k items)) steps
+    is_step_form items && items_keep sc k items && steps_keep sc (close_step (fold (with_item sc) k items)) steps
 
 -- no two rows have one key
 abbrev pub rows_differ : List KeyRow → Bool

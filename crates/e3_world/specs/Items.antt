@@ -161,6 +161,10 @@ known_txns site life =
     flat_map txn_of_record life.log ++ map (λ a. a.txn) (arrivals site life.steps)
     ++ flat_map (λ m. flat_map began_in m.told) life.steps
 
+-- those of them that are undecided
+abbrev pub undecided_in : ℕ → Life → List Txn
+undecided_in site life = filter (λ t. is_undecided t life.log) (known_txns site life)
+
 -- the transaction among these, which ascend
 abbrev pub add_txn : List Txn → Txn → List Txn
 add_txn [] new = new ∷ []
@@ -168,10 +172,7 @@ add_txn (t ∷ ts) new = if same_txn t new then t ∷ ts else if is_older new t 
 
 -- the undecided transactions that a site knows
 abbrev pub open_at : Scenario → List Entry → ℕ → List Txn
-open_at sc history site = by (life_at (moves_of sc history site))
-  where
-    by : Life → List Txn
-    by life = filter (λ t. is_undecided t life.log) (known_txns site life)
+open_at sc history site = undecided_in site (life_at (moves_of sc history site))
 
 -- a recovery round: a transaction, the members of the group that are its sites, and the least of them
 pub record RecoveryRound : Type 0 where

@@ -25,3 +25,4 @@ pub mod Serial
 pub mod Safe
 pub mod Progress
 pub mod Gatherings
+pub mod Transactions

@@ -204,7 +204,7 @@ fn push_history(page: &mut Page, history: &History) {
 }
 
 // Adds the lines of sets, transactions and texts.
-fn push_plain(alloc: Global, page: &mut Page) {
+fn push_forms(alloc: Global, page: &mut Page) {
     push_order(page, "sets below those before:", false);
     push_order(page, "sets above those before:", true);
     push_are_sets(page);
@@ -217,7 +217,7 @@ fn push_plain(alloc: Global, page: &mut Page) {
 
 /// Adds the lines of values. The generator's published demonstration has the first word 2,707,161,783 for 42 on the stream 54.
 pub fn push_lines(alloc: Global, page: &mut Page) {
-    push_plain(alloc, page);
+    push_forms(alloc, page);
     push_lists(alloc, page);
     push_front(alloc, page, Mode::Shared);
     push_front(alloc, page, Mode::Exclusive);

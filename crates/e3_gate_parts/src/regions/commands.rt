@@ -40,7 +40,7 @@ fn leave(text: &[u8]) -> Leave {
 }
 
 // What a word says that has no bytes.
-fn plain_command(name: &[u8], first: &[u8], second: &[u8]) -> Command {
+fn bare_command(name: &[u8], first: &[u8], second: &[u8]) -> Command {
     match name {
         b"open" => Command::Open,
         b"clear" => Command::Clear,
@@ -73,6 +73,6 @@ pub fn read_command(alloc: Global, word: &[u8]) -> Result<Command, NoMemory> {
         b"turn" => Ok(Command::Turn {
             body: spelled_by(alloc, first)?,
         }),
-        _ => Ok(plain_command(name, first, second)),
+        _ => Ok(bare_command(name, first, second)),
     }
 }

@@ -103,18 +103,18 @@ delivers before all x (input.Cancel u) first fits was = tt
 delivers before all x (input.Expire u) first fits was = tt
 delivers before all x (input.Elect u group) first fits was = tt
 
-leader_plain : (x : ℕ) (i : Input) → leader_of x (unnumbered_input i) ≡ leader_of x i
-leader_plain x (input.Deliver packet) = refl
-leader_plain x (input.Begin sites) = refl
-leader_plain x (input.Do u op) = refl
-leader_plain x (input.Commit u) = refl
-leader_plain x (input.Cancel u) = refl
-leader_plain x (input.Expire u) = refl
-leader_plain x (input.Elect u group) = refl
+leader_unnumbered : (x : ℕ) (i : Input) → leader_of x (unnumbered_input i) ≡ leader_of x i
+leader_unnumbered x (input.Deliver packet) = refl
+leader_unnumbered x (input.Begin sites) = refl
+leader_unnumbered x (input.Do u op) = refl
+leader_unnumbered x (input.Commit u) = refl
+leader_unnumbered x (input.Cancel u) = refl
+leader_unnumbered x (input.Expire u) = refl
+leader_unnumbered x (input.Elect u group) = refl
 
-letters_plain : (t : Txn) (ps : List Packet) → letters_of t (map unnumbered ps) ≡ letters_of t ps
-letters_plain t [] = refl
-letters_plain t (p ∷ ps) = ap (λ z. letters_in t p ++ z) (letters_plain t ps)
+letters_unnumbered : (t : Txn) (ps : List Packet) → letters_of t (map unnumbered ps) ≡ letters_of t ps
+letters_unnumbered t [] = refl
+letters_unnumbered t (p ∷ ps) = ap (λ z. letters_in t p ++ z) (letters_unnumbered t ps)
 
 allowed_append : (g : Party) (before xs ys : List Mark) → AllowedAfter g before xs → AllowedAfter g (before ++ xs) ys → AllowedAfter g before (xs ++ ys)
 allowed_append g before [] ys a b = subst (λ z. AllowedAfter g z ys) (append-nil before) b
@@ -176,7 +176,7 @@ silent_ok sc t before all marks x mine (i ∷ inputs) reach sent outs well ok ot
     let came : Delivers before i = delivers before all x i first fit.0 fit.1 in
     let step : Stepping sc t marks x (life_at mine) i [] = stepping sc t marks x (life_at mine) i [] reach ok well fit.0 (was_heard sc t before marks x (life_at mine) i sent fit.0 came) (from_away before x i outs fit.0 came) (λ p k. absurd k) in
     let same : mark ≡ record { site = x; notes = notes_of t (leader_of x i) made.records; sends = [] } =
-    ap (λ e. let m : Mark = record { site = x; notes = notes_of t e made.records; sends = [] } in m) (leader_plain x i) in
+    ap (λ e. let m : Mark = record { site = x; notes = notes_of t e made.records; sends = [] } in m) (leader_unnumbered x i) in
     let rest = silent_ok sc t before (all ++ step_move sc x mine i ∷ []) (marks ++ mark ∷ []) x (mine ++ step_move sc x mine i ∷ []) inputs step.reach (sent_later t before marks mark sent) outs step.well
     (subst (λ z. SiteOk sc t (marks ++ mark ∷ []) x z) (sym (life_steps sc x mine i)) step.site)
     (λ y other. site_stays sc t (party_of sc.weights t) marks mark y (life_at (moves_at y before)) other (others y other)) (first_more before all x (step_move sc x mine i) first (λ p k q. none_here x made step.outs p k q)) fit.2 in
@@ -342,7 +342,7 @@ step_ok sc t before marks x i ok fits was =
     step = stepping sc t marks x (life_at mine) i (letters_of t made.outs) ok.reach (ok.sites x) ok.well fits (was_heard sc t before marks x (life_at mine) i ok.sent fits came) (from_away before x i ok.outs fits came) (λ p k. k)
 
     same : mark ≡ record { site = x; notes = notes_of t (leader_of x (unnumbered_input i)) made.records; sends = letters_of t (map unnumbered made.outs) }
-    same = ap (λ ls. let k : Mark = record { site = x; notes = notes_of t (leader_of x (unnumbered_input i)) made.records; sends = ls } in k) (sym (letters_plain t made.outs))
+    same = ap (λ ls. let k : Mark = record { site = x; notes = notes_of t (leader_of x (unnumbered_input i)) made.records; sends = ls } in k) (sym (letters_unnumbered t made.outs))
 
     outs : OutsOk (before ++ m ∷ [])
     outs p k = by (in_parts p (flat_map sends before) (map unnumbered made.outs) (subst (λ z. IsIn p z) (sends_with before m) k))
@@ -361,7 +361,7 @@ step_ok sc t before marks x i ok fits was =
         by (inl old) = sent_stays marks mark q (ok.sent p old q j)
         by (inr new) =
             subst (λ z. IsIn q z) (sym (sent_more marks mark))
-            (in_right q (sent_of marks) (letters_of t made.outs) (subst (λ z. IsIn q z) (letters_plain t made.outs) (in_letters t p (map unnumbered made.outs) q new j)))
+            (in_right q (sent_of marks) (letters_of t made.outs) (subst (λ z. IsIn q z) (letters_unnumbered t made.outs) (in_letters t p (map unnumbered made.outs) q new j)))
 
 move_ok : (sc : Scenario) (t : Txn) (before : List Move) (marks : List Mark) (x : ℕ) (d : Did) → TrailOk sc t before marks → IsMadeMove sc before (record { site = x; did = d })
     → MoveOk sc t before marks (record { site = x; did = d })

@@ -170,14 +170,14 @@ elect_fits x (input.Cancel u) fits = tt
 elect_fits x (input.Expire u) fits = tt
 elect_fits x (input.Deliver packet) fits = tt
 
-pub takes_plain : (x : ℕ) (i : Input) → MayTake x i → MayTake x (unnumbered_input i)
-takes_plain x (input.Deliver packet) fits = fits
-takes_plain x (input.Elect u group) fits = fits
-takes_plain x (input.Begin sites) fits = fits
-takes_plain x (input.Do u op) fits = fits
-takes_plain x (input.Commit u) fits = fits
-takes_plain x (input.Cancel u) fits = fits
-takes_plain x (input.Expire u) fits = fits
+pub takes_unnumbered : (x : ℕ) (i : Input) → MayTake x i → MayTake x (unnumbered_input i)
+takes_unnumbered x (input.Deliver packet) fits = fits
+takes_unnumbered x (input.Elect u group) fits = fits
+takes_unnumbered x (input.Begin sites) fits = fits
+takes_unnumbered x (input.Do u op) fits = fits
+takes_unnumbered x (input.Commit u) fits = fits
+takes_unnumbered x (input.Cancel u) fits = fits
+takes_unnumbered x (input.Expire u) fits = fits
 
 -- what a step of a site makes, behind marks that can be reached
 pub record Stepping (sc : Scenario) (t : Txn) (marks : List Mark) (x : ℕ) (life : Life) (i : Input) (sends : List Letter) : Type 0 where
@@ -216,7 +216,7 @@ stepping sc t marks x life i sends reach ok well fits heard away some = record {
     }
 
     good : Good h made
-    good = good_step h stands (takes_plain x i fits)
+    good = good_step h stands (takes_unnumbered x i fits)
 
     new_well : (p : Letter) → IsIn p (sent_of marks) ⊎ IsIn p sends → IsWell t p
     new_well p (inl k) = well p k

@@ -22,7 +22,9 @@ use Rattle.e3_law_brief.proofs.Laws.{same_alike}
 use Rattle.e3_law_brief.proofs.Standing.{orderly_append}
 use Rattle.e3_law_steps.proofs.Ascending.{off_fold}
 use Rattle.e3_law_steps.proofs.Tests.{same_is, same_self}
-use Rattle.e3_law_brief.specs.Incarnations.{AlikeNow, IsInOrder, IsKnown, open_in}
+use Rattle.e3_world.specs.Transactions.{IsFoundByBits}
+use Rattle.e3_world.specs.Items.{undecided_in}
+use Rattle.e3_law_brief.specs.Incarnations.{AlikeNow, IsInOrder}
 use Rattle.e3_law_brief.specs.IncarnationLaws.{AlikeGoOn, AlikeTurned, LogsAreAlike, OpensAreAlike, OrdersAreAlike, RisesAreAlike, StepsAreAlike}
 use Rattle.e3_law_brief.proofs.Alike.Lives.{life_left, life_right, twins}
 use Rattle.e3_law_brief.proofs.Alike.Notes.{NotesAlike, notes_of}
@@ -74,12 +76,12 @@ each_added P ts (x ∷ xs) all = (
   each_added P ts xs (λ t is. all t (or_right (same_txn t x) (list_any (same_txn t) xs) is)),
 )
 
-all_known : (l : List Record) → Each IsKnown (txns_of l) → Each IsKnown (flat_map txn_of_record l)
-all_known l known = each_added IsKnown [] (flat_map txn_of_record l) (λ t is. each_among IsKnown (txns_of l) known t (added [] (flat_map txn_of_record l) t is))
+all_known : (l : List Record) → Each IsFoundByBits (txns_of l) → Each IsFoundByBits (flat_map txn_of_record l)
+all_known l known = each_added IsFoundByBits [] (flat_map txn_of_record l) (λ t is. each_among IsFoundByBits (txns_of l) known t (added [] (flat_map txn_of_record l) t is))
 
 -- the step of both
 abbrev pair_of : (weights : List ℕ) (site : ℕ) (x y : List Record) (ss : List SiteStep) (i : Input) → ReadAlike x y → ReadAlike (x ++ of_steps ss) (y ++ of_steps ss)
-    → Each IsKnown (txns_of (x ++ of_steps ss)) → Pair
+    → Each IsFoundByBits (txns_of (x ++ of_steps ss)) → Pair
 pair_of weights site x y ss i rose now known = record {
   weights = weights;
   site = site;
@@ -89,7 +91,7 @@ pair_of weights site x y ss i rose now known = record {
   notes = notes_of (x ++ of_steps ss) (y ++ of_steps ss) now;
   table = now.table;
   known = all_known (x ++ of_steps ss) known;
-  known_too = all_known (y ++ of_steps ss) (subst (λ (ts : List Txn). Each IsKnown ts) now.txns known);
+  known_too = all_known (y ++ of_steps ss) (subst (λ (ts : List Txn). Each IsFoundByBits ts) now.txns known);
   steps = twins x y (notes_of x y rose) ss;
   input = unnumbered_input i;
 }
@@ -109,11 +111,11 @@ steps_alike weights site a b i order alike =
 -- the open transactions of both
 pub opens_alike : OpensAreAlike
 opens_alike site a b orderly alike =
-    ap (λ (life : Life). fold add_txn [] (open_in site life)) (life_left a.rose b.rose rose a.since)
+    ap (λ (life : Life). fold add_txn [] (undecided_in site life)) (life_left a.rose b.rose rose a.since)
     ∙ opens_same site (logged_inc a.rose) (a.rose ++ of_steps a.since) (b.rose ++ of_steps a.since) (twins a.rose b.rose rose a.since)
     (notes_of (a.rose ++ of_steps a.since) (b.rose ++ of_steps a.since) now) now.txns
-    ∙ ap (λ (life : Life). fold add_txn [] (open_in site life)) (sym (life_right a.rose b.rose rose a.since alike.rose.inc))
-    ∙ ap (λ (ss : List SiteStep). fold add_txn [] (open_in site (life_of (record { rose = b.rose; since = ss })))) alike.since
+    ∙ ap (λ (life : Life). fold add_txn [] (undecided_in site life)) (sym (life_right a.rose b.rose rose a.since alike.rose.inc))
+    ∙ ap (λ (ss : List SiteStep). fold add_txn [] (undecided_in site (life_of (record { rose = b.rose; since = ss })))) alike.since
   where
     rose : NotesAlike a.rose b.rose
     rose = notes_of a.rose b.rose alike.rose
@@ -146,7 +148,7 @@ orders_alike site a b order first alike =
     let now : ReadAlike (present_log a) (present_log b) = logs_alike site a b order.orderly alike in
     record {
       orderly = subst (λ (ss : List SiteStep). IsOrderly site (b.rose ++ of_steps ss)) alike.since (orderly_append site [] b.rose (of_steps a.since) first more);
-      known = subst (λ (ts : List Txn). Each IsKnown ts) now.txns order.known;
+      known = subst (λ (ts : List Txn). Each IsFoundByBits ts) now.txns order.known;
     }
 
 -- each is alike to itself

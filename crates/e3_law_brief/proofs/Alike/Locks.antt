@@ -23,7 +23,7 @@ use Rattle.e3_law_brief.proofs.Lists.{flat_alike}
 use Rattle.e3_law_brief.proofs.Locks.{any_alike, equal_tests, locks_for, locks_own}
 use Rattle.e3_law_steps.proofs.Each.{each-append, each-filter, each-left, each-map, each-right}
 use Rattle.e3_law_steps.proofs.Undecided.{open_before}
-use Rattle.e3_law_brief.specs.Incarnations.{IsKnown}
+use Rattle.e3_world.specs.Transactions.{IsFoundByBits}
 use Rattle.e3_law_brief.proofs.Alike.Notes.{NotesAlike, notes_more, notes_open}
 use Rattle.e3_law_brief.proofs.Alike.Oldest.{SameFound, older_of, oldest_is, oldest_of, oldest_turned}
 
@@ -61,8 +61,8 @@ against_append w xs ys =
     ap (λ (l : List Lock). map (λ (x : Lock). x.txn) l) (filter-append (opposes w) xs ys)
     ∙ map-append (λ (x : Lock). x.txn) (filter (opposes w) xs) (filter (opposes w) ys)
 
-known_against : (w : Lock) (ls : List Lock) → Each (λ (l : Lock). IsKnown l.txn) ls → Each IsKnown (against w ls)
-known_against w ls known = each-map IsKnown (λ (l : Lock). l.txn) (filter (opposes w) ls) (each-filter (λ (l : Lock). IsKnown l.txn) (opposes w) ls known)
+known_against : (w : Lock) (ls : List Lock) → Each (λ (l : Lock). IsFoundByBits l.txn) ls → Each IsFoundByBits (against w ls)
+known_against w ls known = each-map IsFoundByBits (λ (l : Lock). l.txn) (filter (opposes w) ls) (each-filter (λ (l : Lock). IsFoundByBits l.txn) (opposes w) ls known)
 
 -- a test that all pass
 all_is : (p : Txn → Bool) (ts : List Txn) → list_all p ts ≡ not (list_any (λ (t : Txn). not (p t)) ts)
@@ -77,13 +77,13 @@ all_found : (p : Txn → Bool) (us vs : List Txn) → SameFound us vs → list_a
 all_found p us vs same = all_is p us ∙ ap not (same (λ (t : Txn). not (p t))) ∙ sym (all_is p vs)
 
 -- what is said of a transaction that is against these, by whether it is older than all of them and the oldest of them
-abbrev said_of : Bool → Option Txn → Grant
-said_of b None = Held
-said_of b (Some u) = if b then Waits else Dies u
+abbrev answer_of : Bool → Option Txn → Grant
+answer_of b None = Held
+answer_of b (Some u) = if b then Waits else Dies u
 
-grant_is : (t : Txn) (us : List Txn) → grant_against t us ≡ said_of (list_all (is_older t) us) (oldest_of None us)
+grant_is : (t : Txn) (us : List Txn) → grant_against t us ≡ answer_of (list_all (is_older t) us) (oldest_of None us)
 grant_is t [] = refl
-grant_is t (u ∷ us) = ap (said_of (list_all (is_older t) (u ∷ us))) (sym (oldest_is u us))
+grant_is t (u ∷ us) = ap (answer_of (list_all (is_older t) (u ∷ us))) (sym (oldest_is u us))
 
 -- Locks that differ in the order of some in their middle, whose transactions are known.
 pub record LocksAlike (h k : List Lock) : Type 0 where
@@ -94,8 +94,8 @@ pub record LocksAlike (h k : List Lock) : Type 0 where
   pub first : h ≡ ahead ++ (mine ++ behind)
   pub second : k ≡ ahead ++ (theirs ++ behind)
   pub same : SameHeld mine theirs
-  pub known : Each (λ (l : Lock). IsKnown l.txn) mine
-  pub known_too : Each (λ (l : Lock). IsKnown l.txn) theirs
+  pub known : Each (λ (l : Lock). IsFoundByBits l.txn) mine
+  pub known_too : Each (λ (l : Lock). IsFoundByBits l.txn) theirs
 
 pub alike_held : (h k : List Lock) → LocksAlike h k → SameHeld h k
 alike_held h k a p =
@@ -133,9 +133,9 @@ grant_alike w h k q a = λ i. if covered i then Held else grants i
     found : SameFound (against w (h ++ q)) (against w (k ++ q))
     found = found_against w (h ++ q) (k ++ q) (held_before h k q (alike_held h k a))
 
-    said : said_of (list_all (is_older w.txn) (against w (h ++ q))) (oldest_of None (against w (h ++ q)))
-        ≡ said_of (list_all (is_older w.txn) (against w (k ++ q))) (oldest_of None (against w (k ++ q)))
-    said = λ i. said_of (all_found (is_older w.txn) (against w (h ++ q)) (against w (k ++ q)) found i) (old_alike w h k q a i)
+    said : answer_of (list_all (is_older w.txn) (against w (h ++ q))) (oldest_of None (against w (h ++ q)))
+        ≡ answer_of (list_all (is_older w.txn) (against w (k ++ q))) (oldest_of None (against w (k ++ q)))
+    said = λ i. answer_of (all_found (is_older w.txn) (against w (h ++ q)) (against w (k ++ q)) found i) (old_alike w h k q a i)
 
     grants : grant_against w.txn (against w (h ++ q)) ≡ grant_against w.txn (against w (k ++ q))
     grants = grant_is w.txn (against w (h ++ q)) ∙ said ∙ sym (grant_is w.txn (against w (k ++ q)))
@@ -209,26 +209,26 @@ held_still name x y more s p =
     ∙ sym (all_still name (y ++ more) y y (λ u. open_before u y more) p)
 
 -- their transactions are those of the log
-known_vote : (name : List ℕ) (all : List Record) (r : Record) → Each IsKnown (txn_of_record r) → Each (λ (l : Lock). IsKnown l.txn) (vote_locks name all r)
+known_vote : (name : List ℕ) (all : List Record) (r : Record) → Each IsFoundByBits (txn_of_record r) → Each (λ (l : Lock). IsFoundByBits l.txn) (vote_locks name all r)
 known_vote name all (log.Vote u ops) known = by (is_undecided u all) refl
   where
-    by : (b : Bool) → is_undecided u all ≡ b → Each (λ (l : Lock). IsKnown l.txn) (vote_locks name all (log.Vote u ops))
-    by true is = rw is (each_for (λ (l : Lock). IsKnown l.txn) name u ops (λ m. known.0))
+    by : (b : Bool) → is_undecided u all ≡ b → Each (λ (l : Lock). IsFoundByBits l.txn) (vote_locks name all (log.Vote u ops))
+    by true is = rw is (each_for (λ (l : Lock). IsFoundByBits l.txn) name u ops (λ m. known.0))
     by false is = rw is tt
 known_vote name all r known = tt
 
-known_votes : (name : List ℕ) (all l : List Record) → Each IsKnown (flat_map txn_of_record l) → Each (λ (l : Lock). IsKnown l.txn) (flat_map (vote_locks name all) l)
+known_votes : (name : List ℕ) (all l : List Record) → Each IsFoundByBits (flat_map txn_of_record l) → Each (λ (l : Lock). IsFoundByBits l.txn) (flat_map (vote_locks name all) l)
 known_votes name all [] known = tt
-known_votes name all (r ∷ rs) known = each-append (λ (l : Lock). IsKnown l.txn) (vote_locks name all r) (flat_map (vote_locks name all) rs)
-    (known_vote name all r (each-left IsKnown (txn_of_record r) (flat_map txn_of_record rs) known))
-    (known_votes name all rs (each-right IsKnown (txn_of_record r) (flat_map txn_of_record rs) known))
+known_votes name all (r ∷ rs) known = each-append (λ (l : Lock). IsFoundByBits l.txn) (vote_locks name all r) (flat_map (vote_locks name all) rs)
+    (known_vote name all r (each-left IsFoundByBits (txn_of_record r) (flat_map txn_of_record rs) known))
+    (known_votes name all rs (each-right IsFoundByBits (txn_of_record r) (flat_map txn_of_record rs) known))
 
 vote_same : (name : List ℕ) (x y : List Record) → NotesAlike x y → (r : Record) → vote_locks name x r ≡ vote_locks name y r
 vote_same name x y s (log.Vote u ops) = λ i. if notes_open x y s u i then locks_for name u ops else []
 vote_same name x y s r = refl
 
 -- locks that are held for the same operations done, and for the votes of both logs behind the same records
-pub locks_alike : (name : List ℕ) (x y more : List Record) → NotesAlike x y → Each IsKnown (flat_map txn_of_record x) → Each IsKnown (flat_map txn_of_record y)
+pub locks_alike : (name : List ℕ) (x y more : List Record) → NotesAlike x y → Each IsFoundByBits (flat_map txn_of_record x) → Each IsFoundByBits (flat_map txn_of_record y)
     → (d e : List Lock) → d ≡ e → LocksAlike (d ++ voted_locks name (x ++ more)) (e ++ voted_locks name (y ++ more))
 locks_alike name x y more s kx ky d e same = record {
   ahead = d;

@@ -10,7 +10,7 @@ use Rattle.e3_types.proofs.SameSites.{same_numbers_eq, same_numbers_refl}
 use Rattle.e3_law_brief.proofs.Locks.{equal_tests}
 use Rattle.e3_law_steps.proofs.Each.{each-both}
 use Rattle.e3_law_steps.proofs.Tests.{same_is, same_self}
-use Rattle.e3_law_brief.specs.Incarnations.{IsKnown}
+use Rattle.e3_world.specs.Transactions.{IsFoundByBits}
 
 -- each test finds one among the first where it finds one among the second
 abbrev pub SameFound : List Txn → List Txn → Type 0
@@ -63,7 +63,7 @@ finds P u (v ∷ vs) each = by (finds P v vs each.1) (finds P u vs each.1) (is_o
     })
 
 -- known transactions of which none is older than the other are one
-sites_same : (t u : Txn) → IsKnown t → IsKnown u → same_numbers t.sites u.sites ≡ (bits_of t.sites == bits_of u.sites)
+sites_same : (t u : Txn) → IsFoundByBits t → IsFoundByBits u → same_numbers t.sites u.sites ≡ (bits_of t.sites == bits_of u.sites)
 sites_same t u kt ku = equal_tests (same_numbers t.sites u.sites) (bits_of t.sites == bits_of u.sites)
     (λ is. eq-eqb (bits_of t.sites) (bits_of u.sites) (ap bits_of (same_numbers_eq t.sites u.sites is)))
     (λ is. subst (λ (s : List ℕ). same_numbers t.sites s ≡ true) (sym kt ∙ ap sites_of (eqb-true (bits_of t.sites) (bits_of u.sites) is) ∙ ku) (same_numbers_refl t.sites))
@@ -73,7 +73,7 @@ last_of false false c na nb any = any
 last_of true b c na nb any = absurd (true≢false na)
 last_of false true c na nb any = absurd (true≢false nb)
 
-one_known : (t u : Txn) → IsKnown t → IsKnown u → is_older t u ≡ false → is_older u t ≡ false → t ≡ u
+one_known : (t u : Txn) → IsFoundByBits t → IsFoundByBits u → is_older t u ≡ false → is_older u t ≡ false → t ≡ u
 one_known t u kt ku not_so other = same_is t u (last_of (is_older t u) (is_older u t) (same_txn t u) not_so other (older_total t u (sites_same t u kt ku)))
 
 -- what no test finds is not one that it holds of
@@ -90,7 +90,7 @@ member p t (v ∷ vs) is none = by (member p t vs) (same_txn t v) refl
 
 -- a known one among these
 abbrev Among : List Txn → Txn → Type 0
-Among vs t = IsKnown t × (list_any (same_txn t) vs ≡ true)
+Among vs t = IsFoundByBits t × (list_any (same_txn t) vs ≡ true)
 
 each_in : (vs ws : List Txn) → ((t : Txn) → list_any (same_txn t) vs ≡ true → list_any (same_txn t) ws ≡ true) → Each (λ t. list_any (same_txn t) ws ≡ true) vs
 each_in [] ws to = tt
@@ -99,11 +99,11 @@ each_in (v ∷ vs) ws to = (
   each_in vs ws (λ t is. to t (or_right (same_txn t v) (list_any (same_txn t) vs) is)),
 )
 
-each_among : (vs : List Txn) → Each IsKnown vs → Each (Among vs) vs
-each_among vs known = each-both IsKnown (λ t. list_any (same_txn t) vs ≡ true) vs known (each_in vs vs (λ t is. is))
+each_among : (vs : List Txn) → Each IsFoundByBits vs → Each (Among vs) vs
+each_among vs known = each-both IsFoundByBits (λ t. list_any (same_txn t) vs ≡ true) vs known (each_in vs vs (λ t is. is))
 
 -- the oldest of these behind a first one, which may be any
-turned : (u : Txn) (vs ws : List Txn) → SameFound vs ws → Each IsKnown vs → Each IsKnown ws → oldest u vs ≡ oldest u ws
+turned : (u : Txn) (vs ws : List Txn) → SameFound vs ws → Each IsFoundByBits vs → Each IsFoundByBits ws → oldest u vs ≡ oldest u ws
 turned u vs ws same kv kw = by one.from two.from
   where
     r : Txn
@@ -147,7 +147,7 @@ record IsLeast (vs : List Txn) (r : Txn) : Type 0 where
   among : Among vs r
   none : list_any (λ v. is_older v r) vs ≡ false
 
-least : (v : Txn) (vs : List Txn) → Each IsKnown (v ∷ vs) → IsLeast (v ∷ vs) (oldest v vs)
+least : (v : Txn) (vs : List Txn) → Each IsFoundByBits (v ∷ vs) → IsLeast (v ∷ vs) (oldest v vs)
 least v vs known = record {
   among = by is.from;
   none = or_from (is_older v (oldest v vs)) (list_any (λ x. is_older x (oldest v vs)) vs) is.first is.none;
@@ -169,7 +169,7 @@ one_least vs ws r q same one two = one_known r q one.among.0 two.among.0
     (member (λ v. is_older v r) q vs (same (same_txn q) ∙ two.among.1) one.none)
 
 -- so the oldest behind those before is the same, whatever order these stand in
-pub oldest_turned : (o : Option Txn) (vs ws : List Txn) → SameFound vs ws → Each IsKnown vs → Each IsKnown ws → oldest_of o vs ≡ oldest_of o ws
+pub oldest_turned : (o : Option Txn) (vs ws : List Txn) → SameFound vs ws → Each IsFoundByBits vs → Each IsFoundByBits ws → oldest_of o vs ≡ oldest_of o ws
 oldest_turned (Some u) vs ws same kv kw = oldest_is u vs ∙ ap (λ (t : Txn). Some t) (turned u vs ws same kv kw) ∙ sym (oldest_is u ws)
 oldest_turned None [] [] same kv kw = refl
 oldest_turned None [] (w ∷ ws) same kv kw = absurd (true≢false (sym (same (λ t. true))))

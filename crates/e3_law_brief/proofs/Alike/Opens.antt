@@ -16,7 +16,7 @@ use Rattle.e3_world.specs.Brief.{txns_of}
 use Rattle.e3_law_steps.proofs.Ascending.{Ascends, IsLater, ascends_fold, later_from, other_way}
 use Rattle.e3_law_steps.proofs.Each.{each-filter, each-weaker}
 use Rattle.e3_law_steps.proofs.Tests.{same_is}
-use Rattle.e3_law_brief.specs.Incarnations.{open_in}
+use Rattle.e3_world.specs.Items.{undecided_in}
 use Rattle.e3_law_brief.proofs.Alike.Notes.{NotesAlike, notes_open}
 use Rattle.e3_law_brief.proofs.Alike.Twins.{Twin, arrivals_twins, began_twins, left, right}
 
@@ -37,16 +37,16 @@ older_weak t u v =
     (before_weak t.seq u.seq v.seq _ _ _ (less_weak (bits_of t.sites) (bits_of u.sites) (bits_of v.sites))))
 
 -- one that is older than all goes ahead
-record IsBehind (new t : Txn) : Type 0 where
+record IsAheadOf (new t : Txn) : Type 0 where
   differs : same_txn t new ≡ false
   older : is_older new t ≡ true
 
-goes_ahead : (ts : List Txn) (new : Txn) → Each (IsBehind new) ts → add_txn ts new ≡ new ∷ ts
+goes_ahead : (ts : List Txn) (new : Txn) → Each (IsAheadOf new) ts → add_txn ts new ≡ new ∷ ts
 goes_ahead [] new behind = refl
 goes_ahead (t ∷ ts) new behind = rw (behind.0.differs, behind.0.older) refl
 
-all_behind : (t : Txn) (ts : List Txn) (new : Txn) → same_txn t new ≡ false → is_older new t ≡ true → Each (IsLater t) ts → Each (IsBehind new) ts
-all_behind t ts new differs older later = each-weaker (IsLater t) (IsBehind new)
+all_behind : (t : Txn) (ts : List Txn) (new : Txn) → same_txn t new ≡ false → is_older new t ≡ true → Each (IsLater t) ts → Each (IsAheadOf new) ts
+all_behind t ts new differs older later = each-weaker (IsLater t) (IsAheadOf new)
     (λ v is. record { differs = other_way new v (later_from_older v is); older = older_weak new t v older is.not_older }) ts later
   where
     later_from_older : (v : Txn) → IsLater t v → same_txn new v ≡ false
@@ -67,7 +67,7 @@ filter_add p (t ∷ ts) new up = by (filter_add p ts new up.1) (same_txn t new) 
     by more false is true age true keeps true news = rw (is, age, news, keeps, is, age) refl
     by more false is true age true keeps false news = rw (is, age, news, keeps) refl
     by more false is true age false keeps true news = rw (is, age, news, keeps)
-        (sym (goes_ahead (filter p ts) new (each-filter (IsBehind new) p ts (all_behind t ts new is age up.0))))
+        (sym (goes_ahead (filter p ts) new (each-filter (IsAheadOf new) p ts (all_behind t ts new is age up.0))))
     by more false is true age false keeps false news = rw (is, age, news, keeps) refl
     by more false is false age true keeps true news = rw (is, age, keeps, news, is, age) (ap (λ (l : List Txn). t ∷ l) (more ∙ kept_in news))
       where
@@ -89,7 +89,7 @@ filter_fold p ts (x ∷ xs) up = filter_fold p (add_txn ts x) xs (ascends_fold t
 
 -- so the open ones of two lives with the same transactions are the same
 pub opens_same : (site n : ℕ) (x y : List Record) (ts : List Twin) → NotesAlike x y → txns_of x ≡ txns_of y
-    → fold add_txn [] (open_in site (record { log = x; inc = n; steps = left ts })) ≡ fold add_txn [] (open_in site (record { log = y; inc = n; steps = right ts }))
+    → fold add_txn [] (undecided_in site (record { log = x; inc = n; steps = left ts })) ≡ fold add_txn [] (undecided_in site (record { log = y; inc = n; steps = right ts }))
 opens_same site n x y ts same txns =
     sym (filter_fold (λ t. is_undecided t x) [] (known_txns site one) tt)
     ∙ (λ i. filter (λ t. notes_open x y same t i) (known i))

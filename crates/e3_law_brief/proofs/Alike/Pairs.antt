@@ -21,7 +21,7 @@ use Rattle.e3_world.specs.Making.{answer_now, asked_on, attempt_now, elected_now
 use Rattle.e3_world.specs.Operations.{done, done_locks, holders, issued, queue, unanswered, waiting}
 use Rattle.e3_world.specs.Votes.{yes_votes}
 use Rattle.e3_law_brief.proofs.Lists.{flat_alike}
-use Rattle.e3_law_brief.specs.Incarnations.{IsKnown}
+use Rattle.e3_world.specs.Transactions.{IsFoundByBits}
 use Rattle.e3_law_brief.proofs.Alike.Locks.{LocksAlike, alike_held, front_same, grant_alike, locks_alike}
 use Rattle.e3_law_brief.proofs.Alike.Notes.{NotesAlike, notes_more, notes_open, notes_state}
 use Rattle.e3_law_brief.proofs.Alike.Twins.{Twin, done_locks_twins, done_twins, issued_twins, left, moment, one_more, right, unanswered_twins, waiting_twins, yes_twins}
@@ -35,8 +35,8 @@ pub record Pair : Type 0 where
   pub theirs : List Record
   pub notes : NotesAlike mine theirs
   pub table : table_of mine ≡ table_of theirs
-  pub known : Each IsKnown (flat_map txn_of_record mine)
-  pub known_too : Each IsKnown (flat_map txn_of_record theirs)
+  pub known : Each IsFoundByBits (flat_map txn_of_record mine)
+  pub known_too : Each IsFoundByBits (flat_map txn_of_record theirs)
   pub steps : List Twin
   pub input : Input
 

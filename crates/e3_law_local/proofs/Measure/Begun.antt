@@ -27,7 +27,8 @@ use Rattle.e3_law_steps.proofs.Sound.Clocks.{due_says}
 use Rattle.e3_law_steps.proofs.Each.{each-append, each-weaker}
 use Rattle.e3_law_steps.proofs.Suits.Holding.{legal_holds}
 use Rattle.e3_law_steps.proofs.Operations.Tracing.{Says, Tells}
-use Rattle.e3_law_local.specs.Measures.{begun, begun_in}
+use Rattle.e3_law_steps.specs.Mentions.{begun_in}
+use Rattle.e3_law_local.specs.Measures.{begun}
 
 pub begun_push : (h : List Entry) (e : Entry) → begun (h ++ e ∷ []) ≡ begun h ++ begun_in e.act
 begun_push h e = flat_map-append (λ e. begun_in e.act) h (e ∷ []) ∙ ap (λ l. begun h ++ l) (append-nil (begun_in e.act))

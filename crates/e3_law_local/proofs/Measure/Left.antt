@@ -18,7 +18,7 @@ use Rattle.e3_world.specs.Legal.{Guard, IsLegal, entry_of, first_pending, made_b
 use Rattle.e3_law_steps.proofs.Each.{each-at}
 use Rattle.e3_law_local.specs.Settling.{EntriesAreCounted, TakesFirst, TakingLowers}
 use Rattle.e3_law_local.specs.Measures.{is_below, measure, total, takes_packet}
-use Rattle.e3_law_local.proofs.Measure.Alike.{alike, entry_alike, made_alike, measure_alike, pending_alike}
+use Rattle.e3_law_local.proofs.Measure.FullFrames.{alike, entry_alike, made_alike, measure_alike, pending_alike}
 use Rattle.e3_law_local.proofs.Measure.Ending.{Lower, no_descent}
 
 -- the fall of a packet's receiver over it

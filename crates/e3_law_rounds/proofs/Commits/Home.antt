@@ -55,20 +55,20 @@ use Rattle.e3_law_rounds.proofs.Phases.Acknowledged.{others_again}
 abbrev pub mom : List Record → List Record → List Packet → List Told → Packet → Moment
 mom before records outs events q = record { before = before; input = input.Deliver q; records = records; outs = outs; told = events }
 
-abbrev pub said : Packet → Message → Packet
-said p m = record { number = 0; «from» = p.«from»; to = p.to; msg = m }
+abbrev pub sent_as : Packet → Message → Packet
+sent_as p m = record { number = 0; «from» = p.«from»; to = p.to; msg = m }
 
 pub yes_voice : (t : Txn) (p : Packet) (came : List ℕ) (b r : List Record) (o : List Packet) (e : List Told) → p.msg ≡ msg.Vote t true →
     yes_by t (Some came) (mom b r o e (unnumbered p)) ≡ Some (came ++ p.«from» ∷ [])
-yes_voice t p came b r o e is = ap (λ m. yes_by t (Some came) (mom b r o e (said p m))) is ∙ rw (same_self t) refl
+yes_voice t p came b r o e is = ap (λ m. yes_by t (Some came) (mom b r o e (sent_as p m))) is ∙ rw (same_self t) refl
 
 pub round_voice : (s : ℕ) (t : Txn) (p : Packet) (w : Rounds) (b r : List Record) (o : List Packet) (e : List Told) → p.msg ≡ msg.Vote t true →
     (round_by s t w (mom b r o e (unnumbered p))).now ≡ fold (round_by_record s t w.group) w.now r
-round_voice s t p w b r o e is = ap (λ m. (round_by s t w (mom b r o e (said p m))).now) is
+round_voice s t p w b r o e is = ap (λ m. (round_by s t w (mom b r o e (sent_as p m))).now) is
 
 pub round_ack : (s : ℕ) (t : Txn) (p : Packet) (w : Rounds) (b r : List Record) (o : List Packet) (e : List Told) → p.msg ≡ msg.Ack t 1 Commit →
     (round_by s t w (mom b r o e (unnumbered p))).now ≡ fold (round_by_record s t w.group) (option_map (λ x. count_ack x p.«from» 1 Commit) w.now) r
-round_ack s t p w b r o e is = ap (λ m. (round_by s t w (mom b r o e (said p m))).now) is ∙ rw (same_self t) refl
+round_ack s t p w b r o e is = ap (λ m. (round_by s t w (mom b r o e (sent_as p m))).now) is ∙ rw (same_self t) refl
 
 -- a packet that comes to the coordinator from another site
 pub record Home (sc : Scenario) (t : Txn) (h : List Entry) (p : Packet) : Type 0 where
@@ -77,10 +77,10 @@ pub record Home (sc : Scenario) (t : Txn) (h : List Entry) (p : Packet) : Type 0
   pub here : has_site (rest_of t) p.«from» ≡ true
 
 -- its step, by what the rule makes
-pub at_home : (sc : Scenario) (t : Txn) (h : List Entry) (p : Packet) (m : Message) (was : Made) → Home sc t h p → p.msg ≡ m → brings_none (input.Deliver (said p m)) ≡ true →
+pub at_home : (sc : Scenario) (t : Txn) (h : List Entry) (p : Packet) (m : Message) (was : Made) → Home sc t h p → p.msg ≡ m → brings_none (input.Deliver (sent_as p m)) ≡ true →
     on_message (place sc h t.site (input.Deliver p)) p.«from» m nothing ≡ was → was.own ≡ [] → Stepped sc t h t.site (input.Deliver p) was
 at_home sc t h p m was g is brings row none =
-    steps sc t h t.site p was g.turn g.turn.ground.home (ap (λ x. brings_none (input.Deliver (said p x))) is ∙ brings) (ap (λ x. on_message (place sc h t.site (input.Deliver p)) p.«from» x nothing) is ∙ row) none
+    steps sc t h t.site p was g.turn g.turn.ground.home (ap (λ x. brings_none (input.Deliver (sent_as p x))) is ∙ brings) (ap (λ x. on_message (place sc h t.site (input.Deliver p)) p.«from» x nothing) is ∙ row) none
 
 home_says : (sc : Scenario) (t : Txn) (h : List Entry) (p : Packet) (d a : Option Dir) (v : Bool) → Says t (log_of sc h t.site) d a v → Says t (place sc h t.site (input.Deliver p)).life.log d a v
 home_says sc t h p d a v says = subst (λ l. Says t l d a v) (sym (place_log sc h t.site (input.Deliver p))) says

@@ -39,7 +39,7 @@ use Rattle.e3_law_rounds.specs.Commits.{is_packet_of}
 use Rattle.e3_law_rounds.proofs.Commits.Beside.{brings_none, other_packet}
 use Rattle.e3_law_rounds.proofs.Commits.Effects.{Sends, Stepped, low_delivery, sends_all, shapes_on, total_none, weaker, weight_off}
 use Rattle.e3_law_rounds.proofs.Commits.Packets.{total}
-use Rattle.e3_law_rounds.proofs.Commits.Home.{mom, said}
+use Rattle.e3_law_rounds.proofs.Commits.Home.{mom, sent_as}
 use Rattle.e3_law_rounds.proofs.Commits.Logs.{OfOther, attempt_still}
 use Rattle.e3_law_rounds.proofs.Commits.Rows.{Foreign, foreign_message}
 use Rattle.e3_law_rounds.proofs.Commits.Shapes.{acks, asks, ends, is_shaped, other_not, other_shape, prepares, rest_of, votes, weighs, weight_of}
@@ -125,8 +125,8 @@ yes_other : (t : Txn) (p : Packet) (w : Option (List ℕ)) (b r : List Record) (
 yes_other t p w b r o e other = by p.msg refl
   where
     by : (m : Message) → p.msg ≡ m → yes_by t w (mom b r o e (unnumbered p)) ≡ w
-    by (msg.Done u n inc answer) is = ap (λ m. yes_by t w (mom b r o e (said p m))) is
-    by (msg.Decide u dir) is = ap (λ m. yes_by t w (mom b r o e (said p m))) is
+    by (msg.Done u n inc answer) is = ap (λ m. yes_by t w (mom b r o e (sent_as p m))) is
+    by (msg.Decide u dir) is = ap (λ m. yes_by t w (mom b r o e (sent_as p m))) is
     by m is = absurd (let off : other_packet t p ≡ false = rw is refl in true≢false (sym other ∙ off))
 
 round_other : (s : ℕ) (t : Txn) (p : Packet) (w : Rounds) (b r : List Record) (o : List Packet) (e : List Told) → other_packet t p ≡ true →
@@ -134,8 +134,8 @@ round_other : (s : ℕ) (t : Txn) (p : Packet) (w : Rounds) (b r : List Record) 
 round_other s t p w b r o e other = by p.msg refl
   where
     by : (m : Message) → p.msg ≡ m → (round_by s t w (mom b r o e (unnumbered p))).now ≡ fold (round_by_record s t w.group) w.now r
-    by (msg.Done u n inc answer) is = ap (λ m. (round_by s t w (mom b r o e (said p m))).now) is
-    by (msg.Decide u dir) is = ap (λ m. (round_by s t w (mom b r o e (said p m))).now) is
+    by (msg.Done u n inc answer) is = ap (λ m. (round_by s t w (mom b r o e (sent_as p m))).now) is
+    by (msg.Decide u dir) is = ap (λ m. (round_by s t w (mom b r o e (sent_as p m))).now) is
     by m is = absurd (let off : other_packet t p ≡ false = rw is refl in true≢false (sym other ∙ off))
 
 fold_other : (s : ℕ) (t : Txn) (group : List ℕ) (x : Option Round) (r : List Record) → OfOther t r → fold (round_by_record s t group) x r ≡ x
@@ -253,7 +253,7 @@ other_on sc t wants h s p turn other = record {
       where
         by : (m : Message) → p.msg ≡ m → brings_none (unnumbered_input (input.Deliver p)) ≡ true
         by (msg.Do u n op) is = absurd (let off : other_packet t p ≡ false = rw is refl in true≢false (sym other ∙ off))
-        by m is = ap (λ x. brings_none (input.Deliver (said p x))) is
+        by m is = ap (λ x. brings_none (input.Deliver (sent_as p x))) is
 
     st : has_site t.sites s ≡ true → Stepped sc t h s (input.Deliver p) was
     st member = steps sc t h s p was turn member brings refl foreign.own

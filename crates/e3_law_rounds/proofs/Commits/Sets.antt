@@ -13,33 +13,33 @@ use Rattle.e3_types.specs.Same.{same_numbers}
 use Rattle.e3_types.specs.Sets.{has_site, is_set}
 use Rattle.e3_quorum.proofs.Sums.{weight_cons}
 use Rattle.e3_world.specs.declared.names.Bound.{Bound}
-use Rattle.e3_world.specs.Given.{IsGiven, SaidSoFar, close_step, is_begun, is_group, is_step_form, items_keep, keeps_rules, say_item, steps_keep}
+use Rattle.e3_world.specs.Given.{IsGiven, ItemsSoFar, close_step, is_begun, is_group, is_step_form, items_keep, keeps_rules, with_item, steps_keep}
 use Rattle.e3_world.specs.Items.{last_bound, since_line, to_line, txn_of}
 use Rattle.e3_world.specs.Legal.{IsLegal, LegalAfter}
 use Rattle.e3_world.specs.Packets.{all_sites, items_or, step_items}
 use Rattle.e3_world.proofs.Pushes.{legal_front}
 use Rattle.e3_law_agreement.specs.Logs.{IsIn}
 use Rattle.e3_law_steps.proofs.Suits.Holding.{split_from}
-use Rattle.e3_law_agreement.proofs.Counting.{Counted, counted_on, counted_start}
+use Rattle.e3_law_agreement.proofs.BegunNames.{Counted, counted_on, counted_start}
 use Rattle.e3_law_agreement.proofs.Named.{Names, names_of_steps}
 use Rattle.e3_law_steps.proofs.Items.{binding}
 use Rattle.e3_law_rounds.proofs.Deliveries.Steps.{group_set}
 
-begin_items : (sc : Scenario) (k : SaidSoFar) (items : List Item) (name sites : List ℕ) (site : ℕ) → items_keep sc k items ≡ true → IsIn (item.Begin name site sites) items → is_set sites ≡ true
+begin_items : (sc : Scenario) (k : ItemsSoFar) (items : List Item) (name sites : List ℕ) (site : ℕ) → items_keep sc k items ≡ true → IsIn (item.Begin name site sites) items → is_set sites ≡ true
 begin_items sc k [] name sites site keep has = absurd has
 begin_items sc k (it ∷ items) name sites site keep (inl e) =
-    let rules : keeps_rules sc k (item.Begin name site sites) ≡ true = ap (keeps_rules sc k) e ∙ (and_parts (keeps_rules sc k it) (items_keep sc (say_item sc k it) items) keep).0 in
+    let rules : keeps_rules sc k (item.Begin name site sites) ≡ true = ap (keeps_rules sc k) e ∙ (and_parts (keeps_rules sc k it) (items_keep sc (with_item sc k it) items) keep).0 in
     group_set sc sites (and_parts (is_group sc sites) (has_site sites site) (and_parts (is_group sc sites && has_site sites site) (not (is_begun (k.earlier ++ k.fresh) name [])) rules).0).0
-begin_items sc k (it ∷ items) name sites site keep (inr more) = begin_items sc (say_item sc k it) items name sites site (and_parts (keeps_rules sc k it) (items_keep sc (say_item sc k it) items) keep).1 more
+begin_items sc k (it ∷ items) name sites site keep (inr more) = begin_items sc (with_item sc k it) items name sites site (and_parts (keeps_rules sc k it) (items_keep sc (with_item sc k it) items) keep).1 more
 
-begin_steps : (sc : Scenario) (k : SaidSoFar) (steps : List (List Item)) (n : ℕ) (name sites : List ℕ) (site : ℕ) → steps_keep sc k steps ≡ true → IsIn (item.Begin name site sites) (items_or (slice_get steps n)) → is_set sites ≡ true
+begin_steps : (sc : Scenario) (k : ItemsSoFar) (steps : List (List Item)) (n : ℕ) (name sites : List ℕ) (site : ℕ) → steps_keep sc k steps ≡ true → IsIn (item.Begin name site sites) (items_or (slice_get steps n)) → is_set sites ≡ true
 begin_steps sc k [] zero name sites site keep has = absurd has
 begin_steps sc k [] (suc n) name sites site keep has = absurd has
 begin_steps sc k (x ∷ steps) zero name sites site keep has =
-    let outer = and_parts (is_step_form x && items_keep sc k x) (steps_keep sc (close_step (fold (say_item sc) k x)) steps) keep in
+    let outer = and_parts (is_step_form x && items_keep sc k x) (steps_keep sc (close_step (fold (with_item sc) k x)) steps) keep in
     begin_items sc k x name sites site (and_parts (is_step_form x) (items_keep sc k x) outer.0).1 has
 begin_steps sc k (x ∷ steps) (suc n) name sites site keep has =
-    begin_steps sc (close_step (fold (say_item sc) k x)) steps n name sites site (and_parts (is_step_form x && items_keep sc k x) (steps_keep sc (close_step (fold (say_item sc) k x)) steps) keep).1 has
+    begin_steps sc (close_step (fold (with_item sc) k x)) steps n name sites site (and_parts (is_step_form x && items_keep sc k x) (steps_keep sc (close_step (fold (with_item sc) k x)) steps) keep).1 has
 
 begin_set : (sc : Scenario) (n : ℕ) (name sites : List ℕ) (site : ℕ) → IsGiven sc → IsIn (item.Begin name site sites) (step_items sc n) → is_set sites ≡ true
 begin_set sc zero name sites site given has = absurd has

@@ -38,7 +38,7 @@ use Rattle.e3_world.specs.Moves.{moves_at, trail_of}
 use Rattle.e3_world.specs.Sound.{WasSent}
 use Rattle.e3_world.specs.Steps.{step_of}
 use Rattle.e3_world.specs.Packets.{fate_of}
-use Rattle.e3_world.proofs.Pushes.{step_plain}
+use Rattle.e3_world.proofs.Pushes.{step_unnumbered}
 use Rattle.e3_world.proofs.Trails.{trail_moves}
 use Rattle.e3_law_rounds.specs.Commits.{is_once}
 use Rattle.e3_law_rounds.proofs.Commits.Beside.{other_packet}
@@ -149,7 +149,7 @@ sent_own : (sc : Scenario) (h : List Entry) (site : ℕ) (i : Input) → IsGiven
     (p : Packet) → IsIn p (made_by sc h site i).outs → p.«from» ≡ site
 sent_own sc h site i given legal due fits =
     subst (λ z. (p : Packet) → IsIn p (step_of sc.weights site (incarnation_of z) i).outs → p.«from» ≡ site) (trail_moves sc site h)
-    (subst (λ (m : Made). (p : Packet) → IsIn p m.outs → p.«from» ≡ site) (step_plain sc.weights site (incarnation_of (moves_at site (trail_of sc h))) i)
+    (subst (λ (m : Made). (p : Packet) → IsIn p m.outs → p.«from» ≡ site) (step_unnumbered sc.weights site (incarnation_of (moves_at site (trail_of sc h))) i)
     (sends_own sc (trail_of sc h) site (unnumbered_input i) (legal_made sc h legal (given_fit sc h given legal)) taken_is.0 taken_is.1 some_txn))
   where
     taken_is : MayTake site (unnumbered_input i) × WasSent (trail_of sc h) (unnumbered_input i)

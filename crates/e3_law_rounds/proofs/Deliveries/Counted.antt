@@ -26,7 +26,7 @@ use Rattle.e3_world.specs.Packets.{outs_of, pending, sent, taken, taken_by, take
 use Rattle.e3_world.specs.Sound.{WasSent}
 use Rattle.e3_world.specs.Steps.{step_of}
 use Rattle.e3_world.proofs.Guards.{guard_step}
-use Rattle.e3_world.proofs.Pushes.{legal_push, step_plain}
+use Rattle.e3_world.proofs.Pushes.{legal_push, step_unnumbered}
 use Rattle.e3_world.proofs.Readings.{up_same}
 use Rattle.e3_world.proofs.Sending.{trail_sends}
 use Rattle.e3_world.proofs.Trails.{trail_moves}
@@ -65,7 +65,7 @@ sent_own : (sc : Scenario) (h : List Entry) (site : ℕ) (i : Input) → IsGiven
     (p : Packet) → IsIn p (made_by sc h site i).outs → p.«from» ≡ site
 sent_own sc h site i given legal due fits =
     subst (λ z. (p : Packet) → IsIn p (step_of sc.weights site (incarnation_of z) i).outs → p.«from» ≡ site) (trail_moves sc site h)
-    (subst (λ (m : Made). (p : Packet) → IsIn p m.outs → p.«from» ≡ site) (step_plain sc.weights site (incarnation_of (moves_at site (trail_of sc h))) i)
+    (subst (λ (m : Made). (p : Packet) → IsIn p m.outs → p.«from» ≡ site) (step_unnumbered sc.weights site (incarnation_of (moves_at site (trail_of sc h))) i)
     (sends_own sc (trail_of sc h) site (unnumbered_input i) (made_of sc h given legal) taken_is.0 taken_is.1 some_txn))
   where
     taken_is : MayTake site (unnumbered_input i) × WasSent (trail_of sc h) (unnumbered_input i)

@@ -19,7 +19,7 @@ use Rattle.e3_world.specs.Packets.{is_calm, parts_of, sent}
 use Rattle.e3_world.specs.Steps.{step_at}
 use Rattle.e3_law_rounds.specs.Queues.{IsQueue, are_within}
 use Rattle.e3_law_rounds.specs.Rounds.{ToldVerdict, is_own, ends_txn, verdicts_told}
-use Rattle.e3_law_steps.proofs.Moving.{plain_numbered}
+use Rattle.e3_world.proofs.Numbers.{unnumber_numbered}
 use Rattle.e3_law_rounds.proofs.Deliveries.Queue.{delivery_shifts, delivery_shifts_any, staying}
 use Rattle.e3_law_rounds.proofs.Deliveries.Walking.{Next, Rest, goes_on}
 
@@ -51,9 +51,9 @@ first_of : (queue : List Packet) (q : Packet) (rest : List Packet) → map unnum
 first_of [] q rest is = absurd cc
 first_of (p ∷ ps) q rest is = record { p = p; ps = ps; is = refl; first = cc; others = cc }
 
-pub plain_staying : (parts : List (List ℕ)) (ps : List Packet) → map unnumbered (staying parts ps) ≡ staying parts (map unnumbered ps)
-plain_staying parts [] = refl
-plain_staying parts (p ∷ ps) = by (plain_staying parts ps) (same_part parts p.«from» p.to) refl
+pub unnumbered_staying : (parts : List (List ℕ)) (ps : List Packet) → map unnumbered (staying parts ps) ≡ staying parts (map unnumbered ps)
+unnumbered_staying parts [] = refl
+unnumbered_staying parts (p ∷ ps) = by (unnumbered_staying parts ps) (same_part parts p.«from» p.to) refl
   where
     by : map unnumbered (staying parts ps) ≡ staying parts (map unnumbered ps) → (b : Bool) → same_part parts p.«from» p.to ≡ b →
         map unnumbered (staying parts (p ∷ ps)) ≡ staying parts (map unnumbered (p ∷ ps))
@@ -79,7 +79,7 @@ deliver sc members h more queue q left rest is_queue is member = record {
         shifted (ap (λ (x : Made). are_within (parts_of sc h) x.outs) made_is ∙ within),
         map-append unnumbered first.ps (numbered (suc (length (sent h))) (made_by sc h q.to (input.Deliver first.p)).outs)
             ∙ ap (λ l. l ++ map unnumbered (numbered (suc (length (sent h))) (made_by sc h q.to (input.Deliver first.p)).outs)) first.others
-            ∙ ap (λ l. left ++ l) (plain_numbered (suc (length (sent h))) (made_by sc h q.to (input.Deliver first.p)).outs ∙ ap (λ (x : Made). map unnumbered x.outs) made_is),
+            ∙ ap (λ l. left ++ l) (unnumber_numbered (suc (length (sent h))) (made_by sc h q.to (input.Deliver first.p)).outs ∙ ap (λ (x : Made). map unnumbered x.outs) made_is),
       );
   shifts_any = (
     first.ps ++ staying (parts_of sc h) new,
@@ -87,8 +87,8 @@ deliver sc members h more queue q left rest is_queue is member = record {
         (delivery_shifts_any sc h first.p first.ps ready (ap is_calm rest.recovers)),
     map-append unnumbered first.ps (staying (parts_of sc h) new)
         ∙ ap (λ l. l ++ map unnumbered (staying (parts_of sc h) new)) first.others
-        ∙ ap (λ l. left ++ l) (plain_staying (parts_of sc h) new
-        ∙ ap (staying (parts_of sc h)) (plain_numbered (suc (length (sent h))) (made_by sc h q.to (input.Deliver first.p)).outs ∙ ap (λ (x : Made). map unnumbered x.outs) made_is)),
+        ∙ ap (λ l. left ++ l) (unnumbered_staying (parts_of sc h) new
+        ∙ ap (staying (parts_of sc h)) (unnumber_numbered (suc (length (sent h))) (made_by sc h q.to (input.Deliver first.p)).outs ∙ ap (λ (x : Made). map unnumbered x.outs) made_is)),
   );
 }
   where

@@ -16,16 +16,16 @@ use Rattle.e3_world.proofs.Guards.{lines_push}
 use Rattle.e3_world.proofs.Readings.{since_push, split_push}
 use Rattle.e3_law_rounds.specs.Claims.{GroupInOnePart}
 use Rattle.e3_law_rounds.proofs.Deliveries.Forced.{some_line}
-use Rattle.e3_law_rounds.proofs.Deliveries.Steps.{group_within, parts_or, said_after, said_more}
+use Rattle.e3_law_rounds.proofs.Deliveries.Steps.{group_within, parts_or, parts_after, parts_more}
 use Rattle.e3_law_steps.proofs.Items.{is_empty, through_at}
 
 -- the parts at the line of a step
-abbrev said_before : Scenario → ℕ → List (List ℕ)
-said_before sc zero = all_sites sc ∷ []
-said_before sc (suc n) = said_after sc n
+abbrev parts_before : Scenario → ℕ → List (List ℕ)
+parts_before sc zero = all_sites sc ∷ []
+parts_before sc (suc n) = parts_after sc n
 
 abbrev PartsAre : Scenario → List Entry → Type 0
-PartsAre sc h = parts_of sc h ≡ (if begins_with_parts (since_line h) then said_after sc (lines h) else said_before sc (lines h))
+PartsAre sc h = parts_of sc h ≡ (if begins_with_parts (since_line h) then parts_after sc (lines h) else parts_before sc (lines h))
 
 -- an act that is neither a line nor of the parts
 abbrev is_other : Act → Bool
@@ -73,8 +73,8 @@ begins_same (x ∷ xs) e is = refl
 other_keeps : (sc : Scenario) (h : List Entry) (o : ℕ) (act : Act) → is_other act ≡ true → PartsAre sc h → PartsAre sc (h ++ record { owner = o; act = act } ∷ [])
 other_keeps sc h o act is was =
     parts_same sc h o act is ∙ was
-    ∙ ap (λ b. if b then said_after sc (lines h) else said_before sc (lines h)) (sym begins)
-    ∙ ap (λ n. if begins_with_parts (since_line (h ++ e ∷ [])) then said_after sc n else said_before sc n) (sym count)
+    ∙ ap (λ b. if b then parts_after sc (lines h) else parts_before sc (lines h)) (sym begins)
+    ∙ ap (λ n. if begins_with_parts (since_line (h ++ e ∷ [])) then parts_after sc n else parts_before sc n) (sym count)
   where
     e : Entry
     e = record { owner = o; act = act }
@@ -116,22 +116,22 @@ through_made sc h n is through = second (is_empty (pending sc h)) (is_made sc h)
     at = through
 
 -- at the next line all that was asked for is so
-at_line : (sc : Scenario) (h : List Entry) → PartsAre sc h → is_through sc h ≡ true → parts_of sc h ≡ said_after sc (lines h)
+at_line : (sc : Scenario) (h : List Entry) → PartsAre sc h → is_through sc h ≡ true → parts_of sc h ≡ parts_after sc (lines h)
 at_line sc h was through = by (begins_with_parts (since_line h)) refl
   where
-    by_lines : begins_with_parts (since_line h) ≡ false → (n : ℕ) → lines h ≡ n → said_before sc n ≡ said_after sc n
+    by_lines : begins_with_parts (since_line h) ≡ false → (n : ℕ) → lines h ≡ n → parts_before sc n ≡ parts_after sc n
     by_lines none zero is = refl
-    by_lines none (suc n) is = sym (said_more sc n ∙ ap (parts_or (said_after sc n)) (made_parts sc h (step_items sc (suc n)) (ap (step_items sc) is) (through_made sc h n is through) none))
+    by_lines none (suc n) is = sym (parts_more sc n ∙ ap (parts_or (parts_after sc n)) (made_parts sc h (step_items sc (suc n)) (ap (step_items sc) is) (through_made sc h n is through) none))
 
-    by : (b : Bool) → begins_with_parts (since_line h) ≡ b → parts_of sc h ≡ said_after sc (lines h)
+    by : (b : Bool) → begins_with_parts (since_line h) ≡ b → parts_of sc h ≡ parts_after sc (lines h)
     by true is = was ∙ rw is refl
     by false is = was ∙ rw is (by_lines is (lines h) refl)
 
 line_keeps : (sc : Scenario) (h : List Entry) (o number : ℕ) → is_through sc h ≡ true → PartsAre sc h → PartsAre sc (h ++ record { owner = o; act = Line number } ∷ [])
 line_keeps sc h o number through was =
     fold-append _ _ h (e ∷ []) ∙ at_line sc h was through
-    ∙ ap (λ b. if b then said_after sc (suc (lines h)) else said_after sc (lines h)) (sym begins)
-    ∙ ap (λ n. if begins_with_parts (since_line (h ++ e ∷ [])) then said_after sc n else said_before sc n) (sym count)
+    ∙ ap (λ b. if b then parts_after sc (suc (lines h)) else parts_after sc (lines h)) (sym begins)
+    ∙ ap (λ n. if begins_with_parts (since_line (h ++ e ∷ [])) then parts_after sc n else parts_before sc n) (sym count)
   where
     e : Entry
     e = record { owner = o; act = Line number }
@@ -146,8 +146,8 @@ parts_keep : (sc : Scenario) (h : List Entry) (o : ℕ) (parts : List (List ℕ)
     PartsAre sc (h ++ record { owner = o; act = Parts parts } ∷ [])
 parts_keep sc h o parts first due =
     fold-append _ _ h (e ∷ []) ∙ by (lines h) refl
-    ∙ ap (λ b. if b then said_after sc (lines h) else said_before sc (lines h)) (sym begins)
-    ∙ ap (λ n. if begins_with_parts (since_line (h ++ e ∷ [])) then said_after sc n else said_before sc n) (sym count)
+    ∙ ap (λ b. if b then parts_after sc (lines h) else parts_before sc (lines h)) (sym begins)
+    ∙ ap (λ n. if begins_with_parts (since_line (h ++ e ∷ [])) then parts_after sc n else parts_before sc n) (sym count)
   where
     e : Entry
     e = record { owner = o; act = Parts parts }
@@ -158,9 +158,9 @@ parts_keep sc h o parts first due =
     count : lines (h ++ e ∷ []) ≡ lines h
     count = lines_push h e ∙ (let same : lines h + 0 ≡ lines h = omega arith in same)
 
-    by : (n : ℕ) → lines h ≡ n → parts ≡ said_after sc (lines h)
+    by : (n : ℕ) → lines h ≡ n → parts ≡ parts_after sc (lines h)
     by zero is = absurd (let none : None ≡ Some parts = sym (ap (λ n. parts_due sc (step_items sc n)) is) ∙ due in cc)
-    by (suc n) is = sym (ap (said_after sc) is ∙ said_more sc n ∙ ap (parts_or (said_after sc n)) (sym (ap (λ n. parts_due sc (step_items sc n)) is) ∙ due))
+    by (suc n) is = sym (ap (parts_after sc) is ∙ parts_more sc n ∙ ap (parts_or (parts_after sc n)) (sym (ap (λ n. parts_due sc (step_items sc n)) is) ∙ due))
 
 one_keeps : (sc : Scenario) (h : List Entry) (o : ℕ) (act : Act) → Guard sc h (record { owner = o; act = act }) → PartsAre sc h → PartsAre sc (h ++ record { owner = o; act = act } ∷ [])
 one_keeps sc h zero (Line number) guard was = line_keeps sc h 0 number guard.through was
@@ -188,6 +188,6 @@ group_in_one_part sc h group items given legal is =
     let P : List (List ℕ) → Type 0 = λ l. list_any (is_within group) l ≡ true in
     subst P (sym (all_keep sc [] h legal refl ∙ by at.0 at.1 items_are (begins_with_parts (since_line h)))) (group_within sc at.0 group items given items_are)
   where
-    by : (n : ℕ) → lines h ≡ suc n → step_items sc (suc n) ≡ item.Recover group ∷ items → (b : Bool) → (if b then said_after sc (lines h) else said_before sc (lines h)) ≡ said_after sc n
-    by n line here true = ap (said_after sc) line ∙ said_more sc n ∙ ap (λ l. parts_or (said_after sc n) (parts_due sc l)) here
-    by n line here false = ap (said_before sc) line
+    by : (n : ℕ) → lines h ≡ suc n → step_items sc (suc n) ≡ item.Recover group ∷ items → (b : Bool) → (if b then parts_after sc (lines h) else parts_before sc (lines h)) ≡ parts_after sc n
+    by n line here true = ap (parts_after sc) line ∙ parts_more sc n ∙ ap (λ l. parts_or (parts_after sc n) (parts_due sc l)) here
+    by n line here false = ap (parts_before sc) line

@@ -163,14 +163,14 @@ due_low sc h t b s (input.Cancel u) was due = tt
 due_low sc h t b s (input.Expire u) was due = tt
 due_low sc h t b s (input.Elect u group) was due = tt
 
-elects_plain : (t : Txn) (i : Input) → elects_of t (unnumbered_input i) ≡ elects_of t i
-elects_plain t (input.Deliver p) = refl
-elects_plain t (input.Begin sites) = refl
-elects_plain t (input.Do u op) = refl
-elects_plain t (input.Commit u) = refl
-elects_plain t (input.Cancel u) = refl
-elects_plain t (input.Expire u) = refl
-elects_plain t (input.Elect u group) = refl
+elects_unnumbered : (t : Txn) (i : Input) → elects_of t (unnumbered_input i) ≡ elects_of t i
+elects_unnumbered t (input.Deliver p) = refl
+elects_unnumbered t (input.Begin sites) = refl
+elects_unnumbered t (input.Do u op) = refl
+elects_unnumbered t (input.Commit u) = refl
+elects_unnumbered t (input.Cancel u) = refl
+elects_unnumbered t (input.Expire u) = refl
+elects_unnumbered t (input.Elect u group) = refl
 
 numbered_low : (t : Txn) (b n : ℕ) (ps : List Packet) → list_all (low_packet t b) ps ≡ true → list_all (low_packet t b) (numbered n ps) ≡ true
 numbered_low t b n [] all = refl
@@ -205,7 +205,7 @@ stepped sc h t b s limit i was few due = record {
   within = (
       let awaited : one.top + awaits (election_after) ≤ limit + elects_of t (unnumbered_input i) = one.fits.within in
       let same : awaits_at sc (h ++ e ∷ []) t s ≡ awaits (election_after) = ap awaits election_is in
-      let counted : elects_of t (unnumbered_input i) ≡ elects_of t i = elects_plain t i in
+      let counted : elects_of t (unnumbered_input i) ≡ elects_of t i = elects_unnumbered t i in
       omega (arith, awaited, same, counted)
       );
 }

@@ -14,7 +14,7 @@ use Rattle.e3_types.specs.declared.transactions.Txn.{Txn}
 use Rattle.e3_types.specs.Same.{same_txn}
 use Rattle.e3_types.specs.Sets.{has_site}
 use Rattle.e3_world.specs.declared.names.Addressed.{Addressed}
-use Rattle.e3_world.specs.Given.{IsGiven, close_step, is_groupable, is_step_form, items_keep, say_item, SaidSoFar, steps_keep}
+use Rattle.e3_world.specs.Given.{IsGiven, close_step, is_groupable, is_step_form, items_keep, with_item, ItemsSoFar, steps_keep}
 use Rattle.e3_world.specs.Items.{RecoveryRound, due_round, elected_txn, input_of, inputs_at, inputs_to, is_delivery, is_up_at, listed, open_at, plan_of, recover_group, rounds_left, taken_at, to_line, turn_of}
 use Rattle.e3_world.specs.Legal.{AreDue, IsDue, IsNextItem, entry_of}
 use Rattle.e3_world.specs.Packets.{items_or, lines, present_items, step_items}
@@ -245,14 +245,14 @@ form_short (one ∷ two ∷ items) form =
     short : (n : ℕ) → nat_le n 14 ≡ true → suc (suc n) ≤ 16
     short n is = grind (arith, common_steps, is)
 
-steps_short : (sc : Scenario) (k : SaidSoFar) (steps : List (List Item)) (n : ℕ) → steps_keep sc k steps ≡ true → length (items_or (slice_get steps n)) ≤ 16
+steps_short : (sc : Scenario) (k : ItemsSoFar) (steps : List (List Item)) (n : ℕ) → steps_keep sc k steps ≡ true → length (items_or (slice_get steps n)) ≤ 16
 steps_short sc k [] n keep = omega arith
 steps_short sc k (items ∷ steps) zero keep =
-    let outer = and_parts (is_step_form items && items_keep sc k items) (steps_keep sc (close_step (fold (say_item sc) k items)) steps) keep in
+    let outer = and_parts (is_step_form items && items_keep sc k items) (steps_keep sc (close_step (fold (with_item sc) k items)) steps) keep in
     form_short items (and_parts (is_step_form items) (items_keep sc k items) outer.0).0
 steps_short sc k (items ∷ steps) (suc n) keep =
-    let outer = and_parts (is_step_form items && items_keep sc k items) (steps_keep sc (close_step (fold (say_item sc) k items)) steps) keep in
-    steps_short sc (close_step (fold (say_item sc) k items)) steps n outer.1
+    let outer = and_parts (is_step_form items && items_keep sc k items) (steps_keep sc (close_step (fold (with_item sc) k items)) steps) keep in
+    steps_short sc (close_step (fold (with_item sc) k items)) steps n outer.1
 
 step_short : (sc : Scenario) (n : ℕ) → IsGiven sc → length (step_items sc n) ≤ 16
 step_short sc zero given = omega arith

@@ -34,8 +34,8 @@ use Rattle.e3_world.specs.Steps.{step_at}
 use Rattle.e3_world.proofs.Turns.{self}
 use Rattle.e3_law_rounds.specs.Queues.{IsQueue, are_within}
 use Rattle.e3_law_rounds.specs.Rounds.{ToldVerdict, is_own, verdicts_told}
-use Rattle.e3_law_rounds.proofs.Phases.Asked.{plain_mails, within_all}
-use Rattle.e3_law_rounds.proofs.Phases.Decided.{decide_mail, decides_now, late_plain, late_staying}
+use Rattle.e3_law_rounds.proofs.Phases.Asked.{unnumbered_mails, within_all}
+use Rattle.e3_law_rounds.proofs.Phases.Decided.{decide_mail, decides_now, late_unnumbered, late_staying}
 use Rattle.e3_law_steps.proofs.Deciding.{AddsAnswers}
 use Rattle.e3_law_rounds.proofs.Deliveries.Delivering.{Delivery, Entered, deliver, entered_next, entered_on, taking}
 use Rattle.e3_law_rounds.proofs.Deliveries.Gathering.{life_on, life_with, rounds_of, rounds_on}
@@ -59,7 +59,7 @@ round_with r n dir done = record { n = n; dir = dir; to = others r.elector r.mem
 pub record Acknowledged (sc : Scenario) (start : List Entry) (r : RecoveryRound) (base : List Entry) (n : ℕ) (dir : Dir) (h : List Entry) (own : ℕ) (said : List ToldVerdict) (done todo : List ℕ) : Type 0 where
   pub queue : List Packet
   pub is_queue : IsQueue sc h queue
-  pub plain_queue : map unnumbered queue ≡ map (ack_mail r n dir) todo
+  pub unnumbered_queue : map unnumbered queue ≡ map (ack_mail r n dir) todo
   pub logs : (s : ℕ) → log_of sc h s ≡ log_of sc base s
   pub round : (rounds_of r.elector r.txn (life_at (moves_of sc h r.elector))).now ≡ Some (round_with r n dir done)
   pub entered : Entered start h r own said
@@ -88,7 +88,7 @@ acknowledged_on sc start r base n dir h more own said done todo m member leads a
     q = ack_mail r n dir m
 
     d : Delivery sc r.members h more q (map (ack_mail r n dir) todo)
-    d = deliver sc r.members h more was.queue q (map (ack_mail r n dir) todo) rest was.is_queue was.plain_queue leads
+    d = deliver sc r.members h more was.queue q (map (ack_mail r n dir) todo) rest was.is_queue was.unnumbered_queue leads
 
     e : Entry
     e = entry_of sc h r.elector (input.Deliver d.p)
@@ -116,7 +116,7 @@ acknowledged_on sc start r base n dir h more own said done todo m member leads a
     now = let shifted = d.shifts nothing step refl in record {
       queue = shifted.0;
       is_queue = shifted.1;
-      plain_queue = shifted.2 ∙ append-nil (map (ack_mail r n dir) todo);
+      unnumbered_queue = shifted.2 ∙ append-nil (map (ack_mail r n dir) todo);
       logs = λ s. log_now s (r.elector == s) refl;
       round =
           ap (λ (l : Life). (rounds_of r.elector t l).now) (life_on sc h r.elector (input.Deliver d.p))
@@ -137,7 +137,7 @@ pub record Won (sc : Scenario) (start : List Entry) (r : RecoveryRound) (base : 
   pub queue : List Packet
   pub is_queue : IsQueue sc h queue
   pub lates : List Packet
-  pub plain_queue : map unnumbered queue ≡ map (ack_mail r n dir) todo ++ (map (decide_mail r dir) (others r.elector r.members) ++ lates)
+  pub unnumbered_queue : map unnumbered queue ≡ map (ack_mail r n dir) todo ++ (map (decide_mail r dir) (others r.elector r.members) ++ lates)
   pub are_late : list_all (is_late r) lates ≡ true
   pub logs : (s : ℕ) → (r.elector == s) ≡ false → log_of sc h s ≡ log_of sc base s
   pub decided : is_undecided r.txn (log_of sc h r.elector) ≡ false
@@ -183,7 +183,7 @@ won_begins sc start r base n dir h more own said done todo m member leads away r
     q = ack_mail r n dir m
 
     d : Delivery sc r.members h more q (map (ack_mail r n dir) todo)
-    d = deliver sc r.members h more was.queue q (map (ack_mail r n dir) todo) rest was.is_queue was.plain_queue leads
+    d = deliver sc r.members h more was.queue q (map (ack_mail r n dir) todo) rest was.is_queue was.unnumbered_queue leads
 
     e : Entry
     e = entry_of sc h r.elector (input.Deliver d.p)
@@ -225,7 +225,7 @@ won_begins sc start r base n dir h more own said done todo m member leads away r
         ap (λ l. staying (parts_of sc h) (map unnumbered l)) outs_are
         ∙ ap (staying (parts_of sc h)) (map-append unnumbered mails follows.dones)
         ∙ filter-append (λ p. same_part (parts_of sc h) p.«from» p.to) (map unnumbered mails) (map unnumbered follows.dones)
-        ∙ ap (λ l. staying (parts_of sc h) l ++ lates) (plain_mails r.elector (msg.Decide t dir) (others r.elector r.members))
+        ∙ ap (λ l. staying (parts_of sc h) l ++ lates) (unnumbered_mails r.elector (msg.Decide t dir) (others r.elector r.members))
         ∙ ap (λ l. l ++ lates) mails_stay
 
     records_are : (step_at a).records ≡ log.Decision t dir ∷ []
@@ -256,8 +256,8 @@ won_begins sc start r base n dir h more own said done todo m member leads away r
       queue = d.shifts_any.0;
       is_queue = d.shifts_any.1;
       lates = lates;
-      plain_queue = d.shifts_any.2 ∙ ap (λ l. map (ack_mail r n dir) todo ++ l) sent_are;
-      are_late = late_staying r (parts_of sc h) (map unnumbered follows.dones) (late_plain r follows.dones ∙ late_answers r r.elector follows.dones follows.are_answers);
+      unnumbered_queue = d.shifts_any.2 ∙ ap (λ l. map (ack_mail r n dir) todo ++ l) sent_are;
+      are_late = late_staying r (parts_of sc h) (map unnumbered follows.dones) (late_unnumbered r follows.dones ∙ late_answers r r.elector follows.dones follows.are_answers);
       logs = λ s other. log_still sc h r.elector s (input.Deliver d.p) other ∙ was.logs s;
       decided =
           ap (is_undecided t) (log_on sc h r.elector (input.Deliver d.p) ∙ ap (λ (x : Made). log_of sc h r.elector ++ x.records) d.made ∙ ap (λ rs. log_of sc h r.elector ++ rs) records_are)

@@ -23,7 +23,8 @@ use Rattle.e3_world.proofs.Turns.{self}
 use Rattle.e3_law_rounds.specs.Queues.{IsCounted, IsQueue, are_within}
 use Rattle.e3_law_rounds.specs.Rounds.{elect_entry, is_own, verdicts_told}
 use Rattle.e3_law_rounds.proofs.Deliveries.Delivering.{Entered, entered_on}
-use Rattle.e3_law_steps.proofs.Moving.{log_on, log_still, moves_still, place, place_log, plain_numbered}
+use Rattle.e3_world.proofs.Numbers.{unnumber_numbered}
+use Rattle.e3_law_steps.proofs.Moving.{log_on, log_still, moves_still, place, place_log}
 use Rattle.e3_law_rounds.proofs.Deliveries.Queue.{delivery_shifts, queue_begins, queue_entry}
 use Rattle.e3_law_rounds.proofs.Phases.Rows.{Takes, mail, makes, row_ask, row_elect}
 use Rattle.e3_law_rounds.proofs.Deliveries.Walking.{Next, Rest, goes_on}
@@ -45,7 +46,7 @@ answer sc start r m = mail m (msg.LastElected r.txn (call_of sc start r) (last_e
 pub record Asked (sc : Scenario) (start : List Entry) (r : RecoveryRound) (h : List Entry) (done todo : List ℕ) : Type 0 where
   pub queue : List Packet
   pub is_queue : IsQueue sc h queue
-  pub plain_queue : map unnumbered queue ≡ map (ask sc start r) todo ++ map (answer sc start r) done
+  pub unnumbered_queue : map unnumbered queue ≡ map (ask sc start r) todo ++ map (answer sc start r) done
   pub logs : (s : ℕ) → log_of sc h s ≡ log_of sc start s
   pub elector : moves_of sc h r.elector ≡ moves_of sc (start ++ elect_entry sc start r ∷ []) r.elector
   pub entered : Entered start h r (1 + length done) []
@@ -73,7 +74,7 @@ asked_on sc start r h more done todo m member leads from_other to_other rest was
     t = r.txn
 
     first : First (ask sc start r m) (map (ask sc start r) todo ++ map (answer sc start r) done) was.queue
-    first = first_of was.queue _ _ was.plain_queue
+    first = first_of was.queue _ _ was.unnumbered_queue
 
     p : Packet
     p = first.p
@@ -118,10 +119,10 @@ asked_on sc start r h more done todo m member leads from_other to_other rest was
     now = record {
       queue = first.ps ++ numbered (suc (length (sent h))) (made_by sc h p.to (input.Deliver p)).outs;
       is_queue = delivery_shifts sc h p first.ps queue calm within;
-      plain_queue =
+      unnumbered_queue =
           map-append unnumbered first.ps (numbered (suc (length (sent h))) (made_by sc h p.to (input.Deliver p)).outs)
           ∙ ap (λ l. l ++ map unnumbered (numbered (suc (length (sent h))) (made_by sc h p.to (input.Deliver p)).outs)) first.others
-          ∙ ap (λ l. (map (ask sc start r) todo ++ map (answer sc start r) done) ++ l) (plain_numbered (suc (length (sent h))) (made_by sc h p.to (input.Deliver p)).outs ∙ ap (λ (x : Made). map unnumbered x.outs) made)
+          ∙ ap (λ l. (map (ask sc start r) todo ++ map (answer sc start r) done) ++ l) (unnumber_numbered (suc (length (sent h))) (made_by sc h p.to (input.Deliver p)).outs ∙ ap (λ (x : Made). map unnumbered x.outs) made)
           ∙ append_assoc (map (ask sc start r) todo) (map (answer sc start r) done) (answer sc start r m ∷ [])
           ∙ ap (λ l. map (ask sc start r) todo ++ l) (sym (map-append (answer sc start r) done (m ∷ [])));
       logs = λ s. log_now s (p.to == s) refl;
@@ -157,9 +158,9 @@ within_all parts s m (x ∷ xs) each =
         let here : same_part parts s x ≡ true = each x (rw (self x) refl) in
         rw (is, here) rest
 
-pub plain_mails : (s : ℕ) (m : Message) (xs : List ℕ) → map unnumbered (map (mail s m) xs) ≡ map (mail s m) xs
-plain_mails s m [] = refl
-plain_mails s m (x ∷ xs) = ap (λ l. mail s m x ∷ l) (plain_mails s m xs)
+pub unnumbered_mails : (s : ℕ) (m : Message) (xs : List ℕ) → map unnumbered (map (mail s m) xs) ≡ map (mail s m) xs
+unnumbered_mails s m [] = refl
+unnumbered_mails s m (x ∷ xs) = ap (λ l. mail s m x ∷ l) (unnumbered_mails s m xs)
 
 -- the phase begins with the Elect of a group of several members
 pub asked_begins : (sc : Scenario) (start : List Entry) (r : RecoveryRound) → IsCounted sc start → pending sc start ≡ [] →
@@ -169,10 +170,10 @@ pub asked_begins : (sc : Scenario) (start : List Entry) (r : RecoveryRound) → 
 asked_begins sc start r counted none calm several together = record {
   queue = numbered (suc (length (sent start))) (made_by sc start r.elector (input.Elect r.txn r.members)).outs;
   is_queue = queue_entry sc start r.elector (input.Elect r.txn r.members) [] counted calm tt (queue_begins sc start counted none).waiting within;
-  plain_queue =
-      plain_numbered (suc (length (sent start))) (made_by sc start r.elector (input.Elect r.txn r.members)).outs
+  unnumbered_queue =
+      unnumber_numbered (suc (length (sent start))) (made_by sc start r.elector (input.Elect r.txn r.members)).outs
       ∙ ap (λ (x : Made). map unnumbered x.outs) made
-      ∙ plain_mails r.elector (msg.Ask r.txn (call_of sc start r)) (others r.elector r.members)
+      ∙ unnumbered_mails r.elector (msg.Ask r.txn (call_of sc start r)) (others r.elector r.members)
       ∙ sym (append-nil (map (ask sc start r) (others r.elector r.members)));
   logs = λ s. log_now s (r.elector == s) refl;
   elector = refl;

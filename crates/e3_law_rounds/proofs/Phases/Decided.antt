@@ -54,7 +54,7 @@ pub record Decided (sc : Scenario) (start : List Entry) (r : RecoveryRound) (bas
   pub queue : List Packet
   pub is_queue : IsQueue sc h queue
   pub lates : List Packet
-  pub plain_queue : map unnumbered queue ≡ map (decide_mail r dir) todo ++ lates
+  pub unnumbered_queue : map unnumbered queue ≡ map (decide_mail r dir) todo ++ lates
   pub are_late : list_all (is_late r) lates ≡ true
   pub logs : (s : ℕ) → has_site todo s ≡ true → log_of sc h s ≡ log_of sc base s
   pub decided : (s : ℕ) → has_site (r.elector ∷ done) s ≡ true → is_undecided r.txn (log_of sc h s) ≡ false
@@ -99,9 +99,9 @@ decided_by a f t dir either = by (may_decide a t dir nothing) refl
             choose false off = off
             choose true on = absurd (let both : (is_undecided t a.life.log && fits t dir a.life.log) ≡ true = rw (on, fit) refl in let clash : true ≡ false = sym both ∙ none in cc)
 
-pub late_plain : (r : RecoveryRound) (ps : List Packet) → list_all (is_late r) (map unnumbered ps) ≡ list_all (is_late r) ps
-late_plain r [] = refl
-late_plain r (p ∷ ps) = ap (λ b. is_late r p && b) (late_plain r ps)
+pub late_unnumbered : (r : RecoveryRound) (ps : List Packet) → list_all (is_late r) (map unnumbered ps) ≡ list_all (is_late r) ps
+late_unnumbered r [] = refl
+late_unnumbered r (p ∷ ps) = ap (λ b. is_late r p && b) (late_unnumbered r ps)
 
 pub late_staying : (r : RecoveryRound) (parts : List (List ℕ)) (ps : List Packet) → list_all (is_late r) ps ≡ true → list_all (is_late r) (staying parts ps) ≡ true
 late_staying r parts [] all = refl
@@ -133,7 +133,7 @@ decided_on sc start r base dir h more own said done todo m member leads other_si
     left = map (decide_mail r dir) todo ++ was.lates
 
     d : Delivery sc r.members h more q left
-    d = deliver sc r.members h more was.queue q left rest was.is_queue was.plain_queue member
+    d = deliver sc r.members h more was.queue q left rest was.is_queue was.unnumbered_queue member
 
     e : Entry
     e = entry_of sc h m (input.Deliver d.p)
@@ -173,9 +173,9 @@ decided_on sc start r base dir h more own said done todo m member leads other_si
       queue = d.shifts_any.0;
       is_queue = d.shifts_any.1;
       lates = was.lates ++ staying (parts_of sc h) (map unnumbered (step_at a).outs);
-      plain_queue = d.shifts_any.2 ∙ append_assoc (map (decide_mail r dir) todo) was.lates (staying (parts_of sc h) (map unnumbered (step_at a).outs));
+      unnumbered_queue = d.shifts_any.2 ∙ append_assoc (map (decide_mail r dir) todo) was.lates (staying (parts_of sc h) (map unnumbered (step_at a).outs));
       are_late = both_all (is_late r) was.lates (staying (parts_of sc h) (map unnumbered (step_at a).outs)) was.are_late
-          (late_staying r (parts_of sc h) (map unnumbered (step_at a).outs) (late_plain r (step_at a).outs ∙ outs_late));
+          (late_staying r (parts_of sc h) (map unnumbered (step_at a).outs) (late_unnumbered r (step_at a).outs ∙ outs_late));
       logs = λ s has. log_still sc h m s (input.Deliver d.p) (differs s has) ∙ was.logs s (ap (λ b. (m == s) || b) has ∙ or_true (m == s));
       decided = λ s has. decided_now s has (m == s) refl;
       entered = entered_on start h r own said e was.entered mine silent;
@@ -215,6 +215,6 @@ decided_on sc start r base dir h more own said done todo m member leads other_si
 pub tail_begins : (sc : Scenario) (start : List Entry) (r : RecoveryRound) (base : List Entry) (dir : Dir) (h : List Entry) (own : ℕ) (said : List ToldVerdict) (done : List ℕ) →
     ((s : ℕ) → has_site r.members s ≡ true → has_site (r.elector ∷ done) s ≡ true) → Decided sc start r base dir h own said done [] → Tail sc r h
 tail_begins sc start r base dir h own said done each was = record {
-  late = ap (list_all (is_late r)) (queue_is_pending sc h was.queue was.is_queue) ∙ sym (late_plain r was.queue) ∙ ap (list_all (is_late r)) was.plain_queue ∙ was.are_late;
+  late = ap (list_all (is_late r)) (queue_is_pending sc h was.queue was.is_queue) ∙ sym (late_unnumbered r was.queue) ∙ ap (list_all (is_late r)) was.unnumbered_queue ∙ was.are_late;
   decided = λ s member. was.decided s (each s member);
 }

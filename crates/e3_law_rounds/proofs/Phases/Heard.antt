@@ -54,7 +54,7 @@ election sc start r done = record {
 pub record Heard (sc : Scenario) (start : List Entry) (r : RecoveryRound) (h : List Entry) (own : ℕ) (done todo : List ℕ) : Type 0 where
   pub queue : List Packet
   pub is_queue : IsQueue sc h queue
-  pub plain_queue : map unnumbered queue ≡ map (answer sc start r) todo
+  pub unnumbered_queue : map unnumbered queue ≡ map (answer sc start r) todo
   pub logs : (s : ℕ) → log_of sc h s ≡ log_of sc start s
   pub gathered : (elections_of r.elector r.txn (life_at (moves_of sc h r.elector))).now ≡ Some (election sc start r done)
   pub grouped : group_at sc h r.elector r.txn ≡ r.members
@@ -93,7 +93,7 @@ heard_on sc start r h more own done todo m member leads away fresh awaits rest w
     q = answer sc start r m
 
     d : Delivery sc r.members h more q (map (answer sc start r) todo)
-    d = deliver sc r.members h more was.queue q (map (answer sc start r) todo) rest was.is_queue was.plain_queue leads
+    d = deliver sc r.members h more was.queue q (map (answer sc start r) todo) rest was.is_queue was.unnumbered_queue leads
 
     e : Entry
     e = entry_of sc h r.elector (input.Deliver d.p)
@@ -123,7 +123,7 @@ heard_on sc start r h more own done todo m member leads away fresh awaits rest w
     now = let shifted = d.shifts nothing step refl in record {
       queue = shifted.0;
       is_queue = shifted.1;
-      plain_queue = shifted.2 ∙ append-nil (map (answer sc start r) todo);
+      unnumbered_queue = shifted.2 ∙ append-nil (map (answer sc start r) todo);
       logs = λ s. log_now s (r.elector == s) refl;
       gathered =
           ap (λ (l : Life). (elections_of r.elector t l).now) (life_on sc h r.elector (input.Deliver d.p))
@@ -146,7 +146,7 @@ pub heard_begins : (sc : Scenario) (start : List Entry) (r : RecoveryRound) (h :
 heard_begins sc start r h all several was = record {
   queue = was.queue;
   is_queue = was.is_queue;
-  plain_queue = was.plain_queue;
+  unnumbered_queue = was.unnumbered_queue;
   logs = was.logs;
   gathered =
       ap (λ l. (elections_of r.elector t (life_at l)).now) was.elector

@@ -27,7 +27,7 @@ use Rattle.e3_world.specs.Steps.{step_at}
 use Rattle.e3_world.proofs.Pushes.{life_log_at}
 use Rattle.e3_world.proofs.Turns.{self}
 use Rattle.e3_law_rounds.specs.Queues.{IsQueue, are_within}
-use Rattle.e3_law_rounds.proofs.Phases.Asked.{answer, call_of, plain_mails, within_all}
+use Rattle.e3_law_rounds.proofs.Phases.Asked.{answer, call_of, unnumbered_mails, within_all}
 use Rattle.e3_law_rounds.proofs.Deliveries.Delivering.{Delivery, Entered, deliver, entered_next, taking}
 use Rattle.e3_law_rounds.proofs.Deliveries.Gathering.{elections_of, elections_on, group_at, group_on, life_on, life_with}
 use Rattle.e3_law_rounds.proofs.Phases.Heard.{Heard, election, hears, named}
@@ -68,7 +68,7 @@ join_of r n joined s = if has_site (r.elector ∷ joined) s then log.Join r.txn 
 pub record Joined (sc : Scenario) (start : List Entry) (r : RecoveryRound) (all : List ℕ) (h : List Entry) (own : ℕ) (done todo : List ℕ) : Type 0 where
   pub queue : List Packet
   pub is_queue : IsQueue sc h queue
-  pub plain_queue : map unnumbered queue ≡ map (number_mail r (number_of sc start r all)) todo ++ map (report_mail sc start r (number_of sc start r all)) done
+  pub unnumbered_queue : map unnumbered queue ≡ map (number_mail r (number_of sc start r all)) todo ++ map (report_mail sc start r (number_of sc start r all)) done
   pub logs : (s : ℕ) → log_of sc h s ≡ log_of sc start s ++ join_of r (number_of sc start r all) done s
   pub gathered : (elections_of r.elector r.txn (life_at (moves_of sc h r.elector))).now ≡ Some (numbered_election sc start r all [])
   pub grouped : group_at sc h r.elector r.txn ≡ r.members
@@ -99,7 +99,7 @@ joined_begins sc start r h more own done m s ss member leads away fresh heard_al
     n = number_of sc start r all
 
     d : Delivery sc r.members h more q []
-    d = deliver sc r.members h more was.queue q [] rest was.is_queue was.plain_queue leads
+    d = deliver sc r.members h more was.queue q [] rest was.is_queue was.unnumbered_queue leads
 
     e : Entry
     e = entry_of sc h r.elector (input.Deliver d.p)
@@ -139,7 +139,7 @@ joined_begins sc start r h more own done m s ss member leads away fresh heard_al
     now = let shifted = d.shifts makes_now step within in record {
       queue = shifted.0;
       is_queue = shifted.1;
-      plain_queue = shifted.2 ∙ plain_mails r.elector (msg.Elected t n) (others r.elector r.members) ∙ sym (append-nil (map (number_mail r n) (others r.elector r.members)));
+      unnumbered_queue = shifted.2 ∙ unnumbered_mails r.elector (msg.Elected t n) (others r.elector r.members) ∙ sym (append-nil (map (number_mail r n) (others r.elector r.members)));
       logs = λ x. log_now x (r.elector == x) refl;
       gathered =
           ap (λ (l : Life). (elections_of r.elector t l).now) (life_on sc h r.elector (input.Deliver d.p))
@@ -178,7 +178,7 @@ joined_on sc start r all h more own done todo m member leads from_other to_other
     left = map (number_mail r n) todo ++ map (report_mail sc start r n) done
 
     d : Delivery sc r.members h more q left
-    d = deliver sc r.members h more was.queue q left rest was.is_queue was.plain_queue member
+    d = deliver sc r.members h more was.queue q left rest was.is_queue was.unnumbered_queue member
 
     e : Entry
     e = entry_of sc h m (input.Deliver d.p)
@@ -207,7 +207,7 @@ joined_on sc start r all h more own done todo m member leads from_other to_other
     now = let shifted = d.shifts makes_now step within in record {
       queue = shifted.0;
       is_queue = shifted.1;
-      plain_queue =
+      unnumbered_queue =
           shifted.2 ∙ append_assoc (map (number_mail r n) todo) (map (report_mail sc start r n) done) (report_mail sc start r n m ∷ [])
           ∙ ap (λ l. map (number_mail r n) todo ++ l) (sym (map-append (report_mail sc start r n) done (m ∷ [])));
       logs = λ x. log_now x (m == x) refl;

@@ -42,7 +42,7 @@ use Rattle.e3_law_steps.proofs.Tests.{same_self}
 pub record Reported (sc : Scenario) (start : List Entry) (r : RecoveryRound) (all : List ℕ) (h : List Entry) (own : ℕ) (done todo : List ℕ) : Type 0 where
   pub queue : List Packet
   pub is_queue : IsQueue sc h queue
-  pub plain_queue : map unnumbered queue ≡ map (report_mail sc start r (number_of sc start r all)) todo
+  pub unnumbered_queue : map unnumbered queue ≡ map (report_mail sc start r (number_of sc start r all)) todo
   pub logs : (s : ℕ) → log_of sc h s ≡ log_of sc start s ++ join_of r (number_of sc start r all) all s
   pub gathered : (elections_of r.elector r.txn (life_at (moves_of sc h r.elector))).now ≡ Some (numbered_election sc start r all done)
   pub grouped : group_at sc h r.elector r.txn ≡ r.members
@@ -53,7 +53,7 @@ pub reported_begins : (sc : Scenario) (start : List Entry) (r : RecoveryRound) (
 reported_begins sc start r all h own was = record {
   queue = was.queue;
   is_queue = was.is_queue;
-  plain_queue = was.plain_queue;
+  unnumbered_queue = was.unnumbered_queue;
   logs = was.logs;
   gathered = was.gathered;
   grouped = was.grouped;
@@ -93,7 +93,7 @@ reported_on sc start r all h more own done todo m member leads away fresh awaits
     q = report_mail sc start r n m
 
     d : Delivery sc r.members h more q (map (report_mail sc start r n) todo)
-    d = deliver sc r.members h more was.queue q (map (report_mail sc start r n) todo) rest was.is_queue was.plain_queue leads
+    d = deliver sc r.members h more was.queue q (map (report_mail sc start r n) todo) rest was.is_queue was.unnumbered_queue leads
 
     e : Entry
     e = entry_of sc h r.elector (input.Deliver d.p)
@@ -124,7 +124,7 @@ reported_on sc start r all h more own done todo m member leads away fresh awaits
     now = let shifted = d.shifts nothing step refl in record {
       queue = shifted.0;
       is_queue = shifted.1;
-      plain_queue = shifted.2 ∙ append-nil (map (report_mail sc start r n) todo);
+      unnumbered_queue = shifted.2 ∙ append-nil (map (report_mail sc start r n) todo);
       logs = λ s. log_now s (r.elector == s) refl;
       gathered =
           ap (λ (l : Life). (elections_of r.elector t l).now) (life_on sc h r.elector (input.Deliver d.p))
@@ -162,7 +162,7 @@ block_ends sc start r all h more own have total done m member leads away fresh c
     q = report_mail sc start r n m
 
     d : Delivery sc r.members h more q []
-    d = deliver sc r.members h more was.queue q [] rest was.is_queue was.plain_queue leads
+    d = deliver sc r.members h more was.queue q [] rest was.is_queue was.unnumbered_queue leads
 
     e : Entry
     e = entry_of sc h r.elector (input.Deliver d.p)

@@ -43,8 +43,8 @@ settle_still (suc k) a made none =
     ∙ settle_still k a (record made { own = [] }) refl
     ∙ ap (λ l. let same : Made = record made { own = l } in same) (sym none)
 
-pub plain_step : (a : At) (made : Made) → on_input a a.input nothing ≡ made → made.own ≡ [] → list_any decides made.records ≡ false → step_at a ≡ made
-plain_step a made is none undecided =
+pub step_without_grants : (a : At) (made : Made) → on_input a a.input nothing ≡ made → made.own ≡ [] → list_any decides made.records ≡ false → step_at a ≡ made
+step_without_grants a made is none undecided =
     ap (λ m. settle 3 a (and_grants a 0 m)) is
     ∙ ap (settle 3 a) (let free : and_grants a 0 made ≡ made = rw undecided refl in free)
     ∙ settle_still 3 a made none
@@ -85,7 +85,7 @@ pub record Takes (a : At) (f : ℕ) (m : Message) : Type 0 where
 
 pub by_message : (a : At) (f : ℕ) (m : Message) (made : Made) → Takes a f m → on_message a f m nothing ≡ made → made.own ≡ [] → list_any decides made.records ≡ false →
     step_at a ≡ made
-by_message a f m made took row = plain_step a made (
+by_message a f m made took row = step_without_grants a made (
     ap (λ i. on_input a i nothing) took.is
     ∙ ap (λ g. on_message a g took.packet.msg nothing) took.sender
     ∙ ap (λ n. on_message a f n nothing) took.says ∙ row)
@@ -132,7 +132,7 @@ row_last a f t call number e more took gathers heard few = by_message a f _ _ to
 pub row_elect : (a : At) (t : Txn) (group : List ℕ) → a.input ≡ input.Elect t group → (1 == length group) ≡ false →
     step_at a ≡ makes [] (map (mail a.site (msg.Ask t (next_call a.life.inc a.life.steps))) (others a.site group))
 row_elect a t group is several =
-    plain_step a _ (ap (λ i. on_input a i nothing) is ∙ rw several (cast_is a (msg.Ask t (next_call a.life.inc a.life.steps)) group nothing)) refl refl
+    step_without_grants a _ (ap (λ i. on_input a i nothing) is ∙ rw several (cast_is a (msg.Ask t (next_call a.life.inc a.life.steps)) group nothing)) refl refl
 
 -- the last answer: the elector joins the greatest number plus one, and tells the others
 pub row_join : (a : At) (f : ℕ) (t : Txn) (call : Call) (number : ℕ) (e more : Election) (s : ℕ) (ss : List ℕ) → Takes a f (msg.LastElected t call number) →

@@ -41,8 +41,8 @@ use Rattle.e3_world.proofs.Turns.{self}
 use Rattle.e3_law_rounds.specs.Queues.{are_within}
 use Rattle.e3_law_rounds.specs.Rounds.{verdicts_told}
 use Rattle.e3_law_rounds.proofs.Phases.Acknowledged.{all_stay, round_with}
-use Rattle.e3_law_rounds.proofs.Phases.Asked.{plain_mails, within_all}
-use Rattle.e3_law_rounds.proofs.Phases.Decided.{Decided, decide_mail, late_plain, late_staying}
+use Rattle.e3_law_rounds.proofs.Phases.Asked.{unnumbered_mails, within_all}
+use Rattle.e3_law_rounds.proofs.Phases.Decided.{Decided, decide_mail, late_unnumbered, late_staying}
 use Rattle.e3_law_steps.proofs.Deciding.{AddsAnswers}
 use Rattle.e3_law_rounds.proofs.Deliveries.Delivering.{Delivery, deliver, entered_told, own_next, taking}
 use Rattle.e3_law_rounds.proofs.Deliveries.Gathering.{life_on, life_with, rounds_of, rounds_on}
@@ -87,7 +87,7 @@ prepared_begins sc start r all dir h more own done m member leads away fresh com
     q = report_mail sc start r n m
 
     d : Delivery sc r.members h more q []
-    d = deliver sc r.members h more was.queue q [] rest was.is_queue was.plain_queue leads
+    d = deliver sc r.members h more was.queue q [] rest was.is_queue was.unnumbered_queue leads
 
     e : Entry
     e = entry_of sc h r.elector (input.Deliver d.p)
@@ -134,7 +134,7 @@ prepared_begins sc start r all dir h more own done m member leads away fresh com
     now = let shifted = d.shifts makes_now step within in record {
       queue = shifted.0;
       is_queue = shifted.1;
-      plain_queue = shifted.2 ∙ plain_mails r.elector (msg.Pre t n dir) (others r.elector r.members) ∙ sym (append-nil (map (pre_mail r n dir) (others r.elector r.members)));
+      unnumbered_queue = shifted.2 ∙ unnumbered_mails r.elector (msg.Pre t n dir) (others r.elector r.members) ∙ sym (append-nil (map (pre_mail r n dir) (others r.elector r.members)));
       logs = λ x. log_now x (r.elector == x) refl;
       round =
           ap (λ (l : Life). (rounds_of r.elector t l).now) (life_on sc h r.elector (input.Deliver d.p))
@@ -157,7 +157,7 @@ pub record Concludes (t : Txn) (n : ℕ) (v : Verdict) (l : List Record) (made :
   pub decided : is_undecided t (l ++ made.records) ≡ false
   pub more : List Told
   pub told : made.told ≡ told.Verdict t n v ∷ more
-  pub plain_told : list_all no_verdict more ≡ true
+  pub told_no_verdict : list_all no_verdict more ≡ true
 
 -- the verdict decides, or the elector alone is a quorum: the decision goes to the others at once
 pub conclusion_begins : (sc : Scenario) (start : List Entry) (r : RecoveryRound) (all : List ℕ) (dir : Dir) (v : Verdict) (x : Made) (h more : List Entry) (own : ℕ) (done : List ℕ) (m : ℕ) →
@@ -182,7 +182,7 @@ conclusion_begins sc start r all dir v x h more own done m member leads away row
     q = report_mail sc start r n m
 
     d : Delivery sc r.members h more q []
-    d = deliver sc r.members h more was.queue q [] rest was.is_queue was.plain_queue leads
+    d = deliver sc r.members h more was.queue q [] rest was.is_queue was.unnumbered_queue leads
 
     e : Entry
     e = entry_of sc h r.elector (input.Deliver d.p)
@@ -213,7 +213,7 @@ conclusion_begins sc start r all dir v x h more own done m member leads away row
         ap (λ l. staying (parts_of sc h) (map unnumbered l)) outs_are
         ∙ ap (staying (parts_of sc h)) (map-append unnumbered mails follows.dones)
         ∙ filter-append (λ p. same_part (parts_of sc h) p.«from» p.to) (map unnumbered mails) (map unnumbered follows.dones)
-        ∙ ap (λ l. staying (parts_of sc h) l ++ lates) (plain_mails r.elector (msg.Decide t dir) (others r.elector r.members))
+        ∙ ap (λ l. staying (parts_of sc h) l ++ lates) (unnumbered_mails r.elector (msg.Decide t dir) (others r.elector r.members))
         ∙ ap (λ l. l ++ lates) mails_stay
 
     says : verdicts_told t (e ∷ []) ≡ record { site = r.elector; verdict = v } ∷ []
@@ -222,7 +222,7 @@ conclusion_begins sc start r all dir v x h more own done m member leads away row
         let told_is : made.told ≡ told.Verdict t n v ∷ (concludes.more ++ follows.ops) = ap (λ (y : Made). y.told) d.made ∙ follows.told ∙ ap (λ l. l ++ follows.ops) concludes.told in
         ap (λ l. verdicts_told t (record { owner = r.elector; act = Step (input.Deliver d.p) made.records e_outs l } ∷ [])) told_is
         ∙ said_first t n v r.elector (input.Deliver d.p) made.records e_outs (concludes.more ++ follows.ops)
-        (both_all no_verdict concludes.more follows.ops concludes.plain_told (no_verdicts follows.ops follows.tell_answers))
+        (both_all no_verdict concludes.more follows.ops concludes.told_no_verdict (no_verdicts follows.ops follows.tell_answers))
       where
         e_outs : List Packet
         e_outs = numbered (suc (length (sent h))) (made_by sc h r.elector (input.Deliver d.p)).outs
@@ -238,8 +238,8 @@ conclusion_begins sc start r all dir v x h more own done m member leads away row
       queue = d.shifts_any.0;
       is_queue = d.shifts_any.1;
       lates = lates;
-      plain_queue = d.shifts_any.2 ∙ sent_are;
-      are_late = late_staying r (parts_of sc h) (map unnumbered follows.dones) (late_plain r follows.dones ∙ late_answers r r.elector follows.dones follows.are_answers);
+      unnumbered_queue = d.shifts_any.2 ∙ sent_are;
+      are_late = late_staying r (parts_of sc h) (map unnumbered follows.dones) (late_unnumbered r follows.dones ∙ late_answers r r.elector follows.dones follows.are_answers);
       logs = λ s has. log_still sc h r.elector s (input.Deliver d.p) (others_apart r.elector r.members s has);
       decided = λ s has. only s has (r.elector == s) refl;
       entered = entered_told start h r own [] (record { site = r.elector; verdict = v } ∷ []) e was.entered (own_next sc h more q [] r d member (same_self t)) says;

@@ -51,7 +51,7 @@ attempt_of r n dir tried s = if has_site (r.elector ∷ tried) s then log.Attemp
 pub record Prepared (sc : Scenario) (start : List Entry) (r : RecoveryRound) (base : List Entry) (n : ℕ) (dir : Dir) (h : List Entry) (own : ℕ) (said : List ToldVerdict) (done todo : List ℕ) : Type 0 where
   pub queue : List Packet
   pub is_queue : IsQueue sc h queue
-  pub plain_queue : map unnumbered queue ≡ map (pre_mail r n dir) todo ++ map (ack_mail r n dir) done
+  pub unnumbered_queue : map unnumbered queue ≡ map (pre_mail r n dir) todo ++ map (ack_mail r n dir) done
   pub logs : (s : ℕ) → log_of sc h s ≡ log_of sc base s ++ attempt_of r n dir done s
   pub round : (rounds_of r.elector r.txn (life_at (moves_of sc h r.elector))).now ≡ Some (round_with r n dir [])
   pub entered : Entered start h r own said
@@ -74,7 +74,7 @@ prepared_on sc start r base n dir h more own said done todo m member leads from_
     left = map (pre_mail r n dir) todo ++ map (ack_mail r n dir) done
 
     d : Delivery sc r.members h more q left
-    d = deliver sc r.members h more was.queue q left rest was.is_queue was.plain_queue member
+    d = deliver sc r.members h more was.queue q left rest was.is_queue was.unnumbered_queue member
 
     e : Entry
     e = entry_of sc h m (input.Deliver d.p)
@@ -102,7 +102,7 @@ prepared_on sc start r base n dir h more own said done todo m member leads from_
     now = let shifted = d.shifts makes_now step within in record {
       queue = shifted.0;
       is_queue = shifted.1;
-      plain_queue =
+      unnumbered_queue =
           shifted.2 ∙ append_assoc (map (pre_mail r n dir) todo) (map (ack_mail r n dir) done) (ack_mail r n dir m ∷ [])
           ∙ ap (λ l. map (pre_mail r n dir) todo ++ l) (sym (map-append (ack_mail r n dir) done (m ∷ [])));
       logs = λ x. log_now x (m == x) refl;
@@ -139,7 +139,7 @@ pub acknowledged_begins : (sc : Scenario) (start : List Entry) (r : RecoveryRoun
 acknowledged_begins sc start r base n dir h own said all was = record {
   queue = was.queue;
   is_queue = was.is_queue;
-  plain_queue = was.plain_queue;
+  unnumbered_queue = was.unnumbered_queue;
   logs = λ s. refl;
   round = was.round;
   entered = was.entered;
@@ -163,7 +163,7 @@ won_on sc start r base n dir h more own said todo m member leads away rest was =
     left = map (ack_mail r n dir) todo ++ (map (decide_mail r dir) (others r.elector r.members) ++ was.lates)
 
     d : Delivery sc r.members h more q left
-    d = deliver sc r.members h more was.queue q left rest was.is_queue was.plain_queue leads
+    d = deliver sc r.members h more was.queue q left rest was.is_queue was.unnumbered_queue leads
 
     e : Entry
     e = entry_of sc h r.elector (input.Deliver d.p)
@@ -188,7 +188,7 @@ won_on sc start r base n dir h more own said todo m member leads away rest was =
       queue = shifted.0;
       is_queue = shifted.1;
       lates = was.lates;
-      plain_queue = shifted.2 ∙ append-nil left;
+      unnumbered_queue = shifted.2 ∙ append-nil left;
       are_late = was.are_late;
       logs = λ s other. log_still sc h r.elector s (input.Deliver d.p) other ∙ was.logs s other;
       decided =
@@ -222,7 +222,7 @@ decided_begins sc start r base n dir h own said was = record {
   queue = was.queue;
   is_queue = was.is_queue;
   lates = was.lates;
-  plain_queue = was.plain_queue;
+  unnumbered_queue = was.unnumbered_queue;
   are_late = was.are_late;
   logs = λ s has. was.logs s (others_apart r.elector r.members s has);
   decided = λ s has. only s has (r.elector == s) refl;

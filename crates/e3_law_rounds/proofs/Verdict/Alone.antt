@@ -29,13 +29,14 @@ use Rattle.e3_world.specs.Steps.{on_input, step_at}
 use Rattle.e3_world.proofs.Turns.{self}
 use Rattle.e3_law_rounds.specs.Queues.{IsCounted, IsQueue}
 use Rattle.e3_law_rounds.specs.Rounds.{elect_entry, verdicts_told}
-use Rattle.e3_law_rounds.proofs.Phases.Decided.{Decided, late_plain, late_staying}
+use Rattle.e3_law_rounds.proofs.Phases.Decided.{Decided, late_unnumbered, late_staying}
 use Rattle.e3_law_steps.proofs.Deciding.{AddsAnswers, step_adds_answers}
-use Rattle.e3_law_rounds.proofs.Deliveries.Delivering.{Entered, plain_staying}
+use Rattle.e3_law_rounds.proofs.Deliveries.Delivering.{Entered, unnumbered_staying}
 use Rattle.e3_law_rounds.proofs.Phases.Joined.{number_of, site_report}
-use Rattle.e3_law_steps.proofs.Moving.{log_on, place, place_log, plain_numbered}
+use Rattle.e3_world.proofs.Numbers.{unnumber_numbered}
+use Rattle.e3_law_steps.proofs.Moving.{log_on, place, place_log}
 use Rattle.e3_law_rounds.proofs.Deliveries.Queue.{queue_begins, queue_entry, queue_entry_any, queue_is_pending, staying}
-use Rattle.e3_law_rounds.proofs.Phases.Rows.{cast_is, mail, makes, now_attempt, now_elected, now_state, plain_step}
+use Rattle.e3_law_rounds.proofs.Phases.Rows.{cast_is, mail, makes, now_attempt, now_elected, now_state, step_without_grants}
 use Rattle.e3_law_rounds.proofs.Tail.{late_answers, no_verdict, no_verdicts}
 use Rattle.e3_law_rounds.proofs.Phases.Turning.{Concludes, said_first}
 use Rattle.e3_law_steps.proofs.Tests.{same_self}
@@ -79,9 +80,9 @@ alone_concludes sc start r dir n v x one counted none calm row concludes = recor
   queue = staying (parts_of sc start) (numbered (suc (length (sent start))) (made_by sc start r.elector i).outs);
   is_queue = queue_entry_any sc start r.elector i [] counted calm tt (queue_begins sc start counted none).waiting;
   lates = lates;
-  plain_queue = plain_staying (parts_of sc start) (numbered (suc (length (sent start))) (made_by sc start r.elector i).outs)
-      ∙ ap (staying (parts_of sc start)) (plain_numbered (suc (length (sent start))) (made_by sc start r.elector i).outs ∙ ap (map unnumbered) outs_are);
-  are_late = late_staying r (parts_of sc start) (map unnumbered follows.dones) (late_plain r follows.dones ∙ late_answers r r.elector follows.dones follows.are_answers);
+  unnumbered_queue = unnumbered_staying (parts_of sc start) (numbered (suc (length (sent start))) (made_by sc start r.elector i).outs)
+      ∙ ap (staying (parts_of sc start)) (unnumber_numbered (suc (length (sent start))) (made_by sc start r.elector i).outs ∙ ap (map unnumbered) outs_are);
+  are_late = late_staying r (parts_of sc start) (map unnumbered follows.dones) (late_unnumbered r follows.dones ∙ late_answers r r.elector follows.dones follows.are_answers);
   logs = λ s has. absurd cc;
   decided = λ s has. only s has (r.elector == s) refl;
   entered = record {
@@ -91,7 +92,7 @@ alone_concludes sc start r dir n v x one counted none calm row concludes = recor
     says =
         ap (λ l. verdicts_told t (record { owner = r.elector; act = Step i made.records (numbered (suc (length (sent start))) made.outs) l } ∷ [])) told_is
         ∙ said_first t n v r.elector i made.records (numbered (suc (length (sent start))) made.outs) (concludes.more ++ follows.ops)
-        (both_all no_verdict concludes.more follows.ops concludes.plain_told (no_verdicts follows.ops follows.tell_answers));
+        (both_all no_verdict concludes.more follows.ops concludes.told_no_verdict (no_verdicts follows.ops follows.tell_answers));
   };
 }
   where
@@ -166,7 +167,7 @@ alone_blocked sc start r have total one counted none calm low blocked = (
     row = rw blocked refl
 
     made : made_by sc start r.elector i ≡ makes_now
-    made = plain_step (alone_at sc start r) makes_now (alone_input sc start r one low ∙ row) refl refl
+    made = step_without_grants (alone_at sc start r) makes_now (alone_input sc start r one low ∙ row) refl refl
 
     queue : IsQueue sc (start ++ elect_entry sc start r ∷ []) (numbered (suc (length (sent start))) (made_by sc start r.elector i).outs)
     queue = queue_entry sc start r.elector i [] counted calm tt (queue_begins sc start counted none).waiting (rw made refl)

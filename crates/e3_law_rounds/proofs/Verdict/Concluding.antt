@@ -52,8 +52,8 @@ final_concludes a t n dir rs either = by (may_decide a t dir (told_final t n dir
     decides = ap (is_undecided t) (sym (append_assoc a.life.log rs (log.Decision t dir ∷ []))) ∙ decides_now t (a.life.log ++ rs) dir
 
     choose : (b : Bool) → (is_coordinator a t && is_present a t) ≡ b → Concludes t n (final_of dir) a.life.log (and_decide a t dir (told_final t n dir rs))
-    choose true is = rw is (record { outs = refl; own = refl; decided = decides; more = told.Ended t dir ∷ []; told = refl; plain_told = refl })
-    choose false is = rw is (record { outs = refl; own = refl; decided = decides; more = []; told = refl; plain_told = refl })
+    choose true is = rw is (record { outs = refl; own = refl; decided = decides; more = told.Ended t dir ∷ []; told = refl; told_no_verdict = refl })
+    choose false is = rw is (record { outs = refl; own = refl; decided = decides; more = []; told = refl; told_no_verdict = refl })
 
     already : (b : Bool) → is_undecided t (a.life.log ++ rs) ≡ b → (is_undecided t (a.life.log ++ rs) && fits t dir (a.life.log ++ rs)) ≡ false →
         (is_undecided t (a.life.log ++ rs) ≡ false) ⊎ (fits t dir (a.life.log ++ rs) ≡ true) → is_undecided t (a.life.log ++ rs) ≡ false
@@ -65,7 +65,7 @@ final_concludes a t n dir rs either = by (may_decide a t dir (told_final t n dir
     by true is = subst (λ b. Concludes t n (final_of dir) a.life.log (if b then and_decide a t dir (told_final t n dir rs) else told_final t n dir rs)) (sym is) (choose (is_coordinator a t && is_present a t) refl)
     by false is =
         subst (λ b. Concludes t n (final_of dir) a.life.log (if b then and_decide a t dir (told_final t n dir rs) else told_final t n dir rs)) (sym is)
-        (record { outs = refl; own = refl; decided = already (is_undecided t (a.life.log ++ rs)) refl (sym (may_be a t n dir rs) ∙ is) either; more = []; told = refl; plain_told = refl })
+        (record { outs = refl; own = refl; decided = already (is_undecided t (a.life.log ++ rs)) refl (sym (may_be a t n dir rs) ∙ is) either; more = []; told = refl; told_no_verdict = refl })
 
 -- the elector attempts, and is a quorum by itself: it decides at once
 abbrev pub alone_made : At → Txn → ℕ → Dir → List Record → Made
@@ -84,5 +84,5 @@ alone_concludes a t n dir rs = choose (is_coordinator a t && is_present a t) ref
     decides = ap (is_undecided t) (sym (append_assoc a.life.log (rs ++ log.Attempt t n dir ∷ []) (log.Decision t dir ∷ []))) ∙ decides_now t (a.life.log ++ (rs ++ log.Attempt t n dir ∷ [])) dir
 
     choose : (b : Bool) → (is_coordinator a t && is_present a t) ≡ b → Concludes t n (pre_of dir) a.life.log (alone_made a t n dir rs)
-    choose true is = rw is (record { outs = refl; own = refl; decided = decides; more = told.Ended t dir ∷ []; told = refl; plain_told = refl })
-    choose false is = rw is (record { outs = refl; own = refl; decided = decides; more = []; told = refl; plain_told = refl })
+    choose true is = rw is (record { outs = refl; own = refl; decided = decides; more = told.Ended t dir ∷ []; told = refl; told_no_verdict = refl })
+    choose false is = rw is (record { outs = refl; own = refl; decided = decides; more = []; told = refl; told_no_verdict = refl })

@@ -31,7 +31,7 @@ use Rattle.e3_law_serial.proofs.Site.Keeping.{IsRising, next, no_vote}
 use Rattle.e3_law_serial.proofs.Lists.Members.{in_append, in_split}
 use Rattle.e3_law_serial.proofs.Site.Recording.{VoteMade, rule_made, shaped_records, vote_done}
 use Rattle.e3_law_serial.proofs.Step.Shapes.{FromAway, step_shape}
-use Rattle.e3_law_serial.proofs.Site.Sites.{place, life_step, life_silent, life_rose, fits_plain, fits_away, rise_rising, run_in_turn, run_log}
+use Rattle.e3_law_serial.proofs.Site.Sites.{place, life_step, life_silent, life_rose, fits_unnumbered, fits_away, rise_rising, run_in_turn, run_log}
 use Rattle.e3_law_serial.proofs.Step.Steadying.{IsMoment, arrived_in, taken_own}
 use Rattle.e3_law_serial.proofs.Step.Stepping.{moment, is_moment}
 
@@ -116,7 +116,7 @@ module _ (weights : List ℕ) (a : At) (fits : Fits weights a.site a.life a.inpu
 step_few : (sc : Scenario) (site : ℕ) (mine : List Move) (i : Input) → Fits sc.weights site (life_at mine) i → Few site (life_at mine) →
     Few site (life_at (mine ++ step_move sc site mine i ∷ []))
 step_few sc site mine i fits k = subst (λ l. Few site l) (sym (life_step sc site mine i))
-    (few_next sc.weights (place sc.weights site (life_at mine) i) (fits_plain sc.weights site (life_at mine) i fits) (fits_away sc.weights site (life_at mine) i fits) k)
+    (few_next sc.weights (place sc.weights site (life_at mine) i) (fits_unnumbered sc.weights site (life_at mine) i fits) (fits_away sc.weights site (life_at mine) i fits) k)
 
 -- a site that starts anew over this log
 rest_few : (site inc : ℕ) (records : List Record) → VotesAreFew records → Few site (record { log = records; inc = inc; steps = [] })

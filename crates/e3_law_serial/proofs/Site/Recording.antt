@@ -14,7 +14,7 @@ use Rattle.e3_world.specs.declared.lives.Performed.{Performed}
 use Rattle.e3_world.specs.Logs.{is_undecided}
 use Rattle.e3_world.specs.Making.{nothing, state_now, and_do}
 use Rattle.e3_world.specs.Operations.{arrivals, is_answered, done}
-use Rattle.e3_law_serial.proofs.Step.Rules.{IsNote, Commits, IsAsked, Ruled, Start, Notes, Decides, Votes, Tells, Says, Asks, Issues, Rule, Plain, Hears, Locks, Repeats, Shaped}
+use Rattle.e3_law_serial.proofs.Step.Rules.{IsNote, Commits, IsAsked, Ruled, Start, Notes, Decides, Votes, Tells, Says, Asks, Issues, Rule, Otherwise, Hears, Locks, Repeats, Shaped}
 use Rattle.e3_law_serial.proofs.Lists.Entries.{In}
 use Rattle.e3_law_serial.proofs.Lists.Members.{in_filter}
 use Rattle.e3_law_serial.proofs.Step.Arrivals.{answered_from, of_txn}
@@ -92,7 +92,7 @@ ruled_made a _ (Asks to t made away commits voted k) before after r e = ruled_ma
 ruled_made a _ (Issues to t op away takes allowed) before after r e = absurd (no_split before r after (sym (sent_records a to _ nothing) ∙ e))
 
 pub rule_made : (a : At) (rule : Made) → Rule a rule → (before after : List Record) (r : Record) → rule.records ≡ before ++ r ∷ after → RecordMade a before r
-rule_made a _ (Plain made k) before after r e = ruled_made a made k before after r e
+rule_made a _ (Otherwise made k) before after r e = ruled_made a made k before after r e
 rule_made a _ (Hears t n v k) before after r e = absurd (no_split before r after e)
 rule_made a _ (Locks t n op k) before after r e = absurd (no_split before r after (sym (sent_records a t.site _ nothing) ∙ e))
 rule_made a _ (Repeats t n v k) before after r e = absurd (no_split before r after (sym (sent_records a t.site _ nothing) ∙ e))

@@ -22,7 +22,7 @@ use Rattle.e3_world.specs.Making.{nothing, log_now, steps_now, and_send, own_wri
 use Rattle.e3_world.specs.Operations.{is_refusal, taken_up, same_asked, is_fresh, and_arrived, arrivals, answers, is_answered, performed_by, done}
 use Rattle.e3_world.specs.Sound.{Fits}
 use Rattle.e3_world.specs.Steps.{step_at}
-use Rattle.e3_law_serial.proofs.Step.Rules.{Rule, Plain, Hears, Locks, Repeats, Shaped}
+use Rattle.e3_law_serial.proofs.Step.Rules.{Rule, Otherwise, Hears, Locks, Repeats, Shaped}
 use Rattle.e3_law_serial.proofs.Lists.Entries.{In, name_of, changes}
 use Rattle.e3_law_serial.proofs.Lists.Members.{in_back, in_filter}
 use Rattle.e3_law_serial.proofs.Lists.Replaying.{filter-append}
@@ -121,7 +121,7 @@ module _ (weights : List ℕ) (a : At) (steady : Steady a.site a.life.steps) (fi
         none made e = ap (λ l. rows_in (a.life.log ++ l) (name_of q.op)) e ∙ ap (λ l. rows_in l (name_of q.op)) (append-nil a.life.log)
 
         by : (rule : Made) → Rule a rule → is_undecided t (log_now a rule) ≡ true → rows_in (log_now a rule) (name_of q.op) ≡ rows_in a.life.log (name_of q.op)
-        by _ (Plain made k) open_yet = ruled_table a t (name_of q.op) free made k open_yet
+        by _ (Otherwise made k) open_yet = ruled_table a t (name_of q.op) free made k open_yet
         by _ (Hears u n v k) open_yet = ap (λ l. rows_in l (name_of q.op)) (append-nil a.life.log)
         by _ (Locks u n op k) open_yet = none (and_do a u n op nothing) (lock_records a u n op)
         by _ (Repeats u n v k) open_yet = none (and_send a u.site (msg.Done u n a.life.inc v) nothing) (sent_records a u.site (msg.Done u n a.life.inc v) nothing)

@@ -67,14 +67,14 @@ life_step sc site mine i =
     })
 
 -- what fits a site fits it without the packet's number
-pub fits_plain : (weights : List ℕ) (site : ℕ) (life : Life) (i : Input) → Fits weights site life i → Fits weights site life (unnumbered_input i)
-fits_plain weights site life (input.Deliver packet) f = record { among = f.among; to = f.to; sender = f.sender; message = f.message }
-fits_plain weights site life (input.Begin sites) f = f
-fits_plain weights site life (input.Do t op) f = f
-fits_plain weights site life (input.Commit t) f = f
-fits_plain weights site life (input.Cancel t) f = f
-fits_plain weights site life (input.Expire t) f = f
-fits_plain weights site life (input.Elect t group) f = f
+pub fits_unnumbered : (weights : List ℕ) (site : ℕ) (life : Life) (i : Input) → Fits weights site life i → Fits weights site life (unnumbered_input i)
+fits_unnumbered weights site life (input.Deliver packet) f = record { among = f.among; to = f.to; sender = f.sender; message = f.message }
+fits_unnumbered weights site life (input.Begin sites) f = f
+fits_unnumbered weights site life (input.Do t op) f = f
+fits_unnumbered weights site life (input.Commit t) f = f
+fits_unnumbered weights site life (input.Cancel t) f = f
+fits_unnumbered weights site life (input.Expire t) f = f
+fits_unnumbered weights site life (input.Elect t group) f = f
 
 pub fits_away : (weights : List ℕ) (site : ℕ) (life : Life) (i : Input) → Fits weights site life i → FromAway site (unnumbered_input i)
 fits_away weights site life (input.Deliver packet) f = false_from_ne_true _ (λ y. others_lack site packet.«from» (Rattle.e3_world.specs.Sound.txn_in packet.msg).sites f.sender (eqb-true packet.«from» site y))
@@ -125,7 +125,7 @@ step_record a away before after r e h = elim (step_shape a away) [
 -- a step
 pub step_site : (sc : Scenario) (site : ℕ) (mine : List Move) (i : Input) → SiteKeeps sc site mine → has_risen mine ≡ true → Fits sc.weights site (life_at mine) i → SiteKeeps sc site (mine ++ step_move sc site mine i ∷ [])
 step_site sc site mine i k up fits = record {
-  keeps = subst (λ l. Keeps site l) (sym (life_step sc site mine i)) (step_keeps sc.weights a k.keeps (fits_plain sc.weights site (life_at mine) i fits) away);
+  keeps = subst (λ l. Keeps site l) (sym (life_step sc site mine i)) (step_keeps sc.weights a k.keeps (fits_unnumbered sc.weights site (life_at mine) i fits) away);
   born = λ before after r e. born before after r (append_split (log_by mine) (recorded (step_move sc site mine i)) before r after (sym (log_push mine (step_move sc site mine i)) ∙ e));
   risen = λ u e. more_some (log_by mine) (recorded (step_move sc site mine i)) (k.risen up) (sym (log_push mine (step_move sc site mine i)) ∙ e);
 }

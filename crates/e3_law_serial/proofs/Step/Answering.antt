@@ -17,7 +17,7 @@ use Rattle.e3_world.specs.declared.lives.At.{At}
 use Rattle.e3_world.specs.declared.lives.Made.{Made}
 use Rattle.e3_world.specs.Making.{nothing, and_record, and_tell, and_send, answer_now, and_do, grants_after, decides, and_grant, and_grants}
 use Rattle.e3_world.specs.Operations.{done}
-use Rattle.e3_law_serial.proofs.Step.Rules.{IsNews, IsWord, Hearing, Locking, Repeating, Ruled, Start, Notes, Decides, Votes, Tells, Says, Asks, Issues, Rule, Plain, Hears, Locks, Repeats, TellsOwn, Shaped}
+use Rattle.e3_law_serial.proofs.Step.Rules.{IsNews, IsWord, Hearing, Locking, Repeating, Ruled, Start, Notes, Decides, Votes, Tells, Says, Asks, Issues, Rule, Otherwise, Hears, Locks, Repeats, TellsOwn, Shaped}
 use Rattle.e3_law_serial.proofs.Lists.Entries.{In}
 use Rattle.e3_law_serial.proofs.Lists.Members.{in_append}
 use Rattle.e3_law_serial.proofs.Lists.Facts.{is_in}
@@ -76,7 +76,7 @@ shows_tell e made t n v (InTold k) = elim (in_append made.told (e ∷ []) (told.
 shows_tell e made t n v (InOuts p inc k is) = inl (InOuts p inc k is)
 shows_tell e made t n v (InOwn inc k) = inl (InOwn inc k)
 
--- a rule that is plain shows none
+-- a rule that is none of the three shows none
 ruled_shows : (a : At) (made : Made) (t : Txn) (n : ℕ) (v : Answer) → Ruled a made → Shows made t n v → ⊥
 ruled_shows a _ t n v Start h = shows_nothing t n v h
 ruled_shows a _ t n v (Notes r made note k) h = ruled_shows a made t n v k (shows_record r made t n v h)
@@ -108,7 +108,7 @@ pub data Cause (a : At) (rule : Made) (t : Txn) (n : ℕ) (v : Answer) : Type 0 
       v ≡ answer_now a g.txn g.op (fold (and_grant a) rule before) → list_any decides rule.records ≡ true → Ruled a rule → Cause a rule t n v
 
 rule_shows : (a : At) (rule : Made) (t : Txn) (n : ℕ) (v : Answer) → Rule a rule → Shows rule t n v → Cause a rule t n v
-rule_shows a _ t n v (Plain made k) h = absurd (ruled_shows a made t n v k h)
+rule_shows a _ t n v (Otherwise made k) h = absurd (ruled_shows a made t n v k h)
 rule_shows a _ t n v (Hears u m w hearing) h = elim (shows_tell (told.Op u m w) nothing t n v h) [
   | inl old ↦ absurd (shows_nothing t n v old)
   | inr is ↦ (
@@ -156,9 +156,9 @@ grant_shows a (q ∷ qs) made t n v h = by (grant_shows a qs (and_grant a made q
     by (inl k) = elim (shows_send a q.txn.site _ made t n v k) [ inl old ↦ inl old | inr is ↦ inr (first is.0 is.1) ]
     by (inr g) = inr (record { g = g.g; before = q ∷ g.before; after = g.after; split = ap (λ z. q ∷ z) g.split; txn = g.txn; number = g.number; answer = g.answer })
 
--- a rule that grants is plain
+-- a rule that grants is none of the three
 ruled_from : (a : At) (rule : Made) → Rule a rule → list_any decides rule.records ≡ true → Ruled a rule
-ruled_from a _ (Plain made k) h = k
+ruled_from a _ (Otherwise made k) h = k
 ruled_from a _ (Hears t n v k) h = absurd (true≢false (sym h))
 ruled_from a _ (Locks t n op k) h = absurd (true≢false (sym h ∙ sent_records (t.site == a.site)))
   where

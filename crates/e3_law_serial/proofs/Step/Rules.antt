@@ -109,7 +109,7 @@ pub data Ruled (a : At) : Made → Type 0 where
 
 -- what a rule makes: an operation that gets its lock, one that is answered again, an answer that is told, or none of these
 pub data Rule (a : At) : Made → Type 0 where
-  Plain : (made : Made) → Ruled a made → Rule a made
+  Otherwise : (made : Made) → Ruled a made → Rule a made
   Hears : (t : Txn) (n : ℕ) (answer : Answer) → Hearing a t n answer → Rule a (and_tell (told.Op t n answer) nothing)
   Locks : (t : Txn) (n : ℕ) (op : Op) → Locking a t n op → Rule a (and_do a t n op nothing)
   Repeats : (t : Txn) (n : ℕ) (answer : Answer) → Repeating a t n answer → Rule a (and_send a t.site (msg.Done t n a.life.inc answer) nothing)

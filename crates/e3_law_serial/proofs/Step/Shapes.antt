@@ -22,7 +22,7 @@ use Rattle.e3_world.specs.Logs.{key_of}
 use Rattle.e3_world.specs.Making.{nothing, log_now, steps_now, open_now, is_coordinator, is_present, and_tell, and_send, answer_now, grants_after, decides, and_grant, and_grants}
 use Rattle.e3_world.specs.Operations.{issued, nth_op, done, unanswered, expected}
 use Rattle.e3_world.specs.Steps.{refuse, or_refused, on_begin, on_input, handled, settle, step_at}
-use Rattle.e3_law_serial.proofs.Step.Rules.{Ruled, Start, Notes, Decides, Votes, Tells, Says, Asks, Issues, Rule, Plain, Hears, Locks, Repeats, TellsOwn, Shaped}
+use Rattle.e3_law_serial.proofs.Step.Rules.{Ruled, Start, Notes, Decides, Votes, Tells, Says, Asks, Issues, Rule, Otherwise, Hears, Locks, Repeats, TellsOwn, Shaped}
 use Rattle.e3_law_serial.proofs.Step.Walk.{keep_on_do, keep_delivery, keep_commit, keep_expire, keep_join, keep_cast, keep_abort, allowed_parts}
 use Rattle.e3_world.specs.OperationRules.{on_do, on_done}
 use Rattle.e3_world.specs.Gatherings.{Election}
@@ -56,7 +56,7 @@ ruled_none a _ (Asks to t made away commits voted k) = rw away (ruled_none a mad
 ruled_none a _ (Issues to t op away takes allowed) = rw away refl
 
 pub ruled_own : (a : At) (made : Made) → Rule a made → Each (IsOwnAnswer a) made.own
-ruled_own a _ (Plain made k) = subst (λ z. Each (IsOwnAnswer a) z) (sym (ruled_none a made k)) tt
+ruled_own a _ (Otherwise made k) = subst (λ z. Each (IsOwnAnswer a) z) (sym (ruled_none a made k)) tt
 ruled_own a _ (Hears t n answer h) = tt
 ruled_own a _ (Locks t n op l) = send_own a t.site _ nothing tt (λ is. (t, n, answer_now a t op nothing, refl))
 ruled_own a _ (Repeats t n answer r) = send_own a t.site _ nothing tt (λ is. (t, n, answer, refl))
@@ -193,17 +193,17 @@ issue_shape a t op None takes is = by ((key_of op).site == a.site) refl
     by true here = rw here (inr (shape_from 1 a (on_do a a.site t (suc (length (issued t a.life.steps))) op nothing)
         (keep_on_do a a.site t (suc (length (issued t a.life.steps))) op (record { how = inr (takes, is, refl, eqb-true (key_of op).site a.site here) })
         (λ state. absurd (let both : Q ≡ A = sym (allowed_parts a t is).2 ∙ state in cc)))))
-    by false away = inr (shape_from 2 a (and_send a (key_of op).site m nothing) (Plain _ (Issues (key_of op).site t op away takes is)))
+    by false away = inr (shape_from 2 a (and_send a (key_of op).site m nothing) (Otherwise _ (Issues (key_of op).site t op away takes is)))
 
 input_shape : (a : At) (i : Input) → a.input ≡ i → FromAway a.site i → Comes_to a (settle 3 a (and_grants a 0 (on_input a i nothing)))
-input_shape a (input.Begin sites) is away = inr (shape_from 2 a (on_begin a sites nothing) (Plain _ (Tells _ nothing tt Start)))
+input_shape a (input.Begin sites) is away = inr (shape_from 2 a (on_begin a sites nothing) (Otherwise _ (Tells _ nothing tt Start)))
 input_shape a (input.Do t op) is away = issue_shape a t op (refuse a t false nothing) is refl
-input_shape a (input.Commit t) is away = or_shape a t (refuse a t false nothing) _ (λ allowed. Plain _ (keep_commit a t (record { takes = is; allowed = allowed })))
-input_shape a (input.Cancel t) is away = or_shape a t (refuse a t true nothing) _ (λ allowed. Plain _ (keep_abort a t nothing (allowed_open a t true allowed) Start))
-input_shape a (input.Expire t) is away = inr (shape_from 2 a _ (Plain _ (keep_expire a t)))
+input_shape a (input.Commit t) is away = or_shape a t (refuse a t false nothing) _ (λ allowed. Otherwise _ (keep_commit a t (record { takes = is; allowed = allowed })))
+input_shape a (input.Cancel t) is away = or_shape a t (refuse a t true nothing) _ (λ allowed. Otherwise _ (keep_abort a t nothing (allowed_open a t true allowed) Start))
+input_shape a (input.Expire t) is away = inr (shape_from 2 a _ (Otherwise _ (keep_expire a t)))
 input_shape a (input.Elect t group) is away =
     let e : Election = begun a.site (next_call a.life.inc a.life.steps) group (elected_now a t nothing) in
-    inr (shape_from 2 a _ (Plain _ (keep_join a t e _ (keep_cast a group (msg.Ask t e.call) nothing tt Start))))
+    inr (shape_from 2 a _ (Otherwise _ (keep_join a t e _ (keep_cast a group (msg.Ask t e.call) nothing tt Start))))
 input_shape a (input.Deliver p) is away = inr (shape_from 2 a _ (keep_delivery a p p.msg is refl away))
 
 pub step_shape : (a : At) → FromAway a.site a.input → Comes_to a (step_at a)

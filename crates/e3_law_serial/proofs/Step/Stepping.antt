@@ -25,7 +25,7 @@ use Rattle.e3_world.specs.Making.{nothing, log_now, steps_now, and_send, answer_
 use Rattle.e3_world.specs.Operations.{is_refusal, issued, issued_in, nth_op, taken_up, same_asked, is_fresh, and_arrived, arrivals, answer_told, answer_sent, answers, is_answered, waiting}
 use Rattle.e3_world.specs.Sound.{Fits}
 use Rattle.e3_world.specs.Steps.{refuse, or_refused, on_input, settle, step_at}
-use Rattle.e3_law_serial.proofs.Step.Rules.{IsNews, Hearing, Comes, Locking, Ruled, Start, Notes, Decides, Votes, Tells, Says, Asks, Issues, Rule, Plain, Hears, Locks, Repeats, TellsOwn, Shaped}
+use Rattle.e3_law_serial.proofs.Step.Rules.{IsNews, Hearing, Comes, Locking, Ruled, Start, Notes, Decides, Votes, Tells, Says, Asks, Issues, Rule, Otherwise, Hears, Locks, Repeats, TellsOwn, Shaped}
 use Rattle.e3_law_serial.proofs.Lists.Entries.{In}
 use Rattle.e3_law_serial.proofs.Lists.Members.{in_append, in_back, in_filter, filter_in}
 use Rattle.e3_law_serial.proofs.Step.Shapes.{FromAway}
@@ -105,7 +105,7 @@ ruled_calm a _ (Asks to t made away commits voted k) = subst (λ l. Each Calm l)
 ruled_calm a _ (Issues to t op away takes allowed) = subst (λ l. Each Calm l) (sym (sent_told a to _ nothing)) tt
 
 rule_calm : (a : At) (rule : Made) → Rule a rule → Each Calm rule.told
-rule_calm a _ (Plain made k) = ruled_calm a made k
+rule_calm a _ (Otherwise made k) = ruled_calm a made k
 rule_calm a _ (Hears t n v k) = (refl, tt)
 rule_calm a _ (Locks t n op k) = subst (λ l. Each Calm l) (sym (sent_told a t.site _ nothing)) tt
 rule_calm a _ (Repeats t n v k) = subst (λ l. Each Calm l) (sym (sent_told a t.site _ nothing)) tt

@@ -48,7 +48,7 @@ use Rattle.e3_types.specs.declared.entries.Refusal.TheVariants as refusal
 use Rattle.std.specs.Prelude.{is_none}
 use Rattle.e3_world.specs.Logs.{has_voted, decision, decision_by, is_undecided}
 use Rattle.e3_world.specs.Operations.{nth_op}
-use Rattle.e3_law_serial.proofs.Step.Rules.{IsNote, IsNews, IsWord, Commits, Comes, Ruled, Start, Notes, Decides, Votes, Tells, Says, Asks, Rule, Plain, Hears, Locks, Repeats}
+use Rattle.e3_law_serial.proofs.Step.Rules.{IsNote, IsNews, IsWord, Commits, Comes, Ruled, Start, Notes, Decides, Votes, Tells, Says, Asks, Rule, Otherwise, Hears, Locks, Repeats}
 use Rattle.e3_law_steps.proofs.Adding.{idle_open, may_open, abort_open}
 use Rattle.e3_law_steps.proofs.Rules.{by_grant, dies, behind_join}
 use Rattle.e3_law_steps.proofs.Tests.{same_self}
@@ -158,12 +158,12 @@ keep_on_do a f t n op comes away = by (state_now a t nothing) refl
         lock_grant (record { txn = t; mode = mode_of op }) (holders a.site (key_of op).name (log_now a nothing) a.life.steps)
         (queue (key_of op).name (waiting a.site (log_now a nothing) a.life.steps)) ≡ g → Rule a (by_grant a t n op nothing g)
     granted_by Held state none absent is = Locks t n op (record { comes = comes; idle = state; unanswered = none; absent = absent; held = is })
-    granted_by Waits state none absent is = Plain nothing Start
-    granted_by (Dies older) state none absent is = Plain _ (keep_dies a t n nothing older (idle_open t (log_now a nothing) state) Start (is_coordinator a t) refl)
+    granted_by Waits state none absent is = Otherwise nothing Start
+    granted_by (Dies older) state none absent is = Otherwise _ (keep_dies a t n nothing older (idle_open t (log_now a nothing) state) Start (is_coordinator a t) refl)
 
     new : (b : Bool) → state_now a t nothing ≡ Q → answers (record { txn = t; n = n; op = op }) a.life.steps ≡ [] →
         list_any (same_asked (record { txn = t; n = n; op = op })) (waiting a.site (log_now a nothing) a.life.steps) ≡ b → Rule a (on_do a f t n op nothing)
-    new true state none is = rw (state, none, is) (Plain nothing Start)
+    new true state none is = rw (state, none, is) (Otherwise nothing Start)
     new false state none is = rw (state, none, is) (granted_by
         (lock_grant (record { txn = t; mode = mode_of op }) (holders a.site (key_of op).name (log_now a nothing) a.life.steps)
         (queue (key_of op).name (waiting a.site (log_now a nothing) a.life.steps))) state none is refl)
@@ -173,12 +173,12 @@ keep_on_do a f t n op comes away = by (state_now a t nothing) refl
     answered (answer ∷ more) state is = rw (state, is) (Repeats t n answer (record { op = op; comes = comes; idle = state; more = more; answered = is }))
 
     by : (st : State) → state_now a t nothing ≡ st → Rule a (on_do a f t n op nothing)
-    by A state = rw state (Plain _ (Says f (msg.Vote t false) nothing (away state) tt Start))
+    by A state = rw state (Otherwise _ (Says f (msg.Vote t false) nothing (away state) tt Start))
     by Q state = answered (answers (record { txn = t; n = n; op = op }) a.life.steps) state refl
-    by W state = rw state (Plain nothing Start)
-    by Pc state = rw state (Plain nothing Start)
-    by Pa state = rw state (Plain nothing Start)
-    by C state = rw state (Plain nothing Start)
+    by W state = rw state (Otherwise nothing Start)
+    by Pc state = rw state (Otherwise nothing Start)
+    by Pa state = rw state (Otherwise nothing Start)
+    by C state = rw state (Otherwise nothing Start)
 
 -- an answer of another site
 keep_on_done : (a : At) (packet : Packet) (t : Txn) (n inc : ℕ) (answer : Answer) → a.input ≡ input.Deliver packet → packet.msg ≡ msg.Done t n inc answer →
@@ -224,7 +224,7 @@ keep_on_done a packet t n inc answer takes says = by (is_coordinator a t && is_p
       there = o.2;
       same = is;
     })
-    counts false home present still last o is = Plain _ (keep_choice a (may_abort a t nothing) _ nothing (keep_abort_for a t _ nothing tt still Start) Start)
+    counts false home present still last o is = Otherwise _ (keep_choice a (may_abort a t nothing) _ nothing (keep_abort_for a t _ nothing tt still Start) Start)
 
     passes : (b : Bool) → (is_unanswered (unanswered t (log_now a nothing) (steps_now a nothing)) && is_from (nth_op n (issued t (steps_now a nothing)))) ≡ b →
         (is_coordinator a t && is_present a t && open_now a t nothing) ≡ true → Rule a (on_done a packet.«from» t n inc answer nothing)
@@ -233,11 +233,11 @@ keep_on_done a packet t n inc answer takes says = by (is_coordinator a t && is_p
         let q : _ = and_parts _ _ is in
         let r : _ = and_parts _ _ q.0 in
         rw (is, both) (counts _ r.0 r.1 q.1 (the_n (unanswered t (log_now a nothing) (steps_now a nothing)) refl p.0) (the_op (nth_op n (issued t (steps_now a nothing))) refl p.1) refl)
-    passes false both is = rw (is, both) (Plain nothing Start)
+    passes false both is = rw (is, both) (Otherwise nothing Start)
 
     by : (b : Bool) → (is_coordinator a t && is_present a t && open_now a t nothing) ≡ b → Rule a (on_done a packet.«from» t n inc answer nothing)
     by true is = passes (is_unanswered (unanswered t (log_now a nothing) (steps_now a nothing)) && is_from (nth_op n (issued t (steps_now a nothing)))) refl is
-    by false is = rw is (Plain nothing Start)
+    by false is = rw is (Otherwise nothing Start)
 
 -- the news that a request died sends an abort at most
 keep_on_died : (a : At) (t older : Txn) (made : Made) → Ruled a made → Ruled a (on_died a t older made)
@@ -380,21 +380,21 @@ keep_on_ack a f t n dir made k = by (round_in_progress a.site t a.life.steps) re
 pub keep_delivery : (a : At) (packet : Packet) (x : Message) → a.input ≡ input.Deliver packet → packet.msg ≡ x → (packet.«from» == a.site) ≡ false → Rule a (on_message a packet.«from» x nothing)
 keep_delivery a packet (msg.Do t n op) takes says away = keep_on_do a packet.«from» t n op (record { how = inl (packet, takes, says) }) (λ is. away)
 keep_delivery a packet (msg.Done t n inc answer) takes says away = keep_on_done a packet t n inc answer takes says
-keep_delivery a packet (msg.Died t n older) takes says away = Plain _ (keep_on_died a t older nothing Start)
-keep_delivery a packet (msg.Ask t call) takes says away = Plain _ (Says packet.«from» (msg.LastElected t call (elected_now a t nothing)) nothing away tt Start)
-keep_delivery a packet (msg.LastElected t call elected) takes says away = Plain _ (keep_on_last a packet.«from» t call elected nothing Start)
-keep_delivery a packet (msg.Elected t n) takes says away = Plain _ (keep_on_elected a packet.«from» t n nothing away Start)
-keep_delivery a packet (msg.Report t n st attempt) takes says away = Plain _ (keep_on_report a t n (record { site = packet.«from»; state = st; attempt = attempt }) nothing Start)
-keep_delivery a packet (msg.VoteReq t inc count) takes says away = Plain _ (keep_on_vote_req a packet t inc count takes says away)
-keep_delivery a packet (msg.Vote t true) takes says away = Plain _ (keep_on_yes a t nothing Start)
-keep_delivery a packet (msg.Vote t false) takes says away = Plain _ (by (may_abort a t nothing) refl)
+keep_delivery a packet (msg.Died t n older) takes says away = Otherwise _ (keep_on_died a t older nothing Start)
+keep_delivery a packet (msg.Ask t call) takes says away = Otherwise _ (Says packet.«from» (msg.LastElected t call (elected_now a t nothing)) nothing away tt Start)
+keep_delivery a packet (msg.LastElected t call elected) takes says away = Otherwise _ (keep_on_last a packet.«from» t call elected nothing Start)
+keep_delivery a packet (msg.Elected t n) takes says away = Otherwise _ (keep_on_elected a packet.«from» t n nothing away Start)
+keep_delivery a packet (msg.Report t n st attempt) takes says away = Otherwise _ (keep_on_report a t n (record { site = packet.«from»; state = st; attempt = attempt }) nothing Start)
+keep_delivery a packet (msg.VoteReq t inc count) takes says away = Otherwise _ (keep_on_vote_req a packet t inc count takes says away)
+keep_delivery a packet (msg.Vote t true) takes says away = Otherwise _ (keep_on_yes a t nothing Start)
+keep_delivery a packet (msg.Vote t false) takes says away = Otherwise _ (by (may_abort a t nothing) refl)
   where
     by : (b : Bool) → may_abort a t nothing ≡ b → Ruled a (if b then and_abort a t nothing else nothing)
     by true is = keep_abort a t nothing (abort_open a t nothing is) Start
     by false is = Start
-keep_delivery a packet (msg.Pre t n dir) takes says away = Plain _ (keep_on_pre a packet.«from» t n dir nothing away Start)
-keep_delivery a packet (msg.Ack t n dir) takes says away = Plain _ (keep_on_ack a packet.«from» t n dir nothing Start)
-keep_delivery a packet (msg.Decide t dir) takes says away = Plain _ (may_keep a t dir nothing Start)
+keep_delivery a packet (msg.Pre t n dir) takes says away = Otherwise _ (keep_on_pre a packet.«from» t n dir nothing away Start)
+keep_delivery a packet (msg.Ack t n dir) takes says away = Otherwise _ (keep_on_ack a packet.«from» t n dir nothing Start)
+keep_delivery a packet (msg.Decide t dir) takes says away = Otherwise _ (may_keep a t dir nothing Start)
 
 -- inputs of the coordinator
 asked_records : (a : At) (t : Txn) (made : Made) (s : ℕ) → (s == a.site) ≡ false → (and_ask a t made s).records ≡ made.records

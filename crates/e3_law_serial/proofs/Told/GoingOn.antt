@@ -54,7 +54,7 @@ use Rattle.e3_law_serial.proofs.Told.Stories.{Given, BySent, ByTold, Values, Vot
 use Rattle.e3_law_serial.proofs.Told.Running.{Running, no_new, run_push}
 use Rattle.e3_law_serial.proofs.Told.Rested.{story_running}
 use Rattle.e3_law_serial.proofs.Told.Helping.{unanswered_is, inc_same}
-use Rattle.e3_law_serial.proofs.Told.Stepped.{SentWell, plain_in, now_issued, now', fresh_issue, issue_place, present, past', member', came', given_old, sent_gave, shaped_sent, shaped_told, dones_new, told_gave, heard_place, tolds_new}
+use Rattle.e3_law_serial.proofs.Told.Stepped.{SentWell, unnumbered_in, now_issued, now', fresh_issue, issue_place, present, past', member', came', given_old, sent_gave, shaped_sent, shaped_told, dones_new, told_gave, heard_place, tolds_new}
 use Rattle.e3_law_steps.proofs.Lists.{fold_last}
 use Rattle.e3_law_steps.proofs.Tests.{same_is}
 use Rattle.e3_law_steps.proofs.Operations.Issuing.{issued_push}
@@ -283,7 +283,7 @@ module _ (weights : List ℕ) (a : At) (k : Keeps a.site a.life) (fits : Fits we
 
   does_new : (p : Packet) (t : Txn) (n : ℕ) (op : Op) → In p (map unnumbered (step_at a).outs) → p.msg ≡ msg.Do t n op → nth_op n (iss' t) ≡ Some op
   does_new p t n op h says =
-      let x = plain_in (step_at a).outs p h in
+      let x = unnumbered_in (step_at a).outs p h in
       let s = shaped_sent weights a k fits away sent iss iss' mine up life_is story was_sent well own_iss on p h in
       let w : MessageIs a (step_at a).records x.0.to (msg.Do t n op) = subst (λ z. MessageIs a (step_at a).records x.0.to z) (ap (λ (z : Packet). z.msg) x.2 ∙ says) (step_sent a away x.0 x.1).1 in
       subst (λ z. nth_op z (iss' t) ≡ Some op) (sym w.2)
@@ -307,7 +307,7 @@ module _ (weights : List ℕ) (a : At) (k : Keeps a.site a.life) (fits : Fits we
   asks_new p t inc count h says = made x.1 w
     where
       x : (y : Packet) × In y (step_at a).outs × (unnumbered y ≡ p)
-      x = plain_in (step_at a).outs p h
+      x = unnumbered_in (step_at a).outs p h
 
       w : MessageIs a (step_at a).records p.to (msg.VoteReq t inc count)
       w = subst (λ (z : Packet). MessageIs a (step_at a).records z.to (msg.VoteReq t inc count)) x.2
@@ -402,7 +402,7 @@ module _ (weights : List ℕ) (a : At) (k : Keeps a.site a.life) (fits : Fits we
     where
       source : (p : Packet) → In p (flat_map sends mine) ⊎ In p (map unnumbered (step_at a).outs) → p.«from» ≡ a.site
       source p (inl old) = story.source p old
-      source p (inr new) = let x = plain_in (step_at a).outs p new in ap (λ (z : Packet). z.«from») (sym x.2) ∙ (step_sent a away x.0 x.1).0
+      source p (inr new) = let x = unnumbered_in (step_at a).outs p new in ap (λ (z : Packet). z.«from») (sym x.2) ∙ (step_sent a away x.0 x.1).0
 
       does : (p : Packet) (t : Txn) (n : ℕ) (op : Op) → p.msg ≡ msg.Do t n op → In p (flat_map sends mine) ⊎ In p (map unnumbered (step_at a).outs) → nth_op n (iss' t) ≡ Some op
       does p t n op says (inl old) = nth_on iss iss' on t n op (story.does p t n op old says)

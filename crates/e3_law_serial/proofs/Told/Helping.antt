@@ -25,7 +25,7 @@ use Rattle.e3_world.specs.Logs.{is_undecided, logged_inc}
 use Rattle.e3_world.specs.Making.{nothing, and_send, grants_after, decides, and_grant, and_grants}
 use Rattle.e3_world.specs.Operations.{is_refusal, issued, issued_in, nth_op, answer_told, answer_sent, answers, is_answered, tells_op, op_told, unanswered}
 use Rattle.e3_world.specs.Steps.{step_at}
-use Rattle.e3_law_serial.proofs.Step.Rules.{IsNews, Ruled, Start, Notes, Decides, Votes, Tells, Says, Asks, Issues, Rule, Plain, Hears, Locks, Repeats, TellsOwn, Shaped}
+use Rattle.e3_law_serial.proofs.Step.Rules.{IsNews, Ruled, Start, Notes, Decides, Votes, Tells, Says, Asks, Issues, Rule, Otherwise, Hears, Locks, Repeats, TellsOwn, Shaped}
 use Rattle.e3_law_serial.proofs.Lists.Entries.{In}
 use Rattle.e3_law_serial.proofs.Lists.Members.{in_append}
 use Rattle.e3_law_serial.proofs.Step.Arrivals.{answers_push, told_push, answered_from, op_told_answered}
@@ -55,7 +55,7 @@ done_txn : (u t : Txn) (m n i j : ℕ) (w v : Answer) → msg.Done u m i w ≡ m
 done_txn u t m n i j w v e = cc
 
 own_home_rule : (a : At) (rule : Made) → Rule a rule → (t : Txn) (n inc : ℕ) (v : Answer) → In (msg.Done t n inc v) rule.own → t.site ≡ a.site
-own_home_rule a _ (Plain made k) t n inc v h = absurd (subst (λ l. In (msg.Done t n inc v) l) (Rattle.e3_law_serial.proofs.Step.Shapes.ruled_none a made k) h)
+own_home_rule a _ (Otherwise made k) t n inc v h = absurd (subst (λ l. In (msg.Done t n inc v) l) (Rattle.e3_law_serial.proofs.Step.Shapes.ruled_none a made k) h)
 own_home_rule a _ (Hears u m w k) t n inc v h = absurd h
 own_home_rule a _ (Locks u m op k) t n inc v h =
     own_home_send a u.site _ nothing t n inc v (λ x. absurd x) (λ e is. ap (λ (z : Txn). z.site) (sym (done_txn u t m n _ inc _ v e)) ∙ eqb-true u.site a.site is) h
@@ -93,7 +93,7 @@ ruled_told a _ (Asks to u made away commits voted k) t n v h = ruled_told a made
 ruled_told a _ (Issues to u op away takes allowed) t n v h = subst (λ l. In (told.Op t n v) l) (Rattle.e3_law_serial.proofs.Step.Stepping.sent_told a to _ nothing) h
 
 rule_told : (a : At) (rule : Made) → Rule a rule → (t : Txn) (n : ℕ) (v : Answer) → In (told.Op t n v) rule.told → t.site ≡ a.site
-rule_told a _ (Plain made k) t n v h = absurd (ruled_told a made k t n v h)
+rule_told a _ (Otherwise made k) t n v h = absurd (ruled_told a made k t n v h)
 rule_told a _ (Hears u m w k) t n v (inl e) = ap (λ (z : Txn). z.site) (let p : u ≡ t = cc in sym p) ∙ eqb-true u.site a.site k.coordinator
 rule_told a _ (Hears u m w k) t n v (inr x) = absurd x
 rule_told a _ (Locks u m op k) t n v h = absurd (subst (λ l. In (told.Op t n v) l) (Rattle.e3_law_serial.proofs.Step.Stepping.sent_told a u.site _ nothing) h)

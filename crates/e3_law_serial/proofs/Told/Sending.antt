@@ -18,7 +18,7 @@ use Rattle.e3_world.specs.Logs.{has_voted}
 use Rattle.e3_world.specs.Making.{nothing, and_send, grants_after, decides, and_grant, and_grants}
 use Rattle.e3_world.specs.Operations.{issued, expected}
 use Rattle.e3_world.specs.Steps.{refuse, step_at}
-use Rattle.e3_law_serial.proofs.Step.Rules.{IsWord, Commits, Ruled, Start, Notes, Decides, Votes, Tells, Says, Asks, Issues, Rule, Plain, Hears, Locks, Repeats}
+use Rattle.e3_law_serial.proofs.Step.Rules.{IsWord, Commits, Ruled, Start, Notes, Decides, Votes, Tells, Says, Asks, Issues, Rule, Otherwise, Hears, Locks, Repeats}
 use Rattle.e3_law_serial.proofs.Lists.Entries.{In}
 use Rattle.e3_law_serial.proofs.Step.Shapes.{FromAway, step_shape}
 use Rattle.e3_law_serial.proofs.Step.Answering.{in_each}
@@ -91,7 +91,7 @@ ruled_sent a _ (Asks to t made away commits voted k) = send_sent a to _ made (ru
 ruled_sent a _ (Issues to t op away takes allowed) = send_sent a to _ nothing tt (λ is. (takes, allowed, refl))
 
 rule_sent : (a : At) (rule : Made) → Rule a rule → AllSent a rule
-rule_sent a _ (Plain made k) = ruled_sent a made k
+rule_sent a _ (Otherwise made k) = ruled_sent a made k
 rule_sent a _ (Hears t n v k) = tt
 rule_sent a _ (Locks t n op k) = send_sent a t.site _ nothing tt (λ is. (refl, is))
 rule_sent a _ (Repeats t n v k) = send_sent a t.site _ nothing tt (λ is. (refl, is))

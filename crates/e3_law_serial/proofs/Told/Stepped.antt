@@ -49,10 +49,10 @@ pub record SentWell (sent : List Packet) (iss : Txn → List Op) : Type 0 where
   pub does : (p : Packet) (t : Txn) (n : ℕ) (op : Op) → In p sent → p.msg ≡ msg.Do t n op → nth_op n (iss t) ≡ Some op
   pub dones : (p : Packet) (t : Txn) (n inc : ℕ) (v : Answer) → In p sent → p.msg ≡ msg.Done t n inc v → (op : Op) × (nth_op n (iss t) ≡ Some op) × ((key_of op).site ≡ p.«from»)
 
-pub plain_in : (ps : List Packet) (p : Packet) → In p (map unnumbered ps) → (x : Packet) × In x ps × (unnumbered x ≡ p)
-plain_in [] p h = absurd h
-plain_in (x ∷ ps) p (inl e) = (x, inl refl, e)
-plain_in (x ∷ ps) p (inr k) = let r = plain_in ps p k in (r.0, inr r.1, r.2)
+pub unnumbered_in : (ps : List Packet) (p : Packet) → In p (map unnumbered ps) → (x : Packet) × In x ps × (unnumbered x ≡ p)
+unnumbered_in [] p h = absurd h
+unnumbered_in (x ∷ ps) p (inl e) = (x, inl refl, e)
+unnumbered_in (x ∷ ps) p (inr k) = let r = unnumbered_in ps p k in (r.0, inr r.1, r.2)
 
 not_op : (l : List Told) (t u : Txn) (n : ℕ) (v : Answer) (why : Refusal) → l ≡ told.Refused u why ∷ [] → In (told.Op t n v) l → ⊥
 not_op l t u n v why e h = go (subst (λ z. In (told.Op t n v) z) e h)
@@ -178,7 +178,7 @@ module _ (weights : List ℕ) (a : At) (k : Keeps a.site a.life) (fits : Fits we
   -- what a new answer is
   pub sent_gave : (p : Packet) (t : Txn) (n inc : ℕ) (v : Answer) → In p (map unnumbered (step_at a).outs) → p.msg ≡ msg.Done t n inc v → (s : Shaped a (step_at a)) → (inc ≡ a.life.inc) × ((t.site == a.site) ≡ false) × Gave a t n v × Cause a s.rule t n v
   sent_gave p t n inc v h says s =
-      let x = plain_in (step_at a).outs p h in
+      let x = unnumbered_in (step_at a).outs p h in
       let says' : x.0.msg ≡ msg.Done t n inc v = ap (λ (z : Packet). z.msg) x.2 ∙ says in
       let is : MessageIs a (step_at a).records x.0.to (msg.Done t n inc v) = subst (λ m. MessageIs a (step_at a).records x.0.to m) says' (step_sent a away x.0 x.1).1 in
       let cause = sent_cause a (step_at a) s t n inc v x.0 x.1 says' in (

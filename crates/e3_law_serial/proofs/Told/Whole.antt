@@ -29,7 +29,7 @@ use Rattle.e3_world.specs.Moves.{Did, Stepped, Silent, Rose, Move, moves_at, rec
 use Rattle.e3_world.specs.Sound.{sends, WasSent, step_move, has_risen, IsSoundStep, FitInTurn, records_in_turn, IsSoundMove, SoundAfter, IsSound}
 use Rattle.e3_world.proofs.Pushes.{log_push, life_log_at}
 use Rattle.e3_law_agreement.proofs.Refinement.Following.{moves_here, moves_there, in_from_contains}
-use Rattle.e3_law_serial.proofs.Site.Sites.{rise_rising, silent_down, run_in_turn, run_log, life_silent, life_rose, step_record, step_up, fits_plain, fits_away, step_site, SiteKeeps, place, life_step, AllKeep, move_keeps, all_keep}
+use Rattle.e3_law_serial.proofs.Site.Sites.{rise_rising, silent_down, run_in_turn, run_log, life_silent, life_rose, step_record, step_up, fits_unnumbered, fits_away, step_site, SiteKeeps, place, life_step, AllKeep, move_keeps, all_keep}
 use Rattle.e3_law_serial.proofs.Told.Stories.{VoteOf, Story, GoesOn, story_on, story_start}
 use Rattle.e3_world.specs.Serial.{issued_by}
 use Rattle.e3_law_serial.proofs.Told.Running.{Running, run_push}
@@ -47,8 +47,8 @@ abbrev pub AllStories : List Move → Type 0
 AllStories before = (site : ℕ) → Story (flat_map sends before) (iss_of before) site (moves_at site before)
 
 -- all packets are without numbers
-abbrev pub AllPlain : List Move → Type 0
-AllPlain before = (p : Packet) → In p (flat_map sends before) → unnumbered p ≡ p
+abbrev pub AllUnnumbered : List Move → Type 0
+AllUnnumbered before = (p : Packet) → In p (flat_map sends before) → unnumbered p ≡ p
 
 -- a packet was sent by some site
 pub sent_at : (before : List Move) (p : Packet) → In p (flat_map sends before) → (s : ℕ) × In p (flat_map sends (moves_at s before))
@@ -127,33 +127,33 @@ module _ (sc : Scenario) (sent : List Packet) (iss : Txn → List Op) (site : �
   rose_story = story_rest sent iss site mine (record { site = site; did = Rose inc rs }) rs
       (record { life = life_rose site mine inc rs; quiet = refl; untold = refl; records = refl }) (inr rise_less) (let l = rise_less in omega (arith, l)) story rise_votes
 
-plain_deliver : (i : Input) (p : Packet) → unnumbered_input i ≡ input.Deliver p → (packet : Packet) × (i ≡ input.Deliver packet) × (p ≡ unnumbered packet)
-plain_deliver (input.Deliver packet) p e = (packet, refl, (let one : unnumbered packet ≡ p = cc in sym one))
-plain_deliver (input.Begin sites) p e = absurd (cc)
-plain_deliver (input.Do t op) p e = absurd (cc)
-plain_deliver (input.Commit t) p e = absurd (cc)
-plain_deliver (input.Cancel t) p e = absurd (cc)
-plain_deliver (input.Expire t) p e = absurd (cc)
-plain_deliver (input.Elect t g) p e = absurd (cc)
+unnumbered_deliver : (i : Input) (p : Packet) → unnumbered_input i ≡ input.Deliver p → (packet : Packet) × (i ≡ input.Deliver packet) × (p ≡ unnumbered packet)
+unnumbered_deliver (input.Deliver packet) p e = (packet, refl, (let one : unnumbered packet ≡ p = cc in sym one))
+unnumbered_deliver (input.Begin sites) p e = absurd (cc)
+unnumbered_deliver (input.Do t op) p e = absurd (cc)
+unnumbered_deliver (input.Commit t) p e = absurd (cc)
+unnumbered_deliver (input.Cancel t) p e = absurd (cc)
+unnumbered_deliver (input.Expire t) p e = absurd (cc)
+unnumbered_deliver (input.Elect t g) p e = absurd (cc)
 
 -- a packet that is taken was sent
-taken_sent : (before : List Move) → AllPlain before → (i : Input) → WasSent before i → (p : Packet) → unnumbered_input i ≡ input.Deliver p → In p (flat_map sends before)
-taken_sent before plains i was p e =
-    let d = plain_deliver i p e in
+taken_sent : (before : List Move) → AllUnnumbered before → (i : Input) → WasSent before i → (p : Packet) → unnumbered_input i ≡ input.Deliver p → In p (flat_map sends before)
+taken_sent before no_numbers i was p e =
+    let d = unnumbered_deliver i p e in
     let c : Contains (flat_map sends before) d.0 = subst (λ z. WasSent before z) d.1 was in
     let h : In d.0 (flat_map sends before) = is_in d.0 (flat_map sends before) (in_from_contains (flat_map sends before) d.0 c) in
-    subst (λ z. In z (flat_map sends before)) (sym (plains d.0 h) ∙ sym d.2) h
+    subst (λ z. In z (flat_map sends before)) (sym (no_numbers d.0 h) ∙ sym d.2) h
 
 -- the inputs of a tail, over what the site said before
-run_turn : (sc : Scenario) (before : List Move) (site : ℕ) (mine : List Move) → AllPlain before → SentWell (flat_map sends before) (iss_of before) →
+run_turn : (sc : Scenario) (before : List Move) (site : ℕ) (mine : List Move) → AllUnnumbered before → SentWell (flat_map sends before) (iss_of before) →
     (inputs : List Input) (virtual : List Move) → has_risen virtual ≡ true → FitInTurn sc before site virtual inputs → SiteKeeps sc site virtual →
     Running (flat_map sends before) (iss_of before) site mine (life_at virtual) → Running (flat_map sends before) (iss_of before) site mine (life_at (run_in_turn sc site virtual inputs))
-run_turn sc before site mine plains well [] virtual up fits k r = r
-run_turn sc before site mine plains well (i ∷ inputs) virtual up fits k r =
-    run_turn sc before site mine plains well inputs (virtual ++ step_move sc site virtual i ∷ []) (step_up sc site virtual i up) fits.2 (step_site sc site virtual i k up fits.0)
+run_turn sc before site mine no_numbers well [] virtual up fits k r = r
+run_turn sc before site mine no_numbers well (i ∷ inputs) virtual up fits k r =
+    run_turn sc before site mine no_numbers well inputs (virtual ++ step_move sc site virtual i ∷ []) (step_up sc site virtual i up) fits.2 (step_site sc site virtual i k up fits.0)
     (subst (λ l. Running (flat_map sends before) (iss_of before) site mine l) (sym (life_step sc site virtual i))
-    (run_push sc.weights (place sc.weights site (life_at virtual) i) k.keeps (fits_plain sc.weights site (life_at virtual) i fits.0) (fits_away sc.weights site (life_at virtual) i fits.0)
-    (flat_map sends before) (iss_of before) mine r (λ p e. taken_sent before plains i fits.1 p e) well.home))
+    (run_push sc.weights (place sc.weights site (life_at virtual) i) k.keeps (fits_unnumbered sc.weights site (life_at virtual) i fits.0) (fits_away sc.weights site (life_at virtual) i fits.0)
+    (flat_map sends before) (iss_of before) mine r (λ p e. taken_sent before no_numbers i fits.1 p e) well.home))
 
 run_incs : (sc : Scenario) (before : List Move) (site : ℕ) (inputs : List Input) (virtual : List Move) → FitInTurn sc before site virtual inputs →
     logged_inc (log_by (run_in_turn sc site virtual inputs)) ≡ logged_inc (log_by virtual)
@@ -165,23 +165,23 @@ run_incs sc before site (i ∷ inputs) virtual fits =
     step_record (place sc.weights site (life_at virtual) i) (fits_away sc.weights site (life_at virtual) i fits.0) z.0 z.1 r z.2 rising))
 
 -- a tail that was kept
-tail_story : (sc : Scenario) (before : List Move) (site : ℕ) (mine : List Move) (inputs : List Input) (rs : List Record) → AllPlain before → SentWell (flat_map sends before) (iss_of before) →
+tail_story : (sc : Scenario) (before : List Move) (site : ℕ) (mine : List Move) (inputs : List Input) (rs : List Record) → AllUnnumbered before → SentWell (flat_map sends before) (iss_of before) →
     has_risen mine ≡ true → FitInTurn sc before site mine inputs → rs ≡ records_in_turn sc site mine inputs → SiteKeeps sc site mine → Story (flat_map sends before) (iss_of before) site mine →
     Story (flat_map sends before) (iss_of before) site (mine ++ record { site = site; did = Silent inputs rs } ∷ [])
-tail_story sc before site mine inputs rs plains well up fits made k story =
+tail_story sc before site mine inputs rs no_numbers well up fits made k story =
     story_rest (flat_map sends before) (iss_of before) site mine (record { site = site; did = Silent inputs rs }) rs
     (record { life = life_silent site mine inputs rs; quiet = refl; untold = refl; records = refl }) (inl (silent_down site mine inputs rs))
     (let e : logged_inc (log_by mine ++ rs) ≡ logged_inc (log_by mine) = ap logged_inc (sym log) ∙ run_incs sc before site inputs mine fits in omega (arith, e)) story
-    (λ b after t ops e. (run_turn sc before site mine plains well inputs mine up fits k (story_running (flat_map sends before) (iss_of before) site mine up story)).votes b after t ops
+    (λ b after t ops e. (run_turn sc before site mine no_numbers well inputs mine up fits k (story_running (flat_map sends before) (iss_of before) site mine up story)).votes b after t ops
     (life_log_at (run_in_turn sc site mine inputs) ∙ log ∙ e))
   where
     log : log_by (run_in_turn sc site mine inputs) ≡ log_by mine ++ rs
     log = run_log sc site inputs mine ∙ ap (λ l. log_by mine ++ l) (sym made)
 
 -- one move of the site, without what it sends and issues
-own_story : (sc : Scenario) (before : List Move) (m : Move) → IsSoundMove sc before m → AllKeep sc before → AllStories before → AllPlain before →
+own_story : (sc : Scenario) (before : List Move) (m : Move) → IsSoundMove sc before m → AllKeep sc before → AllStories before → AllUnnumbered before →
     Story (flat_map sends (before ++ m ∷ [])) (iss_of (before ++ m ∷ [])) m.site (moves_at m.site before ++ m ∷ [])
-own_story sc before m sound keep stories plains = by m.did refl sound
+own_story sc before m sound keep stories no_numbers = by m.did refl sound
   where
     well : SentWell (flat_map sends before) (iss_of before)
     well = stories_well before stories
@@ -200,8 +200,8 @@ own_story sc before m sound keep stories plains = by m.did refl sound
 
     step : (s : SiteStep) → m.did ≡ Stepped s → IsSoundStep sc before m s.input → Story (flat_map sends (before ++ m ∷ [])) (iss_of (before ++ m ∷ [])) m.site (moves_at m.site before ++ m ∷ [])
     step s e h =
-        story_step sc.weights a (keep m.site).keeps (fits_plain sc.weights m.site (life_at (moves_at m.site before)) s.input h.fits) (fits_away sc.weights m.site (life_at (moves_at m.site before)) s.input h.fits)
-        (flat_map sends before) (iss_of before) (iss_of (before ++ m ∷ [])) (moves_at m.site before) h.risen refl story (λ p q. taken_sent before plains s.input h.was_sent p q) well
+        story_step sc.weights a (keep m.site).keeps (fits_unnumbered sc.weights m.site (life_at (moves_at m.site before)) s.input h.fits) (fits_away sc.weights m.site (life_at (moves_at m.site before)) s.input h.fits)
+        (flat_map sends before) (iss_of before) (iss_of (before ++ m ∷ [])) (moves_at m.site before) h.risen refl story (λ p q. taken_sent before no_numbers s.input h.was_sent p q) well
         (λ t own. iss_own before m t own ∙ ap (λ d. iss_of before t ++ issue_of t d) (ap (λ (z : Move). z.did) h.made)) (iss_on before m)
         (flat_map sends (before ++ m ∷ [])) (sends_on before m) m
         (subst (λ z. IsNext a (moves_at m.site before) z) (sym h.made) (record {
@@ -220,24 +220,24 @@ own_story sc before m sound keep stories plains = by m.did refl sound
     by (Silent [] rs) e h = rest (record { site = m.site; did = Silent [] rs }) (same (Silent [] rs) e) (λ t. ap (issue_of t) e)
         (silent_story sc (flat_map sends before) (iss_of before) m.site (moves_at m.site before) h.0 rs h.1.next h.1.made story [])
     by (Silent (i ∷ inputs) rs) e h = rest (record { site = m.site; did = Silent (i ∷ inputs) rs }) (same (Silent (i ∷ inputs) rs) e) (λ t. ap (issue_of t) e)
-        (tail_story sc before m.site (moves_at m.site before) (i ∷ inputs) rs plains well h.risen h.fits h.made (keep m.site) story)
+        (tail_story sc before m.site (moves_at m.site before) (i ∷ inputs) rs no_numbers well h.risen h.fits h.made (keep m.site) story)
     by (Rose inc rs) e h = rest (record { site = m.site; did = Rose inc rs }) (same (Rose inc rs) e) (λ t. ap (issue_of t) e)
         (rose_story sc (flat_map sends before) (iss_of before) m.site (moves_at m.site before) inc rs h.next h.made story)
 
 -- what a move sends has no numbers
-move_plain : (sc : Scenario) (before : List Move) (m : Move) → IsSoundMove sc before m → (p : Packet) → In p (sends m) → unnumbered p ≡ p
-move_plain sc before m sound p h = by m.did refl sound
+move_unnumbered : (sc : Scenario) (before : List Move) (m : Move) → IsSoundMove sc before m → (p : Packet) → In p (sends m) → unnumbered p ≡ p
+move_unnumbered sc before m sound p h = by m.did refl sound
   where
-    plains : (ps : List Packet) → In p (map unnumbered ps) → unnumbered p ≡ p
-    plains [] x = absurd x
-    plains (q ∷ ps) (inl e) = subst (λ z. unnumbered z ≡ z) e refl
-    plains (q ∷ ps) (inr x) = plains ps x
+    no_numbers : (ps : List Packet) → In p (map unnumbered ps) → unnumbered p ≡ p
+    no_numbers [] x = absurd x
+    no_numbers (q ∷ ps) (inl e) = subst (λ z. unnumbered z ≡ z) e refl
+    no_numbers (q ∷ ps) (inr x) = no_numbers ps x
 
     quiet : (d : Did) → m.did ≡ d → sends (record { site = m.site; did = d }) ≡ [] → unnumbered p ≡ p
     quiet d e none = absurd (subst (λ l. In p l) (ap (λ d. sends (record { site = m.site; did = d })) e ∙ none) h)
 
     step : (s : SiteStep) → m.did ≡ Stepped s → IsSoundMove sc before (record { site = m.site; did = Stepped s }) → unnumbered p ≡ p
-    step s e x = plains (step_of sc.weights m.site (incarnation_of (moves_at m.site before)) s.input).outs
+    step s e x = no_numbers (step_of sc.weights m.site (incarnation_of (moves_at m.site before)) s.input).outs
         (subst (λ l. In p l) (ap (λ d. sends (record { site = m.site; did = d })) e ∙ ap sends x.made) h)
 
     by : (d : Did) → m.did ≡ d → IsSoundMove sc before (record { site = m.site; did = d }) → unnumbered p ≡ p
@@ -248,22 +248,22 @@ move_plain sc before m sound p h = by m.did refl sound
 pub record Stands (sc : Scenario) (before : List Move) : Type 0 where
   pub keep : AllKeep sc before
   pub stories : AllStories before
-  pub plains : AllPlain before
+  pub no_numbers : AllUnnumbered before
 
 move_stands : (sc : Scenario) (before : List Move) (m : Move) → IsSoundMove sc before m → Stands sc before → Stands sc (before ++ m ∷ [])
 move_stands sc before m sound s = record {
   keep = move_keeps sc before m sound s.keep;
   stories = λ site. by site (m.site == site) refl;
-  plains = λ p h. plain_all p (in_append (flat_map sends before) (flat_map sends (m ∷ [])) p (subst (λ l. In p l) (flat_map-append sends before (m ∷ [])) h));
+  no_numbers = λ p h. unnumbered_all p (in_append (flat_map sends before) (flat_map sends (m ∷ [])) p (subst (λ l. In p l) (flat_map-append sends before (m ∷ [])) h));
 }
   where
-    plain_all : (p : Packet) → In p (flat_map sends before) ⊎ In p (flat_map sends (m ∷ [])) → unnumbered p ≡ p
-    plain_all p (inl old) = s.plains p old
-    plain_all p (inr new) = move_plain sc before m sound p (subst (λ l. In p l) (append-nil (sends m)) new)
+    unnumbered_all : (p : Packet) → In p (flat_map sends before) ⊎ In p (flat_map sends (m ∷ [])) → unnumbered p ≡ p
+    unnumbered_all p (inl old) = s.no_numbers p old
+    unnumbered_all p (inr new) = move_unnumbered sc before m sound p (subst (λ l. In p l) (append-nil (sends m)) new)
 
     by : (site : ℕ) (b : Bool) → (m.site == site) ≡ b → Story (flat_map sends (before ++ m ∷ [])) (iss_of (before ++ m ∷ [])) site (moves_at site (before ++ m ∷ []))
     by site true e = subst (λ x. Story (flat_map sends (before ++ m ∷ [])) (iss_of (before ++ m ∷ [])) x (moves_at x (before ++ m ∷ []))) (eqb-true m.site site e)
-        (subst (λ l. Story (flat_map sends (before ++ m ∷ [])) (iss_of (before ++ m ∷ [])) m.site l) (sym (moves_here before m)) (own_story sc before m sound s.keep s.stories s.plains))
+        (subst (λ l. Story (flat_map sends (before ++ m ∷ [])) (iss_of (before ++ m ∷ [])) m.site l) (sym (moves_here before m)) (own_story sc before m sound s.keep s.stories s.no_numbers))
     by site false e =
         let other : site ≡ m.site → ⊥ = λ q. true≢false (sym (eq-eqb m.site site (sym q)) ∙ e) in
         subst (λ l. Story (flat_map sends (before ++ m ∷ [])) (iss_of (before ++ m ∷ [])) site l) (sym (moves_there site before m other))
@@ -275,4 +275,4 @@ after_stands sc [] before sound s = subst (λ l. Stands sc l) (sym (append-nil b
 after_stands sc (m ∷ rest) before sound s = subst (λ l. Stands sc l) (append_assoc before (m ∷ []) rest) (after_stands sc rest (before ++ m ∷ []) sound.1 (move_stands sc before m sound.0 s))
 
 pub all_stand : (sc : Scenario) (trail : List Move) → IsSound sc trail → Stands sc trail
-all_stand sc trail sound = after_stands sc trail [] sound (record { keep = all_keep sc [] tt; stories = λ site. story_start site; plains = λ p h. absurd h })
+all_stand sc trail sound = after_stands sc trail [] sound (record { keep = all_keep sc [] tt; stories = λ site. story_start site; no_numbers = λ p h. absurd h })

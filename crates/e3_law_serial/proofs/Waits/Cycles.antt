@@ -25,7 +25,7 @@ use Rattle.e3_law_serial.proofs.Lists.Members.{in_append, in_front, in_back, at_
 use Rattle.e3_law_serial.proofs.Lists.Facts.{contains_at}
 use Rattle.e3_law_serial.proofs.Step.Stepping.{waits_parts}
 use Rattle.e3_law_serial.proofs.Site.Holding.{held_for}
-use Rattle.e3_law_serial.proofs.Site.Sites.{SiteKeeps, AllKeep, place, life_silent, life_rose, life_step, fits_plain, fits_away, move_keeps, all_keep}
+use Rattle.e3_law_serial.proofs.Site.Sites.{SiteKeeps, AllKeep, place, life_silent, life_rose, life_step, fits_unnumbered, fits_away, move_keeps, all_keep}
 use Rattle.e3_law_serial.specs.Waits.{OlderWaits, NoCycle}
 use Rattle.e3_law_serial.specs.Waiters.{wanted, in_its_way, WaitsAt, WaitsThrough}
 use Rattle.e3_law_serial.proofs.Waits.Clashing.{opposed_parts, mode_clash, against_lock, queue_in}
@@ -38,7 +38,7 @@ move_elders sc before m sound k w = by m.did refl sound
   where
     step : (i : Input) → Fits sc.weights m.site (life_at (moves_at m.site before)) i → EldersWait m.site (life_at (moves_at m.site before ++ step_move sc m.site (moves_at m.site before) i ∷ []))
     step i fits = subst (λ l. EldersWait m.site l) (sym (life_step sc m.site (moves_at m.site before) i))
-        (elders_push sc.weights (place sc.weights m.site (life_at (moves_at m.site before)) i) k.keeps (fits_plain sc.weights m.site (life_at (moves_at m.site before)) i fits)
+        (elders_push sc.weights (place sc.weights m.site (life_at (moves_at m.site before)) i) k.keeps (fits_unnumbered sc.weights m.site (life_at (moves_at m.site before)) i fits)
         (fits_away sc.weights m.site (life_at (moves_at m.site before)) i fits) w)
 
     rest : (d : Did) → m.did ≡ d → (life_at (moves_at m.site before ++ record { site = m.site; did = d } ∷ [])).steps ≡ [] → EldersWait m.site (life_at (moves_at m.site before ++ m ∷ []))

@@ -95,10 +95,10 @@ grants_outs a made p h = by (list_any decides (drop 0 made.records)) refl
     by true is = rw is (granted_outs a (grants_after a made) made p h)
     by false is = rw is h
 
-in_plain : (ps : List Packet) (p : Packet) → In p ps → In (unnumbered p) (map unnumbered ps)
-in_plain [] p h = absurd h
-in_plain (x ∷ ps) p (inl e) = inl (ap unnumbered e)
-in_plain (x ∷ ps) p (inr h) = inr (in_plain ps p h)
+in_unnumbered : (ps : List Packet) (p : Packet) → In p ps → In (unnumbered p) (map unnumbered ps)
+in_unnumbered [] p h = absurd h
+in_unnumbered (x ∷ ps) p (inl e) = inl (ap unnumbered e)
+in_unnumbered (x ∷ ps) p (inr h) = inr (in_unnumbered ps p h)
 
 -- what a rule has answered, its step has answered
 pub answered_so_far : (a : At) (s : Shaped a (step_at a)) (q : Asked) → is_answered (steps_now a s.rule) q ≡ true → is_answered (a.life.steps ++ moment a ∷ []) q ≡ true
@@ -116,7 +116,7 @@ answered_so_far a s q h =
     sends v k =
         let p = in_flat (answer_sent q) s.rule.outs v k in
         in_flat_from (answer_sent q) (map unnumbered (step_at a).outs) (unnumbered p.0) v
-        (in_plain (step_at a).outs p.0 (subst (λ l. In p.0 l) (sym s.outs) (grants_outs a s.rule p.0 p.1))) p.2
+        (in_unnumbered (step_at a).outs p.0 (subst (λ l. In p.0 l) (sym s.outs) (grants_outs a s.rule p.0 p.1))) p.2
 
     now : (v : Answer) → In v (flat_map (answer_told q) s.rule.told) ⊎ In v (flat_map (answer_sent q) s.rule.outs) →
         In v (answers q a.life.steps ++ (flat_map (answer_told q) (step_at a).told ++ flat_map (answer_sent q) (map unnumbered (step_at a).outs)))

@@ -84,8 +84,8 @@ module _ (P Q : Mention → Type 0) (D E : Told → Type 0) (to : (x : Mention) 
   pub site_more : (past : Past) → SiteIs P D past → SiteIs Q E past
   site_more past is = record { life = life_more (life_at past.moves) is.life; tail = tail_more past.tail is.tail }
 
-  pub said_more : (sc : Scenario) (h : List Entry) → SaidIs P D sc h → SaidIs Q E sc h
-  said_more sc h is = record {
+  pub parts_more : (sc : Scenario) (h : List Entry) → SaidIs P D sc h → SaidIs Q E sc h
+  parts_more sc h is = record {
     sent = each-weaker (PacketIs P) (PacketIs Q) (λ p this. each-weaker P Q to (of_message p.msg) this) (sent h) is.sent;
     sites = λ s. site_more (past_of sc s (own_entries s h)) (is.sites s);
   }
@@ -207,7 +207,7 @@ step_said P B D sc h site i was known keeps begun = record {
   sites = sites_push (SiteIs P D) sc h site (entry_of sc h site i).act was.sites (record {
     life = life_stepped P D sc site (moves_of sc h site)
         (record { input = unnumbered_input i; records = made.records; outs = map unnumbered (numbered (suc (length (sent h))) made.outs); told = made.told })
-        (was.sites site).life (plain_known i known)
+        (was.sites site).life (unnumbered_known i known)
         (each-map (PacketIs P) unnumbered (numbered (suc (length (sent h))) made.outs) (numbered_are P site (suc (length (sent h))) made.outs keeps.outs))
         (each-weaker (Tells P B) (EventIs P) (λ e this. this.0) made.told keeps.told) begun keeps.records;
     tail = (was.sites site).tail;
@@ -217,9 +217,9 @@ step_said P B D sc h site i was known keeps begun = record {
     made : Made
     made = made_by sc h site i
 
-    plain_known : (x : Input) → Each P (of_input x) → Each P (of_input (unnumbered_input x))
-    plain_known (input.Deliver p) this = this
-    plain_known x this = this
+    unnumbered_known : (x : Input) → Each P (of_input x) → Each P (of_input (unnumbered_input x))
+    unnumbered_known (input.Deliver p) this = this
+    unnumbered_known x this = this
 
 -- what a step keeps
 pub keeps_at : (P : Mention → Type 0) (B : Txn → Type 0) (D : Told → Type 0) (sc : Scenario) (h : List Entry) (site : ℕ) (i : Input) → SaidIs P D sc h → Each P (of_input i) →
@@ -316,7 +316,7 @@ pub record Holds (sc : Scenario) (h : List Entry) : Type 0 where
 -- one more entry
 module _ (sc : Scenario) (h : List Entry) (e : Entry) where
   now_more : SaidIs (Stands sc h) (BeginsKnown (Stands sc h)) sc h → SaidIs (Stands sc (h ++ e ∷ [])) (BeginsKnown (Stands sc (h ++ e ∷ []))) sc h
-  now_more is = said_more (Stands sc h) (Stands sc (h ++ e ∷ [])) (BeginsKnown (Stands sc h)) (BeginsKnown (Stands sc (h ++ e ∷ []))) (stands_more sc h e)
+  now_more is = parts_more (Stands sc h) (Stands sc (h ++ e ∷ [])) (BeginsKnown (Stands sc h)) (BeginsKnown (Stands sc (h ++ e ∷ []))) (stands_more sc h e)
       (begins_more (Stands sc h) (Stands sc (h ++ e ∷ [])) (stands_more sc h e)) sc h is
 
   binding_push : binding sc (h ++ e ∷ []) ≡ binding_by sc (binding sc h) e
@@ -453,7 +453,7 @@ guard_holds sc h (suc s) (Fall inputs records why) was guard =
     let P : Mention → Type 0 = Stands sc h in
     let Q : Mention → Type 0 = Stands sc (h ++ e ∷ []) in
     let fall : FallIs P sc h (suc s) inputs = fall_is P sc inputs h (suc s) (values_stand sc h) was.line
-    (said_more P P (BeginsKnown P) AnyEvent (λ x this. this) (λ x this. tt) sc h was.now) guard.due in
+    (parts_more P P (BeginsKnown P) AnyEvent (λ x this. this) (λ x this. tt) sc h was.now) guard.due in
     let R : List Record → Type 0 = Each (RecordIs P) in
     quiet_holds sc h (suc s) (Fall inputs records why) was refl refl refl
     (λ site. fall_past Q (BeginsKnown Q) sc (suc s) (past_of sc (suc s) (own_entries (suc s) h)) inputs records why site

@@ -89,18 +89,18 @@ module _ (P : Mention → Type 0) (B : Txn → Type 0) where
   takes a (input.Elect t group) this begins ready = (allows P B a t this.0 ready, casts P B a (msg.Ask t (next_election a t group).call) group (this.0, tt), joins P B a t (next_election a t group) this.0)
   takes a (input.Deliver p) this begins ready = (allows P B a (txn_in p.msg) (known P B p.msg this) ready, hears P B a p.«from» p.msg this ready)
 
-  plain_is : (i : Input) → Each P (of_input i) → Each P (of_input (unnumbered_input i))
-  plain_is (input.Deliver p) this = this
-  plain_is i this = this
+  unnumbered_is : (i : Input) → Each P (of_input i) → Each P (of_input (unnumbered_input i))
+  unnumbered_is (input.Deliver p) this = this
+  unnumbered_is i this = this
 
-  plain_begins : (a : At) (i : Input) → BeginIs B a i → BeginIs B a (unnumbered_input i)
-  plain_begins a (input.Deliver p) this = this
-  plain_begins a i this = this
+  unnumbered_begins : (a : At) (i : Input) → BeginIs B a i → BeginIs B a (unnumbered_input i)
+  unnumbered_begins a (input.Deliver p) this = this
+  unnumbered_begins a i this = this
 
   -- a step
   pub step_keeps : (weights : List ℕ) (site : ℕ) (now : Incarnation) (i : Input) → Each (MomentIs P) (life_of now).steps → Each (RecordIs P) (life_of now).log →
       Each P (of_input i) → BeginIs B (place weights site now i) i → Keeps P B site (step_of weights site now i)
   step_keeps weights site now i steps records this begins =
       let a : At = place weights site now i in
-      let ready : Ready P a = record { steps = steps; input = plain_is i this; log = records } in
-      keep_step (kept P B a) (settles P B a ready) (takes a a.input ready.input (plain_begins a i begins) ready) (record { own = tt; outs = tt; records = tt; told = tt })
+      let ready : Ready P a = record { steps = steps; input = unnumbered_is i this; log = records } in
+      keep_step (kept P B a) (settles P B a ready) (takes a a.input ready.input (unnumbered_begins a i begins) ready) (record { own = tt; outs = tt; records = tt; told = tt })

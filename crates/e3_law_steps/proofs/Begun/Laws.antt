@@ -23,7 +23,7 @@ use Rattle.e3_law_steps.proofs.Begun.Lists.{each-join}
 use Rattle.e3_law_steps.proofs.Begun.Reading.{RecordIs, PacketIs, EventIs}
 use Rattle.e3_law_steps.proofs.Begun.Keeping.{Keeps, Goes, Tells}
 use Rattle.e3_law_steps.proofs.Begun.Due.{BeginsKnown, due_is}
-use Rattle.e3_law_steps.proofs.Begun.Holding.{Holds, FallIs, AnyTxn, AnyEvent, numbered_are, any_begins, keeps_at, fall_is, said_more, values_stand, legal_holds}
+use Rattle.e3_law_steps.proofs.Begun.Holding.{Holds, FallIs, AnyTxn, AnyEvent, numbered_are, any_begins, keeps_at, fall_is, parts_more, values_stand, legal_holds}
 use Rattle.e3_law_steps.proofs.Suits.Inputs.{place}
 
 pub due_mentions : DueMentionsWhatStands
@@ -85,7 +85,7 @@ guard_mentions sc h (suc s) (Fall inputs records why) legal guard =
     let was : Holds sc h = legal_holds sc h legal in
     let P : Mention → Type 0 = Stands sc h in
     let fall : FallIs P sc h (suc s) inputs = fall_is P sc inputs h (suc s) (values_stand sc h) was.line
-    (said_more P P (BeginsKnown P) AnyEvent (λ x this. this) (λ x this. tt) sc h was.now) guard.due in
+    (parts_more P P (BeginsKnown P) AnyEvent (λ x this. this) (λ x this. tt) sc h was.now) guard.due in
     let R : List Record → Type 0 = Each (RecordIs P) in
     fall_mentions sc h (suc s) inputs records legal fall (subst R (sym guard.made) fall.makes)
 

@@ -18,7 +18,7 @@ use Rattle.e3_types.specs.Same.{same_numbers, same_txn}
 use Rattle.e3_types.proofs.SameSites.{same_numbers_refl, same_numbers_eq}
 use Rattle.e3_world.specs.declared.lives.Moment.{Moment}
 use Rattle.e3_world.specs.declared.names.Addressed.{Addressed}
-use Rattle.e3_world.specs.Given.{SaidSoFar, IsGiven, is_begun, count_ops, keeps_rules, say_item, items_keep, close_step, steps_keep}
+use Rattle.e3_world.specs.Given.{ItemsSoFar, IsGiven, is_begun, count_ops, keeps_rules, with_item, items_keep, close_step, steps_keep}
 use Rattle.e3_world.specs.Items.{txn_of, input_of, inputs_to}
 use Rattle.e3_world.specs.Operations.{issued, issued_in, is_refusal}
 use Rattle.e3_world.specs.Packets.{all_sites, step_items, items_or}
@@ -65,8 +65,8 @@ still_op : (ops : List (List ℕ)) (name : List ℕ) (it : Item) → count_ops o
 still_op ops name it few none = let this : _ = count_not (is_op name) it [] none in (omega (arith, this), few)
 
 -- what is said of operations with one more item
-say_ops : (sc : Scenario) (k : SaidSoFar) (name : List ℕ) (it : Item) → keeps_rules sc k it ≡ true → count_ops k.ops name ≤ 64 →
-    (count_ops (say_item sc k it).ops name ≡ count_ops k.ops name + ops_named name (it ∷ [])) × (count_ops (say_item sc k it).ops name ≤ 64)
+say_ops : (sc : Scenario) (k : ItemsSoFar) (name : List ℕ) (it : Item) → keeps_rules sc k it ≡ true → count_ops k.ops name ≤ 64 →
+    (count_ops (with_item sc k it).ops name ≡ count_ops k.ops name + ops_named name (it ∷ [])) × (count_ops (with_item sc k it).ops name ≤ 64)
 say_ops sc k name (item.Read called key) keeps few = said_op k.ops name called
     (λ same. ltb-true (count_ops k.ops called) 64 (and_parts (is_begun k.earlier called (key.site ∷ [])) (nat_lt (count_ops k.ops called) 64) keeps).1) few
     (same_numbers name called) refl (item.Read called key) refl
@@ -78,27 +78,27 @@ say_ops sc k name (item.Split parts) keeps few = still_op k.ops name (item.Split
 say_ops sc k name item.Merge keeps few = still_op k.ops name item.Merge few refl
 say_ops sc k name it keeps few = still_op k.ops name it few refl
 
-step_ops : (sc : Scenario) (k : SaidSoFar) (name : List ℕ) (items : List Item) → items_keep sc k items ≡ true → count_ops k.ops name ≤ 64 →
-    (count_ops (fold (say_item sc) k items).ops name ≡ count_ops k.ops name + ops_named name items) × (count_ops (fold (say_item sc) k items).ops name ≤ 64)
+step_ops : (sc : Scenario) (k : ItemsSoFar) (name : List ℕ) (items : List Item) → items_keep sc k items ≡ true → count_ops k.ops name ≤ 64 →
+    (count_ops (fold (with_item sc) k items).ops name ≡ count_ops k.ops name + ops_named name items) × (count_ops (fold (with_item sc) k items).ops name ≤ 64)
 step_ops sc k name [] keep few = (omega arith, few)
 step_ops sc k name (it ∷ items) keep few =
-    let parts : _ = and_parts (keeps_rules sc k it) (items_keep sc (say_item sc k it) items) keep in
+    let parts : _ = and_parts (keeps_rules sc k it) (items_keep sc (with_item sc k it) items) keep in
     let one : _ = say_ops sc k name it parts.0 few in
-    let more : _ = step_ops sc (say_item sc k it) name items parts.1 one.1 in
-    let first : count_ops (say_item sc k it).ops name ≡ count_ops k.ops name + ops_named name (it ∷ []) = one.0 in
-    let rest : count_ops (fold (say_item sc) (say_item sc k it) items).ops name ≡ count_ops (say_item sc k it).ops name + ops_named name items = more.0 in
+    let more : _ = step_ops sc (with_item sc k it) name items parts.1 one.1 in
+    let first : count_ops (with_item sc k it).ops name ≡ count_ops k.ops name + ops_named name (it ∷ []) = one.0 in
+    let rest : count_ops (fold (with_item sc) (with_item sc k it) items).ops name ≡ count_ops (with_item sc k it).ops name + ops_named name items = more.0 in
     let both : ops_named name (it ∷ items) ≡ ops_named name (it ∷ []) + ops_named name items = sum_by-append _ (it ∷ []) items in
     (omega (arith, first, rest, both), more.1)
 
-few_ops : (sc : Scenario) (k : SaidSoFar) (name : List ℕ) (steps : List (List Item)) → steps_keep sc k steps ≡ true → count_ops k.ops name ≤ 64 →
+few_ops : (sc : Scenario) (k : ItemsSoFar) (name : List ℕ) (steps : List (List Item)) → steps_keep sc k steps ≡ true → count_ops k.ops name ≤ 64 →
     (n : ℕ) → count_ops k.ops name + first_ops steps n name ≤ 64
 few_ops sc k name steps keep few zero = omega (arith, few)
 few_ops sc k name [] keep few (suc n) = omega (arith, few)
 few_ops sc k name (items ∷ steps) keep few (suc n) =
     let parts : _ = parts_of_step sc k items steps keep in
     let step : _ = step_ops sc k name items parts.1 few in
-    let same : count_ops (fold (say_item sc) k items).ops name ≡ count_ops k.ops name + ops_named name items = step.0 in
-    let rest : count_ops (fold (say_item sc) k items).ops name + first_ops steps n name ≤ 64 = few_ops sc (close_step (fold (say_item sc) k items)) name steps parts.2 step.1 n in
+    let same : count_ops (fold (with_item sc) k items).ops name ≡ count_ops k.ops name + ops_named name items = step.0 in
+    let rest : count_ops (fold (with_item sc) k items).ops name + first_ops steps n name ≤ 64 = few_ops sc (close_step (fold (with_item sc) k items)) name steps parts.2 step.1 n in
     omega (arith, same, rest)
 
 -- a name has at most 64 operations

@@ -375,10 +375,10 @@ step_one t m (input.Do u op) same = by (same_txn t u) refl
     by false is = let one : _ = count_not (λ x. does t x.input) m [] (ap (does t) same ∙ is) in omega (arith, one)
 step_one t m i same = let one : _ = count_not (λ x. does t x.input) m [] (ap (does t) same) in omega (arith, one)
 
-plain_known : (bound : List Bound) (i : Input) → KnownInput bound i → KnownInput bound (unnumbered_input i)
-plain_known bound (input.Do t op) known = known
-plain_known bound (input.Deliver p) known = tt
-plain_known bound i known = tt
+unnumbered_known : (bound : List Bound) (i : Input) → KnownInput bound i → KnownInput bound (unnumbered_input i)
+unnumbered_known bound (input.Do t op) known = known
+unnumbered_known bound (input.Deliver p) known = tt
+unnumbered_known bound i known = tt
 
 module _ (sc : Scenario) (h : List Entry) (site : ℕ) (i : Input) (was : Fresh sc h) (adv : (s : ℕ) → AdvanceAt sc h (entry_of sc h site i) s)
     (known : KnownInput (bound_in sc h) i) where
@@ -386,7 +386,7 @@ module _ (sc : Scenario) (h : List Entry) (site : ℕ) (i : Input) (was : Fresh 
   step_known s = by (site == s)
     where
       by : (b : Bool) → Each (λ m. KnownInput (bound_in sc h) m.input) (if b then moments_of (past_of sc s (own_entries s h)) (entry_of sc h site i).act else [])
-      by true = (plain_known (bound_in sc h) i known, tt)
+      by true = (unnumbered_known (bound_in sc h) i known, tt)
       by false = tt
 
   step_counts : (s : ℕ) → is_up_at (h ++ entry_of sc h site i ∷ []) s ≡ true → (b : Bound) → Contains (bound_in sc h) b →

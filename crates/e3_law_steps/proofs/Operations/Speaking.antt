@@ -43,7 +43,7 @@ use Rattle.e3_law_steps.proofs.Suits.Inputs.{place, step_keeps}
 use Rattle.e3_law_steps.proofs.Suits.Turns.{present_push}
 use Rattle.e3_law_steps.proofs.Suits.Suiting.{due_input_suits}
 use Rattle.e3_law_steps.proofs.Suits.Holding.{Holds, step_holds}
-use Rattle.e3_law_steps.proofs.Operations.Tracing.{IsAnswer, is_do, Said, Issues, Answers, Traces, Says, none_refused, same_issued, issued_now}
+use Rattle.e3_law_steps.proofs.Operations.Tracing.{IsAnswer, is_do, IsGrounded, Issues, Answers, Traces, Says, none_refused, same_issued, issued_now}
 use Rattle.e3_law_steps.proofs.Sound.Clocks.{AdvanceAt, due_says, step_advance, stepped_inc, more_at}
 use Rattle.e3_law_steps.proofs.Operations.Freshness.{Fresh, bound_in, life_in, IsKnown, binds_more, due_known, few_due}
 use Rattle.e3_law_steps.proofs.Operations.Pending.{pending_push}
@@ -67,17 +67,17 @@ moment_of sc h site i = record {
 abbrev pub place_in : Scenario → List Entry → ℕ → Input → At
 place_in sc h site i = place sc.weights site (incarnation_of (moves_of sc h site)) i
 
-plain_do : (i : Input) (t : Txn) (op : Op) → unnumbered_input i ≡ input.Do t op → i ≡ input.Do t op
-plain_do (input.Deliver p) t op is = absurd cc
-plain_do i t op is = is
+unnumbered_do : (i : Input) (t : Txn) (op : Op) → unnumbered_input i ≡ input.Do t op → i ≡ input.Do t op
+unnumbered_do (input.Deliver p) t op is = absurd cc
+unnumbered_do i t op is = is
 
 abbrev packet_or : Packet → Input → Packet
 packet_or other (input.Deliver p) = p
 packet_or other i = other
 
-plain_deliver : (i : Input) (packet : Packet) → unnumbered_input i ≡ input.Deliver packet → (p : Packet) × (i ≡ input.Deliver p) × (unnumbered p ≡ packet)
-plain_deliver (input.Deliver p) packet is = (p, refl, ap (packet_or packet) is)
-plain_deliver i packet is = absurd cc
+unnumbered_deliver : (i : Input) (packet : Packet) → unnumbered_input i ≡ input.Deliver packet → (p : Packet) × (i ≡ input.Deliver p) × (unnumbered p ≡ packet)
+unnumbered_deliver (input.Deliver p) packet is = (p, refl, ap (packet_or packet) is)
+unnumbered_deliver i packet is = absurd cc
 
 do_packet : (t : Txn) (n : ℕ) (i : Input) → is_do t n (unnumbered_input i) ≡ true → (p : Packet) × (op : Op) × (i ≡ input.Deliver p) × (p.msg ≡ msg.Do t n op)
 do_packet t n (input.Deliver p) is = by p.msg refl is
@@ -119,9 +119,9 @@ one_issued t op = rw (same_self t) refl
 sent_issue : (sc : Scenario) (h : List Entry) (site : ℕ) (i : Input) (to : ℕ) (t : Txn) (n : ℕ) (op : Op) → Suits sc.weights site i → Traces (place_in sc h site i) (made_by sc h site i) →
     Issues (place_in sc h site i) to t n op → Issue sc h site i (moment_of sc h site i) t n op
 sent_issue sc h site i to t n op fit traces said = record {
-  takes = plain_do i t op said.takes;
+  takes = unnumbered_do i t op said.takes;
   next = said.next;
-  home = (let P : Input → Type 0 = Suits sc.weights site in let suits : Suits sc.weights site (input.Do t op) = subst P (plain_do i t op said.takes) fit in suits.1);
+  home = (let P : Input → Type 0 = Suits sc.weights site in let suits : Suits sc.weights site (input.Do t op) = subst P (unnumbered_do i t op said.takes) fit in suits.1);
   present = may.present;
   answered = may.answered;
   grows = same_issued t (unnumbered_input i) (made_by sc h site i).told (none_refused (place_in sc h site i) (made_by sc h site i).told traces.told)
@@ -133,14 +133,14 @@ sent_issue sc h site i to t n op fit traces said = record {
 
 -- a packet that is sent
 packet_news : (sc : Scenario) (h : List Entry) (site : ℕ) (i : Input) (p : Packet) → Suits sc.weights site i → Traces (place_in sc h site i) (made_by sc h site i) →
-    Goes sc.weights site p → Said (place_in sc h site i) p.to p.msg → Contains (numbered (suc (length (sent h))) (made_by sc h site i).outs) p →
+    Goes sc.weights site p → IsGrounded (place_in sc h site i) p.to p.msg → Contains (numbered (suc (length (sent h))) (made_by sc h site i).outs) p →
     News sc h site i (moment_of sc h site i) p
 packet_news sc h site i p fit traces goes said has = record {
   own = goes.own;
-  asks = λ t n op says. let P : Message → Type 0 = Said (place_in sc h site i) p.to in
+  asks = λ t n op says. let P : Message → Type 0 = IsGrounded (place_in sc h site i) p.to in
       let is : Issues (place_in sc h site i) p.to t n op = subst P says said in (sent_issue sc h site i p.to t n op fit traces is, is.there);
-  answers = λ t n is. let P : Message → Type 0 = Said (place_in sc h site i) p.to in
-      let came : Said (place_in sc h site i) p.to (msg.Done t n is.0 is.1) = subst P is.2 said in elim came.0 [
+  answers = λ t n is. let P : Message → Type 0 = IsGrounded (place_in sc h site i) p.to in
+      let came : IsGrounded (place_in sc h site i) p.to (msg.Done t n is.0 is.1) = subst P is.2 said in elim came.0 [
         | inl home ↦ absurd (eqb-false p.«from» p.to goes.between.other (goes.own ∙ sym home ∙ sym came.1))
         | inr here ↦ here
       ];
@@ -155,10 +155,10 @@ news_of sc h site i p fit keeps (inl refuses) has =
     let P : List Packet → Type 0 = λ l. Contains (numbered (suc (length (sent h))) l) p in
     let none : Contains [] p = subst P refuses.outs has in absurd (omega (arith, none.1))
 news_of sc h site i p fit keeps (inr traces) has =
-    let P : Packet → Type 0 = λ x. Goes sc.weights site x × Said (place_in sc h site i) x.to x.msg in
+    let P : Packet → Type 0 = λ x. Goes sc.weights site x × IsGrounded (place_in sc h site i) x.to x.msg in
     let is : P p = each-at P (numbered (suc (length (sent h))) (made_by sc h site i).outs) p
     (numbered_each P (λ x n y. (record { own = y.0.own; between = record { heard = y.0.between.heard; other = y.0.between.other } }, y.1)) (suc (length (sent h))) (made_by sc h site i).outs
-    (each-both (Goes sc.weights site) (λ x. Said (place_in sc h site i) x.to x.msg) (made_by sc h site i).outs keeps.outs traces.outs)) has in
+    (each-both (Goes sc.weights site) (λ x. IsGrounded (place_in sc h site i) x.to x.msg) (made_by sc h site i).outs keeps.outs traces.outs)) has in
     packet_news sc h site i p fit traces is.0 is.1 has
 
 refused_none : (t : Txn) (i : Input) (events : List Told) (u : Txn) (why : Refusal) → events ≡ told.Refused u why ∷ [] → issued_in t i events ≡ []
@@ -215,7 +215,7 @@ tells_of sc h site i t n due (inr traces) told = record {
       ∙ issued_now (place_in sc h site i) t (made_by sc h site i) traces.told) ∙ this.nth;
   heard = elim this.heard [
     | inl home ↦ inl (this.there ∙ home)
-    | inr far ↦ (let p : _ = plain_deliver i far.0 far.1 in
+    | inr far ↦ (let p : _ = unnumbered_deliver i far.0 far.1 in
         let P : Input → Type 0 = IsDue sc h site in
         let is_due : IsDelivery sc h site p.0 = subst P p.1 due in
         let Q : Packet → Type 0 = IsAnswer t n in

@@ -37,7 +37,7 @@ use Rattle.e3_law_steps.specs.Bounds.{Suits}
 use Rattle.e3_law_steps.proofs.Suits.Arriving.{AllSuit}
 use Rattle.e3_law_steps.proofs.Each.{each-push, each-filter, each-take, each-flat, each-of, each-weaker, IfAny}
 use Rattle.e3_law_steps.proofs.Suits.Handling.{Ready}
-use Rattle.e3_law_steps.proofs.Suits.Inputs.{place, suits_plain}
+use Rattle.e3_law_steps.proofs.Suits.Inputs.{place, suits_unnumbered}
 use Rattle.e3_law_steps.proofs.Tests.{or_false, same_self}
 use Rattle.e3_world.specs.Sound.{txn_in}
 use Rattle.e3_law_steps.proofs.Adding.{Allows, MayAnswer, Casts, Preserves, keep_abort, keep_cast, keep_grants}
@@ -83,10 +83,10 @@ pub record Issues (a : At) (to : ℕ) (t : Txn) (n : ℕ) (op : Op) : Type 0 whe
   pub there : to ≡ (key_of op).site
 
 -- what a site may say to another, or to itself
-abbrev pub Said : At → ℕ → Message → Type 0
-Said a to (msg.Do t n op) = Issues a to t n op
-Said a to (msg.Done t n inc answer) = Came a t n × (to ≡ t.site)
-Said a to m = Unit {0}
+abbrev pub IsGrounded : At → ℕ → Message → Type 0
+IsGrounded a to (msg.Do t n op) = Issues a to t n op
+IsGrounded a to (msg.Done t n inc answer) = Came a t n × (to ≡ t.site)
+IsGrounded a to m = Unit {0}
 
 -- the answer that is told is one to an operation that was issued, from the site of its key
 pub record Answers (a : At) (t : Txn) (n : ℕ) : Type 0 where
@@ -105,8 +105,8 @@ Tells a e = Unit {0}
 
 -- all that a step made so far
 pub record Traces (a : At) (made : Made) : Type 0 where
-  pub own : Each (Said a a.site) made.own
-  pub outs : Each (λ p. Said a p.to p.msg) made.outs
+  pub own : Each (IsGrounded a a.site) made.own
+  pub outs : Each (λ p. IsGrounded a p.to p.msg) made.outs
   pub records : Each OfTxn made.records
   pub told : Each (Tells a) made.told
 
@@ -128,24 +128,24 @@ issued_now a t made all =
     ∙ sym (flat_map-append (λ m. issued_in t m.input m.told) a.life.steps _)
 
 -- a message to a site that may be this one
-sent : (a : At) (to : ℕ) (m : Message) (made : Made) → Said a to m → Traces a made → Traces a (and_send a to m made)
+sent : (a : At) (to : ℕ) (m : Message) (made : Made) → IsGrounded a to m → Traces a made → Traces a (and_send a to m made)
 sent a to m made may k = by (to == a.site) refl
   where
     by : (b : Bool) → (to == a.site) ≡ b → Traces a (and_send a to m made)
     by true is = rw is (record {
-      own = each-push (Said a a.site) made.own m k.own (let P : ℕ → Type 0 = λ s. Said a s m in subst P (eqb-true to a.site is) may);
+      own = each-push (IsGrounded a a.site) made.own m k.own (let P : ℕ → Type 0 = λ s. IsGrounded a s m in subst P (eqb-true to a.site is) may);
       outs = k.outs;
       records = k.records;
       told = k.told;
     })
     by false is = rw is (record {
       own = k.own;
-      outs = each-push (λ p. Said a p.to p.msg) made.outs (record { number = 0; «from» = a.site; to = to; msg = m }) k.outs may;
+      outs = each-push (λ p. IsGrounded a p.to p.msg) made.outs (record { number = 0; «from» = a.site; to = to; msg = m }) k.outs may;
       records = k.records;
       told = k.told;
     })
 
-kept : (a : At) → Preserves a OfTxn (Tells a) (Said a) (Traces a)
+kept : (a : At) → Preserves a OfTxn (Tells a) (IsGrounded a) (Traces a)
 kept a = record {
   records = λ r made this k. record { own = k.own; outs = k.outs; records = each-push OfTxn made.records r k.records this; told = k.told };
   tells = λ e made this k. record { own = k.own; outs = k.outs; records = k.records; told = each-push (Tells a) made.told e k.told this };
@@ -260,16 +260,16 @@ allows a t = record {
 }
 
 -- a message that is neither an operation nor its answer
-casts : (a : At) (m : Message) (sites : List ℕ) → ((s : ℕ) → Said a s m) → Casts a (Said a) m sites
-casts a m sites may = each-of (λ s. (s == a.site) ≡ false → Said a s m) (λ s apart. may s) sites
+casts : (a : At) (m : Message) (sites : List ℕ) → ((s : ℕ) → IsGrounded a s m) → Casts a (IsGrounded a) m sites
+casts a m sites may = each-of (λ s. (s == a.site) ≡ false → IsGrounded a s m) (λ s apart. may s) sites
 
-aborts : (a : At) (t : Txn) → Casts a (Said a) (msg.Decide t Abort) t.sites
+aborts : (a : At) (t : Txn) → Casts a (IsGrounded a) (msg.Decide t Abort) t.sites
 aborts a t = casts a (msg.Decide t Abort) t.sites (λ s. tt)
 
-concludes : (a : At) (t : Txn) (sites : List ℕ) → Concludes a (Said a) t sites
+concludes : (a : At) (t : Txn) (sites : List ℕ) → Concludes a (IsGrounded a) t sites
 concludes a t sites = record { decide = λ dir. casts a (msg.Decide t dir) sites (λ s. tt); pre = λ n dir. casts a (msg.Pre t n dir) sites (λ s. tt) }
 
-joins : (a : At) (t : Txn) (e : Election) → Joins a OfTxn (Said a) t e
+joins : (a : At) (t : Txn) (e : Election) → Joins a OfTxn (IsGrounded a) t e
 joins a t e = record {
   join = λ all. tt;
   elected = λ all. casts a (msg.Elected t (suc (greatest_heard e))) e.group (λ s. tt);
@@ -292,7 +292,7 @@ answered a f t n made heard k of = record {
   there = eqb-true (key_of of.op).site f of.there;
 }
 
-hears : (a : At) (f : ℕ) (x : Message) → MayTrace a f x → Hears a OfTxn (Tells a) (Said a) (Traces a) f x
+hears : (a : At) (f : ℕ) (x : Message) → MayTrace a f x → Hears a OfTxn (Tells a) (IsGrounded a) (Traces a) f x
 hears a f (msg.Do t n op) may = record {
   done = λ made k. (may, refl);
   again = λ answer more is. (may, refl);
@@ -315,17 +315,17 @@ hears a f (msg.Ack t n dir) may = λ r is. casts a (msg.Decide t dir) (count_ack
 hears a f (msg.Decide t dir) may = tt
 
 -- what the site says to itself is such a message
-own_traces : (a : At) (x : Message) → Ready a → Said a a.site x → MayTrace a a.site x
+own_traces : (a : At) (x : Message) → Ready a → IsGrounded a a.site x → MayTrace a a.site x
 own_traces a (msg.Do t n op) ready said = inl (let P : Input → Type 0 = Suits a.weights a.site in let fit : Suits a.weights a.site (input.Do t op) = subst P said.takes ready.input in fit.1)
 own_traces a (msg.Done t n inc answer) ready said = inl refl
 own_traces a x ready said = tt
 
-settling : (a : At) → Ready a → Settles a OfTxn (Tells a) (Said a) (Traces a)
+settling : (a : At) → Ready a → Settles a OfTxn (Tells a) (IsGrounded a) (Traces a)
 settling a ready = record {
-  own = λ made k. each-weaker (Said a a.site) (λ x. Allows a OfTxn (Tells a) (txn_in x) × Hears a OfTxn (Tells a) (Said a) (Traces a) a.site x)
+  own = λ made k. each-weaker (IsGrounded a a.site) (λ x. Allows a OfTxn (Tells a) (txn_in x) × Hears a OfTxn (Tells a) (IsGrounded a) (Traces a) a.site x)
       (λ x said. (allows a (txn_in x), hears a a.site x (own_traces a x ready said))) made.own k.own;
   emptied = λ made k. record { own = tt; outs = k.outs; records = k.records; told = k.told };
-  freed = λ made k. each-weaker (λ q. Came a q.txn q.n) (MayAnswer a (Said a) (Traces a)) (λ q came now k_now. (came, refl)) (grants_after a made) (granted_came a made ready);
+  freed = λ made k. each-weaker (λ q. Came a q.txn q.n) (MayAnswer a (IsGrounded a) (Traces a)) (λ q came now k_now. (came, refl)) (grants_after a made) (granted_came a made ready);
 }
 
 start : (a : At) → Traces a nothing
@@ -351,7 +351,7 @@ or_says : (a : At) (t : Txn) (o : Option Refusal) (made : Made) → Ready a → 
 or_says a t None made ready k = settles a made ready (k refl)
 or_says a t (Some why) made ready k = refused_says a t why
 
-commits : (a : At) (t : Txn) → Commits a OfTxn (Tells a) (Said a) t
+commits : (a : At) (t : Txn) → Commits a OfTxn (Tells a) (IsGrounded a) t
 commits a t = record { allows = allows a t; asks = each-of (λ s. (s == a.site) ≡ false → Unit {0}) (λ s apart. tt) t.sites; concludes = concludes a t t.sites }
 
 -- a message that was delivered
@@ -379,4 +379,4 @@ pub step_says : (weights : List ℕ) (site : ℕ) (now : Incarnation) (i : Input
     Says (place weights site now i) (step_of weights site now i)
 step_says weights site now i suit fit =
     let a : At = place weights site now i in
-    input_says a a.input refl (record { steps = suit; input = suits_plain weights site i fit })
+    input_says a a.input refl (record { steps = suit; input = suits_unnumbered weights site i fit })

@@ -25,10 +25,10 @@ use Rattle.e3_world.specs.Moves.{Move, Silent, Tail, own_entries, moves_at, past
 use Rattle.e3_world.specs.Packets.{sent}
 use Rattle.e3_world.specs.Sound.{Fits, WasSent, sends, step_move, has_risen, FitInTurn, records_in_turn, IsSoundRise, IsSoundMove, SoundAfter, IsSound}
 use Rattle.e3_world.proofs.InTrail.{pending_sent, due_was_sent}
-use Rattle.e3_world.proofs.Numbers.{entered_move, step_move_plain}
+use Rattle.e3_world.proofs.Numbers.{entered_move, step_move_unnumbered}
 use Rattle.e3_world.proofs.Pushes.{past_push}
 use Rattle.e3_world.proofs.Readings.{own_same, own_other}
-use Rattle.e3_world.proofs.Rising.{up_risen}
+use Rattle.e3_world.proofs.UpIsRisen.{up_risen}
 use Rattle.e3_world.proofs.Sending.{trail_sends}
 use Rattle.e3_world.proofs.Trails.{trail_moves}
 use Rattle.e3_law_steps.specs.Bounds.{Suits}
@@ -105,9 +105,9 @@ sent_later before more (input.Deliver p) has = let P : List Packet → Type 0 = 
 sent_later before more i has = tt
 
 -- the number of a packet does not matter
-fits_plain : (weights : List ℕ) (site : ℕ) (life : Life) (i : Input) → Fits weights site life i → Fits weights site life (unnumbered_input i)
-fits_plain weights site life (input.Deliver p) fit = record { among = fit.among; to = fit.to; sender = fit.sender; message = fit.message }
-fits_plain weights site life i fit = fit
+fits_unnumbered : (weights : List ℕ) (site : ℕ) (life : Life) (i : Input) → Fits weights site life i → Fits weights site life (unnumbered_input i)
+fits_unnumbered weights site life (input.Deliver p) fit = record { among = fit.among; to = fit.to; sender = fit.sender; message = fit.message }
+fits_unnumbered weights site life i fit = fit
 
 -- a step's move
 was_sent : (sc : Scenario) (h : List Entry) (site : ℕ) (i : Input) → IsDue sc h site i → WasSent (trail_of sc h) (unnumbered_input i)
@@ -121,16 +121,16 @@ step_sound sc h site i given was up due =
     let Q : List Move → Type 0 = λ l. Fits sc.weights site (life_at l) (unnumbered_input i) in
     record {
       risen = subst P (sym (trail_moves sc site h)) (up_risen sc site (own_entries site h) up);
-      fits = subst Q (sym (trail_moves sc site h)) (fits_plain sc.weights site (life_at (moves_of sc h site)) i (due_fits sc h site i given was up due));
+      fits = subst Q (sym (trail_moves sc site h)) (fits_unnumbered sc.weights site (life_at (moves_of sc h site)) i (due_fits sc h site i given was up due));
       was_sent = was_sent sc h site i due;
-      made = ap (λ l. step_move sc site l i) (sym (trail_moves sc site h)) ∙ sym (step_move_plain sc site (moves_at site (trail_of sc h)) i);
+      made = ap (λ l. step_move sc site l i) (sym (trail_moves sc site h)) ∙ sym (step_move_unnumbered sc site (moves_at site (trail_of sc h)) i);
     }
 
 -- a packet that was sent was sent by a move of the trail
-contains_plain : (xs : List Packet) (x : Packet) → Contains xs x → Contains (map unnumbered xs) (unnumbered x)
-contains_plain [] x has = absurd (omega (arith, has.1))
-contains_plain (y ∷ ys) x (zero, low, is) = (0, omega arith, ap (λ z. unnumbered z) is)
-contains_plain (y ∷ ys) x (suc k, low, is) = Contains-append_right (unnumbered y ∷ []) (map unnumbered ys) (unnumbered x) (contains_plain ys x (k, omega (arith, low), is))
+contains_unnumbered : (xs : List Packet) (x : Packet) → Contains xs x → Contains (map unnumbered xs) (unnumbered x)
+contains_unnumbered [] x has = absurd (omega (arith, has.1))
+contains_unnumbered (y ∷ ys) x (zero, low, is) = (0, omega arith, ap (λ z. unnumbered z) is)
+contains_unnumbered (y ∷ ys) x (suc k, low, is) = Contains-append_right (unnumbered y ∷ []) (map unnumbered ys) (unnumbered x) (contains_unnumbered ys x (k, omega (arith, low), is))
 
 -- what was sent up to here, but for what the site sends in the steps of its fall
 abbrev SentBefore : List Entry → List Entry → ℕ → Type 0
@@ -138,7 +138,7 @@ SentBefore h k site = (p : Packet) → Contains (sent k) p → Contains (sent h)
 
 fall_sent : (sc : Scenario) (h k : List Entry) (site : ℕ) (i : Input) → SentBefore h k site → Suits sc.weights site i → IsDue sc k site i → WasSent (trail_of sc h) (unnumbered_input i)
 fall_sent sc h k site (input.Deliver p) old fit due = elim (old p (pending_sent sc k p due.is_pending)) [
-  | inl has ↦ (let P : List Packet → Type 0 = λ l. Contains l (unnumbered p) in subst P (sym (trail_sends sc h)) (contains_plain (sent h) p has))
+  | inl has ↦ (let P : List Packet → Type 0 = λ l. Contains l (unnumbered p) in subst P (sym (trail_sends sc h)) (contains_unnumbered (sent h) p has))
   | inr own ↦ absurd (eqb-false p.«from» site fit.1 own)
 ]
 fall_sent sc h k site i old fit due = tt
@@ -161,13 +161,13 @@ fall_well sc (i ∷ inputs) h k site given was old up due =
       | inr new ↦ inr new.own
     ]) (facts.ups site ∙ up) due.1 in
     let same : moves_of sc (k ++ entry_of sc k site i ∷ []) site ≡ moves_of sc k site ++ step_move sc site (moves_of sc k site) (unnumbered_input i) ∷ [] =
-    moves_on sc k site i ∙ ap (λ m. moves_of sc k site ++ m ∷ []) (sym (step_move_plain sc site (moves_of sc k site) i)) in
+    moves_on sc k site i ∙ ap (λ m. moves_of sc k site ++ m ∷ []) (sym (step_move_unnumbered sc site (moves_of sc k site) i)) in
     let P : List Move → Type 0 = λ l. FitInTurn sc (trail_of sc h) site l (map unnumbered_input inputs) in
     record {
-      fits = (fits_plain sc.weights site (life_at (moves_of sc k site)) i (due_fits sc k site i given was up due.0), fall_sent sc h k site i old fit due.0, subst P same more.fits);
+      fits = (fits_unnumbered sc.weights site (life_at (moves_of sc k site)) i (due_fits sc k site i given was up due.0), fall_sent sc h k site i old fit due.0, subst P same more.fits);
       made = ap (λ l. (made_by sc k site i).records ++ l) (more.made ∙ ap (λ l. records_in_turn sc site l (map unnumbered_input inputs)) same)
           ∙ ap (λ m. recorded m ++ records_in_turn sc site (moves_of sc k site ++ step_move sc site (moves_of sc k site) (unnumbered_input i) ∷ []) (map unnumbered_input inputs))
-          (sym (step_move_plain sc site (moves_of sc k site) i));
+          (sym (step_move_unnumbered sc site (moves_of sc k site) i));
     }
 
 fall_move : (sc : Scenario) (h : List Entry) (site : ℕ) (inputs : List Input) (records : List Record) → has_risen (moves_at site (trail_of sc h)) ≡ true → (records ≡ [] → ⊥) →

@@ -29,7 +29,7 @@ use Rattle.e3_world.proofs.Readings.{to_push, own_same, own_other, up_same}
 use Rattle.e3_law_steps.specs.Bounds.{Suits, SuitsLog, BeginsOwn, GoesBetween}
 use Rattle.e3_law_steps.proofs.Each.{each-append, each-push, IfAny}
 use Rattle.e3_law_steps.proofs.Suits.Keeping.{Goes, Keeps}
-use Rattle.e3_law_steps.proofs.Suits.Inputs.{place, step_keeps, suits_plain}
+use Rattle.e3_law_steps.proofs.Suits.Inputs.{place, step_keeps, suits_unnumbered}
 use Rattle.e3_law_steps.proofs.Suits.Turns.{TookInTurn, AsksNone, at_line, quiet_turn, step_turn, rising_none, step_input, since_at_line}
 use Rattle.e3_law_steps.proofs.Suits.Binding.{takes_begin, Binds, IsBound, binding_push, quiet_binds, step_binds}
 use Rattle.e3_law_steps.proofs.Suits.Suiting.{LifeSuits, due_input_suits}
@@ -162,7 +162,7 @@ step_holds sc h site i given up due was = record {
     sites = sites_push sc h site (entry_of sc h site i).act was.now.sites (record {
       life = life_stepped sc.weights site (moves_of sc h site)
           (record { input = unnumbered_input i; records = made.records; outs = map unnumbered (numbered (suc (length (sent h))) made.outs); told = made.told })
-          (was.now.sites site).life (suits_plain sc.weights site i fit) keeps.told keeps.records;
+          (was.now.sites site).life (suits_unnumbered sc.weights site i fit) keeps.told keeps.records;
       tail = (was.now.sites site).tail;
     });
     took = step_turn sc h site i given was.now.took due;

@@ -51,9 +51,9 @@ takes a (input.Expire t) fit ready = (allows a t fit ready, aborts a t fit)
 takes a (input.Elect t group) fit ready = (allows a t fit.0 ready, casts a (msg.Ask t (next_election a t group).call) group fit.0 fit.2 (λ s. tt), joins a t (next_election a t group) fit.0 fit.2)
 takes a (input.Deliver p) fit ready = (allows a (txn_in p.msg) fit.2.among ready, hears a p.«from» p.msg fit.2 ready)
 
-pub suits_plain : (weights : List ℕ) (site : ℕ) (i : Input) → Suits weights site i → Suits weights site (unnumbered_input i)
-suits_plain weights site (input.Deliver p) fit = fit
-suits_plain weights site i fit = fit
+pub suits_unnumbered : (weights : List ℕ) (site : ℕ) (i : Input) → Suits weights site i → Suits weights site (unnumbered_input i)
+suits_unnumbered weights site (input.Deliver p) fit = fit
+suits_unnumbered weights site i fit = fit
 
 -- the place of a step
 abbrev pub place : List ℕ → ℕ → Incarnation → Input → At
@@ -63,5 +63,5 @@ pub step_keeps : (weights : List ℕ) (site : ℕ) (now : Incarnation) (i : Inpu
     Keeps (place weights site now i) (step_of weights site now i)
 step_keeps weights site now i suit fit =
     let a : At = place weights site now i in
-    let ready : Ready a = record { steps = suit; input = suits_plain weights site i fit } in
+    let ready : Ready a = record { steps = suit; input = suits_unnumbered weights site i fit } in
     keep_step (kept a) (settles a ready) (takes a a.input ready.input ready) (record { own = tt; outs = tt; records = tt; told = tt })

@@ -12,7 +12,7 @@ use Rattle.e3_types.specs.declared.scenarios.Scenario.{Scenario}
 use Rattle.e3_types.specs.Same.{same_numbers}
 use Rattle.e3_types.specs.Sets.{is_set, has_site, is_within}
 use Rattle.e3_types.proofs.SameSites.{same_numbers_refl, same_numbers_eq}
-use Rattle.e3_world.specs.Given.{exist, is_group, BegunName, SaidSoFar, is_begun, count_ops, keeps_rules, say_item, items_keep, is_step_form, close_step, steps_keep, IsGiven}
+use Rattle.e3_world.specs.Given.{exist, is_group, BegunName, ItemsSoFar, is_begun, count_ops, keeps_rules, with_item, items_keep, is_step_form, close_step, steps_keep, IsGiven}
 use Rattle.e3_world.specs.Orderly.{is_among}
 use Rattle.e3_world.specs.Packets.{sites_to, all_sites, step_items, items_or}
 use Rattle.e3_law_steps.proofs.Packets.{only_one}
@@ -69,32 +69,32 @@ named all begun name sites sub is =
     (b.0, sub b.0 b.1, same_numbers_eq name b.0.name parts.0, parts.1)
 
 -- the begins that are said so far
-abbrev pub said : SaidSoFar → List BegunName
-said k = k.earlier ++ k.fresh
+abbrev pub names_so_far : ItemsSoFar → List BegunName
+names_so_far k = k.earlier ++ k.fresh
 
-say_said : (sc : Scenario) (k : SaidSoFar) (it : Item) → said (say_item sc k it) ≡ said k ++ begun_in it
-say_said sc k (item.Begin name site sites) = sym (append_assoc k.earlier k.fresh (record { name = name; sites = sites } ∷ []))
-say_said sc k (item.Read name key) = sym (append-nil (said k))
-say_said sc k (item.Write name key val) = sym (append-nil (said k))
-say_said sc k (item.Commit name) = sym (append-nil (said k))
-say_said sc k (item.Cancel name) = sym (append-nil (said k))
-say_said sc k (item.Expire site name) = sym (append-nil (said k))
-say_said sc k (item.Elect site name sites) = sym (append-nil (said k))
-say_said sc k (item.Recover sites) = sym (append-nil (said k))
-say_said sc k (item.Split parts) = sym (append-nil (said k))
-say_said sc k item.Merge = sym (append-nil (said k))
-say_said sc k (item.Crash site) = sym (append-nil (said k))
-say_said sc k (item.Restart site) = sym (append-nil (said k))
-say_said sc k (item.Stop site count leave) = sym (append-nil (said k))
+names_with_item : (sc : Scenario) (k : ItemsSoFar) (it : Item) → names_so_far (with_item sc k it) ≡ names_so_far k ++ begun_in it
+names_with_item sc k (item.Begin name site sites) = sym (append_assoc k.earlier k.fresh (record { name = name; sites = sites } ∷ []))
+names_with_item sc k (item.Read name key) = sym (append-nil (names_so_far k))
+names_with_item sc k (item.Write name key val) = sym (append-nil (names_so_far k))
+names_with_item sc k (item.Commit name) = sym (append-nil (names_so_far k))
+names_with_item sc k (item.Cancel name) = sym (append-nil (names_so_far k))
+names_with_item sc k (item.Expire site name) = sym (append-nil (names_so_far k))
+names_with_item sc k (item.Elect site name sites) = sym (append-nil (names_so_far k))
+names_with_item sc k (item.Recover sites) = sym (append-nil (names_so_far k))
+names_with_item sc k (item.Split parts) = sym (append-nil (names_so_far k))
+names_with_item sc k item.Merge = sym (append-nil (names_so_far k))
+names_with_item sc k (item.Crash site) = sym (append-nil (names_so_far k))
+names_with_item sc k (item.Restart site) = sym (append-nil (names_so_far k))
+names_with_item sc k (item.Stop site count leave) = sym (append-nil (names_so_far k))
 
-step_said : (sc : Scenario) (k : SaidSoFar) (items : List Item) → said (fold (say_item sc) k items) ≡ said k ++ flat_map begun_in items
-step_said sc k [] = sym (append-nil (said k))
-step_said sc k (it ∷ items) =
-    step_said sc (say_item sc k it) items ∙ ap (λ l. l ++ flat_map begun_in items) (say_said sc k it)
-    ∙ append_assoc (said k) (begun_in it) (flat_map begun_in items)
+names_with_step : (sc : Scenario) (k : ItemsSoFar) (items : List Item) → names_so_far (fold (with_item sc) k items) ≡ names_so_far k ++ flat_map begun_in items
+names_with_step sc k [] = sym (append-nil (names_so_far k))
+names_with_step sc k (it ∷ items) =
+    names_with_step sc (with_item sc k it) items ∙ ap (λ l. l ++ flat_map begun_in items) (names_with_item sc k it)
+    ∙ append_assoc (names_so_far k) (begun_in it) (flat_map begun_in items)
 
-close_said : (k : SaidSoFar) → said (close_step k) ≡ said k
-close_said k = append-nil (said k)
+names_closed : (k : ItemsSoFar) → names_so_far (close_step k) ≡ names_so_far k
+names_closed k = append-nil (names_so_far k)
 
 -- names stay once
 once_more : (all : List BegunName) (b : BegunName) → NamesOnce all → is_begun all b.name [] ≡ false → NamesOnce (all ++ b ∷ [])
@@ -117,35 +117,35 @@ once_more all b once new x y first second same =
         (and_from _ _ (subst P same (same_numbers_refl z.name)) refl) in
         cc
 
-item_once : (sc : Scenario) (k : SaidSoFar) (it : Item) → keeps_rules sc k it ≡ true → NamesOnce (said k) → NamesOnce (said k ++ begun_in it)
+item_once : (sc : Scenario) (k : ItemsSoFar) (it : Item) → keeps_rules sc k it ≡ true → NamesOnce (names_so_far k) → NamesOnce (names_so_far k ++ begun_in it)
 item_once sc k (item.Begin name site sites) keeps once =
-    once_more (said k) (record { name = name; sites = sites }) once
-    (not-true (is_begun (said k) name []) (and_parts (is_group sc sites && has_site sites site) (not (is_begun (said k) name [])) keeps).1)
-item_once sc k it keeps once = let P : List BegunName → Type 0 = NamesOnce in subst P (sym (append-nil (said k))) once
+    once_more (names_so_far k) (record { name = name; sites = sites }) once
+    (not-true (is_begun (names_so_far k) name []) (and_parts (is_group sc sites && has_site sites site) (not (is_begun (names_so_far k) name [])) keeps).1)
+item_once sc k it keeps once = let P : List BegunName → Type 0 = NamesOnce in subst P (sym (append-nil (names_so_far k))) once
 
-items_once : (sc : Scenario) (k : SaidSoFar) (items : List Item) → items_keep sc k items ≡ true → NamesOnce (said k) → NamesOnce (said (fold (say_item sc) k items))
+items_once : (sc : Scenario) (k : ItemsSoFar) (items : List Item) → items_keep sc k items ≡ true → NamesOnce (names_so_far k) → NamesOnce (names_so_far (fold (with_item sc) k items))
 items_once sc k [] keep once = once
 items_once sc k (it ∷ items) keep once =
-    let parts : _ = and_parts (keeps_rules sc k it) (items_keep sc (say_item sc k it) items) keep in
-    items_once sc (say_item sc k it) items parts.1 (let P : List BegunName → Type 0 = NamesOnce in subst P (sym (say_said sc k it)) (item_once sc k it parts.0 once))
+    let parts : _ = and_parts (keeps_rules sc k it) (items_keep sc (with_item sc k it) items) keep in
+    items_once sc (with_item sc k it) items parts.1 (let P : List BegunName → Type 0 = NamesOnce in subst P (sym (names_with_item sc k it)) (item_once sc k it parts.0 once))
 
 -- what a step keeps
-pub parts_of_step : (sc : Scenario) (k : SaidSoFar) (items : List Item) (steps : List (List Item)) → steps_keep sc k (items ∷ steps) ≡ true →
-    (is_step_form items ≡ true) × (items_keep sc k items ≡ true) × (steps_keep sc (close_step (fold (say_item sc) k items)) steps ≡ true)
+pub parts_of_step : (sc : Scenario) (k : ItemsSoFar) (items : List Item) (steps : List (List Item)) → steps_keep sc k (items ∷ steps) ≡ true →
+    (is_step_form items ≡ true) × (items_keep sc k items ≡ true) × (steps_keep sc (close_step (fold (with_item sc) k items)) steps ≡ true)
 parts_of_step sc k items steps keep =
-    let outer : _ = and_parts (is_step_form items && items_keep sc k items) (steps_keep sc (close_step (fold (say_item sc) k items)) steps) keep in
+    let outer : _ = and_parts (is_step_form items && items_keep sc k items) (steps_keep sc (close_step (fold (with_item sc) k items)) steps) keep in
     let inner : _ = and_parts (is_step_form items) (items_keep sc k items) outer.0 in
     (inner.0, inner.1, outer.1)
 
-steps_once : (sc : Scenario) (k : SaidSoFar) (steps : List (List Item)) → steps_keep sc k steps ≡ true → NamesOnce (said k) → NamesOnce (said k ++ begun_of steps)
-steps_once sc k [] keep once = let P : List BegunName → Type 0 = NamesOnce in subst P (sym (append-nil (said k))) once
+steps_once : (sc : Scenario) (k : ItemsSoFar) (steps : List (List Item)) → steps_keep sc k steps ≡ true → NamesOnce (names_so_far k) → NamesOnce (names_so_far k ++ begun_of steps)
+steps_once sc k [] keep once = let P : List BegunName → Type 0 = NamesOnce in subst P (sym (append-nil (names_so_far k))) once
 steps_once sc k (items ∷ steps) keep once =
     let parts : _ = parts_of_step sc k items steps keep in
-    let more : SaidSoFar = close_step (fold (say_item sc) k items) in
+    let more : ItemsSoFar = close_step (fold (with_item sc) k items) in
     let P : List BegunName → Type 0 = NamesOnce in
-    let same : said more ++ begun_of steps ≡ said k ++ begun_of (items ∷ steps) =
-    ap (λ l. l ++ begun_of steps) (close_said (fold (say_item sc) k items) ∙ step_said sc k items) ∙ append_assoc (said k) (flat_map begun_in items) (begun_of steps) in
-    subst P same (steps_once sc more steps parts.2 (subst P (sym (close_said (fold (say_item sc) k items))) (items_once sc k items parts.1 once)))
+    let same : names_so_far more ++ begun_of steps ≡ names_so_far k ++ begun_of (items ∷ steps) =
+    ap (λ l. l ++ begun_of steps) (names_closed (fold (with_item sc) k items) ∙ names_with_step sc k items) ∙ append_assoc (names_so_far k) (flat_map begun_in items) (begun_of steps) in
+    subst P same (steps_once sc more steps parts.2 (subst P (sym (names_closed (fold (with_item sc) k items))) (items_once sc k items parts.1 once)))
 
 -- the begins of some are among those of all
 abbrev Among : List BegunName → List BegunName → Type 0
@@ -155,36 +155,36 @@ among_left : (xs ys all : List BegunName) → Among (xs ++ ys) all → Among xs 
 among_left xs ys all sub b has = sub b (Contains-append_left xs ys b has)
 
 -- an item has the rules
-item_has : (sc : Scenario) (all : List BegunName) (k : SaidSoFar) (it : Item) → keeps_rules sc k it ≡ true → Among (said k ++ begun_in it) all → HasRules sc all it
+item_has : (sc : Scenario) (all : List BegunName) (k : ItemsSoFar) (it : Item) → keeps_rules sc k it ≡ true → Among (names_so_far k ++ begun_in it) all → HasRules sc all it
 item_has sc all k (item.Begin name site sites) keeps sub =
-    let parts : _ = and_parts (is_group sc sites && has_site sites site) (not (is_begun (said k) name [])) keeps in
+    let parts : _ = and_parts (is_group sc sites && has_site sites site) (not (is_begun (names_so_far k) name [])) keeps in
     let group : _ = and_parts (is_group sc sites) (has_site sites site) parts.0 in
-    (sub (record { name = name; sites = sites }) (Contains-push (said k) (record { name = name; sites = sites })), group.0, group.1)
+    (sub (record { name = name; sites = sites }) (Contains-push (names_so_far k) (record { name = name; sites = sites })), group.0, group.1)
 item_has sc all k (item.Read name key) keeps sub =
-    named all k.earlier name (key.site ∷ []) (among_left k.earlier k.fresh all (among_left (said k) [] all sub))
+    named all k.earlier name (key.site ∷ []) (among_left k.earlier k.fresh all (among_left (names_so_far k) [] all sub))
     (and_parts (is_begun k.earlier name (key.site ∷ [])) (nat_lt (count_ops k.ops name) 64) keeps).0
 item_has sc all k (item.Write name key val) keeps sub =
-    named all k.earlier name (key.site ∷ []) (among_left k.earlier k.fresh all (among_left (said k) [] all sub))
+    named all k.earlier name (key.site ∷ []) (among_left k.earlier k.fresh all (among_left (names_so_far k) [] all sub))
     (and_parts (is_begun k.earlier name (key.site ∷ [])) (nat_lt (count_ops k.ops name) 64) keeps).0
-item_has sc all k (item.Commit name) keeps sub = named all k.earlier name [] (among_left k.earlier k.fresh all (among_left (said k) [] all sub)) keeps
-item_has sc all k (item.Cancel name) keeps sub = named all k.earlier name [] (among_left k.earlier k.fresh all (among_left (said k) [] all sub)) keeps
+item_has sc all k (item.Commit name) keeps sub = named all k.earlier name [] (among_left k.earlier k.fresh all (among_left (names_so_far k) [] all sub)) keeps
+item_has sc all k (item.Cancel name) keeps sub = named all k.earlier name [] (among_left k.earlier k.fresh all (among_left (names_so_far k) [] all sub)) keeps
 item_has sc all k (item.Expire site name) keeps sub =
-    named all k.earlier name (site ∷ []) (among_left k.earlier k.fresh all (among_left (said k) [] all sub)) keeps
+    named all k.earlier name (site ∷ []) (among_left k.earlier k.fresh all (among_left (names_so_far k) [] all sub)) keeps
 item_has sc all k (item.Elect site name sites) keeps sub =
     let parts : _ = and_parts (is_begun k.earlier name sites && is_set sites) (has_site sites site) keeps in
     let first : _ = and_parts (is_begun k.earlier name sites) (is_set sites) parts.0 in
-    (named all k.earlier name sites (among_left k.earlier k.fresh all (among_left (said k) [] all sub)) first.0, parts.1)
+    (named all k.earlier name sites (among_left k.earlier k.fresh all (among_left (names_so_far k) [] all sub)) first.0, parts.1)
 item_has sc all k it keeps sub = tt
 
-items_have : (sc : Scenario) (all : List BegunName) (k : SaidSoFar) (items : List Item) → items_keep sc k items ≡ true → Among (said k ++ flat_map begun_in items) all →
+items_have : (sc : Scenario) (all : List BegunName) (k : ItemsSoFar) (items : List Item) → items_keep sc k items ≡ true → Among (names_so_far k ++ flat_map begun_in items) all →
     Each (HasRules sc all) items
 items_have sc all k [] keep sub = tt
 items_have sc all k (it ∷ items) keep sub =
-    let parts : _ = and_parts (keeps_rules sc k it) (items_keep sc (say_item sc k it) items) keep in
+    let parts : _ = and_parts (keeps_rules sc k it) (items_keep sc (with_item sc k it) items) keep in
     let P : List BegunName → Type 0 = λ l. Among l all in
-    let whole : Among ((said k ++ begun_in it) ++ flat_map begun_in items) all = subst P (sym (append_assoc (said k) (begun_in it) (flat_map begun_in items))) sub in (
-      item_has sc all k it parts.0 (among_left (said k ++ begun_in it) (flat_map begun_in items) all whole),
-      items_have sc all (say_item sc k it) items parts.1 (let R : List BegunName → Type 0 = λ l. Among (l ++ flat_map begun_in items) all in subst R (sym (say_said sc k it)) whole),
+    let whole : Among ((names_so_far k ++ begun_in it) ++ flat_map begun_in items) all = subst P (sym (append_assoc (names_so_far k) (begun_in it) (flat_map begun_in items))) sub in (
+      item_has sc all k it parts.0 (among_left (names_so_far k ++ begun_in it) (flat_map begun_in items) all whole),
+      items_have sc all (with_item sc k it) items parts.1 (let R : List BegunName → Type 0 = λ l. Among (l ++ flat_map begun_in items) all in subst R (sym (names_with_item sc k it)) whole),
     )
 
 -- the step has the form, and its items the rules
@@ -192,17 +192,17 @@ record StepHas (sc : Scenario) (all : List BegunName) (items : List Item) : Type
   pub form : is_step_form items ≡ true
   pub rules : Each (HasRules sc all) items
 
-steps_have : (sc : Scenario) (all : List BegunName) (k : SaidSoFar) (steps : List (List Item)) → steps_keep sc k steps ≡ true → Among (said k ++ begun_of steps) all →
+steps_have : (sc : Scenario) (all : List BegunName) (k : ItemsSoFar) (steps : List (List Item)) → steps_keep sc k steps ≡ true → Among (names_so_far k ++ begun_of steps) all →
     Each (StepHas sc all) steps
 steps_have sc all k [] keep sub = tt
 steps_have sc all k (items ∷ steps) keep sub =
     let parts : _ = parts_of_step sc k items steps keep in
     let P : List BegunName → Type 0 = λ l. Among l all in
-    let whole : Among ((said k ++ flat_map begun_in items) ++ begun_of steps) all = subst P (sym (append_assoc (said k) (flat_map begun_in items) (begun_of steps))) sub in
+    let whole : Among ((names_so_far k ++ flat_map begun_in items) ++ begun_of steps) all = subst P (sym (append_assoc (names_so_far k) (flat_map begun_in items) (begun_of steps))) sub in
     let R : List BegunName → Type 0 = λ l. Among (l ++ begun_of steps) all in (
-      record { form = parts.0; rules = items_have sc all k items parts.1 (among_left (said k ++ flat_map begun_in items) (begun_of steps) all whole) },
-      steps_have sc all (close_step (fold (say_item sc) k items)) steps parts.2
-          (subst R (sym (close_said (fold (say_item sc) k items) ∙ step_said sc k items)) whole),
+      record { form = parts.0; rules = items_have sc all k items parts.1 (among_left (names_so_far k ++ flat_map begun_in items) (begun_of steps) all whole) },
+      steps_have sc all (close_step (fold (with_item sc) k items)) steps parts.2
+          (subst R (sym (names_closed (fold (with_item sc) k items) ∙ names_with_step sc k items)) whole),
     )
 
 -- all the begins of a scenario

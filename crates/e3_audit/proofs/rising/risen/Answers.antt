@@ -2,7 +2,7 @@ use Rattle.std.proofs.Common.{◌∙◌, ap, List}
 use Rattle.e3_types.specs.declared.entries.Entry.{Entry}
 use Rattle.e3_types.specs.declared.scenarios.Scenario.{Scenario}
 use Rattle.e3_world.specs.Moves.{log_of}
-use Rattle.e3_audit.proofs.Turned.{up_rise}
+use Rattle.e3_audit.proofs.FallsAndRises.{up_rise}
 use Rattle.e3_audit.proofs.rising.risen.Goals as goal
 
 pub returns-in-Ok : goal.returns-in-Ok

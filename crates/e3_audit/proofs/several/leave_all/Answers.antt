@@ -2,7 +2,7 @@ use Rattle.std.proofs.Common.{List, subst, sym}
 use Rattle.e3_audit.specs.Seats.{TakesAll}
 use Rattle.e3_types.specs.declared.entries.Input.{Input}
 use Rattle.e3_audit.proofs.Places.{take_next}
-use Rattle.e3_audit.proofs.Turned.{takes_more}
+use Rattle.e3_audit.proofs.FallsAndRises.{takes_more}
 use Rattle.e3_audit.proofs.several.leave_all.Goals as goal
 
 pub loop-input-preserved : goal.loop-input-preserved

@@ -6,7 +6,7 @@ use Rattle.e3_node.specs.Turns.{history_seen, scenario_seen}
 use Rattle.e3_play.specs.Delivered.{IsFullBefore, IsItemDue, IsItemOrPacket, IsPacketDue}
 use Rattle.e3_play.specs.declared.sites.RunFault.{RunFault}
 use Rattle.e3_play.specs.declared.sites.RunFault.TheVariants.{HistoryFull}
-use Rattle.e3_play.proofs.Bounds.{full_too}
+use Rattle.e3_play.proofs.DuePackets.{full_too}
 use Rattle.e3_turn.specs.Passes.{seen_by}
 use Rattle.e3_types.specs.declared.scenarios.Scenario.{Scenario}
 use Rattle.e3_wire.specs.Marks.{most_of}

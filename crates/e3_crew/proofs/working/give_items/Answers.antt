@@ -3,7 +3,7 @@ use Rattle.std.specs.Prelude.{slice_get}
 use Rattle.e3_crew.specs.Workers.{ItemHadNoRoom}
 use Rattle.e3_crew.proofs.Places.{none_back_none, none_back_on}
 use Rattle.e3_node.specs.Places.{HasGivenNoneBack}
-use Rattle.e3_crew.proofs.Taking.{at_index, item_may, item_refused, next_given, plain_at}
+use Rattle.e3_crew.proofs.Taking.{at_index, item_may, item_refused, next_given, item_is_no_packet}
 use Rattle.e3_crew.proofs.Turning.{worked_none, worked_on}
 use Rattle.e3_node.specs.Turns.{history_seen, scenario_seen}
 use Rattle.e3_play.specs.declared.sites.RunFault.TheVariants.{HistoryFull}
@@ -23,7 +23,7 @@ give-requires-clause-due g c = λ up.
     let at = c.loop-item.item-index in
     let got : slice_get c.args.items.now at ≡ Some c.copy.result = at_index c.args.items.now at c.item-item.result c.loop-item-test.true c.item-item.is ∙ ap Some (sym c.copy.ensures) in
     item_may (scenario_seen c.loop-item.pass) c.loop-item.node.site c.args.items.now at c.copy.result (history_seen c.loop-item.pass) got
-    (plain_at c.args.items.now at c.copy.result c.requires.no_packets got) c.loop-item.invariant.done up
+    (item_is_no_packet c.args.items.now at c.copy.result c.requires.no_packets got) c.loop-item.invariant.done up
 
 pub loop-item-preserved : goal.loop-item-preserved
 loop-item-preserved g c =
@@ -39,7 +39,7 @@ loop-item-preserved g c =
           none_back_on c.args.node.now.site (seen_by c.args.pass.now) (seen_by c.loop-item.pass) (seen_by c.give.new.pass) was.none_back
           (subst P was.worked.site now.given.none_back));
       done = next_given g.D.Disk.meaning (seen_by c.loop-item.pass) (seen_by c.give.new.pass) c.loop-item.node c.give.new.node c.copy.result
-          c.args.items.now at got (plain_at c.args.items.now at c.copy.result c.requires.no_packets got) was.worked.knows was.done now.given.worked now.given.taken;
+          c.args.items.now at got (item_is_no_packet c.args.items.now at c.copy.result c.requires.no_packets got) was.worked.knows was.done now.given.worked now.given.taken;
     })
 
 pub returns-in_err-give-clause-worked : goal.returns-in_err-give-clause-worked

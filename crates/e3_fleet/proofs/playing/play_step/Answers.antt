@@ -7,7 +7,7 @@ use Rattle.e3_play.proofs.Answered.{always, on_ok_two}
 use Rattle.e3_play.proofs.Knowing.{knows_step}
 use Rattle.e3_play.specs.Delivered.{IsFull, IsFullBefore, IsItemOrPacket, IsOwed, OfSites}
 use Rattle.e3_play.specs.Settled.{StaysInStep, is_asking}
-use Rattle.e3_play.proofs.Bounds.{full_too}
+use Rattle.e3_play.proofs.DuePackets.{full_too}
 use Rattle.e3_play.proofs.SameSteps.{same_step}
 use Rattle.e3_types.specs.declared.entries.Entry.{Entry}
 use Rattle.e3_types.specs.declared.scenarios.Scenario.{Scenario}

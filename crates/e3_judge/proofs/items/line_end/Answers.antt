@@ -1,6 +1,6 @@
 use Rattle.std.proofs.Common.{add-one}
 use Rattle.e3_world.specs.Packets.{is_line}
-use Rattle.e3_judge.proofs.Splitting.{split_next, end_within}
+use Rattle.e3_judge.proofs.AroundLines.{split_next, end_within}
 use Rattle.e3_judge.proofs.items.line_end.Goals as goal
 
 pub loop-at-preserved : goal.loop-at-preserved

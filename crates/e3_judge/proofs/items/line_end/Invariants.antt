@@ -1,6 +1,6 @@
 use Rattle.std.proofs.Common.{◌≡◌, ◌≤◌, take}
 use Rattle.e3_world.specs.Items.{around_line}
-use Rattle.e3_judge.proofs.Splitting.{split_at}
+use Rattle.e3_judge.proofs.AroundLines.{split_at}
 use Rattle.e3_judge.proofs.items.line_end.Given as goal
 
 abbrev pub invariant-loop-at : goal.invariant-loop-at

@@ -31,7 +31,7 @@ pairs-preserved c =
       before = subst (λ l. AreUnder pair_key (key_of t) l) (sym (ap (take at) c.remove-pair.ensures.items ∙ taken ps at le)) c.pairs.invariant.before;
       from = subst (λ l. AreFrom (key_of t) (drop at l)) (sym c.remove-pair.ensures.items) (dropped (key_of t) ps at lt c.pairs.invariant.from);
       index = subst (λ l. IsIndex new l) (sym c.remove-pair.ensures.items)
-          (index_released old new (take at ps) p (drop (suc at) ps) t c.known.ensures mine c.release_on.ensures.places (subst (λ l. IsIndex old l) parts c.pairs.invariant.index));
+          (index_released old new (take at ps) p (drop (suc at) ps) t c.found_by_bits.ensures mine c.release_on.ensures.places (subst (λ l. IsIndex old l) parts c.pairs.invariant.index));
       same = λ n. ap (released t) (c.release_on.ensures.places n) ∙ same_released t p.name n (λ k. place_in k old) ∙ c.pairs.invariant.same n;
       table = λ most b. c.release_on.ensures.table most (c.pairs.invariant.table most b);
       ascending = c.release_on.ensures.ascending;

@@ -115,16 +115,3 @@ returns-clause-added g c =
       added_all g.D.Disk.meaning.meters c.args.log.now g.at.scenario g.at.history g.at.site inputs c.steps_in-2.result (count ∙ same),
       subst P same inv.added,
     )
-
--- all are added
-pub returns-clause-stays : goal.returns-clause-stays
-returns-clause-stays g c =
-    let inv = c.loop-input.invariant in
-    let at : ℕ = c.loop-input.input-index in
-    let inputs : List Input = c.args.inputs.now in
-    let low : at ≤ length inputs = c.loop-input.auto.input-index-end in
-    let end : length inputs ≤ at = c.loop-input-test.false in
-    let count : c.steps_in-2.result ≡ at =
-    c.steps_in-2.ensures ∙ count_so_far g.D.Disk.meaning.meters c.args.log.now g.at.scenario g.at.history g.at.site g.at.rose g.at.marks g.at.first (take at inputs) c.loop-input.batch c.loop-input.site c.loop-input.shared inv.added
-    ∙ length-take-le at inputs low in
-    λ less. absurd (omega (arith, count, end, less))

@@ -54,11 +54,6 @@ returns-in_default-clause-full g c = λ no.
           full.0 full.1 (subst L c.len.ensures full.2),
     )
 
-pub returns-in_default-clause-stays : goal.returns-in_default-clause-stays
-returns-in_default-clause-stays g c = λ no.
-    let is : c.in_ok-short.field-0 ≡ Full = search rules in
-    (c.in_ok-short.ensures.full is).1
-
 pub returns-clause-most : goal.returns-clause-most
 returns-clause-most g c = ap most_of c.in_ok-claim.ensures.ok ∙ most_push c.args.shared.now c.args.number c.room_for-room.result
 

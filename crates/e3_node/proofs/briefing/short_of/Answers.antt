@@ -2,7 +2,7 @@ use Rattle.std.proofs.Common.{◌≡◌, ◌≢◌, ◌==◌, [], true, false, L
 use Rattle.std.specs.List.{AllByRecursion as Each}
 use Rattle.e3_codec.specs.Fields.{AllCanBeReadBack}
 use Rattle.e3_world.specs.Brief.{brief}
-use Rattle.e3_node.specs.Telling.{IsOwn}
+use Rattle.e3_node.specs.Telling.{IsOfSite}
 use Rattle.e3_site_log.proofs.Frames.{some_spelled}
 use Rattle.e3_types.specs.Spelling.{spelling}
 use Rattle.e3_types.specs.declared.records.Record.{Record}
@@ -12,7 +12,7 @@ pub returns-clause-short : goal.returns-clause-short
 returns-clause-short g c = λ site l is some own. record {
   body_is = c.in_ok-body.ensures.bytes ∙ ap spelling is;
   count_is = let same : length c.args.records.now ≡ length (brief l) = ap length is in omega (arith, same);
-  back = subst (λ (rs : List Record). AllCanBeReadBack site rs) is (c.in_ok-body.ensures.back site (subst (λ (rs : List Record). Each (IsOwn site) rs) (sym is) own));
+  back = subst (λ (rs : List Record). AllCanBeReadBack site rs) is (c.in_ok-body.ensures.back site (subst (λ (rs : List Record). Each (IsOfSite site) rs) (sym is) own));
   some = some;
 }
 

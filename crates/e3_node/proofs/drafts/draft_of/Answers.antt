@@ -1,7 +1,7 @@
 use Rattle.std.proofs.Common.{◌++◌, ◌∷◌, [], ◌∙◌, ap, subst, List}
 use Rattle.std.specs.List.{AllByRecursion as Each}
 use Rattle.e3_codec.specs.Fields.{AllCanBeReadBack}
-use Rattle.e3_node.specs.Telling.{IsOwn}
+use Rattle.e3_node.specs.Telling.{IsOfSite}
 use Rattle.e3_types.specs.Spelling.{spelling}
 use Rattle.e3_types.specs.declared.entries.Input.{Input}
 use Rattle.e3_types.specs.declared.records.Record.{Record}
@@ -10,7 +10,7 @@ use Rattle.e3_node.proofs.drafts.draft_of.Goals as goal
 pub returns-clause-draft : goal.returns-clause-draft
 returns-clause-draft c = record {
   body_is = c.in_ok-body.ensures.bytes ∙ ap spelling c.records.ensures;
-  back = λ site. subst (λ (rs : List Record). Each (IsOwn site) rs → AllCanBeReadBack site rs) c.records.ensures (c.in_ok-body.ensures.back site);
+  back = λ site. subst (λ (rs : List Record). Each (IsOfSite site) rs → AllCanBeReadBack site rs) c.records.ensures (c.in_ok-body.ensures.back site);
   inputs_are =
       c.in_ok-push.ensures.ok ∙ ap (λ (l : List Input). l ++ c.copy.result ∷ []) c.new-inputs.ensures ∙ ap (λ (i : Input). i ∷ []) c.copy.ensures;
 }

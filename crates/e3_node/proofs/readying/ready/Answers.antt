@@ -7,7 +7,7 @@ use Rattle.e3_types.specs.Spelling.{spelling}
 use Rattle.e3_types.specs.declared.records.Record.{Record}
 use Rattle.e3_world.specs.Logs.{logged_inc}
 use Rattle.std.specs.List.{AllByRecursion as Each}
-use Rattle.e3_node.specs.Telling.{IsOwn}
+use Rattle.e3_node.specs.Telling.{IsOfSite}
 use Rattle.e3_node.proofs.Owning.{rise_own}
 use Rattle.e3_node.proofs.readying.ready.Goals as goal
 
@@ -30,7 +30,7 @@ returns-clause-ready c =
       body_is = c.in_ok-body.ensures.bytes ∙ ap spelling c.as_slice-3.ensures;
       fits =
           subst (λ (l : List Record). AllCanBeReadBack site l) c.as_slice-3.ensures
-          (c.in_ok-body.ensures.back site (subst (λ (l : List Record). Each (IsOwn site) l) (sym (c.as_slice-3.ensures ∙ made)) (rise_own c.args.wish.now c.in_ok-inc.inc read)));
+          (c.in_ok-body.ensures.back site (subst (λ (l : List Record). Each (IsOfSite site) l) (sym (c.as_slice-3.ensures ∙ made)) (rise_own c.args.wish.now c.in_ok-inc.inc read)));
       rose_is = all;
       read_is = c.len-read.ensures;
       risen = subst (λ (l : List Record). IsRebuilt site l c.in_ok-up.up) (c.as_slice-5.ensures ∙ all) c.in_ok-up.ensures.risen;

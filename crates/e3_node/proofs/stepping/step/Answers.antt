@@ -216,6 +216,18 @@ returns-in-Err-clause-why g c = λ why is.
     (subst (λ (rs : List Record). IsReason c.in-Err.why l rs old new) slice
     (c.in-Err.ensures.reason c.args.number (entries_at h c.args.number) l c.requires.up.logged follows.short due))
 
+pub returns-in-Err-clause-room : goal.returns-in-Err-clause-room
+returns-in-Err-clause-room g c = λ why is fits.
+    let sc = scenario_of c.args.shared.now in
+    let h = entries_of c.args.shared.now in
+    let d = c.in_ok-draft.draft in
+    let made = draft_made sc h c.args.number c.args.site.now _ c.args.input d c.requires.up.stands c.in_ok-draft.ensures.ready in
+    let slice : c.records-records.result.now ≡ (made_by sc h c.args.number c.args.input).records = c.records-records.ensures ∙ records_made sc h c.args.number c.args.input d.plan.step made.step_is in
+    let size : size_of (made_by sc h c.args.number c.args.input).records ≡ length c.as_slice-body.result.now =
+    ap size_of (sym slice ∙ c.records-records.ensures) ∙ sym (ap length c.in_ok-draft.ensures.ready.drafted.body_is) ∙ sym (ap length c.as_slice-body.ensures) in
+    let same : c.in-Err.why ≡ why = cc in
+    sym same ∙ c.in-Err.ensures.room c.requires.up.logged.stands.sound (subst (λ (n : ℕ). HasRoom g.D.Disk.meaning.meters c.args.log.now n) size fits)
+
 pub returns-in-Ok-clause-frame : goal.returns-in-Ok-clause-frame
 returns-in-Ok-clause-frame g c =
     let was = c.args.shared.now in

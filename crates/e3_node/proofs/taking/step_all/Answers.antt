@@ -1,5 +1,4 @@
-use Rattle.std.proofs.Common.{◌≡◌, ◌≢◌, ◌≤◌, ◌<◌, ◌+◌, ◌++◌, ◌∷◌, [], ℕ, true, List, length, take, refl, sym, subst, ap, ◌∙◌}
-use Rattle.std.specs.Prelude.{IfOk, None}
+use Rattle.std.proofs.Common.{◌≡◌, ◌≢◌, ◌≤◌, ◌+◌, ◌++◌, ◌∷◌, [], ℕ, true, List, length, take, refl, sym, subst, ap, ◌∙◌}
 use Rattle.e3_law_local.specs.Others.{numbered_on}
 use Rattle.e3_site.specs.StandsAlike.{IsLogInOrder}
 use Rattle.e3_node.specs.Batched.{HasPlanned}
@@ -21,7 +20,7 @@ use Rattle.e3_wire.specs.declared.marks.Mark.{Mark}
 use Rattle.e3_wire.specs.declared.marks.Mark.TheVariants as mark
 use Rattle.e3_world.specs.Items.{is_up_at}
 use Rattle.e3_world.specs.Moves.{log_of}
-use Rattle.e3_node.proofs.Bundles.{plain_own}
+use Rattle.e3_node.proofs.Bundles.{unnumbered_own}
 use Rattle.e3_node.proofs.Ended.{never_down}
 use Rattle.e3_node.proofs.BatchOrders.{batch_brief, batch_order}
 use Rattle.e3_node.proofs.Results.{all_due, all_follow, alone, body_size, fall_end, fall_may, frame_seen, made, may_all_enter, note_fallen, note_stepped, steps_are, steps_end, turned, up_2, up_first, up_second}
@@ -101,7 +100,7 @@ enter_steps-requires-clause-owned g c =
       site = n;
       some = c.requires.turns.some;
       owns = mine;
-      are = subst (λ (l : List Entry). AreOf n l) (sym is.steps_are) (plain_own (scenario_of (seen_by p)) (entries_of plan.between) n (take plan.count c.args.inputs));
+      are = subst (λ (l : List Entry). AreOf n l) (sym is.steps_are) (unnumbered_own (scenario_of (seen_by p)) (entries_of plan.between) n (take plan.count c.args.inputs));
     }
 
 pub enter_steps-requires-clause-may : goal.enter_steps-requires-clause-may
@@ -264,7 +263,6 @@ returns-in-Ok-clause-ended g c =
     g.D.Disk.meaning s0 l0 l1 c.args.logged.now m c.requires.up refl
     (frame_seen g.D.Disk.meaning.meters l0 p q n s0.inputs c.args.inputs answer b s1 plan c.requires.turns.owns mine c.requires.turns.played c.plan_all-planned.ensures.played)
     c.logs_are_sound.ensures.orderly c.logs_are_sound.ensures.sets b.short follow.short
-    (subst (λ (l : List Input). IfOk answer (λ k. k < length l → b.short ≡ None)) c.as_slice.ensures c.plan_all-planned.ensures.stays)
     (λ none. c.write.ensures.same (c.as_slice-2.ensures ∙ none))
     (subst (λ (rs : List Record). IsLogged g.D.Disk.meaning n (entries_at k n + 1) (log_of sc k n ++ rs) m l1) c.as_slice-2.ensures
     (c.in-Ok.ensures.logged n (entries_at k n) (log_of sc k n) here.logged follow.short follow.orderly follow.back))
@@ -387,7 +385,6 @@ returns-in-Err-clause-ended g c =
     c.requires.turns.some c.requires.up.up c.requires.turns.restless c.requires.due c.requires.takes ent.0 ent.1 ent.3
     g.D.Disk.meaning s0 l0 l1 c.args.logged.now m c.requires.up refl
     (frame_seen g.D.Disk.meaning.meters l0 p q n s0.inputs c.args.inputs answer b s1 plan c.requires.turns.owns mine c.requires.turns.played c.plan_all-planned.ensures.played) why some
-    (subst (λ (l : List Input). IfOk answer (λ k. k < length l → b.short ≡ None)) c.as_slice.ensures c.plan_all-planned.ensures.stays) due
     (λ fits. c.in-Err.ensures.room c.requires.up.logged.stands.sound (subst (λ (size : ℕ). HasRoom g.D.Disk.meaning.meters l0 size) (sym size) fits))
     (subst (λ (rs : List Record). (bytes : List ℕ) → g.D.Disk.meaning.image l1.disk bytes →
     ReadsLeft n (g.D.Disk.meaning.meters l1.disk).capacity (entries_at k n + 1) (log_of sc k n) rs m why bytes) c.as_slice-2.ensures

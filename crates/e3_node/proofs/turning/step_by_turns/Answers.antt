@@ -27,7 +27,7 @@ use Rattle.e3_node.proofs.Orders.{log_in_order}
 use Rattle.e3_node.proofs.Places.{entered_back, looked_back, still_back}
 use Rattle.e3_node.proofs.Sharing.{fall_used, step_used}
 use Rattle.e3_node.proofs.Steps.{draft_made, fall_allowed, fall_entered, fall_takes, fallen_tells, inputs_on, own_stands, records_made, site_on, step_allowed, step_entered, step_logged, stepped_up}
-use Rattle.e3_node.proofs.Turned.{refused}
+use Rattle.e3_node.proofs.InputsByTurns.{refused}
 use Rattle.e3_node.proofs.Waiting.{behind_of, entered_turn, entries, keys_stay, looked, made_meanwhile, may_commit, meanwhile, still_owns, still_restless, still_up, up_meanwhile}
 use Rattle.e3_node.proofs.Written.{Follows, follows_while, step_follows, up_brief}
 use Rattle.e3_node.proofs.turning.step_by_turns.Goals as goal
@@ -359,6 +359,18 @@ returns-in-Err-clause-why g c = λ why is.
     subst (λ (w : Why). IsReason w l (made_by sc h c.args.number c.args.input).records old new) same
     (subst (λ (rs : List Record). IsReason c.in-Err.why l rs old new) slice
     (c.in-Err.ensures.reason c.args.number (entries_at h c.args.number) l c.requires.up.logged then.short fits))
+
+pub returns-in-Err-clause-room : goal.returns-in-Err-clause-room
+returns-in-Err-clause-room g c = λ why is fits.
+    let sc = scenario_seen c.args.pass.now in
+    let h = history_seen c.args.pass.now in
+    let d = c.in_ok-draft.draft in
+    let made = draft_made sc h c.args.number c.args.site.now _ c.args.input d c.requires.up.stands c.in_ok-draft.ensures.ready in
+    let slice : c.records-records.result.now ≡ (made_by sc h c.args.number c.args.input).records = c.records-records.ensures ∙ records_made sc h c.args.number c.args.input d.plan.step made.step_is in
+    let size : size_of (made_by sc h c.args.number c.args.input).records ≡ length c.as_slice-body.result.now =
+    ap size_of (sym slice ∙ c.records-records.ensures) ∙ sym (ap length c.in_ok-draft.ensures.ready.drafted.body_is) ∙ sym (ap length c.as_slice-body.ensures) in
+    let same : c.in-Err.why ≡ why = cc in
+    sym same ∙ c.in-Err.ensures.room c.requires.up.logged.stands.sound (subst (λ (n : ℕ). HasRoom g.D.Disk.meaning.meters c.args.log.now n) size fits)
 
 pub returns-in-Ok-clause-frame : goal.returns-in-Ok-clause-frame
 returns-in-Ok-clause-frame g c =

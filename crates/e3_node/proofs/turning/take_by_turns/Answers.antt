@@ -1,9 +1,11 @@
-use Rattle.std.proofs.Common.{refl, subst, sym}
+use Rattle.std.proofs.Common.{◌≡◌, refl, subst, sym}
+use Rattle.e3_node.specs.Ends.{HasRoomBehind}
 use Rattle.e3_node.specs.NodeView.{disk_of}
 use Rattle.e3_node.specs.Turns.{history_seen, scenario_seen}
 use Rattle.e3_turn.specs.Passes.{seen_by}
 use Rattle.e3_node.specs.declared.state.State.{State}
 use Rattle.e3_site_log.specs.Ends.{IsReason}
+use Rattle.e3_types.specs.declared.entries.Why.TheVariants.{Fault}
 use Rattle.e3_world.specs.Legal.{made_by}
 use Rattle.e3_world.specs.Moves.{log_of}
 use Rattle.e3_node.proofs.Places.{still_back}
@@ -26,3 +28,9 @@ returns-in-Up-clause-why g c = λ why is.
     let h = history_seen c.args.pass.now in
     subst (λ (s : State _). IsReason why (log_of sc h c.args.number) (made_by sc h c.args.number c.args.input).records
     (g.D.Disk.meaning.meters (disk_of s)) (g.D.Disk.meaning.meters c.step_by_turns.new.log.disk)) (sym c.in-Up.is) (c.step_by_turns.ensures.why why is)
+
+pub returns-in-Up-clause-room : goal.returns-in-Up-clause-room
+returns-in-Up-clause-room g c = λ why is.
+    let sc = scenario_seen c.args.pass.now in
+    let h = history_seen c.args.pass.now in
+    subst (λ (s : State _). HasRoomBehind g.D.Disk.meaning.meters s (made_by sc h c.args.number c.args.input).records → why ≡ Fault) (sym c.in-Up.is) (c.step_by_turns.ensures.room why is)

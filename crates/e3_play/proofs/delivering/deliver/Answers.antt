@@ -2,7 +2,7 @@ use Rattle.std.proofs.Common.{◌≡◌, List, sym, subst}
 use Rattle.e3_types.specs.declared.entries.Entry.{Entry}
 use Rattle.e3_play.specs.Delivered.{IsFullBefore, IsPacketDue}
 use Rattle.e3_play.specs.declared.sites.RunFault.TheVariants.{HistoryFull}
-use Rattle.e3_play.proofs.Bounds.{packet_full, packet_owed, refused}
+use Rattle.e3_play.proofs.DuePackets.{packet_full, packet_owed, refused}
 use Rattle.e3_play.proofs.delivering.deliver.Goals as goal
 
 pub returns-then-is_up-clause-full : goal.returns-then-is_up-clause-full

@@ -1,5 +1,5 @@
 use Rattle.std.proofs.Common.{◌∙◌}
-use Rattle.e3_play.proofs.InParts.{if_ok, listed_parts}
+use Rattle.e3_play.proofs.Listed.{if_ok, listed_parts}
 use Rattle.e3_play.proofs.listing.listed.Goals as goal
 
 pub returns : goal.returns

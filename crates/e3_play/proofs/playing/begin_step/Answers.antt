@@ -8,7 +8,7 @@ use Rattle.e3_types.specs.declared.scenarios.Scenario.{Scenario}
 use Rattle.e3_world.specs.Packets.{is_line, lines, step_items}
 use Rattle.e3_types.specs.declared.entries.Act.TheVariants as act
 use Rattle.e3_play.specs.Played.{IsFresh, IsSettled, IsStep}
-use Rattle.e3_play.proofs.Full.{line_full}
+use Rattle.e3_play.proofs.DueRises.{line_full}
 use Rattle.e3_play.proofs.Forms.{alone_is, crash_is, exchange_asks, no_stop, recovery_is, restart_exists, restart_is, step_is_given, stop_is}
 use Rattle.e3_play.proofs.Knowing.{knows_line, knows_more}
 use Rattle.e3_play.proofs.Settling.{IsBegun, line_begins, stop_settles}

@@ -9,7 +9,7 @@ use Rattle.e3_world.specs.Packets.{pending}
 use Rattle.e3_world.specs.Progress.{Delivering}
 use Rattle.e3_play.specs.Rounds.{AfterRound}
 use Rattle.e3_play.proofs.Electing.{elected}
-use Rattle.e3_play.proofs.NoRoom.{delivery_full, round_full}
+use Rattle.e3_play.proofs.DueRounds.{delivery_full, round_full}
 use Rattle.e3_play.proofs.SameSteps.{delivers_stays, input_stays, stays_kept, stays_on}
 use Rattle.e3_play.proofs.recovering.make_round.Goals as goal
 

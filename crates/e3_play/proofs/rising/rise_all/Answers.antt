@@ -8,7 +8,7 @@ use Rattle.e3_types.specs.declared.scenarios.Scenario.{Scenario}
 use Rattle.e3_play.specs.Played.{IsSettled}
 use Rattle.e3_play.proofs.Onward.{goes_on}
 use Rattle.e3_play.proofs.Entries.{one_risen, rise_quiet, turn_to_rise}
-use Rattle.e3_play.proofs.Full.{rise_full, risen}
+use Rattle.e3_play.proofs.DueRises.{rise_full, risen}
 use Rattle.e3_play.proofs.rising.rise_all.Goals as goal
 
 pub rise-requires-clause-turn : goal.rise-requires-clause-turn

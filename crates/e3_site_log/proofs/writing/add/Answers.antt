@@ -25,7 +25,8 @@ pub returns-in-Ok-clause-end : goal.returns-in-Ok-clause-end
 returns-in-Ok-clause-end g c =
     let size : length (frames (body_of c.args.records.now)) ≡ 5 + length c.args.body.now = frame_length c.args.records.now c.args.body.now c.requires.spelled c.requires.some in
     let end : c.append.new.self.end ≡ c.args.log.now.end + 5 + length c.args.body.now = c.in-Ok.ensures.end in
-    (c.in-Ok.ensures.log.0, omega (arith, end, size))
+    let behind : c.append.new.self.end ≡ c.args.log.now.end + length (frames (body_of c.args.records.now)) = omega (arith, end, size) in
+    record { region = c.in-Ok.ensures.log.0; generation = c.in-Ok.ensures.log.1; spare = c.in-Ok.ensures.log.2; end = behind }
 
 pub returns-in-Err-clause-left : goal.returns-in-Err-clause-left
 returns-in-Err-clause-left g c = λ site most l was orderly back bytes at.

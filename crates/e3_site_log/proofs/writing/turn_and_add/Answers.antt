@@ -30,7 +30,11 @@ pub returns-in-Ok-clause-end : goal.returns-in-Ok-clause-end
 returns-in-Ok-clause-end g c =
     let mid : c.turn_to.new.log.end ≡ start (g.D.Disk.meaning.meters c.args.log.now.disk).capacity (other c.args.log.now.region) + 10 + length c.args.short.now.body = c.in-Ok.ensures.log.1 in
     on_ok {A = IsBehind c.turn_to.new.log c.args.records.now c.add.new.log} {B = IsTurned g.D.Disk.meaning.meters c.args.log.now c.args.short.now.body c.args.records.now c.add.new.log}
-    c.add.result (λ end. (end.0 ∙ c.in-Ok.ensures.log.0, (let behind : c.add.new.log.end ≡ c.turn_to.new.log.end + length (frames (body_of c.args.records.now)) = end.1 in omega (arith, behind, mid)))) c.add.ensures.end
+    c.add.result (λ put. record {
+      region = put.region ∙ c.in-Ok.ensures.log.0;
+      generation = put.generation ∙ c.in-Ok.ensures.counts;
+      end = (let behind : c.add.new.log.end ≡ c.turn_to.new.log.end + length (frames (body_of c.args.records.now)) = put.end in omega (arith, behind, mid));
+    }) c.add.ensures.end
 
 pub returns-in-Ok-clause-keeps : goal.returns-in-Ok-clause-keeps
 returns-in-Ok-clause-keeps g c =

@@ -81,6 +81,9 @@ returns-in-Ok-turn-clause-log g c =
     subst (λ (k : ℕ). (new.region ≡ other c.args.log.now.region) × (new.end ≡ start k (other c.args.log.now.region) + 10 + size)) c.in-Ok.ensures.keeps.capacity
     (subst (λ (x : Region). (new.region ≡ other x) × (new.end ≡ start cap (other x) + 10 + size)) c.in-Ok.ensures.log.0 (c.in-Ok-turn.ensures.log.0, end))
 
+pub returns-in-Ok-turn-clause-counts : goal.returns-in-Ok-turn-clause-counts
+returns-in-Ok-turn-clause-counts g c = c.in-Ok-turn.ensures.log.1 ∙ ap (λ (k : ℕ). k + 1) c.in-Ok.ensures.log.1
+
 pub returns-in-Ok-turn-clause-keeps : goal.returns-in-Ok-turn-clause-keeps
 returns-in-Ok-turn-clause-keeps g c =
     keeps_then (g.D.Disk.meaning.meters c.args.log.now.disk) (g.D.Disk.meaning.meters c.clear.new.log.disk) (g.D.Disk.meaning.meters c.turn.new.self.disk) c.in-Ok.ensures.keeps c.in-Ok.ensures.stops c.in-Ok-turn.ensures.keeps

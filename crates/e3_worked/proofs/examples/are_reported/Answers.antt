@@ -1,5 +1,5 @@
 use Rattle.std.specs.Prelude.{refl}
-use Rattle.e3_worked.proofs.Opening.{report_opens}
+use Rattle.e3_worked.proofs.Unfolding.{report_opens}
 use Rattle.e3_worked.proofs.examples.are_reported.Goals as goal
 
 pub returns-clause-busy_cancel_over : goal.returns-clause-busy_cancel_over

@@ -1,5 +1,5 @@
 use Rattle.std.specs.Prelude.{refl}
-use Rattle.e3_worked.proofs.Opening.{text_opens}
+use Rattle.e3_worked.proofs.Unfolding.{text_opens}
 use Rattle.e3_worked.proofs.examples.are_spelled.Goals as goal
 
 pub returns-clause-busy_cancel_over : goal.returns-clause-busy_cancel_over

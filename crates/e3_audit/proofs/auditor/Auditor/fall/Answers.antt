@@ -2,7 +2,7 @@ use Rattle.std.proofs.Common.{◌∙◌, ◌-◌, arith, length, refl, sym}
 use Rattle.std.proofs.lemmas.Option.{slice_get_read}
 use Rattle.e3_judge.proofs.Anys.{decides_none}
 use Rattle.e3_audit.proofs.Through.{seat_at}
-use Rattle.e3_audit.proofs.Turned.{fell_all}
+use Rattle.e3_audit.proofs.FallsAndRises.{fell_all}
 use Rattle.e3_audit.proofs.auditor.Auditor.fall.Goals as goal
 
 pub fall_all-requires : goal.fall_all-requires

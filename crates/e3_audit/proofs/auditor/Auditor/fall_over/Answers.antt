@@ -4,7 +4,7 @@ use Rattle.e3_audit.specs.Seats.{noted}
 use Rattle.e3_audit.specs.declared.seat.Seat.{Seat}
 use Rattle.e3_audit.proofs.Seats.{seat_fall}
 use Rattle.e3_audit.proofs.Through.{seat_at}
-use Rattle.e3_audit.proofs.Turned.{fell}
+use Rattle.e3_audit.proofs.FallsAndRises.{fell}
 use Rattle.e3_audit.proofs.auditor.Auditor.fall_over.Goals as goal
 
 pub would_record-requires : goal.would_record-requires

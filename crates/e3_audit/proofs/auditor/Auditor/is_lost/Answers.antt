@@ -1,6 +1,6 @@
 use Rattle.std.proofs.Common.{◌∙◌, length, refl, sym, arith}
 use Rattle.std.proofs.lemmas.Option.{slice_get_read}
-use Rattle.e3_audit.proofs.Turned.{lost_here}
+use Rattle.e3_audit.proofs.FallsAndRises.{lost_here}
 use Rattle.e3_audit.proofs.auditor.Auditor.is_lost.Goals as goal
 
 pub returns-in-Some : goal.returns-in-Some

@@ -1,5 +1,5 @@
 use Rattle.std.proofs.Common.{refl}
-use Rattle.e3_audit.proofs.Turned.{dropped}
+use Rattle.e3_audit.proofs.FallsAndRises.{dropped}
 use Rattle.e3_audit.proofs.auditor.Auditor.lose.Goals as goal
 
 pub returns-in-Some : goal.returns-in-Some

@@ -1,6 +1,6 @@
 use Rattle.std.proofs.Common.{◌∙◌, ap, refl, sym, List, ℕ}
 use Rattle.e3_judge.proofs.Anys.{decides_none}
-use Rattle.e3_audit.proofs.Turned.{parted}
+use Rattle.e3_audit.proofs.FallsAndRises.{parted}
 use Rattle.e3_audit.proofs.auditor.Auditor.part.Goals as goal
 
 pub returns-in_ok-parts-in-Parts : goal.returns-in_ok-parts-in-Parts

@@ -2,7 +2,7 @@ use Rattle.std.proofs.Common.{◌∙◌, ◌-◌, length, refl, sym, arith}
 use Rattle.e3_judge.proofs.Anys.{decides_none}
 use Rattle.std.proofs.lemmas.Option.{slice_get_read}
 use Rattle.e3_audit.proofs.Through.{seat_at}
-use Rattle.e3_audit.proofs.Turned.{legal_behind, turned}
+use Rattle.e3_audit.proofs.FallsAndRises.{legal_behind, turned}
 use Rattle.e3_audit.proofs.auditor.Auditor.turn.Goals as goal
 
 pub turn-requires-clause-legal : goal.turn-requires-clause-legal

@@ -2,7 +2,7 @@ use Rattle.std.proofs.Common.{refl}
 use Rattle.e3_fleet.specs.Fleets.{nodes_of}
 use Rattle.e3_fleet.proofs.Going.{driver_call}
 use Rattle.e3_fleet.proofs.Holding.{held_on}
-use Rattle.e3_fleet.proofs.Turns.{line_arms}
+use Rattle.e3_fleet.proofs.Numbers.{line_arms}
 use Rattle.e3_fleet.proofs.fleet.FleetSites.line.Goals as goal
 use Rattle.e3_types.specs.declared.entries.Act.TheVariants.{Line}
 use Rattle.e3_wire.specs.Marks.{scenario_of}

@@ -2,7 +2,7 @@
 use Rattle.std.proofs.Common.{◌≡◌, ◌+◌, ap}
 use Rattle.e3_locks.specs.Places.{advanced}
 use Rattle.e3_locks.specs.Standing.{Standing}
-use Rattle.e3_locks.proofs.Splitting.{view, cut_advanced}
+use Rattle.e3_locks.proofs.TwoParts.{view, cut_advanced}
 use Rattle.e3_locks.proofs.place.NameLocks.advance.Goals as goal
 
 pub returns : goal.returns

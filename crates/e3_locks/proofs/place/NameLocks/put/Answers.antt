@@ -4,7 +4,7 @@ use Rattle.e3_locks.specs.Places.{requested}
 use Rattle.e3_locks.specs.Standing.{Standing}
 use Rattle.e3_types.specs.declared.locks.Grant.{Grant}
 use Rattle.e3_types.specs.declared.locks.Grant.TheVariants.{Held}
-use Rattle.e3_locks.proofs.Splitting.{view, cut_insert}
+use Rattle.e3_locks.proofs.TwoParts.{view, cut_insert}
 use Rattle.e3_locks.proofs.place.NameLocks.put.Goals as goal
 
 pub returns-in_ok-insert_lock-in-Held-clause-ok : goal.returns-in_ok-insert_lock-in-Held-clause-ok

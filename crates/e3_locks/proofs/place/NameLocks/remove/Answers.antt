@@ -3,7 +3,7 @@ use Rattle.std.proofs.Common.{◌≡◌, ◌∙◌, ap, take, length, List}
 use Rattle.e3_types.specs.declared.locks.Lock.{Lock}
 use Rattle.e3_locks.specs.Places.{others_of, without}
 use Rattle.e3_locks.specs.Standing.{Standing}
-use Rattle.e3_locks.proofs.Splitting.{view, cut_without, few_without}
+use Rattle.e3_locks.proofs.TwoParts.{view, cut_without, few_without}
 use Rattle.e3_locks.proofs.place.NameLocks.remove.Goals as goal
 
 pub invariant_of-self : goal.invariant_of-self

@@ -1,8 +1,9 @@
-use Rattle.std.proofs.Common.{◌≤◌, ap, subst, sym, refl, Err}
-use Rattle.e3_node.specs.Ends.{FellOver, IsOneFrame, OnLogs}
+use Rattle.std.proofs.Common.{◌≡◌, ◌≤◌, ap, subst, sym, refl, Err}
+use Rattle.e3_node.specs.Ends.{FellOver, HasRoomBehind, IsOneFrame, OnLogs}
 use Rattle.e3_node.specs.NodeStands.{IsIn}
 use Rattle.e3_node.specs.NodeView.{NodeView}
 use Rattle.e3_node.specs.declared.fault.InputFault.{InputFault}
+use Rattle.e3_types.specs.declared.entries.Why.TheVariants.{Fault}
 use Rattle.e3_wire.specs.Marks.{entries_of, last_owner, scenario_of}
 use Rattle.e3_world.specs.Legal.{made_by}
 use Rattle.e3_world.specs.Moves.{log_of}
@@ -22,6 +23,12 @@ returns-in-Ok-clause-frame g c =
     let h = entries_of c.args.shared.now in
     subst (λ (x : NodeView _). OnLogs (IsOneFrame g.D.Disk.meaning.meters (log_of sc h x.site) (made_by sc h x.site c.args.input).records) x.state c.take_input.new.state)
     c.self.view_is c.in-Ok.ensures.frame
+
+pub returns-in-Err-clause-room : goal.returns-in-Err-clause-room
+returns-in-Err-clause-room g c = λ why is.
+    let sc = scenario_of c.args.shared.now in
+    let h = entries_of c.args.shared.now in
+    subst (λ (x : NodeView _). HasRoomBehind g.D.Disk.meaning.meters x.state (made_by sc h x.site c.args.input).records → why ≡ Fault) c.self.view_is (c.in-Err.ensures.room why is)
 
 pub returns-in-Err-clause-fell : goal.returns-in-Err-clause-fell
 returns-in-Err-clause-fell g c = λ why is.

@@ -1,15 +1,16 @@
 use Rattle.std.proofs.Common.{◌≡◌, ◌≤◌, ◌++◌, ◌∷◌, [], ap, subst, sym}
-use Rattle.e3_node.specs.Ends.{IsOneFrame, OnLogs}
+use Rattle.e3_node.specs.Ends.{HasRoomBehind, IsOneFrame, OnLogs}
 use Rattle.e3_node.specs.NodeStands.{IsIn}
 use Rattle.e3_node.specs.NodeView.{NodeView, disk_of}
 use Rattle.e3_node.specs.Turns.{HasKeptPromises, Meanwhile, history_seen, scenario_seen}
 use Rattle.e3_site_log.specs.Ends.{Takes, calls_for}
+use Rattle.e3_types.specs.declared.entries.Why.TheVariants.{Fault}
 use Rattle.e3_turn.specs.Passes.{Owns, seen_by}
 use Rattle.e3_wire.specs.Marks.{last_owner}
 use Rattle.e3_world.specs.Legal.{entry_of, made_by}
 use Rattle.e3_world.specs.Moves.{log_of}
 use Rattle.e3_node.proofs.Steps.{node_with}
-use Rattle.e3_node.proofs.Turned.{in_told}
+use Rattle.e3_node.proofs.InputsByTurns.{in_told}
 use Rattle.e3_node.proofs.Waiting.{keys_stay}
 use Rattle.e3_node.proofs.node.Node.input_by_turns.Goals as goal
 
@@ -38,6 +39,12 @@ returns-in-Ok-clause-frame g c =
     let h = history_seen c.args.pass.now in
     subst (λ (x : NodeView _). OnLogs (IsOneFrame g.D.Disk.meaning.meters (log_of sc h x.site) (made_by sc h x.site c.args.input).records) x.state c.take_by_turns.new.state)
     c.self.view_is c.in-Ok.ensures.frame
+
+pub returns-in-Err-clause-room : goal.returns-in-Err-clause-room
+returns-in-Err-clause-room g c = λ why is.
+    let sc = scenario_seen c.args.pass.now in
+    let h = history_seen c.args.pass.now in
+    subst (λ (x : NodeView _). HasRoomBehind g.D.Disk.meaning.meters x.state (made_by sc h x.site c.args.input).records → why ≡ Fault) c.self.view_is (c.in-Err.ensures.room why is)
 
 pub returns-in-Ok-clause-turned : goal.returns-in-Ok-clause-turned
 returns-in-Ok-clause-turned g c =

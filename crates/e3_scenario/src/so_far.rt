@@ -1,10 +1,10 @@
-// What the items so far say.
+// What the items so far come to.
 ghost use Rattle.std.specs.Prelude.{◌≡◌, ◌++◌, ◌∷◌, ◌+◌, ◌||◌, [], nat_le, length, IfOk, OnOk};
 ghost use Rattle.std.specs.List.{list_any};
 ghost use Rattle.e3_types.specs.Sets.{is_within};
 ghost use Rattle.e3_world.specs.Given.{count_ops, close_step};
-ghost use Rattle.e3_scenario.specs.Faults.{has_name, sites_begun, say};
-ghost use Rattle.e3_scenario.specs.Scenarios.{nothing_said};
+ghost use Rattle.e3_scenario.specs.Faults.{has_name, sites_begun, take_item};
+ghost use Rattle.e3_scenario.specs.Scenarios.{no_items_yet};
 
 use crate::names::{Begins, Begun, Operations};
 use e3_types::{Item, List, Name, NoMemory, SiteSet};
@@ -14,7 +14,7 @@ use std::mem;
 
 const MOST_BEGINS: u64 = 4_000;
 
-/// What the items so far say: the begins of earlier steps and of this one, a name for each operation, and the present
+/// What the items so far come to: the begins of earlier steps and of this one, a name for each operation, and the present
 /// parts of the network.
 #[derive(Drop)]
 pub struct SoFar {
@@ -25,9 +25,9 @@ pub struct SoFar {
 }
 
 impl Model for SoFar {
-    ghost use Rattle.e3_world.specs.Given.{SaidSoFar};
+    ghost use Rattle.e3_world.specs.Given.{ItemsSoFar};
 
-    ghost Value = { SaidSoFar };
+    ghost Value = { ItemsSoFar };
 
     ghost view = { λ s. record { earlier = s.earlier; fresh = s.fresh; ops = s.ops; parts = s.parts } };
 }
@@ -39,9 +39,9 @@ fn has_name(begun: &[Begun], name: &Name) -> bool
 }
 
 impl SoFar {
-    /// Nothing is said yet: no name is begun, and these sites are one part.
+    /// Before the first item: no name is begun, and these sites are one part.
     pub fn nothing(alloc: Global, all: SiteSet) -> Result<SoFar, NoMemory>
-        ensures { IfOk result (λ said. said ≡ nothing_said all) }
+        ensures { IfOk result (λ so_far. so_far ≡ no_items_yet all) }
     {
         let mut parts = List::new(alloc);
         parts.push(all)?;
@@ -90,9 +90,9 @@ impl SoFar {
         self.parts.as_slice().iter().any(|part| sites.within(*part))
     }
 
-    /// One more item says what it says.
-    pub fn say(&mut self, alloc: Global, all: SiteSet, item: &Item) -> Result<(), NoMemory>
-        ensures { OnOk result (self.new ≡ say all self.old item.now) }
+    /// One more item is taken in.
+    pub fn take_item(&mut self, alloc: Global, all: SiteSet, item: &Item) -> Result<(), NoMemory>
+        ensures { OnOk result (self.new ≡ take_item all self.old item.now) }
     {
         match item {
             Item::Begin { name, sites, .. } => self.fresh.push(Begun {

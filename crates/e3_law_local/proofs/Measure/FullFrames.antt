@@ -22,19 +22,20 @@ use Rattle.e3_world.specs.Packets.{all_sites, is_calm, is_line, lines, outs_of, 
 use Rattle.e3_net.specs.Stands.{given, given_after, waiting_of, without}
 use Rattle.e3_net.proofs.Copies.{without_same}
 use Rattle.e3_net.proofs.Pushing.{pending_waits}
-use Rattle.e3_law_local.specs.Measures.{begun, begun_in, copies_at, down_from, is_open, measure, open_pairs, total}
+use Rattle.e3_law_steps.specs.Mentions.{begun_in}
+use Rattle.e3_law_local.specs.Measures.{begun, copies_at, down_from, is_open, measure, open_pairs, total}
 
 -- the fall without the numbers of the frame and of the room
-abbrev plain_why : Why → Why
-plain_why Fault = Fault
-plain_why (Full need room) = Full 0 0
+abbrev sizeless_why : Why → Why
+sizeless_why Fault = Fault
+sizeless_why (Full need room) = Full 0 0
 
-abbrev plain_act : Act → Act
-plain_act (Fall inputs records why) = Fall inputs records (plain_why why)
-plain_act act = act
+abbrev sizeless_act : Act → Act
+sizeless_act (Fall inputs records why) = Fall inputs records (sizeless_why why)
+sizeless_act act = act
 
 abbrev pub alike : Entry → Entry
-alike e = record { owner = e.owner; act = plain_act e.act }
+alike e = record { owner = e.owner; act = sizeless_act e.act }
 
 -- what is read of entry by entry
 folds : {X : Type 0} (f : X → Entry → X) → ((x : X) (e : Entry) → f x (alike e) ≡ f x e) → (h : List Entry) (x : X) → fold f x (map alike h) ≡ fold f x h
@@ -49,7 +50,7 @@ maps : {X : Type 0} (f : Entry → X) → ((e : Entry) → f (alike e) ≡ f e) 
 maps f same [] = refl
 maps f same (e ∷ h) = ap (λ x. x ∷ map f (map alike h)) (same e) ∙ ap (λ l. f e ∷ l) (maps f same h)
 
-by_acts : {X : Type 0} (f : Act → X) → ((inputs : List Input) (records : List Record) (why : Why) → f (Fall inputs records (plain_why why)) ≡ f (Fall inputs records why)) → (act : Act) → f (plain_act act) ≡ f act
+by_acts : {X : Type 0} (f : Act → X) → ((inputs : List Input) (records : List Record) (why : Why) → f (Fall inputs records (sizeless_why why)) ≡ f (Fall inputs records why)) → (act : Act) → f (sizeless_act act) ≡ f act
 by_acts f falls (Fall inputs records why) = falls inputs records why
 by_acts f falls (Step i records outs events) = refl
 by_acts f falls (Rise kept inc) = refl
@@ -61,7 +62,7 @@ by_acts f falls (Parts parts) = refl
 by_acts f falls (Line number) = refl
 
 folds_by_act : {X : Type 0} (f : X → Entry → X) → ((x : X) (owner : ℕ) (inputs : List Input) (records : List Record) (why : Why) →
-    f x (record { owner = owner; act = Fall inputs records (plain_why why) }) ≡ f x (record { owner = owner; act = Fall inputs records why })) →
+    f x (record { owner = owner; act = Fall inputs records (sizeless_why why) }) ≡ f x (record { owner = owner; act = Fall inputs records why })) →
     (h : List Entry) (x : X) → fold f x (map alike h) ≡ fold f x h
 folds_by_act f falls h x = folds f (λ y e. by_acts (λ act. f y (record { owner = e.owner; act = act })) (falls y e.owner) e.act) h x
 
@@ -77,7 +78,7 @@ past_alike : (sc : Scenario) (s : ℕ) (w : Past) (e : Entry) → past_by sc s w
 past_alike sc s w e = by_acts (λ act. past_by sc s w (record { owner = e.owner; act = act })) falls e.act
   where
     falls : (inputs : List Input) (records : List Record) (why : Why) →
-        past_by sc s w (record { owner = e.owner; act = Fall inputs records (plain_why why) }) ≡ past_by sc s w (record { owner = e.owner; act = Fall inputs records why })
+        past_by sc s w (record { owner = e.owner; act = Fall inputs records (sizeless_why why) }) ≡ past_by sc s w (record { owner = e.owner; act = Fall inputs records why })
     falls inputs records Fault = refl
     falls inputs records (Full need room) = refl
 

@@ -21,7 +21,7 @@ use Rattle.e3_world.proofs.Lines.{lines_to}
 use Rattle.e3_world.proofs.Turns.{true_not_false}
 use Rattle.e3_play.specs.Delivered.{IsFullBefore, IsItemDue}
 use Rattle.e3_play.specs.Settled.{is_asking}
-use Rattle.e3_play.proofs.Bounds.{bounded_before, whole_parts}
+use Rattle.e3_play.proofs.DuePackets.{bounded_before, whole_parts}
 
 -- a test that all sites pass is passed by each
 pick : (p : ℕ → Bool) (n k : ℕ) → k < suc n → list_all p (suc n ∷ []) ≡ true → (k < n → p (suc k) ≡ true) → p (suc k) ≡ true

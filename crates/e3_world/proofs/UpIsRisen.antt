@@ -1,4 +1,4 @@
--- Two parts of 'the trail of a legal history is sound': a site that is up has risen, and a step's move is its step.
+-- A site that is up has risen.
 use Rattle.std.proofs.Common.{◌≡◌, ℕ, Bool, true, false, List, [], ◌∷◌, ◌++◌, append-nil, append_assoc, sym, ◌∙◌, ap, map, fold, None}
 use Rattle.std.proofs.lemmas.Grind.{fold-append}
 use Rattle.e3_types.specs.declared.entries.Act.{Act}

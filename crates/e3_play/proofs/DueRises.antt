@@ -14,8 +14,8 @@ use Rattle.e3_play.specs.Played.{IsSettled}
 use Rattle.e3_play.proofs.Entries.{turn_to_rise}
 use Rattle.e3_play.specs.Delivered.{ALine, ARise, IsFull}
 use Rattle.e3_play.specs.Settled.{is_parted}
-use Rattle.e3_play.proofs.Bounds.{bounded, whole_parts}
-use Rattle.e3_play.proofs.Open.{one_of_all}
+use Rattle.e3_play.proofs.DuePackets.{bounded, whole_parts}
+use Rattle.e3_play.proofs.DueItems.{one_of_all}
 
 -- a site has yet to rise
 pub rise_open : (sc : Scenario) (h : List Entry) (k : ℕ) → Rising sc h k → k < length sc.weights → ¬ IsWhole sc h

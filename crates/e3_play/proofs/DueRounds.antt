@@ -9,7 +9,7 @@ use Rattle.e3_world.specs.Legal.{is_made}
 use Rattle.e3_world.specs.Packets.{lines, pending, present_items}
 use Rattle.e3_world.proofs.Turns.{true_not_false}
 use Rattle.e3_play.specs.Delivered.{IsFullBefore, IsPacketDue, IsPacketOrRound}
-use Rattle.e3_play.proofs.Bounds.{bounded_before, full_too, whole_parts}
+use Rattle.e3_play.proofs.DuePackets.{bounded_before, full_too, whole_parts}
 
 some_due : (o : Option RecoveryRound) (r : RecoveryRound) → o ≡ Some r → o ≢ None
 some_due o r is none = absurd (let both : Some r ≡ None = sym is ∙ none in cc)
